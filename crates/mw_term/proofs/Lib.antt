@@ -1,0 +1,2 @@
+pub mod Substituting
+pub mod Closing

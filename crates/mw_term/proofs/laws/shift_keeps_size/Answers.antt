@@ -1,0 +1,5 @@
+use Rattle.mw_term.proofs.Substituting.{size-shift}
+use Rattle.mw_term.proofs.laws.shift_keeps_size.Goals as goal
+
+pub returns : goal.returns
+returns c = size-shift

@@ -1,0 +1,5 @@
+use Rattle.mw_term.proofs.Substituting.{shift-shift}
+use Rattle.mw_term.proofs.laws.shifts_commute.Goals as goal
+
+pub returns : goal.returns
+returns c = shift-shift

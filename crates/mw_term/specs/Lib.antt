@@ -1,0 +1,5 @@
+pub mod Terms
+pub mod Programs
+pub mod Substitution
+pub mod Closed
+pub mod SubstitutionLaws

@@ -1,0 +1,43 @@
+// Laws of shifting and substitution, which no program calls.
+
+ghost use Rattle.mw_term.specs.SubstitutionLaws.{ShiftKeepsSize, SubstitutionKeepsSize, SubstitutionUndoesShift, ShiftsCommute, ShiftKeepsClosed, SubstitutionKeepsClosed, ShiftRaisesFree, SubstitutionLowersFree};
+
+/// A shift keeps a term's size.
+pub fn shift_keeps_size()
+    ensures { ShiftKeepsSize }
+{}
+
+/// Substitution of a value keeps a term's size.
+pub fn substitution_keeps_size()
+    ensures { SubstitutionKeepsSize }
+{}
+
+/// A value put for a variable that a shift left out changes nothing.
+pub fn substitution_undoes_shift()
+    ensures { SubstitutionUndoesShift }
+{}
+
+/// Two shifts may come in either order.
+pub fn shifts_commute()
+    ensures { ShiftsCommute }
+{}
+
+/// A shift from k on keeps a term whose free variables are below k.
+pub fn shift_keeps_closed()
+    ensures { ShiftKeepsClosed }
+{}
+
+/// Substitution for variable k keeps a term whose free variables are below k.
+pub fn substitution_keeps_closed()
+    ensures { SubstitutionKeepsClosed }
+{}
+
+/// A shift makes room for one free variable more.
+pub fn shift_raises_free()
+    ensures { ShiftRaisesFree }
+{}
+
+/// Substitution of a value takes one free variable away, and brings only those of the value.
+pub fn substitution_lowers_free()
+    ensures { SubstitutionLowersFree }
+{}
