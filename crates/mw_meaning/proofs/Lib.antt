@@ -1,0 +1,3 @@
+pub mod KernelFixedPoint
+pub mod StagedFixedPoint
+pub mod Outsides

@@ -1,0 +1,4 @@
+pub mod Arithmetic
+pub mod KernelMeaning
+pub mod StagedMeaning
+pub mod Examples

@@ -1,0 +1,3 @@
+// Laws of the meanings, which no program calls.
+
+pub mod examples;

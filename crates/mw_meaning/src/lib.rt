@@ -1,0 +1,4 @@
+//! The meanings of the language, as definitions over pure data, and their laws.
+#![tactic(auto)]
+
+pub mod laws;
