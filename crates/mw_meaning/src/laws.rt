@@ -1,3 +1,6 @@
 // Laws of the meanings, which no program calls.
 
+pub mod codes;
 pub mod examples;
+pub mod kernels;
+pub mod values;
