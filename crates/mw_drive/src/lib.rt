@@ -1,0 +1,4 @@
+//! The commands of the program.
+#![tactic(auto)]
+
+mod evaluate;
