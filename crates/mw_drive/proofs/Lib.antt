@@ -1,1 +1,4 @@
 pub mod EvaluationLemmas
+pub mod Reporting
+pub mod WordLemmas
+pub mod RunLemmas

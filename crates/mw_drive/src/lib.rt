@@ -2,3 +2,10 @@
 #![tactic(auto)]
 
 mod evaluate;
+mod report;
+pub mod run;
+mod source;
+mod status;
+mod words;
+
+pub use crate::status::Status;

@@ -16,3 +16,8 @@ IsOrMemory (Err (Memory e)) p = Unit {0}
 -- the bytes derive no program
 abbrev pub DerivesNone : List ℕ → Type 0
 DerivesNone bytes = (p : PureProgram) → Derives bytes p → ⊥
+
+-- no other refusal comes
+abbrev pub OnlyNotYet : Stop → Type 0
+OnlyNotYet (Refused r) = r ≡ NotYet
+OnlyNotYet (Memory e) = Unit {0}

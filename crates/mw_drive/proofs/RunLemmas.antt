@@ -1,0 +1,75 @@
+-- From the parts of a run to the whole.
+use Rattle.std.proofs.Common.{◌≡◌, ℕ, ◌<◌, List, [], ◌++◌, Option, Some, Bool, IsTrue, length, take, refl, sym, ap, ◌∙◌, subst, arith}
+use Rattle.std.proofs.lemmas.List.{append-nil, take_all, length-take}
+use Rattle.mw_outside.specs.declared.named.NamedFile.{NamedFile}
+use Rattle.mw_outside.specs.Count.{GrowsByFront}
+use Rattle.mw_outside.specs.Lookup.{file_of}
+use Rattle.mw_term.specs.Programs.{PureProgram}
+use Rattle.mw_parse.specs.FirstGrammar.{Derives}
+use Rattle.mw_drive.specs.Output.{IsOutput, Reports, IsOnlyOutput, line_of, status_of}
+use Rattle.mw_drive.specs.ProgramMeaning.{Meaning, not_yet, answered, trapped, bounded, IsMeaning, of_none, of_program}
+use Rattle.mw_drive.specs.Reading.{IsFront}
+use Rattle.mw_drive.specs.Running.{AsksRun, Asks, IsFaithful}
+use Rattle.mw_drive.specs.declared.status.Status.{Status}
+
+-- a front that is longer than any source of the first grammar derives what the whole does
+derives_front : (n : ℕ) (bytes : List ℕ) (p : PureProgram) → 256 < n → Derives bytes p → Derives (take n bytes) p
+derives_front n bytes p h d = let short = d.short in rw (take_all n bytes (omega arith)) d
+
+derives_whole : (n : ℕ) (bytes : List ℕ) (p : PureProgram) → 256 < n → Derives (take n bytes) p → Derives bytes p
+derives_whole n bytes p h d =
+    let short = rw length-take at d.short in
+    let e : take n bytes ≡ bytes = take_all n bytes (omega arith) in
+    let P : List ℕ → Type 0 = λ b. Derives b p in subst P e d
+
+means_whole : {n : ℕ} {bytes : List ℕ} {fuel : ℕ} {m : Meaning} → 256 < n → IsMeaning (take n bytes) fuel m → IsMeaning bytes fuel m
+means_whole {n} {bytes} h (of_none none) = of_none (λ p d. none p (derives_front n bytes p h d))
+means_whole {n} {bytes} h (of_program p d end) = of_program p (derives_whole n bytes p h d) end
+
+means_front : {n : ℕ} {bytes : List ℕ} {fuel : ℕ} {m : Meaning} → 256 < n → IsMeaning bytes fuel m → IsMeaning (take n bytes) fuel m
+means_front {n} {bytes} h (of_none none) = of_none (λ p d. none p (derives_whole n bytes p h d))
+means_front {n} {bytes} h (of_program p d end) = of_program p (derives_front n bytes p h d) end
+
+-- the file that the words ask for is one
+one_file : (words : List (List ℕ)) (a b : List ℕ) → AsksRun words a → AsksRun words b → a ≡ b
+one_file words a b p q = let e = p.are in let f = q.are in cc
+
+-- what was read is the front of the bytes that the source tells
+front_told : (n : ℕ) {words : List (List ℕ)} (file : List ℕ) {tells : Bool} {told : List NamedFile} (bytes taken : List ℕ) → AsksRun words file → Asks words tells told bytes → (IsTrue tells → IsFront n (file_of told file) taken) → taken ≡ take n bytes
+front_told n {words} file {tells} {told} bytes taken asks h front =
+    let found : file_of told file ≡ Some bytes = rw (one_file words file h.file asks h.asks) h.found in rw found at (front h.telling)
+
+-- the report on what was read is the report on the bytes, and the only one
+pub whole_report : (n : ℕ) {words : List (List ℕ)} (file : List ℕ) {tells : Bool} {told : List NamedFile} (bytes taken : List ℕ) {fuel : ℕ} {text : List ℕ} {s : Status} → 256 < n → AsksRun words file → Asks words tells told bytes
+    → (IsTrue tells → IsFront n (file_of told file) taken) → Reports taken fuel text s → Reports bytes fuel text s
+whole_report n file bytes taken {fuel} more asks h front r =
+    let means : IsMeaning (take n bytes) fuel r.meaning = rw (front_told n file bytes taken asks h front) at r.is_meaning in
+    record { meaning = r.meaning; is_meaning = means_whole more means; is_text = r.is_text; is_status = r.is_status }
+
+pub whole_only : (n : ℕ) {words : List (List ℕ)} (file : List ℕ) {tells : Bool} {told : List NamedFile} (bytes taken : List ℕ) {fuel : ℕ} {text : List ℕ} → 256 < n → AsksRun words file → Asks words tells told bytes
+    → (IsTrue tells → IsFront n (file_of told file) taken) → IsOnlyOutput taken fuel text → IsOnlyOutput bytes fuel text
+whole_only n file bytes taken {fuel} more asks h front only other o =
+    only other (record { meaning = o.meaning; is_meaning = rw (front_told n file bytes taken asks h front) (means_front more o.is_meaning); is_text = o.is_text })
+
+pub output_of_report : {bytes : List ℕ} {fuel : ℕ} {text : List ℕ} {s : Status} → Reports bytes fuel text s → IsOutput bytes fuel text
+output_of_report r = record { meaning = r.meaning; is_meaning = r.is_meaning; is_text = r.is_text }
+
+-- a report that was written is faithful
+faithful_at : {bytes : List ℕ} {fuel : ℕ} {text : List ℕ} (before after : List ℕ) (m : Meaning) → Reports bytes fuel text (status_of m) → after ≡ before ++ text → IsFaithful bytes fuel (status_of m) before after
+faithful_at before after not_yet r e = (_, r, e)
+faithful_at before after (answered v) r e = (_, r, e)
+faithful_at before after (trapped t) r e = (_, r, e)
+faithful_at before after (bounded l) r e = (_, r, e)
+
+pub faithful_report : {bytes : List ℕ} {fuel : ℕ} {text : List ℕ} (before after : List ℕ) {s : Status} → Reports bytes fuel text s → after ≡ before ++ text → IsFaithful bytes fuel s before after
+faithful_report {bytes} {fuel} {text} before after {s} r e =
+    let whole : Reports bytes fuel text (status_of r.meaning) = rw r.is_status at r in
+    let P : Status → Type 0 = λ s. IsFaithful bytes fuel s before after in subst P (sym r.is_status) (faithful_at before after r.meaning whole e)
+
+-- a front of the text is a front of any output, since that is the text
+pub grows_by_output : {bytes : List ℕ} {fuel : ℕ} {text : List ℕ} (before after : List ℕ) → IsOnlyOutput bytes fuel text → GrowsByFront before after text → (other : List ℕ) → IsOutput bytes fuel other → GrowsByFront before after other
+grows_by_output before after only g other o = rw (only other o) g
+
+-- nothing is a front
+pub grows_by_nothing : (before text : List ℕ) → GrowsByFront before before text
+grows_by_nothing before text = (0, omega arith, sym (append-nil before))

@@ -1,0 +1,15 @@
+use Rattle.std.proofs.Common.{length, take, ◌-◌, ◌≡◌, ◌≤◌, ◌++◌, IsTrue}
+use Rattle.mw_outside.proofs.writing.write_whole.Given as goal
+
+-- a front of the piece was written, and where it can be told nothing else
+abbrev pub invariant-loop-done : goal.invariant-loop-done
+invariant-loop-done g l =
+    let sink = g.K.Sink in
+    record {
+      bound : l.done ≤ length l.piece;
+      front : IsTrue sink.tells → sink.written l.sink ≡ sink.written l.fn.sink ++ take l.done l.piece;
+      count : sink.faults l.fn.sink ≤ sink.faults l.sink;
+    }
+
+abbrev pub decreases-loop-done : goal.decreases-loop-done
+decreases-loop-done g l = length l.piece - l.done

@@ -1,0 +1,5 @@
+pub mod Count
+pub mod Lookup
+pub mod Plan
+pub mod Scripted
+pub mod Sure

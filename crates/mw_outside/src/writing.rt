@@ -1,0 +1,24 @@
+// Writing a whole piece.
+
+ghost use Rattle.std.specs.Prelude.{◌≡◌, ◌≤◌, ◌++◌, IsTrue, IsErrOf, OnOk, OnErr};
+ghost use Rattle.mw_outside.specs.Count.{Rose, GrowsByFront};
+
+use crate::errors::WriteFault;
+use crate::sinks::Sink;
+
+/// Writes a whole piece, in as many calls as the sink needs. After an error a front of it was written.
+pub fn write_whole<K: Sink>(sink: &mut K, piece: &[u8]) -> Result<(), WriteFault>
+    ensures ok { OnOk result (IsTrue K.tells → K.written sink.new ≡ K.written sink.old ++ piece.now) }
+    ensures front { OnErr result (IsTrue K.tells → GrowsByFront (K.written sink.old) (K.written sink.new) piece.now) }
+    ensures failed { IsErrOf result WriteFault.Failed → Rose (K.faults sink.old) (K.faults sink.new) }
+    ensures count { K.faults sink.old ≤ K.faults sink.new }
+{
+    let mut done = 0;
+    while done < piece.len() {
+        match sink.write(&piece[done..]) {
+            Ok(count) => done += count,
+            Err(fault) => return Err(fault),
+        }
+    }
+    Ok(())
+}
