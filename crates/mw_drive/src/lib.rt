@@ -3,9 +3,13 @@
 
 mod evaluate;
 mod report;
-pub mod run;
+mod command;
 mod source;
 mod status;
 mod words;
 
+pub use crate::command::run;
 pub use crate::status::Status;
+
+#[cfg(test)]
+mod tests;

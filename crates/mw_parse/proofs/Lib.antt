@@ -1,0 +1,5 @@
+pub mod FirstSteps
+pub mod FirstFronts
+pub mod FirstNumbers
+pub mod FirstReads
+pub mod FirstWhole

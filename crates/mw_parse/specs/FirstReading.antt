@@ -17,7 +17,12 @@ IsOrMemory (Err (Memory e)) p = Unit {0}
 abbrev pub DerivesNone : List ℕ → Type 0
 DerivesNone bytes = (p : PureProgram) → Derives bytes p → ⊥
 
--- no other refusal comes
+-- the only refusal is that the source is outside the first grammar
 abbrev pub OnlyNotYet : Stop → Type 0
 OnlyNotYet (Refused r) = r ≡ NotYet
 OnlyNotYet (Memory e) = Unit {0}
+
+-- a refusal says this, and want of memory says nothing
+abbrev pub Refuses : Stop → Type 0 → Type 0
+Refuses (Refused r) P = P
+Refuses (Memory e) P = Unit {0}

@@ -1,3 +1,7 @@
 pub mod FirstTokens
 pub mod FirstGrammar
 pub mod FirstReading
+pub mod FirstScan
+pub mod FirstStates
+pub mod FirstViews
+pub mod FirstStarts

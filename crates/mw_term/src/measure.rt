@@ -34,7 +34,7 @@ pub fn depth(term: &Term) -> u32
     ensures { result ≡ min (depth_of (expression_of term.now)) (2 ^ 32 - 1) }
 {
     match term {
-        Term::Int(_) | Term::Bool(_) | Term::Var(_) | Term::Glob(_) => 1,
+        Term::Var(_) | Term::Glob(_) | Term::Int(_) | Term::Bool(_) => 1,
         Term::Fun(e) | Term::Rec(e) => depth(e).saturating_add(1),
         Term::App(a, b) | Term::Let(a, b) | Term::Pair(a, b) | Term::Prim(_, a, b) => {
             depth(a).max(depth(b)).saturating_add(1)

@@ -1,7 +1,7 @@
 use Rattle.std.proofs.Common.{rules, arith, ◌<◌, ◌∙◌, lit<}
 use Rattle.mw_drive.specs.declared.source.TheConstants.{MOST}
 use Rattle.mw_drive.proofs.RunLemmas.{whole_report, whole_only, output_of_report, faithful_report, grows_by_output}
-use Rattle.mw_drive.proofs.run.run.Goals as goal
+use Rattle.mw_drive.proofs.command.run.Goals as goal
 
 pub returns-in-Ok-write_whole-clause-text : goal.returns-in-Ok-write_whole-clause-text
 returns-in-Ok-write_whole-clause-text g c =
