@@ -3,6 +3,7 @@
 #![tactic(auto)]
 
 pub mod instructions;
+pub mod laws;
 pub mod modules;
 pub mod numbers;
 pub mod values;

@@ -1,0 +1,3 @@
+// Laws of the definitions, which no program calls.
+
+pub mod validity;
