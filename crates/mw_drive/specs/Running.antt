@@ -35,18 +35,16 @@ pub record AsksMissing (words : List (List ℕ)) (tells : Bool) (told : List Nam
   pub telling : IsTrue tells
   pub missing : IsNone (file_of told file)
 
--- the status says that all of the output was written
-abbrev pub IsComplete : Status → Type 0
-IsComplete Answer = Unit {0}
-IsComplete (Trap t) = Unit {0}
-IsComplete (Refused r) = Unit {0}
-IsComplete (Bound l) = Unit {0}
-IsComplete _ = ⊥
-
 -- the status is want of memory
 abbrev pub IsMemory : Status → Type 0
 IsMemory (Memory error) = Unit {0}
 IsMemory _ = ⊥
+
+-- the status speaks of the cache, which there isn't yet
+abbrev pub SpeaksOfCache : Status → Type 0
+SpeaksOfCache Cache = Unit {0}
+SpeaksOfCache (BadCache digest) = Unit {0}
+SpeaksOfCache _ = ⊥
 
 -- What was written of a source with a fuel, by the status: all of the output with a complete one, nothing for the
 -- words or the source, a front of it for the sink or want of memory. No other status comes.

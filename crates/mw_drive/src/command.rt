@@ -5,7 +5,7 @@ ghost use Rattle.std.specs.String.{string_bytes};
 ghost use Rattle.mw_outside.specs.Count.{Rose};
 ghost use Rattle.mw_drive.specs.Output.{IsOutput, status_of};
 ghost use Rattle.mw_drive.specs.ProgramMeaning.{Meaning, IsMeaning};
-ghost use Rattle.mw_drive.specs.Running.{IsUsage, Asks, AsksMissing, IsFaithful, IsMemory};
+ghost use Rattle.mw_drive.specs.Running.{IsUsage, Asks, AsksMissing, IsFaithful, IsMemory, SpeaksOfCache};
 ghost use Rattle.mw_drive.specs.declared.report.TheConstants.{DEFAULT_FUEL};
 ghost use Rattle.mw_drive.specs.declared.status.Status.TheVariants.{Usage, Read, Write};
 
@@ -45,6 +45,8 @@ pub fn run<R: Threads + Sync, S: Source, K: Sink, C: Keeper, G: Gate>(
     ensures missing { AsksMissing (map string_bytes words.now) S.tells (S.told source.old) → (result ≡ Read) ⊎ IsMemory result }
     ensures nothing { (result ≡ Usage) ⊎ (result ≡ Read) → IsTrue K.tells → K.written sink.new ≡ K.written sink.old }
     ensures nothing_missing { AsksMissing (map string_bytes words.now) S.tells (S.told source.old) → IsTrue K.tells → K.written sink.new ≡ K.written sink.old }
+    ensures unread { result ≡ Usage → source.new ≡ source.old }
+    ensures no_cache { ¬ SpeaksOfCache result }
     ensures keeper { _keeper.new ≡ _keeper.old }
     ensures source_count { S.faults source.old ≤ S.faults source.new }
     ensures sink_count { K.faults sink.old ≤ K.faults sink.new }
