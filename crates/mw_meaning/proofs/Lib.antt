@@ -3,3 +3,8 @@ pub mod StagedFixedPoint
 pub mod Outsides
 pub mod Inductions
 pub mod Refinement
+pub mod Safe
+pub mod TypingKept
+pub mod KernelTyping
+pub mod SettingValues
+pub mod RepliesTyped

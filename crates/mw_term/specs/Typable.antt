@@ -1,5 +1,5 @@
 -- Typable programs, and the values that top-level names have in their evaluation.
-use Rattle.std.specs.Prelude.{ℕ, zero, suc, ◌≡◌, List, [], ◌∷◌, Some, slice_get}
+use Rattle.std.specs.Prelude.{ℕ, zero, suc, ◌≡◌, ◌⊎◌, List, [], ◌∷◌, Some, slice_get}
 use Rattle.mw_term.specs.Terms.{Expression, Value, KernelType, code}
 use Rattle.mw_term.specs.Closed.{IsClosed, IsCode}
 use Rattle.mw_term.specs.Programs.{Definition, value as defines, kernel, PureProgram, IsSyntacticValue, value_of_definition}
@@ -18,6 +18,10 @@ abbrev pub seen_by_main : List Definition → List TopLevel
 seen_by_main [] = []
 seen_by_main (defines e ∷ items) = let_item e ∷ seen_by_main items
 seen_by_main (kernel k e ∷ items) = kernel_item k ∷ seen_by_main items
+
+-- the names that some item or main sees
+abbrev pub AreSeenIn : PureProgram → List TopLevel → Type 0
+AreSeenIn p tops = ((i : ℕ) × (tops ≡ seen_by_item p.items i)) ⊎ (tops ≡ seen_by_main p.items)
 
 -- an item that sees these names has a type: a let is a syntactic value with some type, a kernel is closed code of its
 -- kernel type
