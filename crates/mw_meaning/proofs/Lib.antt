@@ -8,3 +8,4 @@ pub mod TypingKept
 pub mod KernelTyping
 pub mod SettingValues
 pub mod RepliesTyped
+pub mod EvaluationTyping

@@ -3,4 +3,5 @@
 pub mod codes;
 pub mod examples;
 pub mod kernels;
+pub mod typing;
 pub mod values;
