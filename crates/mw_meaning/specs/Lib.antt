@@ -4,6 +4,7 @@ pub mod StagedMeaning
 pub mod Examples
 pub mod Replies
 pub mod TypingLaws
+pub mod TypingExamples
 pub mod ValueEquations
 pub mod CodeEquations
 pub mod KernelEquations

@@ -5,4 +5,5 @@ pub mod TypedClosed
 pub mod Weakening
 pub mod TypedSubstitution
 pub mod MovedCode
+pub mod TypesFormed
 pub mod Unlabelling

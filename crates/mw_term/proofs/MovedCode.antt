@@ -25,7 +25,7 @@ IsFormed-plain (function_type s t) h = (IsFormed-plain s h.0, IsFormed-plain t h
 IsFormed-plain (code_type a t) h = absurd h
 IsFormed-plain (closed_type t) h = absurd h
 
-Fits-plain : (m : Level) (t : TermType) → IsPlain t → Fits m t
+pub Fits-plain : (m : Level) (t : TermType) → IsPlain t → Fits m t
 Fits-plain live t h = IsFormed-plain t h
 Fits-plain (under a) t h = h
 

@@ -73,6 +73,12 @@ abbrev pub IsAbsent : ℕ → List Entry → Type 0
 IsAbsent a [] = Unit {0}
 IsAbsent a (x ∷ g) = IsAbsentAt a x × IsAbsent a g
 
+-- each type of the environment fits its variable's level
+abbrev pub AreFormed : List Entry → Type 0
+AreFormed [] = Unit {0}
+AreFormed (value t ∷ g) = IsFormed t × AreFormed g
+AreFormed (quoted a t ∷ g) = IsPlain t × AreFormed g
+
 -- the environment has only variables of level 1
 abbrev pub AllQuoted : List Entry → Type 0
 AllQuoted [] = Unit {0}

@@ -1,0 +1,38 @@
+// Worked examples of typing: derivations, and terms that have none.
+
+ghost use Rattle.mw_meaning.specs.TypingExamples.{PowerIsItsDefinition, CubeIsTypable, LeakHasNoType, LeakIsNotTypable, TopLevelGeneratorIsTypable, InnerGeneratorHasOneType, InnerGeneratorHasOneClassifier, BracketInBracketHasNoType, NoCodeOfCode, VariableKeepsItsClassifier, OuterVariableHasNoType};
+
+/// The usual cube program is typable.
+pub fn cube_is_typable()
+    ensures definition { PowerIsItsDefinition }
+    ensures typable { CubeIsTypable }
+{}
+
+/// Closing code that uses an outer variable has no type.
+pub fn leak_has_no_type()
+    ensures term { LeakHasNoType }
+    ensures item { LeakIsNotTypable }
+{}
+
+/// A top-level generator may be used at two types and under two classifiers.
+pub fn top_level_generator_is_typable()
+    ensures { TopLevelGeneratorIsTypable }
+{}
+
+/// The same generator bound inside a term may be used at one type and under one classifier.
+pub fn inner_generator_is_monomorphic()
+    ensures one_type { InnerGeneratorHasOneType }
+    ensures one_classifier { InnerGeneratorHasOneClassifier }
+{}
+
+/// A bracket inside brackets has no type, and nothing is code of code.
+pub fn code_holds_no_code()
+    ensures bracket_in_bracket { BracketInBracketHasNoType }
+    ensures code_of_code { NoCodeOfCode }
+{}
+
+/// A level 1 variable is used under the classifier of its binder alone.
+pub fn variable_keeps_its_classifier()
+    ensures variable { VariableKeepsItsClassifier }
+    ensures in_a_term { OuterVariableHasNoType }
+{}
