@@ -1,14 +1,18 @@
 -- Worked examples of typing: derivations, and terms that have none.
-use Rattle.std.specs.Prelude.{ℕ, ◌≡◌, ◌≢◌, negsuc, true, List, [], ◌∷◌}
-use Rattle.mw_term.specs.Terms.{Expression, Value, num, truth, var, glob, fun, fix, app, bind, cond, pair, prim, bracket, escape, run, close, opened}
+use Rattle.std.specs.Prelude.{ℕ, ◌≡◌, ◌≢◌, pos, negsuc, true, List, [], ◌∷◌}
+use Rattle.mw_term.specs.Terms.{Expression, base, num, truth, var, glob, fun, fix, app, bind, cond, pair, prim, bracket, escape, run, close, opened, int, bool, function, code, kept}
 use Rattle.mw_term.specs.declared.term.Base.{Base}
 use Rattle.mw_term.specs.declared.term.Base.TheVariants.{Int}
 use Rattle.mw_term.specs.declared.term.Primitive.TheVariants.{Add, Sub, Mul, Eq}
+use Rattle.mw_term.specs.declared.value.Limit.TheVariants.{Fuel}
 use Rattle.mw_term.specs.Programs.{value, kernel, PureProgram, value_of_definition}
 use Rattle.mw_term.specs.Types.{TermType, code_type, live, under, Entry, quoted}
 use Rattle.mw_term.specs.Typing.{TopLevel, Typed}
 use Rattle.mw_term.specs.Typable.{Typable}
-use Rattle.mw_meaning.specs.Examples.{n, int_to_int, power, cube}
+use Rattle.mw_meaning.specs.Arithmetic.{bound}
+use Rattle.mw_meaning.specs.Examples.{n, int_to_int, run_int, power, cube, cube_code}
+use Rattle.mw_meaning.specs.Replies.{replies, Replies, answering, AreTypedReplies}
+use Rattle.mw_meaning.specs.StagedMeaning.{gives, stops, live as alive, evaluation}
 
 -- the term has no type, whatever top-level names there are
 abbrev pub HasNoType : Expression → Type 0
@@ -84,3 +88,32 @@ VariableKeepsItsClassifier = (tops : List TopLevel) (g : List Entry) (a b : ℕ)
 -- .<fun x -> .~(open (close .<fun y -> x + y>.))>., where the inner bracket needs a classifier that x has not
 abbrev pub OuterVariableHasNoType : Type 0
 OuterVariableHasNoType = HasNoType (bracket (fun (escape (opened (close 0 (bracket (fun (prim Add (var 1) (var 0)))))))))
+
+-- let f = fun x -> g ;; let g = fun x -> x ;;
+abbrev pub LaterLetIsNotSeen : Type 0
+LaterLetIsNotSeen = (b : Base) (body : Expression) → Typable (record { items = value (fun (glob 1)) ∷ value (fun (var 0)) ∷ []; result = b; body = body }) → ⊥
+
+-- let rec power .. ;; kernel cube : int -> int = .. ;; kernel again : int -> int = cube ;;
+abbrev pub KernelIsNotSeenByItems : Type 0
+KernelIsNotSeenByItems = (b : Base) (body : Expression) → Typable (record { items = value power_definition ∷ kernel int_to_int cube ∷ kernel int_to_int (glob 1) ∷ []; result = b; body = body }) → ⊥
+
+-- let x = 1 + 2 ;;
+abbrev pub LetIsASyntacticValue : Type 0
+LetIsASyntacticValue = (b : Base) (body : Expression) → Typable (record { items = value (prim Add (n 1) (n 2)) ∷ []; result = b; body = body }) → ⊥
+
+-- main of the cube program over kernels that answer something else: a kept function, then 3 and 4 with no unit spent
+abbrev pub other_replies : Replies
+other_replies = record { to_come = replies (kept int_to_int (function (num (pos 0))) 1) 9 ∷ replies (int (pos 3)) 9 ∷ replies (int (pos 4)) 9 ∷ []; begun = [] }
+
+abbrev pub RepliesAreTakenInOrder : Type 0
+RepliesAreTakenInOrder = evaluation (answering (power ∷ code cube_code ∷ [])) alive 9 other_replies cube_program.body
+    ≡ gives (int (pos 7)) 9 (record { to_come = []; begun = (cube_code, int_to_int) ∷ [] })
+
+-- these replies have the types that the law asks for
+abbrev pub OtherRepliesAreTyped : Type 0
+OtherRepliesAreTyped = (tops : List TopLevel) → AreTypedReplies tops other_replies
+
+-- a reply of another type isn't taken
+abbrev pub ReplyOfAnotherTypeStops : Type 0
+ReplyOfAnotherTypeStops = evaluation (answering []) alive 9 (record { to_come = replies (bool true) 9 ∷ []; begun = [] }) (run_int (n 7))
+    ≡ stops (bound Fuel) (record { to_come = []; begun = (n 7, base Int) ∷ [] })

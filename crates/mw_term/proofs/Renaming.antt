@@ -90,6 +90,10 @@ rename_type-same (function_type s t) = rw (rename_type-same s, rename_type-same 
 rename_type-same (code_type a t) = rw (rename_type-same t) refl
 rename_type-same (closed_type t) = rw (rename_type-same t) refl
 
+pub rename_level-same : (m : Level) → rename_level same m ≡ m
+rename_level-same live = refl
+rename_level-same (under a) = refl
+
 rename_entry-same : (x : Entry) → rename_entry same x ≡ x
 rename_entry-same (value t) = rw (rename_type-same t) refl
 rename_entry-same (quoted a t) = rw (rename_type-same t) refl

@@ -1,5 +1,5 @@
 -- Each type that a term has fits the level where it stands.
-use Rattle.std.proofs.Common.{◌≡◌, ℕ, zero, suc, List, [], ◌∷◌, Some, refl, subst}
+use Rattle.std.proofs.Common.{◌≡◌, ℕ, zero, suc, List, [], ◌∷◌, Some, subst}
 use Rattle.std.specs.Prelude.{slice_get}
 use Rattle.mw_term.specs.Terms.{Expression, Value, GroundType, KernelType, base, product, to}
 use Rattle.mw_term.specs.declared.term.Base.{Base}

@@ -1,5 +1,5 @@
 -- One more binder in the environment, with classifiers renamed.
-use Rattle.std.proofs.Common.{◌≡◌, ℕ, zero, suc, ◌≤◌, List, [], ◌∷◌, length, Some, refl, ap, ◌∙◌, arith}
+use Rattle.std.proofs.Common.{ℕ, zero, suc, List, [], ◌∷◌, Some, ap, ◌∙◌, arith}
 use Rattle.mw_term.specs.Terms.{Expression, Value, to, num, truth, var, glob, fun, fix, app, bind, cond, pair, fst, snd, prim, bracket, escape, run, close, opened, lift, lift_b, done}
 use Rattle.mw_term.specs.Substitution.{shift, shift_value}
 use Rattle.mw_term.specs.Closed.{IsCode}
@@ -7,7 +7,7 @@ use Rattle.mw_term.specs.Types.{TermType, function_type, Level, Entry}
 use Rattle.mw_term.specs.Typing.{TopLevel, Typed, t_num, t_truth, t_var, t_let, t_kernel, t_fun, t_fix, t_app, t_bind, t_cond, t_pair, t_fst, t_snd, t_prim, t_bracket, t_escape, t_run, t_close, t_open, t_lift, t_lift_b, t_done, Valued, v_int, v_bool, v_pair, v_function, v_recursive, v_code, v_closed, v_kept}
 use Rattle.mw_term.proofs.Closing.{shift-closed, shift-closed_value}
 use Rattle.mw_term.proofs.TypedClosed.{Typed-closed, Valued-closed}
-use Rattle.mw_term.proofs.Renaming.{rename_type, rename_level, rename_all, rename_entry-entry, rename_type-plain, IsPlain-rename_type, IsFormed-rename_type, Fits-rename_type, rename_type-kernel_type, rename_type-primitive_type, same, rename_type-same, rename_all-same, rename_all-apart, changed, changed-here, changed-apart, top_of, IsAbsent-above, insert, get-insert}
+use Rattle.mw_term.proofs.Renaming.{rename_type, rename_level, rename_all, rename_entry-entry, rename_type-plain, IsPlain-rename_type, IsFormed-rename_type, Fits-rename_type, rename_type-kernel_type, rename_type-primitive_type, same, rename_type-same, rename_level-same, rename_all-same, rename_all-apart, changed, changed-here, changed-apart, top_of, IsAbsent-above, insert, get-insert}
 
 pub IsCode-shift : (e : Expression) (k : ℕ) → IsCode e → IsCode (shift e k)
 IsCode-shift (num n) k h = h
@@ -71,7 +71,10 @@ module _ (tops : List TopLevel) where
     Valued-shift r k x (v_closed {c = d} {t = t} p c h) = rw (rename_type-plain r t p, shift-closed d zero k (omega arith) (Typed-closed zero (omega arith) h)) (v_closed p c h)
     Valued-shift r k x (v_kept {s = s} {b = b} e c h) = let q = ap (λ t. rename_type r t) e ∙ rename_type-kernel_type r (to s b) in v_kept q c (rw (q, ← e) h)
 
-  -- a value under one more binder
+  -- a term and a value under one more binder
+  pub Typed-under : (x : Entry) (g : List Entry) (m : Level) (e : Expression) (t : TermType) → Typed tops g m e t → Typed tops (x ∷ g) m (shift e zero) t
+  Typed-under x g m e t h = rw (rename_all-same g, rename_level-same m, rename_type-same t) at (Typed-shift same zero x h)
+
   pub Valued-under : (x : Entry) (g : List Entry) (v : Value) (t : TermType) → Valued tops g v t → Valued tops (x ∷ g) (shift_value v zero) t
   Valued-under x g v t h = rw (rename_all-same g, rename_type-same t) at (Valued-shift same zero x h)
 

@@ -7,3 +7,4 @@ pub mod Types
 pub mod Unlabelled
 pub mod Typing
 pub mod Typable
+pub mod TypingLaws

@@ -2,7 +2,7 @@
 
 ghost use Rattle.mw_meaning.specs.StagedMeaning.{outside};
 ghost use Rattle.mw_meaning.specs.Replies.{answering, AreTypedReplies};
-ghost use Rattle.mw_meaning.specs.TypingLaws.{NeverStuck, CodeNeverStuck, ValuesAreTyped, BuiltCodeIsTyped, CodeIsTyped, ClosedCodeIsClosed, RunsAreTyped, RunsOfCodeAreTyped, LetsHaveTheirValues, KernelsNeverStuck, KernelsGiveTheirCode, MainNeverStuck, MainGivesItsBase, AnyState, KernelMeaningNeverStuck, KernelMeaningIsTyped, KernelMeaningIsClosed};
+ghost use Rattle.mw_meaning.specs.TypingLaws.{NeverStuck, CodeNeverStuck, ValuesAreTyped, BuiltCodeIsTyped, CodeIsTyped, ClosedCodeIsClosed, RunsAreTyped, StagedRunsAreTyped, RunsOfCodeAreTyped, LetsHaveTheirValues, KernelsNeverStuck, KernelsGiveTheirCode, MainNeverStuck, MainGivesItsBase, AnyState, KernelMeaningNeverStuck, KernelMeaningIsTyped, KernelMeaningIsClosed};
 
 /// What the evaluation of a typable program keeps, where runs and calls answer by the kernel meaning, and where they take
 /// their answers in order from any list of answers of the right types.
@@ -14,6 +14,7 @@ pub fn typing_kept()
     ensures code_is_typed { CodeIsTyped outside AnyState }
     ensures closed_code_is_closed { ClosedCodeIsClosed outside AnyState }
     ensures runs_are_typed { RunsAreTyped outside AnyState (λ s. s) }
+    ensures staged_runs_are_typed { StagedRunsAreTyped }
     ensures runs_of_code_are_typed { RunsOfCodeAreTyped outside AnyState (λ s. s) }
     ensures lets_have_their_values { LetsHaveTheirValues outside }
     ensures kernels_never_stuck { KernelsNeverStuck outside AnyState }

@@ -1,6 +1,6 @@
 // Worked examples of typing: derivations, and terms that have none.
 
-ghost use Rattle.mw_meaning.specs.TypingExamples.{PowerIsItsDefinition, CubeIsTypable, LeakHasNoType, LeakIsNotTypable, TopLevelGeneratorIsTypable, InnerGeneratorHasOneType, InnerGeneratorHasOneClassifier, BracketInBracketHasNoType, NoCodeOfCode, VariableKeepsItsClassifier, OuterVariableHasNoType};
+ghost use Rattle.mw_meaning.specs.TypingExamples.{PowerIsItsDefinition, CubeIsTypable, LeakHasNoType, LeakIsNotTypable, TopLevelGeneratorIsTypable, InnerGeneratorHasOneType, InnerGeneratorHasOneClassifier, BracketInBracketHasNoType, NoCodeOfCode, VariableKeepsItsClassifier, OuterVariableHasNoType, LaterLetIsNotSeen, KernelIsNotSeenByItems, LetIsASyntacticValue, RepliesAreTakenInOrder, OtherRepliesAreTyped, ReplyOfAnotherTypeStops};
 
 /// The usual cube program is typable.
 pub fn cube_is_typable()
@@ -35,4 +35,18 @@ pub fn code_holds_no_code()
 pub fn variable_keeps_its_classifier()
     ensures variable { VariableKeepsItsClassifier }
     ensures in_a_term { OuterVariableHasNoType }
+{}
+
+/// An item sees the lets before it, no later one and no kernel, and a let is a syntactic value.
+pub fn items_see_lets_before()
+    ensures later_let { LaterLetIsNotSeen }
+    ensures kernel { KernelIsNotSeenByItems }
+    ensures syntactic_value { LetIsASyntacticValue }
+{}
+
+/// Runs and calls take replies of their types from a list in order.
+pub fn replies_are_taken()
+    ensures in_order { RepliesAreTakenInOrder }
+    ensures typed { OtherRepliesAreTyped }
+    ensures of_another_type { ReplyOfAnotherTypeStops }
 {}

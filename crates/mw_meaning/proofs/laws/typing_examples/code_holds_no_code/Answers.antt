@@ -1,4 +1,4 @@
-use Rattle.std.proofs.Common.{ℕ, List, []}
+use Rattle.std.proofs.Common.{List, []}
 use Rattle.mw_term.specs.Terms.{bracket}
 use Rattle.mw_term.specs.Types.{TermType, live}
 use Rattle.mw_term.specs.Typing.{TopLevel, Typed, t_bracket}

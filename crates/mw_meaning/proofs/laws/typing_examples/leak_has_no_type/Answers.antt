@@ -1,10 +1,7 @@
-use Rattle.std.proofs.Common.{◌≡◌, ℕ, zero, List, [], ◌∷◌, Some, refl}
-use Rattle.mw_term.specs.declared.term.Base.{Base}
-use Rattle.mw_term.specs.Terms.{Expression}
+use Rattle.std.proofs.Common.{ℕ, List, [], refl}
 use Rattle.mw_term.specs.Programs.{kernel}
 use Rattle.mw_term.specs.Types.{TermType, live}
 use Rattle.mw_term.specs.Typing.{TopLevel, Typed, t_var, t_fun, t_bracket, t_escape, t_close, t_open}
-use Rattle.mw_term.specs.Typable.{Typable}
 use Rattle.mw_meaning.specs.Examples.{int_to_int}
 use Rattle.mw_meaning.specs.TypingExamples.{leak}
 use Rattle.mw_meaning.proofs.laws.typing_examples.leak_has_no_type.Goals as goal

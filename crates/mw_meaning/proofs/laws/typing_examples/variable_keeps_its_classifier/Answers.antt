@@ -1,4 +1,4 @@
-use Rattle.std.proofs.Common.{◌≡◌, ◌≢◌, ℕ, zero, List, [], ◌∷◌, Some, refl}
+use Rattle.std.proofs.Common.{◌≢◌, ℕ, List, [], ◌∷◌}
 use Rattle.mw_term.specs.Terms.{var, fun, prim, bracket, escape, close, opened}
 use Rattle.mw_term.specs.declared.term.Primitive.TheVariants.{Add}
 use Rattle.mw_term.specs.Types.{TermType, live, under, Entry, quoted}
