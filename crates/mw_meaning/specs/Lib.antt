@@ -5,6 +5,7 @@ pub mod Examples
 pub mod Replies
 pub mod TypingLaws
 pub mod TypingExamples
+pub mod TypingRules
 pub mod ValueEquations
 pub mod CodeEquations
 pub mod KernelEquations

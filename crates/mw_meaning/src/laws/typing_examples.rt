@@ -1,6 +1,7 @@
 // Worked examples of typing: derivations, and terms that have none.
 
 ghost use Rattle.mw_meaning.specs.TypingExamples.{PowerIsItsDefinition, CubeIsTypable, LeakHasNoType, LeakIsNotTypable, TopLevelGeneratorIsTypable, InnerGeneratorHasOneType, InnerGeneratorHasOneClassifier, BracketInBracketHasNoType, NoCodeOfCode, VariableKeepsItsClassifier, OuterVariableHasNoType, LaterLetIsNotSeen, KernelIsNotSeenByItems, LetIsASyntacticValue, RepliesAreTakenInOrder, OtherRepliesAreTyped, ReplyOfAnotherTypeStops};
+ghost use Rattle.mw_meaning.specs.TypingRules.{NumberIsAccepted, VariableIsAccepted, FunctionIsAccepted, RecursionIsAccepted, ApplicationIsAccepted, InnerLetIsAccepted, ConditionIsAccepted, PairIsAccepted, PrimitiveIsAccepted, BracketIsAccepted, EscapeIsAccepted, RunIsAccepted, CloseIsAccepted, OpenIsAccepted, LiftIsAccepted, NumberIsRefused, KernelNameIsRefused, FunctionIsRefused, RecursionIsRefused, ApplicationIsRefused, InnerLetIsRefused, ConditionIsRefused, PairIsRefused, PrimitiveIsRefused, EscapeIsRefused, RunIsRefused, OpenIsRefused, LiftIsRefused};
 
 /// The usual cube program is typable.
 pub fn cube_is_typable()
@@ -49,4 +50,40 @@ pub fn replies_are_taken()
     ensures in_order { RepliesAreTakenInOrder }
     ensures typed { OtherRepliesAreTyped }
     ensures of_another_type { ReplyOfAnotherTypeStops }
+{}
+
+/// For each typing rule a term that it accepts.
+pub fn rules_accept()
+    ensures number { NumberIsAccepted }
+    ensures variable { VariableIsAccepted }
+    ensures function { FunctionIsAccepted }
+    ensures recursion { RecursionIsAccepted }
+    ensures application { ApplicationIsAccepted }
+    ensures inner_let { InnerLetIsAccepted }
+    ensures condition { ConditionIsAccepted }
+    ensures pair { PairIsAccepted }
+    ensures primitive { PrimitiveIsAccepted }
+    ensures bracket { BracketIsAccepted }
+    ensures escape { EscapeIsAccepted }
+    ensures run { RunIsAccepted }
+    ensures closed { CloseIsAccepted }
+    ensures opened { OpenIsAccepted }
+    ensures lift { LiftIsAccepted }
+{}
+
+/// For the rules a term that they refuse; the other refusals are in the functions above.
+pub fn rules_refuse()
+    ensures number { NumberIsRefused }
+    ensures kernel_name { KernelNameIsRefused }
+    ensures function { FunctionIsRefused }
+    ensures recursion { RecursionIsRefused }
+    ensures application { ApplicationIsRefused }
+    ensures inner_let { InnerLetIsRefused }
+    ensures condition { ConditionIsRefused }
+    ensures pair { PairIsRefused }
+    ensures primitive { PrimitiveIsRefused }
+    ensures escape { EscapeIsRefused }
+    ensures run { RunIsRefused }
+    ensures opened { OpenIsRefused }
+    ensures lift { LiftIsRefused }
 {}
