@@ -1,6 +1,6 @@
 -- Worked examples of typing: derivations, and terms that have none.
 use Rattle.std.specs.Prelude.{ℕ, ◌≡◌, ◌≢◌, pos, negsuc, true, List, [], ◌∷◌}
-use Rattle.mw_term.specs.Terms.{Expression, base, num, truth, var, glob, fun, fix, app, bind, cond, pair, prim, bracket, escape, run, close, opened, int, bool, function, code, kept}
+use Rattle.mw_term.specs.Terms.{Expression, base, num, truth, var, glob, fun, fix, app, bind, cond, pair, snd, prim, bracket, escape, run, close, opened, int, bool, function, code, kept}
 use Rattle.mw_term.specs.declared.term.Base.{Base}
 use Rattle.mw_term.specs.declared.term.Base.TheVariants.{Int}
 use Rattle.mw_term.specs.declared.term.Primitive.TheVariants.{Add, Sub, Mul, Eq}
@@ -88,6 +88,10 @@ VariableKeepsItsClassifier = (tops : List TopLevel) (g : List Entry) (a b : ℕ)
 -- .<fun x -> .~(open (close .<fun y -> x + y>.))>., where the inner bracket needs a classifier that x has not
 abbrev pub OuterVariableHasNoType : Type 0
 OuterVariableHasNoType = HasNoType (bracket (fun (escape (opened (close 0 (bracket (fun (prim Add (var 1) (var 0)))))))))
+
+-- let f = fun x -> x ;; let p = (1, fun x -> f x) ;; main : int = snd p 5
+abbrev pub EarlierLetIsSeen : Type 0
+EarlierLetIsSeen = Typable (record { items = value (fun (var 0)) ∷ value (pair (n 1) (fun (app (glob 0) (var 0)))) ∷ []; result = Int; body = app (snd (glob 1)) (n 5) })
 
 -- let f = fun x -> g ;; let g = fun x -> x ;;
 abbrev pub LaterLetIsNotSeen : Type 0

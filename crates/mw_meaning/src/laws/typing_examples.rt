@@ -1,6 +1,6 @@
 // Worked examples of typing: derivations, and terms that have none.
 
-ghost use Rattle.mw_meaning.specs.TypingExamples.{PowerIsItsDefinition, CubeIsTypable, LeakHasNoType, LeakIsNotTypable, TopLevelGeneratorIsTypable, InnerGeneratorHasOneType, InnerGeneratorHasOneClassifier, BracketInBracketHasNoType, NoCodeOfCode, VariableKeepsItsClassifier, OuterVariableHasNoType, LaterLetIsNotSeen, KernelIsNotSeenByItems, LetIsASyntacticValue, RepliesAreTakenInOrder, OtherRepliesAreTyped, ReplyOfAnotherTypeStops};
+ghost use Rattle.mw_meaning.specs.TypingExamples.{PowerIsItsDefinition, CubeIsTypable, LeakHasNoType, LeakIsNotTypable, TopLevelGeneratorIsTypable, InnerGeneratorHasOneType, InnerGeneratorHasOneClassifier, BracketInBracketHasNoType, NoCodeOfCode, VariableKeepsItsClassifier, OuterVariableHasNoType, EarlierLetIsSeen, LaterLetIsNotSeen, KernelIsNotSeenByItems, LetIsASyntacticValue, RepliesAreTakenInOrder, OtherRepliesAreTyped, ReplyOfAnotherTypeStops};
 ghost use Rattle.mw_meaning.specs.TypingRules.{NumberIsAccepted, VariableIsAccepted, FunctionIsAccepted, RecursionIsAccepted, ApplicationIsAccepted, InnerLetIsAccepted, ConditionIsAccepted, PairIsAccepted, PrimitiveIsAccepted, BracketIsAccepted, EscapeIsAccepted, RunIsAccepted, CloseIsAccepted, OpenIsAccepted, LiftIsAccepted, NumberIsRefused, KernelNameIsRefused, FunctionIsRefused, RecursionIsRefused, ApplicationIsRefused, InnerLetIsRefused, ConditionIsRefused, PairIsRefused, PrimitiveIsRefused, EscapeIsRefused, RunIsRefused, OpenIsRefused, LiftIsRefused};
 
 /// The usual cube program is typable.
@@ -40,6 +40,7 @@ pub fn variable_keeps_its_classifier()
 
 /// An item sees the lets before it, no later one and no kernel, and a let is a syntactic value.
 pub fn items_see_lets_before()
+    ensures earlier_let { EarlierLetIsSeen }
     ensures later_let { LaterLetIsNotSeen }
     ensures kernel { KernelIsNotSeenByItems }
     ensures syntactic_value { LetIsASyntacticValue }
