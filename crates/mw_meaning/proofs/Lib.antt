@@ -1,3 +1,11 @@
 pub mod KernelFixedPoint
 pub mod StagedFixedPoint
 pub mod Outsides
+pub mod Inductions
+pub mod Refinement
+pub mod Safe
+pub mod TypingKept
+pub mod KernelTyping
+pub mod SettingValues
+pub mod RepliesTyped
+pub mod EvaluationTyping

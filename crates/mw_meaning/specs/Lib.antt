@@ -2,6 +2,10 @@ pub mod Arithmetic
 pub mod KernelMeaning
 pub mod StagedMeaning
 pub mod Examples
+pub mod Replies
+pub mod TypingLaws
+pub mod TypingExamples
+pub mod TypingRules
 pub mod ValueEquations
 pub mod CodeEquations
 pub mod KernelEquations

@@ -3,4 +3,6 @@
 pub mod codes;
 pub mod examples;
 pub mod kernels;
+pub mod typing;
+pub mod typing_examples;
 pub mod values;

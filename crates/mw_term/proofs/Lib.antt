@@ -1,2 +1,9 @@
 pub mod Substituting
 pub mod Closing
+pub mod Renaming
+pub mod TypedClosed
+pub mod Weakening
+pub mod TypedSubstitution
+pub mod MovedCode
+pub mod TypesFormed
+pub mod Unlabelling

@@ -3,3 +3,8 @@ pub mod Programs
 pub mod Substitution
 pub mod Closed
 pub mod SubstitutionLaws
+pub mod Types
+pub mod Unlabelled
+pub mod Typing
+pub mod Typable
+pub mod TypingLaws

@@ -1,9 +1,9 @@
 -- Programs as pure data.
-use Rattle.std.specs.Prelude.{List, map}
-use Rattle.mw_term.specs.Terms.{Expression, KernelType, expression_of, kernel_type_of}
+use Rattle.std.specs.Prelude.{List, map, pos}
+use Rattle.mw_term.specs.Terms.{Expression, Value, KernelType, num, truth, fun, fix, pair, int, bool, both, function, recursive, expression_of, kernel_type_of}
 use Rattle.mw_term.specs.declared.term.Base.{Base}
 use Rattle.mw_term.specs.declared.program.ItemKind.{ItemKind}
-use Rattle.mw_term.specs.declared.program.ItemKind.TheVariants.{Value, Kernel}
+use Rattle.mw_term.specs.declared.program.ItemKind.TheVariants.{Value as ValueItem, Kernel as KernelItem}
 use Rattle.mw_term.specs.declared.program.Program.{Program}
 
 -- what an item defines
@@ -12,8 +12,8 @@ pub data Definition : Type 0 where
   kernel : (k : KernelType) (e : Expression) → Definition
 
 abbrev pub definition_of : ItemKind → Definition
-definition_of (Value t) = value (expression_of t)
-definition_of (Kernel k t) = kernel (kernel_type_of k) (expression_of t)
+definition_of (ValueItem t) = value (expression_of t)
+definition_of (KernelItem k t) = kernel (kernel_type_of k) (expression_of t)
 
 -- a program without its names
 pub record PureProgram : Type 0 where
@@ -23,3 +23,21 @@ pub record PureProgram : Type 0 where
 
 abbrev pub program_of : Program → PureProgram
 program_of p = record { items = map (λ i. definition_of i.kind) p.items; result = p.result; body = expression_of p.body }
+
+-- a syntactic value: a function, a literal or a pair of such
+abbrev pub IsSyntacticValue : Expression → Type 0
+IsSyntacticValue (num n) = Unit {0}
+IsSyntacticValue (truth b) = Unit {0}
+IsSyntacticValue (fun e) = Unit {0}
+IsSyntacticValue (fix e) = Unit {0}
+IsSyntacticValue (pair a b) = IsSyntacticValue a × IsSyntacticValue b
+IsSyntacticValue _ = ⊥
+
+-- the value that a syntactic value is; of other terms nothing is meant
+abbrev pub value_of_definition : Expression → Value
+value_of_definition (num n) = int n
+value_of_definition (truth b) = bool b
+value_of_definition (fun e) = function e
+value_of_definition (fix e) = recursive e
+value_of_definition (pair a b) = both (value_of_definition a) (value_of_definition b)
+value_of_definition _ = int (pos 0)

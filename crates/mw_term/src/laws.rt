@@ -1,6 +1,7 @@
-// Laws of shifting and substitution, which no program calls.
+// Laws of shifting, substitution and typing, which no program calls.
 
 ghost use Rattle.mw_term.specs.SubstitutionLaws.{ShiftKeepsSize, SubstitutionKeepsSize, SubstitutionUndoesShift, ShiftsCommute, ShiftKeepsClosed, SubstitutionKeepsClosed, ShiftRaisesFree, SubstitutionLowersFree};
+ghost use Rattle.mw_term.specs.TypingLaws.{TypesFit, TypedIsClosed, WeakeningKeepsTypes, SubstitutionKeepsTypes};
 
 /// A shift keeps a term's size.
 pub fn shift_keeps_size()
@@ -40,4 +41,24 @@ pub fn shift_raises_free()
 /// Substitution of a value takes one free variable away, and brings only those of the value.
 pub fn substitution_lowers_free()
     ensures { SubstitutionLowersFree }
+{}
+
+/// Each type that a term has fits the level where the term stands.
+pub fn types_fit()
+    ensures { TypesFit }
+{}
+
+/// A typed term uses the variables of its environment alone.
+pub fn typed_is_closed()
+    ensures { TypedIsClosed }
+{}
+
+/// A shifted term keeps its types under one more binder.
+pub fn weakening_keeps_types()
+    ensures { WeakeningKeepsTypes }
+{}
+
+/// Substitution of a value of a variable's type keeps a term's types.
+pub fn substitution_keeps_types()
+    ensures { SubstitutionKeepsTypes }
 {}

@@ -1,0 +1,45 @@
+// Evaluation keeps types.
+
+ghost use Rattle.mw_meaning.specs.StagedMeaning.{outside};
+ghost use Rattle.mw_meaning.specs.Replies.{answering, AreTypedReplies};
+ghost use Rattle.mw_meaning.specs.TypingLaws.{NeverStuck, CodeNeverStuck, ValuesAreTyped, BuiltCodeIsTyped, CodeIsTyped, ClosedCodeIsClosed, RunsAreTyped, StagedRunsAreTyped, RunsOfCodeAreTyped, LetsHaveTheirValues, KernelsNeverStuck, KernelsGiveTheirCode, MainNeverStuck, MainGivesItsBase, AnyState, KernelMeaningNeverStuck, KernelMeaningIsTyped, KernelMeaningIsClosed};
+
+/// What the evaluation of a typable program keeps, where runs and calls answer by the kernel meaning, and where they take
+/// their answers in order from any list of answers of the right types.
+pub fn typing_kept()
+    ensures never_stuck { NeverStuck outside AnyState }
+    ensures code_never_stuck { CodeNeverStuck outside AnyState }
+    ensures values_are_typed { ValuesAreTyped outside AnyState }
+    ensures built_code_is_typed { BuiltCodeIsTyped outside AnyState }
+    ensures code_is_typed { CodeIsTyped outside AnyState }
+    ensures closed_code_is_closed { ClosedCodeIsClosed outside AnyState }
+    ensures runs_are_typed { RunsAreTyped outside AnyState (λ s. s) }
+    ensures staged_runs_are_typed { StagedRunsAreTyped }
+    ensures runs_of_code_are_typed { RunsOfCodeAreTyped outside AnyState (λ s. s) }
+    ensures lets_have_their_values { LetsHaveTheirValues outside }
+    ensures kernels_never_stuck { KernelsNeverStuck outside AnyState }
+    ensures kernels_give_their_code { KernelsGiveTheirCode outside AnyState }
+    ensures main_never_stuck { MainNeverStuck outside AnyState }
+    ensures main_gives_its_base { MainGivesItsBase outside AnyState }
+
+    ensures replied_never_stuck { NeverStuck answering AreTypedReplies }
+    ensures replied_code_never_stuck { CodeNeverStuck answering AreTypedReplies }
+    ensures replied_values_are_typed { ValuesAreTyped answering AreTypedReplies }
+    ensures replied_built_code_is_typed { BuiltCodeIsTyped answering AreTypedReplies }
+    ensures replied_code_is_typed { CodeIsTyped answering AreTypedReplies }
+    ensures replied_closed_code_is_closed { ClosedCodeIsClosed answering AreTypedReplies }
+    ensures replied_runs_are_typed { RunsAreTyped answering AreTypedReplies (λ s. s.begun) }
+    ensures replied_runs_of_code_are_typed { RunsOfCodeAreTyped answering AreTypedReplies (λ s. s.begun) }
+    ensures replied_lets_have_their_values { LetsHaveTheirValues answering }
+    ensures replied_kernels_never_stuck { KernelsNeverStuck answering AreTypedReplies }
+    ensures replied_kernels_give_their_code { KernelsGiveTheirCode answering AreTypedReplies }
+    ensures replied_main_never_stuck { MainNeverStuck answering AreTypedReplies }
+    ensures replied_main_gives_its_base { MainGivesItsBase answering AreTypedReplies }
+{}
+
+/// The kernel meaning of closed typed code is never stuck, and its value is closed and has the type.
+pub fn kernel_typing_kept()
+    ensures never_stuck { KernelMeaningNeverStuck }
+    ensures typed { KernelMeaningIsTyped }
+    ensures closed { KernelMeaningIsClosed }
+{}
