@@ -1,6 +1,6 @@
 -- The token at the front is the one that the bytes spell there, and bytes are tokens in one way.
-use Rattle.std.proofs.Common.{lit<, get_or, drop-cons, add-one, length-append, length-drop, if◌then◌else◌, ◌≡◌, ◌≢◌, ◌⊎◌, inl, inr, ℕ, zero, suc, ◌+◌, ◌-◌, ◌*◌, ◌^◌, ◌<◌, ◌≤◌, ◌==◌, nat_lt, nat_le, List, [], ◌∷◌, ◌++◌, length, drop, refl, ap, sym, ◌∙◌, subst, append_assoc, append-nil, arith, Bool, true, false, not, ◌&&◌, ◌||◌, Option, Some, None, codes}
-use Rattle.std.proofs.lemmas.Bool.{false≢true, not_from_false, eqb-true, eq-eqb, leb-true, leb-false, le-leb, lt-leb, ltb-true, ltb-false, lt-ltb, and_parts, and_from, and_cases, or_parts, or_cases, or_from, not-true, not-false, false_from_ne_true}
+use Rattle.std.proofs.Common.{lit<, get_or, drop-cons, add-one, length-append, length-drop, if◌then◌else◌, ◌≡◌, ◌≢◌, inl, inr, ℕ, suc, ◌+◌, ◌-◌, ◌*◌, ◌^◌, ◌<◌, ◌≤◌, ◌==◌, nat_lt, nat_le, List, [], ◌∷◌, ◌++◌, length, drop, refl, ap, sym, ◌∙◌, subst, append_assoc, append-nil, arith, Bool, true, false, ◌&&◌, Option, Some, None, codes}
+use Rattle.std.proofs.lemmas.Bool.{false≢true, not_from_false, eqb-true, eq-eqb, leb-true, le-leb, ltb-true, lt-ltb, and_parts, and_from, or_cases, or_from, not-true, false_from_ne_true}
 use Rattle.std.proofs.lemmas.List.{drop-drop, drop_all}
 use Rattle.std.proofs.lemmas.Option.{none-some, same_Some}
 use Rattle.mw_parse.specs.FirstTokens.{Token, Placed, main_word, int_word, run_word, close_word, number, bracket_left, bracket_right, escape_mark, paren_left, paren_right, square_left, square_right, colon, equal, plus, IsBlank, IsDigit, IsWordByte, IsDecimal, IsSpelling, EndsWord, IsLongest, AreTokens, at_end, after_blank, after_token}

@@ -1,11 +1,11 @@
 -- Steps of the loop that reads a number, and the texts at the front.
-use Rattle.std.proofs.Common.{if◌then◌else◌, ◌≡◌, ℕ, zero, suc, ◌+◌, ◌-◌, ◌*◌, ◌^◌, ◌<◌, ◌≤◌, ◌==◌, nat_lt, nat_eq, List, [], ◌∷◌, length, drop, get_or, drop-cons, add-one, length-append, refl, ap, sym, ◌∙◌, arith, Bool, true, false, ◌&&◌, Option, Some, None}
+use Rattle.std.proofs.Common.{if◌then◌else◌, ◌≡◌, ℕ, suc, ◌+◌, ◌-◌, ◌*◌, ◌^◌, ◌<◌, ◌≤◌, ◌==◌, nat_lt, nat_eq, List, [], ◌∷◌, length, drop, get_or, drop-cons, add-one, length-append, refl, ap, sym, ◌∙◌, arith, Bool, true, false, ◌&&◌, Some, None}
 use Rattle.std.proofs.lemmas.Bool.{lt-ltb, le-ltb}
 use Rattle.std.proofs.lemmas.List.{drop_all}
 use Rattle.std.specs.List.{starts_with}
 use Rattle.mw_parse.specs.FirstScan.{is_digit, is_word_byte, begins, decimal, front}
 use Rattle.mw_parse.specs.FirstTokens.{Token, main_word, int_word, run_word, close_word, number, bracket_left, bracket_right, escape_mark, paren_left, paren_right, square_left, square_right, colon, equal, plus, IsSpelling}
-use Rattle.mw_parse.proofs.FirstFronts.{Stands, front_sound}
+use Rattle.mw_parse.proofs.FirstFronts.{front_sound}
 
 pub begins_is : (text bytes : List ℕ) → begins text bytes ≡ starts_with nat_eq bytes text
 begins_is [] bytes = refl
@@ -21,9 +21,6 @@ here value count b rest d s w e f g =
     ∙ ap (λ w. if d then (if s then decimal (10 * value + (b - 48)) (suc count) rest else None) else (if w then None else Some (value, count))) g
 
 module _ (value count : ℕ) (bytes : List ℕ) where
-  byte : ℕ
-  byte = get_or bytes count 0
-
   from_here : count < length bytes → (d s w : Bool) → is_digit (get_or bytes count 0) ≡ d → nat_lt (10 * value + (get_or bytes count 0 - 48)) (2 ^ 63) ≡ s → is_word_byte (get_or bytes count 0) ≡ w
       → decimal value count (drop count bytes) ≡ (if d then (if s then decimal (10 * value + (get_or bytes count 0 - 48)) (suc count) (drop (suc count) bytes) else None) else (if w then None else Some (value, count)))
   from_here p d s w e f g = ap (λ r. decimal value count r) (drop-cons bytes count 0 p) ∙ here value count (get_or bytes count 0) (drop (suc count) bytes) d s w e f g

@@ -1,9 +1,9 @@
 -- Steps of the reading, by what comes first.
-use Rattle.std.proofs.Common.{if◌then◌else◌, ◌≡◌, ℕ, zero, suc, ◌<◌, List, [], ◌∷◌, length, refl, ap, sym, ◌∙◌, subst, arith, Bool, true, false, Option, Some, None}
+use Rattle.std.proofs.Common.{if◌then◌else◌, ◌≡◌, ℕ, ◌<◌, List, [], ◌∷◌, length, refl, ap, ◌∙◌, arith, false, Option, Some, None}
 use Rattle.mw_term.specs.Terms.{Expression, escape, bracket}
-use Rattle.mw_parse.specs.FirstTokens.{Token, Placed, main_word, int_word, run_word, close_word, number, bracket_left, bracket_right, escape_mark, paren_left, paren_right, square_left, square_right, colon, equal, plus}
+use Rattle.mw_parse.specs.FirstTokens.{Token, Placed, close_word, bracket_left, bracket_right, paren_right, plus}
 use Rattle.mw_parse.specs.FirstGrammar.{Level, level_0, level_1, at}
-use Rattle.mw_parse.specs.FirstStates.{Frame, paren, running, splicing, State, stuck, operand, behind, wanted, close_wanted, same, joined, in_splice, at_operand, ran, at_behind, reading, start, first_is}
+use Rattle.mw_parse.specs.FirstStates.{Frame, paren, running, splicing, State, stuck, operand, behind, wanted, close_wanted, same, joined, ran, at_behind, reading, first_is}
 use Rattle.mw_parse.proofs.FirstSteps.{stuck_none, same_self}
 
 -- a token that is wanted

@@ -1,14 +1,13 @@
 -- The reader by states reads what the grammar derives, and nothing else.
-use Rattle.std.proofs.Common.{if◌then◌else◌, ◌≡◌, ℕ, zero, suc, ◌+◌, ◌-◌, ◌*◌, ◌<◌, ◌≤◌, ◌==◌, nat_lt, pos, List, [], ◌∷◌, ◌++◌, get_or, refl, ap, sym, ◌∙◌, subst, append_assoc, append-nil, arith, Bool, true, false, Option, Some, None}
+use Rattle.std.proofs.Common.{if◌then◌else◌, ◌≡◌, ℕ, zero, suc, ◌+◌, List, [], ◌∷◌, ◌++◌, refl, ap, sym, ◌∙◌, subst, append_assoc, append-nil, arith, Bool, true, false, Option, Some, None}
 use Rattle.std.proofs.lemmas.Bool.{eqb-true, eq-eqb}
 use Rattle.std.proofs.lemmas.Option.{none-some, same_Some}
-use Rattle.mw_term.specs.Terms.{Expression, base, num, prim, bracket, escape, run, close}
+use Rattle.mw_term.specs.Terms.{Expression, bracket, escape}
 use Rattle.mw_term.specs.Programs.{PureProgram}
 use Rattle.mw_term.specs.declared.term.Base.TheVariants.{Int}
-use Rattle.mw_term.specs.declared.term.Primitive.TheVariants.{Add}
 use Rattle.mw_parse.specs.FirstTokens.{Token, Placed, main_word, int_word, run_word, close_word, number, bracket_left, bracket_right, escape_mark, paren_left, paren_right, square_left, square_right, colon, equal, plus}
 use Rattle.mw_parse.specs.FirstGrammar.{Level, level_0, level_1, at, IsSum, one_part, one_more, IsPart, a_number, in_parens, a_run, a_splice, IsFile, a_file}
-use Rattle.mw_parse.specs.FirstStates.{Frame, paren, running, splicing, State, stuck, operand, behind, wanted, close_wanted, code, same, joined, in_splice, at_operand, ran, at_behind, step, reached, answer, reading, start, first_is}
+use Rattle.mw_parse.specs.FirstStates.{Frame, paren, running, splicing, State, stuck, operand, behind, wanted, close_wanted, code, same, joined, in_splice, at_operand, ran, at_behind, step, reached, answer, reading, start}
 
 -- what the grammar derives is read
 reached_append : (s : State) (a b : List Placed) → reached s (a ++ b) ≡ reached (reached s a) b

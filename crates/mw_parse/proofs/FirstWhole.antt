@@ -1,11 +1,10 @@
 -- From tokens and their reading to what the bytes derive.
-use Rattle.std.proofs.Common.{◌≡◌, ℕ, ◌<◌, ◌≤◌, ◌^◌, List, [], ◌∷◌, length, refl, ap, sym, ◌∙◌, subst, arith, Option, Some, None, Result, Ok, Err}
+use Rattle.std.proofs.Common.{◌≡◌, ℕ, ◌<◌, ◌≤◌, List, length, refl, ap, sym, ◌∙◌, arith, Some, None, Err}
 use Rattle.std.proofs.lemmas.Option.{none-some, same_Some}
 use Rattle.mw_term.specs.Terms.{Expression}
 use Rattle.mw_term.specs.Programs.{PureProgram}
 use Rattle.mw_parse.specs.FirstTokens.{Placed, AreTokens}
 use Rattle.mw_parse.specs.FirstGrammar.{IsFile, a_file, Derives}
-use Rattle.mw_term.specs.declared.program.Program.{Program}
 use Rattle.mw_term.specs.declared.refusal.Refusal.{Refusal}
 use Rattle.mw_term.specs.declared.refusal.Refusal.TheVariants.{NotYet}
 use Rattle.mw_term.specs.declared.refusal.Stop.{Stop}

@@ -1,5 +1,5 @@
 -- What the next token decides, as equations of the reading.
-use Rattle.std.specs.Prelude.{◌≡◌, ℕ, ◌<◌, List, ◌∷◌, length, Option, Some, None}
+use Rattle.std.specs.Prelude.{◌≡◌, ◌<◌, List, ◌∷◌, length, Option, None}
 use Rattle.mw_term.specs.Terms.{Expression, num}
 use Rattle.mw_parse.specs.FirstTokens.{Placed, run_word, escape_mark}
 use Rattle.mw_parse.specs.FirstGrammar as grammar

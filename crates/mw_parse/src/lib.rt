@@ -19,7 +19,7 @@ use std::alloc::Global;
 
 /// Reads a file of the first grammar, of at most 256 bytes: the program that the bytes derive, or that they derive
 /// none.
-#[tactic(auto, using(crate::proofs::FirstWhole::derives_found, crate::proofs::FirstWhole::derives_only, crate::proofs::FirstWhole::derives_none, crate::proofs::FirstWhole::tokens_none, crate::proofs::FirstWhole::long_none))]
+#[tactic(auto, using(crate::proofs::FirstWhole::derives_found, crate::proofs::FirstWhole::tokens_none, crate::proofs::FirstWhole::long_none))]
 pub fn read_first(alloc: Global, bytes: &[u8]) -> Result<Program, Stop>
     ensures found { IfOk result (λ p. Derives bytes.now (program_of p)) }
     ensures only { (p : PureProgram) → Derives bytes.now p → IsOrMemory result p }

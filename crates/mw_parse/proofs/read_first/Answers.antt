@@ -1,12 +1,7 @@
-use Rattle.std.proofs.Common.{◌≡◌, [], Err, ◌∙◌, sym, ap, map, subst}
+use Rattle.std.proofs.Common.{ap}
 use Rattle.std.proofs.lemmas.Result.{err_from_is_err_and}
 use Rattle.mw_term.specs.Terms.{expression_of}
-use Rattle.mw_term.specs.Programs.{PureProgram, definition_of}
-use Rattle.mw_term.specs.declared.term.Base.TheVariants.{Int}
-use Rattle.mw_term.specs.declared.refusal.Refusal.TheVariants.{NotYet}
-use Rattle.mw_term.specs.declared.refusal.Stop.TheVariants.{Refused}
 use Rattle.mw_parse.specs.FirstViews.{placed}
-use Rattle.mw_parse.specs.FirstReading.{IsOrMemory}
 use Rattle.mw_parse.proofs.FirstWhole.{fails_only, fails_refused, reads_only}
 use Rattle.mw_parse.proofs.read_first.Goals as goal
 

@@ -66,7 +66,7 @@ fn file_head(tokens: &[PlacedToken]) -> Option<&[PlacedToken]>
 }
 
 /// The term of `main`.
-#[tactic(auto, using(crate::proofs::FirstReads::end_none, crate::proofs::FirstReads::end_here))]
+#[tactic(auto, using(crate::proofs::FirstReads::end_here))]
 pub fn file(alloc: Global, tokens: &[PlacedToken]) -> Result<Term, Stop>
     ensures found { IfOk result (λ t. reading start (placed tokens.now) ≡ Some (expression_of t)) }
     ensures refused { IfErr result (λ e. Refuses e (reading start (placed tokens.now) ≡ None)) }

@@ -11,7 +11,7 @@ use mw_term::{Refusal, Stop};
 use std::alloc::Global;
 
 /// The tokens of the bytes, each with its offset.
-#[tactic(auto, using(crate::proofs::FirstFronts::scanned_start, crate::proofs::FirstFronts::scanned_blank, crate::proofs::FirstFronts::scanned_token, crate::proofs::FirstFronts::scanned_all, crate::proofs::FirstFronts::scanned_only, crate::proofs::FirstFronts::scanned_none))]
+#[tactic(auto, using(crate::proofs::FirstFronts::scanned_start, crate::proofs::FirstFronts::scanned_all))]
 pub fn scan(alloc: Global, bytes: &[u8]) -> Result<Vec<PlacedToken>, Stop>
     requires { length bytes.now ≤ 256 }
     ensures found { IfOk result (λ v. AreTokens 0 bytes.now (placed v.items)) }

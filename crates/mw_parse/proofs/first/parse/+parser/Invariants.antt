@@ -1,4 +1,4 @@
-use Rattle.std.proofs.Common.{ℕ, ◌+◌, ◌*◌, length}
+use Rattle.std.proofs.Common.{◌+◌, ◌*◌, length}
 use Rattle.mw_parse.proofs.first.parse.+parser.Given as goal
 
 -- the tokens first, then which function it is
