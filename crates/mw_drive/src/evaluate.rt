@@ -85,11 +85,7 @@ fn built(alloc: Global, term: &Term) -> Result<Term, AllocError>
         Term::Prim(Prim::Add, a, b) => {
             let left = built(alloc, a)?;
             let right = built(alloc, b)?;
-            Ok(Term::Prim(
-                Prim::Add,
-                Box::new(alloc, left)?,
-                Box::new(alloc, right)?,
-            ))
+            Ok(Term::Prim(Prim::Add, Box::new(alloc, left)?, Box::new(alloc, right)?))
         }
         Term::Escape(e) => spliced(alloc, e),
         _ => unreachable!(),

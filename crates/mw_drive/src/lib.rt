@@ -1,9 +1,9 @@
 //! The commands of the program.
 #![tactic(auto)]
 
+mod command;
 mod evaluate;
 mod report;
-mod command;
 mod source;
 mod status;
 mod words;

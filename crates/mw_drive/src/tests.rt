@@ -39,7 +39,15 @@ fn ran<R: Abort + AllocGlobal + Threads + Sync>(
     for word in words {
         owned.push(String::from_str(alloc, word)?)?;
     }
-    let status = run(rt, alloc, owned.as_slice(), &mut source, &mut sink, &mut keeper, &Pass);
+    let status = run(
+        rt,
+        alloc,
+        owned.as_slice(),
+        &mut source,
+        &mut sink,
+        &mut keeper,
+        &Pass,
+    );
     Ok(Ending {
         status,
         written: Vec::from_slice(alloc, sink.written())?,
@@ -60,13 +68,33 @@ fn sources_have_their_output(rt: HostRuntime) -> Result<(), Fail> {
         ("main : int = run[int] (close .<1 + 2>.)", 0, "answer 3\n"),
         ("main : int = 1 + 2", 0, "answer 3\n"),
         ("main : int = run[int] (close .<7>.)", 0, "answer 7\n"),
-        ("main : int = run[int] (close .<1 + .~.<2>.>.)", 0, "answer 3\n"),
-        ("main : int = 9223372036854775807 + 1", 0, "answer -9223372036854775808\n"),
-        ("main : int = run[int] (close .<9223372036854775807 + 1>.)", 0, "answer -9223372036854775808\n"),
-        ("\tmain:int=(1+(02))+run[int](close.<.~.<3+4>.+5>.)\r\n", 0, "answer 15\n"),
+        (
+            "main : int = run[int] (close .<1 + .~.<2>.>.)",
+            0,
+            "answer 3\n",
+        ),
+        (
+            "main : int = 9223372036854775807 + 1",
+            0,
+            "answer -9223372036854775808\n",
+        ),
+        (
+            "main : int = run[int] (close .<9223372036854775807 + 1>.)",
+            0,
+            "answer -9223372036854775808\n",
+        ),
+        (
+            "\tmain:int=(1+(02))+run[int](close.<.~.<3+4>.+5>.)\r\n",
+            0,
+            "answer 15\n",
+        ),
         ("", 3, "refused 15 not yet\n"),
         ("main : int = 1 - 1", 3, "refused 15 not yet\n"),
-        ("main : int = 9223372036854775808", 3, "refused 15 not yet\n"),
+        (
+            "main : int = 9223372036854775808",
+            3,
+            "refused 15 not yet\n",
+        ),
         ("main : bool = true", 3, "refused 15 not yet\n"),
         ("main : int = 1 # one", 3, "refused 15 not yet\n"),
         ("main : int = \u{e9}", 3, "refused 15 not yet\n"),
