@@ -1,2 +1,4 @@
 pub mod Syntax
 pub mod Views
+pub mod ExampleModules
+pub mod Leb
