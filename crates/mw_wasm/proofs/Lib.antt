@@ -1,0 +1,3 @@
+mod FormatPieces
+mod FormatOpcodes
+mod FormatInstructions
