@@ -1,1 +1,4 @@
 pub mod ExamplesValid
+mod FormatPieces
+mod FormatOpcodes
+mod FormatInstructions

@@ -5,3 +5,8 @@ pub mod Store
 pub mod Validity
 pub mod ExampleModules
 pub mod ValidityExamples
+pub mod Leb
+pub mod Pieces
+pub mod BinaryInstructions
+pub mod BinaryModules
+pub mod Profile

@@ -1,0 +1,33 @@
+-- The limits of the integer profile, which the standard allows an implementation (standard: Implementation Limitations).
+use Rattle.std.specs.Prelude.{ℕ, zero, suc, ◌≤◌, max, List, length, IfSome}
+use Rattle.std.specs.List.{AllByRecursion}
+use Rattle.mw_wasm.specs.Syntax.{Instruction, Code, block, loop, cond, end, next, PureModule}
+
+-- how many blocks stand round the innermost instruction
+abbrev mutual
+  pub depth_of : Instruction → ℕ
+  depth_of (block t body) = suc (depth body)
+  depth_of (loop t body) = suc (depth body)
+  depth_of (cond t a b) = suc (max (depth a) (depth b))
+  depth_of _ = zero
+
+  pub depth : Code → ℕ
+  depth end = zero
+  depth (next i c) = max (depth_of i) (depth c)
+
+abbrev pub greatest_depth : ℕ
+greatest_depth = 500
+
+abbrev pub IsPrintable : ℕ → Type 0
+IsPrintable b = (0x20 ≤ b) × (b ≤ 0x7E)
+
+pub record IsWithinProfile (bytes : List ℕ) (m : PureModule) : Type 0 where
+  pub bytes_in_all : length bytes ≤ 67_108_864
+  pub table_elements : IfSome m.table (λ t. t.min ≤ 100_000)
+  pub memory_pages : IfSome m.memory (λ l. l.min ≤ 1_024)
+  pub further_locals : AllByRecursion (λ f. length f.locals ≤ 50_000) m.funcs
+  pub export_names : AllByRecursion (λ e. AllByRecursion IsPrintable e.name) m.exports
+  pub function_depth : AllByRecursion (λ f. depth f.body ≤ greatest_depth) m.funcs
+  pub global_depth : AllByRecursion (λ g. depth g.init ≤ greatest_depth) m.globals
+  pub element_depth : AllByRecursion (λ e. depth e.offset ≤ greatest_depth) m.elements
+  pub segment_depth : AllByRecursion (λ s. depth s.offset ≤ greatest_depth) m.segments
