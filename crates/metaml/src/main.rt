@@ -23,10 +23,7 @@ fn main(rt: HostRuntime) -> ExitCode {
 /// The words after the program's name. One that isn't UTF-8 is a faulty command line.
 fn words(rt: &(impl Env + AllocGlobal)) -> Result<Vec<String>, Status> {
     match env::args(rt) {
-        Ok(args) => args
-            .skip(1)
-            .collect(rt.alloc())
-            .map_err(Status::Memory),
+        Ok(args) => args.skip(1).collect(rt.alloc()).map_err(Status::Memory),
         Err(error) if error.kind() == ErrorKind::OutOfMemory => Err(Status::Memory(AllocError)),
         Err(_) => Err(Status::Usage),
     }
@@ -44,7 +41,9 @@ fn carry_out(rt: &(impl Files + Print + AllocGlobal + Threads + Sync), words: &[
 /// Says on standard error why there is no output, or why the cache isn't kept.
 fn explain(rt: &(impl Eprint + AllocGlobal), status: &Status) -> std::io::Result<()> {
     match status {
-        Status::Usage => eprintln!(rt; "metaml: usage: metaml run [--workers N] [--fuel N] [--cache PATH] FILE"),
+        Status::Usage => eprintln!(rt;
+            "metaml: usage: metaml run [--workers N] [--fuel N] [--cache PATH] FILE"
+        ),
         Status::Read => eprintln!(rt; "metaml: cannot read the source"),
         Status::Write => eprintln!(rt; "metaml: cannot write"),
         Status::Cache => eprintln!(rt; "metaml: cannot keep the cache"),

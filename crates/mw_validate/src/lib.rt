@@ -1,0 +1,6 @@
+//! Valid modules.
+#![tactic(auto)]
+
+mod valid_module;
+
+pub use crate::valid_module::Valid;
