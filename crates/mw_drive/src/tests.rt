@@ -110,7 +110,7 @@ fn sources_have_their_output(rt: HostRuntime) -> Result<(), Fail> {
 #[test]
 fn long_sources_are_refused(rt: HostRuntime) -> Result<(), Fail> {
     let mut file = Vec::from_slice(rt.alloc(), b"main : int = 1")?;
-    while file.len() < 256 {
+    for _ in 14..256 {
         file.push(b' ')?;
     }
     let whole = ran(&rt, &["run", NAME], file.as_slice(), &[], &[])?;
