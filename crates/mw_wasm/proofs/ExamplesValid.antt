@@ -12,7 +12,6 @@ use Rattle.mw_wasm.specs.Validity.{Context, HasType, CodeHasType, of_end, of_nex
 on : {c : Context} {i : Instruction} {code : Code} {outs : List ValType} (below taken left : List ValType) → HasType c i taken left → CodeHasType c code (below ++ left) outs → CodeHasType c (next i code) (below ++ taken) outs
 on below taken left h rest = of_next below taken left h refl rest
 
-
 pub example_a_valid : IsValid example_a
 example_a_valid = record {
   types = (omega arith, (omega arith, tt));

@@ -1,12 +1,11 @@
 -- No spelling of an instruction begins another.
-use Rattle.std.proofs.Common.{◌≡◌, ℕ, ◌+◌, Bool, true, false, T, eqb, ◌⊎◌, inl, inr, List, [], ◌∷◌, ◌++◌, Option, Some, None, refl, sym, ap, ◌∙◌, append_assoc, arith}
-use Rattle.std.proofs.lemmas.List.{append_cancel_left}
+use Rattle.std.proofs.Common.{◌≡◌, ℕ, true, T, eqb, inl, inr, List, [], ◌∷◌, ◌++◌, Option, Some, None, refl, sym, ap, ◌∙◌, append_assoc, arith}
 use Rattle.mw_wasm.specs.declared.values.ValType.{ValType}
 use Rattle.mw_wasm.specs.declared.values.ValType.TheVariants as value
 use Rattle.mw_wasm.specs.Syntax.{Instruction, Code, unreachable, nop, block, loop, cond, br, br_if, br_table, give_back, call, call_indirect, drop_value, select, local_get, local_set, local_tee, global_get, global_set, load, store, memory_size, memory_grow, const_i32, const_i64, numeric, end, next}
-use Rattle.mw_wasm.specs.Pieces.{Piece, Joined, nothing, byte, ◌then◌, ◌or◌, ◌when◌, u32, i32, i64, vector}
+use Rattle.mw_wasm.specs.Pieces.{byte, ◌then◌, ◌or◌, ◌when◌, u32}
 use Rattle.mw_wasm.specs.BinaryInstructions.{value_type, block_type, load_opcode, store_opcode, opcode_of_number, instruction, code, expression}
-use Rattle.mw_wasm.proofs.FormatPieces.{Agree, agree_so, agree_byte, agree_then, agree_when, agree_u32, agree_integer, agree_vector}
+use Rattle.mw_wasm.proofs.FormatPieces.{Agree, split, behind, joined, agree_so, agree_byte, agree_then, agree_u32, agree_integer, agree_vector}
 use Rattle.mw_wasm.proofs.FormatOpcodes.{opcode, group, form, same_form, ends, never_ends, same_load, same_store, same_number}
 
 pub agree_value_type : (t u : ValType) → Agree (value_type t) (value_type u) (t ≡ u)
@@ -63,10 +62,10 @@ begins (numeric o) bytes h = ([], h)
 -- the form of both instructions, where they begin the same bytes
 same_beginning : (i j : Instruction) (a b r s : List ℕ) → instruction i a → instruction j b → a ++ r ≡ b ++ s → T (eqb (form i) (form j))
 same_beginning i j a b r s p q e =
-  let x = begins i a p in
-  let y = begins j b q in
-  let h : opcode i ∷ (x.0 ++ r) ≡ opcode j ∷ (y.0 ++ s) = rw (x.1, y.1) at e in
-  same_form i j (cc)
+    let x = begins i a p in
+    let y = begins j b q in
+    let h : opcode i ∷ (x.0 ++ r) ≡ opcode j ∷ (y.0 ++ s) = rw (x.1, y.1) at e in
+    same_form i j (cc)
 
 -- the bytes begin with 0B or 05
 pub record Stops (bytes : List ℕ) : Type 0 where
@@ -78,9 +77,9 @@ pub record Stops (bytes : List ℕ) : Type 0 where
 
 no_instruction : (i : Instruction) (a r bytes : List ℕ) → instruction i a → Stops bytes → a ++ r ≡ bytes → ⊥
 no_instruction i a r bytes p stops e =
-  let x = begins i a p in
-  let h : opcode i ∷ (x.0 ++ r) ≡ stops.byte_is ∷ stops.rest = (rw (x.1) at e) ∙ stops.whole in
-  never_ends i stops.byte_is (cc) stops.alone stops.ends_there
+    let x = begins i a p in
+    let h : opcode i ∷ (x.0 ++ r) ≡ stops.byte_is ∷ stops.rest = (rw (x.1) at e) ∙ stops.whole in
+    never_ends i stops.byte_is (cc) stops.alone stops.ends_there
 
 -- Where instructions and what ends them begin the same bytes, the instructions are one list.
 pub record SameCode (c d : Code) : Type 0 where
@@ -106,11 +105,10 @@ agree_code_then {P} {Q} {F} c d first closes closes' second = record { agree = �
   where
     both : (a b r s : List ℕ) → (code c then P) a → (code d then Q) b → a ++ r ≡ b ++ s → (a ≡ b) × ((c ≡ d) × F)
     both a b r s p q e =
-      let split : p.front ++ (p.back ++ r) ≡ q.front ++ (q.back ++ s) = sym (append_assoc p.front p.back r) ∙ (ap (λ x. x ++ r) (sym p.whole) ∙ (e ∙ (ap (λ x. x ++ s) q.whole ∙ append_assoc q.front q.back s))) in
-      let x = first.same p.front q.front (p.back ++ r) (q.back ++ s) p.first q.first (closes.stops p.back r p.second) (closes'.stops q.back s q.second) split in
-      let behind : p.back ++ r ≡ q.back ++ s = append_cancel_left q.front (p.back ++ r) (q.back ++ s) (ap (λ f. f ++ (p.back ++ r)) (sym x.0) ∙ split) in
-      let y = (second x.1).agree p.back q.back r s p.second q.second behind in
-      (p.whole ∙ (ap (λ f. f ++ p.back) x.0 ∙ (ap (λ t. q.front ++ t) y.0 ∙ sym q.whole)), (x.1, y.1))
+        let h = split p q r s e in
+        let x = first.same p.front q.front (p.back ++ r) (q.back ++ s) p.first q.first (closes.stops p.back r p.second) (closes'.stops q.back s q.second) h in
+        let y = (second x.1).agree p.back q.back r s p.second q.second (behind p.front q.front (p.back ++ r) (q.back ++ s) x.0 h) in
+        (joined p q x.0 y.0, (x.1, y.1))
 
 agree_closed : (c d : Code) → SameCode c d → Agree (code c then byte 0x0B) (code d then byte 0x0B) (c ≡ d)
 agree_closed c d h = agree_so (agree_code_then c d h closes_at_end closes_at_end (λ e. agree_byte 0x0B 0x0B)) (λ e. e.0)
@@ -129,25 +127,28 @@ only_end : SameCode end end
 only_end = record { same = λ a b r s p q _ _ e. (p ∙ sym q, refl) }
 
 end_first : (j : Instruction) (d : Code) → SameCode end (next j d)
-end_first j d = record { same = λ a b r s p q x y e.
-  let h : r ≡ q.front ++ (q.back ++ s) = (ap (λ t. t ++ r) (sym p) ∙ e) ∙ (ap (λ t. t ++ s) q.whole ∙ append_assoc q.front q.back s) in
-  absurd (no_instruction j q.front (q.back ++ s) r q.first x (sym h)) }
+end_first j d = record {
+  same = λ a b r s p q x y e.
+      let h : r ≡ q.front ++ (q.back ++ s) = (ap (λ t. t ++ r) (sym p) ∙ e) ∙ (ap (λ t. t ++ s) q.whole ∙ append_assoc q.front q.back s) in
+      absurd (no_instruction j q.front (q.back ++ s) r q.first x (sym h));
+}
 
 end_second : (i : Instruction) (c : Code) → SameCode (next i c) end
-end_second i c = record { same = λ a b r s p q x y e.
-  let h : p.front ++ (p.back ++ r) ≡ s = sym (append_assoc p.front p.back r) ∙ (ap (λ t. t ++ r) (sym p.whole) ∙ (e ∙ ap (λ t. t ++ s) q)) in
-  absurd (no_instruction i p.front (p.back ++ r) s p.first y h) }
+end_second i c = record {
+  same = λ a b r s p q x y e.
+      let h : p.front ++ (p.back ++ r) ≡ s = sym (append_assoc p.front p.back r) ∙ (ap (λ t. t ++ r) (sym p.whole) ∙ (e ∙ ap (λ t. t ++ s) q)) in
+      absurd (no_instruction i p.front (p.back ++ r) s p.first y h);
+}
 
 both_next : (i j : Instruction) (c d : Code) → (T (eqb (form i) (form j)) → Agree (instruction i) (instruction j) (i ≡ j)) → SameCode c d → SameCode (next i c) (next j d)
 both_next i j c d first others = record { same = λ a b r s p q x y e. both a b r s p q x y e }
   where
     both : (a b r s : List ℕ) → code (next i c) a → code (next j d) b → Stops r → Stops s → a ++ r ≡ b ++ s → (a ≡ b) × (next i c ≡ next j d)
     both a b r s p q x y e =
-      let split : p.front ++ (p.back ++ r) ≡ q.front ++ (q.back ++ s) = sym (append_assoc p.front p.back r) ∙ (ap (λ z. z ++ r) (sym p.whole) ∙ (e ∙ (ap (λ z. z ++ s) q.whole ∙ append_assoc q.front q.back s))) in
-      let k = (first (same_beginning i j p.front q.front (p.back ++ r) (q.back ++ s) p.first q.first split)).agree p.front q.front (p.back ++ r) (q.back ++ s) p.first q.first split in
-      let behind : p.back ++ r ≡ q.back ++ s = append_cancel_left q.front (p.back ++ r) (q.back ++ s) (ap (λ f. f ++ (p.back ++ r)) (sym k.0) ∙ split) in
-      let l = others.same p.back q.back r s p.second q.second x y behind in
-      (p.whole ∙ (ap (λ f. f ++ p.back) k.0 ∙ (ap (λ t. q.front ++ t) l.0 ∙ sym q.whole)), rw (k.1, l.1) refl)
+        let h = split p q r s e in
+        let k = (first (same_beginning i j p.front q.front (p.back ++ r) (q.back ++ s) p.first q.first h)).agree p.front q.front (p.back ++ r) (q.back ++ s) p.first q.first h in
+        let l = others.same p.back q.back r s p.second q.second x y (behind p.front q.front (p.back ++ r) (q.back ++ s) k.0 h) in
+        (joined p q k.0 l.0, rw (k.1, l.1) refl)
 
 -- an opcode and an index
 agree_index : (m x y : ℕ) → Agree (byte m then u32 x) (byte m then u32 y) (x ≡ y)
@@ -201,3 +202,6 @@ mutual
 
 pub agree_expression : (c d : Code) → Agree (expression c) (expression d) (c ≡ d)
 agree_expression c d = agree_closed c d (same_code c d)
+
+pub one_expression : (a b r s : List ℕ) (c d : Code) → expression c a → expression d b → a ++ r ≡ b ++ s → (a ≡ b) × (c ≡ d)
+one_expression a b r s c d p q e = (agree_expression c d).agree a b r s p q e

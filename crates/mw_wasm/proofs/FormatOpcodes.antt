@@ -1,5 +1,5 @@
 -- An opcode tells which instruction it begins.
-use Rattle.std.proofs.Common.{◌≡◌, ℕ, ◌-◌, ◌+◌, Bool, true, false, ◌||◌, T, eqb, List, [], ◌∷◌, get_or, nat_lt, if◌then◌else◌, refl, sym, ap, ◌∙◌, subst}
+use Rattle.std.proofs.Common.{◌≡◌, ℕ, ◌-◌, Bool, true, false, ◌||◌, T, eqb, List, [], ◌∷◌, get_or, nat_lt, if◌then◌else◌, refl, sym, ap, ◌∙◌, subst}
 use Rattle.std.proofs.Math.Dec.{eqb_refl}
 use Rattle.mw_wasm.specs.declared.numbers.IntOp.{IntOp}
 use Rattle.mw_wasm.specs.declared.numbers.IntOp.TheVariants as op
@@ -103,9 +103,9 @@ group_opcode _ = refl
 -- equal opcodes, equal forms
 pub same_form : (i j : Instruction) → opcode i ≡ opcode j → T (eqb (form i) (form j))
 same_form i j e =
-  let forms : form i ≡ form j = sym (group_opcode i) ∙ (ap group e ∙ group_opcode j) in
-  let P : ℕ → Type 0 = λ k. T (eqb (form i) k) in
-  subst P forms (eqb_refl (form i))
+    let forms : form i ≡ form j = sym (group_opcode i) ∙ (ap group e ∙ group_opcode j) in
+    let P : ℕ → Type 0 = λ k. T (eqb (form i) k) in
+    subst P forms (eqb_refl (form i))
 
 -- 0B and 05, which end instructions
 abbrev pub ends : ℕ → Bool
@@ -117,9 +117,9 @@ form_goes_on _ = refl
 
 pub never_ends : (i : Instruction) (b : ℕ) → opcode i ≡ b → group b ≡ b → ends b ≡ true → ⊥
 never_ends i b e g t =
-  let forms : form i ≡ b = sym (group_opcode i) ∙ (ap group e ∙ g) in
-  let h : ends b ≡ false = ap ends (sym forms) ∙ form_goes_on i in
-  cc
+    let forms : form i ≡ b = sym (group_opcode i) ∙ (ap group e ∙ g) in
+    let h : ends b ≡ false = ap ends (sym forms) ∙ form_goes_on i in
+    cc
 
 loads : List LoadOp
 loads = load_op.I32 ∷ load_op.I64 ∷ load_op.I32 ∷ load_op.I32 ∷ load_op.I32S8 ∷ load_op.I32U8 ∷ load_op.I32S16 ∷ load_op.I32U16

@@ -1,4 +1,18 @@
+pub mod NumericOperands
 pub mod ExamplesValid
-mod FormatPieces
+pub mod ActLaws
+pub mod Acts
+pub mod ControlExamples
+pub mod ExecutionExamples
+pub mod ExecutionLaw
+pub mod MoreUnits
+pub mod OneRule
+pub mod RunIsExecution
+pub mod RunLaw
+pub mod FormatPieces
+pub mod FormatNumbers
 mod FormatOpcodes
-mod FormatInstructions
+pub mod FormatInstructions
+mod FormatSections
+pub mod FormatModules
+mod FormatCuts

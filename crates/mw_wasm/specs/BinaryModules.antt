@@ -1,5 +1,5 @@
 -- How modules are spelled (standard: Binary Format, Types and Modules).
-use Rattle.std.specs.Prelude.{◌≡◌, ℕ, ◌<◌, ◌≤◌, ◌^◌, ◌⊎◌, Bool, true, false, List, [], ◌∷◌, ◌++◌, length, replicate, Option, Some, None}
+use Rattle.std.specs.Prelude.{◌≡◌, ℕ, ◌<◌, ◌≤◌, ◌^◌, Bool, true, false, List, [], ◌∷◌, length, replicate, Option, Some, None}
 use Rattle.std.specs.List.{flat_map}
 use Rattle.mw_wasm.specs.declared.values.ValType.{ValType}
 use Rattle.mw_wasm.specs.declared.modules.Limits.{Limits}
@@ -26,29 +26,31 @@ limits l = limits_of l.min l.max
 abbrev pub table : Limits → Piece
 table l = byte 0x70 then limits l
 
--- (standard: Binary Format, Types, Global Types)
+-- globals that stay, and variables (standard: Binary Format, Types, Global Types)
 abbrev pub mutability : Bool → Piece
 mutability false = byte 0x00
 mutability true = byte 0x01
 
+-- (standard: Binary Format, Modules, Global Section)
 abbrev pub global : Global → Piece
 global g = value_type g.kind then mutability g.variable then expression g.init
 
--- the function section holds a type's index for each function
+-- the function section holds a type's index for each function (standard: Binary Format, Modules, Function Section)
 abbrev pub function_kind : Function → Piece
 function_kind f = u32 f.kind
 
--- what is exported: its kind and its index
+-- what is exported: its kind and its index (standard: Binary Format, Modules, Export Section)
 abbrev pub exported : Exported → Piece
 exported (Func x) = byte 0x00 then u32 x
 exported (Table x) = byte 0x01 then u32 x
 exported (Memory x) = byte 0x02 then u32 x
 exported (Variable x) = byte 0x03 then u32 x
 
+-- a name is its bytes; the profile leaves printable ASCII alone
 abbrev pub export : Exporting → Piece
 export e = vector octet e.name then exported e.what
 
--- segments of table 0 and of memory 0
+-- segments of table 0 and of memory 0 (standard: Binary Format, Modules, Element Section and Data Section)
 abbrev pub element : ElementSegment → Piece
 element e = u32 0 then expression e.offset then vector u32 e.funcs
 
@@ -73,7 +75,7 @@ pub record Locals (types : List ValType) (bytes : List ℕ) : Type 0 where
 abbrev pub locals : List ValType → Piece
 locals types bytes = Locals types bytes
 
--- the code section holds the rest of each function
+-- the code section holds the rest of each function (standard: Binary Format, Modules, Code Section)
 abbrev pub function_code : Function → Piece
 function_code f = sized (locals f.locals then expression f.body)
 
@@ -81,11 +83,11 @@ function_code f = sized (locals f.locals then expression f.body)
 abbrev pub section : {A : Type 0} → ℕ → (A → Piece) → List A → Piece
 section id P xs = nothing when (xs ≡ []) or byte id then sized (vector P xs)
 
--- nothing is imported
+-- an import section of no imports, or none
 abbrev pub import_section : Piece
 import_section = nothing or byte 0x02 then sized (u32 0)
 
--- custom sections, of any content and any number (standard: Binary Format, Modules, Custom Section)
+-- custom sections, in any number, whose content is not read (standard: Binary Format, Modules, Custom Section)
 pub record Customs (bytes : List ℕ) : Type 0 where
   pub contents : List (List ℕ)
   pub spelled : items (λ content. byte 0x00 then sized (exactly content)) contents bytes
@@ -103,8 +105,8 @@ abbrev pub header : Piece
 header = exactly (0x00 ∷ 0x61 ∷ 0x73 ∷ 0x6D ∷ 0x01 ∷ 0x00 ∷ 0x00 ∷ 0x00 ∷ [])
 
 -- modules, without a start section (standard: Binary Format, Modules)
-abbrev pub module_of_bytes : PureModule → Piece
-module_of_bytes m = header
+abbrev pub wasm_module : PureModule → Piece
+wasm_module m = header
     then customs then section 1 function_type m.types
     then customs then import_section
     then customs then section 3 function_kind m.funcs
@@ -118,4 +120,4 @@ module_of_bytes m = header
     then customs
 
 abbrev pub Spells : List ℕ → PureModule → Type 0
-Spells bytes m = module_of_bytes m bytes
+Spells bytes m = wasm_module m bytes

@@ -1,5 +1,5 @@
 -- Two modules that a compiler could emit, for worked examples: a constant, and the cube of an argument.
-use Rattle.std.specs.Prelude.{ℕ, true, List, [], ◌∷◌, Some, None}
+use Rattle.std.specs.Prelude.{ℕ, true, List, [], ◌∷◌, Some}
 use Rattle.mw_wasm.specs.declared.values.ValType.TheVariants.{I32, I64}
 use Rattle.mw_wasm.specs.declared.numbers.NumOp.TheVariants as number
 use Rattle.mw_wasm.specs.declared.numbers.IntOp.TheVariants.{Add, Mul}
@@ -8,7 +8,7 @@ use Rattle.mw_wasm.specs.declared.numbers.StoreOp.TheVariants as store_op
 use Rattle.mw_wasm.specs.declared.modules.Limits.{Limits}
 use Rattle.mw_wasm.specs.declared.modules.FuncType.{FuncType}
 use Rattle.mw_wasm.specs.declared.modules.Exported.TheVariants.{Func}
-use Rattle.mw_wasm.specs.Syntax.{Instruction, Code, call_indirect, local_get, local_set, local_tee, global_get, global_set, load, store, const_i32, const_i64, numeric, end, next, Function, Global, Exporting, ElementSegment, PureModule}
+use Rattle.mw_wasm.specs.Syntax.{Instruction, Code, call_indirect, local_get, local_set, local_tee, global_get, global_set, load, store, const_i32, const_i64, numeric, end, next, Global, PureModule}
 
 -- instructions in order
 abbrev pub code_of_list : List Instruction → Code

@@ -1,7 +1,7 @@
--- Numbers and vectors as bytes (standard: Binary Format, Values and Conventions).
-use Rattle.std.specs.Prelude.{◌≡◌, ℕ, ◌+◌, ◌-◌, ◌*◌, ◌^◌, ◌<◌, ◌≤◌, ℤ, pos, negsuc, ◌+ℤ◌, ◌-ℤ◌, ◌*ℤ◌, ◌⊎◌, List, [], ◌∷◌, ◌++◌, length}
+-- Numbers as bytes (standard: Binary Format, Values).
+use Rattle.std.specs.Prelude.{◌≡◌, ℕ, ◌+◌, ◌-◌, ◌*◌, ◌^◌, ◌<◌, ◌≤◌, ℤ, pos, negsuc, ◌+ℤ◌, ◌-ℤ◌, ◌*ℤ◌, ◌⊎◌, List, [], ◌∷◌}
 
--- A unsigned number of at most N bits (standard: Binary Format, Integers, uN): seven bits in each byte, the lowest first;
+-- An unsigned number of at most N bits (standard: Binary Format, Integers, uN): seven bits in each byte, the lowest first;
 -- every byte but the last one has 128 added.
 abbrev pub IsUnsigned : ℕ → List ℕ → ℕ → Type 0
 IsUnsigned N [] v = ⊥

@@ -3,7 +3,7 @@ use Rattle.std.specs.Prelude.{ℕ, zero, suc, ◌≤◌, max, List, length, IfSo
 use Rattle.std.specs.List.{AllByRecursion}
 use Rattle.mw_wasm.specs.Syntax.{Instruction, Code, block, loop, cond, end, next, PureModule}
 
--- how many blocks stand round the innermost instruction
+-- how many blocks stand one in another, at most
 abbrev mutual
   pub depth_of : Instruction → ℕ
   depth_of (block t body) = suc (depth body)
@@ -15,9 +15,11 @@ abbrev mutual
   depth end = zero
   depth (next i c) = max (depth_of i) (depth c)
 
-abbrev pub greatest_depth : ℕ
-greatest_depth = 500
+-- at most 500 blocks deep
+abbrev pub IsShallow : Code → Type 0
+IsShallow c = depth c ≤ 500
 
+-- a byte of printable ASCII
 abbrev pub IsPrintable : ℕ → Type 0
 IsPrintable b = (0x20 ≤ b) × (b ≤ 0x7E)
 
@@ -27,7 +29,7 @@ pub record IsWithinProfile (bytes : List ℕ) (m : PureModule) : Type 0 where
   pub memory_pages : IfSome m.memory (λ l. l.min ≤ 1_024)
   pub further_locals : AllByRecursion (λ f. length f.locals ≤ 50_000) m.funcs
   pub export_names : AllByRecursion (λ e. AllByRecursion IsPrintable e.name) m.exports
-  pub function_depth : AllByRecursion (λ f. depth f.body ≤ greatest_depth) m.funcs
-  pub global_depth : AllByRecursion (λ g. depth g.init ≤ greatest_depth) m.globals
-  pub element_depth : AllByRecursion (λ e. depth e.offset ≤ greatest_depth) m.elements
-  pub segment_depth : AllByRecursion (λ s. depth s.offset ≤ greatest_depth) m.segments
+  pub function_depth : AllByRecursion (λ f. IsShallow f.body) m.funcs
+  pub global_depth : AllByRecursion (λ g. IsShallow g.init) m.globals
+  pub element_depth : AllByRecursion (λ e. IsShallow e.offset) m.elements
+  pub segment_depth : AllByRecursion (λ s. IsShallow s.offset) m.segments

@@ -1,5 +1,5 @@
 -- What an instance holds (standard: Execution, Runtime Structure).
-use Rattle.std.specs.Prelude.{ℕ, zero, suc, ◌+◌, ◌-◌, ◌*◌, ◌/◌, ◌%◌, ◌^◌, nat_le, nat_lt, Bool, true, false, ◌&&◌, if◌then◌else◌, List, [], ◌∷◌, Option, Some, None}
+use Rattle.std.specs.Prelude.{ℕ, zero, suc, ◌+◌, ◌-◌, ◌*◌, ◌/◌, ◌%◌, ◌^◌, nat_le, nat_lt, Bool, ◌&&◌, if◌then◌else◌, List, Option}
 use Rattle.mw_wasm.specs.declared.values.Value.{Value}
 use Rattle.mw_wasm.specs.declared.values.Value.TheVariants as value
 use Rattle.mw_wasm.specs.declared.values.ValType.{ValType}

@@ -1,3 +1,6 @@
-// Laws of the definitions, which no program calls.
+// Laws of the definitions and worked examples, which no program calls.
 
+pub mod executions;
+pub mod format;
+pub mod reduction;
 pub mod validity;

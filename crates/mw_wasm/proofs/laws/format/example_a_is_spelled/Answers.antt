@@ -1,0 +1,5 @@
+use Rattle.mw_wasm.proofs.FormatCuts.{example_a_is_spelled}
+use Rattle.mw_wasm.proofs.laws.format.example_a_is_spelled.Goals as goal
+
+pub returns : goal.returns
+returns c = example_a_is_spelled
