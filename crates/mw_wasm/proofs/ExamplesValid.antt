@@ -3,7 +3,6 @@ use Rattle.std.proofs.Common.{◌≡◌, ℕ, true, List, [], ◌∷◌, ◌++�
 use Rattle.std.specs.Prelude.{slice_get}
 use Rattle.mw_wasm.specs.declared.values.ValType.{ValType}
 use Rattle.mw_wasm.specs.declared.values.ValType.TheVariants.{I32, I64}
-use Rattle.mw_wasm.specs.declared.modules.FuncType.{FuncType}
 use Rattle.mw_wasm.specs.Syntax.{Instruction, Code, br, next}
 use Rattle.mw_wasm.specs.ExampleModules.{example_a, example_b, closure_type, init_type, cube_body, closure_body, call_body}
 use Rattle.mw_wasm.specs.Validity.{Context, HasType, CodeHasType, of_end, of_next, of_local_get, of_local_set, of_local_tee, of_global_get, of_global_set, of_const_i32, of_const_i64, of_numeric, of_store, of_load, of_br, of_call_indirect, context_of, IsValid}

@@ -1,12 +1,11 @@
 -- When code and modules are valid (standard: Validation). Stacks of types have the last operand's type at the end.
-use Rattle.std.specs.Prelude.{◌≡◌, ℕ, zero, ◌+◌, ◌*◌, ◌^◌, ◌-◌, ◌<◌, ◌≤◌, Bool, true, false, IsTrue, List, [], ◌∷◌, ◌++◌, Option, Some, None, IsSome, slice_get, length, map}
+use Rattle.std.specs.Prelude.{◌≡◌, ℕ, ◌^◌, ◌<◌, ◌≤◌, Bool, true, List, [], ◌∷◌, ◌++◌, Option, Some, None, IsSome, slice_get, length, map}
 use Rattle.std.specs.List.{AllByRecursion}
 use Rattle.mw_wasm.specs.declared.values.ValType.{ValType}
 use Rattle.mw_wasm.specs.declared.values.ValType.TheVariants.{I32, I64}
 use Rattle.mw_wasm.specs.declared.numbers.NumOp.{NumOp}
 use Rattle.mw_wasm.specs.declared.numbers.LoadOp.{LoadOp}
 use Rattle.mw_wasm.specs.declared.numbers.LoadOp.TheVariants as load_op
-use Rattle.mw_wasm.specs.declared.numbers.StoreOp.{StoreOp}
 use Rattle.mw_wasm.specs.declared.modules.FuncType.{FuncType}
 use Rattle.mw_wasm.specs.declared.modules.Limits.{Limits}
 use Rattle.mw_wasm.specs.declared.modules.Exported.{Exported}

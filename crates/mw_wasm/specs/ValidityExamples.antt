@@ -1,5 +1,5 @@
 -- Worked examples of validity.
-use Rattle.std.specs.Prelude.{◌≡◌, ◌∷◌, List, Some, slice_get}
+use Rattle.std.specs.Prelude.{◌≡◌, List, Some, slice_get}
 use Rattle.mw_wasm.specs.declared.values.ValType.{ValType}
 use Rattle.mw_wasm.specs.Syntax.{Code, br, next}
 use Rattle.mw_wasm.specs.ExampleModules.{example_a, example_b}

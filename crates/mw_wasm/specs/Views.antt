@@ -1,5 +1,5 @@
 -- From the Rust types to the pure data.
-use Rattle.std.specs.Prelude.{ℕ, List, [], ◌∷◌, Option, ◌≡◌, refl, map}
+use Rattle.std.specs.Prelude.{List, [], ◌∷◌, Option, ◌≡◌, refl, map}
 use Rattle.std.proofs.Common.{ap, ◌∙◌}
 use Rattle.mw_wasm.specs.declared.values.ValType.{ValType}
 use Rattle.mw_wasm.specs.declared.instructions.Instr as instr
