@@ -1,15 +1,14 @@
 -- The meaning of the first forms, from that of their parts.
-use Rattle.std.proofs.Common.{◌≡◌, ℕ, true, false, [], ◌∷◌, ◌++◌, Result, Ok, Err, refl, ◌∙◌, ap}
+use Rattle.std.proofs.Common.{ℕ, [], ◌∷◌, ◌++◌, Result, Ok, Err, refl, ◌∙◌}
 use Rattle.std.specs.Prelude.{ℤ, ◌+ℤ◌}
 use Rattle.std.specs.Int.{int_wrap}
 use mir.Syntax.{w64}
-use Rattle.mw_term.specs.Terms.{Expression, base, num, prim, bracket, escape, run, close, int, code}
+use Rattle.mw_term.specs.Terms.{Expression, base, num, prim, bracket, escape, run, close}
 use Rattle.mw_term.specs.declared.term.Base.TheVariants.{Int}
 use Rattle.mw_term.specs.declared.term.Primitive.TheVariants.{Add}
 use Rattle.mw_term.specs.declared.value.Limit.{Limit}
-use Rattle.mw_term.specs.declared.value.Limit.TheVariants.{KernelSize}
 use Rattle.mw_meaning.specs.KernelMeaning.{labelled}
-use Rattle.mw_meaning.specs.StagedMeaning.{live, quoted, within_limits, measured, outside}
+use Rattle.mw_meaning.specs.StagedMeaning.{live, quoted}
 use Rattle.mw_meaning.proofs.KernelFixedPoint.{kernel_evaluation-is}
 use Rattle.mw_meaning.proofs.Outsides.{staged_is}
 use Rattle.mw_drive.specs.declared.evaluate.Interrupt.{Interrupt}

@@ -1,12 +1,12 @@
 -- From the parts of a run to the whole.
-use Rattle.std.proofs.Common.{◌≡◌, ℕ, ◌<◌, List, [], ◌++◌, Option, Some, Bool, IsTrue, length, take, refl, sym, ap, ◌∙◌, subst, arith}
+use Rattle.std.proofs.Common.{◌≡◌, ℕ, ◌<◌, List, ◌++◌, Some, Bool, IsTrue, take, sym, subst, arith}
 use Rattle.std.proofs.lemmas.List.{append-nil, take_all, length-take}
 use Rattle.mw_outside.specs.declared.named.NamedFile.{NamedFile}
 use Rattle.mw_outside.specs.Count.{GrowsByFront}
 use Rattle.mw_outside.specs.Lookup.{file_of}
 use Rattle.mw_term.specs.Programs.{PureProgram}
 use Rattle.mw_parse.specs.FirstGrammar.{Derives}
-use Rattle.mw_drive.specs.Output.{IsOutput, Reports, IsOnlyOutput, line_of, status_of}
+use Rattle.mw_drive.specs.Output.{IsOutput, Reports, IsOnlyOutput, status_of}
 use Rattle.mw_drive.specs.ProgramMeaning.{Meaning, not_yet, answered, trapped, bounded, IsMeaning, of_none, of_program}
 use Rattle.mw_drive.specs.Reading.{IsFront}
 use Rattle.mw_drive.specs.Running.{AsksRun, Asks, IsFaithful}

@@ -1,5 +1,5 @@
 -- Words in a list, and what the words say.
-use Rattle.std.proofs.Common.{◌≡◌, ℕ, ◌<◌, ◌≤◌, List, [], ◌∷◌, length, get_or, map, refl, ap, arith, codes}
+use Rattle.std.proofs.Common.{◌≡◌, ℕ, ◌<◌, ◌≤◌, List, [], ◌∷◌, length, get_or, map, refl, arith, codes}
 use Rattle.mw_drive.specs.Running.{AsksRun, IsFileWord}
 
 -- a list of two is its two items

@@ -1,12 +1,12 @@
 -- What a source means with a fuel.
-use Rattle.std.specs.Prelude.{◌≡◌, ℕ, List, [], codes}
+use Rattle.std.specs.Prelude.{◌≡◌, ℕ, List, []}
 use Rattle.mw_term.specs.Terms.{Expression, Value, int, bool}
 use Rattle.mw_term.specs.Programs.{PureProgram}
 use Rattle.mw_term.specs.declared.value.BaseValue.{BaseValue}
 use Rattle.mw_term.specs.declared.value.BaseValue.TheVariants.{Int, Bool}
 use Rattle.mw_term.specs.declared.value.TrapKind.{TrapKind}
 use Rattle.mw_term.specs.declared.value.Limit.{Limit}
-use Rattle.mw_meaning.specs.Arithmetic.{Reason, trap, bound, stuck}
+use Rattle.mw_meaning.specs.Arithmetic.{trap, bound, stuck}
 use Rattle.mw_meaning.specs.StagedMeaning.{Answer, Runs, gives, stops, staged}
 use Rattle.mw_parse.specs.FirstGrammar.{Derives}
 use Rattle.mw_parse.specs.FirstReading.{DerivesNone}

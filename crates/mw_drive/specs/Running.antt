@@ -1,11 +1,11 @@
 -- What the top call says of words, source and sink.
-use Rattle.std.specs.Prelude.{◌≡◌, ◌≢◌, ◌⊎◌, ℕ, List, [], ◌∷◌, ◌++◌, Option, Some, IsNone, Bool, IsTrue, map, codes}
+use Rattle.std.specs.Prelude.{◌≡◌, ◌≢◌, ℕ, List, [], ◌∷◌, ◌++◌, Some, IsNone, Bool, IsTrue, codes}
 use Rattle.mw_outside.specs.declared.named.NamedFile.{NamedFile}
-use Rattle.mw_outside.specs.Count.{Rose, GrowsByFront}
+use Rattle.mw_outside.specs.Count.{GrowsByFront}
 use Rattle.mw_outside.specs.Lookup.{file_of}
 use Rattle.mw_drive.specs.Output.{IsOutput, Reports}
 use Rattle.mw_drive.specs.declared.status.Status.{Status}
-use Rattle.mw_drive.specs.declared.status.Status.TheVariants.{Answer, Trap, Usage, Refused, Bound, Read, Write, Cache, Memory, BadCache}
+use Rattle.mw_drive.specs.declared.status.Status.TheVariants.{Usage, Read, Write, Cache, Memory, BadCache}
 
 -- a word that may name a file: not empty, and not beginning with `-`
 abbrev pub IsFileWord : List ℕ → Type 0

@@ -1,4 +1,4 @@
-use Rattle.std.proofs.Common.{rules, arith, ◌<◌, ◌∙◌, lit<}
+use Rattle.std.proofs.Common.{lit<}
 use Rattle.mw_drive.specs.declared.source.TheConstants.{MOST}
 use Rattle.mw_drive.proofs.RunLemmas.{whole_report, whole_only, output_of_report, faithful_report, grows_by_output}
 use Rattle.mw_drive.proofs.command.run.Goals as goal

@@ -1,0 +1,136 @@
+//! Numbers as bytes of seven bits each (LEB128): the shortest spelling of a number is appended to bytes.
+#![tactic(auto)]
+
+ghost use Rattle.std.specs.Prelude.{◌≡◌, ◌+◌, ◌%◌, ◌<◌, ◌≤◌, ◌++◌, length, OnOk, OnErr, vec_len, vec_capacity};
+ghost use Rattle.mw_wasm.specs.Leb.{IsUnsigned, IsSigned};
+ghost use Rattle.mw_leb.specs.Shortest.{AppendsShortest, groups, seven_bits, shortest_signed, shortest_unsigned};
+
+use std::alloc::AllocError;
+
+pub mod laws;
+
+/// Appends an unsigned number; a refusal of memory changes nothing, and comes only where the bytes have no room.
+pub fn put_u32(out: &mut Vec<u8>, value: u32) -> Result<(), AllocError>
+    ensures shortest { OnOk result (AppendsShortest (λ bytes. IsUnsigned 32 bytes value) out.old.items out.new.items) }
+    ensures exact { OnOk result (out.new.items ≡ out.old.items ++ shortest_unsigned value) }
+    ensures err { OnErr result (out.new.items ≡ out.old.items) }
+    ensures full { OnErr result (vec_capacity out.old < vec_len out.old + length (shortest_unsigned value)) }
+{
+    put_groups(out, u64::from(value), 128, false)
+}
+
+/// Appends a signed number of 32 bits; a refusal of memory changes nothing, and comes only where the bytes have no room.
+pub fn put_s32(out: &mut Vec<u8>, value: i32) -> Result<(), AllocError>
+    ensures shortest { OnOk result (AppendsShortest (λ bytes. IsSigned 32 bytes value) out.old.items out.new.items) }
+    ensures exact { OnOk result (out.new.items ≡ out.old.items ++ shortest_signed value) }
+    ensures err { OnErr result (out.new.items ≡ out.old.items) }
+    ensures full { OnErr result (vec_capacity out.old < vec_len out.old + length (shortest_signed value)) }
+{
+    put_signed(out, i64::from(value))
+}
+
+/// Appends a signed number of 64 bits; a refusal of memory changes nothing, and comes only where the bytes have no room.
+pub fn put_s64(out: &mut Vec<u8>, value: i64) -> Result<(), AllocError>
+    ensures shortest { OnOk result (AppendsShortest (λ bytes. IsSigned 64 bytes value) out.old.items out.new.items) }
+    ensures exact { OnOk result (out.new.items ≡ out.old.items ++ shortest_signed value) }
+    ensures err { OnErr result (out.new.items ≡ out.old.items) }
+    ensures full { OnErr result (vec_capacity out.old < vec_len out.old + length (shortest_signed value)) }
+{
+    put_signed(out, value)
+}
+
+fn put_signed(out: &mut Vec<u8>, value: i64) -> Result<(), AllocError>
+    ensures exact { OnOk result (out.new.items ≡ out.old.items ++ shortest_signed value) }
+    ensures err { OnErr result (out.new.items ≡ out.old.items) }
+    ensures full { OnErr result (vec_capacity out.old < vec_len out.old + length (shortest_signed value)) }
+{
+    if value < 0 {
+        put_groups(out, (-(value + 1)) as u64, 64, true)
+    } else {
+        put_groups(out, value as u64, 64, false)
+    }
+}
+
+fn put_groups(out: &mut Vec<u8>, value: u64, limit: u64, negative: bool) -> Result<(), AllocError>
+    ensures exact { OnOk result (out.new.items ≡ out.old.items ++ groups limit negative 9 value) }
+    ensures err { OnErr result (out.new.items ≡ out.old.items) }
+    ensures full { OnErr result (vec_capacity out.old < vec_len out.old + length (groups limit negative 9 value)) }
+{
+    let mut bytes = [0u8; 10];
+    let mut len = 0usize;
+    let mut rest = value;
+    while rest >= limit && len < 9 {
+        bytes[len] = 128 + byte_of(rest, negative);
+        rest /= 128;
+        len += 1;
+    }
+    bytes[len] = byte_of(rest, negative);
+    out.extend_from_slice(&bytes[..len + 1])
+}
+
+/// The lowest seven bits, turned round for a negative number.
+fn byte_of(group: u64, negative: bool) -> u8
+    ensures value { result ≡ seven_bits negative (group % 128) }
+    ensures small { result < 128 }
+{
+    let bits = (group % 128) as u8;
+    if negative { 127 - bits } else { bits }
+}
+
+#[cfg(test)]
+mod tests {
+    use super::*;
+    use std::alloc::AllocError;
+
+    #[test]
+    fn unsigned_numbers(rt: HostRuntime) -> Result<(), AllocError> {
+        let cases: [(u32, &[u8]); 5] = [
+            (0, &[0x00]),
+            (127, &[0x7f]),
+            (128, &[0x80, 0x01]),
+            (300, &[0xac, 0x02]),
+            (u32::MAX, &[0xff, 0xff, 0xff, 0xff, 0x0f]),
+        ];
+        for (value, bytes) in cases {
+            let mut out = Vec::new(rt.alloc());
+            put_u32(&mut out, value)?;
+            assert_eq!(rt; out.as_slice(), bytes, "at {value}");
+        }
+        Ok(())
+    }
+
+    #[test]
+    fn signed_numbers(rt: HostRuntime) -> Result<(), AllocError> {
+        let cases: [(i32, &[u8]); 7] = [
+            (-1, &[0x7f]),
+            (63, &[0x3f]),
+            (64, &[0xc0, 0x00]),
+            (-64, &[0x40]),
+            (-65, &[0xbf, 0x7f]),
+            (i32::MAX, &[0xff, 0xff, 0xff, 0xff, 0x07]),
+            (i32::MIN, &[0x80, 0x80, 0x80, 0x80, 0x78]),
+        ];
+        for (value, bytes) in cases {
+            let mut out = Vec::new(rt.alloc());
+            put_s32(&mut out, value)?;
+            assert_eq!(rt; out.as_slice(), bytes, "at {value}");
+            let mut out = Vec::new(rt.alloc());
+            put_s64(&mut out, i64::from(value))?;
+            assert_eq!(rt; out.as_slice(), bytes, "at {value}");
+        }
+        Ok(())
+    }
+
+    #[test]
+    fn long_signed_numbers(rt: HostRuntime) -> Result<(), AllocError> {
+        let greatest = [0xff, 0xff, 0xff, 0xff, 0xff, 0xff, 0xff, 0xff, 0xff, 0x00];
+        let least = [0x80, 0x80, 0x80, 0x80, 0x80, 0x80, 0x80, 0x80, 0x80, 0x7f];
+        let mut out = Vec::new(rt.alloc());
+        put_s64(&mut out, i64::MAX)?;
+        assert_eq!(rt; out.as_slice(), greatest.as_slice());
+        let mut out = Vec::new(rt.alloc());
+        put_s64(&mut out, i64::MIN)?;
+        assert_eq!(rt; out.as_slice(), least.as_slice());
+        Ok(())
+    }
+}
