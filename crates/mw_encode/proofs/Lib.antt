@@ -1,0 +1,9 @@
+pub mod Numbers
+pub mod Best
+pub mod BestInstructions
+pub mod BestLocals
+pub mod BestModules
+pub mod Pieces
+pub mod Codes
+pub mod Runs
+pub mod Modules

@@ -1,0 +1,17 @@
+use Rattle.std.proofs.Common.{rules, ◌≡◌, ◌++◌, length}
+use Rattle.mw_wasm.specs.BinaryModules.{element}
+use Rattle.mw_wasm.specs.Views.{element_of}
+use Rattle.mw_encode.specs.Encoding.{number, element_bytes}
+use Rattle.mw_encode.proofs.Pieces.{viewed_count, viewed_start, rest_item}
+use Rattle.mw_encode.proofs.sections.put_all_elements.Goals as goal
+
+pub put_count-requires : goal.put_count-requires
+put_count-requires c = rw c.len.ensures (viewed_count element element_of _ c.requires)
+
+pub loop-one-init : goal.loop-one-init
+loop-one-init c =
+    let e : c.put_count.new.out.items ≡ c.args.out.now.items ++ number (length c.args.list.now) = rw (← c.len.ensures) (search rules) in
+    rw c.as_slice-items.ensures (viewed_start element element_bytes element_of _ _ _ c.requires e)
+
+pub put_element-requires : goal.put_element-requires
+put_element-requires c = rest_item (λ x. element (element_of x)) (λ x. element_bytes (element_of x)) _ _ _ _ _ c.loop-one-test.true c.one-item.is c.loop-one.invariant
