@@ -1,23 +1,13 @@
 -- Numbers: what their spellings bound, and how long the shortest ones are.
-use Rattle.std.proofs.Common.{◌≡◌, ℕ, zero, suc, ◌+◌, ◌-◌, ◌*◌, ◌/◌, ◌^◌, ◌<◌, ◌≤◌, ℤ, pos, negsuc, ◌≤ℤ◌, ◌<ℤ◌, ◌+ℤ◌, ◌-ℤ◌, ◌*ℤ◌, Bool, true, false, nat_lt, ◌⊎◌, inl, inr, List, [], ◌∷◌, length, refl, ap, ◌∙◌, arith}
+use Rattle.std.proofs.Common.{◌≡◌, ℕ, zero, suc, ◌+◌, ◌-◌, ◌*◌, ◌/◌, ◌^◌, ◌<◌, ◌≤◌, ℤ, pos, negsuc, ◌≤ℤ◌, ◌<ℤ◌, ◌+ℤ◌, ◌-ℤ◌, ◌*ℤ◌, true, false, nat_lt, inl, inr, List, [], ◌∷◌, length, refl, ap, ◌∙◌, arith}
 use Rattle.std.proofs.lemmas.Int.{ints}
 use Rattle.std.proofs.lemmas.Nat.{pow-add}
 use Rattle.std.proofs.Math.Nat.{pow-le-pow_right}
 use Rattle.std.proofs.lemmas.Bool.Decides.{nat_tests}
 use Rattle.mw_wasm.specs.Leb.{IsUnsigned, IsSigned, unsigned_of}
 use Rattle.mw_leb.specs.Shortest.{groups, shortest_unsigned}
-use Rattle.mw_leb.proofs.Groups.{groups_last, groups_more, groups_end}
+use Rattle.mw_leb.proofs.Groups.{either, power_seven, groups_last, groups_more, groups_end}
 use Rattle.mw_encode.specs.Encoding.{number, signed_of}
-
-pub either : (a b : ℕ) → (a < b) ⊎ (b ≤ a)
-either a b = by_cases (nat_lt a b) refl
-  where
-    by_cases : (t : Bool) → nat_lt a b ≡ t → (a < b) ⊎ (b ≤ a)
-    by_cases true e = inl (grind (arith, nat_tests))
-    by_cases false e = inr (grind (arith, nat_tests))
-
-power_seven : (N : ℕ) → 2 ^ (N + 7) ≡ 128 * 2 ^ N
-power_seven N = omega (arith, pow-add 2 N 7)
 
 power_down : (N : ℕ) → 7 ≤ N → 2 ^ N ≡ 128 * 2 ^ (N - 7)
 power_down N h = ap (λ x. 2 ^ x) (let e : N ≡ (N - 7) + 7 = omega arith in e) ∙ power_seven (N - 7)

@@ -1,7 +1,7 @@
 //! The bytes of a module: its shortest spelling in the binary format.
 #![tactic(auto)]
 
-ghost use Rattle.std.specs.Prelude.{◌≡◌, ◌^◌, ◌<◌, List, ℕ, length, IfOk};
+ghost use Rattle.std.specs.Prelude.{◌≡◌, List, ℕ, IfOk};
 ghost use Rattle.mw_wasm.specs.BinaryModules.{Spells};
 ghost use Rattle.mw_wasm.specs.Views.{module_of};
 ghost use Rattle.mw_encode.specs.Encoding.{encoding};
@@ -11,6 +11,8 @@ pub mod laws;
 mod opcodes;
 mod parts;
 mod sections;
+#[cfg(test)]
+mod tests;
 mod vectors;
 
 use crate::sections::{
@@ -27,8 +29,6 @@ const HEADER: [u8; 8] = [0x00, 0x61, 0x73, 0x6d, 0x01, 0x00, 0x00, 0x00];
 /// run, 05 only before a second list that isn't empty, and a section only where its vector isn't empty.
 pub fn encode(alloc: Global, module: &Module) -> Result<Vec<u8>, AllocError>
     requires spelled { (bytes : List ℕ) × Spells bytes (module_of «module».now) }
-    requires elements { length «module».now.elements < 2 ^ 32 }
-    requires segments { length «module».now.segments < 2 ^ 32 }
     ensures spelled { IfOk result (λ bytes. Spells bytes.items (module_of «module».now)) }
     ensures exact { IfOk result (λ bytes. bytes.items ≡ encoding (module_of «module».now)) }
 {
