@@ -5,3 +5,4 @@ pub mod FirstScan
 pub mod FirstStates
 pub mod FirstViews
 pub mod FirstStarts
+pub mod SurfaceTrees

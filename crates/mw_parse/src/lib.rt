@@ -11,11 +11,14 @@ ghost use Rattle.mw_parse.specs.FirstGrammar.{Derives};
 ghost use Rattle.mw_parse.specs.FirstReading.{IsOrMemory, DerivesNone, OnlyNotYet};
 
 mod first;
+pub mod tree;
 
 use crate::first::parse::file;
 use crate::first::scan::scan;
 use mw_term::{Base, Items, Program, Refusal, Stop};
 use std::alloc::Global;
+
+pub use crate::tree::{Placed, Surface, SurfaceItem, SurfaceItems, Tree};
 
 /// Reads a file of the first grammar, of at most 256 bytes: the program that the bytes derive, or that they derive
 /// none.
