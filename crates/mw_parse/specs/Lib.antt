@@ -6,3 +6,4 @@ pub mod FirstStates
 pub mod FirstViews
 pub mod FirstStarts
 pub mod SurfaceTrees
+pub mod SurfaceDepth
