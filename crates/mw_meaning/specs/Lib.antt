@@ -9,3 +9,4 @@ pub mod TypingRules
 pub mod ValueEquations
 pub mod CodeEquations
 pub mod KernelEquations
+pub mod StandingFor
