@@ -1,0 +1,5 @@
+pub mod Meanings
+pub mod Spelling
+pub mod Generated
+pub mod Standing
+pub mod Entering

@@ -1,0 +1,12 @@
+//! Kernels as WebAssembly: the module of a kernel's code, and its bytes.
+#![tactic(auto)]
+
+mod copy;
+mod emission;
+mod entry;
+mod generate;
+mod steps;
+
+pub use crate::emission::emit;
+pub use crate::entry::Entry;
+pub use crate::steps::Steps;
