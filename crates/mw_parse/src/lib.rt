@@ -1,6 +1,7 @@
-//! Reads sources: bytes to tokens, and tokens to a program.
+//! Reads tokens: the tree of a program, or the refusal of its source; and files of the first grammar, from bytes.
 //!
-//! `specs/` has the grammar as a relation between bytes and program, apart from the reader.
+//! `specs/Grammar` has the grammar as a relation between tokens and trees, and `specs/Answers` what the answers mean in
+//! its words, apart from the reader; `specs/FirstGrammar` has the first grammar as a relation between bytes and program.
 #![tactic(auto)]
 
 ghost use Rattle.std.specs.Prelude.{◌≡◌, IfOk, IfErr, Err};
@@ -10,14 +11,24 @@ ghost use Rattle.mw_term.specs.declared.refusal.Stop.TheVariants.{Refused};
 ghost use Rattle.mw_parse.specs.FirstGrammar.{Derives};
 ghost use Rattle.mw_parse.specs.FirstReading.{IsOrMemory, DerivesNone, OnlyNotYet};
 
+mod fault;
 mod first;
+mod items;
+mod kinds;
+pub mod laws;
+mod next;
+mod reader;
+mod rows;
 pub mod tree;
+mod trees;
+mod words;
 
 use crate::first::parse::file;
 use crate::first::scan::scan;
 use mw_term::{Base, Items, Program, Refusal, Stop};
 use std::alloc::Global;
 
+pub use crate::reader::parse;
 pub use crate::tree::{Placed, Surface, SurfaceItem, SurfaceItems, Tree};
 
 /// Reads a file of the first grammar, of at most 256 bytes: the program that the bytes derive, or that they derive

@@ -1,0 +1,5 @@
+use Rattle.mw_parse.proofs.Exactly.{answer}
+use Rattle.mw_parse.proofs.laws.exact_program.Goals as goal
+
+pub returns : goal.returns
+returns c = answer

@@ -1,0 +1,104 @@
+use Rattle.std.proofs.Common.{ℕ, ◌+◌, ◌-◌, ◌*◌}
+use Rattle.mw_parse.specs.Grammar.{Row, sum, product, application}
+use Rattle.mw_parse.specs.Levels.{row_of}
+use Rattle.mw_parse.proofs.trees.+trees.Given as goal
+
+-- room first, then the functions in turn, and what is left of a row of operators
+
+abbrev level : Row → ℕ
+level sum = 700
+level product = 600
+level application = 500
+
+abbrev pub decreases-atom_tree : goal.decreases-atom_tree
+decreases-atom_tree l = l.room * 1000 + 10
+
+abbrev pub decreases-bracketed : goal.decreases-bracketed
+decreases-bracketed l = l.room * 1000 + 960
+
+abbrev pub decreases-escaped : goal.decreases-escaped
+decreases-escaped l = l.room * 1000 + 20
+
+abbrev pub decreases-in_parens : goal.decreases-in_parens
+decreases-in_parens l = l.room * 1000 + 970
+
+abbrev pub decreases-grouped : goal.decreases-grouped
+decreases-grouped l = l.room * 1000 + 965
+
+abbrev pub decreases-paired : goal.decreases-paired
+decreases-paired l = l.room * 1000 + 962
+
+abbrev pub decreases-head_tree : goal.decreases-head_tree
+decreases-head_tree l = l.room * 1000 + 20
+
+abbrev pub decreases-running : goal.decreases-running
+decreases-running l = l.room * 1000 + 30
+
+abbrev pub decreases-comparison_tree : goal.decreases-comparison_tree
+decreases-comparison_tree l = l.room * 1000 + 790
+
+abbrev pub decreases-conjunction_tree : goal.decreases-conjunction_tree
+decreases-conjunction_tree l = l.room * 1000 + 800
+
+abbrev pub decreases-disjunction_tree : goal.decreases-disjunction_tree
+decreases-disjunction_tree l = l.room * 1000 + 850
+
+abbrev pub decreases-expr_tree : goal.decreases-expr_tree
+decreases-expr_tree l = l.room * 1000 + 950
+
+abbrev pub decreases-conditional : goal.decreases-conditional
+decreases-conditional l = l.room * 1000 + 960
+
+abbrev pub decreases-branches : goal.decreases-branches
+decreases-branches l = l.room * 1000 + 955
+
+abbrev pub decreases-bound_tree : goal.decreases-bound_tree
+decreases-bound_tree l = l.room * 1000 + 985
+
+abbrev pub decreases-recursive : goal.decreases-recursive
+decreases-recursive l = l.room * 1000 + 984
+
+abbrev pub decreases-scoped : goal.decreases-scoped
+decreases-scoped l = l.room * 1000 + 955
+
+abbrev pub decreases-parameter_tree : goal.decreases-parameter_tree
+decreases-parameter_tree l = l.room * 1000 + 1
+
+abbrev pub decreases-body_tree : goal.decreases-body_tree
+decreases-body_tree l = l.room * 1000 + 980
+
+abbrev pub decreases-behind_tree : goal.decreases-behind_tree
+decreases-behind_tree l = l.room * 1000 + 970
+
+abbrev pub decreases-row_tree : goal.decreases-row_tree
+decreases-row_tree l = l.room * 1000 + (level (row_of l.row) + 50)
+
+abbrev pub decreases-operand_tree : goal.decreases-operand_tree
+decreases-operand_tree l = l.room * 1000 + level (row_of l.row)
+
+abbrev pub decreases-right_tree : goal.decreases-right_tree
+decreases-right_tree l = l.room * 1000 + level (row_of l.row)
+
+abbrev pub decreases-more_trees : goal.decreases-more_trees
+decreases-more_trees l = l.room * 1000 + (l.room - l.height) * 2 + 1
+
+abbrev pub decreases-equal_tree : goal.decreases-equal_tree
+decreases-equal_tree l = l.room * 1000 + 780
+
+abbrev pub decreases-less_tree : goal.decreases-less_tree
+decreases-less_tree l = l.room * 1000 + 770
+
+abbrev pub decreases-less_equal_tree : goal.decreases-less_equal_tree
+decreases-less_equal_tree l = l.room * 1000 + 760
+
+abbrev pub decreases-passed_atom : goal.decreases-passed_atom
+decreases-passed_atom l = l.room * 1000 + 15
+
+abbrev pub decreases-passed_disjunction : goal.decreases-passed_disjunction
+decreases-passed_disjunction l = l.room * 1000 + 900
+
+abbrev pub decreases-scoped_function : goal.decreases-scoped_function
+decreases-scoped_function l = l.room * 1000 + 956
+
+abbrev pub decreases-next_operand : goal.decreases-next_operand
+decreases-next_operand l = l.room * 1000 + (l.room - l.height) * 2

@@ -1,0 +1,216 @@
+// Items and programs.
+
+ghost use Rattle.std.specs.Prelude.{◌≡◌, ◌<◌, ◌≤◌, ℕ, List, IfOk, map, length};
+ghost use Rattle.mw_lex.specs.Tokens.{tokens_of};
+ghost use Rattle.mw_parse.specs.SurfaceTrees.{tree_of, item_of, surface_of};
+ghost use Rattle.mw_parse.specs.Grammar.{program, item, main_only};
+ghost use Rattle.mw_parse.specs.Forms.{pick, expect, colon_next, let_by, rec_item, kernel_by, main_base};
+ghost use Rattle.mw_parse.specs.Descent.{none_yet, ok, full, reading};
+ghost use Rattle.mw_parse.specs.Gives.{Gives};
+ghost use Rattle.mw_parse.specs.Answers.{kernels};
+
+use crate::fault::Fault;
+use crate::kinds::kernel;
+use crate::next::{Next, after};
+use crate::rows::copy_name;
+use crate::tree::{Placed, Surface, SurfaceItem, SurfaceItems, Tree};
+use crate::trees::{body_tree, expr_tree, parameter_tree};
+use crate::words::{
+    ItemWord, Mark, Named, Start, in_hand, item_word, main_type, name_of, name_or_rec, start_word,
+};
+use mw_lex::Token;
+use mw_term::Base;
+use std::alloc::Global;
+
+#[tactic(auto, using(crate::proofs::Below::read_full, crate::proofs::Below::read_gives, crate::proofs::Below::read_refuses, crate::proofs::Below::read_reads, crate::proofs::Below::part_fails, crate::proofs::Below::fails_then))]
+fn item_tree(
+    alloc: Global,
+    tokens: &[Token],
+    room: u32,
+) -> Result<(SurfaceItem, u32, &[Token]), Fault>
+    requires { room ≤ 200 }
+    ensures gives { Gives (λ x. ok (item_of x.0) x.1 (tokens_of x.2.now)) result (full room item (tokens_of tokens.now)) }
+    ensures height { IfOk result (λ x. x.1 ≤ room) }
+{
+    match in_hand(tokens) {
+        None => Err(Fault::Syntax(tokens)),
+        Some((token, rest)) => match item_word(token) {
+            ItemWord::Other => Err(Fault::Syntax(tokens)),
+            ItemWord::Let => {
+                let (item, height, rest) = let_item(alloc, rest, room)?;
+                Ok((item, height, rest))
+            }
+            ItemWord::Kernel => {
+                let (item, height, rest) = kernel_item(alloc, rest, room)?;
+                Ok((item, height, rest))
+            }
+        },
+    }
+}
+
+#[tactic(auto, using(crate::proofs::Below::read_full, crate::proofs::Below::read_gives, crate::proofs::Below::read_refuses, crate::proofs::Below::read_reads, crate::proofs::Below::part_fails, crate::proofs::Below::fails_then))]
+fn let_item(
+    alloc: Global,
+    tokens: &[Token],
+    room: u32,
+) -> Result<(SurfaceItem, u32, &[Token]), Fault>
+    requires { room ≤ 200 }
+    ensures gives { Gives (λ x. ok (item_of x.0) x.1 (tokens_of x.2.now)) result (reading room (pick let_by) none_yet (tokens_of tokens.now)) }
+    ensures height { IfOk result (λ x. x.1 ≤ room) }
+{
+    match in_hand(tokens) {
+        None => Err(Fault::Syntax(tokens)),
+        Some((token, rest)) => match name_or_rec(token) {
+            Named::Other => Err(Fault::Syntax(tokens)),
+            Named::Word(name) => {
+                let name = copy_name(alloc, name)?;
+                let at = token.start;
+                let (definition, height, rest) = body_tree(alloc, Mark::Equal, rest, room)?;
+                let item = SurfaceItem::Let(Placed { name, at }, definition.from, definition.tree);
+                Ok((item, height, rest))
+            }
+            Named::Rec => {
+                let (item, height, rest) = recursive_item(alloc, rest, room)?;
+                Ok((item, height, rest))
+            }
+        },
+    }
+}
+
+#[tactic(auto, using(crate::proofs::Below::read_full, crate::proofs::Below::read_gives, crate::proofs::Below::read_refuses, crate::proofs::Below::read_reads, crate::proofs::Below::part_fails, crate::proofs::Below::fails_then))]
+fn recursive_item(
+    alloc: Global,
+    tokens: &[Token],
+    room: u32,
+) -> Result<(SurfaceItem, u32, &[Token]), Fault>
+    requires { room ≤ 200 }
+    ensures gives { Gives (λ x. ok (item_of x.0) x.1 (tokens_of x.2.now)) result (reading room (pick rec_item) none_yet (tokens_of tokens.now)) }
+    ensures height { IfOk result (λ x. x.1 ≤ room) }
+{
+    match in_hand(tokens) {
+        None => Err(Fault::Syntax(tokens)),
+        Some((token, rest)) => match name_of(token) {
+            None => Err(Fault::Syntax(tokens)),
+            Some(name) => {
+                let own = copy_name(alloc, name)?;
+                let name = copy_name(alloc, name)?;
+                let at = token.start;
+                let (function, height, rest) = parameter_tree(alloc, Mark::Equal, rest, room)?;
+                let from = function.from;
+                let tree = Tree::Rec(own, function.name, Box::new(alloc, function.tree)?);
+                Ok((
+                    SurfaceItem::Let(Placed { name, at }, from, tree),
+                    height,
+                    rest,
+                ))
+            }
+        },
+    }
+}
+
+#[tactic(auto, using(crate::proofs::Below::read_full, crate::proofs::Below::read_gives, crate::proofs::Below::read_refuses, crate::proofs::Below::read_reads, crate::proofs::Below::part_fails, crate::proofs::Below::fails_then))]
+fn kernel_item(
+    alloc: Global,
+    tokens: &[Token],
+    room: u32,
+) -> Result<(SurfaceItem, u32, &[Token]), Fault>
+    requires { room ≤ 200 }
+    ensures gives { Gives (λ x. ok (item_of x.0) x.1 (tokens_of x.2.now)) result (reading room (pick kernel_by) none_yet (tokens_of tokens.now)) }
+    ensures height { IfOk result (λ x. x.1 ≤ room) }
+{
+    match in_hand(tokens) {
+        None => Err(Fault::Syntax(tokens)),
+        Some((token, rest)) => match name_of(token) {
+            None => Err(Fault::Syntax(tokens)),
+            Some(name) => {
+                let name = copy_name(alloc, name)?;
+                let at = token.start;
+                match after(Next::Colon, rest) {
+                    None => Err(Fault::Syntax(rest)),
+                    Some(rest) => {
+                        let (kind, height, mid) = kernel(alloc, rest, room)?;
+                        match after(Next::Equal, mid) {
+                            None => Err(Fault::Syntax(mid)),
+                            Some(rest) => {
+                                let (tree, other, rest) = expr_tree(alloc, rest, room)?;
+                                let item = SurfaceItem::Kernel(Placed { name, at }, kind, tree);
+                                Ok((item, height.max(other), rest))
+                            }
+                        }
+                    }
+                }
+            }
+        },
+    }
+}
+
+#[tactic(auto, using(crate::proofs::Below::read_full, crate::proofs::Below::read_gives, crate::proofs::Below::read_refuses, crate::proofs::Below::read_reads, crate::proofs::Below::part_fails, crate::proofs::Below::fails_then))]
+fn main_tree(
+    alloc: Global,
+    tokens: &[Token],
+    room: u32,
+) -> Result<(Base, Tree, u32, &[Token]), Fault>
+    requires { room ≤ 200 }
+    ensures gives { Gives (λ x. ok (main_only x.0 (tree_of x.1)) x.2 (tokens_of x.3.now)) result (reading {n = program} room (expect colon_next (pick main_base)) none_yet (tokens_of tokens.now)) }
+    ensures height { IfOk result (λ x. x.2 ≤ room) }
+{
+    match after(Next::Colon, tokens) {
+        None => Err(Fault::Syntax(tokens)),
+        Some(rest) => match in_hand(rest) {
+            None => Err(Fault::Syntax(rest)),
+            Some((token, mid)) => match main_type(token) {
+                None => Err(Fault::Syntax(rest)),
+                Some(base) => match after(Next::Equal, mid) {
+                    None => Err(Fault::Syntax(mid)),
+                    Some(rest) => {
+                        let (tree, height, rest) = expr_tree(alloc, rest, room)?;
+                        Ok((base, tree, height, rest))
+                    }
+                },
+            },
+        },
+    }
+}
+
+/// A program: the items in turn, and main.
+#[tactic(auto, using(crate::proofs::Below::read_full, crate::proofs::Below::read_gives, crate::proofs::Below::read_refuses, crate::proofs::Below::read_reads, crate::proofs::Below::part_fails, crate::proofs::Below::fails_then, crate::proofs::Programs::behind_none, crate::proofs::Programs::item_goes, crate::proofs::Programs::main_goes, crate::proofs::Programs::fails_items))]
+pub fn program_tree(
+    alloc: Global,
+    tokens: &[Token],
+    room: u32,
+) -> Result<(Surface, u32, &[Token]), Fault>
+    requires { room ≤ 200 }
+    ensures gives { Gives (λ x. ok (surface_of x.0) x.1 (tokens_of x.2.now)) result (full room program (tokens_of tokens.now)) }
+{
+    let mut items = SurfaceItems::new(alloc);
+    let mut height = 0;
+    let mut rest = tokens;
+    loop {
+        match in_hand(rest) {
+            None => return Err(Fault::Syntax(rest)),
+            Some((token, behind)) => match start_word(token) {
+                Start::Other => return Err(Fault::Syntax(rest)),
+                Start::Main => {
+                    let (result, body, other, rest) = main_tree(alloc, behind, room)?;
+                    let surface = Surface {
+                        items,
+                        result,
+                        body,
+                    };
+                    return Ok((surface, height.max(other), rest));
+                }
+                Start::Item => {
+                    let (item, other, mid) = item_tree(alloc, rest, room)?;
+                    match after(Next::End, mid) {
+                        None => return Err(Fault::Syntax(mid)),
+                        Some(behind) => {
+                            items.push(item)?;
+                            height = height.max(other);
+                            rest = behind;
+                        }
+                    }
+                }
+            },
+        }
+    }
+}

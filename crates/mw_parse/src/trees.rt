@@ -1,0 +1,881 @@
+// Expressions, by descent. `room` is the number of nodes that may still stand on a path; each function answers what it
+// made, the height of its nodes and the tokens left, and says of which form.
+
+ghost use Rattle.std.specs.Prelude.{◌≡◌, ◌<◌, ◌≤◌, ◌-◌, ℕ, suc, max, true, false, IfOk};
+ghost use Rattle.mw_lex.specs.Tokens.{tokens_of};
+ghost use Rattle.mw_parse.specs.SurfaceTrees.{SurfaceTree, tree_of, bind, run, cond, pair, bracket, escape, fun, truth};
+ghost use Rattle.mw_parse.specs.Grammar.{tree, expr, disjunction, conjunction, comparison, row as leveled, head, atom, operand, right, body, parameter, kernel_type, negative};
+ghost use Rattle.mw_parse.specs.Forms.{gives, reads, pick, expect, in_next, then_next, else_next, paren_next, bracket_next, left_next, right_next, let_in_by, rec_by, paren_by, minus_by, behind_first, behind_mark, equal_to, below, at_most, bound_rec, function, operated};
+ghost use Rattle.mw_parse.specs.Descent.{none_yet, so_far, ok, and_then, full, reading, following};
+ghost use Rattle.mw_parse.specs.Gives.{Gives};
+ghost use Rattle.mw_parse.specs.Words.{mark_in};
+ghost use Rattle.mw_parse.specs.Levels.{row_of, op_of, function_of, definition_of};
+
+use crate::fault::Fault;
+use crate::kinds::kernel;
+use crate::next::{Next, after};
+use crate::rows::{Operator, Row, copy_name, join, negative_of, next_operator, positive_of};
+use crate::tree::{Placed, Tree};
+use crate::words::{
+    Atom, Body, Close, First, Head, Inside, Mark, Named, atom_word, body_word, closing, first_word,
+    head_word, in_hand, inside_word, name_of, name_or_rec, number_of,
+};
+use mw_lex::Token;
+use mw_term::{Name, Prim};
+use std::alloc::{AllocError, Global};
+
+/// What a let binds, with the offset of the first token behind its mark.
+#[derive(Drop)]
+pub struct Defined {
+    pub from: u32,
+    pub tree: Tree,
+}
+
+/// A parameter, and what stands behind it.
+#[derive(Drop)]
+pub struct Function {
+    pub name: Name,
+    pub from: u32,
+    pub tree: Tree,
+}
+
+/// The function of a parameter.
+pub fn function_tree(alloc: Global, parameter: Function) -> Result<Tree, AllocError>
+    ensures { IfOk result (λ t. tree_of t ≡ function (function_of parameter)) }
+{
+    Ok(Tree::Fun(parameter.name, Box::new(alloc, parameter.tree)?))
+}
+
+fn negated(alloc: Global, tree: Tree) -> Result<Tree, AllocError>
+    ensures { IfOk result (λ t. tree_of t ≡ cond (tree_of tree) (truth false) (truth true)) }
+{
+    Ok(Tree::If(
+        Box::new(alloc, tree)?,
+        Box::new(alloc, Tree::Bool(false))?,
+        Box::new(alloc, Tree::Bool(true))?,
+    ))
+}
+
+fn conjoined(alloc: Global, left: Tree, right: Tree) -> Result<Tree, AllocError>
+    ensures { IfOk result (λ t. tree_of t ≡ cond (tree_of left) (tree_of right) (truth false)) }
+{
+    Ok(Tree::If(
+        Box::new(alloc, left)?,
+        Box::new(alloc, right)?,
+        Box::new(alloc, Tree::Bool(false))?,
+    ))
+}
+
+fn disjoined(alloc: Global, left: Tree, right: Tree) -> Result<Tree, AllocError>
+    ensures { IfOk result (λ t. tree_of t ≡ cond (tree_of left) (truth true) (tree_of right)) }
+{
+    Ok(Tree::If(
+        Box::new(alloc, left)?,
+        Box::new(alloc, Tree::Bool(true))?,
+        Box::new(alloc, right)?,
+    ))
+}
+
+/// Behind `(` and `-`.
+#[tactic(auto, using(crate::proofs::Below::read_full, crate::proofs::Below::read_gives, crate::proofs::Below::read_refuses, crate::proofs::Below::read_reads, crate::proofs::Below::part_fails, crate::proofs::Below::fails_then, crate::proofs::Below::raise_ok, crate::proofs::Below::fails_raise))]
+fn literal(tokens: &[Token]) -> Result<(Tree, u32, &[Token]), Fault>
+    ensures gives { (b : ℕ) → Gives (λ x. ok (tree_of x.0) x.1 (tokens_of x.2.now)) result (reading b (pick minus_by) none_yet (tokens_of tokens.now)) }
+    ensures height { IfOk result (λ x. x.1 ≡ 0) }
+{
+    match in_hand(tokens) {
+        None => Err(Fault::Syntax(tokens)),
+        Some((token, mid)) => match number_of(token) {
+            None => Err(Fault::Syntax(tokens)),
+            Some(n) => match after(Next::Paren, mid) {
+                None => Err(Fault::Syntax(mid)),
+                Some(rest) => Ok((Tree::Int(negative_of(n)), 0, rest)),
+            },
+        },
+    }
+}
+
+#[cycle(trees)]
+#[tactic(auto, using(crate::proofs::Below::read_full, crate::proofs::Below::read_gives, crate::proofs::Below::read_refuses, crate::proofs::Below::read_reads, crate::proofs::Below::part_fails, crate::proofs::Below::fails_then, crate::proofs::Below::raise_ok, crate::proofs::Below::fails_raise))]
+fn atom_tree(alloc: Global, tokens: &[Token], room: u32) -> Result<(Tree, u32, &[Token]), Fault>
+    requires { room ≤ 200 }
+    ensures gives { Gives (λ x. ok (tree_of x.0) x.1 (tokens_of x.2.now)) result (full room (tree atom) (tokens_of tokens.now)) }
+    ensures height { IfOk result (λ x. x.1 ≤ room) }
+{
+    match in_hand(tokens) {
+        None => Err(Fault::Syntax(tokens)),
+        Some((token, rest)) => match atom_word(token) {
+            Atom::Other => Err(Fault::Syntax(tokens)),
+            Atom::Word(name) => {
+                if room == 0 {
+                    return Err(Fault::Deep(tokens));
+                }
+                let name = copy_name(alloc, name)?;
+                let at = token.start;
+                Ok((Tree::Used(Placed { name, at }), 1, rest))
+            }
+            Atom::Number(n) => {
+                if room == 0 {
+                    return Err(Fault::Deep(tokens));
+                }
+                Ok((Tree::Int(positive_of(n)), 1, rest))
+            }
+            Atom::True => {
+                if room == 0 {
+                    return Err(Fault::Deep(tokens));
+                }
+                Ok((Tree::Bool(true), 1, rest))
+            }
+            Atom::False => {
+                if room == 0 {
+                    return Err(Fault::Deep(tokens));
+                }
+                Ok((Tree::Bool(false), 1, rest))
+            }
+            Atom::Paren => {
+                if room == 0 {
+                    return Err(Fault::Deep(tokens));
+                }
+                let (tree, height, rest) = in_parens(alloc, rest, room - 1)?;
+                Ok((tree, height + 1, rest))
+            }
+            Atom::Bracket => {
+                if room == 0 {
+                    return Err(Fault::Deep(tokens));
+                }
+                let (tree, height, rest) = bracketed(alloc, token.start, rest, room - 1)?;
+                Ok((tree, height + 1, rest))
+            }
+            Atom::Escape => {
+                if room == 0 {
+                    return Err(Fault::Deep(tokens));
+                }
+                let (tree, height, rest) = escaped(alloc, token.start, rest, room - 1)?;
+                Ok((tree, height + 1, rest))
+            }
+        },
+    }
+}
+
+#[cycle(trees)]
+#[tactic(auto, using(crate::proofs::Below::read_full, crate::proofs::Below::read_gives, crate::proofs::Below::read_refuses, crate::proofs::Below::read_reads, crate::proofs::Below::part_fails, crate::proofs::Below::fails_then, crate::proofs::Below::raise_ok, crate::proofs::Below::fails_raise))]
+fn bracketed(
+    alloc: Global,
+    at: u32,
+    tokens: &[Token],
+    room: u32,
+) -> Result<(Tree, u32, &[Token]), Fault>
+    requires { room ≤ 200 }
+    ensures gives { Gives (λ x. ok (tree_of x.0) x.1 (tokens_of x.2.now)) result (reading {n = tree atom} room (reads (tree expr) λ e. expect bracket_next (gives (bracket at e))) none_yet (tokens_of tokens.now)) }
+    ensures height { IfOk result (λ x. x.1 ≤ room) }
+{
+    let (tree, height, mid) = expr_tree(alloc, tokens, room)?;
+    match after(Next::Bracket, mid) {
+        None => Err(Fault::Syntax(mid)),
+        Some(rest) => Ok((Tree::Bracket(at, Box::new(alloc, tree)?), height, rest)),
+    }
+}
+
+#[cycle(trees)]
+#[tactic(auto, using(crate::proofs::Below::read_full, crate::proofs::Below::read_gives, crate::proofs::Below::read_refuses, crate::proofs::Below::read_reads, crate::proofs::Below::part_fails, crate::proofs::Below::fails_then, crate::proofs::Below::raise_ok, crate::proofs::Below::fails_raise))]
+fn escaped(
+    alloc: Global,
+    at: u32,
+    tokens: &[Token],
+    room: u32,
+) -> Result<(Tree, u32, &[Token]), Fault>
+    requires { room ≤ 200 }
+    ensures gives { Gives (λ x. ok (tree_of x.0) x.1 (tokens_of x.2.now)) result (reading {n = tree atom} room (reads (tree atom) λ e. gives (escape at e)) none_yet (tokens_of tokens.now)) }
+    ensures height { IfOk result (λ x. x.1 ≤ room) }
+{
+    let (tree, height, rest) = atom_tree(alloc, tokens, room)?;
+    Ok((Tree::Escape(at, Box::new(alloc, tree)?), height, rest))
+}
+
+#[cycle(trees)]
+#[tactic(auto, using(crate::proofs::Below::read_full, crate::proofs::Below::read_gives, crate::proofs::Below::read_refuses, crate::proofs::Below::read_reads, crate::proofs::Below::part_fails, crate::proofs::Below::fails_then, crate::proofs::Below::raise_ok, crate::proofs::Below::fails_raise))]
+fn in_parens(alloc: Global, tokens: &[Token], room: u32) -> Result<(Tree, u32, &[Token]), Fault>
+    requires { room ≤ 200 }
+    ensures gives { Gives (λ x. ok (tree_of x.0) x.1 (tokens_of x.2.now)) result (reading room (pick paren_by) none_yet (tokens_of tokens.now)) }
+    ensures height { IfOk result (λ x. x.1 ≤ room) }
+{
+    match in_hand(tokens) {
+        None => Err(Fault::Syntax(tokens)),
+        Some((token, rest)) => {
+            match inside_word(token) {
+                Inside::Minus => literal(rest),
+                Inside::Other => grouped(alloc, tokens, room),
+            }
+        },
+    }
+}
+
+#[cycle(trees)]
+#[tactic(auto, using(crate::proofs::Below::read_full, crate::proofs::Below::read_gives, crate::proofs::Below::read_refuses, crate::proofs::Below::read_reads, crate::proofs::Below::part_fails, crate::proofs::Below::fails_then, crate::proofs::Below::raise_ok, crate::proofs::Below::fails_raise))]
+fn grouped(alloc: Global, tokens: &[Token], room: u32) -> Result<(Tree, u32, &[Token]), Fault>
+    requires { room ≤ 200 }
+    ensures gives { Gives (λ x. ok (tree_of x.0) x.1 (tokens_of x.2.now)) result (reading {n = tree atom} room (reads (tree expr) λ d. pick (behind_first d)) none_yet (tokens_of tokens.now)) }
+    ensures height { IfOk result (λ x. x.1 ≤ room) }
+{
+    let (tree, height, mid) = expr_tree(alloc, tokens, room)?;
+    match in_hand(mid) {
+        None => Err(Fault::Syntax(mid)),
+        Some((token, rest)) => match closing(token) {
+            Close::Other => Err(Fault::Syntax(mid)),
+            Close::Paren => Ok((tree, height, rest)),
+            Close::Comma => paired(alloc, tree, height, rest, room),
+        },
+    }
+}
+
+#[cycle(trees)]
+#[tactic(auto, using(crate::proofs::Below::read_full, crate::proofs::Below::read_gives, crate::proofs::Below::read_refuses, crate::proofs::Below::read_reads, crate::proofs::Below::part_fails, crate::proofs::Below::fails_then, crate::proofs::Below::raise_ok, crate::proofs::Below::fails_raise))]
+fn paired(
+    alloc: Global,
+    left: Tree,
+    height: u32,
+    tokens: &[Token],
+    room: u32,
+) -> Result<(Tree, u32, &[Token]), Fault>
+    requires { (height ≤ room) × (room ≤ 200) }
+    ensures gives { Gives (λ x. ok (tree_of x.0) x.1 (tokens_of x.2.now)) result (reading {n = tree atom} room (reads (tree expr) λ e. expect paren_next (gives (pair (tree_of left) e))) (so_far height) (tokens_of tokens.now)) }
+    ensures height { IfOk result (λ x. x.1 ≤ room) }
+{
+    let (right, other, mid) = expr_tree(alloc, tokens, room)?;
+    match after(Next::Paren, mid) {
+        None => Err(Fault::Syntax(mid)),
+        Some(rest) => {
+            let pair = Tree::Pair(Box::new(alloc, left)?, Box::new(alloc, right)?);
+            Ok((pair, height.max(other), rest))
+        }
+    }
+}
+
+#[cycle(trees)]
+#[tactic(auto, using(crate::proofs::Below::read_full, crate::proofs::Below::read_gives, crate::proofs::Below::read_refuses, crate::proofs::Below::read_reads, crate::proofs::Below::part_fails, crate::proofs::Below::fails_then, crate::proofs::Below::raise_ok, crate::proofs::Below::fails_raise))]
+fn head_tree(alloc: Global, tokens: &[Token], room: u32) -> Result<(Tree, u32, &[Token]), Fault>
+    requires { room ≤ 200 }
+    ensures gives { Gives (λ x. ok (tree_of x.0) x.1 (tokens_of x.2.now)) result (full room (tree head) (tokens_of tokens.now)) }
+    ensures height { IfOk result (λ x. x.1 ≤ room) }
+{
+    match in_hand(tokens) {
+        None => Err(Fault::Syntax(tokens)),
+        Some((token, rest)) => match head_word(token) {
+            Head::Other => passed_atom(alloc, tokens, room),
+            Head::Fst => {
+                if room == 0 {
+                    return Err(Fault::Deep(tokens));
+                }
+                let (tree, height, rest) = atom_tree(alloc, rest, room - 1)?;
+                Ok((Tree::Fst(Box::new(alloc, tree)?), height + 1, rest))
+            }
+            Head::Snd => {
+                if room == 0 {
+                    return Err(Fault::Deep(tokens));
+                }
+                let (tree, height, rest) = atom_tree(alloc, rest, room - 1)?;
+                Ok((Tree::Snd(Box::new(alloc, tree)?), height + 1, rest))
+            }
+            Head::Not => {
+                if room == 0 {
+                    return Err(Fault::Deep(tokens));
+                }
+                let (tree, height, rest) = atom_tree(alloc, rest, room - 1)?;
+                Ok((negated(alloc, tree)?, height + 1, rest))
+            }
+            Head::Close => {
+                if room == 0 {
+                    return Err(Fault::Deep(tokens));
+                }
+                let (tree, height, rest) = atom_tree(alloc, rest, room - 1)?;
+                Ok((
+                    Tree::CloseCode(token.start, Box::new(alloc, tree)?),
+                    height + 1,
+                    rest,
+                ))
+            }
+            Head::Open => {
+                if room == 0 {
+                    return Err(Fault::Deep(tokens));
+                }
+                let (tree, height, rest) = atom_tree(alloc, rest, room - 1)?;
+                Ok((
+                    Tree::OpenCode(token.start, Box::new(alloc, tree)?),
+                    height + 1,
+                    rest,
+                ))
+            }
+            Head::Lift => {
+                if room == 0 {
+                    return Err(Fault::Deep(tokens));
+                }
+                let (tree, height, rest) = atom_tree(alloc, rest, room - 1)?;
+                Ok((
+                    Tree::Lift(token.start, Box::new(alloc, tree)?),
+                    height + 1,
+                    rest,
+                ))
+            }
+            Head::LiftB => {
+                if room == 0 {
+                    return Err(Fault::Deep(tokens));
+                }
+                let (tree, height, rest) = atom_tree(alloc, rest, room - 1)?;
+                Ok((
+                    Tree::LiftB(token.start, Box::new(alloc, tree)?),
+                    height + 1,
+                    rest,
+                ))
+            }
+            Head::Run => {
+                if room == 0 {
+                    return Err(Fault::Deep(tokens));
+                }
+                let (tree, height, rest) = running(alloc, token.start, rest, room - 1)?;
+                Ok((tree, height + 1, rest))
+            }
+        },
+    }
+}
+
+#[cycle(trees)]
+#[tactic(auto, using(crate::proofs::Below::read_full, crate::proofs::Below::read_gives, crate::proofs::Below::read_refuses, crate::proofs::Below::read_reads, crate::proofs::Below::part_fails, crate::proofs::Below::fails_then, crate::proofs::Below::raise_ok, crate::proofs::Below::fails_raise))]
+fn running(
+    alloc: Global,
+    at: u32,
+    tokens: &[Token],
+    room: u32,
+) -> Result<(Tree, u32, &[Token]), Fault>
+    requires { room ≤ 200 }
+    ensures gives { Gives (λ x. ok (tree_of x.0) x.1 (tokens_of x.2.now)) result (reading {n = tree head} room (expect left_next (reads kernel_type λ k. expect right_next (reads (tree atom) λ e. gives (run at k e)))) none_yet (tokens_of tokens.now)) }
+    ensures height { IfOk result (λ x. x.1 ≤ room) }
+{
+    match after(Next::Left, tokens) {
+        None => Err(Fault::Syntax(tokens)),
+        Some(rest) => {
+            let (kind, height, mid) = kernel(alloc, rest, room)?;
+            match after(Next::Right, mid) {
+                None => Err(Fault::Syntax(mid)),
+                Some(rest) => {
+                    let (tree, other, rest) = atom_tree(alloc, rest, room)?;
+                    Ok((
+                        Tree::Run(at, kind, Box::new(alloc, tree)?),
+                        height.max(other),
+                        rest,
+                    ))
+                }
+            }
+        }
+    }
+}
+
+#[cycle(trees)]
+#[tactic(auto, using(crate::proofs::Below::read_full, crate::proofs::Below::read_gives, crate::proofs::Below::read_refuses, crate::proofs::Below::read_reads, crate::proofs::Below::part_fails, crate::proofs::Below::fails_then, crate::proofs::Below::raise_ok, crate::proofs::Below::fails_raise))]
+fn operand_tree(
+    alloc: Global,
+    row: Row,
+    tokens: &[Token],
+    room: u32,
+) -> Result<(Tree, u32, &[Token]), Fault>
+    requires { room ≤ 200 }
+    ensures gives { Gives (λ x. ok (tree_of x.0) x.1 (tokens_of x.2.now)) result (full room (tree (operand (row_of row))) (tokens_of tokens.now)) }
+    ensures height { IfOk result (λ x. x.1 ≤ room) }
+{
+    match row {
+        Row::Sum => row_tree(alloc, Row::Product, tokens, room),
+        Row::Product => row_tree(alloc, Row::Application, tokens, room),
+        Row::Application => head_tree(alloc, tokens, room),
+    }
+}
+
+#[cycle(trees)]
+#[tactic(auto, using(crate::proofs::Below::read_full, crate::proofs::Below::read_gives, crate::proofs::Below::read_refuses, crate::proofs::Below::read_reads, crate::proofs::Below::part_fails, crate::proofs::Below::fails_then, crate::proofs::Below::raise_ok, crate::proofs::Below::fails_raise))]
+fn right_tree(
+    alloc: Global,
+    row: Row,
+    tokens: &[Token],
+    room: u32,
+) -> Result<(Tree, u32, &[Token]), Fault>
+    requires { room ≤ 200 }
+    ensures gives { Gives (λ x. ok (tree_of x.0) x.1 (tokens_of x.2.now)) result (full room (tree (right (row_of row))) (tokens_of tokens.now)) }
+    ensures height { IfOk result (λ x. x.1 ≤ room) }
+{
+    match row {
+        Row::Sum => row_tree(alloc, Row::Product, tokens, room),
+        Row::Product => row_tree(alloc, Row::Application, tokens, room),
+        Row::Application => atom_tree(alloc, tokens, room),
+    }
+}
+
+#[cycle(trees)]
+#[tactic(auto, using(crate::proofs::Below::read_full, crate::proofs::Below::read_gives, crate::proofs::Below::read_refuses, crate::proofs::Below::read_reads, crate::proofs::Below::part_fails, crate::proofs::Below::fails_then, crate::proofs::Below::raise_ok, crate::proofs::Below::fails_raise, crate::proofs::Below::read_more))]
+fn row_tree(
+    alloc: Global,
+    row: Row,
+    tokens: &[Token],
+    room: u32,
+) -> Result<(Tree, u32, &[Token]), Fault>
+    requires { room ≤ 200 }
+    ensures gives { Gives (λ x. ok (tree_of x.0) x.1 (tokens_of x.2.now)) result (full room (tree (leveled (row_of row))) (tokens_of tokens.now)) }
+    ensures height { IfOk result (λ x. x.1 ≤ room) }
+{
+    let (left, height, mid) = operand_tree(alloc, row, tokens, room)?;
+    let (tree, height, rest) = more_trees(alloc, row, left, height, mid, room)?;
+    Ok((tree, height, rest))
+}
+
+#[cycle(trees)]
+#[tactic(auto, using(crate::proofs::Below::read_full, crate::proofs::Below::read_gives, crate::proofs::Below::read_refuses, crate::proofs::Below::read_reads, crate::proofs::Below::part_fails, crate::proofs::Below::fails_then, crate::proofs::Below::raise_ok, crate::proofs::Below::fails_raise, crate::proofs::Below::follow_none, crate::proofs::Below::follow_deep, crate::proofs::Below::follow_on))]
+fn more_trees(
+    alloc: Global,
+    row: Row,
+    left: Tree,
+    height: u32,
+    tokens: &[Token],
+    room: u32,
+) -> Result<(Tree, u32, &[Token]), Fault>
+    requires { (height ≤ room) × (room ≤ 200) }
+    ensures gives { Gives (λ x. ok (tree_of x.0) x.1 (tokens_of x.2.now)) result (following room (row_of row) (tree_of left) height (tokens_of tokens.now)) }
+    ensures height { IfOk result (λ x. x.1 ≤ room) }
+{
+    match next_operator(row, tokens) {
+        None => Ok((left, height, tokens)),
+        Some((operator, rest)) => {
+            if height >= room {
+                return Err(Fault::Deep(tokens));
+            }
+            next_operand(alloc, row, operator, left, height, rest, room)
+        }
+    }
+}
+
+#[cycle(trees)]
+#[tactic(auto, using(crate::proofs::Below::read_full, crate::proofs::Below::read_gives, crate::proofs::Below::read_refuses, crate::proofs::Below::read_reads, crate::proofs::Below::part_fails, crate::proofs::Below::fails_then, crate::proofs::Below::raise_ok, crate::proofs::Below::fails_raise))]
+fn comparison_tree(
+    alloc: Global,
+    tokens: &[Token],
+    room: u32,
+) -> Result<(Tree, u32, &[Token]), Fault>
+    requires { room ≤ 200 }
+    ensures gives { Gives (λ x. ok (tree_of x.0) x.1 (tokens_of x.2.now)) result (full room (tree comparison) (tokens_of tokens.now)) }
+    ensures height { IfOk result (λ x. x.1 ≤ room) }
+{
+    let (left, height, mid) = row_tree(alloc, Row::Sum, tokens, room)?;
+    equal_tree(alloc, left, height, mid, room)
+}
+
+#[cycle(trees)]
+#[tactic(auto, using(crate::proofs::Below::read_full, crate::proofs::Below::read_gives, crate::proofs::Below::read_refuses, crate::proofs::Below::read_reads, crate::proofs::Below::part_fails, crate::proofs::Below::fails_then, crate::proofs::Below::raise_ok, crate::proofs::Below::fails_raise))]
+fn equal_tree(
+    alloc: Global,
+    left: Tree,
+    height: u32,
+    tokens: &[Token],
+    room: u32,
+) -> Result<(Tree, u32, &[Token]), Fault>
+    requires { (height ≤ room) × (room ≤ 200) }
+    ensures gives { Gives (λ x. ok (tree_of x.0) x.1 (tokens_of x.2.now)) result (reading room (equal_to (tree_of left)) (so_far height) (tokens_of tokens.now)) }
+    ensures height { IfOk result (λ x. x.1 ≤ room) }
+{
+    match after(Next::Equal, tokens) {
+        None => less_tree(alloc, left, height, tokens, room),
+        Some(rest) => {
+            if height >= room {
+                return Err(Fault::Deep(tokens));
+            }
+            let (right, other, rest) = row_tree(alloc, Row::Sum, rest, room - 1)?;
+            let tree = Tree::Prim(Prim::Eq, Box::new(alloc, left)?, Box::new(alloc, right)?);
+            Ok((tree, height.max(other) + 1, rest))
+        }
+    }
+}
+
+#[cycle(trees)]
+#[tactic(auto, using(crate::proofs::Below::read_full, crate::proofs::Below::read_gives, crate::proofs::Below::read_refuses, crate::proofs::Below::read_reads, crate::proofs::Below::part_fails, crate::proofs::Below::fails_then, crate::proofs::Below::raise_ok, crate::proofs::Below::fails_raise))]
+fn less_tree(
+    alloc: Global,
+    left: Tree,
+    height: u32,
+    tokens: &[Token],
+    room: u32,
+) -> Result<(Tree, u32, &[Token]), Fault>
+    requires { (height ≤ room) × (room ≤ 200) }
+    ensures gives { Gives (λ x. ok (tree_of x.0) x.1 (tokens_of x.2.now)) result (reading room (below (tree_of left)) (so_far height) (tokens_of tokens.now)) }
+    ensures height { IfOk result (λ x. x.1 ≤ room) }
+{
+    match after(Next::Less, tokens) {
+        None => less_equal_tree(alloc, left, height, tokens, room),
+        Some(rest) => {
+            if height >= room {
+                return Err(Fault::Deep(tokens));
+            }
+            let (right, other, rest) = row_tree(alloc, Row::Sum, rest, room - 1)?;
+            let tree = Tree::Prim(Prim::Lt, Box::new(alloc, left)?, Box::new(alloc, right)?);
+            Ok((tree, height.max(other) + 1, rest))
+        }
+    }
+}
+
+#[cycle(trees)]
+#[tactic(auto, using(crate::proofs::Below::read_full, crate::proofs::Below::read_gives, crate::proofs::Below::read_refuses, crate::proofs::Below::read_reads, crate::proofs::Below::part_fails, crate::proofs::Below::fails_then, crate::proofs::Below::raise_ok, crate::proofs::Below::fails_raise))]
+fn less_equal_tree(
+    alloc: Global,
+    left: Tree,
+    height: u32,
+    tokens: &[Token],
+    room: u32,
+) -> Result<(Tree, u32, &[Token]), Fault>
+    requires { (height ≤ room) × (room ≤ 200) }
+    ensures gives { Gives (λ x. ok (tree_of x.0) x.1 (tokens_of x.2.now)) result (reading room (at_most (tree_of left)) (so_far height) (tokens_of tokens.now)) }
+    ensures height { IfOk result (λ x. x.1 ≤ room) }
+{
+    match after(Next::LessEqual, tokens) {
+        None => Ok((left, height, tokens)),
+        Some(rest) => {
+            if height >= room {
+                return Err(Fault::Deep(tokens));
+            }
+            let (right, other, rest) = row_tree(alloc, Row::Sum, rest, room - 1)?;
+            let tree = Tree::Prim(Prim::Le, Box::new(alloc, left)?, Box::new(alloc, right)?);
+            Ok((tree, height.max(other) + 1, rest))
+        }
+    }
+}
+
+#[cycle(trees)]
+#[tactic(auto, using(crate::proofs::Below::read_full, crate::proofs::Below::read_gives, crate::proofs::Below::read_refuses, crate::proofs::Below::read_reads, crate::proofs::Below::part_fails, crate::proofs::Below::fails_then, crate::proofs::Below::raise_ok, crate::proofs::Below::fails_raise))]
+fn conjunction_tree(
+    alloc: Global,
+    tokens: &[Token],
+    room: u32,
+) -> Result<(Tree, u32, &[Token]), Fault>
+    requires { room ≤ 200 }
+    ensures gives { Gives (λ x. ok (tree_of x.0) x.1 (tokens_of x.2.now)) result (full room (tree conjunction) (tokens_of tokens.now)) }
+    ensures height { IfOk result (λ x. x.1 ≤ room) }
+{
+    let (left, height, mid) = comparison_tree(alloc, tokens, room)?;
+    match after(Next::And, mid) {
+        None => Ok((left, height, mid)),
+        Some(rest) => {
+            if height >= room {
+                return Err(Fault::Deep(mid));
+            }
+            let (right, other, rest) = conjunction_tree(alloc, rest, room - 1)?;
+            Ok((conjoined(alloc, left, right)?, height.max(other) + 1, rest))
+        }
+    }
+}
+
+#[cycle(trees)]
+#[tactic(auto, using(crate::proofs::Below::read_full, crate::proofs::Below::read_gives, crate::proofs::Below::read_refuses, crate::proofs::Below::read_reads, crate::proofs::Below::part_fails, crate::proofs::Below::fails_then, crate::proofs::Below::raise_ok, crate::proofs::Below::fails_raise))]
+fn disjunction_tree(
+    alloc: Global,
+    tokens: &[Token],
+    room: u32,
+) -> Result<(Tree, u32, &[Token]), Fault>
+    requires { room ≤ 200 }
+    ensures gives { Gives (λ x. ok (tree_of x.0) x.1 (tokens_of x.2.now)) result (full room (tree disjunction) (tokens_of tokens.now)) }
+    ensures height { IfOk result (λ x. x.1 ≤ room) }
+{
+    let (left, height, mid) = conjunction_tree(alloc, tokens, room)?;
+    match after(Next::Or, mid) {
+        None => Ok((left, height, mid)),
+        Some(rest) => {
+            if height >= room {
+                return Err(Fault::Deep(mid));
+            }
+            let (right, other, rest) = disjunction_tree(alloc, rest, room - 1)?;
+            Ok((disjoined(alloc, left, right)?, height.max(other) + 1, rest))
+        }
+    }
+}
+
+#[cycle(trees)]
+#[tactic(auto, using(crate::proofs::Below::read_full, crate::proofs::Below::read_gives, crate::proofs::Below::read_refuses, crate::proofs::Below::read_reads, crate::proofs::Below::part_fails, crate::proofs::Below::fails_then, crate::proofs::Below::raise_ok, crate::proofs::Below::fails_raise))]
+pub fn expr_tree(alloc: Global, tokens: &[Token], room: u32) -> Result<(Tree, u32, &[Token]), Fault>
+    requires { room ≤ 200 }
+    ensures gives { Gives (λ x. ok (tree_of x.0) x.1 (tokens_of x.2.now)) result (full room (tree expr) (tokens_of tokens.now)) }
+    ensures height { IfOk result (λ x. x.1 ≤ room) }
+{
+    match in_hand(tokens) {
+        None => Err(Fault::Syntax(tokens)),
+        Some((token, rest)) => match first_word(token) {
+            First::Let => {
+                if room == 0 {
+                    return Err(Fault::Deep(tokens));
+                }
+                let (tree, height, rest) = bound_tree(alloc, rest, room - 1)?;
+                Ok((tree, height + 1, rest))
+            }
+            First::Fun => {
+                let (function, height, rest) = parameter_tree(alloc, Mark::Arrow, rest, room)?;
+                Ok((function_tree(alloc, function)?, height, rest))
+            }
+            First::If => {
+                if room == 0 {
+                    return Err(Fault::Deep(tokens));
+                }
+                let (tree, height, rest) = conditional(alloc, rest, room - 1)?;
+                Ok((tree, height + 1, rest))
+            }
+            First::Other => passed_disjunction(alloc, tokens, room),
+        },
+    }
+}
+
+#[cycle(trees)]
+#[tactic(auto, using(crate::proofs::Below::read_full, crate::proofs::Below::read_gives, crate::proofs::Below::read_refuses, crate::proofs::Below::read_reads, crate::proofs::Below::part_fails, crate::proofs::Below::fails_then, crate::proofs::Below::raise_ok, crate::proofs::Below::fails_raise))]
+fn conditional(alloc: Global, tokens: &[Token], room: u32) -> Result<(Tree, u32, &[Token]), Fault>
+    requires { room ≤ 200 }
+    ensures gives { Gives (λ x. ok (tree_of x.0) x.1 (tokens_of x.2.now)) result (reading {n = tree expr} room (reads (tree expr) λ c. expect then_next (reads (tree expr) λ d. expect else_next (reads (tree expr) λ e. gives (cond c d e)))) none_yet (tokens_of tokens.now)) }
+    ensures height { IfOk result (λ x. x.1 ≤ room) }
+{
+    let (test, height, mid) = expr_tree(alloc, tokens, room)?;
+    match after(Next::Then, mid) {
+        None => Err(Fault::Syntax(mid)),
+        Some(rest) => branches(alloc, test, height, rest, room),
+    }
+}
+
+#[cycle(trees)]
+#[tactic(auto, using(crate::proofs::Below::read_full, crate::proofs::Below::read_gives, crate::proofs::Below::read_refuses, crate::proofs::Below::read_reads, crate::proofs::Below::part_fails, crate::proofs::Below::fails_then, crate::proofs::Below::raise_ok, crate::proofs::Below::fails_raise))]
+fn branches(
+    alloc: Global,
+    test: Tree,
+    height: u32,
+    tokens: &[Token],
+    room: u32,
+) -> Result<(Tree, u32, &[Token]), Fault>
+    requires { (height ≤ room) × (room ≤ 200) }
+    ensures gives { Gives (λ x. ok (tree_of x.0) x.1 (tokens_of x.2.now)) result (reading {n = tree expr} room (reads (tree expr) λ d. expect else_next (reads (tree expr) λ e. gives (cond (tree_of test) d e))) (so_far height) (tokens_of tokens.now)) }
+    ensures height { IfOk result (λ x. x.1 ≤ room) }
+{
+    let (left, other, mid) = expr_tree(alloc, tokens, room)?;
+    match after(Next::Else, mid) {
+        None => Err(Fault::Syntax(mid)),
+        Some(rest) => {
+            let (right, last, rest) = expr_tree(alloc, rest, room)?;
+            let tree = Tree::If(
+                Box::new(alloc, test)?,
+                Box::new(alloc, left)?,
+                Box::new(alloc, right)?,
+            );
+            Ok((tree, height.max(other).max(last), rest))
+        }
+    }
+}
+
+#[cycle(trees)]
+#[tactic(auto, using(crate::proofs::Below::read_full, crate::proofs::Below::read_gives, crate::proofs::Below::read_refuses, crate::proofs::Below::read_reads, crate::proofs::Below::part_fails, crate::proofs::Below::fails_then, crate::proofs::Below::raise_ok, crate::proofs::Below::fails_raise))]
+fn bound_tree(alloc: Global, tokens: &[Token], room: u32) -> Result<(Tree, u32, &[Token]), Fault>
+    requires { room ≤ 200 }
+    ensures gives { Gives (λ x. ok (tree_of x.0) x.1 (tokens_of x.2.now)) result (reading room (pick let_in_by) none_yet (tokens_of tokens.now)) }
+    ensures height { IfOk result (λ x. x.1 ≤ room) }
+{
+    match in_hand(tokens) {
+        None => Err(Fault::Syntax(tokens)),
+        Some((token, rest)) => match name_or_rec(token) {
+            Named::Other => Err(Fault::Syntax(tokens)),
+            Named::Word(name) => {
+                let name = copy_name(alloc, name)?;
+                let (definition, height, mid) = body_tree(alloc, Mark::Equal, rest, room)?;
+                scoped(alloc, name, definition.tree, height, mid, room)
+            }
+            Named::Rec => recursive(alloc, rest, room),
+        },
+    }
+}
+
+#[cycle(trees)]
+#[tactic(auto, using(crate::proofs::Below::read_full, crate::proofs::Below::read_gives, crate::proofs::Below::read_refuses, crate::proofs::Below::read_reads, crate::proofs::Below::part_fails, crate::proofs::Below::fails_then, crate::proofs::Below::raise_ok, crate::proofs::Below::fails_raise))]
+fn recursive(alloc: Global, tokens: &[Token], room: u32) -> Result<(Tree, u32, &[Token]), Fault>
+    requires { room ≤ 200 }
+    ensures gives { Gives (λ x. ok (tree_of x.0) x.1 (tokens_of x.2.now)) result (reading room (pick rec_by) none_yet (tokens_of tokens.now)) }
+    ensures height { IfOk result (λ x. x.1 ≤ room) }
+{
+    match in_hand(tokens) {
+        None => Err(Fault::Syntax(tokens)),
+        Some((token, rest)) => match name_of(token) {
+            None => Err(Fault::Syntax(tokens)),
+            Some(name) => {
+                let name = copy_name(alloc, name)?;
+                let (function, height, mid) = parameter_tree(alloc, Mark::Equal, rest, room)?;
+                scoped_function(alloc, name, function, height, mid, room)
+            }
+        },
+    }
+}
+
+#[cycle(trees)]
+#[tactic(auto, using(crate::proofs::Below::read_full, crate::proofs::Below::read_gives, crate::proofs::Below::read_refuses, crate::proofs::Below::read_reads, crate::proofs::Below::part_fails, crate::proofs::Below::fails_then, crate::proofs::Below::raise_ok, crate::proofs::Below::fails_raise))]
+fn scoped(
+    alloc: Global,
+    name: Name,
+    definition: Tree,
+    height: u32,
+    tokens: &[Token],
+    room: u32,
+) -> Result<(Tree, u32, &[Token]), Fault>
+    requires { (height ≤ room) × (room ≤ 200) }
+    ensures gives { Gives (λ x. ok (tree_of x.0) x.1 (tokens_of x.2.now)) result (reading {n = tree expr} room (expect in_next (reads (tree expr) λ e. gives (bind name (tree_of definition) e))) (so_far height) (tokens_of tokens.now)) }
+    ensures height { IfOk result (λ x. x.1 ≤ room) }
+{
+    match after(Next::In, tokens) {
+        None => Err(Fault::Syntax(tokens)),
+        Some(rest) => {
+            let (tree, other, rest) = expr_tree(alloc, rest, room)?;
+            let tree = Tree::Let(name, Box::new(alloc, definition)?, Box::new(alloc, tree)?);
+            Ok((tree, height.max(other), rest))
+        }
+    }
+}
+
+#[cycle(trees)]
+#[tactic(auto, using(crate::proofs::Below::read_full, crate::proofs::Below::read_gives, crate::proofs::Below::read_refuses, crate::proofs::Below::read_reads, crate::proofs::Below::part_fails, crate::proofs::Below::fails_then, crate::proofs::Below::raise_ok, crate::proofs::Below::fails_raise))]
+pub fn parameter_tree(
+    alloc: Global,
+    mark: Mark,
+    tokens: &[Token],
+    room: u32,
+) -> Result<(Function, u32, &[Token]), Fault>
+    requires { room ≤ 200 }
+    ensures gives { Gives (λ x. ok (function_of x.0) x.1 (tokens_of x.2.now)) result (full room (parameter (mark_in mark)) (tokens_of tokens.now)) }
+    ensures height { IfOk result (λ x. x.1 ≤ room) }
+{
+    match in_hand(tokens) {
+        None => Err(Fault::Syntax(tokens)),
+        Some((token, rest)) => match name_of(token) {
+            None => Err(Fault::Syntax(tokens)),
+            Some(name) => {
+                if room == 0 {
+                    return Err(Fault::Deep(tokens));
+                }
+                let name = copy_name(alloc, name)?;
+                let (definition, height, rest) = body_tree(alloc, mark, rest, room - 1)?;
+                let from = definition.from;
+                let tree = definition.tree;
+                Ok((Function { name, from, tree }, height + 1, rest))
+            }
+        },
+    }
+}
+
+#[cycle(trees)]
+#[tactic(auto, using(crate::proofs::Below::read_full, crate::proofs::Below::read_gives, crate::proofs::Below::read_refuses, crate::proofs::Below::read_reads, crate::proofs::Below::part_fails, crate::proofs::Below::fails_then, crate::proofs::Below::raise_ok, crate::proofs::Below::fails_raise))]
+pub fn body_tree(
+    alloc: Global,
+    mark: Mark,
+    tokens: &[Token],
+    room: u32,
+) -> Result<(Defined, u32, &[Token]), Fault>
+    requires { room ≤ 200 }
+    ensures gives { Gives (λ x. ok (definition_of x.0) x.1 (tokens_of x.2.now)) result (full room (body (mark_in mark)) (tokens_of tokens.now)) }
+    ensures height { IfOk result (λ x. x.1 ≤ room) }
+{
+    match in_hand(tokens) {
+        None => Err(Fault::Syntax(tokens)),
+        Some((token, rest)) => match body_word(mark, token) {
+            Body::Other => Err(Fault::Syntax(tokens)),
+            Body::Parameter => {
+                let (function, height, rest) = parameter_tree(alloc, mark, tokens, room)?;
+                let from = function.from;
+                let tree = function_tree(alloc, function)?;
+                Ok((Defined { from, tree }, height, rest))
+            }
+            Body::Mark => behind_tree(alloc, mark, rest, room),
+        },
+    }
+}
+
+#[cycle(trees)]
+#[tactic(auto, using(crate::proofs::Below::read_full, crate::proofs::Below::read_gives, crate::proofs::Below::read_refuses, crate::proofs::Below::read_reads, crate::proofs::Below::part_fails, crate::proofs::Below::fails_then, crate::proofs::Below::raise_ok, crate::proofs::Below::fails_raise))]
+fn behind_tree(
+    alloc: Global,
+    mark: Mark,
+    tokens: &[Token],
+    room: u32,
+) -> Result<(Defined, u32, &[Token]), Fault>
+    requires { room ≤ 200 }
+    ensures gives { Gives (λ x. ok (definition_of x.0) x.1 (tokens_of x.2.now)) result (reading room (pick (behind_mark (mark_in mark))) none_yet (tokens_of tokens.now)) }
+    ensures height { IfOk result (λ x. x.1 ≤ room) }
+{
+    match in_hand(tokens) {
+        None => Err(Fault::Syntax(tokens)),
+        Some((token, rest)) => {
+            let from = token.start;
+            let (tree, height, rest) = expr_tree(alloc, tokens, room)?;
+            Ok((Defined { from, tree }, height, rest))
+        },
+    }
+}
+
+#[cycle(trees)]
+#[tactic(auto, using(crate::proofs::Below::read_full, crate::proofs::Below::read_gives, crate::proofs::Below::read_refuses, crate::proofs::Below::read_reads, crate::proofs::Below::part_fails, crate::proofs::Below::fails_then, crate::proofs::Below::raise_ok, crate::proofs::Below::fails_raise))]
+fn passed_atom(alloc: Global, tokens: &[Token], room: u32) -> Result<(Tree, u32, &[Token]), Fault>
+    requires { room ≤ 200 }
+    ensures gives { Gives (λ x. ok (tree_of x.0) x.1 (tokens_of x.2.now)) result (reading {n = tree head} room (reads (tree atom) λ e. gives e) none_yet (tokens_of tokens.now)) }
+    ensures height { IfOk result (λ x. x.1 ≤ room) }
+{
+    let (tree, height, rest) = atom_tree(alloc, tokens, room)?;
+    Ok((tree, height, rest))
+}
+
+#[cycle(trees)]
+#[tactic(auto, using(crate::proofs::Below::read_full, crate::proofs::Below::read_gives, crate::proofs::Below::read_refuses, crate::proofs::Below::read_reads, crate::proofs::Below::part_fails, crate::proofs::Below::fails_then, crate::proofs::Below::raise_ok, crate::proofs::Below::fails_raise))]
+fn passed_disjunction(
+    alloc: Global,
+    tokens: &[Token],
+    room: u32,
+) -> Result<(Tree, u32, &[Token]), Fault>
+    requires { room ≤ 200 }
+    ensures gives { Gives (λ x. ok (tree_of x.0) x.1 (tokens_of x.2.now)) result (reading {n = tree expr} room (reads (tree disjunction) λ e. gives e) none_yet (tokens_of tokens.now)) }
+    ensures height { IfOk result (λ x. x.1 ≤ room) }
+{
+    let (tree, height, rest) = disjunction_tree(alloc, tokens, room)?;
+    Ok((tree, height, rest))
+}
+
+#[cycle(trees)]
+#[tactic(auto, using(crate::proofs::Below::read_full, crate::proofs::Below::read_gives, crate::proofs::Below::read_refuses, crate::proofs::Below::read_reads, crate::proofs::Below::part_fails, crate::proofs::Below::fails_then, crate::proofs::Below::raise_ok, crate::proofs::Below::fails_raise, crate::proofs::Below::next_goes))]
+fn next_operand(
+    alloc: Global,
+    row: Row,
+    operator: Operator,
+    left: Tree,
+    height: u32,
+    tokens: &[Token],
+    room: u32,
+) -> Result<(Tree, u32, &[Token]), Fault>
+    requires { (height < room) × (room ≤ 200) }
+    ensures gives { Gives (λ x. ok (tree_of x.0) x.1 (tokens_of x.2.now)) result (and_then (full (room - 1) (tree (right (row_of row))) (tokens_of tokens.now)) λ r h mid. following room (row_of row) (operated (op_of operator) (tree_of left) r) (suc (max height h)) mid) }
+    ensures height { IfOk result (λ x. x.1 ≤ room) }
+{
+    let (right, other, mid) = right_tree(alloc, row, tokens, room - 1)?;
+    let tree = join(alloc, operator, left, right)?;
+    more_trees(alloc, row, tree, height.max(other) + 1, mid, room)
+}
+
+#[cycle(trees)]
+#[tactic(auto, using(crate::proofs::Below::read_full, crate::proofs::Below::read_gives, crate::proofs::Below::read_refuses, crate::proofs::Below::read_reads, crate::proofs::Below::part_fails, crate::proofs::Below::fails_then, crate::proofs::Below::raise_ok, crate::proofs::Below::fails_raise))]
+fn scoped_function(
+    alloc: Global,
+    name: Name,
+    function: Function,
+    height: u32,
+    tokens: &[Token],
+    room: u32,
+) -> Result<(Tree, u32, &[Token]), Fault>
+    requires { (height ≤ room) × (room ≤ 200) }
+    ensures gives { Gives (λ x. ok (tree_of x.0) x.1 (tokens_of x.2.now)) result (reading {n = tree expr} room (expect in_next (reads (tree expr) λ e. gives (bound_rec name (function_of function) e))) (so_far height) (tokens_of tokens.now)) }
+    ensures height { IfOk result (λ x. x.1 ≤ room) }
+{
+    match after(Next::In, tokens) {
+        None => Err(Fault::Syntax(tokens)),
+        Some(rest) => {
+            let (tree, other, rest) = expr_tree(alloc, rest, room)?;
+            let own = copy_name(alloc, &name)?;
+            let definition = Tree::Rec(own, function.name, Box::new(alloc, function.tree)?);
+            let tree = Tree::Let(name, Box::new(alloc, definition)?, Box::new(alloc, tree)?);
+            Ok((tree, height.max(other), rest))
+        }
+    }
+}
