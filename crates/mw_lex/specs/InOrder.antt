@@ -1,5 +1,5 @@
 -- What the parser may count on of tokens.
-use Rattle.std.specs.Prelude.{ℕ, ◌≡◌, ◌⊎◌, ◌<◌, ◌≤◌, ◌^◌, List, [], ◌∷◌}
+use Rattle.std.specs.Prelude.{ℕ, ◌<◌, ◌≤◌, ◌^◌, List, [], ◌∷◌}
 use Rattle.mw_lex.specs.Tokens.{Symbol, PureToken, token, paren_left, minus, number}
 
 -- tokens from an offset on, in rising order, none of them empty and none above another, up to a length
