@@ -1,0 +1,17 @@
+pub mod Smallest
+pub mod Lists
+pub mod Link
+pub mod Steps
+pub mod General
+pub mod Work
+pub mod Walking
+pub mod Reps
+pub mod Growing
+pub mod Verdicts
+pub mod Halving
+pub mod Shortening
+pub mod Answering
+pub mod Existence
+pub mod Elimination
+pub mod Faults
+pub mod Rows

@@ -1,0 +1,12 @@
+use Rattle.std.proofs.Common.{arith}
+use Rattle.mw_types.proofs.Answering.{name_more, no_names}
+use Rattle.mw_types.proofs.answer.names_of.Goals as goal
+
+pub loop-class-init : goal.loop-class-init
+loop-class-init c = rw c.new-names.ensures.items (no_names c.args.parent.now)
+
+pub name-requires-clause-named : goal.name-requires-clause-named
+name-requires-clause-named c = rw c.as_slice.ensures.value c.loop-class.invariant
+
+pub loop-class-preserved : goal.loop-class-preserved
+loop-class-preserved c = rw c.in_ok-push.ensures.items (name_more c.args.parent.now c.loop-class.names.items c.loop-class.class c.name.result c.requires.low (omega arith) c.loop-class.invariant (rw c.as_slice.ensures.value at c.name.ensures))

@@ -1,0 +1,57 @@
+use Rattle.std.proofs.Common.{rules, ◌≡◌, ◌<◌, ◌≤◌, refl, ap, sym, subst, ◌∙◌, arith, length, ℕ}
+use Rattle.std.proofs.lemmas.Option.{slice_get_read}
+use Rattle.std.proofs.lemmas.Grind.{get_or_default_zero}
+use Rattle.mw_types.specs.Equations.{equations_of}
+use Rattle.mw_types.specs.Judged.{Stated}
+use Rattle.mw_types.specs.Walks.{AllSized}
+use Rattle.mw_types.proofs.Verdicts.{blank_stated, left_within, right_within, item_stated, all_stated, never_unsolvable, never_after, fine, ready, big}
+use Rattle.mw_types.proofs.Work.{same_step}
+use Rattle.mw_types.proofs.judging.judge.Goals as goal
+
+pub loop-equation-init : goal.loop-equation-init
+loop-equation-init c = subst (λ n. Stated n (length c.args.state.now.classifier.items) (equations_of (Rattle.std.proofs.Common.take 0 c.args.equations.now)) c.args.state.now) (let e : length c.args.state.now.parent.items ≡ c.len-unknowns.result = omega (arith, c.len-unknowns.ensures) in e) (blank_stated c.args.state.now c.requires.sound c.requires.blank)
+
+pub add-requires-clause-inside : goal.add-requires-clause-inside
+add-requires-clause-inside c = left_within (length c.args.state.now.parent.items) c.len-unknowns.result (length c.args.state.now.classifier.items) _ c.args.equations.now c.loop-equation.equation-index c.equation-item.result (omega (arith, c.len-unknowns.ensures)) c.loop-equation.invariant.classifier_count c.requires.inside (slice_get_read c.args.equations.now (length c.args.equations.now) c.loop-equation.equation-index c.equation-item.result refl (omega arith) c.equation-item.is)
+
+pub add-requires-in-loop-equation-clause-inside : goal.add-requires-in-loop-equation-clause-inside
+add-requires-in-loop-equation-clause-inside c = right_within (length c.args.state.now.parent.items) c.len-unknowns.result (length c.args.state.now.classifier.items) _ c.args.equations.now c.loop-equation.equation-index c.equation-item.result (omega (arith, c.len-unknowns.ensures)) (c.in_ok-left.ensures.grew.classifier_count ∙ c.loop-equation.invariant.classifier_count) c.requires.inside (slice_get_read c.args.equations.now (length c.args.equations.now) c.loop-equation.equation-index c.equation-item.result refl (omega arith) c.equation-item.is)
+
+pub loop-equation-preserved : goal.loop-equation-preserved
+loop-equation-preserved c = item_stated c.len-unknowns.result (length c.args.state.now.classifier.items) (length c.args.state.now.parent.items) c.args.equations.now c.loop-equation.equation-index c.equation-item.result _ _ _ _ _ _ (omega (arith, c.len-unknowns.ensures)) c.requires.inside (slice_get_read c.args.equations.now (length c.args.equations.now) c.loop-equation.equation-index c.equation-item.result refl (omega arith) c.equation-item.is) c.loop-equation.invariant c.in_ok-left.ensures.grew c.in_ok-right.ensures.grew c.in_ok-postpone.ensures.step (λ k. c.in_ok-right.ensures.shaped _ (c.in_ok-left.ensures.shaped _ k))
+
+pub returns-then-not-branch-clause-judged : goal.returns-then-not-branch-clause-judged
+returns-then-not-branch-clause-judged c = never_unsolvable c.len-unknowns.result (length c.args.state.now.classifier.items) _ c.loop-equation.state
+    (all_stated c.len-unknowns.result _ c.len-unknowns.result c.args.equations.now c.loop-equation.equation-index _ refl (omega arith) c.loop-equation.invariant)
+    (c.in_ok-settle.ensures.none c.if-not-branch.true)
+
+pub returns-in-None-clause-judged : goal.returns-in-None-clause-judged
+returns-in-None-clause-judged c = never_unsolvable c.len-unknowns.result (length c.args.state.now.classifier.items) _ c.loop-equation.state
+    (all_stated c.len-unknowns.result _ c.len-unknowns.result c.args.equations.now c.loop-equation.equation-index _ refl (omega arith) c.loop-equation.invariant)
+    (never_after c.loop-equation.state c.flatten.new.state (same_step (c.in_ok-settle.ensures.same c.if-not-branch.false) c.flatten.ensures.same) (rw c.in-None.is at c.in_ok-sizes.ensures.none))
+
+pub returns-then-index-gt10000-clause-judged : goal.returns-then-index-gt10000-clause-judged
+returns-then-index-gt10000-clause-judged c =
+    big (length c.args.state.now.parent.items) (length c.args.state.now.classifier.items) (equations_of c.args.equations.now) c.loop-equation.state c.flatten.new.state
+    (all_stated c.len-unknowns.result _ (length c.args.state.now.parent.items) c.args.equations.now c.loop-equation.equation-index _ (omega (arith, c.len-unknowns.ensures)) (omega arith) c.loop-equation.invariant)
+    (same_step (c.in_ok-settle.ensures.same c.if-not-branch.false) c.flatten.ensures.same) (ap (λ v. v.items) c.flatten.ensures.waiting ∙ c.in_ok-settle.ensures.empty c.if-not-branch.false) c.in-Some.all.items (rw c.in-Some.is at c.in_ok-sizes.ensures.sized)
+    c.loop-index.index (omega (arith, c.len-unknowns.ensures))
+    (let k : AllSized c.flatten.new.state c.in-Some.all.items = rw c.in-Some.is at c.in_ok-sizes.ensures.sized in
+    let n = (same_step (c.in_ok-settle.ensures.same c.if-not-branch.false) c.flatten.ensures.same).node_count in
+    let l = c.loop-equation.invariant.long in
+    let z = get_or_default_zero c.in-Some.all.items c.loop-index.index c.index.result.now (omega (arith, k.count, n, l)) in
+    omega (arith, z, c.index.ensures, c.if-index-gt10000.true))
+
+pub returns-after-loop-index-clause-judged : goal.returns-after-loop-index-clause-judged
+returns-after-loop-index-clause-judged c =
+    fine (length c.args.state.now.parent.items) (length c.args.state.now.classifier.items) (equations_of c.args.equations.now) c.loop-equation.state c.flatten.new.state
+    (all_stated c.len-unknowns.result _ (length c.args.state.now.parent.items) c.args.equations.now c.loop-equation.equation-index _ (omega (arith, c.len-unknowns.ensures)) (omega arith) c.loop-equation.invariant)
+    (same_step (c.in_ok-settle.ensures.same c.if-not-branch.false) c.flatten.ensures.same) (ap (λ v. v.items) c.flatten.ensures.waiting ∙ c.in_ok-settle.ensures.empty c.if-not-branch.false) c.in-Some.all.items (rw c.in-Some.is at c.in_ok-sizes.ensures.sized)
+    (λ u lt. c.loop-index.invariant u (omega (arith, c.len-unknowns.ensures, c.loop-index-test.false)))
+
+pub returns-after-loop-index-clause-ready : goal.returns-after-loop-index-clause-ready
+returns-after-loop-index-clause-ready c e =
+    ready (length c.args.state.now.parent.items) (length c.args.state.now.classifier.items) (equations_of c.args.equations.now) c.loop-equation.state c.flatten.new.state
+    (all_stated c.len-unknowns.result _ (length c.args.state.now.parent.items) c.args.equations.now c.loop-equation.equation-index _ (omega (arith, c.len-unknowns.ensures)) (omega arith) c.loop-equation.invariant)
+    (same_step (c.in_ok-settle.ensures.same c.if-not-branch.false) c.flatten.ensures.same) (ap (λ v. v.items) c.flatten.ensures.waiting ∙ c.in_ok-settle.ensures.empty c.if-not-branch.false) c.in-Some.all.items (rw c.in-Some.is at c.in_ok-sizes.ensures.sized)
+    (λ u lt. c.loop-index.invariant u (omega (arith, c.len-unknowns.ensures, c.loop-index-test.false)))

@@ -1,0 +1,13 @@
+use Rattle.std.proofs.Common.{arith, length}
+use Rattle.mw_types.specs.Equations.{equations_of}
+use Rattle.mw_types.proofs.Halving.{whole_judged, halved_start, first_unsolvable, first_too_big}
+use Rattle.mw_types.proofs.solving.first_fault.Goals as goal
+
+pub loop-high-init : goal.loop-high-init
+loop-high-init c = (halved_start c.args.unknowns (equations_of c.args.equations.now) (length c.args.equations.now) c.args.whole (whole_judged c.args.unknowns c.args.equations.now c.args.whole c.requires.judged) c.requires.faulty, omega arith, omega arith)
+
+pub returns-in-Unsolvable : goal.returns-in-Unsolvable
+returns-in-Unsolvable c = first_unsolvable c.args.unknowns c.args.equations.now c.loop-high.low c.loop-high.high c.loop-high.verdict c.loop-high.invariant.0 (omega arith) c.loop-high.invariant.1 c.in-Unsolvable.is
+
+pub returns-in-TooBig : goal.returns-in-TooBig
+returns-in-TooBig c = first_too_big c.args.unknowns c.args.equations.now c.loop-high.low c.loop-high.high c.loop-high.verdict c.loop-high.invariant.0 (omega arith) c.loop-high.invariant.1 c.in-TooBig.is

@@ -1,0 +1,31 @@
+use Rattle.std.proofs.Common.{refl, ◌+◌, arith, min}
+use Rattle.mw_types.specs.Types.{unknown, int_ty, bool_ty}
+use Rattle.mw_types.specs.Stands.{s_free, s_int, s_bool}
+use Rattle.mw_types.specs.declared.state.Shape.TheVariants.{Free, Int, Bool}
+use Rattle.mw_types.proofs.Walking.{sized_leaf, sized_pair, sized_arrow, sized_code, sized_closed, sized_as, shape_read}
+use Rattle.mw_types.proofs.walk.inspect.Goals as goal
+
+pub returns-in-Free : goal.returns-in-Free
+returns-in-Free c = sized_leaf c.args.state.now c.args.top (unknown c.args.top) refl (λ k. s_free c.requires.root (shape_read c.args.state.now c.args.top _ Free c.requires.sound c.requires.inside c.index.ensures c.in-Free.is))
+
+pub returns-in-Int : goal.returns-in-Int
+returns-in-Int c = sized_leaf c.args.state.now c.args.top (int_ty) refl (λ k. s_int c.requires.root (shape_read c.args.state.now c.args.top _ Int c.requires.sound c.requires.inside c.index.ensures c.in-Int.is))
+
+pub returns-in-Bool : goal.returns-in-Bool
+returns-in-Bool c = sized_leaf c.args.state.now c.args.top (bool_ty) refl (λ k. s_bool c.requires.root (shape_read c.args.state.now c.args.top _ Bool c.requires.sound c.requires.inside c.index.ensures c.in-Bool.is))
+
+pub returns-in-Size-below : goal.returns-in-Size-below
+returns-in-Size-below c = sized_as (min (c.in-Size.n + c.in-Size-below.m + 1) 10001) c.min.result (omega (arith, c.min.ensures, c.saturating_add-in-Size-below.ensures, c.saturating_add.ensures))
+    (sized_pair c.args.state.now c.args.top c.in-Pair.l c.in-Pair.r c.in-Size.n c.in-Size-below.m c.requires.root (shape_read c.args.state.now c.args.top _ _ c.requires.sound c.requires.inside c.index.ensures c.in-Pair.is) c.in-Size.ensures c.in-Size-below.ensures)
+
+pub returns-in-Size-below-3 : goal.returns-in-Size-below-3
+returns-in-Size-below-3 c = sized_as (min (c.in-Size-below-2.n + c.in-Size-below-3.m + 1) 10001) c.min-in-Size-below-3.result (omega (arith, c.min-in-Size-below-3.ensures, c.saturating_add-in-Size-below-3-2.ensures, c.saturating_add-in-Size-below-3.ensures))
+    (sized_arrow c.args.state.now c.args.top c.in-Arrow.l c.in-Arrow.r c.in-Size-below-2.n c.in-Size-below-3.m c.requires.root (shape_read c.args.state.now c.args.top _ _ c.requires.sound c.requires.inside c.index.ensures c.in-Arrow.is) c.in-Size-below-2.ensures c.in-Size-below-3.ensures)
+
+pub returns-in-Size-below-4 : goal.returns-in-Size-below-4
+returns-in-Size-below-4 c = sized_as (min (c.in-Size-below-4.n + 1) 10001) c.min-in-Size-below-4.result (omega (arith, c.min-in-Size-below-4.ensures, c.saturating_add-in-Size-below-4.ensures))
+    (sized_code c.args.state.now c.args.top _ c.in-Code.t c.in-Size-below-4.n c.requires.root (shape_read c.args.state.now c.args.top _ _ c.requires.sound c.requires.inside c.index.ensures c.in-Code.is) c.in-Size-below-4.ensures)
+
+pub returns-in-Size-below-5 : goal.returns-in-Size-below-5
+returns-in-Size-below-5 c = sized_as (min (c.in-Size-below-5.n + 1) 10001) c.min-in-Size-below-5.result (omega (arith, c.min-in-Size-below-5.ensures, c.saturating_add-in-Size-below-5.ensures))
+    (sized_closed c.args.state.now c.args.top c.in-Closed.t c.in-Size-below-5.n c.requires.root (shape_read c.args.state.now c.args.top _ _ c.requires.sound c.requires.inside c.index.ensures c.in-Closed.is) c.in-Size-below-5.ensures)

@@ -1,0 +1,13 @@
+pub mod Types
+pub mod Equations
+pub mod Fronts
+pub mod Forest
+pub mod Holds
+pub mod Stands
+pub mod Walks
+pub mod Grows
+pub mod Judged
+pub mod Shorter
+pub mod Solutions
+pub mod Answering
+pub mod SolutionLaws
