@@ -1,0 +1,10 @@
+pub mod ExampleRows
+pub mod Faultless
+pub mod FaultlessPrograms
+pub mod Firsts
+pub mod Nearest
+pub mod Places
+pub mod Progress
+pub mod Answer
+pub mod Looked
+pub mod ScopedPrograms

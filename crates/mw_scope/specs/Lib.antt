@@ -1,0 +1,10 @@
+pub mod Scopes
+pub mod Nameless
+pub mod Faults
+pub mod Resolving
+pub mod Named
+pub mod Keeping
+pub mod Looking
+pub mod Scoped
+pub mod Views
+pub mod Examples

@@ -1,0 +1,43 @@
+// The names of the items so far.
+
+ghost use Rattle.std.specs.Prelude.{◌≡◌, List, [], ◌∷◌, ◌++◌, length, OnOk};
+ghost use Rattle.mw_parse.specs.SurfaceTrees.{PureItem, item_of};
+
+use crate::tops::Tops;
+use mw_parse::SurfaceItem;
+use std::alloc::{AllocError, Global};
+
+/// The names of the items so far: those of lets, which the items behind see, and all, which main sees.
+#[derive(Drop)]
+pub struct Names {
+    pub lets: Tops,
+    pub all: Tops,
+}
+
+impl Names {
+    ghost use Rattle.mw_scope.specs.Views.{Knows};
+
+    /// No names.
+    pub fn new(alloc: Global) -> Names
+        ensures { Knows result [] }
+    {
+        Names {
+            lets: Tops::new(alloc),
+            all: Tops::new(alloc),
+        }
+    }
+
+    /// Adds the name of the item behind the items so far, with its index.
+    pub fn add(&mut self, alloc: Global, item: &SurfaceItem, index: u32) -> Result<(), AllocError>
+        ensures { OnOk result ((before : List PureItem) → Knows self.old before → length before ≡ index → Knows self.new (before ++ item_of item.now ∷ [])) }
+    {
+        match item {
+            SurfaceItem::Let(name, _, _) => {
+                self.lets.add(alloc, &name.name, index)?;
+                self.all.add(alloc, &name.name, index)?;
+            }
+            SurfaceItem::Kernel(name, _, _) => self.all.add(alloc, &name.name, index)?,
+        }
+        Ok(())
+    }
+}

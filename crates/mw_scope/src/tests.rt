@@ -1,0 +1,184 @@
+// A table of worked programs.
+
+ghost use Rattle.std.specs.Prelude.{◌≡◌, ◌≤◌, ◌-◌, ◌^◌, IsTrue, map, min};
+ghost use Rattle.mw_parse.specs.SurfaceTrees.{item_of, surface_of, tree_of};
+ghost use Rattle.mw_parse.specs.SurfaceDepth.{AreShallow, IsShallow, bound_tree, surface_depth};
+
+mod table;
+
+use super::*;
+use crate::tests::table::{ROWS, Step};
+use mw_parse::{Placed, SurfaceItem, SurfaceItems, Tree};
+use mw_term::{Base, KType, Name, Prim};
+use std::test::Fail;
+
+fn name(alloc: Global, bytes: &[u8]) -> Result<Name, Fail> {
+    let mut name = Name::new(alloc);
+    for byte in bytes {
+        name.push(*byte)?;
+    }
+    Ok(name)
+}
+
+fn taken(alloc: Global, stack: &mut Vec<Tree>) -> Result<Box<Tree>, Fail> {
+    let tree = stack.pop().ok_or("no part is left")?;
+    Ok(Box::new(alloc, tree)?)
+}
+
+/// The form of a step, with its parts from the stack.
+fn form(alloc: Global, stack: &mut Vec<Tree>, step: Step) -> Result<Tree, Fail> {
+    let int = KType::Base(Base::Int);
+    match step {
+        Step::Int(n) => Ok(Tree::Int(n)),
+        Step::Used(x, at) => Ok(Tree::Used(Placed {
+            name: name(alloc, x)?,
+            at,
+        })),
+        Step::Fun(x) => Ok(Tree::Fun(name(alloc, x)?, taken(alloc, stack)?)),
+        Step::Rec(f, x) => Ok(Tree::Rec(name(alloc, f)?, name(alloc, x)?, taken(alloc, stack)?)),
+        Step::Fst => Ok(Tree::Fst(taken(alloc, stack)?)),
+        Step::Bracket(at) => Ok(Tree::Bracket(at, taken(alloc, stack)?)),
+        Step::Escape(at) => Ok(Tree::Escape(at, taken(alloc, stack)?)),
+        Step::Run(at) => Ok(Tree::Run(at, int, taken(alloc, stack)?)),
+        Step::Close(at) => Ok(Tree::CloseCode(at, taken(alloc, stack)?)),
+        Step::Open(at) => Ok(Tree::OpenCode(at, taken(alloc, stack)?)),
+        Step::Lift(at) => Ok(Tree::Lift(at, taken(alloc, stack)?)),
+        Step::LiftB(at) => Ok(Tree::LiftB(at, taken(alloc, stack)?)),
+        _ => wide_form(alloc, stack, step),
+    }
+}
+
+/// The form of a step with two or three parts.
+fn wide_form(alloc: Global, stack: &mut Vec<Tree>, step: Step) -> Result<Tree, Fail> {
+    let last = taken(alloc, stack)?;
+    let before = taken(alloc, stack)?;
+    match step {
+        Step::App => Ok(Tree::App(before, last)),
+        Step::Let(x) => Ok(Tree::Let(name(alloc, x)?, before, last)),
+        Step::Pair => Ok(Tree::Pair(before, last)),
+        Step::Add => Ok(Tree::Prim(Prim::Add, before, last)),
+        _ => Ok(Tree::If(taken(alloc, stack)?, before, last)),
+    }
+}
+
+/// The program of some steps.
+fn surface(alloc: Global, steps: &[Step]) -> Result<Surface, Fail> {
+    let mut stack = Vec::new(alloc);
+    let mut items = SurfaceItems::new(alloc);
+    for step in steps {
+        match *step {
+            Step::Bind(x, at, from) => {
+                let bound = stack.pop().ok_or("no definition")?;
+                items.push(SurfaceItem::Let(
+                    Placed {
+                        name: name(alloc, x)?,
+                        at,
+                    },
+                    from,
+                    bound,
+                ))?;
+            }
+            Step::Kernel(x, at) => {
+                let code = stack.pop().ok_or("no code")?;
+                items.push(SurfaceItem::Kernel(
+                    Placed {
+                        name: name(alloc, x)?,
+                        at,
+                    },
+                    KType::Base(Base::Int),
+                    code,
+                ))?;
+            }
+            other => {
+                let tree = form(alloc, &mut stack, other)?;
+                stack.push(tree)?;
+            }
+        }
+    }
+    let body = stack.pop().ok_or("no body")?;
+    Ok(Surface {
+        items,
+        result: Base::Int,
+        body,
+    })
+}
+
+/// The nodes on a tree's longest path.
+fn depth(tree: &Tree) -> u32
+    ensures { result ≡ min (surface_depth (tree_of tree.now)) (2 ^ 32 - 1) }
+{
+    match tree {
+        Tree::Int(_) | Tree::Bool(_) | Tree::Used(_) => 1,
+        Tree::Fun(_, e) | Tree::Rec(_, _, e) | Tree::Fst(e) | Tree::Snd(e) => {
+            depth(e).saturating_add(1)
+        }
+        Tree::App(a, b) | Tree::Let(_, a, b) | Tree::Pair(a, b) | Tree::Prim(_, a, b) => {
+            depth(a).max(depth(b)).saturating_add(1)
+        }
+        Tree::If(c, a, b) => depth(c).max(depth(a).max(depth(b))).saturating_add(1),
+        Tree::Bracket(_, e) | Tree::Escape(_, e) | Tree::Run(_, _, e) => {
+            depth(e).saturating_add(1)
+        }
+        Tree::CloseCode(_, e) | Tree::OpenCode(_, e) | Tree::Lift(_, e) | Tree::LiftB(_, e) => {
+            depth(e).saturating_add(1)
+        }
+    }
+}
+
+/// Whether an item is within the bound that reading keeps.
+fn is_shallow_item(item: &SurfaceItem) -> bool
+    ensures { IsTrue result → surface_depth (bound_tree (item_of item.now)) ≤ 200 }
+{
+    match item {
+        SurfaceItem::Let(_, _, tree) => depth(tree) <= 200,
+        SurfaceItem::Kernel(_, _, tree) => depth(tree) <= 200,
+    }
+}
+
+/// Whether items are.
+fn are_shallow(list: &[SurfaceItem]) -> bool
+    ensures { IsTrue result → AreShallow (map item_of list.now) }
+{
+    for item in list {
+        if !is_shallow_item(item) {
+            return false;
+        }
+    }
+    true
+}
+
+/// Whether a program is.
+fn is_shallow(surface: &Surface) -> bool
+    ensures { IsTrue result → IsShallow (surface_of surface.now) }
+{
+    let list = surface.items.as_slice();
+    list.len() <= 1000 && depth(&surface.body) <= 200 && are_shallow(list)
+}
+
+/// The items' terms and the body's, or the refusal.
+fn shown(alloc: Global, surface: &Surface) -> Result<String, Fail> {
+    if !is_shallow(surface) {
+        return Ok(String::from_str(alloc, "too deep")?);
+    }
+    let program = match resolve(alloc, surface) {
+        Ok(program) => program,
+        Err(stop) => return Ok(format!(in alloc; "{stop:?}")?),
+    };
+    let mut text = String::new(alloc);
+    for item in program.items.as_slice() {
+        let kind = &item.kind;
+        write!(text, "{kind:?}; ")?;
+    }
+    let body = &program.body;
+    write!(text, "{body:?}")?;
+    Ok(text)
+}
+
+#[test]
+fn rows(rt: HostRuntime) -> Result<(), Fail> {
+    for (steps, expected) in ROWS {
+        let surface = surface(rt.alloc(), steps)?;
+        assert_eq!(rt; shown(rt.alloc(), &surface)?.as_str(), expected);
+    }
+    Ok(())
+}
