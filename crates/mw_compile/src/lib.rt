@@ -6,6 +6,8 @@ mod emission;
 mod entry;
 mod generate;
 mod steps;
+#[cfg(test)]
+mod tests;
 
 pub use crate::emission::emit;
 pub use crate::entry::Entry;

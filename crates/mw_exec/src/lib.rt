@@ -6,6 +6,8 @@ mod ended;
 mod exports;
 mod instance;
 mod segments;
+#[cfg(test)]
+mod tests;
 
 pub use crate::ended::{Ended, InstanceFault};
 pub use crate::instance::Instance;
