@@ -25,21 +25,21 @@ typed_before : (context : Context) (c : Expression) → IsSumCode c → (below :
 typed_before context (num n) sum below rest outs h = of_next below [] (I64 ∷ []) of_const_i64 (sym (append-nil below)) h
 typed_before context (prim Add a b) sum below rest outs h =
     subst (λ code. CodeHasType context code below outs) (sym (before_append (instructions a) (instructions b ++ numeric (number.I64 op.Add) ∷ []) rest ∙ ap (λ code. before (instructions a) code) (before_append (instructions b) (numeric (number.I64 op.Add) ∷ []) rest)))
-        (typed_before context a sum.0 below _ outs (typed_before context b sum.1 (below ++ I64 ∷ []) _ outs
-            (of_next below (I64 ∷ I64 ∷ []) (I64 ∷ []) (of_numeric refl refl) (append_assoc below (I64 ∷ []) (I64 ∷ [])) h)))
+    (typed_before context a sum.0 below _ outs (typed_before context b sum.1 (below ++ I64 ∷ []) _ outs
+    (of_next below (I64 ∷ I64 ∷ []) (I64 ∷ []) (of_numeric refl refl) (append_assoc below (I64 ∷ []) (I64 ∷ [])) h)))
 typed_before context _ sum below rest outs h = absurd (sum)
 
 pub emitted_valid : (c : Expression) → IsSumCode c → IsValid (emitted c)
 emitted_valid c sum =
     let within : Context = record (context_of (emitted c)) { locals = []; labels = (I64 ∷ []) ∷ []; results = I64 ∷ [] } in
     record {
-  types = (omega arith, (omega arith, tt));
-  funcs = ((init_function, refl, subst (λ code. CodeHasType within code [] (I64 ∷ [])) (before_end (instructions c)) (typed_before within c sum [] end (I64 ∷ []) of_end)), tt);
-  table = (omega arith, (omega arith, omega arith));
-  memory = (omega arith, (omega arith, omega arith));
-  globals = (tt, tt);
-  exports = (omega arith, tt);
-  names = (tt, tt);
-  elements = tt;
-  segments = tt;
-}
+      types = (omega arith, (omega arith, tt));
+      funcs = ((init_function, refl, subst (λ code. CodeHasType within code [] (I64 ∷ [])) (before_end (instructions c)) (typed_before within c sum [] end (I64 ∷ []) of_end)), tt);
+      table = (omega arith, (omega arith, omega arith));
+      memory = (omega arith, (omega arith, omega arith));
+      globals = (tt, tt);
+      exports = (omega arith, tt);
+      names = (tt, tt);
+      elements = tt;
+      segments = tt;
+    }

@@ -41,7 +41,7 @@ pub record Computes (c : Expression) : Type 0 where
   pub fits : FitsSigned w64 value
   pub means : (n h : ℕ) → kernel_meaning n h c ≡ gives (int value) n h
   pub runs : (m : PureModule) (n : ℕ) (st : Store) (ls vs : List Value) (rest : Code) (around : List Around)
-    → run m n (at st ls vs (before (instructions c) rest) around) ≡ run m n (at st ls (I64 (cast_unsigned w64 value) ∷ vs) rest around)
+      → run m n (at st ls vs (before (instructions c) rest) around) ≡ run m n (at st ls (I64 (cast_unsigned w64 value) ∷ vs) rest around)
 
 -- the sum of two's complements is that of the sum
 sum_of_words : (x y : ℤ) → FitsSigned w64 x → FitsSigned w64 y → (cast_unsigned w64 x + cast_unsigned w64 y) % 2 ^ 64 ≡ cast_unsigned w64 (int_wrap w64 (x +ℤ y))

@@ -20,7 +20,12 @@ use std::sync::ledger::Ledger;
 
 /// The entry of a kernel's code, within the limits of kernels, at the type `int`: its module and the module's bytes. One
 /// emission is counted. Code of literals and sums alone is emitted today.
-pub fn emit<L: Ledger>(alloc: Global, code: &Term, kind: &KType, steps: &mut Steps<L>) -> Result<Entry, AllocError>
+pub fn emit<L: Ledger>(
+    alloc: Global,
+    code: &Term,
+    kind: &KType,
+    steps: &mut Steps<L>,
+) -> Result<Entry, AllocError>
     requires sum { IsSumCode (expression_of code.now) }
     requires limits { within_limits (expression_of code.now) ≡ true }
     requires int { kernel_type_of kind.now ≡ base Int }

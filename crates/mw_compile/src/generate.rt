@@ -10,8 +10,8 @@ ghost use Rattle.mw_compile.specs.Emission.{instructions, emitted, closure_funct
 
 use mw_term::{Prim, Term};
 use mw_wasm::{
-    Elements, Export, Exported, Exports, Func, FuncType, FuncTypes, Funcs, GlobalVar, Globals, Instr,
-    Instrs, IntOp, Limits, Module, NumOp, Octets, Segments, ValType, ValTypes,
+    Elements, Export, Exported, Exports, Func, FuncType, FuncTypes, Funcs, GlobalVar, Globals,
+    Instr, Instrs, IntOp, Limits, Module, NumOp, Octets, Segments, ValType, ValTypes,
 };
 use std::alloc::{AllocError, Global};
 
@@ -27,7 +27,10 @@ pub fn generate(alloc: Global, code: &Term) -> Result<Module, AllocError>
     Ok(Module {
         types: types(alloc)?,
         funcs: funcs(alloc, code)?,
-        table: Some(Limits { min: 0, max: Some(0) }),
+        table: Some(Limits {
+            min: 0,
+            max: Some(0),
+        }),
         memory: Some(Limits {
             min: PAGES,
             max: Some(PAGES),

@@ -62,4 +62,4 @@ invocation_ends wasm name args g t us result fuel f found goes few is e =
     let as_run = invoked_is_run (module_of wasm) (store_of wasm) found.index args fuel (function_of g) t (function_there wasm found.index g found.is_function) found.is_type in
     let runs = as_run ∙ (goes.goes (module_of wasm) fuel (store_of wasm) ls around ∙ leaves_all (module_of wasm) fuel k (store_of wasm) ls (reverse us)) in
     subst (λ f. EndsAs (ends.Ended result fuel) (store_of wasm) (invoked (module_of wasm) (store_of wasm) f args fuel)) same
-        (ended_as wasm result us fuel _ runs (ap values_of is ∙ at_most_one us few))
+    (ended_as wasm result us fuel _ runs (ap values_of is ∙ at_most_one us few))

@@ -66,7 +66,13 @@ impl Instance {
 
     /// The invocation of the function that is exported under a name, with arguments of its parameters' types and so many
     /// units. Straight code spends none.
-    pub fn invoke(&mut self, alloc: Global, name: &[u8], args: &[Value], fuel: u64) -> Result<Ended, AllocError>
+    pub fn invoke(
+        &mut self,
+        alloc: Global,
+        name: &[u8],
+        args: &[Value],
+        fuel: u64,
+    ) -> Result<Ended, AllocError>
         requires can { CanInvoke self.old name.now args.now }
         ensures same { self.new ≡ self.old }
         ensures ends { IfOk result (λ end. (f : ℕ) → exported (module_of self.old) name.now ≡ Some f

@@ -25,11 +25,10 @@ mod words;
 
 use crate::first::parse::file;
 use crate::first::scan::scan;
-use mw_term::{Base, Items, Program, Refusal, Stop};
-use std::alloc::Global;
-
 pub use crate::reader::parse;
 pub use crate::tree::{Placed, Surface, SurfaceItem, SurfaceItems, Tree};
+use mw_term::{Base, Items, Program, Refusal, Stop};
+use std::alloc::Global;
 
 /// Reads a file of the first grammar, of at most 256 bytes: the program that the bytes derive, or that they derive
 /// none.

@@ -22,6 +22,6 @@ pub returns-clause-ends : goal.returns-clause-ends
 returns-clause-ends c = λ f e.
     let found = subst (λ w. IsFunctionAt w c.args.name.now c.in-Some.function.now c.in-Some.field-0-1.now) (c.module.ensures.«module» ∙ (c.deref.ensures ∙ c.self.view_is)) c.in-Some.ensures.some in
     invocation_ends c.args.self.now c.args.name.now c.args.args.now c.in-Some.function.now c.in-Some.field-0-1.now c.in_ok-values.values.items c.first_of.result c.args.fuel f found
-        (subst (λ xs. GoesOn (list_code xs) [] end c.in_ok-values.values.items) c.as_slice.ensures c.in_ok-values.ensures.goes)
-        (few_values c.args.self.now c.args.name.now c.in-Some.function.now c.in-Some.field-0-1.now c.in_ok-values.values.items (subst IsReady c.self.view_is c.self.invariant).kept.valid found (subst (λ xs. StaysTyped (list_code xs) [] end c.in_ok-values.values.items) c.as_slice.ensures c.in_ok-values.ensures.typed))
-        (c.first_of.ensures ∙ ap (λ us. slice_get us 0) c.as_slice-2.ensures.value) e
+    (subst (λ xs. GoesOn (list_code xs) [] end c.in_ok-values.values.items) c.as_slice.ensures c.in_ok-values.ensures.goes)
+    (few_values c.args.self.now c.args.name.now c.in-Some.function.now c.in-Some.field-0-1.now c.in_ok-values.values.items (subst IsReady c.self.view_is c.self.invariant).kept.valid found (subst (λ xs. StaysTyped (list_code xs) [] end c.in_ok-values.values.items) c.as_slice.ensures c.in_ok-values.ensures.typed))
+    (c.first_of.ensures ∙ ap (λ us. slice_get us 0) c.as_slice-2.ensures.value) e
