@@ -1,0 +1,45 @@
+use Rattle.std.proofs.Common.{[], ap, arith}
+use Rattle.mw_term.specs.Terms.{expression_of}
+use Rattle.mw_term.specs.Types.{live}
+use Rattle.mw_types.specs.Types.{type_of}
+use Rattle.mw_types.specs.Solutions.{substitution_of}
+use Rattle.mw_types.specs.declared.types.Ty.TheVariants.{Int}
+use Rattle.mw_infer.specs.Inferring.{item_unknowns, item_classifiers}
+use Rattle.mw_infer.specs.Judging.{place_of}
+use Rattle.mw_infer.specs.Views.{tops_of}
+use Rattle.mw_infer.proofs.FirstOpen.{closes-below}
+use Rattle.mw_infer.proofs.Items.{item-within}
+use Rattle.mw_infer.proofs.Testing.{read}
+use Rattle.mw_infer.proofs.judge.judge.Goals as goal
+
+pub solve-requires : goal.solve-requires
+solve-requires c =
+    let e = c.in_ok-out.ensures in
+    record { within = rw (e.unknowns, e.classifiers, e.equations) (item-within (tops_of c.args.names.now) (place_of c.args.asked.now) (expression_of c.args.term.now) c.requires.own) }
+
+pub first_open-requires : goal.first_open-requires
+first_open-requires c =
+    let e = c.in_ok-out.ensures in
+    let tops = tops_of c.args.names.now in
+    let term = expression_of c.args.term.now in
+    rw (c.in-Ok.ensures.types, c.in-Ok.ensures.classifiers, e.unknowns, e.classifiers, c.as_slice.ensures.value, e.closes) (closes-below tops (item_unknowns tops term) (item_classifiers tops term) 1 0 [] live term (omega arith) (omega arith) tt tt)
+
+pub let_type-requires-clause-within : goal.let_type-requires-clause-within
+let_type-requires-clause-within c =
+    let e = c.in_ok-out.ensures in
+    let p = ap (λ t. type_of t) (read c.in-Ok.solved.types 0 Int c.ty.result.now c.ty.ensures) in
+    rw p at (c.in-Ok.ensures.within.types 0 (rw e.unknowns (omega arith)))
+
+pub returns-in-Ok : goal.returns-in-Ok
+returns-in-Ok c =
+    let e = c.in_ok-out.ensures in
+    let p = ap (λ t. type_of t) (read c.in-Ok.solved.types 0 Int c.ty.result.now c.ty.ensures) in (
+      substitution_of c.in-Ok.solved,
+      record {
+        general = rw (e.unknowns, e.classifiers, e.equations) at c.in-Ok.ensures.most_general;
+        small = rw e.unknowns at c.in-Ok.ensures.small;
+        within = rw (e.unknowns, e.classifiers) at c.in-Ok.ensures.within;
+      },
+      rw (c.as_slice.ensures.value, e.closes) at c.in_default.ensures,
+      rw p c.in_ok-let_type-in-Ok.ensures,
+    )

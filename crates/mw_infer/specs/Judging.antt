@@ -1,0 +1,54 @@
+-- What is judged of an item's equations and closes.
+use Rattle.std.specs.Prelude.{ℕ, ◌≡◌, ◌≤◌, ◌^◌, false, List, [], map}
+use Rattle.mw_term.specs.Terms.{Expression, kernel_type_of}
+use Rattle.mw_types.specs.Types.{Substitution, after}
+use Rattle.mw_types.specs.Equations.{equations_of, MostGeneral, IsSmall, StaysWithin, FirstUnsolvable, FirstTooBig}
+use Rattle.mw_infer.specs.declared.judge.Verdict.{Verdict}
+use Rattle.mw_infer.specs.declared.judge.Verdict.TheVariants.{Fine, IllTyped, TooBig, NotClosed}
+use Rattle.mw_infer.specs.declared.own.Asked.{Asked}
+use Rattle.mw_infer.specs.declared.own.Asked.TheVariants.{Anything, Kernel, Main}
+use Rattle.mw_infer.specs.Schemes.{TopScheme, AreOwn}
+use Rattle.mw_infer.specs.ItemEquations.{Close}
+use Rattle.mw_infer.specs.Inferring.{item_unknowns, item_classifiers, item_closes, Place, let_place, kernel_place, main_place, item_equations, AreFresh, least}
+use Rattle.mw_infer.specs.Checking.{IsFirstOpen}
+use Rattle.mw_infer.specs.Numbering.{IsRenumbering}
+use Rattle.mw_infer.specs.Scoped.{IsScoped, has_scheme}
+use Rattle.mw_infer.specs.declared.output.Output.{Output}
+use Rattle.mw_infer.specs.Emitting.{AreLow, close_of}
+use Rattle.mw_infer.specs.Views.{scheme_of}
+
+abbrev pub place_of : Asked → Place
+place_of Anything = let_place
+place_of (Kernel k) = kernel_place (kernel_type_of k.now)
+place_of (Main b) = main_place b
+
+-- a closed term can be judged with these schemes
+pub record CanJudge (schemes : List TopScheme) (e : Expression) : Type 0 where
+  pub scoped : IsScoped (map has_scheme schemes) [] false e
+  pub own : AreOwn schemes
+  pub low : AreLow schemes
+  pub unknowns : item_unknowns schemes e ≤ 2 ^ 63
+  pub classifiers : item_classifiers schemes e ≤ 2 ^ 63
+
+-- the offset of the first close that is not fresh
+abbrev pub IsFirstOpenAt : Substitution → List Close → ℕ → Type 0
+IsFirstOpenAt s xs at = (y : Close) × IsFirstOpen s xs y × (at ≡ y.at)
+
+-- a most general solution of an item's equations, on its own numbers, in which no type is too big
+pub record IsItemSolution (schemes : List TopScheme) (place : Place) (e : Expression) (s : Substitution) : Type 0 where
+  pub general : MostGeneral (item_unknowns schemes e) (item_classifiers schemes e) (item_equations schemes place e) s
+  pub small : IsSmall (item_unknowns schemes e) s
+  pub within : StaysWithin (item_unknowns schemes e) (item_classifiers schemes e) s
+
+abbrev pub Judges : List TopScheme → Place → Expression → Verdict → Type 0
+Judges schemes place e (Fine l) = (s : Substitution) × IsItemSolution schemes place e s × AreFresh (after least s) (item_closes schemes e) × IsRenumbering (s.ty 0) (scheme_of l)
+Judges schemes place e IllTyped = (k : ℕ) × FirstUnsolvable (item_unknowns schemes e) (item_classifiers schemes e) (item_equations schemes place e) k
+Judges schemes place e TooBig = (k : ℕ) × FirstTooBig (item_unknowns schemes e) (item_classifiers schemes e) (item_equations schemes place e) k
+Judges schemes place e (NotClosed at) = (s : Substitution) × IsItemSolution schemes place e s × IsFirstOpenAt s (item_closes schemes e) at
+
+-- what is emitted for an item
+pub record IsEmitted (schemes : List TopScheme) (place : Place) (e : Expression) (out : Output) : Type 0 where
+  pub unknowns : out.unknowns ≡ item_unknowns schemes e
+  pub classifiers : out.classifiers ≡ item_classifiers schemes e
+  pub equations : equations_of out.pairs ≡ item_equations schemes place e
+  pub closes : map close_of out.closes.items ≡ item_closes schemes e

@@ -1,0 +1,13 @@
+pub mod Schemes
+pub mod ItemEquations
+pub mod Below
+pub mod Sources
+pub mod Inferring
+pub mod Scoped
+pub mod Checking
+pub mod InferenceLaws
+pub mod Views
+pub mod Emitting
+pub mod Numbering
+pub mod Judging
+pub mod Progress

@@ -1,0 +1,50 @@
+-- How far the check of a program has come.
+use Rattle.std.specs.Prelude.{ℕ, zero, suc, ◌≡◌, ◌≤◌, ◌<◌, List, [], ◌∷◌, ◌++◌}
+use Rattle.mw_term.specs.Terms.{Expression}
+use Rattle.mw_term.specs.Programs.{Definition, value, kernel, PureProgram}
+use Rattle.mw_term.specs.declared.refusal.Refusal.{Refusal}
+use Rattle.mw_types.specs.Types.{TypeExpression, int_ty, closed_ty}
+use Rattle.mw_term.specs.Typable.{seen_by_item}
+use Rattle.mw_infer.specs.Schemes.{TopScheme, let_scheme, kernel_scheme, no_scheme, kernel_expression}
+use Rattle.mw_infer.specs.Inferring.{Place, let_place, kernel_place}
+use Rattle.mw_infer.specs.Checking.{Part, IsPart, ArePrincipal, TypeFault, HasFault, IsFaultless, refusal_of}
+use Rattle.mw_infer.specs.Judging.{Judges}
+use Rattle.mw_infer.specs.Views.{scheme_of}
+use Rattle.mw_infer.specs.declared.judge.Verdict.TheVariants.{Fine}
+use Rattle.mw_infer.specs.declared.names.LetType.{LetType}
+
+-- each let's type has at most 10,000 unknowns and classifier unknowns
+abbrev pub AreModest : List TopScheme → Type 0
+AreModest [] = Unit {0}
+AreModest (let_scheme s ∷ schemes) = ((s.unknowns ≤ 10000) × (s.classifiers ≤ 10000)) × AreModest schemes
+AreModest (kernel_scheme k ∷ schemes) = AreModest schemes
+AreModest (no_scheme ∷ schemes) = AreModest schemes
+
+-- the first i items are without fault, and these are the schemes that the next one sees
+pub record Progress (p : PureProgram) (i : ℕ) (schemes : List TopScheme) : Type 0 where
+  pub principal : ArePrincipal (seen_by_item p.items i) schemes
+  pub modest : AreModest schemes
+  pub earlier : (j : ℕ) (x : Part) → j < i → IsPart p j x → IsFaultless x
+
+-- the refusal is that of a fault of the term at its place, where it is part i
+abbrev pub IsFaultOf : List TopScheme → Place → Expression → ℕ → Refusal → Type 0
+IsFaultOf schemes place e i r = (f : TypeFault) × HasFault schemes place e f × (r ≡ refusal_of i f)
+
+-- behind an item that is without fault there are these schemes
+abbrev pub Steps : List TopScheme → Definition → List TopScheme → Type 0
+Steps schemes (value e) new = (l : LetType) × Judges schemes let_place e (Fine l) × (new ≡ schemes ++ (let_scheme (scheme_of l) ∷ []))
+Steps schemes (kernel k e) new = (l : LetType) × Judges schemes (kernel_place k) e (Fine l) × (new ≡ schemes ++ (no_scheme ∷ []))
+
+-- the schemes with those of the kernel items among the first n
+abbrev pub revealed_to : ℕ → List Definition → List TopScheme → List TopScheme
+revealed_to zero items schemes = schemes
+revealed_to (suc n) [] schemes = schemes
+revealed_to (suc n) (d ∷ items) [] = []
+revealed_to (suc n) (value e ∷ items) (s ∷ schemes) = s ∷ revealed_to n items schemes
+revealed_to (suc n) (kernel k e ∷ items) (s ∷ schemes) = kernel_scheme k ∷ revealed_to n items schemes
+
+-- the type of a name
+abbrev pub type_of_scheme : TopScheme → TypeExpression
+type_of_scheme (let_scheme s) = s.type
+type_of_scheme (kernel_scheme k) = closed_ty (kernel_expression k)
+type_of_scheme no_scheme = int_ty

@@ -1,0 +1,154 @@
+// The equations of a term, in pre-order.
+
+ghost use Rattle.std.specs.Prelude.{◌≡◌, [], ◌∷◌, IsTrue, OnOk};
+ghost use Rattle.mw_term.specs.Terms.{expression_of};
+ghost use Rattle.mw_infer.specs.ItemEquations.{slot};
+ghost use Rattle.mw_term.specs.Types.{under};
+ghost use Rattle.mw_infer.specs.Scoped.{is_quoted};
+ghost use Rattle.mw_infer.specs.Emitting.{Adds, AddsTerm, CanEmit};
+ghost use Rattle.mw_infer.specs.Views.{level_at, slot_of, slots_of, tops_of};
+
+use crate::names::Known;
+use crate::output::{Output, Spot, equate};
+use crate::own;
+use crate::scope::{Binder, Scope, Stage, find, listed};
+use mw_term::Term;
+use mw_types::Ty;
+use std::alloc::{AllocError, Global};
+
+/// A binder at the level where it stands.
+fn bound(stage: Stage, unknown: u64) -> Binder
+    ensures { slot_of result ≡ slot (level_at stage) unknown }
+{
+    match stage {
+        Stage::Live => Binder::Plain(unknown),
+        Stage::Under(classifier) => Binder::Quoted(classifier, unknown),
+    }
+}
+
+/// The equations and closes of a term of type `own`.
+pub fn emit(
+    term: &Term,
+    alloc: Global,
+    names: &[Known],
+    scope: &Scope,
+    stage: Stage,
+    own: u64,
+    out: &mut Output,
+) -> Result<(), AllocError>
+    requires { CanEmit out.old (tops_of names.now) (slots_of scope.now) (level_at stage) (expression_of term.now) }
+    ensures { OnOk result (AddsTerm out.old out.new (tops_of names.now) own (slots_of scope.now) (level_at stage) (expression_of term.now)) }
+{
+    let o = out.unknowns;
+    let c = out.classifiers;
+    match term {
+        Term::Int(_) => equate(out, Ty::Unknown(own), Ty::Int),
+        Term::Bool(_) => equate(out, Ty::Unknown(own), Ty::Bool),
+        Term::Var(number) => own::variable(alloc, out, own, stage, find(scope, *number)),
+        Term::Glob(index) => own::name(alloc, names, out, own, *index),
+        Term::Fun(e) => {
+            own::lambda(alloc, out, own)?;
+            let inner = Scope::Bound(bound(stage, o), &*scope);
+            emit(e, alloc, names, &inner, stage, o + 1, out)
+        }
+        Term::Rec(e) => {
+            own::recursive(alloc, out, own)?;
+            let outer = Scope::Bound(bound(stage, o + 1), &*scope);
+            let inner = Scope::Bound(bound(stage, o), &outer);
+            emit(e, alloc, names, &inner, stage, o + 2, out)
+        }
+        Term::App(f, a) => {
+            own::application(alloc, out, own)?;
+            emit(f, alloc, names, scope, stage, o, out)?;
+            emit(a, alloc, names, scope, stage, o + 1, out)
+        }
+        Term::Let(d, e) => {
+            own::binding(out, own)?;
+            emit(d, alloc, names, scope, stage, o + 1, out)?;
+            let inner = Scope::Bound(bound(stage, o), &*scope);
+            emit(e, alloc, names, &inner, stage, o + 2, out)
+        }
+        Term::If(p, a, b) => {
+            own::condition(out, own)?;
+            emit(p, alloc, names, scope, stage, o, out)?;
+            emit(a, alloc, names, scope, stage, o + 1, out)?;
+            emit(b, alloc, names, scope, stage, o + 2, out)
+        }
+        Term::Pair(a, b) => {
+            own::pairing(alloc, out, own)?;
+            emit(a, alloc, names, scope, stage, o, out)?;
+            emit(b, alloc, names, scope, stage, o + 1, out)
+        }
+        Term::Fst(e) => {
+            own::first_part(alloc, out, own)?;
+            emit(e, alloc, names, scope, stage, o + 1, out)
+        }
+        Term::Snd(e) => {
+            own::second_part(alloc, out, own)?;
+            emit(e, alloc, names, scope, stage, o + 1, out)
+        }
+        Term::Prim(prim, a, b) => {
+            own::operation(out, own, *prim)?;
+            emit(a, alloc, names, scope, stage, o, out)?;
+            emit(b, alloc, names, scope, stage, o + 1, out)
+        }
+        Term::Bracket(e) => {
+            own::bracket(alloc, out, own)?;
+            emit(e, alloc, names, scope, Stage::Under(c), o, out)
+        }
+        Term::Escape(e) => {
+            own::escape(alloc, out, own, classifier_of(stage))?;
+            emit(e, alloc, names, scope, Stage::Live, o, out)
+        }
+        Term::Run(kind, e) => {
+            own::run(alloc, out, own, kind)?;
+            emit(e, alloc, names, scope, stage, o, out)
+        }
+        Term::CloseCode(at, e) => {
+            own::close(alloc, out, own)?;
+            close_here(alloc, out, *at, c, scope)?;
+            emit(e, alloc, names, scope, stage, o + 1, out)
+        }
+        Term::OpenCode(e) => {
+            own::open(alloc, out, own)?;
+            emit(e, alloc, names, scope, stage, o + 1, out)
+        }
+        Term::Lift(e) => {
+            own::lift(alloc, out, own)?;
+            emit(e, alloc, names, scope, stage, o, out)
+        }
+        Term::LiftB(e) => {
+            own::lift_truth(alloc, out, own)?;
+            emit(e, alloc, names, scope, stage, o, out)
+        }
+    }
+}
+
+/// The classifier unknown of level 1.
+fn classifier_of(stage: Stage) -> u64
+    ensures { IsTrue (is_quoted (level_at stage)) → level_at stage ≡ under result }
+{
+    match stage {
+        Stage::Live => 0,
+        Stage::Under(classifier) => classifier,
+    }
+}
+
+/// A close in these binders.
+fn close_here(
+    alloc: Global,
+    out: &mut Output,
+    at: u32,
+    classifier: u64,
+    scope: &Scope,
+) -> Result<(), AllocError>
+    ensures { OnOk result (Adds out.old out.new 0 0 [] (record { at = at; classifier = classifier; scope = slots_of scope.now } ∷ [])) }
+{
+    let scope = listed(alloc, scope)?;
+    out.closes.push(Spot {
+        at,
+        classifier,
+        scope,
+    })?;
+    Ok(())
+}

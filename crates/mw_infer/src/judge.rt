@@ -1,0 +1,96 @@
+// One item: its equations, their solution, and the tests of its closes.
+
+ghost use Rattle.std.specs.Prelude.{[], IfOk, OnOk};
+ghost use Rattle.mw_term.specs.Terms.{expression_of};
+ghost use Rattle.mw_infer.specs.Emitting.{Adds};
+ghost use Rattle.mw_infer.specs.Inferring.{own_equations};
+ghost use Rattle.mw_infer.specs.Judging.{CanJudge, IsEmitted, Judges, place_of};
+ghost use Rattle.mw_infer.specs.Views.{tops_of};
+
+use crate::build::{base_ty, closed, kernel_ty};
+use crate::emit::emit;
+use crate::fresh::first_open;
+use crate::names::{Known, LetType};
+use crate::output::{Output, equate};
+use crate::own::Asked;
+use crate::renumber::let_type;
+use crate::scope::{Scope, Stage};
+use mw_term::Term;
+use mw_types::{Equations, Pairs, SolveFault, Ty, solve};
+use std::alloc::{AllocError, Global};
+
+/// What is judged of an item: its most general type, or its fault.
+#[derive(Debug, Drop)]
+pub enum Verdict {
+    Fine(LetType),
+    IllTyped,
+    TooBig,
+    /// With the offset of the `close`.
+    NotClosed(u32),
+}
+
+/// An item's own equation, on unknown 0.
+fn ask(alloc: Global, out: &mut Output, asked: &Asked) -> Result<(), AllocError>
+    ensures { OnOk result (Adds out.old out.new 0 0 (own_equations (place_of asked.now)) []) }
+{
+    match asked {
+        Asked::Anything => Ok(()),
+        Asked::Kernel(kind) => {
+            let inner = kernel_ty(alloc, kind)?;
+            let ty = closed(alloc, inner)?;
+            equate(out, Ty::Unknown(0), ty)
+        }
+        Asked::Main(base) => equate(out, Ty::Unknown(0), base_ty(*base)),
+    }
+}
+
+/// The equations and closes of an item.
+fn emitted(alloc: Global, names: &[Known], asked: &Asked, term: &Term) -> Result<Output, AllocError>
+    requires { CanJudge (tops_of names.now) (expression_of term.now) }
+    ensures { IfOk result (IsEmitted (tops_of names.now) (place_of asked.now) (expression_of term.now)) }
+{
+    let mut out = Output {
+        unknowns: 1,
+        classifiers: 0,
+        pairs: Pairs::new(alloc),
+        closes: Vec::new(alloc),
+    };
+    ask(alloc, &mut out, asked)?;
+    emit(term, alloc, names, &Scope::Empty, Stage::Live, 0, &mut out)?;
+    Ok(out)
+}
+
+/// The most general type of an item, or its fault.
+pub fn judge(
+    alloc: Global,
+    names: &[Known],
+    asked: &Asked,
+    term: &Term,
+) -> Result<Verdict, AllocError>
+    requires { CanJudge (tops_of names.now) (expression_of term.now) }
+    ensures { IfOk result (Judges (tops_of names.now) (place_of asked.now) (expression_of term.now)) }
+{
+    let out = emitted(alloc, names, asked, term)?;
+    let Output {
+        unknowns,
+        classifiers,
+        pairs,
+        closes,
+    } = out;
+    let equations = Equations {
+        unknowns,
+        classifiers,
+        pairs,
+    };
+    match solve(alloc, &equations) {
+        Ok(solved) => {
+            if let Some(at) = first_open(closes.as_slice(), &solved) {
+                return Ok(Verdict::NotClosed(at));
+            }
+            Ok(Verdict::Fine(let_type(alloc, solved.ty(0), unknowns, classifiers)?))
+        }
+        Err(SolveFault::Unsolvable(_)) => Ok(Verdict::IllTyped),
+        Err(SolveFault::TooBig(_)) => Ok(Verdict::TooBig),
+        Err(SolveFault::Memory(error)) => Err(error),
+    }
+}

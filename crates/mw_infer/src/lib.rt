@@ -1,0 +1,49 @@
+//! Types of programs: each item's most general type, or the first item that has none.
+//!
+//! `specs/` has the equations of an item, and what their solutions say of its types.
+#![tactic(auto)]
+
+ghost use Rattle.std.specs.Prelude.{map, IfErr, IfOk};
+ghost use Rattle.mw_term.specs.Programs.{program_of};
+ghost use Rattle.mw_term.specs.Typable.{Typable};
+ghost use Rattle.mw_term.specs.declared.refusal.Refusal.{Refusal};
+ghost use Rattle.mw_types.specs.Types.{type_of};
+ghost use Rattle.mw_infer.specs.Checking.{AreTypesOf, IfRefused, IsFirstRefusal, IsRefusalOrMemory, IsResolved, IsTypedOrMemory, NoneTooBig};
+
+mod build;
+mod emit;
+mod fresh;
+mod judge;
+pub mod laws;
+mod names;
+mod output;
+mod own;
+mod program;
+mod renumber;
+mod scope;
+pub mod typed;
+
+use crate::program::{types_of, whole};
+pub use crate::typed::Typed;
+use mw_term::{Program, Stop};
+use std::alloc::Global;
+
+/// The most general types of a program's items and of main, where the program is typable and no type is too big; else its
+/// first refusal.
+pub fn check(alloc: Global, program: &Program) -> Result<Typed, Stop>
+    requires { IsResolved (program_of program.now) }
+    ensures typable { IfOk result (λ _. Typable (program_of program.now)) }
+    ensures small { IfOk result (λ _. NoneTooBig (program_of program.now)) }
+    ensures types { IfOk result (λ typed. AreTypesOf (program_of program.now) (map type_of typed)) }
+    ensures only { Typable (program_of program.now) → NoneTooBig (program_of program.now) → IsTypedOrMemory result }
+    ensures refused { IfErr result (λ stop. IfRefused stop (IsFirstRefusal (program_of program.now))) }
+    ensures first { (r : Refusal) → IsFirstRefusal (program_of program.now) r → IsRefusalOrMemory result r }
+{
+    match whole(alloc, program) {
+        Ok(names) => {
+            let types = types_of(alloc, names.as_slice(), program.result)?;
+            Ok(Typed { types })
+        }
+        Err(stop) => Err(stop),
+    }
+}

@@ -1,0 +1,311 @@
+// The equations of one node, behind which those of its parts come.
+
+ghost use Rattle.std.specs.Prelude.{◌≡◌, ◌+◌, [], ◌∷◌, OnOk, Some, slice_get};
+ghost use Rattle.std.specs.Option.{option_map};
+ghost use Rattle.mw_term.specs.Terms.{kernel_type_of};
+ghost use Rattle.mw_term.specs.Types.{live};
+ghost use Rattle.mw_types.specs.Types.{type_of, int_ty, bool_ty, unknown, pair_ty, function_ty, code_ty, closed_ty};
+ghost use Rattle.mw_infer.specs.Schemes.{kernel_expression, primitive_expression};
+ghost use Rattle.mw_infer.specs.ItemEquations.{classifiers_of_name, equation, name_equations, unknowns_of_name, variable_equations};
+ghost use Rattle.mw_infer.specs.Emitting.{Adds, AreLow, HasRoom};
+ghost use Rattle.mw_infer.specs.Views.{level_at, slot_of, top_of, tops_of};
+
+use crate::build::{closed, code, function, kernel_ty, pair, shift};
+use crate::names::Known;
+use crate::output::{Output, equate};
+use crate::scope::{Binder, Stage};
+use mw_term::{Base, KType, Prim};
+use mw_types::Ty;
+use std::alloc::{AllocError, Global};
+
+/// What the place of an item asks of its type.
+#[derive(Debug, Drop)]
+pub enum Asked<'p> {
+    Anything,
+    /// Closed code of a kernel type.
+    Kernel(&'p KType),
+    /// Main's base type.
+    Main(Base),
+}
+
+/// Makes so many numbers taken.
+fn take(out: &mut Output, unknowns: u64, classifiers: u64)
+    requires { HasRoom out.old unknowns classifiers }
+    ensures { Adds out.old out.new unknowns classifiers [] [] }
+{
+    out.unknowns += unknowns;
+    out.classifiers += classifiers;
+}
+
+/// A function of type `own`.
+pub fn lambda(alloc: Global, out: &mut Output, own: u64) -> Result<(), AllocError>
+    requires { HasRoom out.old 2 0 }
+    ensures { OnOk result (Adds out.old out.new 2 0 (equation (unknown own) (function_ty (unknown out.old.unknowns) (unknown (out.old.unknowns + 1))) ∷ []) []) }
+{
+    let o = out.unknowns;
+    take(out, 2, 0);
+    let ty = function(alloc, Ty::Unknown(o), Ty::Unknown(o + 1))?;
+    equate(out, Ty::Unknown(own), ty)
+}
+
+/// A recursive function of type `own`.
+pub fn recursive(alloc: Global, out: &mut Output, own: u64) -> Result<(), AllocError>
+    requires { HasRoom out.old 3 0 }
+    ensures { OnOk result (Adds out.old out.new 3 0 (equation (unknown (out.old.unknowns + 1)) (function_ty (unknown out.old.unknowns) (unknown (out.old.unknowns + 2))) ∷ equation (unknown own) (unknown (out.old.unknowns + 1)) ∷ []) []) }
+{
+    let o = out.unknowns;
+    take(out, 3, 0);
+    let ty = function(alloc, Ty::Unknown(o), Ty::Unknown(o + 2))?;
+    equate(out, Ty::Unknown(o + 1), ty)?;
+    equate(out, Ty::Unknown(own), Ty::Unknown(o + 1))
+}
+
+/// An application of type `own`.
+pub fn application(alloc: Global, out: &mut Output, own: u64) -> Result<(), AllocError>
+    requires { HasRoom out.old 2 0 }
+    ensures { OnOk result (Adds out.old out.new 2 0 (equation (unknown out.old.unknowns) (function_ty (unknown (out.old.unknowns + 1)) (unknown own)) ∷ []) []) }
+{
+    let o = out.unknowns;
+    take(out, 2, 0);
+    let ty = function(alloc, Ty::Unknown(o + 1), Ty::Unknown(own))?;
+    equate(out, Ty::Unknown(o), ty)
+}
+
+/// A let of type `own`.
+pub fn binding(out: &mut Output, own: u64) -> Result<(), AllocError>
+    requires { HasRoom out.old 3 0 }
+    ensures { OnOk result (Adds out.old out.new 3 0 (equation (unknown out.old.unknowns) (unknown (out.old.unknowns + 1)) ∷ equation (unknown own) (unknown (out.old.unknowns + 2)) ∷ []) []) }
+{
+    let o = out.unknowns;
+    take(out, 3, 0);
+    equate(out, Ty::Unknown(o), Ty::Unknown(o + 1))?;
+    equate(out, Ty::Unknown(own), Ty::Unknown(o + 2))
+}
+
+/// An `if` of type `own`.
+pub fn condition(out: &mut Output, own: u64) -> Result<(), AllocError>
+    requires { HasRoom out.old 3 0 }
+    ensures { OnOk result (Adds out.old out.new 3 0 (equation (unknown out.old.unknowns) bool_ty ∷ equation (unknown (out.old.unknowns + 1)) (unknown own) ∷ equation (unknown (out.old.unknowns + 2)) (unknown own) ∷ []) []) }
+{
+    let o = out.unknowns;
+    take(out, 3, 0);
+    equate(out, Ty::Unknown(o), Ty::Bool)?;
+    equate(out, Ty::Unknown(o + 1), Ty::Unknown(own))?;
+    equate(out, Ty::Unknown(o + 2), Ty::Unknown(own))
+}
+
+/// A pair of type `own`.
+pub fn pairing(alloc: Global, out: &mut Output, own: u64) -> Result<(), AllocError>
+    requires { HasRoom out.old 2 0 }
+    ensures { OnOk result (Adds out.old out.new 2 0 (equation (unknown own) (pair_ty (unknown out.old.unknowns) (unknown (out.old.unknowns + 1))) ∷ []) []) }
+{
+    let o = out.unknowns;
+    take(out, 2, 0);
+    let ty = pair(alloc, Ty::Unknown(o), Ty::Unknown(o + 1))?;
+    equate(out, Ty::Unknown(own), ty)
+}
+
+/// The first part, of type `own`, of a pair.
+pub fn first_part(alloc: Global, out: &mut Output, own: u64) -> Result<(), AllocError>
+    requires { HasRoom out.old 2 0 }
+    ensures { OnOk result (Adds out.old out.new 2 0 (equation (unknown (out.old.unknowns + 1)) (pair_ty (unknown own) (unknown out.old.unknowns)) ∷ []) []) }
+{
+    let o = out.unknowns;
+    take(out, 2, 0);
+    let ty = pair(alloc, Ty::Unknown(own), Ty::Unknown(o))?;
+    equate(out, Ty::Unknown(o + 1), ty)
+}
+
+/// The second part, of type `own`, of a pair.
+pub fn second_part(alloc: Global, out: &mut Output, own: u64) -> Result<(), AllocError>
+    requires { HasRoom out.old 2 0 }
+    ensures { OnOk result (Adds out.old out.new 2 0 (equation (unknown (out.old.unknowns + 1)) (pair_ty (unknown out.old.unknowns) (unknown own)) ∷ []) []) }
+{
+    let o = out.unknowns;
+    take(out, 2, 0);
+    let ty = pair(alloc, Ty::Unknown(o), Ty::Unknown(own))?;
+    equate(out, Ty::Unknown(o + 1), ty)
+}
+
+/// The type of what a primitive gives.
+fn primitive_ty(prim: Prim) -> Ty
+    ensures { type_of result ≡ primitive_expression prim }
+{
+    match prim {
+        Prim::Add | Prim::Sub | Prim::Mul | Prim::Div | Prim::Mod => Ty::Int,
+        Prim::Eq | Prim::Lt | Prim::Le => Ty::Bool,
+    }
+}
+
+/// A primitive of type `own`.
+pub fn operation(out: &mut Output, own: u64, prim: Prim) -> Result<(), AllocError>
+    requires { HasRoom out.old 2 0 }
+    ensures { OnOk result (Adds out.old out.new 2 0 (equation (unknown out.old.unknowns) int_ty ∷ equation (unknown (out.old.unknowns + 1)) int_ty ∷ equation (unknown own) (primitive_expression prim) ∷ []) []) }
+{
+    let o = out.unknowns;
+    take(out, 2, 0);
+    equate(out, Ty::Unknown(o), Ty::Int)?;
+    equate(out, Ty::Unknown(o + 1), Ty::Int)?;
+    equate(out, Ty::Unknown(own), primitive_ty(prim))
+}
+
+/// A bracket of type `own`.
+pub fn bracket(alloc: Global, out: &mut Output, own: u64) -> Result<(), AllocError>
+    requires { HasRoom out.old 1 1 }
+    ensures { OnOk result (Adds out.old out.new 1 1 (equation (unknown own) (code_ty out.old.classifiers (unknown out.old.unknowns)) ∷ []) []) }
+{
+    let o = out.unknowns;
+    let c = out.classifiers;
+    take(out, 1, 1);
+    let ty = code(alloc, c, Ty::Unknown(o))?;
+    equate(out, Ty::Unknown(own), ty)
+}
+
+/// An escape of type `own` under a classifier unknown.
+pub fn escape(alloc: Global, out: &mut Output, own: u64, classifier: u64) -> Result<(), AllocError>
+    requires { HasRoom out.old 1 0 }
+    ensures { OnOk result (Adds out.old out.new 1 0 (equation (unknown out.old.unknowns) (code_ty classifier (unknown own)) ∷ []) []) }
+{
+    let o = out.unknowns;
+    take(out, 1, 0);
+    let ty = code(alloc, classifier, Ty::Unknown(own))?;
+    equate(out, Ty::Unknown(o), ty)
+}
+
+/// A run of type `own` at a kernel type.
+pub fn run(alloc: Global, out: &mut Output, own: u64, kind: &KType) -> Result<(), AllocError>
+    requires { HasRoom out.old 1 0 }
+    ensures { OnOk result (Adds out.old out.new 1 0 (equation (unknown out.old.unknowns) (closed_ty (kernel_expression (kernel_type_of kind.now))) ∷ equation (unknown own) (kernel_expression (kernel_type_of kind.now)) ∷ []) []) }
+{
+    let o = out.unknowns;
+    take(out, 1, 0);
+    let inner = kernel_ty(alloc, kind)?;
+    let ty = closed(alloc, inner)?;
+    equate(out, Ty::Unknown(o), ty)?;
+    let ty = kernel_ty(alloc, kind)?;
+    equate(out, Ty::Unknown(own), ty)
+}
+
+/// A `close` of type `own`.
+pub fn close(alloc: Global, out: &mut Output, own: u64) -> Result<(), AllocError>
+    requires { HasRoom out.old 2 1 }
+    ensures { OnOk result (Adds out.old out.new 2 1 (equation (unknown (out.old.unknowns + 1)) (code_ty out.old.classifiers (unknown out.old.unknowns)) ∷ equation (unknown own) (closed_ty (unknown out.old.unknowns)) ∷ []) []) }
+{
+    let o = out.unknowns;
+    let c = out.classifiers;
+    take(out, 2, 1);
+    let ty = code(alloc, c, Ty::Unknown(o))?;
+    equate(out, Ty::Unknown(o + 1), ty)?;
+    let ty = closed(alloc, Ty::Unknown(o))?;
+    equate(out, Ty::Unknown(own), ty)
+}
+
+/// An `open` of type `own`.
+pub fn open(alloc: Global, out: &mut Output, own: u64) -> Result<(), AllocError>
+    requires { HasRoom out.old 2 1 }
+    ensures { OnOk result (Adds out.old out.new 2 1 (equation (unknown (out.old.unknowns + 1)) (closed_ty (unknown out.old.unknowns)) ∷ equation (unknown own) (code_ty out.old.classifiers (unknown out.old.unknowns)) ∷ []) []) }
+{
+    let o = out.unknowns;
+    let c = out.classifiers;
+    take(out, 2, 1);
+    let ty = closed(alloc, Ty::Unknown(o))?;
+    equate(out, Ty::Unknown(o + 1), ty)?;
+    let ty = code(alloc, c, Ty::Unknown(o))?;
+    equate(out, Ty::Unknown(own), ty)
+}
+
+/// A `lift` of type `own`.
+pub fn lift(alloc: Global, out: &mut Output, own: u64) -> Result<(), AllocError>
+    requires { HasRoom out.old 1 1 }
+    ensures { OnOk result (Adds out.old out.new 1 1 (equation (unknown out.old.unknowns) int_ty ∷ equation (unknown own) (code_ty out.old.classifiers int_ty) ∷ []) []) }
+{
+    let o = out.unknowns;
+    let c = out.classifiers;
+    take(out, 1, 1);
+    equate(out, Ty::Unknown(o), Ty::Int)?;
+    let ty = code(alloc, c, Ty::Int)?;
+    equate(out, Ty::Unknown(own), ty)
+}
+
+/// A `liftb` of type `own`.
+pub fn lift_truth(alloc: Global, out: &mut Output, own: u64) -> Result<(), AllocError>
+    requires { HasRoom out.old 1 1 }
+    ensures { OnOk result (Adds out.old out.new 1 1 (equation (unknown out.old.unknowns) bool_ty ∷ equation (unknown own) (code_ty out.old.classifiers bool_ty) ∷ []) []) }
+{
+    let o = out.unknowns;
+    let c = out.classifiers;
+    take(out, 1, 1);
+    equate(out, Ty::Unknown(o), Ty::Bool)?;
+    let ty = code(alloc, c, Ty::Bool)?;
+    equate(out, Ty::Unknown(own), ty)
+}
+
+/// A variable of type `own`.
+pub fn variable(
+    alloc: Global,
+    out: &mut Output,
+    own: u64,
+    stage: Stage,
+    binder: Option<Binder>,
+) -> Result<(), AllocError>
+    ensures { OnOk result (Adds out.old out.new 0 0 (variable_equations own (level_at stage) (option_map slot_of binder)) []) }
+{
+    match (stage, binder) {
+        (Stage::Live, Some(Binder::Plain(x))) => equate(out, Ty::Unknown(own), Ty::Unknown(x)),
+        (Stage::Under(a), Some(Binder::Quoted(b, x))) => {
+            equate(out, Ty::Unknown(own), Ty::Unknown(x))?;
+            let left = code(alloc, a, Ty::Int)?;
+            let right = code(alloc, b, Ty::Int)?;
+            equate(out, left, right)
+        }
+        _ => equate(out, Ty::Int, Ty::Bool),
+    }
+}
+
+/// A name of type `own` that has a scheme, or is hidden.
+fn known_name(alloc: Global, known: &Known, out: &mut Output, own: u64) -> Result<(), AllocError>
+    requires room { HasRoom out.old (unknowns_of_name (Some (top_of known.now))) (classifiers_of_name (Some (top_of known.now))) }
+    requires low { AreLow (top_of known.now ∷ []) }
+    ensures { OnOk result (Adds out.old out.new (unknowns_of_name (Some (top_of known.now))) (classifiers_of_name (Some (top_of known.now))) (name_equations own out.old.unknowns out.old.classifiers live (Some (top_of known.now))) []) }
+{
+    match known {
+        Known::Let(scheme) => {
+            let o = out.unknowns;
+            let c = out.classifiers;
+            take(out, scheme.unknowns, scheme.classifiers);
+            let ty = shift(alloc, &scheme.ty, o, c)?;
+            equate(out, Ty::Unknown(own), ty)
+        }
+        Known::Kernel(kind) => {
+            let inner = kernel_ty(alloc, kind)?;
+            let ty = closed(alloc, inner)?;
+            equate(out, Ty::Unknown(own), ty)
+        }
+        Known::Hidden => equate(out, Ty::Int, Ty::Bool),
+    }
+}
+
+/// What the name at a place has.
+fn lookup<'n, 'p>(names: &'n [Known<'p>], index: u32) -> Option<&'n Known<'p>>
+    ensures { option_map (λ known. top_of known.now) result ≡ slice_get (tops_of names.now) index }
+{
+    names.get(index as usize)
+}
+
+/// A top-level name of type `own`.
+pub fn name(
+    alloc: Global,
+    names: &[Known],
+    out: &mut Output,
+    own: u64,
+    index: u32,
+) -> Result<(), AllocError>
+    requires room { HasRoom out.old (unknowns_of_name (slice_get (tops_of names.now) index)) (classifiers_of_name (slice_get (tops_of names.now) index)) }
+    requires low { AreLow (tops_of names.now) }
+    ensures { OnOk result (Adds out.old out.new (unknowns_of_name (slice_get (tops_of names.now) index)) (classifiers_of_name (slice_get (tops_of names.now) index)) (name_equations own out.old.unknowns out.old.classifiers live (slice_get (tops_of names.now) index)) []) }
+{
+    match lookup(names, index) {
+        Some(known) => known_name(alloc, known, out, own),
+        None => equate(out, Ty::Int, Ty::Bool),
+    }
+}

@@ -1,0 +1,169 @@
+// The check of a program, item by item.
+
+ghost use Rattle.std.specs.Prelude.{◌≡◌, ◌∷◌, [], ◌++◌, length, map, IfErr, IfOk, OnOk};
+ghost use Rattle.mw_term.specs.Programs.{definition_of, program_of};
+ghost use Rattle.mw_term.specs.Terms.{expression_of};
+ghost use Rattle.mw_term.specs.Typable.{seen_by_main};
+ghost use Rattle.mw_types.specs.Types.{type_of};
+ghost use Rattle.mw_infer.specs.Schemes.{base_expression};
+ghost use Rattle.mw_infer.specs.Checking.{AreFaultless, ArePrincipal, IfRefused, IsFirstRefusal, IsResolved, part_of_item};
+ghost use Rattle.mw_infer.specs.Inferring.{main_place};
+ghost use Rattle.mw_infer.specs.Judging.{CanJudge, Judges, place_of};
+ghost use Rattle.mw_infer.specs.Progress.{IsFaultOf, Steps, revealed_to, type_of_scheme};
+ghost use Rattle.mw_infer.specs.Views.{top_of, tops_of};
+ghost use Rattle.mw_infer.specs.declared.judge.Verdict.TheVariants.{Fine};
+
+use crate::build::{base_ty, closed, code, function, kernel_ty, pair};
+use crate::judge::{Verdict, judge};
+use crate::names::{Known, LetType};
+use crate::own::Asked;
+use mw_term::{Base, Item, ItemKind, Program, Refusal, Stop, Term};
+use mw_types::Ty;
+use std::alloc::{AllocError, Global};
+
+/// The most general type of an item, or the refusal of the program for its fault.
+fn judged(
+    alloc: Global,
+    names: &[Known],
+    asked: &Asked,
+    term: &Term,
+    index: u32,
+) -> Result<LetType, Stop>
+    requires { CanJudge (tops_of names.now) (expression_of term.now) }
+    ensures fine { IfOk result (λ l. Judges (tops_of names.now) (place_of asked.now) (expression_of term.now) (Fine l)) }
+    ensures refused { IfErr result (λ stop. IfRefused stop (IsFaultOf (tops_of names.now) (place_of asked.now) (expression_of term.now) index)) }
+{
+    match judge(alloc, names, asked, term)? {
+        Verdict::Fine(known) => Ok(known),
+        Verdict::IllTyped => Err(Stop::Refused(Refusal::IllTyped(index))),
+        Verdict::TooBig => Err(Stop::Refused(Refusal::TypeTooBig(index))),
+        Verdict::NotClosed(at) => Err(Stop::Refused(Refusal::NotClosed(at))),
+    }
+}
+
+/// An item: what the items behind it see of it is added.
+fn step(alloc: Global, names: &mut Vec<Known>, item: &Item, index: u32) -> Result<(), Stop>
+    requires { CanJudge (tops_of names.old.items) (part_of_item [] (definition_of item.now.kind)).term }
+    ensures ok { OnOk result (Steps (tops_of names.old.items) (definition_of item.now.kind) (tops_of names.new.items)) }
+    ensures refused { IfErr result (λ stop. IfRefused stop (IsFaultOf (tops_of names.old.items) (part_of_item [] (definition_of item.now.kind)).place (part_of_item [] (definition_of item.now.kind)).term index)) }
+{
+    match &item.kind {
+        ItemKind::Value(term) => {
+            let known = judged(alloc, names.as_slice(), &Asked::Anything, term, index)?;
+            names.push(Known::Let(known))?;
+            Ok(())
+        }
+        ItemKind::Kernel(kind, term) => {
+            let _known = judged(alloc, names.as_slice(), &Asked::Kernel(kind), term, index)?;
+            names.push(Known::Hidden)?;
+            Ok(())
+        }
+    }
+}
+
+/// Shows main the kernel items.
+fn reveal<'p>(names: &mut Vec<Known<'p>>, items: &'p [Item])
+    requires { length names.old.items ≡ length items.now }
+    ensures { tops_of names.new.items ≡ revealed_to (length items.now) (map (λ item. definition_of item.kind) items.now) (tops_of names.old.items) }
+{
+    for at in 0..items.len() {
+        if let ItemKind::Kernel(kind, _) = &items[at].kind {
+            names[at] = Known::Kernel(kind);
+        }
+    }
+}
+
+/// Main, behind whose check nothing is left to do.
+fn last(alloc: Global, names: &[Known], base: Base, body: &Term, index: u32) -> Result<(), Stop>
+    requires { CanJudge (tops_of names.now) (expression_of body.now) }
+    ensures fine { OnOk result ((l : LetType) × Judges (tops_of names.now) (main_place base) (expression_of body.now) (Fine l)) }
+    ensures refused { IfErr result (λ stop. IfRefused stop (IsFaultOf (tops_of names.now) (main_place base) (expression_of body.now) index)) }
+{
+    let _known = judged(alloc, names, &Asked::Main(base), body, index)?;
+    Ok(())
+}
+
+/// What main sees of the items, where no part of the program has a fault; else the first refusal.
+pub fn whole<'p>(alloc: Global, program: &'p Program) -> Result<Vec<Known<'p>>, Stop>
+    requires { IsResolved (program_of program.now) }
+    ensures faultless { IfOk result (λ _. AreFaultless (program_of program.now)) }
+    ensures principal { IfOk result (λ names. ArePrincipal (seen_by_main (program_of program.now).items) (tops_of names.items)) }
+    ensures refused { IfErr result (λ stop. IfRefused stop (IsFirstRefusal (program_of program.now))) }
+{
+    let items = program.items.as_slice();
+    let mut names = Vec::new(alloc);
+    for item in items {
+        let index = names.len() as u32;
+        match step(alloc, &mut names, item, index) {
+            Ok(()) => {}
+            Err(stop) => return Err(stop),
+        }
+    }
+    let index = names.len() as u32;
+    reveal(&mut names, items);
+    match last(
+        alloc,
+        names.as_slice(),
+        program.result,
+        &program.body,
+        index,
+    ) {
+        Ok(()) => Ok(names),
+        Err(stop) => Err(stop),
+    }
+}
+
+/// The same type.
+fn copied(alloc: Global, ty: &Ty) -> Result<Ty, AllocError>
+    ensures { IfOk result (λ copy. type_of copy ≡ type_of ty.now) }
+{
+    match ty {
+        Ty::Int => Ok(Ty::Int),
+        Ty::Bool => Ok(Ty::Bool),
+        Ty::Unknown(u) => Ok(Ty::Unknown(*u)),
+        Ty::Pair(s, t) => {
+            let left = copied(alloc, s)?;
+            let right = copied(alloc, t)?;
+            pair(alloc, left, right)
+        }
+        Ty::Arrow(s, t) => {
+            let from = copied(alloc, s)?;
+            let to = copied(alloc, t)?;
+            function(alloc, from, to)
+        }
+        Ty::Code(c, t) => {
+            let below = copied(alloc, t)?;
+            code(alloc, *c, below)
+        }
+        Ty::Closed(t) => {
+            let below = copied(alloc, t)?;
+            closed(alloc, below)
+        }
+    }
+}
+
+/// The type of a name.
+fn known_ty(alloc: Global, known: &Known) -> Result<Ty, AllocError>
+    ensures { IfOk result (λ ty. type_of ty ≡ type_of_scheme (top_of known.now)) }
+{
+    match known {
+        Known::Let(scheme) => copied(alloc, &scheme.ty),
+        Known::Kernel(kind) => {
+            let inner = kernel_ty(alloc, kind)?;
+            closed(alloc, inner)
+        }
+        Known::Hidden => Ok(Ty::Int),
+    }
+}
+
+/// The types of all items and of main.
+pub fn types_of(alloc: Global, names: &[Known], base: Base) -> Result<Vec<Ty>, AllocError>
+    ensures { IfOk result (λ types. map type_of types.items ≡ map type_of_scheme (tops_of names.now) ++ (base_expression base ∷ [])) }
+{
+    let mut types = Vec::new(alloc);
+    for known in names {
+        types.push(known_ty(alloc, known)?)?;
+    }
+    types.push(base_ty(base))?;
+    Ok(types)
+}
