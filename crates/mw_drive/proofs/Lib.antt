@@ -1,4 +1,12 @@
 pub mod EvaluationLemmas
-pub mod Reporting
+pub mod KernelLemmas
 pub mod WordLemmas
+pub mod SourceReadings
+pub mod FirstFormLemmas
+pub mod TextLemmas
+pub mod ModuleLemmas
+pub mod Reporting
+pub mod SourceReports
 pub mod RunLemmas
+pub mod Sizes
+pub mod ScopedTerms

@@ -1,8 +1,11 @@
 pub mod FirstForms
 pub mod Evaluation
+pub mod NamedPrograms
+pub mod SourceReading
 pub mod ProgramMeaning
 pub mod Codes
+pub mod SourceMeaning
 pub mod Output
-pub mod Outcome
+pub mod ProgramRuns
 pub mod Running
 pub mod Reading

@@ -1,48 +1,127 @@
 -- What is written of a source's meaning.
-use Rattle.std.specs.Prelude.{◌≡◌, ℕ, List, ◌++◌, codes, if◌then◌else◌}
-use Rattle.std.specs.Fmt.{signed_decimal}
+use Rattle.std.specs.Prelude.{◌≡◌, ℕ, List, [], ◌++◌, get_or, codes, if◌then◌else◌}
+use Rattle.std.specs.Fmt.{signed_decimal, decimal}
+use Rattle.std.specs.List.{flat_map}
+use Rattle.hex.specs.Hex.{encode_lower}
+use Rattle.mw_term.specs.Terms.{GroundType, KernelType, base, product, to}
+use Rattle.mw_term.specs.declared.term.Base.{Base}
+use Rattle.mw_term.specs.declared.term.Base.TheVariants as word
+use Rattle.mw_term.specs.declared.refusal.Refusal.{Refusal}
+use Rattle.mw_term.specs.declared.refusal.Refusal.TheVariants.{TooLarge, Char, Number, Name, Syntax, TooDeep, TooMany, Unbound, Twice, NotValue, Level, IllTyped, TypeTooBig, NotClosed, NotYet}
 use Rattle.mw_term.specs.declared.value.BaseValue.{BaseValue}
 use Rattle.mw_term.specs.declared.value.BaseValue.TheVariants.{Int, Bool}
+use Rattle.mw_term.specs.declared.value.TrapKind.{TrapKind}
 use Rattle.mw_term.specs.declared.value.TrapKind.TheVariants.{Divide, Overflow}
+use Rattle.mw_term.specs.declared.value.Limit.{Limit}
 use Rattle.mw_term.specs.declared.value.Limit.TheVariants.{Fuel, KernelSize, Heap}
-use Rattle.mw_term.specs.declared.refusal.Refusal.TheVariants.{NotYet}
-use Rattle.mw_drive.specs.ProgramMeaning.{Meaning, not_yet, answered, trapped, bounded, IsMeaning}
+use Rattle.mw_compile.specs.Emission.{emission}
+use Rattle.mw_drive.specs.ProgramMeaning.{Kernel, Ending, answered, trapped, bounded, main_name}
+use Rattle.mw_drive.specs.SourceMeaning.{Meaning, refused, ran, IsMeaning}
 use Rattle.mw_drive.specs.declared.status.Status.{Status}
 use Rattle.mw_drive.specs.declared.status.Status.TheVariants as status
+
+-- kernel types in their words: one space round `*` and `->`, and parentheses only round a pair that is the left part of a pair
+abbrev pub base_text : Base → List ℕ
+base_text word.Int = codes "int"
+base_text word.Bool = codes "bool"
+
+abbrev mutual
+  pub ground_text : GroundType → List ℕ
+  ground_text (base b) = base_text b
+  ground_text (product s t) = left_text s ++ codes " * " ++ ground_text t
+
+  pub left_text : GroundType → List ℕ
+  left_text (base b) = base_text b
+  left_text (product s t) = codes "(" ++ left_text s ++ codes " * " ++ ground_text t ++ codes ")"
+
+abbrev pub kind_text : KernelType → List ℕ
+kind_text (base b) = base_text b
+kind_text (to s b) = ground_text s ++ codes " -> " ++ base_text b
+
+-- the two lines of a kernel: its name and type, and its module's bytes
+abbrev pub kernel_lines : Kernel → List ℕ
+kernel_lines k = codes "kernel " ++ k.name ++ codes " : " ++ kind_text k.kind ++ codes "\n" ++ codes "module " ++ encode_lower (emission k.code) ++ codes "\n"
+
+-- the name of the item at an index; the index of main is the number of items
+abbrev pub name_at : List (List ℕ) → ℕ → List ℕ
+name_at names i = get_or names i main_name
+
+-- a refusal's line, where the items have these names
+abbrev pub at_line : List ℕ → ℕ → List ℕ
+at_line words at = codes "refused " ++ words ++ codes " at " ++ decimal at ++ codes "\n"
+
+abbrev pub in_line : List ℕ → List ℕ → List ℕ
+in_line words name = codes "refused " ++ words ++ codes " in " ++ name ++ codes "\n"
+
+-- a refusal that isn't of an item's types as a whole
+abbrev pub place_line : Refusal → List ℕ
+place_line TooLarge = codes "refused 1 too large\n"
+place_line (Char at) = at_line (codes "2 character") at
+place_line (Number at) = at_line (codes "3 number") at
+place_line (Name at) = at_line (codes "4 name") at
+place_line (Syntax at) = at_line (codes "5 syntax") at
+place_line (TooDeep at) = at_line (codes "6 too deep") at
+place_line TooMany = codes "refused 7 too many items\n"
+place_line (Unbound at) = at_line (codes "8 unbound") at
+place_line (Twice at) = at_line (codes "9 bound twice") at
+place_line (NotValue at) = at_line (codes "10 not a value") at
+place_line (Level at) = at_line (codes "11 level") at
+place_line (IllTyped item) = []
+place_line (TypeTooBig item) = []
+place_line (NotClosed at) = at_line (codes "14 not closed") at
+place_line NotYet = codes "refused 15 not yet\n"
+
+abbrev pub refusal_line : List (List ℕ) → Refusal → List ℕ
+refusal_line names (IllTyped item) = in_line (codes "12 type") (name_at names item)
+refusal_line names (TypeTooBig item) = in_line (codes "13 type too big") (name_at names item)
+refusal_line names r = place_line r
 
 -- a decimal number, true or false
 abbrev pub value_text : BaseValue → List ℕ
 value_text (Int n) = signed_decimal n
 value_text (Bool b) = if b then codes "true" else codes "false"
 
+abbrev pub trap_words : TrapKind → List ℕ
+trap_words Divide = codes "divide"
+trap_words Overflow = codes "overflow"
+
+abbrev pub limit_words : Limit → List ℕ
+limit_words Fuel = codes "fuel"
+limit_words KernelSize = codes "kernel size"
+limit_words Heap = codes "heap"
+
 -- the last line of the output
-abbrev pub line_of : Meaning → List ℕ
-line_of not_yet = codes "refused 15 not yet\n"
-line_of (answered v) = codes "answer " ++ value_text v ++ codes "\n"
-line_of (trapped Divide) = codes "trap divide in main\n"
-line_of (trapped Overflow) = codes "trap overflow in main\n"
-line_of (bounded Fuel) = codes "bound fuel in main\n"
-line_of (bounded KernelSize) = codes "bound kernel size in main\n"
-line_of (bounded Heap) = codes "bound heap in main\n"
+abbrev pub ending_line : Ending → List ℕ
+ending_line (answered v) = codes "answer " ++ value_text v ++ codes "\n"
+ending_line (trapped t name) = codes "trap " ++ trap_words t ++ codes " in " ++ name ++ codes "\n"
+ending_line (bounded l name) = codes "bound " ++ limit_words l ++ codes " in " ++ name ++ codes "\n"
+
+-- a refusal's line, or the lines of the kernels that gave code, in order, and the line of the ending
+abbrev pub text_of : Meaning → List ℕ
+text_of (refused r names) = refusal_line names r
+text_of (ran kernels e) = flat_map kernel_lines kernels ++ ending_line e
 
 -- the status that says how the output ends
+abbrev pub ending_status : Ending → Status
+ending_status (answered v) = status.Answer
+ending_status (trapped t name) = status.Trap t
+ending_status (bounded l name) = status.Bound l
+
 abbrev pub status_of : Meaning → Status
-status_of not_yet = status.Refused NotYet
-status_of (answered v) = status.Answer
-status_of (trapped t) = status.Trap t
-status_of (bounded l) = status.Bound l
+status_of (refused r names) = status.Refused r
+status_of (ran kernels e) = ending_status e
 
 -- the text that belongs to a source and a fuel
 pub record IsOutput (bytes : List ℕ) (fuel : ℕ) (text : List ℕ) : Type 0 where
   pub meaning : Meaning
   pub is_meaning : IsMeaning bytes fuel meaning
-  pub is_text : text ≡ line_of meaning
+  pub is_text : text ≡ text_of meaning
 
 -- a text and a status are what a source means with a fuel
 pub record Reports (bytes : List ℕ) (fuel : ℕ) (text : List ℕ) (s : Status) : Type 0 where
   pub meaning : Meaning
   pub is_meaning : IsMeaning bytes fuel meaning
-  pub is_text : text ≡ line_of meaning
+  pub is_text : text ≡ text_of meaning
   pub is_status : s ≡ status_of meaning
 
 -- no other text belongs to a source and a fuel

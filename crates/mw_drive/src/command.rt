@@ -4,16 +4,17 @@ ghost use Rattle.std.specs.Prelude.{◌≡◌, ◌↔◌, ◌≤◌, ◌⊎◌, 
 ghost use Rattle.std.specs.String.{string_bytes};
 ghost use Rattle.mw_outside.specs.Count.{Rose};
 ghost use Rattle.mw_drive.specs.Output.{IsOutput, status_of};
-ghost use Rattle.mw_drive.specs.ProgramMeaning.{Meaning, IsMeaning};
+ghost use Rattle.mw_drive.specs.SourceMeaning.{Meaning, IsMeaning, HaveModules};
 ghost use Rattle.mw_drive.specs.Running.{IsUsage, Asks, AsksMissing, IsFaithful, IsMemory, SpeaksOfCache};
 ghost use Rattle.mw_drive.specs.declared.report.TheConstants.{DEFAULT_FUEL};
 ghost use Rattle.mw_drive.specs.declared.status.Status.TheVariants.{Usage, Read, Write};
 
+use crate::lines::write_lines;
 use crate::report::report_of;
 use crate::source::{SourceFault, file_bytes};
 use crate::status::Status;
 use crate::words::file_word;
-use mw_outside::{Gate, Keeper, Sink, Source, WriteFault, write_whole};
+use mw_outside::{Gate, Keeper, Sink, Source, WriteFault};
 use std::alloc::Global;
 use std::thread::Threads;
 
@@ -36,6 +37,9 @@ pub fn run<R: Threads + Sync, S: Source, K: Sink, C: Keeper, G: Gate>(
     ensures status { (bytes : List ℕ) → Asks (map string_bytes words.now) S.tells (S.told source.old) bytes
         → ¬ Rose (S.faults source.old) (S.faults source.new) → ¬ Rose (K.faults sink.old) (K.faults sink.new) → ¬ IsMemory result
         → (meaning : Meaning) × IsMeaning bytes DEFAULT_FUEL meaning × (result ≡ status_of meaning) }
+    // For each kernel that is printed, the bytes spell a module that is valid and means the kernel's code.
+    ensures modules { (bytes : List ℕ) → Asks (map string_bytes words.now) S.tells (S.told source.old) bytes
+        → (meaning : Meaning) → IsMeaning bytes DEFAULT_FUEL meaning → HaveModules meaning }
     // Whatever failed, the status says what was written.
     ensures faults { (bytes : List ℕ) → Asks (map string_bytes words.now) S.tells (S.told source.old) bytes → IsTrue K.tells
         → IsFaithful bytes DEFAULT_FUEL result (K.written sink.old) (K.written sink.new) }
@@ -63,7 +67,7 @@ pub fn run<R: Threads + Sync, S: Source, K: Sink, C: Keeper, G: Gate>(
         Ok(report) => report,
         Err(error) => return Status::Memory(error),
     };
-    match write_whole(sink, report.text.as_bytes()) {
+    match write_lines(sink, report.text.as_slice()) {
         Ok(()) => report.status,
         Err(WriteFault::Failed) => Status::Write,
         Err(WriteFault::Memory(error)) => Status::Memory(error),

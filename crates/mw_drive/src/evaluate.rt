@@ -1,14 +1,18 @@
-// The evaluator of the first forms, by recursion over terms.
+// The evaluator of the first forms, by recursion over terms. Kernels run as modules.
 
-ghost use Rattle.std.specs.Prelude.{◌≡◌, ◌+ℤ◌, IfOk};
+ghost use Rattle.std.specs.Prelude.{◌≡◌, ◌+ℤ◌, List, length, IfOk};
 ghost use Rattle.std.specs.Int.{int_wrap};
 ghost use mir.Syntax.{w64};
-ghost use Rattle.mw_term.specs.Terms.{expression_of};
-ghost use Rattle.mw_drive.specs.FirstForms.{IsNumber, IsCodeOfNumber, IsNumberInside, IsSumCode};
-ghost use Rattle.mw_drive.specs.Evaluation.{IsMeant, IsRunOf, HasCode, IsBuiltTo, KernelHasNumber};
+ghost use Rattle.mw_term.specs.Terms.{Value, base, run as run_form, expression_of};
+ghost use Rattle.mw_term.specs.declared.term.Base.TheVariants.{Int};
+ghost use Rattle.mw_compile.specs.Sums.{IsSumCode, HasWords};
+ghost use Rattle.mw_drive.specs.FirstForms.{IsNumber, IsRunnable, IsClosedCode, IsBracket, IsNumberInside};
+ghost use Rattle.mw_drive.specs.Evaluation.{IsMeant, IsRunOf, HasCode, IsBuiltTo, AreSumEntries, codes_of};
 ghost use Rattle.mw_drive.specs.declared.evaluate.Interrupt.TheVariants.{Memory};
 
-use mw_term::{Limit, Prim, Term, depth, nodes};
+use crate::kernels::{number_of_entry, run};
+use mw_compile::Entry;
+use mw_term::{Limit, Prim, Term};
 use std::alloc::{AllocError, AllocFailed, Global};
 
 /// Why an evaluation gives no number: a bound that it met, or want of memory.
@@ -36,38 +40,66 @@ impl<T: Drop> From<AllocFailed<T>> for Interrupt {
     }
 }
 
-/// The number that a level 0 term of the first forms means.
-#[tactic(auto, using(crate::proofs::EvaluationLemmas::number_num, crate::proofs::EvaluationLemmas::number_sum, crate::proofs::EvaluationLemmas::bound_left, crate::proofs::EvaluationLemmas::bound_right, crate::proofs::EvaluationLemmas::run_meant))]
-pub fn number_of(alloc: Global, term: &Term) -> Result<i64, Interrupt>
-    requires { IsNumber (expression_of term.now) }
-    ensures { IsMeant result (expression_of term.now) }
+/// The number that main means, where these are the entries of the kernel items.
+#[tactic(auto, using(crate::proofs::EvaluationLemmas::number_num, crate::proofs::EvaluationLemmas::number_sum, crate::proofs::EvaluationLemmas::bound_left, crate::proofs::EvaluationLemmas::bound_right))]
+pub fn number_of(alloc: Global, term: &Term, entries: &[Entry]) -> Result<i64, Interrupt>
+    requires number { IsNumber (length entries.now) (expression_of term.now) }
+    requires entries { AreSumEntries entries.now }
+    ensures { IsMeant result (codes_of entries.now) (expression_of term.now) }
 {
     match term {
         Term::Int(n) => Ok(*n),
         Term::Prim(Prim::Add, a, b) => {
-            let left = number_of(alloc, a)?;
-            let right = number_of(alloc, b)?;
+            let left = number_of(alloc, a, entries)?;
+            let right = number_of(alloc, b, entries)?;
             Ok(sum(left, right))
         }
-        Term::Run(_, e) => {
-            let code = spliced(alloc, e)?;
-            run(&code)
-        }
+        Term::Run(_, e) => run_of(alloc, e, entries),
         _ => unreachable!(),
     }
 }
 
-/// The code that a level 0 term of code gives.
-#[cycle(build)]
-#[tactic(auto, using(crate::proofs::EvaluationLemmas::code_bracket, crate::proofs::EvaluationLemmas::code_close))]
-fn spliced(alloc: Global, term: &Term) -> Result<Term, AllocError>
-    requires { IsCodeOfNumber (expression_of term.now) }
-    ensures meaning { IfOk result (λ code. HasCode (expression_of term.now) (expression_of code)) }
+/// The number that a run of an item or of closed code means.
+#[tactic(auto, using(crate::proofs::EvaluationLemmas::run_meant, crate::proofs::EvaluationLemmas::entry_there, crate::proofs::EvaluationLemmas::read_there, crate::proofs::EvaluationLemmas::run_item_meant))]
+fn run_of(alloc: Global, term: &Term, entries: &[Entry]) -> Result<i64, Interrupt>
+    requires runnable { IsRunnable (length entries.now) (expression_of term.now) }
+    requires entries { AreSumEntries entries.now }
+    ensures { IsMeant result (codes_of entries.now) (run_form (base Int) (expression_of term.now)) }
+{
+    match term {
+        Term::Glob(i) => Ok(number_of_entry(alloc, &entries[*i as usize])?),
+        _ => {
+            let code = closed(alloc, term)?;
+            run(alloc, &code)
+        }
+    }
+}
+
+/// The code that closed code gives.
+#[tactic(auto, using(crate::proofs::EvaluationLemmas::code_close))]
+pub fn closed(alloc: Global, term: &Term) -> Result<Term, AllocError>
+    requires { IsClosedCode (expression_of term.now) }
+    ensures meaning { IfOk result (λ code. (globals : List Value) → HasCode globals (expression_of term.now) (expression_of code)) }
     ensures sum { IfOk result (λ code. IsSumCode (expression_of code)) }
+    ensures words { IfOk result (λ code. HasWords (expression_of code)) }
+{
+    match term {
+        Term::CloseCode(_, e) => bracketed(alloc, e),
+        _ => unreachable!(),
+    }
+}
+
+/// The code of a bracket.
+#[cycle(build)]
+#[tactic(auto, using(crate::proofs::EvaluationLemmas::code_bracket))]
+fn bracketed(alloc: Global, term: &Term) -> Result<Term, AllocError>
+    requires { IsBracket (expression_of term.now) }
+    ensures meaning { IfOk result (λ code. (globals : List Value) → HasCode globals (expression_of term.now) (expression_of code)) }
+    ensures sum { IfOk result (λ code. IsSumCode (expression_of code)) }
+    ensures words { IfOk result (λ code. HasWords (expression_of code)) }
 {
     match term {
         Term::Bracket(e) => built(alloc, e),
-        Term::CloseCode(_, e) => spliced(alloc, e),
         _ => unreachable!(),
     }
 }
@@ -77,8 +109,9 @@ fn spliced(alloc: Global, term: &Term) -> Result<Term, AllocError>
 #[tactic(auto, using(crate::proofs::EvaluationLemmas::built_num, crate::proofs::EvaluationLemmas::built_sum, crate::proofs::EvaluationLemmas::built_escape))]
 fn built(alloc: Global, term: &Term) -> Result<Term, AllocError>
     requires { IsNumberInside (expression_of term.now) }
-    ensures meaning { IfOk result (λ code. IsBuiltTo (expression_of term.now) (expression_of code)) }
+    ensures meaning { IfOk result (λ code. (globals : List Value) → IsBuiltTo globals (expression_of term.now) (expression_of code)) }
     ensures sum { IfOk result (λ code. IsSumCode (expression_of code)) }
+    ensures words { IfOk result (λ code. HasWords (expression_of code)) }
 {
     match term {
         Term::Int(n) => Ok(Term::Int(*n)),
@@ -87,31 +120,7 @@ fn built(alloc: Global, term: &Term) -> Result<Term, AllocError>
             let right = built(alloc, b)?;
             Ok(Term::Prim(Prim::Add, Box::new(alloc, left)?, Box::new(alloc, right)?))
         }
-        Term::Escape(e) => spliced(alloc, e),
-        _ => unreachable!(),
-    }
-}
-
-/// The run of code: Bound KernelSize where it is above its limits, and else the number that it means.
-fn run(code: &Term) -> Result<i64, Interrupt>
-    requires { IsSumCode (expression_of code.now) }
-    ensures { IsRunOf result (expression_of code.now) }
-{
-    if nodes(code) > 20_000 || depth(code) > 400 {
-        return Err(Interrupt::Bound(Limit::KernelSize));
-    }
-    Ok(kernel_number(code))
-}
-
-/// The number that code of literals and sums means.
-#[tactic(auto, using(crate::proofs::EvaluationLemmas::kernel_num, crate::proofs::EvaluationLemmas::kernel_sum))]
-fn kernel_number(code: &Term) -> i64
-    requires { IsSumCode (expression_of code.now) }
-    ensures { KernelHasNumber (expression_of code.now) result }
-{
-    match code {
-        Term::Int(n) => *n,
-        Term::Prim(Prim::Add, a, b) => sum(kernel_number(a), kernel_number(b)),
+        Term::Escape(e) => bracketed(alloc, e),
         _ => unreachable!(),
     }
 }

@@ -3,9 +3,14 @@
 
 mod command;
 mod evaluate;
+mod forms;
+mod kernels;
+mod lines;
+mod reading;
 mod report;
 mod source;
 mod status;
+mod text;
 mod words;
 
 pub use crate::command::run;

@@ -1,8 +1,12 @@
 // Runs over objects in memory.
 
+mod grammar;
+mod typing;
+
 use crate::command::run;
 use crate::status::Status;
 use mw_outside::{Bytes, Calls, Files, MemSink, MemSource, NamedFile, Pass, SureKeeper};
+use std::alloc::Global;
 use std::process::Abort;
 use std::test::Fail;
 use std::thread::Threads;
@@ -62,62 +66,224 @@ fn calls(rt: &impl AllocGlobal, numbers: &[u64]) -> Result<Calls, Fail> {
     Ok(calls)
 }
 
+/// The module of `7`, and that of `1 + 2`, in hexadecimal digits.
+const SEVEN: &str =
+    "0061736d01000000010b0260027e7e017e6000017e03020101040501700100000504010140400606017f0141000b07080104696e697400000a0601040042070b";
+
+const THREE: &str =
+    "0061736d01000000010b0260027e7e017e6000017e03020101040501700100000504010140400606017f0141000b07080104696e697400000a09010700420142027c0b";
+
+/// Sources, their exit codes and their last lines.
+const LAST_LINES: [(&str, u8, &str); 32] = [
+    ("main : int = run[int] (close .<1 + 2>.)", 0, "answer 3"),
+    ("main : int = 1 + 2", 0, "answer 3"),
+    ("main : int = run[int] (close .<7>.)", 0, "answer 7"),
+    (
+        "main : int = run[int] (close .<1 + .~.<2>.>.)",
+        0,
+        "answer 3",
+    ),
+    (
+        "main : int = 9223372036854775807 + 1",
+        0,
+        "answer -9223372036854775808",
+    ),
+    (
+        "main : int = run[int] (close .<9223372036854775807 + 1>.)",
+        0,
+        "answer -9223372036854775808",
+    ),
+    (
+        "\tmain:int=(1+(02))+run[int](close.<.~.<3+4>.+5>.)\r\n",
+        0,
+        "answer 15",
+    ),
+    ("main : int = 1 # one", 0, "answer 1"),
+    // refusals of bytes, of tokens, and of names and levels
+    ("main : int = 1 ? 2", 3, "refused 2 character at 15"),
+    ("main : int = \u{e9}", 3, "refused 2 character at 13"),
+    (
+        "main : int = 9223372036854775808",
+        3,
+        "refused 3 number at 13",
+    ),
+    (
+        "main : int = aaaaaaaaaaaaaaaaaaaaaaaaaaaaaaaaaaaaaaaaaaaaaaaaaaaaaaaaaaaaaaaaa",
+        3,
+        "refused 4 name at 13",
+    ),
+    ("", 3, "refused 5 syntax at 0"),
+    ("main : int = 1 +", 3, "refused 5 syntax at 16"),
+    ("main : int = x", 3, "refused 8 unbound at 13"),
+    (
+        "kernel k : int = close .<1>. ;; kernel j : int = k ;; main : int = 0",
+        3,
+        "refused 8 unbound at 49",
+    ),
+    (
+        "let a = 1 ;; let a = 2 ;; main : int = a",
+        3,
+        "refused 9 bound twice at 17",
+    ),
+    (
+        "let a = 1 + 1 ;; main : int = a",
+        3,
+        "refused 10 not a value at 8",
+    ),
+    (
+        "let f x = x ;; main : int = run[int] (close .<(fun x -> f x) 1>.)",
+        3,
+        "refused 11 level at 56",
+    ),
+    (
+        "main : bool = run[bool] (close .~.<true>.)",
+        3,
+        "refused 11 level at 31",
+    ),
+    // an earlier kind of fault comes first, wherever it stands
+    ("main : int = x ) ?", 3, "refused 2 character at 17"),
+    ("main : int = + x", 3, "refused 5 syntax at 13"),
+    ("main : int = x )", 3, "refused 5 syntax at 15"),
+    ("main : int = y .~1", 3, "refused 8 unbound at 13"),
+    ("main : int = .~y", 3, "refused 11 level at 13"),
+    // types, and forms that aren't run yet
+    ("main : int = true", 3, "refused 12 type in main"),
+    ("main : int = 1 - 1", 3, "refused 15 not yet"),
+    ("main : int = (-1)", 3, "refused 15 not yet"),
+    ("main : bool = true", 3, "refused 15 not yet"),
+    ("let a = 1 ;; main : int = a", 3, "refused 15 not yet"),
+    (
+        "kernel k : bool = close .<true>. ;; main : int = 1",
+        3,
+        "refused 15 not yet",
+    ),
+    (
+        "main : int = run[int] (open (close .<1>.))",
+        3,
+        "refused 12 type in main",
+    ),
+];
+
 #[test]
-fn sources_have_their_output(rt: HostRuntime) -> Result<(), Fail> {
-    let cases = [
-        ("main : int = run[int] (close .<1 + 2>.)", 0, "answer 3\n"),
-        ("main : int = 1 + 2", 0, "answer 3\n"),
-        ("main : int = run[int] (close .<7>.)", 0, "answer 7\n"),
-        (
-            "main : int = run[int] (close .<1 + .~.<2>.>.)",
-            0,
-            "answer 3\n",
-        ),
-        (
-            "main : int = 9223372036854775807 + 1",
-            0,
-            "answer -9223372036854775808\n",
-        ),
-        (
-            "main : int = run[int] (close .<9223372036854775807 + 1>.)",
-            0,
-            "answer -9223372036854775808\n",
-        ),
-        (
-            "\tmain:int=(1+(02))+run[int](close.<.~.<3+4>.+5>.)\r\n",
-            0,
-            "answer 15\n",
-        ),
-        ("", 3, "refused 15 not yet\n"),
-        ("main : int = 1 - 1", 3, "refused 15 not yet\n"),
-        (
-            "main : int = 9223372036854775808",
-            3,
-            "refused 15 not yet\n",
-        ),
-        ("main : bool = true", 3, "refused 15 not yet\n"),
-        ("main : int = 1 # one", 3, "refused 15 not yet\n"),
-        ("main : int = \u{e9}", 3, "refused 15 not yet\n"),
-    ];
-    for (file, code, written) in cases {
+fn sources_have_their_last_line(rt: HostRuntime) -> Result<(), Fail> {
+    for (file, code, line) in LAST_LINES {
         let ran = ran(&rt, &["run", NAME], file.as_bytes(), &[], &[])?;
+        let wanted = format!(in rt.alloc(); "{line}\n")?;
         assert_eq!(rt; ran.status.code(), code, "{file}");
-        assert_eq!(rt; ran.written.as_slice(), written.as_bytes(), "{file}");
+        assert_eq!(rt; ran.written.as_slice(), wanted.as_bytes(), "{file}");
     }
     Ok(())
 }
 
+/// Sources with kernel items, the names and modules of the kernels, and the numbers that are answered.
+const KERNELS: [(&str, &[(&str, &str)], &str); 4] = [
+    (
+        "kernel k : int = close .<7>. ;; main : int = run[int] k",
+        &[("k", SEVEN)],
+        "7",
+    ),
+    (
+        "kernel k : int = close .<1 + 2>. ;; main : int = run[int] k + run[int] k",
+        &[("k", THREE)],
+        "6",
+    ),
+    (
+        "kernel a : int = close .<.~.<1>. + 2>. ;; kernel b : int = (close .<7>.) ;; main : int = run[int] b + run[int] (a)",
+        &[("a", THREE), ("b", SEVEN)],
+        "10",
+    ),
+    (
+        "kernel x : int = close .<007>. ;; kernel unused : int = close .<7>. ;; main : int = 1",
+        &[("x", SEVEN), ("unused", SEVEN)],
+        "1",
+    ),
+];
+
 #[test]
-fn long_sources_are_refused(rt: HostRuntime) -> Result<(), Fail> {
-    let mut file = Vec::from_slice(rt.alloc(), b"main : int = 1")?;
-    for _ in 14..256 {
+fn kernels_have_their_modules(rt: HostRuntime) -> Result<(), Fail> {
+    let alloc = rt.alloc();
+    for (file, kernels, number) in KERNELS {
+        let mut wanted = String::new(alloc);
+        for (name, module) in kernels {
+            let lines = format!(in alloc; "kernel {name} : int\nmodule {module}\n")?;
+            wanted.push_str(lines.as_str())?;
+        }
+        let answer = format!(in alloc; "answer {number}\n")?;
+        wanted.push_str(answer.as_str())?;
+        let ran = ran(&rt, &["run", NAME], file.as_bytes(), &[], &[])?;
+        assert_eq!(rt; ran.status.code(), 0, "{file}");
+        assert_eq!(rt; ran.written.as_slice(), wanted.as_bytes(), "{file}");
+    }
+    Ok(())
+}
+
+/// The front of a source, then spaces up to a length.
+fn filled(alloc: Global, front: &[u8], length: usize) -> Result<Vec<u8>, Fail> {
+    let mut file = Vec::from_slice(alloc, front)?;
+    for _ in front.len()..length {
         file.push(b' ')?;
     }
-    let whole = ran(&rt, &["run", NAME], file.as_slice(), &[], &[])?;
-    assert_eq!(rt; whole.status.code(), 0);
-    file.push(b' ')?;
-    let longer = ran(&rt, &["run", NAME], file.as_slice(), &[], &[])?;
-    assert_eq!(rt; longer.status.code(), 3);
+    Ok(file)
+}
+
+#[test]
+fn long_sources_are_refused(rt: HostRuntime) -> Result<(), Fail> {
+    let sum = b"main : int = 1";
+    let cases: [(&[u8], usize, &str); 7] = [
+        (sum, 256, "answer 1\n"),
+        (sum, 257, "refused 15 not yet\n"),
+        (b"main : int = 1 )", 257, "refused 5 syntax at 15\n"),
+        (b"main : int = y", 257, "refused 8 unbound at 13\n"),
+        (b"main : int = true", 257, "refused 12 type in main\n"),
+        (sum, 1_048_576, "refused 15 not yet\n"),
+        (b"?", 1_048_577, "refused 1 too large\n"),
+    ];
+    for (front, length, written) in cases {
+        let file = filled(rt.alloc(), front, length)?;
+        let ran = ran(&rt, &["run", NAME], file.as_slice(), &[], &[])?;
+        assert_eq!(rt; ran.written.as_slice(), written.as_bytes(), "{length}");
+    }
+    Ok(())
+}
+
+/// `main` with a literal in so many parentheses.
+fn in_parentheses(alloc: Global, times: usize) -> Result<Vec<u8>, Fail> {
+    let mut file = Vec::from_slice(alloc, b"main : int = ")?;
+    for _ in 0..times {
+        file.push(b'(')?;
+    }
+    file.push(b'1')?;
+    for _ in 0..times {
+        file.push(b')')?;
+    }
+    Ok(file)
+}
+
+#[test]
+fn deep_and_many_are_refused(rt: HostRuntime) -> Result<(), Fail> {
+    let deep = in_parentheses(rt.alloc(), 200)?;
+    let ran_deep = ran(&rt, &["run", NAME], deep.as_slice(), &[], &[])?;
+    assert_eq!(rt;
+        ran_deep.written.as_slice(),
+        b"refused 6 too deep at 213\n".as_slice()
+    );
+    let fine = in_parentheses(rt.alloc(), 199)?;
+    let ran_fine = ran(&rt, &["run", NAME], fine.as_slice(), &[], &[])?;
+    assert_eq!(rt;
+        ran_fine.written.as_slice(),
+        b"refused 15 not yet\n".as_slice()
+    );
+    let mut many = Vec::new(rt.alloc());
+    for n in 0..101 {
+        let item = format!(in rt.alloc(); "kernel k{n} : int = close .<1>. ;;\n")?;
+        many.extend_from_slice(item.as_bytes())?;
+    }
+    many.extend_from_slice(b"main : int = 0")?;
+    let ran_many = ran(&rt, &["run", NAME], many.as_slice(), &[], &[])?;
+    assert_eq!(rt;
+        ran_many.written.as_slice(),
+        b"refused 7 too many items\n".as_slice()
+    );
     Ok(())
 }
 
@@ -150,10 +316,18 @@ fn faults_have_their_status(rt: HostRuntime) -> Result<(), Fail> {
     Ok(())
 }
 
+/// A source with a kernel item, and a failing sink at each of its writes: what was written before is a front of the output.
 #[test]
 fn a_failing_sink_has_a_front_of_the_output(rt: HostRuntime) -> Result<(), Fail> {
-    let ran = ran(&rt, &["run", NAME], b"main : int = 1 - 1", &[], &[1])?;
-    assert_eq!(rt; ran.status.code(), 6);
-    assert_eq!(rt; ran.written.as_slice(), b"refused 15".as_slice());
+    let file = b"kernel k : int = close .<7>. ;; main : int = run[int] k";
+    let whole = ran(&rt, &["run", NAME], file, &[], &[])?;
+    for failing in 0..20 {
+        let ran = ran(&rt, &["run", NAME], file, &[], &[failing])?;
+        // lines of 15, 136 and 9 bytes, in pieces of 10
+        let fails = failing < 17;
+        assert_eq!(rt; ran.status.code(), if fails { 6 } else { 0 });
+        assert_eq!(rt; ran.written.len() < whole.written.len(), fails);
+        assert!(rt; whole.written.as_slice().starts_with(ran.written.as_slice()));
+    }
     Ok(())
 }

@@ -1,8 +1,3 @@
-pub mod FirstSteps
-pub mod FirstFronts
-pub mod FirstNumbers
-pub mod FirstReads
-pub mod FirstWhole
 pub mod WorkedRows
 pub mod Derivations
 pub mod Depths

@@ -14,6 +14,9 @@ pub enum Fault<'a> {
     Deep(&'a [Token]),
 }
 
+/// What was read, the height of its nodes, and the tokens left.
+pub type Read<'a, T> = Result<(T, u32, &'a [Token]), Fault<'a>>;
+
 impl<'a> From<AllocError> for Fault<'a> {
     ghost from_gives = { λ e f. f ≡ Memory e };
 

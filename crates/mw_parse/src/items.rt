@@ -9,7 +9,7 @@ ghost use Rattle.mw_parse.specs.Descent.{none_yet, ok, full, reading};
 ghost use Rattle.mw_parse.specs.Gives.{Gives};
 ghost use Rattle.mw_parse.specs.Answers.{kernels};
 
-use crate::fault::Fault;
+use crate::fault::{Fault, Read};
 use crate::kinds::kernel;
 use crate::next::{Next, after};
 use crate::rows::copy_name;
@@ -23,11 +23,7 @@ use mw_term::Base;
 use std::alloc::Global;
 
 #[tactic(auto, using(crate::proofs::Below::read_full, crate::proofs::Below::read_gives, crate::proofs::Below::read_refuses, crate::proofs::Below::read_reads, crate::proofs::Below::part_fails, crate::proofs::Below::fails_then))]
-fn item_tree(
-    alloc: Global,
-    tokens: &[Token],
-    room: u32,
-) -> Result<(SurfaceItem, u32, &[Token]), Fault>
+fn item_tree(alloc: Global, tokens: &[Token], room: u32) -> Read<SurfaceItem>
     requires { room ≤ 200 }
     ensures gives { Gives (λ x. ok (item_of x.0) x.1 (tokens_of x.2.now)) result (full room item (tokens_of tokens.now)) }
     ensures height { IfOk result (λ x. x.1 ≤ room) }
@@ -49,11 +45,7 @@ fn item_tree(
 }
 
 #[tactic(auto, using(crate::proofs::Below::read_full, crate::proofs::Below::read_gives, crate::proofs::Below::read_refuses, crate::proofs::Below::read_reads, crate::proofs::Below::part_fails, crate::proofs::Below::fails_then))]
-fn let_item(
-    alloc: Global,
-    tokens: &[Token],
-    room: u32,
-) -> Result<(SurfaceItem, u32, &[Token]), Fault>
+fn let_item(alloc: Global, tokens: &[Token], room: u32) -> Read<SurfaceItem>
     requires { room ≤ 200 }
     ensures gives { Gives (λ x. ok (item_of x.0) x.1 (tokens_of x.2.now)) result (reading room (pick let_by) none_yet (tokens_of tokens.now)) }
     ensures height { IfOk result (λ x. x.1 ≤ room) }
@@ -78,11 +70,7 @@ fn let_item(
 }
 
 #[tactic(auto, using(crate::proofs::Below::read_full, crate::proofs::Below::read_gives, crate::proofs::Below::read_refuses, crate::proofs::Below::read_reads, crate::proofs::Below::part_fails, crate::proofs::Below::fails_then))]
-fn recursive_item(
-    alloc: Global,
-    tokens: &[Token],
-    room: u32,
-) -> Result<(SurfaceItem, u32, &[Token]), Fault>
+fn recursive_item(alloc: Global, tokens: &[Token], room: u32) -> Read<SurfaceItem>
     requires { room ≤ 200 }
     ensures gives { Gives (λ x. ok (item_of x.0) x.1 (tokens_of x.2.now)) result (reading room (pick rec_item) none_yet (tokens_of tokens.now)) }
     ensures height { IfOk result (λ x. x.1 ≤ room) }
@@ -109,11 +97,7 @@ fn recursive_item(
 }
 
 #[tactic(auto, using(crate::proofs::Below::read_full, crate::proofs::Below::read_gives, crate::proofs::Below::read_refuses, crate::proofs::Below::read_reads, crate::proofs::Below::part_fails, crate::proofs::Below::fails_then))]
-fn kernel_item(
-    alloc: Global,
-    tokens: &[Token],
-    room: u32,
-) -> Result<(SurfaceItem, u32, &[Token]), Fault>
+fn kernel_item(alloc: Global, tokens: &[Token], room: u32) -> Read<SurfaceItem>
     requires { room ≤ 200 }
     ensures gives { Gives (λ x. ok (item_of x.0) x.1 (tokens_of x.2.now)) result (reading room (pick kernel_by) none_yet (tokens_of tokens.now)) }
     ensures height { IfOk result (λ x. x.1 ≤ room) }
@@ -174,11 +158,7 @@ fn main_tree(
 
 /// A program: the items in turn, and main.
 #[tactic(auto, using(crate::proofs::Below::read_full, crate::proofs::Below::read_gives, crate::proofs::Below::read_refuses, crate::proofs::Below::read_reads, crate::proofs::Below::part_fails, crate::proofs::Below::fails_then, crate::proofs::Programs::behind_none, crate::proofs::Programs::item_goes, crate::proofs::Programs::main_goes, crate::proofs::Programs::fails_items))]
-pub fn program_tree(
-    alloc: Global,
-    tokens: &[Token],
-    room: u32,
-) -> Result<(Surface, u32, &[Token]), Fault>
+pub fn program_tree(alloc: Global, tokens: &[Token], room: u32) -> Read<Surface>
     requires { room ≤ 200 }
     ensures gives { Gives (λ x. ok (surface_of x.0) x.1 (tokens_of x.2.now)) result (full room program (tokens_of tokens.now)) }
 {

@@ -10,7 +10,7 @@ ghost use Rattle.mw_parse.specs.Descent.{none_yet, ok, syntax_at, within, raise,
 ghost use Rattle.mw_parse.specs.Gives.{Gives, grounded_of};
 ghost use Rattle.mw_parse.specs.Opened.{IsOpened};
 
-use crate::fault::Fault;
+use crate::fault::{Fault, Read};
 use crate::next::{Next, after};
 use mw_lex::{Kind, Token};
 use mw_term::{Base, Ground, KType};
@@ -60,7 +60,7 @@ fn part_of(tokens: &[Token]) -> Opened<'_>
 }
 
 #[tactic(auto, using(crate::proofs::Below::read_full, crate::proofs::Below::low_in, crate::proofs::Below::low_out))]
-fn base_type(tokens: &[Token], room: u32) -> Result<(Base, u32, &[Token]), Fault>
+fn base_type(tokens: &[Token], room: u32) -> Read<Base>
     requires { room ≤ 200 }
     ensures gives { Gives (λ x. ok x.0 x.1 (tokens_of x.2.now)) result (full room base (tokens_of tokens.now)) }
     ensures height { IfOk result (λ x. x.1 ≤ room) }
@@ -87,7 +87,7 @@ fn ground_of_it(g: Grounded) -> Ground
 
 #[cycle(grounds)]
 #[tactic(auto, using(crate::proofs::Below::read_full, crate::proofs::Below::read_gives, crate::proofs::Below::read_refuses, crate::proofs::Below::read_reads, crate::proofs::Below::part_fails, crate::proofs::Below::low_in, crate::proofs::Below::low_out, crate::proofs::Below::raise_ok, crate::proofs::Below::fails_raise))]
-fn part_type(alloc: Global, tokens: &[Token], room: u32) -> Result<(Grounded, u32, &[Token]), Fault>
+fn part_type(alloc: Global, tokens: &[Token], room: u32) -> Read<Grounded>
     requires { room ≤ 200 }
     ensures gives { Gives (λ x. ok (grounded_of x.0) x.1 (tokens_of x.2.now)) result (full room part (tokens_of tokens.now)) }
     ensures height { IfOk result (λ x. x.1 ≤ room) }
@@ -110,11 +110,7 @@ fn part_type(alloc: Global, tokens: &[Token], room: u32) -> Result<(Grounded, u3
 
 #[cycle(grounds)]
 #[tactic(auto, using(crate::proofs::Below::read_full, crate::proofs::Below::read_gives, crate::proofs::Below::read_refuses, crate::proofs::Below::read_reads, crate::proofs::Below::part_fails, crate::proofs::Below::low_in, crate::proofs::Below::low_out, crate::proofs::Below::raise_ok, crate::proofs::Below::fails_raise))]
-fn paren_ground(
-    alloc: Global,
-    tokens: &[Token],
-    room: u32,
-) -> Result<(Grounded, u32, &[Token]), Fault>
+fn paren_ground(alloc: Global, tokens: &[Token], room: u32) -> Read<Grounded>
     requires { room ≤ 200 }
     ensures gives { Gives (λ x. ok (grounded_of x.0) x.1 (tokens_of x.2.now)) result (reading {n = part} room (reads ground λ g. expect paren_next (gives (built (ground_in g)))) none_yet (tokens_of tokens.now)) }
     ensures height { IfOk result (λ x. x.1 ≤ room) }
@@ -128,11 +124,7 @@ fn paren_ground(
 
 #[cycle(grounds)]
 #[tactic(auto, using(crate::proofs::Below::read_full, crate::proofs::Below::read_gives, crate::proofs::Below::read_refuses, crate::proofs::Below::read_reads, crate::proofs::Below::part_fails, crate::proofs::Below::low_in, crate::proofs::Below::low_out, crate::proofs::Below::raise_ok, crate::proofs::Below::fails_raise))]
-fn ground_type(
-    alloc: Global,
-    tokens: &[Token],
-    room: u32,
-) -> Result<(Grounded, u32, &[Token]), Fault>
+fn ground_type(alloc: Global, tokens: &[Token], room: u32) -> Read<Grounded>
     requires { room ≤ 200 }
     ensures gives { Gives (λ x. ok (grounded_of x.0) x.1 (tokens_of x.2.now)) result (full room ground (tokens_of tokens.now)) }
     ensures height { IfOk result (λ x. x.1 ≤ room) }
@@ -156,7 +148,7 @@ fn ground_type(
 
 /// A kernel type.
 #[tactic(auto, using(crate::proofs::Below::read_full, crate::proofs::Below::read_gives, crate::proofs::Below::read_refuses, crate::proofs::Below::read_reads, crate::proofs::Below::part_fails, crate::proofs::Below::low_in, crate::proofs::Below::low_out, crate::proofs::Below::raise_ok, crate::proofs::Below::fails_raise))]
-pub fn kernel(alloc: Global, tokens: &[Token], room: u32) -> Result<(KType, u32, &[Token]), Fault>
+pub fn kernel(alloc: Global, tokens: &[Token], room: u32) -> Read<KType>
     requires { room ≤ 200 }
     ensures gives { Gives (λ x. ok (kernel_type_of x.0) x.1 (tokens_of x.2.now)) result (full room kernel_type (tokens_of tokens.now)) }
     ensures height { IfOk result (λ x. x.1 ≤ room) }

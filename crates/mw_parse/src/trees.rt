@@ -11,7 +11,7 @@ ghost use Rattle.mw_parse.specs.Gives.{Gives};
 ghost use Rattle.mw_parse.specs.Words.{mark_in};
 ghost use Rattle.mw_parse.specs.Levels.{row_of, op_of, function_of, definition_of};
 
-use crate::fault::Fault;
+use crate::fault::{Fault, Read};
 use crate::kinds::kernel;
 use crate::next::{Next, after};
 use crate::rows::{Operator, Row, copy_name, join, negative_of, next_operator, positive_of};
@@ -78,7 +78,7 @@ fn disjoined(alloc: Global, left: Tree, right: Tree) -> Result<Tree, AllocError>
 
 /// Behind `(` and `-`.
 #[tactic(auto, using(crate::proofs::Below::read_full, crate::proofs::Below::read_gives, crate::proofs::Below::read_refuses, crate::proofs::Below::read_reads, crate::proofs::Below::part_fails, crate::proofs::Below::fails_then, crate::proofs::Below::raise_ok, crate::proofs::Below::fails_raise))]
-fn literal(tokens: &[Token]) -> Result<(Tree, u32, &[Token]), Fault>
+fn literal(tokens: &[Token]) -> Read<Tree>
     ensures gives { (b : ℕ) → Gives (λ x. ok (tree_of x.0) x.1 (tokens_of x.2.now)) result (reading b (pick minus_by) none_yet (tokens_of tokens.now)) }
     ensures height { IfOk result (λ x. x.1 ≡ 0) }
 {
@@ -96,7 +96,7 @@ fn literal(tokens: &[Token]) -> Result<(Tree, u32, &[Token]), Fault>
 
 #[cycle(trees)]
 #[tactic(auto, using(crate::proofs::Below::read_full, crate::proofs::Below::read_gives, crate::proofs::Below::read_refuses, crate::proofs::Below::read_reads, crate::proofs::Below::part_fails, crate::proofs::Below::fails_then, crate::proofs::Below::raise_ok, crate::proofs::Below::fails_raise))]
-fn atom_tree(alloc: Global, tokens: &[Token], room: u32) -> Result<(Tree, u32, &[Token]), Fault>
+fn atom_tree(alloc: Global, tokens: &[Token], room: u32) -> Read<Tree>
     requires { room ≤ 200 }
     ensures gives { Gives (λ x. ok (tree_of x.0) x.1 (tokens_of x.2.now)) result (full room (tree atom) (tokens_of tokens.now)) }
     ensures height { IfOk result (λ x. x.1 ≤ room) }
@@ -158,12 +158,7 @@ fn atom_tree(alloc: Global, tokens: &[Token], room: u32) -> Result<(Tree, u32, &
 
 #[cycle(trees)]
 #[tactic(auto, using(crate::proofs::Below::read_full, crate::proofs::Below::read_gives, crate::proofs::Below::read_refuses, crate::proofs::Below::read_reads, crate::proofs::Below::part_fails, crate::proofs::Below::fails_then, crate::proofs::Below::raise_ok, crate::proofs::Below::fails_raise))]
-fn bracketed(
-    alloc: Global,
-    at: u32,
-    tokens: &[Token],
-    room: u32,
-) -> Result<(Tree, u32, &[Token]), Fault>
+fn bracketed(alloc: Global, at: u32, tokens: &[Token], room: u32) -> Read<Tree>
     requires { room ≤ 200 }
     ensures gives { Gives (λ x. ok (tree_of x.0) x.1 (tokens_of x.2.now)) result (reading {n = tree atom} room (reads (tree expr) λ e. expect bracket_next (gives (bracket at e))) none_yet (tokens_of tokens.now)) }
     ensures height { IfOk result (λ x. x.1 ≤ room) }
@@ -177,12 +172,7 @@ fn bracketed(
 
 #[cycle(trees)]
 #[tactic(auto, using(crate::proofs::Below::read_full, crate::proofs::Below::read_gives, crate::proofs::Below::read_refuses, crate::proofs::Below::read_reads, crate::proofs::Below::part_fails, crate::proofs::Below::fails_then, crate::proofs::Below::raise_ok, crate::proofs::Below::fails_raise))]
-fn escaped(
-    alloc: Global,
-    at: u32,
-    tokens: &[Token],
-    room: u32,
-) -> Result<(Tree, u32, &[Token]), Fault>
+fn escaped(alloc: Global, at: u32, tokens: &[Token], room: u32) -> Read<Tree>
     requires { room ≤ 200 }
     ensures gives { Gives (λ x. ok (tree_of x.0) x.1 (tokens_of x.2.now)) result (reading {n = tree atom} room (reads (tree atom) λ e. gives (escape at e)) none_yet (tokens_of tokens.now)) }
     ensures height { IfOk result (λ x. x.1 ≤ room) }
@@ -193,7 +183,7 @@ fn escaped(
 
 #[cycle(trees)]
 #[tactic(auto, using(crate::proofs::Below::read_full, crate::proofs::Below::read_gives, crate::proofs::Below::read_refuses, crate::proofs::Below::read_reads, crate::proofs::Below::part_fails, crate::proofs::Below::fails_then, crate::proofs::Below::raise_ok, crate::proofs::Below::fails_raise))]
-fn in_parens(alloc: Global, tokens: &[Token], room: u32) -> Result<(Tree, u32, &[Token]), Fault>
+fn in_parens(alloc: Global, tokens: &[Token], room: u32) -> Read<Tree>
     requires { room ≤ 200 }
     ensures gives { Gives (λ x. ok (tree_of x.0) x.1 (tokens_of x.2.now)) result (reading room (pick paren_by) none_yet (tokens_of tokens.now)) }
     ensures height { IfOk result (λ x. x.1 ≤ room) }
@@ -211,7 +201,7 @@ fn in_parens(alloc: Global, tokens: &[Token], room: u32) -> Result<(Tree, u32, &
 
 #[cycle(trees)]
 #[tactic(auto, using(crate::proofs::Below::read_full, crate::proofs::Below::read_gives, crate::proofs::Below::read_refuses, crate::proofs::Below::read_reads, crate::proofs::Below::part_fails, crate::proofs::Below::fails_then, crate::proofs::Below::raise_ok, crate::proofs::Below::fails_raise))]
-fn grouped(alloc: Global, tokens: &[Token], room: u32) -> Result<(Tree, u32, &[Token]), Fault>
+fn grouped(alloc: Global, tokens: &[Token], room: u32) -> Read<Tree>
     requires { room ≤ 200 }
     ensures gives { Gives (λ x. ok (tree_of x.0) x.1 (tokens_of x.2.now)) result (reading {n = tree atom} room (reads (tree expr) λ d. pick (behind_first d)) none_yet (tokens_of tokens.now)) }
     ensures height { IfOk result (λ x. x.1 ≤ room) }
@@ -229,13 +219,7 @@ fn grouped(alloc: Global, tokens: &[Token], room: u32) -> Result<(Tree, u32, &[T
 
 #[cycle(trees)]
 #[tactic(auto, using(crate::proofs::Below::read_full, crate::proofs::Below::read_gives, crate::proofs::Below::read_refuses, crate::proofs::Below::read_reads, crate::proofs::Below::part_fails, crate::proofs::Below::fails_then, crate::proofs::Below::raise_ok, crate::proofs::Below::fails_raise))]
-fn paired(
-    alloc: Global,
-    left: Tree,
-    height: u32,
-    tokens: &[Token],
-    room: u32,
-) -> Result<(Tree, u32, &[Token]), Fault>
+fn paired(alloc: Global, left: Tree, height: u32, tokens: &[Token], room: u32) -> Read<Tree>
     requires { (height ≤ room) × (room ≤ 200) }
     ensures gives { Gives (λ x. ok (tree_of x.0) x.1 (tokens_of x.2.now)) result (reading {n = tree atom} room (reads (tree expr) λ e. expect paren_next (gives (pair (tree_of left) e))) (so_far height) (tokens_of tokens.now)) }
     ensures height { IfOk result (λ x. x.1 ≤ room) }
@@ -252,7 +236,7 @@ fn paired(
 
 #[cycle(trees)]
 #[tactic(auto, using(crate::proofs::Below::read_full, crate::proofs::Below::read_gives, crate::proofs::Below::read_refuses, crate::proofs::Below::read_reads, crate::proofs::Below::part_fails, crate::proofs::Below::fails_then, crate::proofs::Below::raise_ok, crate::proofs::Below::fails_raise))]
-fn head_tree(alloc: Global, tokens: &[Token], room: u32) -> Result<(Tree, u32, &[Token]), Fault>
+fn head_tree(alloc: Global, tokens: &[Token], room: u32) -> Read<Tree>
     requires { room ≤ 200 }
     ensures gives { Gives (λ x. ok (tree_of x.0) x.1 (tokens_of x.2.now)) result (full room (tree head) (tokens_of tokens.now)) }
     ensures height { IfOk result (λ x. x.1 ≤ room) }
@@ -339,12 +323,7 @@ fn head_tree(alloc: Global, tokens: &[Token], room: u32) -> Result<(Tree, u32, &
 
 #[cycle(trees)]
 #[tactic(auto, using(crate::proofs::Below::read_full, crate::proofs::Below::read_gives, crate::proofs::Below::read_refuses, crate::proofs::Below::read_reads, crate::proofs::Below::part_fails, crate::proofs::Below::fails_then, crate::proofs::Below::raise_ok, crate::proofs::Below::fails_raise))]
-fn running(
-    alloc: Global,
-    at: u32,
-    tokens: &[Token],
-    room: u32,
-) -> Result<(Tree, u32, &[Token]), Fault>
+fn running(alloc: Global, at: u32, tokens: &[Token], room: u32) -> Read<Tree>
     requires { room ≤ 200 }
     ensures gives { Gives (λ x. ok (tree_of x.0) x.1 (tokens_of x.2.now)) result (reading {n = tree head} room (expect left_next (reads kernel_type λ k. expect right_next (reads (tree atom) λ e. gives (run at k e)))) none_yet (tokens_of tokens.now)) }
     ensures height { IfOk result (λ x. x.1 ≤ room) }
@@ -370,12 +349,7 @@ fn running(
 
 #[cycle(trees)]
 #[tactic(auto, using(crate::proofs::Below::read_full, crate::proofs::Below::read_gives, crate::proofs::Below::read_refuses, crate::proofs::Below::read_reads, crate::proofs::Below::part_fails, crate::proofs::Below::fails_then, crate::proofs::Below::raise_ok, crate::proofs::Below::fails_raise))]
-fn operand_tree(
-    alloc: Global,
-    row: Row,
-    tokens: &[Token],
-    room: u32,
-) -> Result<(Tree, u32, &[Token]), Fault>
+fn operand_tree(alloc: Global, row: Row, tokens: &[Token], room: u32) -> Read<Tree>
     requires { room ≤ 200 }
     ensures gives { Gives (λ x. ok (tree_of x.0) x.1 (tokens_of x.2.now)) result (full room (tree (operand (row_of row))) (tokens_of tokens.now)) }
     ensures height { IfOk result (λ x. x.1 ≤ room) }
@@ -389,12 +363,7 @@ fn operand_tree(
 
 #[cycle(trees)]
 #[tactic(auto, using(crate::proofs::Below::read_full, crate::proofs::Below::read_gives, crate::proofs::Below::read_refuses, crate::proofs::Below::read_reads, crate::proofs::Below::part_fails, crate::proofs::Below::fails_then, crate::proofs::Below::raise_ok, crate::proofs::Below::fails_raise))]
-fn right_tree(
-    alloc: Global,
-    row: Row,
-    tokens: &[Token],
-    room: u32,
-) -> Result<(Tree, u32, &[Token]), Fault>
+fn right_tree(alloc: Global, row: Row, tokens: &[Token], room: u32) -> Read<Tree>
     requires { room ≤ 200 }
     ensures gives { Gives (λ x. ok (tree_of x.0) x.1 (tokens_of x.2.now)) result (full room (tree (right (row_of row))) (tokens_of tokens.now)) }
     ensures height { IfOk result (λ x. x.1 ≤ room) }
@@ -408,12 +377,7 @@ fn right_tree(
 
 #[cycle(trees)]
 #[tactic(auto, using(crate::proofs::Below::read_full, crate::proofs::Below::read_gives, crate::proofs::Below::read_refuses, crate::proofs::Below::read_reads, crate::proofs::Below::part_fails, crate::proofs::Below::fails_then, crate::proofs::Below::raise_ok, crate::proofs::Below::fails_raise, crate::proofs::Below::read_more))]
-fn row_tree(
-    alloc: Global,
-    row: Row,
-    tokens: &[Token],
-    room: u32,
-) -> Result<(Tree, u32, &[Token]), Fault>
+fn row_tree(alloc: Global, row: Row, tokens: &[Token], room: u32) -> Read<Tree>
     requires { room ≤ 200 }
     ensures gives { Gives (λ x. ok (tree_of x.0) x.1 (tokens_of x.2.now)) result (full room (tree (leveled (row_of row))) (tokens_of tokens.now)) }
     ensures height { IfOk result (λ x. x.1 ≤ room) }
@@ -432,7 +396,7 @@ fn more_trees(
     height: u32,
     tokens: &[Token],
     room: u32,
-) -> Result<(Tree, u32, &[Token]), Fault>
+) -> Read<Tree>
     requires { (height ≤ room) × (room ≤ 200) }
     ensures gives { Gives (λ x. ok (tree_of x.0) x.1 (tokens_of x.2.now)) result (following room (row_of row) (tree_of left) height (tokens_of tokens.now)) }
     ensures height { IfOk result (λ x. x.1 ≤ room) }
@@ -450,11 +414,7 @@ fn more_trees(
 
 #[cycle(trees)]
 #[tactic(auto, using(crate::proofs::Below::read_full, crate::proofs::Below::read_gives, crate::proofs::Below::read_refuses, crate::proofs::Below::read_reads, crate::proofs::Below::part_fails, crate::proofs::Below::fails_then, crate::proofs::Below::raise_ok, crate::proofs::Below::fails_raise))]
-fn comparison_tree(
-    alloc: Global,
-    tokens: &[Token],
-    room: u32,
-) -> Result<(Tree, u32, &[Token]), Fault>
+fn comparison_tree(alloc: Global, tokens: &[Token], room: u32) -> Read<Tree>
     requires { room ≤ 200 }
     ensures gives { Gives (λ x. ok (tree_of x.0) x.1 (tokens_of x.2.now)) result (full room (tree comparison) (tokens_of tokens.now)) }
     ensures height { IfOk result (λ x. x.1 ≤ room) }
@@ -465,13 +425,7 @@ fn comparison_tree(
 
 #[cycle(trees)]
 #[tactic(auto, using(crate::proofs::Below::read_full, crate::proofs::Below::read_gives, crate::proofs::Below::read_refuses, crate::proofs::Below::read_reads, crate::proofs::Below::part_fails, crate::proofs::Below::fails_then, crate::proofs::Below::raise_ok, crate::proofs::Below::fails_raise))]
-fn equal_tree(
-    alloc: Global,
-    left: Tree,
-    height: u32,
-    tokens: &[Token],
-    room: u32,
-) -> Result<(Tree, u32, &[Token]), Fault>
+fn equal_tree(alloc: Global, left: Tree, height: u32, tokens: &[Token], room: u32) -> Read<Tree>
     requires { (height ≤ room) × (room ≤ 200) }
     ensures gives { Gives (λ x. ok (tree_of x.0) x.1 (tokens_of x.2.now)) result (reading room (equal_to (tree_of left)) (so_far height) (tokens_of tokens.now)) }
     ensures height { IfOk result (λ x. x.1 ≤ room) }
@@ -491,13 +445,7 @@ fn equal_tree(
 
 #[cycle(trees)]
 #[tactic(auto, using(crate::proofs::Below::read_full, crate::proofs::Below::read_gives, crate::proofs::Below::read_refuses, crate::proofs::Below::read_reads, crate::proofs::Below::part_fails, crate::proofs::Below::fails_then, crate::proofs::Below::raise_ok, crate::proofs::Below::fails_raise))]
-fn less_tree(
-    alloc: Global,
-    left: Tree,
-    height: u32,
-    tokens: &[Token],
-    room: u32,
-) -> Result<(Tree, u32, &[Token]), Fault>
+fn less_tree(alloc: Global, left: Tree, height: u32, tokens: &[Token], room: u32) -> Read<Tree>
     requires { (height ≤ room) × (room ≤ 200) }
     ensures gives { Gives (λ x. ok (tree_of x.0) x.1 (tokens_of x.2.now)) result (reading room (below (tree_of left)) (so_far height) (tokens_of tokens.now)) }
     ensures height { IfOk result (λ x. x.1 ≤ room) }
@@ -523,7 +471,7 @@ fn less_equal_tree(
     height: u32,
     tokens: &[Token],
     room: u32,
-) -> Result<(Tree, u32, &[Token]), Fault>
+) -> Read<Tree>
     requires { (height ≤ room) × (room ≤ 200) }
     ensures gives { Gives (λ x. ok (tree_of x.0) x.1 (tokens_of x.2.now)) result (reading room (at_most (tree_of left)) (so_far height) (tokens_of tokens.now)) }
     ensures height { IfOk result (λ x. x.1 ≤ room) }
@@ -543,11 +491,7 @@ fn less_equal_tree(
 
 #[cycle(trees)]
 #[tactic(auto, using(crate::proofs::Below::read_full, crate::proofs::Below::read_gives, crate::proofs::Below::read_refuses, crate::proofs::Below::read_reads, crate::proofs::Below::part_fails, crate::proofs::Below::fails_then, crate::proofs::Below::raise_ok, crate::proofs::Below::fails_raise))]
-fn conjunction_tree(
-    alloc: Global,
-    tokens: &[Token],
-    room: u32,
-) -> Result<(Tree, u32, &[Token]), Fault>
+fn conjunction_tree(alloc: Global, tokens: &[Token], room: u32) -> Read<Tree>
     requires { room ≤ 200 }
     ensures gives { Gives (λ x. ok (tree_of x.0) x.1 (tokens_of x.2.now)) result (full room (tree conjunction) (tokens_of tokens.now)) }
     ensures height { IfOk result (λ x. x.1 ≤ room) }
@@ -567,11 +511,7 @@ fn conjunction_tree(
 
 #[cycle(trees)]
 #[tactic(auto, using(crate::proofs::Below::read_full, crate::proofs::Below::read_gives, crate::proofs::Below::read_refuses, crate::proofs::Below::read_reads, crate::proofs::Below::part_fails, crate::proofs::Below::fails_then, crate::proofs::Below::raise_ok, crate::proofs::Below::fails_raise))]
-fn disjunction_tree(
-    alloc: Global,
-    tokens: &[Token],
-    room: u32,
-) -> Result<(Tree, u32, &[Token]), Fault>
+fn disjunction_tree(alloc: Global, tokens: &[Token], room: u32) -> Read<Tree>
     requires { room ≤ 200 }
     ensures gives { Gives (λ x. ok (tree_of x.0) x.1 (tokens_of x.2.now)) result (full room (tree disjunction) (tokens_of tokens.now)) }
     ensures height { IfOk result (λ x. x.1 ≤ room) }
@@ -591,7 +531,7 @@ fn disjunction_tree(
 
 #[cycle(trees)]
 #[tactic(auto, using(crate::proofs::Below::read_full, crate::proofs::Below::read_gives, crate::proofs::Below::read_refuses, crate::proofs::Below::read_reads, crate::proofs::Below::part_fails, crate::proofs::Below::fails_then, crate::proofs::Below::raise_ok, crate::proofs::Below::fails_raise))]
-pub fn expr_tree(alloc: Global, tokens: &[Token], room: u32) -> Result<(Tree, u32, &[Token]), Fault>
+pub fn expr_tree(alloc: Global, tokens: &[Token], room: u32) -> Read<Tree>
     requires { room ≤ 200 }
     ensures gives { Gives (λ x. ok (tree_of x.0) x.1 (tokens_of x.2.now)) result (full room (tree expr) (tokens_of tokens.now)) }
     ensures height { IfOk result (λ x. x.1 ≤ room) }
@@ -624,7 +564,7 @@ pub fn expr_tree(alloc: Global, tokens: &[Token], room: u32) -> Result<(Tree, u3
 
 #[cycle(trees)]
 #[tactic(auto, using(crate::proofs::Below::read_full, crate::proofs::Below::read_gives, crate::proofs::Below::read_refuses, crate::proofs::Below::read_reads, crate::proofs::Below::part_fails, crate::proofs::Below::fails_then, crate::proofs::Below::raise_ok, crate::proofs::Below::fails_raise))]
-fn conditional(alloc: Global, tokens: &[Token], room: u32) -> Result<(Tree, u32, &[Token]), Fault>
+fn conditional(alloc: Global, tokens: &[Token], room: u32) -> Read<Tree>
     requires { room ≤ 200 }
     ensures gives { Gives (λ x. ok (tree_of x.0) x.1 (tokens_of x.2.now)) result (reading {n = tree expr} room (reads (tree expr) λ c. expect then_next (reads (tree expr) λ d. expect else_next (reads (tree expr) λ e. gives (cond c d e)))) none_yet (tokens_of tokens.now)) }
     ensures height { IfOk result (λ x. x.1 ≤ room) }
@@ -638,13 +578,7 @@ fn conditional(alloc: Global, tokens: &[Token], room: u32) -> Result<(Tree, u32,
 
 #[cycle(trees)]
 #[tactic(auto, using(crate::proofs::Below::read_full, crate::proofs::Below::read_gives, crate::proofs::Below::read_refuses, crate::proofs::Below::read_reads, crate::proofs::Below::part_fails, crate::proofs::Below::fails_then, crate::proofs::Below::raise_ok, crate::proofs::Below::fails_raise))]
-fn branches(
-    alloc: Global,
-    test: Tree,
-    height: u32,
-    tokens: &[Token],
-    room: u32,
-) -> Result<(Tree, u32, &[Token]), Fault>
+fn branches(alloc: Global, test: Tree, height: u32, tokens: &[Token], room: u32) -> Read<Tree>
     requires { (height ≤ room) × (room ≤ 200) }
     ensures gives { Gives (λ x. ok (tree_of x.0) x.1 (tokens_of x.2.now)) result (reading {n = tree expr} room (reads (tree expr) λ d. expect else_next (reads (tree expr) λ e. gives (cond (tree_of test) d e))) (so_far height) (tokens_of tokens.now)) }
     ensures height { IfOk result (λ x. x.1 ≤ room) }
@@ -666,7 +600,7 @@ fn branches(
 
 #[cycle(trees)]
 #[tactic(auto, using(crate::proofs::Below::read_full, crate::proofs::Below::read_gives, crate::proofs::Below::read_refuses, crate::proofs::Below::read_reads, crate::proofs::Below::part_fails, crate::proofs::Below::fails_then, crate::proofs::Below::raise_ok, crate::proofs::Below::fails_raise))]
-fn bound_tree(alloc: Global, tokens: &[Token], room: u32) -> Result<(Tree, u32, &[Token]), Fault>
+fn bound_tree(alloc: Global, tokens: &[Token], room: u32) -> Read<Tree>
     requires { room ≤ 200 }
     ensures gives { Gives (λ x. ok (tree_of x.0) x.1 (tokens_of x.2.now)) result (reading room (pick let_in_by) none_yet (tokens_of tokens.now)) }
     ensures height { IfOk result (λ x. x.1 ≤ room) }
@@ -687,7 +621,7 @@ fn bound_tree(alloc: Global, tokens: &[Token], room: u32) -> Result<(Tree, u32, 
 
 #[cycle(trees)]
 #[tactic(auto, using(crate::proofs::Below::read_full, crate::proofs::Below::read_gives, crate::proofs::Below::read_refuses, crate::proofs::Below::read_reads, crate::proofs::Below::part_fails, crate::proofs::Below::fails_then, crate::proofs::Below::raise_ok, crate::proofs::Below::fails_raise))]
-fn recursive(alloc: Global, tokens: &[Token], room: u32) -> Result<(Tree, u32, &[Token]), Fault>
+fn recursive(alloc: Global, tokens: &[Token], room: u32) -> Read<Tree>
     requires { room ≤ 200 }
     ensures gives { Gives (λ x. ok (tree_of x.0) x.1 (tokens_of x.2.now)) result (reading room (pick rec_by) none_yet (tokens_of tokens.now)) }
     ensures height { IfOk result (λ x. x.1 ≤ room) }
@@ -714,7 +648,7 @@ fn scoped(
     height: u32,
     tokens: &[Token],
     room: u32,
-) -> Result<(Tree, u32, &[Token]), Fault>
+) -> Read<Tree>
     requires { (height ≤ room) × (room ≤ 200) }
     ensures gives { Gives (λ x. ok (tree_of x.0) x.1 (tokens_of x.2.now)) result (reading {n = tree expr} room (expect in_next (reads (tree expr) λ e. gives (bind name (tree_of definition) e))) (so_far height) (tokens_of tokens.now)) }
     ensures height { IfOk result (λ x. x.1 ≤ room) }
@@ -731,12 +665,7 @@ fn scoped(
 
 #[cycle(trees)]
 #[tactic(auto, using(crate::proofs::Below::read_full, crate::proofs::Below::read_gives, crate::proofs::Below::read_refuses, crate::proofs::Below::read_reads, crate::proofs::Below::part_fails, crate::proofs::Below::fails_then, crate::proofs::Below::raise_ok, crate::proofs::Below::fails_raise))]
-pub fn parameter_tree(
-    alloc: Global,
-    mark: Mark,
-    tokens: &[Token],
-    room: u32,
-) -> Result<(Function, u32, &[Token]), Fault>
+pub fn parameter_tree(alloc: Global, mark: Mark, tokens: &[Token], room: u32) -> Read<Function>
     requires { room ≤ 200 }
     ensures gives { Gives (λ x. ok (function_of x.0) x.1 (tokens_of x.2.now)) result (full room (parameter (mark_in mark)) (tokens_of tokens.now)) }
     ensures height { IfOk result (λ x. x.1 ≤ room) }
@@ -761,12 +690,7 @@ pub fn parameter_tree(
 
 #[cycle(trees)]
 #[tactic(auto, using(crate::proofs::Below::read_full, crate::proofs::Below::read_gives, crate::proofs::Below::read_refuses, crate::proofs::Below::read_reads, crate::proofs::Below::part_fails, crate::proofs::Below::fails_then, crate::proofs::Below::raise_ok, crate::proofs::Below::fails_raise))]
-pub fn body_tree(
-    alloc: Global,
-    mark: Mark,
-    tokens: &[Token],
-    room: u32,
-) -> Result<(Defined, u32, &[Token]), Fault>
+pub fn body_tree(alloc: Global, mark: Mark, tokens: &[Token], room: u32) -> Read<Defined>
     requires { room ≤ 200 }
     ensures gives { Gives (λ x. ok (definition_of x.0) x.1 (tokens_of x.2.now)) result (full room (body (mark_in mark)) (tokens_of tokens.now)) }
     ensures height { IfOk result (λ x. x.1 ≤ room) }
@@ -788,12 +712,7 @@ pub fn body_tree(
 
 #[cycle(trees)]
 #[tactic(auto, using(crate::proofs::Below::read_full, crate::proofs::Below::read_gives, crate::proofs::Below::read_refuses, crate::proofs::Below::read_reads, crate::proofs::Below::part_fails, crate::proofs::Below::fails_then, crate::proofs::Below::raise_ok, crate::proofs::Below::fails_raise))]
-fn behind_tree(
-    alloc: Global,
-    mark: Mark,
-    tokens: &[Token],
-    room: u32,
-) -> Result<(Defined, u32, &[Token]), Fault>
+fn behind_tree(alloc: Global, mark: Mark, tokens: &[Token], room: u32) -> Read<Defined>
     requires { room ≤ 200 }
     ensures gives { Gives (λ x. ok (definition_of x.0) x.1 (tokens_of x.2.now)) result (reading room (pick (behind_mark (mark_in mark))) none_yet (tokens_of tokens.now)) }
     ensures height { IfOk result (λ x. x.1 ≤ room) }
@@ -810,7 +729,7 @@ fn behind_tree(
 
 #[cycle(trees)]
 #[tactic(auto, using(crate::proofs::Below::read_full, crate::proofs::Below::read_gives, crate::proofs::Below::read_refuses, crate::proofs::Below::read_reads, crate::proofs::Below::part_fails, crate::proofs::Below::fails_then, crate::proofs::Below::raise_ok, crate::proofs::Below::fails_raise))]
-fn passed_atom(alloc: Global, tokens: &[Token], room: u32) -> Result<(Tree, u32, &[Token]), Fault>
+fn passed_atom(alloc: Global, tokens: &[Token], room: u32) -> Read<Tree>
     requires { room ≤ 200 }
     ensures gives { Gives (λ x. ok (tree_of x.0) x.1 (tokens_of x.2.now)) result (reading {n = tree head} room (reads (tree atom) λ e. gives e) none_yet (tokens_of tokens.now)) }
     ensures height { IfOk result (λ x. x.1 ≤ room) }
@@ -821,11 +740,7 @@ fn passed_atom(alloc: Global, tokens: &[Token], room: u32) -> Result<(Tree, u32,
 
 #[cycle(trees)]
 #[tactic(auto, using(crate::proofs::Below::read_full, crate::proofs::Below::read_gives, crate::proofs::Below::read_refuses, crate::proofs::Below::read_reads, crate::proofs::Below::part_fails, crate::proofs::Below::fails_then, crate::proofs::Below::raise_ok, crate::proofs::Below::fails_raise))]
-fn passed_disjunction(
-    alloc: Global,
-    tokens: &[Token],
-    room: u32,
-) -> Result<(Tree, u32, &[Token]), Fault>
+fn passed_disjunction(alloc: Global, tokens: &[Token], room: u32) -> Read<Tree>
     requires { room ≤ 200 }
     ensures gives { Gives (λ x. ok (tree_of x.0) x.1 (tokens_of x.2.now)) result (reading {n = tree expr} room (reads (tree disjunction) λ e. gives e) none_yet (tokens_of tokens.now)) }
     ensures height { IfOk result (λ x. x.1 ≤ room) }
@@ -844,7 +759,7 @@ fn next_operand(
     height: u32,
     tokens: &[Token],
     room: u32,
-) -> Result<(Tree, u32, &[Token]), Fault>
+) -> Read<Tree>
     requires { (height < room) × (room ≤ 200) }
     ensures gives { Gives (λ x. ok (tree_of x.0) x.1 (tokens_of x.2.now)) result (and_then (full (room - 1) (tree (right (row_of row))) (tokens_of tokens.now)) λ r h mid. following room (row_of row) (operated (op_of operator) (tree_of left) r) (suc (max height h)) mid) }
     ensures height { IfOk result (λ x. x.1 ≤ room) }
@@ -863,7 +778,7 @@ fn scoped_function(
     height: u32,
     tokens: &[Token],
     room: u32,
-) -> Result<(Tree, u32, &[Token]), Fault>
+) -> Read<Tree>
     requires { (height ≤ room) × (room ≤ 200) }
     ensures gives { Gives (λ x. ok (tree_of x.0) x.1 (tokens_of x.2.now)) result (reading {n = tree expr} room (expect in_next (reads (tree expr) λ e. gives (bound_rec name (function_of function) e))) (so_far height) (tokens_of tokens.now)) }
     ensures height { IfOk result (λ x. x.1 ≤ room) }

@@ -3,11 +3,12 @@ use Rattle.std.proofs.lemmas.Int.{to_z-of_z}
 use mir.Syntax.{w64}
 use mir.Val.{SFits}
 use Rattle.mw_term.specs.declared.term.Primitive.TheVariants.{Add}
+use Rattle.mw_drive.specs.Evaluation.{codes_of}
 use Rattle.mw_drive.proofs.EvaluationLemmas.{number_num, number_sum}
 use Rattle.mw_drive.proofs.evaluate.+number_of.Goals as goal
 
 pub returns-in-Int : goal.returns-in-Int
-returns-in-Int t c = let fits : SFits w64 c.in-Int.n = search rules in rw (c.in-Int.is, to_z-of_z w64 c.in-Int.n fits) (number_num c.in-Int.n)
+returns-in-Int t c = let fits : SFits w64 c.in-Int.n = search rules in rw (c.in-Int.is, to_z-of_z w64 c.in-Int.n fits) (number_num (codes_of c.args.entries.now) c.in-Int.n)
 
 pub returns-in_ok-right-in-Prim-Add-default-default : goal.returns-in_ok-right-in-Prim-Add-default-default
 returns-in_ok-right-in-Prim-Add-default-default t c =
