@@ -2,8 +2,8 @@
 use Rattle.mw_parse.specs.Grammar as Pure
 use Rattle.mw_parse.specs.Forms as forms
 use Rattle.mw_parse.specs.SurfaceTrees.{tree_of}
-use Rattle.mw_parse.specs.declared.trees.Function.{Function}
-use Rattle.mw_parse.specs.declared.trees.Defined.{Defined}
+use Rattle.mw_parse.specs.declared.parts.Function.{Function}
+use Rattle.mw_parse.specs.declared.parts.Defined.{Defined}
 use Rattle.mw_parse.specs.declared.rows.Row.{Row}
 use Rattle.mw_parse.specs.declared.rows.Row.TheVariants as rows
 use Rattle.mw_parse.specs.declared.rows.Operator.{Operator}

@@ -1,16 +1,20 @@
 -- What the symbol of a token decides: which symbol it is, or which form comes with the others.
-use Rattle.std.specs.Prelude.{◌≡◌}
-use Rattle.mw_lex.specs.Tokens.{PureToken, minus, let_word, rec_word, fun_word, if_word, true_word, false_word, fst_word, snd_word, not_word, close_word, open_word, lift_word, lift_b_word, run_word, kernel_word, main_word, paren_left, paren_right, bracket_left, escape_mark, comma, word, number, token}
-use Rattle.mw_parse.specs.SurfaceTrees.{SurfaceTree}
+use Rattle.std.specs.Prelude.{ℕ, ◌≡◌, true, false, Option, Some, None}
+use Rattle.mw_lex.specs.Tokens.{PureToken, minus, let_word, rec_word, fun_word, if_word, kernel_word, main_word, paren_right, comma, word, token}
+use Rattle.mw_parse.specs.SurfaceTrees.{SurfaceTree, num, truth, used, cond, fst, snd, bracket, escape, run, close, opened, lift, lift_b}
 use Rattle.mw_parse.specs.Grammar as Pure
-use Rattle.mw_parse.specs.Grammar.{tree, expr, disjunction, atom, parameter}
-use Rattle.mw_parse.specs.Forms.{gives, reads, skip, pick, refuses, expr_by, let_in_by, let_by, atom_by, head_by, paren_by, behind_first, body_by, behind_mark, defined, program_by, items_of, item_by}
+use Rattle.mw_parse.specs.Grammar.{tree, expr, disjunction, head, atom, parameter, kernel_type, positive}
+use Rattle.mw_parse.specs.Forms.{Form, bracket_next, left_next, right_next, gives, reads, skip, under, expect, pick, refuses, expr_by, let_in_by, let_by, atom_by, head_by, paren_by, behind_first, body_by, behind_mark, defined, program_by, items_of, item_by}
 use Rattle.mw_parse.specs.declared.words.First.{First}
 use Rattle.mw_parse.specs.declared.words.First.TheVariants as first
 use Rattle.mw_parse.specs.declared.words.Named.{Named}
 use Rattle.mw_parse.specs.declared.words.Named.TheVariants as named
+use Rattle.mw_parse.specs.declared.words.Leaf.{Leaf}
+use Rattle.mw_parse.specs.declared.words.Leaf.TheVariants as leaves
 use Rattle.mw_parse.specs.declared.words.Atom.{Atom}
 use Rattle.mw_parse.specs.declared.words.Atom.TheVariants as atoms
+use Rattle.mw_parse.specs.declared.words.Prefix.{Prefix}
+use Rattle.mw_parse.specs.declared.words.Prefix.TheVariants as prefixes
 use Rattle.mw_parse.specs.declared.words.Head.{Head}
 use Rattle.mw_parse.specs.declared.words.Head.TheVariants as heads
 use Rattle.mw_parse.specs.declared.words.Inside.{Inside}
@@ -46,26 +50,42 @@ IsNamed (token a b k) (named.Word x) = k ≡ word x.now
 IsNamed (token a b k) named.Rec = k ≡ rec_word
 IsNamed (token a b k) named.Other = IsNoName (token a b k)
 
-abbrev pub IsAtom : PureToken → Atom → Type 0
-IsAtom (token a b k) (atoms.Word x) = k ≡ word x.now
-IsAtom (token a b k) (atoms.Number n) = k ≡ number n
-IsAtom (token a b k) atoms.True = k ≡ true_word
-IsAtom (token a b k) atoms.False = k ≡ false_word
-IsAtom (token a b k) atoms.Paren = k ≡ paren_left
-IsAtom (token a b k) atoms.Bracket = k ≡ bracket_left
-IsAtom (token a b k) atoms.Escape = k ≡ escape_mark
-IsAtom (token a b k) atoms.Other = atom_by (token a b k) ≡ refuses
+-- an atom of one token
+abbrev pub leaf_of : Leaf → ℕ → SurfaceTree
+leaf_of (leaves.Word x) at = used x.now at
+leaf_of (leaves.Number n) at = num (positive n)
+leaf_of leaves.True at = truth true
+leaf_of leaves.False at = truth false
 
-abbrev pub IsHead : PureToken → Head → Type 0
-IsHead (token a b k) heads.Fst = k ≡ fst_word
-IsHead (token a b k) heads.Snd = k ≡ snd_word
-IsHead (token a b k) heads.Not = k ≡ not_word
-IsHead (token a b k) heads.Close = k ≡ close_word
-IsHead (token a b k) heads.Open = k ≡ open_word
-IsHead (token a b k) heads.Lift = k ≡ lift_word
-IsHead (token a b k) heads.LiftB = k ≡ lift_b_word
-IsHead (token a b k) heads.Run = k ≡ run_word
-IsHead (token a b k) heads.Other = head_by (token a b k) ≡ (reads (tree atom) λ e. gives e)
+-- what is read inside the node of an atom
+abbrev pub atom_form : Atom → ℕ → Form (tree atom)
+atom_form (atoms.Leaf l) at = gives (leaf_of l at)
+atom_form atoms.Paren at = pick paren_by
+atom_form atoms.Bracket at = reads (tree expr) λ e. expect bracket_next (gives (bracket at e))
+atom_form atoms.Escape at = reads (tree atom) λ e. gives (escape at e)
+
+abbrev pub IsAtom : PureToken → Option Atom → Type 0
+IsAtom (token a b k) (Some w) = atom_by (token a b k) ≡ under (atom_form w a)
+IsAtom (token a b k) None = atom_by (token a b k) ≡ refuses
+
+-- an atom behind a word
+abbrev pub prefixed : Prefix → ℕ → SurfaceTree → SurfaceTree
+prefixed prefixes.Fst at e = fst e
+prefixed prefixes.Snd at e = snd e
+prefixed prefixes.Not at e = cond e (truth false) (truth true)
+prefixed prefixes.Close at e = close at e
+prefixed prefixes.Open at e = opened at e
+prefixed prefixes.Lift at e = lift at e
+prefixed prefixes.LiftB at e = lift_b at e
+
+-- what is read inside the node of a head
+abbrev pub head_form : Head → ℕ → Form (tree head)
+head_form (heads.Prefix p) at = reads (tree atom) λ e. gives (prefixed p at e)
+head_form heads.Run at = expect left_next (reads kernel_type λ k. expect right_next (reads (tree atom) λ e. gives (run at k e)))
+
+abbrev pub IsHead : PureToken → Option Head → Type 0
+IsHead (token a b k) (Some w) = head_by (token a b k) ≡ under (head_form w a)
+IsHead (token a b k) None = head_by (token a b k) ≡ (reads (tree atom) λ e. gives e)
 
 abbrev pub IsClose : PureToken → Close → Type 0
 IsClose (token a b k) closes.Paren = k ≡ paren_right

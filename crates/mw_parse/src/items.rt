@@ -12,7 +12,7 @@ ghost use Rattle.mw_parse.specs.Answers.{kernels};
 use crate::fault::{Fault, Read};
 use crate::kinds::kernel;
 use crate::next::{Next, after};
-use crate::rows::copy_name;
+use crate::parts::{copy_name, rec_tree};
 use crate::tree::{Placed, Surface, SurfaceItem, SurfaceItems, Tree};
 use crate::trees::{body_tree, expr_tree, parameter_tree};
 use crate::words::{
@@ -80,12 +80,11 @@ fn recursive_item(alloc: Global, tokens: &[Token], room: u32) -> Read<SurfaceIte
         Some((token, rest)) => match name_of(token) {
             None => Err(Fault::Syntax(tokens)),
             Some(name) => {
-                let own = copy_name(alloc, name)?;
                 let name = copy_name(alloc, name)?;
                 let at = token.start;
                 let (function, height, rest) = parameter_tree(alloc, Mark::Equal, rest, room)?;
                 let from = function.from;
-                let tree = Tree::Rec(own, function.name, Box::new(alloc, function.tree)?);
+                let tree = rec_tree(alloc, &name, function)?;
                 Ok((
                     SurfaceItem::Let(Placed { name, at }, from, tree),
                     height,

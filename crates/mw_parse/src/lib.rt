@@ -9,6 +9,7 @@ mod items;
 mod kinds;
 pub mod laws;
 mod next;
+mod parts;
 mod reader;
 mod rows;
 pub mod tree;

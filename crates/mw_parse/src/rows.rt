@@ -1,17 +1,14 @@
-// Operators that associate to the left, and the parts of trees that many productions share.
+// Operators: those that associate to the left, in rows, and the signs of comparisons.
 
-ghost use Rattle.std.specs.Prelude.{◌≡◌, MatchOption, IfOk, IfErr};
+ghost use Rattle.std.specs.Prelude.{◌≡◌, ◌<◌, ◌≤◌, ◌-◌, ℕ, MatchOption, IfSome, IfNone};
 ghost use Rattle.mw_lex.specs.Tokens.{tokens_of};
-ghost use Rattle.mw_term.specs.declared.term.Primitive.{Primitive as PurePrimitive};
-ghost use Rattle.mw_parse.specs.Forms.{opens, nothing, operator, operated};
-ghost use Rattle.mw_parse.specs.Grammar.{positive, negative};
-ghost use Rattle.mw_parse.specs.SurfaceTrees.{tree_of, num};
+ghost use Rattle.mw_parse.specs.Forms.{opens, nothing, operator, gives, compared, equal_to};
+ghost use Rattle.mw_parse.specs.SurfaceTrees.{SurfaceTree};
+ghost use Rattle.mw_parse.specs.Descent.{Heights, none_yet, tall, deep_at, raise, reading};
 ghost use Rattle.mw_parse.specs.Levels.{row_of, op_of};
 
-use crate::tree::Tree;
 use mw_lex::{Kind, Token};
-use mw_term::{Name, Prim};
-use std::alloc::{AllocError, Global};
+use mw_term::Prim;
 
 /// A row of operators.
 #[derive(Clone, Copy)]
@@ -52,47 +49,20 @@ pub fn next_operator(row: Row, tokens: &[Token]) -> Option<(Operator, &[Token])>
     }
 }
 
-/// The tree of an operator.
-pub fn join(alloc: Global, operator: Operator, left: Tree, right: Tree) -> Result<Tree, AllocError>
-    ensures { IfOk result (λ t. tree_of t ≡ operated (op_of operator) (tree_of left) (tree_of right)) }
+/// The sign of a comparison that comes next, as its operation, and what stands behind it.
+#[tactic(auto, using(crate::proofs::Below::low_in, crate::proofs::Below::low_out), unfolding(crate::specs::Descent::reading))]
+pub fn next_comparison(tokens: &[Token]) -> Option<(Prim, &[Token])>
+    ensures none { IfNone result ((b : ℕ) (d : SurfaceTree) (a : Heights) → reading b (equal_to d) a (tokens_of tokens.now) ≡ reading b (gives d) a (tokens_of tokens.now)) }
+    ensures goes_on { IfSome result (λ r. (b : ℕ) (d : SurfaceTree) (a : Heights) → tall a < b → reading b (equal_to d) a (tokens_of tokens.now) ≡ raise a (reading (b - 1) (compared r.0 d) none_yet (tokens_of r.1.now))) }
+    ensures too_deep { IfSome result (λ r. (b : ℕ) (d : SurfaceTree) (a : Heights) → b ≤ tall a → reading b (equal_to d) a (tokens_of tokens.now) ≡ deep_at (tokens_of tokens.now)) }
 {
-    match operator {
-        Operator::Sign(prim) => Ok(Tree::Prim(
-            prim,
-            Box::new(alloc, left)?,
-            Box::new(alloc, right)?,
-        )),
-        Operator::Apply => Ok(Tree::App(Box::new(alloc, left)?, Box::new(alloc, right)?)),
-    }
-}
-
-/// A name of its own.
-pub fn copy_name(alloc: Global, name: &Name) -> Result<Name, AllocError>
-    ensures { IfOk result (λ copy. copy ≡ name.now) }
-{
-    let mut copy = Name::new(alloc);
-    for &byte in name.as_slice() {
-        copy.push(byte)?;
-    }
-    Ok(copy)
-}
-
-/// A number; one that no token has is 0.
-pub fn positive_of(n: u64) -> i64
-    ensures { result ≡ positive n }
-{
-    if n < 1 << 63 { n as i64 } else { 0 }
-}
-
-/// A number behind a minus; one that no token has is 0.
-pub fn negative_of(n: u64) -> i64
-    ensures { result ≡ negative n }
-{
-    if n == 0 {
-        0
-    } else if n - 1 < 1 << 63 {
-        -1 - (n - 1) as i64
-    } else {
-        0
+    match tokens {
+        [] => None,
+        [token, rest @ ..] => match &token.kind {
+            Kind::Equal => Some((Prim::Eq, rest)),
+            Kind::Less => Some((Prim::Lt, rest)),
+            Kind::LessEqual => Some((Prim::Le, rest)),
+            _ => None,
+        },
     }
 }

@@ -3,78 +3,31 @@
 
 ghost use Rattle.std.specs.Prelude.{◌≡◌, ◌<◌, ◌≤◌, ◌-◌, ℕ, suc, max, true, false, IfOk};
 ghost use Rattle.mw_lex.specs.Tokens.{tokens_of};
-ghost use Rattle.mw_parse.specs.SurfaceTrees.{SurfaceTree, tree_of, bind, run, cond, pair, bracket, escape, fun, truth};
+ghost use Rattle.mw_parse.specs.SurfaceTrees.{SurfaceTree, tree_of, bind, run, cond, pair, bracket, escape};
 ghost use Rattle.mw_parse.specs.Grammar.{tree, expr, disjunction, conjunction, comparison, row as leveled, head, atom, operand, right, body, parameter, kernel_type, negative};
-ghost use Rattle.mw_parse.specs.Forms.{gives, reads, pick, expect, in_next, then_next, else_next, paren_next, bracket_next, left_next, right_next, let_in_by, rec_by, paren_by, minus_by, behind_first, behind_mark, equal_to, below, at_most, bound_rec, function, operated};
+ghost use Rattle.mw_parse.specs.Forms.{gives, reads, pick, expect, in_next, then_next, else_next, paren_next, bracket_next, left_next, right_next, let_in_by, rec_by, paren_by, minus_by, behind_first, behind_mark, bound_rec, operated};
 ghost use Rattle.mw_parse.specs.Descent.{none_yet, so_far, ok, and_then, full, reading, following};
 ghost use Rattle.mw_parse.specs.Gives.{Gives};
-ghost use Rattle.mw_parse.specs.Words.{mark_in};
+ghost use Rattle.mw_parse.specs.Words.{mark_in, atom_form, head_form};
 ghost use Rattle.mw_parse.specs.Levels.{row_of, op_of, function_of, definition_of};
 
 use crate::fault::{Fault, Read};
 use crate::kinds::kernel;
 use crate::next::{Next, after};
-use crate::rows::{Operator, Row, copy_name, join, negative_of, next_operator, positive_of};
-use crate::tree::{Placed, Tree};
+use crate::parts::{
+    Defined, Function, bracket_tree, conjoined, copy_name, disjoined, escape_tree, function_tree,
+    if_tree, joined, leaf_tree, let_rec_tree, let_tree, negative_of, pair_tree, prefixed_tree,
+    run_tree,
+};
+use crate::rows::{Operator, Row, next_comparison, next_operator};
+use crate::tree::Tree;
 use crate::words::{
     Atom, Body, Close, First, Head, Inside, Mark, Named, atom_word, body_word, closing, first_word,
     head_word, in_hand, inside_word, name_of, name_or_rec, number_of,
 };
 use mw_lex::Token;
-use mw_term::{Name, Prim};
-use std::alloc::{AllocError, Global};
-
-/// What a let binds, with the offset of the first token behind its mark.
-#[derive(Drop)]
-pub struct Defined {
-    pub from: u32,
-    pub tree: Tree,
-}
-
-/// A parameter, and what stands behind it.
-#[derive(Drop)]
-pub struct Function {
-    pub name: Name,
-    pub from: u32,
-    pub tree: Tree,
-}
-
-/// The function of a parameter.
-pub fn function_tree(alloc: Global, parameter: Function) -> Result<Tree, AllocError>
-    ensures { IfOk result (λ t. tree_of t ≡ function (function_of parameter)) }
-{
-    Ok(Tree::Fun(parameter.name, Box::new(alloc, parameter.tree)?))
-}
-
-fn negated(alloc: Global, tree: Tree) -> Result<Tree, AllocError>
-    ensures { IfOk result (λ t. tree_of t ≡ cond (tree_of tree) (truth false) (truth true)) }
-{
-    Ok(Tree::If(
-        Box::new(alloc, tree)?,
-        Box::new(alloc, Tree::Bool(false))?,
-        Box::new(alloc, Tree::Bool(true))?,
-    ))
-}
-
-fn conjoined(alloc: Global, left: Tree, right: Tree) -> Result<Tree, AllocError>
-    ensures { IfOk result (λ t. tree_of t ≡ cond (tree_of left) (tree_of right) (truth false)) }
-{
-    Ok(Tree::If(
-        Box::new(alloc, left)?,
-        Box::new(alloc, right)?,
-        Box::new(alloc, Tree::Bool(false))?,
-    ))
-}
-
-fn disjoined(alloc: Global, left: Tree, right: Tree) -> Result<Tree, AllocError>
-    ensures { IfOk result (λ t. tree_of t ≡ cond (tree_of left) (truth true) (tree_of right)) }
-{
-    Ok(Tree::If(
-        Box::new(alloc, left)?,
-        Box::new(alloc, Tree::Bool(true))?,
-        Box::new(alloc, right)?,
-    ))
-}
+use mw_term::Name;
+use std::alloc::Global;
 
 /// Behind `(` and `-`.
 #[tactic(auto, using(crate::proofs::Below::read_full, crate::proofs::Below::read_gives, crate::proofs::Below::read_refuses, crate::proofs::Below::read_reads, crate::proofs::Below::part_fails, crate::proofs::Below::fails_then, crate::proofs::Below::raise_ok, crate::proofs::Below::fails_raise))]
@@ -104,55 +57,36 @@ fn atom_tree(alloc: Global, tokens: &[Token], room: u32) -> Read<Tree>
     match in_hand(tokens) {
         None => Err(Fault::Syntax(tokens)),
         Some((token, rest)) => match atom_word(token) {
-            Atom::Other => Err(Fault::Syntax(tokens)),
-            Atom::Word(name) => {
+            None => Err(Fault::Syntax(tokens)),
+            Some(atom) => {
                 if room == 0 {
                     return Err(Fault::Deep(tokens));
                 }
-                let name = copy_name(alloc, name)?;
-                let at = token.start;
-                Ok((Tree::Used(Placed { name, at }), 1, rest))
-            }
-            Atom::Number(n) => {
-                if room == 0 {
-                    return Err(Fault::Deep(tokens));
-                }
-                Ok((Tree::Int(positive_of(n)), 1, rest))
-            }
-            Atom::True => {
-                if room == 0 {
-                    return Err(Fault::Deep(tokens));
-                }
-                Ok((Tree::Bool(true), 1, rest))
-            }
-            Atom::False => {
-                if room == 0 {
-                    return Err(Fault::Deep(tokens));
-                }
-                Ok((Tree::Bool(false), 1, rest))
-            }
-            Atom::Paren => {
-                if room == 0 {
-                    return Err(Fault::Deep(tokens));
-                }
-                let (tree, height, rest) = in_parens(alloc, rest, room - 1)?;
-                Ok((tree, height + 1, rest))
-            }
-            Atom::Bracket => {
-                if room == 0 {
-                    return Err(Fault::Deep(tokens));
-                }
-                let (tree, height, rest) = bracketed(alloc, token.start, rest, room - 1)?;
-                Ok((tree, height + 1, rest))
-            }
-            Atom::Escape => {
-                if room == 0 {
-                    return Err(Fault::Deep(tokens));
-                }
-                let (tree, height, rest) = escaped(alloc, token.start, rest, room - 1)?;
+                let (tree, height, rest) = atom_inside(alloc, atom, token.start, rest, room - 1)?;
                 Ok((tree, height + 1, rest))
             }
         },
+    }
+}
+
+#[cycle(trees)]
+#[tactic(auto, using(crate::proofs::Below::read_full, crate::proofs::Below::read_gives, crate::proofs::Below::read_refuses, crate::proofs::Below::read_reads, crate::proofs::Below::part_fails, crate::proofs::Below::fails_then, crate::proofs::Below::raise_ok, crate::proofs::Below::fails_raise))]
+fn atom_inside<'t>(
+    alloc: Global,
+    atom: Atom<'t>,
+    at: u32,
+    tokens: &'t [Token],
+    room: u32,
+) -> Read<'t, Tree>
+    requires { room ≤ 200 }
+    ensures gives { Gives (λ x. ok (tree_of x.0) x.1 (tokens_of x.2.now)) result (reading room (atom_form atom.entry at) none_yet (tokens_of tokens.now)) }
+    ensures height { IfOk result (λ x. x.1 ≤ room) }
+{
+    match atom {
+        Atom::Leaf(leaf) => Ok((leaf_tree(alloc, leaf, at)?, 0, tokens)),
+        Atom::Paren => in_parens(alloc, tokens, room),
+        Atom::Bracket => bracketed(alloc, at, tokens, room),
+        Atom::Escape => escaped(alloc, at, tokens, room),
     }
 }
 
@@ -166,7 +100,7 @@ fn bracketed(alloc: Global, at: u32, tokens: &[Token], room: u32) -> Read<Tree>
     let (tree, height, mid) = expr_tree(alloc, tokens, room)?;
     match after(Next::Bracket, mid) {
         None => Err(Fault::Syntax(mid)),
-        Some(rest) => Ok((Tree::Bracket(at, Box::new(alloc, tree)?), height, rest)),
+        Some(rest) => Ok((bracket_tree(alloc, at, tree)?, height, rest)),
     }
 }
 
@@ -178,7 +112,7 @@ fn escaped(alloc: Global, at: u32, tokens: &[Token], room: u32) -> Read<Tree>
     ensures height { IfOk result (λ x. x.1 ≤ room) }
 {
     let (tree, height, rest) = atom_tree(alloc, tokens, room)?;
-    Ok((Tree::Escape(at, Box::new(alloc, tree)?), height, rest))
+    Ok((escape_tree(alloc, at, tree)?, height, rest))
 }
 
 #[cycle(trees)]
@@ -227,10 +161,7 @@ fn paired(alloc: Global, left: Tree, height: u32, tokens: &[Token], room: u32) -
     let (right, other, mid) = expr_tree(alloc, tokens, room)?;
     match after(Next::Paren, mid) {
         None => Err(Fault::Syntax(mid)),
-        Some(rest) => {
-            let pair = Tree::Pair(Box::new(alloc, left)?, Box::new(alloc, right)?);
-            Ok((pair, height.max(other), rest))
-        }
+        Some(rest) => Ok((pair_tree(alloc, left, right)?, height.max(other), rest)),
     }
 }
 
@@ -244,80 +175,31 @@ fn head_tree(alloc: Global, tokens: &[Token], room: u32) -> Read<Tree>
     match in_hand(tokens) {
         None => Err(Fault::Syntax(tokens)),
         Some((token, rest)) => match head_word(token) {
-            Head::Other => passed_atom(alloc, tokens, room),
-            Head::Fst => {
+            None => passed_atom(alloc, tokens, room),
+            Some(head) => {
                 if room == 0 {
                     return Err(Fault::Deep(tokens));
                 }
-                let (tree, height, rest) = atom_tree(alloc, rest, room - 1)?;
-                Ok((Tree::Fst(Box::new(alloc, tree)?), height + 1, rest))
-            }
-            Head::Snd => {
-                if room == 0 {
-                    return Err(Fault::Deep(tokens));
-                }
-                let (tree, height, rest) = atom_tree(alloc, rest, room - 1)?;
-                Ok((Tree::Snd(Box::new(alloc, tree)?), height + 1, rest))
-            }
-            Head::Not => {
-                if room == 0 {
-                    return Err(Fault::Deep(tokens));
-                }
-                let (tree, height, rest) = atom_tree(alloc, rest, room - 1)?;
-                Ok((negated(alloc, tree)?, height + 1, rest))
-            }
-            Head::Close => {
-                if room == 0 {
-                    return Err(Fault::Deep(tokens));
-                }
-                let (tree, height, rest) = atom_tree(alloc, rest, room - 1)?;
-                Ok((
-                    Tree::CloseCode(token.start, Box::new(alloc, tree)?),
-                    height + 1,
-                    rest,
-                ))
-            }
-            Head::Open => {
-                if room == 0 {
-                    return Err(Fault::Deep(tokens));
-                }
-                let (tree, height, rest) = atom_tree(alloc, rest, room - 1)?;
-                Ok((
-                    Tree::OpenCode(token.start, Box::new(alloc, tree)?),
-                    height + 1,
-                    rest,
-                ))
-            }
-            Head::Lift => {
-                if room == 0 {
-                    return Err(Fault::Deep(tokens));
-                }
-                let (tree, height, rest) = atom_tree(alloc, rest, room - 1)?;
-                Ok((
-                    Tree::Lift(token.start, Box::new(alloc, tree)?),
-                    height + 1,
-                    rest,
-                ))
-            }
-            Head::LiftB => {
-                if room == 0 {
-                    return Err(Fault::Deep(tokens));
-                }
-                let (tree, height, rest) = atom_tree(alloc, rest, room - 1)?;
-                Ok((
-                    Tree::LiftB(token.start, Box::new(alloc, tree)?),
-                    height + 1,
-                    rest,
-                ))
-            }
-            Head::Run => {
-                if room == 0 {
-                    return Err(Fault::Deep(tokens));
-                }
-                let (tree, height, rest) = running(alloc, token.start, rest, room - 1)?;
+                let (tree, height, rest) = head_inside(alloc, head, token.start, rest, room - 1)?;
                 Ok((tree, height + 1, rest))
             }
         },
+    }
+}
+
+#[cycle(trees)]
+#[tactic(auto, using(crate::proofs::Below::read_full, crate::proofs::Below::read_gives, crate::proofs::Below::read_refuses, crate::proofs::Below::read_reads, crate::proofs::Below::part_fails, crate::proofs::Below::fails_then, crate::proofs::Below::raise_ok, crate::proofs::Below::fails_raise))]
+fn head_inside(alloc: Global, head: Head, at: u32, tokens: &[Token], room: u32) -> Read<Tree>
+    requires { room ≤ 200 }
+    ensures gives { Gives (λ x. ok (tree_of x.0) x.1 (tokens_of x.2.now)) result (reading room (head_form head at) none_yet (tokens_of tokens.now)) }
+    ensures height { IfOk result (λ x. x.1 ≤ room) }
+{
+    match head {
+        Head::Prefix(prefix) => {
+            let (tree, height, rest) = atom_tree(alloc, tokens, room)?;
+            Ok((prefixed_tree(alloc, prefix, at, tree)?, height, rest))
+        }
+        Head::Run => running(alloc, at, tokens, room),
     }
 }
 
@@ -336,11 +218,7 @@ fn running(alloc: Global, at: u32, tokens: &[Token], room: u32) -> Read<Tree>
                 None => Err(Fault::Syntax(mid)),
                 Some(rest) => {
                     let (tree, other, rest) = atom_tree(alloc, rest, room)?;
-                    Ok((
-                        Tree::Run(at, kind, Box::new(alloc, tree)?),
-                        height.max(other),
-                        rest,
-                    ))
+                    Ok((run_tree(alloc, at, kind, tree)?, height.max(other), rest))
                 }
             }
         }
@@ -420,70 +298,14 @@ fn comparison_tree(alloc: Global, tokens: &[Token], room: u32) -> Read<Tree>
     ensures height { IfOk result (λ x. x.1 ≤ room) }
 {
     let (left, height, mid) = row_tree(alloc, Row::Sum, tokens, room)?;
-    equal_tree(alloc, left, height, mid, room)
-}
-
-#[cycle(trees)]
-#[tactic(auto, using(crate::proofs::Below::read_full, crate::proofs::Below::read_gives, crate::proofs::Below::read_refuses, crate::proofs::Below::read_reads, crate::proofs::Below::part_fails, crate::proofs::Below::fails_then, crate::proofs::Below::raise_ok, crate::proofs::Below::fails_raise))]
-fn equal_tree(alloc: Global, left: Tree, height: u32, tokens: &[Token], room: u32) -> Read<Tree>
-    requires { (height ≤ room) × (room ≤ 200) }
-    ensures gives { Gives (λ x. ok (tree_of x.0) x.1 (tokens_of x.2.now)) result (reading room (equal_to (tree_of left)) (so_far height) (tokens_of tokens.now)) }
-    ensures height { IfOk result (λ x. x.1 ≤ room) }
-{
-    match after(Next::Equal, tokens) {
-        None => less_tree(alloc, left, height, tokens, room),
-        Some(rest) => {
+    match next_comparison(mid) {
+        None => Ok((left, height, mid)),
+        Some((prim, rest)) => {
             if height >= room {
-                return Err(Fault::Deep(tokens));
+                return Err(Fault::Deep(mid));
             }
             let (right, other, rest) = row_tree(alloc, Row::Sum, rest, room - 1)?;
-            let tree = Tree::Prim(Prim::Eq, Box::new(alloc, left)?, Box::new(alloc, right)?);
-            Ok((tree, height.max(other) + 1, rest))
-        }
-    }
-}
-
-#[cycle(trees)]
-#[tactic(auto, using(crate::proofs::Below::read_full, crate::proofs::Below::read_gives, crate::proofs::Below::read_refuses, crate::proofs::Below::read_reads, crate::proofs::Below::part_fails, crate::proofs::Below::fails_then, crate::proofs::Below::raise_ok, crate::proofs::Below::fails_raise))]
-fn less_tree(alloc: Global, left: Tree, height: u32, tokens: &[Token], room: u32) -> Read<Tree>
-    requires { (height ≤ room) × (room ≤ 200) }
-    ensures gives { Gives (λ x. ok (tree_of x.0) x.1 (tokens_of x.2.now)) result (reading room (below (tree_of left)) (so_far height) (tokens_of tokens.now)) }
-    ensures height { IfOk result (λ x. x.1 ≤ room) }
-{
-    match after(Next::Less, tokens) {
-        None => less_equal_tree(alloc, left, height, tokens, room),
-        Some(rest) => {
-            if height >= room {
-                return Err(Fault::Deep(tokens));
-            }
-            let (right, other, rest) = row_tree(alloc, Row::Sum, rest, room - 1)?;
-            let tree = Tree::Prim(Prim::Lt, Box::new(alloc, left)?, Box::new(alloc, right)?);
-            Ok((tree, height.max(other) + 1, rest))
-        }
-    }
-}
-
-#[cycle(trees)]
-#[tactic(auto, using(crate::proofs::Below::read_full, crate::proofs::Below::read_gives, crate::proofs::Below::read_refuses, crate::proofs::Below::read_reads, crate::proofs::Below::part_fails, crate::proofs::Below::fails_then, crate::proofs::Below::raise_ok, crate::proofs::Below::fails_raise))]
-fn less_equal_tree(
-    alloc: Global,
-    left: Tree,
-    height: u32,
-    tokens: &[Token],
-    room: u32,
-) -> Read<Tree>
-    requires { (height ≤ room) × (room ≤ 200) }
-    ensures gives { Gives (λ x. ok (tree_of x.0) x.1 (tokens_of x.2.now)) result (reading room (at_most (tree_of left)) (so_far height) (tokens_of tokens.now)) }
-    ensures height { IfOk result (λ x. x.1 ≤ room) }
-{
-    match after(Next::LessEqual, tokens) {
-        None => Ok((left, height, tokens)),
-        Some(rest) => {
-            if height >= room {
-                return Err(Fault::Deep(tokens));
-            }
-            let (right, other, rest) = row_tree(alloc, Row::Sum, rest, room - 1)?;
-            let tree = Tree::Prim(Prim::Le, Box::new(alloc, left)?, Box::new(alloc, right)?);
+            let tree = joined(alloc, Operator::Sign(prim), left, right)?;
             Ok((tree, height.max(other) + 1, rest))
         }
     }
@@ -588,11 +410,7 @@ fn branches(alloc: Global, test: Tree, height: u32, tokens: &[Token], room: u32)
         None => Err(Fault::Syntax(mid)),
         Some(rest) => {
             let (right, last, rest) = expr_tree(alloc, rest, room)?;
-            let tree = Tree::If(
-                Box::new(alloc, test)?,
-                Box::new(alloc, left)?,
-                Box::new(alloc, right)?,
-            );
+            let tree = if_tree(alloc, test, left, right)?;
             Ok((tree, height.max(other).max(last), rest))
         }
     }
@@ -657,8 +475,11 @@ fn scoped(
         None => Err(Fault::Syntax(tokens)),
         Some(rest) => {
             let (tree, other, rest) = expr_tree(alloc, rest, room)?;
-            let tree = Tree::Let(name, Box::new(alloc, definition)?, Box::new(alloc, tree)?);
-            Ok((tree, height.max(other), rest))
+            Ok((
+                let_tree(alloc, name, definition, tree)?,
+                height.max(other),
+                rest,
+            ))
         }
     }
 }
@@ -765,7 +586,7 @@ fn next_operand(
     ensures height { IfOk result (λ x. x.1 ≤ room) }
 {
     let (right, other, mid) = right_tree(alloc, row, tokens, room - 1)?;
-    let tree = join(alloc, operator, left, right)?;
+    let tree = joined(alloc, operator, left, right)?;
     more_trees(alloc, row, tree, height.max(other) + 1, mid, room)
 }
 
@@ -787,9 +608,7 @@ fn scoped_function(
         None => Err(Fault::Syntax(tokens)),
         Some(rest) => {
             let (tree, other, rest) = expr_tree(alloc, rest, room)?;
-            let own = copy_name(alloc, &name)?;
-            let definition = Tree::Rec(own, function.name, Box::new(alloc, function.tree)?);
-            let tree = Tree::Let(name, Box::new(alloc, definition)?, Box::new(alloc, tree)?);
+            let tree = let_rec_tree(alloc, name, function, tree)?;
             Ok((tree, height.max(other), rest))
         }
     }

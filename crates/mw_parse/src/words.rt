@@ -80,37 +80,42 @@ pub fn name_of(token: &Token) -> Option<&Name>
     }
 }
 
-/// Of an atom.
+/// An atom of one token.
 #[derive(Clone, Copy)]
-pub enum Atom<'a> {
+pub enum Leaf<'a> {
     Word(&'a Name),
     Number(u64),
     True,
     False,
+}
+
+/// Of an atom.
+#[derive(Clone, Copy)]
+pub enum Atom<'a> {
+    Leaf(Leaf<'a>),
     Paren,
     Bracket,
     Escape,
-    Other,
 }
 
-pub fn atom_word(token: &Token) -> Atom<'_>
+pub fn atom_word(token: &Token) -> Option<Atom<'_>>
     ensures { IsAtom (token_of token.now) result }
 {
     match &token.kind {
-        Kind::Word(name) => Atom::Word(name),
-        Kind::Number(n) => Atom::Number(*n),
-        Kind::True => Atom::True,
-        Kind::False => Atom::False,
-        Kind::ParenLeft => Atom::Paren,
-        Kind::BracketLeft => Atom::Bracket,
-        Kind::Escape => Atom::Escape,
-        _ => Atom::Other,
+        Kind::Word(name) => Some(Atom::Leaf(Leaf::Word(name))),
+        Kind::Number(n) => Some(Atom::Leaf(Leaf::Number(*n))),
+        Kind::True => Some(Atom::Leaf(Leaf::True)),
+        Kind::False => Some(Atom::Leaf(Leaf::False)),
+        Kind::ParenLeft => Some(Atom::Paren),
+        Kind::BracketLeft => Some(Atom::Bracket),
+        Kind::Escape => Some(Atom::Escape),
+        _ => None,
     }
 }
 
-/// Of a head.
+/// A word before an atom.
 #[derive(Clone, Copy)]
-pub enum Head {
+pub enum Prefix {
     Fst,
     Snd,
     Not,
@@ -118,23 +123,28 @@ pub enum Head {
     Open,
     Lift,
     LiftB,
-    Run,
-    Other,
 }
 
-pub fn head_word(token: &Token) -> Head
+/// Of a head.
+#[derive(Clone, Copy)]
+pub enum Head {
+    Prefix(Prefix),
+    Run,
+}
+
+pub fn head_word(token: &Token) -> Option<Head>
     ensures { IsHead (token_of token.now) result }
 {
     match &token.kind {
-        Kind::Fst => Head::Fst,
-        Kind::Snd => Head::Snd,
-        Kind::Not => Head::Not,
-        Kind::Close => Head::Close,
-        Kind::Open => Head::Open,
-        Kind::Lift => Head::Lift,
-        Kind::LiftB => Head::LiftB,
-        Kind::Run => Head::Run,
-        _ => Head::Other,
+        Kind::Fst => Some(Head::Prefix(Prefix::Fst)),
+        Kind::Snd => Some(Head::Prefix(Prefix::Snd)),
+        Kind::Not => Some(Head::Prefix(Prefix::Not)),
+        Kind::Close => Some(Head::Prefix(Prefix::Close)),
+        Kind::Open => Some(Head::Prefix(Prefix::Open)),
+        Kind::Lift => Some(Head::Prefix(Prefix::Lift)),
+        Kind::LiftB => Some(Head::Prefix(Prefix::LiftB)),
+        Kind::Run => Some(Head::Run),
+        _ => None,
     }
 }
 

@@ -13,6 +13,9 @@ level application = 500
 abbrev pub decreases-atom_tree : goal.decreases-atom_tree
 decreases-atom_tree l = l.room * 1000 + 10
 
+abbrev pub decreases-atom_inside : goal.decreases-atom_inside
+decreases-atom_inside l = l.room * 1000 + 980
+
 abbrev pub decreases-bracketed : goal.decreases-bracketed
 decreases-bracketed l = l.room * 1000 + 960
 
@@ -30,6 +33,9 @@ decreases-paired l = l.room * 1000 + 962
 
 abbrev pub decreases-head_tree : goal.decreases-head_tree
 decreases-head_tree l = l.room * 1000 + 20
+
+abbrev pub decreases-head_inside : goal.decreases-head_inside
+decreases-head_inside l = l.room * 1000 + 40
 
 abbrev pub decreases-running : goal.decreases-running
 decreases-running l = l.room * 1000 + 30
@@ -81,15 +87,6 @@ decreases-right_tree l = l.room * 1000 + level (row_of l.row)
 
 abbrev pub decreases-more_trees : goal.decreases-more_trees
 decreases-more_trees l = l.room * 1000 + (l.room - l.height) * 2 + 1
-
-abbrev pub decreases-equal_tree : goal.decreases-equal_tree
-decreases-equal_tree l = l.room * 1000 + 780
-
-abbrev pub decreases-less_tree : goal.decreases-less_tree
-decreases-less_tree l = l.room * 1000 + 770
-
-abbrev pub decreases-less_equal_tree : goal.decreases-less_equal_tree
-decreases-less_equal_tree l = l.room * 1000 + 760
 
 abbrev pub decreases-passed_atom : goal.decreases-passed_atom
 decreases-passed_atom l = l.room * 1000 + 15
