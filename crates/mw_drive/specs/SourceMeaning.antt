@@ -34,10 +34,6 @@ pub data IsMeaning (bytes : List ℕ) (fuel : ℕ) : Meaning → Type 0 where
   of_other_forms : (p : NamedProgram) → IsRead bytes p → IsAccepted (unnamed p) → (256 < length bytes) ⊎ (IsFirst p → ⊥) → IsMeaning bytes fuel (refused NotYet [])
   of_program : {kernels : List Kernel} {e : Ending} (p : NamedProgram) → IsRead bytes p → IsAccepted (unnamed p) → length bytes ≤ 256 → IsFirst p → program_run fuel p ≡ ended kernels e → IsMeaning bytes fuel (ran kernels e)
 
--- a source means nothing else
-abbrev pub IsOnlyMeaning : List ℕ → ℕ → Meaning → Type 0
-IsOnlyMeaning bytes fuel m = (other : Meaning) → IsMeaning bytes fuel other → other ≡ m
-
 -- The bytes that are printed for a kernel spell a module, which is valid, and means the kernel's code at its type.
 pub record HasModule (k : Kernel) : Type 0 where
   pub wasm : PureModule

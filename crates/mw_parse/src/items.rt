@@ -1,5 +1,7 @@
 // Items and programs.
 
+#![tactic(auto, using(crate::proofs::Below::read_full, crate::proofs::Below::read_gives, crate::proofs::Below::read_refuses, crate::proofs::Below::read_reads, crate::proofs::Below::part_fails, crate::proofs::Below::fails_then))]
+
 ghost use Rattle.std.specs.Prelude.{◌≡◌, ◌<◌, ◌≤◌, ℕ, List, IfOk, map, length};
 ghost use Rattle.mw_lex.specs.Tokens.{tokens_of};
 ghost use Rattle.mw_parse.specs.SurfaceTrees.{tree_of, item_of, surface_of};
@@ -22,7 +24,6 @@ use mw_lex::Token;
 use mw_term::Base;
 use std::alloc::Global;
 
-#[tactic(auto, using(crate::proofs::Below::read_full, crate::proofs::Below::read_gives, crate::proofs::Below::read_refuses, crate::proofs::Below::read_reads, crate::proofs::Below::part_fails, crate::proofs::Below::fails_then))]
 fn item_tree(alloc: Global, tokens: &[Token], room: u32) -> Read<SurfaceItem>
     requires { room ≤ 200 }
     ensures gives { Gives (λ x. ok (item_of x.0) x.1 (tokens_of x.2.now)) result (full room item (tokens_of tokens.now)) }
@@ -44,7 +45,6 @@ fn item_tree(alloc: Global, tokens: &[Token], room: u32) -> Read<SurfaceItem>
     }
 }
 
-#[tactic(auto, using(crate::proofs::Below::read_full, crate::proofs::Below::read_gives, crate::proofs::Below::read_refuses, crate::proofs::Below::read_reads, crate::proofs::Below::part_fails, crate::proofs::Below::fails_then))]
 fn let_item(alloc: Global, tokens: &[Token], room: u32) -> Read<SurfaceItem>
     requires { room ≤ 200 }
     ensures gives { Gives (λ x. ok (item_of x.0) x.1 (tokens_of x.2.now)) result (reading room (pick let_by) none_yet (tokens_of tokens.now)) }
@@ -69,7 +69,6 @@ fn let_item(alloc: Global, tokens: &[Token], room: u32) -> Read<SurfaceItem>
     }
 }
 
-#[tactic(auto, using(crate::proofs::Below::read_full, crate::proofs::Below::read_gives, crate::proofs::Below::read_refuses, crate::proofs::Below::read_reads, crate::proofs::Below::part_fails, crate::proofs::Below::fails_then))]
 fn recursive_item(alloc: Global, tokens: &[Token], room: u32) -> Read<SurfaceItem>
     requires { room ≤ 200 }
     ensures gives { Gives (λ x. ok (item_of x.0) x.1 (tokens_of x.2.now)) result (reading room (pick rec_item) none_yet (tokens_of tokens.now)) }
@@ -95,7 +94,6 @@ fn recursive_item(alloc: Global, tokens: &[Token], room: u32) -> Read<SurfaceIte
     }
 }
 
-#[tactic(auto, using(crate::proofs::Below::read_full, crate::proofs::Below::read_gives, crate::proofs::Below::read_refuses, crate::proofs::Below::read_reads, crate::proofs::Below::part_fails, crate::proofs::Below::fails_then))]
 fn kernel_item(alloc: Global, tokens: &[Token], room: u32) -> Read<SurfaceItem>
     requires { room ≤ 200 }
     ensures gives { Gives (λ x. ok (item_of x.0) x.1 (tokens_of x.2.now)) result (reading room (pick kernel_by) none_yet (tokens_of tokens.now)) }
@@ -127,7 +125,6 @@ fn kernel_item(alloc: Global, tokens: &[Token], room: u32) -> Read<SurfaceItem>
     }
 }
 
-#[tactic(auto, using(crate::proofs::Below::read_full, crate::proofs::Below::read_gives, crate::proofs::Below::read_refuses, crate::proofs::Below::read_reads, crate::proofs::Below::part_fails, crate::proofs::Below::fails_then))]
 fn main_tree(
     alloc: Global,
     tokens: &[Token],

@@ -1,6 +1,8 @@
 // Expressions, by descent. `room` is the number of nodes that may still stand on a path; each function answers what it
 // made, the height of its nodes and the tokens left, and says of which form.
 
+#![tactic(auto, using(crate::proofs::Below::read_full, crate::proofs::Below::read_gives, crate::proofs::Below::read_refuses, crate::proofs::Below::read_reads, crate::proofs::Below::part_fails, crate::proofs::Below::fails_then, crate::proofs::Below::raise_ok, crate::proofs::Below::fails_raise))]
+
 ghost use Rattle.std.specs.Prelude.{◌≡◌, ◌<◌, ◌≤◌, ◌-◌, ℕ, suc, max, true, false, IfOk};
 ghost use Rattle.mw_lex.specs.Tokens.{tokens_of};
 ghost use Rattle.mw_parse.specs.SurfaceTrees.{SurfaceTree, tree_of, bind, run, cond, pair, bracket, escape};
@@ -30,7 +32,6 @@ use mw_term::Name;
 use std::alloc::Global;
 
 /// Behind `(` and `-`.
-#[tactic(auto, using(crate::proofs::Below::read_full, crate::proofs::Below::read_gives, crate::proofs::Below::read_refuses, crate::proofs::Below::read_reads, crate::proofs::Below::part_fails, crate::proofs::Below::fails_then, crate::proofs::Below::raise_ok, crate::proofs::Below::fails_raise))]
 fn literal(tokens: &[Token]) -> Read<Tree>
     ensures gives { (b : ℕ) → Gives (λ x. ok (tree_of x.0) x.1 (tokens_of x.2.now)) result (reading b (pick minus_by) none_yet (tokens_of tokens.now)) }
     ensures height { IfOk result (λ x. x.1 ≡ 0) }
@@ -48,7 +49,6 @@ fn literal(tokens: &[Token]) -> Read<Tree>
 }
 
 #[cycle(trees)]
-#[tactic(auto, using(crate::proofs::Below::read_full, crate::proofs::Below::read_gives, crate::proofs::Below::read_refuses, crate::proofs::Below::read_reads, crate::proofs::Below::part_fails, crate::proofs::Below::fails_then, crate::proofs::Below::raise_ok, crate::proofs::Below::fails_raise))]
 fn atom_tree(alloc: Global, tokens: &[Token], room: u32) -> Read<Tree>
     requires { room ≤ 200 }
     ensures gives { Gives (λ x. ok (tree_of x.0) x.1 (tokens_of x.2.now)) result (full room (tree atom) (tokens_of tokens.now)) }
@@ -70,7 +70,6 @@ fn atom_tree(alloc: Global, tokens: &[Token], room: u32) -> Read<Tree>
 }
 
 #[cycle(trees)]
-#[tactic(auto, using(crate::proofs::Below::read_full, crate::proofs::Below::read_gives, crate::proofs::Below::read_refuses, crate::proofs::Below::read_reads, crate::proofs::Below::part_fails, crate::proofs::Below::fails_then, crate::proofs::Below::raise_ok, crate::proofs::Below::fails_raise))]
 fn atom_inside<'t>(
     alloc: Global,
     atom: Atom<'t>,
@@ -91,7 +90,6 @@ fn atom_inside<'t>(
 }
 
 #[cycle(trees)]
-#[tactic(auto, using(crate::proofs::Below::read_full, crate::proofs::Below::read_gives, crate::proofs::Below::read_refuses, crate::proofs::Below::read_reads, crate::proofs::Below::part_fails, crate::proofs::Below::fails_then, crate::proofs::Below::raise_ok, crate::proofs::Below::fails_raise))]
 fn bracketed(alloc: Global, at: u32, tokens: &[Token], room: u32) -> Read<Tree>
     requires { room ≤ 200 }
     ensures gives { Gives (λ x. ok (tree_of x.0) x.1 (tokens_of x.2.now)) result (reading {n = tree atom} room (reads (tree expr) λ e. expect bracket_next (gives (bracket at e))) none_yet (tokens_of tokens.now)) }
@@ -105,7 +103,6 @@ fn bracketed(alloc: Global, at: u32, tokens: &[Token], room: u32) -> Read<Tree>
 }
 
 #[cycle(trees)]
-#[tactic(auto, using(crate::proofs::Below::read_full, crate::proofs::Below::read_gives, crate::proofs::Below::read_refuses, crate::proofs::Below::read_reads, crate::proofs::Below::part_fails, crate::proofs::Below::fails_then, crate::proofs::Below::raise_ok, crate::proofs::Below::fails_raise))]
 fn escaped(alloc: Global, at: u32, tokens: &[Token], room: u32) -> Read<Tree>
     requires { room ≤ 200 }
     ensures gives { Gives (λ x. ok (tree_of x.0) x.1 (tokens_of x.2.now)) result (reading {n = tree atom} room (reads (tree atom) λ e. gives (escape at e)) none_yet (tokens_of tokens.now)) }
@@ -116,7 +113,6 @@ fn escaped(alloc: Global, at: u32, tokens: &[Token], room: u32) -> Read<Tree>
 }
 
 #[cycle(trees)]
-#[tactic(auto, using(crate::proofs::Below::read_full, crate::proofs::Below::read_gives, crate::proofs::Below::read_refuses, crate::proofs::Below::read_reads, crate::proofs::Below::part_fails, crate::proofs::Below::fails_then, crate::proofs::Below::raise_ok, crate::proofs::Below::fails_raise))]
 fn in_parens(alloc: Global, tokens: &[Token], room: u32) -> Read<Tree>
     requires { room ≤ 200 }
     ensures gives { Gives (λ x. ok (tree_of x.0) x.1 (tokens_of x.2.now)) result (reading room (pick paren_by) none_yet (tokens_of tokens.now)) }
@@ -134,7 +130,6 @@ fn in_parens(alloc: Global, tokens: &[Token], room: u32) -> Read<Tree>
 }
 
 #[cycle(trees)]
-#[tactic(auto, using(crate::proofs::Below::read_full, crate::proofs::Below::read_gives, crate::proofs::Below::read_refuses, crate::proofs::Below::read_reads, crate::proofs::Below::part_fails, crate::proofs::Below::fails_then, crate::proofs::Below::raise_ok, crate::proofs::Below::fails_raise))]
 fn grouped(alloc: Global, tokens: &[Token], room: u32) -> Read<Tree>
     requires { room ≤ 200 }
     ensures gives { Gives (λ x. ok (tree_of x.0) x.1 (tokens_of x.2.now)) result (reading {n = tree atom} room (reads (tree expr) λ d. pick (behind_first d)) none_yet (tokens_of tokens.now)) }
@@ -152,7 +147,6 @@ fn grouped(alloc: Global, tokens: &[Token], room: u32) -> Read<Tree>
 }
 
 #[cycle(trees)]
-#[tactic(auto, using(crate::proofs::Below::read_full, crate::proofs::Below::read_gives, crate::proofs::Below::read_refuses, crate::proofs::Below::read_reads, crate::proofs::Below::part_fails, crate::proofs::Below::fails_then, crate::proofs::Below::raise_ok, crate::proofs::Below::fails_raise))]
 fn paired(alloc: Global, left: Tree, height: u32, tokens: &[Token], room: u32) -> Read<Tree>
     requires { (height ≤ room) × (room ≤ 200) }
     ensures gives { Gives (λ x. ok (tree_of x.0) x.1 (tokens_of x.2.now)) result (reading {n = tree atom} room (reads (tree expr) λ e. expect paren_next (gives (pair (tree_of left) e))) (so_far height) (tokens_of tokens.now)) }
@@ -166,7 +160,6 @@ fn paired(alloc: Global, left: Tree, height: u32, tokens: &[Token], room: u32) -
 }
 
 #[cycle(trees)]
-#[tactic(auto, using(crate::proofs::Below::read_full, crate::proofs::Below::read_gives, crate::proofs::Below::read_refuses, crate::proofs::Below::read_reads, crate::proofs::Below::part_fails, crate::proofs::Below::fails_then, crate::proofs::Below::raise_ok, crate::proofs::Below::fails_raise))]
 fn head_tree(alloc: Global, tokens: &[Token], room: u32) -> Read<Tree>
     requires { room ≤ 200 }
     ensures gives { Gives (λ x. ok (tree_of x.0) x.1 (tokens_of x.2.now)) result (full room (tree head) (tokens_of tokens.now)) }
@@ -188,7 +181,6 @@ fn head_tree(alloc: Global, tokens: &[Token], room: u32) -> Read<Tree>
 }
 
 #[cycle(trees)]
-#[tactic(auto, using(crate::proofs::Below::read_full, crate::proofs::Below::read_gives, crate::proofs::Below::read_refuses, crate::proofs::Below::read_reads, crate::proofs::Below::part_fails, crate::proofs::Below::fails_then, crate::proofs::Below::raise_ok, crate::proofs::Below::fails_raise))]
 fn head_inside(alloc: Global, head: Head, at: u32, tokens: &[Token], room: u32) -> Read<Tree>
     requires { room ≤ 200 }
     ensures gives { Gives (λ x. ok (tree_of x.0) x.1 (tokens_of x.2.now)) result (reading room (head_form head at) none_yet (tokens_of tokens.now)) }
@@ -204,7 +196,6 @@ fn head_inside(alloc: Global, head: Head, at: u32, tokens: &[Token], room: u32) 
 }
 
 #[cycle(trees)]
-#[tactic(auto, using(crate::proofs::Below::read_full, crate::proofs::Below::read_gives, crate::proofs::Below::read_refuses, crate::proofs::Below::read_reads, crate::proofs::Below::part_fails, crate::proofs::Below::fails_then, crate::proofs::Below::raise_ok, crate::proofs::Below::fails_raise))]
 fn running(alloc: Global, at: u32, tokens: &[Token], room: u32) -> Read<Tree>
     requires { room ≤ 200 }
     ensures gives { Gives (λ x. ok (tree_of x.0) x.1 (tokens_of x.2.now)) result (reading {n = tree head} room (expect left_next (reads kernel_type λ k. expect right_next (reads (tree atom) λ e. gives (run at k e)))) none_yet (tokens_of tokens.now)) }
@@ -226,7 +217,6 @@ fn running(alloc: Global, at: u32, tokens: &[Token], room: u32) -> Read<Tree>
 }
 
 #[cycle(trees)]
-#[tactic(auto, using(crate::proofs::Below::read_full, crate::proofs::Below::read_gives, crate::proofs::Below::read_refuses, crate::proofs::Below::read_reads, crate::proofs::Below::part_fails, crate::proofs::Below::fails_then, crate::proofs::Below::raise_ok, crate::proofs::Below::fails_raise))]
 fn operand_tree(alloc: Global, row: Row, tokens: &[Token], room: u32) -> Read<Tree>
     requires { room ≤ 200 }
     ensures gives { Gives (λ x. ok (tree_of x.0) x.1 (tokens_of x.2.now)) result (full room (tree (operand (row_of row))) (tokens_of tokens.now)) }
@@ -240,7 +230,6 @@ fn operand_tree(alloc: Global, row: Row, tokens: &[Token], room: u32) -> Read<Tr
 }
 
 #[cycle(trees)]
-#[tactic(auto, using(crate::proofs::Below::read_full, crate::proofs::Below::read_gives, crate::proofs::Below::read_refuses, crate::proofs::Below::read_reads, crate::proofs::Below::part_fails, crate::proofs::Below::fails_then, crate::proofs::Below::raise_ok, crate::proofs::Below::fails_raise))]
 fn right_tree(alloc: Global, row: Row, tokens: &[Token], room: u32) -> Read<Tree>
     requires { room ≤ 200 }
     ensures gives { Gives (λ x. ok (tree_of x.0) x.1 (tokens_of x.2.now)) result (full room (tree (right (row_of row))) (tokens_of tokens.now)) }
@@ -291,7 +280,6 @@ fn more_trees(
 }
 
 #[cycle(trees)]
-#[tactic(auto, using(crate::proofs::Below::read_full, crate::proofs::Below::read_gives, crate::proofs::Below::read_refuses, crate::proofs::Below::read_reads, crate::proofs::Below::part_fails, crate::proofs::Below::fails_then, crate::proofs::Below::raise_ok, crate::proofs::Below::fails_raise))]
 fn comparison_tree(alloc: Global, tokens: &[Token], room: u32) -> Read<Tree>
     requires { room ≤ 200 }
     ensures gives { Gives (λ x. ok (tree_of x.0) x.1 (tokens_of x.2.now)) result (full room (tree comparison) (tokens_of tokens.now)) }
@@ -312,7 +300,6 @@ fn comparison_tree(alloc: Global, tokens: &[Token], room: u32) -> Read<Tree>
 }
 
 #[cycle(trees)]
-#[tactic(auto, using(crate::proofs::Below::read_full, crate::proofs::Below::read_gives, crate::proofs::Below::read_refuses, crate::proofs::Below::read_reads, crate::proofs::Below::part_fails, crate::proofs::Below::fails_then, crate::proofs::Below::raise_ok, crate::proofs::Below::fails_raise))]
 fn conjunction_tree(alloc: Global, tokens: &[Token], room: u32) -> Read<Tree>
     requires { room ≤ 200 }
     ensures gives { Gives (λ x. ok (tree_of x.0) x.1 (tokens_of x.2.now)) result (full room (tree conjunction) (tokens_of tokens.now)) }
@@ -332,7 +319,6 @@ fn conjunction_tree(alloc: Global, tokens: &[Token], room: u32) -> Read<Tree>
 }
 
 #[cycle(trees)]
-#[tactic(auto, using(crate::proofs::Below::read_full, crate::proofs::Below::read_gives, crate::proofs::Below::read_refuses, crate::proofs::Below::read_reads, crate::proofs::Below::part_fails, crate::proofs::Below::fails_then, crate::proofs::Below::raise_ok, crate::proofs::Below::fails_raise))]
 fn disjunction_tree(alloc: Global, tokens: &[Token], room: u32) -> Read<Tree>
     requires { room ≤ 200 }
     ensures gives { Gives (λ x. ok (tree_of x.0) x.1 (tokens_of x.2.now)) result (full room (tree disjunction) (tokens_of tokens.now)) }
@@ -352,7 +338,6 @@ fn disjunction_tree(alloc: Global, tokens: &[Token], room: u32) -> Read<Tree>
 }
 
 #[cycle(trees)]
-#[tactic(auto, using(crate::proofs::Below::read_full, crate::proofs::Below::read_gives, crate::proofs::Below::read_refuses, crate::proofs::Below::read_reads, crate::proofs::Below::part_fails, crate::proofs::Below::fails_then, crate::proofs::Below::raise_ok, crate::proofs::Below::fails_raise))]
 pub fn expr_tree(alloc: Global, tokens: &[Token], room: u32) -> Read<Tree>
     requires { room ≤ 200 }
     ensures gives { Gives (λ x. ok (tree_of x.0) x.1 (tokens_of x.2.now)) result (full room (tree expr) (tokens_of tokens.now)) }
@@ -385,7 +370,6 @@ pub fn expr_tree(alloc: Global, tokens: &[Token], room: u32) -> Read<Tree>
 }
 
 #[cycle(trees)]
-#[tactic(auto, using(crate::proofs::Below::read_full, crate::proofs::Below::read_gives, crate::proofs::Below::read_refuses, crate::proofs::Below::read_reads, crate::proofs::Below::part_fails, crate::proofs::Below::fails_then, crate::proofs::Below::raise_ok, crate::proofs::Below::fails_raise))]
 fn conditional(alloc: Global, tokens: &[Token], room: u32) -> Read<Tree>
     requires { room ≤ 200 }
     ensures gives { Gives (λ x. ok (tree_of x.0) x.1 (tokens_of x.2.now)) result (reading {n = tree expr} room (reads (tree expr) λ c. expect then_next (reads (tree expr) λ d. expect else_next (reads (tree expr) λ e. gives (cond c d e)))) none_yet (tokens_of tokens.now)) }
@@ -399,7 +383,6 @@ fn conditional(alloc: Global, tokens: &[Token], room: u32) -> Read<Tree>
 }
 
 #[cycle(trees)]
-#[tactic(auto, using(crate::proofs::Below::read_full, crate::proofs::Below::read_gives, crate::proofs::Below::read_refuses, crate::proofs::Below::read_reads, crate::proofs::Below::part_fails, crate::proofs::Below::fails_then, crate::proofs::Below::raise_ok, crate::proofs::Below::fails_raise))]
 fn branches(alloc: Global, test: Tree, height: u32, tokens: &[Token], room: u32) -> Read<Tree>
     requires { (height ≤ room) × (room ≤ 200) }
     ensures gives { Gives (λ x. ok (tree_of x.0) x.1 (tokens_of x.2.now)) result (reading {n = tree expr} room (reads (tree expr) λ d. expect else_next (reads (tree expr) λ e. gives (cond (tree_of test) d e))) (so_far height) (tokens_of tokens.now)) }
@@ -417,7 +400,6 @@ fn branches(alloc: Global, test: Tree, height: u32, tokens: &[Token], room: u32)
 }
 
 #[cycle(trees)]
-#[tactic(auto, using(crate::proofs::Below::read_full, crate::proofs::Below::read_gives, crate::proofs::Below::read_refuses, crate::proofs::Below::read_reads, crate::proofs::Below::part_fails, crate::proofs::Below::fails_then, crate::proofs::Below::raise_ok, crate::proofs::Below::fails_raise))]
 fn bound_tree(alloc: Global, tokens: &[Token], room: u32) -> Read<Tree>
     requires { room ≤ 200 }
     ensures gives { Gives (λ x. ok (tree_of x.0) x.1 (tokens_of x.2.now)) result (reading room (pick let_in_by) none_yet (tokens_of tokens.now)) }
@@ -438,7 +420,6 @@ fn bound_tree(alloc: Global, tokens: &[Token], room: u32) -> Read<Tree>
 }
 
 #[cycle(trees)]
-#[tactic(auto, using(crate::proofs::Below::read_full, crate::proofs::Below::read_gives, crate::proofs::Below::read_refuses, crate::proofs::Below::read_reads, crate::proofs::Below::part_fails, crate::proofs::Below::fails_then, crate::proofs::Below::raise_ok, crate::proofs::Below::fails_raise))]
 fn recursive(alloc: Global, tokens: &[Token], room: u32) -> Read<Tree>
     requires { room ≤ 200 }
     ensures gives { Gives (λ x. ok (tree_of x.0) x.1 (tokens_of x.2.now)) result (reading room (pick rec_by) none_yet (tokens_of tokens.now)) }
@@ -458,7 +439,6 @@ fn recursive(alloc: Global, tokens: &[Token], room: u32) -> Read<Tree>
 }
 
 #[cycle(trees)]
-#[tactic(auto, using(crate::proofs::Below::read_full, crate::proofs::Below::read_gives, crate::proofs::Below::read_refuses, crate::proofs::Below::read_reads, crate::proofs::Below::part_fails, crate::proofs::Below::fails_then, crate::proofs::Below::raise_ok, crate::proofs::Below::fails_raise))]
 fn scoped(
     alloc: Global,
     name: Name,
@@ -485,7 +465,6 @@ fn scoped(
 }
 
 #[cycle(trees)]
-#[tactic(auto, using(crate::proofs::Below::read_full, crate::proofs::Below::read_gives, crate::proofs::Below::read_refuses, crate::proofs::Below::read_reads, crate::proofs::Below::part_fails, crate::proofs::Below::fails_then, crate::proofs::Below::raise_ok, crate::proofs::Below::fails_raise))]
 pub fn parameter_tree(alloc: Global, mark: Mark, tokens: &[Token], room: u32) -> Read<Function>
     requires { room ≤ 200 }
     ensures gives { Gives (λ x. ok (function_of x.0) x.1 (tokens_of x.2.now)) result (full room (parameter (mark_in mark)) (tokens_of tokens.now)) }
@@ -510,7 +489,6 @@ pub fn parameter_tree(alloc: Global, mark: Mark, tokens: &[Token], room: u32) ->
 }
 
 #[cycle(trees)]
-#[tactic(auto, using(crate::proofs::Below::read_full, crate::proofs::Below::read_gives, crate::proofs::Below::read_refuses, crate::proofs::Below::read_reads, crate::proofs::Below::part_fails, crate::proofs::Below::fails_then, crate::proofs::Below::raise_ok, crate::proofs::Below::fails_raise))]
 pub fn body_tree(alloc: Global, mark: Mark, tokens: &[Token], room: u32) -> Read<Defined>
     requires { room ≤ 200 }
     ensures gives { Gives (λ x. ok (definition_of x.0) x.1 (tokens_of x.2.now)) result (full room (body (mark_in mark)) (tokens_of tokens.now)) }
@@ -532,7 +510,6 @@ pub fn body_tree(alloc: Global, mark: Mark, tokens: &[Token], room: u32) -> Read
 }
 
 #[cycle(trees)]
-#[tactic(auto, using(crate::proofs::Below::read_full, crate::proofs::Below::read_gives, crate::proofs::Below::read_refuses, crate::proofs::Below::read_reads, crate::proofs::Below::part_fails, crate::proofs::Below::fails_then, crate::proofs::Below::raise_ok, crate::proofs::Below::fails_raise))]
 fn behind_tree(alloc: Global, mark: Mark, tokens: &[Token], room: u32) -> Read<Defined>
     requires { room ≤ 200 }
     ensures gives { Gives (λ x. ok (definition_of x.0) x.1 (tokens_of x.2.now)) result (reading room (pick (behind_mark (mark_in mark))) none_yet (tokens_of tokens.now)) }
@@ -549,7 +526,6 @@ fn behind_tree(alloc: Global, mark: Mark, tokens: &[Token], room: u32) -> Read<D
 }
 
 #[cycle(trees)]
-#[tactic(auto, using(crate::proofs::Below::read_full, crate::proofs::Below::read_gives, crate::proofs::Below::read_refuses, crate::proofs::Below::read_reads, crate::proofs::Below::part_fails, crate::proofs::Below::fails_then, crate::proofs::Below::raise_ok, crate::proofs::Below::fails_raise))]
 fn passed_atom(alloc: Global, tokens: &[Token], room: u32) -> Read<Tree>
     requires { room ≤ 200 }
     ensures gives { Gives (λ x. ok (tree_of x.0) x.1 (tokens_of x.2.now)) result (reading {n = tree head} room (reads (tree atom) λ e. gives e) none_yet (tokens_of tokens.now)) }
@@ -560,7 +536,6 @@ fn passed_atom(alloc: Global, tokens: &[Token], room: u32) -> Read<Tree>
 }
 
 #[cycle(trees)]
-#[tactic(auto, using(crate::proofs::Below::read_full, crate::proofs::Below::read_gives, crate::proofs::Below::read_refuses, crate::proofs::Below::read_reads, crate::proofs::Below::part_fails, crate::proofs::Below::fails_then, crate::proofs::Below::raise_ok, crate::proofs::Below::fails_raise))]
 fn passed_disjunction(alloc: Global, tokens: &[Token], room: u32) -> Read<Tree>
     requires { room ≤ 200 }
     ensures gives { Gives (λ x. ok (tree_of x.0) x.1 (tokens_of x.2.now)) result (reading {n = tree expr} room (reads (tree disjunction) λ e. gives e) none_yet (tokens_of tokens.now)) }
@@ -591,7 +566,6 @@ fn next_operand(
 }
 
 #[cycle(trees)]
-#[tactic(auto, using(crate::proofs::Below::read_full, crate::proofs::Below::read_gives, crate::proofs::Below::read_refuses, crate::proofs::Below::read_reads, crate::proofs::Below::part_fails, crate::proofs::Below::fails_then, crate::proofs::Below::raise_ok, crate::proofs::Below::fails_raise))]
 fn scoped_function(
     alloc: Global,
     name: Name,
