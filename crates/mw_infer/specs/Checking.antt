@@ -5,6 +5,7 @@ use Rattle.mw_term.specs.Programs.{Definition, value, kernel, PureProgram, IsSyn
 use Rattle.mw_term.specs.Types.{TermType, live, IsAbsent}
 use Rattle.mw_term.specs.Typing.{TopLevel, Typed}
 use Rattle.mw_term.specs.Typable.{seen_by_item, seen_by_main}
+use Rattle.mw_term.specs.Scoped.{IsScoped, is_seen}
 use Rattle.mw_term.specs.declared.refusal.Refusal.{Refusal}
 use Rattle.mw_term.specs.declared.refusal.Refusal.TheVariants.{IllTyped, TypeTooBig, NotClosed}
 use Rattle.mw_term.specs.declared.refusal.Stop.{Stop}
@@ -13,7 +14,6 @@ use Rattle.mw_types.specs.Types.{TypeExpression, Substitution, after, closed_ty}
 use Rattle.mw_types.specs.Equations.{MostGeneral, IsSmall, TooBig, Fine, FirstUnsolvable, FirstTooBig}
 use Rattle.mw_infer.specs.Schemes.{TopScheme, let_scheme, kernel_scheme, no_scheme, IsInOrder, base_expression, kernel_expression}
 use Rattle.mw_infer.specs.Sources.{IsSource}
-use Rattle.mw_infer.specs.Scoped.{IsScoped, is_seen}
 use Rattle.mw_infer.specs.ItemEquations.{Close}
 use Rattle.mw_infer.specs.Inferring.{item_unknowns, item_classifiers, item_closes, Place, let_place, kernel_place, main_place, IsTypableAt, item_equations, entry_of, AreFresh, least, IsInstance, AreSchemesOf}
 

@@ -2,13 +2,14 @@
 use Rattle.std.specs.Prelude.{ℕ, ◌≡◌, ◌+◌, ◌^◌, ◌≤◌, List, [], ◌∷◌, ◌++◌, map}
 use Rattle.mw_term.specs.Terms.{Expression}
 use Rattle.mw_term.specs.Types.{Level}
+use Rattle.mw_term.specs.Scoped.{IsScoped}
 use Rattle.mw_types.specs.Types.{Within}
 use Rattle.mw_types.specs.Equations.{TypeEquation, equations_of}
 use Rattle.mw_infer.specs.declared.output.Spot.{Spot}
 use Rattle.mw_infer.specs.declared.output.Output.{Output}
 use Rattle.mw_infer.specs.Schemes.{TopScheme, let_scheme, kernel_scheme, no_scheme}
 use Rattle.mw_infer.specs.ItemEquations.{Slot, Close, unknowns_of, classifiers_of, equations, closes}
-use Rattle.mw_infer.specs.Scoped.{IsScoped, is_quoted, is_quoted_slot, has_scheme}
+use Rattle.mw_infer.specs.Scoped.{is_quoted, is_quoted_slot, has_scheme}
 use Rattle.mw_infer.specs.Views.{slot_of}
 
 abbrev pub close_of : Spot → Close

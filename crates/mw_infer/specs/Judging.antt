@@ -1,6 +1,7 @@
 -- What is judged of an item's equations and closes.
 use Rattle.std.specs.Prelude.{ℕ, ◌≡◌, ◌≤◌, ◌^◌, false, List, [], map}
 use Rattle.mw_term.specs.Terms.{Expression, kernel_type_of}
+use Rattle.mw_term.specs.Scoped.{IsScoped}
 use Rattle.mw_types.specs.Types.{Substitution, after}
 use Rattle.mw_types.specs.Equations.{equations_of, MostGeneral, IsSmall, StaysWithin, FirstUnsolvable, FirstTooBig}
 use Rattle.mw_infer.specs.declared.judge.Verdict.{Verdict}
@@ -12,7 +13,7 @@ use Rattle.mw_infer.specs.ItemEquations.{Close}
 use Rattle.mw_infer.specs.Inferring.{item_unknowns, item_classifiers, item_closes, Place, let_place, kernel_place, main_place, item_equations, AreFresh, least}
 use Rattle.mw_infer.specs.Checking.{IsFirstOpen}
 use Rattle.mw_infer.specs.Numbering.{IsRenumbering}
-use Rattle.mw_infer.specs.Scoped.{IsScoped, has_scheme}
+use Rattle.mw_infer.specs.Scoped.{has_scheme}
 use Rattle.mw_infer.specs.declared.output.Output.{Output}
 use Rattle.mw_infer.specs.Emitting.{AreLow, close_of}
 use Rattle.mw_infer.specs.Views.{scheme_of}

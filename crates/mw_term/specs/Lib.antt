@@ -7,4 +7,5 @@ pub mod Types
 pub mod Unlabelled
 pub mod Typing
 pub mod Typable
+pub mod Scoped
 pub mod TypingLaws
