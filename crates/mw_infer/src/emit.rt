@@ -5,7 +5,7 @@ ghost use Rattle.mw_term.specs.Terms.{expression_of};
 ghost use Rattle.mw_infer.specs.ItemEquations.{slot};
 ghost use Rattle.mw_term.specs.Types.{under};
 ghost use Rattle.mw_infer.specs.Scoped.{is_quoted};
-ghost use Rattle.mw_infer.specs.Emitting.{Adds, AddsTerm, CanEmit};
+ghost use Rattle.mw_infer.specs.Emitting.{Adds, AddsTerm, Binds, CanEmit, IsStaging};
 ghost use Rattle.mw_infer.specs.Views.{level_at, slot_of, slots_of, tops_of};
 
 use crate::names::Known;
@@ -27,6 +27,7 @@ fn bound(stage: Stage, unknown: u64) -> Binder
 }
 
 /// The equations and closes of a term of type `own`.
+#[cycle(emission)]
 pub fn emit(
     term: &Term,
     alloc: Global,
@@ -40,33 +41,18 @@ pub fn emit(
     ensures { OnOk result (AddsTerm out.old out.new (tops_of names.now) own (slots_of scope.now) (level_at stage) (expression_of term.now)) }
 {
     let o = out.unknowns;
-    let c = out.classifiers;
     match term {
         Term::Int(_) => equate(out, Ty::Unknown(own), Ty::Int),
         Term::Bool(_) => equate(out, Ty::Unknown(own), Ty::Bool),
         Term::Var(number) => own::variable(alloc, out, own, stage, find(scope, *number)),
         Term::Glob(index) => own::name(alloc, names, out, own, *index),
-        Term::Fun(e) => {
-            own::lambda(alloc, out, own)?;
-            let inner = Scope::Bound(bound(stage, o), &*scope);
-            emit(e, alloc, names, &inner, stage, o + 1, out)
-        }
-        Term::Rec(e) => {
-            own::recursive(alloc, out, own)?;
-            let outer = Scope::Bound(bound(stage, o + 1), &*scope);
-            let inner = Scope::Bound(bound(stage, o), &outer);
-            emit(e, alloc, names, &inner, stage, o + 2, out)
+        Term::Fun(_) | Term::Rec(_) | Term::Let(_, _) => {
+            binding(term, alloc, names, scope, stage, own, out)
         }
         Term::App(f, a) => {
             own::application(alloc, out, own)?;
             emit(f, alloc, names, scope, stage, o, out)?;
             emit(a, alloc, names, scope, stage, o + 1, out)
-        }
-        Term::Let(d, e) => {
-            own::binding(out, own)?;
-            emit(d, alloc, names, scope, stage, o + 1, out)?;
-            let inner = Scope::Bound(bound(stage, o), &*scope);
-            emit(e, alloc, names, &inner, stage, o + 2, out)
         }
         Term::If(p, a, b) => {
             own::condition(out, own)?;
@@ -92,9 +78,69 @@ pub fn emit(
             emit(a, alloc, names, scope, stage, o, out)?;
             emit(b, alloc, names, scope, stage, o + 1, out)
         }
+        _ => staging(term, alloc, names, scope, stage, own, out),
+    }
+}
+
+/// The same, of a function or a let.
+#[cycle(emission)]
+fn binding(
+    term: &Term,
+    alloc: Global,
+    names: &[Known],
+    scope: &Scope,
+    stage: Stage,
+    own: u64,
+    out: &mut Output,
+) -> Result<(), AllocError>
+    requires room { CanEmit out.old (tops_of names.now) (slots_of scope.now) (level_at stage) (expression_of term.now) }
+    requires form { Binds (expression_of term.now) }
+    ensures { OnOk result (AddsTerm out.old out.new (tops_of names.now) own (slots_of scope.now) (level_at stage) (expression_of term.now)) }
+{
+    let o = out.unknowns;
+    match term {
+        Term::Fun(e) => {
+            own::lambda(alloc, out, own)?;
+            let inner = Scope::Bound(bound(stage, o), &*scope);
+            emit(e, alloc, names, &inner, stage, o + 1, out)
+        }
+        Term::Rec(e) => {
+            own::recursive(alloc, out, own)?;
+            let outer = Scope::Bound(bound(stage, o + 1), &*scope);
+            let inner = Scope::Bound(bound(stage, o), &outer);
+            emit(e, alloc, names, &inner, stage, o + 2, out)
+        }
+        Term::Let(d, e) => {
+            own::binding(out, own)?;
+            emit(d, alloc, names, scope, stage, o + 1, out)?;
+            let inner = Scope::Bound(bound(stage, o), &*scope);
+            emit(e, alloc, names, &inner, stage, o + 2, out)
+        }
+        _ => unreachable!(),
+    }
+}
+
+/// The same, of a form of staging.
+#[cycle(emission)]
+fn staging(
+    term: &Term,
+    alloc: Global,
+    names: &[Known],
+    scope: &Scope,
+    stage: Stage,
+    own: u64,
+    out: &mut Output,
+) -> Result<(), AllocError>
+    requires room { CanEmit out.old (tops_of names.now) (slots_of scope.now) (level_at stage) (expression_of term.now) }
+    requires form { IsStaging (expression_of term.now) }
+    ensures { OnOk result (AddsTerm out.old out.new (tops_of names.now) own (slots_of scope.now) (level_at stage) (expression_of term.now)) }
+{
+    let o = out.unknowns;
+    match term {
         Term::Bracket(e) => {
+            let classifier = out.classifiers;
             own::bracket(alloc, out, own)?;
-            emit(e, alloc, names, scope, Stage::Under(c), o, out)
+            emit(e, alloc, names, scope, Stage::Under(classifier), o, out)
         }
         Term::Escape(e) => {
             own::escape(alloc, out, own, classifier_of(stage))?;
@@ -105,8 +151,9 @@ pub fn emit(
             emit(e, alloc, names, scope, stage, o, out)
         }
         Term::CloseCode(at, e) => {
+            let classifier = out.classifiers;
             own::close(alloc, out, own)?;
-            close_here(alloc, out, *at, c, scope)?;
+            close_here(alloc, out, *at, classifier, scope)?;
             emit(e, alloc, names, scope, stage, o + 1, out)
         }
         Term::OpenCode(e) => {
@@ -121,6 +168,7 @@ pub fn emit(
             own::lift_truth(alloc, out, own)?;
             emit(e, alloc, names, scope, stage, o, out)
         }
+        _ => unreachable!(),
     }
 }
 
