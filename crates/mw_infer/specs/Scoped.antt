@@ -1,4 +1,4 @@
--- Which levels, binders and names are those that true stands for in a term's scope.
+-- Which levels and slots are level 1, and which top-level names are in scope.
 use Rattle.std.specs.Prelude.{Bool, true, false}
 use Rattle.mw_term.specs.Types.{Level, live, under}
 use Rattle.mw_infer.specs.Schemes.{TopScheme, let_scheme, kernel_scheme, no_scheme}
