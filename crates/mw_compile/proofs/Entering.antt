@@ -1,5 +1,5 @@
 -- What `emit` hands on, of the module that was generated.
-use Rattle.std.proofs.Common.{◌≡◌, ◌≤◌, ◌<◌, ◌^◌, ◌&&◌, ℕ, Bool, true, false, List, [], ◌∷◌, map, length, refl, sym, ◌∙◌, ap, subst, arith}
+use Rattle.std.proofs.Common.{◌≡◌, ◌≤◌, ◌&&◌, ℕ, Bool, true, List, length, sym, ◌∙◌, ap, subst, arith}
 use Rattle.std.specs.Prelude.{nat_le}
 use Rattle.std.proofs.lemmas.Bool.Decides.{nat_tests}
 use Rattle.std.proofs.lemmas.List.{length-map}
@@ -10,19 +10,20 @@ use Rattle.mw_term.specs.Terms.{Expression, base, size, depth_of, expression_of}
 use Rattle.mw_meaning.specs.StagedMeaning.{within_limits}
 use Rattle.mw_meaning.specs.StandingFor.{StandsFor}
 use Rattle.mw_wasm.specs.declared.modules.Module.{Module}
-use Rattle.mw_wasm.specs.BinaryModules.{wasm_module, Spells}
+use Rattle.mw_wasm.specs.BinaryModules.{Spells}
 use Rattle.mw_wasm.specs.Validity.{IsValid}
 use Rattle.mw_wasm.specs.Views.{module_of, element_of, segment_of}
 use Rattle.mw_encode.specs.Encoding.{encoding}
 use Rattle.mw_validate.specs.Kept.{IsKept}
 use Rattle.mw_compile.specs.Sums.{IsSumCode, HasWords}
-use Rattle.mw_compile.specs.Emission.{emitted, emission}
+use Rattle.mw_compile.specs.Emission.{emitted}
 use Rattle.mw_compile.specs.Entries.{IsEntry}
 use Rattle.mw_compile.proofs.Spelling.{emitted_spelled}
 use Rattle.mw_compile.proofs.Generated.{emitted_valid}
 use Rattle.mw_compile.proofs.Standing.{emitted_stands}
 
-size_small : (c : Expression) → within_limits c ≡ true → size c ≤ 20000
+-- code within the limits of kernels has few nodes
+pub size_small : (c : Expression) → within_limits c ≡ true → size c ≤ 20000
 size_small c h = at_most (size c) 20000 (nat_le (depth_of c) 400) h
   where
     at_most : (n k : ℕ) (b : Bool) → nat_le n k && b ≡ true → n ≤ k

@@ -3,15 +3,14 @@ use Rattle.std.proofs.Common.{◌≡◌, List, [], ◌∷◌, ◌++◌, map, ref
 use Rattle.std.proofs.lemmas.List.{append-nil, append_assoc}
 use Rattle.mw_term.specs.Terms.{Expression, num, prim}
 use Rattle.mw_term.specs.declared.term.Primitive.TheVariants.{Add}
-use Rattle.mw_wasm.specs.declared.instructions.Instr.{Instr}
 use Rattle.mw_wasm.specs.declared.modules.Func.{Func}
 use Rattle.mw_wasm.specs.declared.numbers.IntOp.TheVariants as op
 use Rattle.mw_wasm.specs.declared.numbers.NumOp.TheVariants as number
 use Rattle.mw_wasm.specs.declared.values.ValType.{ValType}
 use Rattle.mw_wasm.specs.declared.values.ValType.TheVariants.{I64}
-use Rattle.mw_wasm.specs.Syntax.{Instruction, Code, const_i64, numeric, end, next, Function}
-use Rattle.mw_wasm.specs.Validity.{Context, HasType, CodeHasType, of_end, of_next, of_const_i64, of_numeric, context_of, IsValid}
-use Rattle.mw_wasm.specs.Views.{instruction_of, list_code, function_of}
+use Rattle.mw_wasm.specs.Syntax.{Code, numeric, end}
+use Rattle.mw_wasm.specs.Validity.{Context, CodeHasType, of_end, of_next, of_const_i64, of_numeric, context_of, IsValid}
+use Rattle.mw_wasm.specs.Views.{instruction_of, function_of}
 use Rattle.mw_compile.specs.Sums.{IsSumCode}
 use Rattle.mw_compile.specs.Emission.{instructions, code_from, init_function, emitted}
 use Rattle.mw_compile.proofs.Meanings.{before, before_append, before_end, list_is_from}

@@ -1,18 +1,17 @@
 -- What code of literals and sums means, and what its instructions do.
-use Rattle.std.proofs.Common.{◌≡◌, ℕ, ◌+◌, ◌%◌, ◌^◌, ◌<◌, ℤ, ◌+ℤ◌, List, [], ◌∷◌, ◌++◌, map, refl, sym, ◌∙◌, ap, subst, Ok, arith}
+use Rattle.std.proofs.Common.{◌≡◌, ℕ, ◌+◌, ◌%◌, ◌^◌, ℤ, ◌+ℤ◌, List, [], ◌∷◌, ◌++◌, map, refl, sym, ◌∙◌, ap, arith}
 use Rattle.std.specs.Prelude.{FitsSigned}
-use Rattle.std.specs.Int.{w64, cast_signed, cast_unsigned, int_wrap}
+use Rattle.std.specs.Int.{w64, cast_unsigned, int_wrap}
 use Rattle.std.proofs.Math.Facts.{Fits-of_z}
 use Rattle.std.proofs.lemmas.Int.{SFits-int_wrap, wrapping_add_onto, of_z-to_z, to_z-of_z}
-use Rattle.mw_term.specs.Terms.{Expression, KernelValue, num, prim, int}
+use Rattle.mw_term.specs.Terms.{Expression, num, prim, int}
 use Rattle.mw_term.specs.declared.term.Primitive.TheVariants.{Add}
-use Rattle.mw_meaning.specs.KernelMeaning.{Ended, gives, kernel_meaning, kernel_evaluation, labelled, and_then, computed}
+use Rattle.mw_meaning.specs.KernelMeaning.{gives, kernel_meaning, labelled}
 use Rattle.mw_meaning.proofs.KernelFixedPoint.{kernel_evaluation-is}
 use Rattle.mw_wasm.specs.declared.numbers.IntOp.TheVariants as op
 use Rattle.mw_wasm.specs.declared.numbers.NumOp.TheVariants as number
 use Rattle.mw_wasm.specs.declared.values.Value.{Value}
 use Rattle.mw_wasm.specs.declared.values.Value.TheVariants.{I64}
-use Rattle.mw_wasm.specs.Numerics.{number_result}
 use Rattle.mw_wasm.specs.Store.{Store}
 use Rattle.mw_wasm.specs.Syntax.{Instruction, Code, const_i64, numeric, end, next, PureModule}
 use Rattle.mw_wasm.specs.Redex.{Around, at, run}

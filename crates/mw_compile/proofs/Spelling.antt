@@ -1,5 +1,5 @@
 -- Some bytes spell the module of code of literals and sums.
-use Rattle.std.proofs.Common.{◌≡◌, ◌≤◌, ◌<◌, ℕ, zero, suc, ◌+◌, ◌*◌, ◌-◌, ◌^◌, List, [], ◌∷◌, ◌++◌, length, ℤ, pos, negsuc, refl, sym, ◌∙◌, ap, subst, inl, inr, arith}
+use Rattle.std.proofs.Common.{◌≡◌, ◌≤◌, ◌<◌, ℕ, suc, ◌+◌, ◌*◌, ◌-◌, ◌^◌, List, [], ◌∷◌, ◌++◌, length, ℤ, pos, negsuc, refl, sym, ap, subst, inl, inr, arith}
 use Rattle.std.specs.Prelude.{FitsSigned, Some, codes, ◌-ℤ◌, ◌≤ℤ◌, ◌<ℤ◌}
 use Rattle.std.specs.Int.{w64, cast_unsigned}
 use Rattle.std.specs.List.{AllByRecursion}
@@ -9,18 +9,17 @@ use Rattle.mw_term.specs.Terms.{Expression, num, prim, size}
 use Rattle.mw_term.specs.declared.term.Primitive.TheVariants.{Add}
 use Rattle.mw_wasm.specs.declared.numbers.IntOp.TheVariants as op
 use Rattle.mw_wasm.specs.declared.numbers.NumOp.TheVariants as number
-use Rattle.mw_wasm.specs.declared.values.ValType.TheVariants.{I32, I64}
+use Rattle.mw_wasm.specs.declared.values.ValType.TheVariants.{I64}
 use Rattle.mw_wasm.specs.declared.modules.Limits.{Limits}
 use Rattle.mw_wasm.specs.declared.modules.Exported.TheVariants.{Func}
-use Rattle.mw_wasm.specs.Leb.{IsUnsigned, IsSigned, IsInteger, unsigned_of}
-use Rattle.mw_wasm.specs.Pieces.{Piece, nothing, byte, octet, i32, ◌then◌, ◌or◌, ◌when◌, u32, i64, items, vector, sized}
+use Rattle.mw_wasm.specs.Leb.{IsUnsigned, IsSigned, unsigned_of}
+use Rattle.mw_wasm.specs.Pieces.{Piece, byte, octet, i32, ◌then◌, ◌when◌, u32, items, vector, sized}
 use Rattle.mw_wasm.specs.BinaryInstructions.{instruction, code, expression, value_type}
-use Rattle.mw_wasm.specs.BinaryModules.{Run, locals, function_code, function_type, function_kind, table, limits, limits_of, global, export, element, data_segment, section, customs, import_section, header, wasm_module, Spells}
-use Rattle.mw_wasm.specs.Syntax.{Instruction, Code, const_i32, const_i64, numeric, end, next, Function}
+use Rattle.mw_wasm.specs.BinaryModules.{locals, function_code, function_type, function_kind, table, limits, limits_of, global, export, element, data_segment, section, customs, import_section, header, wasm_module}
+use Rattle.mw_wasm.specs.Syntax.{Instruction, const_i32, const_i64, numeric, end, next, Function}
 use Rattle.mw_leb.proofs.Groups.{unsigned_shortest, signed_shortest}
 use Rattle.mw_leb.specs.Shortest.{shortest_unsigned, shortest_signed}
-use Rattle.mw_encode.specs.Encoding.{Spelled, signed_of}
-use Rattle.mw_encode.proofs.Pieces.{spelled_first, spelled_second}
+use Rattle.mw_encode.specs.Encoding.{Spelled}
 use Rattle.mw_compile.specs.Sums.{IsSumCode, HasWords}
 use Rattle.mw_compile.specs.Emission.{instructions, code_from, closure_function, init_function, heap_end, emitted}
 

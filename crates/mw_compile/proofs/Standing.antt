@@ -1,38 +1,24 @@
 -- The module of code of literals and sums means the code.
-use Rattle.std.proofs.Common.{◌≡◌, ◌≤◌, ◌<◌, ◌^◌, ◌&&◌, ℕ, Bool, true, false, List, [], ◌∷◌, length, Ok, refl, sym, ◌∙◌, ap, subst, arith}
-use Rattle.std.specs.Prelude.{nat_le}
+use Rattle.std.proofs.Common.{◌≡◌, ℕ, [], ◌∷◌, refl, sym, ◌∙◌, ap, subst}
 use Rattle.std.specs.Int.{w64, cast_unsigned}
-use Rattle.std.proofs.lemmas.List.{append-nil}
 use Rattle.mw_term.specs.declared.term.Base.TheVariants.{Int}
-use Rattle.mw_term.specs.Terms.{Expression, KernelType, base, int, size, depth_of, expression_of, kernel_type_of}
+use Rattle.mw_term.specs.Terms.{Expression, base, int}
 use Rattle.mw_meaning.specs.KernelMeaning.{Ended, gives, kernel_meaning}
-use Rattle.mw_meaning.specs.StagedMeaning.{within_limits}
-use Rattle.mw_meaning.specs.StandingFor.{AnswersAs, MeansKernel, StandsFor}
-use Rattle.mw_wasm.specs.declared.values.Value.{Value}
+use Rattle.mw_meaning.specs.StandingFor.{AnswersAs, StandsFor}
 use Rattle.mw_wasm.specs.declared.values.Value.TheVariants.{I32, I64}
-use Rattle.mw_wasm.specs.Syntax.{end, PureModule}
+use Rattle.mw_wasm.specs.Syntax.{end}
 use Rattle.mw_wasm.specs.Store.{Store}
 use Rattle.mw_wasm.specs.Execution.{End, ended}
 use Rattle.mw_wasm.specs.Instances.{invoked}
 use Rattle.mw_wasm.specs.Redex.{at, run, in_label, in_frame}
-use Rattle.mw_wasm.proofs.RunLaw.{run_is}
-use Rattle.mw_wasm.proofs.RunIsExecution.{invoked_is_run}
+use Rattle.mw_wasm.proofs.RunIsExecution.{invoked_is_run, leaves_all}
 use Rattle.mw_compile.specs.Sums.{IsSumCode, HasWords}
 use Rattle.mw_compile.specs.Emission.{instructions, code_from, init_function, emitted}
-use Rattle.mw_compile.proofs.Meanings.{before, before_end, Computes, computes}
+use Rattle.mw_compile.proofs.Meanings.{before_end, Computes, computes}
 
 -- what the module begins with
 abbrev beginning : Store
 beginning = record { globals = I32 0 ∷ []; table = []; memory = record { pages = 64; byte_at = λ address. 0 } }
-
--- at the end of a function's body its values are what the invocation gives
-leaves_all : (m : PureModule) (n k : ℕ) (st : Store) (ls vs : List Value) → run m n (at st ls vs end (in_label k end [] end ∷ in_frame k [] [] end ∷ [])) ≡ ended st vs n
-leaves_all m n k st ls vs =
-    run_is m n (at st ls vs end (in_label k end [] end ∷ in_frame k [] [] end ∷ []))
-    ∙ (ap (λ us. run m n (at st ls us end (in_frame k [] [] end ∷ []))) (append-nil vs)
-    ∙ (run_is m n (at st ls vs end (in_frame k [] [] end ∷ []))
-    ∙ (ap (λ us. run m n (at st [] us end [])) (append-nil vs)
-    ∙ run_is m n (at st [] vs end []))))
 
 init_gives : (c : Expression) (x : Computes c) (st : Store) (n : ℕ) → invoked (emitted c) st 0 [] n ≡ ended st (I64 (cast_unsigned w64 x.value) ∷ []) n
 init_gives c x st n =

@@ -1,10 +1,9 @@
 -- Each kernel of a program of the first forms has its module.
-use Rattle.std.proofs.Common.{◌≡◌, ◌<◌, ◌≤◌, ◌^◌, ◌&&◌, ℕ, Bool, true, false, List, [], ◌∷◌, ◌++◌, refl, sym, ◌∙◌, ap, subst, arith}
-use Rattle.std.specs.Prelude.{ℤ, pos, FitsSigned, nat_le}
+use Rattle.std.proofs.Common.{◌≡◌, ◌<◌, ◌^◌, ℕ, Bool, true, false, List, [], ◌∷◌, ◌++◌, refl, sym, ◌∙◌, ap, subst, arith}
+use Rattle.std.specs.Prelude.{ℤ, pos, FitsSigned}
 use Rattle.std.specs.Int.{w64}
 use Rattle.std.specs.List.{AllByRecursion}
-use Rattle.std.proofs.lemmas.Bool.Decides.{nat_tests}
-use Rattle.mw_term.specs.Terms.{Expression, Value, base, num, prim, bracket, escape, close, int, bool, code, size, depth_of}
+use Rattle.mw_term.specs.Terms.{Expression, Value, base, num, prim, bracket, escape, close, int, bool, code}
 use Rattle.mw_term.specs.Programs.{Definition, kernel}
 use Rattle.mw_term.specs.declared.term.Base.TheVariants.{Int}
 use Rattle.mw_term.specs.declared.term.Primitive.TheVariants.{Add}
@@ -14,6 +13,7 @@ use Rattle.mw_encode.proofs.BestModules.{encoding_shortest}
 use Rattle.mw_compile.specs.Sums.{IsSumCode, HasWords}
 use Rattle.mw_compile.specs.Emission.{emitted}
 use Rattle.mw_compile.proofs.Spelling.{emitted_spelled}
+use Rattle.mw_compile.proofs.Entering.{size_small}
 use Rattle.mw_compile.proofs.Generated.{emitted_valid}
 use Rattle.mw_compile.proofs.Standing.{emitted_stands}
 use Rattle.mw_drive.specs.NamedPrograms.{NamedItem}
@@ -67,15 +67,9 @@ closed_gives (close at e) h =
 closed_gives _ h = absurd (h)
 
 -- the module of such code, within its limits, is the one that is printed
-few_nodes : (c : Expression) → within_limits c ≡ true → size c ≤ 20000
-few_nodes c h = first (size c) (nat_le (depth_of c) 400) h
-  where
-    first : (n : ℕ) (b : Bool) → nat_le n 20000 && b ≡ true → n ≤ 20000
-    first n b h = grind (arith, nat_tests)
-
 has_module : (x : List ℕ) (c : Expression) → IsSumCode c → HasWords c → within_limits c ≡ true → HasModule record { name = x; kind = base Int; code = c }
 has_module x c sum words limits =
-    let s = emitted_spelled c sum words (few_nodes c limits) in
+    let s = emitted_spelled c sum words (size_small c limits) in
     record {
       wasm = emitted c;
       spelled = (encoding_shortest (emitted c) s.bytes s.spell).0;

@@ -1,6 +1,6 @@
 -- Texts put together.
 use Rattle.std.proofs.Common.{◌≡◌, ℕ, ◌+◌, ◌-◌, ◌≤◌, List, ◌++◌, take, drop, refl, sym, ◌∙◌, ap, arith}
-use Rattle.std.specs.Prelude.{codes, length, Result, Ok, Err, IfOk, OnErr}
+use Rattle.std.specs.Prelude.{codes, length, Result, Ok, Err, OnErr}
 use Rattle.mw_outside.specs.Count.{GrowsByFront}
 use Rattle.std.proofs.Math.Seq.{take-add}
 use Rattle.std.proofs.lemmas.List.{append_assoc, length-take, take-take}
@@ -34,11 +34,7 @@ front_written old middle new text done end h le before grows =
     let part : take count (take (end - done) (drop done text)) ≡ take count (drop done text) = take-take count (end - done) (drop done text) short in
     (done + count, omega arith, grows.2 ∙ (ap (λ x. middle ++ x) part ∙ (ap (λ x. x ++ take count (drop done text)) before ∙ (append_assoc old (take done text) (take count (drop done text)) ∙ ap (λ x. old ++ x) (sym (take-add done count text))))))
 
--- what follows where there is an answer
-pub on_ok : {T E : Type 0} {P Q : T → Type 0} (r : Result T E) → ((x : T) → P x → Q x) → IfOk r P → IfOk r Q
-on_ok (Ok x) f p = f x p
-on_ok (Err e) f p = tt
-
+-- what follows where there is an error
 pub on_err : {T E : Type 0} {P Q : Type 0} (r : Result T E) → (P → Q) → OnErr r P → OnErr r Q
 on_err (Ok x) f p = tt
 on_err (Err e) f p = f p

@@ -1,12 +1,12 @@
 -- Which modules begin as an instance.
-use Rattle.std.proofs.Common.{◌≡◌, ◌≤◌, ◌<◌, ℕ, zero, suc, ◌+◌, ◌*◌, Bool, true, false, List, [], ◌∷◌, map, length, refl, sym, ◌∙◌, ap, subst, Option, Some, None, arith}
-use Rattle.std.specs.Prelude.{cond, not, position, Ok, Err}
+use Rattle.std.proofs.Common.{◌≡◌, ℕ, ◌+◌, ◌*◌, Bool, true, false, List, [], ◌∷◌, map, length, refl, sym, ◌∙◌, ap, subst, Option, Some, None}
+use Rattle.std.specs.Prelude.{cond, not, position, Err}
 use Rattle.std.specs.List.{position_from, AllByRecursion}
 use Rattle.std.proofs.lemmas.Iterator.Adapters.{position_from-zero}
 use Rattle.mw_wasm.specs.declared.modules.Element.{Element}
 use Rattle.mw_wasm.specs.declared.modules.Segment.{Segment}
 use Rattle.mw_wasm.specs.declared.modules.Module.{Module}
-use Rattle.mw_wasm.specs.Syntax.{ElementSegment, DataSegment, PureModule}
+use Rattle.mw_wasm.specs.Syntax.{PureModule}
 use Rattle.mw_wasm.specs.Instances.{element, segment, first_table, first_memory, element_fits, segment_fits, instantiated}
 use Rattle.mw_wasm.specs.Validity.{IsValid, IsValidElement, IsValidData}
 use Rattle.mw_wasm.specs.Views.{module_of, element_of, segment_of}

@@ -1,36 +1,25 @@
 -- An invocation of straight code.
-use Rattle.std.proofs.Common.{◌≡◌, ◌≤◌, ◌<◌, ℕ, zero, suc, List, [], ◌∷◌, ◌++◌, map, length, refl, sym, ◌∙◌, ap, subst, Option, Some, None, arith}
+use Rattle.std.proofs.Common.{◌≡◌, ◌≤◌, ℕ, List, [], ◌∷◌, ◌++◌, map, length, refl, sym, ◌∙◌, ap, subst, Option, Some, arith}
 use Rattle.std.specs.Prelude.{slice_get, reverse}
-use Rattle.std.proofs.lemmas.List.{append-nil, length-map}
+use Rattle.std.proofs.lemmas.List.{length-map}
 use Rattle.mw_wasm.specs.declared.modules.Func.{Func as WasmFunc}
 use Rattle.mw_wasm.specs.declared.modules.FuncType.{FuncType}
 use Rattle.mw_wasm.specs.declared.modules.Module.{Module}
 use Rattle.mw_wasm.specs.declared.values.Value.{Value}
-use Rattle.mw_wasm.specs.declared.values.ValType.{ValType}
 use Rattle.mw_wasm.specs.NumericTypes.{type_of_value}
-use Rattle.mw_wasm.specs.Store.{Store, zero_of}
-use Rattle.mw_wasm.specs.Syntax.{end, PureModule}
+use Rattle.mw_wasm.specs.Store.{zero_of}
+use Rattle.mw_wasm.specs.Syntax.{end}
 use Rattle.mw_wasm.specs.Execution.{End, ended}
-use Rattle.mw_wasm.specs.Redex.{at, run, in_label, in_frame}
-use Rattle.mw_wasm.specs.Validity.{CodeHasType, IsValid}
+use Rattle.mw_wasm.specs.Redex.{at, in_label, in_frame}
+use Rattle.mw_wasm.specs.Validity.{IsValid}
 use Rattle.mw_wasm.specs.Instances.{exported, invoked}
 use Rattle.mw_wasm.specs.Views.{module_of, function_of, code_of}
-use Rattle.mw_wasm.proofs.RunLaw.{run_is}
-use Rattle.mw_wasm.proofs.RunIsExecution.{invoked_is_run}
+use Rattle.mw_wasm.proofs.RunIsExecution.{invoked_is_run, leaves_all}
 use Rattle.mw_exec.specs.declared.ended.Ended.TheVariants as ends
-use Rattle.mw_exec.specs.Instancing.{IsFunctionAt, CanInvoke, EndsAs, values_of, store_of}
+use Rattle.mw_exec.specs.Instancing.{IsFunctionAt, EndsAs, values_of, store_of}
 use Rattle.mw_exec.specs.Running.{GoesOn, StaysTyped}
 use Rattle.mw_exec.proofs.Steps.{ends_typed}
 use Rattle.mw_exec.proofs.ExportedFunctions.{function_there, valid_there, all_at}
-
--- at the end of a function's body its values are what the invocation gives
-leaves_all : (m : PureModule) (n k : ℕ) (st : Store) (ls vs : List Value) → run m n (at st ls vs end (in_label k end [] end ∷ in_frame k [] [] end ∷ [])) ≡ ended st vs n
-leaves_all m n k st ls vs =
-    run_is m n (at st ls vs end (in_label k end [] end ∷ in_frame k [] [] end ∷ []))
-    ∙ (ap (λ us. run m n (at st ls us end (in_frame k [] [] end ∷ []))) (append-nil vs)
-    ∙ (run_is m n (at st ls vs end (in_frame k [] [] end ∷ []))
-    ∙ (ap (λ us. run m n (at st [] us end [])) (append-nil vs)
-    ∙ run_is m n (at st [] vs end []))))
 
 -- at most one value
 at_most_one : (us : List Value) → length us ≤ 1 → values_of (slice_get us 0) ≡ reverse us

@@ -1,10 +1,10 @@
 -- The offset that a constant expression gives.
-use Rattle.std.proofs.Common.{◌≡◌, ℕ, zero, List, [], ◌∷◌, length, ◌<◌, refl, sym, ◌∙◌, ap, Some, subst, arith}
+use Rattle.std.proofs.Common.{◌≡◌, ℕ, List, [], ◌∷◌, length, ◌<◌, refl, sym, ◌∙◌, ap, Some, subst, arith}
 use Rattle.std.specs.Prelude.{slice_get}
 use Rattle.mw_wasm.specs.declared.instructions.Instr.{Instr}
 use Rattle.mw_wasm.specs.declared.instructions.Instr as instr
 use Rattle.mw_wasm.specs.declared.values.ValType.TheVariants.{I32}
-use Rattle.mw_wasm.specs.Syntax.{Instruction, Code, const_i32, end, next}
+use Rattle.mw_wasm.specs.Syntax.{Code, const_i32, end, next}
 use Rattle.mw_wasm.specs.Validity.{IsConstantOf}
 use Rattle.mw_wasm.specs.Views.{instruction_of, list_code}
 use Rattle.mw_wasm.specs.Instances.{offset_of}

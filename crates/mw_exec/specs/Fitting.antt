@@ -1,5 +1,5 @@
 -- Whether segments fit, of the program's segments.
-use Rattle.std.specs.Prelude.{ℕ, ◌+◌, nat_le, not, Bool, length, List}
+use Rattle.std.specs.Prelude.{ℕ, ◌+◌, nat_le, not, Bool, length}
 use Rattle.mw_wasm.specs.declared.values.ValType.TheVariants.{I32}
 use Rattle.mw_wasm.specs.declared.modules.Element.{Element}
 use Rattle.mw_wasm.specs.declared.modules.Segment.{Segment}

@@ -6,7 +6,7 @@ use Rattle.mw_wasm.specs.declared.modules.Module.{Module}
 use Rattle.mw_wasm.specs.declared.values.Value.{Value}
 use Rattle.mw_wasm.specs.NumericTypes.{type_of_value}
 use Rattle.mw_wasm.specs.Store.{Store}
-use Rattle.mw_wasm.specs.Execution.{End, ended, trapped, spent, lost}
+use Rattle.mw_wasm.specs.Execution.{End, ended, trapped, spent}
 use Rattle.mw_wasm.specs.Instances.{Unfit, element, segment, instantiated, exported}
 use Rattle.mw_wasm.specs.Views.{module_of}
 use Rattle.mw_exec.specs.declared.ended.Ended.{Ended}

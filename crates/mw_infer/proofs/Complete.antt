@@ -14,7 +14,8 @@ use Rattle.mw_infer.specs.Inferring.{entry_of, AreSchemesOf}
 use Rattle.mw_infer.specs.Sources.{IsSource}
 use Rattle.mw_infer.proofs.Formed.{level_of}
 use Rattle.mw_infer.proofs.Shifting.{from, value-shifted, Within-shifted, value-kernel_expression, value-primitive_expression, Within-kernel_expression, Within-primitive_expression, scheme-of_let, scheme-of_kernel}
-use Rattle.mw_infer.proofs.Within.{value-agree, variable-within}
+use Rattle.mw_types.proofs.Verdicts.{value_agree}
+use Rattle.mw_infer.proofs.Within.{variable-within}
 use Rattle.mw_infer.proofs.Extending.{extended, extended-keeps, extended-ty, extended-classifier, started, started-starts, Ready, Grown, then, Own, first, ending, Ready-part, Ready-bound, Ready-gives, Ready-later, Ready-under, Ready-live}
 
 -- the slot of a variable
@@ -59,7 +60,7 @@ module _ (tops : List TopLevel) (schemes : List TopScheme) (known : AreSchemesOf
         keeps = k;
         within = ((let z = r.own in omega arith, Within-shifted _ _ o c s.0.unknowns s.0.classifiers s.0.type s.2.within (omega arith) (omega arith)), tt);
         below = tt;
-        solves = (sym (k.types u r.own) ∙ r.gives ∙ sym n.gives ∙ value-agree p s.0.type s.2.within ∙ sym (value-shifted b o c s.0.type), tt);
+        solves = (sym (k.types u r.own) ∙ r.gives ∙ sym n.gives ∙ value_agree p s.0.type s.2.within ∙ sym (value-shifted b o c s.0.type), tt);
         fresh = tt;
       }))
 

@@ -7,7 +7,8 @@ use Rattle.mw_infer.specs.ItemEquations.{Slot, slot, Close}
 use Rattle.mw_infer.specs.Inferring.{entry_of, AreFresh}
 use Rattle.mw_infer.proofs.Formed.{level_of}
 use Rattle.mw_infer.specs.Below.{SlotsBelow, LevelBelow, ClosesBelow}
-use Rattle.mw_infer.proofs.Within.{Solves-agree, entries-agree, AreFresh-agree, level_of-agree, AllWithin-append, ClosesBelow-append, AllWithin-more, SlotsBelow-more, ClosesBelow-more, LevelBelow-more, SlotBelow-slot}
+use Rattle.mw_types.proofs.Answering.{solves_agree}
+use Rattle.mw_infer.proofs.Within.{entries-agree, AreFresh-agree, level_of-agree, AllWithin-append, ClosesBelow-append, AllWithin-more, SlotsBelow-more, ClosesBelow-more, LevelBelow-more, SlotBelow-slot}
 
 -- f below a number, and h from it on
 abbrev pub upto : {A : Type 0} → ℕ → (ℕ → A) → (ℕ → A) → ℕ → A
@@ -109,7 +110,7 @@ abbrev pub then : {a : Assignment} {o c p d q f : ℕ} {es fs : List TypeEquatio
 then {o = o} {c = c} {es = es} {fs = fs} {xs = xs} {ys = ys} one two = record {
   by = two.by;
   keeps = Agree-join one.keeps (Agree-less o c one.unknowns one.classifiers two.keeps);
-  solves = Solves-append two.by es fs (Solves-agree two.keeps es one.within one.solves) two.solves;
+  solves = Solves-append two.by es fs (solves_agree two.keeps es one.within one.solves) two.solves;
   fresh = AreFresh-append two.by xs ys (AreFresh-agree two.keeps xs one.below one.fresh) two.fresh;
   unknowns = let i = one.unknowns in let j = two.unknowns in omega arith;
   classifiers = let i = one.classifiers in let j = two.classifiers in omega arith;

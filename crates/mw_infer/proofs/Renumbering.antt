@@ -1,6 +1,6 @@
 -- Types with new numbers, part by part.
 use Rattle.std.proofs.Common.{◌≡◌, ◌≢◌, ◌⊎◌, inl, inr, ℕ, zero, suc, ◌+◌, ◌<◌, ◌≤◌, List, [], ◌∷◌, ◌++◌, refl, ap, sym, ◌∙◌, arith}
-use Rattle.mw_types.specs.Types.{TypeExpression, int_ty, bool_ty, unknown, pair_ty, function_ty, code_ty, closed_ty, nodes}
+use Rattle.mw_types.specs.Types.{TypeExpression, int_ty, bool_ty, unknown, pair_ty, function_ty, code_ty, closed_ty}
 use Rattle.mw_infer.specs.Schemes.{IsNumbered, an_int, a_bool, seen, next, a_pair, a_function, code_seen, code_next, a_closed}
 use Rattle.mw_infer.specs.Numbering.{none, number_in, IsOrder, Keeps, Places, renumbered, AreSeen, Renumbers}
 use Rattle.mw_infer.specs.declared.renumber.Numbering.{Numbering}
@@ -10,15 +10,6 @@ Keeps-same x = record { kept = λ u h. refl; places = refl }
 
 Keeps-join : {x y z : Numbering} → Keeps x y → Keeps y z → Keeps x z
 Keeps-join h k = record { kept = λ u p. k.kept u (λ e. p (sym (h.kept u p) ∙ e)) ∙ h.kept u p; places = k.places ∙ h.places }
-
-nodes-one : (t : TypeExpression) → 1 ≤ nodes t
-nodes-one int_ty = omega arith
-nodes-one bool_ty = omega arith
-nodes-one (unknown u) = omega arith
-nodes-one (pair_ty s t) = omega arith
-nodes-one (function_ty s t) = omega arith
-nodes-one (code_ty c t) = omega arith
-nodes-one (closed_ty t) = omega arith
 
 -- what was seen keeps its new type
 kept-type : {p q k l : Numbering} → Keeps p k → Keeps q l → (t : TypeExpression) → AreSeen p.places.items q.places.items t → renumbered k.places.items l.places.items t ≡ renumbered p.places.items q.places.items t

@@ -132,10 +132,6 @@ get-map f [] i x lt e = absurd (omega arith)
 get-map f (y ∷ xs) zero x lt e = ap (λ z. Some (f z)) (sym e)
 get-map f (y ∷ xs) (suc i) x lt e = get-map f xs i x (omega arith) e
 
-pub length-map : {A B : Type 0} (f : A → B) (xs : List A) → length (map f xs) ≡ length xs
-length-map f [] = refl
-length-map f (x ∷ xs) = ap suc (length-map f xs)
-
 -- the types of all parts, by the schemes of main's names
 Extends-item : (items : List Definition) (i : ℕ) → Extends (seen_by_item items i) (seen_by_main items)
 Extends-item items i = record { lets = lets items i; kernels = kernels items i }

@@ -1,10 +1,10 @@
 -- Which numbers a term's equations and closes name, and that nothing else matters.
-use Rattle.std.proofs.Common.{◌≡◌, ℕ, zero, suc, ◌+◌, ◌≤◌, ◌<◌, List, [], ◌∷◌, ◌++◌, map, Option, Some, None, refl, ap, sym, subst, ◌∙◌, arith}
+use Rattle.std.proofs.Common.{◌≡◌, ℕ, zero, suc, ◌+◌, ◌≤◌, ◌<◌, List, [], ◌∷◌, ◌++◌, map, Option, Some, None, refl, ap, subst, arith}
 use Rattle.std.specs.Prelude.{slice_get}
 use Rattle.mw_term.specs.Terms.{Expression, num, truth, var, glob, fun, fix, app, bind, cond, pair, fst, snd, prim, bracket, escape, run, close, opened, lift, lift_b, done}
-use Rattle.mw_term.specs.Types.{closed_type, Level, live, under}
-use Rattle.mw_types.specs.Types.{TypeExpression, int_ty, bool_ty, unknown, pair_ty, function_ty, code_ty, closed_ty, Within, Assignment, value}
-use Rattle.mw_types.specs.Equations.{TypeEquation, AllWithin, Solves, Agree}
+use Rattle.mw_term.specs.Types.{Level, live, under}
+use Rattle.mw_types.specs.Types.{TypeExpression, int_ty, bool_ty, unknown, pair_ty, function_ty, code_ty, closed_ty, Within, Assignment}
+use Rattle.mw_types.specs.Equations.{TypeEquation, AllWithin, Agree}
 use Rattle.mw_infer.specs.Schemes.{Scheme, TopScheme, let_scheme, kernel_scheme, no_scheme, AreOwn}
 use Rattle.mw_infer.specs.ItemEquations.{Slot, plain_slot, quoted_slot, slot, wrong, unknowns_of_name, classifiers_of_name, unknowns_of, classifiers_of, variable_equations, name_equations, equations, Close}
 use Rattle.mw_infer.specs.Below.{SlotBelow, SlotsBelow, LevelBelow, ClosesBelow}
@@ -13,19 +13,6 @@ use Rattle.mw_infer.proofs.Formed.{level_of}
 use Rattle.mw_infer.proofs.Shifting.{Within-shifted, Within-kernel_expression, Within-primitive_expression}
 
 -- assignments that are one there
-pub value-agree : {n m : ℕ} {a b : Assignment} → Agree n m a b → (t : TypeExpression) → Within n m t → value a t ≡ value b t
-value-agree h int_ty w = refl
-value-agree h bool_ty w = refl
-value-agree h (unknown u) w = h.types u w
-value-agree h (pair_ty s t) w = rw (value-agree h s w.0, value-agree h t w.1) refl
-value-agree h (function_ty s t) w = rw (value-agree h s w.0, value-agree h t w.1) refl
-value-agree h (code_ty c t) w = rw (h.classifiers c w.0, value-agree h t w.1) refl
-value-agree h (closed_ty t) w = ap closed_type (value-agree h t w)
-
-pub Solves-agree : {n m : ℕ} {a b : Assignment} → Agree n m a b → (es : List TypeEquation) → AllWithin n m es → Solves a es → Solves b es
-Solves-agree h [] w s = tt
-Solves-agree h (e ∷ es) w s = (sym (value-agree h e.left w.0.0) ∙ s.0 ∙ value-agree h e.right w.0.1, Solves-agree h es w.1 s.1)
-
 pub entries-agree : {n m : ℕ} {a b : Assignment} → Agree n m a b → (g : List Slot) → SlotsBelow n m g → map (entry_of a) g ≡ map (entry_of b) g
 entries-agree h [] w = refl
 entries-agree h (plain_slot u ∷ g) w = rw (h.types u w.0, entries-agree h g w.1) refl

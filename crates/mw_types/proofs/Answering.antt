@@ -218,7 +218,7 @@ room s sizes n le all small names u lt =
     let k = name_in names in
     (z.type k, z.stands k, (let c = z.count k in let p = small u lt in omega arith))
 
-solves_agree : {n m : ℕ} {a b : Assignment} → Agree n m a b → (es : List TypeEquation) → AllWithin n m es → Solves a es → Solves b es
+pub solves_agree : {n m : ℕ} {a b : Assignment} → Agree n m a b → (es : List TypeEquation) → AllWithin n m es → Solves a es → Solves b es
 solves_agree k [] w h = tt
 solves_agree k (e ∷ es) w h = (sym (value_agree k e.left w.0.0) ∙ h.0 ∙ value_agree k e.right w.0.1, solves_agree k es w.1 h.1)
 

@@ -33,7 +33,7 @@ view (code_ty c s) (code_ty d t) = both_codes
 view (closed_ty s) (closed_ty t) = both_closed
 view l r = clash (λ a e. absurd (cc))
 
-nodes_some : (t : TypeExpression) → 1 ≤ nodes t
+pub nodes_some : (t : TypeExpression) → 1 ≤ nodes t
 nodes_some int_ty = omega arith
 nodes_some bool_ty = omega arith
 nodes_some (unknown u) = omega arith

@@ -151,7 +151,7 @@ both_next i j c d first others = record { same = λ a b r s p q x y e. both a b 
         (joined p q k.0 l.0, rw (k.1, l.1) refl)
 
 -- an opcode and an index
-agree_index : (m x y : ℕ) → Agree (byte m then u32 x) (byte m then u32 y) (x ≡ y)
+pub agree_index : (m x y : ℕ) → Agree (byte m then u32 x) (byte m then u32 y) (x ≡ y)
 agree_index m x y = agree_so (agree_then (agree_byte m m) (λ _. agree_u32 x y)) (λ e. e.1)
 
 agree_memory : (m n a b x y : ℕ) → Agree (byte m then u32 a then u32 x) (byte n then u32 b then u32 y) ((m ≡ n) × ((a ≡ b) × (x ≡ y)))

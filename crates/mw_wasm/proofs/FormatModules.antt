@@ -11,7 +11,7 @@ use Rattle.mw_wasm.specs.Pieces.{Piece, byte, octet, ◌then◌, u32, vector}
 use Rattle.mw_wasm.specs.BinaryInstructions.{value_type}
 use Rattle.mw_wasm.specs.BinaryModules.{function_type, limits_of, limits, table, mutability, global, function_kind, exported, export, element, data_segment, Run, run, locals, function_code, section, import_section, customs, at_most_one, Spells}
 use Rattle.mw_wasm.proofs.FormatPieces.{Agree, Whole, behind, agree_whole, agree_so, agree_byte, agree_octet, agree_then, agree_when, agree_u32, agree_parts, agree_vector, agree_sized}
-use Rattle.mw_wasm.proofs.FormatInstructions.{agree_value_type, agree_expression}
+use Rattle.mw_wasm.proofs.FormatInstructions.{agree_value_type, agree_index, agree_expression}
 use Rattle.mw_wasm.proofs.FormatSections.{Found, Behind, IsNone, Tails, found_end, found_more, found_import, tails_end, tails_more, found_agree, Section}
 
 agree_function_type : (t u : FuncType) → Agree (function_type t) (function_type u) (t ≡ u)
@@ -49,26 +49,23 @@ agree_kind f g = agree_u32 f.kind g.kind
 other_kind : (m n x y : ℕ) {E : Type 0} → (m ≡ n → ⊥) → Agree (byte m then u32 x) (byte n then u32 y) E
 other_kind m n x y h = agree_so (agree_then (agree_byte m n) (λ e. absurd (h e))) (λ e. e.1)
 
-same_kind : (m x y : ℕ) → Agree (byte m then u32 x) (byte m then u32 y) (x ≡ y)
-same_kind m x y = agree_so (agree_then (agree_byte m m) (λ _. agree_u32 x y)) (λ e. e.1)
-
 agree_exported : (a b : Exported) → Agree (exported a) (exported b) (a ≡ b)
-agree_exported (Func x) (Func y) = agree_so (same_kind 0 x y) (λ e. ap Func e)
+agree_exported (Func x) (Func y) = agree_so (agree_index 0 x y) (λ e. ap Func e)
 agree_exported (Func x) (Table y) = other_kind 0 1 x y (λ e. omega arith)
 agree_exported (Func x) (Memory y) = other_kind 0 2 x y (λ e. omega arith)
 agree_exported (Func x) (Variable y) = other_kind 0 3 x y (λ e. omega arith)
 agree_exported (Table x) (Func y) = other_kind 1 0 x y (λ e. omega arith)
-agree_exported (Table x) (Table y) = agree_so (same_kind 1 x y) (λ e. ap Table e)
+agree_exported (Table x) (Table y) = agree_so (agree_index 1 x y) (λ e. ap Table e)
 agree_exported (Table x) (Memory y) = other_kind 1 2 x y (λ e. omega arith)
 agree_exported (Table x) (Variable y) = other_kind 1 3 x y (λ e. omega arith)
 agree_exported (Memory x) (Func y) = other_kind 2 0 x y (λ e. omega arith)
 agree_exported (Memory x) (Table y) = other_kind 2 1 x y (λ e. omega arith)
-agree_exported (Memory x) (Memory y) = agree_so (same_kind 2 x y) (λ e. ap Memory e)
+agree_exported (Memory x) (Memory y) = agree_so (agree_index 2 x y) (λ e. ap Memory e)
 agree_exported (Memory x) (Variable y) = other_kind 2 3 x y (λ e. omega arith)
 agree_exported (Variable x) (Func y) = other_kind 3 0 x y (λ e. omega arith)
 agree_exported (Variable x) (Table y) = other_kind 3 1 x y (λ e. omega arith)
 agree_exported (Variable x) (Memory y) = other_kind 3 2 x y (λ e. omega arith)
-agree_exported (Variable x) (Variable y) = agree_so (same_kind 3 x y) (λ e. ap Variable e)
+agree_exported (Variable x) (Variable y) = agree_so (agree_index 3 x y) (λ e. ap Variable e)
 
 agree_export : (a b : Exporting) → Agree (export a) (export b) (a ≡ b)
 agree_export a b = agree_so (agree_then (agree_vector octet agree_octet a.name b.name) (λ _. agree_exported a.what b.what)) (λ e i. record { name = e.0 i; what = e.1 i })

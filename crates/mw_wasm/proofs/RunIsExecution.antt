@@ -1,7 +1,7 @@
 -- A run of a state taken apart is the execution of the whole.
 use Rattle.std.proofs.Common.{◌≡◌, ℕ, zero, suc, ◌<◌, List, [], ◌∷◌, ◌++◌, Some, map, refl, sym, ap, ◌∙◌, arith, length}
 use Rattle.std.specs.Prelude.{slice_get}
-use Rattle.std.proofs.lemmas.List.{nil_from_length}
+use Rattle.std.proofs.lemmas.List.{nil_from_length, append-nil}
 use Rattle.mw_wasm.specs.declared.values.Value.{Value}
 use Rattle.mw_wasm.specs.declared.modules.FuncType.{FuncType}
 use Rattle.mw_wasm.specs.Syntax.{PureModule, Function, Code, end, next, const_i32, const_i64}
@@ -117,3 +117,12 @@ run_is_execution m n c h = below_is m (suc n) n c (omega arith) h
 pub invoked_is_run : (m : PureModule) (st : Store) (f : ℕ) (args : List Value) (n : ℕ) (g : Function) (t : FuncType) → slice_get m.funcs f ≡ Some g → slice_get m.types g.kind ≡ Some t
     → invoked m st f args n ≡ run m n (at st (args ++ map zero_of g.locals) [] g.body (in_label (length t.results) end [] end ∷ in_frame (length t.results) [] [] end ∷ []))
 invoked_is_run m st f args n g t is_g is_t = rw (is_g, is_t) (sym (run_is_execution m n (at st (args ++ map zero_of g.locals) [] g.body (in_label (length t.results) end [] end ∷ in_frame (length t.results) [] [] end ∷ [])) refl))
+
+-- at the end of a function's body its values are what the invocation gives
+pub leaves_all : (m : PureModule) (n k : ℕ) (st : Store) (ls vs : List Value) → run m n (at st ls vs end (in_label k end [] end ∷ in_frame k [] [] end ∷ [])) ≡ ended st vs n
+leaves_all m n k st ls vs =
+    run_is m n (at st ls vs end (in_label k end [] end ∷ in_frame k [] [] end ∷ []))
+    ∙ (ap (λ us. run m n (at st ls us end (in_frame k [] [] end ∷ []))) (append-nil vs)
+    ∙ (run_is m n (at st ls vs end (in_frame k [] [] end ∷ []))
+    ∙ (ap (λ us. run m n (at st [] us end [])) (append-nil vs)
+    ∙ run_is m n (at st [] vs end []))))

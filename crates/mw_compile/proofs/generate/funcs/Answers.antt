@@ -1,4 +1,4 @@
-use Rattle.std.proofs.Common.{map, refl, sym, ◌∙◌, ap, ◌∷◌, ◌++◌, []}
+use Rattle.std.proofs.Common.{map, refl, ◌∙◌, ap, ◌∷◌, ◌++◌, []}
 use Rattle.mw_wasm.specs.declared.modules.Func.{Func}
 use Rattle.mw_wasm.specs.Views.{instruction_of}
 use Rattle.mw_term.specs.Terms.{expression_of}

@@ -1,5 +1,5 @@
 use Rattle.mw_term.specs.Terms.{expression_of, kernel_type_of}
-use Rattle.mw_drive.proofs.TextLemmas.{on_ok}
+use Rattle.mw_exec.proofs.Steps.{on_ok}
 use Rattle.mw_drive.proofs.Reporting.{more_runs, stops_there, entries_push, item_is, first_and_rest, rest_items, rest_body, rest_shorter}
 use Rattle.mw_drive.proofs.report.+run_items.Goals as goal
 

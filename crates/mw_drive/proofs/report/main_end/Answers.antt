@@ -6,7 +6,7 @@ use Rattle.mw_term.specs.Terms.{expression_of}
 use Rattle.mw_term.specs.declared.value.BaseValue.TheVariants.{Int}
 use Rattle.mw_drive.specs.ProgramMeaning.{answered}
 use Rattle.mw_drive.specs.Output.{ending_line}
-use Rattle.mw_drive.proofs.TextLemmas.{on_ok}
+use Rattle.mw_exec.proofs.Steps.{on_ok}
 use Rattle.mw_drive.proofs.Reporting.{main_answers, main_stopped}
 use Rattle.mw_drive.proofs.report.main_end.Goals as goal
 

@@ -4,7 +4,7 @@ use Rattle.mw_drive.specs.NamedPrograms.{named_program_of}
 use Rattle.mw_drive.specs.ProgramRuns.{IsRefusalReport}
 use Rattle.mw_drive.specs.declared.report.TheConstants.{DEFAULT_FUEL}
 use Rattle.mw_drive.proofs.SourceReadings.{unnamed_program, names_of_program}
-use Rattle.mw_drive.proofs.TextLemmas.{on_ok}
+use Rattle.mw_exec.proofs.Steps.{on_ok}
 use Rattle.mw_drive.proofs.ScopedTerms.{is_resolved}
 use Rattle.mw_drive.proofs.SourceReports.{program_reports, program_only, other_reports, other_only, types_reports, types_only, refusal_reports, refusal_only}
 use Rattle.mw_drive.proofs.report.report_of.Goals as goal

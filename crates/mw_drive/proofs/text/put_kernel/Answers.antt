@@ -3,7 +3,8 @@ use Rattle.hex.specs.Hex.{encode_lower}
 use Rattle.mw_term.specs.Terms.{expression_of, kernel_type_of}
 use Rattle.mw_compile.specs.Emission.{emission}
 use Rattle.mw_drive.specs.Output.{kind_text}
-use Rattle.mw_drive.proofs.TextLemmas.{on_ok, kernel_put}
+use Rattle.mw_exec.proofs.Steps.{on_ok}
+use Rattle.mw_drive.proofs.TextLemmas.{kernel_put}
 use Rattle.mw_drive.proofs.text.put_kernel.Goals as goal
 
 pub returns : goal.returns

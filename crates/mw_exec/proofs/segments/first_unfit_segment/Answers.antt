@@ -1,6 +1,6 @@
 use Rattle.std.proofs.Common.{arith}
 use Rattle.mw_exec.specs.Fitting.{segment_test}
-use Rattle.mw_exec.proofs.Positions.{none_before_first, none_before_next, first_is_here, none_at_all}
+use Rattle.mw_exec.proofs.Positions.{none_before_first, first_is_here, none_at_all}
 use Rattle.mw_exec.proofs.Beginnings.{ends_past}
 use Rattle.mw_exec.proofs.segments.first_unfit_segment.Goals as goal
 

@@ -1,9 +1,10 @@
 use Rattle.std.proofs.Common.{◌≡◌, ◌+◌, ℕ, Some, length, ap, sym, ◌∙◌, arith}
 use Rattle.std.specs.Prelude.{slice_get}
+use Rattle.std.proofs.lemmas.List.{length-map}
 use Rattle.mw_term.specs.Programs.{PureProgram, Definition, program_of, definition_of}
 use Rattle.mw_infer.specs.Checking.{IsFirstRefusal}
 use Rattle.mw_infer.specs.Views.{tops_of, top_of}
-use Rattle.mw_infer.proofs.Stepping.{progress-first, progress-next, item-judged, item-refused, main-judged, main-refused, main-faultless, get-map, length-map, steps-length, if-refused, AtEnd, at-end}
+use Rattle.mw_infer.proofs.Stepping.{progress-first, progress-next, item-judged, item-refused, main-judged, main-refused, main-faultless, get-map, steps-length, if-refused, AtEnd, at-end}
 use Rattle.mw_infer.proofs.Growing.{principal-main}
 use Rattle.mw_infer.proofs.program.whole.Goals as goal
 
@@ -34,31 +35,31 @@ loop-item-preserved c =
     let s = c.in-Ok.ensures.ok in
     record {
       progress = progress-next p i d (tops_of c.loop-item.names.items) (tops_of c.step.new.names.items) c.requires g c.loop-item.invariant.progress s;
-      names = sym (length-map top_of c.step.new.names.items) ∙ steps-length (tops_of c.loop-item.names.items) d (tops_of c.step.new.names.items) s ∙ ap (λ n. n + 1) (length-map top_of c.loop-item.names.items ∙ c.loop-item.invariant.names);
+      names = sym (length-map c.step.new.names.items top_of) ∙ steps-length (tops_of c.loop-item.names.items) d (tops_of c.step.new.names.items) s ∙ ap (λ n. n + 1) (length-map c.loop-item.names.items top_of ∙ c.loop-item.invariant.names);
     }
 
 pub last-requires : goal.last-requires
 last-requires c =
     let p : PureProgram = program_of c.args.program.now in
-    let a : AtEnd p (tops_of c.loop-item.names.items) (tops_of c.reveal.new.names.items) c.loop-item.item-index = at-end p (length c.args.program.now.items) c.loop-item.item-index (tops_of c.loop-item.names.items) (tops_of c.reveal.new.names.items) (sym (length-map (λ i. definition_of i.kind) c.args.program.now.items)) (rw c.as_slice-items.ensures at c.loop-item-test.false) (rw c.as_slice-items.ensures at c.loop-item.auto.item-index-end) c.loop-item.invariant.progress (rw c.as_slice-items.ensures at c.reveal.ensures) in
+    let a : AtEnd p (tops_of c.loop-item.names.items) (tops_of c.reveal.new.names.items) c.loop-item.item-index = at-end p (length c.args.program.now.items) c.loop-item.item-index (tops_of c.loop-item.names.items) (tops_of c.reveal.new.names.items) (sym (length-map c.args.program.now.items (λ i. definition_of i.kind))) (rw c.as_slice-items.ensures at c.loop-item-test.false) (rw c.as_slice-items.ensures at c.loop-item.auto.item-index-end) c.loop-item.invariant.progress (rw c.as_slice-items.ensures at c.reveal.ensures) in
     rw (c.as_slice.ensures.value, a.shown) (main-judged p (tops_of c.loop-item.names.items) c.requires a.progress)
 
 pub returns-in-Ok-last-clause-faultless : goal.returns-in-Ok-last-clause-faultless
 returns-in-Ok-last-clause-faultless c =
     let p : PureProgram = program_of c.args.program.now in
-    let a : AtEnd p (tops_of c.loop-item.names.items) (tops_of c.reveal.new.names.items) c.loop-item.item-index = at-end p (length c.args.program.now.items) c.loop-item.item-index (tops_of c.loop-item.names.items) (tops_of c.reveal.new.names.items) (sym (length-map (λ i. definition_of i.kind) c.args.program.now.items)) (rw c.as_slice-items.ensures at c.loop-item-test.false) (rw c.as_slice-items.ensures at c.loop-item.auto.item-index-end) c.loop-item.invariant.progress (rw c.as_slice-items.ensures at c.reveal.ensures) in
+    let a : AtEnd p (tops_of c.loop-item.names.items) (tops_of c.reveal.new.names.items) c.loop-item.item-index = at-end p (length c.args.program.now.items) c.loop-item.item-index (tops_of c.loop-item.names.items) (tops_of c.reveal.new.names.items) (sym (length-map c.args.program.now.items (λ i. definition_of i.kind))) (rw c.as_slice-items.ensures at c.loop-item-test.false) (rw c.as_slice-items.ensures at c.loop-item.auto.item-index-end) c.loop-item.invariant.progress (rw c.as_slice-items.ensures at c.reveal.ensures) in
     let j = c.in-Ok-last.ensures.fine in
     main-faultless p (tops_of c.loop-item.names.items) j.0 c.requires a.progress (rw (c.as_slice.ensures.value, a.shown) at j.1)
 
 pub returns-in-Ok-last-clause-principal : goal.returns-in-Ok-last-clause-principal
 returns-in-Ok-last-clause-principal c =
     let p : PureProgram = program_of c.args.program.now in
-    let a : AtEnd p (tops_of c.loop-item.names.items) (tops_of c.reveal.new.names.items) c.loop-item.item-index = at-end p (length c.args.program.now.items) c.loop-item.item-index (tops_of c.loop-item.names.items) (tops_of c.reveal.new.names.items) (sym (length-map (λ i. definition_of i.kind) c.args.program.now.items)) (rw c.as_slice-items.ensures at c.loop-item-test.false) (rw c.as_slice-items.ensures at c.loop-item.auto.item-index-end) c.loop-item.invariant.progress (rw c.as_slice-items.ensures at c.reveal.ensures) in
+    let a : AtEnd p (tops_of c.loop-item.names.items) (tops_of c.reveal.new.names.items) c.loop-item.item-index = at-end p (length c.args.program.now.items) c.loop-item.item-index (tops_of c.loop-item.names.items) (tops_of c.reveal.new.names.items) (sym (length-map c.args.program.now.items (λ i. definition_of i.kind))) (rw c.as_slice-items.ensures at c.loop-item-test.false) (rw c.as_slice-items.ensures at c.loop-item.auto.item-index-end) c.loop-item.invariant.progress (rw c.as_slice-items.ensures at c.reveal.ensures) in
     rw a.shown (principal-main p.items (tops_of c.loop-item.names.items) a.progress.principal)
 
 pub returns-clause-refused : goal.returns-clause-refused
 returns-clause-refused c =
     let p : PureProgram = program_of c.args.program.now in
-    let a : AtEnd p (tops_of c.loop-item.names.items) (tops_of c.reveal.new.names.items) c.loop-item.item-index = at-end p (length c.args.program.now.items) c.loop-item.item-index (tops_of c.loop-item.names.items) (tops_of c.reveal.new.names.items) (sym (length-map (λ i. definition_of i.kind) c.args.program.now.items)) (rw c.as_slice-items.ensures at c.loop-item-test.false) (rw c.as_slice-items.ensures at c.loop-item.auto.item-index-end) c.loop-item.invariant.progress (rw c.as_slice-items.ensures at c.reveal.ensures) in
+    let a : AtEnd p (tops_of c.loop-item.names.items) (tops_of c.reveal.new.names.items) c.loop-item.item-index = at-end p (length c.args.program.now.items) c.loop-item.item-index (tops_of c.loop-item.names.items) (tops_of c.reveal.new.names.items) (sym (length-map c.args.program.now.items (λ i. definition_of i.kind))) (rw c.as_slice-items.ensures at c.loop-item-test.false) (rw c.as_slice-items.ensures at c.loop-item.auto.item-index-end) c.loop-item.invariant.progress (rw c.as_slice-items.ensures at c.reveal.ensures) in
     let e : c.len-index-2.result ≡ length p.items = omega (arith, c.len-index-2.ensures, c.loop-item.names.ok.0, c.loop-item.invariant.names, a.index) in
     if-refused c.in-Err-last.stop _ (IsFirstRefusal p) (λ r f. main-refused p (tops_of c.loop-item.names.items) r a.progress (rw (c.as_slice.ensures.value, a.shown, e) at f)) c.in-Err-last.ensures.refused
