@@ -1,8 +1,20 @@
-//! The program `mw_bench`: it solves so many equations of a shape and prints the answer, to be timed from outside.
+//! The program `mw_bench`: it solves so many equations of a shape, runs a module with a number, or emits a large code so
+//! many times, and prints the answer, to be timed from outside. `form` prints the module of a sample of kernel code.
 //!
 //!     mw_bench chain|star|groups|codes|doublings|late COUNT
+//!     mw_bench loop|calls|memory NUMBER
+//!     mw_bench emissions TIMES
+//!     mw_bench form NUMBER
 #![tactic(auto)]
 
+mod emissions;
+mod modules;
+mod runs;
+mod samples;
+
+use crate::emissions::{emissions, module_of_sample};
+use crate::modules::Timed;
+use crate::runs::run;
 use mw_types::{Equation, Equations, Pairs, SolveFault, Ty, solve};
 use std::alloc::{AllocError, Global};
 use std::env;
@@ -33,6 +45,15 @@ fn shape_of(word: &str) -> Option<Shape> {
         "codes" => Some(Shape::Codes),
         "doublings" => Some(Shape::Doublings),
         "late" => Some(Shape::Late),
+        _ => None,
+    }
+}
+
+fn code_of(word: &str) -> Option<Timed> {
+    match word {
+        "loop" => Some(Timed::Loop),
+        "calls" => Some(Timed::Calls),
+        "memory" => Some(Timed::Memory),
         _ => None,
     }
 }
@@ -143,12 +164,29 @@ fn answer(alloc: Global, shape: Shape, count: u64) -> Result<String, AllocError>
 
 fn main(rt: HostRuntime) -> anyhow::Result<ExitCode> {
     let words: Vec<String> = env::args(&rt)?.collect(rt.alloc())?;
+    let word = words.get(1).map(|word| word.as_str());
     let chosen = words.get(1).and_then(|word| shape_of(word.as_str()));
     let count = words
         .get(2)
         .and_then(|word| word.as_str().parse::<u64>().ok());
+    let module = words.get(1).and_then(|word| code_of(word.as_str()));
+    if let (Some(code), Some(number)) = (module, count) {
+        println!(rt; "{}", run(rt.alloc(), code, number)?)?;
+        return Ok(ExitCode::from(0));
+    }
+    if let (Some("form"), Some(number)) = (word, count) {
+        let bytes = module_of_sample(rt.alloc(), number)?;
+        println!(rt; "{}", hex::encode(rt.alloc(), bytes.as_slice())?.as_str())?;
+        return Ok(ExitCode::from(0));
+    }
+    if let (Some("emissions"), Some(times)) = (word, count) {
+        println!(rt; "{}", emissions(rt.alloc(), times)?)?;
+        return Ok(ExitCode::from(0));
+    }
     let (Some(chosen), Some(count)) = (chosen, count) else {
-        eprintln!(rt; "mw_bench: usage: mw_bench chain|star|groups|codes|doublings|late COUNT")?;
+        eprintln!(rt;
+            "mw_bench: usage: mw_bench chain|star|groups|codes|doublings|late|loop|calls|memory|emissions|form NUMBER"
+        )?;
         return Ok(ExitCode::from(2));
     };
     let text = answer(rt.alloc(), chosen, count)?;

@@ -1,5 +1,1 @@
-pub mod Meanings
-pub mod Spelling
-pub mod Generated
-pub mod Standing
 pub mod Entering

@@ -4,11 +4,11 @@ use Rattle.mw_term.specs.declared.term.Term.{Term}
 use Rattle.mw_term.specs.declared.term.KType.{KType}
 use Rattle.mw_term.specs.Terms.{Expression, KernelType, expression_of, kernel_type_of}
 use Rattle.mw_wasm.specs.declared.modules.Module.{Module}
-use Rattle.mw_wasm.specs.BinaryModules.{Spells}
-use Rattle.mw_wasm.specs.Validity.{IsValid}
 use Rattle.mw_wasm.specs.Views.{module_of}
-use Rattle.mw_meaning.specs.StandingFor.{StandsFor}
-use Rattle.mw_compile.specs.Emission.{emitted, emission}
+use Rattle.mw_gen.specs.Generate.{two}
+use Rattle.mw_gen.specs.Emission.{emitted}
+use Rattle.mw_compile.specs.Emission.{emission}
+use Rattle.mw_compile.specs.EmissionLaws.{IsEmission}
 
 -- a kernel's code and type, and their module with its bytes
 pub record Emitted : Type 0 where
@@ -17,13 +17,12 @@ pub record Emitted : Type 0 where
   pub bytes : List ℕ
   pub wasm : Module
 
--- The module is the one of the code, and the bytes are its emission and spell it; it is valid, and means the code.
+-- The module is the one of the code at the type, and the bytes are its emission and spell it; it is valid, within the
+-- profile's limits and of the shape that a run needs, and means the code.
 pub record IsEntry (e : Emitted) : Type 0 where
-  pub emitted_is : module_of e.wasm ≡ emitted (expression_of e.code)
-  pub emission_is : e.bytes ≡ emission (expression_of e.code)
-  pub spelled : Spells e.bytes (module_of e.wasm)
-  pub valid : IsValid (module_of e.wasm)
-  pub stands : StandsFor (module_of e.wasm) (expression_of e.code) (kernel_type_of e.kind)
+  pub emitted_is : module_of e.wasm ≡ emitted two (expression_of e.code) (kernel_type_of e.kind)
+  pub emission_is : e.bytes ≡ emission two (expression_of e.code) (kernel_type_of e.kind)
+  pub is : IsEmission e.bytes (module_of e.wasm) (expression_of e.code) (kernel_type_of e.kind)
 
 -- it is the entry of this code and type
 pub record IsEntryOf (e : Emitted) (c : Expression) (k : KernelType) : Type 0 where

@@ -1,3 +1,3 @@
-pub mod Sums
 pub mod Emission
+pub mod EmissionLaws
 pub mod Entries

@@ -1,43 +1,45 @@
 // Emission.
 
-ghost use Rattle.std.specs.Prelude.{◌≡◌, ◌+◌, true, IfOk};
-ghost use Rattle.mw_term.specs.Terms.{expression_of, kernel_type_of, base};
-ghost use Rattle.mw_term.specs.declared.term.Base.TheVariants.{Int};
+ghost use Rattle.std.specs.Prelude.{◌≡◌, ◌+◌, ◌≤◌, true, IfOk};
+ghost use Rattle.mw_term.specs.Terms.{expression_of, kernel_type_of};
+ghost use Rattle.mw_term.specs.Closed.{IsClosed};
 ghost use Rattle.mw_meaning.specs.StagedMeaning.{within_limits};
-ghost use Rattle.mw_compile.specs.Sums.{IsSumCode};
+ghost use Rattle.mw_gen.specs.EmissionLaw.{kernel_nodes};
 ghost use Rattle.mw_compile.specs.Entries.{IsEntryOf};
 
-use crate::copy::copy_of;
+use crate::copy::{copy_of, copy_of_type};
 use crate::entry::Entry;
-use crate::generate::generate;
 use crate::steps::Steps;
+use mw_conv::convert;
 use mw_encode::encode;
-use mw_term::{Base, KType, Term};
+use mw_gen::generate;
+use mw_term::{KType, Term};
 use mw_validate::Valid;
 use std::alloc::{AllocError, Global};
 use std::sync::Arc;
 use std::sync::ledger::Ledger;
 
-/// The entry of a kernel's code, within the limits of kernels, at the type `int`: its module and the module's bytes. One
-/// emission is counted. Code of literals and sums alone is emitted today.
+/// The entry of a kernel's closed code, within the limits of kernels, at a type of at most 10,000 nodes: its module and the
+/// module's bytes. One emission is counted.
 pub fn emit<L: Ledger>(
     alloc: Global,
     code: &Term,
     kind: &KType,
     steps: &mut Steps<L>,
 ) -> Result<Entry, AllocError>
-    requires sum { IsSumCode (expression_of code.now) }
+    requires closed { IsClosed (expression_of code.now) }
     requires limits { within_limits (expression_of code.now) ≡ true }
-    requires int { kernel_type_of kind.now ≡ base Int }
+    requires nodes { kernel_nodes (kernel_type_of kind.now) ≤ 10000 }
     ensures entry { IfOk result (λ entry. IsEntryOf entry (expression_of code.now) (kernel_type_of kind.now)) }
     ensures step { steps.new ≡ steps.old + 1 }
 {
     steps.tick();
-    let wasm = generate(alloc, code)?;
+    let converted = convert(alloc, code)?;
+    let wasm = generate(alloc, &converted, kind)?;
     let bytes = encode(alloc, &wasm)?;
     Ok(Entry {
         code: copy_of(alloc, code)?,
-        kind: KType::Base(Base::Int),
+        kind: copy_of_type(alloc, kind)?,
         bytes,
         module: Arc::new(alloc, Valid::sure(wasm))?,
     })

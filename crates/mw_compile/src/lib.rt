@@ -4,7 +4,7 @@
 mod copy;
 mod emission;
 mod entry;
-mod generate;
+pub mod laws;
 mod steps;
 #[cfg(test)]
 mod tests;

@@ -1,11 +1,10 @@
 -- From the answers of lexing, parsing and resolving to what reading answers.
-use Rattle.std.proofs.Common.{◌≡◌, ℕ, ◌<◌, ◌≤◌, List, [], ◌∷◌, map, length, Result, Ok, Err, refl, sym, ap, ◌∙◌, subst, arith}
+use Rattle.std.proofs.Common.{◌≡◌, ℕ, ◌^◌, ◌<◌, ◌≤◌, List, [], ◌∷◌, map, length, Result, Ok, Err, refl, sym, ap, ◌∙◌, subst, arith}
 use Rattle.std.specs.Prelude.{IfOk, IfErr}
 use Rattle.std.specs.Result.{IsErrAnd}
 use Rattle.std.proofs.lemmas.Result.{IfOk-at_ok, IfErr-at_err, err_from_is_err_and}
-use Rattle.mw_term.specs.Terms.{Expression}
-use Rattle.mw_term.specs.Programs.{Definition, PureProgram, program_of}
-use Rattle.mw_term.specs.declared.term.Base.{Base}
+use Rattle.mw_term.specs.Terms.{Expression, GroundType, ground_of}
+use Rattle.mw_term.specs.Programs.{Definition, PureProgram, program_of, program_size}
 use Rattle.mw_term.specs.declared.program.Program.{Program}
 use Rattle.mw_term.specs.declared.refusal.Refusal.{Refusal}
 use Rattle.mw_term.specs.declared.refusal.Refusal.TheVariants.{TooLarge, Char, Number, Name}
@@ -16,16 +15,18 @@ use Rattle.mw_lex.specs.Tokens.{PureToken, tokens_of}
 use Rattle.mw_lex.specs.InOrder.{AreInOrder, HaveNumbersInRange}
 use Rattle.mw_lex.specs.Reading.{AreTokens, IsFault, no_token, in_comment, no_number, long_name, IsFirstFault}
 use Rattle.mw_lex.specs.Lexing.{IsOrMemory, RefusesOrMemory as IsFaultOrMemory, StopsLexing}
-use Rattle.mw_parse.specs.declared.tree.Surface.{Surface}
-use Rattle.mw_parse.specs.SurfaceTrees.{PureSurface, surface_of}
-use Rattle.mw_parse.specs.SurfaceDepth.{IsShallow}
-use Rattle.mw_parse.specs.Answers.{IsProgram}
+use Rattle.mw_grammar.specs.declared.tree.Surface.{Surface}
+use Rattle.mw_grammar.specs.SurfaceTrees.{PureSurface, surface_of}
+use Rattle.mw_grammar.specs.SurfaceDepth.{IsShallow}
+use Rattle.mw_grammar.specs.SurfaceSize.{surface_size, IsSparse}
+use Rattle.mw_grammar.specs.Answers.{IsProgram}
 use Rattle.mw_parse.specs.Reading.{Refuses, Stops, IsTreeOrMemory, RefusesOrMemory}
 use Rattle.mw_scope.specs.declared.fault.Fault.{Fault}
 use Rattle.mw_scope.specs.Scopes.{name_of}
 use Rattle.mw_scope.specs.Nameless.{IsNameless}
 use Rattle.mw_scope.specs.Faults.{faults_of, refusal_of, IsFirst}
 use Rattle.mw_scope.specs.Resolving.{KeepsNames, IsProgramOrMemory, IsOfFirstFault, IsRefusalOrMemory as IsFirstOrMemory}
+use Rattle.mw_grammar.proofs.Sparse.{few_nodes}
 use Rattle.mw_drive.specs.NamedPrograms.{NamedItem, NamedProgram, item_of, named_program_of, unnamed, names_of}
 use Rattle.mw_drive.specs.SourceReading.{IsSmall, IsRead, IsRefused, too_large, at_bytes, at_tokens, at_names, IsReadOrMemory, IsRefusalOrMemory, Says}
 
@@ -55,6 +56,7 @@ Parses tokens length parsed = record {
   refused : IfErr parsed (Stops tokens length);
   first : (r : Refusal) → Refuses tokens length r → RefusesOrMemory parsed r;
   shallow : IfOk parsed (λ s. IsShallow (surface_of s));
+  sparse : IfOk parsed (λ s. IsSparse tokens (surface_of s));
 }
 
 -- what resolving promises
@@ -62,6 +64,7 @@ abbrev pub Resolves : PureSurface → Result Program Stop → Type 0
 Resolves surface resolved = record {
   found : IfOk resolved (λ p. IsNameless surface (program_of p));
   names : IfOk resolved (KeepsNames surface);
+  nodes : IfOk resolved (λ p. program_size (program_of p) < 2 ^ 31);
   only : (p : PureProgram) → IsNameless surface p → IsProgramOrMemory resolved p;
   refused : IfErr resolved (IsOfFirstFault surface);
   first : (f : Fault) → IsFirst (faults_of surface) f → IsFirstOrMemory resolved (refusal_of f);
@@ -72,7 +75,7 @@ Resolves surface resolved = record {
 abbrev made_item : List ℕ → Definition → NamedItem
 made_item x d = record { name = x; is = d }
 
-abbrev made_program : List NamedItem → Base → Expression → NamedProgram
+abbrev made_program : List NamedItem → GroundType → Expression → NamedProgram
 made_program items b e = record { items = items; result = b; body = e }
 
 same_item : (x y : NamedItem) → x.name ≡ y.name → x.is ≡ y.is → x ≡ y
@@ -87,7 +90,7 @@ same_items (x ∷ xs) (y ∷ ys) h k =
     let rest : xs ≡ ys = same_items xs ys (cc) (cc) in
     cc
 
-same_program : (p q : NamedProgram) → names_of p ≡ names_of q → unnamed p ≡ unnamed q → p ≡ q
+pub same_program : (p q : NamedProgram) → names_of p ≡ names_of q → unnamed p ≡ unnamed q → p ≡ q
 same_program p q h k =
     let items : p.items ≡ q.items = same_items p.items q.items h (ap (λ r. r.items) k) in
     let results : p.result ≡ q.result = ap (λ r. r.result) k in
@@ -99,7 +102,7 @@ map_map f g [] = refl
 map_map f g (x ∷ xs) = ap (λ ys. f (g x) ∷ ys) (map_map f g xs)
 
 pub unnamed_program : (p : Program) → unnamed (named_program_of p) ≡ program_of p
-unnamed_program p = ap (λ ds. record { items = ds; result = p.result; body = (program_of p).body }) (map_map (λ i. i.is) item_of p.items)
+unnamed_program p = ap (λ ds. record { items = ds; result = ground_of p.result; body = (program_of p).body }) (map_map (λ i. i.is) item_of p.items)
 
 pub names_of_program : (p : Program) → names_of (named_program_of p) ≡ map (λ i. i.name) p.items
 names_of_program p = map_map (λ i. i.name) item_of p.items
@@ -293,3 +296,9 @@ module _ (bytes : List ℕ) (lexed : Result (List Token) Stop) (l : Lexes bytes 
 
       pub first_at_resolving : (r : Refusal) → IsRefused bytes r → IsRefusalOrMemory resolved r
       first_at_resolving = read_first bytes (tokens_of v) (has_tokens bytes lexed l v found) (surface_of s) (has_surface (tokens_of v) (length bytes) parsed p s e) resolved h
+
+-- the tree of a source's tokens has few nodes
+pub few_nodes_read : (bytes : List ℕ) (lexed : Result (List Token) Stop) → Lexes bytes lexed → (v : List Token) → lexed ≡ Ok v → (parsed : Result Surface Stop) → Parses (tokens_of v) (length bytes) parsed → (s : Surface) → parsed ≡ Ok s
+    → surface_size (surface_of s) ≤ 3145728
+few_nodes_read bytes lexed l v found parsed p s e =
+    few_nodes (tokens_of v) (length bytes) (surface_of s) (IfOk-at_ok (λ w. AreInOrder (tokens_of w) (length bytes)) found l.in_order) (has_tokens bytes lexed l v found).small (IfOk-at_ok (λ w. IsSparse (tokens_of v) (surface_of w)) e p.sparse)

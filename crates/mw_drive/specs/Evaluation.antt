@@ -1,10 +1,12 @@
 -- What the evaluation of the first forms gives, with any units and after any runs, where kernel items gave code.
 use Rattle.std.specs.Prelude.{◌≡◌, ℕ, ℤ, pos, true, false, List, map, Some, Result, Ok, Err}
 use Rattle.std.specs.List.{AllByRecursion}
-use Rattle.mw_term.specs.Terms.{Expression, Value, base, int, code, expression_of, kernel_type_of}
+use Rattle.mw_term.specs.Terms.{Expression, Value, base, of_ground, int, code, expression_of, kernel_type_of}
 use Rattle.mw_term.specs.declared.term.Base.TheVariants.{Int}
 use Rattle.mw_term.specs.declared.value.Limit.{Limit}
 use Rattle.mw_term.specs.declared.value.Limit.TheVariants.{KernelSize}
+use Rattle.mw_meaning.specs.declared.mode.Mode.{Mode}
+use Rattle.mw_meaning.specs.declared.mode.Mode.TheVariants.{Plain}
 use Rattle.mw_meaning.specs.Arithmetic.{bound}
 use Rattle.mw_meaning.specs.KernelMeaning.{kernel_meaning, gives as made}
 use Rattle.mw_meaning.specs.StagedMeaning.{Runs, gives, stops, value_of, code_of, within_limits}
@@ -12,26 +14,26 @@ use Rattle.std.specs.Int.{w64, cast_signed}
 use Rattle.mw_wasm.specs.declared.values.Value.TheVariants.{I64}
 use Rattle.mw_exec.specs.declared.ended.Ended.{Ended}
 use Rattle.mw_exec.specs.declared.ended.Ended.TheVariants as ends
-use Rattle.mw_compile.specs.Sums.{IsSumCode, HasWords}
+use Rattle.mw_drive.specs.Sums.{IsSumCode, HasWords}
 use Rattle.mw_compile.specs.Entries.{Emitted, IsEntry}
 use Rattle.mw_drive.specs.declared.evaluate.Interrupt.{Interrupt}
 use Rattle.mw_drive.specs.declared.evaluate.Interrupt.TheVariants.{Bound, Memory}
 
 -- a level 0 term has this number as its value
 pub record HasNumber (globals : List Value) (e : Expression) (n : ℤ) : Type 0 where
-  pub is : (units : ℕ) (s : Runs) → (later : Runs) × (value_of globals units s e ≡ gives (int n) units later)
+  pub is : (units : ℕ) (s : Runs) → (later : Runs) × (value_of Plain globals units s e ≡ gives (int n) units later)
 
 -- it meets a bound
 pub record MeetsBound (globals : List Value) (e : Expression) (limit : Limit) : Type 0 where
-  pub is : (units : ℕ) (s : Runs) → (later : Runs) × (value_of globals units s e ≡ stops (bound limit) later)
+  pub is : (units : ℕ) (s : Runs) → (later : Runs) × (value_of Plain globals units s e ≡ stops (bound limit) later)
 
--- its value is this code
-pub record HasCode (globals : List Value) (e c : Expression) : Type 0 where
-  pub is : (units : ℕ) (s : Runs) → value_of globals units s e ≡ gives (code c) units s
+-- its value is this code, under a mode
+pub record HasCode (mode : Mode) (globals : List Value) (e c : Expression) : Type 0 where
+  pub is : (units : ℕ) (s : Runs) → value_of mode globals units s e ≡ gives (code c) units s
 
 -- a level 1 term is built to this code
-pub record IsBuiltTo (globals : List Value) (e c : Expression) : Type 0 where
-  pub is : (units : ℕ) (s : Runs) → code_of globals units s e ≡ gives c units s
+pub record IsBuiltTo (mode : Mode) (globals : List Value) (e c : Expression) : Type 0 where
+  pub is : (units : ℕ) (s : Runs) → code_of mode globals units s e ≡ gives c units s
 
 -- a kernel's code means this number
 pub record KernelHasNumber (c : Expression) (n : ℤ) : Type 0 where
@@ -55,7 +57,7 @@ pub record IsSumEntry (e : Emitted) : Type 0 where
   pub sum : IsSumCode (expression_of e.code)
   pub words : HasWords (expression_of e.code)
   pub limits : within_limits (expression_of e.code) ≡ true
-  pub kind : kernel_type_of e.kind ≡ base Int
+  pub kind : kernel_type_of e.kind ≡ of_ground (base Int)
 
 -- the values of kernel items' names in main
 abbrev pub codes_of : List Emitted → List Value

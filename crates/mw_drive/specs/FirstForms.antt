@@ -2,7 +2,7 @@
 -- runs of such code or of kernel items. All else is refused as not yet.
 use Rattle.std.specs.Prelude.{ℕ, ◌≡◌, ◌<◌, ◌^◌, ℤ, pos, length}
 use Rattle.std.specs.List.{AllByRecursion}
-use Rattle.mw_term.specs.Terms.{Expression, base, num, prim, bracket, escape, run, close, glob}
+use Rattle.mw_term.specs.Terms.{Expression, base, of_ground, num, prim, bracket, escape, run, close, glob}
 use Rattle.mw_term.specs.Programs.{Definition, kernel}
 use Rattle.mw_term.specs.declared.term.Base.TheVariants.{Int}
 use Rattle.mw_term.specs.declared.term.Primitive.TheVariants.{Add}
@@ -38,15 +38,15 @@ IsRunnable count e = IsClosedCode e
 abbrev pub IsNumber : ℕ → Expression → Type 0
 IsNumber count (num n) = IsLiteral n
 IsNumber count (prim Add a b) = IsNumber count a × IsNumber count b
-IsNumber count (run k e) = (k ≡ base Int) × IsRunnable count e
+IsNumber count (run k e) = (k ≡ of_ground (base Int)) × IsRunnable count e
 IsNumber count _ = ⊥
 
 -- a kernel item of type int
 abbrev pub IsFirstKernel : Definition → Type 0
-IsFirstKernel (kernel k e) = (k ≡ base Int) × IsClosedCode e
+IsFirstKernel (kernel k e) = (k ≡ of_ground (base Int)) × IsClosedCode e
 IsFirstKernel _ = ⊥
 
 pub record IsFirst (p : NamedProgram) : Type 0 where
   pub items : AllByRecursion (λ (i : NamedItem). IsFirstKernel i.is) p.items
-  pub result : p.result ≡ Int
+  pub result : p.result ≡ base Int
   pub body : IsNumber (length p.items) p.body

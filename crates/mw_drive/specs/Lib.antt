@@ -1,11 +1,10 @@
+pub mod Sums
 pub mod FirstForms
 pub mod Evaluation
 pub mod NamedPrograms
 pub mod SourceReading
 pub mod ProgramMeaning
-pub mod Codes
-pub mod SourceMeaning
-pub mod Output
+pub mod Works
+pub mod WorkLaws
 pub mod ProgramRuns
 pub mod Running
-pub mod Reading

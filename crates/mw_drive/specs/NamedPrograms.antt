@@ -1,8 +1,7 @@
 -- Programs with the names of their items, as pure data.
 use Rattle.std.specs.Prelude.{ℕ, List, map}
-use Rattle.mw_term.specs.Terms.{Expression, expression_of}
+use Rattle.mw_term.specs.Terms.{Expression, GroundType, expression_of, ground_of}
 use Rattle.mw_term.specs.Programs.{Definition, definition_of, PureProgram}
-use Rattle.mw_term.specs.declared.term.Base.{Base}
 use Rattle.mw_term.specs.declared.program.Item.{Item}
 use Rattle.mw_term.specs.declared.program.Program.{Program}
 
@@ -13,14 +12,14 @@ pub record NamedItem : Type 0 where
 
 pub record NamedProgram : Type 0 where
   pub items : List NamedItem
-  pub result : Base
+  pub result : GroundType
   pub body : Expression
 
 abbrev pub item_of : Item → NamedItem
 item_of i = record { name = i.name; is = definition_of i.kind }
 
 abbrev pub named_program_of : Program → NamedProgram
-named_program_of p = record { items = map item_of p.items; result = p.result; body = expression_of p.body }
+named_program_of p = record { items = map item_of p.items; result = ground_of p.result; body = expression_of p.body }
 
 -- the program without its names
 abbrev pub unnamed : NamedProgram → PureProgram

@@ -7,8 +7,8 @@ use Rattle.mw_term.specs.declared.refusal.Stop.{Stop}
 use Rattle.mw_term.specs.declared.refusal.Stop.TheVariants.{Refused, Memory}
 use Rattle.mw_lex.specs.Tokens.{PureToken}
 use Rattle.mw_lex.specs.Reading.{AreTokens, IsFirstFault}
-use Rattle.mw_parse.specs.SurfaceTrees.{PureSurface}
-use Rattle.mw_parse.specs.Answers.{IsProgram}
+use Rattle.mw_grammar.specs.SurfaceTrees.{PureSurface}
+use Rattle.mw_grammar.specs.Answers.{IsProgram}
 use Rattle.mw_parse.specs.Reading.{Refuses}
 use Rattle.mw_scope.specs.declared.fault.Fault.{Fault}
 use Rattle.mw_scope.specs.Scopes.{name_of}

@@ -3,22 +3,20 @@
 ghost use Rattle.std.specs.Prelude.{◌≡◌, ◌↔◌, ◌≤◌, ◌⊎◌, ◌++◌, ℕ, List, IsTrue, map};
 ghost use Rattle.std.specs.String.{string_bytes};
 ghost use Rattle.mw_outside.specs.Count.{Rose};
-ghost use Rattle.mw_drive.specs.Output.{IsOutput, status_of};
-ghost use Rattle.mw_drive.specs.SourceMeaning.{Meaning, IsMeaning, HaveModules};
-ghost use Rattle.mw_drive.specs.Running.{IsUsage, Asks, AsksMissing, IsFaithful, IsMemory, SpeaksOfCache};
-ghost use Rattle.mw_drive.specs.declared.report.TheConstants.{DEFAULT_FUEL};
-ghost use Rattle.mw_drive.specs.declared.status.Status.TheVariants.{Usage, Read, Write};
+ghost use Rattle.mw_console.specs.Commands.{IsUsage};
+ghost use Rattle.mw_console.specs.declared.status.Status.TheVariants.{Usage, Read, Write};
+ghost use Rattle.mw_drive.specs.Works.{Work, Meaning, IsMeaning, IsOutput, HaveModules, status_of};
+ghost use Rattle.mw_drive.specs.Running.{Asks, AsksFor, AsksMissing, IsFaithful, IsReadUp, IsMemory, SpeaksOfCache};
 
-use crate::lines::write_lines;
 use crate::report::report_of;
-use crate::source::{SourceFault, file_bytes};
-use crate::status::Status;
-use crate::words::file_word;
+use mw_console::{SourceFault, Status, command_of, file_bytes, write_lines};
 use mw_outside::{Gate, Keeper, Sink, Source, WriteFault};
 use std::alloc::Global;
+use std::marker::Brand;
+use std::sync::ledger::Blank;
 use std::thread::Threads;
 
-/// Carries out the command that the words say: `run FILE` reads the file from the source, evaluates the program and
+/// Carries out the command that the words mean: `run FILE` reads the file from the source, evaluates the program and
 /// writes its output to the sink. The keeper isn't touched.
 pub fn run<R: Threads + Sync, S: Source, K: Sink, C: Keeper, G: Gate>(
     _rt: &R,
@@ -29,20 +27,23 @@ pub fn run<R: Threads + Sync, S: Source, K: Sink, C: Keeper, G: Gate>(
     _keeper: &mut C,
     _gate: &G,
 ) -> Status
-    // Where nothing failed and memory was there, exactly the output was written.
-    ensures text { (bytes : List ℕ) → Asks (map string_bytes words.now) S.tells (S.told source.old) bytes
+    // Where nothing failed and memory was there, exactly the work's output was written.
+    ensures text { (work : Work) → Asks (map string_bytes words.now) S.tells (S.told source.old) work
         → ¬ Rose (S.faults source.old) (S.faults source.new) → ¬ Rose (K.faults sink.old) (K.faults sink.new) → ¬ IsMemory result → IsTrue K.tells
-        → (text : List ℕ) × IsOutput bytes DEFAULT_FUEL text × (K.written sink.new ≡ K.written sink.old ++ text) }
+        → (text : List ℕ) × IsOutput work text × (K.written sink.new ≡ K.written sink.old ++ text) }
     // Then the status is what the output's last line says.
-    ensures status { (bytes : List ℕ) → Asks (map string_bytes words.now) S.tells (S.told source.old) bytes
+    ensures status { (work : Work) → Asks (map string_bytes words.now) S.tells (S.told source.old) work
         → ¬ Rose (S.faults source.old) (S.faults source.new) → ¬ Rose (K.faults sink.old) (K.faults sink.new) → ¬ IsMemory result
-        → (meaning : Meaning) × IsMeaning bytes DEFAULT_FUEL meaning × (result ≡ status_of meaning) }
-    // For each kernel that is printed, the bytes spell a module that is valid and means the kernel's code.
-    ensures modules { (bytes : List ℕ) → Asks (map string_bytes words.now) S.tells (S.told source.old) bytes
-        → (meaning : Meaning) → IsMeaning bytes DEFAULT_FUEL meaning → HaveModules meaning }
+        → (meaning : Meaning) × IsMeaning work meaning × (result ≡ status_of meaning) }
+    // For each kernel that is printed, the bytes spell a module that is valid and means the code that is run.
+    ensures modules { (work : Work) → Asks (map string_bytes words.now) S.tells (S.told source.old) work
+        → (meaning : Meaning) → IsMeaning work meaning → HaveModules meaning }
     // Whatever failed, the status says what was written.
-    ensures faults { (bytes : List ℕ) → Asks (map string_bytes words.now) S.tells (S.told source.old) bytes → IsTrue K.tells
-        → IsFaithful bytes DEFAULT_FUEL result (K.written sink.old) (K.written sink.new) }
+    ensures faults { (work : Work) → Asks (map string_bytes words.now) S.tells (S.told source.old) work → IsTrue K.tells
+        → IsFaithful work result (K.written sink.old) (K.written sink.new) }
+    // The source is read to its end, or to one byte more than the longest source has.
+    ensures left { (bytes : List ℕ) → AsksFor (map string_bytes words.now) S.tells (S.told source.old) bytes
+        → IsReadUp bytes result (S.left source.new) }
     ensures usage { (result ≡ Usage) ↔ IsUsage (map string_bytes words.now) }
     ensures read { result ≡ Read → Rose (S.faults source.old) (S.faults source.new) ⊎ AsksMissing (map string_bytes words.now) S.tells (S.told source.old) }
     ensures write { result ≡ Write → Rose (K.faults sink.old) (K.faults sink.new) }
@@ -55,15 +56,15 @@ pub fn run<R: Threads + Sync, S: Source, K: Sink, C: Keeper, G: Gate>(
     ensures source_count { S.faults source.old ≤ S.faults source.new }
     ensures sink_count { K.faults sink.old ≤ K.faults sink.new }
 {
-    let Some(file) = file_word(words) else {
+    let Some(command) = command_of(words) else {
         return Status::Usage;
     };
-    let bytes = match file_bytes(alloc, source, file) {
+    let bytes = match file_bytes(alloc, source, command.file()) {
         Ok(bytes) => bytes,
         Err(SourceFault::Failed) => return Status::Read,
         Err(SourceFault::Memory(error)) => return Status::Memory(error),
     };
-    let report = match report_of(alloc, bytes.as_slice()) {
+    let report = match report_of::<Brand>(alloc, bytes.as_slice(), command.fuel(), Blank::new(1)) {
         Ok(report) => report,
         Err(error) => return Status::Memory(error),
     };

@@ -1,19 +1,22 @@
 // The evaluator of the first forms, by recursion over terms. Kernels run as modules.
 
-ghost use Rattle.std.specs.Prelude.{◌≡◌, ◌+ℤ◌, List, length, IfOk};
+ghost use Rattle.std.specs.Prelude.{◌≡◌, ◌≤◌, ◌+◌, ◌+ℤ◌, List, length, IfOk};
 ghost use Rattle.std.specs.Int.{int_wrap};
 ghost use mir.Syntax.{w64};
-ghost use Rattle.mw_term.specs.Terms.{Value, base, run as run_form, expression_of};
+ghost use Rattle.mw_term.specs.Terms.{Value, base, of_ground, run as run_form, expression_of};
 ghost use Rattle.mw_term.specs.declared.term.Base.TheVariants.{Int};
-ghost use Rattle.mw_compile.specs.Sums.{IsSumCode, HasWords};
+ghost use Rattle.mw_meaning.specs.declared.mode.Mode.{Mode};
+ghost use Rattle.mw_drive.specs.Sums.{IsSumCode, HasWords};
 ghost use Rattle.mw_drive.specs.FirstForms.{IsNumber, IsRunnable, IsClosedCode, IsBracket, IsNumberInside};
+ghost use Rattle.mw_drive.specs.ProgramRuns.{run_count};
 ghost use Rattle.mw_drive.specs.Evaluation.{IsMeant, IsRunOf, HasCode, IsBuiltTo, AreSumEntries, codes_of};
 ghost use Rattle.mw_drive.specs.declared.evaluate.Interrupt.TheVariants.{Memory};
 
 use crate::kernels::{number_of_entry, run};
-use mw_compile::Entry;
+use mw_compile::{Entry, Steps};
 use mw_term::{Limit, Prim, Term};
 use std::alloc::{AllocError, AllocFailed, Global};
+use std::sync::ledger::Ledger;
 
 /// Why an evaluation gives no number: a bound that it met, or want of memory.
 #[derive(Clone, Copy, Debug, PartialEq, Eq)]
@@ -40,37 +43,52 @@ impl<T: Drop> From<AllocFailed<T>> for Interrupt {
     }
 }
 
-/// The number that main means, where these are the entries of the kernel items.
+/// The number that main means with so many units, where these are the entries of the kernel items. Each run of closed code
+/// is one emission at most.
 #[tactic(auto, using(crate::proofs::EvaluationLemmas::number_num, crate::proofs::EvaluationLemmas::number_sum, crate::proofs::EvaluationLemmas::bound_left, crate::proofs::EvaluationLemmas::bound_right))]
-pub fn number_of(alloc: Global, term: &Term, entries: &[Entry]) -> Result<i64, Interrupt>
+pub fn number_of<L: Ledger>(
+    alloc: Global,
+    term: &Term,
+    entries: &[Entry],
+    fuel: u64,
+    steps: &mut Steps<L>,
+) -> Result<i64, Interrupt>
     requires number { IsNumber (length entries.now) (expression_of term.now) }
     requires entries { AreSumEntries entries.now }
-    ensures { IsMeant result (codes_of entries.now) (expression_of term.now) }
+    ensures meant { IsMeant result (codes_of entries.now) (expression_of term.now) }
+    ensures emissions { steps.new ≤ steps.old + run_count (expression_of term.now) }
 {
     match term {
         Term::Int(n) => Ok(*n),
         Term::Prim(Prim::Add, a, b) => {
-            let left = number_of(alloc, a, entries)?;
-            let right = number_of(alloc, b, entries)?;
+            let left = number_of(alloc, a, entries, fuel, steps)?;
+            let right = number_of(alloc, b, entries, fuel, steps)?;
             Ok(sum(left, right))
         }
-        Term::Run(_, e) => run_of(alloc, e, entries),
+        Term::Run(_, e) => run_of(alloc, e, entries, fuel, steps),
         _ => unreachable!(),
     }
 }
 
 /// The number that a run of an item or of closed code means.
 #[tactic(auto, using(crate::proofs::EvaluationLemmas::run_meant, crate::proofs::EvaluationLemmas::entry_there, crate::proofs::EvaluationLemmas::read_there, crate::proofs::EvaluationLemmas::run_item_meant))]
-fn run_of(alloc: Global, term: &Term, entries: &[Entry]) -> Result<i64, Interrupt>
+fn run_of<L: Ledger>(
+    alloc: Global,
+    term: &Term,
+    entries: &[Entry],
+    fuel: u64,
+    steps: &mut Steps<L>,
+) -> Result<i64, Interrupt>
     requires runnable { IsRunnable (length entries.now) (expression_of term.now) }
     requires entries { AreSumEntries entries.now }
-    ensures { IsMeant result (codes_of entries.now) (run_form (base Int) (expression_of term.now)) }
+    ensures meant { IsMeant result (codes_of entries.now) (run_form (of_ground (base Int)) (expression_of term.now)) }
+    ensures emissions { steps.new ≤ steps.old + 1 }
 {
     match term {
-        Term::Glob(i) => Ok(number_of_entry(alloc, &entries[*i as usize])?),
+        Term::Glob(i) => Ok(number_of_entry(alloc, &entries[*i as usize], fuel)?),
         _ => {
             let code = closed(alloc, term)?;
-            run(alloc, &code)
+            run(alloc, &code, fuel, steps)
         }
     }
 }
@@ -79,7 +97,7 @@ fn run_of(alloc: Global, term: &Term, entries: &[Entry]) -> Result<i64, Interrup
 #[tactic(auto, using(crate::proofs::EvaluationLemmas::code_close))]
 pub fn closed(alloc: Global, term: &Term) -> Result<Term, AllocError>
     requires { IsClosedCode (expression_of term.now) }
-    ensures meaning { IfOk result (λ code. (globals : List Value) → HasCode globals (expression_of term.now) (expression_of code)) }
+    ensures meaning { IfOk result (λ code. (mode : Mode) (globals : List Value) → HasCode mode globals (expression_of term.now) (expression_of code)) }
     ensures sum { IfOk result (λ code. IsSumCode (expression_of code)) }
     ensures words { IfOk result (λ code. HasWords (expression_of code)) }
 {
@@ -94,7 +112,7 @@ pub fn closed(alloc: Global, term: &Term) -> Result<Term, AllocError>
 #[tactic(auto, using(crate::proofs::EvaluationLemmas::code_bracket))]
 fn bracketed(alloc: Global, term: &Term) -> Result<Term, AllocError>
     requires { IsBracket (expression_of term.now) }
-    ensures meaning { IfOk result (λ code. (globals : List Value) → HasCode globals (expression_of term.now) (expression_of code)) }
+    ensures meaning { IfOk result (λ code. (mode : Mode) (globals : List Value) → HasCode mode globals (expression_of term.now) (expression_of code)) }
     ensures sum { IfOk result (λ code. IsSumCode (expression_of code)) }
     ensures words { IfOk result (λ code. HasWords (expression_of code)) }
 {
@@ -109,7 +127,7 @@ fn bracketed(alloc: Global, term: &Term) -> Result<Term, AllocError>
 #[tactic(auto, using(crate::proofs::EvaluationLemmas::built_num, crate::proofs::EvaluationLemmas::built_sum, crate::proofs::EvaluationLemmas::built_escape))]
 fn built(alloc: Global, term: &Term) -> Result<Term, AllocError>
     requires { IsNumberInside (expression_of term.now) }
-    ensures meaning { IfOk result (λ code. (globals : List Value) → IsBuiltTo globals (expression_of term.now) (expression_of code)) }
+    ensures meaning { IfOk result (λ code. (mode : Mode) (globals : List Value) → IsBuiltTo mode globals (expression_of term.now) (expression_of code)) }
     ensures sum { IfOk result (λ code. IsSumCode (expression_of code)) }
     ensures words { IfOk result (λ code. HasWords (expression_of code)) }
 {

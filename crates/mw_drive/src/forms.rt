@@ -1,13 +1,13 @@
 // Which programs are run today.
 
 ghost use Rattle.std.specs.Prelude.{◌≡◌, ◌≤◌, ◌↔◌, length, IsTrue, All};
-ghost use Rattle.mw_term.specs.Terms.{base, expression_of, kernel_type_of};
+ghost use Rattle.mw_term.specs.Terms.{base, of_ground, expression_of, ground_of, kernel_type_of};
 ghost use Rattle.mw_term.specs.Programs.{definition_of};
 ghost use Rattle.mw_term.specs.declared.term.Base.TheVariants.{Int};
 ghost use Rattle.mw_drive.specs.NamedPrograms.{named_program_of};
 ghost use Rattle.mw_drive.specs.FirstForms.{IsLiteral, IsNumberInside, IsBracket, IsClosedCode, IsRunnable, IsNumber, IsFirstKernel, IsFirst};
 
-use mw_term::{Base, Item, ItemKind, KType, Prim, Program, Term};
+use mw_term::{Base, Ground, Item, ItemKind, KType, Prim, Program, Term};
 
 /// Whether a source that is read as this program is run today: one of at most 256 bytes and of these forms.
 pub fn runs_today(bytes: &[u8], program: &Program) -> bool
@@ -20,13 +20,10 @@ pub fn runs_today(bytes: &[u8], program: &Program) -> bool
 fn is_first(program: &Program) -> bool
     ensures { IsTrue result ↔ IsFirst (named_program_of program.now) }
 {
-    match program.result {
-        Base::Int => {
-            are_first_kernels(program.items.as_slice())
-                && is_number(program.items.len(), &program.body)
-        }
-        Base::Bool => false,
+    if !is_int(&program.result) {
+        return false;
     }
+    are_first_kernels(program.items.as_slice()) && is_number(program.items.len(), &program.body)
 }
 
 /// Whether a literal has no sign.
@@ -104,7 +101,7 @@ fn is_number(count: usize, term: &Term) -> bool
     match term {
         Term::Int(n) => is_literal(*n),
         Term::Prim(Prim::Add, a, b) => is_number(count, a) && is_number(count, b),
-        Term::Run(kind, e) => is_int(kind) && is_runnable(count, e),
+        Term::Run(kind, e) => is_int_kernel(kind) && is_runnable(count, e),
         Term::Prim(_, _, _) | Term::Bool(_) | Term::Var(_) | Term::Glob(_) => false,
         Term::Fun(_) | Term::Rec(_) | Term::App(_, _) | Term::Let(_, _) => false,
         Term::If(_, _, _) | Term::Pair(_, _) | Term::Fst(_) | Term::Snd(_) => false,
@@ -113,13 +110,23 @@ fn is_number(count: usize, term: &Term) -> bool
     }
 }
 
+/// Whether a ground type is int.
+fn is_int(ground: &Ground) -> bool
+    ensures { IsTrue result ↔ ground_of ground.now ≡ base Int }
+{
+    match ground {
+        Ground::Base(Base::Int) => true,
+        Ground::Base(Base::Bool) | Ground::Pair(_, _) => false,
+    }
+}
+
 /// Whether a kernel type is int.
-fn is_int(kind: &KType) -> bool
-    ensures { IsTrue result ↔ kernel_type_of kind.now ≡ base Int }
+fn is_int_kernel(kind: &KType) -> bool
+    ensures { IsTrue result ↔ kernel_type_of kind.now ≡ of_ground (base Int) }
 {
     match kind {
-        KType::Base(Base::Int) => true,
-        KType::Base(Base::Bool) | KType::Fun(_, _) => false,
+        KType::Ground(ground) => is_int(ground),
+        KType::Fun(_, _) => false,
     }
 }
 
@@ -128,7 +135,7 @@ fn is_first_kernel(kind: &ItemKind) -> bool
     ensures { IsTrue result ↔ IsFirstKernel (definition_of kind.now) }
 {
     match kind {
-        ItemKind::Kernel(kind, e) => is_int(kind) && is_closed_code(e),
+        ItemKind::Kernel(kind, e) => is_int_kernel(kind) && is_closed_code(e),
         ItemKind::Value(_) => false,
     }
 }

@@ -1,60 +1,58 @@
 // Kernels as modules: emission, and the run of `init` on an instance.
 
-ghost use Rattle.std.specs.Prelude.{◌≡◌, ◌<◌, true, false, IfOk};
-ghost use Rattle.mw_term.specs.Terms.{expression_of, base};
-ghost use Rattle.mw_term.specs.declared.term.Base.TheVariants.{Int};
-ghost use Rattle.mw_compile.specs.Sums.{IsSumCode, HasWords};
-ghost use Rattle.mw_compile.specs.Entries.{IsEntryOf};
-ghost use Rattle.mw_meaning.specs.StagedMeaning.{within_limits};
+ghost use Rattle.std.specs.Prelude.{◌≡◌, ◌≤◌, ◌+◌, IfOk};
+ghost use Rattle.mw_term.specs.Terms.{expression_of};
+ghost use Rattle.mw_drive.specs.Sums.{IsSumCode, HasWords};
 ghost use Rattle.mw_drive.specs.Evaluation.{IsRunOf, IsSumEntry, IsEntered, KernelHasNumber, IsNumberEnd, number_of_end};
 
 use crate::evaluate::Interrupt;
 use mw_compile::{Entry, Steps, emit};
 use mw_exec::{Ended, Instance, InstanceFault};
-use mw_term::{Base, KType, Limit, Term, depth, nodes};
+use mw_term::{Base, Ground, KType, Limit, Term, depth, nodes};
 use mw_wasm::Value;
 use std::alloc::{AllocError, Global};
-use std::marker::Brand;
 use std::sync::Arc;
-use std::sync::ledger::{Blank, Ledger};
+use std::sync::ledger::Ledger;
 
-/// The run of code: Bound KernelSize where it is above its limits, and else the number that it means.
-pub fn run(alloc: Global, code: &Term) -> Result<i64, Interrupt>
+/// The run of code with so many units: Bound KernelSize where it is above its limits, and else the number that it means. At
+/// most one emission is counted.
+pub fn run<L: Ledger>(
+    alloc: Global,
+    code: &Term,
+    fuel: u64,
+    steps: &mut Steps<L>,
+) -> Result<i64, Interrupt>
     requires sum { IsSumCode (expression_of code.now) }
     requires words { HasWords (expression_of code.now) }
-    ensures { IsRunOf result (expression_of code.now) }
+    ensures run { IsRunOf result (expression_of code.now) }
+    ensures emissions { steps.new ≤ steps.old + 1 }
 {
-    let entry = entered(alloc, code)?;
-    Ok(number_of_entry(alloc, &entry)?)
+    let entry = entered(alloc, code, steps)?;
+    Ok(number_of_entry(alloc, &entry, fuel)?)
 }
 
-/// The entry of code, at the type int, or Bound KernelSize where it is above its limits.
-pub fn entered(alloc: Global, code: &Term) -> Result<Entry, Interrupt>
+/// The entry of code, at the type int, or Bound KernelSize where it is above its limits. At most one emission is counted.
+#[tactic(auto, using(crate::proofs::SumMeanings::sum_closed, crate::proofs::SumMeanings::int_nodes))]
+pub fn entered<L: Ledger>(
+    alloc: Global,
+    code: &Term,
+    steps: &mut Steps<L>,
+) -> Result<Entry, Interrupt>
     requires sum { IsSumCode (expression_of code.now) }
     requires words { HasWords (expression_of code.now) }
-    ensures { IsEntered result (expression_of code.now) }
+    ensures entered { IsEntered result (expression_of code.now) }
+    ensures emissions { steps.new ≤ steps.old + 1 }
 {
     if nodes(code) > 20_000 || depth(code) > 400 {
         return Err(Interrupt::Bound(Limit::KernelSize));
     }
-    Ok(emitted::<Brand>(alloc, code, Blank::new(1))?)
+    let kind = KType::Ground(Ground::Base(Base::Int));
+    Ok(emit(alloc, code, &kind, steps)?)
 }
 
-/// The entry of code within limits. Its emission isn't counted.
-fn emitted<L: Ledger>(alloc: Global, code: &Term, blank: Blank) -> Result<Entry, AllocError>
-    requires name { blank.name ≡ L.name }
-    requires parts { blank.parts ≡ L.parts }
-    requires some { 0 < L.parts }
-    requires sum { IsSumCode (expression_of code.now) }
-    requires limits { within_limits (expression_of code.now) ≡ true }
-    ensures { IfOk result (λ entry. IsEntryOf entry (expression_of code.now) (base Int)) }
-{
-    let mut steps = Steps::<L>::open(blank);
-    emit(alloc, code, &KType::Base(Base::Int), &mut steps)
-}
-
-/// The number that an entry's code means: what `init` gives on an instance of its module. Such code spends no units.
-pub fn number_of_entry(alloc: Global, entry: &Entry) -> Result<i64, AllocError>
+/// The number that an entry's code means: what `init` gives on an instance of its module with so many units. Such code
+/// spends none.
+pub fn number_of_entry(alloc: Global, entry: &Entry, fuel: u64) -> Result<i64, AllocError>
     requires { IsSumEntry entry.now }
     ensures { IfOk result (λ n. KernelHasNumber (expression_of entry.now.code) n) }
 {
@@ -64,7 +62,7 @@ pub fn number_of_entry(alloc: Global, entry: &Entry) -> Result<i64, AllocError>
         Err(InstanceFault::Element(_)) => unreachable!(),
         Err(InstanceFault::Segment(_)) => unreachable!(),
     };
-    let end = instance.invoke(alloc, b"init", &[], 0)?;
+    let end = instance.invoke(alloc, b"init", &[], fuel)?;
     Ok(number_at(end))
 }
 

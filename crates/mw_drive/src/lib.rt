@@ -5,16 +5,12 @@ mod command;
 mod evaluate;
 mod forms;
 mod kernels;
-mod lines;
+pub mod laws;
 mod reading;
 mod report;
-mod source;
-mod status;
-mod text;
-mod words;
 
 pub use crate::command::run;
-pub use crate::status::Status;
+pub use mw_console::Status;
 
 #[cfg(test)]
 mod tests;

@@ -1,10 +1,13 @@
 // Runs over objects in memory.
 
+ghost use Rattle.std.specs.Prelude.{◌<◌};
+
 mod grammar;
+mod types;
 mod typing;
 
 use crate::command::run;
-use crate::status::Status;
+use mw_console::Status;
 use mw_outside::{Bytes, Calls, Files, MemSink, MemSource, NamedFile, Pass, SureKeeper};
 use std::alloc::Global;
 use std::process::Abort;
@@ -29,6 +32,20 @@ fn ran<R: Abort + AllocGlobal + Threads + Sync>(
     failing_reads: &[u64],
     failing_writes: &[u64],
 ) -> Result<Ending, Fail> {
+    ran_by(rt, words, file, failing_reads, failing_writes, 10)
+}
+
+/// The same over a sink that takes at most so many bytes in one call.
+fn ran_by<R: Abort + AllocGlobal + Threads + Sync>(
+    rt: &R,
+    words: &[&str],
+    file: &[u8],
+    failing_reads: &[u64],
+    failing_writes: &[u64],
+    step: usize,
+) -> Result<Ending, Fail>
+    requires { 0 < step }
+{
     let alloc = rt.alloc();
     let mut files = Files::new(alloc);
     files.push(NamedFile {
@@ -37,7 +54,7 @@ fn ran<R: Abort + AllocGlobal + Threads + Sync>(
     })?;
     assert!(rt; files.names_differ());
     let mut source = MemSource::new(files, calls(rt, failing_reads)?, 7);
-    let mut sink = MemSink::new(alloc, calls(rt, failing_writes)?, 10);
+    let mut sink = MemSink::new(alloc, calls(rt, failing_writes)?, step);
     let mut keeper = SureKeeper::new(Bytes::new(alloc));
     let mut owned = Vec::new(alloc);
     for word in words {
@@ -312,6 +329,24 @@ fn faults_have_their_status(rt: HostRuntime) -> Result<(), Fail> {
         let ran = ran(&rt, words, file, failing_reads, failing_writes)?;
         assert_eq!(rt; ran.status.code(), code, "{words:?}");
         assert_eq!(rt; ran.written.as_slice(), written.as_bytes(), "{words:?}");
+    }
+    Ok(())
+}
+
+/// Each line with its line feed is one piece for the sink: where a sink that takes any piece at once fails at its second or
+/// third call, one or two whole lines were written.
+#[test]
+fn each_line_is_one_piece(rt: HostRuntime) -> Result<(), Fail> {
+    let file = b"kernel k : int = close .<7>. ;; main : int = run[int] k";
+    let lines = format!(in rt.alloc(); "kernel k : int\nmodule {SEVEN}\nanswer 7\n")?;
+    for (failing, length) in [(0, 0), (1, 15), (2, 151), (3, 160)] {
+        let ran = ran_by(&rt, &["run", NAME], file, &[], &[failing], 1_000_000)?;
+        assert_eq!(rt;
+            ran.written.as_slice(),
+            &lines.as_bytes()[..length],
+            "{failing}"
+        );
+        assert_eq!(rt; ran.status.code(), if length < 160 { 6 } else { 0 });
     }
     Ok(())
 }

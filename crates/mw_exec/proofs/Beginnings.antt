@@ -10,8 +10,8 @@ use Rattle.mw_wasm.specs.Syntax.{PureModule}
 use Rattle.mw_wasm.specs.Instances.{element, segment, first_table, first_memory, element_fits, segment_fits, instantiated}
 use Rattle.mw_wasm.specs.Validity.{IsValid, IsValidElement, IsValidData}
 use Rattle.mw_wasm.specs.Views.{module_of, element_of, segment_of}
-use Rattle.mw_exec.specs.Fitting.{ends_in, element_test, segment_test, HasElementOffset, HasSegmentOffset}
-use Rattle.mw_exec.specs.Instancing.{store_of, BeginsAs}
+use Rattle.mw_exec.specs.Fitting.{ends_in, element_test, segment_test, AllFit, HasElementOffset, HasSegmentOffset}
+use Rattle.mw_exec.specs.Instancing.{first_store, BeginsAs}
 
 -- a test of mapped items
 from_map : {X Y : Type 0} (test : Y → Bool) (f : X → Y) (i : ℕ) (xs : List X) → position_from test i (map f xs) ≡ position_from (λ x. test (f x)) i xs
@@ -36,9 +36,8 @@ pub unfit_segment : (wasm : Module) (size bytes k : ℕ) → size ≡ length (fi
     → position (element_test size) wasm.elements ≡ None → position (segment_test bytes) wasm.segments ≡ Some k → instantiated (module_of wasm) ≡ Err (segment k)
 unfit_segment wasm size bytes k e f none g = rw (first_element wasm size e ∙ none, first_segment wasm bytes f ∙ g) refl
 
-pub begins : (wasm : Module) (size bytes : ℕ) → size ≡ length (first_table wasm.table) → bytes ≡ (first_memory wasm.memory).pages * 65536
-    → position (element_test size) wasm.elements ≡ None → position (segment_test bytes) wasm.segments ≡ None → BeginsAs wasm (store_of wasm)
-begins wasm size bytes e f none nor = rw (first_element wasm size e ∙ none, first_segment wasm bytes f ∙ nor) refl
+pub begins : (wasm : Module) → AllFit wasm → BeginsAs wasm (first_store (module_of wasm))
+begins wasm fit = rw (first_element wasm _ refl ∙ fit.elements, first_segment wasm _ refl ∙ fit.segments) refl
 
 -- a valid module's segments have constant offsets
 all_elements : (m : PureModule) (xs : List Element) → AllByRecursion (IsValidElement m) (map element_of xs) → AllByRecursion HasElementOffset xs

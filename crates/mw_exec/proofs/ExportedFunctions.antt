@@ -1,5 +1,5 @@
 -- What a valid module exports is there.
-use Rattle.std.proofs.Common.{◌≡◌, ◌<◌, ℕ, zero, suc, Bool, true, false, List, [], ◌∷◌, length, refl, ◌∙◌, subst, Option, Some}
+use Rattle.std.proofs.Common.{◌≡◌, ◌<◌, ℕ, Bool, true, false, List, [], ◌∷◌, length, map, drop, refl, ◌∙◌, subst, Option, Some}
 use Rattle.std.specs.Prelude.{slice_get, nat_eq}
 use Rattle.std.specs.Cmp.Lexicographic.{pointwise}
 use Rattle.std.specs.List.{AllByRecursion}
@@ -9,14 +9,12 @@ use Rattle.mw_wasm.specs.declared.modules.Exported.{Exported}
 use Rattle.mw_wasm.specs.declared.modules.Exported.TheVariants.{Func, Table, Memory, Global}
 use Rattle.mw_wasm.specs.declared.modules.Func.{Func as WasmFunc}
 use Rattle.mw_wasm.specs.declared.modules.Module.{Module}
-use Rattle.mw_wasm.specs.Syntax.{Function, Exporting, PureModule}
+use Rattle.mw_wasm.specs.Syntax.{Exporting, PureModule}
 use Rattle.mw_wasm.specs.Instances.{function_or, exported_among, exported}
 use Rattle.mw_wasm.specs.Validity.{IsThere, IsValidFunction, IsValid}
-use Rattle.mw_wasm.specs.Views.{module_of, function_of, code_of}
-use Rattle.mw_wasm.specs.declared.modules.FuncType.{FuncType}
-use Rattle.mw_exec.specs.Instancing.{IsFunctionAt}
-use Rattle.mw_exec.specs.Straight.{IsStraight, HasStraightBodies}
-use Rattle.mw_exec.specs.Running.{HasSomeType}
+use Rattle.mw_wasm.specs.declared.modules.Export.{Export}
+use Rattle.mw_wasm.specs.Views.{module_of, function_of, export_of}
+use Rattle.mw_wasm.proofs.ActTypes.{all_at}
 
 there_or : (m : PureModule) (b : Bool) (w : Exported) (other : Option ℕ) (f : ℕ) → IsThere m w → (other ≡ Some f → f < length m.funcs) → function_or b w other ≡ Some f → f < length m.funcs
 there_or m true (Func g) other f h go e = subst (λ k. k < length m.funcs) (same e) h
@@ -36,14 +34,6 @@ there_among m (x ∷ es) name f all e = there_or m (pointwise nat_eq x.name name
 pub function_in_range : (wasm : Module) (name : List ℕ) (f : ℕ) → IsValid (module_of wasm) → exported (module_of wasm) name ≡ Some f → f < length wasm.funcs
 function_in_range wasm name f valid e = subst (λ k. f < k) (length-map wasm.funcs function_of) (there_among (module_of wasm) (module_of wasm).exports name f valid.exports e)
 
-pub all_at : {X : Type 0} (P : X → Type 0) (xs : List X) (i : ℕ) (x : X) → AllByRecursion P xs → slice_get xs i ≡ Some x → P x
-all_at P [] i x all e = absurd (cc)
-all_at P (y ∷ xs) zero x all e = subst P (same e) all.0
-  where
-    same : Some y ≡ Some x → y ≡ x
-    same e = cc
-all_at P (y ∷ xs) (suc i) x all e = all_at P xs i x all.1 e
-
 -- the function of an index, as pure data
 pub function_there : (wasm : Module) (i : ℕ) (g : WasmFunc) → slice_get wasm.funcs i ≡ Some g → slice_get (module_of wasm).funcs i ≡ Some (function_of g)
 function_there wasm i g e = slice_get-map function_of wasm.funcs i ∙ rw e refl
@@ -55,17 +45,6 @@ valid_there wasm i g valid e = all_at (IsValidFunction (module_of wasm)) (module
 pub kind_in_range : (wasm : Module) (i : ℕ) (g : WasmFunc) → IsValid (module_of wasm) → slice_get wasm.funcs i ≡ Some g → g.kind < length wasm.types
 kind_in_range wasm i g valid e = let v = valid_there wasm i g valid e in slice_get_within wasm.types g.kind v.0 v.1
 
--- its body is straight where all are
-pub straight_there : (wasm : Module) (i : ℕ) (g : WasmFunc) → HasStraightBodies (module_of wasm) → slice_get wasm.funcs i ≡ Some g → IsStraight (code_of g.body)
-straight_there wasm i g straight e = all_at (λ (f : Function). IsStraight f.body) (module_of wasm).funcs i (function_of g) straight (function_there wasm i g e)
-
--- and it has a type
-pub typed_there : (wasm : Module) (i : ℕ) (g : WasmFunc) → IsValid (module_of wasm) → slice_get wasm.funcs i ≡ Some g → HasSomeType (code_of g.body) []
-typed_there wasm i g valid e = let v = valid_there wasm i g valid e in record { context = _; outs = v.0.results; typed = v.2 }
-
--- the same of the function that is exported under a name
-pub straight_at : (wasm : Module) (name : List ℕ) (g : WasmFunc) (t : FuncType) → HasStraightBodies (module_of wasm) → IsFunctionAt wasm name g t → IsStraight (code_of g.body)
-straight_at wasm name g t straight found = straight_there wasm found.index g straight found.is_function
-
-pub typed_at : (wasm : Module) (name : List ℕ) (g : WasmFunc) (t : FuncType) → IsValid (module_of wasm) → IsFunctionAt wasm name g t → HasSomeType (code_of g.body) []
-typed_at wasm name g t valid found = typed_there wasm found.index g valid found.is_function
+-- the exports before a place give no function under the name
+pub record Seeking (name : List ℕ) (i : ℕ) (es : List Export) : Type 0 where
+  pub from : exported_among name (map export_of es) ≡ exported_among name (map export_of (drop i es))

@@ -1,30 +1,27 @@
 -- What instances answer, in the words of the standard's instantiation and invocation.
-use Rattle.std.specs.Prelude.{ℕ, ◌≡◌, List, [], ◌∷◌, Option, Some, None, Result, Ok, Err, slice_get, map}
+use Rattle.std.specs.Prelude.{ℕ, ◌≡◌, List, [], ◌∷◌, if◌then◌else◌, Option, Some, None, Ok, Err, slice_get, map}
 use Rattle.mw_wasm.specs.declared.modules.Func.{Func}
 use Rattle.mw_wasm.specs.declared.modules.FuncType.{FuncType}
 use Rattle.mw_wasm.specs.declared.modules.Module.{Module}
 use Rattle.mw_wasm.specs.declared.values.Value.{Value}
 use Rattle.mw_wasm.specs.NumericTypes.{type_of_value}
-use Rattle.mw_wasm.specs.Store.{Store}
+use Rattle.mw_wasm.specs.Syntax.{PureModule}
+use Rattle.mw_wasm.specs.Store.{Memory, Store, is_inside, read_bytes}
 use Rattle.mw_wasm.specs.Execution.{End, ended, trapped, spent}
-use Rattle.mw_wasm.specs.Instances.{Unfit, element, segment, instantiated, exported}
+use Rattle.mw_wasm.specs.Instances.{element, segment, first_value, first_table, first_memory, with_elements, with_segments, instantiated, exported}
 use Rattle.mw_wasm.specs.Views.{module_of}
 use Rattle.mw_exec.specs.declared.ended.Ended.{Ended}
 use Rattle.mw_exec.specs.declared.ended.Ended.TheVariants as ends
 use Rattle.mw_exec.specs.declared.ended.InstanceFault.{InstanceFault}
 use Rattle.mw_exec.specs.declared.ended.InstanceFault.TheVariants as fault
 
--- what a module begins with where it has an instance, and otherwise nothing
-abbrev pub store_or : Store → Result Store Unfit → Store
-store_or other (Ok st) = st
-store_or other (Err k) = other
-
-abbrev pub nothing : Store
-nothing = record { globals = []; table = []; memory = record { pages = 0; byte_at = λ address. 0 } }
-
--- What an instance holds. Straight code writes nothing, so this is what its module begins with.
-abbrev pub store_of : Module → Store
-store_of wasm = store_or nothing (instantiated (module_of wasm))
+-- what a module's instance begins with where all its segments fit
+abbrev pub first_store : PureModule → Store
+first_store m = record {
+  globals = map first_value m.globals;
+  table = with_elements (first_table m.table) m.elements;
+  memory = with_segments (first_memory m.memory) m.segments;
+}
 
 -- the module begins as an instance with this store
 abbrev pub BeginsAs : Module → Store → Type 0
@@ -36,6 +33,11 @@ pub record IsFunctionAt (wasm : Module) (name : List ℕ) (g : Func) (t : FuncTy
   pub is_exported : exported (module_of wasm) name ≡ Some index
   pub is_function : slice_get wasm.funcs index ≡ Some g
   pub is_type : slice_get wasm.types g.kind ≡ Some t
+
+-- the first of two, where it is there
+abbrev pub found_or : Option ℕ → Option ℕ → Option ℕ
+found_or None other = other
+found_or (Some f) other = Some f
 
 -- a function is exported under the name, and the arguments have its parameters' types
 pub record CanInvoke (wasm : Module) (name : List ℕ) (args : List Value) : Type 0 where
@@ -49,11 +51,11 @@ abbrev pub values_of : Option Value → List Value
 values_of None = []
 values_of (Some v) = v ∷ []
 
--- an answer is how the invocation ends: the results and the units left, with what the instance holds then; or a trap; or
--- no unit where one more is needed
+-- an answer is how the invocation ends: the results and the units left, or a trap, and in both cases what the instance
+-- holds then; or no unit where one more is needed
 abbrev pub EndsAs : Ended → Store → End → Type 0
 EndsAs (ends.Ended v left) after (ended st vs units) = (values_of v ≡ vs) × (left ≡ units) × (after ≡ st)
-EndsAs (ends.Trapped t) after (trapped u st) = t ≡ u
+EndsAs (ends.Trapped t) after (trapped u st) = (t ≡ u) × (after ≡ st)
 EndsAs ends.Spent after spent = Unit {0}
 EndsAs _ after _ = ⊥
 
@@ -62,3 +64,7 @@ abbrev pub Refuses : InstanceFault → Module → Type 0
 Refuses (fault.Element k) wasm = instantiated (module_of wasm) ≡ Err (element k)
 Refuses (fault.Segment k) wasm = instantiated (module_of wasm) ≡ Err (segment k)
 Refuses (fault.Memory e) wasm = Unit {0}
+
+-- the number in the eight bytes from an address on, the lowest first, where all of them are below the memory's length
+abbrev pub word_at : ℕ → Memory → Option ℕ
+word_at at m = if is_inside m at 8 then Some (read_bytes 8 at m) else None

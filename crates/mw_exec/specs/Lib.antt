@@ -1,5 +1,10 @@
-pub mod Straight
-pub mod Instancing
+pub mod Lists
+pub mod Rules
+pub mod Views
+pub mod Acts
+pub mod Turns
 pub mod Fitting
-pub mod Running
-pub mod Ready
+pub mod FirstStores
+pub mod InstanceStates
+pub mod Instancing
+pub mod Invoking

@@ -1,10 +1,11 @@
 // Functions by the names under which they are exported.
 
-ghost use Rattle.std.specs.Prelude.{◌≡◌, map, None, IfSome, IfNone};
-ghost use Rattle.mw_wasm.specs.Instances.{exported, exported_among};
+ghost use Rattle.std.specs.Prelude.{◌≡◌, ℕ, Option, map, nat_eq, None, IfSome, IfNone};
+ghost use Rattle.std.specs.Cmp.Lexicographic.{pointwise};
+ghost use Rattle.mw_wasm.specs.Instances.{exported, exported_among, function_or};
 ghost use Rattle.mw_wasm.specs.Validity.{IsValid};
 ghost use Rattle.mw_wasm.specs.Views.{export_of, module_of};
-ghost use Rattle.mw_exec.specs.Instancing.{IsFunctionAt};
+ghost use Rattle.mw_exec.specs.Instancing.{IsFunctionAt, found_or};
 
 use mw_wasm::{Export, Exported, Func, FuncType, Module};
 
@@ -20,22 +21,38 @@ pub fn function_named<'a>(wasm: &'a Module, name: &[u8]) -> Option<(&'a Func, &'
 }
 
 /// The index of the first function that is exported under a name.
+pub fn function_index(wasm: &Module, name: &[u8]) -> Option<u32>
+    ensures { result ≡ exported (module_of wasm.now) name.now }
+{
+    index_of(wasm.exports.as_slice(), name)
+}
+
+/// The same among exports.
 fn index_of(exports: &[Export], name: &[u8]) -> Option<u32>
     ensures { result ≡ exported_among name.now (map export_of exports.now) }
 {
-    match exports {
-        [] => None,
-        [first, rest @ ..] => match first.what {
-            Exported::Func(f) => {
-                if first.name.as_slice() == name {
-                    Some(f)
-                } else {
-                    index_of(rest, name)
-                }
+    for export in exports {
+        if let Some(f) = function_under(export, name) {
+            return Some(f);
+        }
+    }
+    None
+}
+
+/// The function that an export gives, where this is its name.
+fn function_under(export: &Export, name: &[u8]) -> Option<u32>
+    ensures { (other : Option ℕ) → function_or (pointwise nat_eq export.now.name name.now) export.now.what other ≡ found_or result other }
+{
+    match export.what {
+        Exported::Func(f) => {
+            if export.name.as_slice() == name {
+                Some(f)
+            } else {
+                None
             }
-            Exported::Table(_) => index_of(rest, name),
-            Exported::Memory(_) => index_of(rest, name),
-            Exported::Global(_) => index_of(rest, name),
-        },
+        }
+        Exported::Table(_) => None,
+        Exported::Memory(_) => None,
+        Exported::Global(_) => None,
     }
 }

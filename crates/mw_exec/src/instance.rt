@@ -1,16 +1,19 @@
 // Instances.
 
-ghost use Rattle.std.specs.Prelude.{◌≡◌, ℕ, slice_get, IfOk, IfErr, IfSome, IfNone, Some, None};
+ghost use Rattle.std.specs.Prelude.{◌≡◌, ℕ, IfOk, IfErr, IfSome, IfNone, Some, None};
 ghost use Rattle.std.specs.Arc.{arc_value};
 ghost use Rattle.mw_wasm.specs.declared.modules.Func.{Func as WasmFunc};
 ghost use Rattle.mw_wasm.specs.Instances.{exported, invoked};
 ghost use Rattle.mw_wasm.specs.Views.{module_of};
-ghost use Rattle.mw_exec.specs.Straight.{HasStraightBodies};
-ghost use Rattle.mw_exec.specs.Instancing.{IsFunctionAt, CanInvoke, EndsAs, store_of, BeginsAs, Refuses};
+ghost use Rattle.mw_exec.specs.InstanceStates.{store_in};
+ghost use Rattle.mw_exec.specs.Instancing.{IsFunctionAt, CanInvoke, EndsAs, BeginsAs, Refuses, word_at};
 
-use crate::body::values_of;
 use crate::ended::{Ended, InstanceFault};
-use crate::exports::function_named;
+use crate::exports::{function_index, function_named};
+use crate::first_store::first_held;
+use crate::held::Held;
+use crate::invocation::invoke_function;
+use crate::memory::word_of;
 use crate::segments::first_fault;
 use mw_validate::Valid;
 use mw_wasm::{FuncType, Value};
@@ -18,54 +21,54 @@ use std::alloc::{AllocError, Global};
 use std::marker::Model;
 use std::sync::Arc;
 
-/// A module's instance. Contracts see its module; what it holds is a function of that, since straight code writes nothing.
+/// A module's instance. Contracts see its module and the store that it holds.
 #[derive(Drop)]
 pub struct Instance {
     module: Arc<Valid>,
+    held: Held,
 }
 
 impl Model for Instance {
     ghost use Rattle.std.specs.Coded.{codes};
     ghost use Rattle.std.specs.Arc.{arc_value};
-    ghost use Rattle.mw_wasm.specs.declared.modules.Module.{Module};
     ghost use Rattle.mw_wasm.specs.contracts.instructions.Instr as instr;
-    ghost use Rattle.mw_exec.specs.Ready.{IsReady};
+    ghost use Rattle.mw_exec.specs.InstanceStates.{InstanceState, state_of, IsReady};
 
-    ghost Value = { Module };
+    ghost Value = { InstanceState };
 
-    ghost view = { λ instance. arc_value instance.module };
+    ghost view = { λ instance. state_of (arc_value instance.module) instance.held };
 
     ghost coded = { Prim.hlevel (codes, instr.the_row.coded) };
 
-    ghost invariant = { λ instance. IsReady (arc_value instance.module) };
+    ghost invariant = { λ instance. IsReady (state_of (arc_value instance.module) instance.held) };
 }
 
 impl Instance {
     /// The instance that a module begins as. Every element segment is tested, and then every data segment; the first that
-    /// doesn't fit is the fault. Bodies may have `i32.const`, `i64.const` and `i64.add` alone.
-    pub fn new(_alloc: Global, module: Arc<Valid>) -> Result<Instance, InstanceFault>
-        requires straight { HasStraightBodies (module_of (arc_value «module»)) }
-        ensures of { IfOk result (λ instance. instance ≡ arc_value «module») }
-        ensures begins { IfOk result (λ instance. BeginsAs instance (store_of instance)) }
+    /// doesn't fit is the fault, and otherwise all are written.
+    pub fn new(alloc: Global, module: Arc<Valid>) -> Result<Instance, InstanceFault>
+        ensures of { IfOk result (λ instance. instance.wasm ≡ arc_value «module») }
+        ensures begins { IfOk result (λ instance. BeginsAs (arc_value «module») (store_in instance)) }
         ensures fault { IfErr result (λ fault. Refuses fault (arc_value «module»)) }
     {
         if let Some(fault) = first_fault(module.module()) {
             return Err(fault);
         }
-        Ok(Instance { module })
+        let held = first_held(alloc, module.module())?;
+        Ok(Instance { module, held })
     }
 
     /// The type of the function that is exported under a name. Takes no memory.
     pub fn export(&self, name: &[u8]) -> Option<&FuncType>
-        ensures some { IfSome result (λ t. (g : WasmFunc) × IsFunctionAt self.now name.now g t.now) }
-        ensures none { IfNone result (exported (module_of self.now) name.now ≡ None) }
+        ensures some { IfSome result (λ t. (g : WasmFunc) × IsFunctionAt self.now.wasm name.now g t.now) }
+        ensures none { IfNone result (exported (module_of self.now.wasm) name.now ≡ None) }
     {
         let (_, kind) = function_named(self.module.module(), name)?;
         Some(kind)
     }
 
     /// The invocation of the function that is exported under a name, with arguments of its parameters' types and so many
-    /// units. Straight code spends none.
+    /// units, on what the instance holds. Where it ends or traps, the instance holds what it left.
     pub fn invoke(
         &mut self,
         alloc: Global,
@@ -73,25 +76,22 @@ impl Instance {
         args: &[Value],
         fuel: u64,
     ) -> Result<Ended, AllocError>
-        requires can { CanInvoke self.old name.now args.now }
-        ensures same { self.new ≡ self.old }
-        ensures ends { IfOk result (λ end. (f : ℕ) → exported (module_of self.old) name.now ≡ Some f
-            → EndsAs end (store_of self.new) (invoked (module_of self.old) (store_of self.old) f args.now fuel)) }
+        requires can { CanInvoke self.old.wasm name.now args.now }
+        ensures same { self.new.wasm ≡ self.old.wasm }
+        ensures ends { IfOk result (λ end. (f : ℕ) → exported (module_of self.old.wasm) name.now ≡ Some f
+            → EndsAs end (store_in self.new) (invoked (module_of self.old.wasm) (store_in self.old) f args.now fuel)) }
     {
-        let Some((function, _)) = function_named(self.module.module(), name) else {
+        let Some(f) = function_index(self.module.module(), name) else {
             unreachable!();
         };
-        let values = values_of(alloc, function.body.as_slice())?;
-        Ok(Ended::Ended(first_of(values.as_slice()), fuel))
+        invoke_function(alloc, self.module.module(), &mut self.held, f, args, fuel)
     }
-}
 
-/// The first value, where there is one.
-fn first_of(values: &[Value]) -> Option<Value>
-    ensures { result ≡ slice_get values.now 0 }
-{
-    match values {
-        [] => None,
-        [first, ..] => Some(*first),
+    /// The number in the eight bytes from an address on, the lowest first; none where one of them is past the memory's end.
+    /// Takes no memory.
+    pub fn word(&self, at: u64) -> Option<u64>
+        ensures { result ≡ word_at at (store_in self.now).memory }
+    {
+        word_of(&self.held, at)
     }
 }

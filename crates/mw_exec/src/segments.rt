@@ -7,8 +7,8 @@ ghost use Rattle.mw_wasm.specs.Instances.{first_table, first_memory};
 ghost use Rattle.mw_wasm.specs.Views.{code_of};
 ghost use Rattle.mw_wasm.specs.Validity.{IsConstantOf};
 ghost use Rattle.mw_validate.specs.Kept.{IsKept};
-ghost use Rattle.mw_exec.specs.Instancing.{BeginsAs, Refuses, store_of};
-ghost use Rattle.mw_exec.specs.Fitting.{offset_number, ends_in, element_test, segment_test, HasElementOffset, HasSegmentOffset};
+ghost use Rattle.mw_exec.specs.Instancing.{Refuses};
+ghost use Rattle.mw_exec.specs.Fitting.{offset_number, ends_in, element_test, segment_test, AllFit, HasElementOffset, HasSegmentOffset};
 
 use crate::ended::InstanceFault;
 use mw_wasm::{Element, Instr, Instrs, Module, Segment};
@@ -20,7 +20,7 @@ const PAGE: u64 = 65_536;
 pub fn first_fault(wasm: &Module) -> Option<InstanceFault>
     requires kept { IsKept wasm.now }
     ensures some { IfSome result (λ fault. Refuses fault wasm.now) }
-    ensures none { IfNone result (BeginsAs wasm.now (store_of wasm.now)) }
+    ensures none { IfNone result (AllFit wasm.now) }
 {
     let size = table_size(wasm);
     if let Some(at) = first_unfit_element(wasm.elements.as_slice(), size) {
@@ -42,7 +42,7 @@ fn table_size(wasm: &Module) -> u64
 }
 
 /// The bytes of a module's memory.
-fn memory_size(wasm: &Module) -> u64
+pub fn memory_size(wasm: &Module) -> u64
     ensures { result ≡ (first_memory wasm.now.memory).pages * 65536 }
 {
     match wasm.memory {
@@ -52,7 +52,7 @@ fn memory_size(wasm: &Module) -> u64
 }
 
 /// The value of a constant expression of type i32.
-fn offset_of(code: &Instrs) -> u32
+pub fn offset_of(code: &Instrs) -> u32
     requires { IsConstantOf I32 (code_of code.now) }
     ensures { result ≡ offset_number (code_of code.now) }
 {

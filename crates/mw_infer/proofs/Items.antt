@@ -1,21 +1,19 @@
 -- The types of items by most general solutions of their equations.
 use Rattle.std.proofs.Common.{◌≡◌, ℕ, ◌<◌, List, [], refl, ap, sym, ◌∙◌, arith}
-use Rattle.mw_term.specs.Terms.{Expression, expression_of}
+use Rattle.mw_term.specs.Terms.{Expression, of_ground, expression_of}
 use Rattle.mw_term.specs.declared.term.Term.{Term}
 use Rattle.mw_term.specs.declared.term.Term.TheVariants.{Int, Bool as Truth, Var, Glob, Fun', Rec', App', Let', If', Pair', Fst', Snd', Prim' as Prim-Prim', Bracket', Escape', Run', CloseCode', OpenCode', Lift', LiftB'}
-use Rattle.mw_term.specs.declared.term.Base.{Base}
-use Rattle.mw_term.specs.declared.term.Base.TheVariants as base
-use Rattle.mw_term.specs.Types.{TermType, closed_type, live, base_type, kernel_type}
+use Rattle.mw_term.specs.Types.{TermType, closed_type, live, ground_type, kernel_type}
 use Rattle.mw_term.specs.Typing.{TopLevel, Typed}
 use Rattle.mw_term.proofs.TypesFormed.{IsPlain-kernel_type, Typed-formed}
-use Rattle.mw_types.specs.Types.{Assignment, value, Substitution, after}
+use Rattle.mw_types.specs.Types.{Within, Assignment, value, Substitution, after}
 use Rattle.mw_types.specs.Equations.{AllWithin, Solves, Solvable, MostGeneral, StaysWithin}
 use Rattle.mw_infer.specs.Schemes.{TopScheme, AreOwn}
 use Rattle.mw_infer.specs.Sources.{IsSource}
 use Rattle.mw_infer.specs.ItemEquations.{equations}
 use Rattle.mw_infer.specs.Inferring.{item_unknowns, item_classifiers, item_closes, Place, let_place, kernel_place, main_place, IsTypableAt, own_equations, item_equations, AreFresh, least, formed_type, IsInstance, IsSchemeOf, AreSchemesOf}
-use Rattle.mw_infer.proofs.Formed.{formed_type-formed, flat_type-plain, rename_type-formed_type}
-use Rattle.mw_infer.proofs.Shifting.{value-base_expression, value-kernel_expression, Within-base_expression, Within-kernel_expression}
+use Rattle.mw_infer.proofs.Formed.{formed_type-formed, formed_type-plain, flat_type-plain, rename_type-formed_type}
+use Rattle.mw_infer.proofs.Shifting.{value-ground_expression, value-kernel_expression, Within-ground_expression, Within-kernel_expression}
 use Rattle.mw_infer.proofs.Sound.{Solves-parts, solved_typed}
 use Rattle.mw_infer.specs.Below.{ClosesBelow}
 use Rattle.mw_infer.proofs.Within.{AllWithin-append, equations-within, AreFresh-agree}
@@ -27,14 +25,10 @@ use Rattle.mw_infer.proofs.Split.{AreFresh-least, split, joined, value-split, Ar
 own-within : (n m : ℕ) (place : Place) → 0 < n → AllWithin n m (own_equations place)
 own-within n m let_place h = tt
 own-within n m (kernel_place k) h = ((h, Within-kernel_expression n m k), tt)
-own-within n m (main_place b) h = ((h, Within-base_expression n m b), tt)
+own-within n m (main_place g) h = ((h, Within-ground_expression n m g), tt)
 
 pub item-within : (schemes : List TopScheme) (place : Place) (e : Expression) → AreOwn schemes → AllWithin (item_unknowns schemes e) (item_classifiers schemes e) (item_equations schemes place e)
 item-within schemes place e w = AllWithin-append _ _ (own_equations place) (equations schemes 0 1 0 [] live e) (own-within _ _ place (omega arith)) (equations-within schemes w _ _ 0 1 0 [] live e (omega arith) (omega arith) (omega arith) tt tt)
-
-formed_type-base_type : (b : Base) → formed_type (base_type b) ≡ base_type b
-formed_type-base_type base.Int = refl
-formed_type-base_type base.Bool = refl
 
 -- what an item's type solves its equations by
 record Solved (schemes : List TopScheme) (place : Place) (e : Expression) (t : TermType) : Type 0 where
@@ -52,7 +46,7 @@ module _ (tops : List TopLevel) (schemes : List TopScheme) (known : AreSchemesOf
   typed-as_asked : (a : Assignment) (place : Place) → Solves a (own_equations place) → Typed tops [] live e (formed_type (a.ty 0)) → IsTypableAt tops place e
   typed-as_asked a let_place h d = (_, d)
   typed-as_asked a (kernel_place k) h d = rw (h.0, value-kernel_expression a k, flat_type-plain (kernel_type k) (IsPlain-kernel_type k)) at d
-  typed-as_asked a (main_place b) h d = rw (h.0, value-base_expression a b, formed_type-base_type b) at d
+  typed-as_asked a (main_place g) h d = rw (h.0, value-ground_expression a g, formed_type-plain (ground_type g) (IsPlain-kernel_type (of_ground g))) at d
 
   solution-typable : (a : Assignment) (place : Place) → Solves a (item_equations schemes place e) → AreFresh a (item_closes schemes e) → IsTypableAt tops place e
   solution-typable a place h f = typed-as_asked a place (Solves-parts a (own_equations place) (equations schemes 0 1 0 [] live e) h).0 (solution-typed a place h f)
@@ -73,7 +67,7 @@ module _ (tops : List TopLevel) (schemes : List TopScheme) (known : AreSchemesOf
     solved-at : (place : Place) → IsTypableAt tops place e → (t : TermType) × Solved schemes place e t
     solved-at let_place d = (d.0, typed-solved let_place d.0 (λ a p. tt) d.1)
     solved-at (kernel_place k) d = (_, typed-solved (kernel_place k) _ (λ a p. (p ∙ ap closed_type (sym (value-kernel_expression a k)), tt)) d)
-    solved-at (main_place b) d = (_, typed-solved (main_place b) _ (λ a p. (p ∙ sym (value-base_expression a b), tt)) d)
+    solved-at (main_place g) d = (_, typed-solved (main_place g) _ (λ a p. (p ∙ sym (value-ground_expression a g), tt)) d)
 
     pub typable-solvable : (place : Place) → IsTypableAt tops place e → Solvable (item_equations schemes place e)
     typable-solvable place d = let m = solved-at place d in (m.1.by, m.1.solves)
@@ -100,12 +94,15 @@ module _ (tops : List TopLevel) (schemes : List TopScheme) (known : AreSchemesOf
           let r = joined b in
           rw (rename_type-formed_type r.0 (value (split b) (s.ty 0)), value-split b r.0 (s.ty 0) r.1) at (Typed-renamed tops r.0 (solution-typed (after (split b) s) let_place (g.sound (split b)) (AreFresh-split b s (item_closes schemes e) f)))
 
-      pub most_general-scheme : MostGeneral (item_unknowns schemes e) (item_classifiers schemes e) (item_equations schemes let_place e) s → StaysWithin (item_unknowns schemes e) (item_classifiers schemes e) s → AreFresh (after least s) (item_closes schemes e) → IsSchemeOf tops e (record { unknowns = item_unknowns schemes e; classifiers = item_classifiers schemes e; type = s.ty 0 })
-      most_general-scheme g w f = record {
-        within = w.types 0 (omega arith);
+      pub most_general-scheme_within : (k l : ℕ) → Within k l (s.ty 0) → MostGeneral (item_unknowns schemes e) (item_classifiers schemes e) (item_equations schemes let_place e) s → AreFresh (after least s) (item_closes schemes e) → IsSchemeOf tops e (record { unknowns = k; classifiers = l; type = s.ty 0 })
+      most_general-scheme_within k l w g f = record {
+        within = w;
         types = λ t. ((λ d. type-instance t g d), (λ i. rw (i.gives, formed_type-formed t i.formed) at (instance-typed i.by g f)));
         formed = λ b. let i = type-instance (formed_type (value b (s.ty 0))) g (instance-typed b g f) in (i.by, i.gives);
       }
+
+      pub most_general-scheme : MostGeneral (item_unknowns schemes e) (item_classifiers schemes e) (item_equations schemes let_place e) s → StaysWithin (item_unknowns schemes e) (item_classifiers schemes e) s → AreFresh (after least s) (item_closes schemes e) → IsSchemeOf tops e (record { unknowns = item_unknowns schemes e; classifiers = item_classifiers schemes e; type = s.ty 0 })
+      most_general-scheme g w f = most_general-scheme_within (item_unknowns schemes e) (item_classifiers schemes e) (w.types 0 (omega arith)) g f
 
 pub sources : (t : Term) → IsSource (expression_of t)
 sources (Int n) = tt

@@ -20,3 +20,6 @@ pub mod Progressing
 pub mod Stepping
 pub mod Revealing
 pub mod Answer
+pub mod Ordering
+pub mod Deciding
+pub mod Resolved

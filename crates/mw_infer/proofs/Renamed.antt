@@ -48,4 +48,4 @@ module _ (tops : List TopLevel) where
     Valued-renamed r (v_recursive {s = s} {t = u} p h) = v_recursive (IsFormed-rename_type r (function_type s u) p) (Typed-renamed r h)
     Valued-renamed r (v_code {c = e} {t = t} p c h) = v_code (IsPlain-rename_type r t p) c (Typed-renamed r h)
     Valued-renamed r (v_closed {c = d} {t = t} p c h) = rw (rename_type-plain r t p) (v_closed p c h)
-    Valued-renamed r (v_kept {s = s} {b = b} e c h) = let q = ap (λ t. rename_type r t) e ∙ rename_type-kernel_type r (to s b) in v_kept q c (rw (q, ← e) h)
+    Valued-renamed r (v_kept {r = a} {s = s} e c h) = let q = ap (λ t. rename_type r t) e ∙ rename_type-kernel_type r (to a s) in v_kept q c (rw (q, ← e) h)

@@ -36,15 +36,15 @@ Renumbers-int p q a b = record { unknown_order = a; classifier_order = b; unknow
 pub Renumbers-bool : (p q : Numbering) → IsOrder p → IsOrder q → Renumbers p q p q bool_ty bool_ty
 Renumbers-bool p q a b = record { unknown_order = a; classifier_order = b; unknowns = Keeps-same p; classifiers = Keeps-same q; is = refl; seen = tt; numbered = a_bool; unknown_count = omega arith; classifier_count = omega arith }
 
-number-next : (a b m n : ℕ) → ((n < a) × (b ≡ a)) ⊎ ((n ≡ a) × (b ≡ a + 1)) → IsNumbered a m (unknown n) b m
+pub number-next : (a b m n : ℕ) → ((n < a) × (b ≡ a)) ⊎ ((n ≡ a) × (b ≡ a + 1)) → IsNumbered a m (unknown n) b m
 number-next a b m n (inl h) = rw h.1 (seen h.0)
 number-next a b m n (inr h) = let e : b ≡ suc a = omega (arith, h.1) in rw e (next h.0)
 
-code-next : (a b n m k : ℕ) (l : ℕ) (t : TypeExpression) → ((n < a) × (b ≡ a)) ⊎ ((n ≡ a) × (b ≡ a + 1)) → IsNumbered m b t k l → IsNumbered m a (code_ty n t) k l
+pub code-next : (a b n m k : ℕ) (l : ℕ) (t : TypeExpression) → ((n < a) × (b ≡ a)) ⊎ ((n ≡ a) × (b ≡ a + 1)) → IsNumbered m b t k l → IsNumbered m a (code_ty n t) k l
 code-next a b n m k l t (inl h) i = code_seen h.0 (rw h.1 at i)
 code-next a b n m k l t (inr h) i = let e : b ≡ suc a = omega (arith, h.1) in code_next h.0 (rw e at i)
 
-count-next : (a b n : ℕ) → ((n < a) × (b ≡ a)) ⊎ ((n ≡ a) × (b ≡ a + 1)) → b ≤ a + 1
+pub count-next : (a b n : ℕ) → ((n < a) × (b ≡ a)) ⊎ ((n ≡ a) × (b ≡ a + 1)) → b ≤ a + 1
 count-next a b n (inl h) = omega (arith, h.1)
 count-next a b n (inr h) = omega (arith, h.1)
 

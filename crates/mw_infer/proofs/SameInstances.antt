@@ -58,12 +58,12 @@ renumbering p q k l t r h e f small = record {
 }
 
 -- the numbers behind a type are those that it names
-record Reaches (n m k l : ℕ) (t : TypeExpression) : Type 0 where
-  unknowns : n ≤ k
-  classifiers : m ≤ l
-  within : Within k l t
+pub record Reaches (n m k l : ℕ) (t : TypeExpression) : Type 0 where
+  pub unknowns : n ≤ k
+  pub classifiers : m ≤ l
+  pub within : Within k l t
 
-reaches : {n m k l : ℕ} {t : TypeExpression} → IsNumbered n m t k l → Reaches n m k l t
+pub reaches : {n m k l : ℕ} {t : TypeExpression} → IsNumbered n m t k l → Reaches n m k l t
 reaches an_int = record { unknowns = omega arith; classifiers = omega arith; within = tt }
 reaches a_bool = record { unknowns = omega arith; classifiers = omega arith; within = tt }
 reaches (seen lt) = record { unknowns = omega arith; classifiers = omega arith; within = lt }

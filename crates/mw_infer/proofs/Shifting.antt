@@ -1,7 +1,7 @@
 -- What assignments make of shifted types and of types without unknowns, and the schemes of names by their places.
 use Rattle.std.proofs.Common.{◌≡◌, ℕ, zero, suc, ◌+◌, ◌≤◌, List, [], ◌∷◌, Some, refl, arith}
 use Rattle.std.specs.Prelude.{slice_get}
-use Rattle.mw_term.specs.Terms.{Expression, KernelType, GroundType, base, product, to}
+use Rattle.mw_term.specs.Terms.{Expression, KernelType, GroundType, base, product, of_ground, to}
 use Rattle.mw_term.specs.declared.term.Base.{Base}
 use Rattle.mw_term.specs.declared.term.Base.TheVariants.{Int, Bool as Truth}
 use Rattle.mw_term.specs.declared.term.Primitive.{Primitive as Prim}
@@ -34,17 +34,17 @@ Within-shifted n m o c k l (function_ty s t) w p q = (Within-shifted n m o c k l
 Within-shifted n m o c k l (code_ty d t) w p q = (omega (arith, w.0), Within-shifted n m o c k l t w.1 p q)
 Within-shifted n m o c k l (closed_ty t) w p q = Within-shifted n m o c k l t w p q
 
-pub value-base_expression : (a : Assignment) (b : Base) → value a (base_expression b) ≡ base_type b
+value-base_expression : (a : Assignment) (b : Base) → value a (base_expression b) ≡ base_type b
 value-base_expression a Int = refl
 value-base_expression a Truth = refl
 
-value-ground_expression : (a : Assignment) (s : GroundType) → value a (ground_expression s) ≡ ground_type s
+pub value-ground_expression : (a : Assignment) (s : GroundType) → value a (ground_expression s) ≡ ground_type s
 value-ground_expression a (base b) = value-base_expression a b
 value-ground_expression a (product s t) = rw (value-ground_expression a s, value-ground_expression a t) refl
 
 pub value-kernel_expression : (a : Assignment) (k : KernelType) → value a (kernel_expression k) ≡ kernel_type k
-value-kernel_expression a (base b) = value-base_expression a b
-value-kernel_expression a (to s b) = rw (value-ground_expression a s, value-base_expression a b) refl
+value-kernel_expression a (of_ground t) = value-ground_expression a t
+value-kernel_expression a (to s t) = rw (value-ground_expression a s, value-ground_expression a t) refl
 
 pub value-primitive_expression : (a : Assignment) (p : Prim) → value a (primitive_expression p) ≡ primitive_type p
 value-primitive_expression a Add = refl
@@ -56,17 +56,17 @@ value-primitive_expression a Eq = refl
 value-primitive_expression a Lt = refl
 value-primitive_expression a Le = refl
 
-pub Within-base_expression : (n m : ℕ) (b : Base) → Within n m (base_expression b)
+Within-base_expression : (n m : ℕ) (b : Base) → Within n m (base_expression b)
 Within-base_expression n m Int = tt
 Within-base_expression n m Truth = tt
 
-Within-ground_expression : (n m : ℕ) (s : GroundType) → Within n m (ground_expression s)
+pub Within-ground_expression : (n m : ℕ) (s : GroundType) → Within n m (ground_expression s)
 Within-ground_expression n m (base b) = Within-base_expression n m b
 Within-ground_expression n m (product s t) = (Within-ground_expression n m s, Within-ground_expression n m t)
 
 pub Within-kernel_expression : (n m : ℕ) (k : KernelType) → Within n m (kernel_expression k)
-Within-kernel_expression n m (base b) = Within-base_expression n m b
-Within-kernel_expression n m (to s b) = (Within-ground_expression n m s, Within-base_expression n m b)
+Within-kernel_expression n m (of_ground t) = Within-ground_expression n m t
+Within-kernel_expression n m (to s t) = (Within-ground_expression n m s, Within-ground_expression n m t)
 
 pub Within-primitive_expression : (n m : ℕ) (p : Prim) → Within n m (primitive_expression p)
 Within-primitive_expression n m Add = tt

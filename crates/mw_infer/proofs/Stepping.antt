@@ -9,7 +9,7 @@ use Rattle.mw_term.specs.declared.refusal.Refusal.{Refusal}
 use Rattle.mw_term.specs.declared.refusal.Stop.{Stop}
 use Rattle.mw_term.specs.declared.refusal.Stop.TheVariants.{Refused, Memory}
 use Rattle.mw_types.specs.Types.{TypeExpression}
-use Rattle.mw_infer.specs.Schemes.{TopScheme, let_scheme, kernel_scheme, no_scheme, base_expression}
+use Rattle.mw_infer.specs.Schemes.{TopScheme, let_scheme, kernel_scheme, no_scheme, ground_expression}
 use Rattle.mw_infer.specs.Inferring.{main_place, AreSchemesOf}
 use Rattle.mw_infer.specs.Checking.{Part, part_of_item, part_of_main, IsPart, an_item, main, ArePrincipal, IsFaultless, IsFirstRefusal, AreFaultless, IsResolved, IsTypeOf, AreTypesOf, IfRefused}
 use Rattle.mw_infer.specs.Judging.{CanJudge, Judges}
@@ -24,7 +24,7 @@ use Rattle.mw_infer.proofs.Progressing.{scoped-source, can-judge, fine-faultless
 use Rattle.mw_infer.proofs.Refusals.{part-one}
 use Rattle.mw_infer.proofs.Shifting.{scheme-of_let, scheme-of_kernel}
 
-earlier-next : (p : PureProgram) (i : ℕ) (y : Part) → ((j : ℕ) (x : Part) → j < i → IsPart p j x → IsFaultless x) → IsPart p i y → IsFaultless y → (j : ℕ) (x : Part) → j < suc i → IsPart p j x → IsFaultless x
+pub earlier-next : (p : PureProgram) (i : ℕ) (y : Part) → ((j : ℕ) (x : Part) → j < i → IsPart p j x → IsFaultless x) → IsPart p i y → IsFaultless y → (j : ℕ) (x : Part) → j < suc i → IsPart p j x → IsFaultless x
 earlier-next p i y h a f j x lt b = elim (low_or_last i j lt) [
   | low k ↦ h j x k b
   | last e ↦ subst (λ z. IsFaultless z) (part-one p (subst (λ n. IsPart p n y) (sym e) a) b) f
@@ -87,14 +87,17 @@ get-below [] i x e = absurd (cc)
 get-below (y ∷ xs) zero x e = omega arith
 get-below (y ∷ xs) (suc i) x e = omega (arith, get-below xs i x e)
 
-pub main-faultless : (p : PureProgram) (schemes : List TopScheme) (l : LetType) → IsResolved p → Progress p (length p.items) schemes → Judges (revealed p.items schemes) (main_place p.result) p.body (Fine l) → AreFaultless p
-main-faultless p schemes l w h j i x a = part-faultless a
+pub all-faultless : (p : PureProgram) (schemes : List TopScheme) → Progress p (length p.items) schemes → IsFaultless (part_of_main p) → AreFaultless p
+all-faultless p schemes h f j x a = part-faultless a
   where
     part-faultless : {i : ℕ} {x : Part} → IsPart p i x → IsFaultless x
     part-faultless (an_item {i = i} {d = d} g) = h.earlier i _ (get-below p.items i d g) (an_item g)
-    part-faultless (main e) =
-        let b : IsPart p (length p.items) (part_of_main p) = main refl in
-        fine-faultless (part_of_main p) (revealed p.items schemes) l (principal-main p.items schemes h.principal) (scoped-source _ [] _ p.body (w.scoped _ _ b)) j
+    part-faultless (main e) = f
+
+pub main-faultless : (p : PureProgram) (schemes : List TopScheme) (l : LetType) → IsResolved p → Progress p (length p.items) schemes → Judges (revealed p.items schemes) (main_place p.result) p.body (Fine l) → AreFaultless p
+main-faultless p schemes l w h j =
+    let b : IsPart p (length p.items) (part_of_main p) = main refl in
+    all-faultless p schemes h (fine-faultless (part_of_main p) (revealed p.items schemes) l (principal-main p.items schemes h.principal) (scoped-source _ [] _ p.body (w.scoped _ _ b)) j)
 
 -- a kernel item that is revealed
 set-same : (xs : List TopScheme) (n : ℕ) (items : List Definition) (e : Expression) → slice_get items n ≡ Some (value e) → revealed_to (suc n) items xs ≡ revealed_to n items xs
@@ -189,16 +192,16 @@ length-types : (schemes : List TopScheme) (main_type : TypeExpression) → lengt
 length-types [] main_type = omega arith
 length-types (x ∷ schemes) main_type = let h = length-types schemes main_type in omega (arith, h)
 
-pub types-of : (p : PureProgram) (schemes : List TopScheme) → AreFaultless p → ArePrincipal (seen_by_main p.items) schemes → AreTypesOf p (map type_of_scheme schemes ++ (base_expression p.result ∷ []))
-types-of p schemes h q = record { count = length-types schemes (base_expression p.result) ∙ ap (λ n. n + 1) (length-main _ p.items schemes q.of); each = λ i x t a g. part-type a t g }
+pub types-of : (p : PureProgram) (schemes : List TopScheme) → AreFaultless p → ArePrincipal (seen_by_main p.items) schemes → AreTypesOf p (map type_of_scheme schemes ++ (ground_expression p.result ∷ []))
+types-of p schemes h q = record { count = length-types schemes (ground_expression p.result) ∙ ap (λ n. n + 1) (length-main _ p.items schemes q.of); each = λ i x t a g. part-type a t g }
   where
-    part-type : {i : ℕ} {x : Part} → IsPart p i x → (t : TypeExpression) → slice_get (map type_of_scheme schemes ++ (base_expression p.result ∷ [])) i ≡ Some t → IsTypeOf x x.place t
+    part-type : {i : ℕ} {x : Part} → IsPart p i x → (t : TypeExpression) → slice_get (map type_of_scheme schemes ++ (ground_expression p.result ∷ [])) i ≡ Some t → IsTypeOf x x.place t
     part-type (an_item {i = i} {d = value e} a) t g =
         let names = seen_by_main p.items in
         let own = seen_by_item p.items i in
         let x = Extends-item p.items i in
         let s = scheme-of_let names names schemes i e q.of (main-at p.items i e a) in
-        let z = type-at schemes (base_expression p.result) t i (let_scheme s.0) s.1 g in
+        let z = type-at schemes (ground_expression p.result) t i (let_scheme s.0) s.1 g in
         let d = (h i _ (an_item a)).typable in
         rw z (λ u. (
           (λ k. (s.2.types u).0 (Typed-extended own names x k)),
@@ -206,8 +209,8 @@ types-of p schemes h q = record { count = length-types schemes (base_expression 
         ))
     part-type (an_item {i = i} {d = kernel k e} a) t g =
         let names = seen_by_main p.items in
-        type-at schemes (base_expression p.result) t i (kernel_scheme k) (scheme-of_kernel names names schemes i k q.of (main-at-kernel p.items i k e a)) g
-    part-type (main {i = i} e) t g = type-last schemes (base_expression p.result) t (rw (e ∙ sym (length-main _ p.items schemes q.of)) at g)
+        type-at schemes (ground_expression p.result) t i (kernel_scheme k) (scheme-of_kernel names names schemes i k q.of (main-at-kernel p.items i k e a)) g
+    part-type (main {i = i} e) t g = type-last schemes (ground_expression p.result) t (rw (e ∙ sym (length-main _ p.items schemes q.of)) at g)
 
 append-length : {A : Type 0} (xs : List A) (x : A) → length (xs ++ (x ∷ [])) ≡ length xs + 1
 append-length [] x = omega arith

@@ -12,7 +12,7 @@ use Rattle.mw_term.specs.declared.refusal.Stop.{Stop}
 use Rattle.mw_term.specs.declared.refusal.Stop.TheVariants.{Refused, Memory}
 use Rattle.mw_types.specs.Types.{TypeExpression, Substitution, after, closed_ty}
 use Rattle.mw_types.specs.Equations.{MostGeneral, IsSmall, TooBig, Fine, FirstUnsolvable, FirstTooBig}
-use Rattle.mw_infer.specs.Schemes.{TopScheme, let_scheme, kernel_scheme, no_scheme, IsInOrder, base_expression, kernel_expression}
+use Rattle.mw_infer.specs.Schemes.{TopScheme, let_scheme, kernel_scheme, no_scheme, IsInOrder, ground_expression, kernel_expression}
 use Rattle.mw_infer.specs.Sources.{IsSource}
 use Rattle.mw_infer.specs.ItemEquations.{Close}
 use Rattle.mw_infer.specs.Inferring.{item_unknowns, item_classifiers, item_closes, Place, let_place, kernel_place, main_place, IsTypableAt, item_equations, entry_of, AreFresh, least, IsInstance, AreSchemesOf}
@@ -117,7 +117,7 @@ pub record IsResolved (p : PureProgram) : Type 0 where
 abbrev pub IsTypeOf : Part → Place → TypeExpression → Type 0
 IsTypeOf x let_place t = (u : TermType) → Typed x.names [] live x.term u ↔ IsInstance t u
 IsTypeOf x (kernel_place k) t = t ≡ closed_ty (kernel_expression k)
-IsTypeOf x (main_place b) t = t ≡ base_expression b
+IsTypeOf x (main_place g) t = t ≡ ground_expression g
 
 -- the most general types of a program's items and of main, in order
 pub record AreTypesOf (p : PureProgram) (types : List TypeExpression) : Type 0 where

@@ -1,5 +1,5 @@
 -- How the equations of an item and its types go together.
-use Rattle.std.specs.Prelude.{◌≡◌, ◌↔◌, List}
+use Rattle.std.specs.Prelude.{◌≡◌, ◌↔◌, ◌⊎◌, List}
 use Rattle.mw_term.specs.Terms.{Expression}
 use Rattle.mw_term.specs.declared.term.Term.{Term}
 use Rattle.mw_term.specs.Terms.{expression_of}
@@ -51,3 +51,7 @@ FaultlessAreTypable = (p : PureProgram) → IsWritten p → AreFaultless p → T
 -- and such a program is not refused
 abbrev pub TypableAreNotRefused : Type 0
 TypableAreNotRefused = (p : PureProgram) (r : Refusal) → IsWritten p → Typable p → NoneTooBig p → IsFirstRefusal p r → ⊥
+
+-- a program is typable and none of its types is too big, or it has a first refusal
+abbrev pub CheckedOrRefused : Type 0
+CheckedOrRefused = (p : PureProgram) → IsWritten p → (Typable p × NoneTooBig p) ⊎ ((r : Refusal) × IsFirstRefusal p r)

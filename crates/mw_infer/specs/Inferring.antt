@@ -1,12 +1,11 @@
 -- What solutions of an item's equations say of its types.
 use Rattle.std.specs.Prelude.{ℕ, ◌≡◌, ◌+◌, ◌↔◌, List, [], ◌∷◌, ◌++◌, map}
-use Rattle.mw_term.specs.declared.term.Base.{Base}
-use Rattle.mw_term.specs.Terms.{Expression, KernelType}
-use Rattle.mw_term.specs.Types.{TermType, int_type, bool_type, pair_type, function_type, code_type, closed_type, live, Entry, value as at_live, quoted, IsFormed, IsAbsent, base_type, kernel_type}
+use Rattle.mw_term.specs.Terms.{Expression, GroundType, KernelType}
+use Rattle.mw_term.specs.Types.{TermType, int_type, bool_type, pair_type, function_type, code_type, closed_type, live, Entry, value as at_live, quoted, IsFormed, IsAbsent, ground_type, kernel_type}
 use Rattle.mw_term.specs.Typing.{TopLevel, let_item, kernel_item, out_of_scope, Typed}
 use Rattle.mw_types.specs.Types.{TypeExpression, unknown, closed_ty, Within, Assignment, value}
 use Rattle.mw_types.specs.Equations.{TypeEquation}
-use Rattle.mw_infer.specs.Schemes.{Scheme, TopScheme, let_scheme, kernel_scheme, no_scheme, base_expression, kernel_expression}
+use Rattle.mw_infer.specs.Schemes.{Scheme, TopScheme, let_scheme, kernel_scheme, no_scheme, ground_expression, kernel_expression}
 use Rattle.mw_infer.specs.ItemEquations.{Slot, plain_slot, quoted_slot, equation, unknowns_of, classifiers_of, equations, Close, closes}
 
 -- how many unknowns an item has, of which 0 is its type, and how many classifier unknowns
@@ -17,23 +16,23 @@ abbrev pub item_classifiers : List TopScheme → Expression → ℕ
 item_classifiers tops e = classifiers_of tops e
 
 -- what the term of a place in a program is asked: a let's definition no type, a kernel item's closed code of its kernel
--- type, main's its base type
+-- type, main's its ground type
 pub data Place : Type 0 where
   let_place : Place
   kernel_place : (k : KernelType) → Place
-  main_place : (b : Base) → Place
+  main_place : (g : GroundType) → Place
 
 -- with these top-level names, the term has a type that its place asks
 abbrev pub IsTypableAt : List TopLevel → Place → Expression → Type 0
 IsTypableAt tops let_place e = (t : TermType) × Typed tops [] live e t
 IsTypableAt tops (kernel_place k) e = Typed tops [] live e (closed_type (kernel_type k))
-IsTypableAt tops (main_place b) e = Typed tops [] live e (base_type b)
+IsTypableAt tops (main_place g) e = Typed tops [] live e (ground_type g)
 
 -- An item's equations, or main's. Its own equation stands first: it says what its place asks of its type.
 abbrev pub own_equations : Place → List TypeEquation
 own_equations let_place = []
 own_equations (kernel_place k) = equation (unknown 0) (closed_ty (kernel_expression k)) ∷ []
-own_equations (main_place b) = equation (unknown 0) (base_expression b) ∷ []
+own_equations (main_place g) = equation (unknown 0) (ground_expression g) ∷ []
 
 abbrev pub item_equations : List TopScheme → Place → Expression → List TypeEquation
 item_equations tops place e = own_equations place ++ equations tops 0 1 0 [] live e

@@ -1,6 +1,6 @@
 -- What is judged of an item's equations and closes.
 use Rattle.std.specs.Prelude.{ℕ, ◌≡◌, ◌≤◌, ◌^◌, false, List, [], map}
-use Rattle.mw_term.specs.Terms.{Expression, kernel_type_of}
+use Rattle.mw_term.specs.Terms.{Expression, ground_of, kernel_type_of}
 use Rattle.mw_term.specs.Scoped.{IsScoped}
 use Rattle.mw_types.specs.Types.{Substitution, after}
 use Rattle.mw_types.specs.Equations.{equations_of, MostGeneral, IsSmall, StaysWithin, FirstUnsolvable, FirstTooBig}
@@ -21,7 +21,7 @@ use Rattle.mw_infer.specs.Views.{scheme_of}
 abbrev pub place_of : Asked → Place
 place_of Anything = let_place
 place_of (Kernel k) = kernel_place (kernel_type_of k.now)
-place_of (Main b) = main_place b
+place_of (Main g) = main_place (ground_of g.now)
 
 -- a closed term can be judged with these schemes
 pub record CanJudge (schemes : List TopScheme) (e : Expression) : Type 0 where

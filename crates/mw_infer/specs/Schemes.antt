@@ -4,7 +4,7 @@ use Rattle.mw_term.specs.declared.term.Base.{Base}
 use Rattle.mw_term.specs.declared.term.Base.TheVariants.{Int, Bool}
 use Rattle.mw_term.specs.declared.term.Primitive.{Primitive as Prim}
 use Rattle.mw_term.specs.declared.term.Primitive.TheVariants.{Add, Sub, Mul, Div, Mod, Eq, Lt, Le}
-use Rattle.mw_term.specs.Terms.{KernelType, GroundType, base, product, to}
+use Rattle.mw_term.specs.Terms.{KernelType, GroundType, base, product, of_ground, to}
 use Rattle.mw_types.specs.Types.{TypeExpression, int_ty, bool_ty, unknown, pair_ty, function_ty, code_ty, closed_ty, Within}
 
 -- a let's most general type: it names the first so many unknowns and the first so many classifier unknowns
@@ -63,8 +63,8 @@ ground_expression (base b) = base_expression b
 ground_expression (product s t) = pair_ty (ground_expression s) (ground_expression t)
 
 abbrev pub kernel_expression : KernelType → TypeExpression
-kernel_expression (base b) = base_expression b
-kernel_expression (to s b) = function_ty (ground_expression s) (base_expression b)
+kernel_expression (of_ground t) = ground_expression t
+kernel_expression (to s t) = function_ty (ground_expression s) (ground_expression t)
 
 -- the type of what a primitive gives of two integers
 abbrev pub primitive_expression : Prim → TypeExpression

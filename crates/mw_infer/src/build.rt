@@ -62,10 +62,11 @@ pub fn kernel_ty(alloc: Global, kind: &KType) -> Result<Ty, AllocError>
     ensures { IfOk result (λ ty. type_of ty ≡ kernel_expression (kernel_type_of kind.now)) }
 {
     match kind {
-        KType::Base(base) => Ok(base_ty(*base)),
-        KType::Fun(ground, base) => {
-            let from = ground_ty(alloc, ground)?;
-            function(alloc, from, base_ty(*base))
+        KType::Ground(ground) => ground_ty(alloc, ground),
+        KType::Fun(from, to) => {
+            let from = ground_ty(alloc, from)?;
+            let to = ground_ty(alloc, to)?;
+            function(alloc, from, to)
         }
     }
 }

@@ -7,7 +7,7 @@ ghost use Rattle.mw_infer.specs.Inferring.{own_equations};
 ghost use Rattle.mw_infer.specs.Judging.{CanJudge, IsEmitted, Judges, place_of};
 ghost use Rattle.mw_infer.specs.Views.{tops_of};
 
-use crate::build::{base_ty, closed, kernel_ty};
+use crate::build::{closed, ground_ty, kernel_ty};
 use crate::emit::emit;
 use crate::fresh::first_open;
 use crate::names::{Known, LetType};
@@ -40,7 +40,10 @@ fn ask(alloc: Global, out: &mut Output, asked: &Asked) -> Result<(), AllocError>
             let ty = closed(alloc, inner)?;
             equate(out, Ty::Unknown(0), ty)
         }
-        Asked::Main(base) => equate(out, Ty::Unknown(0), base_ty(*base)),
+        Asked::Main(ground) => {
+            let ty = ground_ty(alloc, ground)?;
+            equate(out, Ty::Unknown(0), ty)
+        }
     }
 }
 

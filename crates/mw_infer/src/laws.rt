@@ -1,6 +1,6 @@
 // Laws of how the equations of items and their types go together, which no program calls.
 
-ghost use Rattle.mw_infer.specs.InferenceLaws.{EquationsAreOwn, FaultlessAreTypable, MostGeneralIsScheme, RefusalsAreOne, SchemesInOrderAreOne, TermsAreSources, TypableAreNotRefused, TypableIsSolvable, TypableWhereFresh};
+ghost use Rattle.mw_infer.specs.InferenceLaws.{CheckedOrRefused, EquationsAreOwn, FaultlessAreTypable, MostGeneralIsScheme, RefusalsAreOne, SchemesInOrderAreOne, TermsAreSources, TypableAreNotRefused, TypableIsSolvable, TypableWhereFresh};
 
 /// The equations of an item name its own unknowns and classifier unknowns alone.
 pub fn equations_are_own()
@@ -46,4 +46,9 @@ pub fn faultless_are_typable()
 /// A typable program without a type that is too big is not refused.
 pub fn typable_are_not_refused()
     ensures { TypableAreNotRefused }
+{}
+
+/// A program is typable and none of its types is too big, or it has a first refusal.
+pub fn checked_or_refused()
+    ensures { CheckedOrRefused }
 {}

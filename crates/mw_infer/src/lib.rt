@@ -41,7 +41,7 @@ pub fn check(alloc: Global, program: &Program) -> Result<Typed, Stop>
 {
     match whole(alloc, program) {
         Ok(names) => {
-            let types = types_of(alloc, names.as_slice(), program.result)?;
+            let types = types_of(alloc, names.as_slice(), &program.result)?;
             Ok(Typed { types })
         }
         Err(stop) => Err(stop),

@@ -14,7 +14,7 @@ use crate::build::{closed, code, function, kernel_ty, pair, shift};
 use crate::names::Known;
 use crate::output::{Output, equate};
 use crate::scope::{Binder, Stage};
-use mw_term::{Base, KType, Prim};
+use mw_term::{Ground, KType, Prim};
 use mw_types::Ty;
 use std::alloc::{AllocError, Global};
 
@@ -24,8 +24,8 @@ pub enum Asked<'p> {
     Anything,
     /// Closed code of a kernel type.
     Kernel(&'p KType),
-    /// Main's base type.
-    Main(Base),
+    /// Main's ground type.
+    Main(&'p Ground),
 }
 
 /// Makes so many numbers taken.

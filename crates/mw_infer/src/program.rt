@@ -2,10 +2,10 @@
 
 ghost use Rattle.std.specs.Prelude.{◌≡◌, ◌∷◌, [], ◌++◌, length, map, IfErr, IfOk, OnOk};
 ghost use Rattle.mw_term.specs.Programs.{definition_of, program_of};
-ghost use Rattle.mw_term.specs.Terms.{expression_of};
+ghost use Rattle.mw_term.specs.Terms.{expression_of, ground_of};
 ghost use Rattle.mw_term.specs.Typable.{seen_by_main};
 ghost use Rattle.mw_types.specs.Types.{type_of};
-ghost use Rattle.mw_infer.specs.Schemes.{base_expression};
+ghost use Rattle.mw_infer.specs.Schemes.{ground_expression};
 ghost use Rattle.mw_infer.specs.Checking.{AreFaultless, ArePrincipal, IfRefused, IsFirstRefusal, IsResolved, part_of_item};
 ghost use Rattle.mw_infer.specs.Inferring.{main_place};
 ghost use Rattle.mw_infer.specs.Judging.{CanJudge, Judges, place_of};
@@ -13,11 +13,11 @@ ghost use Rattle.mw_infer.specs.Progress.{IsFaultOf, Steps, revealed_to, type_of
 ghost use Rattle.mw_infer.specs.Views.{top_of, tops_of};
 ghost use Rattle.mw_infer.specs.declared.judge.Verdict.TheVariants.{Fine};
 
-use crate::build::{base_ty, closed, code, function, kernel_ty, pair};
+use crate::build::{closed, code, function, ground_ty, kernel_ty, pair};
 use crate::judge::{Verdict, judge};
 use crate::names::{Known, LetType};
 use crate::own::Asked;
-use mw_term::{Base, Item, ItemKind, Program, Refusal, Stop, Term};
+use mw_term::{Ground, Item, ItemKind, Program, Refusal, Stop, Term};
 use mw_types::Ty;
 use std::alloc::{AllocError, Global};
 
@@ -74,12 +74,18 @@ fn reveal<'p>(names: &mut Vec<Known<'p>>, items: &'p [Item])
 }
 
 /// Main, behind whose check nothing is left to do.
-fn last(alloc: Global, names: &[Known], base: Base, body: &Term, index: u32) -> Result<(), Stop>
+fn last(
+    alloc: Global,
+    names: &[Known],
+    ground: &Ground,
+    body: &Term,
+    index: u32,
+) -> Result<(), Stop>
     requires { CanJudge (tops_of names.now) (expression_of body.now) }
-    ensures fine { OnOk result ((l : LetType) × Judges (tops_of names.now) (main_place base) (expression_of body.now) (Fine l)) }
-    ensures refused { IfErr result (λ stop. IfRefused stop (IsFaultOf (tops_of names.now) (main_place base) (expression_of body.now) index)) }
+    ensures fine { OnOk result ((l : LetType) × Judges (tops_of names.now) (main_place (ground_of ground.now)) (expression_of body.now) (Fine l)) }
+    ensures refused { IfErr result (λ stop. IfRefused stop (IsFaultOf (tops_of names.now) (main_place (ground_of ground.now)) (expression_of body.now) index)) }
 {
-    let _known = judged(alloc, names, &Asked::Main(base), body, index)?;
+    let _known = judged(alloc, names, &Asked::Main(ground), body, index)?;
     Ok(())
 }
 
@@ -104,7 +110,7 @@ pub fn whole<'p>(alloc: Global, program: &'p Program) -> Result<Vec<Known<'p>>, 
     match last(
         alloc,
         names.as_slice(),
-        program.result,
+        &program.result,
         &program.body,
         index,
     ) {
@@ -157,13 +163,13 @@ fn known_ty(alloc: Global, known: &Known) -> Result<Ty, AllocError>
 }
 
 /// The types of all items and of main.
-pub fn types_of(alloc: Global, names: &[Known], base: Base) -> Result<Vec<Ty>, AllocError>
-    ensures { IfOk result (λ types. map type_of types.items ≡ map type_of_scheme (tops_of names.now) ++ (base_expression base ∷ [])) }
+pub fn types_of(alloc: Global, names: &[Known], ground: &Ground) -> Result<Vec<Ty>, AllocError>
+    ensures { IfOk result (λ types. map type_of types.items ≡ map type_of_scheme (tops_of names.now) ++ (ground_expression (ground_of ground.now) ∷ [])) }
 {
     let mut types = Vec::new(alloc);
     for known in names {
         types.push(known_ty(alloc, known)?)?;
     }
-    types.push(base_ty(base))?;
+    types.push(ground_ty(alloc, ground)?)?;
     Ok(types)
 }

@@ -9,3 +9,11 @@ pub mod KernelTyping
 pub mod SettingValues
 pub mod RepliesTyped
 pub mod EvaluationTyping
+pub mod Simplifying
+pub mod Replacing
+pub mod SimplifyingKept
+pub mod ComingTo
+pub mod Straying
+pub mod ShapeExamples
+pub mod OtherPlaces
+pub mod WrongModule

@@ -1,8 +1,7 @@
 -- When a module of WebAssembly means a kernel's code.
-use Rattle.std.specs.Prelude.{ℕ, ◌≡◌, ℤ, FitsSigned, Bool, true, false, List, [], ◌∷◌, ◌++◌, Some, Ok, codes}
-use Rattle.std.specs.Int.{Width, w64, cast_unsigned}
-use Rattle.mw_term.specs.Terms.{Expression, Value, KernelValue, KernelType, GroundType, base, to, product, int, bool, both, function, recursive}
-use Rattle.mw_term.specs.declared.term.Base.{Base}
+use Rattle.std.specs.Prelude.{ℕ, ◌+◌, ◌≡◌, FitsSigned, Bool, true, false, IsTrue, List, [], ◌∷◌, ◌++◌, Some, Ok, codes}
+use Rattle.std.specs.Int.{w64, cast_unsigned}
+use Rattle.mw_term.specs.Terms.{Expression, Value, KernelValue, KernelType, GroundType, base, product, of_ground, to, int, bool, both, function, recursive}
 use Rattle.mw_term.specs.declared.term.Base.TheVariants.{Int, Bool as Truth}
 use Rattle.mw_term.specs.declared.value.TrapKind.TheVariants as kind
 use Rattle.mw_term.specs.declared.value.Limit.TheVariants.{Fuel, Heap}
@@ -14,7 +13,7 @@ use Rattle.mw_wasm.specs.declared.values.Value.{Value as WasmValue}
 use Rattle.mw_wasm.specs.declared.values.Value.TheVariants.{I64}
 use Rattle.mw_wasm.specs.declared.values.Trap.TheVariants as traps
 use Rattle.mw_wasm.specs.Syntax.{PureModule}
-use Rattle.mw_wasm.specs.Store.{Store}
+use Rattle.mw_wasm.specs.Store.{Memory, Store, is_inside, read_bytes}
 use Rattle.mw_wasm.specs.Execution.{End, ended, trapped, spent}
 use Rattle.mw_wasm.specs.Instances.{exported, instantiated, invoked}
 
@@ -23,18 +22,23 @@ abbrev pub truth_number : Bool → ℕ
 truth_number true = 1
 truth_number false = 0
 
--- An integer is the i64 with its two's complement, a truth value 1 or 0, and a function any i64.
-abbrev pub IsResult : KernelValue → List WasmValue → Type 0
-IsResult (int z) vs = vs ≡ I64 (cast_unsigned w64 z) ∷ []
-IsResult (bool b) vs = vs ≡ I64 (truth_number b) ∷ []
-IsResult (function e) vs = (n : ℕ) × (vs ≡ I64 n ∷ [])
-IsResult (recursive e) vs = (n : ℕ) × (vs ≡ I64 n ∷ [])
-IsResult (both v w) vs = ⊥
+-- A word, read unsigned, is a value beside this memory: an integer's two's complement, 1 or 0 for a truth value, for a pair
+-- the address of 16 bytes of the memory whose two words are its parts, and any word for a function.
+abbrev pub IsWord : KernelValue → ℕ → Memory → Type 0
+IsWord (int z) n memory = n ≡ cast_unsigned w64 z
+IsWord (bool b) n memory = n ≡ truth_number b
+IsWord (both v w) n memory = IsTrue (is_inside memory n 16) × IsWord v (read_bytes 8 n memory) memory × IsWord w (read_bytes 8 (n + 8) memory) memory
+IsWord (function e) n memory = Unit {0}
+IsWord (recursive e) n memory = Unit {0}
 
--- An invocation answers as the kernel meaning does: its value with as many units left, its trap, a trap of a store out of
--- bounds where the heap is full, and the end of the units where they are spent.
+-- an invocation's results are one i64, whose word is the value beside the memory that it leaves
+abbrev pub IsResult : KernelValue → List WasmValue → Memory → Type 0
+IsResult v vs memory = (n : ℕ) × (vs ≡ I64 n ∷ []) × IsWord v n memory
+
+-- An invocation answers as the kernel meaning does: its value, read beside the memory that it leaves, with as many units
+-- left, its trap, a trap of a store out of bounds where the heap is full, and the end of the units where they are spent.
 abbrev pub AnswersAs : Ended → End → Type 0
-AnswersAs (gives v left words) (ended st vs units) = IsResult v vs × (units ≡ left)
+AnswersAs (gives v left words) (ended st vs units) = IsResult v vs st.memory × (units ≡ left)
 AnswersAs (stops (trap kind.Divide)) (trapped traps.Divide st) = Unit {0}
 AnswersAs (stops (trap kind.Overflow)) (trapped traps.Overflow st) = Unit {0}
 AnswersAs (stops (bound Heap)) (trapped traps.OutOfBounds st) = Unit {0}
@@ -78,15 +82,15 @@ module _ (m : PureModule) where
       AnswersAs (call_of f words (kernel_argument c.argument) (argument_words c.argument) c.units) (invoked m st g (I64 r ∷ leaves c.argument) c.units)
       × Onward (invoked m st g (I64 r ∷ leaves c.argument) c.units) (CallsAnswer g r f words calls)
 
-  -- the calls behind an invocation of `init` that ended with a value
+  -- the calls after an invocation of `init` that ended with a value
   abbrev pub CallsAfter : (g : ℕ) → Ended → End → List Call → Type 0
   CallsAfter g (gives f left words) (ended st (I64 r ∷ []) units) calls = CallsAnswer g r f words calls st
   CallsAfter g _ _ calls = Unit {0}
 
-  -- a module for code of a base type has no more than `init`; one for a function has `call`
+  -- a module for code of a ground type has no more than `init`; one for a function has `call`
   abbrev pub CallsMean : Expression → KernelType → (init : ℕ) → Store → Type 0
-  CallsMean c (base b) init st = Unit {0}
-  CallsMean c (to s b) init st = (g : ℕ) × (exported m (codes "call") ≡ Some g)
+  CallsMean c (of_ground t) init st = Unit {0}
+  CallsMean c (to s t) init st = (g : ℕ) × (exported m (codes "call") ≡ Some g)
       × ((n : ℕ) (calls : List Call) → AreCalls s calls → CallsAfter g (kernel_meaning n 0 c) (invoked m st init [] n) calls)
 
   -- on the instance that the module begins as, `init` answers as the code does, and then each list of calls as its calls do

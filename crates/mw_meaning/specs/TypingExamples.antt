@@ -1,7 +1,6 @@
 -- Worked examples of typing: derivations, and terms that have none.
 use Rattle.std.specs.Prelude.{ℕ, ◌≡◌, ◌≢◌, pos, negsuc, true, List, [], ◌∷◌}
-use Rattle.mw_term.specs.Terms.{Expression, base, num, truth, var, glob, fun, fix, app, bind, cond, pair, snd, prim, bracket, escape, run, close, opened, int, bool, function, code, kept}
-use Rattle.mw_term.specs.declared.term.Base.{Base}
+use Rattle.mw_term.specs.Terms.{Expression, GroundType, base, num, truth, var, glob, fun, fix, app, bind, cond, pair, snd, prim, bracket, escape, run, close, opened, int, bool, function, code, kept}
 use Rattle.mw_term.specs.declared.term.Base.TheVariants.{Int}
 use Rattle.mw_term.specs.declared.term.Primitive.TheVariants.{Add, Sub, Mul, Eq}
 use Rattle.mw_term.specs.declared.value.Limit.TheVariants.{Fuel}
@@ -10,7 +9,7 @@ use Rattle.mw_term.specs.Types.{TermType, code_type, live, under, Entry, quoted}
 use Rattle.mw_term.specs.Typing.{TopLevel, Typed}
 use Rattle.mw_term.specs.Typable.{Typable}
 use Rattle.mw_meaning.specs.Arithmetic.{bound}
-use Rattle.mw_meaning.specs.Examples.{n, int_to_int, run_int, power, cube, cube_code}
+use Rattle.mw_meaning.specs.Examples.{n, int_kernel, int_to_int, run_int, power, cube, cube_code}
 use Rattle.mw_meaning.specs.Replies.{replies, Replies, answering, AreTypedReplies}
 use Rattle.mw_meaning.specs.StagedMeaning.{gives, stops, live as alive, evaluation}
 
@@ -25,7 +24,7 @@ power_definition = fix (fun (cond (prim Eq (var 1) (n 0)) (bracket (n 1)) (brack
 -- let rec power .. ;; kernel cube : int -> int = close .<fun x -> .~(power 3 .<x>.)>. ;;
 -- main : int = let f = run[int -> int] cube in f 5 + f (-2)
 abbrev pub cube_program : PureProgram
-cube_program = record { items = value power_definition ∷ kernel int_to_int cube ∷ []; result = Int; body = bind (run int_to_int (glob 1)) (prim Add (app (var 0) (n 5)) (app (var 0) (num (negsuc 1)))) }
+cube_program = record { items = value power_definition ∷ kernel int_to_int cube ∷ []; result = base Int; body = bind (run int_to_int (glob 1)) (prim Add (app (var 0) (n 5)) (app (var 0) (num (negsuc 1)))) }
 
 abbrev pub PowerIsItsDefinition : Type 0
 PowerIsItsDefinition = value_of_definition power_definition ≡ power
@@ -43,7 +42,7 @@ LeakHasNoType = (at inner : ℕ) → HasNoType (leak at inner)
 
 -- kernel k : int -> int = close .<fun x -> .~(open (close .<x>.))>.
 abbrev pub LeakIsNotTypable : Type 0
-LeakIsNotTypable = (at inner : ℕ) (b : Base) (body : Expression) → Typable (record { items = kernel int_to_int (leak at inner) ∷ []; result = b; body = body }) → ⊥
+LeakIsNotTypable = (at inner : ℕ) (result : GroundType) (body : Expression) → Typable (record { items = kernel int_to_int (leak at inner) ∷ []; result = result; body = body }) → ⊥
 
 -- fun c -> .<(.~c, .~c)>.
 abbrev pub twice : Expression
@@ -59,7 +58,7 @@ under_two_classifiers f = bracket (fun (pair (escape (app f (bracket (var 0)))) 
 
 -- let twice = .. ;; main : int = let _ = (twice at two types) in let _ = (twice under two classifiers) in 0
 abbrev pub top_level_program : PureProgram
-top_level_program = record { items = value twice ∷ []; result = Int; body = bind (at_two_types (glob 0)) (bind (under_two_classifiers (glob 0)) (n 0)) }
+top_level_program = record { items = value twice ∷ []; result = base Int; body = bind (at_two_types (glob 0)) (bind (under_two_classifiers (glob 0)) (n 0)) }
 
 -- a let item has each of its types at each use
 abbrev pub TopLevelGeneratorIsTypable : Type 0
@@ -91,19 +90,19 @@ OuterVariableHasNoType = HasNoType (bracket (fun (escape (opened (close 0 (brack
 
 -- let f = fun x -> x ;; let p = (1, fun x -> f x) ;; main : int = snd p 5
 abbrev pub EarlierLetIsSeen : Type 0
-EarlierLetIsSeen = Typable (record { items = value (fun (var 0)) ∷ value (pair (n 1) (fun (app (glob 0) (var 0)))) ∷ []; result = Int; body = app (snd (glob 1)) (n 5) })
+EarlierLetIsSeen = Typable (record { items = value (fun (var 0)) ∷ value (pair (n 1) (fun (app (glob 0) (var 0)))) ∷ []; result = base Int; body = app (snd (glob 1)) (n 5) })
 
 -- let f = fun x -> g ;; let g = fun x -> x ;;
 abbrev pub LaterLetIsNotSeen : Type 0
-LaterLetIsNotSeen = (b : Base) (body : Expression) → Typable (record { items = value (fun (glob 1)) ∷ value (fun (var 0)) ∷ []; result = b; body = body }) → ⊥
+LaterLetIsNotSeen = (result : GroundType) (body : Expression) → Typable (record { items = value (fun (glob 1)) ∷ value (fun (var 0)) ∷ []; result = result; body = body }) → ⊥
 
 -- let rec power .. ;; kernel cube : int -> int = .. ;; kernel again : int -> int = cube ;;
 abbrev pub KernelIsNotSeenByItems : Type 0
-KernelIsNotSeenByItems = (b : Base) (body : Expression) → Typable (record { items = value power_definition ∷ kernel int_to_int cube ∷ kernel int_to_int (glob 1) ∷ []; result = b; body = body }) → ⊥
+KernelIsNotSeenByItems = (result : GroundType) (body : Expression) → Typable (record { items = value power_definition ∷ kernel int_to_int cube ∷ kernel int_to_int (glob 1) ∷ []; result = result; body = body }) → ⊥
 
 -- let x = 1 + 2 ;;
 abbrev pub LetIsASyntacticValue : Type 0
-LetIsASyntacticValue = (b : Base) (body : Expression) → Typable (record { items = value (prim Add (n 1) (n 2)) ∷ []; result = b; body = body }) → ⊥
+LetIsASyntacticValue = (result : GroundType) (body : Expression) → Typable (record { items = value (prim Add (n 1) (n 2)) ∷ []; result = result; body = body }) → ⊥
 
 -- main of the cube program over kernels that answer something else: a kept function, then 3 and 4 with no unit spent
 abbrev pub other_replies : Replies
@@ -120,4 +119,4 @@ OtherRepliesAreTyped = (tops : List TopLevel) → AreTypedReplies tops other_rep
 -- a reply of another type isn't taken
 abbrev pub ReplyOfAnotherTypeStops : Type 0
 ReplyOfAnotherTypeStops = evaluation (answering []) alive 9 (record { to_come = replies (bool true) 9 ∷ []; begun = [] }) (run_int (n 7))
-    ≡ stops (bound Fuel) (record { to_come = []; begun = (n 7, base Int) ∷ [] })
+    ≡ stops (bound Fuel) (record { to_come = []; begun = (n 7, int_kernel) ∷ [] })

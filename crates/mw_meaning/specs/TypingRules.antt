@@ -6,7 +6,7 @@ use Rattle.mw_term.specs.declared.term.Primitive.TheVariants.{Add, Eq, Lt}
 use Rattle.mw_term.specs.Types.{TermType, int_type, bool_type, function_type, code_type, closed_type, live}
 use Rattle.mw_term.specs.Typing.{Typed}
 use Rattle.mw_term.specs.Typable.{seen_by_main}
-use Rattle.mw_meaning.specs.Examples.{n, run_int, down}
+use Rattle.mw_meaning.specs.Examples.{n, int_kernel, run_int, down}
 use Rattle.mw_meaning.specs.TypingExamples.{HasNoType, cube_program}
 
 -- the term has the type in the empty environment
@@ -26,7 +26,7 @@ VariableIsAccepted = HasType (bracket (fun (var 0))) (code_type 0 (function_type
 
 -- run[int -> bool] cube after the item cube, whose type is int -> int
 abbrev pub KernelNameIsRefused : Type 0
-KernelNameIsRefused = (t : TermType) → Typed (seen_by_main cube_program.items) [] live (run (to (base Int) Bool) (glob 1)) t → ⊥
+KernelNameIsRefused = (t : TermType) → Typed (seen_by_main cube_program.items) [] live (run (to (base Int) (base Bool)) (glob 1)) t → ⊥
 
 -- fun x -> x + 1, and not fun x -> if x then x + 1 else 2
 abbrev pub FunctionIsAccepted : Type 0
@@ -93,7 +93,7 @@ abbrev pub RunIsAccepted : Type 0
 RunIsAccepted = HasType (run_int (n 7)) int_type
 
 abbrev pub RunIsRefused : Type 0
-RunIsRefused = HasNoType (run (base Int) (bracket (n 7)))
+RunIsRefused = HasNoType (run int_kernel (bracket (n 7)))
 
 -- close .<fun x -> x>.
 abbrev pub CloseIsAccepted : Type 0

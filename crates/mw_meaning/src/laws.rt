@@ -3,6 +3,9 @@
 pub mod codes;
 pub mod examples;
 pub mod kernels;
+pub mod outcomes;
+pub mod simplification;
+pub mod standing;
 pub mod typing;
 pub mod typing_examples;
 pub mod values;

@@ -2,3 +2,6 @@
 #![tactic(auto)]
 
 pub mod laws;
+pub mod mode;
+
+pub use crate::mode::Mode;

@@ -1,7 +1,7 @@
 // Reading a started file to its end, or to a length.
 
-ghost use Rattle.std.specs.Prelude.{◌≡◌, ◌<◌, ◌≤◌, ◌++◌, take, IsTrue, IsErrOf, IfOk, vec_len};
-ghost use Rattle.mw_outside.specs.Count.{Rose, IsEndOf};
+ghost use Rattle.std.specs.Prelude.{◌≡◌, ◌<◌, ◌≤◌, ◌++◌, take, drop, IsTrue, IsErrOf, IfOk, OnOk, vec_len};
+ghost use Rattle.mw_outside.specs.Count.{Rose, IsEndWithin};
 
 use crate::errors::ReadStop;
 use crate::sources::Source;
@@ -11,7 +11,8 @@ use std::alloc::Global;
 const PIECE: usize = 4096;
 
 /// Reads what is left of the started file, or its first `most` bytes where there are more, in memory of
-/// `alloc`. After an error some front of what was left has been read and is given up.
+/// `alloc`. After an error some front of what was left, of at most `most` bytes, has been read and is given
+/// up. A call that fails ends the reading: where the source's count of faults rose, the answer is an error.
 pub fn read_up_to<S: Source>(
     alloc: Global,
     source: &mut S,
@@ -21,8 +22,10 @@ pub fn read_up_to<S: Source>(
     requires some { 0 < most }
     ensures ok { IfOk result (λ bytes. IsTrue S.tells → bytes.items ≡ take most (S.left source.old)) }
     ensures moved { IfOk result (λ bytes. IsTrue S.tells → S.left source.old ≡ bytes.items ++ S.left source.new) }
+    ensures left { OnOk result (IsTrue S.tells → S.left source.new ≡ drop most (S.left source.old)) }
     ensures bound { IfOk result (λ bytes. vec_len bytes ≤ most) }
-    ensures rest { IsTrue S.tells → IsEndOf (S.left source.new) (S.left source.old) }
+    ensures rest { IsTrue S.tells → IsEndWithin most (S.left source.new) (S.left source.old) }
+    ensures same_count { OnOk result (S.faults source.new ≡ S.faults source.old) }
     ensures failed { IsErrOf result ReadStop.Failed → Rose (S.faults source.old) (S.faults source.new) }
     ensures still_ready { S.IsStarted source.new }
     ensures same_files { S.told source.new ≡ S.told source.old }

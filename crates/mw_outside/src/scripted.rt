@@ -75,6 +75,7 @@ impl Source for MemSource {
         ensures step { source_step self.new ≡ source_step self.old }
         ensures found { OnOk result (file_of (files_of self.old) name.now ≡ Some (left_of self.new)) }
         ensures ready { OnOk result (IsUnderWay self.new) }
+        ensures same_count { OnOk result (fault_count (source_plan self.new) ≡ fault_count (source_plan self.old)) }
         ensures missing { IsErrOf result StartFault.Missing → IsNone (file_of (files_of self.old) name.now) }
         ensures failed { IsErrOf result StartFault.Failed → Rose (fault_count (source_plan self.old)) (fault_count (source_plan self.new)) }
         ensures still_ready { OnErr result (IsUnderWay self.old → IsUnderWay self.new) }
@@ -107,6 +108,7 @@ impl Source for MemSource {
         ensures bound { IfOk result (λ count. count ≤ length into.new) }
         ensures moved { IfOk result (λ count. left_of self.old ≡ take count into.new ++ left_of self.new) }
         ensures end { IfOk result (λ count. count ≡ 0 → left_of self.old ≡ []) }
+        ensures same_count { OnOk result (fault_count (source_plan self.new) ≡ fault_count (source_plan self.old)) }
         ensures failed { OnErr result (Rose (fault_count (source_plan self.old)) (fault_count (source_plan self.new))) }
         ensures still_left { OnErr result (left_of self.new ≡ left_of self.old) }
         ensures still_ready { IsUnderWay self.new }
@@ -181,6 +183,7 @@ impl Sink for MemSink {
         ensures some { IfOk result (λ count. 0 < count) }
         ensures ok { IfOk result (λ count. written_of self.new ≡ written_of self.old ++ take count bytes.now) }
         ensures err { OnErr result (written_of self.new ≡ written_of self.old) }
+        ensures same_count { OnOk result (fault_count (sink_plan self.new) ≡ fault_count (sink_plan self.old)) }
         ensures failed { IsErrOf result WriteFault.Failed → Rose (fault_count (sink_plan self.old)) (fault_count (sink_plan self.new)) }
         ensures count { fault_count (sink_plan self.old) ≤ fault_count (sink_plan self.new) }
     {

@@ -1,6 +1,6 @@
 // Where bytes are written.
 
-ghost use Rattle.std.specs.Prelude.{◌≡◌, ◌<◌, ◌≤◌, ◌++◌, ℕ, List, Bool, length, take, IsTrue, IsErrOf, IfOk, OnErr};
+ghost use Rattle.std.specs.Prelude.{◌≡◌, ◌<◌, ◌≤◌, ◌++◌, ℕ, List, Bool, length, take, IsTrue, IsErrOf, IfOk, OnOk, OnErr};
 ghost use Rattle.mw_outside.specs.Count.{Rose};
 
 use crate::errors::WriteFault;
@@ -13,7 +13,7 @@ pub trait Sink {
     /// The bytes written so far.
     ghost written: { Self → List ℕ };
 
-    /// How often it has failed. The count never falls.
+    /// How often it has failed. The count never falls, and stands in a call that succeeds.
     ghost faults: { Self → ℕ };
 
     /// Writes a front of a piece that isn't empty, and answers how many bytes that is: at least one.
@@ -24,6 +24,7 @@ pub trait Sink {
         ensures bound { IfOk result (λ count. count ≤ length bytes.now) }
         ensures ok { IfOk result (λ count. IsTrue tells → written self.new ≡ written self.old ++ take count bytes.now) }
         ensures err { OnErr result (IsTrue tells → written self.new ≡ written self.old) }
+        ensures same_count { OnOk result (faults self.new ≡ faults self.old) }
         ensures failed { IsErrOf result WriteFault.Failed → Rose (faults self.old) (faults self.new) }
         ensures count { faults self.old ≤ faults self.new };
 }

@@ -21,7 +21,7 @@ pub trait Source {
     /// What is left of the started file.
     ghost left: { Self → List ℕ };
 
-    /// How often it has failed. The count never falls.
+    /// How often it has failed. The count never falls, and stands in a call that succeeds.
     ghost faults: { Self → ℕ };
 
     /// Starts the file of this name at its front. `Missing` says that there is none, or that the source
@@ -29,6 +29,7 @@ pub trait Source {
     fn start(&mut self, name: &str) -> Result<(), StartFault>
         ensures found { OnOk result (IsTrue tells → file_of (told self.old) name.now ≡ Some (left self.new)) }
         ensures ready { OnOk result (IsStarted self.new) }
+        ensures same_count { OnOk result (faults self.new ≡ faults self.old) }
         ensures missing { IsErrOf result StartFault.Missing → Rose (faults self.old) (faults self.new) ⊎ (IsTrue tells × IsNone (file_of (told self.old) name.now)) }
         ensures failed { IsErrOf result StartFault.Failed → Rose (faults self.old) (faults self.new) }
         ensures still_ready { OnErr result (IsStarted self.old → IsStarted self.new) }
@@ -44,6 +45,7 @@ pub trait Source {
         ensures bound { IfOk result (λ count. count ≤ length into.new) }
         ensures moved { IfOk result (λ count. IsTrue tells → left self.old ≡ take count into.new ++ left self.new) }
         ensures end { IfOk result (λ count. IsTrue tells → count ≡ 0 → left self.old ≡ []) }
+        ensures same_count { OnOk result (faults self.new ≡ faults self.old) }
         ensures failed { OnErr result (Rose (faults self.old) (faults self.new)) }
         ensures still_left { OnErr result (IsTrue tells → left self.new ≡ left self.old) }
         ensures still_ready { IsStarted self.new }

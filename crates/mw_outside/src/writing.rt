@@ -6,10 +6,12 @@ ghost use Rattle.mw_outside.specs.Count.{Rose, GrowsByFront};
 use crate::errors::WriteFault;
 use crate::sinks::Sink;
 
-/// Writes a whole piece, in as many calls as the sink needs. After an error a front of it was written.
+/// Writes a whole piece, in as many calls as the sink needs. After an error a front of it was written. A
+/// call that fails ends the writing: where the sink's count of faults rose, the answer is an error.
 pub fn write_whole<K: Sink>(sink: &mut K, piece: &[u8]) -> Result<(), WriteFault>
     ensures ok { OnOk result (IsTrue K.tells → K.written sink.new ≡ K.written sink.old ++ piece.now) }
     ensures front { OnErr result (IsTrue K.tells → GrowsByFront (K.written sink.old) (K.written sink.new) piece.now) }
+    ensures same_count { OnOk result (K.faults sink.new ≡ K.faults sink.old) }
     ensures failed { IsErrOf result WriteFault.Failed → Rose (K.faults sink.old) (K.faults sink.new) }
     ensures count { K.faults sink.old ≤ K.faults sink.new }
 {

@@ -1,17 +1,2 @@
-pub mod WorkedRows
-pub mod Derivations
-pub mod Depths
-pub mod Ranks
-pub mod Complete
-pub mod Alike
-pub mod Enough
-pub mod Samples
-pub mod Folds
-pub mod Enters
-pub mod Says
-pub mod Exactly
-pub mod Below
-pub mod Shallow
-pub mod Unique
 pub mod Parsed
 pub mod Programs

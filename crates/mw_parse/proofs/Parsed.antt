@@ -6,19 +6,21 @@ use Rattle.mw_term.specs.declared.refusal.Refusal.{Refusal}
 use Rattle.mw_term.specs.declared.refusal.Refusal.TheVariants.{Syntax, TooDeep, TooMany}
 use Rattle.mw_term.specs.declared.refusal.Stop.{Stop}
 use Rattle.mw_term.specs.declared.refusal.Stop.TheVariants.{Refused, Memory}
-use Rattle.mw_parse.specs.declared.tree.Surface.{Surface}
-use Rattle.mw_parse.specs.SurfaceTrees.{PureSurface, item_of, surface_of}
-use Rattle.mw_parse.specs.declared.tree.SurfaceItem.{SurfaceItem}
-use Rattle.mw_parse.specs.SurfaceDepth.{IsShallow}
-use Rattle.mw_parse.specs.SourceNodes.{height}
-use Rattle.mw_parse.specs.Grammar.{program}
-use Rattle.mw_parse.specs.Answers.{IsTree, IsSyntaxAt, IsTooDeepAt, place_of, kernels, AreTooMany, items, kernel_items, IsProgram, HasTooMany}
-use Rattle.mw_parse.specs.Descent.{Answer, ok, syntax_at, deep_at, full}
+use Rattle.mw_grammar.specs.declared.tree.Surface.{Surface}
+use Rattle.mw_grammar.specs.SurfaceTrees.{PureSurface, item_of, surface_of}
+use Rattle.mw_grammar.specs.declared.tree.SurfaceItem.{SurfaceItem}
+use Rattle.mw_grammar.specs.SurfaceDepth.{IsShallow}
+use Rattle.mw_grammar.specs.SurfaceSize.{IsSparse}
+use Rattle.mw_grammar.specs.SourceNodes.{height}
+use Rattle.mw_grammar.specs.Grammar.{program}
+use Rattle.mw_grammar.specs.Answers.{IsTree, IsSyntaxAt, IsTooDeepAt, place_of, kernels, AreTooMany, items, kernel_items, IsProgram, HasTooMany}
+use Rattle.mw_grammar.specs.Descent.{Answer, ok, syntax_at, deep_at, full}
 use Rattle.mw_parse.specs.Reading.{IsTreeOrMemory, Refuses, Stops, RefusesOrMemory, Says}
-use Rattle.mw_parse.proofs.Says.{Tells}
-use Rattle.mw_parse.proofs.Exactly.{exact_ok, exact_left, exact_syntax, exact_deep, tells_full, one_tree}
-use Rattle.mw_parse.proofs.Unique.{syntax_once, not_both, deep_once, tree_or_syntax, tree_or_deep}
-use Rattle.mw_parse.proofs.Shallow.{low, are_shallow}
+use Rattle.mw_grammar.proofs.Says.{Tells}
+use Rattle.mw_grammar.proofs.Exactly.{exact_ok, exact_left, exact_syntax, exact_deep, tells_full, one_tree}
+use Rattle.mw_grammar.proofs.Unique.{syntax_once, not_both, deep_once, tree_or_syntax, tree_or_deep}
+use Rattle.mw_grammar.proofs.Shallow.{low, are_shallow}
+use Rattle.mw_grammar.proofs.Sparse.{light}
 
 tells_by : (ts : List PureToken) (x : Answer program) → full 200 program ts ≡ x → Tells program ts x
 tells_by ts x e = subst (λ x. Tells program ts x) e (tells_full 200 ts)
@@ -106,6 +108,10 @@ module _ (ts : List PureToken) (n : ℕ) where
   pub shallow : (result : Result Surface Stop) → Says ts n result → IfOk result (λ s. IsShallow (surface_of s))
   shallow (Ok s) x = is_shallow (surface_of s) x
   shallow (Err e) x = tt
+
+  pub sparse : (result : Result Surface Stop) → Says ts n result → IfOk result (λ s. IsSparse ts (surface_of s))
+  sparse (Ok s) x = omega (arith, light x.is.derives)
+  sparse (Err e) x = tt
 
 pub nothing_left : (us : List Token) → length us ≡ 0 → tokens_of us ≡ []
 nothing_left [] e = refl

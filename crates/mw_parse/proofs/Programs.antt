@@ -2,17 +2,17 @@
 use Rattle.std.proofs.Common.{◌≡◌, ℕ, suc, ◌<◌, ◌≤◌, max, List, [], ◌∷◌, ◌++◌, refl, ap, ◌∙◌, sym, append_assoc, append-nil, length, map, Bool, true, false, arith}
 use Rattle.mw_lex.specs.Tokens.{PureToken, token, tokens_of}
 use Rattle.mw_lex.specs.declared.token.Token.{Token}
-use Rattle.mw_term.specs.declared.term.Base.{Base}
-use Rattle.mw_parse.specs.SurfaceTrees.{SurfaceTree, truth, PureItem, PureSurface, item_of}
-use Rattle.mw_parse.specs.declared.tree.SurfaceItem.{SurfaceItem}
-use Rattle.mw_parse.specs.Grammar.{Nonterminal, tree, atom, program, item, main_only, with_item}
-use Rattle.mw_parse.specs.Forms.{Expected, is, Form, expect, end_next, reads, gives, items_of}
-use Rattle.mw_parse.specs.Descent.{Answer, ok, syntax_at, deep_at, and_then, Heights, none_yet, so_far, branch, run, calls, full, reading}
-use Rattle.mw_parse.proofs.Alike.{rest_of, steady}
-use Rattle.mw_parse.specs.Gives.{Fails}
-use Rattle.mw_parse.specs.declared.fault.Fault.{Fault}
-use Rattle.mw_parse.specs.declared.fault.Fault.TheVariants.{Memory, Syntax, Deep}
-use Rattle.mw_parse.proofs.Below.{read_reads, read_gives}
+use Rattle.mw_term.specs.Terms.{GroundType}
+use Rattle.mw_grammar.specs.SurfaceTrees.{SurfaceTree, truth, PureItem, PureSurface, item_of}
+use Rattle.mw_grammar.specs.declared.tree.SurfaceItem.{SurfaceItem}
+use Rattle.mw_grammar.specs.Grammar.{Nonterminal, tree, atom, program, item, main_only, with_item}
+use Rattle.mw_grammar.specs.Forms.{Expected, is, Form, expect, end_next, reads, gives, items_of}
+use Rattle.mw_grammar.specs.Descent.{Answer, ok, syntax_at, deep_at, and_then, Heights, none_yet, so_far, branch, run, calls, full, reading}
+use Rattle.mw_grammar.proofs.Alike.{rest_of, steady}
+use Rattle.mw_grammar.specs.Gives.{Fails}
+use Rattle.mw_grammar.specs.declared.fault.Fault.{Fault}
+use Rattle.mw_grammar.specs.declared.fault.Fault.TheVariants.{Memory, Syntax, Deep}
+use Rattle.mw_grammar.proofs.Below.{read_reads, read_gives}
 
 -- items that stand before a program
 abbrev pub before_it : List PureItem → PureSurface → PureSurface
@@ -52,9 +52,9 @@ item_goes b is a all ts mid rest i h e f g k =
     e ∙ ap (λ x. behind_items is a x) (f ∙ l ∙ m) ∙ behind_one is a i h (full b program rest)
 
 -- main
-pub main_goes : (b : ℕ) (is : List PureItem) (a : ℕ) (all ts rest : List PureToken) (c : Base) (t : SurfaceTree) (h : ℕ) → full b program all ≡ behind_items is a (full b program ts) → full b program ts ≡ ok (main_only c t) h rest
-    → full b program all ≡ ok (record { items = is; result = c; body = t }) (max a h) rest
-main_goes b is a all ts rest c t h e f = e ∙ ap (λ x. behind_items is a x) f ∙ ap (λ z. ok (record { items = z; result = c; body = t }) (max a h) rest) (append-nil is)
+pub main_goes : (b : ℕ) (is : List PureItem) (a : ℕ) (all ts rest : List PureToken) (g : GroundType) (t : SurfaceTree) (h : ℕ) → full b program all ≡ behind_items is a (full b program ts) → full b program ts ≡ ok (main_only g t) h rest
+    → full b program all ≡ ok (record { items = is; result = g; body = t }) (max a h) rest
+main_goes b is a all ts rest g t h e f = e ∙ ap (λ x. behind_items is a x) f ∙ ap (λ z. ok (record { items = z; result = g; body = t }) (max a h) rest) (append-nil is)
 
 -- a fault
 pub fails_items : (e : Fault) (b : ℕ) (is : List PureItem) (a : ℕ) (all ts : List PureToken) → full b program all ≡ behind_items is a (full b program ts) → Fails e (full b program ts) → Fails e (full b program all)

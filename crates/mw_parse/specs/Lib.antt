@@ -1,12 +1,1 @@
-pub mod SurfaceTrees
-pub mod SurfaceDepth
-pub mod SourceNodes
-pub mod Grammar
-pub mod Answers
-pub mod Forms
-pub mod Descent
 pub mod Reading
-pub mod Gives
-pub mod Opened
-pub mod Words
-pub mod Levels

@@ -5,9 +5,9 @@ use Rattle.mw_term.specs.declared.refusal.Refusal.{Refusal}
 use Rattle.mw_term.specs.declared.refusal.Refusal.TheVariants.{Syntax, TooDeep, TooMany}
 use Rattle.mw_term.specs.declared.refusal.Stop.{Stop}
 use Rattle.mw_term.specs.declared.refusal.Stop.TheVariants.{Refused, Memory}
-use Rattle.mw_parse.specs.declared.tree.Surface.{Surface}
-use Rattle.mw_parse.specs.SurfaceTrees.{PureSurface, surface_of}
-use Rattle.mw_parse.specs.Answers.{IsProgram, IsSyntaxAt, IsTooDeepAt, HasTooMany}
+use Rattle.mw_grammar.specs.declared.tree.Surface.{Surface}
+use Rattle.mw_grammar.specs.SurfaceTrees.{PureSurface, surface_of}
+use Rattle.mw_grammar.specs.Answers.{IsProgram, IsSyntaxAt, IsTooDeepAt, HasTooMany}
 
 -- the answer is this tree, unless memory ran out
 abbrev pub IsTreeOrMemory : Result Surface Stop → PureSurface → Type 0

@@ -1,27 +1,28 @@
 // Items and programs.
 
-#![tactic(auto, using(crate::proofs::Below::read_full, crate::proofs::Below::read_gives, crate::proofs::Below::read_refuses, crate::proofs::Below::read_reads, crate::proofs::Below::part_fails, crate::proofs::Below::fails_then))]
+#![tactic(auto, using(mw_grammar::proofs::Below::read_full, mw_grammar::proofs::Below::read_gives, mw_grammar::proofs::Below::read_refuses, mw_grammar::proofs::Below::read_reads, mw_grammar::proofs::Below::part_fails, mw_grammar::proofs::Below::fails_then))]
 
 ghost use Rattle.std.specs.Prelude.{◌≡◌, ◌<◌, ◌≤◌, ℕ, List, IfOk, map, length};
 ghost use Rattle.mw_lex.specs.Tokens.{tokens_of};
-ghost use Rattle.mw_parse.specs.SurfaceTrees.{tree_of, item_of, surface_of};
-ghost use Rattle.mw_parse.specs.Grammar.{program, item, main_only};
-ghost use Rattle.mw_parse.specs.Forms.{pick, expect, colon_next, let_by, rec_item, kernel_by, main_base};
-ghost use Rattle.mw_parse.specs.Descent.{none_yet, ok, full, reading};
-ghost use Rattle.mw_parse.specs.Gives.{Gives};
-ghost use Rattle.mw_parse.specs.Answers.{kernels};
+ghost use Rattle.mw_term.specs.Terms.{ground_of};
+ghost use Rattle.mw_grammar.specs.SurfaceTrees.{tree_of, item_of, surface_of};
+ghost use Rattle.mw_grammar.specs.Grammar.{program, item, main_only};
+ghost use Rattle.mw_grammar.specs.Forms.{pick, let_by, rec_item, kernel_by, main_of};
+ghost use Rattle.mw_grammar.specs.Descent.{none_yet, ok, full, reading};
+ghost use Rattle.mw_grammar.specs.Gives.{Gives};
+ghost use Rattle.mw_grammar.specs.Answers.{kernels};
 
-use crate::fault::{Fault, Read};
-use crate::kinds::kernel;
-use crate::next::{Next, after};
-use crate::parts::{copy_name, rec_tree};
-use crate::tree::{Placed, Surface, SurfaceItem, SurfaceItems, Tree};
 use crate::trees::{body_tree, expr_tree, parameter_tree};
-use crate::words::{
-    ItemWord, Mark, Named, Start, in_hand, item_word, main_type, name_of, name_or_rec, start_word,
+use mw_grammar::fault::{Fault, Read};
+use mw_grammar::kinds::{ground_type, kernel};
+use mw_grammar::next::{Next, after};
+use mw_grammar::parts::{copy_name, rec_tree};
+use mw_grammar::words::{
+    ItemWord, Mark, Named, Start, in_hand, item_word, name_of, name_or_rec, start_word,
 };
+use mw_grammar::{Placed, Surface, SurfaceItem, SurfaceItems, Tree};
 use mw_lex::Token;
-use mw_term::Base;
+use mw_term::Ground;
 use std::alloc::Global;
 
 fn item_tree(alloc: Global, tokens: &[Token], room: u32) -> Read<SurfaceItem>
@@ -129,31 +130,28 @@ fn main_tree(
     alloc: Global,
     tokens: &[Token],
     room: u32,
-) -> Result<(Base, Tree, u32, &[Token]), Fault>
+) -> Result<(Ground, Tree, u32, &[Token]), Fault>
     requires { room ≤ 200 }
-    ensures gives { Gives (λ x. ok (main_only x.0 (tree_of x.1)) x.2 (tokens_of x.3.now)) result (reading {n = program} room (expect colon_next (pick main_base)) none_yet (tokens_of tokens.now)) }
+    ensures gives { Gives (λ x. ok (main_only (ground_of x.0) (tree_of x.1)) x.2 (tokens_of x.3.now)) result (reading {n = program} room main_of none_yet (tokens_of tokens.now)) }
     ensures height { IfOk result (λ x. x.2 ≤ room) }
 {
     match after(Next::Colon, tokens) {
         None => Err(Fault::Syntax(tokens)),
-        Some(rest) => match in_hand(rest) {
-            None => Err(Fault::Syntax(rest)),
-            Some((token, mid)) => match main_type(token) {
-                None => Err(Fault::Syntax(rest)),
-                Some(base) => match after(Next::Equal, mid) {
-                    None => Err(Fault::Syntax(mid)),
-                    Some(rest) => {
-                        let (tree, height, rest) = expr_tree(alloc, rest, room)?;
-                        Ok((base, tree, height, rest))
-                    }
-                },
-            },
-        },
+        Some(rest) => {
+            let (ground, height, mid) = ground_type(alloc, rest, room)?;
+            match after(Next::Equal, mid) {
+                None => Err(Fault::Syntax(mid)),
+                Some(rest) => {
+                    let (tree, other, rest) = expr_tree(alloc, rest, room)?;
+                    Ok((ground, tree, height.max(other), rest))
+                }
+            }
+        }
     }
 }
 
 /// A program: the items in turn, and main.
-#[tactic(auto, using(crate::proofs::Below::read_full, crate::proofs::Below::read_gives, crate::proofs::Below::read_refuses, crate::proofs::Below::read_reads, crate::proofs::Below::part_fails, crate::proofs::Below::fails_then, crate::proofs::Programs::behind_none, crate::proofs::Programs::item_goes, crate::proofs::Programs::main_goes, crate::proofs::Programs::fails_items))]
+#[tactic(auto, using(mw_grammar::proofs::Below::read_full, mw_grammar::proofs::Below::read_gives, mw_grammar::proofs::Below::read_refuses, mw_grammar::proofs::Below::read_reads, mw_grammar::proofs::Below::part_fails, mw_grammar::proofs::Below::fails_then, crate::proofs::Programs::behind_none, crate::proofs::Programs::item_goes, crate::proofs::Programs::main_goes, crate::proofs::Programs::fails_items))]
 pub fn program_tree(alloc: Global, tokens: &[Token], room: u32) -> Read<Surface>
     requires { room ≤ 200 }
     ensures gives { Gives (λ x. ok (surface_of x.0) x.1 (tokens_of x.2.now)) result (full room program (tokens_of tokens.now)) }

@@ -2,7 +2,7 @@
 
 ghost use Rattle.std.specs.Prelude.{ℕ, List};
 ghost use Rattle.mw_lex.specs.Tokens.{PureToken};
-ghost use Rattle.mw_parse.specs.Answers.{HaveOneTree, HasOneDepth, HasAnswer};
+ghost use Rattle.mw_grammar.specs.Answers.{HaveOneTree, HasOneDepth, HasAnswer};
 
 /// A list of tokens derives at most one tree.
 pub fn one_tree()

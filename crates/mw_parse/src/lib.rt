@@ -1,20 +1,12 @@
 //! Reads tokens: the tree of a program, or the refusal of its source.
 //!
-//! `specs/Grammar` has the grammar as a relation between tokens and trees, and `specs/Answers` what the answers mean in
-//! its words, apart from the reader.
+//! The grammar and what the answers mean in its words stand in `mw_grammar`, apart from the reader.
 #![tactic(auto)]
 
-mod fault;
 mod items;
-mod kinds;
 pub mod laws;
-mod next;
-mod parts;
 mod reader;
-mod rows;
-pub mod tree;
 mod trees;
-mod words;
 
 pub use crate::reader::parse;
-pub use crate::tree::{Placed, Surface, SurfaceItem, SurfaceItems, Tree};
+pub use mw_grammar::{Placed, Surface, SurfaceItem, SurfaceItems, Tree};

@@ -4,14 +4,15 @@ ghost use Rattle.std.specs.Prelude.{◌≡◌, ◌≤◌, ℕ, length, map, IfOk
 ghost use Rattle.mw_lex.specs.Tokens.{tokens_of};
 ghost use Rattle.mw_lex.specs.InOrder.{AreInOrder, HaveNumbersInRange};
 ghost use Rattle.mw_term.specs.declared.refusal.Refusal.{Refusal as PureRefusal};
-ghost use Rattle.mw_parse.specs.SurfaceTrees.{PureSurface, item_of, surface_of};
-ghost use Rattle.mw_parse.specs.SurfaceDepth.{IsShallow};
-ghost use Rattle.mw_parse.specs.Answers.{place_of, kernels, IsProgram};
+ghost use Rattle.mw_grammar.specs.SurfaceTrees.{PureSurface, item_of, surface_of};
+ghost use Rattle.mw_grammar.specs.SurfaceDepth.{IsShallow};
+ghost use Rattle.mw_grammar.specs.SurfaceSize.{IsSparse};
+ghost use Rattle.mw_grammar.specs.Answers.{place_of, kernels, IsProgram};
 ghost use Rattle.mw_parse.specs.Reading.{IsTreeOrMemory, RefusesOrMemory, Refuses, Stops, Says};
 
-use crate::fault::Fault;
 use crate::items::program_tree;
-use crate::tree::{Surface, SurfaceItem};
+use mw_grammar::fault::Fault;
+use mw_grammar::{Surface, SurfaceItem};
 use mw_lex::{Token, Tokens};
 use mw_term::{Refusal, Stop};
 use std::alloc::Global;
@@ -65,7 +66,7 @@ fn parse_tokens(alloc: Global, tokens: &[Token], length: u32) -> Result<Surface,
 }
 
 /// The tree of the tokens of a file of this length, or the refusal.
-#[tactic(auto, using(crate::proofs::Parsed::found, crate::proofs::Parsed::only, crate::proofs::Parsed::refused, crate::proofs::Parsed::first, crate::proofs::Parsed::shallow))]
+#[tactic(auto, using(crate::proofs::Parsed::found, crate::proofs::Parsed::only, crate::proofs::Parsed::refused, crate::proofs::Parsed::first, crate::proofs::Parsed::shallow, crate::proofs::Parsed::sparse))]
 pub fn parse(alloc: Global, tokens: &Tokens, length: u32) -> Result<Surface, Stop>
     requires small { length ≤ 1048576 }
     requires in_order { AreInOrder (tokens_of tokens.now) length }
@@ -75,6 +76,7 @@ pub fn parse(alloc: Global, tokens: &Tokens, length: u32) -> Result<Surface, Sto
     ensures refused { IfErr result (Stops (tokens_of tokens.now) length) }
     ensures first { (r : PureRefusal) → Refuses (tokens_of tokens.now) length r → RefusesOrMemory result r }
     ensures shallow { IfOk result (λ s. IsShallow (surface_of s)) }
+    ensures sparse { IfOk result (λ s. IsSparse (tokens_of tokens.now) (surface_of s)) }
 {
     parse_tokens(alloc, tokens.as_slice(), length)
 }

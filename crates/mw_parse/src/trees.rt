@@ -1,29 +1,29 @@
 // Expressions, by descent. `room` is the number of nodes that may still stand on a path; each function answers what it
 // made, the height of its nodes and the tokens left, and says of which form.
 
-#![tactic(auto, using(crate::proofs::Below::read_full, crate::proofs::Below::read_gives, crate::proofs::Below::read_refuses, crate::proofs::Below::read_reads, crate::proofs::Below::part_fails, crate::proofs::Below::fails_then, crate::proofs::Below::raise_ok, crate::proofs::Below::fails_raise))]
+#![tactic(auto, using(mw_grammar::proofs::Below::read_full, mw_grammar::proofs::Below::read_gives, mw_grammar::proofs::Below::read_refuses, mw_grammar::proofs::Below::read_reads, mw_grammar::proofs::Below::part_fails, mw_grammar::proofs::Below::fails_then, mw_grammar::proofs::Below::raise_ok, mw_grammar::proofs::Below::fails_raise))]
 
 ghost use Rattle.std.specs.Prelude.{◌≡◌, ◌<◌, ◌≤◌, ◌-◌, ℕ, suc, max, true, false, IfOk};
 ghost use Rattle.mw_lex.specs.Tokens.{tokens_of};
-ghost use Rattle.mw_parse.specs.SurfaceTrees.{SurfaceTree, tree_of, bind, run, cond, pair, bracket, escape};
-ghost use Rattle.mw_parse.specs.Grammar.{tree, expr, disjunction, conjunction, comparison, row as leveled, head, atom, operand, right, body, parameter, kernel_type, negative};
-ghost use Rattle.mw_parse.specs.Forms.{gives, reads, pick, expect, in_next, then_next, else_next, paren_next, bracket_next, left_next, right_next, let_in_by, rec_by, paren_by, minus_by, behind_first, behind_mark, bound_rec, operated};
-ghost use Rattle.mw_parse.specs.Descent.{none_yet, so_far, ok, and_then, full, reading, following};
-ghost use Rattle.mw_parse.specs.Gives.{Gives};
-ghost use Rattle.mw_parse.specs.Words.{mark_in, atom_form, head_form};
-ghost use Rattle.mw_parse.specs.Levels.{row_of, op_of, function_of, definition_of};
+ghost use Rattle.mw_grammar.specs.SurfaceTrees.{SurfaceTree, tree_of, bind, run, cond, pair, bracket, escape};
+ghost use Rattle.mw_grammar.specs.Grammar.{tree, expr, disjunction, conjunction, comparison, row as leveled, head, atom, operand, right, body, parameter, kernel_type, negative};
+ghost use Rattle.mw_grammar.specs.Forms.{gives, reads, pick, expect, in_next, then_next, else_next, paren_next, bracket_next, left_next, right_next, let_in_by, rec_by, paren_by, minus_by, behind_first, behind_mark, bound_rec, operated};
+ghost use Rattle.mw_grammar.specs.Descent.{none_yet, so_far, ok, and_then, full, reading, following};
+ghost use Rattle.mw_grammar.specs.Gives.{Gives};
+ghost use Rattle.mw_grammar.specs.Words.{mark_in, atom_form, head_form};
+ghost use Rattle.mw_grammar.specs.Levels.{row_of, op_of, function_of, definition_of};
 
-use crate::fault::{Fault, Read};
-use crate::kinds::kernel;
-use crate::next::{Next, after};
-use crate::parts::{
+use mw_grammar::Tree;
+use mw_grammar::fault::{Fault, Read};
+use mw_grammar::kinds::kernel;
+use mw_grammar::next::{Next, after};
+use mw_grammar::parts::{
     Defined, Function, bracket_tree, conjoined, copy_name, disjoined, escape_tree, function_tree,
     if_tree, joined, leaf_tree, let_rec_tree, let_tree, negative_of, pair_tree, prefixed_tree,
     run_tree,
 };
-use crate::rows::{Operator, Row, next_comparison, next_operator};
-use crate::tree::Tree;
-use crate::words::{
+use mw_grammar::rows::{Operator, Row, next_comparison, next_operator};
+use mw_grammar::words::{
     Atom, Body, Close, First, Head, Inside, Mark, Named, atom_word, body_word, closing, first_word,
     head_word, in_hand, inside_word, name_of, name_or_rec, number_of,
 };
@@ -243,7 +243,7 @@ fn right_tree(alloc: Global, row: Row, tokens: &[Token], room: u32) -> Read<Tree
 }
 
 #[cycle(trees)]
-#[tactic(auto, using(crate::proofs::Below::read_full, crate::proofs::Below::read_gives, crate::proofs::Below::read_refuses, crate::proofs::Below::read_reads, crate::proofs::Below::part_fails, crate::proofs::Below::fails_then, crate::proofs::Below::raise_ok, crate::proofs::Below::fails_raise, crate::proofs::Below::read_more))]
+#[tactic(auto, using(mw_grammar::proofs::Below::read_full, mw_grammar::proofs::Below::read_gives, mw_grammar::proofs::Below::read_refuses, mw_grammar::proofs::Below::read_reads, mw_grammar::proofs::Below::part_fails, mw_grammar::proofs::Below::fails_then, mw_grammar::proofs::Below::raise_ok, mw_grammar::proofs::Below::fails_raise, mw_grammar::proofs::Below::read_more))]
 fn row_tree(alloc: Global, row: Row, tokens: &[Token], room: u32) -> Read<Tree>
     requires { room ≤ 200 }
     ensures gives { Gives (λ x. ok (tree_of x.0) x.1 (tokens_of x.2.now)) result (full room (tree (leveled (row_of row))) (tokens_of tokens.now)) }
@@ -255,7 +255,7 @@ fn row_tree(alloc: Global, row: Row, tokens: &[Token], room: u32) -> Read<Tree>
 }
 
 #[cycle(trees)]
-#[tactic(auto, using(crate::proofs::Below::read_full, crate::proofs::Below::read_gives, crate::proofs::Below::read_refuses, crate::proofs::Below::read_reads, crate::proofs::Below::part_fails, crate::proofs::Below::fails_then, crate::proofs::Below::raise_ok, crate::proofs::Below::fails_raise, crate::proofs::Below::follow_none, crate::proofs::Below::follow_deep, crate::proofs::Below::follow_on))]
+#[tactic(auto, using(mw_grammar::proofs::Below::read_full, mw_grammar::proofs::Below::read_gives, mw_grammar::proofs::Below::read_refuses, mw_grammar::proofs::Below::read_reads, mw_grammar::proofs::Below::part_fails, mw_grammar::proofs::Below::fails_then, mw_grammar::proofs::Below::raise_ok, mw_grammar::proofs::Below::fails_raise, mw_grammar::proofs::Below::follow_none, mw_grammar::proofs::Below::follow_deep, mw_grammar::proofs::Below::follow_on))]
 fn more_trees(
     alloc: Global,
     row: Row,
@@ -546,7 +546,7 @@ fn passed_disjunction(alloc: Global, tokens: &[Token], room: u32) -> Read<Tree>
 }
 
 #[cycle(trees)]
-#[tactic(auto, using(crate::proofs::Below::read_full, crate::proofs::Below::read_gives, crate::proofs::Below::read_refuses, crate::proofs::Below::read_reads, crate::proofs::Below::part_fails, crate::proofs::Below::fails_then, crate::proofs::Below::raise_ok, crate::proofs::Below::fails_raise, crate::proofs::Below::next_goes))]
+#[tactic(auto, using(mw_grammar::proofs::Below::read_full, mw_grammar::proofs::Below::read_gives, mw_grammar::proofs::Below::read_refuses, mw_grammar::proofs::Below::read_reads, mw_grammar::proofs::Below::part_fails, mw_grammar::proofs::Below::fails_then, mw_grammar::proofs::Below::raise_ok, mw_grammar::proofs::Below::fails_raise, mw_grammar::proofs::Below::next_goes))]
 fn next_operand(
     alloc: Global,
     row: Row,

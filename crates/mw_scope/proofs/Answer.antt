@@ -7,7 +7,7 @@ use Rattle.mw_term.specs.declared.refusal.Stop.{Stop}
 use Rattle.mw_term.specs.declared.refusal.Stop.TheVariants.{Refused}
 use Rattle.mw_term.specs.Programs.{PureProgram, program_of}
 use Rattle.mw_scope.specs.Resolving.{IsProgramOrMemory, IsRefusalOrMemory, IsOfFirstFault}
-use Rattle.mw_parse.specs.SurfaceTrees.{PureSurface}
+use Rattle.mw_grammar.specs.SurfaceTrees.{PureSurface}
 use Rattle.mw_scope.specs.declared.level.Level.TheVariants.{Zero}
 use Rattle.mw_scope.specs.declared.fault.Fault.{Fault}
 use Rattle.mw_scope.specs.declared.names.Names.{Names}

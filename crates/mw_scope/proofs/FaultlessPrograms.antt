@@ -2,7 +2,7 @@
 use Rattle.std.proofs.Common.{◌≡◌, ℕ, Bool, true, false, List, [], ◌∷◌, ◌++◌, Option, Some, None, refl, ap, sym, ◌∙◌}
 use Rattle.std.specs.Prelude.{IsTrue}
 use Rattle.mw_term.specs.Programs.{Definition, value, kernel, PureProgram}
-use Rattle.mw_parse.specs.SurfaceTrees.{PureItem, let_item, kernel_item, PureSurface}
+use Rattle.mw_grammar.specs.SurfaceTrees.{PureItem, let_item, kernel_item, PureSurface}
 use Rattle.mw_scope.specs.declared.level.Level.TheVariants.{Zero}
 use Rattle.mw_scope.specs.Scopes.{name_of, lets_of, items_of}
 use Rattle.mw_scope.specs.Nameless.{is_value, NamelessItem, a_let, a_kernel, NamelessItems, no_item, an_item, IsNameless}

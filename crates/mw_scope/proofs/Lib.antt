@@ -8,3 +8,4 @@ pub mod Progress
 pub mod Answer
 pub mod Looked
 pub mod ScopedPrograms
+pub mod Sizes

@@ -7,7 +7,7 @@ use Rattle.std.proofs.lemmas.Slice.Eq.{bytes_eq-Decides}
 use Rattle.std.proofs.lemmas.Option.{same_Some, none-some}
 use Rattle.mw_scope.specs.declared.level.Level.{Level}
 use Rattle.mw_term.specs.Terms.{KernelType}
-use Rattle.mw_parse.specs.SurfaceTrees.{SurfaceTree, PureItem, let_item, kernel_item}
+use Rattle.mw_grammar.specs.SurfaceTrees.{SurfaceTree, PureItem, let_item, kernel_item}
 use Rattle.mw_scope.specs.Scopes.{Binder, nearest, name_of, lets_of, items_of}
 use Rattle.mw_scope.specs.Resolving.{NearestIsNearest, TopsAreItems}
 

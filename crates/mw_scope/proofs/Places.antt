@@ -7,7 +7,7 @@ use Rattle.std.proofs.lemmas.Slice.Eq.{bytes_eq-Decides}
 use Rattle.std.proofs.lemmas.Option.{none-some}
 use Rattle.indexmap.specs.IndexMap.{insert_entry}
 use Rattle.mw_term.specs.Terms.{KernelType}
-use Rattle.mw_parse.specs.SurfaceTrees.{SurfaceTree, PureItem, let_item, kernel_item}
+use Rattle.mw_grammar.specs.SurfaceTrees.{SurfaceTree, PureItem, let_item, kernel_item}
 use Rattle.mw_scope.specs.declared.names.Names.{Names}
 use Rattle.mw_scope.specs.Scopes.{name_of, lets_of, items_of}
 use Rattle.mw_scope.specs.Views.{place_at, Knows}

@@ -6,9 +6,9 @@ use Rattle.std.proofs.lemmas.List.{map-append}
 use Rattle.std.proofs.Math.Seq.{drop-cons, take-suc}
 use Rattle.mw_term.specs.declared.program.Item.{Item}
 use Rattle.mw_term.specs.Programs.{Definition, definition_of}
-use Rattle.mw_parse.specs.SurfaceTrees.{PureItem, item_of}
-use Rattle.mw_parse.specs.declared.tree.SurfaceItem.{SurfaceItem}
-use Rattle.mw_parse.specs.SurfaceDepth.{AreShallow}
+use Rattle.mw_grammar.specs.SurfaceTrees.{PureItem, item_of}
+use Rattle.mw_grammar.specs.declared.tree.SurfaceItem.{SurfaceItem}
+use Rattle.mw_grammar.specs.SurfaceDepth.{AreShallow}
 use Rattle.mw_scope.specs.declared.fault.Fault.{Fault}
 use Rattle.mw_scope.specs.declared.names.Names.{Names}
 use Rattle.mw_scope.specs.Scopes.{name_of, lets_of, items_of}

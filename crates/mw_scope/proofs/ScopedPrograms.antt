@@ -8,7 +8,7 @@ use Rattle.mw_term.specs.Programs.{Definition, value, kernel, IsSyntacticValue}
 use Rattle.mw_term.specs.Typing.{TopLevel}
 use Rattle.mw_term.specs.Typable.{seen_by_item, seen_by_main}
 use Rattle.mw_term.specs.Scoped.{IsScoped, is_seen}
-use Rattle.mw_parse.specs.SurfaceTrees.{SurfaceTree, PureItem, let_item, kernel_item}
+use Rattle.mw_grammar.specs.SurfaceTrees.{SurfaceTree, PureItem, let_item, kernel_item}
 use Rattle.mw_scope.specs.declared.level.Level.{Level}
 use Rattle.mw_scope.specs.declared.level.Level.TheVariants.{Zero, One}
 use Rattle.mw_scope.specs.Scopes.{Binder, Tops, lets_of, items_of}

@@ -3,21 +3,21 @@ use Rattle.std.specs.Prelude.{◌≡◌, pos, List, [], ◌∷◌, codes}
 use Rattle.mw_term.specs.declared.term.Base.TheVariants as base_types
 use Rattle.mw_term.specs.declared.term.Primitive.TheVariants.{Add}
 use Rattle.mw_term.specs.Terms as nameless
-use Rattle.mw_term.specs.Terms.{KernelType, base}
+use Rattle.mw_term.specs.Terms.{KernelType, base, of_ground}
 use Rattle.mw_term.specs.Programs.{PureProgram, value}
-use Rattle.mw_parse.specs.SurfaceTrees.{SurfaceTree, num, used, fun, fix, app, bind, prim, bracket, escape, run, close, lift, PureItem, let_item, kernel_item, PureSurface}
+use Rattle.mw_grammar.specs.SurfaceTrees.{SurfaceTree, num, used, fun, fix, app, bind, prim, bracket, escape, run, close, lift, PureItem, let_item, kernel_item, PureSurface}
 use Rattle.mw_scope.specs.declared.fault.Fault.TheVariants.{Unbound, Twice, NotValue, WrongLevel}
 use Rattle.mw_scope.specs.Nameless.{IsNameless}
 use Rattle.mw_scope.specs.Faults.{faults_of, IsFirst}
 
 abbrev pub int : KernelType
-int = base base_types.Int
+int = of_ground (base base_types.Int)
 
 abbrev pub program : List PureItem → SurfaceTree → PureSurface
-program items body = record { items = items; result = base_types.Int; body = body }
+program items body = record { items = items; result = base base_types.Int; body = body }
 
 abbrev pub nameless_program : nameless.Expression → PureProgram
-nameless_program body = record { items = []; result = base_types.Int; body = body }
+nameless_program body = record { items = []; result = base base_types.Int; body = body }
 
 -- main : int = run[int] (close .<(fun x -> .~((fun c -> .<fun x -> .~c + x>.) .<x>.)) 1 10>.)
 abbrev pub capture : PureSurface
@@ -52,7 +52,7 @@ lifted = program (let_item (codes "n") 4 8 (num (pos 5)) ∷ []) (run 26 int (cl
 abbrev pub nameless_lifted : PureProgram
 nameless_lifted = record {
   items = value (nameless.num (pos 5)) ∷ [];
-  result = base_types.Int;
+  result = base base_types.Int;
   body = nameless.run int (nameless.close 36 (nameless.bracket (nameless.prim Add (nameless.escape (nameless.lift (nameless.glob 0))) (nameless.num (pos 1)))));
 }
 

@@ -4,8 +4,8 @@ use Rattle.std.specs.Prelude.{ℕ, ◌≡◌, ℤ, Bool, true, false, ◌&&◌, 
 use Rattle.mw_term.specs.declared.term.Primitive.{Primitive as Prim}
 use Rattle.mw_term.specs.Terms.{Expression, KernelType, num, truth, var, glob, fun, fix, app, bind, cond, pair, fst, snd, prim, bracket, escape, run, close, opened, lift, lift_b}
 use Rattle.mw_term.specs.Programs.{Definition, value, kernel, PureProgram}
-use Rattle.mw_parse.specs.SurfaceTrees as surface
-use Rattle.mw_parse.specs.SurfaceTrees.{SurfaceTree, PureItem, let_item, kernel_item, PureSurface}
+use Rattle.mw_grammar.specs.SurfaceTrees as surface
+use Rattle.mw_grammar.specs.SurfaceTrees.{SurfaceTree, PureItem, let_item, kernel_item, PureSurface}
 use Rattle.mw_scope.specs.declared.level.Level.{Level}
 use Rattle.mw_scope.specs.declared.level.Level.TheVariants.{Zero, One}
 use Rattle.mw_scope.specs.Scopes.{Binder, nearest, Tops, name_of, lets_of, items_of}

@@ -5,7 +5,7 @@ use Rattle.mw_term.specs.declared.program.Program.{Program}
 use Rattle.mw_term.specs.declared.refusal.Refusal.{Refusal}
 use Rattle.mw_term.specs.declared.refusal.Stop.{Stop}
 use Rattle.mw_term.specs.declared.refusal.Stop.TheVariants.{Refused, Memory}
-use Rattle.mw_parse.specs.SurfaceTrees.{SurfaceTree, PureItem, let_item, PureSurface}
+use Rattle.mw_grammar.specs.SurfaceTrees.{SurfaceTree, PureItem, let_item, PureSurface}
 use Rattle.mw_scope.specs.declared.level.Level.{Level}
 use Rattle.mw_scope.specs.declared.fault.Fault.{Fault}
 use Rattle.mw_scope.specs.Scopes.{Binder, nearest, name_of, lets_of, items_of}

@@ -4,7 +4,7 @@ use Rattle.mw_term.specs.Programs.{Definition, value, kernel, PureProgram, IsSyn
 use Rattle.mw_term.specs.Typing.{TopLevel}
 use Rattle.mw_term.specs.Typable.{seen_by_item, seen_by_main}
 use Rattle.mw_term.specs.Scoped.{IsScoped, is_seen}
-use Rattle.mw_parse.specs.SurfaceTrees.{PureSurface}
+use Rattle.mw_grammar.specs.SurfaceTrees.{PureSurface}
 use Rattle.mw_scope.specs.Nameless.{IsNameless}
 
 -- an item that sees these names: a let is a syntactic value

@@ -2,7 +2,7 @@
 use Rattle.std.specs.Prelude.{ℕ, suc, List, [], ◌∷◌, Option, Some, None, cond}
 use Rattle.std.specs.Option.{option_map}
 use Rattle.std.specs.Str.{bytes_eq}
-use Rattle.mw_parse.specs.SurfaceTrees.{PureItem, let_item, kernel_item}
+use Rattle.mw_grammar.specs.SurfaceTrees.{PureItem, let_item, kernel_item}
 use Rattle.mw_scope.specs.declared.level.Level.{Level}
 
 -- a binder in scope: its name, and the level of its function or let

@@ -1,4 +1,4 @@
-// Copies of names and kernel types.
+// Copies of names, ground types and kernel types.
 
 ghost use Rattle.std.specs.Prelude.{◌≡◌, IfOk};
 ghost use Rattle.mw_term.specs.Terms.{ground_of, kernel_type_of};
@@ -37,7 +37,10 @@ pub fn copied_kernel_type(alloc: Global, kind: &KType) -> Result<KType, AllocErr
     ensures { IfOk result (λ copy. kernel_type_of copy ≡ kernel_type_of kind.now) }
 {
     match kind {
-        KType::Base(base) => Ok(KType::Base(*base)),
-        KType::Fun(ground, base) => Ok(KType::Fun(copied_ground(alloc, ground)?, *base)),
+        KType::Ground(ground) => Ok(KType::Ground(copied_ground(alloc, ground)?)),
+        KType::Fun(argument, result) => {
+            let argument = copied_ground(alloc, argument)?;
+            Ok(KType::Fun(argument, copied_ground(alloc, result)?))
+        }
     }
 }

@@ -2,8 +2,8 @@
 
 ghost use Rattle.std.specs.Prelude.{◌≡◌, ◌≤◌, List, [], ◌∷◌, ◌++◌, length, map, IfOk, OnOk};
 ghost use Rattle.mw_term.specs.Programs.{definition_of};
-ghost use Rattle.mw_parse.specs.SurfaceTrees.{PureItem, item_of, tree_of};
-ghost use Rattle.mw_parse.specs.SurfaceDepth.{AreShallow, bound_tree, surface_depth};
+ghost use Rattle.mw_grammar.specs.SurfaceTrees.{PureItem, item_of, tree_of};
+ghost use Rattle.mw_grammar.specs.SurfaceDepth.{AreShallow, bound_tree, surface_depth};
 ghost use Rattle.mw_scope.specs.Scopes.{name_of};
 ghost use Rattle.mw_scope.specs.Nameless.{is_value};
 ghost use Rattle.mw_scope.specs.Faults.{faults_in, faults_of_item, faults_of_items, faults_of_name, faults_of_value};
@@ -21,7 +21,7 @@ use crate::level::Level;
 use crate::names::Names;
 use crate::tops::Tops;
 use crate::walk::term;
-use mw_parse::{Placed, SurfaceItem, Tree};
+use mw_grammar::{Placed, SurfaceItem, Tree};
 use mw_term::{Item, ItemKind, Items, Term};
 use std::alloc::{AllocError, Global};
 

@@ -1,10 +1,10 @@
 // The names of the items so far.
 
 ghost use Rattle.std.specs.Prelude.{◌≡◌, List, [], ◌∷◌, ◌++◌, length, OnOk};
-ghost use Rattle.mw_parse.specs.SurfaceTrees.{PureItem, item_of};
+ghost use Rattle.mw_grammar.specs.SurfaceTrees.{PureItem, item_of};
 
 use crate::tops::Tops;
-use mw_parse::SurfaceItem;
+use mw_grammar::SurfaceItem;
 use std::alloc::{AllocError, Global};
 
 /// The names of the items so far: those of lets, which the items behind see, and all, which main sees.

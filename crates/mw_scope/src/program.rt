@@ -3,18 +3,19 @@
 ghost use Rattle.std.specs.Prelude.{◌≡◌, Err, IfOk, MatchOption, None, Ok, OnOk};
 ghost use Rattle.mw_term.specs.Programs.{program_of};
 ghost use Rattle.mw_term.specs.declared.refusal.Stop.TheVariants.{Refused};
-ghost use Rattle.mw_parse.specs.SurfaceTrees.{surface_of};
-ghost use Rattle.mw_parse.specs.SurfaceDepth.{IsShallow};
+ghost use Rattle.mw_grammar.specs.SurfaceTrees.{surface_of};
+ghost use Rattle.mw_grammar.specs.SurfaceDepth.{IsShallow};
 ghost use Rattle.mw_scope.specs.Faults.{faults_of, refusal_of};
 ghost use Rattle.mw_scope.specs.Keeping.{kept};
 ghost use Rattle.mw_scope.specs.Named.{named_program};
 ghost use Rattle.mw_scope.specs.Resolving.{KeepsNames};
 
+use crate::copies::copied_ground;
 use crate::fault::Fault;
 use crate::items::{items, outer_term};
 use crate::keeping::refusal;
 use crate::names::Names;
-use mw_parse::Surface;
+use mw_grammar::Surface;
 use mw_term::{Program, Stop};
 use std::alloc::{AllocError, Global};
 
@@ -35,7 +36,7 @@ pub fn whole(
     let body = outer_term(alloc, &names.all, &surface.body, first)?;
     Ok(Program {
         items,
-        result: surface.result,
+        result: copied_ground(alloc, &surface.result)?,
         body,
     })
 }

@@ -1,15 +1,16 @@
 // A table of worked programs.
 
 ghost use Rattle.std.specs.Prelude.{◌≡◌, ◌≤◌, ◌-◌, ◌^◌, IsTrue, map, min};
-ghost use Rattle.mw_parse.specs.SurfaceTrees.{item_of, surface_of, tree_of};
-ghost use Rattle.mw_parse.specs.SurfaceDepth.{AreShallow, IsShallow, bound_tree, surface_depth};
+ghost use Rattle.mw_grammar.specs.SurfaceTrees.{item_of, surface_of, tree_of};
+ghost use Rattle.mw_grammar.specs.SurfaceDepth.{AreShallow, IsShallow, bound_tree, surface_depth};
+ghost use Rattle.mw_grammar.specs.SurfaceSize.{items_size, surface_size, tree_size};
 
 mod table;
 
 use super::*;
 use crate::tests::table::{ROWS, Step};
-use mw_parse::{Placed, SurfaceItem, SurfaceItems, Tree};
-use mw_term::{Base, KType, Name, Prim};
+use mw_grammar::{Placed, SurfaceItem, SurfaceItems, Tree};
+use mw_term::{Base, Ground, KType, Name, Prim};
 use std::test::Fail;
 
 fn name(alloc: Global, bytes: &[u8]) -> Result<Name, Fail> {
@@ -27,7 +28,7 @@ fn taken(alloc: Global, stack: &mut Vec<Tree>) -> Result<Box<Tree>, Fail> {
 
 /// The form of a step, with its parts from the stack.
 fn form(alloc: Global, stack: &mut Vec<Tree>, step: Step) -> Result<Tree, Fail> {
-    let int = KType::Base(Base::Int);
+    let int = KType::Ground(Ground::Base(Base::Int));
     match step {
         Step::Int(n) => Ok(Tree::Int(n)),
         Step::Used(x, at) => Ok(Tree::Used(Placed {
@@ -85,7 +86,7 @@ fn surface(alloc: Global, steps: &[Step]) -> Result<Surface, Fail> {
                         name: name(alloc, x)?,
                         at,
                     },
-                    KType::Base(Base::Int),
+                    KType::Ground(Ground::Base(Base::Int)),
                     code,
                 ))?;
             }
@@ -98,7 +99,7 @@ fn surface(alloc: Global, steps: &[Step]) -> Result<Surface, Fail> {
     let body = stack.pop().ok_or("no body")?;
     Ok(Surface {
         items,
-        result: Base::Int,
+        result: Ground::Base(Base::Int),
         body,
     })
 }
@@ -155,10 +156,64 @@ fn is_shallow(surface: &Surface) -> bool
     list.len() <= 1000 && depth(&surface.body) <= 200 && are_shallow(list)
 }
 
+/// The nodes of a tree.
+fn nodes(tree: &Tree) -> u32
+    ensures { result ≡ min (tree_size (tree_of tree.now)) (2 ^ 32 - 1) }
+{
+    match tree {
+        Tree::Int(_) | Tree::Bool(_) | Tree::Used(_) => 1,
+        Tree::Fun(_, e) | Tree::Rec(_, _, e) | Tree::Fst(e) | Tree::Snd(e) => {
+            nodes(e).saturating_add(1)
+        }
+        Tree::App(a, b) | Tree::Let(_, a, b) | Tree::Pair(a, b) | Tree::Prim(_, a, b) => {
+            nodes(a).saturating_add(nodes(b)).saturating_add(1)
+        }
+        Tree::If(c, a, b) => {
+            nodes(c)
+                .saturating_add(nodes(a))
+                .saturating_add(nodes(b))
+                .saturating_add(1)
+        }
+        Tree::Bracket(_, e) | Tree::Escape(_, e) | Tree::Run(_, _, e) => {
+            nodes(e).saturating_add(1)
+        }
+        Tree::CloseCode(_, e) | Tree::OpenCode(_, e) | Tree::Lift(_, e) | Tree::LiftB(_, e) => {
+            nodes(e).saturating_add(1)
+        }
+    }
+}
+
+/// The nodes of what an item binds.
+fn nodes_of_item(item: &SurfaceItem) -> u32
+    ensures { result ≡ min (tree_size (bound_tree (item_of item.now))) (2 ^ 32 - 1) }
+{
+    match item {
+        SurfaceItem::Let(_, _, tree) => nodes(tree),
+        SurfaceItem::Kernel(_, _, tree) => nodes(tree),
+    }
+}
+
+/// The nodes of what items bind.
+fn nodes_of_items(list: &[SurfaceItem]) -> u32
+    ensures { result ≡ min (items_size (map item_of list.now)) (2 ^ 32 - 1) }
+{
+    match list {
+        [] => 0,
+        [item, rest @ ..] => nodes_of_item(item).saturating_add(nodes_of_items(rest)),
+    }
+}
+
+/// Whether a program has no more nodes than reading gives.
+fn is_sparse(surface: &Surface) -> bool
+    ensures { IsTrue result → surface_size (surface_of surface.now) ≤ 3145728 }
+{
+    nodes_of_items(surface.items.as_slice()).saturating_add(nodes(&surface.body)) <= 3145728
+}
+
 /// The items' terms and the body's, or the refusal.
 fn shown(alloc: Global, surface: &Surface) -> Result<String, Fail> {
-    if !is_shallow(surface) {
-        return Ok(String::from_str(alloc, "too deep")?);
+    if !is_shallow(surface) || !is_sparse(surface) {
+        return Ok(String::from_str(alloc, "too large")?);
     }
     let program = match resolve(alloc, surface) {
         Ok(program) => program,

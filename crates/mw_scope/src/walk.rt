@@ -2,7 +2,7 @@
 
 ghost use Rattle.std.specs.Prelude.{◌≡◌, IfOk, OnOk};
 ghost use Rattle.mw_term.specs.Terms.{expression_of};
-ghost use Rattle.mw_parse.specs.SurfaceTrees.{tree_of, used};
+ghost use Rattle.mw_grammar.specs.SurfaceTrees.{tree_of, used};
 ghost use Rattle.mw_scope.specs.Keeping.{kept};
 ghost use Rattle.mw_scope.specs.Views.{Binds, HasRoom, IsStaging, SameBinders, faults_here, named_here};
 
@@ -12,7 +12,7 @@ use crate::fault::Fault;
 use crate::keeping::{keep, keep_at, keep_at_one, keep_at_zero};
 use crate::level::Level;
 use crate::tops::Tops;
-use mw_parse::{Placed, Tree};
+use mw_grammar::{Placed, Tree};
 use mw_term::Term;
 use std::alloc::{AllocError, Global};
 

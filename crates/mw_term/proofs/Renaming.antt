@@ -1,7 +1,7 @@
 -- Classifiers renamed in types and environments, and entries put into an environment.
 use Rattle.std.proofs.Common.{◌≡◌, ◌≢◌, ℕ, zero, suc, ◌≤◌, max, List, [], ◌∷◌, cond, nat_eq, Some, refl, arith}
 use Rattle.std.specs.Prelude.{slice_get}
-use Rattle.mw_term.specs.Terms.{GroundType, KernelType, base, product, to}
+use Rattle.mw_term.specs.Terms.{GroundType, KernelType, base, product, of_ground, to}
 use Rattle.mw_term.specs.declared.term.Base.{Base}
 use Rattle.mw_term.specs.declared.term.Base.TheVariants.{Int, Bool as Truth}
 use Rattle.mw_term.specs.declared.term.Primitive.{Primitive as Prim}
@@ -65,8 +65,8 @@ rename_type-ground_type r (base b) = rename_type-base_type r b
 rename_type-ground_type r (product s t) = rw (rename_type-ground_type r s, rename_type-ground_type r t) refl
 
 pub rename_type-kernel_type : (r : ℕ → ℕ) (k : KernelType) → rename_type r (kernel_type k) ≡ kernel_type k
-rename_type-kernel_type r (base b) = rename_type-base_type r b
-rename_type-kernel_type r (to s b) = rw (rename_type-ground_type r s, rename_type-base_type r b) refl
+rename_type-kernel_type r (of_ground t) = rename_type-ground_type r t
+rename_type-kernel_type r (to s t) = rw (rename_type-ground_type r s, rename_type-ground_type r t) refl
 
 pub rename_type-primitive_type : (r : ℕ → ℕ) (p : Prim) → rename_type r (primitive_type p) ≡ primitive_type p
 rename_type-primitive_type r Add = refl

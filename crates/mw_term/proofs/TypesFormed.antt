@@ -1,7 +1,7 @@
 -- Each type that a term has fits the level where it stands.
 use Rattle.std.proofs.Common.{◌≡◌, ℕ, zero, suc, List, [], ◌∷◌, Some, subst}
 use Rattle.std.specs.Prelude.{slice_get}
-use Rattle.mw_term.specs.Terms.{Expression, Value, GroundType, KernelType, base, product, to}
+use Rattle.mw_term.specs.Terms.{Expression, Value, GroundType, KernelType, base, product, of_ground, to}
 use Rattle.mw_term.specs.declared.term.Base.{Base}
 use Rattle.mw_term.specs.declared.term.Base.TheVariants.{Int, Bool as Truth}
 use Rattle.mw_term.specs.declared.term.Primitive.{Primitive as Prim}
@@ -19,8 +19,8 @@ IsPlain-ground_type (base b) = IsPlain-base_type b
 IsPlain-ground_type (product s t) = (IsPlain-ground_type s, IsPlain-ground_type t)
 
 pub IsPlain-kernel_type : (k : KernelType) → IsPlain (kernel_type k)
-IsPlain-kernel_type (base b) = IsPlain-base_type b
-IsPlain-kernel_type (to s b) = (IsPlain-ground_type s, IsPlain-base_type b)
+IsPlain-kernel_type (of_ground t) = IsPlain-ground_type t
+IsPlain-kernel_type (to s t) = (IsPlain-ground_type s, IsPlain-ground_type t)
 
 IsPlain-primitive_type : (p : Prim) → IsPlain (primitive_type p)
 IsPlain-primitive_type Add = tt
@@ -102,4 +102,4 @@ mutual
   Valued-formed f (v_recursive p h) = p
   Valued-formed f (v_code p c h) = p
   Valued-formed f (v_closed p c h) = p
-  Valued-formed f (v_kept {s = s} {b = b} e c h) = rw e (Fits-plain live (kernel_type (to s b)) (IsPlain-kernel_type (to s b)))
+  Valued-formed f (v_kept {r = r} {s = s} e c h) = rw e (Fits-plain live (kernel_type (to r s)) (IsPlain-kernel_type (to r s)))

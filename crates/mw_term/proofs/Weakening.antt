@@ -69,7 +69,7 @@ module _ (tops : List TopLevel) where
     Valued-shift r k x (v_recursive {s = s} {t = u} p h) = v_recursive (IsFormed-rename_type r (function_type s u) p) (Typed-shift r (suc (suc k)) x h)
     Valued-shift r k x (v_code {c = e} {t = t} p c h) = v_code (IsPlain-rename_type r t p) (IsCode-shift e k c) (Typed-shift r k x h)
     Valued-shift r k x (v_closed {c = d} {t = t} p c h) = rw (rename_type-plain r t p, shift-closed d zero k (omega arith) (Typed-closed zero (omega arith) h)) (v_closed p c h)
-    Valued-shift r k x (v_kept {s = s} {b = b} e c h) = let q = ap (λ t. rename_type r t) e ∙ rename_type-kernel_type r (to s b) in v_kept q c (rw (q, ← e) h)
+    Valued-shift r k x (v_kept {r = a} {s = s} e c h) = let q = ap (λ t. rename_type r t) e ∙ rename_type-kernel_type r (to a s) in v_kept q c (rw (q, ← e) h)
 
   -- a term and a value under one more binder
   pub Typed-under : (x : Entry) (g : List Entry) (m : Level) (e : Expression) (t : TermType) → Typed tops g m e t → Typed tops (x ∷ g) m (shift e zero) t

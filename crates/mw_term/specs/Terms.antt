@@ -4,7 +4,7 @@ use Rattle.mw_term.specs.declared.term.Base.{Base}
 use Rattle.mw_term.specs.declared.term.Ground.{Ground}
 use Rattle.mw_term.specs.declared.term.Ground.TheVariants.{Base as base_ground, Pair' as pair_ground}
 use Rattle.mw_term.specs.declared.term.KType.{KType}
-use Rattle.mw_term.specs.declared.term.KType.TheVariants.{Base as base_kind, Fun as fun_kind}
+use Rattle.mw_term.specs.declared.term.KType.TheVariants.{Ground as ground_kind, Fun as fun_kind}
 use Rattle.mw_term.specs.declared.term.Primitive.{Primitive as Prim}
 use Rattle.mw_term.specs.declared.term.Term.{Term}
 use Rattle.mw_term.specs.declared.term.Term.TheVariants.{Int, Bool as Truth, Var, Glob, Fun', Rec', App', Let', If', Pair', Fst', Snd', Prim' as Prim-Prim', Bracket', Escape', Run', CloseCode', OpenCode', Lift', LiftB'}
@@ -13,15 +13,21 @@ use Rattle.mw_term.specs.declared.value.BaseValue.TheVariants.{Int as AnInt, Boo
 use Rattle.mw_term.specs.declared.value.GroundValue.{GroundValue}
 use Rattle.mw_term.specs.declared.value.GroundValue.TheVariants.{Base as ABase, Pair' as APair'}
 
--- ground types, which the arguments of kernels have
+-- ground types, which kernels take and give and main has
 pub data GroundType : Type 0 where
   base : (b : Base) → GroundType
   product : (s t : GroundType) → GroundType
 
--- kernel types b and g -> b
+-- kernel types g and g -> h
 pub data KernelType : Type 0 where
-  base : (b : Base) → KernelType
-  to : (s : GroundType) (b : Base) → KernelType
+  of_ground : (t : GroundType) → KernelType
+  to : (s t : GroundType) → KernelType
+
+-- values of ground types
+pub data PureGroundValue : Type 0 where
+  int : (n : ℤ) → PureGroundValue
+  bool : (b : Bool) → PureGroundValue
+  both : (v w : PureGroundValue) → PureGroundValue
 
 -- A kernel's code, where each function is labelled with the number of its free variables, and the values that it has.
 -- done stands for a value that was put for a variable.
@@ -90,8 +96,8 @@ ground_of (base_ground b) = base b
 ground_of (pair_ground p s q t) = product (ground_of s) (ground_of t)
 
 abbrev pub kernel_type_of : KType → KernelType
-kernel_type_of (base_kind b) = base b
-kernel_type_of (fun_kind s b) = to (ground_of s) b
+kernel_type_of (ground_kind t) = of_ground (ground_of t)
+kernel_type_of (fun_kind s t) = to (ground_of s) (ground_of t)
 
 abbrev pub expression_of : Term → Expression
 expression_of (Int n) = num n
@@ -163,10 +169,16 @@ depth_of (lift e) = depth_of e + 1
 depth_of (lift_b e) = depth_of e + 1
 depth_of (done v) = 1
 
-abbrev pub base_value_of : BaseValue → Value
+abbrev pub base_value_of : BaseValue → PureGroundValue
 base_value_of (AnInt n) = int n
 base_value_of (ATruth b) = bool b
 
-abbrev pub ground_value_of : GroundValue → Value
+abbrev pub ground_value_of : GroundValue → PureGroundValue
 ground_value_of (ABase v) = base_value_of v
 ground_value_of (APair' p v q w) = both (ground_value_of v) (ground_value_of w)
+
+-- a ground value as a value of the meanings
+abbrev pub ground_value : PureGroundValue → Value
+ground_value (int n) = int n
+ground_value (bool b) = bool b
+ground_value (both v w) = both (ground_value v) (ground_value w)

@@ -3,7 +3,7 @@ use Rattle.std.specs.Prelude.{ℕ, zero, suc, ◌≡◌, ◌⊎◌, List, [], �
 use Rattle.mw_term.specs.Terms.{Expression, Value, KernelType, code}
 use Rattle.mw_term.specs.Closed.{IsClosed, IsCode}
 use Rattle.mw_term.specs.Programs.{Definition, value as defines, kernel, PureProgram, IsSyntacticValue, value_of_definition}
-use Rattle.mw_term.specs.Types.{TermType, live, under, closed_type, base_type, kernel_type}
+use Rattle.mw_term.specs.Types.{TermType, live, under, closed_type, ground_type, kernel_type}
 use Rattle.mw_term.specs.Typing.{TopLevel, let_item, kernel_item, out_of_scope, Typed}
 
 -- the names that item i sees: the lets before it
@@ -29,10 +29,10 @@ abbrev pub IsTypableItem : List TopLevel → Definition → Type 0
 IsTypableItem tops (defines e) = IsSyntacticValue e × (t : TermType) × Typed tops [] live e t
 IsTypableItem tops (kernel k e) = Typed tops [] live e (closed_type (kernel_type k))
 
--- each item has a type where it stands, and main has its base type
+-- each item has a type where it stands, and main has its ground type
 pub record Typable (p : PureProgram) : Type 0 where
   pub items : (i : ℕ) (d : Definition) → slice_get p.items i ≡ Some d → IsTypableItem (seen_by_item p.items i) d
-  pub body : Typed (seen_by_main p.items) [] live p.body (base_type p.result)
+  pub body : Typed (seen_by_main p.items) [] live p.body (ground_type p.result)
 
 -- closed code that has the kernel type in the empty environment, whatever top-level names there are
 pub record HasKernelType (c : Expression) (k : KernelType) : Type 0 where

@@ -1,6 +1,6 @@
 -- Types, classifiers and typing environments.
 use Rattle.std.specs.Prelude.{ℕ, ◌≢◌, List, [], ◌∷◌}
-use Rattle.mw_term.specs.Terms.{GroundType, KernelType, base, product, to}
+use Rattle.mw_term.specs.Terms.{GroundType, KernelType, base, product, of_ground, to}
 use Rattle.mw_term.specs.declared.term.Base.{Base}
 use Rattle.mw_term.specs.declared.term.Base.TheVariants.{Int, Bool}
 use Rattle.mw_term.specs.declared.term.Primitive.{Primitive as Prim}
@@ -95,8 +95,8 @@ ground_type (base b) = base_type b
 ground_type (product s t) = pair_type (ground_type s) (ground_type t)
 
 abbrev pub kernel_type : KernelType → TermType
-kernel_type (base b) = base_type b
-kernel_type (to s b) = function_type (ground_type s) (base_type b)
+kernel_type (of_ground t) = ground_type t
+kernel_type (to s t) = function_type (ground_type s) (ground_type t)
 
 -- the type of what a primitive gives of two integers
 abbrev pub primitive_type : Prim → TermType

@@ -1,7 +1,6 @@
 -- The typing relation: which types a term has, at level 0 and at level 1 under a classifier.
 use Rattle.std.specs.Prelude.{ℕ, ◌≡◌, ℤ, Bool, List, [], ◌∷◌, Some, slice_get}
 use Rattle.mw_term.specs.Terms.{Expression, Value, KernelValue, KernelType, GroundType, to, num, truth, var, glob, fun, fix, app, bind, cond, pair, fst, snd, prim, bracket, escape, run, close, opened, lift, lift_b, done, int, bool, both, function, recursive, code, kept}
-use Rattle.mw_term.specs.declared.term.Base.{Base}
 use Rattle.mw_term.specs.declared.term.Primitive.{Primitive as Prim}
 use Rattle.mw_term.specs.Closed.{IsCode}
 use Rattle.mw_term.specs.Types.{TermType, int_type, bool_type, pair_type, function_type, code_type, closed_type, Level, live, under, Entry, value, entry, IsPlain, IsFormed, Fits, IsAbsent, kernel_type, primitive_type}
@@ -69,4 +68,4 @@ mutual
     -- code that has the type in the empty environment; no variable is there, so the classifier does not matter
     v_closed : {g : List Entry} {c : Expression} {t : TermType} → IsPlain t → IsCode c → Typed tops [] (under 0) c t → Valued tops g (code c) (closed_type t)
     -- a kept function is closed, and has the type without its labels; no top-level name stands in it
-    v_kept : {g : List Entry} {s : GroundType} {b : Base} {f : KernelValue} {words : ℕ} {t : TermType} → t ≡ kernel_type (to s b) → IsClosedKernelValue f → Valued tops [] (unlabelled_value f) t → Valued tops g (kept (to s b) f words) t
+    v_kept : {g : List Entry} {r s : GroundType} {f : KernelValue} {words : ℕ} {t : TermType} → t ≡ kernel_type (to r s) → IsClosedKernelValue f → Valued tops [] (unlabelled_value f) t → Valued tops g (kept (to r s) f words) t

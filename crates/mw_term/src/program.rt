@@ -3,7 +3,7 @@
 ghost use Rattle.std.specs.Prelude.{◌≡◌, ◌<◌, [], ◌∷◌, ◌++◌, length, OnOk, OnErr, slice_get, Some};
 
 use crate::name::Name;
-use crate::term::{Base, KType, Term};
+use crate::term::{Ground, KType, Term};
 use std::alloc::{AllocError, Global};
 use std::marker::Model;
 
@@ -89,6 +89,6 @@ impl Items {
 #[derive(Debug, Drop)]
 pub struct Program {
     pub items: Items,
-    pub result: Base,
+    pub result: Ground,
     pub body: Term,
 }

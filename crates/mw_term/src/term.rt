@@ -7,18 +7,18 @@ pub enum Base {
     Bool,
 }
 
-/// A ground type, which the arguments of kernels have: base types, and pairs of ground types.
+/// A ground type, which kernels take and give and main has: a base type, or a pair of ground types.
 #[derive(Debug, Drop)]
 pub enum Ground {
     Base(Base),
     Pair(Box<Ground>, Box<Ground>),
 }
 
-/// A kernel type `b` or `g -> b`.
+/// A kernel type `g` or `g -> h`.
 #[derive(Debug, Drop)]
 pub enum KType {
-    Base(Base),
-    Fun(Ground, Base),
+    Ground(Ground),
+    Fun(Ground, Ground),
 }
 
 /// A primitive operation on two integers. The crate exports it as `Prim`.

@@ -7,7 +7,7 @@ pub enum BaseValue {
     Bool(bool),
 }
 
-/// A value of a ground type, as a kernel takes it for its argument.
+/// A value of a ground type, as kernels take and give it and main has it.
 #[derive(Debug, Drop)]
 pub enum GroundValue {
     Base(BaseValue),

@@ -1,11 +1,11 @@
--- Equations that have a solution have a most general one: the elimination, an equation at a time.
-use Rattle.std.proofs.Common.{◌≡◌, inl, inr, ℕ, zero, suc, ◌+◌, ◌≤◌, ◌<◌, List, [], ◌∷◌, length, refl, ap, sym, ◌∙◌, arith}
+-- Equations have a most general solution or none: the elimination, an equation at a time.
+use Rattle.std.proofs.Common.{◌≡◌, ◌⊎◌, inl, inr, ℕ, zero, suc, ◌+◌, ◌≤◌, ◌<◌, List, [], ◌∷◌, length, refl, ap, sym, ◌∙◌, arith}
 use Rattle.mw_term.specs.Types.{TermType, pair_type, function_type, code_type, closed_type}
 use Rattle.mw_types.specs.Types.{TypeExpression, int_ty, bool_ty, unknown, pair_ty, function_ty, code_ty, closed_ty, Within, Assignment, value, nodes, size, Substitution}
-use Rattle.mw_types.specs.Equations.{TypeEquation, AllWithin, Solves, Solvable, MostGeneral}
+use Rattle.mw_types.specs.Equations.{TypeEquation, AllWithin, Solvable, MostGeneral}
 use Rattle.mw_types.specs.Walks.{In}
 use Rattle.mw_types.proofs.Lists.{same, other, is}
-use Rattle.mw_types.proofs.Existence.{Found, solves_same, to_applied, apply_all, from_applied, turn, compose, Over, AllOver, absent, itself, within, occurs, without, without_lt, put, all_over_put, put_keeps, put_absent, put_here, rename, rename_keeps, renamed, rename_weight, rename_all_over, weight}
+use Rattle.mw_types.proofs.Existence.{Decided, apply_all, from_applied, turn, compose, Over, AllOver, absent, itself, within, occurs, without, without_lt, put, all_over_put, put_keeps, put_absent, put_here, rename, rename_keeps, renamed, rename_weight, rename_all_over, weight}
 
 abbrev is_one : TypeExpression → TypeExpression → TypeEquation
 is_one l r = record { left = l; right = r }
@@ -65,57 +65,56 @@ closed_below e = cc
 
 -- equations over fewer unknowns, and lighter ones over the same
 abbrev Fewer : List ℕ → Type 0
-Fewer us = (vs : List ℕ) → length vs < length us → (es : List TypeEquation) → AllOver vs es → (a : Assignment) → Solves a es → Found es
+Fewer us = (vs : List ℕ) → length vs < length us → (es : List TypeEquation) → AllOver vs es → Decided es
 
 abbrev Lighter : List ℕ → ℕ → Type 0
-Lighter us w = (es : List TypeEquation) → weight es ≤ w → AllOver us es → (a : Assignment) → Solves a es → Found es
+Lighter us w = (es : List TypeEquation) → weight es ≤ w → AllOver us es → Decided es
 
 -- an unknown that is equal to a type
-eliminate : (us : List ℕ) (w u : ℕ) (t : TypeExpression) (es : List TypeEquation) → Fewer us → Lighter us w → weight es ≤ w → In u us → Over us t → AllOver us es → (a : Assignment) → a.ty u ≡ value a t → Solves a es → Found (is_one (unknown u) t ∷ es)
-eliminate us w u t es fewer lighter le k o os a p h = elim (occurs a u t) [
-  | itself e ↦ turn es (is_one (unknown u) t ∷ es) (λ b q. (sym (ap (value b) e), q)) (λ b q. q.1) (lighter es le os a h)
-  | within lt ↦ absurd (let q : size (a.ty u) ≡ size (value a t) = ap size p in omega arith)
+eliminate : (us : List ℕ) (w u : ℕ) (t : TypeExpression) (es : List TypeEquation) → Fewer us → Lighter us w → weight es ≤ w → In u us → Over us t → AllOver us es → Decided (is_one (unknown u) t ∷ es)
+eliminate us w u t es fewer lighter le k o os = elim (occurs u t) [
+  | itself e ↦ turn es (is_one (unknown u) t ∷ es) (λ b q. (sym (ap (value b) e), q)) (λ b q. q.1) (lighter es le os)
+  | within lt ↦ inr (λ h. let p = lt h.0 in let q : size (h.0.ty u) ≡ size (value h.0 t) = ap size h.1.0 in omega arith)
   | absent n ↦ compose es (is_one (unknown u) t ∷ es) (put u t) (λ b q. put_keeps u t b q.0) (λ b q. q.1)
       (λ b q. (put_here u t b ∙ sym (put_absent u t b t n), from_applied b (put u t) es q))
-      (fewer (without u us) (without_lt u us k) (apply_all (put u t) es) (all_over_put u t us n o es os) a (to_applied a (put u t) es (solves_same (put_keeps u t a p) es h)))
+      (fewer (without u us) (without_lt u us k) (apply_all (put u t) es) (all_over_put u t us n o es os))
 ]
 
-reduce : (us : List ℕ) (w : ℕ) {l r : TypeExpression} (es : List TypeEquation) → Fewer us → Lighter us w → nodes l + nodes r + weight es ≤ suc w → Over us l → Over us r → AllOver us es → (a : Assignment) → value a l ≡ value a r → Solves a es → View l r → Found (is_one l r ∷ es)
-reduce us w es fewer lighter le o k os a p h (on_left {u = u} {r = r}) = eliminate us w u r es fewer lighter (let q = nodes_some r in omega arith) o k os a p h
-reduce us w es fewer lighter le o k os a p h (on_right {u = u} {l = l}) = turn (is_one (unknown u) l ∷ es) (is_one l (unknown u) ∷ es) (λ b q. (sym q.0, q.1)) (λ b q. (sym q.0, q.1)) (eliminate us w u l es fewer lighter (let q = nodes_some l in omega arith) k o os a (sym p) h)
-reduce us w es fewer lighter le o k os a p h both_int = turn es (is_one int_ty int_ty ∷ es) (λ b q. (refl, q)) (λ b q. q.1) (lighter es (omega arith) os a h)
-reduce us w es fewer lighter le o k os a p h both_bool = turn es (is_one bool_ty bool_ty ∷ es) (λ b q. (refl, q)) (λ b q. q.1) (lighter es (omega arith) os a h)
-reduce us w es fewer lighter le o k os a p h (both_pairs {s = s} {t = t} {k = m} {l = n}) = turn (is_one s m ∷ is_one t n ∷ es) (is_one (pair_ty s t) (pair_ty m n) ∷ es)
+reduce : (us : List ℕ) (w : ℕ) {l r : TypeExpression} (es : List TypeEquation) → Fewer us → Lighter us w → nodes l + nodes r + weight es ≤ suc w → Over us l → Over us r → AllOver us es → View l r → Decided (is_one l r ∷ es)
+reduce us w es fewer lighter le o k os (on_left {u = u} {r = r}) = eliminate us w u r es fewer lighter (let q = nodes_some r in omega arith) o k os
+reduce us w es fewer lighter le o k os (on_right {u = u} {l = l}) = turn (is_one (unknown u) l ∷ es) (is_one l (unknown u) ∷ es) (λ b q. (sym q.0, q.1)) (λ b q. (sym q.0, q.1)) (eliminate us w u l es fewer lighter (let q = nodes_some l in omega arith) k o os)
+reduce us w es fewer lighter le o k os both_int = turn es (is_one int_ty int_ty ∷ es) (λ b q. (refl, q)) (λ b q. q.1) (lighter es (omega arith) os)
+reduce us w es fewer lighter le o k os both_bool = turn es (is_one bool_ty bool_ty ∷ es) (λ b q. (refl, q)) (λ b q. q.1) (lighter es (omega arith) os)
+reduce us w es fewer lighter le o k os (both_pairs {s = s} {t = t} {k = m} {l = n}) = turn (is_one s m ∷ is_one t n ∷ es) (is_one (pair_ty s t) (pair_ty m n) ∷ es)
     (λ b q. (rw (q.0, q.1.0) refl, q.1.1))
     (λ b q. (pair_left q.0, (pair_right q.0, q.1)))
-    (lighter (is_one s m ∷ is_one t n ∷ es) (omega arith) ((o.0, k.0), ((o.1, k.1), os)) a (pair_left p, (pair_right p, h)))
-reduce us w es fewer lighter le o k os a p h (both_functions {s = s} {t = t} {k = m} {l = n}) = turn (is_one s m ∷ is_one t n ∷ es) (is_one (function_ty s t) (function_ty m n) ∷ es)
+    (lighter (is_one s m ∷ is_one t n ∷ es) (omega arith) ((o.0, k.0), ((o.1, k.1), os)))
+reduce us w es fewer lighter le o k os (both_functions {s = s} {t = t} {k = m} {l = n}) = turn (is_one s m ∷ is_one t n ∷ es) (is_one (function_ty s t) (function_ty m n) ∷ es)
     (λ b q. (rw (q.0, q.1.0) refl, q.1.1))
     (λ b q. (function_left q.0, (function_right q.0, q.1)))
-    (lighter (is_one s m ∷ is_one t n ∷ es) (omega arith) ((o.0, k.0), ((o.1, k.1), os)) a (function_left p, (function_right p, h)))
-reduce us w es fewer lighter le o k os a p h (both_codes {c = c} {d = d} {s = s} {t = t}) = compose (is_one s t ∷ es) (is_one (code_ty c s) (code_ty d t) ∷ es) (rename c d)
+    (lighter (is_one s m ∷ is_one t n ∷ es) (omega arith) ((o.0, k.0), ((o.1, k.1), os)))
+reduce us w es fewer lighter le o k os (both_codes {c = c} {d = d} {s = s} {t = t}) = compose (is_one s t ∷ es) (is_one (code_ty c s) (code_ty d t) ∷ es) (rename c d)
     (λ b q. rename_keeps c d b (code_left q.0))
     (λ b q. (code_right q.0, q.1))
     (λ b q. let z = from_applied b (rename c d) (is_one s t ∷ es) q in (rw (renamed c d b, z.0) refl, z.1))
-    (lighter (apply_all (rename c d) (is_one s t ∷ es)) (let e = rename_weight c d (is_one s t ∷ es) in omega arith) (rename_all_over c d us (is_one s t ∷ es) ((o, k), os)) a
-    (to_applied a (rename c d) (is_one s t ∷ es) (solves_same (rename_keeps c d a (code_left p)) (is_one s t ∷ es) (code_right p, h))))
-reduce us w es fewer lighter le o k os a p h (both_closed {s = s} {t = t}) = turn (is_one s t ∷ es) (is_one (closed_ty s) (closed_ty t) ∷ es)
+    (lighter (apply_all (rename c d) (is_one s t ∷ es)) (let e = rename_weight c d (is_one s t ∷ es) in omega arith) (rename_all_over c d us (is_one s t ∷ es) ((o, k), os)))
+reduce us w es fewer lighter le o k os (both_closed {s = s} {t = t}) = turn (is_one s t ∷ es) (is_one (closed_ty s) (closed_ty t) ∷ es)
     (λ b q. (rw q.0 refl, q.1))
     (λ b q. (closed_below q.0, q.1))
-    (lighter (is_one s t ∷ es) (omega arith) ((o, k), os) a (closed_below p, h))
-reduce us w es fewer lighter le o k os a p h (clash f) = absurd (f a p)
+    (lighter (is_one s t ∷ es) (omega arith) ((o, k), os))
+reduce us w es fewer lighter le o k os (clash f) = inr (λ h. f h.0 h.1.0)
 
-identity : Found []
-identity = (record { ty = λ u. unknown u; classifier = λ c. c }, record { sound = λ b. tt; keeps = λ a h. record { types = λ u. refl; classifiers = λ c. refl } })
+identity : Decided []
+identity = inl (record { ty = λ u. unknown u; classifier = λ c. c }, record { sound = λ b. tt; keeps = λ a h. record { types = λ u. refl; classifiers = λ c. refl } })
 
 all_lighter : (us : List ℕ) → Fewer us → (w : ℕ) → Lighter us w
-all_lighter us fewer w [] le os a h = identity
-all_lighter us fewer zero (e ∷ es) le os a h = absurd (let p = nodes_some e.left in omega arith)
-all_lighter us fewer (suc w) (e ∷ es) le os a h = reduce us w es fewer (all_lighter us fewer w) le os.0.0 os.0.1 os.1 a h.0 h.1 (view e.left e.right)
+all_lighter us fewer w [] le os = identity
+all_lighter us fewer zero (e ∷ es) le os = absurd (let p = nodes_some e.left in omega arith)
+all_lighter us fewer (suc w) (e ∷ es) le os = reduce us w es fewer (all_lighter us fewer w) le os.0.0 os.0.1 os.1 (view e.left e.right)
 
-all_found : (k : ℕ) (us : List ℕ) → length us < k → (es : List TypeEquation) → AllOver us es → (a : Assignment) → Solves a es → Found es
-all_found zero us lt es os a h = absurd (omega arith)
-all_found (suc k) us lt es os a h = all_lighter us (λ vs vl. all_found k vs (omega arith)) (weight es) es (omega arith) os a h
+all_decided : (k : ℕ) (us : List ℕ) → length us < k → (es : List TypeEquation) → AllOver us es → Decided es
+all_decided zero us lt es os = absurd (omega arith)
+all_decided (suc k) us lt es os = all_lighter us (λ vs vl. all_decided k vs (omega arith)) (weight es) es (omega arith) os
 
 -- the first numbers
 below : ℕ → List ℕ
@@ -140,12 +139,17 @@ all_over_below : (n m : ℕ) (es : List TypeEquation) → AllWithin n m es → A
 all_over_below n m [] w = tt
 all_over_below n m (e ∷ es) w = ((over_below n m e.left w.0.0, over_below n m e.right w.0.1), all_over_below n m es w.1)
 
+pub most_general_or_none : (n m : ℕ) (es : List TypeEquation) → AllWithin n m es → ((s : Substitution) × MostGeneral n m es s) ⊎ (Solvable es → ⊥)
+most_general_or_none n m es w = elim (all_decided (suc (length (below n))) (below n) (omega arith) es (all_over_below n m es w)) [
+  | inl f ↦ inl (
+    f.0,
+    record {
+      sound = f.1.sound;
+      general = λ a k. let z = f.1.keeps a k in (a, record { types = λ u lt. z.types u; classifiers = λ c lt. z.classifiers c });
+    },
+  )
+  | inr none ↦ inr none
+]
+
 pub most_general_of : (n m : ℕ) (es : List TypeEquation) → AllWithin n m es → Solvable es → (s : Substitution) × MostGeneral n m es s
-most_general_of n m es w h =
-    let f = all_found (suc (length (below n))) (below n) (omega arith) es (all_over_below n m es w) h.0 h.1 in (
-      f.0,
-      record {
-        sound = f.1.sound;
-        general = λ a k. let z = f.1.keeps a k in (a, record { types = λ u lt. z.types u; classifiers = λ c lt. z.classifiers c });
-      },
-    )
+most_general_of n m es w h = elim (most_general_or_none n m es w) [ inl g ↦ g | inr none ↦ absurd (none h) ]

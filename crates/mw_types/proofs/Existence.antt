@@ -1,7 +1,7 @@
--- Equations that have a solution have a most general one: by elimination of one unknown after another.
+-- Equations have a most general solution or none: by elimination of one unknown after another.
 use Rattle.std.proofs.Common.{◌≡◌, ◌≢◌, ◌⊎◌, inl, inr, ℕ, suc, ◌+◌, ◌≤◌, ◌<◌, List, [], ◌∷◌, length, refl, ap, sym, ◌∙◌, arith}
 use Rattle.mw_types.specs.Types.{TypeExpression, int_ty, bool_ty, unknown, pair_ty, function_ty, code_ty, closed_ty, Assignment, value, nodes, size, Substitution, after}
-use Rattle.mw_types.specs.Equations.{TypeEquation, Solves}
+use Rattle.mw_types.specs.Equations.{TypeEquation, Solves, Solvable}
 use Rattle.mw_types.specs.Walks.{In}
 use Rattle.mw_types.proofs.Lists.{Is, same, other, is}
 
@@ -65,16 +65,21 @@ pub record General (es : List TypeEquation) (s : Substitution) : Type 0 where
 abbrev pub Found : List TypeEquation → Type 0
 Found es = (s : Substitution) × General es s
 
+-- equations have a most general solution, or none
+abbrev pub Decided : List TypeEquation → Type 0
+Decided es = Found es ⊎ (Solvable es → ⊥)
+
 -- the same solutions
-pub turn : (es fs : List TypeEquation) → ((a : Assignment) → Solves a es → Solves a fs) → ((a : Assignment) → Solves a fs → Solves a es) → Found es → Found fs
-turn es fs to from f = (f.0, record { sound = λ b. to (after b f.0) (f.1.sound b); keeps = λ a h. f.1.keeps a (from a h) })
+pub turn : (es fs : List TypeEquation) → ((a : Assignment) → Solves a es → Solves a fs) → ((a : Assignment) → Solves a fs → Solves a es) → Decided es → Decided fs
+turn es fs to from (inl f) = inl (f.0, record { sound = λ b. to (after b f.0) (f.1.sound b); keeps = λ a h. f.1.keeps a (from a h) })
+turn es fs to from (inr n) = inr (λ h. n (h.0, from h.0 h.1))
 
 abbrev pub then : Substitution → Substitution → Substitution
 then s k = record { ty = λ u. apply s (k.ty u); classifier = λ c. s.classifier (k.classifier c) }
 
 -- first a substitution that changes no solution, then a most general solution of what is left
-pub compose : (es fs : List TypeEquation) (k : Substitution) → ((a : Assignment) → Solves a fs → Same a (after a k)) → ((a : Assignment) → Solves a fs → Solves a es) → ((b : Assignment) → Solves b (apply_all k es) → Solves (after b k) fs) → Found (apply_all k es) → Found fs
-compose es fs k keeps some enough f = (
+pub compose : (es fs : List TypeEquation) (k : Substitution) → ((a : Assignment) → Solves a fs → Same a (after a k)) → ((a : Assignment) → Solves a fs → Solves a es) → ((b : Assignment) → Solves b (apply_all k es) → Solves (after b k) fs) → Decided (apply_all k es) → Decided fs
+compose es fs k keeps some enough (inl f) = inl (
   then f.0 k,
   record {
     sound = λ b. solves_same (record { types = λ u. sym (value_apply b f.0 (k.ty u)); classifiers = λ c. refl }) fs (enough (after b f.0) (f.1.sound b));
@@ -87,6 +92,7 @@ compose es fs k keeps some enough f = (
         };
   },
 )
+compose es fs k keeps some enough (inr n) = inr (λ h. n (h.0, to_applied h.0 k es (solves_same (keeps h.0 h.1) es (some h.0 h.1))))
 
 -- the unknowns of a type are in a list
 abbrev pub Over : List ℕ → TypeExpression → Type 0
@@ -112,33 +118,33 @@ IsAbsent u (code_ty c t) = IsAbsent u t
 IsAbsent u (closed_ty t) = IsAbsent u t
 
 -- an unknown is in no type that it is equal to, since finite types have no part of their own size
-pub data Occurs (a : Assignment) (u : ℕ) (t : TypeExpression) : Type 0 where
-  absent : IsAbsent u t → Occurs a u t
-  itself : t ≡ unknown u → Occurs a u t
-  within : size (a.ty u) < size (value a t) → Occurs a u t
+pub data Occurs (u : ℕ) (t : TypeExpression) : Type 0 where
+  absent : IsAbsent u t → Occurs u t
+  itself : t ≡ unknown u → Occurs u t
+  within : ((a : Assignment) → size (a.ty u) < size (value a t)) → Occurs u t
 
-no_larger : {a : Assignment} {u : ℕ} {t : TypeExpression} → Occurs a u t → IsAbsent u t ⊎ (size (a.ty u) ≤ size (value a t))
+no_larger : {u : ℕ} {t : TypeExpression} → Occurs u t → IsAbsent u t ⊎ ((a : Assignment) → size (a.ty u) ≤ size (value a t))
 no_larger (absent n) = inl n
-no_larger {a = a} (itself e) = inr (rw e (omega arith))
-no_larger (within lt) = inr (omega arith)
+no_larger (itself e) = inr (λ a. rw e (omega arith))
+no_larger (within lt) = inr (λ a. let p = lt a in omega arith)
 
-occurs_two : {a : Assignment} {u : ℕ} {s t : TypeExpression} → Occurs a u s → Occurs a u t → (IsAbsent u s × IsAbsent u t) ⊎ (size (a.ty u) < size (value a s) + size (value a t) + 1)
+occurs_two : {u : ℕ} {s t : TypeExpression} → Occurs u s → Occurs u t → (IsAbsent u s × IsAbsent u t) ⊎ ((a : Assignment) → size (a.ty u) < size (value a s) + size (value a t) + 1)
 occurs_two p q = elim (no_larger p) [
   | inl n ↦ elim (no_larger q) [
     | inl m ↦ inl (n, m)
-    | inr le ↦ inr (omega arith)
+    | inr le ↦ inr (λ a. let k = le a in omega arith)
   ]
-  | inr le ↦ inr (omega arith)
+  | inr le ↦ inr (λ a. let k = le a in omega arith)
 ]
 
-pub occurs : (a : Assignment) (u : ℕ) (t : TypeExpression) → Occurs a u t
-occurs a u int_ty = absent tt
-occurs a u bool_ty = absent tt
-occurs a u (unknown v) = elim (is v u) [ same e ↦ itself (ap unknown e) | other n ↦ absent n ]
-occurs a u (pair_ty s t) = elim (occurs_two (occurs a u s) (occurs a u t)) [ inl n ↦ absent n | inr lt ↦ within lt ]
-occurs a u (function_ty s t) = elim (occurs_two (occurs a u s) (occurs a u t)) [ inl n ↦ absent n | inr lt ↦ within lt ]
-occurs a u (code_ty c t) = elim (no_larger (occurs a u t)) [ inl n ↦ absent n | inr le ↦ within (omega arith) ]
-occurs a u (closed_ty t) = elim (no_larger (occurs a u t)) [ inl n ↦ absent n | inr le ↦ within (omega arith) ]
+pub occurs : (u : ℕ) (t : TypeExpression) → Occurs u t
+occurs u int_ty = absent tt
+occurs u bool_ty = absent tt
+occurs u (unknown v) = elim (is v u) [ same e ↦ itself (ap unknown e) | other n ↦ absent n ]
+occurs u (pair_ty s t) = elim (occurs_two (occurs u s) (occurs u t)) [ inl n ↦ absent n | inr lt ↦ within lt ]
+occurs u (function_ty s t) = elim (occurs_two (occurs u s) (occurs u t)) [ inl n ↦ absent n | inr lt ↦ within lt ]
+occurs u (code_ty c t) = elim (no_larger (occurs u t)) [ inl n ↦ absent n | inr le ↦ within (λ a. let k = le a in omega arith) ]
+occurs u (closed_ty t) = elim (no_larger (occurs u t)) [ inl n ↦ absent n | inr le ↦ within (λ a. let k = le a in omega arith) ]
 
 -- a list without a number
 kept_in : {x u : ℕ} → Is x u → ℕ → List ℕ → List ℕ

@@ -12,7 +12,7 @@ use Rattle.mw_types.specs.declared.types.SolveFault.TheVariants.{Unsolvable, Too
 use Rattle.mw_types.proofs.Smallest.{same_sizes, small_of_most_general, most_general_small, too_big_not_small, solves_take, small_take}
 use Rattle.mw_term.specs.Types.{int_type}
 use Rattle.mw_types.proofs.Lists.{same, other, is}
-use Rattle.mw_types.proofs.Elimination.{most_general_of}
+use Rattle.mw_types.proofs.Elimination.{most_general_of, most_general_or_none}
 
 -- either no type is too big, or some is
 abbrev Large : (ℕ → ℕ) → ℕ → Type 0
@@ -110,6 +110,37 @@ one_fault n m es = record {
   where
     ordered : (j k : ℕ) → (j < k) ⊎ (k ≤ j)
     ordered j k = grind arith
+
+-- equations are fine, too big or without a solution
+front_verdict : (n m : ℕ) (es : List TypeEquation) → AllWithin n m es → Fine n m es ⊎ (TooBig n m es ⊎ (Solvable es → ⊥))
+front_verdict n m es w = elim (most_general_or_none n m es w) [
+  | inl g ↦ elim (sizes (λ u. nodes (g.0.ty u)) n) [
+    | inl small ↦ inl (g.0, g.1, small)
+    | inr large ↦ inr (inl (g.0, g.1, large.0, large.1, large.2))
+  ]
+  | inr none ↦ inr (inr none)
+]
+
+-- each shorter front is fine, or there is a first fault
+abbrev FineBelow : ℕ → ℕ → List TypeEquation → ℕ → Type 0
+FineBelow n m es k = ((j : ℕ) → j < k → Fine n m (take j es)) ⊎ (((j : ℕ) × FirstUnsolvable n m es j) ⊎ ((j : ℕ) × FirstTooBig n m es j))
+
+fine_next : (n m : ℕ) (es : List TypeEquation) (k : ℕ) → k ≤ length es → FineBelow n m es k → Fine n m (take k es) ⊎ (TooBig n m (take k es) ⊎ (Solvable (take k es) → ⊥)) → FineBelow n m es (suc k)
+fine_next n m es k le (inr fault) d = inr fault
+fine_next n m es k le (inl f) (inl g) = inl (λ j lt. elim (is j k) [ same e ↦ rw e g | other o ↦ f j (omega arith) ])
+fine_next n m es k le (inl f) (inr (inl big)) = inr (inr (k, record { within = le; too_big = big; shorter = f }))
+fine_next n m es k le (inl f) (inr (inr none)) = inr (inl (k, record { within = le; unsolvable = none; shorter = f }))
+
+fine_below : (n m : ℕ) (es : List TypeEquation) → AllWithin n m es → (k : ℕ) → k ≤ suc (length es) → FineBelow n m es k
+fine_below n m es w zero le = inl (λ j lt. absurd (omega arith))
+fine_below n m es w (suc k) le = fine_next n m es k (omega arith) (fine_below n m es w k (omega arith)) (front_verdict n m (take k es) (front_within n m es k w))
+
+-- equations are fine or have a first fault
+pub fine_or_faulty : (n m : ℕ) (es : List TypeEquation) → AllWithin n m es → Fine n m es ⊎ (((k : ℕ) × FirstUnsolvable n m es k) ⊎ ((k : ℕ) × FirstTooBig n m es k))
+fine_or_faulty n m es w = elim (fine_below n m es w (suc (length es)) (omega arith)) [
+  | inl f ↦ inl (subst (λ fs. Fine n m fs) (whole es) (f (length es) (omega arith)))
+  | inr fault ↦ inr fault
+]
 
 -- the answers that are left where there is a first fault, or none
 pub fault_only : (n m : ℕ) (es : List TypeEquation) (f : SolveFault) (k : ℕ) → FirstFault n m es f → FirstUnsolvable n m es k → IsFaultOrMemory (Err f) (Unsolvable k)

@@ -1,5 +1,5 @@
 -- Laws of most general solutions and of fronts.
-use Rattle.std.specs.Prelude.{ℕ, ◌≡◌, ◌≤◌, ◌<◌, List, take}
+use Rattle.std.specs.Prelude.{ℕ, ◌≡◌, ◌≤◌, ◌<◌, ◌⊎◌, List, take}
 use Rattle.mw_types.specs.Types.{Assignment, Substitution, nodes, after}
 use Rattle.mw_types.specs.Equations.{TypeEquation, AllWithin, Solvable, Agree, MostGeneral, TooBig, Fine, FirstUnsolvable, FirstTooBig}
 
@@ -37,3 +37,7 @@ pub record OneFault (n m : ℕ) (es : List TypeEquation) : Type 0 where
 
 abbrev pub FaultsAreOne : Type 0
 FaultsAreOne = (n m : ℕ) (es : List TypeEquation) → OneFault n m es
+
+-- and they are fine where they have none
+abbrev pub FineOrFaulty : Type 0
+FineOrFaulty = (n m : ℕ) (es : List TypeEquation) → AllWithin n m es → Fine n m es ⊎ (((k : ℕ) × FirstUnsolvable n m es k) ⊎ ((k : ℕ) × FirstTooBig n m es k))

@@ -1,6 +1,6 @@
 // Laws of most general solutions and of fronts, which no program calls.
 
-ghost use Rattle.mw_types.specs.SolutionLaws.{SolvableHaveMostGeneral, MostGeneralAreInstances, MostGeneralHaveSameSizes, UnsolvableStays, TooBigStays, FineBefore, FaultsAreOne};
+ghost use Rattle.mw_types.specs.SolutionLaws.{SolvableHaveMostGeneral, MostGeneralAreInstances, MostGeneralHaveSameSizes, UnsolvableStays, TooBigStays, FineBefore, FaultsAreOne, FineOrFaulty};
 
 /// Equations that have a solution have a most general one.
 pub fn solvable_have_most_general()
@@ -35,4 +35,9 @@ pub fn fine_before()
 /// Equations have at most one first fault, and none where they are fine.
 pub fn faults_are_one()
     ensures { FaultsAreOne }
+{}
+
+/// Equations are fine or have a first fault.
+pub fn fine_or_faulty()
+    ensures { FineOrFaulty }
 {}

@@ -12,7 +12,7 @@ use Rattle.mw_wasm.specs.Profile.{depth}
 use Rattle.mw_wasm.specs.FormatExamples.{ExampleAIsSpelled, ExampleBIsSpelled, LongerIndexIsSpelled, PaddedModuleIsSpelled, EmptyElseIsSpelled, ExamplesAreWithinProfile, nested, DepthEndsAt500, SixBytesAreNoIndex, UnusedBitsAreZero, MinusOneIsSpelled, UnusedBitsAreTheSign}
 
 -- one piece of n bytes, and another
-cut : (n : ℕ) {P Q : List ℕ → Type 0} {bytes : List ℕ} → P (take n bytes) → Q (drop n bytes) → Joined P Q bytes
+pub cut : (n : ℕ) {P Q : List ℕ → Type 0} {bytes : List ℕ} → P (take n bytes) → Q (drop n bytes) → Joined P Q bytes
 cut n {bytes = bytes} p q = record { front = take n bytes; back = drop n bytes; whole = sym (take-append-drop n bytes); first = p; second = q }
 
 -- a size of n bytes, and its piece
@@ -23,13 +23,13 @@ no_customs : Customs []
 no_customs = record { contents = []; spelled = refl }
 
 -- numbers of one byte
-small : (b : ℕ) → T (ltb b 0x80) → IsUnsigned 32 (b ∷ []) b
+pub small : (b : ℕ) → T (ltb b 0x80) → IsUnsigned 32 (b ∷ []) b
 small b t = let h : b < 2 ^ 7 = ltb→lt b 0x80 t in (h, omega arith, refl)
 
-small_i32 : (b : ℕ) → T (ltb b 0x40) → IsInteger 32 (b ∷ []) b
+pub small_i32 : (b : ℕ) → T (ltb b 0x40) → IsInteger 32 (b ∷ []) b
 small_i32 b t = let h : b < 2 ^ 6 = ltb→lt b 0x40 t in (pos b, inl (h, omega arith, refl), refl)
 
-small_i64 : (b : ℕ) → T (ltb b 0x40) → IsInteger 64 (b ∷ []) b
+pub small_i64 : (b : ℕ) → T (ltb b 0x40) → IsInteger 64 (b ∷ []) b
 small_i64 b t = let h : b < 2 ^ 6 = ltb→lt b 0x40 t in (pos b, inl (h, omega arith, refl), refl)
 
 two_bytes : IsUnsigned 32 (0x81 ∷ 0x00 ∷ []) 1
@@ -188,9 +188,8 @@ padded_module_is_spelled = cut 8 refl (cut 8 two_customs (cut 13 types_a
     (cut 0 no_customs (cut 8 codes_a (cut 0 no_customs (cut 0 (inl (refl, refl)) empty_custom))))))))))))))))))))
 
 pub examples_are_within_profile : ExamplesAreWithinProfile
-examples_are_within_profile = (
-  record {
-    bytes_in_all = lit≤ tt;
+examples_are_within_profile = record {
+  module_a = record {
     table_elements = lit≤ tt;
     memory_pages = lit≤ tt;
     further_locals = (lit≤ tt, tt);
@@ -199,9 +198,8 @@ examples_are_within_profile = (
     global_depth = (lit≤ tt, tt);
     element_depth = tt;
     segment_depth = tt;
-  },
-  record {
-    bytes_in_all = lit≤ tt;
+  };
+  module_b = record {
     table_elements = lit≤ tt;
     memory_pages = lit≤ tt;
     further_locals = (lit≤ tt, (lit≤ tt, (lit≤ tt, tt)));
@@ -213,8 +211,10 @@ examples_are_within_profile = (
     global_depth = (lit≤ tt, tt);
     element_depth = (lit≤ tt, tt);
     segment_depth = tt;
-  },
-)
+  };
+  file_a = lit≤ tt;
+  file_b = lit≤ tt;
+}
 
 depth_nested : (n : ℕ) → depth (nested n) ≡ n
 depth_nested zero = refl

@@ -2,13 +2,24 @@ pub mod NumericOperands
 pub mod ExamplesValid
 pub mod ActLaws
 pub mod Acts
+pub mod Arguments
 pub mod ControlExamples
 pub mod ExecutionExamples
 pub mod ExecutionLaw
 pub mod MoreUnits
+mod NumericRows
+mod MemoryRows
+mod ControlRows
+mod InvalidExamples
 pub mod OneRule
 pub mod RunIsExecution
 pub mod RunLaw
+mod OperandTypes
+mod TypedActs
+pub mod ActTypes
+pub mod Preservation
+pub mod Soundness
+pub mod InstanceTypes
 pub mod FormatPieces
 pub mod FormatNumbers
 mod FormatOpcodes
@@ -16,3 +27,5 @@ pub mod FormatInstructions
 mod FormatSections
 pub mod FormatModules
 mod FormatCuts
+mod OpcodeRows
+mod NothingSpelled

@@ -4,6 +4,7 @@ use Rattle.std.specs.Prelude.{slice_get}
 use Rattle.std.proofs.lemmas.List.{nil_from_length, append-nil}
 use Rattle.mw_wasm.specs.declared.values.Value.{Value}
 use Rattle.mw_wasm.specs.declared.modules.FuncType.{FuncType}
+use Rattle.mw_wasm.specs.NumericTypes.{type_of_value}
 use Rattle.mw_wasm.specs.Syntax.{PureModule, Function, Code, end, next, const_i32, const_i64}
 use Rattle.mw_wasm.specs.Store.{Store, zero_of}
 use Rattle.mw_wasm.specs.Act as acts
@@ -17,6 +18,7 @@ use Rattle.mw_wasm.specs.Redex.{Around, in_label, in_frame, Config, at, Next, mo
 use Rattle.mw_wasm.specs.Instances.{invoked}
 use Rattle.mw_wasm.specs.ReductionLaws.{IsOff, IsOneRule, RunIsExecution}
 use Rattle.mw_wasm.proofs.ActLaws.{KeepsLocals, act_keeps}
+use Rattle.mw_wasm.proofs.Arguments.{arguments_are_taken}
 use Rattle.mw_wasm.proofs.ExecutionLaw.{execution_is}
 use Rattle.mw_wasm.proofs.OneRule.{one_rule}
 use Rattle.mw_wasm.proofs.RunLaw.{Less, reduce_less, run_is}
@@ -113,10 +115,10 @@ module _ (m : PureModule) where
 pub run_is_execution : RunIsExecution
 run_is_execution m n c h = below_is m (suc n) n c (omega arith) h
 
--- an invocation as a run of the state taken apart
-pub invoked_is_run : (m : PureModule) (st : Store) (f : ℕ) (args : List Value) (n : ℕ) (g : Function) (t : FuncType) → slice_get m.funcs f ≡ Some g → slice_get m.types g.kind ≡ Some t
+-- an invocation with arguments of its function's types, as a run of the state taken apart
+pub invoked_is_run : (m : PureModule) (st : Store) (f : ℕ) (args : List Value) (n : ℕ) (g : Function) (t : FuncType) → slice_get m.funcs f ≡ Some g → slice_get m.types g.kind ≡ Some t → map type_of_value args ≡ t.params
     → invoked m st f args n ≡ run m n (at st (args ++ map zero_of g.locals) [] g.body (in_label (length t.results) end [] end ∷ in_frame (length t.results) [] [] end ∷ []))
-invoked_is_run m st f args n g t is_g is_t = rw (is_g, is_t) (sym (run_is_execution m n (at st (args ++ map zero_of g.locals) [] g.body (in_label (length t.results) end [] end ∷ in_frame (length t.results) [] [] end ∷ [])) refl))
+invoked_is_run m st f args n g t is_g is_t fit = arguments_are_taken m st f args n g t record { is_function = is_g; is_type = is_t } fit ∙ sym (run_is_execution m n (at st (args ++ map zero_of g.locals) [] g.body (in_label (length t.results) end [] end ∷ in_frame (length t.results) [] [] end ∷ [])) refl)
 
 -- at the end of a function's body its values are what the invocation gives
 pub leaves_all : (m : PureModule) (n k : ℕ) (st : Store) (ls vs : List Value) → run m n (at st ls vs end (in_label k end [] end ∷ in_frame k [] [] end ∷ [])) ≡ ended st vs n

@@ -4,7 +4,7 @@ use Rattle.mw_wasm.specs.Leb.{IsUnsigned, IsInteger}
 use Rattle.mw_wasm.specs.BinaryInstructions.{SpellsExpression}
 use Rattle.mw_wasm.specs.BinaryModules.{Spells}
 use Rattle.mw_wasm.specs.Syntax.{Code, block, cond, const_i32, end, next}
-use Rattle.mw_wasm.specs.Profile.{IsWithinProfile, IsShallow}
+use Rattle.mw_wasm.specs.Profile.{IsWithinFileLimit, IsWithinProfile, IsShallow}
 use Rattle.mw_wasm.specs.ExampleModules.{example_a, example_b}
 
 -- a constant: 64 bytes
@@ -87,9 +87,12 @@ abbrev pub EmptyElseIsSpelled : Type 0
 EmptyElseIsSpelled = SpellsExpression (0x41 ∷ 0x00 ∷ 0x04 ∷ 0x40 ∷ 0x0B ∷ 0x0B ∷ []) if_nothing
     × SpellsExpression (0x41 ∷ 0x00 ∷ 0x04 ∷ 0x40 ∷ 0x05 ∷ 0x0B ∷ 0x0B ∷ []) if_nothing
 
--- both modules are within the profile
-abbrev pub ExamplesAreWithinProfile : Type 0
-ExamplesAreWithinProfile = IsWithinProfile bytes_a example_a × IsWithinProfile bytes_b example_b
+-- both modules are within the profile, and their files within the limit
+pub record ExamplesAreWithinProfile : Type 0 where
+  pub module_a : IsWithinProfile example_a
+  pub module_b : IsWithinProfile example_b
+  pub file_a : IsWithinFileLimit bytes_a
+  pub file_b : IsWithinFileLimit bytes_b
 
 -- so many blocks, each in the one before
 abbrev pub nested : ℕ → Code

@@ -1,15 +1,17 @@
 -- Instances, and the invocation of a function (standard: Execution, Modules, Instantiation and Invocation).
-use Rattle.std.specs.Prelude.{ℕ, ◌+◌, ◌-◌, nat_eq, nat_le, Bool, true, not, if◌then◌else◌, List, [], ◌∷◌, ◌++◌, map, length, take, drop, replicate, position, get_or, Option, Some, None, unwrap_or, Result, Ok, Err, slice_get}
+use Rattle.std.specs.Prelude.{ℕ, ◌+◌, ◌-◌, nat_eq, nat_le, Bool, true, false, not, if◌then◌else◌, List, [], ◌∷◌, ◌++◌, map, length, take, drop, replicate, position, get_or, Option, Some, None, unwrap_or, Result, Ok, Err, slice_get}
 use Rattle.std.specs.Cmp.Lexicographic.{pointwise}
 use Rattle.mw_wasm.specs.declared.values.Value.{Value}
 use Rattle.mw_wasm.specs.declared.values.Value.TheVariants.{I32}
+use Rattle.mw_wasm.specs.declared.values.ValType.{ValType}
 use Rattle.mw_wasm.specs.declared.modules.Limits.{Limits}
 use Rattle.mw_wasm.specs.declared.modules.FuncType.{FuncType}
 use Rattle.mw_wasm.specs.declared.modules.Exported.{Exported}
 use Rattle.mw_wasm.specs.declared.modules.Exported.TheVariants as exported_as
 use Rattle.mw_wasm.specs.Syntax.{Code, end, next, Function, Global, Exporting, ElementSegment, DataSegment, PureModule}
 use Rattle.mw_wasm.specs.Store.{Memory, Store, zero_of, is_inside, is_among}
-use Rattle.mw_wasm.specs.Act.{constant, bits_of}
+use Rattle.mw_wasm.specs.NumericTypes.{type_of_value}
+use Rattle.mw_wasm.specs.Act.{constant, bits_of, same_value_types}
 use Rattle.mw_wasm.specs.Reduction.{label, frame, Sequence, nothing, first, code_then}
 use Rattle.mw_wasm.specs.Execution.{End, lost, execution}
 
@@ -105,6 +107,15 @@ on_found (Some x) go = go x
 abbrev pub invocation : FuncType → Function → List Value → Sequence
 invocation t f args = first (frame (length t.results) (args ++ map zero_of f.locals) (first (label (length t.results) end (code_then f.body nothing)) nothing)) nothing
 
--- The invocation of function f with arguments of its parameters' types and n units. It spends nothing itself.
+-- whether the arguments have these types, each its own, and are as many
+abbrev pub are_arguments : List ValType → List Value → Bool
+are_arguments params args = same_value_types params (map type_of_value args)
+
+abbrev pub where_they_fit : Bool → End → End
+where_they_fit true go = go
+where_they_fit false go = lost
+
+-- The invocation of function f with these arguments and n units. It spends nothing itself. Where the arguments differ from
+-- the function's parameters, in number or in a type, the standard's invocation fails, and no rule applies: it is lost.
 abbrev pub invoked : PureModule → Store → ℕ → List Value → ℕ → End
-invoked m st f args n = on_found (slice_get m.funcs f) λ f. on_found (slice_get m.types f.kind) λ t. execution m n st (invocation t f args)
+invoked m st f args n = on_found (slice_get m.funcs f) λ f. on_found (slice_get m.types f.kind) λ t. where_they_fit (are_arguments t.params args) (execution m n st (invocation t f args))

@@ -11,9 +11,18 @@ pub mod Instances
 pub mod Validity
 pub mod ExampleModules
 pub mod ValidityExamples
+pub mod Invocations
+pub mod StateTypes
+pub mod ActTypes
+pub mod Soundness
 pub mod ExecutionExamples
 pub mod ControlExamples
 pub mod ReductionLaws
+pub mod Outcomes
+pub mod NumericRows
+pub mod MemoryRows
+pub mod ControlRows
+pub mod InvalidExamples
 pub mod Leb
 pub mod Pieces
 pub mod BinaryInstructions
@@ -21,3 +30,5 @@ pub mod BinaryModules
 pub mod Profile
 pub mod FormatLaws
 pub mod FormatExamples
+pub mod OpcodeRows
+pub mod NothingSpelled

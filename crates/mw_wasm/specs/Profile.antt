@@ -23,8 +23,12 @@ IsShallow c = depth c ≤ 500
 abbrev pub IsPrintable : ℕ → Type 0
 IsPrintable b = (0x20 ≤ b) × (b ≤ 0x7E)
 
-pub record IsWithinProfile (bytes : List ℕ) (m : PureModule) : Type 0 where
-  pub bytes_in_all : length bytes ≤ 67_108_864
+-- the longest file that is read
+abbrev pub IsWithinFileLimit : List ℕ → Type 0
+IsWithinFileLimit bytes = length bytes ≤ 67_108_864
+
+-- a module within the profile's limits, however long the file that spells it
+pub record IsWithinProfile (m : PureModule) : Type 0 where
   pub table_elements : IfSome m.table (λ t. t.min ≤ 100_000)
   pub memory_pages : IfSome m.memory (λ l. l.min ≤ 1_024)
   pub further_locals : AllByRecursion (λ f. length f.locals ≤ 50_000) m.funcs

@@ -16,6 +16,7 @@ use crate::values::{Trap, Value};
 mod tests;
 
 /// The result of a numeric instruction, or its trap. An instruction of one operand does not look at the second.
+#[inline(always)]
 pub fn numeric(op: NumOp, a: Value, b: Value) -> Result<Value, Trap>
     requires { OperandsFit op a b }
     ensures { result ≡ number_result op a b }
@@ -30,6 +31,7 @@ pub fn numeric(op: NumOp, a: Value, b: Value) -> Result<Value, Trap>
 }
 
 /// The bits of a value, read unsigned.
+#[inline(always)]
 fn all_bits(value: Value) -> u64
     ensures { result ≡ number_of value }
 {
@@ -40,6 +42,7 @@ fn all_bits(value: Value) -> u64
 }
 
 /// The lowest 32 bits of a value, read unsigned; of an i32 these are all.
+#[inline(always)]
 fn low_bits(value: Value) -> u32
     ensures lowest { result ≡ number_of value % 2 ^ 32 }
     ensures all { type_of_value value ≡ type.I32 → result ≡ number_of value }
@@ -51,6 +54,7 @@ fn low_bits(value: Value) -> u32
 }
 
 /// 1 for true and 0 for false, as comparisons give them at both widths.
+#[inline(always)]
 fn truth(holds: bool) -> Value
     ensures { result ≡ value.I32 (from_bool holds) }
 {
@@ -58,6 +62,7 @@ fn truth(holds: bool) -> Value
 }
 
 /// An operation on integers of 32 bits.
+#[inline(always)]
 fn integer32(op: IntOp, a: u32, b: u32) -> Result<Value, Trap>
     ensures { result ≡ number_result (num.I32 op) (value.I32 a) (value.I32 b) }
 {
@@ -139,6 +144,7 @@ fn remainder32(a: u32, b: u32) -> Result<Value, Trap>
 }
 
 /// An operation on integers of 64 bits.
+#[inline(always)]
 fn integer64(op: IntOp, a: u64, b: u64) -> Result<Value, Trap>
     ensures { result ≡ number_result (num.I64 op) (value.I64 a) (value.I64 b) }
 {

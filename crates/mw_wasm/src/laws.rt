@@ -2,5 +2,8 @@
 
 pub mod executions;
 pub mod format;
+pub mod invocations;
 pub mod reduction;
+pub mod rows;
+pub mod soundness;
 pub mod validity;

@@ -9,13 +9,13 @@ use mw_term::{Refusal, Stop};
 use std::alloc::Global;
 use std::test::Fail;
 
-fn surface(alloc: Global, bytes: &[u8]) -> Result<Surface, Stop> {
+pub fn surface(alloc: Global, bytes: &[u8]) -> Result<Surface, Stop> {
     let tokens = lex(alloc, bytes)?;
     parse(alloc, &tokens, bytes.len() as u32)
 }
 
 /// The text of the tree, or of the refusal.
-fn shown(alloc: Global, bytes: &[u8]) -> Result<String, Fail> {
+pub fn shown(alloc: Global, bytes: &[u8]) -> Result<String, Fail> {
     Ok(match surface(alloc, bytes) {
         Ok(tree) => format!(in alloc; "{tree:?}")?,
         Err(stop) => format!(in alloc; "{stop:?}")?,
@@ -39,14 +39,14 @@ fn wanted(alloc: Global, text: &str) -> Result<String, Fail> {
 }
 
 /// The text of a program of main alone, with this text of its expression.
-fn of_body(alloc: Global, text: &str) -> Result<String, Fail> {
+pub fn of_body(alloc: Global, text: &str) -> Result<String, Fail> {
     Ok(format!(in alloc;
-        "Surface {{ items: SurfaceItems {{ inner: [] }}, result: Int, body: {text} }}"
+        "Surface {{ items: SurfaceItems {{ inner: [] }}, result: Base(Int), body: {text} }}"
     )?)
 }
 
 /// The two parts of a row.
-fn parts<'a>(row: &'a str) -> Result<(&'a str, &'a str), Fail> {
+pub fn parts<'a>(row: &'a str) -> Result<(&'a str, &'a str), Fail> {
     Ok(row.split_once(" => ").ok_or("a row without a mark")?)
 }
 
@@ -134,10 +134,10 @@ const HEADS: [&str; 32] = [
     "liftb 1 => LiftB(13, Int(1))",
     "1 + open 2 => Prim(Add, Int(1), OpenCode(17, Int(2)))",
     "lift(liftb(open(close 1))) => Lift(13, LiftB(18, OpenCode(24, CloseCode(29, Int(1)))))",
-    "run[int] 1 => Run(13, Base(Int), Int(1))",
-    "run [ bool ] 1 => Run(13, Base(Bool), Int(1))",
-    "run[int -> bool] 1 2 => App(Run(13, Fun(Base(Int), Bool), Int(1)), Int(2))",
-    "run[((bool))->int]1 => Run(13, Fun(Base(Bool), Int), Int(1))",
+    "run[int] 1 => Run(13, Ground(Base(Int)), Int(1))",
+    "run [ bool ] 1 => Run(13, Ground(Base(Bool)), Int(1))",
+    "run[int -> bool] 1 2 => App(Run(13, Fun(Base(Int), Base(Bool)), Int(1)), Int(2))",
+    "run[((bool))->int]1 => Run(13, Fun(Base(Bool), Base(Int)), Int(1))",
     ".<1>. => Bracket(13, Int(1))",
     ".~1 => Escape(13, Int(1))",
     ".~.~1 => Escape(13, Escape(15, Int(1)))",
@@ -188,42 +188,6 @@ fn expressions_have_their_trees(rt: HostRuntime) -> Result<(), Fail> {
     Ok(())
 }
 
-/// Kernel types, each with its text.
-const KERNEL_TYPES: [&str; 12] = [
-    "int => Base(Int)",
-    "bool => Base(Bool)",
-    "int -> int => Fun(Base(Int), Int)",
-    "bool->bool => Fun(Base(Bool), Bool)",
-    "(int) -> bool => Fun(Base(Int), Bool)",
-    "int * bool -> int => Fun(Pair(Base(Int), Base(Bool)), Int)",
-    "(int * bool) -> int => Fun(Pair(Base(Int), Base(Bool)), Int)",
-    "int*bool*int->int => Fun(Pair(Base(Int), Pair(Base(Bool), Base(Int))), Int)",
-    "(int * bool) * int -> int => Fun(Pair(Pair(Base(Int), Base(Bool)), Base(Int)), Int)",
-    "int * (bool * int) -> int => Fun(Pair(Base(Int), Pair(Base(Bool), Base(Int))), Int)",
-    "((int * bool) * (bool * int)) -> bool => Fun(Pair(Pair(Base(Int), Base(Bool)), Pair(Base(Bool), Base(Int))), Bool)",
-    "int * (bool) * int * bool -> int => Fun(Pair(Base(Int), Pair(Base(Bool), Pair(Base(Int), Base(Bool)))), Int)",
-];
-
-#[test]
-fn kernel_types_have_their_trees(rt: HostRuntime) -> Result<(), Fail> {
-    let alloc = rt.alloc();
-    for row in KERNEL_TYPES {
-        let (kernel_type, text) = parts(row)?;
-        let source = format!(in alloc; "kernel k : {kernel_type} = 1 ;; main : bool = 2")?;
-        let tree = format!(in alloc;
-            "Surface {{ items: SurfaceItems {{ inner: [Kernel(Placed {{ name: Name {{ bytes: [107] }}, at: 7 }}, {text}, Int(1))] }}, result: Bool, body: Int(2) }}"
-        )?;
-        let found = shown(alloc, source.as_bytes())?;
-        assert_eq!(rt; found.as_str(), tree.as_str(), "{kernel_type}");
-        let source = format!(in alloc; "main : int = run[{kernel_type}] 1")?;
-        let run = format!(in alloc; "Run(13, {text}, Int(1))")?;
-        let tree = of_body(alloc, run.as_str())?;
-        let found = shown(alloc, source.as_bytes())?;
-        assert_eq!(rt; found.as_str(), tree.as_str(), "run of {kernel_type}");
-    }
-    Ok(())
-}
-
 /// Items before a main of the type bool, each with the text of the list.
 const ITEMS: [&str; 11] = [
     " => ",
@@ -234,21 +198,21 @@ const ITEMS: [&str; 11] = [
     "let a = let b = 1 in 2 ;; => Let(Placed { name: Name { bytes: [97] }, at: 4 }, 8, Let(Name { bytes: [98] }, Int(1), Int(2)))",
     "let rec f x = 1 ;; => Let(Placed { name: Name { bytes: [102] }, at: 8 }, 14, Rec(Name { bytes: [102] }, Name { bytes: [120] }, Int(1)))",
     "let rec f x y = 1 ;; => Let(Placed { name: Name { bytes: [102] }, at: 8 }, 16, Rec(Name { bytes: [102] }, Name { bytes: [120] }, Fun(Name { bytes: [121] }, Int(1))))",
-    " kernel k : int = 1 = 2 ;; => Kernel(Placed { name: Name { bytes: [107] }, at: 8 }, Base(Int), Prim(Eq, Int(1), Int(2)))",
+    " kernel k : int = 1 = 2 ;; => Kernel(Placed { name: Name { bytes: [107] }, at: 8 }, Ground(Base(Int)), Prim(Eq, Int(1), Int(2)))",
     "let a=1;;let a=2;; => Let(Placed { name: Name { bytes: [97] }, at: 4 }, 6, Int(1)), Let(Placed { name: Name { bytes: [97] }, at: 13 }, 15, Int(2))",
-    "let a = 1 ;; kernel b : int = 2 ;; => Let(Placed { name: Name { bytes: [97] }, at: 4 }, 8, Int(1)), Kernel(Placed { name: Name { bytes: [98] }, at: 20 }, Base(Int), Int(2))",
+    "let a = 1 ;; kernel b : int = 2 ;; => Let(Placed { name: Name { bytes: [97] }, at: 4 }, 8, Int(1)), Kernel(Placed { name: Name { bytes: [98] }, at: 20 }, Ground(Base(Int)), Int(2))",
 ];
 
 /// Whole sources, each with the text of main's type and expression.
 const SPACED: [&str; 8] = [
-    "main:int=1 => Int, body: Int(1)",
-    "main : bool = true => Bool, body: Bool(true)",
-    "\tmain\r\n:\nint\r=\t1 \n => Int, body: Int(1)",
-    "# one\n#two\nmain : int = 1 => Int, body: Int(1)",
-    "main : int = 1 # no line end => Int, body: Int(1)",
-    "main : int = 1# => Int, body: Int(1)",
-    "main : int = 1 # one\r + 2 => Int, body: Int(1)",
-    "main : int = 1 # one\n+# two\n2 => Int, body: Prim(Add, Int(1), Int(2))",
+    "main:int=1 => Base(Int), body: Int(1)",
+    "main : bool = true => Base(Bool), body: Bool(true)",
+    "\tmain\r\n:\nint\r=\t1 \n => Base(Int), body: Int(1)",
+    "# one\n#two\nmain : int = 1 => Base(Int), body: Int(1)",
+    "main : int = 1 # no line end => Base(Int), body: Int(1)",
+    "main : int = 1# => Base(Int), body: Int(1)",
+    "main : int = 1 # one\r + 2 => Base(Int), body: Int(1)",
+    "main : int = 1 # one\n+# two\n2 => Base(Int), body: Prim(Add, Int(1), Int(2))",
 ];
 
 #[test]
@@ -258,7 +222,7 @@ fn programs_have_their_trees(rt: HostRuntime) -> Result<(), Fail> {
         let (items, text) = parts(row)?;
         let source = format!(in alloc; "{items} main : bool = 3")?;
         let tree = format!(in alloc;
-            "Surface {{ items: SurfaceItems {{ inner: [{text}] }}, result: Bool, body: Int(3) }}"
+            "Surface {{ items: SurfaceItems {{ inner: [{text}] }}, result: Base(Bool), body: Int(3) }}"
         )?;
         let found = shown(alloc, source.as_bytes())?;
         assert_eq!(rt; found.as_str(), tree.as_str(), "{items}");
@@ -335,7 +299,7 @@ const REFUSED_SOURCES: [&str; 16] = [
     "# main : int = 1 => Syntax(16)",
     "main  => Syntax(5)",
     "main int = 1 => Syntax(5)",
-    "main : (int) = 1 => Syntax(7)",
+    "main : (int = 1 => Syntax(12)",
     "main : int -> int = 1 => Syntax(11)",
     "mains : int = 1 => Syntax(0)",
     "main : int = 1 ;; main : int = 2 => Syntax(15)",
@@ -343,9 +307,9 @@ const REFUSED_SOURCES: [&str; 16] = [
     "let a = 1 in 2 ;; main : int = 1 => Syntax(10)",
     "let a = 1 ; main : int = 1 => Char(10)",
     "let rec a = 1 ;; main : int = 1 => Syntax(10)",
-    "kernel a : (int) = 1 ;; => Syntax(17)",
+    "main : int * = 1 => Syntax(13)",
     "kernel a : int -> int -> int = 1 ;; => Syntax(22)",
-    "kernel a : int -> (int) = 1 ;; => Syntax(18)",
+    "kernel a : int -> (int -> int) = 1 ;; => Syntax(23)",
     "kernel a : (int -> int) -> int = 1 ;; => Syntax(16)",
 ];
 
@@ -407,7 +371,7 @@ const HEAD: &str = "fst snd not close open lift liftb run";
 
 /// Fronts of expressions, with a `$` between two, and the tokens that may follow each; a token that may not is refused
 /// at itself.
-const FOLLOWED: [&str; 29] = [
+const FOLLOWED: [&str; 30] = [
     " $ (1, $ .< $ fun x -> $ let x = $ let x = 1 in $ let rec f x = $ let rec f x = 1 in => ATOM HEAD let fun if",
     "if $ if 1 then $ if 1 then 2 else => ATOM HEAD let fun if",
     "( $ 1 ( => ATOM HEAD let fun if -",
@@ -433,18 +397,20 @@ const FOLLOWED: [&str; 29] = [
     "run => [",
     "run[ $ run[( $ run[int * $ run[(int * $ run[(int) * => int bool (",
     "run[int => * -> ]",
-    "run[(int) $ run[int * bool $ run[int * (bool) => * ->",
+    "run[(int) $ run[int * bool $ run[int * (bool) => * -> ]",
     "run[(int $ run[(int * bool $ run[((int) => * )",
-    "run[int -> $ run[(int) -> => int bool",
-    "run[int -> int => ]",
+    "run[int -> $ run[(int) -> $ run[int -> ( $ run[int -> int * => int bool (",
+    "run[int -> int $ run[int -> int * bool $ run[int -> (int) => * ]",
+    "run[int -> (int $ run[int -> (int * bool => * )",
 ];
 
 /// Fronts of sources in the same form.
-const FOLLOWED_SOURCES: [&str; 12] = [
+const FOLLOWED_SOURCES: [&str; 13] = [
     " $ let a = 1 ;; $ kernel a : int = 1 ;; => let kernel main",
     "main $ kernel a => :",
-    "main : $ kernel a : int -> $ kernel a : (int) -> => int bool",
-    "main : int $ main : bool $ kernel a : int -> int => =",
+    "main : $ main : ( $ main : int * $ kernel a : int -> $ kernel a : (int) -> => int bool (",
+    "main : int $ main : (bool) $ main : int * bool $ kernel a : int -> int $ kernel a : int -> (int) => * =",
+    "main : (int $ main : (int * bool $ kernel a : int -> (int => * )",
     "let a = $ let rec a b = $ kernel a : int = => ATOM HEAD let fun if",
     "let a = 1 $ let a b = 1 $ let rec a b = 1 $ kernel a : int = 1 => ATOM OPERATOR COMPARISON ;;",
     "let => x rec",
@@ -452,7 +418,7 @@ const FOLLOWED_SOURCES: [&str; 12] = [
     "let rec $ let rec a $ kernel => x",
     "kernel a : $ kernel a : ( $ kernel a : int * => int bool (",
     "kernel a : int => * -> =",
-    "kernel a : (int) $ kernel a : int * int => * ->",
+    "kernel a : (int) $ kernel a : int * int => * -> =",
 ];
 
 fn is_word(token: &str, words: &str) -> bool {
@@ -523,7 +489,7 @@ fn built(alloc: Global, text: &str, times: u32) -> Result<Vec<u8>, Fail> {
 
 /// Expressions of depth 200, where the parts in braces stand so many times. With one time more, the first token that is
 /// deeper stands at the offset.
-const EDGES: [(&str, u32, u32); 85] = [
+const EDGES: [(&str, u32, u32); 86] = [
     ("{(}1{)}", 199, 213),
     ("{(}(-1){)}", 199, 213),
     ("{(}1{,1)}", 199, 213),
@@ -605,6 +571,7 @@ const EDGES: [(&str, u32, u32); 85] = [
     ("(1||{(}1{)})+1", 196, 413),
     ("run[int] {(}1{)}+1", 197, 419),
     ("run[{(}int{)}->int] 1+1", 196, 422),
+    ("run[int->{(}int{)}] 1", 197, 220),
     ("(fun{ x}->1)+1", 197, 417),
     ("(let x={(}1{)} in 1)+1", 196, 421),
     ("(let f{ x}=1 in 1)+1", 196, 421),
@@ -617,11 +584,14 @@ const EDGES: [(&str, u32, u32); 85] = [
 ];
 
 /// The same with whole sources.
-const EDGES_OF_ITEMS: [(&str, u32, u32); 8] = [
+const EDGES_OF_ITEMS: [(&str, u32, u32); 11] = [
     ("kernel a:{int*}int->int=1;;main:int=1", 198, 808),
     ("kernel a:{(}int{)}->int=1;;main:int=1", 198, 410),
     ("kernel a:{(}int{)*int}->int=1;;main:int=1", 99, 608),
     ("kernel a:{int*(}int{)}->int=1;;main:int=1", 99, 509),
+    ("kernel a:int->{(}int{)}=1;;main:int=1", 198, 213),
+    ("main:{(}int{)}=1", 199, 205),
+    ("main:{int*}int=1", 199, 804),
     ("kernel a:int={(}1{)};;main:int=1", 199, 213),
     ("let a={(}1{)};;main:int=1", 199, 206),
     ("let f{ x} = 1;;main:int=1", 199, 408),
@@ -692,9 +662,9 @@ const BUILT: [(&str, u32, &str); 33] = [
 
 /// The same with whole sources.
 const BUILT_SOURCES: [(&str, u32, &str); 18] = [
-    ("kernel a:{int*}int=1;;", 199, "Syntax(808)"),
+    ("kernel a:{int*}int=1;;", 199, "Syntax(812)"),
     ("kernel a:{int* }int->int=1;;", 200, "TooDeep(1007)"),
-    ("kernel a:{(}int{)}=1;;", 199, "Syntax(410)"),
+    ("kernel a:{(}int{)}=1;;", 199, "Syntax(414)"),
     ("kernel a:{(}int{)}->int=1;;", 200, "TooDeep(209)"),
     ("kernel a:{(}int*int{)*int}->int=1;;", 99, "TooDeep(610)"),
     ("kernel a:{int*(}(int){)}->int=1;;", 99, "TooDeep(608)"),

@@ -1,6 +1,6 @@
 // Worked examples of the meanings, proved by computation.
 
-ghost use Rattle.mw_meaning.specs.Examples.{SumIsThree, RunIsSeven, CaptureIsEleven, CubeGivesItsCode, CubeIsCalledTwice, RecursionCarriesOpenCode, CodeIsNotEvaluated, DownEndsWithFour, DownNeedsFour, DivisionTraps, UntakenDivisionDoesNotTrap, ClosureTakesThreeWords, PairTakesTwoWords, ArgumentTakesFourWords, HeapBeforeFuel, NumberIsNoFunction};
+ghost use Rattle.mw_meaning.specs.Examples.{SumIsThree, RunIsSeven, CaptureIsEleven, CubeGivesItsCode, CubeIsCalledTwice, RecursionCarriesOpenCode, CodeIsNotEvaluated, DownEndsWithFour, DownNeedsFour, DivisionTraps, UntakenDivisionDoesNotTrap, ClosureTakesThreeWords, PairTakesTwoWords, ArgumentTakesFourWords, PairsAreResults, HeapBeforeFuel, NumberIsNoFunction};
 
 /// `1 + 2` is 3.
 pub fn sum_is_three()
@@ -70,6 +70,11 @@ pub fn pair_takes_two_words()
 /// An argument of two pairs takes four words.
 pub fn argument_takes_four_words()
     ensures { ArgumentTakesFourWords }
+{}
+
+/// A kernel may give a pair, from a run and from a call.
+pub fn pairs_are_results()
+    ensures { PairsAreResults }
 {}
 
 /// In a call Bound Heap comes before Bound Fuel.

@@ -1,5 +1,6 @@
-use Rattle.mw_parse.specs.SurfaceTrees.{surface_of}
+use Rattle.mw_grammar.specs.SurfaceTrees.{surface_of}
 use Rattle.mw_scope.proofs.Answer.{IsAnswer, is_answer}
+use Rattle.mw_scope.proofs.Sizes.{is_small}
 use Rattle.mw_scope.proofs.resolve.Goals as goal
 
 whole_is : (c : goal.After-answer) → IsAnswer (surface_of c.args.surface.now) c.answer.result
@@ -7,6 +8,9 @@ whole_is c = is_answer (surface_of c.args.surface.now) c.whole.new.first c.in_ok
 
 pub returns-clause-found : goal.returns-clause-found
 returns-clause-found c = (whole_is c).found
+
+pub returns-clause-nodes : goal.returns-clause-nodes
+returns-clause-nodes c = is_small (surface_of c.args.surface.now) c.answer.result c.requires.nodes (whole_is c).found
 
 pub returns-clause-only : goal.returns-clause-only
 returns-clause-only c = (whole_is c).only

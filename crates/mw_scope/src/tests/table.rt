@@ -56,7 +56,7 @@ pub const ROWS: [Row; 45] = [
             Close(23),
             Run(13),
         ],
-        "Run(Base(Int), CloseCode(23, Bracket(App(App(Fun(Escape(App(Fun(Bracket(Fun(Prim(Add, Escape(Var(1)), Var(0))))), Bracket(Var(0))))), Int(1)), Int(10)))))",
+        "Run(Ground(Base(Int)), CloseCode(23, Bracket(App(App(Fun(Escape(App(Fun(Bracket(Fun(Prim(Add, Escape(Var(1)), Var(0))))), Bracket(Var(0))))), Int(1)), Int(10)))))",
     ),
     (
         &[
@@ -88,7 +88,7 @@ pub const ROWS: [Row; 45] = [
             Close(36),
             Run(26),
         ],
-        "Value(Int(5)); Run(Base(Int), CloseCode(36, Bracket(Prim(Add, Escape(Lift(Glob(0))), Int(1)))))",
+        "Value(Int(5)); Run(Ground(Base(Int)), CloseCode(36, Bracket(Prim(Add, Escape(Lift(Glob(0))), Int(1)))))",
     ),
     (
         &[
@@ -170,7 +170,7 @@ pub const ROWS: [Row; 45] = [
             Used(b"k", 50),
             Run(41),
         ],
-        "Kernel(Base(Int), CloseCode(17, Bracket(Int(1)))); Run(Base(Int), Glob(0))",
+        "Kernel(Ground(Base(Int)), CloseCode(17, Bracket(Int(1)))); Run(Ground(Base(Int)), Glob(0))",
     ),
     (
         &[Int(1), Bind(b"a", 4, 8), Used(b"a", 35), Fun(b"a")],

@@ -2,6 +2,8 @@
 
 ghost use Rattle.mw_wasm.specs.FormatLaws.{UnsignedNumbersFit, IntegersFit, OneExpression, OneModule};
 ghost use Rattle.mw_wasm.specs.FormatExamples.{ExampleAIsSpelled, ExampleBIsSpelled, LongerIndexIsSpelled, PaddedModuleIsSpelled, EmptyElseIsSpelled, ExamplesAreWithinProfile, DepthEndsAt500, SixBytesAreNoIndex, UnusedBitsAreZero, MinusOneIsSpelled, UnusedBitsAreTheSign};
+ghost use Rattle.mw_wasm.specs.OpcodeRows.{InstructionRows, OpcodeRows};
+ghost use Rattle.mw_wasm.specs.NothingSpelled.{NothingIsSpelled};
 
 /// A spelled number has no more bits than its type.
 pub fn numbers_fit()
@@ -72,4 +74,15 @@ pub fn minus_one_is_spelled()
 /// The unused bits of a constant's fifth byte equal its sign.
 pub fn unused_bits_are_the_sign()
     ensures { UnusedBitsAreTheSign }
+{}
+
+/// Every instruction and every opcode.
+pub fn opcodes_are_spelled()
+    ensures instructions { InstructionRows }
+    ensures families { OpcodeRows }
+{}
+
+/// Bytes that spell no module.
+pub fn nothing_is_spelled()
+    ensures { NothingIsSpelled }
 {}

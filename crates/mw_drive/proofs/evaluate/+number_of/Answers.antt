@@ -7,11 +7,11 @@ use Rattle.mw_drive.specs.Evaluation.{codes_of}
 use Rattle.mw_drive.proofs.EvaluationLemmas.{number_num, number_sum}
 use Rattle.mw_drive.proofs.evaluate.+number_of.Goals as goal
 
-pub returns-in-Int : goal.returns-in-Int
-returns-in-Int t c = let fits : SFits w64 c.in-Int.n = search rules in rw (c.in-Int.is, to_z-of_z w64 c.in-Int.n fits) (number_num (codes_of c.args.entries.now) c.in-Int.n)
+pub returns-in-Int-clause-meant : goal.returns-in-Int-clause-meant
+returns-in-Int-clause-meant g t c = let fits : SFits w64 c.in-Int.n = search rules in rw (c.in-Int.is, to_z-of_z w64 c.in-Int.n fits) (number_num (codes_of c.args.entries.now) c.in-Int.n)
 
-pub returns-in_ok-right-in-Prim-Add-default-default : goal.returns-in_ok-right-in-Prim-Add-default-default
-returns-in_ok-right-in-Prim-Add-default-default t c =
+pub returns-in_ok-right-in-Prim-Add-default-default-clause-meant : goal.returns-in_ok-right-in-Prim-Add-default-default-clause-meant
+returns-in_ok-right-in-Prim-Add-default-default-clause-meant g t c =
     let fits : SFits w64 c.sum.result = search rules in
     let left = c.in_ok-left-in-Prim-Add-default-default in
     let right = c.in_ok-right-in-Prim-Add-default-default in
@@ -19,4 +19,4 @@ returns-in_ok-right-in-Prim-Add-default-default t c =
     let fits_right : SFits w64 right.right = search rules in
     let arm = c.in-Prim-Add-default-default in
     let add : arm.field-0 ≡ Add = search rules in
-    rw (to_z-of_z w64 c.sum.result fits, arm.is, add, c.sum.ensures, to_z-of_z w64 left.left fits_left, to_z-of_z w64 right.right fits_right) (number_sum (rw c.deref.ensures at left.ensures) (rw c.deref-in-Prim-Add-default-default.ensures at right.ensures))
+    rw (to_z-of_z w64 c.sum.result fits, arm.is, add, c.sum.ensures, to_z-of_z w64 left.left fits_left, to_z-of_z w64 right.right fits_right) (number_sum (rw c.deref.ensures at left.ensures.meant) (rw c.deref-in-Prim-Add-default-default.ensures at right.ensures.meant))

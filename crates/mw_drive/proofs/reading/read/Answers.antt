@@ -1,4 +1,4 @@
-use Rattle.mw_drive.proofs.SourceReadings.{refused_at_lexing, first_at_lexing, refused_at_parsing, first_at_parsing, read_program, only_program, refused_at_resolving, first_at_resolving}
+use Rattle.mw_drive.proofs.SourceReadings.{refused_at_lexing, first_at_lexing, refused_at_parsing, first_at_parsing, read_program, only_program, few_nodes_read, refused_at_resolving, first_at_resolving}
 use Rattle.mw_drive.proofs.reading.read.Goals as goal
 
 pub returns-in_err-tokens-clause-refused : goal.returns-in_err-tokens-clause-refused
@@ -24,3 +24,6 @@ returns-clause-refused c = refused_at_resolving _ _ c.lex.ensures _ c.in_ok-toke
 
 pub returns-clause-first : goal.returns-clause-first
 returns-clause-first c = first_at_resolving _ _ c.lex.ensures _ c.in_ok-tokens.was _ c.parse.ensures _ c.in_ok-surface.was _ c.resolve.ensures
+
+pub resolve-requires-clause-nodes : goal.resolve-requires-clause-nodes
+resolve-requires-clause-nodes c = few_nodes_read _ _ c.lex.ensures _ c.in_ok-tokens.was _ c.parse.ensures _ c.in_ok-surface.was

@@ -10,7 +10,7 @@ invariant-loop-piece g l =
       moved : IsTrue source.tells → source.left l.fn.source ≡ l.taken.items ++ source.left l.source;
       ready : source.IsStarted l.source;
       same_files : source.told l.source ≡ source.told l.fn.source;
-      count : source.faults l.fn.source ≤ source.faults l.source;
+      count : source.faults l.source ≡ source.faults l.fn.source;
     }
 
 abbrev pub decreases-loop-piece : goal.decreases-loop-piece

@@ -1,10 +1,10 @@
 use Rattle.std.proofs.Common.{rules, arith, ap, sym, ◌∙◌, ◌≡◌, map, max, [], ◌∷◌, ◌++◌}
 use Rattle.mw_lex.specs.Tokens.{tokens_of}
-use Rattle.mw_parse.specs.SurfaceTrees.{item_of}
-use Rattle.mw_parse.specs.Grammar.{program}
-use Rattle.mw_parse.specs.Forms.{end_next, items_of, program_by}
-use Rattle.mw_parse.specs.Descent.{none_yet, full, reading}
-use Rattle.mw_parse.proofs.Below.{read_full}
+use Rattle.mw_grammar.specs.SurfaceTrees.{item_of}
+use Rattle.mw_grammar.specs.Grammar.{program}
+use Rattle.mw_grammar.specs.Forms.{end_next, items_of, program_by}
+use Rattle.mw_grammar.specs.Descent.{none_yet, full, reading}
+use Rattle.mw_grammar.proofs.Below.{read_full}
 use Rattle.mw_parse.proofs.Programs.{behind_items, item_goes, item_shorter, expected_shorter, tokens_length, map_more}
 use Rattle.mw_parse.proofs.items.program_tree.Goals as goal
 

@@ -1,8 +1,8 @@
 use Rattle.std.proofs.Common.{◌≡◌, ◌≤◌, length, map}
 use Rattle.mw_lex.specs.Tokens.{tokens_of}
-use Rattle.mw_parse.specs.SurfaceTrees.{item_of}
-use Rattle.mw_parse.specs.Grammar.{program}
-use Rattle.mw_parse.specs.Descent.{full}
+use Rattle.mw_grammar.specs.SurfaceTrees.{item_of}
+use Rattle.mw_grammar.specs.Grammar.{program}
+use Rattle.mw_grammar.specs.Descent.{full}
 use Rattle.mw_parse.proofs.Programs.{behind_items}
 use Rattle.mw_parse.proofs.items.program_tree.Given as goal
 

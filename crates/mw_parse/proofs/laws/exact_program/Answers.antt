@@ -1,4 +1,4 @@
-use Rattle.mw_parse.proofs.Exactly.{answer}
+use Rattle.mw_grammar.proofs.Exactly.{answer}
 use Rattle.mw_parse.proofs.laws.exact_program.Goals as goal
 
 pub returns : goal.returns

@@ -1,4 +1,4 @@
-use Rattle.mw_parse.proofs.Exactly.{one_tree}
+use Rattle.mw_grammar.proofs.Exactly.{one_tree}
 use Rattle.mw_parse.proofs.laws.one_tree.Goals as goal
 
 pub returns : goal.returns

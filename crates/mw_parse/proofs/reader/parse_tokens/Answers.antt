@@ -1,7 +1,7 @@
 use Rattle.std.proofs.Common.{rules, arith, ap, length, map, ◌≡◌, ◌<◌}
 use Rattle.mw_lex.specs.Tokens.{tokens_of}
-use Rattle.mw_parse.specs.SurfaceTrees.{item_of, surface_of}
-use Rattle.mw_parse.specs.Answers.{kernels}
+use Rattle.mw_grammar.specs.SurfaceTrees.{item_of, surface_of}
+use Rattle.mw_grammar.specs.Answers.{kernels}
 use Rattle.mw_parse.proofs.Parsed.{many_kernels, nothing_left}
 use Rattle.mw_parse.proofs.reader.parse_tokens.Goals as goal
 

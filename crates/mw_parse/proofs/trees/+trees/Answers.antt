@@ -1,9 +1,9 @@
 use Rattle.std.proofs.Common.{arith}
 use Rattle.mw_lex.specs.Tokens.{tokens_of}
-use Rattle.mw_parse.specs.SurfaceTrees.{tree_of}
-use Rattle.mw_parse.specs.Descent.{ok}
-use Rattle.mw_parse.specs.Levels.{row_of}
-use Rattle.mw_parse.proofs.Below.{gives_as, follow_on}
+use Rattle.mw_grammar.specs.SurfaceTrees.{tree_of}
+use Rattle.mw_grammar.specs.Descent.{ok}
+use Rattle.mw_grammar.specs.Levels.{row_of}
+use Rattle.mw_grammar.proofs.Below.{gives_as, follow_on}
 use Rattle.mw_parse.proofs.trees.+trees.Goals as goal
 
 pub more_trees-returns-else-height-room-clause-gives : goal.more_trees-returns-else-height-room-clause-gives

@@ -1,6 +1,6 @@
 use Rattle.std.proofs.Common.{ℕ, ◌+◌, ◌-◌, ◌*◌}
-use Rattle.mw_parse.specs.Grammar.{Row, sum, product, application}
-use Rattle.mw_parse.specs.Levels.{row_of}
+use Rattle.mw_grammar.specs.Grammar.{Row, sum, product, application}
+use Rattle.mw_grammar.specs.Levels.{row_of}
 use Rattle.mw_parse.proofs.trees.+trees.Given as goal
 
 -- room first, then the functions in turn, and what is left of a row of operators

@@ -1,5 +1,5 @@
 use Rattle.std.proofs.Common.{map, take, drop}
-use Rattle.mw_parse.specs.SurfaceTrees.{item_of}
+use Rattle.mw_grammar.specs.SurfaceTrees.{item_of}
 use Rattle.mw_scope.proofs.Progress.{Progress}
 use Rattle.mw_scope.proofs.items.items.Given as goal
 

@@ -1,5 +1,5 @@
 use Rattle.std.proofs.Common.{sym}
-use Rattle.mw_parse.specs.SurfaceTrees.{tree_of}
+use Rattle.mw_grammar.specs.SurfaceTrees.{tree_of}
 use Rattle.mw_scope.specs.Views.{place_at}
 use Rattle.mw_scope.proofs.Looked.{outer_named, outer_faults}
 use Rattle.mw_scope.proofs.items.outer_term.Goals as goal

@@ -1,5 +1,5 @@
 use Rattle.std.proofs.Common.{◌≡◌, [], None}
-use Rattle.mw_parse.specs.SurfaceTrees.{surface_of}
+use Rattle.mw_grammar.specs.SurfaceTrees.{surface_of}
 use Rattle.mw_scope.specs.Faults.{faults_of_items}
 use Rattle.mw_scope.specs.Keeping.{kept}
 use Rattle.mw_scope.specs.Views.{Knows}

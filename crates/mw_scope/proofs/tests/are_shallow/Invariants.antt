@@ -1,6 +1,6 @@
 use Rattle.std.proofs.Common.{map, drop}
-use Rattle.mw_parse.specs.SurfaceTrees.{item_of}
-use Rattle.mw_parse.specs.SurfaceDepth.{AreShallow}
+use Rattle.mw_grammar.specs.SurfaceTrees.{item_of}
+use Rattle.mw_grammar.specs.SurfaceDepth.{AreShallow}
 use Rattle.mw_scope.proofs.tests.are_shallow.Given as goal
 
 abbrev pub invariant-loop-item : goal.invariant-loop-item

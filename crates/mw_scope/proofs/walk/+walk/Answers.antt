@@ -1,5 +1,5 @@
 use Rattle.std.proofs.Common.{◌≡◌, List, suc, Some}
-use Rattle.mw_parse.specs.SurfaceTrees.{tree_of}
+use Rattle.mw_grammar.specs.SurfaceTrees.{tree_of}
 use Rattle.mw_scope.specs.declared.fault.Fault.{Fault}
 use Rattle.mw_scope.specs.Keeping.{kept}
 use Rattle.mw_scope.specs.Looking.{rebound, faults_by}

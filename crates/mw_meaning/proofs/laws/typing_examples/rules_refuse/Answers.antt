@@ -5,14 +5,14 @@ use Rattle.mw_term.specs.declared.term.Primitive.TheVariants.{Add, Eq, Lt}
 use Rattle.mw_term.specs.Types.{TermType, live}
 use Rattle.mw_term.specs.Typing.{Typed, t_num, t_truth, t_var, t_let, t_kernel, t_fun, t_fix, t_app, t_bind, t_cond, t_fst, t_prim, t_bracket, t_escape, t_run, t_open, t_lift, t_lift_b}
 use Rattle.mw_term.specs.Typable.{seen_by_main}
-use Rattle.mw_meaning.specs.Examples.{n}
+use Rattle.mw_meaning.specs.Examples.{n, int_kernel}
 use Rattle.mw_meaning.specs.TypingExamples.{HasNoType, cube_program}
 use Rattle.mw_meaning.proofs.laws.typing_examples.rules_refuse.Goals as goal
 
 number : HasNoType (cond (n 5) (n 1) (n 2))
 number tops t (t_cond x y z) = elim x [ ]
 
-kernel_name : (t : TermType) → Typed (seen_by_main cube_program.items) [] live (run (to (base Int) Bool) (glob 1)) t → ⊥
+kernel_name : (t : TermType) → Typed (seen_by_main cube_program.items) [] live (run (to (base Int) (base Bool)) (glob 1)) t → ⊥
 kernel_name t (t_run e (t_let q h)) = cc
 kernel_name t (t_run e (t_kernel q)) = cc
 
@@ -43,7 +43,7 @@ equation tops t (t_prim e x y) = elim x [ ]
 escaped : HasNoType (bracket (escape (close 0 (bracket (n 1)))))
 escaped tops t (t_bracket p (t_escape q x)) = elim x [ ]
 
-run_open : HasNoType (run (base Int) (bracket (n 7)))
+run_open : HasNoType (run int_kernel (bracket (n 7)))
 run_open tops t (t_run e x) = elim x [ ]
 
 opened_open : HasNoType (opened (bracket (n 1)))

@@ -1,6 +1,6 @@
 use Rattle.std.proofs.Common.{refl}
 use Rattle.mw_term.specs.Terms.{kernel_type_of}
-use Rattle.mw_parse.specs.SurfaceTrees.{tree_of}
+use Rattle.mw_grammar.specs.SurfaceTrees.{tree_of}
 use Rattle.mw_scope.specs.declared.names.Names.{Names}
 use Rattle.mw_scope.proofs.Places.{knows_let, knows_kernel}
 use Rattle.mw_scope.proofs.names.Names.add.Goals as goal

@@ -1,0 +1,4 @@
+pub mod LineLemmas
+pub mod ReadLemmas
+pub mod TextLemmas
+pub mod WordLemmas

@@ -1,0 +1,45 @@
+-- Texts put together.
+use Rattle.std.proofs.Common.{◌≡◌, ℕ, ◌+◌, ◌-◌, ◌≤◌, List, ◌++◌, take, drop, refl, sym, ◌∙◌, ap, arith}
+use Rattle.std.specs.Prelude.{codes, length, Result, Ok, Err, IfOk, OnErr}
+use Rattle.mw_outside.specs.Count.{GrowsByFront}
+use Rattle.std.proofs.Math.Seq.{take-add}
+use Rattle.std.proofs.lemmas.List.{append_assoc, length-take, take-take}
+
+-- a piece that was put behind others
+pub put_more : (t x more u v : List ℕ) → u ≡ t ++ x → v ≡ u ++ more → v ≡ t ++ (x ++ more)
+put_more t x more u v e f = f ∙ (ap (λ y. y ++ more) e ∙ append_assoc t x more)
+
+-- a kernel's lines, piece by piece
+pub kernel_put : (t a b c d e f g name kind digits : List ℕ) → a ≡ t ++ codes "kernel " → b ≡ a ++ name → c ≡ b ++ codes " : " → d ≡ c ++ kind → e ≡ d ++ codes "\nmodule " → f ≡ e ++ digits → g ≡ f ++ codes "\n"
+    → g ≡ t ++ (codes "kernel " ++ name ++ codes " : " ++ kind ++ codes "\n" ++ codes "module " ++ digits ++ codes "\n")
+kernel_put t a b c d e f g name kind digits p q r s u v w =
+    let named = put_more t (codes "kernel ") name a b p q in
+    let typed = put_more t (codes "kernel " ++ name ++ codes " : ") kind c d (put_more t (codes "kernel " ++ name) (codes " : ") b c named r) s in
+    let line = codes "kernel " ++ name ++ codes " : " ++ kind in
+    let begun = put_more t line (codes "\nmodule ") d e typed u ∙ ap (λ x. t ++ x) (sym (append_assoc line (codes "\n") (codes "module "))) in
+    put_more t (line ++ codes "\n" ++ codes "module " ++ digits) (codes "\n") f g (put_more t (line ++ codes "\n" ++ codes "module ") digits e f begun v) w
+
+-- a line that was written behind a front of the text
+pub line_written : (old middle new text : List ℕ) (done end : ℕ) → done ≤ end → middle ≡ old ++ take done text → new ≡ middle ++ take (end - done) (drop done text) → new ≡ old ++ take end text
+line_written old middle new text done end h before here =
+    let whole = take-add done (end - done) text in
+    let sum : done + (end - done) ≡ end = omega arith in
+    rw (here, before, append_assoc, ← whole, sum) refl
+
+-- a front of a line that was written behind a front of the text
+pub front_written : (old middle new text : List ℕ) (done end : ℕ) → done ≤ end → end ≤ length text → middle ≡ old ++ take done text → GrowsByFront middle new (take (end - done) (drop done text)) → GrowsByFront old new text
+front_written old middle new text done end h le before grows =
+    let count = grows.0 in
+    let short : count ≤ end - done = (let a = grows.1 in let b = length-take (end - done) (drop done text) in omega arith) in
+    let part : take count (take (end - done) (drop done text)) ≡ take count (drop done text) = take-take count (end - done) (drop done text) short in
+    (done + count, omega arith, grows.2 ∙ (ap (λ x. middle ++ x) part ∙ (ap (λ x. x ++ take count (drop done text)) before ∙ (append_assoc old (take done text) (take count (drop done text)) ∙ ap (λ x. old ++ x) (sym (take-add done count text))))))
+
+-- what follows where there is an error
+pub on_err : {T E : Type 0} {P Q : Type 0} (r : Result T E) → (P → Q) → OnErr r P → OnErr r Q
+on_err (Ok x) f p = tt
+on_err (Err e) f p = f p
+
+-- what follows where there is an answer
+pub on_ok : {T E : Type 0} {P Q : T → Type 0} (r : Result T E) → ((x : T) → P x → Q x) → IfOk r P → IfOk r Q
+on_ok (Ok x) f p = f x p
+on_ok (Err e) f p = tt

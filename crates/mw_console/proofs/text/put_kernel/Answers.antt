@@ -1,0 +1,12 @@
+use Rattle.std.proofs.Common.{◌∙◌, ap, ◌++◌}
+use Rattle.hex.specs.Hex.{encode_lower}
+use Rattle.mw_term.specs.Terms.{kernel_type_of}
+use Rattle.mw_console.specs.Texts.{kind_text}
+use Rattle.mw_console.proofs.TextLemmas.{on_ok, kernel_put}
+use Rattle.mw_console.proofs.text.put_kernel.Goals as goal
+
+pub returns : goal.returns
+returns c = on_ok c.put-6.result (λ _ w. kernel_put c.args.text.now.items c.put.new.text.items c.put-2.new.text.items c.put-3.new.text.items c.put_kind.new.text.items c.put-4.new.text.items c.put-5.new.text.items c.put-6.new.text.items
+    c.args.name.now (kind_text (kernel_type_of c.args.kind.now)) (encode_lower c.args.bytes.now)
+    c.in_ok-put.ensures c.in_ok-put-2.ensures c.in_ok-put-3.ensures c.in_ok-put_kind.ensures c.in_ok-put-4.ensures
+    (c.in_ok-put-5.ensures ∙ ap (λ x. c.put-4.new.text.items ++ x) (c.as_bytes.ensures.value ∙ c.in_ok-digits.ensures)) w) c.put-6.ensures

@@ -1,0 +1,15 @@
+//! What a command reads and writes beside its work: the words of the command line, the source's file, the lines of the
+//! output, and statuses with their exit codes.
+#![tactic(auto)]
+
+mod lines;
+mod source;
+mod status;
+mod text;
+mod words;
+
+pub use crate::lines::write_lines;
+pub use crate::source::{SourceFault, file_bytes};
+pub use crate::status::Status;
+pub use crate::text::{put_answer, put_bound, put_kernel, put_refusal};
+pub use crate::words::{Command, command_of};

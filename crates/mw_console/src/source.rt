@@ -1,0 +1,56 @@
+// The source's file, whole.
+
+ghost use Rattle.std.specs.Prelude.{◌≡◌, ◌≤◌, ◌⊎◌, Some, IsTrue, IsNone, IsErrOf, IfOk};
+ghost use Rattle.mw_outside.specs.Count.{Rose};
+ghost use Rattle.mw_outside.specs.Lookup.{file_of};
+ghost use Rattle.mw_console.specs.Reading.{IsFront, IsRest};
+ghost use Rattle.mw_console.specs.declared.source.SourceFault.TheVariants.{Failed, Memory};
+
+use mw_outside::{ReadStop, Source, StartFault, read_up_to};
+use std::alloc::{AllocError, Global};
+
+/// One byte more than the longest source: reading ends with it.
+const MOST: usize = 1_048_577;
+
+/// Why there are no bytes: the source failed or has no such file, or there was no memory.
+#[derive(Clone, Copy, Debug, PartialEq, Eq)]
+pub enum SourceFault {
+    Failed,
+    Memory(AllocError),
+}
+
+impl From<StartFault> for SourceFault {
+    ghost from_gives = { λ _ fault. fault ≡ Failed };
+
+    fn from(_: StartFault) -> SourceFault {
+        SourceFault::Failed
+    }
+}
+
+impl From<ReadStop> for SourceFault {
+    ghost use Rattle.mw_console.specs.Reading.{fault_of};
+
+    ghost from_gives = { λ stop fault. fault ≡ fault_of stop };
+
+    fn from(stop: ReadStop) -> SourceFault {
+        match stop {
+            ReadStop::Failed => SourceFault::Failed,
+            ReadStop::Memory(error) => SourceFault::Memory(error),
+        }
+    }
+}
+
+/// The bytes of the file of this name, or the first 1,048,577 of them where there are more.
+pub fn file_bytes<S: Source>(
+    alloc: Global,
+    source: &mut S,
+    name: &str,
+) -> Result<Vec<u8>, SourceFault>
+    ensures ok { IfOk result (λ bytes. IsTrue S.tells → IsFront (file_of (S.told source.old) name.now) bytes.items) }
+    ensures rest { IfOk result (λ _. IsTrue S.tells → IsRest (file_of (S.told source.old) name.now) (S.left source.new)) }
+    ensures failed { IsErrOf result SourceFault.Failed → Rose (S.faults source.old) (S.faults source.new) ⊎ (IsTrue S.tells × IsNone (file_of (S.told source.old) name.now)) }
+    ensures count { S.faults source.old ≤ S.faults source.new }
+{
+    source.start(name)?;
+    Ok(read_up_to(alloc, source, MOST)?)
+}

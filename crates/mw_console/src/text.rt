@@ -1,0 +1,217 @@
+// The lines of the output.
+
+ghost use Rattle.std.specs.Prelude.{◌≡◌, ◌++◌, codes, map, IfOk};
+ghost use Rattle.std.specs.String.{string_bytes};
+ghost use Rattle.mw_term.specs.Terms.{ground_of, kernel_type_of, ground_value_of, base_value_of};
+ghost use Rattle.mw_term.specs.declared.program.Item.{Item as PureItem};
+ghost use Rattle.mw_console.specs.Texts.{answered, bounded, base_text, ground_text, left_text, kind_text, kernel_text, limit_words, ending_line, name_at, in_line, place_line, refusal_line, value_text};
+
+use mw_term::{Base, BaseValue, Ground, GroundValue, Item, KType, Limit, Refusal};
+use std::alloc::{AllocError, Global};
+
+/// The line of a refusal of bytes, tokens, names or levels, or of a `close`.
+fn placed_line(alloc: Global, refusal: Refusal) -> Result<String, AllocError>
+    ensures { IfOk result (λ line. string_bytes line ≡ place_line refusal) }
+{
+    match refusal {
+        Refusal::TooLarge => String::from_str(alloc, "refused 1 too large\n"),
+        Refusal::Char(at) => format!(in alloc; "refused 2 character at {at}\n"),
+        Refusal::Number(at) => format!(in alloc; "refused 3 number at {at}\n"),
+        Refusal::Name(at) => format!(in alloc; "refused 4 name at {at}\n"),
+        Refusal::Syntax(at) => format!(in alloc; "refused 5 syntax at {at}\n"),
+        Refusal::TooDeep(at) => format!(in alloc; "refused 6 too deep at {at}\n"),
+        Refusal::TooMany => String::from_str(alloc, "refused 7 too many items\n"),
+        Refusal::Unbound(at) => format!(in alloc; "refused 8 unbound at {at}\n"),
+        Refusal::Twice(at) => format!(in alloc; "refused 9 bound twice at {at}\n"),
+        Refusal::NotValue(at) => format!(in alloc; "refused 10 not a value at {at}\n"),
+        Refusal::Level(at) => format!(in alloc; "refused 11 level at {at}\n"),
+        Refusal::NotClosed(at) => format!(in alloc; "refused 14 not closed at {at}\n"),
+        Refusal::NotYet => String::from_str(alloc, "refused 15 not yet\n"),
+        Refusal::IllTyped(_) | Refusal::TypeTooBig(_) => String::from_str(alloc, ""),
+    }
+}
+
+/// The name of the item at an index, or `main` for their number.
+fn name_of(items: &[Item], index: u32) -> &[u8]
+    ensures { result.now ≡ name_at (map (λ (i : PureItem). i.name) items.now) index }
+{
+    match items.get(index as usize) {
+        Some(item) => item.name.as_slice(),
+        None => b"main",
+    }
+}
+
+/// The line of a refusal in an item.
+fn put_item_line(text: &mut Vec<u8>, words: &[u8], name: &[u8]) -> Result<(), AllocError>
+    ensures { IfOk result (λ _. text.new.items ≡ text.old.items ++ in_line words.now name.now) }
+{
+    put(text, b"refused ")?;
+    put(text, words)?;
+    put(text, b" in ")?;
+    put(text, name)?;
+    put(text, b"\n")
+}
+
+/// The line of a refusal, where a program was read with its items.
+pub fn put_refusal(
+    alloc: Global,
+    text: &mut Vec<u8>,
+    refusal: Refusal,
+    items: &[Item],
+) -> Result<(), AllocError>
+    ensures { IfOk result (λ _. text.new.items ≡ text.old.items ++ refusal_line (map (λ (i : PureItem). i.name) items.now) refusal) }
+{
+    match refusal {
+        Refusal::IllTyped(item) => put_item_line(text, b"12 type", name_of(items, item)),
+        Refusal::TypeTooBig(item) => put_item_line(text, b"13 type too big", name_of(items, item)),
+        _ => {
+            let line = placed_line(alloc, refusal)?;
+            put(text, line.as_bytes())
+        }
+    }
+}
+
+/// More text.
+fn put(text: &mut Vec<u8>, more: &[u8]) -> Result<(), AllocError>
+    ensures { IfOk result (λ _. text.new.items ≡ text.old.items ++ more.now) }
+{
+    text.extend_from_slice(more)?;
+    Ok(())
+}
+
+/// The two lines of a kernel: its name and type, and its module's bytes in hexadecimal digits.
+pub fn put_kernel(
+    alloc: Global,
+    text: &mut Vec<u8>,
+    name: &[u8],
+    kind: &KType,
+    bytes: &[u8],
+) -> Result<(), AllocError>
+    ensures { IfOk result (λ _. text.new.items ≡ text.old.items ++ kernel_text name.now (kernel_type_of kind.now) bytes.now) }
+{
+    let digits = hex::encode(alloc, bytes)?;
+    put(text, b"kernel ")?;
+    put(text, name)?;
+    put(text, b" : ")?;
+    put_kind(text, kind)?;
+    put(text, b"\nmodule ")?;
+    put(text, digits.as_bytes())?;
+    put(text, b"\n")
+}
+
+/// A kernel type.
+fn put_kind(text: &mut Vec<u8>, kind: &KType) -> Result<(), AllocError>
+    ensures { IfOk result (λ _. text.new.items ≡ text.old.items ++ kind_text (kernel_type_of kind.now)) }
+{
+    match kind {
+        KType::Ground(ground) => put_ground(text, ground),
+        KType::Fun(argument, result) => {
+            put_ground(text, argument)?;
+            put(text, b" -> ")?;
+            put_ground(text, result)
+        }
+    }
+}
+
+/// A ground type.
+#[cycle(ground)]
+fn put_ground(text: &mut Vec<u8>, ground: &Ground) -> Result<(), AllocError>
+    ensures { IfOk result (λ _. text.new.items ≡ text.old.items ++ ground_text (ground_of ground.now)) }
+{
+    match ground {
+        Ground::Base(base) => put(text, base_word(*base)),
+        Ground::Pair(left, right) => {
+            put_left(text, left)?;
+            put(text, b" * ")?;
+            put_ground(text, right)
+        }
+    }
+}
+
+/// The left part of a pair, in parentheses where it is a pair itself.
+#[cycle(ground)]
+fn put_left(text: &mut Vec<u8>, ground: &Ground) -> Result<(), AllocError>
+    ensures { IfOk result (λ _. text.new.items ≡ text.old.items ++ left_text (ground_of ground.now)) }
+{
+    match ground {
+        Ground::Base(base) => put(text, base_word(*base)),
+        Ground::Pair(first, second) => {
+            put(text, b"(")?;
+            put_left(text, first)?;
+            put(text, b" * ")?;
+            put_ground(text, second)?;
+            put(text, b")")
+        }
+    }
+}
+
+/// The word of a base type.
+fn base_word(base: Base) -> &'static [u8]
+    ensures { result.now ≡ base_text base }
+{
+    match base {
+        Base::Int => b"int",
+        Base::Bool => b"bool",
+    }
+}
+
+/// The line of an answer.
+pub fn put_answer(alloc: Global, text: &mut Vec<u8>, value: &GroundValue) -> Result<(), AllocError>
+    ensures { IfOk result (λ _. text.new.items ≡ text.old.items ++ ending_line (answered (ground_value_of value.now))) }
+{
+    put(text, b"answer ")?;
+    put_value(alloc, text, value)?;
+    put(text, b"\n")
+}
+
+/// A value: a number, a truth value, or a pair of values.
+fn put_value(alloc: Global, text: &mut Vec<u8>, value: &GroundValue) -> Result<(), AllocError>
+    ensures { IfOk result (λ _. text.new.items ≡ text.old.items ++ value_text (ground_value_of value.now)) }
+{
+    match value {
+        GroundValue::Base(value) => put_base(alloc, text, *value),
+        GroundValue::Pair(left, right) => {
+            put(text, b"(")?;
+            put_value(alloc, text, left)?;
+            put(text, b", ")?;
+            put_value(alloc, text, right)?;
+            put(text, b")")
+        }
+    }
+}
+
+/// A number or a truth value.
+fn put_base(alloc: Global, text: &mut Vec<u8>, value: BaseValue) -> Result<(), AllocError>
+    ensures { IfOk result (λ _. text.new.items ≡ text.old.items ++ value_text (base_value_of value)) }
+{
+    match value {
+        BaseValue::Int(number) => {
+            let digits = format!(in alloc; "{number}")?;
+            put(text, digits.as_bytes())
+        }
+        BaseValue::Bool(true) => put(text, b"true"),
+        BaseValue::Bool(false) => put(text, b"false"),
+    }
+}
+
+/// The line of a bound that the item of this name, or main, met.
+pub fn put_bound(text: &mut Vec<u8>, limit: Limit, name: &[u8]) -> Result<(), AllocError>
+    ensures { IfOk result (λ _. text.new.items ≡ text.old.items ++ ending_line (bounded limit name.now)) }
+{
+    put(text, b"bound ")?;
+    put(text, limit_word(limit))?;
+    put(text, b" in ")?;
+    put(text, name)?;
+    put(text, b"\n")
+}
+
+/// The words of a limit.
+fn limit_word(limit: Limit) -> &'static [u8]
+    ensures { result.now ≡ limit_words limit }
+{
+    match limit {
+        Limit::Fuel => b"fuel",
+        Limit::KernelSize => b"kernel size",
+        Limit::Heap => b"heap",
+    }
+}

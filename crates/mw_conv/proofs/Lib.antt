@@ -1,0 +1,12 @@
+pub mod Free
+pub mod Heaps
+pub mod Agrees
+pub mod Scopes
+pub mod Correct
+pub mod Same
+pub mod Marks
+pub mod Contexts
+pub mod Ends
+pub mod Closures
+pub mod Ranges
+pub mod Conversions

@@ -1,0 +1,173 @@
+// The code of a term whose functions were found.
+
+ghost use Rattle.std.specs.Prelude.{◌≡◌, ◌+◌, ◌*◌, ◌^◌, ◌<◌, ◌≤◌, ◌++◌, ℕ, All, map, reverse, length, IfOk};
+ghost use Rattle.mw_term.specs.Terms.{expression_of, size};
+ghost use Rattle.mw_term.specs.Closed.{ClosedBelow};
+ghost use Rattle.mw_ir.specs.Views.{ir_of, ir_func_of};
+ghost use Rattle.mw_conv.specs.Convert.{code, functions, funs};
+ghost use Rattle.mw_conv.specs.Contexts.{place_at};
+ghost use Rattle.mw_conv.specs.Finding.{all_found, function, own_places, freeing, places, EndsWith};
+
+use crate::found::{Found, Levels};
+use mw_ir::{Ir, IrFunc, IrFuncs, Place, Places};
+use mw_term::Term;
+use std::alloc::{AllocError, Global};
+
+/// The code of a term, which takes what was found of its functions and adds them to `funcs`, the last one first. `left` is
+/// the number of functions that aren't added yet.
+#[tactic(auto, using(crate::proofs::Contexts::pushed, crate::proofs::Ends::ends_right, crate::proofs::Ends::ends_left, crate::proofs::Ends::ends_last, crate::proofs::Ends::ends_middle, crate::proofs::Ends::ends_first))]
+#[cycle(convert)]
+pub(crate) fn code_of(
+    alloc: Global,
+    term: &Term,
+    slot: u32,
+    context: &mut Vec<Place>,
+    left: &mut u32,
+    found: &mut Vec<Found>,
+    funcs: &mut IrFuncs,
+) -> Result<Ir, AllocError>
+    requires closed { ClosedBelow (length context.old.items) (expression_of term.now) }
+    requires slots { slot + size (expression_of term.now) < 2 ^ 32 }
+    requires binders { length context.old.items + 2 * size (expression_of term.now) < 2 ^ 32 }
+    requires left { funs (expression_of term.now) ≤ left.old }
+    requires found { EndsWith found.old.items (all_found (expression_of term.now) (length context.old.items)) }
+    ensures same { IfOk result (λ _. context.new.items ≡ context.old.items) }
+    ensures left { IfOk result (λ _. left.old ≡ left.new + funs (expression_of term.now)) }
+    ensures found { IfOk result (λ _. found.old.items ≡ found.new.items ++ all_found (expression_of term.now) (length context.old.items)) }
+    ensures code { IfOk result (λ r. ir_of r ≡ code (expression_of term.now) left.new (length context.old.items) slot (place_at context.old.items)) }
+    ensures funcs { IfOk result (λ _. map ir_func_of funcs.new ≡ map ir_func_of funcs.old ++ reverse (functions (expression_of term.now) left.new (length context.old.items))) }
+{
+    match term {
+        Term::Int(n) => Ok(Ir::Int(*n)),
+        Term::Bool(b) => Ok(Ir::Bool(*b)),
+        Term::Var(i) => Ok(Ir::Get(context[context.len() - 1 - *i as usize])),
+        Term::Fun(e) => closure_of(alloc, e, false, context, left, found, funcs),
+        Term::Rec(e) => closure_of(alloc, e, true, context, left, found, funcs),
+        Term::App(f, a) => {
+            let second = box_of(alloc, a, slot, context, left, found, funcs)?;
+            let first = box_of(alloc, f, slot, context, left, found, funcs)?;
+            Ok(Ir::App(first, second))
+        }
+        Term::Let(d, e) => {
+            context.push(Place::Slot(slot))?;
+            let second = box_of(alloc, e, slot + 1, context, left, found, funcs)?;
+            let _slot = context.pop();
+            let first = box_of(alloc, d, slot, context, left, found, funcs)?;
+            Ok(Ir::Let(slot, first, second))
+        }
+        Term::If(c, a, b) => {
+            let third = box_of(alloc, b, slot, context, left, found, funcs)?;
+            let second = box_of(alloc, a, slot, context, left, found, funcs)?;
+            let first = box_of(alloc, c, slot, context, left, found, funcs)?;
+            Ok(Ir::If(first, second, third))
+        }
+        Term::Pair(a, b) => {
+            let second = box_of(alloc, b, slot, context, left, found, funcs)?;
+            let first = box_of(alloc, a, slot, context, left, found, funcs)?;
+            Ok(Ir::Pair(first, second))
+        }
+        Term::Fst(e) => Ok(Ir::Fst(box_of(alloc, e, slot, context, left, found, funcs)?)),
+        Term::Snd(e) => Ok(Ir::Snd(box_of(alloc, e, slot, context, left, found, funcs)?)),
+        Term::Prim(p, a, b) => {
+            let second = box_of(alloc, b, slot, context, left, found, funcs)?;
+            let first = box_of(alloc, a, slot, context, left, found, funcs)?;
+            Ok(Ir::Prim(*p, first, second))
+        }
+        Term::Glob(_) | Term::Bracket(_) | Term::Escape(_) | Term::OpenCode(_) => Ok(Ir::Int(0)),
+        Term::Run(_, _) | Term::CloseCode(_, _) | Term::Lift(_) | Term::LiftB(_) => Ok(Ir::Int(0)),
+    }
+}
+
+#[cycle(convert)]
+fn box_of(
+    alloc: Global,
+    term: &Term,
+    slot: u32,
+    context: &mut Vec<Place>,
+    left: &mut u32,
+    found: &mut Vec<Found>,
+    funcs: &mut IrFuncs,
+) -> Result<Box<Ir>, AllocError>
+    requires closed { ClosedBelow (length context.old.items) (expression_of term.now) }
+    requires slots { slot + size (expression_of term.now) < 2 ^ 32 }
+    requires binders { length context.old.items + 2 * size (expression_of term.now) < 2 ^ 32 }
+    requires left { funs (expression_of term.now) ≤ left.old }
+    requires found { EndsWith found.old.items (all_found (expression_of term.now) (length context.old.items)) }
+    ensures same { IfOk result (λ _. context.new.items ≡ context.old.items) }
+    ensures left { IfOk result (λ _. left.old ≡ left.new + funs (expression_of term.now)) }
+    ensures found { IfOk result (λ _. found.old.items ≡ found.new.items ++ all_found (expression_of term.now) (length context.old.items)) }
+    ensures code { IfOk result (λ r. ir_of r.value ≡ code (expression_of term.now) left.new (length context.old.items) slot (place_at context.old.items)) }
+    ensures funcs { IfOk result (λ _. map ir_func_of funcs.new ≡ map ir_func_of funcs.old ++ reverse (functions (expression_of term.now) left.new (length context.old.items))) }
+{
+    Ok(Box::new(
+        alloc,
+        code_of(alloc, term, slot, context, left, found, funcs)?,
+    )?)
+}
+
+/// The closure of a function, which is added after those within it.
+#[cycle(convert)]
+fn closure_of(
+    alloc: Global,
+    body: &Term,
+    recursive: bool,
+    context: &Vec<Place>,
+    left: &mut u32,
+    found: &mut Vec<Found>,
+    funcs: &mut IrFuncs,
+) -> Result<Ir, AllocError>
+    requires closed { ClosedBelow (length context.now.items) (function recursive (expression_of body.now)) }
+    requires binders { length context.now.items + 2 * size (function recursive (expression_of body.now)) < 2 ^ 32 }
+    requires left { funs (function recursive (expression_of body.now)) ≤ left.old }
+    requires found { EndsWith found.old.items (all_found (function recursive (expression_of body.now)) (length context.now.items)) }
+    ensures left { IfOk result (λ _. left.old ≡ left.new + funs (function recursive (expression_of body.now))) }
+    ensures found { IfOk result (λ _. found.old.items ≡ found.new.items ++ all_found (function recursive (expression_of body.now)) (length context.now.items)) }
+    ensures code { IfOk result (λ r. (slot : ℕ) → ir_of r ≡ code (function recursive (expression_of body.now)) left.new (length context.now.items) slot (place_at context.now.items)) }
+    ensures funcs { IfOk result (λ _. map ir_func_of funcs.new ≡ map ir_func_of funcs.old ++ reverse (functions (function recursive (expression_of body.now)) left.new (length context.now.items))) }
+{
+    let Some(Found { slots, free }) = found.pop() else {
+        unreachable!()
+    };
+    let places = places_of(alloc, context, free.as_slice())?;
+    let mut inner = inner_context(alloc, context, free.as_slice(), recursive)?;
+    let body = code_of(alloc, body, 0, &mut inner, left, found, funcs)?;
+    *left -= 1;
+    let free = free.len() as u32;
+    funcs.push(IrFunc { free, slots, body })?;
+    Ok(Ir::Closure(*left, places))
+}
+
+/// The places of these levels in a context.
+fn places_of(alloc: Global, context: &Vec<Place>, levels: &[u32]) -> Result<Places, AllocError>
+    requires { All (λ l. l < length context.now.items) levels.now }
+    ensures { IfOk result (λ r. r ≡ places context.now.items levels.now) }
+{
+    let mut places = Places::new(alloc);
+    for at in 0..levels.len() {
+        places.push(context[levels[at] as usize])?;
+    }
+    Ok(places)
+}
+
+/// The context in a function's body, whose closure holds the variables of these levels. A variable of another level doesn't
+/// occur there.
+fn inner_context(
+    alloc: Global,
+    context: &Vec<Place>,
+    levels: &[u32],
+    recursive: bool,
+) -> Result<Vec<Place>, AllocError>
+    requires few { length levels.now < 2 ^ 32 }
+    requires within { All (λ l. l < length context.now.items) levels.now }
+    ensures { IfOk result (λ r. r.items ≡ freeing context.now.items levels.now 0 ++ own_places recursive) }
+{
+    let mut inner = Vec::from_slice(alloc, context.as_slice())?;
+    for at in 0..levels.len() {
+        inner[levels[at] as usize] = Place::Free(at as u32);
+    }
+    if recursive {
+        inner.push(Place::Own)?;
+    }
+    inner.push(Place::Argument)?;
+    Ok(inner)
+}

@@ -1,0 +1,52 @@
+// Conversion.
+
+ghost use Rattle.std.specs.Prelude.{◌≡◌, ◌+◌, ℕ, ℤ, List, [], length, map, true, IfOk};
+ghost use Rattle.mw_term.specs.Terms.{expression_of};
+ghost use Rattle.mw_term.specs.Closed.{IsClosed};
+ghost use Rattle.mw_meaning.specs.StagedMeaning.{within_limits};
+ghost use Rattle.mw_meaning.specs.KernelMeaning.{kernel_meaning};
+ghost use Rattle.mw_ir.specs.Ir.{means, outside};
+ghost use Rattle.mw_ir.specs.Views.{ir_func_of};
+ghost use Rattle.mw_ir.specs.Ranges.{IsConverted};
+ghost use Rattle.mw_conv.specs.Agreement.{Agrees};
+ghost use Rattle.mw_conv.specs.Convert.{converted_functions, converted_outside};
+ghost use Rattle.mw_conv.specs.Literals.{Literals};
+
+use crate::code::code_of;
+use crate::find::find;
+use mw_ir::{Converted, IrFunc, IrFuncs};
+use mw_term::Term;
+use std::alloc::{AllocError, Global};
+
+/// The conversion of closed code within the limits of kernels, with its functions in the order in which they stand in the
+/// code.
+pub fn convert(alloc: Global, code: &Term) -> Result<Converted, AllocError>
+    requires closed { IsClosed (expression_of code.now) }
+    requires limits { within_limits (expression_of code.now) ≡ true }
+    ensures functions { IfOk result (λ r. map ir_func_of r.funcs ≡ converted_functions (expression_of code.now)) }
+    ensures body { IfOk result (λ r. ir_func_of r.body ≡ converted_outside (expression_of code.now)) }
+    ensures meaning { IfOk result (λ r. (n : ℕ) (h : List ℤ) → Agrees (map ir_func_of r.funcs) n h (kernel_meaning n (length h) (expression_of code.now)) (means (map ir_func_of r.funcs) n h outside (ir_func_of r.body).body)) }
+    ensures converted { IfOk result (λ r. IsConverted (map ir_func_of r.funcs) (ir_func_of r.body)) }
+    ensures literals { IfOk result (λ _. Literals (expression_of code.now)) }
+{
+    let mut found = Vec::new(alloc);
+    let slots = find(alloc, code, 0, &mut Vec::new(alloc), &mut found)?;
+    let mut funcs = IrFuncs::new(alloc);
+    let mut left = found.len() as u32;
+    let body = code_of(
+        alloc,
+        code,
+        0,
+        &mut Vec::new(alloc),
+        &mut left,
+        &mut found,
+        &mut funcs,
+    )?;
+    funcs.reverse();
+    let body = IrFunc {
+        free: 0,
+        slots,
+        body,
+    };
+    Ok(Converted { funcs, body })
+}

@@ -1,0 +1,83 @@
+-- A command with the bytes that it reads is a work. A work has meanings, and a meaning has a text and a status.
+use Rattle.std.specs.Prelude.{ℕ, ◌≡◌, ◌<◌, ◌≤◌, ◌⊎◌, List, [], ◌++◌, length}
+use Rattle.std.specs.List.{AllByRecursion, flat_map}
+use Rattle.mw_term.specs.declared.refusal.Refusal.{Refusal}
+use Rattle.mw_term.specs.declared.refusal.Refusal.TheVariants.{NotYet}
+use Rattle.mw_term.specs.Programs.{PureProgram}
+use Rattle.mw_term.specs.Typable.{Typable}
+use Rattle.mw_meaning.specs.declared.mode.Mode.{Mode}
+use Rattle.mw_meaning.specs.Simplification.{in_mode}
+use Rattle.mw_meaning.specs.StandingFor.{StandsFor}
+use Rattle.mw_wasm.specs.Syntax.{PureModule}
+use Rattle.mw_wasm.specs.BinaryModules.{Spells}
+use Rattle.mw_wasm.specs.Validity.{IsValid}
+use Rattle.mw_infer.specs.Checking.{IsFirstRefusal, NoneTooBig}
+use Rattle.mw_gen.specs.Generate.{two}
+use Rattle.mw_compile.specs.Emission.{emission}
+use Rattle.mw_console.specs.declared.status.Status.{Status}
+use Rattle.mw_console.specs.declared.status.Status.TheVariants.{Refused}
+use Rattle.mw_console.specs.Texts.{Ending, kernel_text, refusal_line, ending_line, ending_status}
+use Rattle.mw_drive.specs.NamedPrograms.{NamedProgram, unnamed, names_of}
+use Rattle.mw_drive.specs.SourceReading.{IsRead, IsRefused}
+use Rattle.mw_drive.specs.FirstForms.{IsFirst}
+use Rattle.mw_drive.specs.ProgramMeaning.{Kernel, ended, program_run}
+
+-- the run of a source's bytes, with so many units of fuel for each evaluation, under a mode
+pub data Work : Type 0 where
+  running : (bytes : List ℕ) (fuel : ℕ) (mode : Mode) → Work
+
+-- a refusal, with the names of the items where it speaks of one; or the kernels that gave code, under a mode, and an ending
+pub data Meaning : Type 0 where
+  refused : (r : Refusal) (names : List (List ℕ)) → Meaning
+  ran : (mode : Mode) (kernels : List Kernel) (e : Ending) → Meaning
+
+-- a program has types, and no front of an item's equations is too big
+pub record IsAccepted (p : PureProgram) : Type 0 where
+  pub typable : Typable p
+  pub small : NoneTooBig p
+
+-- The run of a source means the first refusal of its reading; else the first refusal of its types; else the refusal NotYet,
+-- where it has more than 256 bytes or isn't of the forms that are run today; else the run of its program.
+pub data IsMeaning : Work → Meaning → Type 0 where
+  of_refusal : {bytes : List ℕ} {fuel : ℕ} {mode : Mode} {r : Refusal} → IsRefused bytes r → IsMeaning (running bytes fuel mode) (refused r [])
+  of_types : {bytes : List ℕ} {fuel : ℕ} {mode : Mode} {r : Refusal} (p : NamedProgram) → IsRead bytes p → IsFirstRefusal (unnamed p) r → IsMeaning (running bytes fuel mode) (refused r (names_of p))
+  of_other_forms : {bytes : List ℕ} {fuel : ℕ} {mode : Mode} (p : NamedProgram) → IsRead bytes p → IsAccepted (unnamed p) → (256 < length bytes) ⊎ (IsFirst p → ⊥) → IsMeaning (running bytes fuel mode) (refused NotYet [])
+  of_program : {bytes : List ℕ} {fuel : ℕ} {mode : Mode} {kernels : List Kernel} {e : Ending} (p : NamedProgram) → IsRead bytes p → IsAccepted (unnamed p) → length bytes ≤ 256 → IsFirst p → program_run mode fuel p ≡ ended kernels e
+      → IsMeaning (running bytes fuel mode) (ran mode kernels e)
+
+-- the lines of a kernel: what is printed is the module of the code that is run under the mode
+abbrev pub kernel_lines : Mode → Kernel → List ℕ
+kernel_lines mode k = kernel_text k.name k.kind (emission two (in_mode mode k.code) k.kind)
+
+-- a refusal's line, or the lines of the kernels that gave code, in order, and the line of the ending
+abbrev pub text_of : Meaning → List ℕ
+text_of (refused r names) = refusal_line names r
+text_of (ran mode kernels e) = flat_map (kernel_lines mode) kernels ++ ending_line e
+
+abbrev pub status_of : Meaning → Status
+status_of (refused r names) = Refused r
+status_of (ran mode kernels e) = ending_status e
+
+-- the text that belongs to a work
+pub record IsOutput (work : Work) (text : List ℕ) : Type 0 where
+  pub meaning : Meaning
+  pub is_meaning : IsMeaning work meaning
+  pub is_text : text ≡ text_of meaning
+
+-- a text and a status are what a work means
+pub record Reports (work : Work) (text : List ℕ) (s : Status) : Type 0 where
+  pub meaning : Meaning
+  pub is_meaning : IsMeaning work meaning
+  pub is_text : text ≡ text_of meaning
+  pub is_status : s ≡ status_of meaning
+
+-- The bytes that are printed for a kernel spell a module, which is valid, and stands for the code that is run, at its type.
+pub record HasModule (mode : Mode) (k : Kernel) : Type 0 where
+  pub wasm : PureModule
+  pub spelled : Spells (emission two (in_mode mode k.code) k.kind) wasm
+  pub valid : IsValid wasm
+  pub stands : StandsFor wasm (in_mode mode k.code) k.kind
+
+abbrev pub HaveModules : Meaning → Type 0
+HaveModules (refused r names) = Unit {0}
+HaveModules (ran mode kernels e) = AllByRecursion (HasModule mode) kernels

@@ -1,0 +1,166 @@
+// Numeric instructions.
+
+ghost use Rattle.std.specs.Prelude.{◌≡◌, ◌≤◌, ◌∷◌, [], List, length, IfOk, None};
+ghost use Rattle.mw_wasm.specs.declared.values.Value.{Value as WasmValue};
+ghost use Rattle.mw_wasm.specs.declared.numbers.NumOp.TheVariants as numbers;
+ghost use Rattle.mw_wasm.specs.Syntax.{PureModule, numeric as numeric_instruction};
+ghost use Rattle.mw_wasm.specs.Store.{Store};
+ghost use Rattle.mw_wasm.specs.Act.{act, on_result, gives};
+ghost use Rattle.mw_wasm.specs.NumericTypes.{kind_of, operands_at, operands_of, OperandsFit};
+ghost use Rattle.mw_wasm.specs.Numerics.{number_result};
+ghost use Rattle.mw_exec.specs.Lists.{above, Kept};
+ghost use Rattle.mw_exec.specs.Acts.{Comes, takes_two_of};
+
+use crate::operands::{pop_of, push};
+use crate::outcome::Outcome;
+use mw_wasm::{IntOp, NumOp, ValType, Value, numeric};
+use std::alloc::AllocError;
+
+/// Whether an operation on integers has two operands.
+#[inline(always)]
+fn takes_two(op: IntOp) -> bool
+    ensures { result ≡ takes_two_of (kind_of op) }
+{
+    match op {
+        IntOp::Eqz => false,
+        IntOp::Eq => true,
+        IntOp::Ne => true,
+        IntOp::LtS => true,
+        IntOp::LtU => true,
+        IntOp::GtS => true,
+        IntOp::GtU => true,
+        IntOp::LeS => true,
+        IntOp::LeU => true,
+        IntOp::GeS => true,
+        IntOp::GeU => true,
+        IntOp::Clz => false,
+        IntOp::Ctz => false,
+        IntOp::Popcnt => false,
+        IntOp::Add => true,
+        IntOp::Sub => true,
+        IntOp::Mul => true,
+        IntOp::DivS => true,
+        IntOp::DivU => true,
+        IntOp::RemS => true,
+        IntOp::RemU => true,
+        IntOp::And => true,
+        IntOp::Or => true,
+        IntOp::Xor => true,
+        IntOp::Shl => true,
+        IntOp::ShrS => true,
+        IntOp::ShrU => true,
+        IntOp::Rotl => true,
+        IntOp::Rotr => true,
+    }
+}
+
+/// A numeric instruction.
+#[inline(always)]
+pub fn number(stack: &mut Vec<Value>, height: usize, op: NumOp) -> Result<Outcome, AllocError>
+    requires { height ≤ length stack.old.items }
+    ensures comes { IfOk result (λ o. (m : PureModule) (st : Store) (ls : List WasmValue) → Comes o (act m (numeric_instruction op) st ls (above height stack.old.items)) st ls (above height stack.new.items)) }
+    ensures kept { IfOk result (λ o. Kept height stack.old.items stack.new.items) }
+{
+    match op {
+        NumOp::I32(o) => integer32(stack, height, o),
+        NumOp::I64(o) => integer64(stack, height, o),
+        NumOp::Wrap => one(stack, height, op, ValType::I64),
+        NumOp::ExtendS => one(stack, height, op, ValType::I32),
+        NumOp::ExtendU => one(stack, height, op, ValType::I32),
+    }
+}
+
+/// An operation on integers of 32 bits.
+#[inline(always)]
+fn integer32(stack: &mut Vec<Value>, height: usize, o: IntOp) -> Result<Outcome, AllocError>
+    requires { height ≤ length stack.old.items }
+    ensures comes { IfOk result (λ r. (m : PureModule) (st : Store) (ls : List WasmValue) → Comes r (act m (numeric_instruction (numbers.I32 o)) st ls (above height stack.old.items)) st ls (above height stack.new.items)) }
+    ensures kept { IfOk result (λ _. Kept height stack.old.items stack.new.items) }
+{
+    integer(stack, height, NumOp::I32(o), o, ValType::I32)
+}
+
+/// An operation on integers of 64 bits.
+#[inline(always)]
+fn integer64(stack: &mut Vec<Value>, height: usize, o: IntOp) -> Result<Outcome, AllocError>
+    requires { height ≤ length stack.old.items }
+    ensures comes { IfOk result (λ r. (m : PureModule) (st : Store) (ls : List WasmValue) → Comes r (act m (numeric_instruction (numbers.I64 o)) st ls (above height stack.old.items)) st ls (above height stack.new.items)) }
+    ensures kept { IfOk result (λ _. Kept height stack.old.items stack.new.items) }
+{
+    integer(stack, height, NumOp::I64(o), o, ValType::I64)
+}
+
+/// An operation on integers of a width.
+#[inline(always)]
+fn integer(
+    stack: &mut Vec<Value>,
+    height: usize,
+    op: NumOp,
+    o: IntOp,
+    t: ValType,
+) -> Result<Outcome, AllocError>
+    requires long { height ≤ length stack.old.items }
+    requires operands { operands_of op ≡ operands_at (kind_of o) t }
+    ensures comes { IfOk result (λ o. (m : PureModule) (st : Store) (ls : List WasmValue) → Comes o (act m (numeric_instruction op) st ls (above height stack.old.items)) st ls (above height stack.new.items)) }
+    ensures kept { IfOk result (λ o. Kept height stack.old.items stack.new.items) }
+{
+    if takes_two(o) {
+        two(stack, height, op, t)
+    } else {
+        one(stack, height, op, t)
+    }
+}
+
+/// An operation with one operand.
+#[inline(always)]
+fn one(stack: &mut Vec<Value>, height: usize, op: NumOp, t: ValType) -> Result<Outcome, AllocError>
+    requires long { height ≤ length stack.old.items }
+    requires operands { operands_of op ≡ t ∷ [] }
+    ensures comes { IfOk result (λ o. (m : PureModule) (st : Store) (ls : List WasmValue) → Comes o (act m (numeric_instruction op) st ls (above height stack.old.items)) st ls (above height stack.new.items)) }
+    ensures kept { IfOk result (λ o. Kept height stack.old.items stack.new.items) }
+{
+    let Some(x) = pop_of(stack, height, t) else {
+        return Ok(Outcome::Lost);
+    };
+    computed(stack, height, op, x, x)
+}
+
+/// An operation with two operands.
+#[inline(always)]
+fn two(stack: &mut Vec<Value>, height: usize, op: NumOp, t: ValType) -> Result<Outcome, AllocError>
+    requires long { height ≤ length stack.old.items }
+    requires operands { operands_of op ≡ t ∷ t ∷ [] }
+    ensures comes { IfOk result (λ o. (m : PureModule) (st : Store) (ls : List WasmValue) → Comes o (act m (numeric_instruction op) st ls (above height stack.old.items)) st ls (above height stack.new.items)) }
+    ensures kept { IfOk result (λ o. Kept height stack.old.items stack.new.items) }
+{
+    let Some(y) = pop_of(stack, height, t) else {
+        return Ok(Outcome::Lost);
+    };
+    let Some(x) = pop_of(stack, height, t) else {
+        return Ok(Outcome::Lost);
+    };
+    computed(stack, height, op, x, y)
+}
+
+/// The result on the stack.
+#[inline(always)]
+fn computed(
+    stack: &mut Vec<Value>,
+    height: usize,
+    op: NumOp,
+    x: Value,
+    y: Value,
+) -> Result<Outcome, AllocError>
+    requires long { height ≤ length stack.old.items }
+    requires fit { OperandsFit op x y }
+    ensures comes { IfOk result (λ o. (st : Store) (ls : List WasmValue) → Comes o (on_result (number_result op x y) (λ z. gives st ls (z ∷ above height stack.old.items) None)) st ls (above height stack.new.items)) }
+    ensures kept { IfOk result (λ o. Kept height stack.old.items stack.new.items) }
+{
+    match numeric(op, x, y) {
+        Ok(value) => {
+            push(stack, value)?;
+            Ok(Outcome::On)
+        }
+        Err(trap) => Ok(Outcome::Trap(trap)),
+    }
+}

@@ -1,0 +1,86 @@
+// Operands.
+
+ghost use Rattle.std.specs.Prelude.{◌≡◌, ◌≤◌, ◌++◌, ◌∷◌, [], true, false, length, IfSome, IfNone, IfOk};
+ghost use Rattle.mw_wasm.specs.declared.values.Value.TheVariants as value;
+ghost use Rattle.mw_wasm.specs.NumericTypes.{type_of_value};
+ghost use Rattle.mw_exec.specs.Lists.{above, Kept, Popped, Empty, LacksI32, LacksType};
+
+use mw_wasm::{ValType, Value};
+use std::alloc::AllocError;
+
+/// The last operand, taken from the stack.
+#[inline(always)]
+pub fn pop(stack: &mut Vec<Value>, height: usize) -> Option<Value>
+    requires { height ≤ length stack.old.items }
+    ensures some { IfSome result (λ v. Popped height stack.old.items stack.new.items v) }
+    ensures none { IfNone result (Empty height stack.old.items stack.new.items) }
+{
+    if height < stack.len() {
+        stack.pop()
+    } else {
+        None
+    }
+}
+
+/// The last operand, taken from the stack, where it is an i32.
+#[inline(always)]
+pub fn pop_i32(stack: &mut Vec<Value>, height: usize) -> Option<u32>
+    requires { height ≤ length stack.old.items }
+    ensures some { IfSome result (λ n. Popped height stack.old.items stack.new.items (value.I32 n)) }
+    ensures none { IfNone result (LacksI32 (above height stack.old.items)) }
+    ensures kept { Kept height stack.old.items stack.new.items }
+{
+    match pop(stack, height) {
+        Some(Value::I32(n)) => Some(n),
+        Some(Value::I64(_)) => None,
+        None => None,
+    }
+}
+
+/// Whether a value is of a type.
+#[inline(always)]
+fn has_type(operand: Value, t: ValType) -> bool
+    ensures yes { result ≡ true → type_of_value operand ≡ t }
+    ensures no { result ≡ false → type_of_value operand ≡ t → ⊥ }
+{
+    match operand {
+        Value::I32(_) => match t {
+            ValType::I32 => true,
+            ValType::I64 => false,
+        },
+        Value::I64(_) => match t {
+            ValType::I32 => false,
+            ValType::I64 => true,
+        },
+    }
+}
+
+/// The last operand, taken from the stack, where it is of a type.
+#[inline(always)]
+pub fn pop_of(stack: &mut Vec<Value>, height: usize, t: ValType) -> Option<Value>
+    requires { height ≤ length stack.old.items }
+    ensures some { IfSome result (λ v. Popped height stack.old.items stack.new.items v) }
+    ensures typed { IfSome result (λ v. type_of_value v ≡ t) }
+    ensures none { IfNone result (LacksType t (above height stack.old.items)) }
+    ensures kept { Kept height stack.old.items stack.new.items }
+{
+    match pop(stack, height) {
+        Some(operand) => {
+            if has_type(operand, t) {
+                Some(operand)
+            } else {
+                None
+            }
+        }
+        None => None,
+    }
+}
+
+/// One operand more.
+#[inline(always)]
+pub fn push(stack: &mut Vec<Value>, operand: Value) -> Result<(), AllocError>
+    ensures { IfOk result (λ _. stack.new.items ≡ stack.old.items ++ operand ∷ []) }
+{
+    stack.push(operand)?;
+    Ok(())
+}

@@ -1,0 +1,5 @@
+use Rattle.mw_gen.proofs.Whole.{emission_holds}
+use Rattle.mw_gen.proofs.laws.emission_holds.Goals as goal
+
+pub returns : goal.returns
+returns c = emission_holds

@@ -1,0 +1,18 @@
+-- The module of converted code, as programs hold it.
+use Rattle.std.specs.Prelude.{List, map}
+use Rattle.mw_term.specs.Terms.{KernelType}
+use Rattle.mw_wasm.specs.Syntax.{PureModule}
+use Rattle.mw_ir.specs.declared.code.Converted.{Converted}
+use Rattle.mw_ir.specs.Ir.{IrFunc}
+use Rattle.mw_ir.specs.Views.{ir_func_of}
+use Rattle.mw_gen.specs.Generate.{Version, module_with}
+
+-- its functions, and the code outside them
+abbrev pub functions_in : Converted → List IrFunc
+functions_in c = map ir_func_of c.funcs
+
+abbrev pub outer_in : Converted → IrFunc
+outer_in c = ir_func_of c.body
+
+abbrev pub generated : Version → Converted → KernelType → PureModule
+generated v c k = module_with v (functions_in c) (outer_in c).slots (outer_in c).body k

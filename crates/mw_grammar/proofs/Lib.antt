@@ -1,0 +1,16 @@
+pub mod WorkedRows
+pub mod Derivations
+pub mod Depths
+pub mod Ranks
+pub mod Complete
+pub mod Alike
+pub mod Enough
+pub mod Samples
+pub mod Folds
+pub mod Enters
+pub mod Says
+pub mod Exactly
+pub mod Below
+pub mod Shallow
+pub mod Sparse
+pub mod Unique

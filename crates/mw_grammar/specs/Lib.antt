@@ -1,0 +1,12 @@
+pub mod SurfaceTrees
+pub mod SurfaceDepth
+pub mod SurfaceSize
+pub mod SourceNodes
+pub mod Grammar
+pub mod Answers
+pub mod Forms
+pub mod Descent
+pub mod Gives
+pub mod Opened
+pub mod Words
+pub mod Levels

@@ -1,0 +1,149 @@
+// Ground types and kernel types, by descent. `room` is the number of nodes that may still stand on a path; each function
+// answers what it made, the height of its nodes and the tokens left.
+
+ghost use Rattle.std.specs.Prelude.{◌≡◌, ◌<◌, ◌≤◌, ℕ, nat_lt, IfOk, IfSome, IfNone, MatchOption};
+ghost use Rattle.mw_lex.specs.Tokens.{tokens_of};
+ghost use Rattle.mw_term.specs.Terms.{ground_of, kernel_type_of};
+ghost use Rattle.mw_grammar.specs.Grammar.{kernel_type, ground, part, base};
+ghost use Rattle.mw_grammar.specs.Forms.{form, gives, reads, expect, paren_next};
+ghost use Rattle.mw_grammar.specs.Descent.{none_yet, ok, syntax_at, within, raise, full, reading};
+ghost use Rattle.mw_grammar.specs.Gives.{Gives};
+ghost use Rattle.mw_grammar.specs.Opened.{IsOpened};
+
+use crate::fault::{Fault, Read};
+use crate::next::{Next, after};
+use mw_lex::{Kind, Token};
+use mw_term::{Base, Ground, KType};
+use std::alloc::Global;
+
+/// What a ground type begins with.
+#[derive(Clone, Copy)]
+pub enum Opened<'a> {
+    Paren(&'a [Token]),
+    Other,
+    Nothing,
+}
+
+#[tactic(auto, unfolding(crate::specs::Descent::reading))]
+fn base_of(tokens: &[Token]) -> Option<(Base, &[Token])>
+    ensures none { IfNone result ((b : ℕ) → reading b (form base) none_yet (tokens_of tokens.now) ≡ syntax_at (tokens_of tokens.now)) }
+    ensures some { IfSome result (λ r. (b : ℕ) → reading b (form base) none_yet (tokens_of tokens.now) ≡ within (nat_lt 0 b) (tokens_of tokens.now) (ok r.0 1 (tokens_of r.1.now))) }
+{
+    match tokens {
+        [] => None,
+        [token, rest @ ..] => match &token.kind {
+            Kind::Int => Some((Base::Int, rest)),
+            Kind::Bool => Some((Base::Bool, rest)),
+            _ => None,
+        },
+    }
+}
+
+#[tactic(auto, unfolding(crate::specs::Descent::reading))]
+fn part_of(tokens: &[Token]) -> Opened<'_>
+    ensures { IsOpened (tokens_of tokens.now) result }
+{
+    match tokens {
+        [] => Opened::Nothing,
+        [token, rest @ ..] => match &token.kind {
+            Kind::ParenLeft => Opened::Paren(rest),
+            _ => Opened::Other,
+        },
+    }
+}
+
+#[tactic(auto, using(crate::proofs::Below::read_full, crate::proofs::Below::low_in, crate::proofs::Below::low_out))]
+fn base_type(tokens: &[Token], room: u32) -> Read<Base>
+    requires { room ≤ 200 }
+    ensures gives { Gives (λ x. ok x.0 x.1 (tokens_of x.2.now)) result (full room base (tokens_of tokens.now)) }
+    ensures height { IfOk result (λ x. x.1 ≤ room) }
+{
+    match base_of(tokens) {
+        None => Err(Fault::Syntax(tokens)),
+        Some((base, rest)) => {
+            if room == 0 {
+                return Err(Fault::Deep(tokens));
+            }
+            Ok((base, 1, rest))
+        }
+    }
+}
+
+#[cycle(grounds)]
+#[tactic(auto, using(crate::proofs::Below::read_full, crate::proofs::Below::read_gives, crate::proofs::Below::read_refuses, crate::proofs::Below::read_reads, crate::proofs::Below::part_fails, crate::proofs::Below::low_in, crate::proofs::Below::low_out, crate::proofs::Below::raise_ok, crate::proofs::Below::fails_raise))]
+fn part_type(alloc: Global, tokens: &[Token], room: u32) -> Read<Ground>
+    requires { room ≤ 200 }
+    ensures gives { Gives (λ x. ok (ground_of x.0) x.1 (tokens_of x.2.now)) result (full room part (tokens_of tokens.now)) }
+    ensures height { IfOk result (λ x. x.1 ≤ room) }
+{
+    match part_of(tokens) {
+        Opened::Nothing => Err(Fault::Syntax(tokens)),
+        Opened::Paren(rest) => {
+            if room == 0 {
+                return Err(Fault::Deep(tokens));
+            }
+            let (ground, height, rest) = paren_ground(alloc, rest, room - 1)?;
+            Ok((ground, height + 1, rest))
+        }
+        Opened::Other => {
+            let (base, height, rest) = base_type(tokens, room)?;
+            Ok((Ground::Base(base), height, rest))
+        }
+    }
+}
+
+#[cycle(grounds)]
+#[tactic(auto, using(crate::proofs::Below::read_full, crate::proofs::Below::read_gives, crate::proofs::Below::read_refuses, crate::proofs::Below::read_reads, crate::proofs::Below::part_fails, crate::proofs::Below::low_in, crate::proofs::Below::low_out, crate::proofs::Below::raise_ok, crate::proofs::Below::fails_raise))]
+fn paren_ground(alloc: Global, tokens: &[Token], room: u32) -> Read<Ground>
+    requires { room ≤ 200 }
+    ensures gives { Gives (λ x. ok (ground_of x.0) x.1 (tokens_of x.2.now)) result (reading {n = part} room (reads ground λ g. expect paren_next (gives g)) none_yet (tokens_of tokens.now)) }
+    ensures height { IfOk result (λ x. x.1 ≤ room) }
+{
+    let (ground, height, mid) = ground_type(alloc, tokens, room)?;
+    match after(Next::Paren, mid) {
+        None => Err(Fault::Syntax(mid)),
+        Some(rest) => Ok((ground, height, rest)),
+    }
+}
+
+/// A ground type.
+#[cycle(grounds)]
+#[tactic(auto, using(crate::proofs::Below::read_full, crate::proofs::Below::read_gives, crate::proofs::Below::read_refuses, crate::proofs::Below::read_reads, crate::proofs::Below::part_fails, crate::proofs::Below::low_in, crate::proofs::Below::low_out, crate::proofs::Below::raise_ok, crate::proofs::Below::fails_raise))]
+pub fn ground_type(alloc: Global, tokens: &[Token], room: u32) -> Read<Ground>
+    requires { room ≤ 200 }
+    ensures gives { Gives (λ x. ok (ground_of x.0) x.1 (tokens_of x.2.now)) result (full room ground (tokens_of tokens.now)) }
+    ensures height { IfOk result (λ x. x.1 ≤ room) }
+{
+    let (left, height, mid) = part_type(alloc, tokens, room)?;
+    match after(Next::Star, mid) {
+        None => Ok((left, height, mid)),
+        Some(rest) => {
+            if height >= room {
+                return Err(Fault::Deep(mid));
+            }
+            let (right, other, rest) = ground_type(alloc, rest, room - 1)?;
+            let pair = Ground::Pair(Box::new(alloc, left)?, Box::new(alloc, right)?);
+            Ok((pair, height.max(other) + 1, rest))
+        }
+    }
+}
+
+/// A kernel type.
+#[tactic(auto, using(crate::proofs::Below::read_full, crate::proofs::Below::read_gives, crate::proofs::Below::read_refuses, crate::proofs::Below::read_reads, crate::proofs::Below::part_fails, crate::proofs::Below::low_in, crate::proofs::Below::low_out, crate::proofs::Below::raise_ok, crate::proofs::Below::fails_raise))]
+pub fn kernel(alloc: Global, tokens: &[Token], room: u32) -> Read<KType>
+    requires { room ≤ 200 }
+    ensures gives { Gives (λ x. ok (kernel_type_of x.0) x.1 (tokens_of x.2.now)) result (full room kernel_type (tokens_of tokens.now)) }
+    ensures height { IfOk result (λ x. x.1 ≤ room) }
+{
+    let (ground, height, mid) = ground_type(alloc, tokens, room)?;
+    match after(Next::Arrow, mid) {
+        None => Ok((KType::Ground(ground), height, mid)),
+        Some(rest) => {
+            if height >= room {
+                return Err(Fault::Deep(mid));
+            }
+            let (result, other, rest) = ground_type(alloc, rest, room - 1)?;
+            Ok((KType::Fun(ground, result), height.max(other) + 1, rest))
+        }
+    }
+}

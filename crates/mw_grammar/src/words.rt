@@ -1,0 +1,275 @@
+// What the symbol of a token decides.
+
+ghost use Rattle.std.specs.Prelude.{◌≡◌, ◌<◌, ◌≤◌, ◌-◌, ℕ, IfSome, IfNone, true, false};
+ghost use Rattle.mw_lex.specs.Tokens.{PureToken, token, symbol_of, token_of, tokens_of, word, number, minus};
+ghost use Rattle.mw_grammar.specs.Grammar.{Nonterminal};
+ghost use Rattle.mw_grammar.specs.Forms.{Form, pick, skip, under, refuses, reads, rec_by, rec_item, kernel_by, parameter_by, minus_by, paren_by, behind_first};
+ghost use Rattle.mw_grammar.specs.Grammar.{tree, expr, Mark as PureMark};
+ghost use Rattle.mw_grammar.specs.SurfaceTrees.{SurfaceTree};
+ghost use Rattle.mw_grammar.specs.Descent.{Heights, none_yet, tall, syntax_at, deep_at, raise, reading};
+ghost use Rattle.mw_grammar.specs.declared.words.Mark.TheVariants.{Arrow, Equal};
+ghost use Rattle.mw_grammar.specs.Words.{IsFirst, IsNamed, IsAtom, IsHead, IsInside, IsClose, IsBody, IsStart, IsItem};
+
+use mw_lex::{Kind, Token};
+use mw_term::Name;
+
+/// The token in hand, and those behind it.
+#[tactic(auto, using(crate::proofs::Below::low_in, crate::proofs::Below::low_out), unfolding(crate::specs::Descent::reading))]
+pub fn in_hand(tokens: &[Token]) -> Option<(&Token, &[Token])>
+    ensures none { IfNone result ((n : Nonterminal) (f : PureToken → Form n) (b : ℕ) (a : Heights) → reading b (pick f) a (tokens_of tokens.now) ≡ syntax_at (tokens_of tokens.now)) }
+    ensures picks { IfSome result (λ r. (n : Nonterminal) (f : PureToken → Form n) (b : ℕ) (a : Heights) → reading b (pick f) a (tokens_of tokens.now) ≡ reading b (f (token_of r.0.now)) a (tokens_of tokens.now)) }
+    ensures skips { IfSome result (λ r. (n : Nonterminal) (F : Form n) (b : ℕ) (a : Heights) → reading b (skip F) a (tokens_of tokens.now) ≡ reading b F a (tokens_of r.1.now)) }
+    ensures node { IfSome result (λ r. (n : Nonterminal) (F : Form n) (b : ℕ) (a : Heights) → tall a < b → reading b (under F) a (tokens_of tokens.now) ≡ raise a (reading (b - 1) F none_yet (tokens_of r.1.now))) }
+    ensures too_deep { IfSome result (λ r. (n : Nonterminal) (F : Form n) (b : ℕ) (a : Heights) → b ≤ tall a → reading b (under F) a (tokens_of tokens.now) ≡ deep_at (tokens_of tokens.now)) }
+{
+    match tokens {
+        [] => None,
+        [token, rest @ ..] => Some((token, rest)),
+    }
+}
+
+/// Of an expression.
+#[derive(Clone, Copy)]
+pub enum First {
+    Let,
+    Fun,
+    If,
+    Other,
+}
+
+pub fn first_word(token: &Token) -> First
+    ensures { IsFirst (token_of token.now) result }
+{
+    match &token.kind {
+        Kind::Let => First::Let,
+        Kind::Fun => First::Fun,
+        Kind::If => First::If,
+        _ => First::Other,
+    }
+}
+
+/// Behind `let`.
+#[derive(Clone, Copy)]
+pub enum Named<'a> {
+    Word(&'a Name),
+    Rec,
+    Other,
+}
+
+pub fn name_or_rec(token: &Token) -> Named<'_>
+    ensures { IsNamed (token_of token.now) result }
+{
+    match &token.kind {
+        Kind::Word(name) => Named::Word(name),
+        Kind::Rec => Named::Rec,
+        _ => Named::Other,
+    }
+}
+
+/// A name.
+pub fn name_of(token: &Token) -> Option<&Name>
+    ensures some { IfSome result (λ name. symbol_of token.now.kind ≡ word name.now) }
+    ensures none_rec { IfNone result (rec_by (token_of token.now) ≡ refuses) }
+    ensures none_rec_item { IfNone result (rec_item (token_of token.now) ≡ refuses) }
+    ensures none_kernel { IfNone result (kernel_by (token_of token.now) ≡ refuses) }
+    ensures none_parameter { IfNone result ((m : PureMark) → parameter_by m (token_of token.now) ≡ refuses) }
+{
+    match &token.kind {
+        Kind::Word(name) => Some(name),
+        _ => None,
+    }
+}
+
+/// An atom of one token.
+#[derive(Clone, Copy)]
+pub enum Leaf<'a> {
+    Word(&'a Name),
+    Number(u64),
+    True,
+    False,
+}
+
+/// Of an atom.
+#[derive(Clone, Copy)]
+pub enum Atom<'a> {
+    Leaf(Leaf<'a>),
+    Paren,
+    Bracket,
+    Escape,
+}
+
+pub fn atom_word(token: &Token) -> Option<Atom<'_>>
+    ensures { IsAtom (token_of token.now) result }
+{
+    match &token.kind {
+        Kind::Word(name) => Some(Atom::Leaf(Leaf::Word(name))),
+        Kind::Number(n) => Some(Atom::Leaf(Leaf::Number(*n))),
+        Kind::True => Some(Atom::Leaf(Leaf::True)),
+        Kind::False => Some(Atom::Leaf(Leaf::False)),
+        Kind::ParenLeft => Some(Atom::Paren),
+        Kind::BracketLeft => Some(Atom::Bracket),
+        Kind::Escape => Some(Atom::Escape),
+        _ => None,
+    }
+}
+
+/// A word before an atom.
+#[derive(Clone, Copy)]
+pub enum Prefix {
+    Fst,
+    Snd,
+    Not,
+    Close,
+    Open,
+    Lift,
+    LiftB,
+}
+
+/// Of a head.
+#[derive(Clone, Copy)]
+pub enum Head {
+    Prefix(Prefix),
+    Run,
+}
+
+pub fn head_word(token: &Token) -> Option<Head>
+    ensures { IsHead (token_of token.now) result }
+{
+    match &token.kind {
+        Kind::Fst => Some(Head::Prefix(Prefix::Fst)),
+        Kind::Snd => Some(Head::Prefix(Prefix::Snd)),
+        Kind::Not => Some(Head::Prefix(Prefix::Not)),
+        Kind::Close => Some(Head::Prefix(Prefix::Close)),
+        Kind::Open => Some(Head::Prefix(Prefix::Open)),
+        Kind::Lift => Some(Head::Prefix(Prefix::Lift)),
+        Kind::LiftB => Some(Head::Prefix(Prefix::LiftB)),
+        Kind::Run => Some(Head::Run),
+        _ => None,
+    }
+}
+
+/// Behind a parenthesis.
+#[derive(Clone, Copy)]
+pub enum Inside {
+    Minus,
+    Other,
+}
+
+pub fn inside_word(token: &Token) -> Inside
+    ensures { IsInside (token_of token.now) result }
+{
+    match &token.kind {
+        Kind::Minus => Inside::Minus,
+        _ => Inside::Other,
+    }
+}
+
+/// A number.
+pub fn number_of(token: &Token) -> Option<u64>
+    ensures some { IfSome result (λ n. symbol_of token.now.kind ≡ number n) }
+    ensures none { IfNone result (minus_by (token_of token.now) ≡ refuses) }
+{
+    match &token.kind {
+        Kind::Number(n) => Some(*n),
+        _ => None,
+    }
+}
+
+/// Behind the first expression in parentheses.
+#[derive(Clone, Copy)]
+pub enum Close {
+    Paren,
+    Comma,
+    Other,
+}
+
+pub fn closing(token: &Token) -> Close
+    ensures { IsClose (token_of token.now) result }
+{
+    match &token.kind {
+        Kind::ParenRight => Close::Paren,
+        Kind::Comma => Close::Comma,
+        _ => Close::Other,
+    }
+}
+
+/// What ends a list of parameters.
+#[derive(Clone, Copy)]
+pub enum Mark {
+    Arrow,
+    Equal,
+}
+
+/// Of what parameters stand before.
+#[derive(Clone, Copy)]
+pub enum Body {
+    Parameter,
+    Mark,
+    Other,
+}
+
+fn arrow_body(token: &Token) -> Body
+    ensures { IsBody Arrow (token_of token.now) result }
+{
+    match &token.kind {
+        Kind::Word(_) => Body::Parameter,
+        Kind::Arrow => Body::Mark,
+        _ => Body::Other,
+    }
+}
+
+fn equal_body(token: &Token) -> Body
+    ensures { IsBody Equal (token_of token.now) result }
+{
+    match &token.kind {
+        Kind::Word(_) => Body::Parameter,
+        Kind::Equal => Body::Mark,
+        _ => Body::Other,
+    }
+}
+
+pub fn body_word(mark: Mark, token: &Token) -> Body
+    ensures { IsBody mark (token_of token.now) result }
+{
+    match mark {
+        Mark::Arrow => arrow_body(token),
+        Mark::Equal => equal_body(token),
+    }
+}
+
+/// Of a program.
+#[derive(Clone, Copy)]
+pub enum Start {
+    Main,
+    Item,
+    Other,
+}
+
+pub fn start_word(token: &Token) -> Start
+    ensures { IsStart (token_of token.now) result }
+{
+    match &token.kind {
+        Kind::Main => Start::Main,
+        Kind::Let => Start::Item,
+        Kind::Kernel => Start::Item,
+        _ => Start::Other,
+    }
+}
+
+/// Of an item.
+#[derive(Clone, Copy)]
+pub enum ItemWord {
+    Let,
+    Kernel,
+    Other,
+}
+
+pub fn item_word(token: &Token) -> ItemWord
+    ensures { IsItem (token_of token.now) result }
+{
+    match &token.kind {
+        Kind::Let => ItemWord::Let,
+        Kind::Kernel => ItemWord::Kernel,
+        _ => ItemWord::Other,
+    }
+}

@@ -1,0 +1,4 @@
+pub mod Ir
+pub mod MeaningLaw
+pub mod Views
+pub mod Ranges

@@ -1,0 +1,13 @@
+// Outcomes of items and of main.
+
+ghost use Rattle.mw_meaning.specs.OutcomeLaws.{NamesOfItemsAreValues, OtherPlacesDontMatter, ItemsComeToTheirCode, MainComesToItsValue, NamesOfMainAreValues, MainComesToItsValueAfterItems};
+
+/// The outcomes of a typable program's items and of its main, under either mode.
+pub fn outcomes()
+    ensures names { NamesOfItemsAreValues }
+    ensures other_places { OtherPlacesDontMatter }
+    ensures items { ItemsComeToTheirCode }
+    ensures main_value { MainComesToItsValue }
+    ensures main_names { NamesOfMainAreValues }
+    ensures main_after_items { MainComesToItsValueAfterItems }
+{}

@@ -1,0 +1,29 @@
+// Modules that stand for kernels.
+
+ghost use Rattle.mw_meaning.specs.ShapeLaws.{StandingIsNotStray, LeavesAreCounted};
+ghost use Rattle.mw_meaning.specs.ShapeExamples.{ExamplesHaveTheirShapes, AnswersHaveTheirShape, NoIntegerIsStray, TwoIsStrayForTruth, MinusOneIsStrayForPairs};
+ghost use Rattle.mw_meaning.specs.WrongModule.{TwoParametersStandForNothing};
+
+/// A module that stands for code of its kernel type is not stray.
+pub fn standing_is_not_stray()
+    ensures { StandingIsNotStray }
+{}
+
+/// An argument has as many leaves as its type.
+pub fn leaves_are_counted()
+    ensures { LeavesAreCounted }
+{}
+
+/// A module whose `init` has parameters doesn't stand for the code of 7, though with two arguments it answers 7.
+pub fn two_parameters_stand_for_nothing()
+    ensures { TwoParametersStandForNothing }
+{}
+
+/// Worked examples by computation.
+pub fn shape_examples()
+    ensures shapes { ExamplesHaveTheirShapes }
+    ensures answers { AnswersHaveTheirShape }
+    ensures integers { NoIntegerIsStray }
+    ensures truth { TwoIsStrayForTruth }
+    ensures pairs { MinusOneIsStrayForPairs }
+{}
