@@ -2,7 +2,7 @@
 
 ghost use Rattle.std.specs.Prelude.{◌≡◌, ◌<◌, ◌≤◌};
 ghost use Rattle.mw_term.specs.Terms.{expression_of, kernel_type_of};
-ghost use Rattle.mw_term.specs.Closed.{IsClosed};
+ghost use Rattle.mw_term.specs.Closed.{IsClosed, IsCode};
 ghost use Rattle.mw_gen.specs.EmissionLaw.{kernel_nodes};
 
 use crate::samples::{large, sample, type_of};
@@ -19,6 +19,7 @@ fn bytes_of<L: Ledger>(
     kind: &KType,
     steps: &mut Steps<L>,
 ) -> Result<Vec<u8>, AllocError>
+    requires code { IsCode (expression_of code.now) }
     requires closed { IsClosed (expression_of code.now) }
     requires nodes { kernel_nodes (kernel_type_of kind.now) ≤ 10000 }
 {
@@ -52,6 +53,7 @@ fn repeated<L: Ledger>(
     times: u64,
     steps: &mut Steps<L>,
 ) -> Result<u64, AllocError>
+    requires code { IsCode (expression_of code.now) }
     requires closed { IsClosed (expression_of code.now) }
     requires nodes { kernel_nodes (kernel_type_of kind.now) ≤ 10000 }
 {

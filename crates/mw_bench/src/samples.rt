@@ -12,7 +12,7 @@ ghost use Rattle.mw_term.specs.Terms.{
   pair,
   prim,
 };
-ghost use Rattle.mw_term.specs.Closed.{ClosedBelow, IsClosed};
+ghost use Rattle.mw_term.specs.Closed.{ClosedBelow, IsClosed, IsCode};
 ghost use Rattle.mw_gen.specs.EmissionLaw.{ground_nodes, kernel_nodes};
 
 use mw_term::{Base, Ground, KType, Prim, Term};
@@ -64,7 +64,8 @@ fn paired(alloc: Global, left: Term, right: Term) -> Result<Term, AllocError>
 
 /// `f (n - 1)`, where n is variable 0 and f variable 1.
 fn next_call(alloc: Global) -> Result<Term, AllocError>
-    ensures { IfOk result (λ code. ClosedBelow 2 (expression_of code)) }
+    ensures closed { IfOk result (λ code. ClosedBelow 2 (expression_of code)) }
+    ensures code { IfOk result (λ made. IsCode (expression_of made)) }
 {
     let less = operation(alloc, Prim::Sub, Term::Var(0), Term::Int(1))?;
     applied(alloc, Term::Var(1), less)
@@ -73,7 +74,8 @@ fn next_call(alloc: Global) -> Result<Term, AllocError>
 /// A recursive function: `let rec f n = if n = 0 then 1 else n * f (n - 1) in f` where it goes on by a product, and else
 /// `let rec f n = if n = 0 then 1 else f (n - 1) in f`.
 fn recursive(alloc: Global, by_product: bool) -> Result<Term, AllocError>
-    ensures { IfOk result (λ code. IsClosed (expression_of code)) }
+    ensures closed { IfOk result (λ code. IsClosed (expression_of code)) }
+    ensures code { IfOk result (λ made. IsCode (expression_of made)) }
 {
     let call = next_call(alloc)?;
     let more = if by_product {
@@ -88,7 +90,8 @@ fn recursive(alloc: Global, by_product: bool) -> Result<Term, AllocError>
 
 /// `fun x -> x / (x mod 7)`, or another two operations.
 fn two_operations(alloc: Global, outer: Prim, inner: Prim) -> Result<Term, AllocError>
-    ensures { IfOk result (λ code. IsClosed (expression_of code)) }
+    ensures closed { IfOk result (λ code. IsClosed (expression_of code)) }
+    ensures code { IfOk result (λ made. IsCode (expression_of made)) }
 {
     let right = operation(alloc, inner, Term::Var(0), Term::Int(7))?;
     function(alloc, operation(alloc, outer, Term::Var(0), right)?)
@@ -96,7 +99,8 @@ fn two_operations(alloc: Global, outer: Prim, inner: Prim) -> Result<Term, Alloc
 
 /// `fun x -> if x < 7 then x <= 3 else false`, of numbers.
 fn comparisons(alloc: Global) -> Result<Term, AllocError>
-    ensures { IfOk result (λ code. IsClosed (expression_of code)) }
+    ensures closed { IfOk result (λ code. IsClosed (expression_of code)) }
+    ensures code { IfOk result (λ made. IsCode (expression_of made)) }
 {
     let test = operation(alloc, Prim::Lt, Term::Var(0), Term::Int(7))?;
     let then = operation(alloc, Prim::Le, Term::Var(0), Term::Int(3))?;
@@ -105,7 +109,8 @@ fn comparisons(alloc: Global) -> Result<Term, AllocError>
 
 /// `fun x -> let y = x + 1 in (fun z -> y + (z + x)) y`.
 fn captured(alloc: Global) -> Result<Term, AllocError>
-    ensures { IfOk result (λ code. IsClosed (expression_of code)) }
+    ensures closed { IfOk result (λ code. IsClosed (expression_of code)) }
+    ensures code { IfOk result (λ made. IsCode (expression_of made)) }
 {
     let inner = operation(alloc, Prim::Add, Term::Var(0), Term::Var(2))?;
     let body = operation(alloc, Prim::Add, Term::Var(1), inner)?;
@@ -116,7 +121,8 @@ fn captured(alloc: Global) -> Result<Term, AllocError>
 
 /// `fun p -> (snd p, fst p)`.
 fn swapped(alloc: Global) -> Result<Term, AllocError>
-    ensures { IfOk result (λ code. IsClosed (expression_of code)) }
+    ensures closed { IfOk result (λ code. IsClosed (expression_of code)) }
+    ensures code { IfOk result (λ made. IsCode (expression_of made)) }
 {
     let second = Term::Snd(Box::new(alloc, Term::Var(0))?);
     let first = Term::Fst(Box::new(alloc, Term::Var(0))?);
@@ -125,7 +131,8 @@ fn swapped(alloc: Global) -> Result<Term, AllocError>
 
 /// Code for each form of kernel code, by its number; from 8 on it is the literal 7.
 pub fn sample(alloc: Global, number: u64) -> Result<Term, AllocError>
-    ensures { IfOk result (λ code. IsClosed (expression_of code)) }
+    ensures closed { IfOk result (λ code. IsClosed (expression_of code)) }
+    ensures code { IfOk result (λ made. IsCode (expression_of made)) }
 {
     match number {
         0 => recursive(alloc, false),
@@ -165,7 +172,8 @@ fn two(alloc: Global) -> Result<Ground, AllocError>
 /// Functions applied to each other, so many levels deep, beneath so many binders.
 fn nested(alloc: Global, levels: u32, binders: u32) -> Result<Term, AllocError>
     requires { levels + binders < 2 ^ 32 }
-    ensures { IfOk result (λ code. ClosedBelow binders (expression_of code)) }
+    ensures closed { IfOk result (λ code. ClosedBelow binders (expression_of code)) }
+    ensures code { IfOk result (λ made. IsCode (expression_of made)) }
 {
     if levels == 0 {
         return Ok(match binders {
@@ -180,7 +188,8 @@ fn nested(alloc: Global, levels: u32, binders: u32) -> Result<Term, AllocError>
 
 /// Code of 19,964 nodes with 6,653 functions, up to 12 one in another; it has no type.
 pub fn large(alloc: Global) -> Result<Term, AllocError>
-    ensures { IfOk result (λ code. IsClosed (expression_of code)) }
+    ensures closed { IfOk result (λ code. IsClosed (expression_of code)) }
+    ensures code { IfOk result (λ made. IsCode (expression_of made)) }
 {
     let most = paired(alloc, nested(alloc, 12, 0)?, nested(alloc, 11, 0)?)?;
     paired(alloc, most, nested(alloc, 9, 0)?)

@@ -1,30 +1,32 @@
 -- What is claimed of each emission.
-use Rattle.std.specs.Prelude.{ℕ, ◌≡◌, ◌≤◌, List, true}
+use Rattle.std.specs.Prelude.{ℕ, ◌≡◌, ◌<◌, ◌^◌, List, length}
 use Rattle.mw_term.specs.Terms.{Expression, KernelType}
-use Rattle.mw_term.specs.Closed.{IsClosed}
-use Rattle.mw_meaning.specs.StagedMeaning.{within_limits}
 use Rattle.mw_meaning.specs.StandingFor.{StandsFor}
 use Rattle.mw_meaning.specs.Shapes.{HasShape}
 use Rattle.mw_wasm.specs.Syntax.{PureModule}
 use Rattle.mw_wasm.specs.BinaryModules.{Spells}
 use Rattle.mw_wasm.specs.Profile.{IsWithinProfile}
 use Rattle.mw_wasm.specs.Validity.{IsValid}
-use Rattle.mw_conv.specs.Literals.{Literals}
-use Rattle.mw_gen.specs.Generate.{Version}
+use Rattle.mw_key.specs.declared.version.Version.{Version as TextVersion}
+use Rattle.mw_key.specs.CanonicalText.{IsTextOf}
 use Rattle.mw_gen.specs.Emission.{emitted}
-use Rattle.mw_gen.specs.EmissionLaw.{kernel_nodes}
-use Rattle.mw_compile.specs.Emission.{emission}
+use Rattle.mw_compile.specs.Emission.{emission, version_of, IsEmissionOf}
 
--- The bytes spell the module, which is within the profile's limits and valid, has the shape that a run of the kernel type
--- needs, and stands for the code.
+-- The bytes, fewer than 2^32, spell the module, which is within the profile's limits and valid, has the shape that a run of
+-- the kernel type needs, and stands for the code.
 pub record IsEmission (bytes : List ℕ) (m : PureModule) (c : Expression) (k : KernelType) : Type 0 where
+  pub short : length bytes < 2 ^ 32
   pub spelled : Spells bytes m
   pub profile : IsWithinProfile m
   pub valid : IsValid m
   pub shape : HasShape m k
   pub stands : StandsFor m c k
 
--- in either version, of closed code within the limits of kernels, whose literals have 64 bits, at a type of at most 10,000
--- nodes
+-- of each text, in either version, for its code and its type
 abbrev pub EmissionHolds : Type 0
-EmissionHolds = (v : Version) (c : Expression) (k : KernelType) → IsClosed c → Literals c → within_limits c ≡ true → kernel_nodes k ≤ 10000 → IsEmission (emission v c k) (emitted v c k) c k
+EmissionHolds = (text : List ℕ) (v : TextVersion) (c : Expression) (k : KernelType) → IsTextOf text v c k
+    → IsEmission (emission (version_of v) c k) (emitted (version_of v) c k) c k
+
+-- a text has one emission
+abbrev pub OneEmission : Type 0
+OneEmission = (text first second : List ℕ) → IsEmissionOf first text → IsEmissionOf second text → first ≡ second

@@ -2,31 +2,32 @@
 
 ghost use Rattle.std.specs.Prelude.{◌≡◌, ◌+◌, ◌≤◌, true, IfOk};
 ghost use Rattle.mw_term.specs.Terms.{expression_of, kernel_type_of};
-ghost use Rattle.mw_term.specs.Closed.{IsClosed};
+ghost use Rattle.mw_term.specs.Closed.{IsClosed, IsCode};
 ghost use Rattle.mw_meaning.specs.StagedMeaning.{within_limits};
 ghost use Rattle.mw_gen.specs.EmissionLaw.{kernel_nodes};
 ghost use Rattle.mw_compile.specs.Entries.{IsEntryOf};
 
-use crate::copy::{copy_of, copy_of_type};
 use crate::entry::Entry;
 use crate::steps::Steps;
 use mw_conv::convert;
 use mw_encode::encode;
 use mw_gen::generate;
+use mw_key::text_of;
 use mw_term::{KType, Term};
 use mw_validate::Valid;
 use std::alloc::{AllocError, Global};
 use std::sync::Arc;
 use std::sync::ledger::Ledger;
 
-/// The entry of a kernel's closed code, within the limits of kernels, at a type of at most 10,000 nodes: its module and the
-/// module's bytes. One emission is counted.
+/// The entry of a kernel's closed code, within the limits of kernels, at a type of at most 10,000 nodes: its text of the second
+/// version, its module and the module's bytes. One emission is counted.
 pub fn emit<L: Ledger>(
     alloc: Global,
     code: &Term,
     kind: &KType,
     steps: &mut Steps<L>,
 ) -> Result<Entry, AllocError>
+    requires code { IsCode (expression_of code.now) }
     requires closed { IsClosed (expression_of code.now) }
     requires limits { within_limits (expression_of code.now) ≡ true }
     requires nodes { kernel_nodes (kernel_type_of kind.now) ≤ 10000 }
@@ -34,12 +35,12 @@ pub fn emit<L: Ledger>(
     ensures step { steps.new ≡ steps.old + 1 }
 {
     steps.tick();
+    let text = text_of(alloc, code, kind)?;
     let converted = convert(alloc, code)?;
     let wasm = generate(alloc, &converted, kind)?;
     let bytes = encode(alloc, &wasm)?;
     Ok(Entry {
-        code: copy_of(alloc, code)?,
-        kind: copy_of_type(alloc, kind)?,
+        text,
         bytes,
         module: Arc::new(alloc, Valid::sure(wasm))?,
     })

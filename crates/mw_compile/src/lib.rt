@@ -1,7 +1,6 @@
 //! Kernels as WebAssembly: the module of a kernel's code, and its bytes.
 #![tactic(auto)]
 
-mod copy;
 mod emission;
 mod entry;
 pub mod laws;

@@ -2,7 +2,7 @@
 
 ghost use Rattle.std.specs.Prelude.{◌≡◌, ◌+◌, ◌<◌, ◌≤◌, true, IfOk};
 ghost use Rattle.mw_term.specs.Terms.{expression_of, kernel_type_of};
-ghost use Rattle.mw_term.specs.Closed.{IsClosed};
+ghost use Rattle.mw_term.specs.Closed.{IsClosed, IsCode};
 ghost use Rattle.mw_meaning.specs.StagedMeaning.{within_limits};
 ghost use Rattle.mw_gen.specs.EmissionLaw.{kernel_nodes};
 
@@ -17,24 +17,34 @@ use std::alloc::{AllocError, Global};
 use std::marker::Brand;
 use std::sync::ledger::{Blank, Ledger};
 
+/// The texts of the codes, at their types.
+const CUBE_TEXT: &str = "emit2 to int int fun mul v 0 mul v 0 mul v 0 i 1";
+const DOWN_TEXT: &str = "emit2 to int int let rec if eq v 0 i 0 i 0 app v 1 sub v 0 i 1 v 0";
+const TWO_FREE_TEXT: &str = "emit2 to int int fun let add v 0 i 1 app rec if eq v 0 i 0 v 3 add v 2 app v 1 sub v 0 i 1 v 1";
+const SEVEN_TEXT: &str = "emit2 int i 7";
+const LET_IN_LET_TEXT: &str = "emit2 int let let i 1 add v 0 i 2 add v 0 v 0";
+const SWAP_TEXT: &str = "emit2 to pair int int pair int int fun pair snd v 0 fst v 0";
+
 /// The type int.
 const INT: Ground = Ground::Base(Base::Int);
 
-/// Whether the entry of code has these bytes.
+/// Whether the entry of code has this text and these bytes.
 fn is_emitted<L: Ledger>(
     alloc: Global,
     code: &Term,
     kind: &KType,
     steps: &mut Steps<L>,
+    text: &str,
     bytes: &[u8],
 ) -> Result<bool, AllocError>
+    requires code { IsCode (expression_of code.now) }
     requires closed { IsClosed (expression_of code.now) }
     requires limits { within_limits (expression_of code.now) ≡ true }
     requires nodes { kernel_nodes (kernel_type_of kind.now) ≤ 10000 }
     ensures { IfOk result (λ _. steps.new ≡ steps.old + 1) }
 {
     let entry = emit(alloc, code, kind, steps)?;
-    Ok(entry.bytes() == bytes)
+    Ok(entry.text() == text.as_bytes() && entry.bytes() == bytes)
 }
 
 /// Which of three entries at `int -> int` are as worked out. Each emission is counted.
@@ -42,9 +52,9 @@ fn functions<L: Ledger>(alloc: Global, steps: &mut Steps<L>) -> Result<[bool; 3]
     ensures { IfOk result (λ _. steps.new ≡ steps.old + 3) }
 {
     let kind = KType::Fun(INT, INT);
-    let first = is_emitted(alloc, &cube(alloc)?, &kind, steps, &CUBE)?;
-    let second = is_emitted(alloc, &down(alloc)?, &kind, steps, &DOWN)?;
-    let third = is_emitted(alloc, &two_free(alloc)?, &kind, steps, &TWO_FREE)?;
+    let first = is_emitted(alloc, &cube(alloc)?, &kind, steps, CUBE_TEXT, &CUBE)?;
+    let second = is_emitted(alloc, &down(alloc)?, &kind, steps, DOWN_TEXT, &DOWN)?;
+    let third = is_emitted(alloc, &two_free(alloc)?, &kind, steps, TWO_FREE_TEXT, &TWO_FREE)?;
     Ok([first, second, third])
 }
 
@@ -53,8 +63,8 @@ fn numbers<L: Ledger>(alloc: Global, steps: &mut Steps<L>) -> Result<[bool; 2], 
     ensures { IfOk result (λ _. steps.new ≡ steps.old + 2) }
 {
     let kind = KType::Ground(INT);
-    let first = is_emitted(alloc, &Term::Int(7), &kind, steps, &SEVEN)?;
-    let second = is_emitted(alloc, &let_in_let(alloc)?, &kind, steps, &LET_IN_LET)?;
+    let first = is_emitted(alloc, &Term::Int(7), &kind, steps, SEVEN_TEXT, &SEVEN)?;
+    let second = is_emitted(alloc, &let_in_let(alloc)?, &kind, steps, LET_IN_LET_TEXT, &LET_IN_LET)?;
     Ok([first, second])
 }
 
@@ -69,6 +79,7 @@ fn pairs<L: Ledger>(alloc: Global, steps: &mut Steps<L>) -> Result<bool, AllocEr
         &swap(alloc)?,
         &KType::Fun(argument, result),
         steps,
+        SWAP_TEXT,
         &SWAP,
     )
 }

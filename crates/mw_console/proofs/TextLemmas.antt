@@ -9,15 +9,16 @@ use Rattle.std.proofs.lemmas.List.{append_assoc, length-take, take-take}
 pub put_more : (t x more u v : List ℕ) → u ≡ t ++ x → v ≡ u ++ more → v ≡ t ++ (x ++ more)
 put_more t x more u v e f = f ∙ (ap (λ y. y ++ more) e ∙ append_assoc t x more)
 
--- a kernel's lines, piece by piece
-pub kernel_put : (t a b c d e f g name kind digits : List ℕ) → a ≡ t ++ codes "kernel " → b ≡ a ++ name → c ≡ b ++ codes " : " → d ≡ c ++ kind → e ≡ d ++ codes "\nmodule " → f ≡ e ++ digits → g ≡ f ++ codes "\n"
-    → g ≡ t ++ (codes "kernel " ++ name ++ codes " : " ++ kind ++ codes "\n" ++ codes "module " ++ digits ++ codes "\n")
-kernel_put t a b c d e f g name kind digits p q r s u v w =
-    let named = put_more t (codes "kernel ") name a b p q in
-    let typed = put_more t (codes "kernel " ++ name ++ codes " : ") kind c d (put_more t (codes "kernel " ++ name) (codes " : ") b c named r) s in
-    let line = codes "kernel " ++ name ++ codes " : " ++ kind in
-    let begun = put_more t line (codes "\nmodule ") d e typed u ∙ ap (λ x. t ++ x) (sym (append_assoc line (codes "\n") (codes "module "))) in
-    put_more t (line ++ codes "\n" ++ codes "module " ++ digits) (codes "\n") f g (put_more t (line ++ codes "\n" ++ codes "module ") digits e f begun v) w
+-- three pieces that were put behind others
+pub three_put : (t a b c x y z : List ℕ) → a ≡ t ++ x → b ≡ a ++ y → c ≡ b ++ z → c ≡ t ++ (x ++ y ++ z)
+three_put t a b c x y z p q r = put_more t (x ++ y) z b c (put_more t x y a b p q) r
+
+-- the line of a name and a type, piece by piece
+pub name_put : (t a b c d e name kind : List ℕ) → a ≡ t ++ codes "kernel " → b ≡ a ++ name → c ≡ b ++ codes " : " → d ≡ c ++ kind → e ≡ d ++ codes "\n"
+    → e ≡ t ++ (codes "kernel " ++ name ++ codes " : " ++ kind ++ codes "\n")
+name_put t a b c d e name kind p q r s u =
+    let line = codes "kernel " ++ name ++ codes " : " in
+    put_more t (line ++ kind) (codes "\n") d e (put_more t line kind c d (three_put t a b c (codes "kernel ") name (codes " : ") p q r) s) u
 
 -- a line that was written behind a front of the text
 pub line_written : (old middle new text : List ℕ) (done end : ℕ) → done ≤ end → middle ≡ old ++ take done text → new ≡ middle ++ take (end - done) (drop done text) → new ≡ old ++ take end text

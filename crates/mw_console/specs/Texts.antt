@@ -41,9 +41,16 @@ abbrev pub kind_text : KernelType → List ℕ
 kind_text (of_ground t) = ground_text t
 kind_text (to s t) = ground_text s ++ codes " -> " ++ ground_text t
 
--- the two lines of a kernel: its name and type, and its module's bytes
-abbrev pub kernel_text : List ℕ → KernelType → List ℕ → List ℕ
-kernel_text name kind bytes = codes "kernel " ++ name ++ codes " : " ++ kind_text kind ++ codes "\n" ++ codes "module " ++ encode_lower bytes ++ codes "\n"
+-- a word and bytes in hexadecimal digits, in a line
+abbrev pub digits_line : List ℕ → List ℕ → List ℕ
+digits_line word bytes = word ++ encode_lower bytes ++ codes "\n"
+
+-- the three lines of a kernel: its name and type, its key, and its module's bytes
+abbrev pub kernel_line : List ℕ → KernelType → List ℕ
+kernel_line name kind = codes "kernel " ++ name ++ codes " : " ++ kind_text kind ++ codes "\n"
+
+abbrev pub kernel_text : List ℕ → KernelType → List ℕ → List ℕ → List ℕ
+kernel_text name kind key bytes = kernel_line name kind ++ digits_line (codes "key ") key ++ digits_line (codes "module ") bytes
 
 -- the name of the item at an index; the index of main is the number of items
 abbrev pub name_at : List (List ℕ) → ℕ → List ℕ

@@ -4,7 +4,7 @@ ghost use Rattle.std.specs.Prelude.{◌≡◌, ◌++◌, codes, map, IfOk};
 ghost use Rattle.std.specs.String.{string_bytes};
 ghost use Rattle.mw_term.specs.Terms.{ground_of, kernel_type_of, ground_value_of, base_value_of};
 ghost use Rattle.mw_term.specs.declared.program.Item.{Item as PureItem};
-ghost use Rattle.mw_console.specs.Texts.{answered, bounded, base_text, ground_text, left_text, kind_text, kernel_text, limit_words, ending_line, name_at, in_line, place_line, refusal_line, value_text};
+ghost use Rattle.mw_console.specs.Texts.{answered, bounded, base_text, ground_text, left_text, kind_text, kernel_text, kernel_line, digits_line, limit_words, ending_line, name_at, in_line, place_line, refusal_line, value_text};
 
 use mw_term::{Base, BaseValue, Ground, GroundValue, Item, KType, Limit, Refusal};
 use std::alloc::{AllocError, Global};
@@ -79,22 +79,44 @@ fn put(text: &mut Vec<u8>, more: &[u8]) -> Result<(), AllocError>
     Ok(())
 }
 
-/// The two lines of a kernel: its name and type, and its module's bytes in hexadecimal digits.
+/// The three lines of a kernel: its name and type, its key and its module's bytes, both in hexadecimal digits.
 pub fn put_kernel(
     alloc: Global,
     text: &mut Vec<u8>,
     name: &[u8],
     kind: &KType,
+    key: &[u8],
     bytes: &[u8],
 ) -> Result<(), AllocError>
-    ensures { IfOk result (λ _. text.new.items ≡ text.old.items ++ kernel_text name.now (kernel_type_of kind.now) bytes.now) }
+    ensures { IfOk result (λ _. text.new.items ≡ text.old.items ++ kernel_text name.now (kernel_type_of kind.now) key.now bytes.now) }
 {
-    let digits = hex::encode(alloc, bytes)?;
+    put_name(text, name, kind)?;
+    put_digits(alloc, text, b"key ", key)?;
+    put_digits(alloc, text, b"module ", bytes)
+}
+
+/// The line of a kernel's name and type.
+fn put_name(text: &mut Vec<u8>, name: &[u8], kind: &KType) -> Result<(), AllocError>
+    ensures { IfOk result (λ _. text.new.items ≡ text.old.items ++ kernel_line name.now (kernel_type_of kind.now)) }
+{
     put(text, b"kernel ")?;
     put(text, name)?;
     put(text, b" : ")?;
     put_kind(text, kind)?;
-    put(text, b"\nmodule ")?;
+    put(text, b"\n")
+}
+
+/// The line of a word and of bytes in hexadecimal digits.
+fn put_digits(
+    alloc: Global,
+    text: &mut Vec<u8>,
+    word: &[u8],
+    bytes: &[u8],
+) -> Result<(), AllocError>
+    ensures { IfOk result (λ _. text.new.items ≡ text.old.items ++ digits_line word.now bytes.now) }
+{
+    let digits = hex::encode(alloc, bytes)?;
+    put(text, word)?;
     put(text, digits.as_bytes())?;
     put(text, b"\n")
 }

@@ -12,7 +12,7 @@ use Rattle.mw_meaning.specs.declared.mode.Mode.{Mode}
 use Rattle.mw_meaning.specs.declared.mode.Mode.TheVariants.{Plain}
 use Rattle.mw_meaning.specs.StagedMeaning.{live, quoted}
 use Rattle.mw_meaning.proofs.Outsides.{staged_is}
-use Rattle.mw_compile.specs.Entries.{Emitted}
+use Rattle.mw_drive.specs.declared.kernels.KernelEntry.{KernelEntry}
 use Rattle.mw_drive.specs.declared.evaluate.Interrupt.{Interrupt}
 use Rattle.mw_drive.specs.declared.evaluate.Interrupt.TheVariants.{Bound, Memory}
 use Rattle.mw_drive.specs.Evaluation.{HasNumber, MeetsBound, HasCode, IsBuiltTo, KernelHasNumber, IsMeant, IsRunOf, IsSumEntry, codes_of}
@@ -59,34 +59,34 @@ run_meant {gs} {e} {c} (Err (Bound limit)) h g = record { is = λ units s. (s, s
 run_meant (Err (Memory error)) h g = tt
 
 -- a name's value is the code of its kernel item
-code_at : (entries : List Emitted) (i : ℕ) (x : Emitted) → slice_get entries i ≡ Some x → slice_get (codes_of entries) i ≡ Some (code (expression_of x.code))
+code_at : (entries : List KernelEntry) (i : ℕ) (x : KernelEntry) → slice_get entries i ≡ Some x → slice_get (codes_of entries) i ≡ Some (code (expression_of x.code))
 code_at [] i x e = absurd (cc)
-code_at (y ∷ entries) zero x e = ap (λ (z : Option Emitted). named z) e
+code_at (y ∷ entries) zero x e = ap (λ (z : Option KernelEntry). named z) e
   where
-    named : Option Emitted → Option Value
+    named : Option KernelEntry → Option Value
     named None = None
     named (Some z) = Some (code (expression_of z.code))
 code_at (y ∷ entries) (suc i) x e = code_at entries i x e
 
-pub glob_has_code : (entries : List Emitted) (i : ℕ) (x : Emitted) → slice_get entries i ≡ Some x → HasCode Plain (codes_of entries) (glob i) (expression_of x.code)
+pub glob_has_code : (entries : List KernelEntry) (i : ℕ) (x : KernelEntry) → slice_get entries i ≡ Some x → HasCode Plain (codes_of entries) (glob i) (expression_of x.code)
 glob_has_code entries i x e = record { is = λ units s. staged_is Plain (codes_of entries) live units s (glob i) ∙ rw (code_at entries i x e) refl }
 
 -- a run of an item, and of closed code
-pub run_item_meant : (entries : List Emitted) (i : ℕ) (x : Emitted) (n : ℤ) → slice_get entries i ≡ Some x → IsSumEntry x → KernelHasNumber (expression_of x.code) n → HasNumber (codes_of entries) (run (of_ground (base Int)) (glob i)) n
+pub run_item_meant : (entries : List KernelEntry) (i : ℕ) (x : KernelEntry) (n : ℤ) → slice_get entries i ≡ Some x → IsSumEntry x → KernelHasNumber (expression_of x.code) n → HasNumber (codes_of entries) (run (of_ground (base Int)) (glob i)) n
 run_item_meant entries i x n e h number = run_meant (Ok n) (glob_has_code entries i x e) (h.limits, number)
 
-entry_at : (entries : List Emitted) (i : ℕ) (x : Emitted) → AllByRecursion IsSumEntry entries → slice_get entries i ≡ Some x → IsSumEntry x
+entry_at : (entries : List KernelEntry) (i : ℕ) (x : KernelEntry) → AllByRecursion IsSumEntry entries → slice_get entries i ≡ Some x → IsSumEntry x
 entry_at [] i x all e = absurd (cc)
 entry_at (y ∷ entries) zero x all e = subst IsSumEntry (same e) all.0
   where
-    same : {y x : Emitted} → Some y ≡ Some x → y ≡ x
+    same : {y x : KernelEntry} → Some y ≡ Some x → y ≡ x
     same e = cc
 entry_at (y ∷ entries) (suc i) x all e = entry_at entries i x all.1 e
 
-pub read_there : (entries : List Emitted) (i : ℕ) (x d : Emitted) → i < length entries → x ≡ get_or entries i d → slice_get entries i ≡ Some x
+pub read_there : (entries : List KernelEntry) (i : ℕ) (x d : KernelEntry) → i < length entries → x ≡ get_or entries i d → slice_get entries i ≡ Some x
 read_there [] i x d h e = absurd (omega arith)
 read_there (y ∷ entries) zero x d h e = ap Some (sym e)
 read_there (y ∷ entries) (suc i) x d h e = read_there entries i x d (omega arith) e
 
-pub entry_there : (entries : List Emitted) (i : ℕ) (x d : Emitted) → AllByRecursion IsSumEntry entries → i < length entries → x ≡ get_or entries i d → IsSumEntry x
+pub entry_there : (entries : List KernelEntry) (i : ℕ) (x d : KernelEntry) → AllByRecursion IsSumEntry entries → i < length entries → x ≡ get_or entries i d → IsSumEntry x
 entry_there entries i x d all h e = entry_at entries i x all (read_there entries i x d h e)

@@ -20,7 +20,7 @@ use Rattle.mw_exec.specs.declared.ended.Ended.{Ended as Answer}
 use Rattle.mw_exec.specs.declared.ended.Ended.TheVariants as ends
 use Rattle.mw_exec.specs.declared.ended.InstanceFault.TheVariants as fault
 use Rattle.mw_exec.specs.Instancing.{CanInvoke, EndsAs, BeginsAs, Refuses, values_of}
-use Rattle.mw_compile.specs.Entries.{Emitted}
+use Rattle.mw_drive.specs.declared.kernels.KernelEntry.{KernelEntry}
 use Rattle.mw_drive.specs.Evaluation.{KernelHasNumber, IsSumEntry, IsNumberEnd, number_of_end}
 use Rattle.mw_drive.proofs.SumMeanings.{sum_has_type, sum_means}
 
@@ -28,11 +28,11 @@ use Rattle.mw_drive.proofs.SumMeanings.{sum_has_type, sum_means}
 clash : {r : Result Store Unfit} {st : Store} {k : Unfit} → r ≡ Ok st → r ≡ Err k → ⊥
 clash e f = cc
 
-pub never_element : (e : Emitted) (k : ℕ) → IsSumEntry e → Refuses (fault.Element k) e.wasm → ⊥
-never_element e k h r = clash h.kept.is.stands.has_instance r
+pub never_element : (e : KernelEntry) (k : ℕ) → IsSumEntry e → Refuses (fault.Element k) e.emitted.wasm → ⊥
+never_element e k h r = clash h.emitted.is.stands.has_instance r
 
-pub never_segment : (e : Emitted) (k : ℕ) → IsSumEntry e → Refuses (fault.Segment k) e.wasm → ⊥
-never_segment e k h r = clash h.kept.is.stands.has_instance r
+pub never_segment : (e : KernelEntry) (k : ℕ) → IsSumEntry e → Refuses (fault.Segment k) e.emitted.wasm → ⊥
+never_segment e k h r = clash h.emitted.is.stands.has_instance r
 
 -- and `init` can be invoked on it
 record FunctionAt (fs : List Func) (i : ℕ) (f : Function) : Type 0 where
@@ -45,10 +45,10 @@ function_at [] i f e = absurd (cc)
 function_at (g ∷ fs) zero f e = record { function = g; there = refl; is = cc }
 function_at (g ∷ fs) (suc i) f e = let found = function_at fs i f e in record { function = found.function; there = found.there; is = found.is }
 
-pub can_invoke : (e : Emitted) → IsSumEntry e → CanInvoke e.wasm (codes "init") []
+pub can_invoke : (e : KernelEntry) → IsSumEntry e → CanInvoke e.emitted.wasm (codes "init") []
 can_invoke e h =
-    let init = h.kept.is.shape.init in
-    let found = function_at e.wasm.funcs init.index init.function init.is_function in
+    let init = h.emitted.is.shape.init in
+    let found = function_at e.emitted.wasm.funcs init.index init.function init.is_function in
     record {
       function = found.function;
       type = init_type;
@@ -56,7 +56,7 @@ can_invoke e h =
         index = init.index;
         is_exported = init.is_exported;
         is_function = found.there;
-        is_type = ap (λ (f : Function). slice_get e.wasm.types f.kind) found.is ∙ init.has_type;
+        is_type = ap (λ (f : Function). slice_get e.emitted.wasm.types f.kind) found.is ∙ init.has_type;
       };
       fit = refl;
     }
@@ -82,33 +82,33 @@ ends_with c z n left end after (trapped t st) a h k = absurd (a)
 ends_with c z n left end after spent a h k = absurd (a)
 ends_with c z n left end after lost a h k = absurd (a)
 
-pub number_given : (e : Emitted) (units : ℕ) (end : Answer) (st after : Store) → IsSumEntry e → BeginsAs e.wasm st
-    → ((f : ℕ) → exported (module_of e.wasm) (codes "init") ≡ Some f → EndsAs end after (invoked (module_of e.wasm) st f [] units)) → Gives (expression_of e.code) end
+pub number_given : (e : KernelEntry) (units : ℕ) (end : Answer) (st after : Store) → IsSumEntry e → BeginsAs e.emitted.wasm st
+    → ((f : ℕ) → exported (module_of e.emitted.wasm) (codes "init") ≡ Some f → EndsAs end after (invoked (module_of e.emitted.wasm) st f [] units)) → Gives (expression_of e.code) end
 number_given e units end st after h begins given =
     let c = expression_of e.code in
     let x = sum_means c h.sum h.words in
-    let stands = subst (λ k. StandsFor (module_of e.wasm) c k) h.kind h.kept.is.stands in
+    let stands = h.emitted.is.stands in
     let means = stands.means (sum_has_type c h.sum) in
-    let same : stands.store ≡ st = one_store (instantiated (module_of e.wasm)) stands.has_instance begins in
-    let answer = subst (λ a. AnswersAs a (invoked (module_of e.wasm) stands.store means.init [] units)) (x.means units 0) (means.run units) in
-    let ending = subst (λ st. EndsAs end after (invoked (module_of e.wasm) st means.init [] units)) (sym same) (given means.init means.is_init) in
-    ends_with c x.value units 0 end after (invoked (module_of e.wasm) stands.store means.init [] units) answer ending
+    let same : stands.store ≡ st = one_store (instantiated (module_of e.emitted.wasm)) stands.has_instance begins in
+    let answer = subst (λ a. AnswersAs a (invoked (module_of e.emitted.wasm) stands.store means.init [] units)) (x.means units 0) (means.run units) in
+    let ending = subst (λ st. EndsAs end after (invoked (module_of e.emitted.wasm) st means.init [] units)) (sym same) (given means.init means.is_init) in
+    ends_with c x.value units 0 end after (invoked (module_of e.emitted.wasm) stands.store means.init [] units) answer ending
     (subst (λ z. KernelHasNumber c z) (sym (to_z-of_z w64 x.value x.fits)) record { is = λ units words. x.means units words })
   where
     one_store : {s t : Store} (r : Result Store Unfit) → r ≡ Ok s → r ≡ Ok t → s ≡ t
     one_store r e f = cc
 
 -- the same of an instance of the entry's module
-pub number_on : (e : Emitted) (units : ℕ) (w : Module) (end : Answer) (st after : Store) → w ≡ e.wasm → IsSumEntry e → BeginsAs w st
+pub number_on : (e : KernelEntry) (units : ℕ) (w : Module) (end : Answer) (st after : Store) → w ≡ e.emitted.wasm → IsSumEntry e → BeginsAs w st
     → ((f : ℕ) → exported (module_of w) (codes "init") ≡ Some f → EndsAs end after (invoked (module_of w) st f [] units)) → Gives (expression_of e.code) end
 number_on e units w end st after is h begins given =
     number_given e units end st after h (subst (λ w. BeginsAs w st) is begins) (subst (λ w. (f : ℕ) → exported (module_of w) (codes "init") ≡ Some f → EndsAs end after (invoked (module_of w) st f [] units)) is given)
 
-pub can_invoke_on : (e : Emitted) (w : Module) → w ≡ e.wasm → IsSumEntry e → CanInvoke w (codes "init") []
+pub can_invoke_on : (e : KernelEntry) (w : Module) → w ≡ e.emitted.wasm → IsSumEntry e → CanInvoke w (codes "init") []
 can_invoke_on e w is h = subst (λ w. CanInvoke w (codes "init") []) (sym is) (can_invoke e h)
 
-pub never_element_on : (e : Emitted) (w : Module) (k : ℕ) → w ≡ e.wasm → IsSumEntry e → Refuses (fault.Element k) w → ⊥
+pub never_element_on : (e : KernelEntry) (w : Module) (k : ℕ) → w ≡ e.emitted.wasm → IsSumEntry e → Refuses (fault.Element k) w → ⊥
 never_element_on e w k is h r = never_element e k h (subst (λ w. Refuses (fault.Element k) w) is r)
 
-pub never_segment_on : (e : Emitted) (w : Module) (k : ℕ) → w ≡ e.wasm → IsSumEntry e → Refuses (fault.Segment k) w → ⊥
+pub never_segment_on : (e : KernelEntry) (w : Module) (k : ℕ) → w ≡ e.emitted.wasm → IsSumEntry e → Refuses (fault.Segment k) w → ⊥
 never_segment_on e w k is h r = never_segment e k h (subst (λ w. Refuses (fault.Segment k) w) is r)

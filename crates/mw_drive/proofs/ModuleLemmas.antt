@@ -14,7 +14,7 @@ use Rattle.mw_meaning.specs.Outcomes.{Outcome, came_to, trapped, bounded, stuck 
 use Rattle.mw_drive.specs.Sums.{IsSumCode, HasWords}
 use Rattle.mw_gen.specs.Generate.{two}
 use Rattle.mw_gen.specs.Emission.{emitted}
-use Rattle.mw_compile.proofs.Entering.{each_emission}
+use Rattle.mw_compile.proofs.Entering.{emission_of}
 use Rattle.mw_console.specs.Texts.{Ending}
 use Rattle.mw_drive.specs.NamedPrograms.{NamedItem, unnamed}
 use Rattle.mw_drive.specs.FirstForms.{IsLiteral, IsNumberInside, IsBracket, IsClosedCode, IsFirstKernel}
@@ -74,7 +74,7 @@ has_module mode x c sum words limits =
     let d = in_mode mode c in
     let d_sum = in_mode_sum mode c sum words in
     let d_words = in_mode_words mode c sum words in
-    let e = each_emission two d (of_ground (base Int)) (sum_closed d d_sum) (sum_literals d d_sum d_words) (in_mode_limits mode c limits) int_nodes in
+    let e = emission_of two d (of_ground (base Int)) (sum_closed d d_sum) (sum_literals d d_sum d_words) (in_mode_limits mode c limits) int_nodes in
     record { wasm = emitted two d (of_ground (base Int)); spelled = e.spelled; valid = e.valid; stands = e.stands }
 
 module _ (mode : Mode) where

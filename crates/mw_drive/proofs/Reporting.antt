@@ -18,23 +18,26 @@ use Rattle.mw_meaning.specs.declared.mode.Mode.{Mode}
 use Rattle.mw_meaning.specs.declared.mode.Mode.TheVariants.{Plain}
 use Rattle.mw_meaning.specs.StagedMeaning.{within_limits}
 use Rattle.mw_meaning.specs.Outcomes.{code_outcome, measured_code, value_outcome, main_outcome, names_of_main}
+use Rattle.sha2.specs.Sha256.{sha256}
+use Rattle.mw_key.specs.declared.version.Version.TheVariants.{Two}
+use Rattle.mw_key.specs.CanonicalText.{canonical_text}
 use Rattle.mw_gen.specs.Generate.{two}
 use Rattle.mw_compile.specs.Emission.{emission}
-use Rattle.mw_compile.specs.Entries.{Emitted}
+use Rattle.mw_drive.specs.declared.kernels.KernelEntry.{KernelEntry}
 use Rattle.mw_console.specs.Texts.{answered, bounded, main_name, ending_line}
 use Rattle.mw_console.specs.declared.status.Status.{Status}
 use Rattle.mw_console.specs.declared.status.Status.TheVariants as status
 use Rattle.mw_drive.specs.NamedPrograms.{NamedItem, item_of, named_program_of, unnamed}
 use Rattle.mw_drive.specs.FirstForms.{IsFirstKernel, IsNumber, IsFirst}
 use Rattle.mw_drive.specs.ProgramMeaning.{Kernel, ProgramRun, ended, main_run, main_after, with_kernel, after_item, run_item, run_items}
-use Rattle.mw_drive.specs.Works.{kernel_lines}
+use Rattle.mw_drive.specs.Works.{key_of, kernel_lines}
 use Rattle.mw_drive.specs.Evaluation.{HasNumber, MeetsBound, HasCode, IsMeant, IsSumEntry, AreSumEntries, codes_of}
 use Rattle.mw_drive.specs.ProgramRuns.{IsFirstItem, IsRunFrom, IsKernelText, IsKernelOf, IsStopped, IsRunOfProgram, entry_codes}
 use Rattle.mw_drive.specs.declared.evaluate.Interrupt.{Interrupt}
 use Rattle.mw_drive.specs.declared.evaluate.Interrupt.TheVariants.{Bound, Memory}
 
 -- where all items are kernel items, main's names have the codes that these gave
-kernel_names : (all : List Definition) (entries : List Emitted) → AllByRecursion IsFirstKernel all → length all ≡ length entries → names_of_main all (entry_codes entries) ≡ codes_of entries
+kernel_names : (all : List Definition) (entries : List KernelEntry) → AllByRecursion IsFirstKernel all → length all ≡ length entries → names_of_main all (entry_codes entries) ≡ codes_of entries
 kernel_names [] [] first n = refl
 kernel_names [] (x ∷ entries) first n = absurd (omega arith)
 kernel_names (kernel k e ∷ all) [] first n = absurd (omega arith)
@@ -43,7 +46,7 @@ kernel_names (defines e ∷ all) entries first n = absurd (first.0)
 
 module _ (all : List Definition) (first : AllByRecursion IsFirstKernel all) where
   -- main's end
-  pub main_answers : (entries : List Emitted) (body : Expression) (n : ℤ) (before after : List ℕ) → length all ≡ length entries → HasNumber (codes_of entries) body n → after ≡ before ++ ending_line (answered (int n)) → IsRunFrom all entries [] body before after status.Answer
+  pub main_answers : (entries : List KernelEntry) (body : Expression) (n : ℤ) (before after : List ℕ) → length all ≡ length entries → HasNumber (codes_of entries) body n → after ≡ before ++ ending_line (answered (int n)) → IsRunFrom all entries [] body before after status.Answer
   main_answers entries body n before after count h e = record {
     kernels = [];
     ending = answered (int n);
@@ -52,7 +55,7 @@ module _ (all : List Definition) (first : AllByRecursion IsFirstKernel all) wher
     is_status = refl;
   }
 
-  main_bounded : (entries : List Emitted) (body : Expression) (l : Limit) (before after : List ℕ) → length all ≡ length entries → MeetsBound (codes_of entries) body l → after ≡ before ++ ending_line (bounded l main_name) → IsRunFrom all entries [] body before after (status.Bound l)
+  main_bounded : (entries : List KernelEntry) (body : Expression) (l : Limit) (before after : List ℕ) → length all ≡ length entries → MeetsBound (codes_of entries) body l → after ≡ before ++ ending_line (bounded l main_name) → IsRunFrom all entries [] body before after (status.Bound l)
   main_bounded entries body l before after count h e = record {
     kernels = [];
     ending = bounded l main_name;
@@ -61,15 +64,15 @@ module _ (all : List Definition) (first : AllByRecursion IsFirstKernel all) wher
     is_status = refl;
   }
 
-  pub main_stopped : (entries : List Emitted) (body : Expression) (i : Interrupt) (before after : List ℕ) (s : Status) → length all ≡ length entries → IsMeant (Err i) (codes_of entries) body → IsStopped i main_name before after s → IsRunFrom all entries [] body before after s
+  pub main_stopped : (entries : List KernelEntry) (body : Expression) (i : Interrupt) (before after : List ℕ) (s : Status) → length all ≡ length entries → IsMeant (Err i) (codes_of entries) body → IsStopped i main_name before after s → IsRunFrom all entries [] body before after s
   main_stopped entries body (Bound l) before after s count h e = subst (IsRunFrom all entries [] body before after) (sym e.1) (main_bounded entries body l before after count h e.0)
   main_stopped entries body (Memory error) before after s count h e = absurd (e)
 
 -- one more entry
-codes_push : (entries : List Emitted) (x : Emitted) → entry_codes (entries ++ x ∷ []) ≡ entry_codes entries ++ expression_of x.code ∷ []
-codes_push entries x = map-append (λ (e : Emitted). expression_of e.code) entries (x ∷ [])
+codes_push : (entries : List KernelEntry) (x : KernelEntry) → entry_codes (entries ++ x ∷ []) ≡ entry_codes entries ++ expression_of x.code ∷ []
+codes_push entries x = map-append (λ (e : KernelEntry). expression_of e.code) entries (x ∷ [])
 
-pub entries_push : (entries : List Emitted) (x : Emitted) → AreSumEntries entries → IsSumEntry x → AreSumEntries (entries ++ x ∷ [])
+pub entries_push : (entries : List KernelEntry) (x : KernelEntry) → AreSumEntries entries → IsSumEntry x → AreSumEntries (entries ++ x ∷ [])
 entries_push [] x all h = (h, tt)
 entries_push (y ∷ entries) x all h = (all.0, entries_push entries x all.1 h)
 
@@ -91,7 +94,7 @@ module _ (all : List Definition) (body : Expression) where
   main_of fuel codes = main_after Plain fuel all body codes
 
   -- a kernel item that gave an entry, and then the rest
-  kernel_runs : (entries : List Emitted) (item : Item) (items : List Item) (d : Expression) (k : KernelType) (x : Emitted) (t u v : List ℕ) (s : Status) → definition_of item.kind ≡ kernel k d
+  kernel_runs : (entries : List KernelEntry) (item : Item) (items : List Item) (d : Expression) (k : KernelType) (x : KernelEntry) (t u v : List ℕ) (s : Status) → definition_of item.kind ≡ kernel k d
       → IsSumEntry x × ((mode : Mode) (globals : List Value) → HasCode mode globals d (expression_of x.code)) → IsKernelText item.name k (expression_of x.code) t u → IsRunFrom all (entries ++ x ∷ []) items body u v s → IsRunFrom all entries (item ∷ items) body t v s
   kernel_runs entries item items d k x t u v s is h text r =
       let c = expression_of x.code in
@@ -112,7 +115,7 @@ module _ (all : List Definition) (body : Expression) where
       }
 
   -- a kernel item whose code is above the limits
-  kernel_bounded : (entries : List Emitted) (item : Item) (items : List Item) (d : Expression) (k : KernelType) (l : Limit) (t u : List ℕ) → definition_of item.kind ≡ kernel k d
+  kernel_bounded : (entries : List KernelEntry) (item : Item) (items : List Item) (d : Expression) (k : KernelType) (l : Limit) (t u : List ℕ) → definition_of item.kind ≡ kernel k d
       → (l ≡ KernelSize) × (c : Expression) × (within_limits c ≡ false) × ((mode : Mode) (globals : List Value) → HasCode mode globals d c) → u ≡ t ++ ending_line (bounded l item.name) → IsRunFrom all entries (item ∷ items) body t u (status.Bound l)
   kernel_bounded entries item items d k l t u is h e = record {
     kernels = [];
@@ -126,18 +129,18 @@ module _ (all : List Definition) (body : Expression) where
     is_status = refl;
   }
 
-  kernel_stopped : (entries : List Emitted) (item : Item) (items : List Item) (d : Expression) (k : KernelType) (i : Interrupt) (t u : List ℕ) (s : Status) → definition_of item.kind ≡ kernel k d
+  kernel_stopped : (entries : List KernelEntry) (item : Item) (items : List Item) (d : Expression) (k : KernelType) (i : Interrupt) (t u : List ℕ) (s : Status) → definition_of item.kind ≡ kernel k d
       → IsKernelOf (Err i) d → IsStopped i item.name t u s → IsRunFrom all entries (item ∷ items) body t u s
   kernel_stopped entries item items d k (Bound l) t u s is h e = subst (IsRunFrom all entries (item ∷ items) body t u) (sym e.1) (kernel_bounded entries item items d k l t u is h e.0)
   kernel_stopped entries item items d k (Memory error) t u s is h e = absurd (e)
 
   -- the clause of a run after one kernel item more, and of a run that stops there
-  pub more_runs : (entries more : List Emitted) (items : List Item) (item : Item) (rest : List Item) (d : Expression) (k : KernelType) (x : Emitted) (t u v : List ℕ) (s : Status) → items ≡ item ∷ rest → more ≡ entries ++ x ∷ []
+  pub more_runs : (entries more : List KernelEntry) (items : List Item) (item : Item) (rest : List Item) (d : Expression) (k : KernelType) (x : KernelEntry) (t u v : List ℕ) (s : Status) → items ≡ item ∷ rest → more ≡ entries ++ x ∷ []
       → definition_of item.kind ≡ kernel k d → IsSumEntry x × ((mode : Mode) (globals : List Value) → HasCode mode globals d (expression_of x.code)) → IsKernelText item.name k (expression_of x.code) t u → IsRunFrom all more rest body u v s → IsRunFrom all entries items body t v s
   more_runs entries more items item rest d k x t u v s e m is h text r =
       subst (λ items. IsRunFrom all entries items body t v s) (sym e) (kernel_runs entries item rest d k x t u v s is h text (subst (λ es. IsRunFrom all es rest body u v s) m r))
 
-  pub stops_there : (entries : List Emitted) (items : List Item) (item : Item) (rest : List Item) (d : Expression) (k : KernelType) (i : Interrupt) (t u : List ℕ) (s : Status) → items ≡ item ∷ rest
+  pub stops_there : (entries : List KernelEntry) (items : List Item) (item : Item) (rest : List Item) (d : Expression) (k : KernelType) (i : Interrupt) (t u : List ℕ) (s : Status) → items ≡ item ∷ rest
       → definition_of item.kind ≡ kernel k d → IsKernelOf (Err i) d → IsStopped i item.name t u s → IsRunFrom all entries items body t u s
   stops_there entries items item rest d k i t u s e is h stopped =
       subst (λ items. IsRunFrom all entries items body t u s) (sym e) (kernel_stopped entries item rest d k i t u s is h stopped)
@@ -161,17 +164,21 @@ pub first_kind : (items : List Item) (item : Item) (rest : List Item) (kind : KT
 first_kind items item rest kind term e all is = (subst IsFirstKernel (item_is item kind term is) (subst (AllByRecursion IsFirstItem) e all).0).0
 
 -- what is printed of an entry is the emission at its item's type
-pub printed_bytes : (x : Emitted) (k : KernelType) → IsSumEntry x → k ≡ of_ground (base Int) → x.bytes ≡ emission two (expression_of x.code) k
-printed_bytes x k h is = h.kept.emission_is ∙ ap (λ l. emission two (expression_of x.code) l) (h.kind ∙ sym is)
+pub printed_bytes : (x : KernelEntry) (k : KernelType) → IsSumEntry x → k ≡ of_ground (base Int) → x.emitted.bytes ≡ emission two (expression_of x.code) k
+printed_bytes x k h is = h.emitted.emission_is ∙ ap (λ l. emission two (expression_of x.code) l) (sym is)
+
+-- and what is printed of its text is their key
+pub printed_key : (x : KernelEntry) (k : KernelType) → IsSumEntry x → k ≡ of_ground (base Int) → sha256 x.emitted.text ≡ key_of (expression_of x.code) k
+printed_key x k h is = ap sha256 (h.emitted.is_text.text ∙ ap (λ l. canonical_text Two (expression_of x.code) l) (sym is))
 
 pub rest_items : (items : List Item) (item : Item) (rest : List Item) → items ≡ item ∷ rest → AllByRecursion IsFirstItem items → AllByRecursion IsFirstItem rest
 rest_items items item rest e all = (subst (AllByRecursion IsFirstItem) e all).1
 
 -- one entry more and one item less are as many
-pub rest_count : (entries more : List Emitted) (x : Emitted) (items : List Item) (item : Item) (rest : List Item) → items ≡ item ∷ rest → more ≡ entries ++ x ∷ [] → length entries + length items ≡ length more + length rest
+pub rest_count : (entries more : List KernelEntry) (x : KernelEntry) (items : List Item) (item : Item) (rest : List Item) → items ≡ item ∷ rest → more ≡ entries ++ x ∷ [] → length entries + length items ≡ length more + length rest
 rest_count entries more x items item rest e m = rw (e, m, length-append) (omega arith)
 
-pub rest_body : (entries more : List Emitted) (x : Emitted) (items : List Item) (item : Item) (rest : List Item) (body : Expression) → items ≡ item ∷ rest → more ≡ entries ++ x ∷ [] → IsNumber (length entries + length items) body → IsNumber (length more + length rest) body
+pub rest_body : (entries more : List KernelEntry) (x : KernelEntry) (items : List Item) (item : Item) (rest : List Item) (body : Expression) → items ≡ item ∷ rest → more ≡ entries ++ x ∷ [] → IsNumber (length entries + length items) body → IsNumber (length more + length rest) body
 rest_body entries more x items item rest body e m h = subst (λ n. IsNumber n body) (rest_count entries more x items item rest e m) h
 
 pub rest_shorter : {A : Type 0} (items : List A) (item : A) (rest : List A) (most : ℕ) → items ≡ item ∷ rest → length items ≡ most → length rest < most
@@ -183,7 +190,7 @@ first_definitions [] all = tt
 first_definitions (item ∷ items) all = (all.0, first_definitions items all.1)
 
 -- the run of a program from its first item on
-pub program_runs : (p : Program) (items : List Item) → items ≡ p.items → (before : List ℕ) → before ≡ [] → (entries : List Emitted) → entries ≡ [] → (after : List ℕ) (s : Status) → IsFirst (named_program_of p)
+pub program_runs : (p : Program) (items : List Item) → items ≡ p.items → (before : List ℕ) → before ≡ [] → (entries : List KernelEntry) → entries ≡ [] → (after : List ℕ) (s : Status) → IsFirst (named_program_of p)
     → ((all : List Definition) → AllByRecursion IsFirstKernel all → length all ≡ length entries + length items → IsRunFrom all entries items (expression_of p.body) before after s) → IsRunOfProgram (named_program_of p) after s
 program_runs p items same before none entries no_entry after s first runs =
     let q = named_program_of p in

@@ -17,7 +17,7 @@ use Rattle.mw_gen.specs.EmissionLaw.{kernel_nodes}
 use Rattle.mw_drive.specs.Sums.{IsSumCode, HasWords}
 
 -- code of literals and sums is closed code of type int
-sum_is_code : (c : Expression) → IsSumCode c → IsCode c
+pub sum_is_code : (c : Expression) → IsSumCode c → IsCode c
 sum_is_code (num n) sum = tt
 sum_is_code (prim Add a b) sum = (sum_is_code a sum.0, sum_is_code b sum.1)
 sum_is_code _ sum = absurd (sum)

@@ -1,7 +1,7 @@
 -- What the evaluation of the first forms gives, with any units and after any runs, where kernel items gave code.
 use Rattle.std.specs.Prelude.{◌≡◌, ℕ, ℤ, pos, true, false, List, map, Some, Result, Ok, Err}
 use Rattle.std.specs.List.{AllByRecursion}
-use Rattle.mw_term.specs.Terms.{Expression, Value, base, of_ground, int, code, expression_of, kernel_type_of}
+use Rattle.mw_term.specs.Terms.{Expression, Value, base, of_ground, int, code, expression_of}
 use Rattle.mw_term.specs.declared.term.Base.TheVariants.{Int}
 use Rattle.mw_term.specs.declared.value.Limit.{Limit}
 use Rattle.mw_term.specs.declared.value.Limit.TheVariants.{KernelSize}
@@ -15,7 +15,8 @@ use Rattle.mw_wasm.specs.declared.values.Value.TheVariants.{I64}
 use Rattle.mw_exec.specs.declared.ended.Ended.{Ended}
 use Rattle.mw_exec.specs.declared.ended.Ended.TheVariants as ends
 use Rattle.mw_drive.specs.Sums.{IsSumCode, HasWords}
-use Rattle.mw_compile.specs.Entries.{Emitted, IsEntry}
+use Rattle.mw_compile.specs.Entries.{IsEntryOf}
+use Rattle.mw_drive.specs.declared.kernels.KernelEntry.{KernelEntry}
 use Rattle.mw_drive.specs.declared.evaluate.Interrupt.{Interrupt}
 use Rattle.mw_drive.specs.declared.evaluate.Interrupt.TheVariants.{Bound, Memory}
 
@@ -51,23 +52,22 @@ IsRunOf (Ok n) c = (within_limits c ≡ true) × KernelHasNumber c n
 IsRunOf (Err (Bound limit)) c = (within_limits c ≡ false) × (limit ≡ KernelSize)
 IsRunOf (Err (Memory error)) c = Unit {0}
 
--- an entry of code of literals and sums, within the limits of kernels
-pub record IsSumEntry (e : Emitted) : Type 0 where
-  pub kept : IsEntry e
+-- code of literals and sums, within the limits of kernels, with its entry at the type int
+pub record IsSumEntry (e : KernelEntry) : Type 0 where
+  pub emitted : IsEntryOf e.emitted (expression_of e.code) (of_ground (base Int))
   pub sum : IsSumCode (expression_of e.code)
   pub words : HasWords (expression_of e.code)
   pub limits : within_limits (expression_of e.code) ≡ true
-  pub kind : kernel_type_of e.kind ≡ of_ground (base Int)
 
 -- the values of kernel items' names in main
-abbrev pub codes_of : List Emitted → List Value
-codes_of entries = map (λ (e : Emitted). code (expression_of e.code)) entries
+abbrev pub codes_of : List KernelEntry → List Value
+codes_of entries = map (λ (e : KernelEntry). code (expression_of e.code)) entries
 
-abbrev pub AreSumEntries : List Emitted → Type 0
+abbrev pub AreSumEntries : List KernelEntry → Type 0
 AreSumEntries entries = AllByRecursion IsSumEntry entries
 
 -- an answer of emission: the entry of the code at the type int, within the limits, or Bound KernelSize exactly above them
-abbrev pub IsEntered : Result Emitted Interrupt → Expression → Type 0
+abbrev pub IsEntered : Result KernelEntry Interrupt → Expression → Type 0
 IsEntered (Ok e) c = IsSumEntry e × (expression_of e.code ≡ c)
 IsEntered (Err (Bound limit)) c = (within_limits c ≡ false) × (limit ≡ KernelSize)
 IsEntered (Err (Memory error)) c = Unit {0}

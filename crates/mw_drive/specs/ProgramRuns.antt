@@ -9,7 +9,7 @@ use Rattle.mw_term.specs.Programs.{Definition, definition_of}
 use Rattle.mw_meaning.specs.declared.mode.Mode.{Mode}
 use Rattle.mw_meaning.specs.declared.mode.Mode.TheVariants.{Plain}
 use Rattle.mw_meaning.specs.StagedMeaning.{within_limits}
-use Rattle.mw_compile.specs.Entries.{Emitted}
+use Rattle.mw_drive.specs.declared.kernels.KernelEntry.{KernelEntry}
 use Rattle.mw_console.specs.Texts.{Ending, bounded, ending_line, ending_status, refusal_line}
 use Rattle.mw_console.specs.declared.status.Status.{Status}
 use Rattle.mw_console.specs.declared.status.Status.TheVariants as status
@@ -29,8 +29,8 @@ abbrev pub definitions_of : List Item → List Definition
 definitions_of items = map (λ (i : Item). definition_of i.kind) items
 
 -- the codes of entries
-abbrev pub entry_codes : List Emitted → List Expression
-entry_codes entries = map (λ (e : Emitted). expression_of e.code) entries
+abbrev pub entry_codes : List KernelEntry → List Expression
+entry_codes entries = map (λ (e : KernelEntry). expression_of e.code) entries
 
 -- the report on a refused source, whose items have these names
 abbrev pub IsRefusalReport : Refusal → List (List ℕ) → List ℕ → Status → Type 0
@@ -38,7 +38,7 @@ IsRefusalReport r names text s = (text ≡ refusal_line names r) × (s ≡ statu
 
 -- After items that gave these entries: the run of the others and of main, with any fuel and whatever the items see, where
 -- these are the definitions of all items; and its text and status.
-pub record IsRunFrom (all : List Definition) (entries : List Emitted) (items : List Item) (body : Expression) (before after : List ℕ) (s : Status) : Type 0 where
+pub record IsRunFrom (all : List Definition) (entries : List KernelEntry) (items : List Item) (body : Expression) (before after : List ℕ) (s : Status) : Type 0 where
   pub kernels : List Kernel
   pub ending : Ending
   pub is_run : (fuel : ℕ) (names : List Value) → run_items Plain fuel names (λ codes. main_after Plain fuel all body codes) (map item_of items) (entry_codes entries) ≡ ended kernels ending
@@ -54,12 +54,12 @@ pub record IsRunOfProgram (p : NamedProgram) (text : List ℕ) (s : Status) : Ty
   pub is_status : s ≡ ending_status ending
 
 -- what a kernel item's closed code gives: an entry, or code above the limits
-abbrev pub IsKernelOf : Result Emitted Interrupt → Expression → Type 0
+abbrev pub IsKernelOf : Result KernelEntry Interrupt → Expression → Type 0
 IsKernelOf (Ok e) d = IsSumEntry e × ((mode : Mode) (globals : List Value) → HasCode mode globals d (expression_of e.code))
 IsKernelOf (Err (Bound limit)) d = (limit ≡ KernelSize) × (c : Expression) × (within_limits c ≡ false) × ((mode : Mode) (globals : List Value) → HasCode mode globals d c)
 IsKernelOf (Err (Memory error)) d = Unit {0}
 
--- the two lines of a kernel were put behind a text
+-- the lines of a kernel were put behind a text
 abbrev pub IsKernelText : List ℕ → KernelType → Expression → List ℕ → List ℕ → Type 0
 IsKernelText x k c before after = after ≡ before ++ kernel_lines Plain (record { name = x; kind = k; code = c })
 

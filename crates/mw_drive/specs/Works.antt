@@ -3,6 +3,8 @@ use Rattle.std.specs.Prelude.{ℕ, ◌≡◌, ◌<◌, ◌≤◌, ◌⊎◌, Lis
 use Rattle.std.specs.List.{AllByRecursion, flat_map}
 use Rattle.mw_term.specs.declared.refusal.Refusal.{Refusal}
 use Rattle.mw_term.specs.declared.refusal.Refusal.TheVariants.{NotYet}
+use Rattle.sha2.specs.Sha256.{sha256}
+use Rattle.mw_term.specs.Terms.{Expression, KernelType}
 use Rattle.mw_term.specs.Programs.{PureProgram}
 use Rattle.mw_term.specs.Typable.{Typable}
 use Rattle.mw_meaning.specs.declared.mode.Mode.{Mode}
@@ -12,6 +14,8 @@ use Rattle.mw_wasm.specs.Syntax.{PureModule}
 use Rattle.mw_wasm.specs.BinaryModules.{Spells}
 use Rattle.mw_wasm.specs.Validity.{IsValid}
 use Rattle.mw_infer.specs.Checking.{IsFirstRefusal, NoneTooBig}
+use Rattle.mw_key.specs.declared.version.Version.TheVariants.{Two}
+use Rattle.mw_key.specs.CanonicalText.{canonical_text}
 use Rattle.mw_gen.specs.Generate.{two}
 use Rattle.mw_compile.specs.Emission.{emission}
 use Rattle.mw_console.specs.declared.status.Status.{Status}
@@ -45,9 +49,13 @@ pub data IsMeaning : Work → Meaning → Type 0 where
   of_program : {bytes : List ℕ} {fuel : ℕ} {mode : Mode} {kernels : List Kernel} {e : Ending} (p : NamedProgram) → IsRead bytes p → IsAccepted (unnamed p) → length bytes ≤ 256 → IsFirst p → program_run mode fuel p ≡ ended kernels e
       → IsMeaning (running bytes fuel mode) (ran mode kernels e)
 
--- the lines of a kernel: what is printed is the module of the code that is run under the mode
+-- the key of code at a type: the digest of their text
+abbrev pub key_of : Expression → KernelType → List ℕ
+key_of c k = sha256 (canonical_text Two c k)
+
+-- the lines of a kernel: what is printed is the key and the module of the code that is run under the mode
 abbrev pub kernel_lines : Mode → Kernel → List ℕ
-kernel_lines mode k = kernel_text k.name k.kind (emission two (in_mode mode k.code) k.kind)
+kernel_lines mode k = kernel_text k.name k.kind (key_of (in_mode mode k.code) k.kind) (emission two (in_mode mode k.code) k.kind)
 
 -- a refusal's line, or the lines of the kernels that gave code, in order, and the line of the ending
 abbrev pub text_of : Meaning → List ℕ

@@ -12,8 +12,8 @@ ghost use Rattle.mw_drive.specs.ProgramRuns.{run_count};
 ghost use Rattle.mw_drive.specs.Evaluation.{IsMeant, IsRunOf, HasCode, IsBuiltTo, AreSumEntries, codes_of};
 ghost use Rattle.mw_drive.specs.declared.evaluate.Interrupt.TheVariants.{Memory};
 
-use crate::kernels::{number_of_entry, run};
-use mw_compile::{Entry, Steps};
+use crate::kernels::{KernelEntry, number_of_entry, run};
+use mw_compile::Steps;
 use mw_term::{Limit, Prim, Term};
 use std::alloc::{AllocError, AllocFailed, Global};
 use std::sync::ledger::Ledger;
@@ -49,7 +49,7 @@ impl<T: Drop> From<AllocFailed<T>> for Interrupt {
 pub fn number_of<L: Ledger>(
     alloc: Global,
     term: &Term,
-    entries: &[Entry],
+    entries: &[KernelEntry],
     fuel: u64,
     steps: &mut Steps<L>,
 ) -> Result<i64, Interrupt>
@@ -75,7 +75,7 @@ pub fn number_of<L: Ledger>(
 fn run_of<L: Ledger>(
     alloc: Global,
     term: &Term,
-    entries: &[Entry],
+    entries: &[KernelEntry],
     fuel: u64,
     steps: &mut Steps<L>,
 ) -> Result<i64, Interrupt>
@@ -88,7 +88,7 @@ fn run_of<L: Ledger>(
         Term::Glob(i) => Ok(number_of_entry(alloc, &entries[*i as usize], fuel)?),
         _ => {
             let code = closed(alloc, term)?;
-            run(alloc, &code, fuel, steps)
+            run(alloc, code, fuel, steps)
         }
     }
 }

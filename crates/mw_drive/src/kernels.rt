@@ -14,17 +14,24 @@ use std::alloc::{AllocError, Global};
 use std::sync::Arc;
 use std::sync::ledger::Ledger;
 
+/// The code that a kernel item gave, with its entry.
+#[derive(Drop)]
+pub struct KernelEntry {
+    pub code: Term,
+    pub emitted: Entry,
+}
+
 /// The run of code with so many units: Bound KernelSize where it is above its limits, and else the number that it means. At
 /// most one emission is counted.
 pub fn run<L: Ledger>(
     alloc: Global,
-    code: &Term,
+    code: Term,
     fuel: u64,
     steps: &mut Steps<L>,
 ) -> Result<i64, Interrupt>
-    requires sum { IsSumCode (expression_of code.now) }
-    requires words { HasWords (expression_of code.now) }
-    ensures run { IsRunOf result (expression_of code.now) }
+    requires sum { IsSumCode (expression_of code) }
+    requires words { HasWords (expression_of code) }
+    ensures run { IsRunOf result (expression_of code) }
     ensures emissions { steps.new ≤ steps.old + 1 }
 {
     let entry = entered(alloc, code, steps)?;
@@ -32,31 +39,32 @@ pub fn run<L: Ledger>(
 }
 
 /// The entry of code, at the type int, or Bound KernelSize where it is above its limits. At most one emission is counted.
-#[tactic(auto, using(crate::proofs::SumMeanings::sum_closed, crate::proofs::SumMeanings::int_nodes))]
+#[tactic(auto, using(crate::proofs::SumMeanings::sum_is_code, crate::proofs::SumMeanings::sum_closed, crate::proofs::SumMeanings::int_nodes))]
 pub fn entered<L: Ledger>(
     alloc: Global,
-    code: &Term,
+    code: Term,
     steps: &mut Steps<L>,
-) -> Result<Entry, Interrupt>
-    requires sum { IsSumCode (expression_of code.now) }
-    requires words { HasWords (expression_of code.now) }
-    ensures entered { IsEntered result (expression_of code.now) }
+) -> Result<KernelEntry, Interrupt>
+    requires sum { IsSumCode (expression_of code) }
+    requires words { HasWords (expression_of code) }
+    ensures entered { IsEntered result (expression_of code) }
     ensures emissions { steps.new ≤ steps.old + 1 }
 {
-    if nodes(code) > 20_000 || depth(code) > 400 {
+    if nodes(&code) > 20_000 || depth(&code) > 400 {
         return Err(Interrupt::Bound(Limit::KernelSize));
     }
     let kind = KType::Ground(Ground::Base(Base::Int));
-    Ok(emit(alloc, code, &kind, steps)?)
+    let emitted = emit(alloc, &code, &kind, steps)?;
+    Ok(KernelEntry { code, emitted })
 }
 
 /// The number that an entry's code means: what `init` gives on an instance of its module with so many units. Such code
 /// spends none.
-pub fn number_of_entry(alloc: Global, entry: &Entry, fuel: u64) -> Result<i64, AllocError>
+pub fn number_of_entry(alloc: Global, entry: &KernelEntry, fuel: u64) -> Result<i64, AllocError>
     requires { IsSumEntry entry.now }
     ensures { IfOk result (λ n. KernelHasNumber (expression_of entry.now.code) n) }
 {
-    let mut instance = match Instance::new(alloc, Arc::try_clone(entry.module())?) {
+    let mut instance = match Instance::new(alloc, Arc::try_clone(entry.emitted.module())?) {
         Ok(instance) => instance,
         Err(InstanceFault::Memory(error)) => return Err(error),
         Err(InstanceFault::Element(_)) => unreachable!(),

@@ -15,11 +15,12 @@ ghost use Rattle.mw_drive.specs.ProgramRuns.{IsFirstItem, IsRefusalReport, IsRun
 
 use crate::evaluate::{Interrupt, closed, number_of};
 use crate::forms::runs_today;
-use crate::kernels::entered;
+use crate::kernels::{KernelEntry, entered};
 use crate::reading::read;
-use mw_compile::{Entry, Steps};
+use mw_compile::Steps;
 use mw_console::{Status, put_answer, put_bound, put_kernel, put_refusal};
 use mw_infer::check;
+use mw_key::digest;
 use mw_term::{BaseValue, GroundValue, Item, ItemKind, Program, Refusal, Stop, Term};
 use std::alloc::{AllocError, Global};
 use std::sync::ledger::{Blank, Ledger};
@@ -120,7 +121,7 @@ fn run_items<L: Ledger>(
     items: &[Item],
     body: &Term,
     text: &mut Vec<u8>,
-    entries: &mut Vec<Entry>,
+    entries: &mut Vec<KernelEntry>,
     fuel: u64,
     steps: &mut Steps<L>,
 ) -> Result<Status, AllocError>
@@ -137,7 +138,9 @@ fn run_items<L: Ledger>(
             ItemKind::Value(_) => unreachable!(),
             ItemKind::Kernel(kind, term) => match kernel_entry(alloc, term, steps) {
                 Ok(entry) => {
-                    put_kernel(alloc, text, item.name.as_slice(), kind, entry.bytes())?;
+                    let key = digest(entry.emitted.text());
+                    let bytes = entry.emitted.bytes();
+                    put_kernel(alloc, text, item.name.as_slice(), kind, &key, bytes)?;
                     entries.push(entry)?;
                     run_items(alloc, rest, body, text, entries, fuel, steps)
                 }
@@ -152,20 +155,20 @@ fn kernel_entry<L: Ledger>(
     alloc: Global,
     term: &Term,
     steps: &mut Steps<L>,
-) -> Result<Entry, Interrupt>
+) -> Result<KernelEntry, Interrupt>
     requires { IsClosedCode (expression_of term.now) }
     ensures entry { IsKernelOf result (expression_of term.now) }
     ensures emissions { steps.new ≤ steps.old + 1 }
 {
     let code = closed(alloc, term)?;
-    entered(alloc, &code, steps)
+    entered(alloc, code, steps)
 }
 
 /// The last line, by main's end.
 fn main_end<L: Ledger>(
     alloc: Global,
     body: &Term,
-    entries: &[Entry],
+    entries: &[KernelEntry],
     text: &mut Vec<u8>,
     fuel: u64,
     steps: &mut Steps<L>,

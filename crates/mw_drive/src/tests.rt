@@ -83,12 +83,16 @@ fn calls(rt: &impl AllocGlobal, numbers: &[u64]) -> Result<Calls, Fail> {
     Ok(calls)
 }
 
-/// The module of `7`, and that of `1 + 2`, in hexadecimal digits.
-const SEVEN: &str =
-    "0061736d01000000010b0260027e7e017e6000017e03020101040501700100000504010140400606017f0141000b07080104696e697400000a0601040042070b";
+/// The key and the module of `7`, and those of `1 + 2`, in hexadecimal digits.
+const SEVEN: [&str; 2] = [
+    "db91b92aa1f52a13e25214eaa7ca80e9023a02d81d98bad47507d5e451df62ee",
+    "0061736d01000000010b0260027e7e017e6000017e03020101040501700100000504010140400606017f0141000b07080104696e697400000a0601040042070b",
+];
 
-const THREE: &str =
-    "0061736d01000000010b0260027e7e017e6000017e03020101040501700100000504010140400606017f0141000b07080104696e697400000a09010700420142027c0b";
+const THREE: [&str; 2] = [
+    "97d6c487f5c01c87e24266209cfd62951131d4662e73e4743ef808ac0bdff5f3",
+    "0061736d01000000010b0260027e7e017e6000017e03020101040501700100000504010140400606017f0141000b07080104696e697400000a09010700420142027c0b",
+];
 
 /// Sources, their exit codes and their last lines.
 const LAST_LINES: [(&str, u8, &str); 32] = [
@@ -192,8 +196,8 @@ fn sources_have_their_last_line(rt: HostRuntime) -> Result<(), Fail> {
     Ok(())
 }
 
-/// Sources with kernel items, the names and modules of the kernels, and the numbers that are answered.
-const KERNELS: [(&str, &[(&str, &str)], &str); 4] = [
+/// Sources with kernel items, the names, keys and modules of the kernels, and the numbers that are answered.
+const KERNELS: [(&str, &[(&str, [&str; 2])], &str); 4] = [
     (
         "kernel k : int = close .<7>. ;; main : int = run[int] k",
         &[("k", SEVEN)],
@@ -221,8 +225,8 @@ fn kernels_have_their_modules(rt: HostRuntime) -> Result<(), Fail> {
     let alloc = rt.alloc();
     for (file, kernels, number) in KERNELS {
         let mut wanted = String::new(alloc);
-        for (name, module) in kernels {
-            let lines = format!(in alloc; "kernel {name} : int\nmodule {module}\n")?;
+        for (name, [key, module]) in kernels {
+            let lines = format!(in alloc; "kernel {name} : int\nkey {key}\nmodule {module}\n")?;
             wanted.push_str(lines.as_str())?;
         }
         let answer = format!(in alloc; "answer {number}\n")?;
@@ -334,19 +338,20 @@ fn faults_have_their_status(rt: HostRuntime) -> Result<(), Fail> {
 }
 
 /// Each line with its line feed is one piece for the sink: where a sink that takes any piece at once fails at its second or
-/// third call, one or two whole lines were written.
+/// a later call, only whole lines were written.
 #[test]
 fn each_line_is_one_piece(rt: HostRuntime) -> Result<(), Fail> {
     let file = b"kernel k : int = close .<7>. ;; main : int = run[int] k";
-    let lines = format!(in rt.alloc(); "kernel k : int\nmodule {SEVEN}\nanswer 7\n")?;
-    for (failing, length) in [(0, 0), (1, 15), (2, 151), (3, 160)] {
+    let [key, module] = SEVEN;
+    let lines = format!(in rt.alloc(); "kernel k : int\nkey {key}\nmodule {module}\nanswer 7\n")?;
+    for (failing, length) in [(0, 0), (1, 15), (2, 84), (3, 220), (4, 229)] {
         let ran = ran_by(&rt, &["run", NAME], file, &[], &[failing], 1_000_000)?;
         assert_eq!(rt;
             ran.written.as_slice(),
             &lines.as_bytes()[..length],
             "{failing}"
         );
-        assert_eq!(rt; ran.status.code(), if length < 160 { 6 } else { 0 });
+        assert_eq!(rt; ran.status.code(), if length < 229 { 6 } else { 0 });
     }
     Ok(())
 }
@@ -356,10 +361,10 @@ fn each_line_is_one_piece(rt: HostRuntime) -> Result<(), Fail> {
 fn a_failing_sink_has_a_front_of_the_output(rt: HostRuntime) -> Result<(), Fail> {
     let file = b"kernel k : int = close .<7>. ;; main : int = run[int] k";
     let whole = ran(&rt, &["run", NAME], file, &[], &[])?;
-    for failing in 0..20 {
+    for failing in 0..28 {
         let ran = ran(&rt, &["run", NAME], file, &[], &[failing])?;
-        // lines of 15, 136 and 9 bytes, in pieces of 10
-        let fails = failing < 17;
+        // lines of 15, 69, 136 and 9 bytes, in pieces of 10
+        let fails = failing < 24;
         assert_eq!(rt; ran.status.code(), if fails { 6 } else { 0 });
         assert_eq!(rt; ran.written.len() < whole.written.len(), fails);
         assert!(rt; whole.written.as_slice().starts_with(ran.written.as_slice()));

@@ -171,7 +171,3 @@ name_within = within_vector {k = 4} octet (codes "init") (omega arith)
 pub exports_within : SpelledWithin 26 (section 7 export (record { name = codes "init"; what = Func 0 } ∷ []))
 exports_within = within_section {k = 20} 7 export (record { name = codes "init"; what = Func 0 } ∷ []) (omega arith)
     (within_one {k = 15} export record { name = codes "init"; what = Func 0 } (within_then {j = 9} {k = 6} name_within (within_then {j = 1} {k = 5} (within_byte 0x00) (within_u32 0 (omega arith)))))
-
--- some bytes spell the module
-pub next_is : {P Q : List ℕ → Type 0} → Spelled P → Spelled Q → Spelled (P then Q)
-next_is s t = record { bytes = s.bytes ++ t.bytes; spell = record { front = s.bytes; back = t.bytes; whole = refl; first = s.spell; second = t.spell } }

@@ -6,7 +6,6 @@ use Rattle.mw_term.specs.Terms.{KernelType}
 use Rattle.mw_wasm.specs.BinaryModules.{wasm_module}
 use Rattle.mw_wasm.specs.Validity.{IsValid}
 use Rattle.mw_wasm.specs.Profile.{IsWithinProfile}
-use Rattle.mw_encode.specs.Encoding.{Spelled}
 use Rattle.mw_ir.specs.declared.place.Place.{Place}
 use Rattle.mw_ir.specs.declared.place.Place.TheVariants.{Argument, Own, Slot, Free}
 use Rattle.mw_ir.specs.Ir as i
@@ -21,6 +20,7 @@ use Rattle.mw_gen.proofs.Correct.{Fine, Sound}
 use Rattle.mw_gen.proofs.Valid.{place_local, AreSeen, Sees}
 use Rattle.mw_gen.proofs.Modules.{AllProper, module_valid}
 use Rattle.mw_gen.proofs.Profile.{ifs, IsModest, module_within_profile}
+use Rattle.mw_gen.proofs.Pieces.{SpelledWithin}
 use Rattle.mw_gen.proofs.Spelled.{breadth, IsNear, AreNear, Near}
 use Rattle.mw_gen.proofs.Spelling.{CanSpell, total, module_spelled}
 
@@ -250,7 +250,7 @@ module _ (t : List IrFunc) (o : IrFunc) (is : IsConverted t o) where
   pub converted_profile : (v : Version) (k : KernelType) → IsWithinProfile (module_with v t o.slots o.body k)
   converted_profile v k = module_within_profile v t o.slots o.body k is.few (all_modest t is.few is.functions t is.functions) (let s = is.slots in omega arith) (let d = is.depth in omega (arith, shallow o.body))
 
-  pub converted_spelled : (v : Version) (k : KernelType) → kernel_nodes k ≤ 10000 → Spelled (wasm_module (module_with v t o.slots o.body k))
+  pub converted_spelled : (v : Version) (k : KernelType) → kernel_nodes k ≤ 10000 → SpelledWithin 2_000_000_000 (wasm_module (module_with v t o.slots o.body k))
   converted_spelled v k nodes =
       let w = narrow o.body body_near in
       let ws = all_narrow t is.few is.functions t is.functions in

@@ -10,7 +10,6 @@ use Rattle.mw_wasm.specs.Pieces.{octet, u32, items, vector}
 use Rattle.mw_wasm.specs.BinaryInstructions.{value_type}
 use Rattle.mw_wasm.specs.BinaryModules.{locals, run, Run, function_code, function_type, function_kind, export, element, data_segment, section, wasm_module}
 use Rattle.mw_wasm.specs.Syntax.{Function, Exporting, ElementSegment, next, end, const_i32}
-use Rattle.mw_encode.specs.Encoding.{Spelled}
 use Rattle.mw_ir.specs.Ir.{Ir, IrFunc}
 use Rattle.mw_meaning.specs.Shapes.{leaf_count, init_type, call_type}
 use Rattle.mw_gen.specs.Generate.{Version, wants_spare, spare_count, is_loop, body_wants_spare, function_for, init_function, call_function, call_of, argument_of, counting, elements_of, more_types, more_functions, more_exports, closure_type, module_with}
@@ -23,7 +22,7 @@ use Rattle.mw_gen.specs.EmissionLaw.{ground_nodes, kernel_nodes}
 use Rattle.mw_gen.proofs.Valid.{Sees}
 use Rattle.mw_gen.proofs.Modules.{argument_sees}
 use Rattle.mw_gen.proofs.Profile.{temps_two}
-use Rattle.mw_gen.proofs.Pieces.{SpelledWithin, spelled, within_then, within_more, within_byte, within_u32, within_sized, within_nil, within_cons, within_vector, within_section, within_absent, within_when, within_one, customs_within, no_imports, header_within, one_result, closure_within, init_within, table_within, memory_within, globals_within, zero_code_within, octet_within, name_within, next_is}
+use Rattle.mw_gen.proofs.Pieces.{SpelledWithin, within_then, within_more, within_byte, within_u32, within_sized, within_nil, within_cons, within_vector, within_section, within_absent, within_when, within_one, customs_within, no_imports, header_within, one_result, closure_within, init_within, table_within, memory_within, globals_within, zero_code_within, octet_within, name_within}
 use Rattle.mw_gen.proofs.Spelled.{expression_within, breadth, body_width, expression_width, Near, expression_fit, body_fit}
 
 -- what the code of a function's body needs to be spelled
@@ -152,26 +151,26 @@ elements_within zero h = within_more 100030 (omega arith) (within_absent 9 eleme
 elements_within (suc n) h = within_section {k = 100024} 9 element (segment_of (suc n) ∷ []) (omega arith)
     (within_more 100024 (omega arith) (within_one {k = 100013} element (segment_of (suc n)) (within_then {j = 5} {k = 100008} (within_u32 0 (omega arith)) (within_then {j = 3} {k = 100005} zero_code_within (within_more 100005 (omega arith) (within_vector u32 (counting 0 (suc n)) (omega (arith, counting_length 0 (suc n))) (counting_within 0 (suc n) (omega arith))))))))
 
-pub module_spelled : (v : Version) (t : List IrFunc) (slots : ℕ) (body : Ir) (k : KernelType) → length t ≤ 20000 → AllByRecursion CanSpell t → slots ≤ 20000 → Fine body → Near body → ((n : ℕ) → slots ≤ n → Sees body 0 n) → slots_needed body ≤ slots → breadth body + total t ≤ 1_200_000_000 → kernel_nodes k ≤ 10000 → Spelled (wasm_module (module_with v t slots body k))
+pub module_spelled : (v : Version) (t : List IrFunc) (slots : ℕ) (body : Ir) (k : KernelType) → length t ≤ 20000 → AllByRecursion CanSpell t → slots ≤ 20000 → Fine body → Near body → ((n : ℕ) → slots ≤ n → Sees body 0 n) → slots_needed body ≤ slots → breadth body + total t ≤ 1_200_000_000 → kernel_nodes k ≤ 10000 → SpelledWithin 2_000_000_000 (wasm_module (module_with v t slots body k))
 module_spelled v t slots body k n can few fine near sees nd small leaves =
     let m = module_with v t slots body k in
-    let gap = spelled customs_within in
+    let gap = customs_within in
     let ts = temps_two (wants_spare body) in
     let w = expression_width body 0 (0 + slots) end in
     let init_fit = expression_fit 0 (slots + spare_count (wants_spare body)) (omega arith) (0 + slots) (omega arith) body fine (sees _ (omega arith)) near (omega arith) end tt in
     let init_code = within_more (breadth body + 60) (omega arith) (within_sized (omega arith) (within_then {j = 11} (locals_within (slots + spare_count (wants_spare body)) (omega arith)) (expression_within _ init_fit))) in
     let funcs : length m.funcs ≤ 20002 = counted k in
-    next_is (spelled header_within)
-    (next_is gap (next_is (spelled (types_within k leaves))
-    (next_is gap (next_is (spelled no_imports)
-    (next_is gap (next_is (spelled (within_section {k = 5 + (5 * length t + 10)} 3 function_kind m.funcs (omega arith) (within_vector function_kind m.funcs (omega arith) (kinds_within v t _ 10 (within_then {j = 5} {k = 5} (within_u32 1 (omega arith)) (more_kinds k))))))
-    (next_is gap (next_is (spelled (table_within record { min = length t; max = Some (length t) } (length t) refl (omega arith) (omega arith)))
-    (next_is gap (next_is (spelled (memory_within record { min = 64; max = Some 64 } 64 refl (omega arith) (omega arith)))
-    (next_is gap (next_is (spelled globals_within)
-    (next_is gap (next_is (spelled (exports_within k (length t) (omega arith)))
-    (next_is gap (next_is (spelled (elements_within (length t) n))
-    (next_is gap (next_is (spelled (within_section 10 function_code m.funcs (omega arith) (within_vector function_code m.funcs (omega arith) (funcs_within v t _ (breadth body + 60 + 2000000) can (omega arith) (within_then init_code (more_within k leaves))))))
-    (next_is gap (next_is (spelled (within_absent 11 data_segment)) gap))))))))))))))))))))
+    within_more 2_000_000_000 (omega arith) (within_then header_within
+    (within_then gap (within_then ((types_within k leaves))
+    (within_then gap (within_then (no_imports)
+    (within_then gap (within_then ((within_section {k = 5 + (5 * length t + 10)} 3 function_kind m.funcs (omega arith) (within_vector function_kind m.funcs (omega arith) (kinds_within v t _ 10 (within_then {j = 5} {k = 5} (within_u32 1 (omega arith)) (more_kinds k))))))
+    (within_then gap (within_then ((table_within record { min = length t; max = Some (length t) } (length t) refl (omega arith) (omega arith)))
+    (within_then gap (within_then ((memory_within record { min = 64; max = Some 64 } 64 refl (omega arith) (omega arith)))
+    (within_then gap (within_then (globals_within)
+    (within_then gap (within_then ((exports_within k (length t) (omega arith)))
+    (within_then gap (within_then ((elements_within (length t) n))
+    (within_then gap (within_then ((within_section 10 function_code m.funcs (omega arith) (within_vector function_code m.funcs (omega arith) (funcs_within v t _ (breadth body + 60 + 2000000) can (omega arith) (within_then init_code (more_within k leaves))))))
+    (within_then gap (within_then (within_absent 11 data_segment) gap)))))))))))))))))))))
   where
     counted : (k : KernelType) → length (module_with v t slots body k).funcs ≤ 20002
     counted (of_ground g) = omega (arith, length-append (map (function_for v) t) (init_function slots body ∷ []), length-map t (function_for v))

@@ -1,5 +1,5 @@
 -- The law on emission.
-use Rattle.std.proofs.Common.{◌≡◌, ap, ◌∙◌}
+use Rattle.std.proofs.Common.{◌≡◌, ap, ◌∙◌, arith}
 use Rattle.mw_term.specs.Terms.{Expression, KernelType}
 use Rattle.mw_ir.specs.declared.code.Converted.{Converted}
 use Rattle.mw_conv.specs.Convert.{converted_functions, converted_outside}
@@ -18,7 +18,7 @@ emission_holds v c k closed literals few flat nodes =
     let o = converted_outside c in
     let is = is_converted c closed literals few flat in
     record {
-      spelled = converted_spelled t o is v k nodes;
+      spelled = let s = converted_spelled t o is v k nodes in record { bytes = s.bytes; spell = s.spell; short = let p = s.short in omega arith };
       valid = converted_valid t o is v k;
       profile = converted_profile t o is v k;
       shape = module_shaped v t o.slots o.body k;

@@ -1,5 +1,5 @@
 -- What is claimed of each emitted module.
-use Rattle.std.specs.Prelude.{ℕ, suc, ◌+◌, ◌≤◌}
+use Rattle.std.specs.Prelude.{ℕ, suc, ◌+◌, ◌≤◌, ◌<◌, ◌^◌, List, length}
 use Rattle.mw_term.specs.Terms.{Expression, GroundType, KernelType, base, product, of_ground, to, size, depth_of}
 use Rattle.mw_term.specs.Closed.{IsClosed}
 use Rattle.mw_meaning.specs.StandingFor.{StandsFor}
@@ -8,7 +8,6 @@ use Rattle.mw_wasm.specs.Syntax.{PureModule}
 use Rattle.mw_wasm.specs.BinaryModules.{wasm_module}
 use Rattle.mw_wasm.specs.Validity.{IsValid}
 use Rattle.mw_wasm.specs.Profile.{IsWithinProfile}
-use Rattle.mw_encode.specs.Encoding.{Spelled}
 use Rattle.mw_conv.specs.Literals.{Literals}
 use Rattle.mw_gen.specs.Generate.{Version}
 use Rattle.mw_gen.specs.Emission.{emitted}
@@ -22,10 +21,16 @@ abbrev pub kernel_nodes : KernelType → ℕ
 kernel_nodes (of_ground t) = ground_nodes t
 kernel_nodes (to s t) = suc (ground_nodes s + ground_nodes t)
 
--- Some bytes spell the module; it is valid and within the profile's limits, has the shape that a run of the kernel type
--- needs, and stands for the code.
+-- some bytes spell it, fewer than 2^32
+pub record SpelledShort (P : List ℕ → Type 0) : Type 0 where
+  pub bytes : List ℕ
+  pub spell : P bytes
+  pub short : length bytes < 2 ^ 32
+
+-- Fewer than 2^32 bytes spell the module; it is valid and within the profile's limits, has the shape that a run of the kernel
+-- type needs, and stands for the code.
 pub record IsEmission (m : PureModule) (c : Expression) (k : KernelType) : Type 0 where
-  pub spelled : Spelled (wasm_module m)
+  pub spelled : SpelledShort (wasm_module m)
   pub valid : IsValid m
   pub profile : IsWithinProfile m
   pub shape : HasShape m k

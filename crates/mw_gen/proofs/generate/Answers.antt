@@ -14,6 +14,7 @@ use Rattle.mw_gen.specs.Generate.{two}
 use Rattle.mw_gen.specs.Generated.{functions_in, outer_in, generated}
 use Rattle.mw_gen.specs.Generation.{MeansConverted}
 use Rattle.mw_gen.proofs.Meaning.{generation_keeps_meaning}
+use Rattle.mw_gen.proofs.Pieces.{spelled}
 use Rattle.mw_gen.proofs.Ranges.{converted_valid, converted_profile, converted_spelled}
 use Rattle.mw_gen.proofs.Shaped.{module_shaped}
 use Rattle.mw_gen.proofs.generate.Goals as goal
@@ -24,7 +25,7 @@ of_module P (Ok wasm) m p e = subst P (sym e) p
 of_module P (Err e) m p q = tt
 
 pub returns-clause-spelled : goal.returns-clause-spelled
-returns-clause-spelled c = of_module (λ m. Spelled (wasm_module m)) c.whole_module.result (generated two c.args.converted.now (kernel_type_of c.args.kind.now)) (converted_spelled (functions_in c.args.converted.now) (outer_in c.args.converted.now) c.requires.converted two (kernel_type_of c.args.kind.now) c.requires.nodes) c.whole_module.ensures
+returns-clause-spelled c = of_module (λ m. Spelled (wasm_module m)) c.whole_module.result (generated two c.args.converted.now (kernel_type_of c.args.kind.now)) (spelled (converted_spelled (functions_in c.args.converted.now) (outer_in c.args.converted.now) c.requires.converted two (kernel_type_of c.args.kind.now) c.requires.nodes)) c.whole_module.ensures
 
 pub returns-clause-profile : goal.returns-clause-profile
 returns-clause-profile c = of_module IsWithinProfile c.whole_module.result (generated two c.args.converted.now (kernel_type_of c.args.kind.now)) (converted_profile (functions_in c.args.converted.now) (outer_in c.args.converted.now) c.requires.converted two (kernel_type_of c.args.kind.now)) c.whole_module.ensures

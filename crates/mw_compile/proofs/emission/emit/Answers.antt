@@ -3,7 +3,7 @@ use Rattle.std.specs.Arc.{arc_value}
 use Rattle.mw_term.specs.Terms.{expression_of, kernel_type_of}
 use Rattle.mw_gen.specs.Generate.{two}
 use Rattle.mw_gen.proofs.Whole.{generated_is_emitted}
-use Rattle.mw_compile.proofs.Entering.{generated_kept, entry_kept}
+use Rattle.mw_compile.proofs.Entering.{generated_kept, entry_of, entry_kept}
 use Rattle.mw_compile.proofs.emission.emit.Goals as goal
 
 pub encode-requires : goal.encode-requires
@@ -16,7 +16,18 @@ sure-requires g c =
 
 pub invariant_of-result : goal.invariant_of-result
 invariant_of-result g c =
-    entry_kept c.args.code.now c.in_ok-copy_of.field-0 c.args.kind.now c.in_ok-copy_of_type.field-0 c.in_ok-wasm.wasm (arc_value c.in_ok-new.field-0) c.in_ok-bytes.bytes.items
-    c.requires.closed c.in_ok-converted.ensures.literals c.requires.limits c.requires.nodes
-    (c.in_ok-wasm.ensures.generated ∙ generated_is_emitted two (expression_of c.args.code.now) (kernel_type_of c.args.kind.now) c.in_ok-converted.converted c.in_ok-converted.ensures.functions c.in_ok-converted.ensures.body)
-    c.in_ok-copy_of.ensures c.in_ok-copy_of_type.ensures c.in_ok-bytes.ensures.exact (c.in_ok-new.ensures.ok ∙ c.sure.ensures)
+    let code = expression_of c.args.code.now in
+    let kind = kernel_type_of c.args.kind.now in
+    let made = c.in_ok-wasm.ensures.generated ∙ generated_is_emitted two code kind c.in_ok-converted.converted c.in_ok-converted.ensures.functions c.in_ok-converted.ensures.body in
+    entry_kept _ code kind (entry_of code kind c.in_ok-wasm.wasm (arc_value c.in_ok-new.field-0) c.in_ok-text.text.items c.in_ok-bytes.bytes.items
+    c.requires.code c.requires.closed c.in_ok-converted.ensures.literals c.requires.limits c.requires.nodes
+    c.in_ok-text.ensures made c.in_ok-bytes.ensures.exact (c.in_ok-new.ensures.ok ∙ c.sure.ensures))
+
+pub returns-in_ok-new-clause-entry : goal.returns-in_ok-new-clause-entry
+returns-in_ok-new-clause-entry g c =
+    let code = expression_of c.args.code.now in
+    let kind = kernel_type_of c.args.kind.now in
+    let made = c.in_ok-wasm.ensures.generated ∙ generated_is_emitted two code kind c.in_ok-converted.converted c.in_ok-converted.ensures.functions c.in_ok-converted.ensures.body in
+    entry_of code kind c.in_ok-wasm.wasm (arc_value c.in_ok-new.field-0) c.in_ok-text.text.items c.in_ok-bytes.bytes.items
+    c.requires.code c.requires.closed c.in_ok-converted.ensures.literals c.requires.limits c.requires.nodes
+    c.in_ok-text.ensures made c.in_ok-bytes.ensures.exact (c.in_ok-new.ensures.ok ∙ c.sure.ensures)

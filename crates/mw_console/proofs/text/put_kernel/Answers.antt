@@ -1,12 +1,11 @@
-use Rattle.std.proofs.Common.{◌∙◌, ap, ◌++◌}
 use Rattle.hex.specs.Hex.{encode_lower}
+use Rattle.std.specs.Prelude.{codes}
 use Rattle.mw_term.specs.Terms.{kernel_type_of}
-use Rattle.mw_console.specs.Texts.{kind_text}
-use Rattle.mw_console.proofs.TextLemmas.{on_ok, kernel_put}
+use Rattle.mw_console.specs.Texts.{kernel_line, digits_line}
+use Rattle.mw_console.proofs.TextLemmas.{on_ok, three_put}
 use Rattle.mw_console.proofs.text.put_kernel.Goals as goal
 
 pub returns : goal.returns
-returns c = on_ok c.put-6.result (λ _ w. kernel_put c.args.text.now.items c.put.new.text.items c.put-2.new.text.items c.put-3.new.text.items c.put_kind.new.text.items c.put-4.new.text.items c.put-5.new.text.items c.put-6.new.text.items
-    c.args.name.now (kind_text (kernel_type_of c.args.kind.now)) (encode_lower c.args.bytes.now)
-    c.in_ok-put.ensures c.in_ok-put-2.ensures c.in_ok-put-3.ensures c.in_ok-put_kind.ensures c.in_ok-put-4.ensures
-    (c.in_ok-put-5.ensures ∙ ap (λ x. c.put-4.new.text.items ++ x) (c.as_bytes.ensures.value ∙ c.in_ok-digits.ensures)) w) c.put-6.ensures
+returns c = on_ok c.put_digits-2.result (λ _ w. three_put c.args.text.now.items c.put_name.new.text.items c.put_digits.new.text.items c.put_digits-2.new.text.items
+    (kernel_line c.args.name.now (kernel_type_of c.args.kind.now)) (digits_line (codes "key ") c.args.key.now) (digits_line (codes "module ") c.args.bytes.now)
+    c.in_ok-put_name.ensures c.in_ok-put_digits.ensures w) c.put_digits-2.ensures

@@ -1,8 +1,10 @@
 use Rattle.std.proofs.Common.{◌∙◌, ap, ◌++◌}
 use Rattle.mw_term.specs.Terms.{expression_of, kernel_type_of}
+use Rattle.sha2.specs.Sha256.{sha256}
 use Rattle.mw_console.specs.Texts.{kernel_text}
+use Rattle.mw_drive.specs.Works.{key_of}
 use Rattle.mw_console.proofs.TextLemmas.{on_ok}
-use Rattle.mw_drive.proofs.Reporting.{more_runs, stops_there, entries_push, item_is, first_and_rest, first_kind, printed_bytes, rest_items, rest_count, rest_body, rest_shorter}
+use Rattle.mw_drive.proofs.Reporting.{more_runs, stops_there, entries_push, item_is, first_and_rest, first_kind, printed_bytes, printed_key, rest_items, rest_count, rest_body, rest_shorter}
 use Rattle.mw_drive.proofs.report.+run_items.Goals as goal
 
 pub run_items-requires : goal.run_items-requires
@@ -30,7 +32,11 @@ returns-in_ok-push-in-Ok-clause-run g t c =
     let is = item_is c.item-item.result c.in-Kernel.kind c.in-Kernel.term c.in-Kernel.is in
     let kind = kernel_type_of c.in-Kernel.kind in
     let put = rw c.as_slice-in-Ok.ensures at c.in_ok-put_kernel-in-Ok.ensures in
-    let text = put ∙ ap (λ bytes. c.args.text.now.items ++ kernel_text c.item-item.result.name kind bytes) (c.bytes.ensures.bytes ∙ printed_bytes c.in-Ok.entry kind c.in-Ok.ensures.entry.0 (first_kind c.args.items.now c.item-item.result _ c.in-Kernel.kind c.in-Kernel.term e c.requires.items c.in-Kernel.is)) in
+    let int = first_kind c.args.items.now c.item-item.result _ c.in-Kernel.kind c.in-Kernel.term e c.requires.items c.in-Kernel.is in
+    let key = c.digest.ensures ∙ (ap sha256 c.text.ensures.text ∙ printed_key c.in-Ok.entry kind c.in-Ok.ensures.entry.0 int) in
+    let bytes = c.bytes.ensures.bytes ∙ printed_bytes c.in-Ok.entry kind c.in-Ok.ensures.entry.0 int in
+    let name = c.item-item.result.name in
+    let text = put ∙ (ap (λ k. c.args.text.now.items ++ kernel_text name kind k c.bytes.result.now) key ∙ ap (λ b. c.args.text.now.items ++ kernel_text name kind (key_of (expression_of c.in-Ok.entry.code) kind) b) bytes) in
     on_ok c.run_items.result
     (λ s r. more_runs all (expression_of c.args.body.now) c.args.entries.now.items c.push.new.self.items c.args.items.now c.item-item.result _ (expression_of c.in-Kernel.term) kind c.in-Ok.entry
     c.args.text.now.items c.put_kernel.new.text.items c.run_items.new.text.items s e x is c.in-Ok.ensures.entry text r)

@@ -1,0 +1,84 @@
+-- Canonical texts are short.
+use Rattle.std.proofs.Common.{◌≡◌, ℕ, suc, ◌+◌, ◌*◌, ◌<◌, ◌≤◌, ◌^◌, ℤ, pos, negsuc, true, false, List, ◌++◌, length, length-append, arith, subst, sym}
+use Rattle.std.specs.Prelude.{FitsSigned, codes, max, nat_le, ◌&&◌, Bool}
+use Rattle.std.specs.Int.{w64}
+use Rattle.std.specs.Fmt.{decimal, signed_decimal}
+use Rattle.std.proofs.lemmas.Fmt.{length-decimal-le, length_signed_le}
+use Rattle.std.proofs.lemmas.Bool.Decides.{nat_tests}
+use Rattle.mw_term.specs.declared.term.Base.TheVariants.{Int, Bool as Truth}
+use Rattle.mw_term.specs.declared.term.Primitive.{Primitive as Prim}
+use Rattle.mw_term.specs.declared.term.Primitive.TheVariants.{Add, Sub, Mul, Div, Mod, Eq, Lt, Le}
+use Rattle.mw_term.specs.Terms.{Expression, GroundType, KernelType, base, product, of_ground, to, num, truth, var, glob, fun, fix, app, bind, cond, pair, fst, snd, prim, bracket, escape, run, close, opened, lift, lift_b, done, size, depth_of}
+use Rattle.mw_term.specs.Closed.{ClosedBelow}
+use Rattle.mw_key.specs.Limits.{within_limits, ground_nodes, kernel_nodes, LiteralsFit}
+use Rattle.mw_key.specs.declared.version.Version.{Version}
+use Rattle.mw_key.specs.declared.version.Version.TheVariants.{One, Two}
+use Rattle.mw_key.specs.CanonicalText.{version_word, ground_words, kernel_words, primitive_word, code_words, canonical_text, IsTextOf}
+use Rattle.mw_key.specs.TextLaws.{ShortText}
+
+literal_length : (z : ℤ) → FitsSigned w64 z → length (signed_decimal z) ≤ 20
+literal_length (pos n) fits = let small : n < 2 ^ 63 = fits.sfits in length_signed_le 19 (pos n) (omega arith) small
+literal_length (negsuc n) fits = let small : n < 2 ^ 63 = fits.sfits in length_signed_le 19 (negsuc n) (omega arith) small
+
+primitive_length : (p : Prim) → length (primitive_word p) ≤ 4
+primitive_length Add = omega arith
+primitive_length Sub = omega arith
+primitive_length Mul = omega arith
+primitive_length Div = omega arith
+primitive_length Mod = omega arith
+primitive_length Eq = omega arith
+primitive_length Lt = omega arith
+primitive_length Le = omega arith
+
+ground_length : (t : GroundType) → length (ground_words t) ≤ 5 * ground_nodes t
+ground_length (base Int) = omega arith
+ground_length (base Truth) = omega arith
+ground_length (product s t) = omega (arith, length-append (codes " pair" ++ ground_words s) (ground_words t), ground_length s, ground_length t)
+
+kernel_length : (k : KernelType) → length (kernel_words k) ≤ 5 * kernel_nodes k
+kernel_length (of_ground t) = ground_length t
+kernel_length (to s t) = omega (arith, length-append (codes " to" ++ ground_words s) (ground_words t), ground_length s, ground_length t)
+
+-- a node has at most 24 bytes
+code_length : (c : Expression) (k : ℕ) → ClosedBelow k c → LiteralsFit c → k + 2 * depth_of c ≤ 1000 → length (code_words c) ≤ 24 * size c
+code_length (num z) k closed fits low = omega (arith, literal_length z fits)
+code_length (truth true) k closed fits low = omega arith
+code_length (truth false) k closed fits low = omega arith
+code_length (var i) k closed fits low = let digits = length-decimal-le 3 i (omega arith) (omega arith) (omega arith) in omega arith
+code_length (fun e) k closed fits low = omega (arith, code_length e (suc k) closed fits (omega arith))
+code_length (fix e) k closed fits low = omega (arith, code_length e (suc (suc k)) closed fits (omega arith))
+code_length (app f a) k closed fits low = omega (arith, length-append (codes " app" ++ code_words f) (code_words a), code_length f k closed.0 fits.0 (omega arith), code_length a k closed.1 fits.1 (omega arith))
+code_length (bind d e) k closed fits low = omega (arith, length-append (codes " let" ++ code_words d) (code_words e), code_length d k closed.0 fits.0 (omega arith), code_length e (suc k) closed.1 fits.1 (omega arith))
+code_length (cond c a b) k closed fits low = omega (arith, length-append (codes " if" ++ code_words c ++ code_words a) (code_words b), length-append (codes " if" ++ code_words c) (code_words a),
+    code_length c k closed.0 fits.0 (omega arith), code_length a k closed.1.0 fits.1.0 (omega arith), code_length b k closed.1.1 fits.1.1 (omega arith))
+code_length (pair a b) k closed fits low = omega (arith, length-append (codes " pair" ++ code_words a) (code_words b), code_length a k closed.0 fits.0 (omega arith), code_length b k closed.1 fits.1 (omega arith))
+code_length (fst e) k closed fits low = omega (arith, code_length e k closed fits (omega arith))
+code_length (snd e) k closed fits low = omega (arith, code_length e k closed fits (omega arith))
+code_length (prim p a b) k closed fits low = omega (arith, length-append (primitive_word p ++ code_words a) (code_words b), length-append (primitive_word p) (code_words a), primitive_length p,
+    code_length a k closed.0 fits.0 (omega arith), code_length b k closed.1 fits.1 (omega arith))
+code_length (glob i) k closed fits low = omega arith
+code_length (bracket e) k closed fits low = omega arith
+code_length (escape e) k closed fits low = omega arith
+code_length (run t e) k closed fits low = omega arith
+code_length (close at e) k closed fits low = omega arith
+code_length (opened e) k closed fits low = omega arith
+code_length (lift e) k closed fits low = omega arith
+code_length (lift_b e) k closed fits low = omega arith
+code_length (done v) k closed fits low = omega arith
+
+version_length : (v : Version) → length (version_word v) ≤ 5
+version_length One = omega arith
+version_length Two = omega arith
+
+both_limits : (m n : ℕ) → nat_le m 20000 && nat_le n 400 ≡ true → (m ≤ 20000) × (n ≤ 400)
+both_limits m n h = (grind (arith, nat_tests), grind (arith, nat_tests))
+
+pub short_text : ShortText
+short_text bytes v c k is =
+    let q = is.kernel in
+    let few = both_limits (size c) (depth_of c) q.limits in
+    let text = code_length c 0 q.closed q.literals (omega (arith, few.1)) in
+    let first = length-append (version_word v ++ kernel_words k) (code_words c) in
+    let second = length-append (version_word v) (kernel_words k) in
+    let short : length (canonical_text v c k) < 2 ^ 32 = omega (arith, first, second, text, few.0, q.nodes, version_length v, kernel_length k) in
+    subst (λ bs. length bs < 2 ^ 32) (sym is.text) short

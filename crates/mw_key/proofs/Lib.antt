@@ -1,0 +1,13 @@
+pub mod Digits
+pub mod Words
+pub mod Steps
+pub mod NumberWords
+pub mod FormWords
+pub mod WordLists
+pub mod Finding
+pub mod FoundGrounds
+pub mod FoundCode
+pub mod FoundTexts
+pub mod Answered
+pub mod Written
+pub mod Lengths

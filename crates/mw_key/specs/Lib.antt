@@ -1,0 +1,6 @@
+pub mod Limits
+pub mod CanonicalText
+pub mod TextLaws
+pub mod Forms
+pub mod Numbers
+pub mod Reading

@@ -1,0 +1,23 @@
+// Digests of texts.
+
+ghost use Rattle.std.specs.Prelude.{◌≡◌};
+ghost use Rattle.sha2.specs.Sha256.{sha256};
+ghost use Rattle.mw_key.specs.CanonicalText.{home};
+
+use sha2::{Digest, Sha256};
+
+/// The text's SHA-256. It takes no memory.
+pub fn digest(text: &[u8]) -> [u8; 32]
+    ensures { result ≡ sha256 text.now }
+{
+    Sha256::digest(text)
+}
+
+/// Where the text's name begins to be looked for: the first four bytes of its digest as a number, the lowest first. It
+/// takes no memory.
+pub fn start_of(text: &[u8]) -> u32
+    ensures { result ≡ home text.now }
+{
+    let [first, second, third, fourth, ..] = digest(text);
+    u32::from_le_bytes([first, second, third, fourth])
+}

@@ -1,0 +1,13 @@
+// The laws of canonical texts, which no program calls.
+
+ghost use Rattle.mw_key.specs.TextLaws.{OneText, ShortText};
+
+/// Bytes are the text of one version, code and type at most.
+pub fn one_text()
+    ensures { OneText }
+{}
+
+/// A text has fewer than 2^32 bytes.
+pub fn short_text()
+    ensures { ShortText }
+{}

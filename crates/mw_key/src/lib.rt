@@ -1,0 +1,21 @@
+//! Canonical texts: the one text of each version for code at a kernel type, its digest, and where its name begins to be
+//! looked for.
+#![tactic(auto)]
+
+pub mod fault;
+mod form;
+mod hash;
+pub mod laws;
+mod number;
+mod read;
+mod reader;
+#[cfg(test)]
+mod tests;
+pub mod version;
+mod write;
+
+pub use crate::fault::TextFault;
+pub use crate::hash::{digest, start_of};
+pub use crate::read::read_text;
+pub use crate::version::Version;
+pub use crate::write::text_of;

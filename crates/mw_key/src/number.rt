@@ -1,0 +1,63 @@
+// Numbers in words.
+
+ghost use Rattle.std.specs.Prelude.{◌≡◌, ◌≤◌, ◌^◌, IfSome};
+ghost use Rattle.mw_key.specs.Numbers.{is_digit, number_in, natural_of, negative, integer_of};
+
+fn is_digit(byte: u8) -> bool
+    ensures { result ≡ is_digit byte }
+{
+    byte.is_ascii_digit()
+}
+
+/// The number of at most 2^63 that the digits spell.
+#[tactic(auto, using(crate::proofs::Digits::number_digit, crate::proofs::Digits::number_big, crate::proofs::Digits::number_other, crate::proofs::Digits::number_all))]
+fn number(digits: &[u8]) -> Option<u64>
+    ensures value { result ≡ number_in 0 digits.now }
+    ensures at_most { IfSome result (λ n. n ≤ 2 ^ 63) }
+{
+    let mut value: u64 = 0;
+    for (n, byte) in digits.iter().enumerate() {
+        if !is_digit(*byte) {
+            return None;
+        }
+        let digit = u64::from(*byte - b'0');
+        if value > (9_223_372_036_854_775_808 - digit) / 10 {
+            return None;
+        }
+        value = 10 * value + digit;
+    }
+    Some(value)
+}
+
+/// The number of at most 2^63 that the word spells with no leading zero.
+pub fn natural_of(word: &[u8]) -> Option<u64>
+    ensures value { result ≡ natural_of word.now }
+    ensures at_most { IfSome result (λ n. n ≤ 2 ^ 63) }
+{
+    match word {
+        [] => None,
+        [b'0', _, ..] => None,
+        _ => number(word),
+    }
+}
+
+/// The negative integer of this absolute value, if there is one.
+fn negative(number: Option<u64>) -> Option<i64>
+    requires { IfSome number (λ n. n ≤ 2 ^ 63) }
+    ensures { result ≡ negative number }
+{
+    match number {
+        Some(n) if n > 0 => Some(-1 - (n - 1) as i64),
+        _ => None,
+    }
+}
+
+/// The integer that the word spells, with no leading zero and no sign but before a negative one.
+pub fn integer_of(word: &[u8]) -> Option<i64>
+    ensures { result ≡ integer_of word.now }
+{
+    match word {
+        [b'-', digits @ ..] => negative(natural_of(digits)),
+        _ => i64::try_from(natural_of(word)?).ok(),
+    }
+}

@@ -1,0 +1,158 @@
+// Texts to code.
+
+ghost use Rattle.std.specs.Prelude.{◌≡◌, ◌+◌, ◌*◌, ◌≤◌, IfOk, MatchResult, alloc_error};
+ghost use Rattle.mw_term.specs.Terms.{Expression, KernelType, expression_of, ground_of, kernel_type_of};
+ghost use Rattle.mw_key.specs.CanonicalText.{IsTextOf};
+ghost use Rattle.mw_key.specs.Reading.{words_left, find_ground, ground_parts, find_kernel_type, find_code, code_parts, text_of_words, Answers, Finds};
+ghost use Rattle.mw_key.specs.declared.version.Version.{Version as PureVersion};
+
+use crate::fault::TextFault;
+use crate::form::{Form, TypeForm};
+use crate::reader::Reader;
+use crate::version::Version;
+use mw_term::{Ground, KType, Term};
+use std::alloc::Global;
+
+/// What a call that reads from words answers.
+type Read<T> = Result<T, TextFault>;
+
+/// How many nodes a kernel type may have, and so how deep it may nest.
+const MOST_TYPE_NODES: u32 = 10_000;
+
+/// How many nodes code may have.
+const MOST_CODE_NODES: u32 = 20_000;
+
+/// How deep code may nest.
+const MOST_DEPTH: u32 = 400;
+
+/// The version, code and type whose canonical text the bytes are. `BadText` comes where they are none, and `Memory` where
+/// memory runs out. Words are read one after another, and no further than to the first that can't stand there.
+pub fn read_text(alloc: Global, bytes: &[u8]) -> Result<(Version, Term, KType), TextFault>
+    ensures read { IfOk result (λ t. IsTextOf bytes.now t.0 (expression_of t.1) (kernel_type_of t.2)) }
+    ensures refused { result ≡ Err TextFault.BadText → (v : PureVersion) (c : Expression) (k : KernelType) → IsTextOf bytes.now v c k → ⊥ }
+    ensures found { (v : PureVersion) (c : Expression) (k : KernelType) → IsTextOf bytes.now v c k
+        → MatchResult result (λ t. (t.0 ≡ v) × (expression_of t.1 ≡ c) × (kernel_type_of t.2 ≡ k)) (λ fault. fault ≡ TextFault.Memory alloc_error) }
+{
+    whole_text(alloc, &mut Reader::new(bytes))
+}
+
+/// The version, code and type that all words that are left spell.
+#[tactic(auto, unfolding(crate::specs::Reading::text_of_words))]
+fn whole_text(alloc: Global, reader: &mut Reader) -> Read<(Version, Term, KType)>
+    ensures { Answers (λ t. (t.0, expression_of t.1, kernel_type_of t.2)) result (text_of_words (words_left reader.old.rest)) }
+{
+    reader.allow(MOST_TYPE_NODES);
+    let version = reader.version()?;
+    let kind = kernel_type(alloc, reader)?;
+    reader.allow(MOST_CODE_NODES);
+    let code = code(alloc, reader, MOST_DEPTH, 0)?;
+    if reader.is_at_end() {
+        Ok((version, code, kind))
+    } else {
+        Err(TextFault::BadText)
+    }
+}
+
+/// A kernel type.
+fn kernel_type(alloc: Global, reader: &mut Reader) -> Read<KType>
+    ensures { Finds kernel_type_of result (find_kernel_type MOST_TYPE_NODES) reader.old reader.new }
+{
+    match reader.type_form()? {
+        TypeForm::To => {
+            let argument = ground(alloc, reader, MOST_TYPE_NODES)?;
+            let result = ground(alloc, reader, MOST_TYPE_NODES)?;
+            Ok(KType::Fun(argument, result))
+        }
+        form => Ok(KType::Ground(ground_after(alloc, reader, form, MOST_TYPE_NODES)?)),
+    }
+}
+
+/// A ground type that nests at most so deep.
+#[cycle(grounds)]
+#[tactic(auto, using(crate::proofs::Steps::ground_step, crate::proofs::Steps::ground_none))]
+fn ground(alloc: Global, reader: &mut Reader, depth: u32) -> Read<Ground>
+    ensures { Finds ground_of result (find_ground depth) reader.old reader.new }
+{
+    if depth == 0 {
+        return Err(TextFault::BadText);
+    }
+    let form = reader.type_form()?;
+    ground_after(alloc, reader, form, depth - 1)
+}
+
+/// A ground type after its first word, whose parts nest at most so deep.
+#[cycle(grounds)]
+fn ground_after(alloc: Global, reader: &mut Reader, form: TypeForm, depth: u32) -> Read<Ground>
+    ensures { Finds ground_of result (ground_parts (find_ground depth) form) reader.old reader.new }
+{
+    match form {
+        TypeForm::Base(base) => Ok(Ground::Base(base)),
+        TypeForm::Pair => {
+            let left = ground(alloc, reader, depth)?;
+            let right = ground(alloc, reader, depth)?;
+            Ok(Ground::Pair(Box::new(alloc, left)?, Box::new(alloc, right)?))
+        }
+        TypeForm::To => Err(TextFault::BadText),
+    }
+}
+
+/// Code of at most this depth, under this many binders.
+#[cycle(code)]
+#[tactic(auto, using(crate::proofs::Steps::code_step, crate::proofs::Steps::code_none))]
+fn code(alloc: Global, reader: &mut Reader, depth: u32, binders: u32) -> Read<Term>
+    requires room { binders + 2 * depth ≤ 1000 }
+    ensures { Finds expression_of result (find_code depth binders) reader.old reader.new }
+{
+    if depth == 0 {
+        return Err(TextFault::BadText);
+    }
+    let form = reader.form()?;
+    code_of(alloc, reader, form, depth - 1, binders)
+}
+
+/// Code after its first word, whose parts have at most this depth.
+#[cycle(code)]
+fn code_of(alloc: Global, reader: &mut Reader, form: Form, depth: u32, binders: u32) -> Read<Term>
+    requires room { binders + 2 * depth ≤ 998 }
+    ensures { Finds expression_of result (code_parts (find_code depth) form binders) reader.old reader.new }
+{
+    match form {
+        Form::Int => Ok(Term::Int(reader.integer()?)),
+        Form::Bool(b) => Ok(Term::Bool(b)),
+        Form::Var => Ok(Term::Var(reader.variable(binders)?)),
+        Form::Fun => Ok(Term::Fun(boxed(alloc, reader, depth, binders + 1)?)),
+        Form::Rec => Ok(Term::Rec(boxed(alloc, reader, depth, binders + 2)?)),
+        Form::App => {
+            let f = boxed(alloc, reader, depth, binders)?;
+            Ok(Term::App(f, boxed(alloc, reader, depth, binders)?))
+        }
+        Form::Let => {
+            let d = boxed(alloc, reader, depth, binders)?;
+            Ok(Term::Let(d, boxed(alloc, reader, depth, binders + 1)?))
+        }
+        Form::If => {
+            let c = boxed(alloc, reader, depth, binders)?;
+            let a = boxed(alloc, reader, depth, binders)?;
+            Ok(Term::If(c, a, boxed(alloc, reader, depth, binders)?))
+        }
+        Form::Pair => {
+            let a = boxed(alloc, reader, depth, binders)?;
+            Ok(Term::Pair(a, boxed(alloc, reader, depth, binders)?))
+        }
+        Form::Fst => Ok(Term::Fst(boxed(alloc, reader, depth, binders)?)),
+        Form::Snd => Ok(Term::Snd(boxed(alloc, reader, depth, binders)?)),
+        Form::Prim(p) => {
+            let a = boxed(alloc, reader, depth, binders)?;
+            Ok(Term::Prim(p, a, boxed(alloc, reader, depth, binders)?))
+        }
+    }
+}
+
+/// Code in a box.
+#[cycle(code)]
+fn boxed(alloc: Global, reader: &mut Reader, depth: u32, binders: u32) -> Read<Box<Term>>
+    requires room { binders + 2 * depth ≤ 1000 }
+    ensures { Finds (λ code. expression_of code.value) result (find_code depth binders) reader.old reader.new }
+{
+    Ok(Box::new(alloc, code(alloc, reader, depth, binders)?)?)
+}
