@@ -27,7 +27,7 @@ use Rattle.mw_kernel.specs.declared.outcome.Outcome.TheVariants as outcome
 use Rattle.mw_kernel.specs.declared.running.Began.{Began}
 use Rattle.mw_kernel.specs.declared.running.Began.TheVariants as began
 use Rattle.mw_kernel.specs.RunningStates.{IsStoreOf}
-use Rattle.mw_kernel.specs.KernelAnswers.{IsBeganAs, IsRanAs, IsStartOf, IsCallOf, IsKeptAs, IsStoreAfter, StartLeavesAtMost, CallLeavesAtMost, EndsWithValue}
+use Rattle.mw_kernel.specs.KernelAnswers.{IsBeganAs, IsRanAs, IsStartOf, IsCallOf, IsKeptAs, IsStoreAfter, StartLeavesAtMost, CallLeavesAtMost, HasStartType, HasCallType}
 use Rattle.mw_kernel.specs.Invoking.{IsOtherTrap, EndsAsOutcome}
 use Rattle.mw_kernel.specs.Answering.{IsAnswerOf, IsNoFunction, IsBegunAnswer, HasFewPages}
 use Rattle.mw_kernel.proofs.Units.{Leaves, invoked_leaves}
@@ -209,3 +209,23 @@ module _ (k units : ℕ) where
   call_left (Ok (ran.Bound t)) k e a h = tt
   call_left (Err f) k e a h = tt
   call_left (Ok (ran.Value v left)) _ _ a h = absurd a
+
+-- answers have their types
+pub start_type : (answer : Result Began RunFault) (wasm : Module) (kind : KernelType) (e : End) → IsStartOf answer wasm kind e → HasStartType answer kind
+start_type (Ok (began.Value v left)) wasm (of_ground t) (ended st (I64 n ∷ []) l) a = a.0.has_type
+start_type (Ok (began.Function r left)) wasm (to s t) (ended st (I64 n ∷ []) l) a = (a.0.argument_is, a.0.result_is)
+start_type (Ok (began.Value v left)) wasm (to s t) e a = absurd a
+start_type (Ok (began.Function r left)) wasm (of_ground t) e a = absurd a
+start_type (Ok (began.Trap t)) wasm k e a = tt
+start_type (Ok (began.Bound t)) wasm k e a = tt
+start_type (Err f) wasm k e a = tt
+start_type (Ok (began.Value v left)) wasm (of_ground t) _ a = absurd a
+start_type (Ok (began.Function v left)) wasm (to s t) _ a = absurd a
+
+pub call_type_of : (answer : Result Ran RunFault) (t : GroundType) (e : End) → IsCallOf answer t e → HasCallType answer t
+call_type_of (Ok (ran.Value v left)) t (ended st (I64 n ∷ []) l) a = a.0.has_type
+call_type_of (Ok (ran.Function r left)) t e a = absurd a
+call_type_of (Ok (ran.Trap t)) k e a = tt
+call_type_of (Ok (ran.Bound t)) k e a = tt
+call_type_of (Err f) k e a = tt
+call_type_of (Ok (ran.Value v left)) _ _ a = absurd a

@@ -101,7 +101,8 @@ call_end r g v units = invoked (module_of r.wasm) (store_of r) g (I64 r.function
 
 -- The answer of a call is how the module's `call` ends.
 abbrev pub AnswersCall : Result Ran RunFault → RunningState → PureGroundValue → ℕ → Type 0
-AnswersCall answer r v units = (g : ℕ) → exported (module_of r.wasm) (codes "call") ≡ Some g → IsCallOf answer r.result (call_end r g v units)
+AnswersCall answer r v units =
+    (g : ℕ) → exported (module_of r.wasm) (codes "call") ≡ Some g → IsCallOf answer r.result (call_end r g v units)
 
 -- where an invocation ended with values or trapped, this is the store that it left
 abbrev pub IsStoreAfter : End → Store → Type 0
@@ -112,7 +113,8 @@ IsStoreAfter _ after = Unit {0}
 -- after every answer but want of memory the next call runs on the store that the module's `call` left, where it left one
 abbrev pub StoreAfterCall : Result Ran RunFault → RunningState → RunningState → PureGroundValue → ℕ → Type 0
 StoreAfterCall (Err (fault.Memory _)) old new v units = Unit {0}
-StoreAfterCall answer old new v units = (g : ℕ) → exported (module_of old.wasm) (codes "call") ≡ Some g → IsStoreAfter (call_end old g v units) (store_of new)
+StoreAfterCall answer old new v units =
+    (g : ℕ) → exported (module_of old.wasm) (codes "call") ≡ Some g → IsStoreAfter (call_end old g v units) (store_of new)
 
 -- all but the store stays as it is
 pub record IsSameFunction (old new : RunningState) : Type 0 where
@@ -120,6 +122,20 @@ pub record IsSameFunction (old new : RunningState) : Type 0 where
   pub function_is : new.function ≡ old.function
   pub argument_is : new.argument ≡ old.argument
   pub result_is : new.result ≡ old.result
+
+-- A value comes of a ground type alone and is of it; a function comes of a function type alone and has its types.
+abbrev pub HasStartType : Result Began RunFault → KernelType → Type 0
+HasStartType (Ok (began.Value v left)) (of_ground t) = HasGroundType t (ground_value_of v)
+HasStartType (Ok (began.Value v left)) (to s t) = ⊥
+HasStartType (Ok (began.Function r left)) (of_ground t) = ⊥
+HasStartType (Ok (began.Function r left)) (to s t) = (r.argument ≡ s) × (r.result ≡ t)
+HasStartType _ k = Unit {0}
+
+-- a call gives no function, and a value of the result type
+abbrev pub HasCallType : Result Ran RunFault → GroundType → Type 0
+HasCallType (Ok (ran.Value v left)) t = HasGroundType t (ground_value_of v)
+HasCallType (Ok (ran.Function i left)) t = ⊥
+HasCallType _ t = Unit {0}
 
 -- no more units are left than were given
 abbrev pub StartLeavesAtMost : Result Began RunFault → ℕ → Type 0

@@ -1,7 +1,8 @@
 -- What an answer says of the kernel that the module stands for.
 use Rattle.std.specs.Prelude.{ℕ, ◌≡◌, List, [], Some, Result, Ok, Err, codes, FitsSigned}
 use Rattle.std.specs.Int.{w64, cast_signed, cast_unsigned}
-use Rattle.mw_term.specs.Terms.{Expression, GroundType, KernelType, KernelValue, PureGroundValue, of_ground, to, int, bool, both, function, recursive, ground_value, ground_value_of}
+use Rattle.mw_term.specs.Terms.{Expression, KernelType, KernelValue, PureGroundValue, of_ground, to}
+use Rattle.mw_term.specs.Terms.{int, bool, both, function, recursive, ground_value, ground_value_of}
 use Rattle.mw_term.specs.Typable.{HasKernelType}
 use Rattle.mw_term.specs.Types.{kernel_type}
 use Rattle.mw_term.specs.Typing.{Valued}
@@ -74,7 +75,8 @@ IsCallMeant (Err (fault.Memory _)) a = Unit {0}
 
 -- whatever code of the type the module stands for, a start answers as the code means
 abbrev pub MeansStart : Result Began RunFault → Module → KernelType → ℕ → Type 0
-MeansStart answer wasm k units = (c : Expression) → HasKernelType c k → StandsFor (module_of wasm) c k → IsStartMeant answer k (kernel_meaning units 0 c)
+MeansStart answer wasm k units =
+    (c : Expression) → HasKernelType c k → StandsFor (module_of wasm) c k → IsStartMeant answer k (kernel_meaning units 0 c)
 
 -- whatever function is kept, a call answers as the call of the function means
 abbrev pub MeansCall : Result Ran RunFault → RunningState → PureGroundValue → ℕ → Type 0

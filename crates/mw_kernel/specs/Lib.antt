@@ -4,3 +4,4 @@ pub mod KernelAnswers
 pub mod KernelMeanings
 pub mod Invoking
 pub mod Answering
+pub mod TestModules

@@ -1,6 +1,7 @@
 -- What contracts see of a kept function.
 use Rattle.std.specs.Prelude.{ℕ, ◌≡◌, ◌≤◌, Option, Some, None, Ok, codes}
-use Rattle.mw_term.specs.Terms.{GroundType}
+use Rattle.mw_term.specs.declared.term.Ground.{Ground}
+use Rattle.mw_term.specs.Terms.{GroundType, ground_of}
 use Rattle.mw_meaning.specs.Shapes.{Exports, call_type}
 use Rattle.mw_wasm.specs.declared.modules.Module.{Module}
 use Rattle.mw_wasm.specs.Instances.{instantiated}
@@ -20,6 +21,9 @@ pub record RunningState : Type 0 where
   pub function : ℕ
   pub argument : GroundType
   pub result : GroundType
+
+abbrev pub running_state : Module → Option InstanceState → ℕ → Ground → Ground → RunningState
+running_state wasm held function argument result = record { wasm = wasm; held = held; function = function; argument = ground_of argument; result = ground_of result }
 
 abbrev pub store_held : Module → Option InstanceState → Store
 store_held wasm None = first_store (module_of wasm)

@@ -8,6 +8,8 @@ pub mod laws;
 mod outcome;
 mod reading;
 mod running;
+#[cfg(test)]
+mod tests;
 
 pub use crate::fault::RunFault;
 pub use crate::running::{Began, Running};

@@ -9,7 +9,7 @@ ghost use Rattle.mw_wasm.specs.Views.{module_of};
 ghost use Rattle.mw_wasm.specs.Validity.{IsValid};
 ghost use Rattle.mw_exec.specs.InstanceStates.{store_in};
 ghost use Rattle.mw_kernel.specs.RunningStates.{IsRunnable};
-ghost use Rattle.mw_kernel.specs.KernelAnswers.{AnswersStart, AnswersCall, StoreAfterCall, IsSameFunction, StartLeavesAtMost, CallLeavesAtMost};
+ghost use Rattle.mw_kernel.specs.KernelAnswers.{AnswersStart, AnswersCall, StoreAfterCall, IsSameFunction, HasStartType, HasCallType, StartLeavesAtMost, CallLeavesAtMost};
 ghost use Rattle.mw_kernel.specs.KernelMeanings.{MeansStart, MeansCall, KeepsOn};
 ghost use Rattle.mw_kernel.specs.Answering.{HasFewPages, IsAnswerOf, IsNoFunction, IsBegunAnswer, IsHeldAfter, FitsUnlessMemory};
 
@@ -40,18 +40,17 @@ pub struct Running {
 impl Model for Running {
     ghost use Rattle.std.specs.Coded.{codes};
     ghost use Rattle.std.specs.Arc.{arc_value};
-    ghost use Rattle.mw_term.specs.Terms.{ground_of};
     ghost use Rattle.mw_wasm.specs.contracts.instructions.Instr as instr;
     ghost use Rattle.mw_kernel.specs.GroundCodes.{ground_code};
-    ghost use Rattle.mw_kernel.specs.RunningStates.{RunningState, IsRunnable};
+    ghost use Rattle.mw_kernel.specs.RunningStates.{RunningState, running_state, IsRunnable};
 
     ghost Value = { RunningState };
 
     ghost coded = { Prim.hlevel (codes, ground_code, instr.the_row.coded) };
 
-    ghost view = { λ r. record { wasm = arc_value r.module; held = r.instance; function = r.function; argument = ground_of r.argument; result = ground_of r.result } };
+    ghost view = { λ r. running_state (arc_value r.module) r.instance r.function r.argument r.result };
 
-    ghost invariant = { λ r. IsRunnable record { wasm = arc_value r.module; held = r.instance; function = r.function; argument = ground_of r.argument; result = ground_of r.result } };
+    ghost invariant = { λ r. IsRunnable (running_state (arc_value r.module) r.instance r.function r.argument r.result) };
 }
 
 /// How a run of a kernel ends. The last number is the units left.
@@ -78,6 +77,7 @@ impl Running {
     ) -> Result<Began, RunFault>
         requires shape { HasShape (module_of (arc_value «module».now)) (kernel_type_of kind.now) }
         ensures answers { AnswersStart result (arc_value «module».now) (kernel_type_of kind.now) fuel }
+        ensures types { HasStartType result (kernel_type_of kind.now) }
         ensures left { StartLeavesAtMost result fuel }
         ensures means { MeansStart result (arc_value «module».now) (kernel_type_of kind.now) fuel }
     {
@@ -94,11 +94,13 @@ impl Running {
     ) -> Result<Ran, RunFault>
         requires argument { HasGroundType self.old.argument (ground_value_of argument.now) }
         ensures answers { AnswersCall result self.old (ground_value_of argument.now) fuel }
+        ensures types { HasCallType result self.old.result }
         ensures left { CallLeavesAtMost result fuel }
         ensures means { MeansCall result self.old (ground_value_of argument.now) fuel }
         ensures store { StoreAfterCall result self.old self.new (ground_value_of argument.now) fuel }
         ensures keeps { KeepsOn result self.old self.new }
         ensures same { IsSameFunction self.old self.new }
+        ensures runnable { IsRunnable self.old }
     {
         self.invoke(alloc, argument, fuel)
     }
