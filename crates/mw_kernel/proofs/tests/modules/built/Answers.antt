@@ -80,7 +80,11 @@ shapes init = (
 )
 
 pub sure-requires : goal.sure-requires
-sure-requires c = ?
+sure-requires c = kept _ (code_of c.in_ok-init_code.field-0)
+    (rw (c.in_ok-types.ensures, c.in_ok-funcs.ensures, c.new.ensures, c.in_ok-exports.ensures, c.new-2.ensures, c.in_ok-segments.ensures) refl) c.in_ok-init_code.ensures
 
 pub returns : goal.returns
-returns c = ?
+returns c =
+    let e : module_of c.sure.result ≡ test_module (code_of c.in_ok-init_code.field-0) =
+        rw (c.sure.ensures, c.in_ok-types.ensures, c.in_ok-funcs.ensures, c.new.ensures, c.in_ok-exports.ensures, c.new-2.ensures, c.in_ok-segments.ensures) refl in
+    subst HasTestShapes (sym (ap module_of c.in_ok-new.ensures.ok ∙ e)) (shapes (code_of c.in_ok-init_code.field-0))

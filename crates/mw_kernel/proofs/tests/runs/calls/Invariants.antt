@@ -4,4 +4,4 @@ use Rattle.mw_term.specs.Terms.{base}
 use Rattle.mw_kernel.proofs.tests.runs.calls.Given as goal
 
 abbrev pub invariant-loop-n : goal.invariant-loop-n
-invariant-loop-n l = l.running.argument ≡ base Int
+invariant-loop-n g l = l.running.argument ≡ base Int
