@@ -1,21 +1,19 @@
 -- Answers are how invocations end.
-use Rattle.std.proofs.Common.{◌≡◌, ℕ, ◌≤◌, List, [], ◌∷◌, Option, Some, None, Result, Ok, Err, refl, sym, ap, ◌∙◌, subst, arith}
-use Rattle.std.specs.Prelude.{codes, position, map}
-use Rattle.mw_term.specs.Terms.{GroundType, KernelType, PureGroundValue, of_ground, to, ground_value_of}
+use Rattle.std.proofs.Common.{◌≡◌, ℕ, ◌≤◌, List, [], ◌∷◌, Option, Some, None, Result, Ok, Err, refl, sym, subst, arith}
+use Rattle.mw_term.specs.Terms.{GroundType, KernelType, of_ground, to}
 use Rattle.mw_term.specs.declared.value.Limit.TheVariants.{Fuel, Heap, KernelSize}
 use Rattle.mw_term.specs.declared.value.TrapKind.TheVariants as kind
-use Rattle.mw_meaning.specs.Shapes.{Exports, HasShape, HasCall, call_type, init_type, IsWordOf, IsWordOfKernel, IsStrayEnd}
+use Rattle.mw_meaning.specs.Shapes.{IsWordOf, IsWordOfKernel, IsStrayEnd}
 use Rattle.mw_wasm.specs.declared.modules.Limits.{Limits}
 use Rattle.mw_wasm.specs.declared.modules.Module.{Module}
 use Rattle.mw_wasm.specs.declared.values.Trap.{Trap}
 use Rattle.mw_wasm.specs.declared.values.Trap.TheVariants as traps
 use Rattle.mw_wasm.specs.declared.values.Value.TheVariants.{I64}
-use Rattle.mw_wasm.specs.Execution.{End, ended, trapped, spent, lost}
-use Rattle.mw_wasm.specs.Instances.{Unfit, element, segment, unless, exported, instantiated, first_memory, with_segment, with_segments}
+use Rattle.mw_wasm.specs.Execution.{End, ended, trapped, spent}
+use Rattle.mw_wasm.specs.Instances.{element, segment, unless, instantiated, first_memory, with_segment, with_segments}
 use Rattle.mw_wasm.specs.Store.{Memory, Store}
 use Rattle.mw_wasm.specs.Syntax.{DataSegment, PureModule}
 use Rattle.mw_wasm.specs.Validity.{IsValid, AreLimitsOf}
-use Rattle.mw_wasm.specs.Views.{module_of}
 use Rattle.mw_wasm.proofs.InstanceTypes.{instances_are_typed}
 use Rattle.mw_exec.specs.Instancing.{first_store}
 use Rattle.mw_machine.specs.declared.Ran.{Ran}
@@ -27,10 +25,10 @@ use Rattle.mw_kernel.specs.declared.outcome.Outcome.TheVariants as outcome
 use Rattle.mw_kernel.specs.declared.running.Began.{Began}
 use Rattle.mw_kernel.specs.declared.running.Began.TheVariants as began
 use Rattle.mw_kernel.specs.RunningStates.{IsStoreOf}
-use Rattle.mw_kernel.specs.KernelAnswers.{IsBeganAs, IsRanAs, IsStartOf, IsCallOf, IsKeptAs, IsStoreAfter, StartLeavesAtMost, CallLeavesAtMost, HasStartType, HasCallType}
+use Rattle.mw_kernel.specs.KernelAnswers.{IsStartOf, IsCallOf, IsKeptAs, IsStoreAfter, StartLeavesAtMost, CallLeavesAtMost, HasStartType, HasCallType}
 use Rattle.mw_kernel.specs.Invoking.{IsOtherTrap, EndsAsOutcome}
-use Rattle.mw_kernel.specs.Answering.{IsAnswerOf, IsNoFunction, IsBegunAnswer, HasFewPages}
-use Rattle.mw_kernel.proofs.Units.{Leaves, invoked_leaves}
+use Rattle.mw_kernel.specs.Answering.{IsAnswerOf, IsNoFunction, IsBegunAnswer}
+use Rattle.mw_kernel.proofs.Units.{Leaves}
 
 -- another trap is stray
 pub other_is_stray : (P : ℕ → Memory → Type 0) (t : Trap) (st : Store) → IsOtherTrap t → IsStrayEnd P (trapped t st)

@@ -1,7 +1,7 @@
 -- Answers are what the kernel means.
-use Rattle.std.proofs.Common.{◌≡◌, ℕ, ◌≤◌, inl, inr, true, false, List, [], ◌∷◌, Option, Some, None, Result, Ok, Err, refl, sym, ap, ◌∙◌, subst, arith}
+use Rattle.std.proofs.Common.{◌≡◌, ℕ, inl, inr, true, false, List, [], ◌∷◌, Option, Some, Result, Ok, Err, refl, sym, ap, ◌∙◌, subst, arith}
 use Rattle.std.specs.Prelude.{codes}
-use Rattle.std.specs.Int.{w64, cast_signed, cast_unsigned}
+use Rattle.std.specs.Int.{w64, cast_signed}
 use Rattle.std.proofs.lemmas.Int.{to_z-of_z}
 use Rattle.mw_term.specs.Terms.{Expression, Value, KernelValue, GroundType, KernelType, PureGroundValue, base, product, of_ground, to, int, bool, both, function, recursive, ground_value, ground_value_of}
 use Rattle.mw_term.specs.declared.term.Base.TheVariants.{Int, Bool as Truth}
@@ -14,17 +14,16 @@ use Rattle.mw_term.specs.Unlabelled.{unlabelled_value, IsClosedKernelValue}
 use Rattle.mw_wasm.specs.declared.modules.Module.{Module}
 use Rattle.mw_wasm.specs.declared.values.Trap.TheVariants as traps
 use Rattle.mw_wasm.specs.declared.values.Value.TheVariants.{I32, I64}
-use Rattle.mw_wasm.specs.declared.values.Value.{Value as WasmValue}
 use Rattle.mw_wasm.specs.Execution.{End, ended, trapped, spent, lost}
-use Rattle.mw_wasm.specs.Instances.{exported, instantiated, invoked}
+use Rattle.mw_wasm.specs.Instances.{exported, invoked}
 use Rattle.mw_wasm.specs.Store.{Memory, Store}
 use Rattle.mw_wasm.specs.Syntax.{PureModule}
 use Rattle.mw_wasm.specs.Views.{module_of}
-use Rattle.mw_meaning.specs.Arithmetic.{Reason, trap, bound, stuck}
+use Rattle.mw_meaning.specs.Arithmetic.{trap, bound, stuck}
 use Rattle.mw_meaning.specs.KernelMeaning.{Ended, gives, stops, kernel_meaning}
 use Rattle.mw_meaning.specs.OutcomeLaws.{HasGroundType}
 use Rattle.mw_meaning.specs.StagedMeaning.{kernel_argument, argument_words, call_of}
-use Rattle.mw_meaning.specs.StandingFor.{IsWord, truth_number, AnswersAs, IsArgument, leaves, Call, AreCalls, Onward, CallsAnswer, CallsAfter, MeansKernel, StandsFor}
+use Rattle.mw_meaning.specs.StandingFor.{IsWord, truth_number, AnswersAs, IsArgument, Call, AreCalls, Onward, CallsAnswer, CallsAfter, MeansKernel, StandsFor}
 use Rattle.mw_meaning.specs.Shapes.{IsWordOf, IsStrayEnd, in_init}
 use Rattle.mw_meaning.specs.TypingLaws.{IfMakes}
 use Rattle.mw_meaning.proofs.KernelTyping.{KernelSafe, Has, none, closed_code_safe, kernel_call_safe, safe_makes}
@@ -36,8 +35,8 @@ use Rattle.mw_kernel.specs.declared.fault.RunFault.TheVariants as fault
 use Rattle.mw_kernel.specs.declared.running.Began.{Began}
 use Rattle.mw_kernel.specs.declared.running.Began.TheVariants as began
 use Rattle.mw_kernel.specs.RunningStates.{RunningState, IsRunnable, store_of}
-use Rattle.mw_kernel.specs.KernelAnswers.{kernel_value, IsValueAt, EndsWithValue, EndsByTrap, EndsAtBound, IsKeptAs, IsBeganAs, IsRanAs, IsStartOf, IsCallOf, AnswersStart, AnswersCall, call_end, IsStoreAfter, StoreAfterCall, IsSameFunction}
-use Rattle.mw_kernel.specs.KernelMeanings.{IsSameValue, HasShortIntegers, Keeps, IsBeganFrom, IsRanFrom, IsStartMeant, IsCallMeant, MeansStart, MeansCall, KeepsOn, ShortIntegersAreKept}
+use Rattle.mw_kernel.specs.KernelAnswers.{kernel_value, EndsWithValue, EndsByTrap, EndsAtBound, IsKeptAs, IsBeganAs, IsStartOf, IsCallOf, AnswersStart, AnswersCall, call_end, IsStoreAfter, StoreAfterCall, IsSameFunction}
+use Rattle.mw_kernel.specs.KernelMeanings.{IsSameValue, Keeps, IsBeganFrom, IsRanFrom, IsStartMeant, IsCallMeant, MeansStart, MeansCall, KeepsOn, ShortIntegersAreKept}
 use Rattle.mw_kernel.specs.Invoking.{FitsWords}
 use Rattle.mw_kernel.specs.Answering.{FitsUnlessMemory}
 use Rattle.mw_kernel.proofs.WordEnds.{is_argument}
@@ -309,7 +308,7 @@ kept_on (Ok (ran.Value x left)) old new v units has fits h after same = λ f wor
     keeps_as old.wasm (store_of new) old.function old.argument old.result new f words
     record { wasm_is = same.wasm_is; store_is = refl; function_is = same.function_is; argument_is = same.argument_is; result_is = same.result_is } keeps.closed keeps.typed
     (λ g e cs are. onward old.result (ground_value_of x) left (call_end old g v units) (store_of new) (CallsAnswer (module_of old.wasm) g old.function f words cs) (h g e) (after g e)
-        (keeps.calls g e (record { argument = ground_value v; units = units } ∷ cs) (is_argument old.argument v has fits, are)).1)
+    (keeps.calls g e (record { argument = ground_value v; units = units } ∷ cs) (is_argument old.argument v has fits, are)).1)
 kept_on (Ok (ran.Function i left)) old new v units has fits h after same = tt
 kept_on (Ok (ran.Trap k)) old new v units has fits h after same = tt
 kept_on (Ok (ran.Bound l)) old new v units has fits h after same = tt

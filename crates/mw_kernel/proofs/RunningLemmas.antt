@@ -1,7 +1,7 @@
 -- Runs and calls, put together.
-use Rattle.std.proofs.Common.{◌≡◌, ℕ, ◌+◌, ◌≤◌, List, [], ◌∷◌, Option, Some, None, Result, Ok, Err, refl, sym, ap, ◌∙◌, subst, arith}
+use Rattle.std.proofs.Common.{◌≡◌, ℕ, ◌+◌, ◌≤◌, List, [], ◌∷◌, Option, Some, None, Result, Ok, Err, refl, sym, ◌∙◌, subst, arith}
 use Rattle.std.specs.Prelude.{codes}
-use Rattle.mw_term.specs.Terms.{GroundType, KernelType, PureGroundValue, of_ground, to, ground_value}
+use Rattle.mw_term.specs.Terms.{GroundType, KernelType, PureGroundValue, ground_value}
 use Rattle.mw_term.specs.declared.value.Limit.TheVariants.{Fuel, Heap, KernelSize}
 use Rattle.mw_meaning.specs.OutcomeLaws.{HasGroundType}
 use Rattle.mw_meaning.specs.Shapes.{Exports, HasShape, call_type, init_type}
@@ -12,7 +12,6 @@ use Rattle.mw_wasm.specs.declared.values.Value.{Value as WasmValue}
 use Rattle.mw_wasm.specs.Execution.{End}
 use Rattle.mw_wasm.specs.Instances.{Unfit, exported, instantiated, invoked}
 use Rattle.mw_wasm.specs.Store.{Store}
-use Rattle.mw_wasm.specs.Syntax.{PureModule}
 use Rattle.mw_wasm.specs.Validity.{IsValid}
 use Rattle.mw_wasm.specs.Views.{module_of}
 use Rattle.mw_exec.specs.Instancing.{first_store}
@@ -23,11 +22,11 @@ use Rattle.mw_kernel.specs.declared.fault.RunFault.TheVariants as fault
 use Rattle.mw_kernel.specs.declared.outcome.Outcome.{Outcome}
 use Rattle.mw_kernel.specs.declared.outcome.Outcome.TheVariants as outcome
 use Rattle.mw_kernel.specs.declared.running.Began.{Began}
-use Rattle.mw_kernel.specs.RunningStates.{RunningState, IsRunnable, IsStoreOf, IsInstanceOf, store_held, store_of}
-use Rattle.mw_kernel.specs.KernelAnswers.{AnswersStart, AnswersCall, IsStartOf, IsCallOf, IsKeptAs, StoreAfterCall, IsStoreAfter, StartLeavesAtMost, CallLeavesAtMost, call_end}
+use Rattle.mw_kernel.specs.RunningStates.{RunningState, IsRunnable, IsStoreOf, store_held, store_of}
+use Rattle.mw_kernel.specs.KernelAnswers.{AnswersStart, AnswersCall, StoreAfterCall, IsStoreAfter, StartLeavesAtMost, CallLeavesAtMost, call_end}
 use Rattle.mw_kernel.specs.Invoking.{GivesWord, EndsAsOutcome, LeavesStore}
 use Rattle.mw_kernel.specs.Answering.{IsAnswerOf, IsHeldAfter}
-use Rattle.mw_kernel.proofs.Units.{Leaves, invoked_leaves}
+use Rattle.mw_kernel.proofs.Units.{invoked_leaves}
 use Rattle.mw_kernel.proofs.WordEnds.{argument_types}
 use Rattle.mw_kernel.proofs.AnswerLemmas.{answer_is_call, store_after, first_is_store, start_left, call_left}
 

@@ -1,6 +1,6 @@
 -- What a run leaves: no more units than it had, and a memory of few pages.
-use Rattle.std.proofs.Common.{◌≡◌, ℕ, zero, suc, ◌+◌, ◌≤◌, ◌<◌, List, [], ◌∷◌, ◌++◌, Option, Some, None, refl, arith}
-use Rattle.std.specs.Prelude.{Bool, true, false, slice_get, slice_set, nat_le, nat_lt, min, unwrap_or, length, take}
+use Rattle.std.proofs.Common.{◌≡◌, ℕ, zero, suc, ◌+◌, ◌≤◌, ◌<◌, List, [], ◌∷◌, Option, Some, None, refl, arith}
+use Rattle.std.specs.Prelude.{Bool, true, false, slice_get, slice_set, nat_le, nat_lt, length}
 use Rattle.std.proofs.lemmas.Bool.{leb-true}
 use Rattle.mw_wasm.specs.declared.values.Value.{Value}
 use Rattle.mw_wasm.specs.declared.modules.FuncType.{FuncType}
@@ -9,7 +9,7 @@ use Rattle.mw_wasm.specs.Syntax.{Instruction, Code, end, next, unreachable, nop,
 use Rattle.mw_wasm.specs.Store.{Store, is_inside, load_size, store_type, store_size}
 use Rattle.mw_wasm.specs.NumericTypes.{operands_of}
 use Rattle.mw_wasm.specs.Numerics.{number_result}
-use Rattle.mw_wasm.specs.Act.{Act, gives, enters, calls, breaks, returns, traps, stuck, constant, same_type, most_pages, more_pages, grown, entered, called, called_at, act}
+use Rattle.mw_wasm.specs.Act.{Act, gives, enters, calls, breaks, returns, traps, stuck, constant, same_type, most_pages, grown, entered, called, called_at, act}
 use Rattle.mw_wasm.specs.Reduction.{plain, label, frame, Sequence, nothing, first, Step, goes, spends, finished, leaves, gives_back, traps_by, stuck_here, placed, in_label, in_frame, with_constant, step}
 use Rattle.mw_wasm.specs.Execution.{weight, End, ended, trapped, spent, lost, follow, execution}
 use Rattle.mw_wasm.specs.Instances.{on_found, where_they_fit, are_arguments, invocation, invoked}

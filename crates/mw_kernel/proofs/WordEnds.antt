@@ -1,15 +1,14 @@
 -- How invocations that give one word end.
-use Rattle.std.proofs.Common.{◌≡◌, ℕ, zero, suc, ◌+◌, ◌≤◌, List, [], ◌∷◌, ◌++◌, map, Option, Some, None, Result, Ok, Err, refl, sym, ap, ◌∙◌, subst, arith, zero-add}
+use Rattle.std.proofs.Common.{◌≡◌, ℕ, zero, suc, ◌+◌, ◌≤◌, List, [], ◌∷◌, ◌++◌, map, Option, Some, None, refl, sym, ap, ◌∙◌, subst, arith, zero-add}
 use Rattle.std.specs.Prelude.{slice_get, replicate}
-use Rattle.mw_term.specs.Terms.{GroundType, Value, PureGroundValue, base, product, int, bool, both, ground_value}
+use Rattle.mw_term.specs.Terms.{GroundType, PureGroundValue, base, product, int, bool, both, ground_value}
 use Rattle.mw_term.specs.declared.term.Base.TheVariants.{Int, Bool as Truth}
 use Rattle.mw_term.specs.declared.value.Limit.TheVariants.{Fuel, Heap, KernelSize}
 use Rattle.mw_term.specs.declared.value.TrapKind.TheVariants as kind
 use Rattle.mw_meaning.specs.OutcomeLaws.{HasGroundType}
-use Rattle.mw_meaning.specs.Shapes.{Exports, leaf_count}
+use Rattle.mw_meaning.specs.Shapes.{leaf_count}
 use Rattle.mw_meaning.specs.StandingFor.{IsArgument, leaves}
 use Rattle.mw_wasm.specs.declared.modules.Func.{Func}
-use Rattle.mw_wasm.specs.declared.modules.FuncType.{FuncType}
 use Rattle.mw_wasm.specs.declared.modules.Module.{Module}
 use Rattle.mw_wasm.specs.declared.values.Trap.{Trap}
 use Rattle.mw_wasm.specs.declared.values.Trap.TheVariants as traps

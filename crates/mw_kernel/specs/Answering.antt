@@ -1,5 +1,5 @@
 -- Answers by outcomes.
-use Rattle.std.specs.Prelude.{ℕ, ◌≡◌, ◌≤◌, Option, Some, None, Result, Ok, Err}
+use Rattle.std.specs.Prelude.{◌≡◌, ◌≤◌, Option, Some, None, Result, Ok, Err}
 use Rattle.mw_term.specs.Terms.{GroundType, PureGroundValue, ground_value_of}
 use Rattle.mw_term.specs.declared.value.Limit.TheVariants.{Fuel}
 use Rattle.mw_meaning.specs.Shapes.{IsWordOf}

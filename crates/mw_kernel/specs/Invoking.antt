@@ -1,5 +1,5 @@
 -- Invocations that give one word, on an instance.
-use Rattle.std.specs.Prelude.{ℕ, ◌+◌, ◌≡◌, if◌then◌else◌, List, [], ◌∷◌, map, Option, Some, None, Ok, FitsSigned}
+use Rattle.std.specs.Prelude.{ℕ, ◌+◌, ◌≡◌, if◌then◌else◌, List, [], ◌∷◌, map, Option, Some, None, FitsSigned}
 use Rattle.std.specs.Int.{w64}
 use Rattle.mw_term.specs.Terms.{GroundType, PureGroundValue, int, bool, both, ground_value_of}
 use Rattle.mw_term.specs.declared.value.GroundValue.{GroundValue}

@@ -1,5 +1,5 @@
 -- What an answer says of how the invocation of `init` or of `call` ends.
-use Rattle.std.specs.Prelude.{ℕ, ◌≡◌, ◌≤◌, List, [], ◌∷◌, Some, Result, Ok, Err, codes}
+use Rattle.std.specs.Prelude.{ℕ, ◌≡◌, ◌≤◌, [], ◌∷◌, Some, Result, Ok, Err, codes}
 use Rattle.mw_term.specs.Terms.{GroundType, KernelType, KernelValue, PureGroundValue, of_ground, to, int, bool, both, ground_value, ground_value_of}
 use Rattle.mw_term.specs.declared.value.Limit.{Limit}
 use Rattle.mw_term.specs.declared.value.Limit.TheVariants.{Fuel, Heap}

@@ -106,12 +106,7 @@ impl Running {
     }
 
     /// The call, as its module's `call` ends.
-    fn invoke(
-        &mut self,
-        alloc: Global,
-        argument: &GroundValue,
-        fuel: u64,
-    ) -> Result<Ran, RunFault>
+    fn invoke(&mut self, alloc: Global, argument: &GroundValue, fuel: u64) -> Result<Ran, RunFault>
         requires argument { HasGroundType self.old.argument (ground_value_of argument.now) }
         ensures answers { AnswersCall result self.old (ground_value_of argument.now) fuel }
         ensures store { StoreAfterCall result self.old self.new (ground_value_of argument.now) fuel }
@@ -139,12 +134,7 @@ fn unless_spent(instance: Instance, outcome: Outcome) -> Option<Instance>
 }
 
 /// The run, as its module's `init` ends.
-fn begin(
-    alloc: Global,
-    module: &Arc<Valid>,
-    kind: &KType,
-    fuel: u64,
-) -> Result<Began, RunFault>
+fn begin(alloc: Global, module: &Arc<Valid>, kind: &KType, fuel: u64) -> Result<Began, RunFault>
     requires { HasShape (module_of (arc_value «module».now)) (kernel_type_of kind.now) }
     ensures { AnswersStart result (arc_value «module».now) (kernel_type_of kind.now) fuel }
 {

@@ -60,7 +60,8 @@ fn called(alloc: Global, running: &mut Running, n: i64, fuel: u64) -> Result<Str
 
 #[test]
 fn starts(rt: HostRuntime) -> Result<(), AllocError> {
-    let eight = "Pair(Pair(Pair(Base(Int(32)), Base(Int(32))), Pair(Base(Int(32)), Base(Int(32)))), \
+    let eight =
+        "Pair(Pair(Pair(Base(Int(32)), Base(Int(32))), Pair(Base(Int(32)), Base(Int(32)))), \
         Pair(Pair(Base(Int(32)), Base(Int(32))), Pair(Base(Int(32)), Base(Int(32))))) 0";
     for (init, base, depth, fuel, text) in [
         (Init::Word(7), Base::Int, 0, 5, "Base(Int(7)) 5"),
@@ -68,11 +69,35 @@ fn starts(rt: HostRuntime) -> Result<(), AllocError> {
         (Init::Word(2), Base::Bool, 0, 0, "Bad"),
         (Init::Word(1), Base::Bool, 0, 0, "Base(Bool(true)) 0"),
         (Init::Word(0), Base::Bool, 0, 0, "Base(Bool(false)) 0"),
-        (Init::Word(18_446_744_073_709_551_615), Base::Int, 0, 0, "Base(Int(-1)) 0"),
-        (Init::Word(16), Base::Int, 1, 0, "Pair(Base(Int(1)), Base(Int(2))) 0"),
-        (Init::Word(65_520), Base::Int, 1, 0, "Pair(Base(Int(3)), Base(Int(0))) 0"),
+        (
+            Init::Word(18_446_744_073_709_551_615),
+            Base::Int,
+            0,
+            0,
+            "Base(Int(-1)) 0",
+        ),
+        (
+            Init::Word(16),
+            Base::Int,
+            1,
+            0,
+            "Pair(Base(Int(1)), Base(Int(2))) 0",
+        ),
+        (
+            Init::Word(65_520),
+            Base::Int,
+            1,
+            0,
+            "Pair(Base(Int(3)), Base(Int(0))) 0",
+        ),
         (Init::Word(65_521), Base::Int, 1, 0, "Bad"),
-        (Init::Word(18_446_744_073_709_551_615), Base::Int, 1, 0, "Bad"),
+        (
+            Init::Word(18_446_744_073_709_551_615),
+            Base::Int,
+            1,
+            0,
+            "Bad",
+        ),
         (Init::Word(16), Base::Bool, 1, 0, "Bad"),
         // A pair whose parts are the pair itself.
         (Init::Word(32), Base::Int, 3, 0, eight),
