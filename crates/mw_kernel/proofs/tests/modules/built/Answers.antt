@@ -1,13 +1,11 @@
-use Rattle.std.proofs.Common.{◌≡◌, ℕ, List, [], ◌∷◌, ◌++◌, Ok, Some, length, refl, sym, ◌∙◌, ap, subst, arith}
+use Rattle.std.proofs.Common.{◌≡◌, ℕ, List, [], ◌∷◌, ◌++◌, length, refl, sym, ◌∙◌, ap, subst, arith}
 use Rattle.std.proofs.lemmas.List.{length-map}
 use Rattle.mw_meaning.specs.Shapes.{init_type}
-use Rattle.mw_term.specs.declared.term.Base.TheVariants.{Int}
-use Rattle.mw_term.specs.Terms.{base}
 use Rattle.mw_wasm.specs.declared.modules.FuncType.{FuncType}
 use Rattle.mw_wasm.specs.declared.modules.Module.{Module}
 use Rattle.mw_wasm.specs.declared.values.ValType.{ValType}
 use Rattle.mw_wasm.specs.declared.values.ValType.TheVariants.{I32, I64}
-use Rattle.mw_wasm.specs.Syntax.{Instruction, Code, next, PureModule}
+use Rattle.mw_wasm.specs.Syntax.{Instruction, Code, next}
 use Rattle.mw_wasm.specs.Validity.{Context, HasType, CodeHasType, of_end, of_next, of_call, of_drop, of_local_get, of_const_i32, of_load, of_store, of_numeric, context_of, IsValid}
 use Rattle.mw_wasm.specs.Views.{code_of, element_of, module_of, segment_of}
 use Rattle.mw_validate.specs.Kept.{IsKept}
