@@ -1,0 +1,5 @@
+pub mod Units
+pub mod WordEnds
+pub mod AnswerLemmas
+pub mod MeaningLemmas
+pub mod RunningLemmas

@@ -1,0 +1,7 @@
+pub mod GroundCodes
+pub mod RunningStates
+pub mod KernelAnswers
+pub mod KernelMeanings
+pub mod Invoking
+pub mod Answering
+pub mod TestModules

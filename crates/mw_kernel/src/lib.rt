@@ -1,0 +1,15 @@
+//! Kernels that run: the `init` of a module on an instance of it, and calls of the function that it gave.
+#![tactic(auto)]
+
+mod arguments;
+mod copy;
+mod fault;
+pub mod laws;
+mod outcome;
+mod reading;
+mod running;
+#[cfg(test)]
+mod tests;
+
+pub use crate::fault::RunFault;
+pub use crate::running::{Began, Running};

@@ -1,0 +1,4 @@
+// Runs and calls of a module that was written by hand, by tables.
+
+mod modules;
+mod runs;
