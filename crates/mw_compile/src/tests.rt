@@ -19,10 +19,16 @@ use std::sync::ledger::{Blank, Ledger};
 
 /// The texts of the codes, at their types.
 const CUBE_TEXT: &str = "emit2 to int int fun mul v 0 mul v 0 mul v 0 i 1";
+
 const DOWN_TEXT: &str = "emit2 to int int let rec if eq v 0 i 0 i 0 app v 1 sub v 0 i 1 v 0";
-const TWO_FREE_TEXT: &str = "emit2 to int int fun let add v 0 i 1 app rec if eq v 0 i 0 v 3 add v 2 app v 1 sub v 0 i 1 v 1";
+
+const TWO_FREE_TEXT: &str =
+    "emit2 to int int fun let add v 0 i 1 app rec if eq v 0 i 0 v 3 add v 2 app v 1 sub v 0 i 1 v 1";
+
 const SEVEN_TEXT: &str = "emit2 int i 7";
+
 const LET_IN_LET_TEXT: &str = "emit2 int let let i 1 add v 0 i 2 add v 0 v 0";
+
 const SWAP_TEXT: &str = "emit2 to pair int int pair int int fun pair snd v 0 fst v 0";
 
 /// The type int.
@@ -54,7 +60,14 @@ fn functions<L: Ledger>(alloc: Global, steps: &mut Steps<L>) -> Result<[bool; 3]
     let kind = KType::Fun(INT, INT);
     let first = is_emitted(alloc, &cube(alloc)?, &kind, steps, CUBE_TEXT, &CUBE)?;
     let second = is_emitted(alloc, &down(alloc)?, &kind, steps, DOWN_TEXT, &DOWN)?;
-    let third = is_emitted(alloc, &two_free(alloc)?, &kind, steps, TWO_FREE_TEXT, &TWO_FREE)?;
+    let third = is_emitted(
+        alloc,
+        &two_free(alloc)?,
+        &kind,
+        steps,
+        TWO_FREE_TEXT,
+        &TWO_FREE,
+    )?;
     Ok([first, second, third])
 }
 
@@ -64,7 +77,14 @@ fn numbers<L: Ledger>(alloc: Global, steps: &mut Steps<L>) -> Result<[bool; 2], 
 {
     let kind = KType::Ground(INT);
     let first = is_emitted(alloc, &Term::Int(7), &kind, steps, SEVEN_TEXT, &SEVEN)?;
-    let second = is_emitted(alloc, &let_in_let(alloc)?, &kind, steps, LET_IN_LET_TEXT, &LET_IN_LET)?;
+    let second = is_emitted(
+        alloc,
+        &let_in_let(alloc)?,
+        &kind,
+        steps,
+        LET_IN_LET_TEXT,
+        &LET_IN_LET,
+    )?;
     Ok([first, second])
 }
 

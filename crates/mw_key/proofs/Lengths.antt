@@ -49,13 +49,25 @@ code_length (fun e) k closed fits low = omega (arith, code_length e (suc k) clos
 code_length (fix e) k closed fits low = omega (arith, code_length e (suc (suc k)) closed fits (omega arith))
 code_length (app f a) k closed fits low = omega (arith, length-append (codes " app" ++ code_words f) (code_words a), code_length f k closed.0 fits.0 (omega arith), code_length a k closed.1 fits.1 (omega arith))
 code_length (bind d e) k closed fits low = omega (arith, length-append (codes " let" ++ code_words d) (code_words e), code_length d k closed.0 fits.0 (omega arith), code_length e (suc k) closed.1 fits.1 (omega arith))
-code_length (cond c a b) k closed fits low = omega (arith, length-append (codes " if" ++ code_words c ++ code_words a) (code_words b), length-append (codes " if" ++ code_words c) (code_words a),
-    code_length c k closed.0 fits.0 (omega arith), code_length a k closed.1.0 fits.1.0 (omega arith), code_length b k closed.1.1 fits.1.1 (omega arith))
+code_length (cond c a b) k closed fits low = omega (
+  arith,
+  length-append (codes " if" ++ code_words c ++ code_words a) (code_words b),
+  length-append (codes " if" ++ code_words c) (code_words a),
+  code_length c k closed.0 fits.0 (omega arith),
+  code_length a k closed.1.0 fits.1.0 (omega arith),
+  code_length b k closed.1.1 fits.1.1 (omega arith),
+)
 code_length (pair a b) k closed fits low = omega (arith, length-append (codes " pair" ++ code_words a) (code_words b), code_length a k closed.0 fits.0 (omega arith), code_length b k closed.1 fits.1 (omega arith))
 code_length (fst e) k closed fits low = omega (arith, code_length e k closed fits (omega arith))
 code_length (snd e) k closed fits low = omega (arith, code_length e k closed fits (omega arith))
-code_length (prim p a b) k closed fits low = omega (arith, length-append (primitive_word p ++ code_words a) (code_words b), length-append (primitive_word p) (code_words a), primitive_length p,
-    code_length a k closed.0 fits.0 (omega arith), code_length b k closed.1 fits.1 (omega arith))
+code_length (prim p a b) k closed fits low = omega (
+  arith,
+  length-append (primitive_word p ++ code_words a) (code_words b),
+  length-append (primitive_word p) (code_words a),
+  primitive_length p,
+  code_length a k closed.0 fits.0 (omega arith),
+  code_length b k closed.1 fits.1 (omega arith),
+)
 code_length (glob i) k closed fits low = omega arith
 code_length (bracket e) k closed fits low = omega arith
 code_length (escape e) k closed fits low = omega arith
