@@ -55,7 +55,7 @@ literals_to (fun e) h = literals_to e h
 literals_to (fix e) h = literals_to e h
 literals_to (app f a) h = (literals_to f h.0, literals_to a h.1)
 literals_to (bind d e) h = (literals_to d h.0, literals_to e h.1)
-literals_to (cond c a b) h = (literals_to c h.0, literals_to a h.1.0, literals_to b h.1.1)
+literals_to (cond c a b) h = (literals_to c h.0, literals_to a h.1, literals_to b h.2)
 literals_to (pair a b) h = (literals_to a h.0, literals_to b h.1)
 literals_to (fst e) h = literals_to e h
 literals_to (snd e) h = literals_to e h
@@ -78,7 +78,7 @@ literals_from (fun e) h = literals_from e h
 literals_from (fix e) h = literals_from e h
 literals_from (app f a) h = (literals_from f h.0, literals_from a h.1)
 literals_from (bind d e) h = (literals_from d h.0, literals_from e h.1)
-literals_from (cond c a b) h = (literals_from c h.0, literals_from a h.1.0, literals_from b h.1.1)
+literals_from (cond c a b) h = (literals_from c h.0, literals_from a h.1, literals_from b h.2)
 literals_from (pair a b) h = (literals_from a h.0, literals_from b h.1)
 literals_from (fst e) h = literals_from e h
 literals_from (snd e) h = literals_from e h
@@ -117,7 +117,7 @@ pub one_emission : OneEmission
 one_emission text first second x y =
     let same = one_text text x.version y.version x.code y.code x.kind y.kind x.is_text y.is_text in
     x.is_emission ∙ (ap (λ v. emission (version_of v) x.code x.kind) same.0
-    ∙ (ap (λ c. emission (version_of y.version) c x.kind) same.1.0 ∙ (ap (λ k. emission (version_of y.version) y.code k) same.1.1 ∙ sym y.is_emission)))
+    ∙ (ap (λ c. emission (version_of y.version) c x.kind) same.1 ∙ (ap (λ k. emission (version_of y.version) y.code k) same.2 ∙ sym y.is_emission)))
 
 -- an emitted module has at most one element segment, and no data segment
 few_elements : (n : ℕ) → length (elements_of n) < 2 ^ 32

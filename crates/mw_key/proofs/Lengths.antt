@@ -54,8 +54,8 @@ code_length (cond c a b) k closed fits low = omega (
   length-append (codes " if" ++ code_words c ++ code_words a) (code_words b),
   length-append (codes " if" ++ code_words c) (code_words a),
   code_length c k closed.0 fits.0 (omega arith),
-  code_length a k closed.1.0 fits.1.0 (omega arith),
-  code_length b k closed.1.1 fits.1.1 (omega arith),
+  code_length a k closed.1 fits.1 (omega arith),
+  code_length b k closed.2 fits.2 (omega arith),
 )
 code_length (pair a b) k closed fits low = omega (arith, length-append (codes " pair" ++ code_words a) (code_words b), code_length a k closed.0 fits.0 (omega arith), code_length b k closed.1 fits.1 (omega arith))
 code_length (fst e) k closed fits low = omega (arith, code_length e k closed fits (omega arith))
