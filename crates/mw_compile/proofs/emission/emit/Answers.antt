@@ -23,8 +23,8 @@ invariant_of-result g c =
     c.requires.code c.requires.closed c.in_ok-converted.ensures.literals c.requires.limits c.requires.nodes
     c.in_ok-text.ensures made c.in_ok-bytes.ensures.exact (c.in_ok-new.ensures.ok ∙ c.sure.ensures))
 
-pub returns-in_ok-new-clause-entry : goal.returns-in_ok-new-clause-entry
-returns-in_ok-new-clause-entry g c =
+pub returns-clause-entry : goal.returns-clause-entry
+returns-clause-entry g c =
     let code = expression_of c.args.code.now in
     let kind = kernel_type_of c.args.kind.now in
     let made = c.in_ok-wasm.ensures.generated ∙ generated_is_emitted two code kind c.in_ok-converted.converted c.in_ok-converted.ensures.functions c.in_ok-converted.ensures.body in
