@@ -122,7 +122,7 @@ const PRINTED: [&str; 12] = [
     "(((bool)*int)*(int*int))*int->(int*(int*int))*int => ((bool * int) * int * int) * int -> (int * int * int) * int",
 ];
 
-/// The first line of a kernel item of this type.
+/// The lines of a kernel item of this type, with a key of one byte and a module of two.
 fn printed(alloc: Global, kernel_type: &str) -> Result<String, Fail> {
     let source = format!(in alloc; "kernel k : {kernel_type} = 1 ;; main : int = 1")?;
     let tree = match surface(alloc, source.as_bytes()) {
@@ -137,6 +137,7 @@ fn printed(alloc: Global, kernel_type: &str) -> Result<String, Fail> {
                 &mut text,
                 placed.name.as_slice(),
                 kind,
+                &[0x07],
                 &[0x0a, 0xff],
             )?;
         }
@@ -149,7 +150,7 @@ fn kernel_types_are_printed_in_their_words(rt: HostRuntime) -> Result<(), Fail> 
     let alloc = rt.alloc();
     for row in PRINTED {
         let (kernel_type, words) = parts(row)?;
-        let wanted = format!(in alloc; "kernel k : {words}\nmodule 0aff\n")?;
+        let wanted = format!(in alloc; "kernel k : {words}\nkey 07\nmodule 0aff\n")?;
         let found = printed(alloc, kernel_type)?;
         assert_eq!(rt; found.as_str(), wanted.as_str(), "{kernel_type}");
     }

@@ -33,10 +33,10 @@ returns-in_ok-push-in-Ok-clause-run g t c =
     let kind = kernel_type_of c.in-Kernel.kind in
     let put = rw c.as_slice-in-Ok.ensures at c.in_ok-put_kernel-in-Ok.ensures in
     let int = first_kind c.args.items.now c.item-item.result _ c.in-Kernel.kind c.in-Kernel.term e c.requires.items c.in-Kernel.is in
-    let key = c.digest.ensures ∙ (ap sha256 c.text.ensures.text ∙ printed_key c.in-Ok.entry kind c.in-Ok.ensures.entry.0 int) in
-    let bytes = c.bytes.ensures.bytes ∙ printed_bytes c.in-Ok.entry kind c.in-Ok.ensures.entry.0 int in
+    let key = c.digest-key.ensures ∙ (ap sha256 c.text.ensures.text ∙ printed_key c.in-Ok.entry kind c.in-Ok.ensures.entry.0 int) in
+    let bytes = c.bytes-bytes.ensures.bytes ∙ printed_bytes c.in-Ok.entry kind c.in-Ok.ensures.entry.0 int in
     let name = c.item-item.result.name in
-    let text = put ∙ (ap (λ k. c.args.text.now.items ++ kernel_text name kind k c.bytes.result.now) key ∙ ap (λ b. c.args.text.now.items ++ kernel_text name kind (key_of (expression_of c.in-Ok.entry.code) kind) b) bytes) in
+    let text = put ∙ (ap (λ k. c.args.text.now.items ++ kernel_text name kind k c.bytes-bytes.result.now) key ∙ ap (λ b. c.args.text.now.items ++ kernel_text name kind (key_of (expression_of c.in-Ok.entry.code) kind) b) bytes) in
     on_ok c.run_items.result
     (λ s r. more_runs all (expression_of c.args.body.now) c.args.entries.now.items c.push.new.self.items c.args.items.now c.item-item.result _ (expression_of c.in-Kernel.term) kind c.in-Ok.entry
     c.args.text.now.items c.put_kernel.new.text.items c.run_items.new.text.items s e x is c.in-Ok.ensures.entry text r)
