@@ -3,7 +3,7 @@ use Rattle.std.proofs.Common.{◌≡◌, ℕ, suc, ◌<◌, Bool, false, List, [
 use Rattle.mw_lex.specs.Tokens.{Symbol, true_word, false_word, mod_word, bracket_left, escape_mark, paren_left, equal, less_equal, less, plus, minus, star, slash, and_mark, or_mark, word, number, PureToken, token}
 use Rattle.mw_grammar.specs.SurfaceTrees.{SurfaceTree}
 use Rattle.mw_grammar.specs.SourceNodes.{Nodes, none, node, both}
-use Rattle.mw_grammar.specs.Grammar.{Row, sum, product, application, Level, expr, disjunction, conjunction, comparison, row, head, atom, Nonterminal, program, item, parameter, body, tree, kernel_type, ground, part, base, Meaning, right}
+use Rattle.mw_grammar.specs.Grammar.{Row, sum, product, application, Precedence, expr, disjunction, conjunction, comparison, row, head, atom, Nonterminal, program, item, parameter, body, tree, kernel_type, ground, part, base, Meaning, right}
 use Rattle.mw_grammar.specs.Forms.{Expected, star_next, arrow_next, symbol, is, Form, gives, refuses, skip, under, expect, reads, pick, option, more, Op, operated, operator, opens, form}
 
 -- what stands before, under the same node
@@ -49,7 +49,7 @@ force_of [] = 0
 force_of (token a b k ∷ ts) = force k
 
 -- a next token below this ends the expression
-abbrev pub strength : Level → ℕ
+abbrev pub strength : Precedence → ℕ
 strength expr = 1
 strength disjunction = 1
 strength conjunction = 2

@@ -5,7 +5,7 @@ use Rattle.mw_term.specs.Terms.{GroundType, base as ground_base}
 use Rattle.mw_grammar.specs.SurfaceTrees.{SurfaceTree, PureItem, PureSurface}
 use Rattle.mw_grammar.specs.SourceNodes.{Nodes, node}
 use Rattle.mw_grammar.specs.Grammar
-use Rattle.mw_grammar.specs.Grammar.{Mark, by_arrow, by_equal, Row, sum, product, application, Level, expr, disjunction, conjunction, comparison, row, head, atom, Nonterminal, program, item, parameter, body, tree, kernel_type, ground, part, base, Definition, define, Abstraction, abstract, Meaning, Reads, More, right, operand, equal_sign, less_sign, less_equal_sign, fst_head, snd_head, not_head, close_head, open_head, lift_head, lift_b_head, r_main, r_program, r_let_item, r_rec_item, r_kernel, r_let, r_let_rec, r_fun, r_if, r_expr, r_parameter, r_body, r_mark, r_or, r_disjunction, r_and, r_conjunction, r_compare, r_comparison, r_row, r_head, r_run, r_atom, r_name, r_number, r_true, r_false, r_minus, r_paren, r_pair, r_bracket, r_escape, r_ground_kernel, r_arrow, r_star, r_part, r_base_part, r_ground_paren, r_int, r_bool}
+use Rattle.mw_grammar.specs.Grammar.{Mark, by_arrow, by_equal, Row, sum, product, application, Precedence, expr, disjunction, conjunction, comparison, row, head, atom, Nonterminal, program, item, parameter, body, tree, kernel_type, ground, part, base, Definition, define, Abstraction, abstract, Meaning, Reads, More, right, operand, equal_sign, less_sign, less_equal_sign, fst_head, snd_head, not_head, close_head, open_head, lift_head, lift_b_head, r_main, r_program, r_let_item, r_rec_item, r_kernel, r_let, r_let_rec, r_fun, r_if, r_expr, r_parameter, r_body, r_mark, r_or, r_disjunction, r_and, r_conjunction, r_compare, r_comparison, r_row, r_head, r_run, r_atom, r_name, r_number, r_true, r_false, r_minus, r_paren, r_pair, r_bracket, r_escape, r_ground_kernel, r_arrow, r_star, r_part, r_base_part, r_ground_paren, r_int, r_bool}
 use Rattle.mw_grammar.specs.Forms.{gives, reads, pick, form, program_by, rec_item, let_by, kernel_by, item_by, parameter_by, behind_mark, body_by, rec_by, let_in_by, expr_by, head_by, minus_by, behind_first, paren_by, atom_by, part_by, base_by}
 use Rattle.mw_grammar.proofs.Derivations.{empty, some}
 use Rattle.mw_grammar.proofs.Samples.{Read, d_gives, d_skip, d_under, d_expect, d_reads, d_pick, d_yes, d_no, d_more, no_refuses}
@@ -58,7 +58,7 @@ fold_let_in a a' (token b b' (word x)) (d_skip (d_reads {u = define from d} h (d
 fold_let_in a a' (token b b' rec_word) (d_skip (d_pick {t = t} h)) = fold_rec a a' b b' t h
 fold_let_in a a' (token b b' _) h = absurd (no_refuses h)
 
-passed : {l m : Level} {ts rest : List PureToken} {v : SurfaceTree} {s : Nodes} → Read (tree l) (reads (tree m) λ e. gives e) empty ts v s rest → Reads (tree m) ts v s rest
+passed : {l m : Precedence} {ts rest : List PureToken} {v : SurfaceTree} {s : Nodes} → Read (tree l) (reads (tree m) λ e. gives e) empty ts v s rest → Reads (tree m) ts v s rest
 passed (d_reads h d_gives) = h
 
 fold_expr : (t : PureToken) {ts rest : List PureToken} {v : SurfaceTree} {s : Nodes} → Read (tree expr) (expr_by t) empty (t ∷ ts) v s rest → Reads (tree expr) (t ∷ ts) v s rest

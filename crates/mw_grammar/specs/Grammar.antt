@@ -42,21 +42,21 @@ pub data Row : Type 0 where
   application : Row
 
 -- the nonterminals of expressions
-pub data Level : Type 0 where
-  expr : Level
-  disjunction : Level
-  conjunction : Level
-  comparison : Level
-  row : (w : Row) → Level
-  head : Level
-  atom : Level
+pub data Precedence : Type 0 where
+  expr : Precedence
+  disjunction : Precedence
+  conjunction : Precedence
+  comparison : Precedence
+  row : (w : Row) → Precedence
+  head : Precedence
+  atom : Precedence
 
 pub data Nonterminal : Type 0 where
   program : Nonterminal
   item : Nonterminal
   parameter : (m : Mark) → Nonterminal
   body : (m : Mark) → Nonterminal
-  tree : (l : Level) → Nonterminal
+  tree : (l : Precedence) → Nonterminal
   kernel_type : Nonterminal
   ground : Nonterminal
   part : Nonterminal
@@ -109,12 +109,12 @@ pub data Sign : Row → Symbol → Primitive → Type 0 where
   mod_sign : Sign product mod_word Mod
 
 -- the operands of a row, and what stands behind its operators
-abbrev pub operand : Row → Level
+abbrev pub operand : Row → Precedence
 operand sum = row product
 operand product = row application
 operand application = head
 
-abbrev pub right : Row → Level
+abbrev pub right : Row → Precedence
 right sum = row product
 right product = row application
 right application = atom
