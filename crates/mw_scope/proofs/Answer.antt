@@ -8,7 +8,7 @@ use Rattle.mw_term.specs.declared.refusal.Stop.TheVariants.{Refused}
 use Rattle.mw_term.specs.Programs.{PureProgram, program_of}
 use Rattle.mw_scope.specs.Resolving.{IsProgramOrMemory, IsRefusalOrMemory, IsOfFirstFault}
 use Rattle.mw_grammar.specs.SurfaceTrees.{PureSurface}
-use Rattle.mw_scope.specs.declared.level.Level.TheVariants.{Zero}
+use Rattle.mw_scope.specs.declared.level.Level.TheVariants.{Live}
 use Rattle.mw_scope.specs.declared.fault.Fault.{Fault}
 use Rattle.mw_scope.specs.declared.names.Names.{Names}
 use Rattle.mw_scope.specs.Scopes.{items_of}
@@ -24,13 +24,13 @@ pub all_known : {names : Names} (s : PureSurface) → Knows names s.items → pl
 all_known s knows = fun_ext (λ x. knows.all x)
 
 -- the fault that is kept of the items and of main in turn
-pub kept_of_all : (s : PureSurface) (names : Names) (middle first : Option Fault) → Knows names s.items → middle ≡ kept None (faults_of_items [] s.items) → first ≡ kept middle (faults_in (place_at names.all) [] Zero s.body) → first ≡ kept None (faults_of s)
+pub kept_of_all : (s : PureSurface) (names : Names) (middle first : Option Fault) → Knows names s.items → middle ≡ kept None (faults_of_items [] s.items) → first ≡ kept middle (faults_in (place_at names.all) [] Live s.body) → first ≡ kept None (faults_of s)
 kept_of_all s names middle first knows items body =
-    let here : first ≡ kept middle (faults_in (items_of s.items) [] Zero s.body) = body ∙ ap (λ tops. kept middle (faults_in tops [] Zero s.body)) (all_known s knows) in
-    kept_two None middle first (faults_of_items [] s.items) (faults_in (items_of s.items) [] Zero s.body) items here
+    let here : first ≡ kept middle (faults_in (items_of s.items) [] Live s.body) = body ∙ ap (λ tops. kept middle (faults_in tops [] Live s.body)) (all_known s knows) in
+    kept_two None middle first (faults_of_items [] s.items) (faults_in (items_of s.items) [] Live s.body) items here
 
-pub body_named : (s : PureSurface) (names : Names) → Knows names s.items → named (place_at names.all) [] Zero s.body ≡ named (items_of s.items) [] Zero s.body
-body_named s names knows = ap (λ tops. named tops [] Zero s.body) (all_known s knows)
+pub body_named : (s : PureSurface) (names : Names) → Knows names s.items → named (place_at names.all) [] Live s.body ≡ named (items_of s.items) [] Live s.body
+body_named s names knows = ap (λ tops. named tops [] Live s.body) (all_known s knows)
 
 pub no_fault_found : (s : PureSurface) → None ≡ kept None (faults_of s) → faults_of s ≡ []
 no_fault_found s e = none_kept (faults_of s) (sym e)

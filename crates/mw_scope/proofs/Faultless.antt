@@ -4,7 +4,7 @@ use Rattle.mw_term.specs.Terms.{Expression}
 use Rattle.mw_term.specs.Terms as nameless
 use Rattle.mw_grammar.specs.SurfaceTrees.{SurfaceTree, num, truth, used, fun, fix, app, bind, cond, pair, fst, snd, prim, bracket, escape, run, close, opened, lift, lift_b}
 use Rattle.mw_scope.specs.declared.level.Level.{Level}
-use Rattle.mw_scope.specs.declared.level.Level.TheVariants.{Zero, One}
+use Rattle.mw_scope.specs.declared.level.Level.TheVariants.{Live, Quoted}
 use Rattle.mw_scope.specs.declared.fault.Fault.{Fault}
 use Rattle.mw_scope.specs.Scopes.{Binder, nearest, Tops}
 use Rattle.mw_scope.specs.Nameless.{Nameless, n_num, n_truth, n_var, n_glob, n_fun, n_fix, n_app, n_bind, n_cond, n_pair, n_fst, n_snd, n_prim, n_bracket, n_escape, n_run, n_close, n_open, n_lift, n_lift_b}
@@ -31,20 +31,20 @@ pub empty_both : {fs gs : List Fault} → fs ≡ [] → gs ≡ [] → fs ++ gs �
 empty_both e h = rw (e, h) refl
 
 same_level : (l m : Level) (at : ℕ) → only_at l m at ≡ [] → l ≡ m
-same_level Zero Zero at e = refl
-same_level Zero One at e = no_cons _ _ e
-same_level One Zero at e = no_cons _ _ e
-same_level One One at e = refl
+same_level Live Live at e = refl
+same_level Live Quoted at e = no_cons _ _ e
+same_level Quoted Live at e = no_cons _ _ e
+same_level Quoted Quoted at e = refl
 
 at_own_level : (m : Level) (at : ℕ) → only_at m m at ≡ []
-at_own_level Zero at = refl
-at_own_level One at = refl
+at_own_level Live at = refl
+at_own_level Quoted at = refl
 
 -- a tree without faults is what the walk builds
 faultless_use : (tops : Tops) (g : List Binder) (m : Level) (x : List ℕ) (at : ℕ) (o : Option (ℕ × Level)) (i : Option ℕ) → nearest g x ≡ o → tops x ≡ i → faults_of_use o i m at ≡ [] → Nameless tops g m (used x at) (named_use o i)
 faultless_use tops g m x at (Some p) i e h f = n_var (e ∙ ap (λ l. Some (p.0, l)) (same_level p.1 m at f))
-faultless_use tops g Zero x at None (Some i) e h f = n_glob e h
-faultless_use tops g One x at None (Some i) e h f = no_cons _ _ f
+faultless_use tops g Live x at None (Some i) e h f = n_glob e h
+faultless_use tops g Quoted x at None (Some i) e h f = no_cons _ _ f
 faultless_use tops g m x at None None e h f = no_cons _ _ f
 
 pub faultless : (tops : Tops) (g : List Binder) (m : Level) (t : SurfaceTree) → faults_in tops g m t ≡ [] → Nameless tops g m t (named tops g m t)
@@ -62,27 +62,27 @@ faultless tops g m (pair s t) e = n_pair (faultless tops g m s (empty_left _ _ e
 faultless tops g m (fst t) e = n_fst (faultless tops g m t e)
 faultless tops g m (snd t) e = n_snd (faultless tops g m t e)
 faultless tops g m (prim p s t) e = n_prim (faultless tops g m s (empty_left _ _ e)) (faultless tops g m t (empty_right (faults_in tops g m s) _ e))
-faultless tops g Zero (bracket at t) e = n_bracket (faultless tops g One t e)
-faultless tops g One (bracket at t) e = no_cons _ _ e
-faultless tops g Zero (escape at t) e = no_cons _ _ e
-faultless tops g One (escape at t) e = n_escape (faultless tops g Zero t e)
-faultless tops g Zero (run at k t) e = n_run (faultless tops g Zero t e)
-faultless tops g One (run at k t) e = no_cons _ _ e
-faultless tops g Zero (close at t) e = n_close (faultless tops g Zero t e)
-faultless tops g One (close at t) e = no_cons _ _ e
-faultless tops g Zero (opened at t) e = n_open (faultless tops g Zero t e)
-faultless tops g One (opened at t) e = no_cons _ _ e
-faultless tops g Zero (lift at t) e = n_lift (faultless tops g Zero t e)
-faultless tops g One (lift at t) e = no_cons _ _ e
-faultless tops g Zero (lift_b at t) e = n_lift_b (faultless tops g Zero t e)
-faultless tops g One (lift_b at t) e = no_cons _ _ e
+faultless tops g Live (bracket at t) e = n_bracket (faultless tops g Quoted t e)
+faultless tops g Quoted (bracket at t) e = no_cons _ _ e
+faultless tops g Live (escape at t) e = no_cons _ _ e
+faultless tops g Quoted (escape at t) e = n_escape (faultless tops g Live t e)
+faultless tops g Live (run at k t) e = n_run (faultless tops g Live t e)
+faultless tops g Quoted (run at k t) e = no_cons _ _ e
+faultless tops g Live (close at t) e = n_close (faultless tops g Live t e)
+faultless tops g Quoted (close at t) e = no_cons _ _ e
+faultless tops g Live (opened at t) e = n_open (faultless tops g Live t e)
+faultless tops g Quoted (opened at t) e = no_cons _ _ e
+faultless tops g Live (lift at t) e = n_lift (faultless tops g Live t e)
+faultless tops g Quoted (lift at t) e = no_cons _ _ e
+faultless tops g Live (lift_b at t) e = n_lift_b (faultless tops g Live t e)
+faultless tops g Quoted (lift_b at t) e = no_cons _ _ e
 
 -- a tree that is some expression has no fault
 pub has_no_fault : {tops : Tops} {g : List Binder} {m : Level} {t : SurfaceTree} {e : Expression} → Nameless tops g m t e → faults_in tops g m t ≡ []
 has_no_fault n_num = refl
 has_no_fault n_truth = refl
 has_no_fault {tops = tops} {m = m} (n_var {x = x} {at = at} h) = ap (λ o. faults_of_use o (tops x) m at) h ∙ at_own_level m at
-has_no_fault {tops = tops} (n_glob {x = x} {at = at} h i) = ap (λ o. faults_of_use o (tops x) Zero at) h ∙ ap (λ o. faults_of_use None o Zero at) i
+has_no_fault {tops = tops} (n_glob {x = x} {at = at} h i) = ap (λ o. faults_of_use o (tops x) Live at) h ∙ ap (λ o. faults_of_use None o Live at) i
 has_no_fault (n_fun d) = has_no_fault d
 has_no_fault (n_fix d) = has_no_fault d
 has_no_fault (n_app c d) = empty_both (has_no_fault c) (has_no_fault d)

@@ -3,7 +3,7 @@ use Rattle.std.proofs.Common.{◌≡◌, ℕ, Bool, true, false, List, [], ◌�
 use Rattle.std.specs.Prelude.{IsTrue}
 use Rattle.mw_term.specs.Programs.{Definition, value, kernel, PureProgram}
 use Rattle.mw_grammar.specs.SurfaceTrees.{PureItem, let_item, kernel_item, PureSurface}
-use Rattle.mw_scope.specs.declared.level.Level.TheVariants.{Zero}
+use Rattle.mw_scope.specs.declared.level.Level.TheVariants.{Live}
 use Rattle.mw_scope.specs.Scopes.{name_of, lets_of, items_of}
 use Rattle.mw_scope.specs.Nameless.{is_value, NamelessItem, a_let, a_kernel, NamelessItems, no_item, an_item, IsNameless}
 use Rattle.mw_scope.specs.Faults.{faults_in, faults_of_name, faults_of_value, faults_of_item, faults_of_items, faults_of}
@@ -31,9 +31,9 @@ faultless_name before (kernel_item x at k t) e = name_is_new _ at (empty_left _ 
 
 faultless_item : (before : List PureItem) (item : PureItem) → faults_of_item (lets_of before) (items_of before) item ≡ [] → NamelessItem before item (named_item (lets_of before) item)
 faultless_item before (let_item x at from t) e =
-    let more : faults_of_value (is_value t) from ++ faults_in (lets_of before) [] Zero t ≡ [] = empty_right (faults_of_name (items_of before x) at) _ e in
-    a_let (is_a_value (is_value t) from (empty_left _ _ more)) (faultless (lets_of before) [] Zero t (empty_right (faults_of_value (is_value t) from) _ more))
-faultless_item before (kernel_item x at k t) e = a_kernel (faultless (lets_of before) [] Zero t (empty_right (faults_of_name (items_of before x) at) _ e))
+    let more : faults_of_value (is_value t) from ++ faults_in (lets_of before) [] Live t ≡ [] = empty_right (faults_of_name (items_of before x) at) _ e in
+    a_let (is_a_value (is_value t) from (empty_left _ _ more)) (faultless (lets_of before) [] Live t (empty_right (faults_of_value (is_value t) from) _ more))
+faultless_item before (kernel_item x at k t) e = a_kernel (faultless (lets_of before) [] Live t (empty_right (faults_of_name (items_of before x) at) _ e))
 
 faultless_items : (before items : List PureItem) → faults_of_items before items ≡ [] → NamelessItems before items (named_items before items)
 faultless_items before [] e = no_item
@@ -45,7 +45,7 @@ pub faultless_program : (s : PureSurface) → faults_of s ≡ [] → IsNameless 
 faultless_program s e = record {
   items = faultless_items [] s.items (empty_left _ _ e);
   result = refl;
-  body = faultless (items_of s.items) [] Zero s.body (empty_right (faults_of_items [] s.items) _ e);
+  body = faultless (items_of s.items) [] Live s.body (empty_right (faults_of_items [] s.items) _ e);
 }
 
 item_has_no_fault : {before : List PureItem} {item : PureItem} {d : Definition} → items_of before (name_of item) ≡ None → NamelessItem before item d → faults_of_item (lets_of before) (items_of before) item ≡ []

@@ -8,9 +8,9 @@ use Rattle.std.proofs.lemmas.Option.{same_Some, none-some}
 use Rattle.mw_term.specs.Terms as nameless
 use Rattle.mw_grammar.specs.SurfaceTrees.{SurfaceTree, num, truth, used, fun, fix, app, bind, cond as cond_tree, pair, fst, snd, prim, bracket, escape, run, close, opened, lift, lift_b}
 use Rattle.mw_scope.specs.declared.level.Level.{Level}
-use Rattle.mw_scope.specs.declared.level.Level.TheVariants.{Zero, One}
+use Rattle.mw_scope.specs.declared.level.Level.TheVariants.{Live, Quoted}
 use Rattle.mw_scope.specs.Scopes.{Binder, nearest, Tops}
-use Rattle.mw_scope.specs.Faults.{faults_of_use, faults_in, only_at_zero, only_at_one}
+use Rattle.mw_scope.specs.Faults.{faults_of_use, faults_in, only_live, only_quoted}
 use Rattle.mw_scope.specs.Named.{named_use, named}
 use Rattle.mw_scope.specs.declared.binders.Binders.{Binders}
 use Rattle.mw_scope.specs.Views.{binder_at, SameBinders}
@@ -71,8 +71,8 @@ named_by-is tops g m (pair a b) = rw (named_by-is tops g m a, named_by-is tops g
 named_by-is tops g m (fst e) = ap nameless.fst (named_by-is tops g m e)
 named_by-is tops g m (snd e) = ap nameless.snd (named_by-is tops g m e)
 named_by-is tops g m (prim p a b) = rw (named_by-is tops g m a, named_by-is tops g m b) refl
-named_by-is tops g m (bracket at e) = ap nameless.bracket (named_by-is tops g One e)
-named_by-is tops g m (escape at e) = ap nameless.escape (named_by-is tops g Zero e)
+named_by-is tops g m (bracket at e) = ap nameless.bracket (named_by-is tops g Quoted e)
+named_by-is tops g m (escape at e) = ap nameless.escape (named_by-is tops g Live e)
 named_by-is tops g m (run at k e) = ap (λ a. nameless.run k a) (named_by-is tops g m e)
 named_by-is tops g m (close at e) = ap (λ a. nameless.close at a) (named_by-is tops g m e)
 named_by-is tops g m (opened at e) = ap nameless.opened (named_by-is tops g m e)
@@ -95,13 +95,13 @@ faults_by-is tops g m (pair a b) = rw (faults_by-is tops g m a, faults_by-is top
 faults_by-is tops g m (fst e) = faults_by-is tops g m e
 faults_by-is tops g m (snd e) = faults_by-is tops g m e
 faults_by-is tops g m (prim p a b) = rw (faults_by-is tops g m a, faults_by-is tops g m b) refl
-faults_by-is tops g m (bracket at e) = ap (λ a. only_at_zero m at ++ a) (faults_by-is tops g One e)
-faults_by-is tops g m (escape at e) = ap (λ a. only_at_one m at ++ a) (faults_by-is tops g Zero e)
-faults_by-is tops g m (run at k e) = ap (λ a. only_at_zero m at ++ a) (faults_by-is tops g m e)
-faults_by-is tops g m (close at e) = ap (λ a. only_at_zero m at ++ a) (faults_by-is tops g m e)
-faults_by-is tops g m (opened at e) = ap (λ a. only_at_zero m at ++ a) (faults_by-is tops g m e)
-faults_by-is tops g m (lift at e) = ap (λ a. only_at_zero m at ++ a) (faults_by-is tops g m e)
-faults_by-is tops g m (lift_b at e) = ap (λ a. only_at_zero m at ++ a) (faults_by-is tops g m e)
+faults_by-is tops g m (bracket at e) = ap (λ a. only_live m at ++ a) (faults_by-is tops g Quoted e)
+faults_by-is tops g m (escape at e) = ap (λ a. only_quoted m at ++ a) (faults_by-is tops g Live e)
+faults_by-is tops g m (run at k e) = ap (λ a. only_live m at ++ a) (faults_by-is tops g m e)
+faults_by-is tops g m (close at e) = ap (λ a. only_live m at ++ a) (faults_by-is tops g m e)
+faults_by-is tops g m (opened at e) = ap (λ a. only_live m at ++ a) (faults_by-is tops g m e)
+faults_by-is tops g m (lift at e) = ap (λ a. only_live m at ++ a) (faults_by-is tops g m e)
+faults_by-is tops g m (lift_b at e) = ap (λ a. only_live m at ++ a) (faults_by-is tops g m e)
 
 -- a name that stood for another binder and stands for the first again
 pub restored : (look inside after last : Look) (x : List ℕ) (bound hidden : Option (ℕ × Level)) → hidden ≡ look x → inside ≡ rebound look x bound → after ≡ inside → last ≡ rebound after x hidden → last ≡ look
@@ -130,8 +130,8 @@ restored_binders {was} {inside} {after} {last} x bound hidden hid entered more s
 none_bound : (binders : Binders) → ((x : List ℕ) → binder_at binders x ≡ None) → binder_at binders ≡ numbered []
 none_bound binders h = fun_ext h
 
-pub outer_named : (tops : Tops) (binders : Binders) (t : SurfaceTree) → ((x : List ℕ) → binder_at binders x ≡ None) → binders.count ≡ 0 → named_by tops (binder_at binders) binders.count Zero t ≡ named tops [] Zero t
-outer_named tops binders t none count = ap (λ look. named_by tops look binders.count Zero t) (none_bound binders none) ∙ ap (λ n. named_by tops (numbered []) n Zero t) count ∙ named_by-is tops [] Zero t
+pub outer_named : (tops : Tops) (binders : Binders) (t : SurfaceTree) → ((x : List ℕ) → binder_at binders x ≡ None) → binders.count ≡ 0 → named_by tops (binder_at binders) binders.count Live t ≡ named tops [] Live t
+outer_named tops binders t none count = ap (λ look. named_by tops look binders.count Live t) (none_bound binders none) ∙ ap (λ n. named_by tops (numbered []) n Live t) count ∙ named_by-is tops [] Live t
 
-pub outer_faults : (tops : Tops) (binders : Binders) (t : SurfaceTree) → ((x : List ℕ) → binder_at binders x ≡ None) → binders.count ≡ 0 → faults_by tops (binder_at binders) binders.count Zero t ≡ faults_in tops [] Zero t
-outer_faults tops binders t none count = ap (λ look. faults_by tops look binders.count Zero t) (none_bound binders none) ∙ ap (λ n. faults_by tops (numbered []) n Zero t) count ∙ faults_by-is tops [] Zero t
+pub outer_faults : (tops : Tops) (binders : Binders) (t : SurfaceTree) → ((x : List ℕ) → binder_at binders x ≡ None) → binders.count ≡ 0 → faults_by tops (binder_at binders) binders.count Live t ≡ faults_in tops [] Live t
+outer_faults tops binders t none count = ap (λ look. faults_by tops look binders.count Live t) (none_bound binders none) ∙ ap (λ n. faults_by tops (numbered []) n Live t) count ∙ faults_by-is tops [] Live t

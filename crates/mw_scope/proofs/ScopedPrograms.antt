@@ -10,22 +10,22 @@ use Rattle.mw_term.specs.Typable.{seen_by_item, seen_by_main}
 use Rattle.mw_term.specs.Scoped.{IsScoped, is_seen}
 use Rattle.mw_grammar.specs.SurfaceTrees.{SurfaceTree, PureItem, let_item, kernel_item}
 use Rattle.mw_scope.specs.declared.level.Level.{Level}
-use Rattle.mw_scope.specs.declared.level.Level.TheVariants.{Zero, One}
+use Rattle.mw_scope.specs.declared.level.Level.TheVariants.{Live, Quoted}
 use Rattle.mw_scope.specs.Scopes.{Binder, Tops, lets_of, items_of}
 use Rattle.mw_scope.specs.Nameless.{Nameless, n_num, n_truth, n_var, n_glob, n_fun, n_fix, n_app, n_bind, n_cond, n_pair, n_fst, n_snd, n_prim, n_bracket, n_escape, n_run, n_close, n_open, n_lift, n_lift_b, is_value, NamelessItem, a_let, a_kernel, NamelessItems, no_item, an_item}
 use Rattle.mw_scope.specs.Scoped.{IsScopedItem, NamelessIsScoped}
 use Rattle.mw_scope.proofs.Nearest.{nearest_is_nearest}
 
-abbrev is_one : Level → Bool
-is_one Zero = false
-is_one One = true
+abbrev is_quoted : Level → Bool
+is_quoted Live = false
+is_quoted Quoted = true
 
 abbrev levels_of : List Binder → List Bool
-levels_of g = map (λ b. is_one b.level) g
+levels_of g = map (λ b. is_quoted b.level) g
 
-level_at : (g : List Binder) (i : ℕ) (b : Binder) → slice_get g i ≡ Some b → slice_get (levels_of g) i ≡ Some (is_one b.level)
+level_at : (g : List Binder) (i : ℕ) (b : Binder) → slice_get g i ≡ Some b → slice_get (levels_of g) i ≡ Some (is_quoted b.level)
 level_at [] i b e = absurd (none-some b e)
-level_at (c ∷ g) zero b e = ap (λ d. Some (is_one d.level)) (same_Some _ _ e)
+level_at (c ∷ g) zero b e = ap (λ d. Some (is_quoted d.level)) (same_Some _ _ e)
 level_at (c ∷ g) (suc i) b e = level_at g i b e
 
 -- the name at this place is in scope
@@ -36,7 +36,7 @@ IsInScope names i = slice_get names i ≡ Some true
 record AreSeen (tops : Tops) (names : List Bool) : Type 0 where
   at : (x : List ℕ) (i : ℕ) → tops x ≡ Some i → IsInScope names i
 
-scoped : {tops : Tops} {g : List Binder} {m : Level} {t : SurfaceTree} {e : Expression} (names : List Bool) → AreSeen tops names → Nameless tops g m t e → IsScoped names (levels_of g) (is_one m) e
+scoped : {tops : Tops} {g : List Binder} {m : Level} {t : SurfaceTree} {e : Expression} (names : List Bool) → AreSeen tops names → Nameless tops g m t e → IsScoped names (levels_of g) (is_quoted m) e
 scoped names s n_num = tt
 scoped names s n_truth = tt
 scoped {g = g} {m = m} names s (n_var {x = x} {i = i} h) = level_at g i _ (nearest_is_nearest.found g x i m h).0

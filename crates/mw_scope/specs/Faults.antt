@@ -4,30 +4,30 @@ use Rattle.mw_term.specs.declared.refusal.Refusal.{Refusal}
 use Rattle.mw_term.specs.declared.refusal.Refusal.TheVariants as refusal
 use Rattle.mw_grammar.specs.SurfaceTrees.{SurfaceTree, num, truth, used, fun, fix, app, bind, cond as cond_tree, pair, fst, snd, prim, bracket, escape, run, close, opened, lift, lift_b, PureItem, let_item, kernel_item, PureSurface}
 use Rattle.mw_scope.specs.declared.level.Level.{Level}
-use Rattle.mw_scope.specs.declared.level.Level.TheVariants.{Zero, One}
+use Rattle.mw_scope.specs.declared.level.Level.TheVariants.{Live, Quoted}
 use Rattle.mw_scope.specs.declared.fault.Fault.{Fault}
 use Rattle.mw_scope.specs.declared.fault.Fault.TheVariants.{Unbound, Twice, NotValue, WrongLevel}
 use Rattle.mw_scope.specs.Scopes.{Binder, nearest, Tops, lets_of, items_of}
 use Rattle.mw_scope.specs.Nameless.{is_value}
 
 -- what stands at this place belongs at level 0, or at level 1
-abbrev pub only_at_zero : Level → ℕ → List Fault
-only_at_zero Zero at = []
-only_at_zero One at = WrongLevel at ∷ []
+abbrev pub only_live : Level → ℕ → List Fault
+only_live Live at = []
+only_live Quoted at = WrongLevel at ∷ []
 
-abbrev pub only_at_one : Level → ℕ → List Fault
-only_at_one Zero at = WrongLevel at ∷ []
-only_at_one One at = []
+abbrev pub only_quoted : Level → ℕ → List Fault
+only_quoted Live at = WrongLevel at ∷ []
+only_quoted Quoted at = []
 
 -- what stands at this place belongs at its binder's level
 abbrev pub only_at : Level → Level → ℕ → List Fault
-only_at Zero m at = only_at_zero m at
-only_at One m at = only_at_one m at
+only_at Live m at = only_live m at
+only_at Quoted m at = only_quoted m at
 
 -- the faults of a name in use: by its nearest binder, else by its item
 abbrev pub faults_of_use : Option (ℕ × Level) → Option ℕ → Level → ℕ → List Fault
 faults_of_use (Some p) top m at = only_at p.1 m at
-faults_of_use None (Some i) m at = only_at_zero m at
+faults_of_use None (Some i) m at = only_live m at
 faults_of_use None None m at = Unbound at ∷ []
 
 -- the faults of a tree with these top-level names, under these binders, at level m
@@ -44,13 +44,13 @@ faults_in tops g m (pair a b) = faults_in tops g m a ++ faults_in tops g m b
 faults_in tops g m (fst e) = faults_in tops g m e
 faults_in tops g m (snd e) = faults_in tops g m e
 faults_in tops g m (prim p a b) = faults_in tops g m a ++ faults_in tops g m b
-faults_in tops g m (bracket at e) = only_at_zero m at ++ faults_in tops g One e
-faults_in tops g m (escape at e) = only_at_one m at ++ faults_in tops g Zero e
-faults_in tops g m (run at k e) = only_at_zero m at ++ faults_in tops g m e
-faults_in tops g m (close at e) = only_at_zero m at ++ faults_in tops g m e
-faults_in tops g m (opened at e) = only_at_zero m at ++ faults_in tops g m e
-faults_in tops g m (lift at e) = only_at_zero m at ++ faults_in tops g m e
-faults_in tops g m (lift_b at e) = only_at_zero m at ++ faults_in tops g m e
+faults_in tops g m (bracket at e) = only_live m at ++ faults_in tops g Quoted e
+faults_in tops g m (escape at e) = only_quoted m at ++ faults_in tops g Live e
+faults_in tops g m (run at k e) = only_live m at ++ faults_in tops g m e
+faults_in tops g m (close at e) = only_live m at ++ faults_in tops g m e
+faults_in tops g m (opened at e) = only_live m at ++ faults_in tops g m e
+faults_in tops g m (lift at e) = only_live m at ++ faults_in tops g m e
+faults_in tops g m (lift_b at e) = only_live m at ++ faults_in tops g m e
 
 -- the faults of a top-level name at this place that stands for an item already, or doesn't
 abbrev pub faults_of_name : Option ℕ → ℕ → List Fault
@@ -64,8 +64,8 @@ faults_of_value false from = NotValue from ∷ []
 
 -- the faults of an item, by the lets before it, which it sees, and by all items before it
 abbrev pub faults_of_item : Tops → Tops → PureItem → List Fault
-faults_of_item lets all (let_item x at from e) = faults_of_name (all x) at ++ (faults_of_value (is_value e) from ++ faults_in lets [] Zero e)
-faults_of_item lets all (kernel_item x at k e) = faults_of_name (all x) at ++ faults_in lets [] Zero e
+faults_of_item lets all (let_item x at from e) = faults_of_name (all x) at ++ (faults_of_value (is_value e) from ++ faults_in lets [] Live e)
+faults_of_item lets all (kernel_item x at k e) = faults_of_name (all x) at ++ faults_in lets [] Live e
 
 -- the faults of items behind the items before them
 abbrev pub faults_of_items : List PureItem → List PureItem → List Fault
@@ -74,7 +74,7 @@ faults_of_items before (item ∷ items) = faults_of_item (lets_of before) (items
 
 -- all faults of a program; main sees all items
 abbrev pub faults_of : PureSurface → List Fault
-faults_of s = faults_of_items [] s.items ++ faults_in (items_of s.items) [] Zero s.body
+faults_of s = faults_of_items [] s.items ++ faults_in (items_of s.items) [] Live s.body
 
 -- where a fault stands
 abbrev pub place_of : Fault → ℕ

@@ -5,10 +5,10 @@ use Rattle.mw_term.specs.Terms.{Expression}
 use Rattle.mw_term.specs.Terms as nameless
 use Rattle.mw_grammar.specs.SurfaceTrees.{SurfaceTree, num, truth, used, fun, fix, app, bind, cond as cond_tree, pair, fst, snd, prim, bracket, escape, run, close, opened, lift, lift_b}
 use Rattle.mw_scope.specs.declared.level.Level.{Level}
-use Rattle.mw_scope.specs.declared.level.Level.TheVariants.{Zero, One}
+use Rattle.mw_scope.specs.declared.level.Level.TheVariants.{Live, Quoted}
 use Rattle.mw_scope.specs.declared.fault.Fault.{Fault}
 use Rattle.mw_scope.specs.Scopes.{Binder, Tops}
-use Rattle.mw_scope.specs.Faults.{only_at_zero, only_at_one, faults_of_use}
+use Rattle.mw_scope.specs.Faults.{only_live, only_quoted, faults_of_use}
 
 abbrev pub Look : Type 0
 Look = List ℕ → Option (ℕ × Level)
@@ -42,8 +42,8 @@ named_by tops look n m (pair a b) = nameless.pair (named_by tops look n m a) (na
 named_by tops look n m (fst e) = nameless.fst (named_by tops look n m e)
 named_by tops look n m (snd e) = nameless.snd (named_by tops look n m e)
 named_by tops look n m (prim p a b) = nameless.prim p (named_by tops look n m a) (named_by tops look n m b)
-named_by tops look n m (bracket at e) = nameless.bracket (named_by tops look n One e)
-named_by tops look n m (escape at e) = nameless.escape (named_by tops look n Zero e)
+named_by tops look n m (bracket at e) = nameless.bracket (named_by tops look n Quoted e)
+named_by tops look n m (escape at e) = nameless.escape (named_by tops look n Live e)
 named_by tops look n m (run at k e) = nameless.run k (named_by tops look n m e)
 named_by tops look n m (close at e) = nameless.close at (named_by tops look n m e)
 named_by tops look n m (opened at e) = nameless.opened (named_by tops look n m e)
@@ -64,10 +64,10 @@ faults_by tops look n m (pair a b) = faults_by tops look n m a ++ faults_by tops
 faults_by tops look n m (fst e) = faults_by tops look n m e
 faults_by tops look n m (snd e) = faults_by tops look n m e
 faults_by tops look n m (prim p a b) = faults_by tops look n m a ++ faults_by tops look n m b
-faults_by tops look n m (bracket at e) = only_at_zero m at ++ faults_by tops look n One e
-faults_by tops look n m (escape at e) = only_at_one m at ++ faults_by tops look n Zero e
-faults_by tops look n m (run at k e) = only_at_zero m at ++ faults_by tops look n m e
-faults_by tops look n m (close at e) = only_at_zero m at ++ faults_by tops look n m e
-faults_by tops look n m (opened at e) = only_at_zero m at ++ faults_by tops look n m e
-faults_by tops look n m (lift at e) = only_at_zero m at ++ faults_by tops look n m e
-faults_by tops look n m (lift_b at e) = only_at_zero m at ++ faults_by tops look n m e
+faults_by tops look n m (bracket at e) = only_live m at ++ faults_by tops look n Quoted e
+faults_by tops look n m (escape at e) = only_quoted m at ++ faults_by tops look n Live e
+faults_by tops look n m (run at k e) = only_live m at ++ faults_by tops look n m e
+faults_by tops look n m (close at e) = only_live m at ++ faults_by tops look n m e
+faults_by tops look n m (opened at e) = only_live m at ++ faults_by tops look n m e
+faults_by tops look n m (lift at e) = only_live m at ++ faults_by tops look n m e
+faults_by tops look n m (lift_b at e) = only_live m at ++ faults_by tops look n m e

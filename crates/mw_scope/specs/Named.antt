@@ -5,7 +5,7 @@ use Rattle.mw_term.specs.Programs.{Definition, value, kernel, PureProgram}
 use Rattle.mw_grammar.specs.SurfaceTrees as surface
 use Rattle.mw_grammar.specs.SurfaceTrees.{SurfaceTree, PureItem, let_item, kernel_item, PureSurface}
 use Rattle.mw_scope.specs.declared.level.Level.{Level}
-use Rattle.mw_scope.specs.declared.level.Level.TheVariants.{Zero, One}
+use Rattle.mw_scope.specs.declared.level.Level.TheVariants.{Live, Quoted}
 use Rattle.mw_scope.specs.Scopes.{Binder, nearest, Tops, lets_of, items_of}
 
 abbrev pub named_use : Option (ℕ × Level) → Option ℕ → Expression
@@ -26,8 +26,8 @@ named tops g m (surface.pair a b) = pair (named tops g m a) (named tops g m b)
 named tops g m (surface.fst e) = fst (named tops g m e)
 named tops g m (surface.snd e) = snd (named tops g m e)
 named tops g m (surface.prim p a b) = prim p (named tops g m a) (named tops g m b)
-named tops g m (surface.bracket at e) = bracket (named tops g One e)
-named tops g m (surface.escape at e) = escape (named tops g Zero e)
+named tops g m (surface.bracket at e) = bracket (named tops g Quoted e)
+named tops g m (surface.escape at e) = escape (named tops g Live e)
 named tops g m (surface.run at k e) = run k (named tops g m e)
 named tops g m (surface.close at e) = close at (named tops g m e)
 named tops g m (surface.opened at e) = opened (named tops g m e)
@@ -35,12 +35,12 @@ named tops g m (surface.lift at e) = lift (named tops g m e)
 named tops g m (surface.lift_b at e) = lift_b (named tops g m e)
 
 abbrev pub named_item : Tops → PureItem → Definition
-named_item lets (let_item x at from e) = value (named lets [] Zero e)
-named_item lets (kernel_item x at k e) = kernel k (named lets [] Zero e)
+named_item lets (let_item x at from e) = value (named lets [] Live e)
+named_item lets (kernel_item x at k e) = kernel k (named lets [] Live e)
 
 abbrev pub named_items : List PureItem → List PureItem → List Definition
 named_items before [] = []
 named_items before (item ∷ items) = named_item (lets_of before) item ∷ named_items (before ++ item ∷ []) items
 
 abbrev pub named_program : PureSurface → PureProgram
-named_program s = record { items = named_items [] s.items; result = s.result; body = named (items_of s.items) [] Zero s.body }
+named_program s = record { items = named_items [] s.items; result = s.result; body = named (items_of s.items) [] Live s.body }

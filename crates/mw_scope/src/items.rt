@@ -10,7 +10,7 @@ ghost use Rattle.mw_scope.specs.Faults.{faults_in, faults_of_item, faults_of_ite
 ghost use Rattle.mw_scope.specs.Named.{named, named_item, named_items};
 ghost use Rattle.mw_scope.specs.Keeping.{kept};
 ghost use Rattle.mw_scope.specs.Views.{Knows, place_at};
-ghost use Rattle.mw_scope.specs.declared.level.Level.TheVariants.{Zero};
+ghost use Rattle.mw_scope.specs.declared.level.Level.TheVariants.{Live};
 ghost use Rattle.mw_term.specs.Terms.{expression_of};
 
 use crate::binders::Binders;
@@ -44,11 +44,11 @@ pub fn outer_term(
     first: &mut Option<Fault>,
 ) -> Result<Term, AllocError>
     requires { surface_depth (tree_of tree.now) ≤ 200 }
-    ensures term { IfOk result (λ t. expression_of t ≡ named (place_at tops.now) [] Zero (tree_of tree.now)) }
-    ensures faults { OnOk result (first.new ≡ kept first.old (faults_in (place_at tops.now) [] Zero (tree_of tree.now))) }
+    ensures term { IfOk result (λ t. expression_of t ≡ named (place_at tops.now) [] Live (tree_of tree.now)) }
+    ensures faults { OnOk result (first.new ≡ kept first.old (faults_in (place_at tops.now) [] Live (tree_of tree.now))) }
 {
     let mut binders = Binders::new(alloc);
-    term(alloc, tops, &mut binders, Level::Zero, tree, first)
+    term(alloc, tops, &mut binders, Level::Live, tree, first)
 }
 
 /// Keeps the fault of a name that an earlier item has, if one has it.

@@ -4,8 +4,8 @@ ghost use Rattle.std.specs.Prelude.{◌≡◌, [], ◌∷◌};
 ghost use Rattle.mw_scope.specs.Faults.{
   number_of,
   only_at,
-  only_at_one,
-  only_at_zero,
+  only_quoted,
+  only_live,
   place_of,
   refusal_of,
 };
@@ -72,22 +72,22 @@ pub fn keep(first: &mut Option<Fault>, fault: Fault)
 }
 
 /// Keeps the fault of what stands at level 1 and belongs at level 0, if it does.
-pub fn keep_at_zero(first: &mut Option<Fault>, level: Level, at: u32)
-    ensures { first.new ≡ kept first.old (only_at_zero level at) }
+pub fn keep_if_quoted(first: &mut Option<Fault>, level: Level, at: u32)
+    ensures { first.new ≡ kept first.old (only_live level at) }
 {
     match level {
-        Level::Zero => {}
-        Level::One => keep(first, Fault::WrongLevel(at)),
+        Level::Live => {}
+        Level::Quoted => keep(first, Fault::WrongLevel(at)),
     }
 }
 
 /// Keeps the fault of what stands at level 0 and belongs at level 1, if it does.
-pub fn keep_at_one(first: &mut Option<Fault>, level: Level, at: u32)
-    ensures { first.new ≡ kept first.old (only_at_one level at) }
+pub fn keep_if_live(first: &mut Option<Fault>, level: Level, at: u32)
+    ensures { first.new ≡ kept first.old (only_quoted level at) }
 {
     match level {
-        Level::Zero => keep(first, Fault::WrongLevel(at)),
-        Level::One => {}
+        Level::Live => keep(first, Fault::WrongLevel(at)),
+        Level::Quoted => {}
     }
 }
 
@@ -96,7 +96,7 @@ pub fn keep_at(first: &mut Option<Fault>, bound: Level, level: Level, at: u32)
     ensures { first.new ≡ kept first.old (only_at bound level at) }
 {
     match bound {
-        Level::Zero => keep_at_zero(first, level, at),
-        Level::One => keep_at_one(first, level, at),
+        Level::Live => keep_if_quoted(first, level, at),
+        Level::Quoted => keep_if_live(first, level, at),
     }
 }

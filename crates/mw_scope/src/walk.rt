@@ -9,7 +9,7 @@ ghost use Rattle.mw_scope.specs.Views.{Binds, HasRoom, IsStaging, SameBinders, f
 use crate::binders::Binders;
 use crate::copies::copied_kernel_type;
 use crate::fault::Fault;
-use crate::keeping::{keep, keep_at, keep_at_one, keep_at_zero};
+use crate::keeping::{keep, keep_at, keep_if_live, keep_if_quoted};
 use crate::level::Level;
 use crate::tops::Tops;
 use mw_grammar::{Placed, Tree};
@@ -34,7 +34,7 @@ fn used_name(
         }
         None => match tops.find(&name.name) {
             Some(item) => {
-                keep_at_zero(first, level, name.at);
+                keep_if_quoted(first, level, name.at);
                 Term::Glob(item)
             }
             None => {
@@ -169,32 +169,32 @@ fn staged(
 {
     match tree {
         Tree::Bracket(at, e) => {
-            keep_at_zero(first, level, *at);
-            Ok(Term::Bracket(boxed(alloc, tops, binders, Level::One, e, first)?))
+            keep_if_quoted(first, level, *at);
+            Ok(Term::Bracket(boxed(alloc, tops, binders, Level::Quoted, e, first)?))
         }
         Tree::Escape(at, e) => {
-            keep_at_one(first, level, *at);
-            Ok(Term::Escape(boxed(alloc, tops, binders, Level::Zero, e, first)?))
+            keep_if_live(first, level, *at);
+            Ok(Term::Escape(boxed(alloc, tops, binders, Level::Live, e, first)?))
         }
         Tree::Run(at, kind, e) => {
-            keep_at_zero(first, level, *at);
+            keep_if_quoted(first, level, *at);
             let kind = copied_kernel_type(alloc, kind)?;
             Ok(Term::Run(kind, boxed(alloc, tops, binders, level, e, first)?))
         }
         Tree::CloseCode(at, e) => {
-            keep_at_zero(first, level, *at);
+            keep_if_quoted(first, level, *at);
             Ok(Term::CloseCode(*at, boxed(alloc, tops, binders, level, e, first)?))
         }
         Tree::OpenCode(at, e) => {
-            keep_at_zero(first, level, *at);
+            keep_if_quoted(first, level, *at);
             Ok(Term::OpenCode(boxed(alloc, tops, binders, level, e, first)?))
         }
         Tree::Lift(at, e) => {
-            keep_at_zero(first, level, *at);
+            keep_if_quoted(first, level, *at);
             Ok(Term::Lift(boxed(alloc, tops, binders, level, e, first)?))
         }
         Tree::LiftB(at, e) => {
-            keep_at_zero(first, level, *at);
+            keep_if_quoted(first, level, *at);
             Ok(Term::LiftB(boxed(alloc, tops, binders, level, e, first)?))
         }
         _ => unreachable!(),
