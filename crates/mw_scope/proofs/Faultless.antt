@@ -6,7 +6,7 @@ use Rattle.mw_grammar.specs.SurfaceTrees.{SurfaceTree, num, truth, used, fun, fi
 use Rattle.mw_scope.specs.declared.level.Level.{Level}
 use Rattle.mw_scope.specs.declared.level.Level.TheVariants.{Live, Quoted}
 use Rattle.mw_scope.specs.declared.fault.Fault.{Fault}
-use Rattle.mw_scope.specs.Scopes.{Binder, nearest, Tops}
+use Rattle.mw_scope.specs.Scopes.{Binder, nearest, TopNames}
 use Rattle.mw_scope.specs.Nameless.{Nameless, n_num, n_truth, n_var, n_glob, n_fun, n_fix, n_app, n_bind, n_cond, n_pair, n_fst, n_snd, n_prim, n_bracket, n_escape, n_run, n_close, n_open, n_lift, n_lift_b}
 use Rattle.mw_scope.specs.Faults.{only_at, faults_of_use, faults_in}
 use Rattle.mw_scope.specs.Named.{named_use, named}
@@ -41,13 +41,13 @@ at_own_level Live at = refl
 at_own_level Quoted at = refl
 
 -- a tree without faults is what the walk builds
-faultless_use : (tops : Tops) (g : List Binder) (m : Level) (x : List ℕ) (at : ℕ) (o : Option (ℕ × Level)) (i : Option ℕ) → nearest g x ≡ o → tops x ≡ i → faults_of_use o i m at ≡ [] → Nameless tops g m (used x at) (named_use o i)
+faultless_use : (tops : TopNames) (g : List Binder) (m : Level) (x : List ℕ) (at : ℕ) (o : Option (ℕ × Level)) (i : Option ℕ) → nearest g x ≡ o → tops x ≡ i → faults_of_use o i m at ≡ [] → Nameless tops g m (used x at) (named_use o i)
 faultless_use tops g m x at (Some p) i e h f = n_var (e ∙ ap (λ l. Some (p.0, l)) (same_level p.1 m at f))
 faultless_use tops g Live x at None (Some i) e h f = n_glob e h
 faultless_use tops g Quoted x at None (Some i) e h f = no_cons _ _ f
 faultless_use tops g m x at None None e h f = no_cons _ _ f
 
-pub faultless : (tops : Tops) (g : List Binder) (m : Level) (t : SurfaceTree) → faults_in tops g m t ≡ [] → Nameless tops g m t (named tops g m t)
+pub faultless : (tops : TopNames) (g : List Binder) (m : Level) (t : SurfaceTree) → faults_in tops g m t ≡ [] → Nameless tops g m t (named tops g m t)
 faultless tops g m (num n) e = n_num
 faultless tops g m (truth b) e = n_truth
 faultless tops g m (used x at) e = faultless_use tops g m x at (nearest g x) (tops x) refl refl e
@@ -78,7 +78,7 @@ faultless tops g Live (lift_b at t) e = n_lift_b (faultless tops g Live t e)
 faultless tops g Quoted (lift_b at t) e = no_cons _ _ e
 
 -- a tree that is some expression has no fault
-pub has_no_fault : {tops : Tops} {g : List Binder} {m : Level} {t : SurfaceTree} {e : Expression} → Nameless tops g m t e → faults_in tops g m t ≡ []
+pub has_no_fault : {tops : TopNames} {g : List Binder} {m : Level} {t : SurfaceTree} {e : Expression} → Nameless tops g m t e → faults_in tops g m t ≡ []
 has_no_fault n_num = refl
 has_no_fault n_truth = refl
 has_no_fault {tops = tops} {m = m} (n_var {x = x} {at = at} h) = ap (λ o. faults_of_use o (tops x) m at) h ∙ at_own_level m at
@@ -101,7 +101,7 @@ has_no_fault (n_lift d) = has_no_fault d
 has_no_fault (n_lift_b d) = has_no_fault d
 
 -- the expression that a tree is, is what the walk builds
-pub is_named : {tops : Tops} {g : List Binder} {m : Level} {t : SurfaceTree} {e : Expression} → Nameless tops g m t e → e ≡ named tops g m t
+pub is_named : {tops : TopNames} {g : List Binder} {m : Level} {t : SurfaceTree} {e : Expression} → Nameless tops g m t e → e ≡ named tops g m t
 is_named n_num = refl
 is_named n_truth = refl
 is_named {tops = tops} (n_var {x = x} h) = sym (ap (λ o. named_use o (tops x)) h)

@@ -9,7 +9,7 @@ use Rattle.mw_term.specs.Terms as nameless
 use Rattle.mw_grammar.specs.SurfaceTrees.{SurfaceTree, num, truth, used, fun, fix, app, bind, cond as cond_tree, pair, fst, snd, prim, bracket, escape, run, close, opened, lift, lift_b}
 use Rattle.mw_scope.specs.declared.level.Level.{Level}
 use Rattle.mw_scope.specs.declared.level.Level.TheVariants.{Live, Quoted}
-use Rattle.mw_scope.specs.Scopes.{Binder, nearest, Tops}
+use Rattle.mw_scope.specs.Scopes.{Binder, nearest, TopNames}
 use Rattle.mw_scope.specs.Faults.{faults_of_use, faults_in, only_live, only_quoted}
 use Rattle.mw_scope.specs.Named.{named_use, named}
 use Rattle.mw_scope.specs.declared.binders.Binders.{Binders}
@@ -55,7 +55,7 @@ faults_are : (n : ℕ) (o : Option (ℕ × Level)) (top : Option ℕ) (m : Level
 faults_are n (Some p) top m at = refl
 faults_are n None top m at = refl
 
-pub named_by-is : (tops : Tops) (g : List Binder) (m : Level) (t : SurfaceTree) → named_by tops (numbered g) (length g) m t ≡ named tops g m t
+pub named_by-is : (tops : TopNames) (g : List Binder) (m : Level) (t : SurfaceTree) → named_by tops (numbered g) (length g) m t ≡ named tops g m t
 named_by-is tops g m (num i) = refl
 named_by-is tops g m (truth b) = refl
 named_by-is tops g m (used x at) = use_is (length g) (numbered g x) (tops x) ∙ ap (λ o. named_use o (tops x)) (sym (nearest-numbered g x))
@@ -79,7 +79,7 @@ named_by-is tops g m (opened at e) = ap nameless.opened (named_by-is tops g m e)
 named_by-is tops g m (lift at e) = ap nameless.lift (named_by-is tops g m e)
 named_by-is tops g m (lift_b at e) = ap nameless.lift_b (named_by-is tops g m e)
 
-pub faults_by-is : (tops : Tops) (g : List Binder) (m : Level) (t : SurfaceTree) → faults_by tops (numbered g) (length g) m t ≡ faults_in tops g m t
+pub faults_by-is : (tops : TopNames) (g : List Binder) (m : Level) (t : SurfaceTree) → faults_by tops (numbered g) (length g) m t ≡ faults_in tops g m t
 faults_by-is tops g m (num i) = refl
 faults_by-is tops g m (truth b) = refl
 faults_by-is tops g m (used x at) = faults_are (length g) (numbered g x) (tops x) m at ∙ ap (λ o. faults_of_use o (tops x) m at) (sym (nearest-numbered g x))
@@ -130,8 +130,8 @@ restored_binders {was} {inside} {after} {last} x bound hidden hid entered more s
 none_bound : (binders : Binders) → ((x : List ℕ) → binder_at binders x ≡ None) → binder_at binders ≡ numbered []
 none_bound binders h = fun_ext h
 
-pub outer_named : (tops : Tops) (binders : Binders) (t : SurfaceTree) → ((x : List ℕ) → binder_at binders x ≡ None) → binders.count ≡ 0 → named_by tops (binder_at binders) binders.count Live t ≡ named tops [] Live t
+pub outer_named : (tops : TopNames) (binders : Binders) (t : SurfaceTree) → ((x : List ℕ) → binder_at binders x ≡ None) → binders.count ≡ 0 → named_by tops (binder_at binders) binders.count Live t ≡ named tops [] Live t
 outer_named tops binders t none count = ap (λ look. named_by tops look binders.count Live t) (none_bound binders none) ∙ ap (λ n. named_by tops (numbered []) n Live t) count ∙ named_by-is tops [] Live t
 
-pub outer_faults : (tops : Tops) (binders : Binders) (t : SurfaceTree) → ((x : List ℕ) → binder_at binders x ≡ None) → binders.count ≡ 0 → faults_by tops (binder_at binders) binders.count Live t ≡ faults_in tops [] Live t
+pub outer_faults : (tops : TopNames) (binders : Binders) (t : SurfaceTree) → ((x : List ℕ) → binder_at binders x ≡ None) → binders.count ≡ 0 → faults_by tops (binder_at binders) binders.count Live t ≡ faults_in tops [] Live t
 outer_faults tops binders t none count = ap (λ look. faults_by tops look binders.count Live t) (none_bound binders none) ∙ ap (λ n. faults_by tops (numbered []) n Live t) count ∙ faults_by-is tops [] Live t

@@ -9,7 +9,7 @@ use Rattle.mw_scope.specs.declared.level.Level.{Level}
 use Rattle.mw_term.specs.Terms.{KernelType}
 use Rattle.mw_grammar.specs.SurfaceTrees.{SurfaceTree, PureItem, let_item, kernel_item}
 use Rattle.mw_scope.specs.Scopes.{Binder, nearest, name_of, lets_of, items_of}
-use Rattle.mw_scope.specs.Resolving.{NearestIsNearest, TopsAreItems}
+use Rattle.mw_scope.specs.Resolving.{NearestIsNearest, TopNamesAreItems}
 
 abbrev IsAt : List Binder → List ℕ → Option (ℕ × Level) → Type 0
 IsAt g x o = (i : ℕ) (m : Level) → o ≡ Some (i, m) → (slice_get g i ≡ Some (record { name = x; level = m })) × ((j : ℕ) (b : Binder) → j < i → slice_get g j ≡ Some b → b.name ≢ x)
@@ -123,5 +123,5 @@ is_no_let (let_item z a f d ∷ items) x h (suc j) at from y e is = let both = f
 is_no_let (kernel_item z a k d ∷ items) x h zero at from y e is = absurd (kernel_is_no_let (same_Some _ _ is))
 is_no_let (kernel_item z a k d ∷ items) x h (suc j) at from y e is = is_no_let items x (none_behind suc (lets_of items x) h) j at from y e is
 
-pub tops_are_items : TopsAreItems
+pub tops_are_items : TopNamesAreItems
 tops_are_items = record { item = is_item; no_item = is_no_item; a_let = is_let; no_let = is_no_let }

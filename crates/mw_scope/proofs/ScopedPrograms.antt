@@ -11,7 +11,7 @@ use Rattle.mw_term.specs.Scoped.{IsScoped, is_seen}
 use Rattle.mw_grammar.specs.SurfaceTrees.{SurfaceTree, PureItem, let_item, kernel_item}
 use Rattle.mw_scope.specs.declared.level.Level.{Level}
 use Rattle.mw_scope.specs.declared.level.Level.TheVariants.{Live, Quoted}
-use Rattle.mw_scope.specs.Scopes.{Binder, Tops, lets_of, items_of}
+use Rattle.mw_scope.specs.Scopes.{Binder, TopNames, lets_of, items_of}
 use Rattle.mw_scope.specs.Nameless.{Nameless, n_num, n_truth, n_var, n_glob, n_fun, n_fix, n_app, n_bind, n_cond, n_pair, n_fst, n_snd, n_prim, n_bracket, n_escape, n_run, n_close, n_open, n_lift, n_lift_b, is_value, NamelessItem, a_let, a_kernel, NamelessItems, no_item, an_item}
 use Rattle.mw_scope.specs.Scoped.{IsScopedItem, NamelessIsScoped}
 use Rattle.mw_scope.proofs.Nearest.{nearest_is_nearest}
@@ -33,10 +33,10 @@ abbrev IsInScope : List Bool → ℕ → Type 0
 IsInScope names i = slice_get names i ≡ Some true
 
 -- each name that stands for an item is in scope
-record AreSeen (tops : Tops) (names : List Bool) : Type 0 where
+record AreSeen (tops : TopNames) (names : List Bool) : Type 0 where
   at : (x : List ℕ) (i : ℕ) → tops x ≡ Some i → IsInScope names i
 
-scoped : {tops : Tops} {g : List Binder} {m : Level} {t : SurfaceTree} {e : Expression} (names : List Bool) → AreSeen tops names → Nameless tops g m t e → IsScoped names (levels_of g) (is_quoted m) e
+scoped : {tops : TopNames} {g : List Binder} {m : Level} {t : SurfaceTree} {e : Expression} (names : List Bool) → AreSeen tops names → Nameless tops g m t e → IsScoped names (levels_of g) (is_quoted m) e
 scoped names s n_num = tt
 scoped names s n_truth = tt
 scoped {g = g} {m = m} names s (n_var {x = x} {i = i} h) = level_at g i _ (nearest_is_nearest.found g x i m h).0
@@ -63,7 +63,7 @@ both_true true b e = (refl, e)
 both_true false b e = absurd (cc e)
 
 -- a value of the surface is one without names
-is_syntactic : {tops : Tops} {g : List Binder} {m : Level} {t : SurfaceTree} {e : Expression} → Nameless tops g m t e → is_value t ≡ true → IsSyntacticValue e
+is_syntactic : {tops : TopNames} {g : List Binder} {m : Level} {t : SurfaceTree} {e : Expression} → Nameless tops g m t e → is_value t ≡ true → IsSyntacticValue e
 is_syntactic n_num v = tt
 is_syntactic n_truth v = tt
 is_syntactic (n_var h) v = cc v

@@ -7,7 +7,7 @@ use Rattle.mw_scope.specs.declared.level.Level.{Level}
 use Rattle.mw_scope.specs.declared.level.Level.TheVariants.{Live, Quoted}
 use Rattle.mw_scope.specs.declared.fault.Fault.{Fault}
 use Rattle.mw_scope.specs.declared.fault.Fault.TheVariants.{Unbound, Twice, NotValue, WrongLevel}
-use Rattle.mw_scope.specs.Scopes.{Binder, nearest, Tops, lets_of, items_of}
+use Rattle.mw_scope.specs.Scopes.{Binder, nearest, TopNames, lets_of, items_of}
 use Rattle.mw_scope.specs.Nameless.{is_value}
 
 -- what stands at this place belongs at level 0, or at level 1
@@ -31,7 +31,7 @@ faults_of_use None (Some i) m at = only_live m at
 faults_of_use None None m at = Unbound at ∷ []
 
 -- the faults of a tree with these top-level names, under these binders, at level m
-abbrev pub faults_in : Tops → List Binder → Level → SurfaceTree → List Fault
+abbrev pub faults_in : TopNames → List Binder → Level → SurfaceTree → List Fault
 faults_in tops g m (num n) = []
 faults_in tops g m (truth b) = []
 faults_in tops g m (used x at) = faults_of_use (nearest g x) (tops x) m at
@@ -63,7 +63,7 @@ faults_of_value true from = []
 faults_of_value false from = NotValue from ∷ []
 
 -- the faults of an item, by the lets before it, which it sees, and by all items before it
-abbrev pub faults_of_item : Tops → Tops → PureItem → List Fault
+abbrev pub faults_of_item : TopNames → TopNames → PureItem → List Fault
 faults_of_item lets all (let_item x at from e) = faults_of_name (all x) at ++ (faults_of_value (is_value e) from ++ faults_in lets [] Live e)
 faults_of_item lets all (kernel_item x at k e) = faults_of_name (all x) at ++ faults_in lets [] Live e
 

@@ -7,7 +7,7 @@ use Rattle.mw_grammar.specs.SurfaceTrees.{SurfaceTree, num, truth, used, fun, fi
 use Rattle.mw_scope.specs.declared.level.Level.{Level}
 use Rattle.mw_scope.specs.declared.level.Level.TheVariants.{Live, Quoted}
 use Rattle.mw_scope.specs.declared.fault.Fault.{Fault}
-use Rattle.mw_scope.specs.Scopes.{Binder, Tops}
+use Rattle.mw_scope.specs.Scopes.{Binder, TopNames}
 use Rattle.mw_scope.specs.Faults.{only_live, only_quoted, faults_of_use}
 
 abbrev pub Look : Type 0
@@ -29,7 +29,7 @@ use_by n None (Some i) = nameless.glob i
 use_by n None None = nameless.var 0
 
 -- the expression that the walk makes of a tree under n binders
-abbrev pub named_by : Tops → Look → ℕ → Level → SurfaceTree → Expression
+abbrev pub named_by : TopNames → Look → ℕ → Level → SurfaceTree → Expression
 named_by tops look n m (num i) = nameless.num i
 named_by tops look n m (truth b) = nameless.truth b
 named_by tops look n m (used x at) = use_by n (look x) (tops x)
@@ -51,7 +51,7 @@ named_by tops look n m (lift at e) = nameless.lift (named_by tops look n m e)
 named_by tops look n m (lift_b at e) = nameless.lift_b (named_by tops look n m e)
 
 -- the faults that it finds there
-abbrev pub faults_by : Tops → Look → ℕ → Level → SurfaceTree → List Fault
+abbrev pub faults_by : TopNames → Look → ℕ → Level → SurfaceTree → List Fault
 faults_by tops look n m (num i) = []
 faults_by tops look n m (truth b) = []
 faults_by tops look n m (used x at) = faults_of_use (look x) (tops x) m at

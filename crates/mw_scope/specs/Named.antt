@@ -6,14 +6,14 @@ use Rattle.mw_grammar.specs.SurfaceTrees as surface
 use Rattle.mw_grammar.specs.SurfaceTrees.{SurfaceTree, PureItem, let_item, kernel_item, PureSurface}
 use Rattle.mw_scope.specs.declared.level.Level.{Level}
 use Rattle.mw_scope.specs.declared.level.Level.TheVariants.{Live, Quoted}
-use Rattle.mw_scope.specs.Scopes.{Binder, nearest, Tops, lets_of, items_of}
+use Rattle.mw_scope.specs.Scopes.{Binder, nearest, TopNames, lets_of, items_of}
 
 abbrev pub named_use : Option (ℕ × Level) → Option ℕ → Expression
 named_use (Some p) top = var p.0
 named_use None (Some i) = glob i
 named_use None None = var 0
 
-abbrev pub named : Tops → List Binder → Level → SurfaceTree → Expression
+abbrev pub named : TopNames → List Binder → Level → SurfaceTree → Expression
 named tops g m (surface.num n) = num n
 named tops g m (surface.truth b) = truth b
 named tops g m (surface.used x at) = named_use (nearest g x) (tops x)
@@ -34,7 +34,7 @@ named tops g m (surface.opened at e) = opened (named tops g m e)
 named tops g m (surface.lift at e) = lift (named tops g m e)
 named tops g m (surface.lift_b at e) = lift_b (named tops g m e)
 
-abbrev pub named_item : Tops → PureItem → Definition
+abbrev pub named_item : TopNames → PureItem → Definition
 named_item lets (let_item x at from e) = value (named lets [] Live e)
 named_item lets (kernel_item x at k e) = kernel k (named lets [] Live e)
 

@@ -8,10 +8,10 @@ use Rattle.mw_grammar.specs.SurfaceTrees as surface
 use Rattle.mw_grammar.specs.SurfaceTrees.{SurfaceTree, PureItem, let_item, kernel_item, PureSurface}
 use Rattle.mw_scope.specs.declared.level.Level.{Level}
 use Rattle.mw_scope.specs.declared.level.Level.TheVariants.{Live, Quoted}
-use Rattle.mw_scope.specs.Scopes.{Binder, nearest, Tops, name_of, lets_of, items_of}
+use Rattle.mw_scope.specs.Scopes.{Binder, nearest, TopNames, name_of, lets_of, items_of}
 
 -- Nameless tops binders m t e: with these top-level names, under these binders and at level m, the tree t is e.
-pub data Nameless (tops : Tops) : List Binder → Level → SurfaceTree → Expression → Type 0 where
+pub data Nameless (tops : TopNames) : List Binder → Level → SurfaceTree → Expression → Type 0 where
   n_num : {g : List Binder} {m : Level} {n : ℤ} → Nameless tops g m (surface.num n) (num n)
   n_truth : {g : List Binder} {m : Level} {b : Bool} → Nameless tops g m (surface.truth b) (truth b)
   -- a name is that of its nearest binder, and is used at the binder's level

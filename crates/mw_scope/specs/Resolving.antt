@@ -50,7 +50,7 @@ pub record NearestIsNearest : Type 0 where
 
 -- the item that a name stands for has the name, and is a let where items see it; a name that stands for none is the name of
 -- none
-pub record TopsAreItems : Type 0 where
+pub record TopNamesAreItems : Type 0 where
   pub item : (items : List PureItem) (x : List ℕ) (i : ℕ) → items_of items x ≡ Some i → (item : PureItem) × (slice_get items i ≡ Some item) × (name_of item ≡ x)
   pub no_item : (items : List PureItem) (x : List ℕ) → items_of items x ≡ None → (j : ℕ) (item : PureItem) → slice_get items j ≡ Some item → name_of item ≢ x
   pub a_let : (items : List PureItem) (x : List ℕ) (i : ℕ) → lets_of items x ≡ Some i → (at : ℕ) × (from : ℕ) × (e : SurfaceTree) × (slice_get items i ≡ Some (let_item x at from e))

@@ -9,7 +9,7 @@ use Rattle.mw_grammar.specs.SurfaceDepth.{surface_depth}
 use Rattle.mw_scope.specs.declared.binders.Binders.{Binders}
 use Rattle.mw_scope.specs.declared.level.Level.{Level}
 use Rattle.mw_scope.specs.declared.names.Names.{Names}
-use Rattle.mw_scope.specs.declared.tops.Tops.{Tops}
+use Rattle.mw_scope.specs.declared.top_names.TopNames.{TopNames}
 use Rattle.mw_scope.specs.declared.fault.Fault.{Fault}
 use Rattle.mw_scope.specs.Scopes.{lets_of, items_of}
 use Rattle.mw_scope.specs.Looking.{named_by, faults_by}
@@ -19,14 +19,14 @@ abbrev pub binder_at : Binders → List ℕ → Option (ℕ × Level)
 binder_at binders x = option_flatten (get_by (λ k. bytes_eq x k.items) binders.nearest)
 
 -- the place of a name among top-level names
-abbrev pub place_at : Tops → List ℕ → Option ℕ
+abbrev pub place_at : TopNames → List ℕ → Option ℕ
 place_at tops x = get_by (λ k. bytes_eq x k.items) tops.places
 
 -- the expression and the faults of a tree at a level where these names and binders are in scope
-abbrev pub named_here : Tops → Binders → Level → SurfaceTree → Expression
+abbrev pub named_here : TopNames → Binders → Level → SurfaceTree → Expression
 named_here tops binders m t = named_by (place_at tops) (binder_at binders) binders.count m t
 
-abbrev pub faults_here : Tops → Binders → Level → SurfaceTree → List Fault
+abbrev pub faults_here : TopNames → Binders → Level → SurfaceTree → List Fault
 faults_here tops binders m t = faults_by (place_at tops) (binder_at binders) binders.count m t
 
 -- at most two binders come with each node of the tree, and then there are no more than 400

@@ -19,7 +19,7 @@ use crate::fault::Fault;
 use crate::keeping::keep;
 use crate::level::Level;
 use crate::names::Names;
-use crate::tops::Tops;
+use crate::top_names::TopNames;
 use crate::walk::term;
 use mw_grammar::{Placed, SurfaceItem, Tree};
 use mw_term::{Item, ItemKind, Items, Term};
@@ -39,7 +39,7 @@ fn is_syntactic_value(tree: &Tree) -> bool
 /// The term of an expression outside all binders, with its faults kept.
 pub fn outer_term(
     alloc: Global,
-    tops: &Tops,
+    tops: &TopNames,
     tree: &Tree,
     first: &mut Option<Fault>,
 ) -> Result<Term, AllocError>
@@ -52,7 +52,7 @@ pub fn outer_term(
 }
 
 /// Keeps the fault of a name that an earlier item has, if one has it.
-fn keep_name(all: &Tops, name: &Placed, first: &mut Option<Fault>)
+fn keep_name(all: &TopNames, name: &Placed, first: &mut Option<Fault>)
     ensures { first.new ≡ kept first.old (faults_of_name (place_at all.now name.now.name) name.now.at) }
 {
     if all.find(&name.name).is_some() {

@@ -2,7 +2,7 @@
 
 ghost use Rattle.mw_scope.specs.Examples.{ExamplesHold};
 ghost use Rattle.mw_scope.specs.Scoped.{NamelessIsScoped};
-ghost use Rattle.mw_scope.specs.Resolving.{NamelessWhereFaultless, OneNameless, NearestIsNearest, TopsAreItems};
+ghost use Rattle.mw_scope.specs.Resolving.{NamelessWhereFaultless, OneNameless, NearestIsNearest, TopNamesAreItems};
 
 /// The examples are the programs, or have the faults, that they are said to.
 pub fn examples_hold()
@@ -26,7 +26,7 @@ pub fn nearest_is_nearest()
 
 /// The item that a top-level name stands for is one of that name.
 pub fn tops_are_items()
-    ensures { TopsAreItems }
+    ensures { TopNamesAreItems }
 {}
 
 /// In the program that a surface program is, each variable is bound and each form stands at its level.

@@ -22,7 +22,7 @@ pub mod laws;
 pub mod level;
 mod names;
 mod program;
-mod tops;
+mod top_names;
 mod walk;
 
 use crate::program::{answer, whole};

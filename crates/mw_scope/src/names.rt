@@ -3,15 +3,15 @@
 ghost use Rattle.std.specs.Prelude.{◌≡◌, List, [], ◌∷◌, ◌++◌, length, OnOk};
 ghost use Rattle.mw_grammar.specs.SurfaceTrees.{PureItem, item_of};
 
-use crate::tops::Tops;
+use crate::top_names::TopNames;
 use mw_grammar::SurfaceItem;
 use std::alloc::{AllocError, Global};
 
 /// The names of the items so far: those of lets, which the items behind see, and all, which main sees.
 #[derive(Drop)]
 pub struct Names {
-    pub lets: Tops,
-    pub all: Tops,
+    pub lets: TopNames,
+    pub all: TopNames,
 }
 
 impl Names {
@@ -22,8 +22,8 @@ impl Names {
         ensures { Knows result [] }
     {
         Names {
-            lets: Tops::new(alloc),
-            all: Tops::new(alloc),
+            lets: TopNames::new(alloc),
+            all: TopNames::new(alloc),
         }
     }
 

@@ -11,14 +11,14 @@ use crate::copies::copied_kernel_type;
 use crate::fault::Fault;
 use crate::keeping::{keep, keep_at, keep_if_live, keep_if_quoted};
 use crate::level::Level;
-use crate::tops::Tops;
+use crate::top_names::TopNames;
 use mw_grammar::{Placed, Tree};
 use mw_term::Term;
 use std::alloc::{AllocError, Global};
 
 /// The term of a name in use, whose fault is kept.
 fn used_name(
-    tops: &Tops,
+    tops: &TopNames,
     binders: &Binders,
     level: Level,
     name: &Placed,
@@ -49,7 +49,7 @@ fn used_name(
 #[cycle(walk)]
 pub fn term(
     alloc: Global,
-    tops: &Tops,
+    tops: &TopNames,
     binders: &mut Binders,
     level: Level,
     tree: &Tree,
@@ -94,7 +94,7 @@ pub fn term(
 #[cycle(walk)]
 fn boxed(
     alloc: Global,
-    tops: &Tops,
+    tops: &TopNames,
     binders: &mut Binders,
     level: Level,
     tree: &Tree,
@@ -113,7 +113,7 @@ fn boxed(
 #[cycle(walk)]
 fn binding(
     alloc: Global,
-    tops: &Tops,
+    tops: &TopNames,
     binders: &mut Binders,
     level: Level,
     tree: &Tree,
@@ -155,7 +155,7 @@ fn binding(
 #[cycle(walk)]
 fn staged(
     alloc: Global,
-    tops: &Tops,
+    tops: &TopNames,
     binders: &mut Binders,
     level: Level,
     tree: &Tree,

@@ -10,18 +10,18 @@ use std::alloc::{AllocError, Global};
 
 /// Top-level names, each with the index of the first item that has it.
 #[derive(Drop)]
-pub struct Tops {
+pub struct TopNames {
     places: IndexMap<Vec<u8>, u32>,
 }
 
-impl Tops {
+impl TopNames {
     ghost use Rattle.mw_scope.specs.Views.{place_at};
 
     /// No names.
-    pub fn new(alloc: Global) -> Tops
+    pub fn new(alloc: Global) -> TopNames
         ensures { (x : List ℕ) → place_at result x ≡ None }
     {
-        Tops {
+        TopNames {
             places: IndexMap::new(alloc),
         }
     }

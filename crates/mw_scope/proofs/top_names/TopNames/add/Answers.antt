@@ -3,7 +3,7 @@ use Rattle.std.proofs.lemmas.Slice.Eq.{bytes_eq-Decides}
 use Rattle.std.specs.Prelude.{is_some}
 use Rattle.mw_scope.specs.Views.{place_at}
 use Rattle.mw_scope.proofs.Places.{lookup-insert, place_added}
-use Rattle.mw_scope.proofs.tops.Tops.add.Goals as goal
+use Rattle.mw_scope.proofs.top_names.TopNames.add.Goals as goal
 
 none_there : (o : Option ℕ) → is_some o ≡ false → o ≡ None
 none_there None e = refl
