@@ -11,7 +11,7 @@ use Rattle.mw_types.specs.Types.{Substitution, after}
 use Rattle.mw_types.specs.Equations.{MostGeneral, IsSmall, Fine, FirstUnsolvable, FirstTooBig}
 use Rattle.mw_types.proofs.Faults.{fine_or_faulty}
 use Rattle.mw_types.proofs.Lists.{same, other, is}
-use Rattle.mw_infer.specs.Schemes.{TopScheme, let_scheme, no_scheme}
+use Rattle.mw_infer.specs.Schemes.{TopScheme, let_scheme, scheme_out_of_scope}
 use Rattle.mw_infer.specs.Sources.{IsSource}
 use Rattle.mw_infer.specs.ItemEquations.{Close}
 use Rattle.mw_infer.specs.Inferring.{item_unknowns, item_classifiers, item_closes, Place, main_place, item_equations, entry_of, AreFresh, least}
@@ -121,7 +121,7 @@ module _ (p : PureProgram) (written : IsWritten p) where
   item-accepted i (kernel k e) schemes g h j =
       let names = seen_by_item p.items i in
       let a : IsPart p i (part_of_item names (kernel k e)) = an_item g in (
-        schemes ++ (no_scheme ∷ []),
+        schemes ++ (scheme_out_of_scope ∷ []),
         record {
           principal = principal-kernel p.items i k e schemes g h.principal;
           modest = modest-none schemes h.modest;

@@ -7,7 +7,7 @@ use Rattle.mw_types.specs.declared.types.Equation.{Equation}
 use Rattle.mw_types.specs.declared.types.Ty.{Ty}
 use Rattle.mw_infer.specs.declared.output.Output.{Output}
 use Rattle.mw_infer.specs.ItemEquations.{Close, equation}
-use Rattle.mw_infer.specs.Schemes.{TopScheme, let_scheme, kernel_scheme, no_scheme}
+use Rattle.mw_infer.specs.Schemes.{TopScheme, let_scheme, kernel_scheme, scheme_out_of_scope}
 use Rattle.mw_infer.specs.Emitting.{close_of, Adds, AreLow}
 
 pub equations_of-append : (xs ys : List Equation) → equations_of (xs ++ ys) ≡ equations_of xs ++ equations_of ys
@@ -56,7 +56,7 @@ pub AreLow-at : (tops : List TopScheme) (i : ℕ) (x : TopScheme) → AreLow top
 AreLow-at [] i x h e = absurd (cc)
 AreLow-at (let_scheme s ∷ tops) zero x h e = let p : let_scheme s ≡ x = cc in subst (λ y. AreLow (y ∷ [])) p (h.0, tt)
 AreLow-at (kernel_scheme k ∷ tops) zero x h e = let p : kernel_scheme k ≡ x = cc in subst (λ y. AreLow (y ∷ [])) p tt
-AreLow-at (no_scheme ∷ tops) zero x h e = let p : no_scheme ≡ x = cc in subst (λ y. AreLow (y ∷ [])) p tt
+AreLow-at (scheme_out_of_scope ∷ tops) zero x h e = let p : scheme_out_of_scope ≡ x = cc in subst (λ y. AreLow (y ∷ [])) p tt
 AreLow-at (let_scheme s ∷ tops) (suc i) x h e = AreLow-at tops i x h.1 e
 AreLow-at (kernel_scheme k ∷ tops) (suc i) x h e = AreLow-at tops i x h e
-AreLow-at (no_scheme ∷ tops) (suc i) x h e = AreLow-at tops i x h e
+AreLow-at (scheme_out_of_scope ∷ tops) (suc i) x h e = AreLow-at tops i x h e

@@ -4,7 +4,7 @@ use Rattle.std.specs.Prelude.{slice_get}
 use Rattle.mw_term.specs.Terms.{Expression, Value, KernelType}
 use Rattle.mw_term.specs.Types.{TermType, Level, live, Entry}
 use Rattle.mw_term.specs.Typing.{TopLevel, let_item, kernel_item, out_of_scope, Typed, t_num, t_truth, t_var, t_let, t_kernel, t_fun, t_fix, t_app, t_bind, t_cond, t_pair, t_fst, t_snd, t_prim, t_bracket, t_escape, t_run, t_close, t_open, t_lift, t_lift_b, t_done, Valued, v_int, v_bool, v_pair, v_function, v_recursive, v_code, v_closed, v_kept}
-use Rattle.mw_infer.specs.Schemes.{Scheme, TopScheme, let_scheme, kernel_scheme, no_scheme}
+use Rattle.mw_infer.specs.Schemes.{Scheme, TopScheme, let_scheme, kernel_scheme, scheme_out_of_scope}
 use Rattle.mw_infer.specs.Inferring.{least, IsSchemeOf, AreSchemesOf}
 use Rattle.mw_infer.proofs.Sound.{IsSchemeOf-typed}
 
@@ -116,10 +116,10 @@ module _ (tops names : List TopLevel) (x : Extends tops names) where
   AreSchemesOf-extended (y ∷ all) [] h = absurd h
   AreSchemesOf-extended (let_item e ∷ all) (let_scheme s ∷ schemes) h = (IsSchemeOf-extended e s h.0, AreSchemesOf-extended all schemes h.1)
   AreSchemesOf-extended (let_item e ∷ all) (kernel_scheme k ∷ schemes) h = absurd h.0
-  AreSchemesOf-extended (let_item e ∷ all) (no_scheme ∷ schemes) h = absurd h.0
+  AreSchemesOf-extended (let_item e ∷ all) (scheme_out_of_scope ∷ schemes) h = absurd h.0
   AreSchemesOf-extended (kernel_item k ∷ all) (let_scheme s ∷ schemes) h = absurd h.0
   AreSchemesOf-extended (kernel_item k ∷ all) (kernel_scheme l ∷ schemes) h = (h.0, AreSchemesOf-extended all schemes h.1)
-  AreSchemesOf-extended (kernel_item k ∷ all) (no_scheme ∷ schemes) h = absurd h.0
+  AreSchemesOf-extended (kernel_item k ∷ all) (scheme_out_of_scope ∷ schemes) h = absurd h.0
   AreSchemesOf-extended (out_of_scope ∷ all) (let_scheme s ∷ schemes) h = absurd h.0
   AreSchemesOf-extended (out_of_scope ∷ all) (kernel_scheme l ∷ schemes) h = absurd h.0
-  AreSchemesOf-extended (out_of_scope ∷ all) (no_scheme ∷ schemes) h = (tt, AreSchemesOf-extended all schemes h.1)
+  AreSchemesOf-extended (out_of_scope ∷ all) (scheme_out_of_scope ∷ schemes) h = (tt, AreSchemesOf-extended all schemes h.1)

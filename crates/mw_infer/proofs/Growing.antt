@@ -5,7 +5,7 @@ use Rattle.mw_term.specs.Terms.{Expression, KernelType}
 use Rattle.mw_term.specs.Programs.{Definition, value, kernel}
 use Rattle.mw_term.specs.Typing.{TopLevel, let_item, kernel_item, out_of_scope}
 use Rattle.mw_term.specs.Typable.{seen_by_item, seen_by_main}
-use Rattle.mw_infer.specs.Schemes.{Scheme, TopScheme, let_scheme, kernel_scheme, no_scheme, IsInOrder, AreOwn}
+use Rattle.mw_infer.specs.Schemes.{Scheme, TopScheme, let_scheme, kernel_scheme, scheme_out_of_scope, IsInOrder, AreOwn}
 use Rattle.mw_infer.specs.Inferring.{IsSchemeOf, IsSchemeOfName, AreSchemesOf}
 use Rattle.mw_infer.specs.Checking.{AreInOrder, ArePrincipal}
 use Rattle.mw_infer.proofs.Extended.{Extends, AreSchemesOf-extended, IsSchemeOf-extended}
@@ -45,13 +45,13 @@ AreInOrder-let : (schemes : List TopScheme) (s : Scheme) → AreInOrder schemes 
 AreInOrder-let [] s h p = (p, tt)
 AreInOrder-let (let_scheme r ∷ schemes) s h p = (h.0, AreInOrder-let schemes s h.1 p)
 AreInOrder-let (kernel_scheme k ∷ schemes) s h p = AreInOrder-let schemes s h p
-AreInOrder-let (no_scheme ∷ schemes) s h p = AreInOrder-let schemes s h p
+AreInOrder-let (scheme_out_of_scope ∷ schemes) s h p = AreInOrder-let schemes s h p
 
-AreInOrder-none : (schemes : List TopScheme) → AreInOrder schemes → AreInOrder (schemes ++ (no_scheme ∷ []))
+AreInOrder-none : (schemes : List TopScheme) → AreInOrder schemes → AreInOrder (schemes ++ (scheme_out_of_scope ∷ []))
 AreInOrder-none [] h = tt
 AreInOrder-none (let_scheme r ∷ schemes) h = (h.0, AreInOrder-none schemes h.1)
 AreInOrder-none (kernel_scheme k ∷ schemes) h = AreInOrder-none schemes h
-AreInOrder-none (no_scheme ∷ schemes) h = AreInOrder-none schemes h
+AreInOrder-none (scheme_out_of_scope ∷ schemes) h = AreInOrder-none schemes h
 
 pub principal-first : (items : List Definition) → ArePrincipal (seen_by_item items zero) []
 principal-first items = rw (seen-first items) (record { of = tt; in_order = tt })
@@ -66,13 +66,13 @@ principal-let items i e schemes s g h p q =
       in_order = AreInOrder-let schemes s h.in_order q;
     })
 
-pub principal-kernel : (items : List Definition) (i : ℕ) (k : KernelType) (e : Expression) (schemes : List TopScheme) → slice_get items i ≡ Some (kernel k e) → ArePrincipal (seen_by_item items i) schemes → ArePrincipal (seen_by_item items (suc i)) (schemes ++ (no_scheme ∷ []))
+pub principal-kernel : (items : List Definition) (i : ℕ) (k : KernelType) (e : Expression) (schemes : List TopScheme) → slice_get items i ≡ Some (kernel k e) → ArePrincipal (seen_by_item items i) schemes → ArePrincipal (seen_by_item items (suc i)) (schemes ++ (scheme_out_of_scope ∷ []))
 principal-kernel items i k e schemes g h =
     let names = seen_by_item items i in
     let more = names ++ (out_of_scope ∷ []) in
     let x = Extends-append names (out_of_scope ∷ []) in
     rw (seen-next items i (kernel k e) g) (record {
-      of = AreSchemesOf-append more names schemes out_of_scope no_scheme (AreSchemesOf-extended names more x names schemes h.of) tt;
+      of = AreSchemesOf-append more names schemes out_of_scope scheme_out_of_scope (AreSchemesOf-extended names more x names schemes h.of) tt;
       in_order = AreInOrder-none schemes h.in_order;
     })
 
@@ -110,10 +110,10 @@ AreInOrder-revealed (value e ∷ items) [] h = tt
 AreInOrder-revealed (kernel k e ∷ items) [] h = tt
 AreInOrder-revealed (value e ∷ items) (let_scheme s ∷ schemes) h = (h.0, AreInOrder-revealed items schemes h.1)
 AreInOrder-revealed (value e ∷ items) (kernel_scheme l ∷ schemes) h = AreInOrder-revealed items schemes h
-AreInOrder-revealed (value e ∷ items) (no_scheme ∷ schemes) h = AreInOrder-revealed items schemes h
+AreInOrder-revealed (value e ∷ items) (scheme_out_of_scope ∷ schemes) h = AreInOrder-revealed items schemes h
 AreInOrder-revealed (kernel k e ∷ items) (let_scheme s ∷ schemes) h = AreInOrder-revealed items schemes h.1
 AreInOrder-revealed (kernel k e ∷ items) (kernel_scheme l ∷ schemes) h = AreInOrder-revealed items schemes h
-AreInOrder-revealed (kernel k e ∷ items) (no_scheme ∷ schemes) h = AreInOrder-revealed items schemes h
+AreInOrder-revealed (kernel k e ∷ items) (scheme_out_of_scope ∷ schemes) h = AreInOrder-revealed items schemes h
 
 pub principal-main : (items : List Definition) (schemes : List TopScheme) → ArePrincipal (seen_by_item items (length items)) schemes → ArePrincipal (seen_by_main items) (revealed items schemes)
 principal-main items schemes h =
@@ -131,13 +131,13 @@ AreOwn-schemes tops [] (s ∷ schemes) h = absurd h
 AreOwn-schemes tops (x ∷ names) [] h = absurd h
 AreOwn-schemes tops (let_item e ∷ names) (let_scheme s ∷ schemes) h = (h.0.within, AreOwn-schemes tops names schemes h.1)
 AreOwn-schemes tops (let_item e ∷ names) (kernel_scheme k ∷ schemes) h = absurd h.0
-AreOwn-schemes tops (let_item e ∷ names) (no_scheme ∷ schemes) h = absurd h.0
+AreOwn-schemes tops (let_item e ∷ names) (scheme_out_of_scope ∷ schemes) h = absurd h.0
 AreOwn-schemes tops (kernel_item k ∷ names) (let_scheme s ∷ schemes) h = absurd h.0
 AreOwn-schemes tops (kernel_item k ∷ names) (kernel_scheme l ∷ schemes) h = AreOwn-schemes tops names schemes h.1
-AreOwn-schemes tops (kernel_item k ∷ names) (no_scheme ∷ schemes) h = absurd h.0
+AreOwn-schemes tops (kernel_item k ∷ names) (scheme_out_of_scope ∷ schemes) h = absurd h.0
 AreOwn-schemes tops (out_of_scope ∷ names) (let_scheme s ∷ schemes) h = absurd h.0
 AreOwn-schemes tops (out_of_scope ∷ names) (kernel_scheme l ∷ schemes) h = absurd h.0
-AreOwn-schemes tops (out_of_scope ∷ names) (no_scheme ∷ schemes) h = AreOwn-schemes tops names schemes h.1
+AreOwn-schemes tops (out_of_scope ∷ names) (scheme_out_of_scope ∷ schemes) h = AreOwn-schemes tops names schemes h.1
 
 pub principal-own : (names : List TopLevel) (schemes : List TopScheme) → ArePrincipal names schemes → AreOwn schemes
 principal-own names schemes h = AreOwn-schemes names names schemes h.of

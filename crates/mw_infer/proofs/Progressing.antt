@@ -5,7 +5,7 @@ use Rattle.mw_term.specs.Terms.{Expression, size, num, truth, var, glob, fun, fi
 use Rattle.mw_term.specs.Programs.{Definition, value, kernel, PureProgram}
 use Rattle.mw_term.specs.Typing.{TopLevel, let_item, kernel_item, out_of_scope}
 use Rattle.mw_term.specs.Scoped.{IsScoped, is_seen}
-use Rattle.mw_infer.specs.Schemes.{Scheme, TopScheme, let_scheme, kernel_scheme, no_scheme, AreOwn}
+use Rattle.mw_infer.specs.Schemes.{Scheme, TopScheme, let_scheme, kernel_scheme, scheme_out_of_scope, AreOwn}
 use Rattle.mw_infer.specs.Sources.{IsSource}
 use Rattle.mw_infer.specs.ItemEquations.{unknowns_of_name, classifiers_of_name, unknowns_of, classifiers_of}
 use Rattle.mw_infer.specs.Inferring.{item_unknowns, item_classifiers, let_place, IsSchemeOf, AreSchemesOf}
@@ -56,23 +56,23 @@ seen-schemes tops [] (s ∷ schemes) h = absurd h
 seen-schemes tops (x ∷ names) [] h = absurd h
 seen-schemes tops (let_item e ∷ names) (let_scheme s ∷ schemes) h = ap (λ z. true ∷ z) (seen-schemes tops names schemes h.1)
 seen-schemes tops (let_item e ∷ names) (kernel_scheme k ∷ schemes) h = absurd h.0
-seen-schemes tops (let_item e ∷ names) (no_scheme ∷ schemes) h = absurd h.0
+seen-schemes tops (let_item e ∷ names) (scheme_out_of_scope ∷ schemes) h = absurd h.0
 seen-schemes tops (kernel_item k ∷ names) (let_scheme s ∷ schemes) h = absurd h.0
 seen-schemes tops (kernel_item k ∷ names) (kernel_scheme l ∷ schemes) h = ap (λ z. true ∷ z) (seen-schemes tops names schemes h.1)
-seen-schemes tops (kernel_item k ∷ names) (no_scheme ∷ schemes) h = absurd h.0
+seen-schemes tops (kernel_item k ∷ names) (scheme_out_of_scope ∷ schemes) h = absurd h.0
 seen-schemes tops (out_of_scope ∷ names) (let_scheme s ∷ schemes) h = absurd h.0
 seen-schemes tops (out_of_scope ∷ names) (kernel_scheme l ∷ schemes) h = absurd h.0
-seen-schemes tops (out_of_scope ∷ names) (no_scheme ∷ schemes) h = ap (λ z. false ∷ z) (seen-schemes tops names schemes h.1)
+seen-schemes tops (out_of_scope ∷ names) (scheme_out_of_scope ∷ schemes) h = ap (λ z. false ∷ z) (seen-schemes tops names schemes h.1)
 
 -- numbers of unknowns
 modest-name : (schemes : List TopScheme) (i : ℕ) → AreModest schemes → (unknowns_of_name (slice_get schemes i) ≤ 10000) × (classifiers_of_name (slice_get schemes i) ≤ 10000)
 modest-name [] i h = (omega arith, omega arith)
 modest-name (let_scheme s ∷ schemes) zero h = h.0
 modest-name (kernel_scheme k ∷ schemes) zero h = (omega arith, omega arith)
-modest-name (no_scheme ∷ schemes) zero h = (omega arith, omega arith)
+modest-name (scheme_out_of_scope ∷ schemes) zero h = (omega arith, omega arith)
 modest-name (let_scheme s ∷ schemes) (suc i) h = modest-name schemes i h.1
 modest-name (kernel_scheme k ∷ schemes) (suc i) h = modest-name schemes i h
-modest-name (no_scheme ∷ schemes) (suc i) h = modest-name schemes i h
+modest-name (scheme_out_of_scope ∷ schemes) (suc i) h = modest-name schemes i h
 
 modest-term : (schemes : List TopScheme) (e : Expression) → AreModest schemes → (unknowns_of schemes e ≤ 10000 * size e) × (classifiers_of schemes e ≤ 10000 * size e)
 modest-term schemes (num n) h = (omega arith, omega arith)
@@ -101,7 +101,7 @@ low-schemes : (schemes : List TopScheme) → AreModest schemes → AreOwn scheme
 low-schemes [] h w = tt
 low-schemes (let_scheme s ∷ schemes) h w = (let x = h.0.0 in let y = h.0.1 in Within-more (omega arith) (omega arith) s.type w.0, low-schemes schemes h.1 w.1)
 low-schemes (kernel_scheme k ∷ schemes) h w = low-schemes schemes h w
-low-schemes (no_scheme ∷ schemes) h w = low-schemes schemes h w
+low-schemes (scheme_out_of_scope ∷ schemes) h w = low-schemes schemes h w
 
 -- a part of a resolved program can be judged
 pub can-judge : (names : List TopLevel) (schemes : List TopScheme) (e : Expression) → ArePrincipal names schemes → AreModest schemes → IsScoped (map is_seen names) [] false e → size e < 2 ^ 32 → CanJudge schemes e
@@ -130,13 +130,13 @@ pub modest-let : (schemes : List TopScheme) (s : Scheme) → AreModest schemes �
 modest-let [] s h p q = ((p, q), tt)
 modest-let (let_scheme r ∷ schemes) s h p q = (h.0, modest-let schemes s h.1 p q)
 modest-let (kernel_scheme k ∷ schemes) s h p q = modest-let schemes s h p q
-modest-let (no_scheme ∷ schemes) s h p q = modest-let schemes s h p q
+modest-let (scheme_out_of_scope ∷ schemes) s h p q = modest-let schemes s h p q
 
-pub modest-none : (schemes : List TopScheme) → AreModest schemes → AreModest (schemes ++ (no_scheme ∷ []))
+pub modest-none : (schemes : List TopScheme) → AreModest schemes → AreModest (schemes ++ (scheme_out_of_scope ∷ []))
 modest-none [] h = tt
 modest-none (let_scheme r ∷ schemes) h = (h.0, modest-none schemes h.1)
 modest-none (kernel_scheme k ∷ schemes) h = modest-none schemes h
-modest-none (no_scheme ∷ schemes) h = modest-none schemes h
+modest-none (scheme_out_of_scope ∷ schemes) h = modest-none schemes h
 
 pub modest-revealed : (items : List Definition) (schemes : List TopScheme) → AreModest schemes → AreModest (revealed items schemes)
 modest-revealed [] schemes h = h
@@ -144,7 +144,7 @@ modest-revealed (value e ∷ items) [] h = tt
 modest-revealed (kernel k e ∷ items) [] h = tt
 modest-revealed (value e ∷ items) (let_scheme s ∷ schemes) h = (h.0, modest-revealed items schemes h.1)
 modest-revealed (value e ∷ items) (kernel_scheme l ∷ schemes) h = modest-revealed items schemes h
-modest-revealed (value e ∷ items) (no_scheme ∷ schemes) h = modest-revealed items schemes h
+modest-revealed (value e ∷ items) (scheme_out_of_scope ∷ schemes) h = modest-revealed items schemes h
 modest-revealed (kernel k e ∷ items) (let_scheme s ∷ schemes) h = modest-revealed items schemes h.1
 modest-revealed (kernel k e ∷ items) (kernel_scheme l ∷ schemes) h = modest-revealed items schemes h
-modest-revealed (kernel k e ∷ items) (no_scheme ∷ schemes) h = modest-revealed items schemes h
+modest-revealed (kernel k e ∷ items) (scheme_out_of_scope ∷ schemes) h = modest-revealed items schemes h

@@ -10,7 +10,7 @@ use Rattle.mw_types.specs.Types.{Assignment}
 use Rattle.mw_types.specs.Equations.{TypeEquation, Solves, TooBig, Fine}
 use Rattle.mw_types.proofs.Faults.{one_fault, small_of_fine}
 use Rattle.mw_types.proofs.Smallest.{too_big_not_small}
-use Rattle.mw_infer.specs.Schemes.{TopScheme, let_scheme, kernel_scheme, no_scheme}
+use Rattle.mw_infer.specs.Schemes.{TopScheme, let_scheme, kernel_scheme, scheme_out_of_scope}
 use Rattle.mw_infer.specs.Sources.{IsSource}
 use Rattle.mw_infer.specs.Inferring.{item_unknowns, item_classifiers, item_closes, IsTypableAt, item_equations, AreSchemesOf}
 use Rattle.mw_infer.specs.Checking.{Part, part_of_main, IsPart, an_item, main, AreInOrder, ArePrincipal, TypeFault, not_closed, HasFault, unsolvable, oversized, unclosed, IsFaultless, IsFirstRefusal, AreFaultless, NoneTooBig, IsWritten}
@@ -27,19 +27,19 @@ schemes-one tops (n ∷ names) [] r h k p q = absurd h
 schemes-one tops (n ∷ names) (x ∷ s) [] h k p q = absurd k
 schemes-one tops (let_item e ∷ names) (let_scheme x ∷ s) (let_scheme y ∷ r) h k p q = rw (one_scheme tops e x y h.0 k.0 p.0 q.0, schemes-one tops names s r h.1 k.1 p.1 q.1) refl
 schemes-one tops (let_item e ∷ names) (let_scheme x ∷ s) (kernel_scheme j ∷ r) h k p q = absurd k.0
-schemes-one tops (let_item e ∷ names) (let_scheme x ∷ s) (no_scheme ∷ r) h k p q = absurd k.0
+schemes-one tops (let_item e ∷ names) (let_scheme x ∷ s) (scheme_out_of_scope ∷ r) h k p q = absurd k.0
 schemes-one tops (let_item e ∷ names) (kernel_scheme i ∷ s) (y ∷ r) h k p q = absurd h.0
-schemes-one tops (let_item e ∷ names) (no_scheme ∷ s) (y ∷ r) h k p q = absurd h.0
+schemes-one tops (let_item e ∷ names) (scheme_out_of_scope ∷ s) (y ∷ r) h k p q = absurd h.0
 schemes-one tops (kernel_item l ∷ names) (let_scheme x ∷ s) (y ∷ r) h k p q = absurd h.0
 schemes-one tops (kernel_item l ∷ names) (kernel_scheme i ∷ s) (let_scheme y ∷ r) h k p q = absurd k.0
 schemes-one tops (kernel_item l ∷ names) (kernel_scheme i ∷ s) (kernel_scheme j ∷ r) h k p q = rw (let z : i ≡ j = sym h.0 ∙ k.0 in z, schemes-one tops names s r h.1 k.1 p q) refl
-schemes-one tops (kernel_item l ∷ names) (kernel_scheme i ∷ s) (no_scheme ∷ r) h k p q = absurd k.0
-schemes-one tops (kernel_item l ∷ names) (no_scheme ∷ s) (y ∷ r) h k p q = absurd h.0
+schemes-one tops (kernel_item l ∷ names) (kernel_scheme i ∷ s) (scheme_out_of_scope ∷ r) h k p q = absurd k.0
+schemes-one tops (kernel_item l ∷ names) (scheme_out_of_scope ∷ s) (y ∷ r) h k p q = absurd h.0
 schemes-one tops (out_of_scope ∷ names) (let_scheme x ∷ s) (y ∷ r) h k p q = absurd h.0
 schemes-one tops (out_of_scope ∷ names) (kernel_scheme i ∷ s) (y ∷ r) h k p q = absurd h.0
-schemes-one tops (out_of_scope ∷ names) (no_scheme ∷ s) (let_scheme y ∷ r) h k p q = absurd k.0
-schemes-one tops (out_of_scope ∷ names) (no_scheme ∷ s) (kernel_scheme j ∷ r) h k p q = absurd k.0
-schemes-one tops (out_of_scope ∷ names) (no_scheme ∷ s) (no_scheme ∷ r) h k p q = rw (schemes-one tops names s r h.1 k.1 p q) refl
+schemes-one tops (out_of_scope ∷ names) (scheme_out_of_scope ∷ s) (let_scheme y ∷ r) h k p q = absurd k.0
+schemes-one tops (out_of_scope ∷ names) (scheme_out_of_scope ∷ s) (kernel_scheme j ∷ r) h k p q = absurd k.0
+schemes-one tops (out_of_scope ∷ names) (scheme_out_of_scope ∷ s) (scheme_out_of_scope ∷ r) h k p q = rw (schemes-one tops names s r h.1 k.1 p q) refl
 
 pub principal-one : (names : List TopLevel) (s r : List TopScheme) → ArePrincipal names s → ArePrincipal names r → s ≡ r
 principal-one names s r h k = schemes-one names names s r h.of k.of h.in_order k.in_order

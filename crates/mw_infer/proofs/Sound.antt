@@ -7,7 +7,7 @@ use Rattle.mw_term.specs.Typing.{TopLevel, Typed, t_num, t_truth, t_var, t_let, 
 use Rattle.mw_term.proofs.TypesFormed.{IsPlain-kernel_type}
 use Rattle.mw_types.specs.Types.{Assignment, value}
 use Rattle.mw_types.specs.Equations.{TypeEquation, Solves}
-use Rattle.mw_infer.specs.Schemes.{Scheme, TopScheme, let_scheme, kernel_scheme, no_scheme}
+use Rattle.mw_infer.specs.Schemes.{Scheme, TopScheme, let_scheme, kernel_scheme, scheme_out_of_scope}
 use Rattle.mw_infer.specs.ItemEquations.{Slot, plain_slot, quoted_slot, slot, wrong, unknowns_of, classifiers_of, variable_equations, name_equations, equations, Close, closes}
 use Rattle.mw_infer.specs.Inferring.{AreFresh, formed_type, IsSchemeOf, AreSchemesOf}
 use Rattle.mw_infer.proofs.Formed.{IsPlain-flat_type, IsFormed-formed_type, flat_type-plain, formed_type-plain, fitted, fitted-pair, fitted-function, fitted-plain, fitted-primitive, level_of, Fits-fitted, fitted_entry, fitted_entry-slot, IsAbsent-fitted, get-fitted}
@@ -50,7 +50,7 @@ module _ (tops : List TopLevel) (schemes : List TopScheme) (known : AreSchemesOf
       let q = let-of_scheme tops tops schemes i s known e in
       t_let q.1 (rw (h.0 ∙ value-shifted a o c s.type) (IsSchemeOf-typed tops q.0 s q.2 (from a o c)))
   typed_name u o c g live i (Some (kernel_scheme k)) e h = rw (h.0, value-kernel_expression a k, flat_type-plain (kernel_type k) (IsPlain-kernel_type k)) (t_kernel (kernel-of_scheme tops tops schemes i k known e))
-  typed_name u o c g live i (Some no_scheme) e h = no_wrong a h
+  typed_name u o c g live i (Some scheme_out_of_scope) e h = no_wrong a h
   typed_name u o c g live i None e h = no_wrong a h
   typed_name u o c g (under d) i s e h = no_wrong a h
 

@@ -9,7 +9,7 @@ use Rattle.mw_term.specs.declared.refusal.Refusal.{Refusal}
 use Rattle.mw_term.specs.declared.refusal.Stop.{Stop}
 use Rattle.mw_term.specs.declared.refusal.Stop.TheVariants.{Refused, Memory}
 use Rattle.mw_types.specs.Types.{TypeExpression}
-use Rattle.mw_infer.specs.Schemes.{TopScheme, let_scheme, kernel_scheme, no_scheme, ground_expression}
+use Rattle.mw_infer.specs.Schemes.{TopScheme, let_scheme, kernel_scheme, scheme_out_of_scope, ground_expression}
 use Rattle.mw_infer.specs.Inferring.{main_place, AreSchemesOf}
 use Rattle.mw_infer.specs.Checking.{Part, part_of_item, part_of_main, IsPart, an_item, main, ArePrincipal, IsFaultless, IsFirstRefusal, AreFaultless, IsResolved, IsTypeOf, AreTypesOf, IfRefused}
 use Rattle.mw_infer.specs.Judging.{CanJudge, Judges}
@@ -218,7 +218,7 @@ append-length (y ∷ xs) x = let h = append-length xs x in omega (arith, h)
 
 pub steps-length : (schemes : List TopScheme) (d : Definition) (new : List TopScheme) → Steps schemes d new → length new ≡ length schemes + 1
 steps-length schemes (value e) new s = ap length s.2 ∙ append-length schemes (let_scheme (scheme_of s.0))
-steps-length schemes (kernel k e) new s = ap length s.2 ∙ append-length schemes no_scheme
+steps-length schemes (kernel k e) new s = ap length s.2 ∙ append-length schemes scheme_out_of_scope
 
 pub if-refused : (s : Stop) (f g : Refusal → Type 0) → ((r : Refusal) → f r → g r) → IfRefused s f → IfRefused s g
 if-refused (Refused r) f g h x = h r x

@@ -5,7 +5,7 @@ use Rattle.mw_term.specs.Terms.{Expression, num, truth, var, glob, fun, fix, app
 use Rattle.mw_term.specs.Types.{Level, live, under}
 use Rattle.mw_types.specs.Types.{TypeExpression, int_ty, bool_ty, unknown, pair_ty, function_ty, code_ty, closed_ty, Within, Assignment}
 use Rattle.mw_types.specs.Equations.{TypeEquation, AllWithin, Agree}
-use Rattle.mw_infer.specs.Schemes.{Scheme, TopScheme, let_scheme, kernel_scheme, no_scheme, AreOwn}
+use Rattle.mw_infer.specs.Schemes.{Scheme, TopScheme, let_scheme, kernel_scheme, scheme_out_of_scope, AreOwn}
 use Rattle.mw_infer.specs.ItemEquations.{Slot, plain_slot, quoted_slot, slot, wrong, unknowns_of_name, classifiers_of_name, unknowns_of, classifiers_of, variable_equations, name_equations, equations, Close}
 use Rattle.mw_infer.specs.Below.{SlotBelow, SlotsBelow, LevelBelow, ClosesBelow}
 use Rattle.mw_infer.specs.Inferring.{entry_of, AreFresh}
@@ -74,10 +74,10 @@ pub AreOwn-at : (schemes : List TopScheme) (i : ℕ) (s : Scheme) → AreOwn sch
 AreOwn-at [] i s w e = absurd (cc)
 AreOwn-at (let_scheme r ∷ schemes) zero s w e = let p : r ≡ s = cc in subst (λ y. Within y.unknowns y.classifiers y.type) p w.0
 AreOwn-at (kernel_scheme k ∷ schemes) zero s w e = absurd (cc)
-AreOwn-at (no_scheme ∷ schemes) zero s w e = absurd (cc)
+AreOwn-at (scheme_out_of_scope ∷ schemes) zero s w e = absurd (cc)
 AreOwn-at (let_scheme r ∷ schemes) (suc i) s w e = AreOwn-at schemes i s w.1 e
 AreOwn-at (kernel_scheme k ∷ schemes) (suc i) s w e = AreOwn-at schemes i s w e
-AreOwn-at (no_scheme ∷ schemes) (suc i) s w e = AreOwn-at schemes i s w e
+AreOwn-at (scheme_out_of_scope ∷ schemes) (suc i) s w e = AreOwn-at schemes i s w e
 
 pub wrong-within : (n m : ℕ) → AllWithin n m wrong
 wrong-within n m = ((tt, tt), tt)
@@ -94,7 +94,7 @@ module _ (schemes : List TopScheme) (known : AreOwn schemes) where
   pub name-within : (n m u o c : ℕ) (l : Level) (i : ℕ) (s : Option TopScheme) → slice_get schemes i ≡ s → u < n → o + unknowns_of_name s ≤ n → c + classifiers_of_name s ≤ m → AllWithin n m (name_equations u o c l s)
   name-within n m u o c live i (Some (let_scheme s)) e p q r = ((p, Within-shifted n m o c s.unknowns s.classifiers s.type (AreOwn-at schemes i s known e) q r), tt)
   name-within n m u o c live i (Some (kernel_scheme k)) e p q r = ((p, Within-kernel_expression n m k), tt)
-  name-within n m u o c live i (Some no_scheme) e p q r = wrong-within n m
+  name-within n m u o c live i (Some scheme_out_of_scope) e p q r = wrong-within n m
   name-within n m u o c live i None e p q r = wrong-within n m
   name-within n m u o c (under d) i s e p q r = wrong-within n m
 

@@ -12,7 +12,7 @@ use Rattle.mw_term.specs.declared.refusal.Stop.{Stop}
 use Rattle.mw_term.specs.declared.refusal.Stop.TheVariants.{Refused, Memory}
 use Rattle.mw_types.specs.Types.{TypeExpression, Substitution, after, closed_ty}
 use Rattle.mw_types.specs.Equations.{MostGeneral, IsSmall, TooBig, Fine, FirstUnsolvable, FirstTooBig}
-use Rattle.mw_infer.specs.Schemes.{TopScheme, let_scheme, kernel_scheme, no_scheme, IsInOrder, ground_expression, kernel_expression}
+use Rattle.mw_infer.specs.Schemes.{TopScheme, let_scheme, kernel_scheme, scheme_out_of_scope, IsInOrder, ground_expression, kernel_expression}
 use Rattle.mw_infer.specs.Sources.{IsSource}
 use Rattle.mw_infer.specs.ItemEquations.{Close}
 use Rattle.mw_infer.specs.Inferring.{item_unknowns, item_classifiers, item_closes, Place, let_place, kernel_place, main_place, IsTypableAt, item_equations, entry_of, AreFresh, least, IsInstance, AreSchemesOf}
@@ -40,7 +40,7 @@ abbrev pub AreInOrder : List TopScheme → Type 0
 AreInOrder [] = Unit {0}
 AreInOrder (let_scheme s ∷ schemes) = IsInOrder s × AreInOrder schemes
 AreInOrder (kernel_scheme k ∷ schemes) = AreInOrder schemes
-AreInOrder (no_scheme ∷ schemes) = AreInOrder schemes
+AreInOrder (scheme_out_of_scope ∷ schemes) = AreInOrder schemes
 
 -- the schemes of names: each let's is its most general type. There is one such list at most.
 pub record ArePrincipal (names : List TopLevel) (schemes : List TopScheme) : Type 0 where

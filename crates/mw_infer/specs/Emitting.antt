@@ -7,7 +7,7 @@ use Rattle.mw_types.specs.Types.{Within}
 use Rattle.mw_types.specs.Equations.{TypeEquation, equations_of}
 use Rattle.mw_infer.specs.declared.output.Spot.{Spot}
 use Rattle.mw_infer.specs.declared.output.Output.{Output}
-use Rattle.mw_infer.specs.Schemes.{TopScheme, let_scheme, kernel_scheme, no_scheme}
+use Rattle.mw_infer.specs.Schemes.{TopScheme, let_scheme, kernel_scheme, scheme_out_of_scope}
 use Rattle.mw_infer.specs.ItemEquations.{Slot, Close, unknowns_of, classifiers_of, equations, closes}
 use Rattle.mw_infer.specs.Scoped.{is_quoted, is_quoted_slot, has_scheme}
 use Rattle.mw_infer.specs.Views.{slot_of}
@@ -36,7 +36,7 @@ abbrev pub AreLow : List TopScheme → Type 0
 AreLow [] = Unit {0}
 AreLow (let_scheme s ∷ tops) = Within (2 ^ 63) (2 ^ 63) s.type × AreLow tops
 AreLow (kernel_scheme k ∷ tops) = AreLow tops
-AreLow (no_scheme ∷ tops) = AreLow tops
+AreLow (scheme_out_of_scope ∷ tops) = AreLow tops
 
 -- the equations of a term can be emitted
 pub record CanEmit (old : Output) (tops : List TopScheme) (g : List Slot) (m : Level) (e : Expression) : Type 0 where

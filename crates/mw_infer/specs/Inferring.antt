@@ -5,7 +5,7 @@ use Rattle.mw_term.specs.Types.{TermType, int_type, bool_type, pair_type, functi
 use Rattle.mw_term.specs.Typing.{TopLevel, let_item, kernel_item, out_of_scope, Typed}
 use Rattle.mw_types.specs.Types.{TypeExpression, unknown, closed_ty, Within, Assignment, value}
 use Rattle.mw_types.specs.Equations.{TypeEquation}
-use Rattle.mw_infer.specs.Schemes.{Scheme, TopScheme, let_scheme, kernel_scheme, no_scheme, ground_expression, kernel_expression}
+use Rattle.mw_infer.specs.Schemes.{Scheme, TopScheme, let_scheme, kernel_scheme, scheme_out_of_scope, ground_expression, kernel_expression}
 use Rattle.mw_infer.specs.ItemEquations.{Slot, plain_slot, quoted_slot, equation, unknowns_of, classifiers_of, equations, Close, closes}
 
 -- how many unknowns an item has, of which 0 is its type, and how many classifier unknowns
@@ -91,13 +91,13 @@ pub record IsSchemeOf (tops : List TopLevel) (e : Expression) (s : Scheme) : Typ
 abbrev pub IsSchemeOfName : List TopLevel → TopLevel → TopScheme → Type 0
 IsSchemeOfName tops (let_item e) (let_scheme s) = IsSchemeOf tops e s
 IsSchemeOfName tops (let_item e) (kernel_scheme k) = ⊥
-IsSchemeOfName tops (let_item e) no_scheme = ⊥
+IsSchemeOfName tops (let_item e) scheme_out_of_scope = ⊥
 IsSchemeOfName tops (kernel_item k) (let_scheme s) = ⊥
 IsSchemeOfName tops (kernel_item k) (kernel_scheme l) = k ≡ l
-IsSchemeOfName tops (kernel_item k) no_scheme = ⊥
+IsSchemeOfName tops (kernel_item k) scheme_out_of_scope = ⊥
 IsSchemeOfName tops out_of_scope (let_scheme s) = ⊥
 IsSchemeOfName tops out_of_scope (kernel_scheme k) = ⊥
-IsSchemeOfName tops out_of_scope no_scheme = Unit {0}
+IsSchemeOfName tops out_of_scope scheme_out_of_scope = Unit {0}
 
 -- each name of a list has its scheme
 abbrev pub AreSchemesOf : List TopLevel → List TopLevel → List TopScheme → Type 0

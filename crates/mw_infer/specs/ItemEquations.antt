@@ -9,7 +9,7 @@ use Rattle.mw_term.specs.Terms.{Expression, num, truth, var, glob, fun, fix, app
 use Rattle.mw_term.specs.Types.{Level, live, under}
 use Rattle.mw_types.specs.Types.{TypeExpression, int_ty, bool_ty, unknown, pair_ty, function_ty, code_ty, closed_ty}
 use Rattle.mw_types.specs.Equations.{TypeEquation}
-use Rattle.mw_infer.specs.Schemes.{TopScheme, let_scheme, kernel_scheme, no_scheme, shifted, kernel_expression, primitive_expression}
+use Rattle.mw_infer.specs.Schemes.{TopScheme, let_scheme, kernel_scheme, scheme_out_of_scope, shifted, kernel_expression, primitive_expression}
 
 -- what an environment knows of a binder: its unknown, and at level 1 the classifier unknown under which it stands
 pub data Slot : Type 0 where
@@ -32,13 +32,13 @@ wrong = equation int_ty bool_ty ∷ []
 abbrev pub unknowns_of_name : Option TopScheme → ℕ
 unknowns_of_name (Some (let_scheme s)) = s.unknowns
 unknowns_of_name (Some (kernel_scheme k)) = 0
-unknowns_of_name (Some no_scheme) = 0
+unknowns_of_name (Some scheme_out_of_scope) = 0
 unknowns_of_name None = 0
 
 abbrev pub classifiers_of_name : Option TopScheme → ℕ
 classifiers_of_name (Some (let_scheme s)) = s.classifiers
 classifiers_of_name (Some (kernel_scheme k)) = 0
-classifiers_of_name (Some no_scheme) = 0
+classifiers_of_name (Some scheme_out_of_scope) = 0
 classifiers_of_name None = 0
 
 -- how many unknowns a term has beside its type
@@ -102,7 +102,7 @@ variable_equations u (under a) None = wrong
 abbrev pub name_equations : ℕ → ℕ → ℕ → Level → Option TopScheme → List TypeEquation
 name_equations u o c live (Some (let_scheme s)) = equation (unknown u) (shifted o c s.type) ∷ []
 name_equations u o c live (Some (kernel_scheme k)) = equation (unknown u) (closed_ty (kernel_expression k)) ∷ []
-name_equations u o c live (Some no_scheme) = wrong
+name_equations u o c live (Some scheme_out_of_scope) = wrong
 name_equations u o c live None = wrong
 name_equations u o c (under a) s = wrong
 

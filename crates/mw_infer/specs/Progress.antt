@@ -5,7 +5,7 @@ use Rattle.mw_term.specs.Programs.{Definition, value, kernel, PureProgram}
 use Rattle.mw_term.specs.declared.refusal.Refusal.{Refusal}
 use Rattle.mw_types.specs.Types.{TypeExpression, int_ty, closed_ty}
 use Rattle.mw_term.specs.Typable.{seen_by_item}
-use Rattle.mw_infer.specs.Schemes.{TopScheme, let_scheme, kernel_scheme, no_scheme, kernel_expression}
+use Rattle.mw_infer.specs.Schemes.{TopScheme, let_scheme, kernel_scheme, scheme_out_of_scope, kernel_expression}
 use Rattle.mw_infer.specs.Inferring.{Place, let_place, kernel_place}
 use Rattle.mw_infer.specs.Checking.{Part, IsPart, ArePrincipal, TypeFault, HasFault, IsFaultless, refusal_of}
 use Rattle.mw_infer.specs.Judging.{Judges}
@@ -18,7 +18,7 @@ abbrev pub AreModest : List TopScheme → Type 0
 AreModest [] = Unit {0}
 AreModest (let_scheme s ∷ schemes) = ((s.unknowns ≤ 10000) × (s.classifiers ≤ 10000)) × AreModest schemes
 AreModest (kernel_scheme k ∷ schemes) = AreModest schemes
-AreModest (no_scheme ∷ schemes) = AreModest schemes
+AreModest (scheme_out_of_scope ∷ schemes) = AreModest schemes
 
 -- the first i items are without fault, and these are the schemes that the next one sees
 pub record Progress (p : PureProgram) (i : ℕ) (schemes : List TopScheme) : Type 0 where
@@ -33,7 +33,7 @@ IsFaultOf schemes place e i r = (f : TypeFault) × HasFault schemes place e f ×
 -- behind an item that is without fault there are these schemes
 abbrev pub Steps : List TopScheme → Definition → List TopScheme → Type 0
 Steps schemes (value e) new = (l : LetType) × Judges schemes let_place e (Fine l) × (new ≡ schemes ++ (let_scheme (scheme_of l) ∷ []))
-Steps schemes (kernel k e) new = (l : LetType) × Judges schemes (kernel_place k) e (Fine l) × (new ≡ schemes ++ (no_scheme ∷ []))
+Steps schemes (kernel k e) new = (l : LetType) × Judges schemes (kernel_place k) e (Fine l) × (new ≡ schemes ++ (scheme_out_of_scope ∷ []))
 
 -- the schemes with those of the kernel items among the first n
 abbrev pub revealed_to : ℕ → List Definition → List TopScheme → List TopScheme
@@ -47,4 +47,4 @@ revealed_to (suc n) (kernel k e ∷ items) (s ∷ schemes) = kernel_scheme k ∷
 abbrev pub type_of_scheme : TopScheme → TypeExpression
 type_of_scheme (let_scheme s) = s.type
 type_of_scheme (kernel_scheme k) = closed_ty (kernel_expression k)
-type_of_scheme no_scheme = int_ty
+type_of_scheme scheme_out_of_scope = int_ty

@@ -17,7 +17,7 @@ pub record Scheme : Type 0 where
 pub data TopScheme : Type 0 where
   let_scheme : (s : Scheme) → TopScheme
   kernel_scheme : (k : KernelType) → TopScheme
-  no_scheme : TopScheme
+  scheme_out_of_scope : TopScheme
 
 -- Read from left to right, a type names unknowns and classifier unknowns that were seen before, whose numbers are below n
 -- and m, and others in the order of their numbers. Behind it those below k and l were seen.
@@ -41,7 +41,7 @@ abbrev pub AreOwn : List TopScheme → Type 0
 AreOwn [] = Unit {0}
 AreOwn (let_scheme s ∷ tops) = Within s.unknowns s.classifiers s.type × AreOwn tops
 AreOwn (kernel_scheme k ∷ tops) = AreOwn tops
-AreOwn (no_scheme ∷ tops) = AreOwn tops
+AreOwn (scheme_out_of_scope ∷ tops) = AreOwn tops
 
 -- the type on new unknowns and classifier unknowns, numbered from these on
 abbrev pub shifted : ℕ → ℕ → TypeExpression → TypeExpression

@@ -1,7 +1,7 @@
 -- Which levels and slots are level 1, and which top-level names are in scope.
 use Rattle.std.specs.Prelude.{Bool, true, false}
 use Rattle.mw_term.specs.Types.{Level, live, under}
-use Rattle.mw_infer.specs.Schemes.{TopScheme, let_scheme, kernel_scheme, no_scheme}
+use Rattle.mw_infer.specs.Schemes.{TopScheme, let_scheme, kernel_scheme, scheme_out_of_scope}
 use Rattle.mw_infer.specs.ItemEquations.{Slot, plain_slot, quoted_slot}
 
 -- level 1
@@ -17,4 +17,4 @@ is_quoted_slot (quoted_slot c u) = true
 abbrev pub has_scheme : TopScheme → Bool
 has_scheme (let_scheme s) = true
 has_scheme (kernel_scheme k) = true
-has_scheme no_scheme = false
+has_scheme scheme_out_of_scope = false

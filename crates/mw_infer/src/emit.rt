@@ -8,21 +8,21 @@ ghost use Rattle.mw_infer.specs.Scoped.{is_quoted};
 ghost use Rattle.mw_infer.specs.Emitting.{Adds, AddsTerm, Binds, CanEmit, IsStaging};
 ghost use Rattle.mw_infer.specs.Views.{level_at, slot_of, slots_of, tops_of};
 
-use crate::names::Known;
+use crate::names::TopScheme;
 use crate::output::{Output, Spot, equate};
 use crate::own;
-use crate::scope::{Binder, Scope, Stage, find, listed};
+use crate::scope::{Binder, Scope, Level, find, listed};
 use mw_term::Term;
 use mw_types::Ty;
 use std::alloc::{AllocError, Global};
 
 /// A binder at the level where it stands.
-fn bound(stage: Stage, unknown: u64) -> Binder
-    ensures { slot_of result ≡ slot (level_at stage) unknown }
+fn bound(level: Level, unknown: u64) -> Binder
+    ensures { slot_of result ≡ slot (level_at level) unknown }
 {
-    match stage {
-        Stage::Live => Binder::Plain(unknown),
-        Stage::Under(classifier) => Binder::Quoted(classifier, unknown),
+    match level {
+        Level::Live => Binder::Plain(unknown),
+        Level::Under(classifier) => Binder::Quoted(classifier, unknown),
     }
 }
 
@@ -31,54 +31,54 @@ fn bound(stage: Stage, unknown: u64) -> Binder
 pub fn emit(
     term: &Term,
     alloc: Global,
-    names: &[Known],
+    names: &[TopScheme],
     scope: &Scope,
-    stage: Stage,
+    level: Level,
     own: u64,
     out: &mut Output,
 ) -> Result<(), AllocError>
-    requires { CanEmit out.old (tops_of names.now) (slots_of scope.now) (level_at stage) (expression_of term.now) }
-    ensures { OnOk result (AddsTerm out.old out.new (tops_of names.now) own (slots_of scope.now) (level_at stage) (expression_of term.now)) }
+    requires { CanEmit out.old (tops_of names.now) (slots_of scope.now) (level_at level) (expression_of term.now) }
+    ensures { OnOk result (AddsTerm out.old out.new (tops_of names.now) own (slots_of scope.now) (level_at level) (expression_of term.now)) }
 {
     let o = out.unknowns;
     match term {
         Term::Int(_) => equate(out, Ty::Unknown(own), Ty::Int),
         Term::Bool(_) => equate(out, Ty::Unknown(own), Ty::Bool),
-        Term::Var(number) => own::variable(alloc, out, own, stage, find(scope, *number)),
+        Term::Var(number) => own::variable(alloc, out, own, level, find(scope, *number)),
         Term::Glob(index) => own::name(alloc, names, out, own, *index),
         Term::Fun(_) | Term::Rec(_) | Term::Let(_, _) => {
-            binding(term, alloc, names, scope, stage, own, out)
+            binding(term, alloc, names, scope, level, own, out)
         }
         Term::App(f, a) => {
             own::application(alloc, out, own)?;
-            emit(f, alloc, names, scope, stage, o, out)?;
-            emit(a, alloc, names, scope, stage, o + 1, out)
+            emit(f, alloc, names, scope, level, o, out)?;
+            emit(a, alloc, names, scope, level, o + 1, out)
         }
         Term::If(p, a, b) => {
             own::condition(out, own)?;
-            emit(p, alloc, names, scope, stage, o, out)?;
-            emit(a, alloc, names, scope, stage, o + 1, out)?;
-            emit(b, alloc, names, scope, stage, o + 2, out)
+            emit(p, alloc, names, scope, level, o, out)?;
+            emit(a, alloc, names, scope, level, o + 1, out)?;
+            emit(b, alloc, names, scope, level, o + 2, out)
         }
         Term::Pair(a, b) => {
             own::pairing(alloc, out, own)?;
-            emit(a, alloc, names, scope, stage, o, out)?;
-            emit(b, alloc, names, scope, stage, o + 1, out)
+            emit(a, alloc, names, scope, level, o, out)?;
+            emit(b, alloc, names, scope, level, o + 1, out)
         }
         Term::Fst(e) => {
             own::first_part(alloc, out, own)?;
-            emit(e, alloc, names, scope, stage, o + 1, out)
+            emit(e, alloc, names, scope, level, o + 1, out)
         }
         Term::Snd(e) => {
             own::second_part(alloc, out, own)?;
-            emit(e, alloc, names, scope, stage, o + 1, out)
+            emit(e, alloc, names, scope, level, o + 1, out)
         }
         Term::Prim(prim, a, b) => {
             own::operation(out, own, *prim)?;
-            emit(a, alloc, names, scope, stage, o, out)?;
-            emit(b, alloc, names, scope, stage, o + 1, out)
+            emit(a, alloc, names, scope, level, o, out)?;
+            emit(b, alloc, names, scope, level, o + 1, out)
         }
-        _ => staging(term, alloc, names, scope, stage, own, out),
+        _ => staging(term, alloc, names, scope, level, own, out),
     }
 }
 
@@ -87,34 +87,34 @@ pub fn emit(
 fn binding(
     term: &Term,
     alloc: Global,
-    names: &[Known],
+    names: &[TopScheme],
     scope: &Scope,
-    stage: Stage,
+    level: Level,
     own: u64,
     out: &mut Output,
 ) -> Result<(), AllocError>
-    requires room { CanEmit out.old (tops_of names.now) (slots_of scope.now) (level_at stage) (expression_of term.now) }
+    requires room { CanEmit out.old (tops_of names.now) (slots_of scope.now) (level_at level) (expression_of term.now) }
     requires form { Binds (expression_of term.now) }
-    ensures { OnOk result (AddsTerm out.old out.new (tops_of names.now) own (slots_of scope.now) (level_at stage) (expression_of term.now)) }
+    ensures { OnOk result (AddsTerm out.old out.new (tops_of names.now) own (slots_of scope.now) (level_at level) (expression_of term.now)) }
 {
     let o = out.unknowns;
     match term {
         Term::Fun(e) => {
             own::lambda(alloc, out, own)?;
-            let inner = Scope::Bound(bound(stage, o), &*scope);
-            emit(e, alloc, names, &inner, stage, o + 1, out)
+            let inner = Scope::Bound(bound(level, o), &*scope);
+            emit(e, alloc, names, &inner, level, o + 1, out)
         }
         Term::Rec(e) => {
             own::recursive(alloc, out, own)?;
-            let outer = Scope::Bound(bound(stage, o + 1), &*scope);
-            let inner = Scope::Bound(bound(stage, o), &outer);
-            emit(e, alloc, names, &inner, stage, o + 2, out)
+            let outer = Scope::Bound(bound(level, o + 1), &*scope);
+            let inner = Scope::Bound(bound(level, o), &outer);
+            emit(e, alloc, names, &inner, level, o + 2, out)
         }
         Term::Let(d, e) => {
             own::binding(out, own)?;
-            emit(d, alloc, names, scope, stage, o + 1, out)?;
-            let inner = Scope::Bound(bound(stage, o), &*scope);
-            emit(e, alloc, names, &inner, stage, o + 2, out)
+            emit(d, alloc, names, scope, level, o + 1, out)?;
+            let inner = Scope::Bound(bound(level, o), &*scope);
+            emit(e, alloc, names, &inner, level, o + 2, out)
         }
         _ => unreachable!(),
     }
@@ -125,60 +125,60 @@ fn binding(
 fn staging(
     term: &Term,
     alloc: Global,
-    names: &[Known],
+    names: &[TopScheme],
     scope: &Scope,
-    stage: Stage,
+    level: Level,
     own: u64,
     out: &mut Output,
 ) -> Result<(), AllocError>
-    requires room { CanEmit out.old (tops_of names.now) (slots_of scope.now) (level_at stage) (expression_of term.now) }
+    requires room { CanEmit out.old (tops_of names.now) (slots_of scope.now) (level_at level) (expression_of term.now) }
     requires form { IsStaging (expression_of term.now) }
-    ensures { OnOk result (AddsTerm out.old out.new (tops_of names.now) own (slots_of scope.now) (level_at stage) (expression_of term.now)) }
+    ensures { OnOk result (AddsTerm out.old out.new (tops_of names.now) own (slots_of scope.now) (level_at level) (expression_of term.now)) }
 {
     let o = out.unknowns;
     match term {
         Term::Bracket(e) => {
             let classifier = out.classifiers;
             own::bracket(alloc, out, own)?;
-            emit(e, alloc, names, scope, Stage::Under(classifier), o, out)
+            emit(e, alloc, names, scope, Level::Under(classifier), o, out)
         }
         Term::Escape(e) => {
-            own::escape(alloc, out, own, classifier_of(stage))?;
-            emit(e, alloc, names, scope, Stage::Live, o, out)
+            own::escape(alloc, out, own, classifier_of(level))?;
+            emit(e, alloc, names, scope, Level::Live, o, out)
         }
         Term::Run(kind, e) => {
             own::run(alloc, out, own, kind)?;
-            emit(e, alloc, names, scope, stage, o, out)
+            emit(e, alloc, names, scope, level, o, out)
         }
         Term::CloseCode(at, e) => {
             let classifier = out.classifiers;
             own::close(alloc, out, own)?;
             close_here(alloc, out, *at, classifier, scope)?;
-            emit(e, alloc, names, scope, stage, o + 1, out)
+            emit(e, alloc, names, scope, level, o + 1, out)
         }
         Term::OpenCode(e) => {
             own::open(alloc, out, own)?;
-            emit(e, alloc, names, scope, stage, o + 1, out)
+            emit(e, alloc, names, scope, level, o + 1, out)
         }
         Term::Lift(e) => {
             own::lift(alloc, out, own)?;
-            emit(e, alloc, names, scope, stage, o, out)
+            emit(e, alloc, names, scope, level, o, out)
         }
         Term::LiftB(e) => {
             own::lift_truth(alloc, out, own)?;
-            emit(e, alloc, names, scope, stage, o, out)
+            emit(e, alloc, names, scope, level, o, out)
         }
         _ => unreachable!(),
     }
 }
 
 /// The classifier unknown of level 1.
-fn classifier_of(stage: Stage) -> u64
-    ensures { IsTrue (is_quoted (level_at stage)) → level_at stage ≡ under result }
+fn classifier_of(level: Level) -> u64
+    ensures { IsTrue (is_quoted (level_at level)) → level_at level ≡ under result }
 {
-    match stage {
-        Stage::Live => 0,
-        Stage::Under(classifier) => classifier,
+    match level {
+        Level::Live => 0,
+        Level::Under(classifier) => classifier,
     }
 }
 

@@ -13,8 +13,8 @@ pub struct LetType {
 
 /// What a name has: a let its most general type, a kernel item that is in scope its kernel type.
 #[derive(Debug, Drop)]
-pub enum Known<'p> {
+pub enum TopScheme<'p> {
     Let(LetType),
     Kernel(&'p KType),
-    Hidden,
+    OutOfScope,
 }

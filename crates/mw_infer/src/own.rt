@@ -11,9 +11,9 @@ ghost use Rattle.mw_infer.specs.Emitting.{Adds, AreLow, HasRoom};
 ghost use Rattle.mw_infer.specs.Views.{level_at, slot_of, top_of, tops_of};
 
 use crate::build::{closed, code, function, kernel_ty, pair, shift};
-use crate::names::Known;
+use crate::names::TopScheme;
 use crate::output::{Output, equate};
-use crate::scope::{Binder, Stage};
+use crate::scope::{Binder, Level};
 use mw_term::{Ground, KType, Prim};
 use mw_types::Ty;
 use std::alloc::{AllocError, Global};
@@ -245,14 +245,14 @@ pub fn variable(
     alloc: Global,
     out: &mut Output,
     own: u64,
-    stage: Stage,
+    level: Level,
     binder: Option<Binder>,
 ) -> Result<(), AllocError>
-    ensures { OnOk result (Adds out.old out.new 0 0 (variable_equations own (level_at stage) (option_map slot_of binder)) []) }
+    ensures { OnOk result (Adds out.old out.new 0 0 (variable_equations own (level_at level) (option_map slot_of binder)) []) }
 {
-    match (stage, binder) {
-        (Stage::Live, Some(Binder::Plain(x))) => equate(out, Ty::Unknown(own), Ty::Unknown(x)),
-        (Stage::Under(a), Some(Binder::Quoted(b, x))) => {
+    match (level, binder) {
+        (Level::Live, Some(Binder::Plain(x))) => equate(out, Ty::Unknown(own), Ty::Unknown(x)),
+        (Level::Under(a), Some(Binder::Quoted(b, x))) => {
             equate(out, Ty::Unknown(own), Ty::Unknown(x))?;
             let left = code(alloc, a, Ty::Int)?;
             let right = code(alloc, b, Ty::Int)?;
@@ -262,32 +262,32 @@ pub fn variable(
     }
 }
 
-/// A name of type `own` that has a scheme, or is hidden.
-fn known_name(alloc: Global, known: &Known, out: &mut Output, own: u64) -> Result<(), AllocError>
-    requires room { HasRoom out.old (unknowns_of_name (Some (top_of known.now))) (classifiers_of_name (Some (top_of known.now))) }
-    requires low { AreLow (top_of known.now ∷ []) }
-    ensures { OnOk result (Adds out.old out.new (unknowns_of_name (Some (top_of known.now))) (classifiers_of_name (Some (top_of known.now))) (name_equations own out.old.unknowns out.old.classifiers live (Some (top_of known.now))) []) }
+/// A name of type `own` that has a scheme, or is out of scope.
+fn named_scheme(alloc: Global, named: &TopScheme, out: &mut Output, own: u64) -> Result<(), AllocError>
+    requires room { HasRoom out.old (unknowns_of_name (Some (top_of named.now))) (classifiers_of_name (Some (top_of named.now))) }
+    requires low { AreLow (top_of named.now ∷ []) }
+    ensures { OnOk result (Adds out.old out.new (unknowns_of_name (Some (top_of named.now))) (classifiers_of_name (Some (top_of named.now))) (name_equations own out.old.unknowns out.old.classifiers live (Some (top_of named.now))) []) }
 {
-    match known {
-        Known::Let(scheme) => {
+    match named {
+        TopScheme::Let(scheme) => {
             let o = out.unknowns;
             let c = out.classifiers;
             take(out, scheme.unknowns, scheme.classifiers);
             let ty = shift(alloc, &scheme.ty, o, c)?;
             equate(out, Ty::Unknown(own), ty)
         }
-        Known::Kernel(kind) => {
+        TopScheme::Kernel(kind) => {
             let inner = kernel_ty(alloc, kind)?;
             let ty = closed(alloc, inner)?;
             equate(out, Ty::Unknown(own), ty)
         }
-        Known::Hidden => equate(out, Ty::Int, Ty::Bool),
+        TopScheme::OutOfScope => equate(out, Ty::Int, Ty::Bool),
     }
 }
 
 /// What the name at a place has.
-fn lookup<'n, 'p>(names: &'n [Known<'p>], index: u32) -> Option<&'n Known<'p>>
-    ensures { option_map (λ known. top_of known.now) result ≡ slice_get (tops_of names.now) index }
+fn lookup<'n, 'p>(names: &'n [TopScheme<'p>], index: u32) -> Option<&'n TopScheme<'p>>
+    ensures { option_map (λ scheme. top_of scheme.now) result ≡ slice_get (tops_of names.now) index }
 {
     names.get(index as usize)
 }
@@ -295,7 +295,7 @@ fn lookup<'n, 'p>(names: &'n [Known<'p>], index: u32) -> Option<&'n Known<'p>>
 /// A top-level name of type `own`.
 pub fn name(
     alloc: Global,
-    names: &[Known],
+    names: &[TopScheme],
     out: &mut Output,
     own: u64,
     index: u32,
@@ -305,7 +305,7 @@ pub fn name(
     ensures { OnOk result (Adds out.old out.new (unknowns_of_name (slice_get (tops_of names.now) index)) (classifiers_of_name (slice_get (tops_of names.now) index)) (name_equations own out.old.unknowns out.old.classifiers live (slice_get (tops_of names.now) index)) []) }
 {
     match lookup(names, index) {
-        Some(known) => known_name(alloc, known, out, own),
+        Some(scheme) => named_scheme(alloc, scheme, out, own),
         None => equate(out, Ty::Int, Ty::Bool),
     }
 }

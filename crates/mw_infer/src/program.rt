@@ -15,7 +15,7 @@ ghost use Rattle.mw_infer.specs.declared.judge.Verdict.TheVariants.{Fine};
 
 use crate::build::{closed, code, function, ground_ty, kernel_ty, pair};
 use crate::judge::{Verdict, judge};
-use crate::names::{Known, LetType};
+use crate::names::{TopScheme, LetType};
 use crate::own::Asked;
 use mw_term::{Ground, Item, ItemKind, Program, Refusal, Stop, Term};
 use mw_types::Ty;
@@ -24,7 +24,7 @@ use std::alloc::{AllocError, Global};
 /// The most general type of an item, or the refusal of the program for its fault.
 fn judged(
     alloc: Global,
-    names: &[Known],
+    names: &[TopScheme],
     asked: &Asked,
     term: &Term,
     index: u32,
@@ -42,7 +42,7 @@ fn judged(
 }
 
 /// An item: what the items behind it see of it is added.
-fn step(alloc: Global, names: &mut Vec<Known>, item: &Item, index: u32) -> Result<(), Stop>
+fn step(alloc: Global, names: &mut Vec<TopScheme>, item: &Item, index: u32) -> Result<(), Stop>
     requires { CanJudge (tops_of names.old.items) (part_of_item [] (definition_of item.now.kind)).term }
     ensures ok { OnOk result (Steps (tops_of names.old.items) (definition_of item.now.kind) (tops_of names.new.items)) }
     ensures refused { IfErr result (λ stop. IfRefused stop (IsFaultOf (tops_of names.old.items) (part_of_item [] (definition_of item.now.kind)).place (part_of_item [] (definition_of item.now.kind)).term index)) }
@@ -50,25 +50,25 @@ fn step(alloc: Global, names: &mut Vec<Known>, item: &Item, index: u32) -> Resul
     match &item.kind {
         ItemKind::Value(term) => {
             let known = judged(alloc, names.as_slice(), &Asked::Anything, term, index)?;
-            names.push(Known::Let(known))?;
+            names.push(TopScheme::Let(known))?;
             Ok(())
         }
         ItemKind::Kernel(kind, term) => {
             let _known = judged(alloc, names.as_slice(), &Asked::Kernel(kind), term, index)?;
-            names.push(Known::Hidden)?;
+            names.push(TopScheme::OutOfScope)?;
             Ok(())
         }
     }
 }
 
 /// Shows main the kernel items.
-fn reveal<'p>(names: &mut Vec<Known<'p>>, items: &'p [Item])
+fn reveal<'p>(names: &mut Vec<TopScheme<'p>>, items: &'p [Item])
     requires { length names.old.items ≡ length items.now }
     ensures { tops_of names.new.items ≡ revealed_to (length items.now) (map (λ item. definition_of item.kind) items.now) (tops_of names.old.items) }
 {
     for at in 0..items.len() {
         if let ItemKind::Kernel(kind, _) = &items[at].kind {
-            names[at] = Known::Kernel(kind);
+            names[at] = TopScheme::Kernel(kind);
         }
     }
 }
@@ -76,7 +76,7 @@ fn reveal<'p>(names: &mut Vec<Known<'p>>, items: &'p [Item])
 /// Main, behind whose check nothing is left to do.
 fn last(
     alloc: Global,
-    names: &[Known],
+    names: &[TopScheme],
     ground: &Ground,
     body: &Term,
     index: u32,
@@ -90,7 +90,7 @@ fn last(
 }
 
 /// What main sees of the items, where no part of the program has a fault; else the first refusal.
-pub fn whole<'p>(alloc: Global, program: &'p Program) -> Result<Vec<Known<'p>>, Stop>
+pub fn whole<'p>(alloc: Global, program: &'p Program) -> Result<Vec<TopScheme<'p>>, Stop>
     requires { IsResolved (program_of program.now) }
     ensures faultless { IfOk result (λ _. AreFaultless (program_of program.now)) }
     ensures principal { IfOk result (λ names. ArePrincipal (seen_by_main (program_of program.now).items) (tops_of names.items)) }
@@ -149,26 +149,26 @@ fn copied(alloc: Global, ty: &Ty) -> Result<Ty, AllocError>
 }
 
 /// The type of a name.
-fn known_ty(alloc: Global, known: &Known) -> Result<Ty, AllocError>
+fn scheme_ty(alloc: Global, known: &TopScheme) -> Result<Ty, AllocError>
     ensures { IfOk result (λ ty. type_of ty ≡ type_of_scheme (top_of known.now)) }
 {
     match known {
-        Known::Let(scheme) => copied(alloc, &scheme.ty),
-        Known::Kernel(kind) => {
+        TopScheme::Let(scheme) => copied(alloc, &scheme.ty),
+        TopScheme::Kernel(kind) => {
             let inner = kernel_ty(alloc, kind)?;
             closed(alloc, inner)
         }
-        Known::Hidden => Ok(Ty::Int),
+        TopScheme::OutOfScope => Ok(Ty::Int),
     }
 }
 
 /// The types of all items and of main.
-pub fn types_of(alloc: Global, names: &[Known], ground: &Ground) -> Result<Vec<Ty>, AllocError>
+pub fn types_of(alloc: Global, names: &[TopScheme], ground: &Ground) -> Result<Vec<Ty>, AllocError>
     ensures { IfOk result (λ types. map type_of types.items ≡ map type_of_scheme (tops_of names.now) ++ (ground_expression (ground_of ground.now) ∷ [])) }
 {
     let mut types = Vec::new(alloc);
-    for known in names {
-        types.push(known_ty(alloc, known)?)?;
+    for named in names {
+        types.push(scheme_ty(alloc, named)?)?;
     }
     types.push(ground_ty(alloc, ground)?)?;
     Ok(types)

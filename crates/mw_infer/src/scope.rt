@@ -8,7 +8,7 @@ use std::alloc::{AllocError, Global};
 
 /// The level of a term: 0, or 1 under a classifier unknown.
 #[derive(Clone, Copy, Debug, PartialEq, Eq)]
-pub enum Stage {
+pub enum Level {
     Live,
     Under(u64),
 }

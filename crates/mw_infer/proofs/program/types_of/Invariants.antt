@@ -4,5 +4,5 @@ use Rattle.mw_infer.specs.Progress.{type_of_scheme}
 use Rattle.mw_infer.specs.Views.{tops_of}
 use Rattle.mw_infer.proofs.program.types_of.Given as goal
 
-abbrev pub invariant-loop-known : goal.invariant-loop-known
-invariant-loop-known l = map type_of l.types.items ≡ map type_of_scheme (tops_of (take l.known-index l.names))
+abbrev pub invariant-loop-named : goal.invariant-loop-named
+invariant-loop-named l = map type_of l.types.items ≡ map type_of_scheme (tops_of (take l.named-index l.names))
