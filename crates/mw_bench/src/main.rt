@@ -70,7 +70,7 @@ fn code(alloc: Global, classifier: u64, ty: Ty) -> Result<Ty, AllocError> {
     Ok(Ty::Code(classifier, Box::new(alloc, ty)?))
 }
 
-/// A later unknown of the same group of eight, which a number chooses, or int behind the last.
+/// A later unknown of the same group of eight, which a number chooses, or int after the last.
 fn later(unknown: u64, count: u64, choice: u64) -> Ty {
     let left = 7 - unknown % 8;
     let next = unknown.saturating_add(1);

@@ -1,7 +1,7 @@
--- What is left of a file behind its first bytes.
+-- What is left of a file after its first bytes.
 use Rattle.std.proofs.Common.{◌≡◌, ℕ, zero, suc, List, [], ◌∷◌, ◌++◌, take, drop, sym}
 
--- what stands behind a front is the rest
+-- what stands after a front is the rest
 pub rest_behind : (n : ℕ) (file rest : List ℕ) → file ≡ take n file ++ rest → rest ≡ drop n file
 rest_behind zero file rest e = sym e
 rest_behind (suc n) [] rest e = sym e

@@ -5,11 +5,11 @@ use Rattle.mw_outside.specs.Count.{GrowsByFront}
 use Rattle.std.proofs.Math.Seq.{take-add}
 use Rattle.std.proofs.lemmas.List.{append_assoc, length-take, take-take}
 
--- a piece that was put behind others
+-- a piece that was put after others
 pub put_more : (t x more u v : List ℕ) → u ≡ t ++ x → v ≡ u ++ more → v ≡ t ++ (x ++ more)
 put_more t x more u v e f = f ∙ (ap (λ y. y ++ more) e ∙ append_assoc t x more)
 
--- three pieces that were put behind others
+-- three pieces that were put after others
 pub three_put : (t a b c x y z : List ℕ) → a ≡ t ++ x → b ≡ a ++ y → c ≡ b ++ z → c ≡ t ++ (x ++ y ++ z)
 three_put t a b c x y z p q r = put_more t (x ++ y) z b c (put_more t x y a b p q) r
 
@@ -20,14 +20,14 @@ name_put t a b c d e name kind p q r s u =
     let line = codes "kernel " ++ name ++ codes " : " in
     put_more t (line ++ kind) (codes "\n") d e (put_more t line kind c d (three_put t a b c (codes "kernel ") name (codes " : ") p q r) s) u
 
--- a line that was written behind a front of the text
+-- a line that was written after a front of the text
 pub line_written : (old middle new text : List ℕ) (done end : ℕ) → done ≤ end → middle ≡ old ++ take done text → new ≡ middle ++ take (end - done) (drop done text) → new ≡ old ++ take end text
 line_written old middle new text done end h before here =
     let whole = take-add done (end - done) text in
     let sum : done + (end - done) ≡ end = omega arith in
     rw (here, before, append_assoc, ← whole, sum) refl
 
--- a front of a line that was written behind a front of the text
+-- a front of a line that was written after a front of the text
 pub front_written : (old middle new text : List ℕ) (done end : ℕ) → done ≤ end → end ≤ length text → middle ≡ old ++ take done text → GrowsByFront middle new (take (end - done) (drop done text)) → GrowsByFront old new text
 front_written old middle new text done end h le before grows =
     let count = grows.0 in

@@ -123,7 +123,7 @@ inner_within r ps inner ls e = ap length e ∙ inner_length r ps ls
 pub closure_is : (r : Bool) (e : Expression) (k s : ℕ) (ps held : List Place) (ls : List ℕ) → ls ≡ levels (length ps) (outer_free r e) 0 → held ≡ places ps ls → closure k held ≡ code (function r e) k (length ps) s (place_at ps)
 closure_is r e k s ps held ls f g = ap (λ h. closure k h) (g ∙ (ap (λ ls. places ps ls) f ∙ places_are ps (outer_free r e))) ∙ sym (code_is r e k (length ps) s (place_at ps))
 
--- the function, behind those within it
+-- the function, after those within it
 pub function_added : (r : Bool) (e : Expression) (ps inner : List Place) (ls : List ℕ) (k left n free slots : ℕ) (body : Ir) (old new : List IrFunc) → left ≡ suc k → n ≡ within r (length ps) → ls ≡ levels (length ps) (outer_free r e) 0 → inner ≡ freeing ps ls 0 ++ own_places r → ClosedBelow (within r (length ps)) e → free ≡ length ls → slots ≡ lets e → body ≡ code e left n 0 (place_at inner) → new ≡ old ++ reverse (functions e left n) → new ++ record { free = free; slots = slots; body = body } ∷ [] ≡ old ++ reverse (functions (function r e) k (length ps))
 function_added r e ps inner ls k left n free slots body old new f g h i c m o b w =
     let inner' : inner ≡ freeing ps (levels (length ps) (outer_free r e) 0) 0 ++ own_places r = i ∙ ap (λ ls. freeing ps ls 0 ++ own_places r) h in

@@ -82,7 +82,7 @@ past_all bs (suc d) p l le = go (p d) (past_all bs d p (suc l) (omega arith))
     go true h = ap (λ (z : List Bool). marking z (levels d p (suc l))) (set_past bs l true le) ∙ h
     go false h = h
 
--- behind a front that is done
+-- after a front that is done
 marking_behind : (front bs : List Bool) (u : ℕ) (p : ℕ → Bool) → marking (front ++ bs) (levels (length bs + u) p (length front)) ≡ front ++ joined bs (λ i. p (u + i))
 marking_behind front [] u p = past_all (front ++ []) (0 + u) p (length front) (omega (arith, length-append front []))
 marking_behind front (b ∷ bs) u p =

@@ -59,11 +59,11 @@ IsKernelOf (Ok e) d = IsSumEntry e × ((mode : Mode) (globals : List Value) → 
 IsKernelOf (Err (Bound limit)) d = (limit ≡ KernelSize) × (c : Expression) × (within_limits c ≡ false) × ((mode : Mode) (globals : List Value) → HasCode mode globals d c)
 IsKernelOf (Err (Memory error)) d = Unit {0}
 
--- the lines of a kernel were put behind a text
+-- the lines of a kernel were put after a text
 abbrev pub IsKernelText : List ℕ → KernelType → Expression → List ℕ → List ℕ → Type 0
 IsKernelText x k c before after = after ≡ before ++ kernel_lines Plain (record { name = x; kind = k; code = c })
 
--- the line of a bound was put behind a text; want of memory has no line
+-- the line of a bound was put after a text; want of memory has no line
 abbrev pub IsStopped : Interrupt → List ℕ → List ℕ → List ℕ → Status → Type 0
 IsStopped (Bound l) x before after s = (after ≡ before ++ ending_line (bounded l x)) × (s ≡ status.Bound l)
 IsStopped (Memory error) x before after s = ⊥

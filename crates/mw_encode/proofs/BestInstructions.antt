@@ -22,7 +22,7 @@ indexed b n = best_then (best_byte b) (best_u32 n)
 accessed : (b m n : ℕ) → Best (byte b then u32 m then u32 n) (b ∷ (number m ++ number n))
 accessed b m n = best_then (best_byte b) (best_then (best_u32 m) (best_u32 n))
 
--- a piece behind the byte 05 has a byte at least
+-- a piece after the byte 05 has a byte at least
 behind_five : (P : List ℕ → Type 0) (other : List ℕ) → (byte 0x05 then P) other → 1 ≤ length other
 behind_five P other p = rw (p.whole, p.first) (omega arith)
 

@@ -35,7 +35,7 @@ pub record Rest {A : Type 0} (P : A → Piece) (f : A → List ℕ) (rest : List
 pub rest_start : {A : Type 0} (P : A → Piece) (f : A → List ℕ) (xs : List A) (out : List ℕ) → Spelled (items P xs) → Rest P f xs out (out ++ flat_map f xs)
 rest_start P f xs out s = record { spelled = s; written = refl }
 
--- the next item, and what is left behind it
+-- the next item, and what is left after it
 pub rest_item : {A : Type 0} (P : A → Piece) (f : A → List ℕ) (xs : List A) (k : ℕ) (x : A) (out whole : List ℕ) → k < length xs → x ≡ get_or xs k x → Rest P f (drop k xs) out whole → Spelled (P x)
 rest_item P f xs k x out whole h e r =
     let split : drop k xs ≡ x ∷ drop (suc k) xs = drop-cons xs k x h ∙ ap (λ y. y ∷ drop (suc k) xs) (sym e) in
@@ -58,7 +58,7 @@ drop_past (x ∷ xs) (suc k) h = drop_past xs k (omega arith)
 pub rest_end : {A : Type 0} (P : A → Piece) (f : A → List ℕ) (xs : List A) (k : ℕ) (out whole : List ℕ) → length xs ≤ k → Rest P f (drop k xs) out whole → out ≡ whole
 rest_end P f xs k out whole h r = let e : drop k xs ≡ [] = drop_past xs k h in let w : out ++ [] ≡ whole = rw e at r.written in sym (append-nil out) ∙ w
 
--- a vector, behind its count
+-- a vector, after its count
 pub vector_start : {A : Type 0} (P : A → Piece) (f : A → List ℕ) (xs : List A) (old out : List ℕ) → Spelled (vector P xs) → out ≡ old ++ number (length xs) → Rest P f xs out (old ++ vector_bytes f xs)
 vector_start P f xs old out s e = record { spelled = spelled_second s; written = rw (e, append_assoc) refl }
 

@@ -31,7 +31,7 @@ constant N n = shortest_signed (signed_of N n)
 abbrev pub vector_bytes : {A : Type 0} → (A → List ℕ) → List A → List ℕ
 vector_bytes f xs = number (length xs) ++ flat_map f xs
 
--- a content behind its size
+-- a content after its size
 abbrev pub sized_bytes : List ℕ → List ℕ
 sized_bytes content = number (length content) ++ content
 

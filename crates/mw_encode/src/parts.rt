@@ -197,7 +197,7 @@ pub fn put_locals(alloc: Global, out: &mut Vec<u8>, types: &ValTypes) -> Result<
     out.extend_from_slice(runs.as_slice())
 }
 
-/// Appends a function's locals and body behind their size.
+/// Appends a function's locals and body after their size.
 pub fn put_function_code(
     alloc: Global,
     out: &mut Vec<u8>,

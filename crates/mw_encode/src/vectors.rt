@@ -92,7 +92,7 @@ fn signed_64(bits: u64) -> i64
     }
 }
 
-/// Appends a content behind its size.
+/// Appends a content after its size.
 pub fn put_sized(out: &mut Vec<u8>, content: &[u8]) -> Result<(), AllocError>
     requires { length content.now < 2 ^ 32 }
     ensures { OnOk result (out.new.items ≡ out.old.items ++ sized_bytes content.now) }

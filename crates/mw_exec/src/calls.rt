@@ -22,7 +22,7 @@ fn zero_of(t: ValType) -> Value
     }
 }
 
-/// Arguments and then zeros, behind the locals that are there.
+/// Arguments and then zeros, after the locals that are there.
 pub fn push_locals(
     locals: &mut Vec<Value>,
     arguments: &[Value],

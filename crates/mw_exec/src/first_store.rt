@@ -117,7 +117,7 @@ fn place_bytes(bytes: &mut Vec<u8>, at: usize, segment: &[u8])
     }
 }
 
-/// Bytes are written from a place on, behind zeros up to it; where there are none, nothing is.
+/// Bytes are written from a place on, after zeros up to it; where there are none, nothing is.
 fn place_segment(
     bytes: &mut Vec<u8>,
     at: usize,

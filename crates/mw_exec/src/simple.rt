@@ -1,4 +1,4 @@
-// Instructions that work on operands, locals, globals and memory, and go on behind themselves.
+// Instructions that work on operands, locals, globals and memory, and go on after themselves.
 
 ghost use Rattle.std.specs.Prelude.{◌≡◌, ◌≤◌, ◌∷◌, ◌++◌, [], List, length, take, drop, IfOk, IfErr, None};
 ghost use Rattle.mw_wasm.specs.declared.values.Value.{Value as WasmValue};

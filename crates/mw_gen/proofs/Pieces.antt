@@ -57,7 +57,7 @@ within_u32 n h =
     let s = unsigned_shortest 32 n (omega arith) h in
     record { bytes = shortest_unsigned n; spell = s.spells; short = let p = unsigned_length (shortest_unsigned n) 32 n s.spells in omega arith }
 
--- a content of few enough bytes, behind its size
+-- a content of few enough bytes, after its size
 pub within_sized : {k : ℕ} {P : List ℕ → Type 0} → k < 2 ^ 32 → SpelledWithin k P → SpelledWithin (5 + k) (sized P)
 within_sized h s =
     let small : length s.bytes < 2 ^ 32 = (let p = s.short in omega arith) in

@@ -206,7 +206,7 @@ abbrev pub elements_of : ℕ → List ElementSegment
 elements_of zero = []
 elements_of (suc n) = record { offset = next (const_i32 0) end; funcs = counting 0 (suc n) } ∷ []
 
--- the module of the functions t, and of the code outside them with its slots: function n is number n, `init` stands behind them
+-- the module of the functions t, and of the code outside them with its slots: function n is number n, `init` stands after them
 -- and `call` last; a memory of 64 pages
 abbrev pub module_with : Version → List IrFunc → ℕ → Ir → KernelType → PureModule
 module_with v t slots body k = record {

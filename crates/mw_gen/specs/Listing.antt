@@ -1,4 +1,4 @@
--- Generated code as instructions, one behind the other, as the program appends them.
+-- Generated code as instructions, one after the other, as the program appends them.
 use Rattle.std.specs.Prelude.{ℕ, ◌+◌, ◌*◌, ◌<◌, ◌≤◌, ◌≡◌, if◌then◌else◌, List, [], ◌∷◌, ◌++◌, length, map, Some}
 use Rattle.std.specs.Int.{cast_unsigned}
 use mir.Syntax.{w64}

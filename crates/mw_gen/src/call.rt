@@ -26,7 +26,7 @@ pub fn leaves(kind: &Ground) -> u32
 }
 
 /// Appends the code that makes an argument of its leaves, which stand in the locals from `first` on. It gives the local
-/// behind them.
+/// after them.
 fn put_argument(out: &mut Instrs, kind: &Ground, first: u32, spare: u32) -> Result<u32, AllocError>
     requires nodes { first + ground_nodes (ground_of kind.now) ≤ 20000 }
     requires spare { spare < 1000000000 }

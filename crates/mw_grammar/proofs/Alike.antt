@@ -1,4 +1,4 @@
--- What the parser answers behind a front depends on the front alone, up to the next token.
+-- What the parser answers after a front depends on the front alone, up to the next token.
 use Rattle.std.proofs.Common.{◌≡◌, ℕ, zero, suc, ◌-◌, ◌≤◌, max, List, [], ◌∷◌, ◌++◌, refl, Bool, true, false, length, nat_lt, arith}
 use Rattle.mw_lex.specs.Tokens.{Symbol, mod_word, true_word, false_word, bracket_left, escape_mark, paren_left, plus, minus, star, slash, word, number, PureToken, token}
 use Rattle.mw_term.specs.declared.term.Primitive.TheVariants.{Add, Sub, Mul, Div, Mod}
@@ -14,7 +14,7 @@ rest_of (ok v h rest) = rest
 rest_of (syntax_at rest) = rest
 rest_of (deep_at rest) = rest
 
--- The answers before two continuations of one front: the same at a token of the front, or both behind it.
+-- The answers before two continuations of one front: the same at a token of the front, or both after it.
 pub data Alike {n : Nonterminal} (r1 r2 : List PureToken) : Answer n → Answer n → Type 0 where
   both : {v : Meaning n} {h : ℕ} (t : PureToken) (u : List PureToken) → Alike r1 r2 (ok v h (t ∷ (u ++ r1))) (ok v h (t ∷ (u ++ r2)))
   stuck : (t : PureToken) (u : List PureToken) → Alike r1 r2 (syntax_at (t ∷ (u ++ r1))) (syntax_at (t ∷ (u ++ r2)))
@@ -25,7 +25,7 @@ pub record Steady {n : Nonterminal} (p : Parser n) : Type 0 where
   pub less : (ts : List PureToken) → length (rest_of (p ts)) ≤ length ts
   pub alike : (t : PureToken) (u r1 r2 : List PureToken) → Alike r1 r2 (p (t ∷ (u ++ r1))) (p (t ∷ (u ++ r2)))
 
--- behind a token that was taken
+-- after a token that was taken
 pub onward : {n : Nonterminal} {p : Parser n} → Steady p → (u r1 r2 : List PureToken) → Alike r1 r2 (p (u ++ r1)) (p (u ++ r2))
 onward s [] r1 r2 = beyond (s.less r1) (s.less r2)
 onward s (t ∷ u) r1 r2 = s.alike t u r1 r2
@@ -74,7 +74,7 @@ branch_alike : {n : Nonterminal} (c : Bool) {r1 r2 : List PureToken} {x x' y y' 
 branch_alike true h k = h
 branch_alike false h k = k
 
--- Operators: none, one behind which its operand stands, or an application, at whose token the argument stands.
+-- Operators: none, one after which its operand stands, or an application, at whose token the argument stands.
 pub data Shape : Row → Symbol → Type 0 where
   no_operator : {w : Row} {k : Symbol} → ((from ts : List PureToken) → opens_by w k from ts ≡ nothing) → Shape w k
   before_operand : {w : Row} {k : Symbol} (p : Primitive) → Sign w k p → ((from ts : List PureToken) → opens_by w k from ts ≡ operator (by_sign p) ts) → Shape w k

@@ -1,4 +1,4 @@
--- What the depth of a front is before, in and behind what a form reads.
+-- What the depth of a front is before, in and after what a form reads.
 use Rattle.std.proofs.Common.{◌≡◌, ℕ, zero, suc, ◌<◌, ◌≤◌, max, List, [], ◌∷◌, refl, ap, ◌∙◌, subst, length, arith}
 use Rattle.mw_lex.specs.Tokens.{Symbol, mod_word, true_word, false_word, bracket_left, escape_mark, paren_left, plus, minus, star, slash, word, number, PureToken, token}
 use Rattle.mw_grammar.specs.SurfaceTrees.{SurfaceTree}

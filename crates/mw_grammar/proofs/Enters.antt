@@ -174,7 +174,7 @@ part_decides : {ts rest : List PureToken} {v : _} {s : Nodes} → Reads base ts 
 part_decides r_int = decides _ _ refl
 part_decides r_bool = decides _ _ refl
 
--- behind a mark each token decides for an expression
+-- after a mark each token decides for an expression
 behind_it : (m : Mark) (ts : List PureToken) {rest : List PureToken} {e : SurfaceTree} {s : Nodes} → In (tree expr) (form (tree expr)) empty ts e s rest → force_of rest < 1 → In (body m) (pick (behind_mark m)) empty ts (define (start_of ts) e) s rest
 behind_it m [] h p = elim h [ ]
 behind_it m (token a b k ∷ ts) h p = i_pick (i_reads h p i_gives)

@@ -55,7 +55,7 @@ verdict_full : (b : ℕ) {ts : List PureToken} {v : PureSurface} {s : Nodes} →
 unfolding full
 verdict_full b {ts = ts} h = verdict (suc (calls b program ts)) b h (omega arith)
 
--- where the answer lies behind the front, the front is not too deep
+-- where the answer lies after the front, the front is not too deep
 low_front : (b : ℕ) (u r : List PureToken) → length (rest_of (full b program (u ++ r))) ≤ length r → IsAtMost b u
 low_front b u r h more v s d = verdict_depth (verdict_full b d) (length more) (beyond_of (two_ways b u r more) h)
 

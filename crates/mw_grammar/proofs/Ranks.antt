@@ -132,7 +132,7 @@ ranked ground = (omega arith, λ g. ((omega arith, λ h. tt), tt))
 ranked part = ranked_part
 ranked base = ranked_base
 
--- behind an operator
+-- after an operator
 pub rank_right : (w : Row) → rank (tree (right w)) < 12
 rank_right sum = omega arith
 rank_right product = omega arith

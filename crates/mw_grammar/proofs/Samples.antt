@@ -27,13 +27,13 @@ pub data Read : (n : Nonterminal) → Form n → Before → List PureToken → M
 pub no_refuses : {n : Nonterminal} {a : Before} {ts rest : List PureToken} {v : Meaning n} {s : Nodes} → Read n refuses a ts v s rest → ⊥
 no_refuses h = elim h [ ]
 
--- some tokens are of the nonterminal, whatever stands behind
+-- some tokens are of the nonterminal, whatever stands after
 pub record Sample (n : Nonterminal) : Type 0 where
   pub more : List PureToken
   pub v : Meaning n
   pub ends : (x : List PureToken) → (s : Nodes) × Reads n (more ++ x) v s x
 
--- some tokens go on with the form, whatever stands before and behind
+-- some tokens go on with the form, whatever stands before and after
 pub record Fills {n : Nonterminal} (F : Form n) : Type 0 where
   pub more : List PureToken
   pub v : Meaning n
@@ -123,7 +123,7 @@ sample ground = ground_sample
 sample part = part_sample
 sample base = base_sample
 
--- where a form stands: at the head of a nonterminal, behind what was read, for the token in hand, or where no operator
+-- where a form stands: at the head of a nonterminal, after what was read, for the token in hand, or where no operator
 -- comes
 pub data Stand : Type 0 where
   first : Stand

@@ -1,4 +1,4 @@
--- The parser reads by the grammar, and stops behind a front that can be completed.
+-- The parser reads by the grammar, and stops after a front that can be completed.
 use Rattle.std.proofs.Common.{◌≡◌, ℕ, zero, suc, ◌+◌, ◌-◌, ◌*◌, ◌<◌, ◌≤◌, max, List, [], ◌∷◌, ◌++◌, refl, ap, ◌∙◌, sym, subst, Bool, true, false, length, nat_lt, append_assoc, arith}
 use Rattle.std.proofs.lemmas.Bool.{ltb-true}
 use Rattle.mw_lex.specs.Tokens.{Symbol, in_word, then_word, else_word, bracket_right, square_left, square_right, item_end, colon, equal, arrow, less, less_equal, and_mark, or_mark, paren_right, true_word, false_word, bracket_left, escape_mark, paren_left, minus, star, word, number, PureToken, token}
@@ -37,7 +37,7 @@ MayRefuse chosen = Unit {0}
 MayRefuse other = Unit {0}
 
 -- What the answer on ts says of a form: on ok the tokens up to the rest are of the form, whatever follows; a fault comes
--- behind a front that can be completed, and one of depth at a token with which it can.
+-- after a front that can be completed, and one of depth at a token with which it can.
 data Says {n : Nonterminal} (c : Stand) (F : Form n) (ts : List PureToken) : Answer n → Type 0 where
   said : {v : Meaning n} {h : ℕ} {rest : List PureToken} (front : List PureToken) → ts ≡ front ++ rest → Takes c front → ((a : Before) (x : List PureToken) → (s : Nodes) × Read n F a (front ++ x) v s x) → Says c F ts (ok v h rest)
   stuck : {r : List PureToken} (front us : List PureToken) (v : Meaning n) → ts ≡ front ++ r → ((a : Before) (x : List PureToken) → (s : Nodes) × Read n F a (front ++ (us ++ x)) v s x) → Says c F ts (syntax_at r)
@@ -76,7 +76,7 @@ expects c k p q (stuck front us v e h) = stuck (token p q (symbol k) ∷ front) 
 expects c k p q (sunk front us v e h) = sunk (token p q (symbol k) ∷ front) us v (ap (λ u. token p q (symbol k) ∷ u) e) (λ a x. ((h a x).0, d_expect (h a x).1))
 expects c k p q (refused i) = absurd i
 
--- a node at the token t: P is read there where F is read behind it
+-- a node at the token t: P is read there where F is read after it
 over_by : {n : Nonterminal} (c : Stand) {F : Form n} (P : Form n) (t : PureToken) {ts : List PureToken} (a : Heights) {x : Answer n} → ((a : Before) (us r : List PureToken) (v : Meaning n) (s : Nodes) → Read n F empty us v s r → (s' : Nodes) × Read n P a (t ∷ us) v s' r)
     → Says going F ts x → Says c P (t ∷ ts) (raise a x)
 over_by c P t a wrap (said front e k h) = said (t ∷ front) (ap (λ u. t ∷ u) e) (taken c t front) (λ a x. wrap a _ _ _ _ (h empty x).1)

@@ -60,7 +60,7 @@ abbrev pub rounds : Parsers → ℕ → Row → ℕ → SurfaceTree → ℕ → 
 rounds sub zero w b l a ts = on_operator sub w b (λ l a us. deep_at us) l a ts (opens w ts)
 rounds sub (suc k) w b l a ts = on_operator sub w b (rounds sub k w b) l a ts (opens w ts)
 
--- a form, behind what has the heights a
+-- a form, after what has the heights a
 abbrev pub run : {n : Nonterminal} → Parsers → ℕ → Form n → Heights → Parser n
 run sub b (gives v) a ts = ok v (tall a) ts
 run sub b refuses a ts = syntax_at ts

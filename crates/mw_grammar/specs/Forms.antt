@@ -76,7 +76,7 @@ pub data Form (n : Nonterminal) : Type 0 where
   option : (k : Expected) (F G : Form n) → Form n  -- under F where this symbol comes next, else G
   more : (w : Row) (l : SurfaceTree) (go : SurfaceTree → Form n) → Form n  -- what may follow the operand l
 
--- operators of a row, where one comes next, and what stands behind it
+-- operators of a row, where one comes next, and what stands after it
 pub data Op : Type 0 where
   by_sign : (p : Primitive) → Op
   apply : Op

@@ -62,11 +62,11 @@ pub data Nonterminal : Type 0 where
   part : Nonterminal
   base : Nonterminal
 
--- what a let binds, its other parameters unfolded, with the offset of the first token behind its mark
+-- what a let binds, its other parameters unfolded, with the offset of the first token after its mark
 pub data Definition : Type 0 where
   define : (from : ℕ) (e : SurfaceTree) → Definition
 
--- a parameter, and what stands behind it
+-- a parameter, and what stands after it
 pub data Abstraction : Type 0 where
   abstract : (x : List ℕ) (from : ℕ) (e : SurfaceTree) → Abstraction
 
@@ -81,7 +81,7 @@ Meaning ground = GroundType
 Meaning part = GroundType
 Meaning base = Base
 
--- a number is below 2^63, or at most 2^63 behind a minus; what no token has counts as 0
+-- a number is below 2^63, or at most 2^63 after a minus; what no token has counts as 0
 abbrev pub positive : ℕ → ℤ
 positive n = if nat_lt n (2 ^ 63) then pos n else pos 0
 
@@ -108,7 +108,7 @@ pub data Sign : Row → Symbol → Primitive → Type 0 where
   slash_sign : Sign product slash Div
   mod_sign : Sign product mod_word Mod
 
--- the operands of a row, and what stands behind its operators
+-- the operands of a row, and what stands after its operators
 abbrev pub operand : Row → Precedence
 operand sum = row product
 operand product = row application
@@ -141,7 +141,7 @@ main_only g e = record { items = []; result = g; body = e }
 abbrev pub with_item : PureItem → PureSurface → PureSurface
 with_item i p = record { items = i ∷ p.items; result = p.result; body = p.body }
 
--- A token is written (token _ _ k): k is its symbol. A node is there from the token on behind which its place says how
+-- A token is written (token _ _ k): k is its symbol. A node is there from the token on after which its place says how
 -- many stand. An operator and an application take what stands before them as a child, and so do `*` and `->` in types.
 -- Main's type is a tree beside main's expression.
 mutual

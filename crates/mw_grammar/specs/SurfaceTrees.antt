@@ -30,7 +30,7 @@ pub data SurfaceTree : Type 0 where
   lift : (at : ℕ) (e : SurfaceTree) → SurfaceTree
   lift_b : (at : ℕ) (e : SurfaceTree) → SurfaceTree
 
--- A top-level item: the name with its offset and what it binds. A let has the offset of the first token behind its `=`.
+-- A top-level item: the name with its offset and what it binds. A let has the offset of the first token after its `=`.
 pub data PureItem : Type 0 where
   let_item : (x : List ℕ) (at from : ℕ) (e : SurfaceTree) → PureItem
   kernel_item : (x : List ℕ) (at : ℕ) (k : KernelType) (e : SurfaceTree) → PureItem

@@ -40,7 +40,7 @@ IsFirst (token a b k) first.Fun = k ≡ fun_word
 IsFirst (token a b k) first.If = k ≡ if_word
 IsFirst (token a b k) first.Other = expr_by (token a b k) ≡ (reads (tree disjunction) λ e. gives e)
 
--- behind `let`, in an expression and in an item
+-- after `let`, in an expression and in an item
 pub record IsNoName (t : PureToken) : Type 0 where
   pub inner : let_in_by t ≡ refuses
   pub top : let_by t ≡ refuses
@@ -68,7 +68,7 @@ abbrev pub IsAtom : PureToken → Option Atom → Type 0
 IsAtom (token a b k) (Some w) = atom_by (token a b k) ≡ under (atom_form w a)
 IsAtom (token a b k) None = atom_by (token a b k) ≡ refuses
 
--- an atom behind a word
+-- an atom after a word
 abbrev pub prefixed : Prefix → ℕ → SurfaceTree → SurfaceTree
 prefixed prefixes.Fst at e = fst e
 prefixed prefixes.Snd at e = snd e

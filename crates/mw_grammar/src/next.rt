@@ -35,7 +35,7 @@ pub enum Next {
     Or,
 }
 
-/// The tokens behind it, where it comes next.
+/// The tokens after it, where it comes next.
 #[tactic(auto, using(crate::proofs::Below::low_in, crate::proofs::Below::low_out), unfolding(crate::specs::Descent::reading))]
 pub fn after<'a>(next: Next, tokens: &'a [Token]) -> Option<&'a [Token]>
     ensures none_expected { IfNone result ((n : Nonterminal) (F : Form n) (b : ℕ) (a : Heights) → reading b (expect (expected_of next) F) a (tokens_of tokens.now) ≡ syntax_at (tokens_of tokens.now)) }

@@ -14,14 +14,14 @@ use crate::words::{Leaf, Prefix};
 use mw_term::{KType, Name};
 use std::alloc::{AllocError, Global};
 
-/// What a let binds, with the offset of the first token behind its mark.
+/// What a let binds, with the offset of the first token after its mark.
 #[derive(Drop)]
 pub struct Defined {
     pub from: u32,
     pub tree: Tree,
 }
 
-/// A parameter, and what stands behind it.
+/// A parameter, and what stands after it.
 #[derive(Drop)]
 pub struct Function {
     pub name: Name,
@@ -47,7 +47,7 @@ pub fn positive_of(n: u64) -> i64
     if n < 1 << 63 { n as i64 } else { 0 }
 }
 
-/// A number behind a minus; one that no token has is 0.
+/// A number after a minus; one that no token has is 0.
 pub fn negative_of(n: u64) -> i64
     ensures { result ≡ negative n }
 {
@@ -75,7 +75,7 @@ pub fn leaf_tree(alloc: Global, leaf: Leaf, at: u32) -> Result<Tree, AllocError>
     }
 }
 
-/// An atom behind a word.
+/// An atom after a word.
 pub fn prefixed_tree(alloc: Global, prefix: Prefix, at: u32, tree: Tree) -> Result<Tree, AllocError>
     ensures { IfOk result (λ t. tree_of t ≡ prefixed prefix at (tree_of tree)) }
 {

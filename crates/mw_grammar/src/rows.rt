@@ -25,7 +25,7 @@ pub enum Operator {
     Apply,
 }
 
-/// The operator of this row that comes next, and what stands behind it.
+/// The operator of this row that comes next, and what stands after it.
 pub fn next_operator(row: Row, tokens: &[Token]) -> Option<(Operator, &[Token])>
     ensures { MatchOption result (opens (row_of row) (tokens_of tokens.now) ≡ nothing) (λ r. opens (row_of row) (tokens_of tokens.now) ≡ operator (op_of r.0) (tokens_of r.1.now)) }
 {
@@ -49,7 +49,7 @@ pub fn next_operator(row: Row, tokens: &[Token]) -> Option<(Operator, &[Token])>
     }
 }
 
-/// The sign of a comparison that comes next, as its operation, and what stands behind it.
+/// The sign of a comparison that comes next, as its operation, and what stands after it.
 #[tactic(auto, using(crate::proofs::Below::low_in, crate::proofs::Below::low_out), unfolding(crate::specs::Descent::reading))]
 pub fn next_comparison(tokens: &[Token]) -> Option<(Prim, &[Token])>
     ensures none { IfNone result ((b : ℕ) (d : SurfaceTree) (a : Heights) → reading b (equal_to d) a (tokens_of tokens.now) ≡ reading b (gives d) a (tokens_of tokens.now)) }

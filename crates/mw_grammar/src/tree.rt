@@ -51,7 +51,7 @@ pub enum Tree {
 /// A top-level item.
 #[derive(Debug, Drop)]
 pub enum SurfaceItem {
-    /// A let: its name, the offset of the first token behind its `=`, and what it binds.
+    /// A let: its name, the offset of the first token after its `=`, and what it binds.
     Let(Placed, u32, Tree),
     /// A kernel item: its name, its kernel type, and its code.
     Kernel(Placed, KType, Tree),

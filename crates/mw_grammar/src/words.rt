@@ -13,7 +13,7 @@ ghost use Rattle.mw_grammar.specs.Words.{IsFirst, IsNamed, IsAtom, IsHead, IsIns
 use mw_lex::{Kind, Token};
 use mw_term::Name;
 
-/// The token in hand, and those behind it.
+/// The token in hand, and those after it.
 #[tactic(auto, using(crate::proofs::Below::low_in, crate::proofs::Below::low_out), unfolding(crate::specs::Descent::reading))]
 pub fn in_hand(tokens: &[Token]) -> Option<(&Token, &[Token])>
     ensures none { IfNone result ((n : Nonterminal) (f : PureToken → Form n) (b : ℕ) (a : Heights) → reading b (pick f) a (tokens_of tokens.now) ≡ syntax_at (tokens_of tokens.now)) }
@@ -48,7 +48,7 @@ pub fn first_word(token: &Token) -> First
     }
 }
 
-/// Behind `let`.
+/// After `let`.
 #[derive(Clone, Copy)]
 pub enum Named<'a> {
     Word(&'a Name),
@@ -148,7 +148,7 @@ pub fn head_word(token: &Token) -> Option<Head>
     }
 }
 
-/// Behind a parenthesis.
+/// After a parenthesis.
 #[derive(Clone, Copy)]
 pub enum Inside {
     Minus,
@@ -175,7 +175,7 @@ pub fn number_of(token: &Token) -> Option<u64>
     }
 }
 
-/// Behind the first expression in parentheses.
+/// After the first expression in parentheses.
 #[derive(Clone, Copy)]
 pub enum Close {
     Paren,

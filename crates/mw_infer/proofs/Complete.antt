@@ -71,7 +71,7 @@ module _ (tops : List TopLevel) (schemes : List TopScheme) (known : AreSchemesOf
   abbrev Part : ℕ → ℕ → ℕ → List Slot → Level → List Entry → Level → Expression → TermType → Type 0
   Part v p d g m h l e s = (b : Assignment) → Ready b v p d g m h l s → Found b v p d g m e
 
-  -- each form puts what is found of its parts behind its own equations
+  -- each form puts what is found of its parts after its own equations
   found-fun : (a : Assignment) (u o c : ℕ) (g : List Slot) (m : Level) (h : List Entry) (l : Level) (e : Expression) (s t : TermType) → Ready a u o c g m h l (function_type s t)
       → Part (o + 1) (o + 2) c (slot m o ∷ g) m (entry l s ∷ h) l e t → Found a u o c g m (fun e)
   found-fun a u o c g m h l e s t r part =

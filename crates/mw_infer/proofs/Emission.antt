@@ -26,7 +26,7 @@ Adds-equation old new left right u c p q = record {
   closes = rw q (nothing (map close_of old.closes.items));
 }
 
--- one thing behind another
+-- one thing after another
 pub Adds-then : {a b d : Output} {n m k l : ℕ} {es fs : List TypeEquation} {xs ys : List Close} → Adds a b n m es xs → Adds b d k l fs ys → Adds a d (n + k) (m + l) (es ++ fs) (xs ++ ys)
 Adds-then {a = a} {es = es} {fs = fs} {xs = xs} {ys = ys} p q = record {
   unknowns = omega (arith, p.unknowns, q.unknowns);

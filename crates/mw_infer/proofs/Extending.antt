@@ -85,7 +85,7 @@ pub record Ready (a : Assignment) (u o c : ℕ) (g : List Slot) (m : Level) (h :
   pub env : map (entry_of a) g ≡ h
   pub at : level_of a m ≡ l
 
--- Behind it: an assignment that keeps what was there, solves the term's equations and keeps its closes fresh, which name
+-- After it: an assignment that keeps what was there, solves the term's equations and keeps its closes fresh, which name
 -- the numbers below p and d.
 pub record Grown (a : Assignment) (o c p d : ℕ) (es : List TypeEquation) (xs : List Close) : Type 0 where
   pub by : Assignment
@@ -105,7 +105,7 @@ pub AreFresh-append : (a : Assignment) (xs ys : List Close) → AreFresh a xs �
 AreFresh-append a [] ys p q = q
 AreFresh-append a (x ∷ xs) ys p q = (p.0, AreFresh-append a xs ys p.1 q)
 
--- a term behind what stands before it
+-- a term after what stands before it
 abbrev pub then : {a : Assignment} {o c p d q f : ℕ} {es fs : List TypeEquation} {xs ys : List Close} → (one : Grown a o c p d es xs) → Grown one.by p d q f fs ys → Grown a o c q f (es ++ fs) (xs ++ ys)
 then {o = o} {c = c} {es = es} {fs = fs} {xs = xs} {ys = ys} one two = record {
   by = two.by;
@@ -128,7 +128,7 @@ pub record Own (a b : Assignment) (o c p d : ℕ) (es : List TypeEquation) (xs :
   pub solves : Solves b es
   pub fresh : AreFresh b xs
 
--- a term behind what stands first
+-- a term after what stands first
 pub first : {a b : Assignment} {o c p d q f : ℕ} {es fs : List TypeEquation} {xs ys : List Close} → Own a b o c p d es xs → Grown b p d q f fs ys → Grown a o c q f (es ++ fs) (xs ++ ys)
 first one two = then (record { by = _; keeps = one.keeps; solves = one.solves; fresh = one.fresh; unknowns = one.unknowns; classifiers = one.classifiers; within = one.within; below = one.below }) two
 
@@ -166,7 +166,7 @@ Ready-bound {a = a} {m = m} x lt e r = record {
 pub Ready-gives : {a b : Assignment} {u o c : ℕ} {g : List Slot} {m : Level} {h : List Entry} {l : Level} {t : TermType} → Agree o c a b → Ready a u o c g m h l t → b.ty u ≡ t
 Ready-gives {u = u} k r = sym (k.types u r.own) ∙ r.gives
 
--- a part at the same level, in the same environment, behind other parts
+-- a part at the same level, in the same environment, after other parts
 pub Ready-later : {a b : Assignment} {u o c p d q f : ℕ} {g : List Slot} {m : Level} {h : List Entry} {l : Level} {t s : TermType} {es : List TypeEquation} {xs : List Close} (v : ℕ) → o ≤ p → c ≤ d → v < p → Agree o c a b → b.ty v ≡ s → (one : Grown b p d q f es xs) → Ready a u o c g m h l t → Ready one.by v q f g m h l s
 Ready-later {o = o} {c = c} {q = q} {f = f} v i j lt k e one r =
     let x = one.unknowns in

@@ -45,7 +45,7 @@ module _ (n m : ℕ) (es : List TypeEquation) (s r : Substitution) (g : MostGene
       let d = are_instances n m es s r g h least in
       IsAbsent-least d.0 r (r.classifier x.classifier) x.scope (rw (← d.1.classifiers x.classifier lt, ← entries-agree d.1 x.scope w) f)
 
--- what stands first behind what has a property, and has it not, is one
+-- what stands first after what has a property, and has it not, is one
 first-one : (n m : ℕ) (es : List TypeEquation) (s r : Substitution) → MostGeneral n m es s → MostGeneral n m es r → (xs ys vs ws : List Close) (x y : Close) → ClosesBelow n m (xs ++ (x ∷ vs)) → xs ++ (x ∷ vs) ≡ ys ++ (y ∷ ws)
     → AreFresh (after least s) xs → AreFresh (after least r) ys
     → (IsAbsent (s.classifier x.classifier) (map (entry_of (after least s)) x.scope) → ⊥)

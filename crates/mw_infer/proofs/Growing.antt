@@ -10,7 +10,7 @@ use Rattle.mw_infer.specs.Inferring.{IsSchemeOf, IsSchemeOfName, AreSchemesOf}
 use Rattle.mw_infer.specs.Checking.{AreInOrder, ArePrincipal}
 use Rattle.mw_infer.proofs.Extended.{Extends, AreSchemesOf-extended, IsSchemeOf-extended}
 
--- what the items behind an item see of it
+-- what the items after an item see of it
 abbrev pub name_of : Definition → TopLevel
 name_of (value e) = let_item e
 name_of (kernel k e) = out_of_scope

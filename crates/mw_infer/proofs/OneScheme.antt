@@ -138,7 +138,7 @@ settled-classifier {d = d} {e = e} {m = m} p q h = record {
   classifiers_by = λ c lt. elim (low_or_last m c lt) [ low i ↦ h.classifiers_by c i | last i ↦ rw i q ];
 }
 
--- two types whose numbers are in order are one, and behind them the same was seen
+-- two types whose numbers are in order are one, and after them the same was seen
 record Same (d e : Assignment) (s t : TypeExpression) (k l p q : ℕ) : Type 0 where
   types : s ≡ t
   unknowns : k ≡ p

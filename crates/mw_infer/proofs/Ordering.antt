@@ -121,7 +121,7 @@ value-renamed b f g (function_ty s t) = rw (value-renamed b f g s, value-renamed
 value-renamed b f g (code_ty c t) = rw (value-renamed b f g t) refl
 value-renamed b f g (closed_ty t) = rw (value-renamed b f g t) refl
 
--- a type's numbers, read from left to right behind others
+-- a type's numbers, read from left to right after others
 record Ordered (p q : Numbers) (t : TypeExpression) : Type 0 where
   k : Numbers
   l : Numbers

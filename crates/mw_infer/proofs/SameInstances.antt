@@ -57,7 +57,7 @@ renumbering p q k l t r h e f small = record {
   classifiers = omega (arith, h.classifier_count);
 }
 
--- the numbers behind a type are those that it names
+-- the numbers after a type are those that it names
 pub record Reaches (n m k l : ℕ) (t : TypeExpression) : Type 0 where
   pub unknowns : n ≤ k
   pub classifiers : m ≤ l

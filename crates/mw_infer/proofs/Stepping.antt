@@ -224,7 +224,7 @@ pub if-refused : (s : Stop) (f g : Refusal → Type 0) → ((r : Refusal) → f 
 if-refused (Refused r) f g h x = h r x
 if-refused (Memory e) f g h x = tt
 
--- behind the last item
+-- after the last item
 pub record AtEnd (p : PureProgram) (schemes new : List TopScheme) (i : ℕ) : Type 0 where
   pub progress : Progress p (length p.items) schemes
   pub shown : new ≡ revealed p.items schemes

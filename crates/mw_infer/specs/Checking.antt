@@ -30,7 +30,7 @@ part_of_item names (kernel k e) = record { names = names; place = kernel_place k
 abbrev pub part_of_main : PureProgram → Part
 part_of_main p = record { names = seen_by_main p.items; place = main_place p.result; term = p.body }
 
--- the part at an index: an item's definition, and behind the items main
+-- the part at an index: an item's definition, and after the items main
 pub data IsPart (p : PureProgram) : ℕ → Part → Type 0 where
   an_item : {i : ℕ} {d : Definition} → slice_get p.items i ≡ Some d → IsPart p i (part_of_item (seen_by_item p.items i) d)
   main : {i : ℕ} → i ≡ length p.items → IsPart p i (part_of_main p)

@@ -15,7 +15,7 @@ use Rattle.mw_infer.specs.Views.{slot_of}
 abbrev pub close_of : Spot → Close
 close_of s = record { at = s.at; classifier = s.classifier; scope = map slot_of s.scope.items }
 
--- so many new unknowns and classifier unknowns, and these equations and closes behind those that were there
+-- so many new unknowns and classifier unknowns, and these equations and closes after those that were there
 pub record Adds (old new : Output) (n m : ℕ) (es : List TypeEquation) (xs : List Close) : Type 0 where
   pub unknowns : new.unknowns ≡ old.unknowns + n
   pub classifiers : new.classifiers ≡ old.classifiers + m

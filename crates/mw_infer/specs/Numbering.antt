@@ -50,7 +50,7 @@ AreSeen p q (function_ty s t) = AreSeen p q s × AreSeen p q t
 AreSeen p q (code_ty c t) = (number_in q c ≢ none) × AreSeen p q t
 AreSeen p q (closed_ty t) = AreSeen p q t
 
--- r is the type t with new numbers, behind which more were seen
+-- r is the type t with new numbers, after which more were seen
 pub record Renumbers (p q k l : Numbering) (t r : TypeExpression) : Type 0 where
   pub unknown_order : IsOrder k
   pub classifier_order : IsOrder l

@@ -30,7 +30,7 @@ pub record Progress (p : PureProgram) (i : ℕ) (schemes : List TopScheme) : Typ
 abbrev pub IsFaultOf : List TopScheme → Place → Expression → ℕ → Refusal → Type 0
 IsFaultOf schemes place e i r = (f : TypeFault) × HasFault schemes place e f × (r ≡ refusal_of i f)
 
--- behind an item that is without fault there are these schemes
+-- after an item that is without fault there are these schemes
 abbrev pub Steps : List TopScheme → Definition → List TopScheme → Type 0
 Steps schemes (value e) new = (l : LetType) × Judges schemes let_place e (Fine l) × (new ≡ schemes ++ (let_scheme (scheme_of l) ∷ []))
 Steps schemes (kernel k e) new = (l : LetType) × Judges schemes (kernel_place k) e (Fine l) × (new ≡ schemes ++ (scheme_out_of_scope ∷ []))

@@ -20,7 +20,7 @@ pub data TopScheme : Type 0 where
   scheme_out_of_scope : TopScheme
 
 -- Read from left to right, a type names unknowns and classifier unknowns that were seen before, whose numbers are below n
--- and m, and others in the order of their numbers. Behind it those below k and l were seen.
+-- and m, and others in the order of their numbers. After it those below k and l were seen.
 pub data IsNumbered : (n m : ℕ) → TypeExpression → (k l : ℕ) → Type 0 where
   an_int : {n m : ℕ} → IsNumbered n m int_ty n m
   a_bool : {n m : ℕ} → IsNumbered n m bool_ty n m

@@ -1,4 +1,4 @@
-// The equations of one node, behind which those of its parts come.
+// The equations of one node, after which those of its parts come.
 
 ghost use Rattle.std.specs.Prelude.{◌≡◌, ◌+◌, [], ◌∷◌, OnOk, Some, slice_get};
 ghost use Rattle.std.specs.Option.{option_map};

@@ -41,7 +41,7 @@ fn judged(
     }
 }
 
-/// An item: what the items behind it see of it is added.
+/// An item: what the items after it see of it is added.
 fn step(alloc: Global, names: &mut Vec<TopScheme>, item: &Item, index: u32) -> Result<(), Stop>
     requires { CanJudge (tops_of names.old.items) (part_of_item [] (definition_of item.now.kind)).term }
     ensures ok { OnOk result (Steps (tops_of names.old.items) (definition_of item.now.kind) (tops_of names.new.items)) }
@@ -73,7 +73,7 @@ fn reveal<'p>(names: &mut Vec<TopScheme<'p>>, items: &'p [Item])
     }
 }
 
-/// Main, behind whose check nothing is left to do.
+/// Main, after whose check nothing is left to do.
 fn last(
     alloc: Global,
     names: &[TopScheme],

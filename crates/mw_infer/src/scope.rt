@@ -13,7 +13,7 @@ pub enum Level {
     Under(u64),
 }
 
-/// A binder: its unknown, behind the classifier unknown of one at level 1.
+/// A binder: its unknown, after the classifier unknown of one at level 1.
 #[derive(Clone, Copy, Debug, PartialEq, Eq)]
 pub enum Binder {
     Plain(u64),

@@ -5,7 +5,7 @@ ghost use Rattle.std.specs.Prelude.{◌≡◌, ◌<◌, length, slice_get, Some}
 use mw_types::Ty;
 use std::marker::Model;
 
-/// The most general types of a program's items, in order, and behind them main's. Contracts see them as a list.
+/// The most general types of a program's items, in order, and after them main's. Contracts see them as a list.
 #[derive(Debug, Drop)]
 pub struct Typed {
     pub(crate) types: Vec<Ty>,
@@ -25,7 +25,7 @@ impl Model for Typed {
 }
 
 impl Typed {
-    /// The type of the item at an index, or of main behind the items. Takes no memory.
+    /// The type of the item at an index, or of main after the items. Takes no memory.
     pub fn ty(&self, item: u32) -> &Ty
         requires { item < length self.now }
         ensures { slice_get self.now item ≡ Some result.now }

@@ -59,7 +59,7 @@ token_goes tokens more at all text after s (Some q) e l f r i = by_fault i e
         let same = same_text bytes other rest text after g k e l in
         long_spells w p (subst (λ t. Spells t s) (sym same.0) f)
 
--- a reading to an end, behind these tokens
+-- a reading to an end, after these tokens
 record Reading (pre : List PureToken) (at : ℕ) (bytes : List ℕ) (tokens : List PureToken) (o : Option Refusal) : Type 0 where
   stop : ℕ
   rest : List ℕ

@@ -46,7 +46,7 @@ row_words =
     let two : IsRead bytes 4 (token 0 3 let_word ∷ []) = step_gap bytes 3 (token 0 3 let_word ∷ []) one (lit< tt) 1 refl in
     all_read bytes 8 _ (step_run bytes 4 (token 0 3 let_word ∷ []) two (lit< tt) 4 (word (codes "lets")) refl refl) (lit< tt)
 
--- 2^63 behind `(` and `-`, and alone
+-- 2^63 after `(` and `-`, and alone
 row_lowest : AreTokens (codes "(-9223372036854775808") (token 0 1 paren_left ∷ token 1 2 minus ∷ token 2 21 (number 9223372036854775808) ∷ [])
 row_lowest =
     let bytes = codes "(-9223372036854775808" in
@@ -61,7 +61,7 @@ row_alone = (step_refused (codes "9223372036854775808") 0 [] (start_read (codes 
 row_misspelt : IsFirstFault (codes "1x") (Number 0)
 row_misspelt = (step_refused (codes "1x") 0 [] (start_read (codes "1x")) (lit< tt) 2 (Number 0) refl refl).0
 
--- a single `;` behind two
+-- a single `;` after two
 row_semicolon : IsFirstFault (codes "-> ;") (Char 3)
 row_semicolon =
     let bytes = codes "-> ;" in

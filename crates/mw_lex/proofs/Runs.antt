@@ -20,7 +20,7 @@ all_front : (P : ℕ → Type 0) (front : List ℕ) (b : ℕ) (rest : List ℕ) 
 all_front P [] b rest a = a.0
 all_front P (c ∷ front) b rest a = all_front P front b rest a.1
 
--- what the answer for a run says, behind these tokens and at this offset
+-- what the answer for a run says, after these tokens and at this offset
 abbrev pub RunMeans : List PureToken → ℕ → List ℕ → List ℕ → Result Symbol Refusal → Type 0
 RunMeans tokens at text after (Ok s) = IsLongest text after × Spells text s × IsInRange (next_to_last minus minus tokens) (last minus tokens) s
 RunMeans tokens at text after (Err r) = IsFault tokens at (text ++ after) r × IsOfLexing r

@@ -10,17 +10,17 @@ AreFrom at (token start stop s ∷ tokens) length = (at ≤ start) × (start < s
 abbrev pub AreInOrder : List PureToken → ℕ → Type 0
 AreInOrder tokens length = AreFrom 0 tokens length
 
--- whether a number may stand behind these two symbols, the nearer one last
+-- whether a number may stand after these two symbols, the nearer one last
 abbrev pub MayStand : Symbol → Symbol → ℕ → Type 0
 MayStand paren_left minus n = n ≤ 2 ^ 63
 MayStand _ _ n = n < 2 ^ 63
 
--- a symbol behind two others: a number is in range
+-- a symbol after two others: a number is in range
 abbrev pub IsInRange : Symbol → Symbol → Symbol → Type 0
 IsInRange a b (number n) = MayStand a b n
 IsInRange a b s = Unit {0}
 
--- each number is below 2^63, or is 2^63 behind `(` and `-`; a and b are the two symbols before the tokens
+-- each number is below 2^63, or is 2^63 after `(` and `-`; a and b are the two symbols before the tokens
 abbrev pub AreInRange : Symbol → Symbol → List PureToken → Type 0
 AreInRange a b [] = Unit {0}
 AreInRange a b (token start stop s ∷ tokens) = IsInRange a b s × AreInRange b s tokens

@@ -27,7 +27,7 @@ abbrev pub count : (ℕ → Bool) → List ℕ → ℕ
 count test [] = 0
 count test (b ∷ bytes) = if test b then suc (count test bytes) else 0
 
--- the value of digits behind a front of this value, which is at most 2^63
+-- the value of digits after a front of this value, which is at most 2^63
 abbrev pub number_in : ℕ → List ℕ → Option ℕ
 number_in value [] = Some value
 number_in value (b ∷ bytes) = if is_digit b then (if nat_le (10 * value + (b - 48)) (2 ^ 63) then number_in (10 * value + (b - 48)) bytes else None) else None
@@ -39,12 +39,12 @@ pub data Seen : Type 0 where
   run : (n : ℕ) → Seen
   strange : (n : ℕ) → Seen
 
--- behind n bytes of a comment
+-- after n bytes of a comment
 abbrev pub comment_end : ℕ → List ℕ → Seen
 comment_end n [] = gap n
 comment_end n (b ∷ rest) = if b == 10 then gap n else strange n
 
--- a comment, of which the bytes stand behind its #
+-- a comment, of which the bytes stand after its #
 abbrev pub comment : List ℕ → Seen
 comment bytes = comment_end (suc (count is_comment_byte bytes)) (drop (count is_comment_byte bytes) bytes)
 

@@ -13,7 +13,7 @@ abbrev pub EndsComment : List ℕ → Type 0
 EndsComment [] = Unit {0}
 EndsComment (b ∷ bytes) = b ≡ 10
 
--- The bytes from the offset at on are these tokens, with blanks and comments before, between and behind them, up to
+-- The bytes from the offset at on are these tokens, with blanks and comments before, between and after them, up to
 -- the offset stop, where the bytes rest stand. A comment begins with #.
 pub data Reads : ℕ → List ℕ → List PureToken → ℕ → List ℕ → Type 0 where
   so_far : {at : ℕ} {bytes : List ℕ} → Reads at bytes [] at bytes
@@ -28,7 +28,7 @@ pub record AreTokens (bytes : List ℕ) (tokens : List PureToken) : Type 0 where
   pub reads : Reads 0 bytes tokens (length bytes) []
   pub in_range : HaveNumbersInRange tokens
 
--- the text is no number that may stand at this place behind these tokens: not all of it is digits, or the value is too large there
+-- the text is no number that may stand at this place after these tokens: not all of it is digits, or the value is too large there
 abbrev pub IsNoNumber : List PureToken → ℕ → List ℕ → Type 0
 IsNoNumber tokens at text = AllByRecursion IsDigit text → HaveNumbersInRange (tokens ++ token at (at + length text) (number (decimal 0 text)) ∷ []) → ⊥
 
@@ -36,7 +36,7 @@ IsNoNumber tokens at text = AllByRecursion IsDigit text → HaveNumbersInRange (
 abbrev pub BeginsNone : List ℕ → Type 0
 BeginsNone bytes = (text after : List ℕ) → bytes ≡ text ++ after → IsText text → ⊥
 
--- what is wrong with the bytes at an offset, behind these tokens
+-- what is wrong with the bytes at an offset, after these tokens
 pub data IsFault : List PureToken → ℕ → List ℕ → Refusal → Type 0 where
   no_token : {tokens : List PureToken} {at b : ℕ} {rest : List ℕ} → (IsBlank b → ⊥) → b ≢ 35 → BeginsNone (b ∷ rest) → IsFault tokens at (b ∷ rest) (Char at)
   in_comment : {tokens : List PureToken} {at b : ℕ} {all : List ℕ} (body rest : List ℕ) → all ≡ 35 ∷ body ++ b ∷ rest → AllByRecursion IsCommentByte body → (IsAllowed b → ⊥)

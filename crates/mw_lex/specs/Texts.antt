@@ -39,11 +39,11 @@ IsMark text = (s : Symbol) × (mark text ≡ Some s)
 abbrev pub IsText : List ℕ → Type 0
 IsText text = IsWord text ⊎ IsNumeral text ⊎ IsMark text
 
--- The text of a token is the longest that stands at its place: with more of the bytes behind it, it is none.
+-- The text of a token is the longest that stands at its place: with more of the bytes after it, it is none.
 abbrev pub IsLongest : List ℕ → List ℕ → Type 0
 IsLongest text rest = IsText text × ((more after : List ℕ) → rest ≡ more ++ after → more ≢ [] → IsText (text ++ more) → ⊥)
 
--- the number that decimal digits stand for, the most significant first, behind digits of the value front
+-- the number that decimal digits stand for, the most significant first, after digits of the value front
 abbrev pub decimal : ℕ → List ℕ → ℕ
 decimal front [] = front
 decimal front (b ∷ bytes) = decimal (10 * front + (b - 48)) bytes

@@ -51,7 +51,7 @@ pub data Symbol : Type 0 where
   word : (x : List ℕ) → Symbol
   number : (n : ℕ) → Symbol
 
--- a token, from the offset of its first byte to that of the byte behind its last one
+-- a token, from the offset of its first byte to that of the byte after its last one
 pub data PureToken : Type 0 where
   token : (start stop : ℕ) (s : Symbol) → PureToken
 

@@ -24,7 +24,7 @@ fn is_minus(kind: &Kind) -> bool
     matches!(kind, Kind::Minus)
 }
 
-/// Whether the last two tokens are `(` and `-`, behind which 2^63 may stand.
+/// Whether the last two tokens are `(` and `-`, after which 2^63 may stand.
 #[tactic(auto, using(crate::proofs::LastTokens::opens_at, crate::proofs::LastTokens::opens_none))]
 pub fn opens_literal(tokens: &[Token]) -> bool
     ensures { result ≡ opens_literal (tokens_of tokens.now) }

@@ -26,7 +26,7 @@ fn add(tokens: &mut Tokens, kind: Kind, start: usize, end: usize) -> Result<(), 
     Ok(())
 }
 
-/// Reads the piece at an offset, and answers the offset behind it.
+/// Reads the piece at an offset, and answers the offset after it.
 pub fn step(alloc: Global, bytes: &[u8], at: usize, tokens: &mut Tokens) -> Result<usize, Stop>
     requires small { length bytes.now ≤ 2 ^ 20 }
     requires more { at < length bytes.now }

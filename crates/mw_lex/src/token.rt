@@ -72,7 +72,7 @@ pub enum Kind {
     Number(u64),
 }
 
-/// A token, with the offsets of its first byte and of the byte behind its last one.
+/// A token, with the offsets of its first byte and of the byte after its last one.
 #[derive(Debug, Drop)]
 pub struct Token {
     pub kind: Kind,

@@ -23,6 +23,6 @@ GrowsByFront before after piece = (count : ℕ) × (count ≤ length piece) × (
 abbrev pub IsWithin : ℕ → List ℕ → Type 0
 IsWithin count bytes = count ≤ length bytes
 
--- the rest of the whole, behind a front of it of at most so many bytes
+-- the rest of the whole, after a front of it of at most so many bytes
 abbrev pub IsEndWithin : ℕ → List ℕ → List ℕ → Type 0
 IsEndWithin most rest whole = (front : List ℕ) × (length front ≤ most) × (whole ≡ front ++ rest)

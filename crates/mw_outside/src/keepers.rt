@@ -42,7 +42,7 @@ pub trait Keeper {
         ensures failed { IsErrOf result KeepFault.Failed → Rose (faults self.old) (faults self.new) }
         ensures count { faults self.old ≤ faults self.new };
 
-    /// Adds the bytes behind those held. After `Failed` a front of the piece may have been added; for want
+    /// Adds the bytes after those held. After `Failed` a front of the piece may have been added; for want
     /// of memory nothing was.
     fn append(&mut self, bytes: &[u8]) -> Result<(), KeepFault>
         ensures ok { OnOk result (IsTrue tells → held self.new ≡ held self.old ++ bytes.now) }

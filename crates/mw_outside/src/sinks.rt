@@ -5,7 +5,7 @@ ghost use Rattle.mw_outside.specs.Count.{Rose};
 
 use crate::errors::WriteFault;
 
-/// Bytes that are written, each behind those before it.
+/// Bytes that are written, each after those before it.
 pub trait Sink {
     /// Whether this kind of sink tells what was written. One that doesn't says nothing of content.
     ghost tells: { Bool };

@@ -43,7 +43,7 @@ with_one i h b (ok p k rest) = read_gives b (with_item i p) (so_far (max h k)) r
 with_one i h b (syntax_at r) = refl
 with_one i h b (deep_at r) = refl
 
--- the items so far, an item and its end, and what stands behind
+-- the items so far, an item and its end, and what stands after
 pub item_goes : (b : ℕ) (is : List PureItem) (a : ℕ) (all ts mid rest : List PureToken) (i : PureItem) (h : ℕ) → full b program all ≡ behind_items is a (full b program ts) → full b program ts ≡ reading b items_of none_yet ts → full b item ts ≡ ok i h mid
     → ((F : Form program) (a : Heights) → reading b (expect end_next F) a mid ≡ reading b F a rest) → full b program all ≡ behind_items (is ++ (i ∷ [])) (max a h) (full b program rest)
 item_goes b is a all ts mid rest i h e f g k =

@@ -31,7 +31,7 @@ use mw_lex::Token;
 use mw_term::Name;
 use std::alloc::Global;
 
-/// Behind `(` and `-`.
+/// After `(` and `-`.
 fn literal(tokens: &[Token]) -> Read<Tree>
     ensures gives { (b : ℕ) → Gives (λ x. ok (tree_of x.0) x.1 (tokens_of x.2.now)) result (reading b (pick minus_by) none_yet (tokens_of tokens.now)) }
     ensures height { IfOk result (λ x. x.1 ≡ 0) }

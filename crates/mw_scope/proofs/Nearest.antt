@@ -53,7 +53,7 @@ names_differ x y h = λ e. absurd (cc (sym ((bytes_eq-Decides x y).1 (sym e)) �
 names_agree : (x y : List ℕ) → bytes_eq x y ≡ true → y ≡ x
 names_agree x y h = sym ((bytes_eq-Decides x y).0 h)
 
--- what is found of none is none's, first and behind
+-- what is found of none is none's, first and after
 first_none : {A B : Type 0} (f : A → B) (b : B) (t : Bool) (o : Option A) → cond t (Some b) (option_map f o) ≡ None → (t ≡ false) × (o ≡ None)
 first_none f b true o e = absurd (none-some _ (sym e))
 first_none f b false o e = (refl, none_behind f o e)
@@ -66,7 +66,7 @@ is_none (c ∷ g) x e (suc j) b at = let both = first_none (λ p. (suc p.0, p.1)
 pub nearest_is_nearest : NearestIsNearest
 nearest_is_nearest = record { found = is_nearest; none = is_none }
 
--- an item of the name, first or behind
+-- an item of the name, first or after
 abbrev IsItemOf : List PureItem → List ℕ → ℕ → Type 0
 IsItemOf items x i = (item : PureItem) × (slice_get items i ≡ Some item) × (name_of item ≡ x)
 

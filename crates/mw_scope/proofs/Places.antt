@@ -23,7 +23,7 @@ other_entry true true v w o p apart e = absurd (apart refl refl)
 other_entry true false v w o p apart e = refl
 other_entry false there v w o p apart e = e
 
--- what is looked up behind an insertion
+-- what is looked up after an insertion
 pub lookup-insert : {K V : Type 0} (eq : K → K → Bool) (bytes : K → List ℕ) → ((a b : K) → eq a b ≡ bytes_eq (bytes a) (bytes b)) → (es : List (K × V)) (key : K) (v : V)
     → (x : List ℕ) → lookup (λ k. bytes_eq x (bytes k)) (insert_entry eq es key v) ≡ cond (bytes_eq x (bytes key)) (Some v) (lookup (λ k. bytes_eq x (bytes k)) es)
 lookup-insert eq bytes is [] key v x = refl
@@ -47,7 +47,7 @@ place_added None now b at h e = e
 place_added (Some i) now true at h e = absurd (none-some i (sym (h refl)))
 place_added (Some i) now false at h e = e
 
--- a place among items, and one behind another item
+-- a place among items, and one after another item
 behind : (o : Option ℕ) (b : Bool) (n : ℕ) → option_map suc (option_or o (cond b (Some n) None)) ≡ option_or (option_map suc o) (cond b (Some (suc n)) None)
 behind (Some i) b n = refl
 behind None true n = refl
@@ -57,7 +57,7 @@ not_first : (t b : Bool) (o p : Option ℕ) (n : ℕ) → p ≡ option_or o (con
 not_first true b o p n e = refl
 not_first false b o p n e = ap (λ q. option_map suc q) e ∙ behind o b n
 
--- the names behind one item more
+-- the names after one item more
 pub items_of-append : (before : List PureItem) (item : PureItem) (x : List ℕ) → items_of (before ++ item ∷ []) x ≡ option_or (items_of before x) (cond (bytes_eq x (name_of item)) (Some (length before)) None)
 items_of-append [] item x = refl
 items_of-append (first ∷ before) item x = not_first (bytes_eq x (name_of first)) (bytes_eq x (name_of item)) (items_of before x) _ (length before) (items_of-append before item x)

@@ -97,7 +97,7 @@ alike no_item = tt
 alike (an_item new (a_let v d) ds) = alike ds
 alike (an_item new (a_kernel d) ds) = alike ds
 
--- a place behind the first item
+-- a place after the first item
 behind_first : (o : Option ℕ) (i : ℕ) (b : Bool) (names : List Bool) → ((j : ℕ) → o ≡ Some j → IsInScope names j) → option_map suc o ≡ Some i → IsInScope (b ∷ names) i
 behind_first None i b names h e = absurd (none-some _ e)
 behind_first (Some j) i b names h e = let P : ℕ → Type 0 = λ k. IsInScope (b ∷ names) k in subst P (same_Some _ _ e) (h j refl)
@@ -128,7 +128,7 @@ scoped_item : {before : List PureItem} {item : PureItem} {d : Definition} (seen 
 scoped_item seen s (a_let v d) = (is_syntactic d v, scoped (map is_seen seen) s d)
 scoped_item seen s (a_kernel d) = scoped (map is_seen seen) s d
 
--- the items behind those before them are scoped
+-- the items after those before them are scoped
 scoped_items : {before items : List PureItem} {ds : List Definition} (all : List Definition) → AreAlike (before ++ items) all → NamelessItems before items ds → (i : ℕ) (d : Definition) → slice_get ds i ≡ Some d → IsScopedItem (seen_by_item all (length before + i)) d
 scoped_items all a no_item i d e = absurd (none-some d e)
 scoped_items {before = before} {items = items} all a (an_item own one more) zero d e =

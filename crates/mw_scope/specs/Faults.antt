@@ -67,7 +67,7 @@ abbrev pub faults_of_item : TopNames → TopNames → PureItem → List Fault
 faults_of_item lets all (let_item x at from e) = faults_of_name (all x) at ++ (faults_of_value (is_value e) from ++ faults_in lets [] Live e)
 faults_of_item lets all (kernel_item x at k e) = faults_of_name (all x) at ++ faults_in lets [] Live e
 
--- the faults of items behind the items before them
+-- the faults of items after the items before them
 abbrev pub faults_of_items : List PureItem → List PureItem → List Fault
 faults_of_items before [] = []
 faults_of_items before (item ∷ items) = faults_of_item (lets_of before) (items_of before) item ++ faults_of_items (before ++ item ∷ []) items

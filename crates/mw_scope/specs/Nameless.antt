@@ -49,12 +49,12 @@ is_value (surface.fix f x e) = true
 is_value (surface.pair a b) = is_value a && is_value b
 is_value _ = false
 
--- behind the items before it, an item is this definition: it sees the lets among them, and a let binds a value
+-- after the items before it, an item is this definition: it sees the lets among them, and a let binds a value
 pub data NamelessItem (before : List PureItem) : PureItem → Definition → Type 0 where
   a_let : {x : List ℕ} {at from : ℕ} {t : SurfaceTree} {e : Expression} → IsTrue (is_value t) → Nameless (lets_of before) [] Live t e → NamelessItem before (let_item x at from t) (value e)
   a_kernel : {x : List ℕ} {at : ℕ} {k : KernelType} {t : SurfaceTree} {e : Expression} → Nameless (lets_of before) [] Live t e → NamelessItem before (kernel_item x at k t) (kernel k e)
 
--- behind the items before them, items are these definitions: each has a name that none before it has
+-- after the items before them, items are these definitions: each has a name that none before it has
 pub data NamelessItems : List PureItem → List PureItem → List Definition → Type 0 where
   no_item : {before : List PureItem} → NamelessItems before [] []
   an_item : {before items : List PureItem} {item : PureItem} {d : Definition} {ds : List Definition} → items_of before (name_of item) ≡ None → NamelessItem before item d → NamelessItems (before ++ item ∷ []) items ds → NamelessItems before (item ∷ items) (d ∷ ds)

@@ -23,13 +23,13 @@ abbrev pub name_of : PureItem → List ℕ
 name_of (let_item x at from e) = x
 name_of (kernel_item x at k e) = x
 
--- the names that an item sees behind these items: those of lets
+-- the names that an item sees after these items: those of lets
 abbrev pub lets_of : List PureItem → TopNames
 lets_of [] x = None
 lets_of (let_item y at from e ∷ items) x = cond (bytes_eq x y) (Some 0) (option_map suc (lets_of items x))
 lets_of (kernel_item y at k e ∷ items) x = option_map suc (lets_of items x)
 
--- the names that main sees behind these items: all
+-- the names that main sees after these items: all
 abbrev pub items_of : List PureItem → TopNames
 items_of [] x = None
 items_of (item ∷ items) x = cond (bytes_eq x (name_of item)) (Some 0) (option_map suc (items_of items x))

@@ -69,7 +69,7 @@ fn keep_value(tree: &Tree, from: u32, first: &mut Option<Fault>)
     }
 }
 
-/// What an item defines behind the items so far, with its faults kept.
+/// What an item defines after the items so far, with its faults kept.
 fn kind(
     alloc: Global,
     names: &Names,
@@ -104,7 +104,7 @@ fn item_name(item: &SurfaceItem) -> &Placed
     }
 }
 
-/// An item behind the items so far, with its faults kept and its name added.
+/// An item after the items so far, with its faults kept and its name added.
 fn item(
     alloc: Global,
     names: &mut Names,

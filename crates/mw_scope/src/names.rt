@@ -7,7 +7,7 @@ use crate::top_names::TopNames;
 use mw_grammar::SurfaceItem;
 use std::alloc::{AllocError, Global};
 
-/// The names of the items so far: those of lets, which the items behind see, and all, which main sees.
+/// The names of the items so far: those of lets, which the items after see, and all, which main sees.
 #[derive(Drop)]
 pub struct Names {
     pub lets: TopNames,
@@ -27,7 +27,7 @@ impl Names {
         }
     }
 
-    /// Adds the name of the item behind the items so far, with its index.
+    /// Adds the name of the item after the items so far, with its index.
     pub fn add(&mut self, alloc: Global, item: &SurfaceItem, index: u32) -> Result<(), AllocError>
         ensures { OnOk result ((before : List PureItem) → Knows self.old before → length before ≡ index → Knows self.new (before ++ item_of item.now ∷ [])) }
     {

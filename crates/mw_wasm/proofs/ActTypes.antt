@@ -187,7 +187,7 @@ module _ (m : PureModule) (valid : IsValid m) (labels : List (List ValType)) (ls
       at_operands num.ExtendS e = of_one Typed I32 vs (reverse below) _ e λ x y us f. given x y us f
       at_operands num.ExtendU e = of_one Typed I32 vs (reverse below) _ e λ x y us f. given x y us f
 
-  -- an instruction of the right type, behind operands of the types that it takes
+  -- an instruction of the right type, after operands of the types that it takes
   pub act_typed : (i : Instruction) (st : Store) (locals vs : List Value) (below taken left : List ValType) → StoreIsTyped m st → map type_of_value locals ≡ ls → HasType here i taken left → OperandsAreTyped vs (below ++ taken) → CodeHasType here rest (below ++ left) outs → constant i ≡ None → Typed (act m i st locals vs)
   act_typed unreachable st locals vs below taken left s l of_unreachable o r k = tt
   act_typed nop st locals vs below taken left s l of_nop o r k = gave_none st locals vs below s l (types_above vs below [] o) r

@@ -88,6 +88,6 @@ example_b_valid = record {
         on (t ∷ []) [] (w ∷ []) (of_local_get refl) (
         on (t ∷ []) (w ∷ []) [] (of_global_set refl) of_end))))))))))))
 
--- behind a branch to label 0 nothing is known of the operands
+-- after a branch to label 0 nothing is known of the operands
 pub after_branch : (c : Context) (code : Code) (label ins outs : List ValType) → slice_get c.labels 0 ≡ Some label → CodeHasType c code ins outs → CodeHasType c (next (br 0) code) label outs
 after_branch c code label ins outs e h = of_next [] label ins (of_br [] label e refl) refl h

@@ -127,7 +127,7 @@ whole_vector P each xs ys = agree_whole (agree_vector P each xs ys)
 both_empty : {A : Type 0} {xs ys : List A} → xs ≡ [] → ys ≡ [] → xs ≡ ys
 both_empty p q = p ∙ sym q
 
--- the sections of a module behind its header
+-- the sections of a module after its header
 abbrev Sections : PureModule → List ℕ → Type 0
 Sections m = customs then section 1 function_type m.types
     then customs then import_section

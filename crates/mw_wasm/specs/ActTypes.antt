@@ -12,7 +12,7 @@ use Rattle.mw_wasm.specs.Validity.{CodeHasType}
 use Rattle.mw_wasm.specs.StateTypes.{StoreIsTyped, OperandsAreTyped, Continues, context_inside}
 
 module _ (m : PureModule) (labels : List (List ValType)) (ls rs : List ValType) (rest : Code) (outs : List ValType) where
-  -- the operands that it gives have types from which the rest goes on, behind one more instruction where there is one
+  -- the operands that it gives have types from which the rest goes on, after one more instruction where there is one
   pub record GivesTyped (st : Store) (locals vs : List Value) (after : Option Instruction) : Type 0 where
     pub ins : List ValType
     pub store : StoreIsTyped m st
@@ -20,7 +20,7 @@ module _ (m : PureModule) (labels : List (List ValType)) (ls rs : List ValType) 
     pub operands : OperandsAreTyped vs ins
     pub code : CodeHasType (context_inside m labels ls rs) (maybe_next after rest) ins outs
 
-  -- the body is typed under its label, and the rest behind it
+  -- the body is typed under its label, and the rest after it
   pub record EntersTyped (n : ℕ) (k body : Code) (vs : List Value) : Type 0 where
     pub takes : List ValType
     pub gives : List ValType
@@ -31,7 +31,7 @@ module _ (m : PureModule) (labels : List (List ValType)) (ls rs : List ValType) 
     pub rest_typed : CodeHasType (context_inside m labels ls rs) rest (below ++ gives) outs
     pub body_typed : CodeHasType (context_inside m (takes ∷ labels) ls rs) body [] gives
 
-  -- the body is typed in a frame of its own, and the rest behind it
+  -- the body is typed in a frame of its own, and the rest after it
   pub record CallsTyped (n : ℕ) (locals : List Value) (body : Code) (vs : List Value) : Type 0 where
     pub gives : List ValType
     pub below : List ValType

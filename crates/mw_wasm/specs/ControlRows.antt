@@ -98,7 +98,7 @@ of_table is = record (function_alone [] [] [] []) {
   elements = element_at 0 (1 ∷ 2 ∷ 3 ∷ 4 ∷ 5 ∷ []) ∷ [];
 }
 
--- an indirect call behind these operands, of each element, of the first two past the table, and by -1
+-- an indirect call after these operands, of each element, of the first two past the table, and by -1
 abbrev pub indirectly : ℕ → List Instruction → ℕ → List Outcome
 indirectly n operands type =
     map (λ i. outcome (of_table (operands ++ local_get 0 ∷ call_indirect type ∷ [])) (value.I32 i ∷ []) n) (0 ∷ 1 ∷ 2 ∷ 3 ∷ 4 ∷ 5 ∷ 6 ∷ 7 ∷ (less 1) ∷ [])

@@ -1,10 +1,10 @@
--- Bytes that spell no module, whatever stands behind them.
+-- Bytes that spell no module, whatever stands after them.
 use Rattle.std.specs.Prelude.{◌≡◌, ℕ, List, [], ◌∷◌, length}
 use Rattle.mw_wasm.specs.Syntax.{PureModule}
 use Rattle.mw_wasm.specs.declared.modules.FuncType.{FuncType}
 use Rattle.mw_wasm.specs.BinaryModules.{Spells, function_type}
 
--- bytes behind the header
+-- bytes after the header
 abbrev pub begun : List ℕ → List ℕ
 begun rest = 0x00 ∷ 0x61 ∷ 0x73 ∷ 0x6D ∷ 0x01 ∷ 0x00 ∷ 0x00 ∷ 0x00 ∷ rest
 

@@ -28,7 +28,7 @@ pub record Joined (P Q : List ℕ → Type 0) (bytes : List ℕ) : Type 0 where
   pub first : P front
   pub second : Q back
 
--- one piece and another behind it
+-- one piece and another after it
 infixr 20 ◌then◌
 abbrev pub ◌then◌ : Piece → Piece → Piece
 (P then Q) bytes = Joined P Q bytes

@@ -28,12 +28,12 @@ pub record OperandsAreTyped (vs : List Value) (ts : List ValType) : Type 0 where
 abbrev pub context_inside : PureModule → List (List ValType) → List ValType → List ValType → Context
 context_inside m labels ls rs = record (context_of m) { locals = ls; labels = labels; results = rs }
 
--- where a branch that takes values of the first types goes on, in code that gives the second: behind the label, or at its loop
+-- where a branch that takes values of the first types goes on, in code that gives the second: after the label, or at its loop
 pub data Continues (c : Context) : List ValType → List ValType → Code → Type 0 where
   behind : {ts : List ValType} → Continues c ts ts end
   again : {t : _} {body : Code} {gives : List ValType} → HasType c (loop t body) [] gives → Continues c [] gives (next (loop t body) end)
 
--- label typing: a label that takes and gives values of these types, behind the operands vs and before the rest, which gives outs
+-- label typing: a label that takes and gives values of these types, after the operands vs and before the rest, which gives outs
 pub record LabelIsTyped (c : Context) (n : ℕ) (k : Code) (vs : List Value) (rest : Code) (takes gives outs : List ValType) : Type 0 where
   pub arity : n ≡ length takes
   pub continues : Continues c takes gives k
@@ -41,7 +41,7 @@ pub record LabelIsTyped (c : Context) (n : ℕ) (k : Code) (vs : List Value) (re
   pub operands : OperandsAreTyped vs below
   pub rest_typed : CodeHasType c rest (below ++ gives) outs
 
--- frame typing: a frame that gives values of these types, behind the operands us of a function with the locals ks
+-- frame typing: a frame that gives values of these types, after the operands us of a function with the locals ks
 pub record FrameIsTyped (c : Context) (n : ℕ) (ks us : List Value) (rest : Code) (gives outs : List ValType) : Type 0 where
   pub arity : n ≡ length gives
   pub locals : map type_of_value ks ≡ c.locals

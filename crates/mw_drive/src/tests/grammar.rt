@@ -1,7 +1,7 @@
 // What the grammar takes and refuses, from bytes to trees. The values were worked out by hand from the grammar.
 //
 // A row `source => text` has a source and the text of what it gives. The sources of some tables are expressions: they
-// stand behind `main : int = `, so their first byte is at 13.
+// stand after `main : int = `, so their first byte is at 13.
 
 use mw_lex::{Kind, Token, lex};
 use mw_parse::{Surface, parse};

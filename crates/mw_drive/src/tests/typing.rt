@@ -3,7 +3,7 @@
 use super::{NAME, ran};
 use std::test::Fail;
 
-/// Sources, and their refusals behind ` => `.
+/// Sources, and their refusals after ` => `.
 const TYPES: [&str; 43] = [
     // types that aren't what a place asks
     "main : int = true => 12 type in main",

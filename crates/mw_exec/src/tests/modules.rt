@@ -60,7 +60,7 @@ fn function(alloc: Global, kind: u32, body: Instrs) -> Result<Func, AllocError> 
 }
 
 /// A module with this code as its function 0, of this type. Function 1 counts its argument by calls of itself, function 2
-/// does nothing, and function 3 gives 7 more than a local that it writes behind.
+/// does nothing, and function 3 gives 7 more than a local that it writes after.
 pub fn module_with(alloc: Global, kind: u32, body: Instrs) -> Result<Module, AllocError>
     ensures { IfOk result (λ wasm. AllByRecursion FewResults wasm.types) }
 {
