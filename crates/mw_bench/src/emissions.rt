@@ -3,7 +3,7 @@
 ghost use Rattle.std.specs.Prelude.{◌≡◌, ◌<◌, ◌≤◌};
 ghost use Rattle.mw_term.specs.Terms.{expression_of, kernel_type_of};
 ghost use Rattle.mw_term.specs.Closed.{IsClosed, IsCode};
-ghost use Rattle.mw_gen.specs.EmissionLaw.{kernel_nodes};
+ghost use Rattle.mw_term.specs.Limits.{kernel_nodes};
 
 use crate::samples::{large, sample, type_of};
 use mw_compile::{Steps, emit};

@@ -13,7 +13,7 @@ ghost use Rattle.mw_term.specs.Terms.{
   prim,
 };
 ghost use Rattle.mw_term.specs.Closed.{ClosedBelow, IsClosed, IsCode};
-ghost use Rattle.mw_gen.specs.EmissionLaw.{ground_nodes, kernel_nodes};
+ghost use Rattle.mw_term.specs.Limits.{ground_nodes, kernel_nodes};
 
 use mw_term::{Base, Ground, KType, Prim, Term};
 use std::alloc::{AllocError, Global};

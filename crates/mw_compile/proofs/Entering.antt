@@ -3,9 +3,9 @@ use Rattle.std.proofs.Common.{◌≡◌, ◌≤◌, ◌<◌, ◌^◌, ◌&&◌, 
 use Rattle.std.specs.Prelude.{nat_le}
 use Rattle.std.proofs.lemmas.Bool.Decides.{nat_tests}
 use Rattle.std.proofs.lemmas.List.{length-map}
-use Rattle.mw_term.specs.Terms.{Expression, GroundType, KernelType, base, product, of_ground, to, num, truth, var, glob, fun, fix, app, bind, cond, pair, fst, snd, prim, bracket, escape, run, close, opened, lift, lift_b, done, size, depth_of}
+use Rattle.mw_term.specs.Terms.{Expression, KernelType, size, depth_of}
 use Rattle.mw_term.specs.Closed.{IsClosed, IsCode}
-use Rattle.mw_meaning.specs.StagedMeaning.{within_limits}
+use Rattle.mw_term.specs.Limits.{within_limits, kernel_nodes, LiteralsFit}
 use Rattle.mw_wasm.specs.declared.modules.Module.{Module}
 use Rattle.mw_wasm.specs.Syntax.{PureModule}
 use Rattle.mw_wasm.specs.Validity.{IsValid}
@@ -13,13 +13,10 @@ use Rattle.mw_wasm.specs.Views.{module_of, element_of, segment_of}
 use Rattle.mw_encode.specs.Encoding.{encoding}
 use Rattle.mw_encode.proofs.BestModules.{encoding_shortest}
 use Rattle.mw_validate.specs.Kept.{IsKept}
-use Rattle.mw_conv.specs.Literals.{Literals}
 use Rattle.mw_gen.specs.Generate.{Version, two, elements_of}
 use Rattle.mw_gen.specs.Emission.{emitted}
-use Rattle.mw_gen.specs.EmissionLaw.{ground_nodes, kernel_nodes}
 use Rattle.mw_key.specs.declared.version.Version.TheVariants.{Two}
 use Rattle.mw_key.specs.CanonicalText.{canonical_text, IsKernel, IsTextOf}
-use Rattle.mw_key.specs.Limits.{LiteralsFit, ground_nodes as text_ground_nodes, kernel_nodes as text_nodes}
 use Rattle.mw_key.proofs.FoundTexts.{one_text}
 use Rattle.mw_key.proofs.Lengths.{short_text}
 use Rattle.mw_gen.proofs.Whole.{emission_holds}
@@ -40,62 +37,7 @@ within_depth c h = at_most (depth_of c) 400 (nat_le (size c) 20000) h
     at_most : (n k : ℕ) (b : Bool) → b && nat_le n k ≡ true → n ≤ k
     at_most n k b h = grind (arith, nat_tests)
 
--- the measures of texts are those of generation
-same_ground : (t : GroundType) → text_ground_nodes t ≡ ground_nodes t
-same_ground (base b) = refl
-same_ground (product s t) = omega (arith, same_ground s, same_ground t)
-
-same_nodes : (k : KernelType) → text_nodes k ≡ kernel_nodes k
-same_nodes (of_ground t) = same_ground t
-same_nodes (to s t) = omega (arith, same_ground s, same_ground t)
-
-literals_to : (c : Expression) → LiteralsFit c → Literals c
-literals_to (num z) h = h
-literals_to (fun e) h = literals_to e h
-literals_to (fix e) h = literals_to e h
-literals_to (app f a) h = (literals_to f h.0, literals_to a h.1)
-literals_to (bind d e) h = (literals_to d h.0, literals_to e h.1)
-literals_to (cond c a b) h = (literals_to c h.0, literals_to a h.1, literals_to b h.2)
-literals_to (pair a b) h = (literals_to a h.0, literals_to b h.1)
-literals_to (fst e) h = literals_to e h
-literals_to (snd e) h = literals_to e h
-literals_to (prim p a b) h = (literals_to a h.0, literals_to b h.1)
-literals_to (truth b) h = tt
-literals_to (var i) h = tt
-literals_to (glob i) h = tt
-literals_to (bracket e) h = tt
-literals_to (escape e) h = tt
-literals_to (run t e) h = tt
-literals_to (close at e) h = tt
-literals_to (opened e) h = tt
-literals_to (lift e) h = tt
-literals_to (lift_b e) h = tt
-literals_to (done v) h = tt
-
-literals_from : (c : Expression) → Literals c → LiteralsFit c
-literals_from (num z) h = h
-literals_from (fun e) h = literals_from e h
-literals_from (fix e) h = literals_from e h
-literals_from (app f a) h = (literals_from f h.0, literals_from a h.1)
-literals_from (bind d e) h = (literals_from d h.0, literals_from e h.1)
-literals_from (cond c a b) h = (literals_from c h.0, literals_from a h.1, literals_from b h.2)
-literals_from (pair a b) h = (literals_from a h.0, literals_from b h.1)
-literals_from (fst e) h = literals_from e h
-literals_from (snd e) h = literals_from e h
-literals_from (prim p a b) h = (literals_from a h.0, literals_from b h.1)
-literals_from (truth b) h = tt
-literals_from (var i) h = tt
-literals_from (glob i) h = tt
-literals_from (bracket e) h = tt
-literals_from (escape e) h = tt
-literals_from (run t e) h = tt
-literals_from (close at e) h = tt
-literals_from (opened e) h = tt
-literals_from (lift e) h = tt
-literals_from (lift_b e) h = tt
-literals_from (done v) h = tt
-
-pub emission_of : (v : Version) (c : Expression) (k : KernelType) → IsClosed c → Literals c → within_limits c ≡ true → kernel_nodes k ≤ 10000 → IsEmission (emission v c k) (emitted v c k) c k
+pub emission_of : (v : Version) (c : Expression) (k : KernelType) → IsClosed c → LiteralsFit c → within_limits c ≡ true → kernel_nodes k ≤ 10000 → IsEmission (emission v c k) (emitted v c k) c k
 emission_of v c k closed literals limits nodes =
     let e = emission_holds v c k closed literals (within_size c limits) (within_depth c limits) nodes in
     let best = encoding_shortest (emitted v c k) e.spelled.bytes e.spelled.spell in
@@ -111,7 +53,7 @@ emission_of v c k closed literals limits nodes =
 pub each_emission : EmissionHolds
 each_emission text v c k is =
     let q = is.kernel in
-    emission_of (version_of v) c k q.closed (literals_to c q.literals) q.limits (let n = q.nodes in omega (arith, same_nodes k))
+    emission_of (version_of v) c k q.closed q.literals q.limits q.nodes
 
 pub one_emission : OneEmission
 one_emission text first second x y =
@@ -132,11 +74,11 @@ generated_kept v c k wasm valid e = record {
 }
 
 -- the entry of code at a type, of its text, its module and the module's bytes
-pub entry_of : (c : Expression) (k : KernelType) (wasm whole : Module) (text bytes : List ℕ) → IsCode c → IsClosed c → Literals c → within_limits c ≡ true → kernel_nodes k ≤ 10000
+pub entry_of : (c : Expression) (k : KernelType) (wasm whole : Module) (text bytes : List ℕ) → IsCode c → IsClosed c → LiteralsFit c → within_limits c ≡ true → kernel_nodes k ≤ 10000
     → text ≡ canonical_text Two c k → module_of wasm ≡ emitted two c k → bytes ≡ encoding (module_of wasm) → whole ≡ wasm
     → IsEntryOf record { text = text; bytes = bytes; wasm = whole } c k
 entry_of c k wasm whole text bytes code closed literals limits nodes written e exact is =
-    let kernel : IsKernel c k = record { code = code; closed = closed; literals = literals_from c literals; limits = limits; nodes = omega (arith, same_nodes k) } in
+    let kernel : IsKernel c k = record { code = code; closed = closed; literals = literals; limits = limits; nodes = nodes } in
     let is_text : IsTextOf text Two c k = record { kernel = kernel; text = written } in
     let whole_is : module_of whole ≡ emitted two c k = ap module_of is ∙ e in
     let exactly : bytes ≡ emission two c k = exact ∙ ap encoding e in

@@ -3,8 +3,7 @@
 ghost use Rattle.std.specs.Prelude.{◌≡◌, ◌+◌, ◌<◌, ◌≤◌, true, IfOk};
 ghost use Rattle.mw_term.specs.Terms.{expression_of, kernel_type_of};
 ghost use Rattle.mw_term.specs.Closed.{IsClosed, IsCode};
-ghost use Rattle.mw_meaning.specs.StagedMeaning.{within_limits};
-ghost use Rattle.mw_gen.specs.EmissionLaw.{kernel_nodes};
+ghost use Rattle.mw_term.specs.Limits.{within_limits, kernel_nodes};
 
 mod bytes;
 mod codes;

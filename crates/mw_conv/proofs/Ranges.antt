@@ -9,15 +9,14 @@ use Rattle.std.proofs.lemmas.List.{length-map}
 use Rattle.mw_term.specs.Terms as x
 use Rattle.mw_term.specs.Terms.{Expression, size, depth_of}
 use Rattle.mw_term.specs.Closed.{ClosedBelow}
+use Rattle.mw_term.specs.Limits.{within_limits, LiteralsFit}
 use Rattle.mw_meaning.specs.KernelMeaning.{occurs}
-use Rattle.mw_meaning.specs.StagedMeaning.{within_limits}
 use Rattle.mw_ir.specs.declared.place.Place.{Place}
 use Rattle.mw_ir.specs.declared.place.Place.TheVariants.{Argument, Slot}
 use Rattle.mw_ir.specs.Ir.{IrFunc}
 use Rattle.mw_ir.specs.Ranges.{ir_size, ir_depth, total_size, IsPlace, IsOuterPlace, HasFree, IsInRange, IsProper, IsConverted}
 use Rattle.mw_conv.specs.Convert.{here, free_list, rank, fun_free, fix_free, fun_places, fix_places, funs, lets, code, functions, converted_functions, converted_outside}
 use Rattle.mw_conv.specs.Represents.{Has}
-use Rattle.mw_conv.specs.Literals.{Literals}
 use Rattle.mw_conv.proofs.Free.{free_list_each, rank_is}
 use Rattle.mw_conv.proofs.Heaps.{has_front, has_back}
 use Rattle.mw_conv.proofs.Scopes.{functions_length, or_left, or_right}
@@ -99,7 +98,7 @@ module _ (t : List IrFunc) where
     closure_range : (ctx : ℕ → Place) (k d : ℕ) (p : ℕ → Bool) (f : IrFunc) → slice_get t k ≡ Some f → f.free ≡ length (free_list d p) → ((i : ℕ) → p i ≡ true → P (ctx i)) → HasFree (length (map ctx (free_list d p))) (slice_get t k) × AllByRecursion P (map ctx (free_list d p))
     closure_range ctx k d p f e g h = (subst (λ o. HasFree (length (map ctx (free_list d p))) o) (sym e) (g ∙ sym (length-map (free_list d p) ctx)), places_all ctx (free_list d p) (λ j i e. h i (free_list_each d p j i e).1))
 
-    code_range : (e : Expression) (k d s : ℕ) (ctx : ℕ → Place) → Literals e → ((i : ℕ) → occurs e i ≡ true → P (ctx i)) → s + lets e ≤ slots → Has t k (functions e k d) → IsInRange t P slots (code e k d s ctx)
+    code_range : (e : Expression) (k d s : ℕ) (ctx : ℕ → Place) → LiteralsFit e → ((i : ℕ) → occurs e i ≡ true → P (ctx i)) → s + lets e ≤ slots → Has t k (functions e k d) → IsInRange t P slots (code e k d s ctx)
     code_range (x.num z) k d s ctx l h le has = l
     code_range (x.truth z) k d s ctx l h le has = tt
     code_range (x.var j) k d s ctx l h le has = h j (eq-eqb j j refl)
@@ -136,7 +135,7 @@ module _ (t : List IrFunc) where
   fix_place e d n (suc zero) c o = tt
   fix_place e d n (suc (suc i)) c o = let lt = occurs_below e (suc (suc d)) (suc (suc i)) c o in ranked d i (fix_free e) (omega arith) o
 
-  functions_proper : (e : Expression) (k d : ℕ) → ClosedBelow d e → Literals e → d + 2 * depth_of e ≤ 800 → Has t k (functions e k d) → AllByRecursion (IsProper t) (functions e k d)
+  functions_proper : (e : Expression) (k d : ℕ) → ClosedBelow d e → LiteralsFit e → d + 2 * depth_of e ≤ 800 → Has t k (functions e k d) → AllByRecursion (IsProper t) (functions e k d)
   functions_proper (x.fun e) k d c l le has = (
     record {
       free = omega (arith, free_short d (fun_free e));
@@ -167,7 +166,7 @@ module _ (t : List IrFunc) where
   functions_proper (x.prim p f a) k d c l le has = both_all (IsProper t) (functions f k d) _ (functions_proper f k d c.0 l.0 (omega arith) (has_front t k _ _ has)) (functions_proper a (k + funs f) d c.1 l.1 (omega arith) (next f k d (λ z. functions a z d) has))
   functions_proper _ k d c l le has = tt
 
-pub is_converted : (c : Expression) → ClosedBelow 0 c → Literals c → size c ≤ 20000 → depth_of c ≤ 400 → IsConverted (converted_functions c) (converted_outside c)
+pub is_converted : (c : Expression) → ClosedBelow 0 c → LiteralsFit c → size c ≤ 20000 → depth_of c ≤ 400 → IsConverted (converted_functions c) (converted_outside c)
 is_converted c closed l few shallow =
     let t = converted_functions c in
     let has : Has t 0 t = has_self [] t in

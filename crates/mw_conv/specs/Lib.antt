@@ -2,6 +2,5 @@ pub mod Environments
 pub mod Convert
 pub mod Represents
 pub mod Agreement
-pub mod Literals
 pub mod Contexts
 pub mod Finding

@@ -2,10 +2,10 @@
 
 ghost use Rattle.std.specs.Prelude.{◌≡◌, ◌+◌, ◌-◌, ◌*◌, ◌^◌, ◌<◌, ◌≤◌, ◌==◌, [], ◌∷◌, ◌++◌, length, false, set, replicate, IfOk};
 ghost use Rattle.mw_term.specs.Terms.{expression_of, size};
+ghost use Rattle.mw_term.specs.Limits.{LiteralsFit};
 ghost use Rattle.mw_meaning.specs.KernelMeaning.{occurs};
 ghost use Rattle.mw_conv.specs.Convert.{lets};
 ghost use Rattle.mw_conv.specs.Finding.{joined, marked, marking, all_found, function_found};
-ghost use Rattle.mw_conv.specs.Literals.{Literals};
 
 use crate::found::{Found, Levels};
 use mw_term::Term;
@@ -27,7 +27,7 @@ pub(crate) fn find(
     ensures found { IfOk result (λ _. found.new.items ≡ found.old.items ++ all_found (expression_of term.now) (length marks.old.items + under)) }
     ensures length { IfOk result (λ _. length marks.new.items ≡ length marks.old.items) }
     ensures slots { IfOk result (λ slots. slots ≡ lets (expression_of term.now)) }
-    ensures literals { IfOk result (λ _. Literals (expression_of term.now)) }
+    ensures literals { IfOk result (λ _. LiteralsFit (expression_of term.now)) }
 {
     match term {
         Term::Int(n) => {
@@ -79,7 +79,7 @@ fn find_function(
     ensures found { IfOk result (λ _. found.new.items ≡ found.old.items ++ (all_found (expression_of body.now) (length marks.old.items + under + own) ++ function_found (expression_of body.now) (length marks.old.items + under) (λ i. occurs (expression_of body.now) (own + i)) ∷ [])) }
     ensures length { IfOk result (λ _. length marks.new.items ≡ length marks.old.items) }
     ensures slots { IfOk result (λ slots. slots ≡ 0) }
-    ensures literals { IfOk result (λ _. Literals (expression_of body.now)) }
+    ensures literals { IfOk result (λ _. LiteralsFit (expression_of body.now)) }
 {
     let mut inner = no_marks(alloc, marks.len() + under as usize)?;
     let slots = find(alloc, body, own, &mut inner, found)?;

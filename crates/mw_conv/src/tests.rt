@@ -3,7 +3,7 @@
 ghost use Rattle.std.specs.Prelude.{◌≡◌, true, IfOk};
 ghost use Rattle.mw_term.specs.Terms.{expression_of, var, fun, fix, app, bind, prim};
 ghost use Rattle.mw_term.specs.Closed.{IsClosed};
-ghost use Rattle.mw_meaning.specs.StagedMeaning.{within_limits};
+ghost use Rattle.mw_term.specs.Limits.{within_limits};
 
 use crate::convert;
 use mw_term::{Prim, Term};

@@ -5,11 +5,11 @@ use Rattle.std.specs.Int.{w64}
 use Rattle.std.specs.List.{AllByRecursion}
 use Rattle.mw_term.specs.Terms.{Expression, Value, PureGroundValue, base, of_ground, num, prim, bracket, escape, close}
 use Rattle.mw_term.specs.Programs.{Definition, kernel}
+use Rattle.mw_term.specs.Limits.{within_limits}
 use Rattle.mw_term.specs.declared.term.Base.TheVariants.{Int}
 use Rattle.mw_term.specs.declared.term.Primitive.TheVariants.{Add}
 use Rattle.mw_meaning.specs.declared.mode.Mode.{Mode}
 use Rattle.mw_meaning.specs.Simplification.{in_mode}
-use Rattle.mw_meaning.specs.StagedMeaning.{within_limits}
 use Rattle.mw_meaning.specs.Outcomes.{Outcome, came_to, trapped, bounded, stuck as no_outcome, code_outcome, measured_code, main_outcome}
 use Rattle.mw_drive.specs.Sums.{IsSumCode, HasWords}
 use Rattle.mw_gen.specs.Generate.{two}

@@ -6,6 +6,7 @@ use Rattle.std.specs.List.{AllByRecursion, flat_map}
 use Rattle.std.proofs.lemmas.List.{append_assoc, map-append, length-append, length-map}
 use Rattle.mw_term.specs.Terms.{Expression, Value, KernelType, code, int, expression_of, kernel_type_of, base, of_ground}
 use Rattle.mw_term.specs.Programs.{Definition, value as defines, kernel, definition_of}
+use Rattle.mw_term.specs.Limits.{within_limits}
 use Rattle.mw_term.specs.declared.program.Item.{Item}
 use Rattle.mw_term.specs.declared.program.Program.{Program}
 use Rattle.mw_term.specs.declared.program.ItemKind.TheVariants.{Kernel as KernelItem}
@@ -16,7 +17,6 @@ use Rattle.mw_term.specs.declared.value.Limit.{Limit}
 use Rattle.mw_term.specs.declared.value.Limit.TheVariants.{KernelSize}
 use Rattle.mw_meaning.specs.declared.mode.Mode.{Mode}
 use Rattle.mw_meaning.specs.declared.mode.Mode.TheVariants.{Plain}
-use Rattle.mw_meaning.specs.StagedMeaning.{within_limits}
 use Rattle.mw_meaning.specs.Outcomes.{code_outcome, measured_code, value_outcome, main_outcome, names_of_main}
 use Rattle.sha2.specs.Sha256.{sha256}
 use Rattle.mw_key.specs.declared.version.Version.TheVariants.{Two}

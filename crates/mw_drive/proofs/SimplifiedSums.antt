@@ -4,11 +4,11 @@ use Rattle.std.specs.Prelude.{◌+ℤ◌}
 use Rattle.std.specs.Int.{w64}
 use Rattle.std.proofs.lemmas.Int.{SFits-int_wrap}
 use Rattle.mw_term.specs.Terms.{Expression, num, prim}
+use Rattle.mw_term.specs.Limits.{within_limits}
 use Rattle.mw_term.specs.declared.term.Primitive.TheVariants.{Add}
 use Rattle.mw_meaning.specs.declared.mode.Mode.{Mode}
 use Rattle.mw_meaning.specs.declared.mode.Mode.TheVariants.{Plain, Simple}
 use Rattle.mw_meaning.specs.Simplification.{simplified, folded, in_mode}
-use Rattle.mw_meaning.specs.StagedMeaning.{within_limits}
 use Rattle.mw_meaning.proofs.Simplifying.{simplified-is}
 use Rattle.mw_meaning.proofs.SimplifyingKept.{stays_within_limits}
 use Rattle.mw_drive.specs.Sums.{IsSumCode, HasWords}

@@ -9,10 +9,11 @@ use Rattle.mw_term.specs.declared.refusal.Refusal.TheVariants.{NotYet}
 use Rattle.mw_term.specs.declared.refusal.Stop.{Stop}
 use Rattle.mw_term.specs.declared.refusal.Stop.TheVariants.{Refused}
 use Rattle.mw_meaning.specs.declared.mode.Mode.TheVariants.{Plain}
-use Rattle.mw_infer.specs.Checking.{IsFirstRefusal, IfRefused}
+use Rattle.mw_term.specs.Stops.{IfRefused}
+use Rattle.mw_infer.specs.Checking.{IsFirstRefusal}
 use Rattle.mw_console.specs.declared.status.Status.{Status}
 use Rattle.mw_drive.specs.NamedPrograms.{NamedProgram, unnamed, names_of, item_of, named_program_of}
-use Rattle.mw_drive.specs.SourceReading.{IsRead, IsRefused, Says}
+use Rattle.mw_drive.specs.SourceReading.{IsRead, IsRefused}
 use Rattle.mw_drive.specs.FirstForms.{IsFirst}
 use Rattle.mw_drive.specs.Works.{IsAccepted, running, refused, ran, of_refusal, of_types, of_other_forms, of_program, Reports}
 use Rattle.mw_drive.specs.ProgramRuns.{IsRefusalReport, IsRunOfProgram, run_count}
@@ -68,9 +69,9 @@ module _ (bytes : List ℕ) (fuel : ℕ) (text : List ℕ) (s : Status) where
       }
 
     -- the refusal of a program's types
-    pub types_reports : (r : Refusal) (stop : Stop) → stop ≡ Refused r → IfRefused stop (IsFirstRefusal (program_of program)) → IsRefusalReport r (names_of (named_program_of program)) text s → Reports (running bytes fuel Plain) text s
+    pub types_reports : (r : Refusal) (stop : Stop) → stop ≡ Refused r → IfRefused (IsFirstRefusal (program_of program)) stop → IsRefusalReport r (names_of (named_program_of program)) text s → Reports (running bytes fuel Plain) text s
     types_reports r stop is_stop says report =
-        let fault : IsFirstRefusal (program_of program) r = subst (λ x. IfRefused x (IsFirstRefusal (program_of program))) is_stop says in
+        let fault : IsFirstRefusal (program_of program) r = subst (IfRefused (IsFirstRefusal (program_of program))) is_stop says in
         record {
           meaning = refused r (names_of (named_program_of program));
           is_meaning = of_types (named_program_of program) found (subst (λ q. IsFirstRefusal q r) (sym (unnamed_program program)) fault);
@@ -79,8 +80,8 @@ module _ (bytes : List ℕ) (fuel : ℕ) (text : List ℕ) (s : Status) where
         }
 
   -- a refusal of its reading
-  pub refusal_reports : (r : Refusal) (stop : Stop) → stop ≡ Refused r → Says (IsRefused bytes) stop → IsRefusalReport r [] text s → Reports (running bytes fuel Plain) text s
-  refusal_reports r stop is says report = record { meaning = refused r []; is_meaning = of_refusal (subst (Says (IsRefused bytes)) is says); is_text = report.0; is_status = report.1 }
+  pub refusal_reports : (r : Refusal) (stop : Stop) → stop ≡ Refused r → IfRefused (IsRefused bytes) stop → IsRefusalReport r [] text s → Reports (running bytes fuel Plain) text s
+  refusal_reports r stop is says report = record { meaning = refused r []; is_meaning = of_refusal (subst (IfRefused (IsRefused bytes)) is says); is_text = report.0; is_status = report.1 }
 
 -- the emissions that a program's run counts, by the program that the source is read as
 pub count_of_program : {T E : Type 0} (program : Program) (p : NamedProgram) (before after : ℕ) (r : Result T E) → named_program_of program ≡ p → after ≤ before + (length program.items + run_count (expression_of program.body))

@@ -10,10 +10,9 @@ use Rattle.mw_term.specs.Closed.{IsClosed, IsCode}
 use Rattle.mw_term.specs.Types.{under, int_type}
 use Rattle.mw_term.specs.Typing.{Typed, t_num, t_prim}
 use Rattle.mw_term.specs.Typable.{HasKernelType}
+use Rattle.mw_term.specs.Limits.{kernel_nodes, LiteralsFit}
 use Rattle.mw_meaning.specs.KernelMeaning.{gives, kernel_meaning, labelled}
 use Rattle.mw_meaning.proofs.KernelFixedPoint.{kernel_evaluation-is}
-use Rattle.mw_conv.specs.Literals.{Literals}
-use Rattle.mw_gen.specs.EmissionLaw.{kernel_nodes}
 use Rattle.mw_drive.specs.Sums.{IsSumCode, HasWords}
 
 -- code of literals and sums is closed code of type int
@@ -35,7 +34,7 @@ sum_closed _ sum = absurd (sum)
 pub sum_has_type : (c : Expression) → IsSumCode c → HasKernelType c (of_ground (base Int))
 sum_has_type c sum = record { is_code = sum_is_code c sum; closed = sum_closed c sum; typed = sum_typed c sum }
 
-pub sum_literals : (c : Expression) → IsSumCode c → HasWords c → Literals c
+pub sum_literals : (c : Expression) → IsSumCode c → HasWords c → LiteralsFit c
 sum_literals (num n) sum words = words
 sum_literals (prim Add a b) sum words = (sum_literals a sum.0 words.0, sum_literals b sum.1 words.1)
 sum_literals _ sum words = absurd (sum)

@@ -2,6 +2,7 @@
 use Rattle.std.specs.Prelude.{◌≡◌, ℕ, ℤ, pos, true, false, List, map, Some, Result, Ok, Err}
 use Rattle.std.specs.List.{AllByRecursion}
 use Rattle.mw_term.specs.Terms.{Expression, Value, base, of_ground, int, code, expression_of}
+use Rattle.mw_term.specs.Limits.{within_limits}
 use Rattle.mw_term.specs.declared.term.Base.TheVariants.{Int}
 use Rattle.mw_term.specs.declared.value.Limit.{Limit}
 use Rattle.mw_term.specs.declared.value.Limit.TheVariants.{KernelSize}
@@ -9,7 +10,7 @@ use Rattle.mw_meaning.specs.declared.mode.Mode.{Mode}
 use Rattle.mw_meaning.specs.declared.mode.Mode.TheVariants.{Plain}
 use Rattle.mw_meaning.specs.Arithmetic.{bound}
 use Rattle.mw_meaning.specs.KernelMeaning.{kernel_meaning, gives as made}
-use Rattle.mw_meaning.specs.StagedMeaning.{Runs, gives, stops, value_of, code_of, within_limits}
+use Rattle.mw_meaning.specs.StagedMeaning.{Runs, gives, stops, value_of, code_of}
 use Rattle.std.specs.Int.{w64, cast_signed}
 use Rattle.mw_wasm.specs.declared.values.Value.TheVariants.{I64}
 use Rattle.mw_exec.specs.declared.ended.Ended.{Ended}

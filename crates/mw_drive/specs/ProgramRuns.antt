@@ -6,9 +6,9 @@ use Rattle.mw_term.specs.declared.refusal.Refusal.{Refusal}
 use Rattle.mw_term.specs.declared.value.Limit.TheVariants.{KernelSize}
 use Rattle.mw_term.specs.Terms.{Expression, Value, KernelType, prim, run, expression_of}
 use Rattle.mw_term.specs.Programs.{Definition, definition_of}
+use Rattle.mw_term.specs.Limits.{within_limits}
 use Rattle.mw_meaning.specs.declared.mode.Mode.{Mode}
 use Rattle.mw_meaning.specs.declared.mode.Mode.TheVariants.{Plain}
-use Rattle.mw_meaning.specs.StagedMeaning.{within_limits}
 use Rattle.mw_drive.specs.declared.kernels.KernelEntry.{KernelEntry}
 use Rattle.mw_console.specs.Texts.{Ending, bounded, ending_line, ending_status, refusal_line}
 use Rattle.mw_console.specs.declared.status.Status.{Status}

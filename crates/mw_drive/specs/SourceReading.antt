@@ -37,20 +37,3 @@ pub data IsRefused (bytes : List ℕ) : Refusal → Type 0 where
   at_tokens : {r : Refusal} (tokens : List PureToken) → IsSmall bytes → AreTokens bytes tokens → Refuses tokens (length bytes) r → IsRefused bytes r
   at_names : {r : Refusal} (tokens : List PureToken) (surface : PureSurface) (f : Fault) → IsSmall bytes → AreTokens bytes tokens → IsProgram tokens surface → IsFirstOf (faults_of surface) f → r ≡ refusal_of f
       → IsRefused bytes r
-
--- the answer is this program, unless memory ran out
-abbrev pub IsReadOrMemory : Result Program Stop → NamedProgram → Type 0
-IsReadOrMemory (Ok program) p = named_program_of program ≡ p
-IsReadOrMemory (Err (Refused r)) p = ⊥
-IsReadOrMemory (Err (Memory e)) p = Unit {0}
-
--- the answer is this refusal, unless memory ran out
-abbrev pub IsRefusalOrMemory : Result Program Stop → Refusal → Type 0
-IsRefusalOrMemory (Ok program) r = ⊥
-IsRefusalOrMemory (Err (Refused q)) r = q ≡ r
-IsRefusalOrMemory (Err (Memory e)) r = Unit {0}
-
--- a refusal says this of the source, and want of memory says nothing
-abbrev pub Says : (Refusal → Type 0) → Stop → Type 0
-Says P (Refused r) = P r
-Says P (Memory e) = Unit {0}

@@ -3,7 +3,8 @@
 ghost use Rattle.std.specs.Prelude.{IfOk, IfErr};
 ghost use Rattle.mw_term.specs.declared.refusal.Refusal.{Refusal};
 ghost use Rattle.mw_drive.specs.NamedPrograms.{NamedProgram, named_program_of};
-ghost use Rattle.mw_drive.specs.SourceReading.{IsRead, IsRefused, IsReadOrMemory, IsRefusalOrMemory, Says};
+ghost use Rattle.mw_term.specs.Stops.{AnswersOrMemory, IfRefused, IsRefusalOrMemory};
+ghost use Rattle.mw_drive.specs.SourceReading.{IsRead, IsRefused};
 
 use mw_lex::lex;
 use mw_parse::parse;
@@ -14,8 +15,8 @@ use std::alloc::Global;
 /// The program of a source, or the first refusal of its bytes, tokens, names and levels.
 pub fn read(alloc: Global, bytes: &[u8]) -> Result<Program, Stop>
     ensures found { IfOk result (λ p. IsRead bytes.now (named_program_of p)) }
-    ensures only { (p : NamedProgram) → IsRead bytes.now p → IsReadOrMemory result p }
-    ensures refused { IfErr result (Says (IsRefused bytes.now)) }
+    ensures only { (p : NamedProgram) → IsRead bytes.now p → AnswersOrMemory (λ q. named_program_of q ≡ p) result }
+    ensures refused { IfErr result (IfRefused (IsRefused bytes.now)) }
     ensures first { (r : Refusal) → IsRefused bytes.now r → IsRefusalOrMemory result r }
 {
     let tokens = lex(alloc, bytes)?;

@@ -3,6 +3,7 @@ use Rattle.std.proofs.Common.{◌≡◌, ℕ, zero, suc, ◌+◌, ◌*◌, ◌^�
 use Rattle.std.specs.Prelude.{slice_get}
 use Rattle.std.specs.List.{AllByRecursion}
 use Rattle.mw_term.specs.Terms.{KernelType}
+use Rattle.mw_term.specs.Limits.{kernel_nodes}
 use Rattle.mw_wasm.specs.BinaryModules.{wasm_module}
 use Rattle.mw_wasm.specs.Validity.{IsValid}
 use Rattle.mw_wasm.specs.Profile.{IsWithinProfile}
@@ -13,7 +14,6 @@ use Rattle.mw_ir.specs.Ir.{Ir, IrFunc}
 use Rattle.mw_ir.specs.Ranges.{ir_size, ir_depth, total_size, IsPlace, IsOuterPlace, HasFree, IsInRange, IsProper, IsConverted}
 use Rattle.mw_gen.specs.Generate.{Version, module_with}
 use Rattle.mw_gen.proofs.Slots.{slots_needed}
-use Rattle.mw_gen.specs.EmissionLaw.{kernel_nodes}
 use Rattle.mw_gen.specs.Listing.{IsShort, IsShortPlace, AllShort}
 use Rattle.mw_gen.proofs.Words.{get_within}
 use Rattle.mw_gen.proofs.Correct.{Fine, Sound}

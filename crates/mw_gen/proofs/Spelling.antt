@@ -4,6 +4,7 @@ use Rattle.std.specs.Prelude.{codes}
 use Rattle.std.specs.List.{AllByRecursion}
 use Rattle.std.proofs.lemmas.List.{length-replicate, length-map}
 use Rattle.mw_term.specs.Terms.{KernelType, GroundType, base, of_ground, to, product}
+use Rattle.mw_term.specs.Limits.{ground_nodes, kernel_nodes}
 use Rattle.mw_wasm.specs.declared.values.ValType.TheVariants.{I32, I64}
 use Rattle.mw_wasm.specs.declared.modules.Exported.TheVariants.{Func}
 use Rattle.mw_wasm.specs.Pieces.{octet, u32, items, vector}
@@ -18,7 +19,6 @@ use Rattle.mw_gen.proofs.Stores.{append_none}
 use Rattle.mw_gen.proofs.Correct.{Fine}
 use Rattle.mw_gen.proofs.Invoke.{argument_need, argument_fine}
 use Rattle.mw_gen.proofs.Instance.{counting_length}
-use Rattle.mw_gen.specs.EmissionLaw.{ground_nodes, kernel_nodes}
 use Rattle.mw_gen.proofs.Valid.{Sees}
 use Rattle.mw_gen.proofs.Modules.{argument_sees}
 use Rattle.mw_gen.proofs.Profile.{temps_two}

@@ -1,25 +1,16 @@
 -- What is claimed of each emitted module.
-use Rattle.std.specs.Prelude.{ℕ, suc, ◌+◌, ◌≤◌, ◌<◌, ◌^◌, List, length}
-use Rattle.mw_term.specs.Terms.{Expression, GroundType, KernelType, base, product, of_ground, to, size, depth_of}
+use Rattle.std.specs.Prelude.{ℕ, ◌≤◌, ◌<◌, ◌^◌, List, length}
+use Rattle.mw_term.specs.Terms.{Expression, KernelType, size, depth_of}
 use Rattle.mw_term.specs.Closed.{IsClosed}
+use Rattle.mw_term.specs.Limits.{kernel_nodes, LiteralsFit}
 use Rattle.mw_meaning.specs.StandingFor.{StandsFor}
 use Rattle.mw_meaning.specs.Shapes.{HasShape}
 use Rattle.mw_wasm.specs.Syntax.{PureModule}
 use Rattle.mw_wasm.specs.BinaryModules.{wasm_module}
 use Rattle.mw_wasm.specs.Validity.{IsValid}
 use Rattle.mw_wasm.specs.Profile.{IsWithinProfile}
-use Rattle.mw_conv.specs.Literals.{Literals}
 use Rattle.mw_gen.specs.Generate.{Version}
 use Rattle.mw_gen.specs.Emission.{emitted}
-
--- the nodes of a type
-abbrev pub ground_nodes : GroundType → ℕ
-ground_nodes (base b) = 1
-ground_nodes (product s t) = suc (ground_nodes s + ground_nodes t)
-
-abbrev pub kernel_nodes : KernelType → ℕ
-kernel_nodes (of_ground t) = ground_nodes t
-kernel_nodes (to s t) = suc (ground_nodes s + ground_nodes t)
 
 -- some bytes spell it, fewer than 2^32
 pub record SpelledShort (P : List ℕ → Type 0) : Type 0 where
@@ -39,4 +30,4 @@ pub record IsEmission (m : PureModule) (c : Expression) (k : KernelType) : Type 
 -- in either version, of closed code within the limits of kernels, whose literals have 64 bits, at a type of at most 10,000
 -- nodes
 abbrev pub EmissionHolds : Type 0
-EmissionHolds = (v : Version) (c : Expression) (k : KernelType) → IsClosed c → Literals c → size c ≤ 20000 → depth_of c ≤ 400 → kernel_nodes k ≤ 10000 → IsEmission (emitted v c k) c k
+EmissionHolds = (v : Version) (c : Expression) (k : KernelType) → IsClosed c → LiteralsFit c → size c ≤ 20000 → depth_of c ≤ 400 → kernel_nodes k ≤ 10000 → IsEmission (emitted v c k) c k

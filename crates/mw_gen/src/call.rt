@@ -2,9 +2,9 @@
 
 ghost use Rattle.std.specs.Prelude.{◌≡◌, ◌+◌, ◌<◌, ◌≤◌, IfOk};
 ghost use Rattle.mw_term.specs.Terms.{ground_of};
+ghost use Rattle.mw_term.specs.Limits.{ground_nodes};
 ghost use Rattle.mw_meaning.specs.Shapes.{leaf_count};
 ghost use Rattle.mw_wasm.specs.Views.{code_of, function_of};
-ghost use Rattle.mw_gen.specs.EmissionLaw.{ground_nodes};
 ghost use Rattle.mw_gen.specs.Generate.{argument_of, call_function as call_with, call_of};
 ghost use Rattle.mw_gen.specs.Listing.{Appends, code_list};
 

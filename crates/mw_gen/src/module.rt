@@ -2,12 +2,12 @@
 
 ghost use Rattle.std.specs.Prelude.{◌≡◌, ◌+◌, ◌<◌, ◌≤◌, [], ◌∷◌, map, codes, replicate, IfOk};
 ghost use Rattle.mw_term.specs.Terms.{kernel_type_of};
+ghost use Rattle.mw_term.specs.Limits.{kernel_nodes};
 ghost use Rattle.mw_meaning.specs.Shapes.{init_type};
 ghost use Rattle.mw_wasm.specs.declared.modules.Exported.TheVariants.{Func as Function};
 ghost use Rattle.mw_wasm.specs.declared.values.ValType.TheVariants.{I64};
 ghost use Rattle.mw_wasm.specs.Syntax.{const_i32, end, next};
 ghost use Rattle.mw_wasm.specs.Views.{code_of, element_of, export_of, global_of};
-ghost use Rattle.mw_gen.specs.EmissionLaw.{kernel_nodes};
 ghost use Rattle.mw_gen.specs.Generate.{
   closure_type,
   counting,

@@ -11,7 +11,7 @@ ghost use Rattle.mw_grammar.specs.Words.{leaf_of, prefixed};
 use crate::rows::Operator;
 use crate::tree::{Placed, Tree};
 use crate::words::{Leaf, Prefix};
-use mw_term::{KType, Name};
+use mw_term::{KType, Name, copied_name};
 use std::alloc::{AllocError, Global};
 
 /// What a let binds, with the offset of the first token after its mark.
@@ -27,17 +27,6 @@ pub struct Function {
     pub name: Name,
     pub from: u32,
     pub tree: Tree,
-}
-
-/// A name of its own.
-pub fn copy_name(alloc: Global, name: &Name) -> Result<Name, AllocError>
-    ensures { IfOk result (λ copy. copy ≡ name.now) }
-{
-    let mut copy = Name::new(alloc);
-    for &byte in name.as_slice() {
-        copy.push(byte)?;
-    }
-    Ok(copy)
 }
 
 /// A number; one that no token has is 0.
@@ -66,7 +55,7 @@ pub fn leaf_tree(alloc: Global, leaf: Leaf, at: u32) -> Result<Tree, AllocError>
 {
     match leaf {
         Leaf::Word(name) => {
-            let name = copy_name(alloc, name)?;
+            let name = copied_name(alloc, name)?;
             Ok(Tree::Used(Placed { name, at }))
         }
         Leaf::Number(n) => Ok(Tree::Int(positive_of(n))),
@@ -171,7 +160,7 @@ pub fn function_tree(alloc: Global, parameter: Function) -> Result<Tree, AllocEr
 pub fn rec_tree(alloc: Global, name: &Name, parameter: Function) -> Result<Tree, AllocError>
     ensures { IfOk result (λ t. tree_of t ≡ fix name.now parameter.name (tree_of parameter.tree)) }
 {
-    let own = copy_name(alloc, name)?;
+    let own = copied_name(alloc, name)?;
     Ok(Tree::Rec(own, parameter.name, Box::new(alloc, parameter.tree)?))
 }
 

@@ -11,7 +11,8 @@ use Rattle.mw_term.specs.declared.refusal.Stop.TheVariants.{Refused, Memory}
 use Rattle.mw_types.specs.Types.{TypeExpression}
 use Rattle.mw_infer.specs.Schemes.{TopScheme, let_scheme, kernel_scheme, scheme_out_of_scope, ground_expression}
 use Rattle.mw_infer.specs.Inferring.{main_place, AreSchemesOf}
-use Rattle.mw_infer.specs.Checking.{Part, part_of_item, part_of_main, IsPart, an_item, main, ArePrincipal, IsFaultless, IsFirstRefusal, AreFaultless, IsResolved, IsTypeOf, AreTypesOf, IfRefused}
+use Rattle.mw_term.specs.Stops.{IfRefused}
+use Rattle.mw_infer.specs.Checking.{Part, part_of_item, part_of_main, IsPart, an_item, main, ArePrincipal, IsFaultless, IsFirstRefusal, AreFaultless, IsResolved, IsTypeOf, AreTypesOf}
 use Rattle.mw_infer.specs.Judging.{CanJudge, Judges}
 use Rattle.mw_infer.specs.Progress.{Progress, IsFaultOf, Steps, revealed_to, type_of_scheme}
 use Rattle.mw_infer.specs.Views.{scheme_of}
@@ -220,7 +221,7 @@ pub steps-length : (schemes : List TopScheme) (d : Definition) (new : List TopSc
 steps-length schemes (value e) new s = ap length s.2 ∙ append-length schemes (let_scheme (scheme_of s.0))
 steps-length schemes (kernel k e) new s = ap length s.2 ∙ append-length schemes scheme_out_of_scope
 
-pub if-refused : (s : Stop) (f g : Refusal → Type 0) → ((r : Refusal) → f r → g r) → IfRefused s f → IfRefused s g
+pub if-refused : (s : Stop) (f g : Refusal → Type 0) → ((r : Refusal) → f r → g r) → IfRefused f s → IfRefused g s
 if-refused (Refused r) f g h x = h r x
 if-refused (Memory e) f g h x = tt
 

@@ -1,5 +1,5 @@
 -- Which programs have types that are not too big, and the first fault of one that has not.
-use Rattle.std.specs.Prelude.{ℕ, ◌≡◌, ◌+◌, ◌<◌, ◌^◌, ◌↔◌, false, List, [], ◌∷◌, ◌++◌, map, take, length, Some, slice_get, Result, Ok, Err}
+use Rattle.std.specs.Prelude.{ℕ, ◌≡◌, ◌+◌, ◌<◌, ◌^◌, ◌↔◌, false, List, [], ◌∷◌, ◌++◌, map, take, length, Some, slice_get}
 use Rattle.mw_term.specs.Terms.{Expression, size}
 use Rattle.mw_term.specs.Programs.{Definition, value, kernel, PureProgram, IsSyntacticValue}
 use Rattle.mw_term.specs.Types.{TermType, live, IsAbsent}
@@ -8,8 +8,6 @@ use Rattle.mw_term.specs.Typable.{seen_by_item, seen_by_main}
 use Rattle.mw_term.specs.Scoped.{IsScoped, is_seen}
 use Rattle.mw_term.specs.declared.refusal.Refusal.{Refusal}
 use Rattle.mw_term.specs.declared.refusal.Refusal.TheVariants.{IllTyped, TypeTooBig, NotClosed}
-use Rattle.mw_term.specs.declared.refusal.Stop.{Stop}
-use Rattle.mw_term.specs.declared.refusal.Stop.TheVariants.{Refused, Memory}
 use Rattle.mw_types.specs.Types.{TypeExpression, Substitution, after, closed_ty}
 use Rattle.mw_types.specs.Equations.{MostGeneral, IsSmall, TooBig, Fine, FirstUnsolvable, FirstTooBig}
 use Rattle.mw_infer.specs.Schemes.{TopScheme, let_scheme, kernel_scheme, scheme_out_of_scope, IsInOrder, ground_expression, kernel_expression}
@@ -123,20 +121,3 @@ IsTypeOf x (main_place g) t = t ≡ ground_expression g
 pub record AreTypesOf (p : PureProgram) (types : List TypeExpression) : Type 0 where
   pub count : length types ≡ length p.items + 1
   pub each : (i : ℕ) (x : Part) (t : TypeExpression) → IsPart p i x → slice_get types i ≡ Some t → IsTypeOf x x.place t
-
--- the answer is a refusal that has the property, or want of memory
-abbrev pub IfRefused : Stop → (Refusal → Type 0) → Type 0
-IfRefused (Refused r) f = f r
-IfRefused (Memory e) f = Unit {0}
-
--- the answer is a result, or want of memory
-abbrev pub IsTypedOrMemory : {A : Type 0} → Result A Stop → Type 0
-IsTypedOrMemory (Ok typed) = Unit {0}
-IsTypedOrMemory (Err (Refused r)) = ⊥
-IsTypedOrMemory (Err (Memory e)) = Unit {0}
-
--- the answer is this refusal, or want of memory
-abbrev pub IsRefusalOrMemory : {A : Type 0} → Result A Stop → Refusal → Type 0
-IsRefusalOrMemory (Ok typed) r = ⊥
-IsRefusalOrMemory (Err (Refused q)) r = q ≡ r
-IsRefusalOrMemory (Err (Memory e)) r = Unit {0}

@@ -11,7 +11,7 @@ ghost use Rattle.mw_infer.specs.Views.{level_at, slot_of, slots_of, tops_of};
 use crate::names::TopScheme;
 use crate::output::{Output, Spot, equate};
 use crate::own;
-use crate::scope::{Binder, Scope, Level, find, listed};
+use crate::scope::{Binder, Level, Scope, find, listed};
 use mw_term::Term;
 use mw_types::Ty;
 use std::alloc::{AllocError, Global};

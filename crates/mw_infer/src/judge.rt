@@ -10,11 +10,11 @@ ghost use Rattle.mw_infer.specs.Views.{tops_of};
 use crate::build::{closed, ground_ty, kernel_ty};
 use crate::emit::emit;
 use crate::fresh::first_open;
-use crate::names::{TopScheme, LetType};
+use crate::names::{LetType, TopScheme};
 use crate::output::{Output, equate};
 use crate::own::Asked;
 use crate::renumber::let_type;
-use crate::scope::{Scope, Level};
+use crate::scope::{Level, Scope};
 use mw_term::Term;
 use mw_types::{Equations, Pairs, SolveFault, Ty, solve};
 use std::alloc::{AllocError, Global};
@@ -48,7 +48,12 @@ fn ask(alloc: Global, out: &mut Output, asked: &Asked) -> Result<(), AllocError>
 }
 
 /// The equations and closes of an item.
-fn emitted(alloc: Global, names: &[TopScheme], asked: &Asked, term: &Term) -> Result<Output, AllocError>
+fn emitted(
+    alloc: Global,
+    names: &[TopScheme],
+    asked: &Asked,
+    term: &Term,
+) -> Result<Output, AllocError>
     requires { CanJudge (tops_of names.now) (expression_of term.now) }
     ensures { IfOk result (IsEmitted (tops_of names.now) (place_of asked.now) (expression_of term.now)) }
 {

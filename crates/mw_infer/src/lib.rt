@@ -5,10 +5,11 @@
 
 ghost use Rattle.std.specs.Prelude.{map, IfErr, IfOk};
 ghost use Rattle.mw_term.specs.Programs.{program_of};
+ghost use Rattle.mw_term.specs.Stops.{AnswersOrMemory, IfRefused, IsRefusalOrMemory};
 ghost use Rattle.mw_term.specs.Typable.{Typable};
 ghost use Rattle.mw_term.specs.declared.refusal.Refusal.{Refusal};
 ghost use Rattle.mw_types.specs.Types.{type_of};
-ghost use Rattle.mw_infer.specs.Checking.{AreTypesOf, IfRefused, IsFirstRefusal, IsRefusalOrMemory, IsResolved, IsTypedOrMemory, NoneTooBig};
+ghost use Rattle.mw_infer.specs.Checking.{AreTypesOf, IsFirstRefusal, IsResolved, NoneTooBig};
 
 mod build;
 mod emit;
@@ -35,8 +36,8 @@ pub fn check(alloc: Global, program: &Program) -> Result<Typed, Stop>
     ensures typable { IfOk result (λ _. Typable (program_of program.now)) }
     ensures small { IfOk result (λ _. NoneTooBig (program_of program.now)) }
     ensures types { IfOk result (λ typed. AreTypesOf (program_of program.now) (map type_of typed)) }
-    ensures only { Typable (program_of program.now) → NoneTooBig (program_of program.now) → IsTypedOrMemory result }
-    ensures refused { IfErr result (λ stop. IfRefused stop (IsFirstRefusal (program_of program.now))) }
+    ensures only { Typable (program_of program.now) → NoneTooBig (program_of program.now) → AnswersOrMemory (λ typed. Unit {0}) result }
+    ensures refused { IfErr result (IfRefused (IsFirstRefusal (program_of program.now))) }
     ensures first { (r : Refusal) → IsFirstRefusal (program_of program.now) r → IsRefusalOrMemory result r }
 {
     match whole(alloc, program) {

@@ -263,7 +263,12 @@ pub fn variable(
 }
 
 /// A name of type `own` that has a scheme, or is out of scope.
-fn named_scheme(alloc: Global, named: &TopScheme, out: &mut Output, own: u64) -> Result<(), AllocError>
+fn named_scheme(
+    alloc: Global,
+    named: &TopScheme,
+    out: &mut Output,
+    own: u64,
+) -> Result<(), AllocError>
     requires room { HasRoom out.old (unknowns_of_name (Some (top_of named.now))) (classifiers_of_name (Some (top_of named.now))) }
     requires low { AreLow (top_of named.now ∷ []) }
     ensures { OnOk result (Adds out.old out.new (unknowns_of_name (Some (top_of named.now))) (classifiers_of_name (Some (top_of named.now))) (name_equations own out.old.unknowns out.old.classifiers live (Some (top_of named.now))) []) }

@@ -6,7 +6,7 @@ ghost use Rattle.mw_term.specs.Terms.{expression_of, ground_of};
 ghost use Rattle.mw_term.specs.Typable.{seen_by_main};
 ghost use Rattle.mw_types.specs.Types.{type_of};
 ghost use Rattle.mw_infer.specs.Schemes.{ground_expression};
-ghost use Rattle.mw_infer.specs.Checking.{AreFaultless, ArePrincipal, IfRefused, IsFirstRefusal, IsResolved, part_of_item};
+ghost use Rattle.mw_infer.specs.Checking.{AreFaultless, ArePrincipal, IsFirstRefusal, IsResolved, part_of_item};
 ghost use Rattle.mw_infer.specs.Inferring.{main_place};
 ghost use Rattle.mw_infer.specs.Judging.{CanJudge, Judges, place_of};
 ghost use Rattle.mw_infer.specs.Progress.{IsFaultOf, Steps, revealed_to, type_of_scheme};
@@ -15,7 +15,7 @@ ghost use Rattle.mw_infer.specs.declared.judge.Verdict.TheVariants.{Fine};
 
 use crate::build::{closed, code, function, ground_ty, kernel_ty, pair};
 use crate::judge::{Verdict, judge};
-use crate::names::{TopScheme, LetType};
+use crate::names::{LetType, TopScheme};
 use crate::own::Asked;
 use mw_term::{Ground, Item, ItemKind, Program, Refusal, Stop, Term};
 use mw_types::Ty;
@@ -31,7 +31,7 @@ fn judged(
 ) -> Result<LetType, Stop>
     requires { CanJudge (tops_of names.now) (expression_of term.now) }
     ensures fine { IfOk result (λ l. Judges (tops_of names.now) (place_of asked.now) (expression_of term.now) (Fine l)) }
-    ensures refused { IfErr result (λ stop. IfRefused stop (IsFaultOf (tops_of names.now) (place_of asked.now) (expression_of term.now) index)) }
+    ensures refused { IfErr result (IfRefused (IsFaultOf (tops_of names.now) (place_of asked.now) (expression_of term.now) index)) }
 {
     match judge(alloc, names, asked, term)? {
         Verdict::Fine(known) => Ok(known),
@@ -45,7 +45,7 @@ fn judged(
 fn step(alloc: Global, names: &mut Vec<TopScheme>, item: &Item, index: u32) -> Result<(), Stop>
     requires { CanJudge (tops_of names.old.items) (part_of_item [] (definition_of item.now.kind)).term }
     ensures ok { OnOk result (Steps (tops_of names.old.items) (definition_of item.now.kind) (tops_of names.new.items)) }
-    ensures refused { IfErr result (λ stop. IfRefused stop (IsFaultOf (tops_of names.old.items) (part_of_item [] (definition_of item.now.kind)).place (part_of_item [] (definition_of item.now.kind)).term index)) }
+    ensures refused { IfErr result (IfRefused (IsFaultOf (tops_of names.old.items) (part_of_item [] (definition_of item.now.kind)).place (part_of_item [] (definition_of item.now.kind)).term index)) }
 {
     match &item.kind {
         ItemKind::Value(term) => {
@@ -83,7 +83,7 @@ fn last(
 ) -> Result<(), Stop>
     requires { CanJudge (tops_of names.now) (expression_of body.now) }
     ensures fine { OnOk result ((l : LetType) × Judges (tops_of names.now) (main_place (ground_of ground.now)) (expression_of body.now) (Fine l)) }
-    ensures refused { IfErr result (λ stop. IfRefused stop (IsFaultOf (tops_of names.now) (main_place (ground_of ground.now)) (expression_of body.now) index)) }
+    ensures refused { IfErr result (IfRefused (IsFaultOf (tops_of names.now) (main_place (ground_of ground.now)) (expression_of body.now) index)) }
 {
     let _known = judged(alloc, names, &Asked::Main(ground), body, index)?;
     Ok(())
@@ -94,7 +94,7 @@ pub fn whole<'p>(alloc: Global, program: &'p Program) -> Result<Vec<TopScheme<'p
     requires { IsResolved (program_of program.now) }
     ensures faultless { IfOk result (λ _. AreFaultless (program_of program.now)) }
     ensures principal { IfOk result (λ names. ArePrincipal (seen_by_main (program_of program.now).items) (tops_of names.items)) }
-    ensures refused { IfErr result (λ stop. IfRefused stop (IsFirstRefusal (program_of program.now))) }
+    ensures refused { IfErr result (IfRefused (IsFirstRefusal (program_of program.now))) }
 {
     let items = program.items.as_slice();
     let mut names = Vec::new(alloc);

@@ -2,7 +2,6 @@
 #![tactic(auto)]
 
 mod arguments;
-mod copy;
 mod fault;
 pub mod laws;
 mod outcome;

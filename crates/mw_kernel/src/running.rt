@@ -14,13 +14,12 @@ ghost use Rattle.mw_kernel.specs.KernelMeanings.{MeansStart, MeansCall, KeepsOn}
 ghost use Rattle.mw_kernel.specs.Answering.{HasFewPages, IsAnswerOf, IsNoFunction, IsBegunAnswer, IsHeldAfter, FitsUnlessMemory};
 
 use crate::arguments::arguments_of;
-use crate::copy::copied_ground;
 use crate::fault::RunFault;
 use crate::outcome::{Outcome, first_instance, invoke_word, ready_instance};
 use crate::reading::read_value;
 use mw_exec::Instance;
 use mw_machine::Ran;
-use mw_term::{Ground, GroundValue, KType, Limit, TrapKind};
+use mw_term::{Ground, GroundValue, KType, Limit, TrapKind, copied_ground};
 use mw_validate::Valid;
 use std::alloc::Global;
 use std::marker::Model;

@@ -5,7 +5,7 @@ use Rattle.std.proofs.lemmas.List.{append_assoc}
 use Rattle.std.proofs.Math.Numerals.{add-one}
 use Rattle.mw_term.specs.Terms.{Expression, num, truth, var, glob, fun, fix, app, bind, cond, pair, fst, snd, prim, bracket, escape, run, close, opened, lift, lift_b, done, size, depth_of}
 use Rattle.mw_term.specs.Closed.{IsCode, ClosedBelow}
-use Rattle.mw_key.specs.Limits.{LiteralsFit}
+use Rattle.mw_term.specs.Limits.{LiteralsFit}
 use Rattle.mw_key.specs.declared.form.Form.{Form}
 use Rattle.mw_key.specs.declared.form.Form.TheVariants.{Int, Bool as Truth, Var, Fun, Rec, App, Let, If, Pair, Fst, Snd, Prim}
 use Rattle.mw_key.specs.Forms.{form_of}

@@ -2,7 +2,7 @@
 use Rattle.std.proofs.Common.{◌≡◌, ℕ, zero, suc, ◌+◌, ◌-◌, ◌≤◌, List, ◌∷◌, ◌++◌, refl, sym, ◌∙◌, ap, subst, arith, Some, None}
 use Rattle.std.proofs.lemmas.List.{append_assoc}
 use Rattle.mw_term.specs.Terms.{GroundType, KernelType, base, product, of_ground, to}
-use Rattle.mw_key.specs.Limits.{ground_nodes, kernel_nodes}
+use Rattle.mw_term.specs.Limits.{ground_nodes, kernel_nodes}
 use Rattle.mw_key.specs.declared.form.TypeForm.{TypeForm}
 use Rattle.mw_key.specs.declared.form.TypeForm.TheVariants.{Base, Pair as PairType, To}
 use Rattle.mw_key.specs.Forms.{type_form_of}

@@ -4,7 +4,7 @@ use Rattle.std.proofs.lemmas.Bool.{and_parts, and_from, le-leb, leb-true}
 use Rattle.std.proofs.lemmas.List.{append-nil}
 use Rattle.std.proofs.lemmas.Option.{none-some, same_Some}
 use Rattle.mw_term.specs.Terms.{Expression, KernelType, size, depth_of}
-use Rattle.mw_key.specs.Limits.{kernel_nodes}
+use Rattle.mw_term.specs.Limits.{kernel_nodes}
 use Rattle.mw_key.specs.CanonicalText.{version_word, IsKernel, IsTextOf}
 use Rattle.mw_key.specs.declared.version.Version.{Version}
 use Rattle.mw_key.specs.Forms.{version_of}

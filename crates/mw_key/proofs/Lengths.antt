@@ -10,7 +10,7 @@ use Rattle.mw_term.specs.declared.term.Primitive.{Primitive as Prim}
 use Rattle.mw_term.specs.declared.term.Primitive.TheVariants.{Add, Sub, Mul, Div, Mod, Eq, Lt, Le}
 use Rattle.mw_term.specs.Terms.{Expression, GroundType, KernelType, base, product, of_ground, to, num, truth, var, glob, fun, fix, app, bind, cond, pair, fst, snd, prim, bracket, escape, run, close, opened, lift, lift_b, done, size, depth_of}
 use Rattle.mw_term.specs.Closed.{ClosedBelow}
-use Rattle.mw_key.specs.Limits.{within_limits, ground_nodes, kernel_nodes, LiteralsFit}
+use Rattle.mw_term.specs.Limits.{within_limits, ground_nodes, kernel_nodes, LiteralsFit}
 use Rattle.mw_key.specs.declared.version.Version.{Version}
 use Rattle.mw_key.specs.declared.version.Version.TheVariants.{One, Two}
 use Rattle.mw_key.specs.CanonicalText.{version_word, ground_words, kernel_words, primitive_word, code_words, canonical_text, IsTextOf}

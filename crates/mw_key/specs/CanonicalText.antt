@@ -5,7 +5,7 @@ use Rattle.std.specs.Int.{w32, from_le_bytes}
 use Rattle.sha2.specs.Sha256.{sha256}
 use Rattle.mw_term.specs.Terms.{Expression, GroundType, KernelType, base, product, of_ground, to, num, truth, var, fun, fix, app, bind, cond, pair, fst, snd, prim}
 use Rattle.mw_term.specs.Closed.{IsCode, IsClosed}
-use Rattle.mw_key.specs.Limits.{within_limits, kernel_nodes, LiteralsFit}
+use Rattle.mw_term.specs.Limits.{within_limits, kernel_nodes, LiteralsFit}
 use Rattle.mw_term.specs.declared.term.Base.TheVariants.{Int, Bool as Truth}
 use Rattle.mw_term.specs.declared.term.Primitive.{Primitive as Prim}
 use Rattle.mw_term.specs.declared.term.Primitive.TheVariants.{Add, Sub, Mul, Div, Mod, Eq, Lt, Le}

@@ -1,4 +1,3 @@
-pub mod Limits
 pub mod CanonicalText
 pub mod TextLaws
 pub mod Forms

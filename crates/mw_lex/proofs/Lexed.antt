@@ -10,7 +10,7 @@ use Rattle.mw_lex.specs.Texts.{IsText}
 use Rattle.mw_lex.specs.Tokens.{PureToken, token, tokens_of}
 use Rattle.mw_lex.specs.InOrder.{AreFrom, AreInOrder}
 use Rattle.mw_lex.specs.Reading.{Reads, so_far, behind_blank, behind_comment, behind_token, AreTokens, IsFault, no_token, in_comment, no_number, long_name, IsFirstFault}
-use Rattle.mw_lex.specs.Lexing.{IsOrMemory, RefusesOrMemory, Says}
+use Rattle.mw_term.specs.Stops.{AnswersOrMemory, IfRefused, IsRefusalOrMemory}
 use Rattle.mw_lex.proofs.Tables.{text_nil}
 use Rattle.mw_lex.proofs.OneAnswer.{one_list, one_first_fault, tokens_or_fault}
 
@@ -40,18 +40,18 @@ large_fault (no_number text rest f n l m) e = absurd (cc)
 large_fault (long_name text rest f w l p) e = absurd (cc)
 
 module _ (bytes : List ℕ) where
-  pub only_tokens : (result : Result (List Token) Stop) → IfOk result (λ v. AreTokens bytes (tokens_of v)) → IfErr result (Says (IsFirstFault bytes)) → (tokens : List PureToken) → AreTokens bytes tokens → IsOrMemory result tokens
+  pub only_tokens : (result : Result (List Token) Stop) → IfOk result (λ v. AreTokens bytes (tokens_of v)) → IfErr result (IfRefused (IsFirstFault bytes)) → (tokens : List PureToken) → AreTokens bytes tokens → AnswersOrMemory (λ v. tokens_of v ≡ tokens) result
   only_tokens (Ok v) h k tokens a = one_list bytes (tokens_of v) tokens h a
   only_tokens (Err (Refused r)) h k tokens a = tokens_or_fault bytes tokens r a k
   only_tokens (Err (Memory e)) h k tokens a = tt
 
-  pub only_fault : (result : Result (List Token) Stop) → IfOk result (λ v. AreTokens bytes (tokens_of v)) → IfErr result (Says (IsFirstFault bytes)) → (r : Refusal) → IsFirstFault bytes r → RefusesOrMemory result r
+  pub only_fault : (result : Result (List Token) Stop) → IfOk result (λ v. AreTokens bytes (tokens_of v)) → IfErr result (IfRefused (IsFirstFault bytes)) → (r : Refusal) → IsFirstFault bytes r → IsRefusalOrMemory result r
   only_fault (Ok v) h k r a = tokens_or_fault bytes (tokens_of v) r h a
   only_fault (Err (Refused q)) h k r a = one_first_fault bytes q r k a
   only_fault (Err (Memory e)) h k r a = tt
 
-  pub says : (result : Result (List Token) Stop) → IfErr result (Says (IsFirstFault bytes)) → (r : Refusal) → result ≡ Err (Refused r) → IsFirstFault bytes r
-  says result k r e = subst (λ x. IfErr x (Says (IsFirstFault bytes))) e k
+  pub says : (result : Result (List Token) Stop) → IfErr result (IfRefused (IsFirstFault bytes)) → (r : Refusal) → result ≡ Err (Refused r) → IsFirstFault bytes r
+  says result k r e = subst (λ x. IfErr x (IfRefused (IsFirstFault bytes))) e k
 
-  pub not_large : (result : Result (List Token) Stop) → IfErr result (Says (IsFirstFault bytes)) → result ≡ Err (Refused TooLarge) → ⊥
+  pub not_large : (result : Result (List Token) Stop) → IfErr result (IfRefused (IsFirstFault bytes)) → result ≡ Err (Refused TooLarge) → ⊥
   not_large result k e = let f = says result k TooLarge e in large_fault f.fault refl

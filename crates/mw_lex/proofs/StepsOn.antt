@@ -10,7 +10,8 @@ use Rattle.mw_lex.specs.InOrder.{IsInRange}
 use Rattle.mw_lex.specs.Reading.{Reads, so_far, behind_blank, behind_comment, behind_token, AreTokens, IsFault, IsFirstFault}
 use Rattle.mw_term.specs.declared.refusal.Stop.{Stop}
 use Rattle.mw_term.specs.declared.refusal.Stop.TheVariants.{Refused, Memory}
-use Rattle.mw_lex.specs.Lexing.{IsOfLexing, StopsLexing, Says}
+use Rattle.mw_term.specs.Stops.{IfRefused}
+use Rattle.mw_lex.specs.Lexing.{IsOfLexing}
 use Rattle.mw_lex.specs.Pieces.{Seen, gap, marked, run, strange, front, run_answer, next_to_last, last, opens_literal, Gives}
 use Rattle.mw_lex.specs.Steps.{IsRead}
 use Rattle.mw_lex.proofs.Tables.{mark_in_range}
@@ -95,7 +96,7 @@ module _ (bytes : List ℕ) (at : ℕ) (tokens : List PureToken) (h : IsRead byt
   same_answer n lowest seen rest e f g =
       ap (λ l. run_answer l at (take n (drop at bytes))) (sym (e ∙ ap opens_literal f)) ∙ ap (λ r. run_answer lowest at (take n r)) (sym g)
 
-  pub step_stops : (n : ℕ) (e : Stop) (a : Result Symbol Refusal) → front (drop at bytes) ≡ run n → run_answer (opens_literal tokens) at (take n (drop at bytes)) ≡ a → Gives (Err e) a → Says (IsFirstFault bytes) e × StopsLexing e
+  pub step_stops : (n : ℕ) (e : Stop) (a : Result Symbol Refusal) → front (drop at bytes) ≡ run n → run_answer (opens_literal tokens) at (take n (drop at bytes)) ≡ a → Gives (Err e) a → IfRefused (IsFirstFault bytes) e × IfRefused IsOfLexing e
   step_stops n (Refused r) a f g h = step_refused n r f (g ∙ h)
   step_stops n (Memory m) a f g h = (tt, tt)
 

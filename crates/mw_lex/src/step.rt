@@ -2,9 +2,10 @@
 
 ghost use Rattle.std.specs.Prelude.{◌≡◌, ◌<◌, ◌≤◌, ◌^◌, IfOk, IfErr, OnOk};
 ghost use Rattle.std.specs.Prelude.{length, [], ◌∷◌, ◌++◌};
+ghost use Rattle.mw_term.specs.Stops.{IfRefused};
 ghost use Rattle.mw_lex.specs.Tokens.{token, tokens_of, symbol_of};
 ghost use Rattle.mw_lex.specs.Reading.{AreTokens, IsFirstFault};
-ghost use Rattle.mw_lex.specs.Lexing.{StopsLexing, Says};
+ghost use Rattle.mw_lex.specs.Lexing.{IsOfLexing};
 ghost use Rattle.mw_lex.specs.Steps.{IsRead};
 
 use crate::kind::{opens_literal, run_kind};
@@ -33,8 +34,8 @@ pub fn step(alloc: Global, bytes: &[u8], at: usize, tokens: &mut Tokens) -> Resu
     requires read { IsRead bytes.now at (tokens_of tokens.old) }
     ensures next { IfOk result (λ next. IsRead bytes.now next (tokens_of tokens.new)) }
     ensures on { IfOk result (λ next. at < next) }
-    ensures fault { IfErr result (Says (IsFirstFault bytes.now)) }
-    ensures of_lexing { IfErr result StopsLexing }
+    ensures fault { IfErr result (IfRefused (IsFirstFault bytes.now)) }
+    ensures of_lexing { IfErr result (IfRefused IsOfLexing) }
 {
     let rest = &bytes[at..];
     match front(rest) {
@@ -58,8 +59,8 @@ pub fn step(alloc: Global, bytes: &[u8], at: usize, tokens: &mut Tokens) -> Resu
 pub fn pieces(alloc: Global, bytes: &[u8]) -> Result<Tokens, Stop>
     requires { length bytes.now ≤ 2 ^ 20 }
     ensures found { IfOk result (λ v. AreTokens bytes.now (tokens_of v)) }
-    ensures fault { IfErr result (Says (IsFirstFault bytes.now)) }
-    ensures of_lexing { IfErr result StopsLexing }
+    ensures fault { IfErr result (IfRefused (IsFirstFault bytes.now)) }
+    ensures of_lexing { IfErr result (IfRefused IsOfLexing) }
 {
     let mut tokens = Tokens::new(alloc);
     let mut at = 0;

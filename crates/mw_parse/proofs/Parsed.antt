@@ -15,7 +15,8 @@ use Rattle.mw_grammar.specs.SourceNodes.{height}
 use Rattle.mw_grammar.specs.Grammar.{program}
 use Rattle.mw_grammar.specs.Answers.{IsTree, IsSyntaxAt, IsTooDeepAt, place_of, kernels, AreTooMany, items, kernel_items, IsProgram, HasTooMany}
 use Rattle.mw_grammar.specs.Descent.{Answer, ok, syntax_at, deep_at, full}
-use Rattle.mw_parse.specs.Reading.{IsTreeOrMemory, Refuses, Stops, RefusesOrMemory, Says}
+use Rattle.mw_term.specs.Stops.{AnswersOrMemory, IfRefused, IsRefusalOrMemory}
+use Rattle.mw_parse.specs.Reading.{IsAnswer, Refuses}
 use Rattle.mw_grammar.proofs.Says.{Tells}
 use Rattle.mw_grammar.proofs.Exactly.{exact_ok, exact_left, exact_syntax, exact_deep, tells_full, one_tree}
 use Rattle.mw_grammar.proofs.Unique.{syntax_once, not_both, deep_once, tree_or_syntax, tree_or_deep}
@@ -84,20 +85,20 @@ module _ (ts : List PureToken) (n : ℕ) where
   one_refusal TooMany _ x y = absurd y
   one_refusal _ _ x y = absurd x
 
-  pub found : (result : Result Surface Stop) → Says ts n result → IfOk result (λ s. IsProgram ts (surface_of s))
+  pub found : (result : Result Surface Stop) → IsAnswer ts n result → IfOk result (λ s. IsProgram ts (surface_of s))
   found (Ok s) x = x
   found (Err e) x = tt
 
-  pub only : (result : Result Surface Stop) → Says ts n result → (v : PureSurface) → IsProgram ts v → IsTreeOrMemory result v
+  pub only : (result : Result Surface Stop) → IsAnswer ts n result → (v : PureSurface) → IsProgram ts v → AnswersOrMemory (λ s. surface_of s ≡ v) result
   only (Ok s) x v y = one_tree ts (surface_of s) v x.is.nodes y.is.nodes x.is.derives y.is.derives
   only (Err (Refused r)) x v y = program_or v r y x
   only (Err (Memory e)) x v y = tt
 
-  pub refused : (result : Result Surface Stop) → Says ts n result → IfErr result (Stops ts n)
+  pub refused : (result : Result Surface Stop) → IsAnswer ts n result → IfErr result (IfRefused (Refuses ts n))
   refused (Ok s) x = tt
   refused (Err e) x = x
 
-  pub first : (result : Result Surface Stop) → Says ts n result → (r : Refusal) → Refuses ts n r → RefusesOrMemory result r
+  pub first : (result : Result Surface Stop) → IsAnswer ts n result → (r : Refusal) → Refuses ts n r → IsRefusalOrMemory result r
   first (Ok s) x r y = program_or (surface_of s) r x y
   first (Err (Refused s)) x r y = one_refusal s r x y
   first (Err (Memory e)) x r y = tt
@@ -105,11 +106,11 @@ module _ (ts : List PureToken) (n : ℕ) where
   is_shallow : (v : PureSurface) → IsProgram ts v → IsShallow v
   is_shallow v x = let h = low x.is.derives in let k = h.1 in let m = x.is.low in record { count = x.few.items; items = are_shallow v.items (height x.is.nodes) m h.0; body = omega arith }
 
-  pub shallow : (result : Result Surface Stop) → Says ts n result → IfOk result (λ s. IsShallow (surface_of s))
+  pub shallow : (result : Result Surface Stop) → IsAnswer ts n result → IfOk result (λ s. IsShallow (surface_of s))
   shallow (Ok s) x = is_shallow (surface_of s) x
   shallow (Err e) x = tt
 
-  pub sparse : (result : Result Surface Stop) → Says ts n result → IfOk result (λ s. IsSparse ts (surface_of s))
+  pub sparse : (result : Result Surface Stop) → IsAnswer ts n result → IfOk result (λ s. IsSparse ts (surface_of s))
   sparse (Ok s) x = omega (arith, light x.is.derives)
   sparse (Err e) x = tt
 

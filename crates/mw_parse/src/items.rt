@@ -16,13 +16,13 @@ use crate::trees::{body_tree, expr_tree, parameter_tree};
 use mw_grammar::fault::{Fault, Read};
 use mw_grammar::kinds::{ground_type, kernel};
 use mw_grammar::next::{Next, after};
-use mw_grammar::parts::{copy_name, rec_tree};
+use mw_grammar::parts::rec_tree;
 use mw_grammar::words::{
     ItemWord, Mark, Named, Start, in_hand, item_word, name_of, name_or_rec, start_word,
 };
 use mw_grammar::{Placed, Surface, SurfaceItem, SurfaceItems, Tree};
 use mw_lex::Token;
-use mw_term::Ground;
+use mw_term::{Ground, copied_name};
 use std::alloc::Global;
 
 fn item_tree(alloc: Global, tokens: &[Token], room: u32) -> Read<SurfaceItem>
@@ -56,7 +56,7 @@ fn let_item(alloc: Global, tokens: &[Token], room: u32) -> Read<SurfaceItem>
         Some((token, rest)) => match name_or_rec(token) {
             Named::Other => Err(Fault::Syntax(tokens)),
             Named::Word(name) => {
-                let name = copy_name(alloc, name)?;
+                let name = copied_name(alloc, name)?;
                 let at = token.start;
                 let (definition, height, rest) = body_tree(alloc, Mark::Equal, rest, room)?;
                 let item = SurfaceItem::Let(Placed { name, at }, definition.from, definition.tree);
@@ -80,7 +80,7 @@ fn recursive_item(alloc: Global, tokens: &[Token], room: u32) -> Read<SurfaceIte
         Some((token, rest)) => match name_of(token) {
             None => Err(Fault::Syntax(tokens)),
             Some(name) => {
-                let name = copy_name(alloc, name)?;
+                let name = copied_name(alloc, name)?;
                 let at = token.start;
                 let (function, height, rest) = parameter_tree(alloc, Mark::Equal, rest, room)?;
                 let from = function.from;
@@ -105,7 +105,7 @@ fn kernel_item(alloc: Global, tokens: &[Token], room: u32) -> Read<SurfaceItem>
         Some((token, rest)) => match name_of(token) {
             None => Err(Fault::Syntax(tokens)),
             Some(name) => {
-                let name = copy_name(alloc, name)?;
+                let name = copied_name(alloc, name)?;
                 let at = token.start;
                 match after(Next::Colon, rest) {
                     None => Err(Fault::Syntax(rest)),

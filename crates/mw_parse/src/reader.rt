@@ -4,11 +4,12 @@ ghost use Rattle.std.specs.Prelude.{◌≡◌, ◌≤◌, ℕ, length, map, IfOk
 ghost use Rattle.mw_lex.specs.Tokens.{tokens_of};
 ghost use Rattle.mw_lex.specs.InOrder.{AreInOrder, HaveNumbersInRange};
 ghost use Rattle.mw_term.specs.declared.refusal.Refusal.{Refusal as PureRefusal};
+ghost use Rattle.mw_term.specs.Stops.{AnswersOrMemory, IfRefused, IsRefusalOrMemory};
 ghost use Rattle.mw_grammar.specs.SurfaceTrees.{PureSurface, item_of, surface_of};
 ghost use Rattle.mw_grammar.specs.SurfaceDepth.{IsShallow};
 ghost use Rattle.mw_grammar.specs.SurfaceSize.{IsSparse};
 ghost use Rattle.mw_grammar.specs.Answers.{place_of, kernels, IsProgram};
-ghost use Rattle.mw_parse.specs.Reading.{IsTreeOrMemory, RefusesOrMemory, Refuses, Stops, Says};
+ghost use Rattle.mw_parse.specs.Reading.{IsAnswer, Refuses};
 
 use crate::items::program_tree;
 use mw_grammar::fault::Fault;
@@ -44,7 +45,7 @@ fn kernel_count(items: &[SurfaceItem]) -> u32
 
 #[tactic(auto, using(crate::proofs::Parsed::few_program, crate::proofs::Parsed::many_items, crate::proofs::Parsed::many_kernels, crate::proofs::Parsed::left_over, crate::proofs::Parsed::syntax_fault, crate::proofs::Parsed::deep_fault, crate::proofs::Parsed::nothing_left, crate::proofs::Parsed::as_many))]
 fn parse_tokens(alloc: Global, tokens: &[Token], length: u32) -> Result<Surface, Stop>
-    ensures { Says (tokens_of tokens.now) length result }
+    ensures { IsAnswer (tokens_of tokens.now) length result }
 {
     match program_tree(alloc, tokens, 200) {
         Err(Fault::Memory(e)) => Err(Stop::Memory(e)),
@@ -72,9 +73,9 @@ pub fn parse(alloc: Global, tokens: &Tokens, length: u32) -> Result<Surface, Sto
     requires in_order { AreInOrder (tokens_of tokens.now) length }
     requires in_range { HaveNumbersInRange (tokens_of tokens.now) }
     ensures found { IfOk result (λ s. IsProgram (tokens_of tokens.now) (surface_of s)) }
-    ensures only { (v : PureSurface) → IsProgram (tokens_of tokens.now) v → IsTreeOrMemory result v }
-    ensures refused { IfErr result (Stops (tokens_of tokens.now) length) }
-    ensures first { (r : PureRefusal) → Refuses (tokens_of tokens.now) length r → RefusesOrMemory result r }
+    ensures only { (v : PureSurface) → IsProgram (tokens_of tokens.now) v → AnswersOrMemory (λ s. surface_of s ≡ v) result }
+    ensures refused { IfErr result (IfRefused (Refuses (tokens_of tokens.now) length)) }
+    ensures first { (r : PureRefusal) → Refuses (tokens_of tokens.now) length r → IsRefusalOrMemory result r }
     ensures shallow { IfOk result (λ s. IsShallow (surface_of s)) }
     ensures sparse { IfOk result (λ s. IsSparse (tokens_of tokens.now) (surface_of s)) }
 {

@@ -18,9 +18,8 @@ use mw_grammar::fault::{Fault, Read};
 use mw_grammar::kinds::kernel;
 use mw_grammar::next::{Next, after};
 use mw_grammar::parts::{
-    Defined, Function, bracket_tree, conjoined, copy_name, disjoined, escape_tree, function_tree,
-    if_tree, joined, leaf_tree, let_rec_tree, let_tree, negative_of, pair_tree, prefixed_tree,
-    run_tree,
+    Defined, Function, bracket_tree, conjoined, disjoined, escape_tree, function_tree, if_tree,
+    joined, leaf_tree, let_rec_tree, let_tree, negative_of, pair_tree, prefixed_tree, run_tree,
 };
 use mw_grammar::rows::{Operator, Row, next_comparison, next_operator};
 use mw_grammar::words::{
@@ -28,7 +27,7 @@ use mw_grammar::words::{
     head_word, in_hand, inside_word, name_of, name_or_rec, number_of,
 };
 use mw_lex::Token;
-use mw_term::Name;
+use mw_term::{Name, copied_name};
 use std::alloc::Global;
 
 /// After `(` and `-`.
@@ -410,7 +409,7 @@ fn bound_tree(alloc: Global, tokens: &[Token], room: u32) -> Read<Tree>
         Some((token, rest)) => match name_or_rec(token) {
             Named::Other => Err(Fault::Syntax(tokens)),
             Named::Word(name) => {
-                let name = copy_name(alloc, name)?;
+                let name = copied_name(alloc, name)?;
                 let (definition, height, mid) = body_tree(alloc, Mark::Equal, rest, room)?;
                 scoped(alloc, name, definition.tree, height, mid, room)
             }
@@ -430,7 +429,7 @@ fn recursive(alloc: Global, tokens: &[Token], room: u32) -> Read<Tree>
         Some((token, rest)) => match name_of(token) {
             None => Err(Fault::Syntax(tokens)),
             Some(name) => {
-                let name = copy_name(alloc, name)?;
+                let name = copied_name(alloc, name)?;
                 let (function, height, mid) = parameter_tree(alloc, Mark::Equal, rest, room)?;
                 scoped_function(alloc, name, function, height, mid, room)
             }
@@ -478,7 +477,7 @@ pub fn parameter_tree(alloc: Global, mark: Mark, tokens: &[Token], room: u32) ->
                 if room == 0 {
                     return Err(Fault::Deep(tokens));
                 }
-                let name = copy_name(alloc, name)?;
+                let name = copied_name(alloc, name)?;
                 let (definition, height, rest) = body_tree(alloc, mark, rest, room - 1)?;
                 let from = definition.from;
                 let tree = definition.tree;

@@ -6,7 +6,8 @@ use Rattle.mw_term.specs.declared.program.Program.{Program}
 use Rattle.mw_term.specs.declared.refusal.Stop.{Stop}
 use Rattle.mw_term.specs.declared.refusal.Stop.TheVariants.{Refused}
 use Rattle.mw_term.specs.Programs.{PureProgram, program_of}
-use Rattle.mw_scope.specs.Resolving.{IsProgramOrMemory, IsRefusalOrMemory, IsOfFirstFault}
+use Rattle.mw_term.specs.Stops.{AnswersOrMemory, IfRefused, IsRefusalOrMemory}
+use Rattle.mw_scope.specs.Resolving.{IsOfFirstFault}
 use Rattle.mw_grammar.specs.SurfaceTrees.{PureSurface}
 use Rattle.mw_scope.specs.declared.level.Level.TheVariants.{Live}
 use Rattle.mw_scope.specs.declared.fault.Fault.{Fault}
@@ -52,8 +53,8 @@ same_refusal s f g a b = ap refusal_of (one_first (faults_of s) f g a b)
 -- what the clauses of the answer say
 pub record IsAnswer (s : PureSurface) (result : Result Program Stop) : Type 0 where
   pub found : IfOk result (λ p. IsNameless s (program_of p))
-  pub only : (p : PureProgram) → IsNameless s p → IsProgramOrMemory result p
-  pub refused : IfErr result (IsOfFirstFault s)
+  pub only : (p : PureProgram) → IsNameless s p → AnswersOrMemory (λ q. program_of q ≡ p) result
+  pub refused : IfErr result (IfRefused (IsOfFirstFault s))
   pub first : (f : Fault) → IsFirst (faults_of s) f → IsRefusalOrMemory result (refusal_of f)
 
 accepted : (s : PureSurface) (program : Program) → program_of program ≡ named_program s → faults_of s ≡ [] → IsAnswer s (Ok program)

@@ -1,10 +1,8 @@
 -- What resolving a surface program answers, and the laws of its definitions.
-use Rattle.std.specs.Prelude.{ℕ, ◌≡◌, ◌≢◌, ◌<◌, ◌↔◌, List, [], map, Some, None, Result, Ok, Err, slice_get}
-use Rattle.mw_term.specs.Programs.{PureProgram, program_of}
+use Rattle.std.specs.Prelude.{ℕ, ◌≡◌, ◌≢◌, ◌<◌, ◌↔◌, List, [], map, Some, None, slice_get}
+use Rattle.mw_term.specs.Programs.{PureProgram}
 use Rattle.mw_term.specs.declared.program.Program.{Program}
 use Rattle.mw_term.specs.declared.refusal.Refusal.{Refusal}
-use Rattle.mw_term.specs.declared.refusal.Stop.{Stop}
-use Rattle.mw_term.specs.declared.refusal.Stop.TheVariants.{Refused, Memory}
 use Rattle.mw_grammar.specs.SurfaceTrees.{SurfaceTree, PureItem, let_item, PureSurface}
 use Rattle.mw_scope.specs.declared.level.Level.{Level}
 use Rattle.mw_scope.specs.declared.fault.Fault.{Fault}
@@ -16,22 +14,9 @@ use Rattle.mw_scope.specs.Faults.{faults_of, refusal_of, IsFirst}
 abbrev pub KeepsNames : PureSurface → Program → Type 0
 KeepsNames s p = map (λ i. i.name) p.items ≡ map name_of s.items
 
--- the answer is this program, unless memory ran out
-abbrev pub IsProgramOrMemory : Result Program Stop → PureProgram → Type 0
-IsProgramOrMemory (Ok program) p = program_of program ≡ p
-IsProgramOrMemory (Err (Refused r)) p = ⊥
-IsProgramOrMemory (Err (Memory e)) p = Unit {0}
-
--- the answer is this refusal, unless memory ran out
-abbrev pub IsRefusalOrMemory : Result Program Stop → Refusal → Type 0
-IsRefusalOrMemory (Ok program) r = ⊥
-IsRefusalOrMemory (Err (Refused q)) r = q ≡ r
-IsRefusalOrMemory (Err (Memory e)) r = Unit {0}
-
 -- a refusal is that of the program's first fault
-abbrev pub IsOfFirstFault : PureSurface → Stop → Type 0
-IsOfFirstFault s (Refused r) = (f : Fault) × (r ≡ refusal_of f) × IsFirst (faults_of s) f
-IsOfFirstFault s (Memory e) = Unit {0}
+abbrev pub IsOfFirstFault : PureSurface → Refusal → Type 0
+IsOfFirstFault s r = (f : Fault) × (r ≡ refusal_of f) × IsFirst (faults_of s) f
 
 -- a surface program is some program exactly where it has no fault
 abbrev pub NamelessWhereFaultless : Type 0

@@ -14,7 +14,6 @@ ghost use Rattle.mw_scope.specs.declared.level.Level.TheVariants.{Live};
 ghost use Rattle.mw_term.specs.Terms.{expression_of};
 
 use crate::binders::Binders;
-use crate::copies::{copied_kernel_type, copied_name};
 use crate::fault::Fault;
 use crate::keeping::keep;
 use crate::level::Level;
@@ -22,7 +21,7 @@ use crate::names::Names;
 use crate::top_names::TopNames;
 use crate::walk::term;
 use mw_grammar::{Placed, SurfaceItem, Tree};
-use mw_term::{Item, ItemKind, Items, Term};
+use mw_term::{Item, ItemKind, Items, Term, copied_kernel_type, copied_name};
 use std::alloc::{AllocError, Global};
 
 /// Whether a tree is a syntactic value.

@@ -3,7 +3,8 @@
 //! `specs/` has the nameless program as a relation of two trees, and the faults of a surface program as a list.
 #![tactic(auto)]
 
-ghost use Rattle.std.specs.Prelude.{◌<◌, ◌≤◌, ◌^◌, IfOk, IfErr};
+ghost use Rattle.std.specs.Prelude.{◌≡◌, ◌<◌, ◌≤◌, ◌^◌, IfOk, IfErr};
+ghost use Rattle.mw_term.specs.Stops.{AnswersOrMemory, IfRefused, IsRefusalOrMemory};
 ghost use Rattle.mw_term.specs.Programs.{PureProgram, program_of, program_size};
 ghost use Rattle.mw_grammar.specs.SurfaceTrees.{surface_of};
 ghost use Rattle.mw_grammar.specs.SurfaceDepth.{IsShallow};
@@ -11,10 +12,9 @@ ghost use Rattle.mw_grammar.specs.SurfaceSize.{surface_size};
 ghost use Rattle.mw_scope.specs.declared.fault.Fault.{Fault};
 ghost use Rattle.mw_scope.specs.Nameless.{IsNameless};
 ghost use Rattle.mw_scope.specs.Faults.{IsFirst, faults_of, refusal_of};
-ghost use Rattle.mw_scope.specs.Resolving.{IsOfFirstFault, IsProgramOrMemory, IsRefusalOrMemory, KeepsNames};
+ghost use Rattle.mw_scope.specs.Resolving.{IsOfFirstFault, KeepsNames};
 
 mod binders;
-mod copies;
 pub mod fault;
 mod items;
 mod keeping;
@@ -37,8 +37,8 @@ pub fn resolve(alloc: Global, surface: &Surface) -> Result<Program, Stop>
     ensures found { IfOk result (λ p. IsNameless (surface_of surface.now) (program_of p)) }
     ensures names { IfOk result (KeepsNames (surface_of surface.now)) }
     ensures nodes { IfOk result (λ p. program_size (program_of p) < 2 ^ 31) }
-    ensures only { (p : PureProgram) → IsNameless (surface_of surface.now) p → IsProgramOrMemory result p }
-    ensures refused { IfErr result (IsOfFirstFault (surface_of surface.now)) }
+    ensures only { (p : PureProgram) → IsNameless (surface_of surface.now) p → AnswersOrMemory (λ q. program_of q ≡ p) result }
+    ensures refused { IfErr result (IfRefused (IsOfFirstFault (surface_of surface.now))) }
     ensures first { (f : Fault) → IsFirst (faults_of (surface_of surface.now)) f → IsRefusalOrMemory result (refusal_of f) }
 {
     let mut first = None;

@@ -10,13 +10,12 @@ ghost use Rattle.mw_scope.specs.Keeping.{kept};
 ghost use Rattle.mw_scope.specs.Named.{named_program};
 ghost use Rattle.mw_scope.specs.Resolving.{KeepsNames};
 
-use crate::copies::copied_ground;
 use crate::fault::Fault;
 use crate::items::{items, outer_term};
 use crate::keeping::refusal;
 use crate::names::Names;
 use mw_grammar::Surface;
-use mw_term::{Program, Stop};
+use mw_term::{Program, Stop, copied_ground};
 use std::alloc::{AllocError, Global};
 
 /// The program that is the nameless one where no fault is found, and the first fault.

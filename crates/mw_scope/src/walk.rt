@@ -7,13 +7,12 @@ ghost use Rattle.mw_scope.specs.Keeping.{kept};
 ghost use Rattle.mw_scope.specs.Views.{Binds, HasRoom, IsStaging, SameBinders, faults_here, named_here};
 
 use crate::binders::Binders;
-use crate::copies::copied_kernel_type;
 use crate::fault::Fault;
 use crate::keeping::{keep, keep_at, keep_if_live, keep_if_quoted};
 use crate::level::Level;
 use crate::top_names::TopNames;
 use mw_grammar::{Placed, Tree};
-use mw_term::Term;
+use mw_term::{Term, copied_kernel_type};
 use std::alloc::{AllocError, Global};
 
 /// The term of a name in use, whose fault is kept.

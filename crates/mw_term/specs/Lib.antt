@@ -8,4 +8,6 @@ pub mod Unlabelled
 pub mod Typing
 pub mod Typable
 pub mod Scoped
+pub mod Stops
+pub mod Limits
 pub mod TypingLaws

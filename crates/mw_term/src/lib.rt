@@ -4,6 +4,7 @@
 //! each Rust type to it: the contracts of this project speak of the views.
 #![tactic(auto)]
 
+pub mod copy;
 pub mod laws;
 pub mod measure;
 pub mod name;
@@ -12,6 +13,7 @@ pub mod refusal;
 pub mod term;
 pub mod value;
 
+pub use crate::copy::{copied_ground, copied_kernel_type, copied_name};
 pub use crate::measure::{depth, nodes};
 pub use crate::name::Name;
 pub use crate::program::{Item, ItemKind, Items, Program};

@@ -1,12 +1,12 @@
 // Types with unknowns, equations, and why there is no solution.
 
-ghost use Rattle.std.specs.Prelude.{◌≡◌, ◌<◌, [], ◌∷◌, ◌++◌, length, OnOk, OnErr, slice_get, Some, IsTrue, ◌↔◌};
+ghost use Rattle.std.specs.Prelude.{◌≡◌, length, IsTrue, ◌↔◌};
 ghost use Rattle.mw_types.specs.Types.{type_of, Within};
 ghost use Rattle.mw_types.specs.Equations.{equations_of, AllWithin};
 ghost use Rattle.mw_types.specs.declared.types.SolveFault.TheVariants.{Memory};
 
-use std::alloc::{AllocError, AllocFailed, Global};
-use std::marker::Model;
+use mw_list::Sequence;
+use std::alloc::{AllocError, AllocFailed};
 
 /// A type in which unknowns, by their numbers, stand for types.
 #[derive(Debug, Drop)]
@@ -30,65 +30,7 @@ pub struct Equation {
 }
 
 /// Equations in order, which contracts see as a list.
-#[derive(Debug, Drop)]
-pub struct Pairs {
-    inner: Vec<Equation>,
-}
-
-impl Model for Pairs {
-    ghost use Rattle.std.specs.Prelude.{List};
-    ghost use Rattle.mw_types.specs.declared.types.Equation.{Equation};
-    ghost use Rattle.std.specs.Coded.{codes};
-    ghost use Rattle.mw_types.specs.contracts.types.Ty as ty;
-
-    ghost Value = { List Equation };
-
-    ghost view = { λ pairs. pairs.inner.items };
-
-    ghost coded = { Prim.hlevel (codes, ty.the_row.coded) };
-}
-
-impl Pairs {
-    /// No equations.
-    pub fn new(alloc: Global) -> Pairs
-        ensures { result ≡ [] }
-    {
-        Pairs {
-            inner: Vec::new(alloc),
-        }
-    }
-
-    /// The number of equations.
-    pub fn len(&self) -> usize
-        ensures { result ≡ length self.now }
-    {
-        self.inner.len()
-    }
-
-    /// The equation at a place below the length.
-    pub fn get(&self, at: usize) -> &Equation
-        requires { at < length self.now }
-        ensures { slice_get self.now at ≡ Some result.now }
-    {
-        &self.inner[at]
-    }
-
-    /// All equations.
-    pub fn as_slice(&self) -> &[Equation]
-        ensures { result.now ≡ self.now }
-    {
-        self.inner.as_slice()
-    }
-
-    /// Adds an equation at the end; a refusal of memory changes nothing.
-    pub fn push(&mut self, equation: Equation) -> Result<(), AllocError>
-        ensures ok { OnOk result (self.new ≡ self.old ++ equation ∷ []) }
-        ensures err { OnErr result (self.new ≡ self.old) }
-    {
-        self.inner.push(equation)?;
-        Ok(())
-    }
-}
+pub type Pairs = Sequence<Equation>;
 
 /// Equations on the unknowns and the classifier unknowns whose numbers are below two bounds.
 #[derive(Debug, Drop)]

@@ -4,11 +4,10 @@ ghost use Rattle.std.specs.Prelude.{◌≡◌, IfOk, IfSome};
 ghost use Rattle.mw_term.specs.declared.term.Base.TheVariants.{Int};
 ghost use Rattle.mw_term.specs.Terms.{base as base_type};
 
-use crate::copy::copied_ground;
 use crate::tests::modules::{Init, built};
 use crate::{Began, RunFault, Running};
 use mw_machine::Ran;
-use mw_term::{Base, BaseValue, Ground, GroundValue, KType};
+use mw_term::{Base, BaseValue, Ground, GroundValue, KType, copied_ground};
 use std::alloc::{AllocError, Global};
 
 /// Pairs of pairs of a base type, so many deep.

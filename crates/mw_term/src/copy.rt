@@ -1,9 +1,10 @@
-// Copies of names, ground types and kernel types.
+// Copies.
 
 ghost use Rattle.std.specs.Prelude.{◌≡◌, IfOk};
-ghost use Rattle.mw_term.specs.Terms.{ground_of, kernel_type_of};
+ghost use Rattle.mw_term.specs.Terms.{expression_of, ground_of, kernel_type_of};
 
-use mw_term::{Ground, KType, Name};
+use crate::name::Name;
+use crate::term::{Ground, KType, Term};
 use std::alloc::{AllocError, Global};
 
 /// A name of the same bytes.
