@@ -41,7 +41,7 @@ fn wanted(alloc: Global, text: &str) -> Result<String, Fail> {
 /// The text of a program of main alone, with this text of its expression.
 pub fn of_body(alloc: Global, text: &str) -> Result<String, Fail> {
     Ok(format!(in alloc;
-        "Surface {{ items: SurfaceItems {{ inner: [] }}, result: Base(Int), body: {text} }}"
+        "Surface {{ items: Sequence {{ items: [] }}, result: Base(Int), body: {text} }}"
     )?)
 }
 
@@ -63,17 +63,17 @@ const ATOMS: [&str; 24] = [
     "( # one\n - # two\n 0009223372036854775808 ) => Int(-9223372036854775808)",
     "true => Bool(true)",
     "false => Bool(false)",
-    "x => Used(Placed { name: Name { bytes: [120] }, at: 13 })",
-    "_ => Used(Placed { name: Name { bytes: [95] }, at: 13 })",
-    "lets => Used(Placed { name: Name { bytes: [108, 101, 116, 115] }, at: 13 })",
-    " Int => Used(Placed { name: Name { bytes: [73, 110, 116] }, at: 14 })",
-    "(_a1) => Used(Placed { name: Name { bytes: [95, 97, 49] }, at: 14 })",
+    "x => Used(Placed { name: Sequence { items: [120] }, at: 13 })",
+    "_ => Used(Placed { name: Sequence { items: [95] }, at: 13 })",
+    "lets => Used(Placed { name: Sequence { items: [108, 101, 116, 115] }, at: 13 })",
+    " Int => Used(Placed { name: Sequence { items: [73, 110, 116] }, at: 14 })",
+    "(_a1) => Used(Placed { name: Sequence { items: [95, 97, 49] }, at: 14 })",
     "((1)) => Int(1)",
     "(1, 2) => Pair(Int(1), Int(2))",
     "((1, 2), 3) => Pair(Pair(Int(1), Int(2)), Int(3))",
     "(1, (2, 3)) => Pair(Int(1), Pair(Int(2), Int(3)))",
     "((1), ((2))) => Pair(Int(1), Int(2))",
-    "(fun x -> 1, 2) => Pair(Fun(Name { bytes: [120] }, Int(1)), Int(2))",
+    "(fun x -> 1, 2) => Pair(Fun(Sequence { items: [120] }, Int(1)), Int(2))",
     "(1 || 2, 3 + 4) => Pair(If(Int(1), Bool(true), Int(2)), Prim(Add, Int(3), Int(4)))",
 ];
 
@@ -116,7 +116,7 @@ const OPERATIONS: [&str; 33] = [
 const HEADS: [&str; 32] = [
     "1 2 3 => App(App(Int(1), Int(2)), Int(3))",
     "1 (2 3) => App(Int(1), App(Int(2), Int(3)))",
-    "f x => App(Used(Placed { name: Name { bytes: [102] }, at: 13 }), Used(Placed { name: Name { bytes: [120] }, at: 15 }))",
+    "f x => App(Used(Placed { name: Sequence { items: [102] }, at: 13 }), Used(Placed { name: Sequence { items: [120] }, at: 15 }))",
     "1 true false => App(App(Int(1), Bool(true)), Bool(false))",
     "1 (-2) => App(Int(1), Int(-2))",
     "1 (2, 3) => App(Int(1), Pair(Int(2), Int(3)))",
@@ -149,27 +149,27 @@ const HEADS: [&str; 32] = [
 ];
 
 const BINDERS: [&str; 21] = [
-    "fun x -> x => Fun(Name { bytes: [120] }, Used(Placed { name: Name { bytes: [120] }, at: 22 }))",
-    "fun x y z -> 1 => Fun(Name { bytes: [120] }, Fun(Name { bytes: [121] }, Fun(Name { bytes: [122] }, Int(1))))",
-    "fun x->fun y->1 => Fun(Name { bytes: [120] }, Fun(Name { bytes: [121] }, Int(1)))",
-    "fun x -> 1 || 2 => Fun(Name { bytes: [120] }, If(Int(1), Bool(true), Int(2)))",
-    "(fun x -> 1) 2 => App(Fun(Name { bytes: [120] }, Int(1)), Int(2))",
-    ".<fun x -> x>. => Bracket(13, Fun(Name { bytes: [120] }, Used(Placed { name: Name { bytes: [120] }, at: 24 })))",
-    "let x = 1 in x => Let(Name { bytes: [120] }, Int(1), Used(Placed { name: Name { bytes: [120] }, at: 26 }))",
-    "let f x = 1 in 2 => Let(Name { bytes: [102] }, Fun(Name { bytes: [120] }, Int(1)), Int(2))",
-    "let f x y = 1 in 2 => Let(Name { bytes: [102] }, Fun(Name { bytes: [120] }, Fun(Name { bytes: [121] }, Int(1))), Int(2))",
-    "let x = let y = 1 in 2 in 3 => Let(Name { bytes: [120] }, Let(Name { bytes: [121] }, Int(1), Int(2)), Int(3))",
-    "let x = 1 in let y = 2 in 3 => Let(Name { bytes: [120] }, Int(1), Let(Name { bytes: [121] }, Int(2), Int(3)))",
-    "let x = 1 = 2 in 3 = 4 => Let(Name { bytes: [120] }, Prim(Eq, Int(1), Int(2)), Prim(Eq, Int(3), Int(4)))",
-    "let x = 1 in 2 + 3 => Let(Name { bytes: [120] }, Int(1), Prim(Add, Int(2), Int(3)))",
-    "let rec f x = 1 in 2 => Let(Name { bytes: [102] }, Rec(Name { bytes: [102] }, Name { bytes: [120] }, Int(1)), Int(2))",
-    "let rec f x y z = 1 in 2 => Let(Name { bytes: [102] }, Rec(Name { bytes: [102] }, Name { bytes: [120] }, Fun(Name { bytes: [121] }, Fun(Name { bytes: [122] }, Int(1)))), Int(2))",
+    "fun x -> x => Fun(Sequence { items: [120] }, Used(Placed { name: Sequence { items: [120] }, at: 22 }))",
+    "fun x y z -> 1 => Fun(Sequence { items: [120] }, Fun(Sequence { items: [121] }, Fun(Sequence { items: [122] }, Int(1))))",
+    "fun x->fun y->1 => Fun(Sequence { items: [120] }, Fun(Sequence { items: [121] }, Int(1)))",
+    "fun x -> 1 || 2 => Fun(Sequence { items: [120] }, If(Int(1), Bool(true), Int(2)))",
+    "(fun x -> 1) 2 => App(Fun(Sequence { items: [120] }, Int(1)), Int(2))",
+    ".<fun x -> x>. => Bracket(13, Fun(Sequence { items: [120] }, Used(Placed { name: Sequence { items: [120] }, at: 24 })))",
+    "let x = 1 in x => Let(Sequence { items: [120] }, Int(1), Used(Placed { name: Sequence { items: [120] }, at: 26 }))",
+    "let f x = 1 in 2 => Let(Sequence { items: [102] }, Fun(Sequence { items: [120] }, Int(1)), Int(2))",
+    "let f x y = 1 in 2 => Let(Sequence { items: [102] }, Fun(Sequence { items: [120] }, Fun(Sequence { items: [121] }, Int(1))), Int(2))",
+    "let x = let y = 1 in 2 in 3 => Let(Sequence { items: [120] }, Let(Sequence { items: [121] }, Int(1), Int(2)), Int(3))",
+    "let x = 1 in let y = 2 in 3 => Let(Sequence { items: [120] }, Int(1), Let(Sequence { items: [121] }, Int(2), Int(3)))",
+    "let x = 1 = 2 in 3 = 4 => Let(Sequence { items: [120] }, Prim(Eq, Int(1), Int(2)), Prim(Eq, Int(3), Int(4)))",
+    "let x = 1 in 2 + 3 => Let(Sequence { items: [120] }, Int(1), Prim(Add, Int(2), Int(3)))",
+    "let rec f x = 1 in 2 => Let(Sequence { items: [102] }, Rec(Sequence { items: [102] }, Sequence { items: [120] }, Int(1)), Int(2))",
+    "let rec f x y z = 1 in 2 => Let(Sequence { items: [102] }, Rec(Sequence { items: [102] }, Sequence { items: [120] }, Fun(Sequence { items: [121] }, Fun(Sequence { items: [122] }, Int(1)))), Int(2))",
     "if 1 then 2 else 3 => If(Int(1), Int(2), Int(3))",
     "if 1 then 2 else 3 + 4 => If(Int(1), Int(2), Prim(Add, Int(3), Int(4)))",
     "(if 1 then 2 else 3) + 4 => Prim(Add, If(Int(1), Int(2), Int(3)), Int(4))",
     "if if 1 then 2 else 3 then if 4 then 5 else 6 else if 7 then 8 else 9 => If(If(Int(1), Int(2), Int(3)), If(Int(4), Int(5), Int(6)), If(Int(7), Int(8), Int(9)))",
-    "if 1 then fun x -> 2 else 3 => If(Int(1), Fun(Name { bytes: [120] }, Int(2)), Int(3))",
-    "if 1 then let x = 2 in 3 else 4 => If(Int(1), Let(Name { bytes: [120] }, Int(2), Int(3)), Int(4))",
+    "if 1 then fun x -> 2 else 3 => If(Int(1), Fun(Sequence { items: [120] }, Int(2)), Int(3))",
+    "if 1 then let x = 2 in 3 else 4 => If(Int(1), Let(Sequence { items: [120] }, Int(2), Int(3)), Int(4))",
 ];
 
 #[test]
@@ -191,16 +191,16 @@ fn expressions_have_their_trees(rt: HostRuntime) -> Result<(), Fail> {
 /// Items before a main of the type bool, each with the text of the list.
 const ITEMS: [&str; 11] = [
     " => ",
-    "let a = 1 ;; => Let(Placed { name: Name { bytes: [97] }, at: 4 }, 8, Int(1))",
-    "let f x y = 1 ;; => Let(Placed { name: Name { bytes: [102] }, at: 4 }, 12, Fun(Name { bytes: [120] }, Fun(Name { bytes: [121] }, Int(1))))",
-    "let a = (1) ;; => Let(Placed { name: Name { bytes: [97] }, at: 4 }, 8, Int(1))",
-    "let a =#c\n  ((-2), 3) ;; => Let(Placed { name: Name { bytes: [97] }, at: 4 }, 12, Pair(Int(-2), Int(3)))",
-    "let a = let b = 1 in 2 ;; => Let(Placed { name: Name { bytes: [97] }, at: 4 }, 8, Let(Name { bytes: [98] }, Int(1), Int(2)))",
-    "let rec f x = 1 ;; => Let(Placed { name: Name { bytes: [102] }, at: 8 }, 14, Rec(Name { bytes: [102] }, Name { bytes: [120] }, Int(1)))",
-    "let rec f x y = 1 ;; => Let(Placed { name: Name { bytes: [102] }, at: 8 }, 16, Rec(Name { bytes: [102] }, Name { bytes: [120] }, Fun(Name { bytes: [121] }, Int(1))))",
-    " kernel k : int = 1 = 2 ;; => Kernel(Placed { name: Name { bytes: [107] }, at: 8 }, Ground(Base(Int)), Prim(Eq, Int(1), Int(2)))",
-    "let a=1;;let a=2;; => Let(Placed { name: Name { bytes: [97] }, at: 4 }, 6, Int(1)), Let(Placed { name: Name { bytes: [97] }, at: 13 }, 15, Int(2))",
-    "let a = 1 ;; kernel b : int = 2 ;; => Let(Placed { name: Name { bytes: [97] }, at: 4 }, 8, Int(1)), Kernel(Placed { name: Name { bytes: [98] }, at: 20 }, Ground(Base(Int)), Int(2))",
+    "let a = 1 ;; => Let(Placed { name: Sequence { items: [97] }, at: 4 }, 8, Int(1))",
+    "let f x y = 1 ;; => Let(Placed { name: Sequence { items: [102] }, at: 4 }, 12, Fun(Sequence { items: [120] }, Fun(Sequence { items: [121] }, Int(1))))",
+    "let a = (1) ;; => Let(Placed { name: Sequence { items: [97] }, at: 4 }, 8, Int(1))",
+    "let a =#c\n  ((-2), 3) ;; => Let(Placed { name: Sequence { items: [97] }, at: 4 }, 12, Pair(Int(-2), Int(3)))",
+    "let a = let b = 1 in 2 ;; => Let(Placed { name: Sequence { items: [97] }, at: 4 }, 8, Let(Sequence { items: [98] }, Int(1), Int(2)))",
+    "let rec f x = 1 ;; => Let(Placed { name: Sequence { items: [102] }, at: 8 }, 14, Rec(Sequence { items: [102] }, Sequence { items: [120] }, Int(1)))",
+    "let rec f x y = 1 ;; => Let(Placed { name: Sequence { items: [102] }, at: 8 }, 16, Rec(Sequence { items: [102] }, Sequence { items: [120] }, Fun(Sequence { items: [121] }, Int(1))))",
+    " kernel k : int = 1 = 2 ;; => Kernel(Placed { name: Sequence { items: [107] }, at: 8 }, Ground(Base(Int)), Prim(Eq, Int(1), Int(2)))",
+    "let a=1;;let a=2;; => Let(Placed { name: Sequence { items: [97] }, at: 4 }, 6, Int(1)), Let(Placed { name: Sequence { items: [97] }, at: 13 }, 15, Int(2))",
+    "let a = 1 ;; kernel b : int = 2 ;; => Let(Placed { name: Sequence { items: [97] }, at: 4 }, 8, Int(1)), Kernel(Placed { name: Sequence { items: [98] }, at: 20 }, Ground(Base(Int)), Int(2))",
 ];
 
 /// Whole sources, each with the text of main's type and expression.
@@ -222,7 +222,7 @@ fn programs_have_their_trees(rt: HostRuntime) -> Result<(), Fail> {
         let (items, text) = parts(row)?;
         let source = format!(in alloc; "{items} main : bool = 3")?;
         let tree = format!(in alloc;
-            "Surface {{ items: SurfaceItems {{ inner: [{text}] }}, result: Base(Bool), body: Int(3) }}"
+            "Surface {{ items: Sequence {{ items: [{text}] }}, result: Base(Bool), body: Int(3) }}"
         )?;
         let found = shown(alloc, source.as_bytes())?;
         assert_eq!(rt; found.as_str(), tree.as_str(), "{items}");
@@ -230,7 +230,7 @@ fn programs_have_their_trees(rt: HostRuntime) -> Result<(), Fail> {
     for row in SPACED {
         let (source, text) = parts(row)?;
         let tree = format!(in alloc;
-            "Surface {{ items: SurfaceItems {{ inner: [] }}, result: {text} }}"
+            "Surface {{ items: Sequence {{ items: [] }}, result: {text} }}"
         )?;
         let found = shown(alloc, source.as_bytes())?;
         assert_eq!(rt; found.as_str(), tree.as_str(), "{source}");

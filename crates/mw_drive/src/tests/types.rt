@@ -36,7 +36,7 @@ fn kernel_types_have_their_trees(rt: HostRuntime) -> Result<(), Fail> {
         let (kernel_type, text) = parts(row)?;
         let source = format!(in alloc; "kernel k : {kernel_type} = 1 ;; main : bool = 2")?;
         let tree = format!(in alloc;
-            "Surface {{ items: SurfaceItems {{ inner: [Kernel(Placed {{ name: Name {{ bytes: [107] }}, at: 7 }}, {text}, Int(1))] }}, result: Base(Bool), body: Int(2) }}"
+            "Surface {{ items: Sequence {{ items: [Kernel(Placed {{ name: Sequence {{ items: [107] }}, at: 7 }}, {text}, Int(1))] }}, result: Base(Bool), body: Int(2) }}"
         )?;
         let found = shown(alloc, source.as_bytes())?;
         assert_eq!(rt; found.as_str(), tree.as_str(), "{kernel_type}");
@@ -69,7 +69,7 @@ const MAIN_TYPES: [&str; 12] = [
 /// The tree of a program whose main has a type with this text and is 7.
 fn main_of_type(alloc: Global, text: &str) -> Result<String, Fail> {
     Ok(format!(in alloc;
-        "Surface {{ items: SurfaceItems {{ inner: [] }}, result: {text}, body: Int(7) }}"
+        "Surface {{ items: Sequence {{ items: [] }}, result: {text}, body: Int(7) }}"
     )?)
 }
 
