@@ -221,7 +221,7 @@ fn check_calls_with_pairs<R: Abort + AllocGlobal>(
     Ok(())
 }
 
-/// Calls with exact fuel and with one unit less, and after each of them.
+/// Calls with exact fuel and with one unit less, each list up to its first trap or bound.
 fn check_functions<L: Ledger, R: Abort + AllocGlobal>(rt: &R, blank: Blank) -> Result<(), Fail>
     requires name { blank.name ≡ L.name }
     requires parts { blank.parts ≡ L.parts }
@@ -233,16 +233,16 @@ fn check_functions<L: Ledger, R: Abort + AllocGlobal>(rt: &R, blank: Blank) -> R
             CUBE,
             &[
                 (5, 1, "Value(Base(Int(125)), 0)"),
-                (5, 0, "Bound(Fuel)"),
                 (-2, 9, "Value(Base(Int(-8)), 8)"),
+                (5, 0, "Bound(Fuel)"),
             ],
         ),
         (
             DOWN,
             &[
                 (3, 4, "Value(Base(Int(0)), 0)"),
-                (3, 3, "Bound(Fuel)"),
                 (3, 8, "Value(Base(Int(0)), 4)"),
+                (3, 3, "Bound(Fuel)"),
             ],
         ),
         // All of the 524,288 words, twice; and then one word too many.
@@ -266,23 +266,29 @@ fn check_functions<L: Ledger, R: Abort + AllocGlobal>(rt: &R, blank: Blank) -> R
         let begun = started(rt.alloc(), &mut steps, text, 0)?.ok_or("a kernel's text")?;
         check_calls(rt, begun, calls)?;
     }
-    let with_pairs: [(&str, &[(i64, i64, u64, &str)]); 2] = [
+    let with_pairs: [(&str, &[(i64, i64, u64, &str)]); 4] = [
         (
             DIVIDE,
             &[
-                (7, 0, 1, "Trap(Divide)"),
-                (7, 0, 0, "Bound(Fuel)"),
                 (7, 2, 1, "Value(Base(Int(3)), 0)"),
-                (i64::MIN, -1, 1, "Trap(Overflow)"),
-                (i64::MIN, 1, 1, "Value(Base(Int(-9223372036854775808)), 0)"),
+                (i64::MIN, 1, 2, "Value(Base(Int(-9223372036854775808)), 1)"),
+                (7, 0, 1, "Trap(Divide)"),
             ],
         ),
+        (
+            DIVIDE,
+            &[
+                (-7, 2, 1, "Value(Base(Int(-3)), 0)"),
+                (i64::MIN, -1, 1, "Trap(Overflow)"),
+            ],
+        ),
+        (DIVIDE, &[(7, 0, 0, "Bound(Fuel)")]),
         (
             SWAP,
             &[
                 (1, 2, 1, "Value(Pair(Base(Int(2)), Base(Int(1))), 0)"),
-                (1, 2, 0, "Bound(Fuel)"),
                 (-1, 0, 2, "Value(Pair(Base(Int(0)), Base(Int(-1))), 1)"),
+                (1, 2, 0, "Bound(Fuel)"),
             ],
         ),
     ];
