@@ -48,7 +48,8 @@ pub fn file_bytes<S: Source>(
 ) -> Result<Vec<u8>, SourceFault>
     ensures ok { IfOk result (λ bytes. IsTrue S.tells → IsFront (file_of (S.told source.old) name.now) bytes.items) }
     ensures rest { IfOk result (λ _. IsTrue S.tells → IsRest (file_of (S.told source.old) name.now) (S.left source.new)) }
-    ensures failed { IsErrOf result SourceFault.Failed → Rose (S.faults source.old) (S.faults source.new) ⊎ (IsTrue S.tells × IsNone (file_of (S.told source.old) name.now)) }
+    ensures failed { IsErrOf result SourceFault.Failed
+        → Rose (S.faults source.old) (S.faults source.new) ⊎ (IsTrue S.tells × IsNone (file_of (S.told source.old) name.now)) }
     ensures count { S.faults source.old ≤ S.faults source.new }
 {
     source.start(name)?;

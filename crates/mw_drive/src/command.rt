@@ -45,11 +45,13 @@ pub fn run<R: Threads + Sync, S: Source, K: Sink, C: Keeper, G: Gate>(
     ensures left { (bytes : List ℕ) → AsksFor (map string_bytes words.now) S.tells (S.told source.old) bytes
         → IsReadUp bytes result (S.left source.new) }
     ensures usage { (result ≡ Usage) ↔ IsUsage (map string_bytes words.now) }
-    ensures read { result ≡ Read → Rose (S.faults source.old) (S.faults source.new) ⊎ AsksMissing (map string_bytes words.now) S.tells (S.told source.old) }
+    ensures read { result ≡ Read
+        → Rose (S.faults source.old) (S.faults source.new) ⊎ AsksMissing (map string_bytes words.now) S.tells (S.told source.old) }
     ensures write { result ≡ Write → Rose (K.faults sink.old) (K.faults sink.new) }
     ensures missing { AsksMissing (map string_bytes words.now) S.tells (S.told source.old) → (result ≡ Read) ⊎ IsMemory result }
     ensures nothing { (result ≡ Usage) ⊎ (result ≡ Read) → IsTrue K.tells → K.written sink.new ≡ K.written sink.old }
-    ensures nothing_missing { AsksMissing (map string_bytes words.now) S.tells (S.told source.old) → IsTrue K.tells → K.written sink.new ≡ K.written sink.old }
+    ensures nothing_missing { AsksMissing (map string_bytes words.now) S.tells (S.told source.old) → IsTrue K.tells
+        → K.written sink.new ≡ K.written sink.old }
     ensures unread { result ≡ Usage → source.new ≡ source.old }
     ensures no_cache { ¬ SpeaksOfCache result }
     ensures keeper { _keeper.new ≡ _keeper.old }
