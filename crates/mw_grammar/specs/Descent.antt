@@ -4,7 +4,7 @@ use Rattle.std.specs.Prelude.{ℕ, zero, suc, ◌+◌, ◌-◌, ◌*◌, max, Bo
 use Rattle.mw_lex.specs.Tokens.{PureToken, token}
 use Rattle.mw_grammar.specs.SurfaceTrees.{SurfaceTree}
 use Rattle.mw_grammar.specs.Grammar.{Row, sum, product, application, expr, disjunction, conjunction, comparison, row, head, atom, Nonterminal, program, item, parameter, body, tree, kernel_type, ground, part, base, Meaning, right}
-use Rattle.mw_grammar.specs.Forms.{is, Form, gives, refuses, skip, under, expect, reads, pick, option, more, operated, Opens, nothing, operator, opens, form}
+use Rattle.mw_grammar.specs.Forms.{is, Form, gives, refuses, skip, under, expect, reads, pick, option, more, Op, operated, Opens, nothing, operator, opens, form}
 
 pub data Answer (n : Nonterminal) : Type 0 where
   ok : (v : Meaning n) (height : ℕ) (rest : List PureToken) → Answer n
@@ -115,3 +115,7 @@ reading b F a ts = run full b F a ts
 -- what may follow a left operand l of height a
 unfoldable pub following : ℕ → Row → SurfaceTree → ℕ → List PureToken → Answer (tree expr)
 following b w l a ts = rounds full b w b l a ts
+
+-- what may follow a left operand l of height a and an operator o
+abbrev pub following_operator : ℕ → Row → Op → SurfaceTree → ℕ → List PureToken → Answer (tree expr)
+following_operator b w o l a ts = and_then (full (b - 1) (tree (right w)) ts) λ r h mid. following b w (operated o l r) (suc (max a h)) mid

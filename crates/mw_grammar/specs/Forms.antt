@@ -176,20 +176,34 @@ bound_rec f (abstract x from d) e = bind f (fix f x d) e
 abbrev pub function : Abstraction → SurfaceTree
 function (abstract x from e) = fun x e
 
+-- `in`, and the expression that a definition is in scope in
+abbrev pub scope_form : (SurfaceTree → SurfaceTree) → Form (tree expr)
+scope_form f = expect in_next (reads (tree expr) λ e. gives (f e))
+
 abbrev pub rec_by : PureToken → Form (tree expr)
-rec_by (token a b (word f)) = skip (reads (parameter by_equal) λ d. expect in_next (reads (tree expr) λ e. gives (bound_rec f d e)))
+rec_by (token a b (word f)) = skip (reads (parameter by_equal) λ d. scope_form (bound_rec f d))
 rec_by _ = refuses
 
 abbrev pub let_in_by : PureToken → Form (tree expr)
-let_in_by (token a b (word x)) = skip (reads (body by_equal) λ d. expect in_next (reads (tree expr) λ e. gives (bound x d e)))
+let_in_by (token a b (word x)) = skip (reads (body by_equal) λ d. scope_form (bound x d))
 let_in_by (token a b rec_word) = skip (pick rec_by)
 let_in_by _ = refuses
+
+-- what stands after `then`, and what stands after `if`
+abbrev pub branches_form : SurfaceTree → Form (tree expr)
+branches_form c = reads (tree expr) λ d. expect else_next (reads (tree expr) λ e. gives (cond c d e))
+
+abbrev pub condition_form : Form (tree expr)
+condition_form = reads (tree expr) λ c. expect then_next (branches_form c)
+
+abbrev pub disjunction_form : Form (tree expr)
+disjunction_form = reads (tree disjunction) λ e. gives e
 
 abbrev pub expr_by : PureToken → Form (tree expr)
 expr_by (token a b let_word) = under (pick let_in_by)
 expr_by (token a b fun_word) = skip (reads (parameter by_arrow) λ p. gives (function p))
-expr_by (token a b if_word) = under (reads (tree expr) λ c. expect then_next (reads (tree expr) λ d. expect else_next (reads (tree expr) λ e. gives (cond c d e))))
-expr_by _ = reads (tree disjunction) λ e. gives e
+expr_by (token a b if_word) = under condition_form
+expr_by _ = disjunction_form
 
 abbrev pub compared : Primitive → SurfaceTree → Form (tree comparison)
 compared p d = reads (tree (row sum)) λ e. gives (prim p d e)
@@ -208,6 +222,13 @@ equal_to d = option equal_next (compared Eq d) (below d)
 abbrev pub headed : (SurfaceTree → SurfaceTree) → Form (tree head)
 headed f = under (reads (tree atom) λ e. gives (f e))
 
+-- what stands after `run`
+abbrev pub run_form : ℕ → Form (tree head)
+run_form at = expect left_next (reads kernel_type λ k. expect right_next (reads (tree atom) λ e. gives (run at k e)))
+
+abbrev pub passed_form : Form (tree head)
+passed_form = reads (tree atom) λ e. gives e
+
 abbrev pub head_by : PureToken → Form (tree head)
 head_by (token a b fst_word) = headed fst
 head_by (token a b snd_word) = headed snd
@@ -216,22 +237,37 @@ head_by (token a b close_word) = headed (close a)
 head_by (token a b open_word) = headed (opened a)
 head_by (token a b lift_word) = headed (lift a)
 head_by (token a b lift_b_word) = headed (lift_b a)
-head_by (token a b run_word) = under (expect left_next (reads kernel_type λ k. expect right_next (reads (tree atom) λ e. gives (run a k e))))
-head_by _ = reads (tree atom) λ e. gives e
+head_by (token a b run_word) = under (run_form a)
+head_by _ = passed_form
 
 -- atoms
 abbrev pub minus_by : PureToken → Form (tree atom)
 minus_by (token a b (number n)) = skip (expect paren_next (gives (num (negative n))))
 minus_by _ = refuses
 
+-- what stands after the comma of a pair
+abbrev pub pair_form : SurfaceTree → Form (tree atom)
+pair_form d = reads (tree expr) λ e. expect paren_next (gives (pair d e))
+
 abbrev pub behind_first : SurfaceTree → PureToken → Form (tree atom)
 behind_first d (token a b paren_right) = skip (gives d)
-behind_first d (token a b comma) = skip (reads (tree expr) λ e. expect paren_next (gives (pair d e)))
+behind_first d (token a b comma) = skip (pair_form d)
 behind_first d _ = refuses
+
+-- an expression in parentheses, or the first of two
+abbrev pub group_form : Form (tree atom)
+group_form = reads (tree expr) λ d. pick (behind_first d)
 
 abbrev pub paren_by : PureToken → Form (tree atom)
 paren_by (token a b minus) = skip (pick minus_by)
-paren_by _ = reads (tree expr) λ d. pick (behind_first d)
+paren_by _ = group_form
+
+-- what stands inside a bracket, and after the mark of an escape
+abbrev pub bracket_form : ℕ → Form (tree atom)
+bracket_form at = reads (tree expr) λ e. expect bracket_next (gives (bracket at e))
+
+abbrev pub escape_form : ℕ → Form (tree atom)
+escape_form at = reads (tree atom) λ e. gives (escape at e)
 
 abbrev pub atom_by : PureToken → Form (tree atom)
 atom_by (token a b (word x)) = under (gives (used x a))
@@ -239,16 +275,20 @@ atom_by (token a b (number n)) = under (gives (num (positive n)))
 atom_by (token a b true_word) = under (gives (truth true))
 atom_by (token a b false_word) = under (gives (truth false))
 atom_by (token a b paren_left) = under (pick paren_by)
-atom_by (token a b bracket_left) = under (reads (tree expr) λ e. expect bracket_next (gives (bracket a e)))
-atom_by (token a b escape_mark) = under (reads (tree atom) λ e. gives (escape a e))
+atom_by (token a b bracket_left) = under (bracket_form a)
+atom_by (token a b escape_mark) = under (escape_form a)
 atom_by _ = refuses
 
 -- kernel types
 abbrev pub kernel_of : GroundType → Form kernel_type
 kernel_of g = option arrow_next (reads ground λ h. gives (to g h)) (gives (of_ground g))
 
+-- a ground type in parentheses, after the first
+abbrev pub paren_form : Form part
+paren_form = reads ground λ g. expect paren_next (gives g)
+
 abbrev pub part_by : PureToken → Form part
-part_by (token a b paren_left) = under (reads ground λ g. expect paren_next (gives g))
+part_by (token a b paren_left) = under paren_form
 part_by _ = reads base λ b. gives (ground_base b)
 
 abbrev pub base_by : PureToken → Form base

@@ -154,15 +154,19 @@ mutual
         → Reads item (token a a' let_word ∷ token b b' (word x) ∷ ts) (let_item x b from e) s rest
     r_rec_item : {a a' b b' c c' from : ℕ} {f x : List ℕ} {ts rest : List PureToken} {e : SurfaceTree} {s : Nodes} → Reads (parameter by_equal) ts (abstract x from e) s rest
         → Reads item (token a a' let_word ∷ token b b' rec_word ∷ token c c' (word f) ∷ ts) (let_item f c from (fix f x e)) s rest
-    r_kernel : {a a' b b' c c' d d' : ℕ} {x : List ℕ} {ts mid rest : List PureToken} {k : KernelType} {e : SurfaceTree} {s t : Nodes} → Reads kernel_type ts k s (token d d' equal ∷ mid) → Reads (tree expr) mid e t rest
+    r_kernel : {a a' b b' c c' d d' : ℕ} {x : List ℕ} {ts mid rest : List PureToken} {k : KernelType} {e : SurfaceTree} {s t : Nodes} → Reads kernel_type ts k s (token d d' equal ∷ mid)
+        → Reads (tree expr) mid e t rest
         → Reads item (token a a' kernel_word ∷ token b b' (word x) ∷ token c c' colon ∷ ts) (kernel_item x b k e) (both s t) rest
-    r_let : {a a' b b' c c' from : ℕ} {x : List ℕ} {ts mid rest : List PureToken} {d e : SurfaceTree} {s t : Nodes} → Reads (body by_equal) ts (define from d) s (token c c' in_word ∷ mid) → Reads (tree expr) mid e t rest
+    r_let : {a a' b b' c c' from : ℕ} {x : List ℕ} {ts mid rest : List PureToken} {d e : SurfaceTree} {s t : Nodes} → Reads (body by_equal) ts (define from d) s (token c c' in_word ∷ mid)
+        → Reads (tree expr) mid e t rest
         → Reads (tree expr) (token a a' let_word ∷ token b b' (word x) ∷ ts) (bind x d e) (node (suc (suc (length ts))) (both s t)) rest
-    r_let_rec : {a a' b b' c c' g g' from : ℕ} {f x : List ℕ} {ts mid rest : List PureToken} {d e : SurfaceTree} {s t : Nodes} → Reads (parameter by_equal) ts (abstract x from d) s (token g g' in_word ∷ mid) → Reads (tree expr) mid e t rest
+    r_let_rec : {a a' b b' c c' g g' from : ℕ} {f x : List ℕ} {ts mid rest : List PureToken} {d e : SurfaceTree} {s t : Nodes} → Reads (parameter by_equal) ts (abstract x from d) s (token g g' in_word ∷ mid)
+        → Reads (tree expr) mid e t rest
         → Reads (tree expr) (token a a' let_word ∷ token b b' rec_word ∷ token c c' (word f) ∷ ts) (bind f (fix f x d) e) (node (suc (suc (suc (length ts)))) (both s t)) rest
     r_fun : {a a' from : ℕ} {x : List ℕ} {ts rest : List PureToken} {e : SurfaceTree} {s : Nodes} → Reads (parameter by_arrow) ts (abstract x from e) s rest
         → Reads (tree expr) (token a a' fun_word ∷ ts) (fun x e) s rest
-    r_if : {a a' b b' c c' : ℕ} {ts ts' ts'' rest : List PureToken} {d e f : SurfaceTree} {s t u : Nodes} → Reads (tree expr) ts d s (token b b' then_word ∷ ts') → Reads (tree expr) ts' e t (token c c' else_word ∷ ts'') → Reads (tree expr) ts'' f u rest
+    r_if : {a a' b b' c c' : ℕ} {ts ts' ts'' rest : List PureToken} {d e f : SurfaceTree} {s t u : Nodes} → Reads (tree expr) ts d s (token b b' then_word ∷ ts')
+        → Reads (tree expr) ts' e t (token c c' else_word ∷ ts'') → Reads (tree expr) ts'' f u rest
         → Reads (tree expr) (token a a' if_word ∷ ts) (cond d e f) (node (suc (length ts)) (both (both s t) u)) rest
     r_expr : {ts rest : List PureToken} {e : SurfaceTree} {s : Nodes} → Reads (tree disjunction) ts e s rest → Reads (tree expr) ts e s rest
     r_parameter : {m : Mark} {a a' from : ℕ} {x : List ℕ} {ts rest : List PureToken} {e : SurfaceTree} {s : Nodes} → Reads (body m) ts (define from e) s rest
@@ -177,13 +181,15 @@ mutual
     r_and : {a a' : ℕ} {ts mid rest : List PureToken} {d e : SurfaceTree} {s t : Nodes} → Reads (tree comparison) ts d s (token a a' and_mark ∷ mid) → Reads (tree conjunction) mid e t rest
         → Reads (tree conjunction) ts (cond d e (truth false)) (node (suc (length mid)) (both s t)) rest
     r_conjunction : {ts rest : List PureToken} {e : SurfaceTree} {s : Nodes} → Reads (tree comparison) ts e s rest → Reads (tree conjunction) ts e s rest
-    r_compare : {a a' : ℕ} {k : Symbol} {p : Primitive} {ts mid rest : List PureToken} {d e : SurfaceTree} {s t : Nodes} → Compares k p → Reads (tree (row sum)) ts d s (token a a' k ∷ mid) → Reads (tree (row sum)) mid e t rest
+    r_compare : {a a' : ℕ} {k : Symbol} {p : Primitive} {ts mid rest : List PureToken} {d e : SurfaceTree} {s t : Nodes} → Compares k p → Reads (tree (row sum)) ts d s (token a a' k ∷ mid)
+        → Reads (tree (row sum)) mid e t rest
         → Reads (tree comparison) ts (prim p d e) (node (suc (length mid)) (both s t)) rest
     r_comparison : {ts rest : List PureToken} {e : SurfaceTree} {s : Nodes} → Reads (tree (row sum)) ts e s rest → Reads (tree comparison) ts e s rest
     r_row : {w : Row} {ts mid rest : List PureToken} {l e : SurfaceTree} {s t : Nodes} → Reads (tree (operand w)) ts l s mid → More w l s mid e t rest → Reads (tree (row w)) ts e t rest
     r_head : {a a' : ℕ} {k : Symbol} {ts rest : List PureToken} {d e : SurfaceTree} {s : Nodes} → Heads k a d e → Reads (tree atom) ts d s rest
         → Reads (tree head) (token a a' k ∷ ts) e (node (suc (length ts)) s) rest
-    r_run : {a a' b b' c c' : ℕ} {ts mid rest : List PureToken} {k : KernelType} {e : SurfaceTree} {s t : Nodes} → Reads kernel_type ts k s (token c c' square_right ∷ mid) → Reads (tree atom) mid e t rest
+    r_run : {a a' b b' c c' : ℕ} {ts mid rest : List PureToken} {k : KernelType} {e : SurfaceTree} {s t : Nodes} → Reads kernel_type ts k s (token c c' square_right ∷ mid)
+        → Reads (tree atom) mid e t rest
         → Reads (tree head) (token a a' run_word ∷ token b b' square_left ∷ ts) (run a k e) (node (suc (suc (length ts))) (both s t)) rest
     r_atom : {ts rest : List PureToken} {e : SurfaceTree} {s : Nodes} → Reads (tree atom) ts e s rest → Reads (tree head) ts e s rest
     r_name : {a a' : ℕ} {x : List ℕ} {ts : List PureToken} → Reads (tree atom) (token a a' (word x) ∷ ts) (used x a) (node (suc (length ts)) none) ts
@@ -194,7 +200,8 @@ mutual
         → Reads (tree atom) (token a a' paren_left ∷ token b b' minus ∷ token c c' (number n) ∷ token d d' paren_right ∷ ts) (num (negative n)) (node (suc (suc (suc (suc (length ts))))) none) ts
     r_paren : {a a' b b' : ℕ} {ts rest : List PureToken} {e : SurfaceTree} {s : Nodes} → Reads (tree expr) ts e s (token b b' paren_right ∷ rest)
         → Reads (tree atom) (token a a' paren_left ∷ ts) e (node (suc (length ts)) s) rest
-    r_pair : {a a' b b' c c' : ℕ} {ts mid rest : List PureToken} {d e : SurfaceTree} {s t : Nodes} → Reads (tree expr) ts d s (token b b' comma ∷ mid) → Reads (tree expr) mid e t (token c c' paren_right ∷ rest)
+    r_pair : {a a' b b' c c' : ℕ} {ts mid rest : List PureToken} {d e : SurfaceTree} {s t : Nodes} → Reads (tree expr) ts d s (token b b' comma ∷ mid)
+        → Reads (tree expr) mid e t (token c c' paren_right ∷ rest)
         → Reads (tree atom) (token a a' paren_left ∷ ts) (pair d e) (node (suc (length ts)) (both s t)) rest
     r_bracket : {a a' b b' : ℕ} {ts rest : List PureToken} {e : SurfaceTree} {s : Nodes} → Reads (tree expr) ts e s (token b b' bracket_right ∷ rest)
         → Reads (tree atom) (token a a' bracket_left ∷ ts) (bracket a e) (node (suc (length ts)) s) rest

@@ -8,5 +8,6 @@ pub mod Forms
 pub mod Descent
 pub mod Gives
 pub mod Opened
+pub mod Steps
 pub mod Words
 pub mod Levels

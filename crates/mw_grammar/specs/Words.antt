@@ -1,10 +1,10 @@
 -- What the symbol of a token decides: which symbol it is, or which form comes with the others.
 use Rattle.std.specs.Prelude.{ℕ, ◌≡◌, true, false, Option, Some, None}
 use Rattle.mw_lex.specs.Tokens.{PureToken, minus, let_word, rec_word, fun_word, if_word, kernel_word, main_word, paren_right, comma, word, token}
-use Rattle.mw_grammar.specs.SurfaceTrees.{SurfaceTree, num, truth, used, cond, fst, snd, bracket, escape, run, close, opened, lift, lift_b}
+use Rattle.mw_grammar.specs.SurfaceTrees.{SurfaceTree, num, truth, used, cond, fst, snd, close, opened, lift, lift_b}
 use Rattle.mw_grammar.specs.Grammar as Pure
-use Rattle.mw_grammar.specs.Grammar.{tree, expr, disjunction, head, atom, parameter, kernel_type, positive}
-use Rattle.mw_grammar.specs.Forms.{Form, bracket_next, left_next, right_next, gives, reads, skip, under, expect, pick, refuses, expr_by, let_in_by, let_by, atom_by, head_by, paren_by, behind_first, body_by, behind_mark, defined, program_by, items_of, item_by}
+use Rattle.mw_grammar.specs.Grammar.{tree, expr, head, atom, parameter, positive}
+use Rattle.mw_grammar.specs.Forms.{Form, gives, reads, skip, under, pick, refuses, expr_by, disjunction_form, let_in_by, let_by, atom_by, bracket_form, escape_form, head_by, run_form, passed_form, paren_by, group_form, behind_first, body_by, behind_mark, defined, program_by, items_of, item_by}
 use Rattle.mw_grammar.specs.declared.words.First.{First}
 use Rattle.mw_grammar.specs.declared.words.First.TheVariants as first
 use Rattle.mw_grammar.specs.declared.words.Named.{Named}
@@ -38,7 +38,7 @@ abbrev pub IsFirst : PureToken → First → Type 0
 IsFirst (token a b k) first.Let = k ≡ let_word
 IsFirst (token a b k) first.Fun = k ≡ fun_word
 IsFirst (token a b k) first.If = k ≡ if_word
-IsFirst (token a b k) first.Other = expr_by (token a b k) ≡ (reads (tree disjunction) λ e. gives e)
+IsFirst (token a b k) first.Other = expr_by (token a b k) ≡ disjunction_form
 
 -- after `let`, in an expression and in an item
 pub record IsNoName (t : PureToken) : Type 0 where
@@ -61,8 +61,8 @@ leaf_of leaves.False at = truth false
 abbrev pub atom_form : Atom → ℕ → Form (tree atom)
 atom_form (atoms.Leaf l) at = gives (leaf_of l at)
 atom_form atoms.Paren at = pick paren_by
-atom_form atoms.Bracket at = reads (tree expr) λ e. expect bracket_next (gives (bracket at e))
-atom_form atoms.Escape at = reads (tree atom) λ e. gives (escape at e)
+atom_form atoms.Bracket at = bracket_form at
+atom_form atoms.Escape at = escape_form at
 
 abbrev pub IsAtom : PureToken → Option Atom → Type 0
 IsAtom (token a b k) (Some w) = atom_by (token a b k) ≡ under (atom_form w a)
@@ -81,11 +81,11 @@ prefixed prefixes.LiftB at e = lift_b at e
 -- what is read inside the node of a head
 abbrev pub head_form : Head → ℕ → Form (tree head)
 head_form (heads.Prefix p) at = reads (tree atom) λ e. gives (prefixed p at e)
-head_form heads.Run at = expect left_next (reads kernel_type λ k. expect right_next (reads (tree atom) λ e. gives (run at k e)))
+head_form heads.Run at = run_form at
 
 abbrev pub IsHead : PureToken → Option Head → Type 0
 IsHead (token a b k) (Some w) = head_by (token a b k) ≡ under (head_form w a)
-IsHead (token a b k) None = head_by (token a b k) ≡ (reads (tree atom) λ e. gives e)
+IsHead (token a b k) None = head_by (token a b k) ≡ passed_form
 
 abbrev pub IsClose : PureToken → Close → Type 0
 IsClose (token a b k) closes.Paren = k ≡ paren_right
@@ -109,4 +109,4 @@ IsItem (token a b k) items.Other = item_by (token a b k) ≡ refuses
 
 abbrev pub IsInside : PureToken → Inside → Type 0
 IsInside (token a b k) insides.Minus = k ≡ minus
-IsInside (token a b k) insides.Other = paren_by (token a b k) ≡ (reads (tree expr) λ d. pick (behind_first d))
+IsInside (token a b k) insides.Other = paren_by (token a b k) ≡ group_form

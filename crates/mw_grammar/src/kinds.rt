@@ -1,14 +1,14 @@
 // Ground types and kernel types, by descent. `room` is the number of nodes that may still stand on a path; each function
 // answers what it made, the height of its nodes and the tokens left.
 
-ghost use Rattle.std.specs.Prelude.{◌≡◌, ◌<◌, ◌≤◌, ℕ, nat_lt, IfOk, IfSome, IfNone, MatchOption};
+ghost use Rattle.std.specs.Prelude.{◌≤◌, IfOk, IfSome, IfNone};
 ghost use Rattle.mw_lex.specs.Tokens.{tokens_of};
 ghost use Rattle.mw_term.specs.Terms.{ground_of, kernel_type_of};
 ghost use Rattle.mw_grammar.specs.Grammar.{kernel_type, ground, part, base};
-ghost use Rattle.mw_grammar.specs.Forms.{form, gives, reads, expect, paren_next};
-ghost use Rattle.mw_grammar.specs.Descent.{none_yet, ok, syntax_at, within, raise, full, reading};
-ghost use Rattle.mw_grammar.specs.Gives.{Gives};
-ghost use Rattle.mw_grammar.specs.Opened.{IsOpened};
+ghost use Rattle.mw_grammar.specs.Forms.{paren_form};
+ghost use Rattle.mw_grammar.specs.Descent.{none_yet, full, reading};
+ghost use Rattle.mw_grammar.specs.Gives.{GivesRead};
+ghost use Rattle.mw_grammar.specs.Opened.{IsOpened, HaveNoBase, HaveBase};
 
 use crate::fault::{Fault, Read};
 use crate::next::{Next, after};
@@ -26,8 +26,8 @@ pub enum Opened<'a> {
 
 #[tactic(auto, unfolding(crate::specs::Descent::reading))]
 fn base_of(tokens: &[Token]) -> Option<(Base, &[Token])>
-    ensures none { IfNone result ((b : ℕ) → reading b (form base) none_yet (tokens_of tokens.now) ≡ syntax_at (tokens_of tokens.now)) }
-    ensures some { IfSome result (λ r. (b : ℕ) → reading b (form base) none_yet (tokens_of tokens.now) ≡ within (nat_lt 0 b) (tokens_of tokens.now) (ok r.0 1 (tokens_of r.1.now))) }
+    ensures none { IfNone result (HaveNoBase (tokens_of tokens.now)) }
+    ensures some { IfSome result (λ r. HaveBase (tokens_of tokens.now) r.0 (tokens_of r.1.now)) }
 {
     match tokens {
         [] => None,
@@ -55,7 +55,7 @@ fn part_of(tokens: &[Token]) -> Opened<'_>
 #[tactic(auto, using(crate::proofs::Below::read_full, crate::proofs::Below::low_in, crate::proofs::Below::low_out))]
 fn base_type(tokens: &[Token], room: u32) -> Read<Base>
     requires { room ≤ 200 }
-    ensures gives { Gives (λ x. ok x.0 x.1 (tokens_of x.2.now)) result (full room base (tokens_of tokens.now)) }
+    ensures gives { GivesRead (λ base. base) result (full room base (tokens_of tokens.now)) }
     ensures height { IfOk result (λ x. x.1 ≤ room) }
 {
     match base_of(tokens) {
@@ -73,7 +73,7 @@ fn base_type(tokens: &[Token], room: u32) -> Read<Base>
 #[tactic(auto, using(crate::proofs::Below::read_full, crate::proofs::Below::read_gives, crate::proofs::Below::read_refuses, crate::proofs::Below::read_reads, crate::proofs::Below::part_fails, crate::proofs::Below::low_in, crate::proofs::Below::low_out, crate::proofs::Below::raise_ok, crate::proofs::Below::fails_raise))]
 fn part_type(alloc: Global, tokens: &[Token], room: u32) -> Read<Ground>
     requires { room ≤ 200 }
-    ensures gives { Gives (λ x. ok (ground_of x.0) x.1 (tokens_of x.2.now)) result (full room part (tokens_of tokens.now)) }
+    ensures gives { GivesRead ground_of result (full room part (tokens_of tokens.now)) }
     ensures height { IfOk result (λ x. x.1 ≤ room) }
 {
     match part_of(tokens) {
@@ -96,7 +96,7 @@ fn part_type(alloc: Global, tokens: &[Token], room: u32) -> Read<Ground>
 #[tactic(auto, using(crate::proofs::Below::read_full, crate::proofs::Below::read_gives, crate::proofs::Below::read_refuses, crate::proofs::Below::read_reads, crate::proofs::Below::part_fails, crate::proofs::Below::low_in, crate::proofs::Below::low_out, crate::proofs::Below::raise_ok, crate::proofs::Below::fails_raise))]
 fn paren_ground(alloc: Global, tokens: &[Token], room: u32) -> Read<Ground>
     requires { room ≤ 200 }
-    ensures gives { Gives (λ x. ok (ground_of x.0) x.1 (tokens_of x.2.now)) result (reading {n = part} room (reads ground λ g. expect paren_next (gives g)) none_yet (tokens_of tokens.now)) }
+    ensures gives { GivesRead ground_of result (reading room paren_form none_yet (tokens_of tokens.now)) }
     ensures height { IfOk result (λ x. x.1 ≤ room) }
 {
     let (ground, height, mid) = ground_type(alloc, tokens, room)?;
@@ -111,7 +111,7 @@ fn paren_ground(alloc: Global, tokens: &[Token], room: u32) -> Read<Ground>
 #[tactic(auto, using(crate::proofs::Below::read_full, crate::proofs::Below::read_gives, crate::proofs::Below::read_refuses, crate::proofs::Below::read_reads, crate::proofs::Below::part_fails, crate::proofs::Below::low_in, crate::proofs::Below::low_out, crate::proofs::Below::raise_ok, crate::proofs::Below::fails_raise))]
 pub fn ground_type(alloc: Global, tokens: &[Token], room: u32) -> Read<Ground>
     requires { room ≤ 200 }
-    ensures gives { Gives (λ x. ok (ground_of x.0) x.1 (tokens_of x.2.now)) result (full room ground (tokens_of tokens.now)) }
+    ensures gives { GivesRead ground_of result (full room ground (tokens_of tokens.now)) }
     ensures height { IfOk result (λ x. x.1 ≤ room) }
 {
     let (left, height, mid) = part_type(alloc, tokens, room)?;
@@ -132,7 +132,7 @@ pub fn ground_type(alloc: Global, tokens: &[Token], room: u32) -> Read<Ground>
 #[tactic(auto, using(crate::proofs::Below::read_full, crate::proofs::Below::read_gives, crate::proofs::Below::read_refuses, crate::proofs::Below::read_reads, crate::proofs::Below::part_fails, crate::proofs::Below::low_in, crate::proofs::Below::low_out, crate::proofs::Below::raise_ok, crate::proofs::Below::fails_raise))]
 pub fn kernel(alloc: Global, tokens: &[Token], room: u32) -> Read<KType>
     requires { room ≤ 200 }
-    ensures gives { Gives (λ x. ok (kernel_type_of x.0) x.1 (tokens_of x.2.now)) result (full room kernel_type (tokens_of tokens.now)) }
+    ensures gives { GivesRead kernel_type_of result (full room kernel_type (tokens_of tokens.now)) }
     ensures height { IfOk result (λ x. x.1 ≤ room) }
 {
     let (ground, height, mid) = ground_type(alloc, tokens, room)?;

@@ -1,11 +1,9 @@
 // What the next token decides.
 
-ghost use Rattle.std.specs.Prelude.{◌≡◌, ◌<◌, ◌≤◌, ◌-◌, ℕ, IfSome, IfNone};
+ghost use Rattle.std.specs.Prelude.{IfSome, IfNone};
 ghost use Rattle.mw_lex.specs.Tokens.{tokens_of};
-ghost use Rattle.mw_grammar.specs.Grammar.{Nonterminal};
-ghost use Rattle.mw_grammar.specs.Forms.{Form, expect, option};
-ghost use Rattle.mw_grammar.specs.Descent.{Heights, none_yet, tall, syntax_at, deep_at, raise, full, reading};
 ghost use Rattle.mw_grammar.specs.Gives.{expected_of};
+ghost use Rattle.mw_grammar.specs.Steps.{Lack, Have, EndBefore, GoOn, GoTooDeep};
 
 use mw_lex::{Kind, Token};
 
@@ -38,11 +36,11 @@ pub enum Next {
 /// The tokens after it, where it comes next.
 #[tactic(auto, using(crate::proofs::Below::low_in, crate::proofs::Below::low_out), unfolding(crate::specs::Descent::reading))]
 pub fn after<'a>(next: Next, tokens: &'a [Token]) -> Option<&'a [Token]>
-    ensures none_expected { IfNone result ((n : Nonterminal) (F : Form n) (b : ℕ) (a : Heights) → reading b (expect (expected_of next) F) a (tokens_of tokens.now) ≡ syntax_at (tokens_of tokens.now)) }
-    ensures expected { IfSome result (λ rest. (n : Nonterminal) (F : Form n) (b : ℕ) (a : Heights) → reading b (expect (expected_of next) F) a (tokens_of tokens.now) ≡ reading b F a (tokens_of rest.now)) }
-    ensures none_goes_on { IfNone result ((n : Nonterminal) (F G : Form n) (b : ℕ) (a : Heights) → reading b (option (expected_of next) F G) a (tokens_of tokens.now) ≡ reading b G a (tokens_of tokens.now)) }
-    ensures goes_on { IfSome result (λ rest. (n : Nonterminal) (F G : Form n) (b : ℕ) (a : Heights) → tall a < b → reading b (option (expected_of next) F G) a (tokens_of tokens.now) ≡ raise a (reading (b - 1) F none_yet (tokens_of rest.now))) }
-    ensures too_deep { IfSome result (λ rest. (n : Nonterminal) (F G : Form n) (b : ℕ) (a : Heights) → b ≤ tall a → reading b (option (expected_of next) F G) a (tokens_of tokens.now) ≡ deep_at (tokens_of tokens.now)) }
+    ensures none_expected { IfNone result (Lack (expected_of next) (tokens_of tokens.now)) }
+    ensures expected { IfSome result (λ rest. Have (expected_of next) (tokens_of tokens.now) (tokens_of rest.now)) }
+    ensures none_goes_on { IfNone result (EndBefore (expected_of next) (tokens_of tokens.now)) }
+    ensures goes_on { IfSome result (λ rest. GoOn (expected_of next) (tokens_of tokens.now) (tokens_of rest.now)) }
+    ensures too_deep { IfSome result (λ rest. GoTooDeep (expected_of next) (tokens_of tokens.now)) }
 {
     match tokens {
         [] => None,

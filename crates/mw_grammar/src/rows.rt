@@ -1,11 +1,9 @@
 // Operators: those that associate to the left, in rows, and the signs of comparisons.
 
-ghost use Rattle.std.specs.Prelude.{◌≡◌, ◌<◌, ◌≤◌, ◌-◌, ℕ, MatchOption, IfSome, IfNone};
+ghost use Rattle.std.specs.Prelude.{IfSome, IfNone};
 ghost use Rattle.mw_lex.specs.Tokens.{tokens_of};
-ghost use Rattle.mw_grammar.specs.Forms.{opens, nothing, operator, gives, compared, equal_to};
-ghost use Rattle.mw_grammar.specs.SurfaceTrees.{SurfaceTree};
-ghost use Rattle.mw_grammar.specs.Descent.{Heights, none_yet, tall, deep_at, raise, reading};
-ghost use Rattle.mw_grammar.specs.Levels.{row_of, op_of};
+ghost use Rattle.mw_grammar.specs.Levels.{row_of};
+ghost use Rattle.mw_grammar.specs.Steps.{IsNextOperator, CompareNone, CompareBy, CompareTooDeep};
 
 use mw_lex::{Kind, Token};
 use mw_term::Prim;
@@ -27,7 +25,7 @@ pub enum Operator {
 
 /// The operator of this row that comes next, and what stands after it.
 pub fn next_operator(row: Row, tokens: &[Token]) -> Option<(Operator, &[Token])>
-    ensures { MatchOption result (opens (row_of row) (tokens_of tokens.now) ≡ nothing) (λ r. opens (row_of row) (tokens_of tokens.now) ≡ operator (op_of r.0) (tokens_of r.1.now)) }
+    ensures { IsNextOperator (row_of row) (tokens_of tokens.now) result }
 {
     match tokens {
         [] => None,
@@ -52,9 +50,9 @@ pub fn next_operator(row: Row, tokens: &[Token]) -> Option<(Operator, &[Token])>
 /// The sign of a comparison that comes next, as its operation, and what stands after it.
 #[tactic(auto, using(crate::proofs::Below::low_in, crate::proofs::Below::low_out), unfolding(crate::specs::Descent::reading))]
 pub fn next_comparison(tokens: &[Token]) -> Option<(Prim, &[Token])>
-    ensures none { IfNone result ((b : ℕ) (d : SurfaceTree) (a : Heights) → reading b (equal_to d) a (tokens_of tokens.now) ≡ reading b (gives d) a (tokens_of tokens.now)) }
-    ensures goes_on { IfSome result (λ r. (b : ℕ) (d : SurfaceTree) (a : Heights) → tall a < b → reading b (equal_to d) a (tokens_of tokens.now) ≡ raise a (reading (b - 1) (compared r.0 d) none_yet (tokens_of r.1.now))) }
-    ensures too_deep { IfSome result (λ r. (b : ℕ) (d : SurfaceTree) (a : Heights) → b ≤ tall a → reading b (equal_to d) a (tokens_of tokens.now) ≡ deep_at (tokens_of tokens.now)) }
+    ensures none { IfNone result (CompareNone (tokens_of tokens.now)) }
+    ensures goes_on { IfSome result (λ r. CompareBy r.0 (tokens_of tokens.now) (tokens_of r.1.now)) }
+    ensures too_deep { IfSome result (λ r. CompareTooDeep (tokens_of tokens.now)) }
 {
     match tokens {
         [] => None,

@@ -1,12 +1,10 @@
 // What the symbol of a token decides.
 
-ghost use Rattle.std.specs.Prelude.{◌≡◌, ◌<◌, ◌≤◌, ◌-◌, ℕ, IfSome, IfNone, true, false};
-ghost use Rattle.mw_lex.specs.Tokens.{PureToken, token, symbol_of, token_of, tokens_of, word, number, minus};
-ghost use Rattle.mw_grammar.specs.Grammar.{Nonterminal};
-ghost use Rattle.mw_grammar.specs.Forms.{Form, pick, skip, under, refuses, reads, rec_by, rec_item, kernel_by, parameter_by, minus_by, paren_by, behind_first};
-ghost use Rattle.mw_grammar.specs.Grammar.{tree, expr, Mark as PureMark};
-ghost use Rattle.mw_grammar.specs.SurfaceTrees.{SurfaceTree};
-ghost use Rattle.mw_grammar.specs.Descent.{Heights, none_yet, tall, syntax_at, deep_at, raise, reading};
+ghost use Rattle.std.specs.Prelude.{◌≡◌, IfSome, IfNone};
+ghost use Rattle.mw_lex.specs.Tokens.{token_of, tokens_of, symbol_of, word, number};
+ghost use Rattle.mw_grammar.specs.Grammar.{Mark as PureMark};
+ghost use Rattle.mw_grammar.specs.Forms.{refuses, rec_by, rec_item, kernel_by, parameter_by, minus_by};
+ghost use Rattle.mw_grammar.specs.Steps.{PickNone, PickBy, SkipTo, GoUnder, AreTooDeep};
 ghost use Rattle.mw_grammar.specs.declared.words.Mark.TheVariants.{Arrow, Equal};
 ghost use Rattle.mw_grammar.specs.Words.{IsFirst, IsNamed, IsAtom, IsHead, IsInside, IsClose, IsBody, IsStart, IsItem};
 
@@ -16,11 +14,11 @@ use mw_term::Name;
 /// The token in hand, and those after it.
 #[tactic(auto, using(crate::proofs::Below::low_in, crate::proofs::Below::low_out), unfolding(crate::specs::Descent::reading))]
 pub fn in_hand(tokens: &[Token]) -> Option<(&Token, &[Token])>
-    ensures none { IfNone result ((n : Nonterminal) (f : PureToken → Form n) (b : ℕ) (a : Heights) → reading b (pick f) a (tokens_of tokens.now) ≡ syntax_at (tokens_of tokens.now)) }
-    ensures picks { IfSome result (λ r. (n : Nonterminal) (f : PureToken → Form n) (b : ℕ) (a : Heights) → reading b (pick f) a (tokens_of tokens.now) ≡ reading b (f (token_of r.0.now)) a (tokens_of tokens.now)) }
-    ensures skips { IfSome result (λ r. (n : Nonterminal) (F : Form n) (b : ℕ) (a : Heights) → reading b (skip F) a (tokens_of tokens.now) ≡ reading b F a (tokens_of r.1.now)) }
-    ensures node { IfSome result (λ r. (n : Nonterminal) (F : Form n) (b : ℕ) (a : Heights) → tall a < b → reading b (under F) a (tokens_of tokens.now) ≡ raise a (reading (b - 1) F none_yet (tokens_of r.1.now))) }
-    ensures too_deep { IfSome result (λ r. (n : Nonterminal) (F : Form n) (b : ℕ) (a : Heights) → b ≤ tall a → reading b (under F) a (tokens_of tokens.now) ≡ deep_at (tokens_of tokens.now)) }
+    ensures none { IfNone result (PickNone (tokens_of tokens.now)) }
+    ensures picks { IfSome result (λ r. PickBy (token_of r.0.now) (tokens_of tokens.now)) }
+    ensures skips { IfSome result (λ r. SkipTo (tokens_of tokens.now) (tokens_of r.1.now)) }
+    ensures node { IfSome result (λ r. GoUnder (tokens_of tokens.now) (tokens_of r.1.now)) }
+    ensures too_deep { IfSome result (λ r. AreTooDeep (tokens_of tokens.now)) }
 {
     match tokens {
         [] => None,

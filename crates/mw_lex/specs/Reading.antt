@@ -41,7 +41,8 @@ pub data IsFault : List PureToken → ℕ → List ℕ → Refusal → Type 0 wh
   no_token : {tokens : List PureToken} {at b : ℕ} {rest : List ℕ} → (IsBlank b → ⊥) → b ≢ 35 → BeginsNone (b ∷ rest) → IsFault tokens at (b ∷ rest) (Char at)
   in_comment : {tokens : List PureToken} {at b : ℕ} {all : List ℕ} (body rest : List ℕ) → all ≡ 35 ∷ body ++ b ∷ rest → AllByRecursion IsCommentByte body → (IsAllowed b → ⊥)
       → IsFault tokens at all (Char (at + suc (length body)))
-  no_number : {tokens : List PureToken} {at : ℕ} {all : List ℕ} (text rest : List ℕ) → all ≡ text ++ rest → IsNumeral text → IsLongest text rest → IsNoNumber tokens at text → IsFault tokens at all (Number at)
+  no_number : {tokens : List PureToken} {at : ℕ} {all : List ℕ} (text rest : List ℕ) → all ≡ text ++ rest → IsNumeral text → IsLongest text rest → IsNoNumber tokens at text
+      → IsFault tokens at all (Number at)
   long_name : {tokens : List PureToken} {at : ℕ} {all : List ℕ} (text rest : List ℕ) → all ≡ text ++ rest → IsWord text → IsLongest text rest → 64 < length text → IsFault tokens at all (Name at)
 
 -- The fault with the smallest offset: all that stands before it is tokens, blanks and comments, with no fault in it.
