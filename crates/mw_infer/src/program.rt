@@ -2,6 +2,7 @@
 
 ghost use Rattle.std.specs.Prelude.{◌≡◌, ◌∷◌, [], ◌++◌, length, map, IfErr, IfOk, OnOk};
 ghost use Rattle.mw_term.specs.Programs.{definition_of, program_of};
+ghost use Rattle.mw_term.specs.Stops.{IfRefused};
 ghost use Rattle.mw_term.specs.Terms.{expression_of, ground_of};
 ghost use Rattle.mw_term.specs.Typable.{seen_by_main};
 ghost use Rattle.mw_types.specs.Types.{type_of};

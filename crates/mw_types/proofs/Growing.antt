@@ -98,6 +98,32 @@ upto_at : {A : Type 0} (o : ℕ) (f : ℕ → A) (x : A) → upto o f x o ≡ x
 upto_at zero f x = refl
 upto_at (suc o) f x = upto_at o (λ v. f (suc v)) x
 
+-- with one more node the state means what it meant, where the node's type is one of its shape
+node_means : (s t : State) (h : Shape) → Sound s
+    → t.parent.items ≡ s.parent.items ++ length s.parent.items ∷ [] → t.shape.items ≡ s.shape.items ++ h ∷ [] → t.classifier.items ≡ s.classifier.items → t.waiting.items ≡ s.waiting.items
+    → (a : Assignment) → Means s a → Meets h (a.ty (length s.parent.items)) a → Means t a
+node_means s t h p e f g w a k m = record {
+  types = rw e (λ i lt. elim (is i n) [
+    | same q ↦ rw (get_last s.parent.items n 0 i q, q) refl
+    | other o ↦ rw (get_left s.parent.items n 0 i (omega (arith, len))) (k.types i (omega (arith, len)))
+  ]);
+  classifiers = rw g k.classifiers;
+  shapes = rw f (λ i. elim (in_or_out s.shape.items i) [
+    | inl lt ↦ rw (get_left s.shape.items h Free i lt) (k.shapes i)
+    | inr le ↦ elim (is i (length s.shape.items)) [
+      | same q ↦ rw (get_last s.shape.items h Free i q, q, p.lengths) m
+      | other o ↦ rw (get_or-eq_default (s.shape.items ++ h ∷ []) Free {n = i} (let x = length-append s.shape.items (h ∷ []) in omega arith)) tt
+    ]
+  ]);
+  waits = rw w k.waits;
+}
+  where
+    n : ℕ
+    n = length s.parent.items
+
+    len : length (s.parent.items ++ length s.parent.items ∷ []) ≡ length s.parent.items + 1
+    len = length-append s.parent.items (length s.parent.items ∷ [])
+
 pub node_grew : (s t : State) (h : Shape) → Sound s → Inside (length s.parent.items) (length s.classifier.items) h
     → t.parent.items ≡ s.parent.items ++ length s.parent.items ∷ [] → t.shape.items ≡ s.shape.items ++ h ∷ [] → t.classifier.items ≡ s.classifier.items → t.waiting.items ≡ s.waiting.items
     → Grew s t (λ a. Meets h (a.ty (length s.parent.items)) a)
@@ -108,7 +134,7 @@ node_grew s t h p ins e f g w = record {
   out = λ a k. (back a k, rw (get_last s.shape.items h Free n (sym p.lengths)) at (rw f at (k.shapes n)));
   more = λ a k. let b : Assignment = record { ty = upto n a.ty (shape_type a h); classifier = a.classifier } in
       let ag : Agree n (length s.classifier.items) a b = record { types = λ u lt. upto_below n a.ty (shape_type a h) u lt; classifiers = λ c lt. refl } in
-      (b, ag, forth b (means_agree s a b p ag k) (rw (upto_at n a.ty (shape_type a h)) (meets_agree ag h ins (shape_type a h) (shape_meets a h))));
+      (b, ag, node_means s t h p e f g w b (means_agree s a b p ag k) (rw (upto_at n a.ty (shape_type a h)) (meets_agree ag h ins (shape_type a h) (shape_meets a h))));
 }
   where
     n : ℕ
@@ -165,23 +191,6 @@ node_grew s t h p ins e f g w = record {
           waits = rw w at k.waits;
         }
 
-    forth : (a : Assignment) → Means s a → Meets h (a.ty n) a → Means t a
-    forth a k m = record {
-      types = rw e (λ i lt. elim (is i n) [
-        | same q ↦ rw (get_last s.parent.items n 0 i q, q) refl
-        | other o ↦ rw (get_left s.parent.items n 0 i (omega (arith, len))) (k.types i (omega (arith, len)))
-      ]);
-      classifiers = rw g k.classifiers;
-      shapes = rw f (λ i. elim (in_or_out s.shape.items i) [
-        | inl lt ↦ rw (get_left s.shape.items h Free i lt) (k.shapes i)
-        | inr le ↦ elim (is i (length s.shape.items)) [
-          | same q ↦ rw (get_last s.shape.items h Free i q, q, p.lengths) m
-          | other o ↦ rw (get_or-eq_default (s.shape.items ++ h ∷ []) Free {n = i} (omega (arith, shape_len))) tt
-        ]
-      ]);
-      waits = rw w k.waits;
-    }
-
 pub grew_then : {s t u : State} {X Y : Assignment → Type 0} → Grew s t X → Grew t u Y → Grew s u (λ a. X a × Y a)
 grew_then p q = record {
   sound = q.sound;
@@ -216,27 +225,7 @@ as_type e g = map_grew (λ a x. x ∙ sym (ap (value a) e)) g
 pub free_grew : (s t : State) (h : Shape) → Sound s → h ≡ Free
     → t.parent.items ≡ s.parent.items ++ length s.parent.items ∷ [] → t.shape.items ≡ s.shape.items ++ h ∷ [] → t.classifier.items ≡ s.classifier.items → t.waiting.items ≡ s.waiting.items
     → (a : Assignment) → Means s a → Means t a
-free_grew s t h p z e f g w a k = record {
-  types = rw e (λ i lt. elim (is i n) [
-    | same q ↦ rw (get_last s.parent.items n 0 i q, q) refl
-    | other o ↦ rw (get_left s.parent.items n 0 i (omega (arith, len))) (k.types i (omega (arith, len)))
-  ]);
-  classifiers = rw g k.classifiers;
-  shapes = rw f (λ i. elim (in_or_out s.shape.items i) [
-    | inl lt ↦ rw (get_left s.shape.items h Free i lt) (k.shapes i)
-    | inr le ↦ elim (is i (length s.shape.items)) [
-      | same q ↦ rw (get_last s.shape.items h Free i q, z) tt
-      | other o ↦ rw (get_or-eq_default (s.shape.items ++ h ∷ []) Free {n = i} (let x = length-append s.shape.items (h ∷ []) in omega arith)) tt
-    ]
-  ]);
-  waits = rw w k.waits;
-}
-  where
-    n : ℕ
-    n = length s.parent.items
-
-    len : length (s.parent.items ++ length s.parent.items ∷ []) ≡ length s.parent.items + 1
-    len = length-append s.parent.items (length s.parent.items ∷ [])
+free_grew s t h p z e f g w a k = node_means s t h p e f g w a k (rw z tt)
 
 -- a node that has a shape
 pub node_shaped : (ps : List ℕ) (hs : List Shape) (h : Shape) → length hs ≡ length ps → h ≢ Free → (n : ℕ) → IsShaped n ps hs → IsShaped n (ps ++ length ps ∷ []) (hs ++ h ∷ [])

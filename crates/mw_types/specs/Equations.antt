@@ -2,6 +2,7 @@
 use Rattle.std.specs.Prelude.{ℕ, ◌≡◌, ◌≤◌, ◌<◌, List, [], ◌∷◌, take, length}
 use Rattle.mw_types.specs.Types.{TypeExpression, type_of, Within, Assignment, value, nodes, Substitution, after}
 use Rattle.mw_types.specs.declared.types.Equation.{Equation}
+use Rattle.mw_types.specs.declared.types.Equations.{Equations}
 
 pub record TypeEquation : Type 0 where
   pub left : TypeExpression
@@ -14,6 +15,10 @@ equation_of e = record { left = type_of e.left; right = type_of e.right }
 abbrev pub equations_of : List Equation → List TypeEquation
 equations_of [] = []
 equations_of (e ∷ es) = equation_of e ∷ equations_of es
+
+-- what P says of n unknowns, m classifier unknowns and equations on them, said of the solver's equations
+abbrev pub said_of : {A : Type 1} → Equations → (ℕ → ℕ → List TypeEquation → A) → A
+said_of e P = P e.unknowns e.classifiers (equations_of e.pairs)
 
 -- each equation names the first n unknowns and the first m classifier unknowns alone
 abbrev pub AllWithin : ℕ → ℕ → List TypeEquation → Type 0

@@ -50,6 +50,16 @@ pub record Holds (ps : List ℕ) (hs : List Shape) (cs : List ℕ) (ws : List Pe
   pub shapes : (i : ℕ) → Meets (slice_index_or hs i Free) (a.ty i) a
   pub waits : Waits ws a
 
+-- the state's nodes and classifier unknowns, counted, and the shape that a node has
+abbrev pub nodes_in : State → ℕ
+nodes_in s = length s.parent.items
+
+abbrev pub classifiers_in : State → ℕ
+classifiers_in s = length s.classifier.items
+
+abbrev pub shape_at : State → ℕ → Shape
+shape_at s i = slice_index_or s.shape.items i Free
+
 -- an assignment to the nodes meets all that the state says
 abbrev pub Means : State → Assignment → Type 0
 Means s a = Holds s.parent.items s.shape.items s.classifier.items s.waiting.items a
@@ -92,12 +102,16 @@ ExtraInside n m (Classes h c d w) = Inside n m h × (c < m) × (d < m) × (w.lef
 abbrev pub IsShaped : ℕ → List ℕ → List Shape → Type 0
 IsShaped n ps hs = (i : ℕ) → n ≤ i → i < length ps → slice_index_or ps i 0 ≡ i → slice_index_or hs i Free ≢ Free
 
+-- where each representative from a node on has a shape in the first state, each has one in the second
+abbrev pub StaysShaped : State → State → Type 0
+StaysShaped s t = (n : ℕ) → IsShaped n s.parent.items s.shape.items → IsShaped n t.parent.items t.shape.items
+
 -- the second state says what the first says and X, and keeps what states keep
 pub record Step (s t : State) (X : Assignment → Type 0) : Type 0 where
   pub sound : Sound t
   pub node_count : length t.parent.items ≡ length s.parent.items
   pub classifier_count : length t.classifier.items ≡ length s.classifier.items
-  pub shaped : (n : ℕ) → IsShaped n s.parent.items s.shape.items → IsShaped n t.parent.items t.shape.items
+  pub shaped : StaysShaped s t
   pub out : (a : Assignment) → Means t a → Means s a × X a
   pub back : (a : Assignment) → Means s a → X a → Means t a
 
@@ -106,7 +120,7 @@ pub record Linked (s t : State) (low high : ℕ) (m : Met) : Type 0 where
   pub sound : Sound t
   pub node_count : length t.parent.items ≡ length s.parent.items
   pub classifier_count : length t.classifier.items ≡ length s.classifier.items
-  pub shaped : m ≢ Clash → (n : ℕ) → IsShaped n s.parent.items s.shape.items → IsShaped n t.parent.items t.shape.items
+  pub shaped : m ≢ Clash → StaysShaped s t
   pub extra : ExtraInside (length t.parent.items) (length t.classifier.items) m
   pub out : (a : Assignment) → Means t a → Extra m a → Means s a × (a.ty low ≡ a.ty high)
   pub back : (a : Assignment) → Means s a → a.ty low ≡ a.ty high → Means t a × Extra m a

@@ -3,7 +3,7 @@
 ghost use Rattle.std.specs.Prelude.{ℕ, ◌+◌, ◌≡◌, ◌≢◌, ◌<◌, ◌≤◌, length, IfOk};
 ghost use Rattle.mw_types.specs.Grows.{Grew};
 ghost use Rattle.mw_types.specs.Types.{Assignment, value, type_of, Within};
-ghost use Rattle.mw_types.specs.Holds.{IsShaped, Sound, Inside, Meets, Means};
+ghost use Rattle.mw_types.specs.Holds.{StaysShaped, Sound, Inside, Meets, Means};
 
 use crate::state::{Shape, State};
 use crate::types::Ty;
@@ -17,7 +17,7 @@ pub fn node(state: &mut State, shape: Shape) -> Result<usize, AllocError>
     ensures inside { IfOk result (λ i. i < length state.new.parent.items) }
     ensures one { IfOk result (λ _. length state.new.parent.items ≡ length state.old.parent.items + 1) }
     ensures free { IfOk result (λ _. shape ≡ Shape.Free → (a : Assignment) → Means state.old a → Means state.new a) }
-    ensures shaped { IfOk result (λ _. shape ≢ Shape.Free → (n : ℕ) → IsShaped n state.old.parent.items state.old.shape.items → IsShaped n state.new.parent.items state.new.shape.items) }
+    ensures shaped { IfOk result (λ _. shape ≢ Shape.Free → StaysShaped state.old state.new) }
 {
     let next = state.parent.len();
     state.parent.push(next)?;
@@ -32,7 +32,7 @@ pub fn add(state: &mut State, ty: &Ty, unknowns: usize) -> Result<usize, AllocEr
     requires room { unknowns ≤ length state.old.parent.items }
     ensures grew { IfOk result (λ i. Grew state.old state.new (λ a. a.ty i ≡ value a (type_of ty.now))) }
     ensures inside { IfOk result (λ i. i < length state.new.parent.items) }
-    ensures shaped { IfOk result (λ _. (n : ℕ) → IsShaped n state.old.parent.items state.old.shape.items → IsShaped n state.new.parent.items state.new.shape.items) }
+    ensures shaped { IfOk result (λ _. StaysShaped state.old state.new) }
 {
     match ty {
         Ty::Int => node(state, Shape::Int),

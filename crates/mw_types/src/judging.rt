@@ -5,7 +5,7 @@ ghost use Rattle.mw_types.specs.Equations.{equations_of, AllWithin};
 ghost use Rattle.mw_types.specs.Answering.{Ready};
 ghost use Rattle.mw_types.specs.Judged.{Judges, Blank};
 ghost use Rattle.mw_types.specs.Types.{Assignment};
-ghost use Rattle.mw_types.specs.Holds.{Sound, Means};
+ghost use Rattle.mw_types.specs.Holds.{Sound, Means, nodes_in, classifiers_in};
 
 use crate::build::{add, node};
 use crate::state::{Pending, Shape, State, flatten, postpone, settle};
@@ -29,9 +29,9 @@ pub fn judge(
 ) -> Result<Verdict, AllocError>
     requires sound { Sound state.old }
     requires blank { (a : Assignment) → Means state.old a }
-    requires inside { AllWithin (length state.old.parent.items) (length state.old.classifier.items) (equations_of equations.now) }
-    ensures judged { IfOk result (λ verdict. Judges (length state.old.parent.items) (equations_of equations.now) verdict) }
-    ensures ready { IfOk result (λ verdict. verdict ≡ Verdict.Fine → Ready (length state.old.parent.items) (length state.old.classifier.items) (equations_of equations.now) state.new) }
+    requires inside { AllWithin (nodes_in state.old) (classifiers_in state.old) (equations_of equations.now) }
+    ensures judged { IfOk result (λ verdict. Judges (nodes_in state.old) (equations_of equations.now) verdict) }
+    ensures ready { IfOk result (λ found. found ≡ Verdict.Fine → Ready (nodes_in state.old) (classifiers_in state.old) (equations_of equations.now) state.new) }
 {
     let unknowns = state.parent.len();
     for equation in equations {

@@ -2,7 +2,7 @@
 
 ghost use Rattle.std.specs.Prelude.{ℕ, ◌+◌, ◌*◌, ◌≡◌, ◌≢◌, [], ◌≤◌, ◌<◌, length, slice_index_or, IfOk, IsTrue, IsFalse};
 ghost use Rattle.mw_types.specs.Forest.{Low, Leads};
-ghost use Rattle.mw_types.specs.Holds.{Meeting, Inside, ExtraInside, kept, Sound, Step, Linked, Never, weight, more, work};
+ghost use Rattle.mw_types.specs.Holds.{Meeting, shape_at, Inside, ExtraInside, kept, Sound, Step, Linked, Never, weight, more, work};
 ghost use Rattle.mw_types.specs.Shorter.{Found};
 
 use crate::ways::find_halving;
@@ -168,10 +168,10 @@ fn put(state: &mut State, low: usize, high: usize, met: Met)
     requires inside { high < length state.old.parent.items }
     requires low_root { slice_index_or state.old.parent.items low 0 ≡ low }
     requires high_root { slice_index_or state.old.parent.items high 0 ≡ high }
-    requires meeting { Meeting (slice_index_or state.old.shape.items low Shape.Free) (slice_index_or state.old.shape.items high Shape.Free) met }
+    requires meeting { Meeting (shape_at state.old low) (shape_at state.old high) met }
     requires extra { ExtraInside (length state.old.parent.items) (length state.old.classifier.items) met }
-    requires lighter { 3 * weight (kept met) + more met ≤ 3 * (weight (slice_index_or state.old.shape.items low Shape.Free) + weight (slice_index_or state.old.shape.items high Shape.Free)) }
-    requires shaped { met ≢ Met.Clash → slice_index_or state.old.shape.items low Shape.Free ≢ Shape.Free → kept met ≢ Shape.Free }
+    requires lighter { 3 * weight (kept met) + more met ≤ 3 * (weight (shape_at state.old low) + weight (shape_at state.old high)) }
+    requires shaped { met ≢ Met.Clash → shape_at state.old low ≢ Shape.Free → kept met ≢ Shape.Free }
     ensures linked { Linked state.old state.new low high met }
     ensures work { work state.new + more met ≤ work state.old }
 {
