@@ -8,3 +8,4 @@ pub mod FirstStores
 pub mod InstanceStates
 pub mod Instancing
 pub mod Invoking
+pub mod SegmentExamples

@@ -1,14 +1,13 @@
 // Memory.
 
-ghost use Rattle.std.specs.Prelude.{◌≡◌, ◌≤◌, ◌<◌, ◌+◌, ◌*◌, ◌^◌, ◌∷◌, List, ℕ, length, IfOk, IfErr, nat_le};
-ghost use Rattle.mw_wasm.specs.declared.values.Value.{Value as WasmValue};
+ghost use Rattle.std.specs.Prelude.{◌≡◌, ◌≤◌, ◌<◌, ◌+◌, ◌*◌, ◌^◌, ◌∷◌, length, IfOk, IfErr, nat_le};
 ghost use Rattle.mw_wasm.specs.declared.numbers.LoadOp.TheVariants as load_op;
-ghost use Rattle.mw_wasm.specs.Syntax.{PureModule, load as load_instruction, store as store_instruction, memory_grow};
-ghost use Rattle.mw_wasm.specs.Act.{act, bits_of, most_pages};
+ghost use Rattle.mw_wasm.specs.Syntax.{load as load_instruction, store as store_instruction, memory_grow};
+ghost use Rattle.mw_wasm.specs.Act.{bits_of, most_pages};
 ghost use Rattle.mw_wasm.specs.Store.{read_bytes, load_size, loaded, store_size, store_type};
 ghost use Rattle.mw_wasm.specs.Views.{module_of};
-ghost use Rattle.mw_exec.specs.Lists.{above, Kept};
-ghost use Rattle.mw_exec.specs.Acts.{Comes, IfHalted};
+ghost use Rattle.mw_exec.specs.Lists.{Kept};
+ghost use Rattle.mw_exec.specs.Acts.{ActsAligned, ActsOnStoreIn, IfHalted};
 ghost use Rattle.mw_exec.specs.Instancing.{word_at};
 ghost use Rattle.mw_exec.specs.Views.{store_of, memory_of, IsHeld, IsReached, IsWritten};
 
@@ -228,7 +227,7 @@ pub fn load(
 ) -> Result<Outcome, AllocError>
     requires long { height ≤ length stack.old.items }
     requires held { IsHeld held.now }
-    ensures comes { IfOk result (λ o. (m : PureModule) (align : ℕ) (ls : List WasmValue) → Comes o (act m (load_instruction op align offset) (store_of held.now) ls (above height stack.old.items)) (store_of held.now) ls (above height stack.new.items)) }
+    ensures comes { IfOk result (λ o. ActsAligned o (λ align. load_instruction op align offset) held.now held.now height stack.old stack.new) }
     ensures kept { IfOk result (λ _. Kept height stack.old.items stack.new.items) }
 {
     let Some(n) = pop_i32(stack, height) else {
@@ -339,7 +338,7 @@ pub fn store(
 ) -> Result<Outcome, AllocError>
     requires long { height ≤ length stack.old.items }
     requires held { IsHeld held.old }
-    ensures comes { IfOk result (λ o. (m : PureModule) (align : ℕ) (ls : List WasmValue) → Comes o (act m (store_instruction op align offset) (store_of held.old) ls (above height stack.old.items)) (store_of held.new) ls (above height stack.new.items)) }
+    ensures comes { IfOk result (λ o. ActsAligned o (λ align. store_instruction op align offset) held.old held.new height stack.old stack.new) }
     ensures kept { IfOk result (λ _. Kept height stack.old.items stack.new.items) }
     ensures held { IsHeld held.new }
     ensures halted { IfOk result (λ o. IfHalted o (store_of held.new ≡ store_of held.old)) }
@@ -396,7 +395,7 @@ pub fn grow(
 ) -> Result<Outcome, AllocError>
     requires long { height ≤ length stack.old.items }
     requires held { IsHeld held.old }
-    ensures comes { IfOk result (λ o. (ls : List WasmValue) → Comes o (act (module_of wasm.now) memory_grow (store_of held.old) ls (above height stack.old.items)) (store_of held.new) ls (above height stack.new.items)) }
+    ensures comes { IfOk result (λ o. ActsOnStoreIn o (module_of wasm.now) memory_grow held.old held.new height stack.old stack.new) }
     ensures kept { IfOk result (λ _. Kept height stack.old.items stack.new.items) }
     ensures held { IsHeld held.new }
     ensures halted { IfOk result (λ o. IfHalted o (store_of held.new ≡ store_of held.old)) }

@@ -1,15 +1,11 @@
 // Numeric instructions.
 
-ghost use Rattle.std.specs.Prelude.{◌≡◌, ◌≤◌, ◌∷◌, [], List, length, IfOk, None};
-ghost use Rattle.mw_wasm.specs.declared.values.Value.{Value as WasmValue};
+ghost use Rattle.std.specs.Prelude.{◌≡◌, ◌≤◌, ◌∷◌, [], length, IfOk};
 ghost use Rattle.mw_wasm.specs.declared.numbers.NumOp.TheVariants as numbers;
-ghost use Rattle.mw_wasm.specs.Syntax.{PureModule, numeric as numeric_instruction};
-ghost use Rattle.mw_wasm.specs.Store.{Store};
-ghost use Rattle.mw_wasm.specs.Act.{act, on_result, gives};
+ghost use Rattle.mw_wasm.specs.Syntax.{numeric as numeric_instruction};
 ghost use Rattle.mw_wasm.specs.NumericTypes.{kind_of, operands_at, operands_of, OperandsFit};
-ghost use Rattle.mw_wasm.specs.Numerics.{number_result};
-ghost use Rattle.mw_exec.specs.Lists.{above, Kept};
-ghost use Rattle.mw_exec.specs.Acts.{Comes, takes_two_of};
+ghost use Rattle.mw_exec.specs.Lists.{Kept};
+ghost use Rattle.mw_exec.specs.Acts.{ActsOnOperands, Computes, takes_two_of};
 
 use crate::operands::{pop_of, push};
 use crate::outcome::Outcome;
@@ -58,7 +54,7 @@ fn takes_two(op: IntOp) -> bool
 #[inline(always)]
 pub fn number(stack: &mut Vec<Value>, height: usize, op: NumOp) -> Result<Outcome, AllocError>
     requires { height ≤ length stack.old.items }
-    ensures comes { IfOk result (λ o. (m : PureModule) (st : Store) (ls : List WasmValue) → Comes o (act m (numeric_instruction op) st ls (above height stack.old.items)) st ls (above height stack.new.items)) }
+    ensures comes { IfOk result (λ o. ActsOnOperands o (numeric_instruction op) height stack.old stack.new) }
     ensures kept { IfOk result (λ o. Kept height stack.old.items stack.new.items) }
 {
     match op {
@@ -74,7 +70,7 @@ pub fn number(stack: &mut Vec<Value>, height: usize, op: NumOp) -> Result<Outcom
 #[inline(always)]
 fn integer32(stack: &mut Vec<Value>, height: usize, o: IntOp) -> Result<Outcome, AllocError>
     requires { height ≤ length stack.old.items }
-    ensures comes { IfOk result (λ r. (m : PureModule) (st : Store) (ls : List WasmValue) → Comes r (act m (numeric_instruction (numbers.I32 o)) st ls (above height stack.old.items)) st ls (above height stack.new.items)) }
+    ensures comes { IfOk result (λ r. ActsOnOperands r (numeric_instruction (numbers.I32 o)) height stack.old stack.new) }
     ensures kept { IfOk result (λ _. Kept height stack.old.items stack.new.items) }
 {
     integer(stack, height, NumOp::I32(o), o, ValType::I32)
@@ -84,7 +80,7 @@ fn integer32(stack: &mut Vec<Value>, height: usize, o: IntOp) -> Result<Outcome,
 #[inline(always)]
 fn integer64(stack: &mut Vec<Value>, height: usize, o: IntOp) -> Result<Outcome, AllocError>
     requires { height ≤ length stack.old.items }
-    ensures comes { IfOk result (λ r. (m : PureModule) (st : Store) (ls : List WasmValue) → Comes r (act m (numeric_instruction (numbers.I64 o)) st ls (above height stack.old.items)) st ls (above height stack.new.items)) }
+    ensures comes { IfOk result (λ r. ActsOnOperands r (numeric_instruction (numbers.I64 o)) height stack.old stack.new) }
     ensures kept { IfOk result (λ _. Kept height stack.old.items stack.new.items) }
 {
     integer(stack, height, NumOp::I64(o), o, ValType::I64)
@@ -101,7 +97,7 @@ fn integer(
 ) -> Result<Outcome, AllocError>
     requires long { height ≤ length stack.old.items }
     requires operands { operands_of op ≡ operands_at (kind_of o) t }
-    ensures comes { IfOk result (λ o. (m : PureModule) (st : Store) (ls : List WasmValue) → Comes o (act m (numeric_instruction op) st ls (above height stack.old.items)) st ls (above height stack.new.items)) }
+    ensures comes { IfOk result (λ o. ActsOnOperands o (numeric_instruction op) height stack.old stack.new) }
     ensures kept { IfOk result (λ o. Kept height stack.old.items stack.new.items) }
 {
     if takes_two(o) {
@@ -116,7 +112,7 @@ fn integer(
 fn one(stack: &mut Vec<Value>, height: usize, op: NumOp, t: ValType) -> Result<Outcome, AllocError>
     requires long { height ≤ length stack.old.items }
     requires operands { operands_of op ≡ t ∷ [] }
-    ensures comes { IfOk result (λ o. (m : PureModule) (st : Store) (ls : List WasmValue) → Comes o (act m (numeric_instruction op) st ls (above height stack.old.items)) st ls (above height stack.new.items)) }
+    ensures comes { IfOk result (λ o. ActsOnOperands o (numeric_instruction op) height stack.old stack.new) }
     ensures kept { IfOk result (λ o. Kept height stack.old.items stack.new.items) }
 {
     let Some(x) = pop_of(stack, height, t) else {
@@ -130,7 +126,7 @@ fn one(stack: &mut Vec<Value>, height: usize, op: NumOp, t: ValType) -> Result<O
 fn two(stack: &mut Vec<Value>, height: usize, op: NumOp, t: ValType) -> Result<Outcome, AllocError>
     requires long { height ≤ length stack.old.items }
     requires operands { operands_of op ≡ t ∷ t ∷ [] }
-    ensures comes { IfOk result (λ o. (m : PureModule) (st : Store) (ls : List WasmValue) → Comes o (act m (numeric_instruction op) st ls (above height stack.old.items)) st ls (above height stack.new.items)) }
+    ensures comes { IfOk result (λ o. ActsOnOperands o (numeric_instruction op) height stack.old stack.new) }
     ensures kept { IfOk result (λ o. Kept height stack.old.items stack.new.items) }
 {
     let Some(y) = pop_of(stack, height, t) else {
@@ -153,7 +149,7 @@ fn computed(
 ) -> Result<Outcome, AllocError>
     requires long { height ≤ length stack.old.items }
     requires fit { OperandsFit op x y }
-    ensures comes { IfOk result (λ o. (st : Store) (ls : List WasmValue) → Comes o (on_result (number_result op x y) (λ z. gives st ls (z ∷ above height stack.old.items) None)) st ls (above height stack.new.items)) }
+    ensures comes { IfOk result (λ o. Computes o op x y height stack.old stack.new) }
     ensures kept { IfOk result (λ o. Kept height stack.old.items stack.new.items) }
 {
     match numeric(op, x, y) {

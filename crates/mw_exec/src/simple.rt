@@ -1,13 +1,17 @@
 // Instructions that work on operands, locals, globals and memory, and go on after themselves.
 
-ghost use Rattle.std.specs.Prelude.{◌≡◌, ◌≤◌, ◌∷◌, ◌++◌, [], List, length, take, drop, IfOk, IfErr, None};
-ghost use Rattle.mw_wasm.specs.declared.values.Value.{Value as WasmValue};
-ghost use Rattle.mw_wasm.specs.Syntax.{PureModule, drop_value as drop_instruction, select as select_instruction, local_get as local_get_instruction, local_set as local_set_instruction, local_tee as local_tee_instruction, global_get as global_get_instruction, global_set as global_set_instruction};
-ghost use Rattle.mw_wasm.specs.Store.{Store};
-ghost use Rattle.mw_wasm.specs.Act.{act};
-ghost use Rattle.mw_wasm.specs.Views.{instruction_of, module_of};
+ghost use Rattle.std.specs.Prelude.{◌≡◌, ◌≤◌, ◌∷◌, length, IfOk, IfErr};
+ghost use Rattle.mw_wasm.specs.Syntax.{
+  drop_value as drop_instruction,
+  global_get as global_get_instruction,
+  global_set as global_set_instruction,
+  local_get as local_get_instruction,
+  local_set as local_set_instruction,
+  local_tee as local_tee_instruction,
+  select as select_instruction,
+};
 ghost use Rattle.mw_exec.specs.Lists.{above, Kept};
-ghost use Rattle.mw_exec.specs.Acts.{Comes, Simply, IfHalted};
+ghost use Rattle.mw_exec.specs.Acts.{ActsOnLocals, ActsOnOperands, ActsOnStore, SimplyActs, SimplyOnLocals, IfHalted};
 ghost use Rattle.mw_exec.specs.Views.{store_of, IsHeld};
 
 use crate::held::Held;
@@ -32,7 +36,7 @@ pub fn simple(
     requires long { height ≤ length stack.old.items }
     requires local { base ≤ length locals.old.items }
     requires held { IsHeld held.old }
-    ensures simply { IfOk result (λ o. Simply o (module_of wasm.now) (instruction_of instruction.now) (store_of held.old) (drop base locals.old.items) (above height stack.old.items) (store_of held.new) (drop base locals.new.items) (above height stack.new.items)) }
+    ensures simply { IfOk result (λ o. SimplyActs o wasm.now instruction.now held.old held.new base locals.old locals.new height stack.old stack.new) }
     ensures kept { IfOk result (λ _. Kept height stack.old.items stack.new.items) }
     ensures local { IfOk result (λ _. Kept base locals.old.items locals.new.items) }
     ensures held { IsHeld held.new }
@@ -90,7 +94,7 @@ fn local_get(
 ) -> Result<Outcome, AllocError>
     requires long { height ≤ length stack.old.items }
     requires local { base ≤ length locals.now.items }
-    ensures comes { IfOk result (λ o. (m : PureModule) (st : Store) → Comes o (act m (local_get_instruction x) st (drop base locals.now.items) (above height stack.old.items)) st (drop base locals.now.items) (above height stack.new.items)) }
+    ensures comes { IfOk result (λ o. ActsOnLocals o (local_get_instruction x) base locals.now locals.now height stack.old stack.new) }
     ensures kept { IfOk result (λ _. Kept height stack.old.items stack.new.items) }
 {
     let count = locals.len() - base;
@@ -113,7 +117,7 @@ fn local_set(
 ) -> Outcome
     requires long { height ≤ length stack.old.items }
     requires local { base ≤ length locals.old.items }
-    ensures comes { (m : PureModule) (st : Store) → Comes result (act m (local_set_instruction x) st (drop base locals.old.items) (above height stack.old.items)) st (drop base locals.new.items) (above height stack.new.items) }
+    ensures comes { ActsOnLocals result (local_set_instruction x) base locals.old locals.new height stack.old stack.new }
     ensures kept { Kept height stack.old.items stack.new.items }
     ensures local { Kept base locals.old.items locals.new.items }
 {
@@ -139,7 +143,7 @@ fn local_tee(
 ) -> Result<Outcome, AllocError>
     requires long { height ≤ length stack.old.items }
     requires local { base ≤ length locals.old.items }
-    ensures simply { IfOk result (λ o. (m : PureModule) (st : Store) → Simply o m (local_tee_instruction x) st (drop base locals.old.items) (above height stack.old.items) st (drop base locals.new.items) (above height stack.new.items)) }
+    ensures simply { IfOk result (λ o. SimplyOnLocals o (local_tee_instruction x) base locals.old locals.new height stack.old stack.new) }
     ensures kept { IfOk result (λ _. Kept height stack.old.items stack.new.items) }
     ensures local { IfOk result (λ _. Kept base locals.old.items locals.new.items) }
 {
@@ -163,7 +167,7 @@ fn global_get(
     x: u32,
 ) -> Result<Outcome, AllocError>
     requires { height ≤ length stack.old.items }
-    ensures comes { IfOk result (λ o. (m : PureModule) (ls : List WasmValue) → Comes o (act m (global_get_instruction x) (store_of held.now) ls (above height stack.old.items)) (store_of held.now) ls (above height stack.new.items)) }
+    ensures comes { IfOk result (λ o. ActsOnStore o (global_get_instruction x) held.now held.now height stack.old stack.new) }
     ensures kept { IfOk result (λ _. Kept height stack.old.items stack.new.items) }
 {
     if (x as usize) < held.globals.len() {
@@ -178,7 +182,7 @@ fn global_get(
 fn global_set(held: &mut Held, stack: &mut Vec<Value>, height: usize, x: u32) -> Outcome
     requires long { height ≤ length stack.old.items }
     requires held { IsHeld held.old }
-    ensures comes { (m : PureModule) (ls : List WasmValue) → Comes result (act m (global_set_instruction x) (store_of held.old) ls (above height stack.old.items)) (store_of held.new) ls (above height stack.new.items) }
+    ensures comes { ActsOnStore result (global_set_instruction x) held.old held.new height stack.old stack.new }
     ensures kept { Kept height stack.old.items stack.new.items }
     ensures held { IsHeld held.new }
     ensures halted { IfHalted result (store_of held.new ≡ store_of held.old) }
@@ -196,7 +200,7 @@ fn global_set(held: &mut Held, stack: &mut Vec<Value>, height: usize, x: u32) ->
 
 fn drop_value(stack: &mut Vec<Value>, height: usize) -> Outcome
     requires { height ≤ length stack.old.items }
-    ensures comes { (m : PureModule) (st : Store) (ls : List WasmValue) → Comes result (act m drop_instruction st ls (above height stack.old.items)) st ls (above height stack.new.items) }
+    ensures comes { ActsOnOperands result drop_instruction height stack.old stack.new }
     ensures kept { Kept height stack.old.items stack.new.items }
 {
     match pop(stack, height) {
@@ -207,7 +211,7 @@ fn drop_value(stack: &mut Vec<Value>, height: usize) -> Outcome
 
 fn select(stack: &mut Vec<Value>, height: usize) -> Result<Outcome, AllocError>
     requires { height ≤ length stack.old.items }
-    ensures comes { IfOk result (λ o. (m : PureModule) (st : Store) (ls : List WasmValue) → Comes o (act m select_instruction st ls (above height stack.old.items)) st ls (above height stack.new.items)) }
+    ensures comes { IfOk result (λ o. ActsOnOperands o select_instruction height stack.old stack.new) }
     ensures kept { IfOk result (λ _. Kept height stack.old.items stack.new.items) }
 {
     let Some(n) = pop_i32(stack, height) else {

@@ -1,15 +1,12 @@
 -- The example modules are valid.
-use Rattle.std.proofs.Common.{◌≡◌, ℕ, true, List, [], ◌∷◌, ◌++◌, Some, refl, arith}
+use Rattle.std.proofs.Common.{◌≡◌, true, List, [], ◌∷◌, Some, refl, arith}
 use Rattle.std.specs.Prelude.{slice_get}
 use Rattle.mw_wasm.specs.declared.values.ValType.{ValType}
 use Rattle.mw_wasm.specs.declared.values.ValType.TheVariants.{I32, I64}
-use Rattle.mw_wasm.specs.Syntax.{Instruction, Code, br, next}
+use Rattle.mw_wasm.specs.Syntax.{Code, br, next}
 use Rattle.mw_wasm.specs.ExampleModules.{example_a, example_b, closure_type, init_type, cube_body, closure_body, call_body}
-use Rattle.mw_wasm.specs.Validity.{Context, HasType, CodeHasType, of_end, of_next, of_local_get, of_local_set, of_local_tee, of_global_get, of_global_set, of_const_i32, of_const_i64, of_numeric, of_store, of_load, of_br, of_call_indirect, context_of, IsValid}
-
--- an instruction on top of what stands below
-on : {c : Context} {i : Instruction} {code : Code} {outs : List ValType} (below taken left : List ValType) → HasType c i taken left → CodeHasType c code (below ++ left) outs → CodeHasType c (next i code) (below ++ taken) outs
-on below taken left h rest = of_next below taken left h refl rest
+use Rattle.mw_wasm.specs.Validity.{Context, CodeHasType, of_end, of_next, of_local_get, of_local_set, of_local_tee, of_global_get, of_global_set, of_const_i32, of_const_i64, of_numeric, of_store, of_load, of_br, of_call_indirect, context_of, IsValid}
+use Rattle.mw_wasm.proofs.ValidSteps.{on, heads}
 
 pub example_a_valid : IsValid example_a
 example_a_valid = record {
@@ -29,9 +26,6 @@ t = I64
 
 abbrev w : ValType
 w = I32
-
-heads : {a b : ℕ} {xs ys : List ℕ} → a ∷ xs ≡ b ∷ ys → a ≡ b
-heads e = cc
 
 -- a function of example_b that gives one i64
 abbrev within : List ValType → Context

@@ -1,5 +1,6 @@
 pub mod NumericOperands
 pub mod ExamplesValid
+pub mod ValidSteps
 pub mod ActLaws
 pub mod Acts
 pub mod Arguments

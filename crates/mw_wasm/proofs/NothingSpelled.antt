@@ -6,6 +6,7 @@ use Rattle.mw_wasm.specs.Syntax.{PureModule}
 use Rattle.mw_wasm.specs.Pieces.{Piece, Joined, ◌then◌, items, sized, exactly, byte}
 use Rattle.mw_wasm.specs.BinaryModules.{Spells, customs, section, import_section, header, function_type, function_kind, table, limits, global, export, element, function_code, data_segment, at_most_one}
 use Rattle.mw_wasm.specs.NothingSpelled.{begun, NothingIsSpelled}
+use Rattle.mw_wasm.proofs.ValidSteps.{heads}
 
 -- ids that a section may have
 abbrev Id : ℕ → Type 0
@@ -14,9 +15,6 @@ Id b = (b < 8) ⊎ ((8 < b) × (b < 12))
 -- what is spelled is empty or begins with such an id
 pub record Starts (P : List ℕ → Type 0) : Type 0 where
   pub id : (b : ℕ) (rest : List ℕ) → P (b ∷ rest) → Id b
-
-heads : {a b : ℕ} {xs ys : List ℕ} → a ∷ xs ≡ b ∷ ys → a ≡ b
-heads e = cc
 
 first_byte : {P : List ℕ → Type 0} (i b : ℕ) (rest : List ℕ) → Id i → Joined (byte i) P (b ∷ rest) → Id b
 first_byte i b rest h j = let k : b ∷ rest ≡ i ∷ j.back = j.whole ∙ ap (λ f. f ++ j.back) j.first in subst (λ x. Id x) (sym (heads k)) h

@@ -162,4 +162,5 @@ pub record SegmentRows : Type 0 where
   pub no_wrapping : instantiated (of_segments [] (segment_at (2 ^ 32 - 1) (5 ∷ []) ∷ [])) ≡ Err (segment 0)
   pub elements_first : instantiated (of_segments (element_at 2 (0 ∷ []) ∷ []) (segment_at 65537 [] ∷ [])) ≡ Err (element 0)
   pub later_over_earlier : IsOkAnd (instantiated (of_segments (element_at 0 (0 ∷ 0 ∷ []) ∷ element_at 1 (7 ∷ []) ∷ []) [])) (λ st. st.table ≡ Some 0 ∷ Some 7 ∷ [])
-  pub later_bytes : IsOkAnd (instantiated (of_segments [] (segment_at 10 (1 ∷ 2 ∷ []) ∷ segment_at 11 (3 ∷ []) ∷ []))) (λ st. (st.memory.byte_at 10 ≡ 1) × (st.memory.byte_at 11 ≡ 3) × (st.memory.byte_at 12 ≡ 0))
+  pub later_bytes : IsOkAnd (instantiated (of_segments [] (segment_at 10 (1 ∷ 2 ∷ []) ∷ segment_at 11 (3 ∷ []) ∷ [])))
+      (λ st. (st.memory.byte_at 10 ≡ 1) × (st.memory.byte_at 11 ≡ 3) × (st.memory.byte_at 12 ≡ 0))

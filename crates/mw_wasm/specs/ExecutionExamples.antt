@@ -46,4 +46,5 @@ StoreOutOfBoundsTraps =
 
 -- an indirect call of an element that holds no function traps before it looks at the units
 abbrev pub EmptyElementTraps : Type 0
-EmptyElementTraps = (m : PureModule) (st : Store) (i t : ℕ) → slice_get st.table i ≡ Some None → execution m 0 st (code_then (next (const_i32 i) (next (call_indirect t) end)) nothing) ≡ trapped Uninitialized st
+EmptyElementTraps = (m : PureModule) (st : Store) (i t : ℕ) → slice_get st.table i ≡ Some None
+    → execution m 0 st (code_then (next (const_i32 i) (next (call_indirect t) end)) nothing) ≡ trapped Uninitialized st

@@ -39,7 +39,8 @@ past = trapped OutOfBounds ∷ trapped OutOfBounds ∷ []
 
 pub record LoadRows : Type 0 where
   pub i32_load : loads load_op.I32 4 ≡ map i32 (0x7FFF7F80 ∷ 0x7FFF7F ∷ 0x80007FFF ∷ 0xFFFF8000 ∷ 0x7FFFFFFF ∷ 0x80000000 ∷ 0x88070605 ∷ []) ++ past
-  pub i64_load : loads load_op.I64 8 ≡ map i64 (0xFFFF80007FFF7F80 ∷ 0xFFFFFF80007FFF7F ∷ 0x7FFFFFFF80007FFF ∷ 0x7FFFFFFF8000 ∷ 0x800000007FFFFFFF ∷ 0x403020180000000 ∷ 0x8807060504030201 ∷ []) ++ past
+  pub i64_load : loads load_op.I64 8
+      ≡ map i64 (0xFFFF80007FFF7F80 ∷ 0xFFFFFF80007FFF7F ∷ 0x7FFFFFFF80007FFF ∷ 0x7FFFFFFF8000 ∷ 0x800000007FFFFFFF ∷ 0x403020180000000 ∷ 0x8807060504030201 ∷ []) ++ past
   pub i32_load8_s : loads load_op.I32S8 1 ≡ map i32 (0xFFFFFF80 ∷ 0x7F ∷ 0xFFFFFFFF ∷ 0 ∷ 0xFFFFFFFF ∷ 0 ∷ 0xFFFFFF88 ∷ []) ++ past
   pub i32_load8_u : loads load_op.I32U8 1 ≡ map i32 (0x80 ∷ 0x7F ∷ 0xFF ∷ 0 ∷ 0xFF ∷ 0 ∷ 0x88 ∷ []) ++ past
   pub i32_load16_s : loads load_op.I32S16 2 ≡ map i32 (0x7F80 ∷ 0xFFFFFF7F ∷ 0x7FFF ∷ 0xFFFF8000 ∷ 0xFFFFFFFF ∷ 0 ∷ 0xFFFF8807 ∷ []) ++ past
@@ -85,13 +86,27 @@ abbrev pub unwritten : List (Outcome × List ℕ)
 unwritten = (trapped OutOfBounds, 0 ∷ 1 ∷ 2 ∷ 3 ∷ 4 ∷ 5 ∷ 6 ∷ 7 ∷ 0x88 ∷ []) ∷ (trapped OutOfBounds, 0 ∷ 1 ∷ 2 ∷ 3 ∷ 4 ∷ 5 ∷ 6 ∷ 7 ∷ 0x88 ∷ []) ∷ []
 
 pub record StoreRows : Type 0 where
-  pub i32_store : stores store_op.I32 (value.I32 0xA4A3A2A1) 4 ≡ (done, 0 ∷ 0xA1 ∷ 0xA2 ∷ 0xA3 ∷ 0xA4 ∷ 0 ∷ 0x80 ∷ 0xFF ∷ 0xFF ∷ 0xFF ∷ []) ∷ (done, 0 ∷ 1 ∷ 2 ∷ 3 ∷ 4 ∷ 0xA1 ∷ 0xA2 ∷ 0xA3 ∷ 0xA4 ∷ []) ∷ unwritten
-  pub i64_store : stores store_op.I64 (value.I64 0xA8A7A6A5A4A3A2A1) 8 ≡ (done, 0 ∷ 0xA1 ∷ 0xA2 ∷ 0xA3 ∷ 0xA4 ∷ 0xA5 ∷ 0xA6 ∷ 0xA7 ∷ 0xA8 ∷ 0xFF ∷ []) ∷ (done, 0 ∷ 0xA1 ∷ 0xA2 ∷ 0xA3 ∷ 0xA4 ∷ 0xA5 ∷ 0xA6 ∷ 0xA7 ∷ 0xA8 ∷ []) ∷ unwritten
-  pub i32_store8 : stores store_op.I32To8 (value.I32 0xA4A3A2A1) 1 ≡ (done, 0 ∷ 0xA1 ∷ 0x7F ∷ 0xFF ∷ 0x7F ∷ 0 ∷ 0x80 ∷ 0xFF ∷ 0xFF ∷ 0xFF ∷ []) ∷ (done, 0 ∷ 1 ∷ 2 ∷ 3 ∷ 4 ∷ 5 ∷ 6 ∷ 7 ∷ 0xA1 ∷ []) ∷ unwritten
-  pub i32_store16 : stores store_op.I32To16 (value.I32 0xA4A3A2A1) 2 ≡ (done, 0 ∷ 0xA1 ∷ 0xA2 ∷ 0xFF ∷ 0x7F ∷ 0 ∷ 0x80 ∷ 0xFF ∷ 0xFF ∷ 0xFF ∷ []) ∷ (done, 0 ∷ 1 ∷ 2 ∷ 3 ∷ 4 ∷ 5 ∷ 6 ∷ 0xA1 ∷ 0xA2 ∷ []) ∷ unwritten
-  pub i64_store8 : stores store_op.I64To8 (value.I64 0xA8A7A6A5A4A3A2A1) 1 ≡ (done, 0 ∷ 0xA1 ∷ 0x7F ∷ 0xFF ∷ 0x7F ∷ 0 ∷ 0x80 ∷ 0xFF ∷ 0xFF ∷ 0xFF ∷ []) ∷ (done, 0 ∷ 1 ∷ 2 ∷ 3 ∷ 4 ∷ 5 ∷ 6 ∷ 7 ∷ 0xA1 ∷ []) ∷ unwritten
-  pub i64_store16 : stores store_op.I64To16 (value.I64 0xA8A7A6A5A4A3A2A1) 2 ≡ (done, 0 ∷ 0xA1 ∷ 0xA2 ∷ 0xFF ∷ 0x7F ∷ 0 ∷ 0x80 ∷ 0xFF ∷ 0xFF ∷ 0xFF ∷ []) ∷ (done, 0 ∷ 1 ∷ 2 ∷ 3 ∷ 4 ∷ 5 ∷ 6 ∷ 0xA1 ∷ 0xA2 ∷ []) ∷ unwritten
-  pub i64_store32 : stores store_op.I64To32 (value.I64 0xA8A7A6A5A4A3A2A1) 4 ≡ (done, 0 ∷ 0xA1 ∷ 0xA2 ∷ 0xA3 ∷ 0xA4 ∷ 0 ∷ 0x80 ∷ 0xFF ∷ 0xFF ∷ 0xFF ∷ []) ∷ (done, 0 ∷ 1 ∷ 2 ∷ 3 ∷ 4 ∷ 0xA1 ∷ 0xA2 ∷ 0xA3 ∷ 0xA4 ∷ []) ∷ unwritten
+  pub i32_store : stores store_op.I32 (value.I32 0xA4A3A2A1) 4
+      ≡ (done, 0 ∷ 0xA1 ∷ 0xA2 ∷ 0xA3 ∷ 0xA4 ∷ 0 ∷ 0x80 ∷ 0xFF ∷ 0xFF ∷ 0xFF ∷ [])
+      ∷ (done, 0 ∷ 1 ∷ 2 ∷ 3 ∷ 4 ∷ 0xA1 ∷ 0xA2 ∷ 0xA3 ∷ 0xA4 ∷ []) ∷ unwritten
+  pub i64_store : stores store_op.I64 (value.I64 0xA8A7A6A5A4A3A2A1) 8
+      ≡ (done, 0 ∷ 0xA1 ∷ 0xA2 ∷ 0xA3 ∷ 0xA4 ∷ 0xA5 ∷ 0xA6 ∷ 0xA7 ∷ 0xA8 ∷ 0xFF ∷ [])
+      ∷ (done, 0 ∷ 0xA1 ∷ 0xA2 ∷ 0xA3 ∷ 0xA4 ∷ 0xA5 ∷ 0xA6 ∷ 0xA7 ∷ 0xA8 ∷ []) ∷ unwritten
+  pub i32_store8 : stores store_op.I32To8 (value.I32 0xA4A3A2A1) 1
+      ≡ (done, 0 ∷ 0xA1 ∷ 0x7F ∷ 0xFF ∷ 0x7F ∷ 0 ∷ 0x80 ∷ 0xFF ∷ 0xFF ∷ 0xFF ∷ [])
+      ∷ (done, 0 ∷ 1 ∷ 2 ∷ 3 ∷ 4 ∷ 5 ∷ 6 ∷ 7 ∷ 0xA1 ∷ []) ∷ unwritten
+  pub i32_store16 : stores store_op.I32To16 (value.I32 0xA4A3A2A1) 2
+      ≡ (done, 0 ∷ 0xA1 ∷ 0xA2 ∷ 0xFF ∷ 0x7F ∷ 0 ∷ 0x80 ∷ 0xFF ∷ 0xFF ∷ 0xFF ∷ [])
+      ∷ (done, 0 ∷ 1 ∷ 2 ∷ 3 ∷ 4 ∷ 5 ∷ 6 ∷ 0xA1 ∷ 0xA2 ∷ []) ∷ unwritten
+  pub i64_store8 : stores store_op.I64To8 (value.I64 0xA8A7A6A5A4A3A2A1) 1
+      ≡ (done, 0 ∷ 0xA1 ∷ 0x7F ∷ 0xFF ∷ 0x7F ∷ 0 ∷ 0x80 ∷ 0xFF ∷ 0xFF ∷ 0xFF ∷ [])
+      ∷ (done, 0 ∷ 1 ∷ 2 ∷ 3 ∷ 4 ∷ 5 ∷ 6 ∷ 7 ∷ 0xA1 ∷ []) ∷ unwritten
+  pub i64_store16 : stores store_op.I64To16 (value.I64 0xA8A7A6A5A4A3A2A1) 2
+      ≡ (done, 0 ∷ 0xA1 ∷ 0xA2 ∷ 0xFF ∷ 0x7F ∷ 0 ∷ 0x80 ∷ 0xFF ∷ 0xFF ∷ 0xFF ∷ [])
+      ∷ (done, 0 ∷ 1 ∷ 2 ∷ 3 ∷ 4 ∷ 5 ∷ 6 ∷ 0xA1 ∷ 0xA2 ∷ []) ∷ unwritten
+  pub i64_store32 : stores store_op.I64To32 (value.I64 0xA8A7A6A5A4A3A2A1) 4
+      ≡ (done, 0 ∷ 0xA1 ∷ 0xA2 ∷ 0xA3 ∷ 0xA4 ∷ 0 ∷ 0x80 ∷ 0xFF ∷ 0xFF ∷ 0xFF ∷ [])
+      ∷ (done, 0 ∷ 1 ∷ 2 ∷ 3 ∷ 4 ∷ 0xA1 ∷ 0xA2 ∷ 0xA3 ∷ 0xA4 ∷ []) ∷ unwritten
 
 -- growth of a memory of so many pages by each of these, each on a new instance
 abbrev pub growths : ℕ → Option ℕ → List ℕ → List Outcome

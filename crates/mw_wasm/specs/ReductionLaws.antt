@@ -49,7 +49,9 @@ RunIsExecution = (m : PureModule) (n : ℕ) (c : Config) → top_locals c ≡ []
 
 -- with more units an execution that ends does the same, and has as many more left
 abbrev pub MoreUnitsWhereItEnds : Type 0
-MoreUnitsWhereItEnds = (m : PureModule) (n k : ℕ) (st st' : Store) (s : Sequence) (vs : List Value) (left : ℕ) → execution m n st s ≡ ended st' vs left → execution m (n + k) st s ≡ ended st' vs (left + k)
+MoreUnitsWhereItEnds = (m : PureModule) (n k : ℕ) (st st' : Store) (s : Sequence) (vs : List Value) (left : ℕ)
+    → execution m n st s ≡ ended st' vs left
+    → execution m (n + k) st s ≡ ended st' vs (left + k)
 
 -- and one that traps traps
 abbrev pub MoreUnitsWhereItTraps : Type 0

@@ -62,10 +62,16 @@ pub record OutermostFrameIsTyped (n : ℕ) (ks us : List Value) (rest : Code) (g
 abbrev pub SurroundingsAreTyped : PureModule → List Around → List (List ValType) → List ValType → List ValType → List ValType → List ValType → Type 0
 SurroundingsAreTyped m [] labels ls rs gives final = ⊥
 SurroundingsAreTyped m (in_label n k vs rest ∷ around) labels ls rs gives final =
-    (takes : List ValType) × (others : List (List ValType)) × (outs : List ValType) × (labels ≡ takes ∷ others) × LabelIsTyped (context_inside m others ls rs) n k vs rest takes gives outs × SurroundingsAreTyped m around others ls rs outs final
+    (takes : List ValType) × (others : List (List ValType)) × (outs : List ValType)
+    × (labels ≡ takes ∷ others)
+    × LabelIsTyped (context_inside m others ls rs) n k vs rest takes gives outs
+    × SurroundingsAreTyped m around others ls rs outs final
 SurroundingsAreTyped m (in_frame n ks us rest ∷ []) labels ls rs gives final = (labels ≡ []) × (gives ≡ rs) × OutermostFrameIsTyped n ks us rest gives final
 SurroundingsAreTyped m (in_frame n ks us rest ∷ a ∷ around) labels ls rs gives final =
-    (others : List (List ValType)) × (ks' : List ValType) × (rs' : List ValType) × (outs : List ValType) × (labels ≡ []) × (gives ≡ rs) × FrameIsTyped (context_inside m others ks' rs') n ks us rest gives outs × SurroundingsAreTyped m (a ∷ around) others ks' rs' outs final
+    (others : List (List ValType)) × (ks' : List ValType) × (rs' : List ValType) × (outs : List ValType)
+    × (labels ≡ []) × (gives ≡ rs)
+    × FrameIsTyped (context_inside m others ks' rs') n ks us rest gives outs
+    × SurroundingsAreTyped m (a ∷ around) others ks' rs' outs final
 
 -- thread typing: code in hand, in a function
 pub record ThreadIsTyped (m : PureModule) (final : List ValType) (c : Config) : Type 0 where

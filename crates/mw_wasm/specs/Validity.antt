@@ -60,13 +60,19 @@ mutual
     of_select : {c : Context} {t : ValType} → HasType c select (t ∷ t ∷ I32 ∷ []) (t ∷ [])
     of_block : {c : Context} {t : Option ValType} {body : Code} {outs : List ValType} → outs ≡ results_of t → CodeHasType (with_label outs c) body [] outs → HasType c (block t body) [] outs
     of_loop : {c : Context} {t : Option ValType} {body : Code} {outs : List ValType} → outs ≡ results_of t → CodeHasType (with_label [] c) body [] outs → HasType c (loop t body) [] outs
-    of_if : {c : Context} {t : Option ValType} {a b : Code} {outs : List ValType} → outs ≡ results_of t → CodeHasType (with_label outs c) a [] outs → CodeHasType (with_label outs c) b [] outs → HasType c (cond t a b) (I32 ∷ []) outs
+    of_if : {c : Context} {t : Option ValType} {a b : Code} {outs : List ValType}
+        → outs ≡ results_of t → CodeHasType (with_label outs c) a [] outs → CodeHasType (with_label outs c) b [] outs
+        → HasType c (cond t a b) (I32 ∷ []) outs
     of_br : {c : Context} {l : ℕ} {ins outs : List ValType} (below label : List ValType) → slice_get c.labels l ≡ Some label → ins ≡ below ++ label → HasType c (br l) ins outs
     of_br_if : {c : Context} {l : ℕ} {ins label : List ValType} → slice_get c.labels l ≡ Some label → ins ≡ label ++ I32 ∷ [] → HasType c (br_if l) ins label
-    of_br_table : {c : Context} {ls : List ℕ} {l : ℕ} {ins outs : List ValType} (below label : List ValType) → AllByRecursion (λ l. slice_get c.labels l ≡ Some label) (ls ++ l ∷ []) → ins ≡ below ++ label ++ I32 ∷ [] → HasType c (br_table ls l) ins outs
+    of_br_table : {c : Context} {ls : List ℕ} {l : ℕ} {ins outs : List ValType} (below label : List ValType)
+        → AllByRecursion (λ l. slice_get c.labels l ≡ Some label) (ls ++ l ∷ []) → ins ≡ below ++ label ++ I32 ∷ []
+        → HasType c (br_table ls l) ins outs
     of_return : {c : Context} {ins outs : List ValType} (below : List ValType) → ins ≡ below ++ c.results → HasType c give_back ins outs
     of_call : {c : Context} {f : ℕ} {ins outs : List ValType} (t : FuncType) → HasFunction c f t → ins ≡ t.params → outs ≡ t.results → HasType c (call f) ins outs
-    of_call_indirect : {c : Context} {k : ℕ} {ins outs : List ValType} (t : FuncType) → IsSome c.table → slice_get c.types k ≡ Some t → ins ≡ t.params ++ I32 ∷ [] → outs ≡ t.results → HasType c (call_indirect k) ins outs
+    of_call_indirect : {c : Context} {k : ℕ} {ins outs : List ValType} (t : FuncType)
+        → IsSome c.table → slice_get c.types k ≡ Some t → ins ≡ t.params ++ I32 ∷ [] → outs ≡ t.results
+        → HasType c (call_indirect k) ins outs
     of_local_get : {c : Context} {x : ℕ} {t : ValType} → slice_get c.locals x ≡ Some t → HasType c (local_get x) [] (t ∷ [])
     of_local_set : {c : Context} {x : ℕ} {t : ValType} → slice_get c.locals x ≡ Some t → HasType c (local_set x) (t ∷ []) []
     of_local_tee : {c : Context} {x : ℕ} {t : ValType} → slice_get c.locals x ≡ Some t → HasType c (local_tee x) (t ∷ []) (t ∷ [])
@@ -82,7 +88,9 @@ mutual
 
   pub data CodeHasType : Context → Code → List ValType → List ValType → Type 0 where
     of_end : {c : Context} {ts : List ValType} → CodeHasType c end ts ts
-    of_next : {c : Context} {i : Instruction} {code : Code} {ins outs : List ValType} (below taken left : List ValType) → HasType c i taken left → ins ≡ below ++ taken → CodeHasType c code (below ++ left) outs → CodeHasType c (next i code) ins outs
+    of_next : {c : Context} {i : Instruction} {code : Code} {ins outs : List ValType} (below taken left : List ValType)
+        → HasType c i taken left → ins ≡ below ++ taken → CodeHasType c code (below ++ left) outs
+        → CodeHasType c (next i code) ins outs
 
 -- a minimum is at most its maximum, and both are at most this
 abbrev pub AreLimits : ℕ → Limits → Type 0

@@ -13,4 +13,6 @@ CubeModuleIsValid = IsValid example_b
 
 -- code after a branch may take any operands: what has a type has one from the label's operands, after the branch
 abbrev pub CodeAfterBranchHasAnyOperands : Type 0
-CodeAfterBranchHasAnyOperands = (c : Context) (code : Code) (label ins outs : List ValType) → slice_get c.labels 0 ≡ Some label → CodeHasType c code ins outs → CodeHasType c (next (br 0) code) label outs
+CodeAfterBranchHasAnyOperands = (c : Context) (code : Code) (label ins outs : List ValType)
+    → slice_get c.labels 0 ≡ Some label → CodeHasType c code ins outs
+    → CodeHasType c (next (br 0) code) label outs

@@ -1,12 +1,16 @@
 // Instances of one module, whose segments begin at various places, and the invocation of its functions.
 
-ghost use Rattle.std.specs.Prelude.{◌≡◌, ◌∷◌, [], map, Some, None, codes, IfOk};
-ghost use Rattle.mw_wasm.specs.declared.values.ValType.TheVariants.{I32, I64};
-ghost use Rattle.mw_wasm.specs.declared.numbers.IntOp.TheVariants.{Add};
-ghost use Rattle.mw_wasm.specs.declared.numbers.NumOp.TheVariants as number;
-ghost use Rattle.mw_wasm.specs.declared.modules.Exported.TheVariants as exported;
-ghost use Rattle.mw_wasm.specs.Syntax.{const_i32, const_i64, numeric, end, next};
+ghost use Rattle.std.specs.Prelude.{◌≡◌, map, IfOk};
 ghost use Rattle.mw_wasm.specs.Views.{code_of, element_of, export_of, function_of, segment_of};
+ghost use Rattle.mw_exec.specs.SegmentExamples.{
+  constant_code,
+  example_elements,
+  example_exports,
+  example_functions,
+  example_segments,
+  example_types,
+  sum_code,
+};
 
 use crate::{Ended, Instance, InstanceFault};
 use mw_validate::Valid;
@@ -20,7 +24,7 @@ use std::sync::Arc;
 
 /// From nothing to nothing, to an i32 and to an i64.
 fn types(alloc: Global) -> Result<FuncTypes, AllocError>
-    ensures { IfOk result (λ types. types ≡ record { params = []; results = [] } ∷ record { params = []; results = I32 ∷ [] } ∷ record { params = []; results = I64 ∷ [] } ∷ []) }
+    ensures { IfOk result (λ types. types ≡ example_types) }
 {
     let mut small = ValTypes::new(alloc);
     small.push(ValType::I32)?;
@@ -44,7 +48,7 @@ fn types(alloc: Global) -> Result<FuncTypes, AllocError>
 
 /// 1 + (2 + (2^64 - 1)).
 fn sum(alloc: Global) -> Result<Instrs, AllocError>
-    ensures { IfOk result (λ c. code_of c ≡ next (const_i64 1) (next (const_i64 2) (next (const_i64 18446744073709551615) (next (numeric (number.I64 Add)) (next (numeric (number.I64 Add)) end))))) }
+    ensures { IfOk result (λ c. code_of c ≡ sum_code) }
 {
     let mut body = Instrs::new(alloc);
     body.push(Instr::ConstI64(1))?;
@@ -56,7 +60,7 @@ fn sum(alloc: Global) -> Result<Instrs, AllocError>
 }
 
 fn constant(alloc: Global, n: u32) -> Result<Instrs, AllocError>
-    ensures { IfOk result (λ c. code_of c ≡ next (const_i32 n) end) }
+    ensures { IfOk result (λ c. code_of c ≡ constant_code n) }
 {
     let mut body = Instrs::new(alloc);
     body.push(Instr::ConstI32(n))?;
@@ -64,7 +68,7 @@ fn constant(alloc: Global, n: u32) -> Result<Instrs, AllocError>
 }
 
 fn funcs(alloc: Global) -> Result<Funcs, AllocError>
-    ensures { IfOk result (λ funcs. map function_of funcs ≡ record { kind = 0; locals = []; body = end } ∷ record { kind = 1; locals = []; body = next (const_i32 4294967295) end } ∷ record { kind = 2; locals = []; body = next (const_i64 1) (next (const_i64 2) (next (const_i64 18446744073709551615) (next (numeric (number.I64 Add)) (next (numeric (number.I64 Add)) end)))) } ∷ []) }
+    ensures { IfOk result (λ funcs. map function_of funcs ≡ example_functions) }
 {
     let mut funcs = Funcs::new(alloc);
     funcs.push(Func {
@@ -86,7 +90,7 @@ fn funcs(alloc: Global) -> Result<Funcs, AllocError>
 }
 
 fn exports(alloc: Global) -> Result<Exports, AllocError>
-    ensures { IfOk result (λ exports. map export_of exports ≡ record { name = codes "m"; what = exported.Memory 0 } ∷ record { name = codes "none"; what = exported.Func 0 } ∷ record { name = codes "word"; what = exported.Func 1 } ∷ record { name = codes "init"; what = exported.Func 2 } ∷ []) }
+    ensures { IfOk result (λ exports. map export_of exports ≡ example_exports) }
 {
     let mut memory = Octets::new(alloc);
     memory.push(b'm')?;
@@ -127,7 +131,7 @@ fn exports(alloc: Global) -> Result<Exports, AllocError>
 
 /// Two functions from the one place on, and none from the other on.
 fn elements(alloc: Global, first: u32, second: u32) -> Result<Elements, AllocError>
-    ensures { IfOk result (λ elements. map element_of elements ≡ record { offset = next (const_i32 first) end; funcs = 0 ∷ 2 ∷ [] } ∷ record { offset = next (const_i32 second) end; funcs = [] } ∷ []) }
+    ensures { IfOk result (λ elements. map element_of elements ≡ example_elements first second) }
 {
     let mut funcs = Indices::new(alloc);
     funcs.push(0)?;
@@ -146,7 +150,7 @@ fn elements(alloc: Global, first: u32, second: u32) -> Result<Elements, AllocErr
 
 /// Two bytes from the one place on, and none from the other on.
 fn segments(alloc: Global, first: u32, second: u32) -> Result<Segments, AllocError>
-    ensures { IfOk result (λ segments. map segment_of segments ≡ record { offset = next (const_i32 first) end; bytes = 7 ∷ 8 ∷ [] } ∷ record { offset = next (const_i32 second) end; bytes = [] } ∷ []) }
+    ensures { IfOk result (λ segments. map segment_of segments ≡ example_segments first second) }
 {
     let mut bytes = Octets::new(alloc);
     bytes.push(7)?;
