@@ -6,7 +6,7 @@ use Rattle.mw_meaning.specs.KernelMeaning as k
 use Rattle.mw_ir.specs.Ir as i
 use Rattle.mw_ir.specs.Ir.{IrFunc}
 use Rattle.mw_conv.specs.Represents.{Grows, Stands}
-use Rattle.mw_conv.specs.Convert.{converted_functions, converted_body}
+use Rattle.mw_conv.specs.Convert.{converted_functions, converted_outside}
 
 pub record Given (t : List IrFunc) (n : ℕ) (h0 : List ℤ) (v : KernelValue) (m words : ℕ) (b : i.Ended) : Type 0 where
   pub w : ℤ
@@ -27,6 +27,10 @@ Holds t n h0 (k.stops (bound l)) b = b ≡ i.stops (bound l)
 pub record Agrees (t : List IrFunc) (n : ℕ) (h0 : List ℤ) (a : k.Ended) (b : i.Ended) : Type 0 where
   pub holds : Holds t n h0 a b
 
--- with any units and on any heap the converted code means what the kernel meaning does from that many words on
+-- with any units and on any heap the body outside these functions means what the kernel meaning does from that many words on
+abbrev pub MeansAs : List IrFunc → IrFunc → Expression → Type 0
+MeansAs t f c = (n : ℕ) (h : List ℤ) → Agrees t n h (k.kernel_meaning n (length h) c) (i.means t n h i.outside f.body)
+
+-- converted code means what the code does
 abbrev pub ConversionKeepsMeaning : Type 0
-ConversionKeepsMeaning = (c : Expression) (n : ℕ) (h : List ℤ) → Agrees (converted_functions c) n h (k.kernel_meaning n (length h) c) (i.means (converted_functions c) n h i.outside (converted_body c))
+ConversionKeepsMeaning = (c : Expression) → MeansAs (converted_functions c) (converted_outside c) c

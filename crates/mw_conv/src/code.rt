@@ -1,12 +1,12 @@
 // The code of a term whose functions were found.
 
-ghost use Rattle.std.specs.Prelude.{◌≡◌, ◌+◌, ◌*◌, ◌^◌, ◌<◌, ◌≤◌, ◌++◌, ℕ, All, map, reverse, length, IfOk};
+ghost use Rattle.std.specs.Prelude.{◌≡◌, ◌+◌, ◌*◌, ◌^◌, ◌<◌, ◌≤◌, ◌++◌, ℕ, All, length, IfOk};
 ghost use Rattle.mw_term.specs.Terms.{expression_of, size};
 ghost use Rattle.mw_term.specs.Closed.{ClosedBelow};
-ghost use Rattle.mw_ir.specs.Views.{ir_of, ir_func_of};
-ghost use Rattle.mw_conv.specs.Convert.{code, functions, funs};
-ghost use Rattle.mw_conv.specs.Contexts.{place_at};
-ghost use Rattle.mw_conv.specs.Finding.{all_found, function, own_places, freeing, places, EndsWith};
+ghost use Rattle.mw_ir.specs.Views.{ir_of};
+ghost use Rattle.mw_conv.specs.Convert.{funs};
+ghost use Rattle.mw_conv.specs.Contexts.{found_in, code_in, AreAdded};
+ghost use Rattle.mw_conv.specs.Finding.{function, own_places, freeing, places, EndsWith};
 
 use crate::found::{Found, Levels};
 use mw_ir::{Ir, IrFunc, IrFuncs, Place, Places};
@@ -30,12 +30,12 @@ pub(crate) fn code_of(
     requires slots { slot + size (expression_of term.now) < 2 ^ 32 }
     requires binders { length context.old.items + 2 * size (expression_of term.now) < 2 ^ 32 }
     requires left { funs (expression_of term.now) ≤ left.old }
-    requires found { EndsWith found.old.items (all_found (expression_of term.now) (length context.old.items)) }
+    requires found { EndsWith found.old.items (found_in (expression_of term.now) context.old.items) }
     ensures same { IfOk result (λ _. context.new.items ≡ context.old.items) }
     ensures left { IfOk result (λ _. left.old ≡ left.new + funs (expression_of term.now)) }
-    ensures found { IfOk result (λ _. found.old.items ≡ found.new.items ++ all_found (expression_of term.now) (length context.old.items)) }
-    ensures code { IfOk result (λ r. ir_of r ≡ code (expression_of term.now) left.new (length context.old.items) slot (place_at context.old.items)) }
-    ensures funcs { IfOk result (λ _. map ir_func_of funcs.new ≡ map ir_func_of funcs.old ++ reverse (functions (expression_of term.now) left.new (length context.old.items))) }
+    ensures found { IfOk result (λ _. found.old.items ≡ found.new.items ++ found_in (expression_of term.now) context.old.items) }
+    ensures code { IfOk result (λ r. ir_of r ≡ code_in (expression_of term.now) left.new context.old.items slot) }
+    ensures funcs { IfOk result (λ _. AreAdded funcs.old funcs.new (expression_of term.now) left.new context.old.items) }
 {
     match term {
         Term::Int(n) => Ok(Ir::Int(*n)),
@@ -92,12 +92,12 @@ fn box_of(
     requires slots { slot + size (expression_of term.now) < 2 ^ 32 }
     requires binders { length context.old.items + 2 * size (expression_of term.now) < 2 ^ 32 }
     requires left { funs (expression_of term.now) ≤ left.old }
-    requires found { EndsWith found.old.items (all_found (expression_of term.now) (length context.old.items)) }
+    requires found { EndsWith found.old.items (found_in (expression_of term.now) context.old.items) }
     ensures same { IfOk result (λ _. context.new.items ≡ context.old.items) }
     ensures left { IfOk result (λ _. left.old ≡ left.new + funs (expression_of term.now)) }
-    ensures found { IfOk result (λ _. found.old.items ≡ found.new.items ++ all_found (expression_of term.now) (length context.old.items)) }
-    ensures code { IfOk result (λ r. ir_of r.value ≡ code (expression_of term.now) left.new (length context.old.items) slot (place_at context.old.items)) }
-    ensures funcs { IfOk result (λ _. map ir_func_of funcs.new ≡ map ir_func_of funcs.old ++ reverse (functions (expression_of term.now) left.new (length context.old.items))) }
+    ensures found { IfOk result (λ _. found.old.items ≡ found.new.items ++ found_in (expression_of term.now) context.old.items) }
+    ensures code { IfOk result (λ r. ir_of r.value ≡ code_in (expression_of term.now) left.new context.old.items slot) }
+    ensures funcs { IfOk result (λ _. AreAdded funcs.old funcs.new (expression_of term.now) left.new context.old.items) }
 {
     Ok(Box::new(
         alloc,
@@ -119,11 +119,11 @@ fn closure_of(
     requires closed { ClosedBelow (length context.now.items) (function recursive (expression_of body.now)) }
     requires binders { length context.now.items + 2 * size (function recursive (expression_of body.now)) < 2 ^ 32 }
     requires left { funs (function recursive (expression_of body.now)) ≤ left.old }
-    requires found { EndsWith found.old.items (all_found (function recursive (expression_of body.now)) (length context.now.items)) }
+    requires found { EndsWith found.old.items (found_in (function recursive (expression_of body.now)) context.now.items) }
     ensures left { IfOk result (λ _. left.old ≡ left.new + funs (function recursive (expression_of body.now))) }
-    ensures found { IfOk result (λ _. found.old.items ≡ found.new.items ++ all_found (function recursive (expression_of body.now)) (length context.now.items)) }
-    ensures code { IfOk result (λ r. (slot : ℕ) → ir_of r ≡ code (function recursive (expression_of body.now)) left.new (length context.now.items) slot (place_at context.now.items)) }
-    ensures funcs { IfOk result (λ _. map ir_func_of funcs.new ≡ map ir_func_of funcs.old ++ reverse (functions (function recursive (expression_of body.now)) left.new (length context.now.items))) }
+    ensures found { IfOk result (λ _. found.old.items ≡ found.new.items ++ found_in (function recursive (expression_of body.now)) context.now.items) }
+    ensures code { IfOk result (λ r. (slot : ℕ) → ir_of r ≡ code_in (function recursive (expression_of body.now)) left.new context.now.items slot) }
+    ensures funcs { IfOk result (λ _. AreAdded funcs.old funcs.new (function recursive (expression_of body.now)) left.new context.now.items) }
 {
     let Some(Found { slots, free }) = found.pop() else {
         unreachable!()

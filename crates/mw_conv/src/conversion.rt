@@ -1,14 +1,12 @@
 // Conversion.
 
-ghost use Rattle.std.specs.Prelude.{◌≡◌, ◌+◌, ℕ, ℤ, List, [], length, map, true, IfOk};
+ghost use Rattle.std.specs.Prelude.{◌≡◌, map, true, IfOk};
 ghost use Rattle.mw_term.specs.Terms.{expression_of};
 ghost use Rattle.mw_term.specs.Closed.{IsClosed};
 ghost use Rattle.mw_term.specs.Limits.{within_limits, LiteralsFit};
-ghost use Rattle.mw_meaning.specs.KernelMeaning.{kernel_meaning};
-ghost use Rattle.mw_ir.specs.Ir.{means, outside};
 ghost use Rattle.mw_ir.specs.Views.{ir_func_of};
 ghost use Rattle.mw_ir.specs.Ranges.{IsConverted};
-ghost use Rattle.mw_conv.specs.Agreement.{Agrees};
+ghost use Rattle.mw_conv.specs.Agreement.{MeansAs};
 ghost use Rattle.mw_conv.specs.Convert.{converted_functions, converted_outside};
 
 use crate::code::code_of;
@@ -24,7 +22,7 @@ pub fn convert(alloc: Global, code: &Term) -> Result<Converted, AllocError>
     requires limits { within_limits (expression_of code.now) ≡ true }
     ensures functions { IfOk result (λ r. map ir_func_of r.funcs ≡ converted_functions (expression_of code.now)) }
     ensures body { IfOk result (λ r. ir_func_of r.body ≡ converted_outside (expression_of code.now)) }
-    ensures meaning { IfOk result (λ r. (n : ℕ) (h : List ℤ) → Agrees (map ir_func_of r.funcs) n h (kernel_meaning n (length h) (expression_of code.now)) (means (map ir_func_of r.funcs) n h outside (ir_func_of r.body).body)) }
+    ensures meaning { IfOk result (λ r. MeansAs (map ir_func_of r.funcs) (ir_func_of r.body) (expression_of code.now)) }
     ensures converted { IfOk result (λ r. IsConverted (map ir_func_of r.funcs) (ir_func_of r.body)) }
     ensures literals { IfOk result (λ _. LiteralsFit (expression_of code.now)) }
 {

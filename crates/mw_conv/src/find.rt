@@ -1,11 +1,11 @@
 // One walk over a term, which finds the free variables of each function and the slots that its lets need.
 
-ghost use Rattle.std.specs.Prelude.{◌≡◌, ◌+◌, ◌-◌, ◌*◌, ◌^◌, ◌<◌, ◌≤◌, ◌==◌, [], ◌∷◌, ◌++◌, length, false, set, replicate, IfOk};
+ghost use Rattle.std.specs.Prelude.{◌≡◌, ◌+◌, ◌-◌, ◌*◌, ◌^◌, ◌<◌, ◌≤◌, ◌==◌, ◌++◌, length, false, set, replicate, IfOk};
 ghost use Rattle.mw_term.specs.Terms.{expression_of, size};
 ghost use Rattle.mw_term.specs.Limits.{LiteralsFit};
 ghost use Rattle.mw_meaning.specs.KernelMeaning.{occurs};
 ghost use Rattle.mw_conv.specs.Convert.{lets};
-ghost use Rattle.mw_conv.specs.Finding.{joined, marked, marking, all_found, function_found};
+ghost use Rattle.mw_conv.specs.Finding.{joined, marked, marking, all_found, found_with};
 
 use crate::found::{Found, Levels};
 use mw_term::Term;
@@ -76,7 +76,7 @@ fn find_function(
 ) -> Result<u32, AllocError>
     requires { length marks.old.items + under + own + 2 * size (expression_of body.now) < 2 ^ 32 }
     ensures marks { IfOk result (λ _. marks.new.items ≡ joined marks.old.items (λ i. occurs (expression_of body.now) (own + (under + i)))) }
-    ensures found { IfOk result (λ _. found.new.items ≡ found.old.items ++ (all_found (expression_of body.now) (length marks.old.items + under + own) ++ function_found (expression_of body.now) (length marks.old.items + under) (λ i. occurs (expression_of body.now) (own + i)) ∷ [])) }
+    ensures found { IfOk result (λ _. found.new.items ≡ found.old.items ++ found_with (expression_of body.now) own (length marks.old.items + under)) }
     ensures length { IfOk result (λ _. length marks.new.items ≡ length marks.old.items) }
     ensures slots { IfOk result (λ slots. slots ≡ 0) }
     ensures literals { IfOk result (λ _. LiteralsFit (expression_of body.now)) }

@@ -70,18 +70,18 @@ fn printed(alloc: Global, code: &Term) -> Result<String, AllocError>
 }
 
 /// The functions are numbered as they stand. A closure has its free variables, the outermost first, and no own name.
-const NESTED: &str = "Converted { funcs: IrFuncs { inner: [\
-    IrFunc { free: 0, slots: 0, body: Closure(1, Places { inner: [Argument] }) }, \
-    IrFunc { free: 1, slots: 0, body: Closure(2, Places { inner: [Free(0), Argument] }) }, \
+const NESTED: &str = "Converted { funcs: Sequence { items: [\
+    IrFunc { free: 0, slots: 0, body: Closure(1, Sequence { items: [Argument] }) }, \
+    IrFunc { free: 1, slots: 0, body: Closure(2, Sequence { items: [Free(0), Argument] }) }, \
     IrFunc { free: 2, slots: 0, body: Prim(Add, App(Get(Own), Prim(Sub, Get(Free(1)), Get(Argument))), Get(Free(0))) }\
-    ] }, body: IrFunc { free: 0, slots: 0, body: Closure(0, Places { inner: [] }) } }";
+    ] }, body: IrFunc { free: 0, slots: 0, body: Closure(0, Sequence { items: [] }) } }";
 
 /// A let in another let's definition has the same slot.
-const LETS: &str = "Converted { funcs: IrFuncs { inner: [\
+const LETS: &str = "Converted { funcs: Sequence { items: [\
     IrFunc { free: 1, slots: 0, body: Get(Free(0)) }\
     ] }, body: IrFunc { free: 0, slots: 2, body: \
     Let(0, Let(0, Int(1), Get(Slot(0))), \
-    Let(1, Get(Slot(0)), App(Closure(0, Places { inner: [Slot(1)] }), Get(Slot(0))))) } }";
+    Let(1, Get(Slot(0)), App(Closure(0, Sequence { items: [Slot(1)] }), Get(Slot(0))))) } }";
 
 #[test]
 fn conversions(rt: HostRuntime) -> Result<(), AllocError> {

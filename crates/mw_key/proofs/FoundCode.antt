@@ -1,5 +1,6 @@
 -- What is found for code: just the code whose words stand there, closed and within the limits.
 use Rattle.std.proofs.Common.{◌≡◌, ℕ, zero, suc, ◌+◌, ◌-◌, ◌*◌, ◌<◌, ◌≤◌, List, ◌∷◌, ◌++◌, refl, sym, ◌∙◌, ap, subst, arith, Some, None}
+use Rattle.std.specs.Prelude.{max}
 use Rattle.std.specs.Fmt.{signed_decimal, decimal}
 use Rattle.std.proofs.lemmas.List.{append_assoc}
 use Rattle.std.proofs.Math.Numerals.{add-one}
@@ -33,6 +34,24 @@ CodeStands d k ws n (Some found) = IsCodeBefore d k ws n found.0 found.1 found.2
 pub code_at : (d k : ℕ) (ws : List (List ℕ)) (n : ℕ) (x : Found Expression) (c : Expression) (rest : List (List ℕ)) (m : ℕ) → CodeStands d k ws n x → x ≡ Some (c, rest, m) → IsCodeBefore d k ws n c rest m
 code_at d k ws n x c rest m s e = subst (CodeStands d k ws n) e s
 
+-- code of one part after a word, where the part stands under j binders
+pub record IsOfOne (w : List ℕ) (k j : ℕ) (a c : Expression) : Type 0 where
+  pub words : code_list c ≡ w ∷ code_list a
+  pub nodes : size c ≡ size a + 1
+  pub depth : depth_of c ≡ depth_of a + 1
+  pub code : IsCode a → IsCode c
+  pub closed : ClosedBelow j a → ClosedBelow k c
+  pub literals : LiteralsFit a → LiteralsFit c
+
+-- code of two parts after a word, where the second stands under j binders
+pub record IsOfTwo (w : List ℕ) (k j : ℕ) (a b c : Expression) : Type 0 where
+  pub words : code_list c ≡ w ∷ (code_list a ++ code_list b)
+  pub nodes : size c ≡ size a + size b + 1
+  pub depth : depth_of c ≡ max (depth_of a) (depth_of b) + 1
+  pub code : IsCode a × IsCode b → IsCode c
+  pub closed : ClosedBelow k a × ClosedBelow j b → ClosedBelow k c
+  pub literals : LiteralsFit a × LiteralsFit b → LiteralsFit c
+
 three_joined : (x y z rest : List (List ℕ)) → x ++ (y ++ (z ++ rest)) ≡ x ++ (y ++ z) ++ rest
 three_joined x y z rest = ap (λ v. x ++ v) (sym (append_assoc y z rest)) ∙ sym (append_assoc x (y ++ z) rest)
 
@@ -40,6 +59,49 @@ three_joined x y z rest = ap (λ v. x ++ v) (sym (append_assoc y z rest)) ∙ sy
 module _ (d : ℕ) (part : ℕ → List (List ℕ) → ℕ → Found Expression) (holds : (k : ℕ) (ws : List (List ℕ)) (n : ℕ) → CodeStands d k ws n (part k ws n)) where
   part_at : (k : ℕ) (ws : List (List ℕ)) (n : ℕ) (c : Expression) (rest : List (List ℕ)) (m : ℕ) → part k ws n ≡ Some (c, rest, m) → IsCodeBefore d k ws n c rest m
   part_at k ws n c rest m e = code_at d k ws n (part k ws n) c rest m (holds k ws n) e
+
+  one_stands : (w : List ℕ) (join : Expression → Expression) (k j : ℕ) (ws vs : List (List ℕ)) (n l : ℕ) → ws ≡ w ∷ vs → n ≡ suc l → ((a : Expression) → IsOfOne w k j a (join a))
+      → CodeStands (suc d) k ws n (make join (part j vs l))
+  one_stands w join k j ws vs n l e g is =
+      let P : Found Expression → Type 0 = λ x. CodeStands (suc d) k ws n x in
+      made_found P join (part j vs l) tt λ a rest m h.
+      let p = part_at j vs l a rest m h in
+      let c = is a in
+      let count = p.nodes in
+      let counted = c.nodes in
+      let deep = p.depth in
+      let deeper = c.depth in
+      record {
+        words = e ∙ (ap (λ x. w ∷ x) p.words ∙ ap (λ x. x ++ rest) (sym c.words));
+        nodes = omega arith;
+        depth = omega arith;
+        code = c.code p.code;
+        closed = c.closed p.closed;
+        literals = c.literals p.literals;
+      }
+
+  two_stand : (w : List ℕ) (join : Expression → Expression → Expression) (k j : ℕ) (ws vs : List (List ℕ)) (n l : ℕ) → ws ≡ w ∷ vs → n ≡ suc l → ((a b : Expression) → IsOfTwo w k j a b (join a b))
+      → CodeStands (suc d) k ws n (then_find (part k vs l) λ a us m. make (join a) (part j us m))
+  two_stand w join k j ws vs n l e g is =
+      let P : Found Expression → Type 0 = λ x. CodeStands (suc d) k ws n x in
+      after_found P (part k vs l) _ tt λ a us m h. made_found P (join a) (part j us m) tt λ b rest o i.
+      let p = part_at k vs l a us m h in
+      let q = part_at j us m b rest o i in
+      let c = is a b in
+      let count = p.nodes in
+      let further = q.nodes in
+      let counted = c.nodes in
+      let deep = p.depth in
+      let deeper = q.depth in
+      let deepest = c.depth in
+      record {
+        words = e ∙ (ap (λ x. w ∷ x) (p.words ∙ ap (λ x. code_list a ++ x) q.words ∙ sym (append_assoc (code_list a) (code_list b) rest)) ∙ ap (λ x. x ++ rest) (sym c.words));
+        nodes = omega arith;
+        depth = omega arith;
+        code = c.code (p.code, q.code);
+        closed = c.closed (p.closed, q.closed);
+        literals = c.literals (p.literals, q.literals);
+      }
 
   parts_stand : (f : Form) (k : ℕ) (ws vs : List (List ℕ)) (n l : ℕ) → ws ≡ form_word f ∷ vs → n ≡ suc l → CodeStands (suc d) k ws n (code_parts part f k vs l)
   parts_stand Int k ws vs n l e g =
@@ -71,69 +133,12 @@ module _ (d : ℕ) (part : ℕ → List (List ℕ) → ℕ → Found Expression)
         closed = spelling.1;
         literals = tt;
       }
-  parts_stand Fun k ws vs n l e g =
-      let P : Found Expression → Type 0 = λ x. CodeStands (suc d) k ws n x in
-      made_found P fun (part (k + 1) vs l) tt λ c rest m h.
-      let p = part_at (k + 1) vs l c rest m h in
-      let count = p.nodes in
-      let deep = p.depth in
-      record {
-        words = e ∙ ap (λ x. form_word Fun ∷ x) p.words;
-        nodes = omega arith;
-        depth = omega arith;
-        code = p.code;
-        closed = subst (λ j. ClosedBelow j c) (add-one k) p.closed;
-        literals = p.literals;
-      }
+  parts_stand Fun k ws vs n l e g = one_stands (form_word Fun) fun k (k + 1) ws vs n l e g λ a. record { words = refl; nodes = refl; depth = refl; code = λ x. x; closed = λ x. subst (λ j. ClosedBelow j a) (add-one k) x; literals = λ x. x }
   parts_stand Rec k ws vs n l e g =
-      let P : Found Expression → Type 0 = λ x. CodeStands (suc d) k ws n x in
       let two : k + 2 ≡ suc (suc k) = omega arith in
-      made_found P fix (part (k + 2) vs l) tt λ c rest m h.
-      let p = part_at (k + 2) vs l c rest m h in
-      let count = p.nodes in
-      let deep = p.depth in
-      record {
-        words = e ∙ ap (λ x. form_word Rec ∷ x) p.words;
-        nodes = omega arith;
-        depth = omega arith;
-        code = p.code;
-        closed = subst (λ j. ClosedBelow j c) two p.closed;
-        literals = p.literals;
-      }
-  parts_stand App k ws vs n l e g =
-      let P : Found Expression → Type 0 = λ x. CodeStands (suc d) k ws n x in
-      after_found P (part k vs l) _ tt λ a us m h. made_found P (app a) (part k us m) tt λ b rest j i.
-      let p = part_at k vs l a us m h in
-      let q = part_at k us m b rest j i in
-      let count = p.nodes in
-      let further = q.nodes in
-      let deep = p.depth in
-      let deeper = q.depth in
-      record {
-        words = e ∙ ap (λ x. form_word App ∷ x) (p.words ∙ ap (λ x. code_list a ++ x) q.words ∙ sym (append_assoc (code_list a) (code_list b) rest));
-        nodes = omega arith;
-        depth = omega arith;
-        code = (p.code, q.code);
-        closed = (p.closed, q.closed);
-        literals = (p.literals, q.literals);
-      }
-  parts_stand Let k ws vs n l e g =
-      let P : Found Expression → Type 0 = λ x. CodeStands (suc d) k ws n x in
-      after_found P (part k vs l) _ tt λ a us m h. made_found P (bind a) (part (k + 1) us m) tt λ b rest j i.
-      let p = part_at k vs l a us m h in
-      let q = part_at (k + 1) us m b rest j i in
-      let count = p.nodes in
-      let further = q.nodes in
-      let deep = p.depth in
-      let deeper = q.depth in
-      record {
-        words = e ∙ ap (λ x. form_word Let ∷ x) (p.words ∙ ap (λ x. code_list a ++ x) q.words ∙ sym (append_assoc (code_list a) (code_list b) rest));
-        nodes = omega arith;
-        depth = omega arith;
-        code = (p.code, q.code);
-        closed = (p.closed, subst (λ j. ClosedBelow j b) (add-one k) q.closed);
-        literals = (p.literals, q.literals);
-      }
+      one_stands (form_word Rec) fix k (k + 2) ws vs n l e g λ a. record { words = refl; nodes = refl; depth = refl; code = λ x. x; closed = λ x. subst (λ j. ClosedBelow j a) two x; literals = λ x. x }
+  parts_stand App k ws vs n l e g = two_stand (form_word App) app k k ws vs n l e g λ a b. record { words = refl; nodes = refl; depth = refl; code = λ x. x; closed = λ x. x; literals = λ x. x }
+  parts_stand Let k ws vs n l e g = two_stand (form_word Let) bind k (k + 1) ws vs n l e g λ a b. record { words = refl; nodes = refl; depth = refl; code = λ x. x; closed = λ x. (x.0, subst (λ j. ClosedBelow j b) (add-one k) x.1); literals = λ x. x }
   parts_stand If k ws vs n l e g =
       let P : Found Expression → Type 0 = λ x. CodeStands (suc d) k ws n x in
       after_found P (part k vs l) _ tt λ c us m h. after_found P (part k us m) _ tt λ a ts j i. made_found P (cond c a) (part k ts j) tt λ b rest o u.
@@ -155,68 +160,10 @@ module _ (d : ℕ) (part : ℕ → List (List ℕ) → ℕ → Found Expression)
         closed = (p.closed, q.closed, r.closed);
         literals = (p.literals, q.literals, r.literals);
       }
-  parts_stand Pair k ws vs n l e g =
-      let P : Found Expression → Type 0 = λ x. CodeStands (suc d) k ws n x in
-      after_found P (part k vs l) _ tt λ a us m h. made_found P (pair a) (part k us m) tt λ b rest j i.
-      let p = part_at k vs l a us m h in
-      let q = part_at k us m b rest j i in
-      let count = p.nodes in
-      let further = q.nodes in
-      let deep = p.depth in
-      let deeper = q.depth in
-      record {
-        words = e ∙ ap (λ x. form_word Pair ∷ x) (p.words ∙ ap (λ x. code_list a ++ x) q.words ∙ sym (append_assoc (code_list a) (code_list b) rest));
-        nodes = omega arith;
-        depth = omega arith;
-        code = (p.code, q.code);
-        closed = (p.closed, q.closed);
-        literals = (p.literals, q.literals);
-      }
-  parts_stand Fst k ws vs n l e g =
-      let P : Found Expression → Type 0 = λ x. CodeStands (suc d) k ws n x in
-      made_found P fst (part k vs l) tt λ c rest m h.
-      let p = part_at k vs l c rest m h in
-      let count = p.nodes in
-      let deep = p.depth in
-      record {
-        words = e ∙ ap (λ x. form_word Fst ∷ x) p.words;
-        nodes = omega arith;
-        depth = omega arith;
-        code = p.code;
-        closed = p.closed;
-        literals = p.literals;
-      }
-  parts_stand Snd k ws vs n l e g =
-      let P : Found Expression → Type 0 = λ x. CodeStands (suc d) k ws n x in
-      made_found P snd (part k vs l) tt λ c rest m h.
-      let p = part_at k vs l c rest m h in
-      let count = p.nodes in
-      let deep = p.depth in
-      record {
-        words = e ∙ ap (λ x. form_word Snd ∷ x) p.words;
-        nodes = omega arith;
-        depth = omega arith;
-        code = p.code;
-        closed = p.closed;
-        literals = p.literals;
-      }
-  parts_stand (Prim o) k ws vs n l e g =
-      let P : Found Expression → Type 0 = λ x. CodeStands (suc d) k ws n x in
-      after_found P (part k vs l) _ tt λ a us m h. made_found P (prim o a) (part k us m) tt λ b rest j i.
-      let p = part_at k vs l a us m h in
-      let q = part_at k us m b rest j i in
-      let count = p.nodes in
-      let further = q.nodes in
-      let deep = p.depth in
-      let deeper = q.depth in
-      record {
-        words = e ∙ ap (λ x. form_word (Prim o) ∷ x) (p.words ∙ ap (λ x. code_list a ++ x) q.words ∙ sym (append_assoc (code_list a) (code_list b) rest));
-        nodes = omega arith;
-        depth = omega arith;
-        code = (p.code, q.code);
-        closed = (p.closed, q.closed);
-        literals = (p.literals, q.literals);
-      }
+  parts_stand Pair k ws vs n l e g = two_stand (form_word Pair) pair k k ws vs n l e g λ a b. record { words = refl; nodes = refl; depth = refl; code = λ x. x; closed = λ x. x; literals = λ x. x }
+  parts_stand Fst k ws vs n l e g = one_stands (form_word Fst) fst k k ws vs n l e g λ a. record { words = refl; nodes = refl; depth = refl; code = λ x. x; closed = λ x. x; literals = λ x. x }
+  parts_stand Snd k ws vs n l e g = one_stands (form_word Snd) snd k k ws vs n l e g λ a. record { words = refl; nodes = refl; depth = refl; code = λ x. x; closed = λ x. x; literals = λ x. x }
+  parts_stand (Prim o) k ws vs n l e g = two_stand (form_word (Prim o)) (prim o) k k ws vs n l e g λ a b. record { words = refl; nodes = refl; depth = refl; code = λ x. x; closed = λ x. x; literals = λ x. x }
 
 -- what is found stands there
 pub code_stands : (d k : ℕ) (ws : List (List ℕ)) (n : ℕ) → CodeStands d k ws n (find_code d k ws n)

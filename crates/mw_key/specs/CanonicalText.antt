@@ -53,6 +53,10 @@ code_words (snd e) = codes " snd" ++ code_words e
 code_words (prim p a b) = primitive_word p ++ code_words a ++ code_words b
 code_words _ = []
 
+-- a word, and the words of two codes after it
+abbrev pub words_of_two : List ℕ → Expression → Expression → List ℕ
+words_of_two word a b = word ++ code_words a ++ code_words b
+
 abbrev pub canonical_text : Version → Expression → KernelType → List ℕ
 canonical_text v c k = version_word v ++ kernel_words k ++ code_words c
 

@@ -4,7 +4,7 @@ ghost use Rattle.std.specs.Prelude.{◌≡◌, ◌++◌, IfOk};
 ghost use Rattle.std.specs.Fmt.{decimal, signed_decimal};
 ghost use Rattle.mw_term.specs.Terms.{expression_of, ground_of, kernel_type_of};
 ghost use Rattle.mw_term.specs.Closed.{IsCode};
-ghost use Rattle.mw_key.specs.CanonicalText.{canonical_text, kernel_words, ground_words, code_words, primitive_word};
+ghost use Rattle.mw_key.specs.CanonicalText.{canonical_text, kernel_words, ground_words, code_words, words_of_two, primitive_word};
 ghost use Rattle.mw_key.specs.declared.version.Version.TheVariants.{Two};
 
 use mw_term::{Base, Ground, KType, Prim, Term};
@@ -104,7 +104,7 @@ fn put_one(text: &mut Vec<u8>, word: &[u8], code: &Term) -> Result<(), AllocErro
 /// A word and the words of code and of more code.
 #[cycle(code)]
 fn put_two(text: &mut Vec<u8>, word: &[u8], first: &Term, second: &Term) -> Result<(), AllocError>
-    ensures { IfOk result (λ _. text.new.items ≡ text.old.items ++ (word.now ++ code_words (expression_of first.now) ++ code_words (expression_of second.now))) }
+    ensures { IfOk result (λ _. text.new.items ≡ text.old.items ++ words_of_two word.now (expression_of first.now) (expression_of second.now)) }
 {
     put(text, word)?;
     put_code(text, first)?;

@@ -19,13 +19,13 @@ use Rattle.mw_meaning.specs.Arithmetic.{trap, bound, stuck}
 use Rattle.mw_meaning.specs.KernelMeaning.{Ended, gives, stops, kernel_meaning}
 use Rattle.mw_meaning.specs.StagedMeaning.{kernel_argument, argument_words, call_of}
 use Rattle.mw_meaning.specs.TypingLaws.{IfMakes}
-use Rattle.mw_meaning.specs.StandingFor.{IsWord, AnswersAs, IsArgument, leaves, Call, AreCalls, Onward, CallsAnswer, CallsAfter, MeansKernel}
+use Rattle.mw_meaning.specs.StandingFor.{IsWord, AnswersAs, IsArgument, leaves, Call, AreCalls, IfEnded, CallsAnswer, CallsAfter, MeansKernel}
 use Rattle.mw_meaning.specs.Shapes.{IsWordOf, IsWordOfKernel, IsStrayEnd, EndStray, here, later, in_init, in_call}
 use Rattle.mw_meaning.specs.ShapeLaws.{StandingIsNotStray, LeavesAreCounted}
 use Rattle.mw_meaning.proofs.KernelTyping.{KernelSafe, Has, none, closed_code_safe, kernel_call_safe, safe_makes}
 
 -- the word of a value of a ground type may be one of the type
-word_of : (t : GroundType) (v : KernelValue) (n : ℕ) (memory : Memory) → Valued [] [] (unlabelled_value v) (ground_type t) → IsWord v n memory → IsWordOf t n memory
+pub word_of : (t : GroundType) (v : KernelValue) (n : ℕ) (memory : Memory) → Valued [] [] (unlabelled_value v) (ground_type t) → IsWord v n memory → IsWordOf t n memory
 word_of (base Int) v n memory h w = tt
 word_of (base Truth) (bool true) n memory h w = inr w
 word_of (base Truth) (bool false) n memory h w = inl w
@@ -44,10 +44,10 @@ word_of_kernel (of_ground t) v n memory h w = word_of t v n memory h w
 word_of_kernel (to s t) v n memory h w = tt
 
 -- what answers as a kernel does doesn't end strayly, where the words of the kernel's values have P
-abbrev Words : (ℕ → Memory → Type 0) → KernelValue → Type 0
+abbrev pub Words : (ℕ → Memory → Type 0) → KernelValue → Type 0
 Words P v = (n : ℕ) (memory : Memory) → IsWord v n memory → P n memory
 
-answers_no_stray : (P : ℕ → Memory → Type 0) (a : Ended) (e : End) → IfMakes (Words P) a → AnswersAs a e → IsStrayEnd P e → ⊥
+pub answers_no_stray : (P : ℕ → Memory → Type 0) (a : Ended) (e : End) → IfMakes (Words P) a → AnswersAs a e → IsStrayEnd P e → ⊥
 answers_no_stray P (gives v left words) (ended st vs units) f h x = let y = subst (λ vs. IsStrayEnd P (ended st vs units)) h.0.1 x in y (f h.0.0 st.memory h.0.2)
 answers_no_stray P (stops (trap kind.Divide)) (trapped traps.Divide st) f h x = x
 answers_no_stray P (stops (trap kind.Overflow)) (trapped traps.Overflow st) f h x = x
@@ -56,7 +56,7 @@ answers_no_stray P (stops (bound Fuel)) spent f h x = x
 answers_no_stray P _ _ f h x = absurd h
 
 -- an argument of a ground type is a value of it
-argument_typed : (s : GroundType) (v : Value) → IsArgument s v → Valued [] [] v (ground_type s)
+pub argument_typed : (s : GroundType) (v : Value) → IsArgument s v → Valued [] [] v (ground_type s)
 argument_typed (base Int) (int z) h = v_int
 argument_typed (base Truth) (bool b) h = v_bool
 argument_typed (product s t) (both v w) h = v_pair (argument_typed s v h.0) (argument_typed t w h.1)
@@ -69,7 +69,7 @@ module _ (m : PureModule) (s t : GroundType) (f : KernelValue) (words : ℕ) (sh
   calls_no_stray : (calls : List Call) (st : Store) → AreCalls s calls → CallsAnswer m g r f words calls st → EndStray m g r t calls st → ⊥
   calls_no_stray [] st h a x = elim x [ ]
   calls_no_stray (c ∷ calls) st h a (here x) = answers_no_stray (IsWordOf t) _ _ (call_words c h.0) a.0 x
-  calls_no_stray (c ∷ calls) st h a (later {after = after} e x) = calls_no_stray calls after h.1 (subst (λ e. Onward e (CallsAnswer m g r f words calls)) e a.1) x
+  calls_no_stray (c ∷ calls) st h a (later {after = after} e x) = calls_no_stray calls after h.1 (subst (λ e. IfEnded e (CallsAnswer m g r f words calls)) e a.1) x
 
 -- the calls after an `init` that ended with a word
 after_no_stray : (m : PureModule) (s t : GroundType) (g r n left : ℕ) (calls : List Call) (st : Store) (a : Ended) → KernelSafe n (Has [] [] none (kernel_type (to s t))) a → AnswersAs a (ended st (I64 r ∷ []) left) → CallsAfter m g a (ended st (I64 r ∷ []) left) calls → AreCalls s calls → EndStray m g r t calls st → ⊥
@@ -81,14 +81,14 @@ after_no_stray m s t g r n left calls st (stops (bound Heap)) safe a after h x =
 after_no_stray m s t g r n left calls st (stops (bound KernelSize)) safe a after h x = a
 after_no_stray m s t g r n left calls st (stops stuck) safe a after h x = a
 
-kernel_safe : (c : Expression) (k : KernelType) (n : ℕ) → HasKernelType c k → KernelSafe n (Has [] [] none (kernel_type k)) (kernel_meaning n 0 c)
+pub kernel_safe : (c : Expression) (k : KernelType) (n : ℕ) → HasKernelType c k → KernelSafe n (Has [] [] none (kernel_type k)) (kernel_meaning n 0 c)
 kernel_safe c k n h = closed_code_safe c 0 (kernel_type k) n 0 h.is_code h.typed
 
 -- a module has one instance, and a name one number
 one_store : (m : PureModule) {st after : Store} → instantiated m ≡ Ok st → instantiated m ≡ Ok after → after ≡ st
 one_store m e f = cc
 
-one_number : (m : PureModule) (name : List ℕ) {f g : ℕ} → exported m name ≡ Some f → exported m name ≡ Some g → g ≡ f
+pub one_number : (m : PureModule) (name : List ℕ) {f g : ℕ} → exported m name ≡ Some f → exported m name ≡ Some g → g ≡ f
 one_number m name e f = cc
 
 pub standing_is_not_stray : StandingIsNotStray

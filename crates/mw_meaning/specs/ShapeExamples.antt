@@ -3,9 +3,9 @@ use Rattle.std.specs.Prelude.{ℕ, ◌-◌, ◌^◌, [], ◌∷◌, Some, None}
 use Rattle.mw_term.specs.Terms.{KernelType, GroundType, base, product, of_ground}
 use Rattle.mw_term.specs.declared.term.Base.TheVariants.{Int, Bool as Truth}
 use Rattle.mw_wasm.specs.Syntax.{end, next, const_i64, PureModule}
-use Rattle.mw_wasm.specs.ExampleModules.{init_type, example_memory, init_name, example_a, example_b}
+use Rattle.mw_wasm.specs.ExampleModules.{example_memory, init_name, example_a, example_b}
 use Rattle.mw_wasm.specs.declared.modules.Exported.TheVariants.{Func}
-use Rattle.mw_meaning.specs.Shapes.{HasShape, IsStray}
+use Rattle.mw_meaning.specs.Shapes.{init_type, HasShape, IsStray}
 use Rattle.mw_meaning.specs.Examples.{int_kernel, int_to_int}
 
 abbrev pub truth_kernel : KernelType

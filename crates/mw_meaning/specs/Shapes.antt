@@ -72,11 +72,13 @@ IsStrayEnd P _ = ⊥
 -- word, and the last as no kernel does with results of type t.
 pub data EndStray (m : PureModule) (g r : ℕ) (t : GroundType) : List Call → Store → Type 0 where
   here : {c : Call} {calls : List Call} {st : Store} → IsStrayEnd (IsWordOf t) (invoked m st g (I64 r ∷ leaves c.argument) c.units) → EndStray m g r t (c ∷ calls) st
-  later : {c : Call} {calls : List Call} {st after : Store} {n left : ℕ} → invoked m st g (I64 r ∷ leaves c.argument) c.units ≡ ended after (I64 n ∷ []) left → EndStray m g r t calls after → EndStray m g r t (c ∷ calls) st
+  later : {c : Call} {calls : List Call} {st after : Store} {n left : ℕ}
+      → invoked m st g (I64 r ∷ leaves c.argument) c.units ≡ ended after (I64 n ∷ []) left → EndStray m g r t calls after → EndStray m g r t (c ∷ calls) st
 
 -- A play of a module: its `init` with some units, and then calls with arguments of its type. The module is stray for the
 -- kernel type where some play of it ends as no kernel of the type does.
 pub data IsStray (m : PureModule) : KernelType → Type 0 where
   in_init : {k : KernelType} {st : Store} {f : ℕ} (n : ℕ) → instantiated m ≡ Ok st → exported m (codes "init") ≡ Some f → IsStrayEnd (IsWordOfKernel k) (invoked m st f [] n) → IsStray m k
-  in_call : {s t : GroundType} {st after : Store} {f g r left : ℕ} {calls : List Call} (n : ℕ) → instantiated m ≡ Ok st → exported m (codes "init") ≡ Some f → exported m (codes "call") ≡ Some g → AreCalls s calls
+  in_call : {s t : GroundType} {st after : Store} {f g r left : ℕ} {calls : List Call} (n : ℕ)
+      → instantiated m ≡ Ok st → exported m (codes "init") ≡ Some f → exported m (codes "call") ≡ Some g → AreCalls s calls
       → invoked m st f [] n ≡ ended after (I64 r ∷ []) left → EndStray m g r t calls after → IsStray m (to s t)

@@ -68,10 +68,10 @@ abbrev pub AreCalls : GroundType → List Call → Type 0
 AreCalls s [] = Unit {0}
 AreCalls s (c ∷ calls) = IsArgument s c.argument × AreCalls s calls
 
--- what is said of the instance after an invocation that ended with values
-abbrev pub Onward : End → (Store → Type 0) → Type 0
-Onward (ended st vs units) P = P st
-Onward _ P = Unit {0}
+-- the store has this property, where the invocation ended with values
+abbrev pub IfEnded : End → (Store → Type 0) → Type 0
+IfEnded (ended st vs units) P = P st
+IfEnded _ P = Unit {0}
 
 module _ (m : PureModule) where
   -- Calls on one instance, one after another, where `call` is function g and `init` gave r: each answers as the call of
@@ -80,7 +80,7 @@ module _ (m : PureModule) where
   CallsAnswer g r f words [] st = Unit {0}
   CallsAnswer g r f words (c ∷ calls) st =
       AnswersAs (call_of f words (kernel_argument c.argument) (argument_words c.argument) c.units) (invoked m st g (I64 r ∷ leaves c.argument) c.units)
-      × Onward (invoked m st g (I64 r ∷ leaves c.argument) c.units) (CallsAnswer g r f words calls)
+      × IfEnded (invoked m st g (I64 r ∷ leaves c.argument) c.units) (CallsAnswer g r f words calls)
 
   -- the calls after an invocation of `init` that ended with a value
   abbrev pub CallsAfter : (g : ℕ) → Ended → End → List Call → Type 0

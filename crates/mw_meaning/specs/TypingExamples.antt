@@ -24,7 +24,11 @@ power_definition = fix (fun (cond (prim Eq (var 1) (n 0)) (bracket (n 1)) (brack
 -- let rec power .. ;; kernel cube : int -> int = close .<fun x -> .~(power 3 .<x>.)>. ;;
 -- main : int = let f = run[int -> int] cube in f 5 + f (-2)
 abbrev pub cube_program : PureProgram
-cube_program = record { items = value power_definition ∷ kernel int_to_int cube ∷ []; result = base Int; body = bind (run int_to_int (glob 1)) (prim Add (app (var 0) (n 5)) (app (var 0) (num (negsuc 1)))) }
+cube_program = record {
+  items = value power_definition ∷ kernel int_to_int cube ∷ [];
+  result = base Int;
+  body = bind (run int_to_int (glob 1)) (prim Add (app (var 0) (n 5)) (app (var 0) (num (negsuc 1))));
+}
 
 abbrev pub PowerIsItsDefinition : Type 0
 PowerIsItsDefinition = value_of_definition power_definition ≡ power
@@ -98,7 +102,8 @@ LaterLetIsNotSeen = (result : GroundType) (body : Expression) → Typable (recor
 
 -- let rec power .. ;; kernel cube : int -> int = .. ;; kernel again : int -> int = cube ;;
 abbrev pub KernelIsNotSeenByItems : Type 0
-KernelIsNotSeenByItems = (result : GroundType) (body : Expression) → Typable (record { items = value power_definition ∷ kernel int_to_int cube ∷ kernel int_to_int (glob 1) ∷ []; result = result; body = body }) → ⊥
+KernelIsNotSeenByItems = (result : GroundType) (body : Expression)
+    → Typable (record { items = value power_definition ∷ kernel int_to_int cube ∷ kernel int_to_int (glob 1) ∷ []; result = result; body = body }) → ⊥
 
 -- let x = 1 + 2 ;;
 abbrev pub LetIsASyntacticValue : Type 0
