@@ -1,19 +1,21 @@
 -- Each type that a term has comes from a solution of its equations that keeps what was assigned before, and its closes
 -- fresh.
-use Rattle.std.proofs.Common.{◌≡◌, ℕ, zero, suc, ◌+◌, ◌<◌, List, [], ◌∷◌, map, Some, refl, ap, sym, ◌∙◌, arith}
+use Rattle.std.proofs.Common.{◌≡◌, ℕ, zero, suc, ◌+◌, ◌<◌, List, [], ◌∷◌, ◌++◌, map, Some, refl, ap, sym, ◌∙◌, arith}
 use Rattle.std.specs.Prelude.{slice_get}
+use Rattle.mw_term.specs.declared.term.Base.{Base}
+use Rattle.mw_term.specs.declared.term.Base.TheVariants.{Int, Bool}
 use Rattle.mw_term.specs.declared.term.Primitive.{Primitive as Prim}
-use Rattle.mw_term.specs.Terms.{Expression, KernelType, var, glob, fun, fix, app, bind, cond, pair, fst, snd, prim, bracket, escape, run, close, opened, lift, lift_b}
-use Rattle.mw_term.specs.Types.{TermType, int_type, bool_type, pair_type, function_type, code_type, closed_type, Level, live, under, Entry, entry, IsAbsent, kernel_type, primitive_type}
+use Rattle.mw_term.specs.Terms.{Expression, KernelType, var, glob, fun, fix, app, bind, cond, pair, fst, snd, prim, bracket, escape, run, close, opened}
+use Rattle.mw_term.specs.Types.{TermType, int_type, bool_type, pair_type, function_type, code_type, closed_type, Level, live, under, Entry, entry, IsAbsent, base_type, kernel_type, primitive_type}
 use Rattle.mw_term.specs.Typing.{TopLevel, let_item, kernel_item, Typed, t_num, t_truth, t_var, t_let, t_kernel, t_fun, t_fix, t_app, t_bind, t_cond, t_pair, t_fst, t_snd, t_prim, t_bracket, t_escape, t_run, t_close, t_open, t_lift, t_lift_b, t_done}
-use Rattle.mw_types.specs.Types.{int_ty, bool_ty, unknown, pair_ty, function_ty, code_ty, closed_ty, Assignment}
+use Rattle.mw_types.specs.Types.{TypeExpression, unknown, pair_ty, Within, Assignment, value}
 use Rattle.mw_types.specs.Equations.{TypeEquation, AllWithin, Solves, Agree}
-use Rattle.mw_infer.specs.Schemes.{TopScheme, kernel_expression, primitive_expression}
-use Rattle.mw_infer.specs.ItemEquations.{Slot, plain_slot, quoted_slot, slot, equation, unknowns_of, classifiers_of, variable_equations, equations, Close, closes}
+use Rattle.mw_infer.specs.Schemes.{TopScheme}
+use Rattle.mw_infer.specs.ItemEquations.{Slot, plain_slot, quoted_slot, slot, equation, unknowns_of, classifiers_of, variable_equations, function_equations, recursion_equations, application_equations, let_equations, condition_equations, pair_equations, primitive_equations, bracket_equations, escape_equations, run_equations, close_equations, open_equations, lift_equations, equations, Close, closes}
 use Rattle.mw_infer.specs.Inferring.{entry_of, AreSchemesOf}
 use Rattle.mw_infer.specs.Sources.{IsSource}
 use Rattle.mw_infer.proofs.Formed.{level_of}
-use Rattle.mw_infer.proofs.Shifting.{from, value-shifted, Within-shifted, value-kernel_expression, value-primitive_expression, Within-kernel_expression, Within-primitive_expression, scheme-of_let, scheme-of_kernel}
+use Rattle.mw_infer.proofs.Shifting.{from, value-shifted, Within-shifted, value-base_expression, value-kernel_expression, value-primitive_expression, Within-base_expression, Within-kernel_expression, Within-primitive_expression, scheme-of_let, scheme-of_kernel}
 use Rattle.mw_types.proofs.Verdicts.{value_agree}
 use Rattle.mw_infer.proofs.Within.{variable-within}
 use Rattle.mw_infer.proofs.Extending.{extended, extended-keeps, extended-ty, extended-classifier, started, started-starts, Ready, Grown, then, Own, first, ending, Ready-part, Ready-bound, Ready-gives, Ready-later, Ready-under, Ready-live}
@@ -77,7 +79,7 @@ module _ (tops : List TopLevel) (schemes : List TopScheme) (known : AreSchemesOf
   found-fun a u o c g m h l e s t r part =
       let z = started-starts a o c s t t 0 in
       let y = r.own in
-      let x : Own a (started a o c s t t 0) o c (o + 2) c (equation (unknown u) (function_ty (unknown o) (unknown (o + 1))) ∷ []) [] = record {
+      let x : Own a (started a o c s t t 0) o c (o + 2) c (function_equations u o) [] = record {
         unknowns = omega arith;
         classifiers = omega arith;
         keeps = z.keeps;
@@ -93,7 +95,7 @@ module _ (tops : List TopLevel) (schemes : List TopScheme) (known : AreSchemesOf
   found-fix a u o c g m h l e s t r part =
       let z = started-starts a o c s (function_type s t) t 0 in
       let y = r.own in
-      let x : Own a (started a o c s (function_type s t) t 0) o c (o + 3) c (equation (unknown (o + 1)) (function_ty (unknown o) (unknown (o + 2))) ∷ equation (unknown u) (unknown (o + 1)) ∷ []) [] = record {
+      let x : Own a (started a o c s (function_type s t) t 0) o c (o + 3) c (recursion_equations u o) [] = record {
         unknowns = omega arith;
         classifiers = omega arith;
         keeps = z.keeps;
@@ -109,7 +111,7 @@ module _ (tops : List TopLevel) (schemes : List TopScheme) (known : AreSchemesOf
   found-app a u o c g m h l e f s t r part next =
       let z = started-starts a o c (function_type s t) s t 0 in
       let y = r.own in
-      let x : Own a (started a o c (function_type s t) s t 0) o c (o + 2) c (equation (unknown o) (function_ty (unknown (o + 1)) (unknown u)) ∷ []) [] = record {
+      let x : Own a (started a o c (function_type s t) s t 0) o c (o + 2) c (application_equations u o) [] = record {
         unknowns = omega arith;
         classifiers = omega arith;
         keeps = z.keeps;
@@ -127,7 +129,7 @@ module _ (tops : List TopLevel) (schemes : List TopScheme) (known : AreSchemesOf
   found-bind a u o c g m h l d e s t r part next =
       let z = started-starts a o c s s t 0 in
       let y = r.own in
-      let x : Own a (started a o c s s t 0) o c (o + 3) c (equation (unknown o) (unknown (o + 1)) ∷ equation (unknown u) (unknown (o + 2)) ∷ []) [] = record {
+      let x : Own a (started a o c s s t 0) o c (o + 3) c (let_equations u o) [] = record {
         unknowns = omega arith;
         classifiers = omega arith;
         keeps = z.keeps;
@@ -149,7 +151,7 @@ module _ (tops : List TopLevel) (schemes : List TopScheme) (known : AreSchemesOf
   found-cond a u o c g m h l p d e t r part next last =
       let z = started-starts a o c bool_type t t 0 in
       let y = r.own in
-      let x : Own a (started a o c bool_type t t 0) o c (o + 3) c (equation (unknown o) bool_ty ∷ equation (unknown (o + 1)) (unknown u) ∷ equation (unknown (o + 2)) (unknown u) ∷ []) [] = record {
+      let x : Own a (started a o c bool_type t t 0) o c (o + 3) c (condition_equations u o) [] = record {
         unknowns = omega arith;
         classifiers = omega arith;
         keeps = z.keeps;
@@ -168,7 +170,7 @@ module _ (tops : List TopLevel) (schemes : List TopScheme) (known : AreSchemesOf
   found-pair a u o c g m h l d e s t r part next =
       let z = started-starts a o c s t t 0 in
       let y = r.own in
-      let x : Own a (started a o c s t t 0) o c (o + 2) c (equation (unknown u) (pair_ty (unknown o) (unknown (o + 1))) ∷ []) [] = record {
+      let x : Own a (started a o c s t t 0) o c (o + 2) c (pair_equations u o) [] = record {
         unknowns = omega arith;
         classifiers = omega arith;
         keeps = z.keeps;
@@ -181,44 +183,38 @@ module _ (tops : List TopLevel) (schemes : List TopScheme) (known : AreSchemesOf
       let two = next one.by (Ready-later (o + 1) (omega arith) (omega arith) (omega arith) z.keeps z.second one r) in
       ending (omega arith) (omega arith) (first x (then one two))
 
-  found-fst : (a : Assignment) (u o c : ℕ) (g : List Slot) (m : Level) (h : List Entry) (l : Level) (e : Expression) (s t : TermType) → Ready a u o c g m h l s
-      → Part (o + 1) (o + 2) c g m h l e (pair_type s t) → Found a u o c g m (fst e)
-  found-fst a u o c g m h l e s t r part =
-      let z = started-starts a o c t (pair_type s t) t 0 in
+  -- a part of a pair: q is the pair's type, which is whole where this part has the type own and the other part the type other
+  found-part : (a : Assignment) (u o c : ℕ) (g : List Slot) (m : Level) (h : List Entry) (l : Level) (e : Expression) (own other whole : TermType) (q : TypeExpression)
+      → ((b : Assignment) → b.ty u ≡ own → b.ty o ≡ other → whole ≡ value b q) → (u < o → Within (o + 2) c q) → Ready a u o c g m h l own → Part (o + 1) (o + 2) c g m h l e whole
+      → Grown a o c (o + (2 + unknowns_of schemes e)) (c + classifiers_of schemes e) (equation (unknown (o + 1)) q ∷ equations schemes (o + 1) (o + 2) c g m e) (closes schemes (o + 2) c g m e)
+  found-part a u o c g m h l e own other whole q gives within r part =
+      let z = started-starts a o c other whole other 0 in
       let y = r.own in
-      let x : Own a (started a o c t (pair_type s t) t 0) o c (o + 2) c (equation (unknown (o + 1)) (pair_ty (unknown u) (unknown o)) ∷ []) [] = record {
+      let x : Own a (started a o c other whole other 0) o c (o + 2) c (equation (unknown (o + 1)) q ∷ []) [] = record {
         unknowns = omega arith;
         classifiers = omega arith;
         keeps = z.keeps;
-        within = ((omega arith, (omega arith, omega arith)), tt);
+        within = ((omega arith, within y), tt);
         below = tt;
-        solves = (z.second ∙ rw (z.first, Ready-gives z.keeps r) refl, tt);
+        solves = (z.second ∙ gives _ (Ready-gives z.keeps r) z.first, tt);
         fresh = tt;
       } in
       ending (omega arith) refl (first x (part _ (Ready-part (o + 1) (o + 2) c (omega arith) (omega arith) (omega arith) z.keeps z.second r)))
 
+  found-fst : (a : Assignment) (u o c : ℕ) (g : List Slot) (m : Level) (h : List Entry) (l : Level) (e : Expression) (s t : TermType) → Ready a u o c g m h l s
+      → Part (o + 1) (o + 2) c g m h l e (pair_type s t) → Found a u o c g m (fst e)
+  found-fst a u o c g m h l e s t r part = found-part a u o c g m h l e s t (pair_type s t) (pair_ty (unknown u) (unknown o)) (λ b x y. rw (x, y) refl) (λ lt. (omega arith, omega arith)) r part
+
   found-snd : (a : Assignment) (u o c : ℕ) (g : List Slot) (m : Level) (h : List Entry) (l : Level) (e : Expression) (s t : TermType) → Ready a u o c g m h l t
       → Part (o + 1) (o + 2) c g m h l e (pair_type s t) → Found a u o c g m (snd e)
-  found-snd a u o c g m h l e s t r part =
-      let z = started-starts a o c s (pair_type s t) t 0 in
-      let y = r.own in
-      let x : Own a (started a o c s (pair_type s t) t 0) o c (o + 2) c (equation (unknown (o + 1)) (pair_ty (unknown o) (unknown u)) ∷ []) [] = record {
-        unknowns = omega arith;
-        classifiers = omega arith;
-        keeps = z.keeps;
-        within = ((omega arith, (omega arith, omega arith)), tt);
-        below = tt;
-        solves = (z.second ∙ rw (z.first, Ready-gives z.keeps r) refl, tt);
-        fresh = tt;
-      } in
-      ending (omega arith) refl (first x (part _ (Ready-part (o + 1) (o + 2) c (omega arith) (omega arith) (omega arith) z.keeps z.second r)))
+  found-snd a u o c g m h l e s t r part = found-part a u o c g m h l e t s (pair_type s t) (pair_ty (unknown o) (unknown u)) (λ b x y. rw (x, y) refl) (λ lt. (omega arith, omega arith)) r part
 
   found-prim : (a : Assignment) (u o c : ℕ) (g : List Slot) (m : Level) (h : List Entry) (l : Level) (p : Prim) (d e : Expression) (t : TermType) → t ≡ primitive_type p → Ready a u o c g m h l t
       → Part o (o + 2) c g m h l d int_type → Part (o + 1) (o + 2 + unknowns_of schemes d) (c + classifiers_of schemes d) g m h l e int_type → Found a u o c g m (prim p d e)
   found-prim a u o c g m h l p d e t q r part next =
       let z = started-starts a o c int_type int_type t 0 in
       let y = r.own in
-      let x : Own a (started a o c int_type int_type t 0) o c (o + 2) c (equation (unknown o) int_ty ∷ equation (unknown (o + 1)) int_ty ∷ equation (unknown u) (primitive_expression p) ∷ []) [] = record {
+      let x : Own a (started a o c int_type int_type t 0) o c (o + 2) c (primitive_equations u o p) [] = record {
         unknowns = omega arith;
         classifiers = omega arith;
         keeps = z.keeps;
@@ -236,7 +232,7 @@ module _ (tops : List TopLevel) (schemes : List TopScheme) (known : AreSchemesOf
   found-bracket a u o c g h k e t r part =
       let z = started-starts a o c t t t k in
       let y = r.own in
-      let x : Own a (started a o c t t t k) o c (o + 1) (c + 1) (equation (unknown u) (code_ty c (unknown o)) ∷ []) [] = record {
+      let x : Own a (started a o c t t t k) o c (o + 1) (c + 1) (bracket_equations u o c) [] = record {
         unknowns = omega arith;
         classifiers = omega arith;
         keeps = z.keeps;
@@ -254,7 +250,7 @@ module _ (tops : List TopLevel) (schemes : List TopScheme) (known : AreSchemesOf
       let y = r.own in
       let w : d < c = r.level in
       let n : a.classifier d ≡ k = let q = r.at in cc in
-      let x : Own a (started a o c (code_type k t) t t 0) o c (o + 1) c (equation (unknown o) (code_ty d (unknown u)) ∷ []) [] = record {
+      let x : Own a (started a o c (code_type k t) t t 0) o c (o + 1) c (escape_equations u o d) [] = record {
         unknowns = omega arith;
         classifiers = omega arith;
         keeps = z.keeps;
@@ -270,7 +266,7 @@ module _ (tops : List TopLevel) (schemes : List TopScheme) (known : AreSchemesOf
   found-run a u o c g h k e t q r part =
       let z = started-starts a o c (closed_type t) t t 0 in
       let y = r.own in
-      let x : Own a (started a o c (closed_type t) t t 0) o c (o + 1) c (equation (unknown o) (closed_ty (kernel_expression k)) ∷ equation (unknown u) (kernel_expression k) ∷ []) [] = record {
+      let x : Own a (started a o c (closed_type t) t t 0) o c (o + 1) c (run_equations u o k) [] = record {
         unknowns = omega arith;
         classifiers = omega arith;
         keeps = z.keeps;
@@ -287,7 +283,7 @@ module _ (tops : List TopLevel) (schemes : List TopScheme) (known : AreSchemesOf
       let z = started-starts a o c t (code_type k t) t k in
       let y = r.own in
       let q = Ready-part (o + 1) (o + 2) (c + 1) (omega arith) (omega arith) (omega arith) z.keeps z.second r in
-      let x : Own a (started a o c t (code_type k t) t k) o c (o + 2) (c + 1) (equation (unknown (o + 1)) (code_ty c (unknown o)) ∷ equation (unknown u) (closed_ty (unknown o)) ∷ []) (record { at = at; classifier = c; scope = g } ∷ []) = record {
+      let x : Own a (started a o c t (code_type k t) t k) o c (o + 2) (c + 1) (close_equations u o c) (record { at = at; classifier = c; scope = g } ∷ []) = record {
         unknowns = omega arith;
         classifiers = omega arith;
         keeps = z.keeps;
@@ -303,7 +299,7 @@ module _ (tops : List TopLevel) (schemes : List TopScheme) (known : AreSchemesOf
   found-open a u o c g h k e t r part =
       let z = started-starts a o c t (closed_type t) t k in
       let y = r.own in
-      let x : Own a (started a o c t (closed_type t) t k) o c (o + 2) (c + 1) (equation (unknown (o + 1)) (closed_ty (unknown o)) ∷ equation (unknown u) (code_ty c (unknown o)) ∷ []) [] = record {
+      let x : Own a (started a o c t (closed_type t) t k) o c (o + 2) (c + 1) (open_equations u o c) [] = record {
         unknowns = omega arith;
         classifiers = omega arith;
         keeps = z.keeps;
@@ -314,34 +310,19 @@ module _ (tops : List TopLevel) (schemes : List TopScheme) (known : AreSchemesOf
       } in
       ending (omega arith) (omega arith) (first x (part _ (Ready-part (o + 1) (o + 2) (c + 1) (omega arith) (omega arith) (omega arith) z.keeps z.second r)))
 
-  found-lift : (a : Assignment) (u o c : ℕ) (g : List Slot) (h : List Entry) (k : ℕ) (e : Expression) → Ready a u o c g live h live (code_type k int_type)
-      → Part o (o + 1) (c + 1) g live h live e int_type → Found a u o c g live (lift e)
-  found-lift a u o c g h k e r part =
-      let z = started-starts a o c int_type int_type int_type k in
+  -- both lifts, at a base type
+  found-lift : (b : Base) (a : Assignment) (u o c : ℕ) (g : List Slot) (h : List Entry) (k : ℕ) (e : Expression) → Ready a u o c g live h live (code_type k (base_type b)) → Part o (o + 1) (c + 1) g live h live e (base_type b)
+      → Grown a o c (o + (1 + unknowns_of schemes e)) (c + (1 + classifiers_of schemes e)) (lift_equations u o c b ++ equations schemes o (o + 1) (c + 1) g live e) (closes schemes (o + 1) (c + 1) g live e)
+  found-lift b a u o c g h k e r part =
+      let z = started-starts a o c (base_type b) int_type int_type k in
       let y = r.own in
-      let x : Own a (started a o c int_type int_type int_type k) o c (o + 1) (c + 1) (equation (unknown o) int_ty ∷ equation (unknown u) (code_ty c int_ty) ∷ []) [] = record {
+      let x : Own a (started a o c (base_type b) int_type int_type k) o c (o + 1) (c + 1) (lift_equations u o c b) [] = record {
         unknowns = omega arith;
         classifiers = omega arith;
         keeps = z.keeps;
-        within = ((omega arith, tt), ((omega arith, (omega arith, tt)), tt));
+        within = ((omega arith, Within-base_expression _ _ b), ((omega arith, (omega arith, Within-base_expression _ _ b)), tt));
         below = tt;
-        solves = (z.first, (Ready-gives z.keeps r ∙ rw z.label refl, tt));
-        fresh = tt;
-      } in
-      ending (omega arith) (omega arith) (first x (part _ (Ready-part o (o + 1) (c + 1) (omega arith) (omega arith) (omega arith) z.keeps z.first r)))
-
-  found-lift_b : (a : Assignment) (u o c : ℕ) (g : List Slot) (h : List Entry) (k : ℕ) (e : Expression) → Ready a u o c g live h live (code_type k bool_type)
-      → Part o (o + 1) (c + 1) g live h live e bool_type → Found a u o c g live (lift_b e)
-  found-lift_b a u o c g h k e r part =
-      let z = started-starts a o c bool_type bool_type bool_type k in
-      let y = r.own in
-      let x : Own a (started a o c bool_type bool_type bool_type k) o c (o + 1) (c + 1) (equation (unknown o) bool_ty ∷ equation (unknown u) (code_ty c bool_ty) ∷ []) [] = record {
-        unknowns = omega arith;
-        classifiers = omega arith;
-        keeps = z.keeps;
-        within = ((omega arith, tt), ((omega arith, (omega arith, tt)), tt));
-        below = tt;
-        solves = (z.first, (Ready-gives z.keeps r ∙ rw z.label refl, tt));
+        solves = (z.first ∙ sym (value-base_expression _ b), (Ready-gives z.keeps r ∙ rw (z.label, value-base_expression (started a o c (base_type b) int_type int_type k) b) refl, tt));
         fresh = tt;
       } in
       ending (omega arith) (omega arith) (first x (part _ (Ready-part o (o + 1) (c + 1) (omega arith) (omega arith) (omega arith) z.keeps z.first r)))
@@ -385,8 +366,8 @@ module _ (tops : List TopLevel) (schemes : List TopScheme) (known : AreSchemesOf
   typed_solved a u o c g (under i) w r (t_close p f d) = let e = r.at in absurd (cc)
   typed_solved a u o c g live w r (t_open {g = h} {a = k} {e = e} {t = t} p d) = found-open a u o c g h k e t r (λ b x. typed_solved b (o + 1) (o + 2) (c + 1) g live w x d)
   typed_solved a u o c g (under i) w r (t_open p d) = let e = r.at in absurd (cc)
-  typed_solved a u o c g live w r (t_lift {g = h} {a = k} {e = e} d) = found-lift a u o c g h k e r (λ b x. typed_solved b o (o + 1) (c + 1) g live w x d)
+  typed_solved a u o c g live w r (t_lift {g = h} {a = k} {e = e} d) = found-lift Int a u o c g h k e r (λ b x. typed_solved b o (o + 1) (c + 1) g live w x d)
   typed_solved a u o c g (under i) w r (t_lift d) = let e = r.at in absurd (cc)
-  typed_solved a u o c g live w r (t_lift_b {g = h} {a = k} {e = e} d) = found-lift_b a u o c g h k e r (λ b x. typed_solved b o (o + 1) (c + 1) g live w x d)
+  typed_solved a u o c g live w r (t_lift_b {g = h} {a = k} {e = e} d) = found-lift Bool a u o c g h k e r (λ b x. typed_solved b o (o + 1) (c + 1) g live w x d)
   typed_solved a u o c g (under i) w r (t_lift_b d) = let e = r.at in absurd (cc)
   typed_solved a u o c g m w r (t_done v) = absurd w

@@ -34,7 +34,7 @@ Within-shifted n m o c k l (function_ty s t) w p q = (Within-shifted n m o c k l
 Within-shifted n m o c k l (code_ty d t) w p q = (omega (arith, w.0), Within-shifted n m o c k l t w.1 p q)
 Within-shifted n m o c k l (closed_ty t) w p q = Within-shifted n m o c k l t w p q
 
-value-base_expression : (a : Assignment) (b : Base) → value a (base_expression b) ≡ base_type b
+pub value-base_expression : (a : Assignment) (b : Base) → value a (base_expression b) ≡ base_type b
 value-base_expression a Int = refl
 value-base_expression a Truth = refl
 
@@ -56,7 +56,7 @@ value-primitive_expression a Eq = refl
 value-primitive_expression a Lt = refl
 value-primitive_expression a Le = refl
 
-Within-base_expression : (n m : ℕ) (b : Base) → Within n m (base_expression b)
+pub Within-base_expression : (n m : ℕ) (b : Base) → Within n m (base_expression b)
 Within-base_expression n m Int = tt
 Within-base_expression n m Truth = tt
 

@@ -1,35 +1,47 @@
 -- What the emission of a term's equations adds to those that are there.
-use Rattle.std.specs.Prelude.{ℕ, ◌≡◌, ◌+◌, ◌^◌, ◌≤◌, List, [], ◌∷◌, ◌++◌, map}
+use Rattle.std.specs.Prelude.{ℕ, ◌≡◌, ◌+◌, ◌^◌, ◌≤◌, List, [], ◌∷◌, ◌++◌, map, Option}
 use Rattle.mw_term.specs.Terms.{Expression, fun, fix, bind, bracket, escape, run, close, opened, lift, lift_b}
-use Rattle.mw_term.specs.Types.{Level}
+use Rattle.mw_term.specs.Types.{Level, live}
 use Rattle.mw_term.specs.Scoped.{IsScoped}
 use Rattle.mw_types.specs.Types.{Within}
 use Rattle.mw_types.specs.Equations.{TypeEquation, equations_of}
 use Rattle.mw_infer.specs.declared.output.Spot.{Spot}
 use Rattle.mw_infer.specs.declared.output.Output.{Output}
 use Rattle.mw_infer.specs.Schemes.{TopScheme, let_scheme, kernel_scheme, scheme_out_of_scope}
-use Rattle.mw_infer.specs.ItemEquations.{Slot, Close, unknowns_of, classifiers_of, equations, closes}
+use Rattle.mw_infer.specs.ItemEquations.{Slot, Close, unknowns_of_name, classifiers_of_name, name_equations, unknowns_of, classifiers_of, equations, closes}
 use Rattle.mw_infer.specs.Scoped.{is_quoted, is_quoted_slot, has_scheme}
 use Rattle.mw_infer.specs.Views.{slot_of}
 
+-- the views of one close and of several
 abbrev pub close_of : Spot → Close
 close_of s = record { at = s.at; classifier = s.classifier; scope = map slot_of s.scope.items }
+
+abbrev pub closes_of : List Spot → List Close
+closes_of xs = map close_of xs
 
 -- so many new unknowns and classifier unknowns, and these equations and closes after those that were there
 pub record Adds (old new : Output) (n m : ℕ) (es : List TypeEquation) (xs : List Close) : Type 0 where
   pub unknowns : new.unknowns ≡ old.unknowns + n
   pub classifiers : new.classifiers ≡ old.classifiers + m
   pub equations : equations_of new.pairs ≡ equations_of old.pairs ++ es
-  pub closes : map close_of new.closes.items ≡ map close_of old.closes.items ++ xs
+  pub closes : closes_of new.closes.items ≡ closes_of old.closes.items ++ xs
 
 -- those of a term
 abbrev pub AddsTerm : Output → Output → List TopScheme → ℕ → List Slot → Level → Expression → Type 0
 AddsTerm old new tops u g m e = Adds old new (unknowns_of tops e) (classifiers_of tops e) (equations tops u old.unknowns old.classifiers g m e) (closes tops old.unknowns old.classifiers g m e)
 
+-- those of a top-level name of level 0, whose type is u
+abbrev pub AddsName : Output → Output → ℕ → Option TopScheme → Type 0
+AddsName old new u s = Adds old new (unknowns_of_name s) (classifiers_of_name s) (name_equations u old.unknowns old.classifiers live s) []
+
 -- there are numbers for so many more
 pub record HasRoom (old : Output) (n m : ℕ) : Type 0 where
   pub unknowns : old.unknowns + n ≤ 2 ^ 63
   pub classifiers : old.classifiers + m ≤ 2 ^ 63
+
+-- and for those of a top-level name
+abbrev pub HasRoomForName : Output → Option TopScheme → Type 0
+HasRoomForName old s = HasRoom old (unknowns_of_name s) (classifiers_of_name s)
 
 -- each let's type names numbers below 2 ^ 63
 abbrev pub AreLow : List TopScheme → Type 0

@@ -5,11 +5,14 @@
 -- parts' types, and then what the parts themselves need, in their order. Classifier unknowns are numbered in the same
 -- way.
 use Rattle.std.specs.Prelude.{ℕ, ◌+◌, List, [], ◌∷◌, ◌++◌, Option, Some, None, slice_get}
-use Rattle.mw_term.specs.Terms.{Expression, num, truth, var, glob, fun, fix, app, bind, cond, pair, fst, snd, prim, bracket, escape, run, close, opened, lift, lift_b, done}
+use Rattle.mw_term.specs.declared.term.Base.{Base}
+use Rattle.mw_term.specs.declared.term.Base.TheVariants.{Int, Bool}
+use Rattle.mw_term.specs.declared.term.Primitive.{Primitive as Prim}
+use Rattle.mw_term.specs.Terms.{Expression, KernelType, num, truth, var, glob, fun, fix, app, bind, cond, pair, fst, snd, prim, bracket, escape, run, close, opened, lift, lift_b, done}
 use Rattle.mw_term.specs.Types.{Level, live, under}
 use Rattle.mw_types.specs.Types.{TypeExpression, int_ty, bool_ty, unknown, pair_ty, function_ty, code_ty, closed_ty}
 use Rattle.mw_types.specs.Equations.{TypeEquation}
-use Rattle.mw_infer.specs.Schemes.{TopScheme, let_scheme, kernel_scheme, scheme_out_of_scope, shifted, kernel_expression, primitive_expression}
+use Rattle.mw_infer.specs.Schemes.{TopScheme, let_scheme, kernel_scheme, scheme_out_of_scope, shifted, base_expression, kernel_expression, primitive_expression}
 
 -- what an environment knows of a binder: its unknown, and at level 1 the classifier unknown under which it stands
 pub data Slot : Type 0 where
@@ -106,6 +109,55 @@ name_equations u o c live (Some scheme_out_of_scope) = wrong
 name_equations u o c live None = wrong
 name_equations u o c (under a) s = wrong
 
+-- The equations that each form has of its own, before those of its parts: u is its type's unknown, and o and c are the
+-- next free numbers of unknowns and of classifier unknowns.
+abbrev pub function_equations : ℕ → ℕ → List TypeEquation
+function_equations u o = equation (unknown u) (function_ty (unknown o) (unknown (o + 1))) ∷ []
+
+abbrev pub recursion_equations : ℕ → ℕ → List TypeEquation
+recursion_equations u o = equation (unknown (o + 1)) (function_ty (unknown o) (unknown (o + 2))) ∷ equation (unknown u) (unknown (o + 1)) ∷ []
+
+abbrev pub application_equations : ℕ → ℕ → List TypeEquation
+application_equations u o = equation (unknown o) (function_ty (unknown (o + 1)) (unknown u)) ∷ []
+
+abbrev pub let_equations : ℕ → ℕ → List TypeEquation
+let_equations u o = equation (unknown o) (unknown (o + 1)) ∷ equation (unknown u) (unknown (o + 2)) ∷ []
+
+abbrev pub condition_equations : ℕ → ℕ → List TypeEquation
+condition_equations u o = equation (unknown o) bool_ty ∷ equation (unknown (o + 1)) (unknown u) ∷ equation (unknown (o + 2)) (unknown u) ∷ []
+
+abbrev pub pair_equations : ℕ → ℕ → List TypeEquation
+pair_equations u o = equation (unknown u) (pair_ty (unknown o) (unknown (o + 1))) ∷ []
+
+abbrev pub first_equations : ℕ → ℕ → List TypeEquation
+first_equations u o = equation (unknown (o + 1)) (pair_ty (unknown u) (unknown o)) ∷ []
+
+abbrev pub second_equations : ℕ → ℕ → List TypeEquation
+second_equations u o = equation (unknown (o + 1)) (pair_ty (unknown o) (unknown u)) ∷ []
+
+abbrev pub primitive_equations : ℕ → ℕ → Prim → List TypeEquation
+primitive_equations u o p = equation (unknown o) int_ty ∷ equation (unknown (o + 1)) int_ty ∷ equation (unknown u) (primitive_expression p) ∷ []
+
+abbrev pub bracket_equations : ℕ → ℕ → ℕ → List TypeEquation
+bracket_equations u o c = equation (unknown u) (code_ty c (unknown o)) ∷ []
+
+-- under the classifier unknown a
+abbrev pub escape_equations : ℕ → ℕ → ℕ → List TypeEquation
+escape_equations u o a = equation (unknown o) (code_ty a (unknown u)) ∷ []
+
+abbrev pub run_equations : ℕ → ℕ → KernelType → List TypeEquation
+run_equations u o k = equation (unknown o) (closed_ty (kernel_expression k)) ∷ equation (unknown u) (kernel_expression k) ∷ []
+
+abbrev pub close_equations : ℕ → ℕ → ℕ → List TypeEquation
+close_equations u o c = equation (unknown (o + 1)) (code_ty c (unknown o)) ∷ equation (unknown u) (closed_ty (unknown o)) ∷ []
+
+abbrev pub open_equations : ℕ → ℕ → ℕ → List TypeEquation
+open_equations u o c = equation (unknown (o + 1)) (closed_ty (unknown o)) ∷ equation (unknown u) (code_ty c (unknown o)) ∷ []
+
+-- of a lift at a base type
+abbrev pub lift_equations : ℕ → ℕ → ℕ → Base → List TypeEquation
+lift_equations u o c b = equation (unknown o) (base_expression b) ∷ equation (unknown u) (code_ty c (base_expression b)) ∷ []
+
 -- The equations of a term in an environment, at a level: u is its type's unknown, and o and c are the next free numbers
 -- of unknowns and of classifier unknowns.
 abbrev pub equations : List TopScheme → ℕ → ℕ → ℕ → List Slot → Level → Expression → List TypeEquation
@@ -113,28 +165,28 @@ equations tops u o c g m (num n) = equation (unknown u) int_ty ∷ []
 equations tops u o c g m (truth b) = equation (unknown u) bool_ty ∷ []
 equations tops u o c g m (var i) = variable_equations u m (slice_get g i)
 equations tops u o c g m (glob i) = name_equations u o c m (slice_get tops i)
-equations tops u o c g m (fun e) = equation (unknown u) (function_ty (unknown o) (unknown (o + 1))) ∷ equations tops (o + 1) (o + 2) c (slot m o ∷ g) m e
-equations tops u o c g m (fix e) = equation (unknown (o + 1)) (function_ty (unknown o) (unknown (o + 2))) ∷ equation (unknown u) (unknown (o + 1)) ∷ equations tops (o + 2) (o + 3) c (slot m o ∷ slot m (o + 1) ∷ g) m e
-equations tops u o c g m (app f a) = equation (unknown o) (function_ty (unknown (o + 1)) (unknown u)) ∷ (equations tops o (o + 2) c g m f ++ equations tops (o + 1) (o + 2 + unknowns_of tops f) (c + classifiers_of tops f) g m a)
-equations tops u o c g m (bind d e) = equation (unknown o) (unknown (o + 1)) ∷ equation (unknown u) (unknown (o + 2)) ∷ (equations tops (o + 1) (o + 3) c g m d ++ equations tops (o + 2) (o + 3 + unknowns_of tops d) (c + classifiers_of tops d) (slot m o ∷ g) m e)
-equations tops u o c g m (cond p a b) = equation (unknown o) bool_ty ∷ equation (unknown (o + 1)) (unknown u) ∷ equation (unknown (o + 2)) (unknown u) ∷ ((equations tops o (o + 3) c g m p ++ equations tops (o + 1) (o + 3 + unknowns_of tops p) (c + classifiers_of tops p) g m a) ++ equations tops (o + 2) (o + 3 + unknowns_of tops p + unknowns_of tops a) (c + classifiers_of tops p + classifiers_of tops a) g m b)
-equations tops u o c g m (pair a b) = equation (unknown u) (pair_ty (unknown o) (unknown (o + 1))) ∷ (equations tops o (o + 2) c g m a ++ equations tops (o + 1) (o + 2 + unknowns_of tops a) (c + classifiers_of tops a) g m b)
-equations tops u o c g m (fst e) = equation (unknown (o + 1)) (pair_ty (unknown u) (unknown o)) ∷ equations tops (o + 1) (o + 2) c g m e
-equations tops u o c g m (snd e) = equation (unknown (o + 1)) (pair_ty (unknown o) (unknown u)) ∷ equations tops (o + 1) (o + 2) c g m e
-equations tops u o c g m (prim p a b) = equation (unknown o) int_ty ∷ equation (unknown (o + 1)) int_ty ∷ equation (unknown u) (primitive_expression p) ∷ (equations tops o (o + 2) c g m a ++ equations tops (o + 1) (o + 2 + unknowns_of tops a) (c + classifiers_of tops a) g m b)
-equations tops u o c g live (bracket e) = equation (unknown u) (code_ty c (unknown o)) ∷ equations tops o (o + 1) (c + 1) g (under c) e
+equations tops u o c g m (fun e) = function_equations u o ++ equations tops (o + 1) (o + 2) c (slot m o ∷ g) m e
+equations tops u o c g m (fix e) = recursion_equations u o ++ equations tops (o + 2) (o + 3) c (slot m o ∷ slot m (o + 1) ∷ g) m e
+equations tops u o c g m (app f a) = application_equations u o ++ (equations tops o (o + 2) c g m f ++ equations tops (o + 1) (o + 2 + unknowns_of tops f) (c + classifiers_of tops f) g m a)
+equations tops u o c g m (bind d e) = let_equations u o ++ (equations tops (o + 1) (o + 3) c g m d ++ equations tops (o + 2) (o + 3 + unknowns_of tops d) (c + classifiers_of tops d) (slot m o ∷ g) m e)
+equations tops u o c g m (cond p a b) = condition_equations u o ++ ((equations tops o (o + 3) c g m p ++ equations tops (o + 1) (o + 3 + unknowns_of tops p) (c + classifiers_of tops p) g m a) ++ equations tops (o + 2) (o + 3 + unknowns_of tops p + unknowns_of tops a) (c + classifiers_of tops p + classifiers_of tops a) g m b)
+equations tops u o c g m (pair a b) = pair_equations u o ++ (equations tops o (o + 2) c g m a ++ equations tops (o + 1) (o + 2 + unknowns_of tops a) (c + classifiers_of tops a) g m b)
+equations tops u o c g m (fst e) = first_equations u o ++ equations tops (o + 1) (o + 2) c g m e
+equations tops u o c g m (snd e) = second_equations u o ++ equations tops (o + 1) (o + 2) c g m e
+equations tops u o c g m (prim p a b) = primitive_equations u o p ++ (equations tops o (o + 2) c g m a ++ equations tops (o + 1) (o + 2 + unknowns_of tops a) (c + classifiers_of tops a) g m b)
+equations tops u o c g live (bracket e) = bracket_equations u o c ++ equations tops o (o + 1) (c + 1) g (under c) e
 equations tops u o c g (under a) (bracket e) = wrong
 equations tops u o c g live (escape e) = wrong
-equations tops u o c g (under a) (escape e) = equation (unknown o) (code_ty a (unknown u)) ∷ equations tops o (o + 1) c g live e
-equations tops u o c g live (run k e) = equation (unknown o) (closed_ty (kernel_expression k)) ∷ equation (unknown u) (kernel_expression k) ∷ equations tops o (o + 1) c g live e
+equations tops u o c g (under a) (escape e) = escape_equations u o a ++ equations tops o (o + 1) c g live e
+equations tops u o c g live (run k e) = run_equations u o k ++ equations tops o (o + 1) c g live e
 equations tops u o c g (under a) (run k e) = wrong
-equations tops u o c g live (close at e) = equation (unknown (o + 1)) (code_ty c (unknown o)) ∷ equation (unknown u) (closed_ty (unknown o)) ∷ equations tops (o + 1) (o + 2) (c + 1) g live e
+equations tops u o c g live (close at e) = close_equations u o c ++ equations tops (o + 1) (o + 2) (c + 1) g live e
 equations tops u o c g (under a) (close at e) = wrong
-equations tops u o c g live (opened e) = equation (unknown (o + 1)) (closed_ty (unknown o)) ∷ equation (unknown u) (code_ty c (unknown o)) ∷ equations tops (o + 1) (o + 2) (c + 1) g live e
+equations tops u o c g live (opened e) = open_equations u o c ++ equations tops (o + 1) (o + 2) (c + 1) g live e
 equations tops u o c g (under a) (opened e) = wrong
-equations tops u o c g live (lift e) = equation (unknown o) int_ty ∷ equation (unknown u) (code_ty c int_ty) ∷ equations tops o (o + 1) (c + 1) g live e
+equations tops u o c g live (lift e) = lift_equations u o c Int ++ equations tops o (o + 1) (c + 1) g live e
 equations tops u o c g (under a) (lift e) = wrong
-equations tops u o c g live (lift_b e) = equation (unknown o) bool_ty ∷ equation (unknown u) (code_ty c bool_ty) ∷ equations tops o (o + 1) (c + 1) g live e
+equations tops u o c g live (lift_b e) = lift_equations u o c Bool ++ equations tops o (o + 1) (c + 1) g live e
 equations tops u o c g (under a) (lift_b e) = wrong
 equations tops u o c g m (done v) = wrong
 

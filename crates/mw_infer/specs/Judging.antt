@@ -2,8 +2,9 @@
 use Rattle.std.specs.Prelude.{ℕ, ◌≡◌, ◌≤◌, ◌^◌, false, List, [], map}
 use Rattle.mw_term.specs.Terms.{Expression, ground_of, kernel_type_of}
 use Rattle.mw_term.specs.Scoped.{IsScoped}
-use Rattle.mw_types.specs.Types.{Substitution, after}
+use Rattle.mw_types.specs.Types.{Assignment, Substitution, after}
 use Rattle.mw_types.specs.Equations.{equations_of, MostGeneral, IsSmall, StaysWithin, FirstUnsolvable, FirstTooBig}
+use Rattle.mw_types.specs.Solutions.{Solution, substitution_of}
 use Rattle.mw_infer.specs.declared.judge.Verdict.{Verdict}
 use Rattle.mw_infer.specs.declared.judge.Verdict.TheVariants.{Fine, IllTyped, TooBig, NotClosed}
 use Rattle.mw_infer.specs.declared.own.Asked.{Asked}
@@ -15,7 +16,7 @@ use Rattle.mw_infer.specs.Checking.{IsFirstOpen}
 use Rattle.mw_infer.specs.Numbering.{IsRenumbering}
 use Rattle.mw_infer.specs.Scoped.{has_scheme}
 use Rattle.mw_infer.specs.declared.output.Output.{Output}
-use Rattle.mw_infer.specs.Emitting.{AreLow, close_of}
+use Rattle.mw_infer.specs.Emitting.{AreLow, closes_of}
 use Rattle.mw_infer.specs.Views.{scheme_of}
 
 abbrev pub place_of : Asked → Place
@@ -30,6 +31,10 @@ pub record CanJudge (schemes : List TopScheme) (e : Expression) : Type 0 where
   pub low : AreLow schemes
   pub unknowns : item_unknowns schemes e ≤ 2 ^ 63
   pub classifiers : item_classifiers schemes e ≤ 2 ^ 63
+
+-- the solution with the least types for what it leaves open
+abbrev pub least_of : Solution → Assignment
+least_of s = after least (substitution_of s)
 
 -- the offset of the first close that is not fresh
 abbrev pub IsFirstOpenAt : Substitution → List Close → ℕ → Type 0
@@ -52,4 +57,4 @@ pub record IsEmitted (schemes : List TopScheme) (place : Place) (e : Expression)
   pub unknowns : out.unknowns ≡ item_unknowns schemes e
   pub classifiers : out.classifiers ≡ item_classifiers schemes e
   pub equations : equations_of out.pairs ≡ item_equations schemes place e
-  pub closes : map close_of out.closes.items ≡ item_closes schemes e
+  pub closes : closes_of out.closes.items ≡ item_closes schemes e

@@ -7,7 +7,7 @@ use Rattle.mw_types.specs.Types.{TypeExpression, int_ty, closed_ty}
 use Rattle.mw_term.specs.Typable.{seen_by_item}
 use Rattle.mw_infer.specs.Schemes.{TopScheme, let_scheme, kernel_scheme, scheme_out_of_scope, kernel_expression}
 use Rattle.mw_infer.specs.Inferring.{Place, let_place, kernel_place}
-use Rattle.mw_infer.specs.Checking.{Part, IsPart, ArePrincipal, TypeFault, HasFault, IsFaultless, refusal_of}
+use Rattle.mw_infer.specs.Checking.{Part, part_of_item, IsPart, ArePrincipal, TypeFault, HasFault, IsFaultless, refusal_of}
 use Rattle.mw_infer.specs.Judging.{Judges}
 use Rattle.mw_infer.specs.Views.{scheme_of}
 use Rattle.mw_infer.specs.declared.judge.Verdict.TheVariants.{Fine}
@@ -29,6 +29,10 @@ pub record Progress (p : PureProgram) (i : ℕ) (schemes : List TopScheme) : Typ
 -- the refusal is that of a fault of the term at its place, where it is part i
 abbrev pub IsFaultOf : List TopScheme → Place → Expression → ℕ → Refusal → Type 0
 IsFaultOf schemes place e i r = (f : TypeFault) × HasFault schemes place e f × (r ≡ refusal_of i f)
+
+-- the same of an item's definition
+abbrev pub IsFaultOfItem : List TopScheme → Definition → ℕ → Refusal → Type 0
+IsFaultOfItem schemes d i r = IsFaultOf schemes (part_of_item [] d).place (part_of_item [] d).term i r
 
 -- after an item that is without fault there are these schemes
 abbrev pub Steps : List TopScheme → Definition → List TopScheme → Type 0

@@ -1,10 +1,9 @@
 -- What a top-level name has where a term's equations use it, and the types without unknowns as types with unknowns.
 use Rattle.std.specs.Prelude.{ℕ, suc, ◌≡◌, ◌+◌, ◌<◌, List, [], ◌∷◌}
 use Rattle.mw_term.specs.declared.term.Base.{Base}
-use Rattle.mw_term.specs.declared.term.Base.TheVariants.{Int, Bool}
 use Rattle.mw_term.specs.declared.term.Primitive.{Primitive as Prim}
-use Rattle.mw_term.specs.declared.term.Primitive.TheVariants.{Add, Sub, Mul, Div, Mod, Eq, Lt, Le}
-use Rattle.mw_term.specs.Terms.{KernelType, GroundType, base, product, of_ground, to}
+use Rattle.mw_term.specs.Terms.{KernelType, GroundType}
+use Rattle.mw_term.specs.Types.{base_in, ground_in, kernel_in, primitive_in}
 use Rattle.mw_types.specs.Types.{TypeExpression, int_ty, bool_ty, unknown, pair_ty, function_ty, code_ty, closed_ty, Within}
 
 -- a let's most general type: it names the first so many unknowns and the first so many classifier unknowns
@@ -53,26 +52,15 @@ shifted o c (function_ty s t) = function_ty (shifted o c s) (shifted o c t)
 shifted o c (code_ty d t) = code_ty (c + d) (shifted o c t)
 shifted o c (closed_ty t) = closed_ty (shifted o c t)
 
--- base types, ground types and kernel types
+-- base types, ground types, kernel types and the types of what primitives give, as types with unknowns
 abbrev pub base_expression : Base → TypeExpression
-base_expression Int = int_ty
-base_expression Bool = bool_ty
+base_expression b = base_in int_ty bool_ty b
 
 abbrev pub ground_expression : GroundType → TypeExpression
-ground_expression (base b) = base_expression b
-ground_expression (product s t) = pair_ty (ground_expression s) (ground_expression t)
+ground_expression t = ground_in int_ty bool_ty pair_ty t
 
 abbrev pub kernel_expression : KernelType → TypeExpression
-kernel_expression (of_ground t) = ground_expression t
-kernel_expression (to s t) = function_ty (ground_expression s) (ground_expression t)
+kernel_expression k = kernel_in int_ty bool_ty pair_ty function_ty k
 
--- the type of what a primitive gives of two integers
 abbrev pub primitive_expression : Prim → TypeExpression
-primitive_expression Add = int_ty
-primitive_expression Sub = int_ty
-primitive_expression Mul = int_ty
-primitive_expression Div = int_ty
-primitive_expression Mod = int_ty
-primitive_expression Eq = bool_ty
-primitive_expression Lt = bool_ty
-primitive_expression Le = bool_ty
+primitive_expression p = primitive_in int_ty bool_ty p

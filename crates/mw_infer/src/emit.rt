@@ -12,9 +12,16 @@ use crate::names::TopScheme;
 use crate::output::{Output, Spot, equate};
 use crate::own;
 use crate::scope::{Binder, Level, Scope, find, listed};
-use mw_term::Term;
+use mw_term::{Base, Term};
 use mw_types::Ty;
 use std::alloc::{AllocError, Global};
+
+/// What all parts of a term share: where memory comes from, and what top-level names have.
+#[derive(Clone, Copy)]
+pub struct Setting<'a> {
+    pub alloc: Global,
+    pub names: &'a [TopScheme<'a>],
+}
 
 /// A binder at the level where it stands.
 fn bound(level: Level, unknown: u64) -> Binder
@@ -30,55 +37,54 @@ fn bound(level: Level, unknown: u64) -> Binder
 #[cycle(emission)]
 pub fn emit(
     term: &Term,
-    alloc: Global,
-    names: &[TopScheme],
+    setting: &Setting,
     scope: &Scope,
     level: Level,
     own: u64,
     out: &mut Output,
 ) -> Result<(), AllocError>
-    requires { CanEmit out.old (tops_of names.now) (slots_of scope.now) (level_at level) (expression_of term.now) }
-    ensures { OnOk result (AddsTerm out.old out.new (tops_of names.now) own (slots_of scope.now) (level_at level) (expression_of term.now)) }
+    requires { CanEmit out.old (tops_of setting.now.names.now) (slots_of scope.now) (level_at level) (expression_of term.now) }
+    ensures { OnOk result (AddsTerm out.old out.new (tops_of setting.now.names.now) own (slots_of scope.now) (level_at level) (expression_of term.now)) }
 {
     let o = out.unknowns;
     match term {
         Term::Int(_) => equate(out, Ty::Unknown(own), Ty::Int),
         Term::Bool(_) => equate(out, Ty::Unknown(own), Ty::Bool),
-        Term::Var(number) => own::variable(alloc, out, own, level, find(scope, *number)),
-        Term::Glob(index) => own::name(alloc, names, out, own, *index),
+        Term::Var(number) => own::variable(setting.alloc, out, own, level, find(scope, *number)),
+        Term::Glob(index) => own::name(setting.alloc, setting.names, out, own, *index),
         Term::Fun(_) | Term::Rec(_) | Term::Let(_, _) => {
-            binding(term, alloc, names, scope, level, own, out)
+            binding(term, setting, scope, level, own, out)
         }
         Term::App(f, a) => {
-            own::application(alloc, out, own)?;
-            emit(f, alloc, names, scope, level, o, out)?;
-            emit(a, alloc, names, scope, level, o + 1, out)
+            own::application(setting.alloc, out, own)?;
+            emit(f, setting, scope, level, o, out)?;
+            emit(a, setting, scope, level, o + 1, out)
         }
         Term::If(p, a, b) => {
             own::condition(out, own)?;
-            emit(p, alloc, names, scope, level, o, out)?;
-            emit(a, alloc, names, scope, level, o + 1, out)?;
-            emit(b, alloc, names, scope, level, o + 2, out)
+            emit(p, setting, scope, level, o, out)?;
+            emit(a, setting, scope, level, o + 1, out)?;
+            emit(b, setting, scope, level, o + 2, out)
         }
         Term::Pair(a, b) => {
-            own::pairing(alloc, out, own)?;
-            emit(a, alloc, names, scope, level, o, out)?;
-            emit(b, alloc, names, scope, level, o + 1, out)
+            own::pairing(setting.alloc, out, own)?;
+            emit(a, setting, scope, level, o, out)?;
+            emit(b, setting, scope, level, o + 1, out)
         }
         Term::Fst(e) => {
-            own::first_part(alloc, out, own)?;
-            emit(e, alloc, names, scope, level, o + 1, out)
+            own::first_part(setting.alloc, out, own)?;
+            emit(e, setting, scope, level, o + 1, out)
         }
         Term::Snd(e) => {
-            own::second_part(alloc, out, own)?;
-            emit(e, alloc, names, scope, level, o + 1, out)
+            own::second_part(setting.alloc, out, own)?;
+            emit(e, setting, scope, level, o + 1, out)
         }
         Term::Prim(prim, a, b) => {
             own::operation(out, own, *prim)?;
-            emit(a, alloc, names, scope, level, o, out)?;
-            emit(b, alloc, names, scope, level, o + 1, out)
+            emit(a, setting, scope, level, o, out)?;
+            emit(b, setting, scope, level, o + 1, out)
         }
-        _ => staging(term, alloc, names, scope, level, own, out),
+        _ => staging(term, setting, scope, level, own, out),
     }
 }
 
@@ -86,35 +92,34 @@ pub fn emit(
 #[cycle(emission)]
 fn binding(
     term: &Term,
-    alloc: Global,
-    names: &[TopScheme],
+    setting: &Setting,
     scope: &Scope,
     level: Level,
     own: u64,
     out: &mut Output,
 ) -> Result<(), AllocError>
-    requires room { CanEmit out.old (tops_of names.now) (slots_of scope.now) (level_at level) (expression_of term.now) }
+    requires room { CanEmit out.old (tops_of setting.now.names.now) (slots_of scope.now) (level_at level) (expression_of term.now) }
     requires form { Binds (expression_of term.now) }
-    ensures { OnOk result (AddsTerm out.old out.new (tops_of names.now) own (slots_of scope.now) (level_at level) (expression_of term.now)) }
+    ensures { OnOk result (AddsTerm out.old out.new (tops_of setting.now.names.now) own (slots_of scope.now) (level_at level) (expression_of term.now)) }
 {
     let o = out.unknowns;
     match term {
         Term::Fun(e) => {
-            own::lambda(alloc, out, own)?;
+            own::lambda(setting.alloc, out, own)?;
             let inner = Scope::Bound(bound(level, o), &*scope);
-            emit(e, alloc, names, &inner, level, o + 1, out)
+            emit(e, setting, &inner, level, o + 1, out)
         }
         Term::Rec(e) => {
-            own::recursive(alloc, out, own)?;
+            own::recursive(setting.alloc, out, own)?;
             let outer = Scope::Bound(bound(level, o + 1), &*scope);
             let inner = Scope::Bound(bound(level, o), &outer);
-            emit(e, alloc, names, &inner, level, o + 2, out)
+            emit(e, setting, &inner, level, o + 2, out)
         }
         Term::Let(d, e) => {
             own::binding(out, own)?;
-            emit(d, alloc, names, scope, level, o + 1, out)?;
+            emit(d, setting, scope, level, o + 1, out)?;
             let inner = Scope::Bound(bound(level, o), &*scope);
-            emit(e, alloc, names, &inner, level, o + 2, out)
+            emit(e, setting, &inner, level, o + 2, out)
         }
         _ => unreachable!(),
     }
@@ -124,49 +129,48 @@ fn binding(
 #[cycle(emission)]
 fn staging(
     term: &Term,
-    alloc: Global,
-    names: &[TopScheme],
+    setting: &Setting,
     scope: &Scope,
     level: Level,
     own: u64,
     out: &mut Output,
 ) -> Result<(), AllocError>
-    requires room { CanEmit out.old (tops_of names.now) (slots_of scope.now) (level_at level) (expression_of term.now) }
+    requires room { CanEmit out.old (tops_of setting.now.names.now) (slots_of scope.now) (level_at level) (expression_of term.now) }
     requires form { IsStaging (expression_of term.now) }
-    ensures { OnOk result (AddsTerm out.old out.new (tops_of names.now) own (slots_of scope.now) (level_at level) (expression_of term.now)) }
+    ensures { OnOk result (AddsTerm out.old out.new (tops_of setting.now.names.now) own (slots_of scope.now) (level_at level) (expression_of term.now)) }
 {
     let o = out.unknowns;
     match term {
         Term::Bracket(e) => {
             let classifier = out.classifiers;
-            own::bracket(alloc, out, own)?;
-            emit(e, alloc, names, scope, Level::Under(classifier), o, out)
+            own::bracket(setting.alloc, out, own)?;
+            emit(e, setting, scope, Level::Under(classifier), o, out)
         }
         Term::Escape(e) => {
-            own::escape(alloc, out, own, classifier_of(level))?;
-            emit(e, alloc, names, scope, Level::Live, o, out)
+            own::escape(setting.alloc, out, own, classifier_of(level))?;
+            emit(e, setting, scope, Level::Live, o, out)
         }
         Term::Run(kind, e) => {
-            own::run(alloc, out, own, kind)?;
-            emit(e, alloc, names, scope, level, o, out)
+            own::run(setting.alloc, out, own, kind)?;
+            emit(e, setting, scope, level, o, out)
         }
         Term::CloseCode(at, e) => {
             let classifier = out.classifiers;
-            own::close(alloc, out, own)?;
-            close_here(alloc, out, *at, classifier, scope)?;
-            emit(e, alloc, names, scope, level, o + 1, out)
+            own::close(setting.alloc, out, own)?;
+            close_here(setting.alloc, out, *at, classifier, scope)?;
+            emit(e, setting, scope, level, o + 1, out)
         }
         Term::OpenCode(e) => {
-            own::open(alloc, out, own)?;
-            emit(e, alloc, names, scope, level, o + 1, out)
+            own::open(setting.alloc, out, own)?;
+            emit(e, setting, scope, level, o + 1, out)
         }
         Term::Lift(e) => {
-            own::lift(alloc, out, own)?;
-            emit(e, alloc, names, scope, level, o, out)
+            own::lift(setting.alloc, out, own, Base::Int)?;
+            emit(e, setting, scope, level, o, out)
         }
         Term::LiftB(e) => {
-            own::lift_truth(alloc, out, own)?;
-            emit(e, alloc, names, scope, level, o, out)
+            own::lift(setting.alloc, out, own, Base::Bool)?;
+            emit(e, setting, scope, level, o, out)
         }
         _ => unreachable!(),
     }

@@ -2,12 +2,12 @@
 
 ghost use Rattle.std.specs.Prelude.{◌<◌, ◌↔◌, IsTrue, MatchOption, length, map};
 ghost use Rattle.mw_term.specs.Types.{IsAbsent, IsAbsentAt, IsAbsentIn};
-ghost use Rattle.mw_types.specs.Types.{after, type_of, value};
+ghost use Rattle.mw_types.specs.Types.{type_of, value};
 ghost use Rattle.mw_types.specs.Solutions.{substitution_of};
 ghost use Rattle.mw_infer.specs.Inferring.{AreFresh, entry_of, least};
-ghost use Rattle.mw_infer.specs.Emitting.{close_of};
+ghost use Rattle.mw_infer.specs.Emitting.{closes_of};
 ghost use Rattle.mw_infer.specs.Below.{ClosesBelow, SlotBelow, SlotsBelow};
-ghost use Rattle.mw_infer.specs.Judging.{IsFirstOpenAt};
+ghost use Rattle.mw_infer.specs.Judging.{IsFirstOpenAt, least_of};
 ghost use Rattle.mw_infer.specs.Views.{slot_of};
 
 use crate::output::Spot;
@@ -29,7 +29,7 @@ fn is_absent(ty: &Ty, classifier: u64) -> bool
 /// Whether it stands nowhere in what is known of a binder.
 fn is_absent_at(binder: Binder, solved: &Solved, classifier: u64) -> bool
     requires { SlotBelow (length solved.now.types) (length solved.now.classifiers) (slot_of binder) }
-    ensures { IsTrue result ↔ IsAbsentAt classifier (entry_of (after least (substitution_of solved.now)) (slot_of binder)) }
+    ensures { IsTrue result ↔ IsAbsentAt classifier (entry_of (least_of solved.now) (slot_of binder)) }
 {
     match binder {
         Binder::Plain(u) => is_absent(solved.ty(u), classifier),
@@ -42,7 +42,7 @@ fn is_absent_at(binder: Binder, solved: &Solved, classifier: u64) -> bool
 /// Whether it stands nowhere in the environment.
 fn is_absent_from(scope: &[Binder], solved: &Solved, classifier: u64) -> bool
     requires { SlotsBelow (length solved.now.types) (length solved.now.classifiers) (map slot_of scope.now) }
-    ensures { IsTrue result ↔ IsAbsent classifier (map (entry_of (after least (substitution_of solved.now))) (map slot_of scope.now)) }
+    ensures { IsTrue result ↔ IsAbsent classifier (map (entry_of (least_of solved.now)) (map slot_of scope.now)) }
 {
     for binder in scope {
         if !is_absent_at(*binder, solved, classifier) {
@@ -54,8 +54,8 @@ fn is_absent_from(scope: &[Binder], solved: &Solved, classifier: u64) -> bool
 
 /// The offset of the first `close` whose classifier stands in its environment.
 pub fn first_open(closes: &[Spot], solved: &Solved) -> Option<u32>
-    requires { ClosesBelow (length solved.now.types) (length solved.now.classifiers) (map close_of closes.now) }
-    ensures { MatchOption result (AreFresh (after least (substitution_of solved.now)) (map close_of closes.now)) (λ at. IsFirstOpenAt (substitution_of solved.now) (map close_of closes.now) at) }
+    requires { ClosesBelow (length solved.now.types) (length solved.now.classifiers) (closes_of closes.now) }
+    ensures { MatchOption result (AreFresh (least_of solved.now) (closes_of closes.now)) (IsFirstOpenAt (substitution_of solved.now) (closes_of closes.now)) }
 {
     for spot in closes {
         let classifier = solved.classifier(spot.classifier);

@@ -8,7 +8,7 @@ ghost use Rattle.mw_infer.specs.Judging.{CanJudge, IsEmitted, Judges, place_of};
 ghost use Rattle.mw_infer.specs.Views.{tops_of};
 
 use crate::build::{closed, ground_ty, kernel_ty};
-use crate::emit::emit;
+use crate::emit::{Setting, emit};
 use crate::fresh::first_open;
 use crate::names::{LetType, TopScheme};
 use crate::output::{Output, equate};
@@ -64,7 +64,8 @@ fn emitted(
         closes: Vec::new(alloc),
     };
     ask(alloc, &mut out, asked)?;
-    emit(term, alloc, names, &Scope::Empty, Level::Live, 0, &mut out)?;
+    let setting = Setting { alloc, names };
+    emit(term, &setting, &Scope::Empty, Level::Live, 0, &mut out)?;
     Ok(out)
 }
 

@@ -1,6 +1,7 @@
 // Laws of how the equations of items and their types go together, which no program calls.
 
-ghost use Rattle.mw_infer.specs.InferenceLaws.{CheckedOrRefused, EquationsAreOwn, FaultlessAreTypable, MostGeneralIsScheme, RefusalsAreOne, SchemesInOrderAreOne, TermsAreSources, TypableAreNotRefused, TypableIsSolvable, TypableWhereFresh};
+ghost use Rattle.mw_infer.specs.InferenceLaws.{CheckedOrRefused, EquationsAreOwn, FaultlessAreTypable, MostGeneralIsScheme, RefusalsAreOne};
+ghost use Rattle.mw_infer.specs.InferenceLaws.{SchemesInOrderAreOne, TermsAreSources, TypableAreNotRefused, TypableIsSolvable, TypableWhereFresh};
 
 /// The equations of an item name its own unknowns and classifier unknowns alone.
 pub fn equations_are_own()

@@ -1,20 +1,21 @@
 // The equations of one node, after which those of its parts come.
 
-ghost use Rattle.std.specs.Prelude.{◌≡◌, ◌+◌, [], ◌∷◌, OnOk, Some, slice_get};
+ghost use Rattle.std.specs.Prelude.{◌≡◌, [], ◌∷◌, OnOk, Some, slice_get};
 ghost use Rattle.std.specs.Option.{option_map};
 ghost use Rattle.mw_term.specs.Terms.{kernel_type_of};
-ghost use Rattle.mw_term.specs.Types.{live};
-ghost use Rattle.mw_types.specs.Types.{type_of, int_ty, bool_ty, unknown, pair_ty, function_ty, code_ty, closed_ty};
-ghost use Rattle.mw_infer.specs.Schemes.{kernel_expression, primitive_expression};
-ghost use Rattle.mw_infer.specs.ItemEquations.{classifiers_of_name, equation, name_equations, unknowns_of_name, variable_equations};
-ghost use Rattle.mw_infer.specs.Emitting.{Adds, AreLow, HasRoom};
+ghost use Rattle.mw_types.specs.Types.{type_of};
+ghost use Rattle.mw_infer.specs.Schemes.{primitive_expression};
+ghost use Rattle.mw_infer.specs.ItemEquations.{application_equations, bracket_equations, close_equations, condition_equations, escape_equations};
+ghost use Rattle.mw_infer.specs.ItemEquations.{first_equations, function_equations, let_equations, lift_equations, open_equations, pair_equations};
+ghost use Rattle.mw_infer.specs.ItemEquations.{primitive_equations, recursion_equations, run_equations, second_equations, variable_equations};
+ghost use Rattle.mw_infer.specs.Emitting.{Adds, AddsName, AreLow, HasRoom, HasRoomForName};
 ghost use Rattle.mw_infer.specs.Views.{level_at, slot_of, top_of, tops_of};
 
-use crate::build::{closed, code, function, kernel_ty, pair, shift};
+use crate::build::{base_ty, closed, code, function, kernel_ty, pair, shift};
 use crate::names::TopScheme;
 use crate::output::{Output, equate};
 use crate::scope::{Binder, Level};
-use mw_term::{Ground, KType, Prim};
+use mw_term::{Base, Ground, KType, Prim};
 use mw_types::Ty;
 use std::alloc::{AllocError, Global};
 
@@ -40,7 +41,7 @@ fn take(out: &mut Output, unknowns: u64, classifiers: u64)
 /// A function of type `own`.
 pub fn lambda(alloc: Global, out: &mut Output, own: u64) -> Result<(), AllocError>
     requires { HasRoom out.old 2 0 }
-    ensures { OnOk result (Adds out.old out.new 2 0 (equation (unknown own) (function_ty (unknown out.old.unknowns) (unknown (out.old.unknowns + 1))) ∷ []) []) }
+    ensures { OnOk result (Adds out.old out.new 2 0 (function_equations own out.old.unknowns) []) }
 {
     let o = out.unknowns;
     take(out, 2, 0);
@@ -51,7 +52,7 @@ pub fn lambda(alloc: Global, out: &mut Output, own: u64) -> Result<(), AllocErro
 /// A recursive function of type `own`.
 pub fn recursive(alloc: Global, out: &mut Output, own: u64) -> Result<(), AllocError>
     requires { HasRoom out.old 3 0 }
-    ensures { OnOk result (Adds out.old out.new 3 0 (equation (unknown (out.old.unknowns + 1)) (function_ty (unknown out.old.unknowns) (unknown (out.old.unknowns + 2))) ∷ equation (unknown own) (unknown (out.old.unknowns + 1)) ∷ []) []) }
+    ensures { OnOk result (Adds out.old out.new 3 0 (recursion_equations own out.old.unknowns) []) }
 {
     let o = out.unknowns;
     take(out, 3, 0);
@@ -63,7 +64,7 @@ pub fn recursive(alloc: Global, out: &mut Output, own: u64) -> Result<(), AllocE
 /// An application of type `own`.
 pub fn application(alloc: Global, out: &mut Output, own: u64) -> Result<(), AllocError>
     requires { HasRoom out.old 2 0 }
-    ensures { OnOk result (Adds out.old out.new 2 0 (equation (unknown out.old.unknowns) (function_ty (unknown (out.old.unknowns + 1)) (unknown own)) ∷ []) []) }
+    ensures { OnOk result (Adds out.old out.new 2 0 (application_equations own out.old.unknowns) []) }
 {
     let o = out.unknowns;
     take(out, 2, 0);
@@ -74,7 +75,7 @@ pub fn application(alloc: Global, out: &mut Output, own: u64) -> Result<(), Allo
 /// A let of type `own`.
 pub fn binding(out: &mut Output, own: u64) -> Result<(), AllocError>
     requires { HasRoom out.old 3 0 }
-    ensures { OnOk result (Adds out.old out.new 3 0 (equation (unknown out.old.unknowns) (unknown (out.old.unknowns + 1)) ∷ equation (unknown own) (unknown (out.old.unknowns + 2)) ∷ []) []) }
+    ensures { OnOk result (Adds out.old out.new 3 0 (let_equations own out.old.unknowns) []) }
 {
     let o = out.unknowns;
     take(out, 3, 0);
@@ -85,7 +86,7 @@ pub fn binding(out: &mut Output, own: u64) -> Result<(), AllocError>
 /// An `if` of type `own`.
 pub fn condition(out: &mut Output, own: u64) -> Result<(), AllocError>
     requires { HasRoom out.old 3 0 }
-    ensures { OnOk result (Adds out.old out.new 3 0 (equation (unknown out.old.unknowns) bool_ty ∷ equation (unknown (out.old.unknowns + 1)) (unknown own) ∷ equation (unknown (out.old.unknowns + 2)) (unknown own) ∷ []) []) }
+    ensures { OnOk result (Adds out.old out.new 3 0 (condition_equations own out.old.unknowns) []) }
 {
     let o = out.unknowns;
     take(out, 3, 0);
@@ -97,7 +98,7 @@ pub fn condition(out: &mut Output, own: u64) -> Result<(), AllocError>
 /// A pair of type `own`.
 pub fn pairing(alloc: Global, out: &mut Output, own: u64) -> Result<(), AllocError>
     requires { HasRoom out.old 2 0 }
-    ensures { OnOk result (Adds out.old out.new 2 0 (equation (unknown own) (pair_ty (unknown out.old.unknowns) (unknown (out.old.unknowns + 1))) ∷ []) []) }
+    ensures { OnOk result (Adds out.old out.new 2 0 (pair_equations own out.old.unknowns) []) }
 {
     let o = out.unknowns;
     take(out, 2, 0);
@@ -108,7 +109,7 @@ pub fn pairing(alloc: Global, out: &mut Output, own: u64) -> Result<(), AllocErr
 /// The first part, of type `own`, of a pair.
 pub fn first_part(alloc: Global, out: &mut Output, own: u64) -> Result<(), AllocError>
     requires { HasRoom out.old 2 0 }
-    ensures { OnOk result (Adds out.old out.new 2 0 (equation (unknown (out.old.unknowns + 1)) (pair_ty (unknown own) (unknown out.old.unknowns)) ∷ []) []) }
+    ensures { OnOk result (Adds out.old out.new 2 0 (first_equations own out.old.unknowns) []) }
 {
     let o = out.unknowns;
     take(out, 2, 0);
@@ -119,7 +120,7 @@ pub fn first_part(alloc: Global, out: &mut Output, own: u64) -> Result<(), Alloc
 /// The second part, of type `own`, of a pair.
 pub fn second_part(alloc: Global, out: &mut Output, own: u64) -> Result<(), AllocError>
     requires { HasRoom out.old 2 0 }
-    ensures { OnOk result (Adds out.old out.new 2 0 (equation (unknown (out.old.unknowns + 1)) (pair_ty (unknown out.old.unknowns) (unknown own)) ∷ []) []) }
+    ensures { OnOk result (Adds out.old out.new 2 0 (second_equations own out.old.unknowns) []) }
 {
     let o = out.unknowns;
     take(out, 2, 0);
@@ -140,7 +141,7 @@ fn primitive_ty(prim: Prim) -> Ty
 /// A primitive of type `own`.
 pub fn operation(out: &mut Output, own: u64, prim: Prim) -> Result<(), AllocError>
     requires { HasRoom out.old 2 0 }
-    ensures { OnOk result (Adds out.old out.new 2 0 (equation (unknown out.old.unknowns) int_ty ∷ equation (unknown (out.old.unknowns + 1)) int_ty ∷ equation (unknown own) (primitive_expression prim) ∷ []) []) }
+    ensures { OnOk result (Adds out.old out.new 2 0 (primitive_equations own out.old.unknowns prim) []) }
 {
     let o = out.unknowns;
     take(out, 2, 0);
@@ -152,7 +153,7 @@ pub fn operation(out: &mut Output, own: u64, prim: Prim) -> Result<(), AllocErro
 /// A bracket of type `own`.
 pub fn bracket(alloc: Global, out: &mut Output, own: u64) -> Result<(), AllocError>
     requires { HasRoom out.old 1 1 }
-    ensures { OnOk result (Adds out.old out.new 1 1 (equation (unknown own) (code_ty out.old.classifiers (unknown out.old.unknowns)) ∷ []) []) }
+    ensures { OnOk result (Adds out.old out.new 1 1 (bracket_equations own out.old.unknowns out.old.classifiers) []) }
 {
     let o = out.unknowns;
     let c = out.classifiers;
@@ -164,7 +165,7 @@ pub fn bracket(alloc: Global, out: &mut Output, own: u64) -> Result<(), AllocErr
 /// An escape of type `own` under a classifier unknown.
 pub fn escape(alloc: Global, out: &mut Output, own: u64, classifier: u64) -> Result<(), AllocError>
     requires { HasRoom out.old 1 0 }
-    ensures { OnOk result (Adds out.old out.new 1 0 (equation (unknown out.old.unknowns) (code_ty classifier (unknown own)) ∷ []) []) }
+    ensures { OnOk result (Adds out.old out.new 1 0 (escape_equations own out.old.unknowns classifier) []) }
 {
     let o = out.unknowns;
     take(out, 1, 0);
@@ -175,7 +176,7 @@ pub fn escape(alloc: Global, out: &mut Output, own: u64, classifier: u64) -> Res
 /// A run of type `own` at a kernel type.
 pub fn run(alloc: Global, out: &mut Output, own: u64, kind: &KType) -> Result<(), AllocError>
     requires { HasRoom out.old 1 0 }
-    ensures { OnOk result (Adds out.old out.new 1 0 (equation (unknown out.old.unknowns) (closed_ty (kernel_expression (kernel_type_of kind.now))) ∷ equation (unknown own) (kernel_expression (kernel_type_of kind.now)) ∷ []) []) }
+    ensures { OnOk result (Adds out.old out.new 1 0 (run_equations own out.old.unknowns (kernel_type_of kind.now)) []) }
 {
     let o = out.unknowns;
     take(out, 1, 0);
@@ -189,7 +190,7 @@ pub fn run(alloc: Global, out: &mut Output, own: u64, kind: &KType) -> Result<()
 /// A `close` of type `own`.
 pub fn close(alloc: Global, out: &mut Output, own: u64) -> Result<(), AllocError>
     requires { HasRoom out.old 2 1 }
-    ensures { OnOk result (Adds out.old out.new 2 1 (equation (unknown (out.old.unknowns + 1)) (code_ty out.old.classifiers (unknown out.old.unknowns)) ∷ equation (unknown own) (closed_ty (unknown out.old.unknowns)) ∷ []) []) }
+    ensures { OnOk result (Adds out.old out.new 2 1 (close_equations own out.old.unknowns out.old.classifiers) []) }
 {
     let o = out.unknowns;
     let c = out.classifiers;
@@ -203,7 +204,7 @@ pub fn close(alloc: Global, out: &mut Output, own: u64) -> Result<(), AllocError
 /// An `open` of type `own`.
 pub fn open(alloc: Global, out: &mut Output, own: u64) -> Result<(), AllocError>
     requires { HasRoom out.old 2 1 }
-    ensures { OnOk result (Adds out.old out.new 2 1 (equation (unknown (out.old.unknowns + 1)) (closed_ty (unknown out.old.unknowns)) ∷ equation (unknown own) (code_ty out.old.classifiers (unknown out.old.unknowns)) ∷ []) []) }
+    ensures { OnOk result (Adds out.old out.new 2 1 (open_equations own out.old.unknowns out.old.classifiers) []) }
 {
     let o = out.unknowns;
     let c = out.classifiers;
@@ -214,29 +215,16 @@ pub fn open(alloc: Global, out: &mut Output, own: u64) -> Result<(), AllocError>
     equate(out, Ty::Unknown(own), ty)
 }
 
-/// A `lift` of type `own`.
-pub fn lift(alloc: Global, out: &mut Output, own: u64) -> Result<(), AllocError>
+/// A `lift` or `liftb` of type `own`, at a base type.
+pub fn lift(alloc: Global, out: &mut Output, own: u64, base: Base) -> Result<(), AllocError>
     requires { HasRoom out.old 1 1 }
-    ensures { OnOk result (Adds out.old out.new 1 1 (equation (unknown out.old.unknowns) int_ty ∷ equation (unknown own) (code_ty out.old.classifiers int_ty) ∷ []) []) }
+    ensures { OnOk result (Adds out.old out.new 1 1 (lift_equations own out.old.unknowns out.old.classifiers base) []) }
 {
     let o = out.unknowns;
     let c = out.classifiers;
     take(out, 1, 1);
-    equate(out, Ty::Unknown(o), Ty::Int)?;
-    let ty = code(alloc, c, Ty::Int)?;
-    equate(out, Ty::Unknown(own), ty)
-}
-
-/// A `liftb` of type `own`.
-pub fn lift_truth(alloc: Global, out: &mut Output, own: u64) -> Result<(), AllocError>
-    requires { HasRoom out.old 1 1 }
-    ensures { OnOk result (Adds out.old out.new 1 1 (equation (unknown out.old.unknowns) bool_ty ∷ equation (unknown own) (code_ty out.old.classifiers bool_ty) ∷ []) []) }
-{
-    let o = out.unknowns;
-    let c = out.classifiers;
-    take(out, 1, 1);
-    equate(out, Ty::Unknown(o), Ty::Bool)?;
-    let ty = code(alloc, c, Ty::Bool)?;
+    equate(out, Ty::Unknown(o), base_ty(base))?;
+    let ty = code(alloc, c, base_ty(base))?;
     equate(out, Ty::Unknown(own), ty)
 }
 
@@ -269,9 +257,9 @@ fn named_scheme(
     out: &mut Output,
     own: u64,
 ) -> Result<(), AllocError>
-    requires room { HasRoom out.old (unknowns_of_name (Some (top_of named.now))) (classifiers_of_name (Some (top_of named.now))) }
+    requires room { HasRoomForName out.old (Some (top_of named.now)) }
     requires low { AreLow (top_of named.now ∷ []) }
-    ensures { OnOk result (Adds out.old out.new (unknowns_of_name (Some (top_of named.now))) (classifiers_of_name (Some (top_of named.now))) (name_equations own out.old.unknowns out.old.classifiers live (Some (top_of named.now))) []) }
+    ensures { OnOk result (AddsName out.old out.new own (Some (top_of named.now))) }
 {
     match named {
         TopScheme::Let(scheme) => {
@@ -305,9 +293,9 @@ pub fn name(
     own: u64,
     index: u32,
 ) -> Result<(), AllocError>
-    requires room { HasRoom out.old (unknowns_of_name (slice_get (tops_of names.now) index)) (classifiers_of_name (slice_get (tops_of names.now) index)) }
+    requires room { HasRoomForName out.old (slice_get (tops_of names.now) index) }
     requires low { AreLow (tops_of names.now) }
-    ensures { OnOk result (Adds out.old out.new (unknowns_of_name (slice_get (tops_of names.now) index)) (classifiers_of_name (slice_get (tops_of names.now) index)) (name_equations own out.old.unknowns out.old.classifiers live (slice_get (tops_of names.now) index)) []) }
+    ensures { OnOk result (AddsName out.old out.new own (slice_get (tops_of names.now) index)) }
 {
     match lookup(names, index) {
         Some(scheme) => named_scheme(alloc, scheme, out, own),

@@ -10,7 +10,7 @@ ghost use Rattle.mw_infer.specs.Schemes.{ground_expression};
 ghost use Rattle.mw_infer.specs.Checking.{AreFaultless, ArePrincipal, IsFirstRefusal, IsResolved, part_of_item};
 ghost use Rattle.mw_infer.specs.Inferring.{main_place};
 ghost use Rattle.mw_infer.specs.Judging.{CanJudge, Judges, place_of};
-ghost use Rattle.mw_infer.specs.Progress.{IsFaultOf, Steps, revealed_to, type_of_scheme};
+ghost use Rattle.mw_infer.specs.Progress.{IsFaultOf, IsFaultOfItem, Steps, revealed_to, type_of_scheme};
 ghost use Rattle.mw_infer.specs.Views.{top_of, tops_of};
 ghost use Rattle.mw_infer.specs.declared.judge.Verdict.TheVariants.{Fine};
 
@@ -46,7 +46,7 @@ fn judged(
 fn step(alloc: Global, names: &mut Vec<TopScheme>, item: &Item, index: u32) -> Result<(), Stop>
     requires { CanJudge (tops_of names.old.items) (part_of_item [] (definition_of item.now.kind)).term }
     ensures ok { OnOk result (Steps (tops_of names.old.items) (definition_of item.now.kind) (tops_of names.new.items)) }
-    ensures refused { IfErr result (IfRefused (IsFaultOf (tops_of names.old.items) (part_of_item [] (definition_of item.now.kind)).place (part_of_item [] (definition_of item.now.kind)).term index)) }
+    ensures refused { IfErr result (IfRefused (IsFaultOfItem (tops_of names.old.items) (definition_of item.now.kind) index)) }
 {
     match &item.kind {
         ItemKind::Value(term) => {

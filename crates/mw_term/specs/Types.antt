@@ -85,26 +85,39 @@ AllQuoted [] = Unit {0}
 AllQuoted (value t ∷ g) = ⊥
 AllQuoted (quoted a t ∷ g) = AllQuoted g
 
--- base types, ground types and kernel types as types of terms
+-- base types, ground types and kernel types in any types that have an int, a bool, pairs and functions
+abbrev pub base_in : {A : Type 0} → A → A → Base → A
+base_in int bool Int = int
+base_in int bool Bool = bool
+
+abbrev pub ground_in : {A : Type 0} → A → A → (A → A → A) → GroundType → A
+ground_in int bool pair (base b) = base_in int bool b
+ground_in int bool pair (product s t) = pair (ground_in int bool pair s) (ground_in int bool pair t)
+
+abbrev pub kernel_in : {A : Type 0} → A → A → (A → A → A) → (A → A → A) → KernelType → A
+kernel_in int bool pair function (of_ground t) = ground_in int bool pair t
+kernel_in int bool pair function (to s t) = function (ground_in int bool pair s) (ground_in int bool pair t)
+
+-- and the type of what a primitive gives of two integers
+abbrev pub primitive_in : {A : Type 0} → A → A → Prim → A
+primitive_in int bool Add = int
+primitive_in int bool Sub = int
+primitive_in int bool Mul = int
+primitive_in int bool Div = int
+primitive_in int bool Mod = int
+primitive_in int bool Eq = bool
+primitive_in int bool Lt = bool
+primitive_in int bool Le = bool
+
+-- all of them as types of terms
 abbrev pub base_type : Base → TermType
-base_type Int = int_type
-base_type Bool = bool_type
+base_type b = base_in int_type bool_type b
 
 abbrev pub ground_type : GroundType → TermType
-ground_type (base b) = base_type b
-ground_type (product s t) = pair_type (ground_type s) (ground_type t)
+ground_type t = ground_in int_type bool_type pair_type t
 
 abbrev pub kernel_type : KernelType → TermType
-kernel_type (of_ground t) = ground_type t
-kernel_type (to s t) = function_type (ground_type s) (ground_type t)
+kernel_type k = kernel_in int_type bool_type pair_type function_type k
 
--- the type of what a primitive gives of two integers
 abbrev pub primitive_type : Prim → TermType
-primitive_type Add = int_type
-primitive_type Sub = int_type
-primitive_type Mul = int_type
-primitive_type Div = int_type
-primitive_type Mod = int_type
-primitive_type Eq = bool_type
-primitive_type Lt = bool_type
-primitive_type Le = bool_type
+primitive_type p = primitive_in int_type bool_type p
