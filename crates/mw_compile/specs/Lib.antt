@@ -1,3 +1,4 @@
 pub mod Emission
 pub mod EmissionLaws
 pub mod Entries
+pub mod Examples

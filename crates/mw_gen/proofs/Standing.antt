@@ -1,20 +1,18 @@
 -- An emitted module stands for its code and kernel type.
 use Rattle.std.proofs.Common.{◌≡◌, ℕ, suc, List, [], ◌∷◌, length, refl, subst, sym}
 use Rattle.std.specs.Prelude.{ℤ, ◌*◌}
-use Rattle.mw_term.specs.declared.term.Base.TheVariants.{Int, Bool as Truth}
 use Rattle.mw_term.specs.declared.value.TrapKind.TheVariants as kind
 use Rattle.mw_term.specs.declared.value.Limit.TheVariants.{Fuel, Heap, KernelSize}
-use Rattle.mw_term.specs.Terms as x
-use Rattle.mw_term.specs.Terms.{Expression, KernelValue, Value, GroundType, KernelType, base, of_ground, to, product}
-use Rattle.mw_term.specs.Types.{kernel_type, ground_type}
-use Rattle.mw_term.specs.Typing.{Valued, v_int, v_bool, v_pair}
+use Rattle.mw_term.specs.Terms.{Expression, KernelValue, Value, GroundType, KernelType, of_ground, to}
+use Rattle.mw_term.specs.Types.{kernel_type}
 use Rattle.mw_term.specs.Typable.{HasKernelType}
 use Rattle.mw_meaning.specs.Arithmetic.{Reason, trap, bound, stuck}
 use Rattle.mw_meaning.specs.KernelMeaning as k
 use Rattle.mw_meaning.specs.KernelMeaning.{kernel_meaning}
 use Rattle.mw_meaning.specs.StagedMeaning.{kernel_argument, argument_words, call_of}
-use Rattle.mw_meaning.specs.StandingFor.{AnswersAs, IsArgument, Call, AreCalls, Onward, CallsAnswer, CallsAfter, CallsMean, StandsFor}
+use Rattle.mw_meaning.specs.StandingFor.{AnswersAs, IsArgument, Call, AreCalls, IfEnded, CallsAnswer, CallsAfter, CallsMean, StandsFor}
 use Rattle.mw_meaning.specs.TypingLaws.{KernelIsNotStuck}
+use Rattle.mw_meaning.proofs.Straying.{argument_typed}
 use Rattle.mw_meaning.proofs.KernelTyping.{none, Has, KernelSafe, closed_code_safe, kernel_call_safe, kernel_meaning_never_stuck}
 use Rattle.mw_wasm.specs.Store.{Memory, Store}
 use Rattle.mw_wasm.specs.Execution.{End}
@@ -42,10 +40,10 @@ stops_as (bound KernelSize) E p e = absurd e
 stops_as stuck E p e = absurd p
 
 -- nothing goes on after it
-stops_onward : (y : Reason) (E : End) (R : Store → Type 0) → Ends y E → KernelIsNotStuck (k.stops y) → Onward E R
-stops_onward (trap y) E R e p = subst (λ E. Onward E R) (sym e.1) tt
-stops_onward (bound Heap) E R e p = subst (λ E. Onward E R) (sym e.1) tt
-stops_onward (bound Fuel) E R e p = subst (λ E. Onward E R) (sym e) tt
+stops_onward : (y : Reason) (E : End) (R : Store → Type 0) → Ends y E → KernelIsNotStuck (k.stops y) → IfEnded E R
+stops_onward (trap y) E R e p = subst (λ E. IfEnded E R) (sym e.1) tt
+stops_onward (bound Heap) E R e p = subst (λ E. IfEnded E R) (sym e.1) tt
+stops_onward (bound Fuel) E R e p = subst (λ E. IfEnded E R) (sym e) tt
 stops_onward (bound KernelSize) E R e p = absurd e
 stops_onward stuck E R e p = absurd p
 
@@ -58,12 +56,6 @@ not_stuck {e = k.stops stuck} s = absurd s.is
 
 value_safe : {n : ℕ} {P : KernelValue → Type 0} (a : k.Ended) (f : KernelValue) (l words : ℕ) → KernelSafe n P a → a ≡ k.gives f l words → P f
 value_safe {n} {P} a f l words s e = (subst (λ a. KernelSafe n P a) e s).is.1
-
-argument_typed : (s : GroundType) (w : Value) → IsArgument s w → Valued [] [] w (ground_type s)
-argument_typed (base Int) (x.int z) a = v_int
-argument_typed (base Truth) (x.bool b) a = v_bool
-argument_typed (product s t) (x.both u v) a = v_pair (argument_typed s u a.0) (argument_typed t v a.1)
-argument_typed s w a = absurd a
 
 module _ (v : Version) (c : Expression) (is : IsConverted (converted_functions c) (converted_outside c)) where
   abbrev T : List IrFunc
@@ -82,10 +74,10 @@ module _ (v : Version) (c : Expression) (is : IsConverted (converted_functions c
   init_answers (k.stops y) E p q = stops_as y E p q
 
   -- one invocation of `call`, and what comes after
-  call_answers : (h0 : List ℤ) (a : k.Ended) (E : End) (R : Store → Type 0) → KernelIsNotStuck a → Answers a (Called h0) E → ((after : Memory) → Keeps h0 after → R (store_at (table_of T) (8 * length h0) after)) → AnswersAs a E × Onward E R
+  call_answers : (h0 : List ℤ) (a : k.Ended) (E : End) (R : Store → Type 0) → KernelIsNotStuck a → Answers a (Called h0) E → ((after : Memory) → Keeps h0 after → R (store_at (table_of T) (8 * length h0) after)) → AnswersAs a E × IfEnded E R
   call_answers h0 (k.gives x l words) E R p q f =
       let d = q.3 in
-      subst (λ E. AnswersAs (k.gives x l words) E × Onward E R) (sym d.end) (((bits q.0, refl, word_is T q.1 q.2 x q.0 d.keeps d.stands), refl), f q.2 d.before)
+      subst (λ E. AnswersAs (k.gives x l words) E × IfEnded E R) (sym d.end) (((bits q.0, refl, word_is T q.1 q.2 x q.0 d.keeps d.stands), refl), f q.2 d.before)
   call_answers h0 (k.stops y) E R p q f = (stops_as y E p q, stops_onward y E R q p)
 
   calls_answer : (s t : GroundType) (f : KernelValue) (r : ℤ) (h0 : List ℤ) → Small r → Stands T h0 f r → ((w : Value) (n : ℕ) → IsArgument s w → KernelIsNotStuck (call_of f (length h0) (kernel_argument w) (argument_words w) n)) → (calls : List Call) → AreCalls s calls → (mem : Memory) → Keeps h0 mem → CallsAnswer (emitted v c (to s t)) (suc (length T)) (bits r) f (length h0) calls (store_at (table_of T) (8 * length h0) mem)

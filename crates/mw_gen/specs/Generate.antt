@@ -60,7 +60,8 @@ application_code t rest = next (local_set (suc t)) (next (local_tee t) (next (lo
 
 -- a pair of the operands
 abbrev pub pair_code : ℕ → Code → Code
-pair_code t rest = next (local_set (suc t)) (next (local_set t) (next (global_get 0) (next (local_get t) (store_word 0 (next (global_get 0) (next (local_get (suc t)) (store_word 8 (address_code 16 rest))))))))
+pair_code t rest =
+    next (local_set (suc t)) (next (local_set t) (next (global_get 0) (next (local_get t) (store_word 0 (next (global_get 0) (next (local_get (suc t)) (store_word 8 (address_code 16 rest))))))))
 
 -- a comparison, whose answer becomes a word
 abbrev pub comparison_code : IntOp → Code → Code
@@ -178,7 +179,13 @@ init_function slots body = record { kind = 1; locals = replicate (slots + spare_
 -- `call`, of type 2: the two spare locals follow the parameters, and then stands the local that keeps the heap's end, which it
 -- gives back
 abbrev pub call_function : GroundType → Function
-call_function s = record { kind = 2; locals = I64 ∷ I64 ∷ I32 ∷ []; body = next (global_get 0) (next (local_set (suc (suc (suc (leaf_count s))))) (expression_code (call_of s) 0 (0 + suc (leaf_count s)) (next (local_get (suc (suc (suc (leaf_count s))))) (next (global_set 0) end)))) }
+call_function s = record {
+  kind = 2;
+  locals = I64 ∷ I64 ∷ I32 ∷ [];
+  body =
+      next (global_get 0) (next (local_set (suc (suc (suc (leaf_count s))))) (expression_code (call_of s) 0 (0 + suc (leaf_count s))
+      (next (local_get (suc (suc (suc (leaf_count s))))) (next (global_set 0) end))));
+}
 
 -- the type of the code's functions: from a closure and an argument to a word
 abbrev pub closure_type : FuncType
@@ -196,6 +203,10 @@ more_functions (to s t) = call_function s ∷ []
 abbrev pub more_exports : KernelType → ℕ → List Exporting
 more_exports (of_ground t) n = []
 more_exports (to s t) n = record { name = codes "call"; what = Func n } ∷ []
+
+-- the exports, by the functions' numbers
+abbrev pub all_exports : KernelType → (init call : ℕ) → List Exporting
+all_exports k init call = record { name = codes "init"; what = Func init } ∷ more_exports k call
 
 -- the heap's end, which begins at 0
 abbrev pub heap_end : Global
@@ -215,7 +226,7 @@ module_with v t slots body k = record {
   table = Some record { min = length t; max = Some (length t) };
   memory = Some record { min = 64; max = Some 64 };
   globals = heap_end ∷ [];
-  exports = record { name = codes "init"; what = Func (length t) } ∷ more_exports k (suc (length t));
+  exports = all_exports k (length t) (suc (length t));
   elements = elements_of (length t);
   segments = [];
 }

@@ -51,7 +51,8 @@ module _ (m : PureModule) (t : List IrFunc) where
   abbrev pub CallMeans : KernelType → Type 0
   CallMeans (of_ground g) = Unit {0}
   CallMeans (to s g) = (n : ℕ) (h : List ℤ) (mem : Memory) (r : ℤ) (ws : List ℤ) → length ws ≡ leaf_count s → ((j : ℕ) (w : ℤ) → slice_get (r ∷ ws) j ≡ Some w → Small w) → Keeps h mem
-      → Says (means t n h (call_frame r ws) (call_of s)) (λ w l grown E. EndsAt t (8 * length h) w l grown E) (invoked m (store_at (table_of t) (8 * length h) mem) (suc (length t)) (map word (r ∷ ws)) n)
+      → Says (means t n h (call_frame r ws) (call_of s)) (λ w l grown E. EndsAt t (8 * length h) w l grown E)
+      (invoked m (store_at (table_of t) (8 * length h) mem) (suc (length t)) (map word (r ∷ ws)) n)
 
   -- The module has an instance, on which `init` does what the code outside all functions means, and `call` what an
   -- application means.

@@ -12,8 +12,7 @@ ghost use Rattle.mw_wasm.specs.Profile.{IsWithinProfile};
 ghost use Rattle.mw_wasm.specs.Validity.{IsValid};
 ghost use Rattle.mw_wasm.specs.Views.{function_of, module_of};
 ghost use Rattle.mw_gen.specs.Generate.{two};
-ghost use Rattle.mw_gen.specs.Generated.{functions_in, generated, outer_in};
-ghost use Rattle.mw_gen.specs.Generation.{MeansConverted};
+ghost use Rattle.mw_gen.specs.Generated.{DoesConverted, functions_in, generated, outer_in};
 
 mod call;
 mod code;
@@ -45,7 +44,7 @@ pub fn generate(alloc: Global, converted: &Converted, kind: &KType) -> Result<Mo
     ensures profile { IfOk result (λ wasm. IsWithinProfile (module_of wasm)) }
     ensures valid { IfOk result (λ wasm. IsValid (module_of wasm)) }
     ensures shape { IfOk result (λ wasm. HasShape (module_of wasm) (kernel_type_of kind.now)) }
-    ensures means { IfOk result (λ wasm. MeansConverted (module_of wasm) (functions_in converted.now) (outer_in converted.now).body (kernel_type_of kind.now)) }
+    ensures means { IfOk result (λ wasm. DoesConverted (module_of wasm) converted.now (kernel_type_of kind.now)) }
 {
     whole_module(alloc, converted, kind)
 }

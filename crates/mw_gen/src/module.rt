@@ -1,19 +1,18 @@
 // The parts of a module beside its functions.
 
-ghost use Rattle.std.specs.Prelude.{◌≡◌, ◌+◌, ◌<◌, ◌≤◌, [], ◌∷◌, map, codes, replicate, IfOk};
+ghost use Rattle.std.specs.Prelude.{◌≡◌, ◌+◌, ◌<◌, ◌≤◌, [], ◌∷◌, map, replicate, IfOk};
 ghost use Rattle.mw_term.specs.Terms.{kernel_type_of};
 ghost use Rattle.mw_term.specs.Limits.{kernel_nodes};
 ghost use Rattle.mw_meaning.specs.Shapes.{init_type};
-ghost use Rattle.mw_wasm.specs.declared.modules.Exported.TheVariants.{Func as Function};
 ghost use Rattle.mw_wasm.specs.declared.values.ValType.TheVariants.{I64};
 ghost use Rattle.mw_wasm.specs.Syntax.{const_i32, end, next};
 ghost use Rattle.mw_wasm.specs.Views.{code_of, element_of, export_of, global_of};
 ghost use Rattle.mw_gen.specs.Generate.{
+  all_exports,
   closure_type,
   counting,
   elements_of,
   heap_end,
-  more_exports,
   more_types,
 };
 
@@ -86,7 +85,7 @@ fn name(alloc: Global, letters: [u8; 4]) -> Result<Octets, AllocError>
 /// The exports: `init`, which is function `count`, and for a function `call`, the next.
 pub fn exports(alloc: Global, kind: &KType, count: u32) -> Result<Exports, AllocError>
     requires { count ≤ 20000 }
-    ensures { IfOk result (λ exports. map export_of exports ≡ record { name = codes "init"; what = Function count } ∷ more_exports (kernel_type_of kind.now) (count + 1)) }
+    ensures { IfOk result (λ exports. map export_of exports ≡ all_exports (kernel_type_of kind.now) count (count + 1)) }
 {
     let mut exports = Exports::new(alloc);
     exports.push(Export {

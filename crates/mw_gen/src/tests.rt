@@ -1,11 +1,11 @@
 // Generated modules whose bytes are known.
 
-ghost use Rattle.std.specs.Prelude.{◌≡◌, [], pos, IfOk};
-ghost use Rattle.mw_term.specs.declared.term.Primitive.TheVariants.{Eq, Sub};
-ghost use Rattle.mw_ir.specs.declared.place.Place.TheVariants.{Argument, Own, Slot};
-ghost use Rattle.mw_ir.specs.Ir.{app, bind, closure, cond, get, num, prim};
+ghost use Rattle.std.specs.Prelude.{◌≡◌, [], IfOk};
+ghost use Rattle.mw_ir.specs.declared.place.Place.TheVariants.{Slot};
+ghost use Rattle.mw_ir.specs.Ir.{bind, closure, get};
 ghost use Rattle.mw_ir.specs.Ranges.{IsConverted};
 ghost use Rattle.mw_ir.specs.Views.{ir_of};
+ghost use Rattle.mw_gen.specs.Examples.{down_code, next_step};
 ghost use Rattle.mw_gen.specs.Generated.{functions_in, outer_in};
 
 use crate::generate;
@@ -37,7 +37,7 @@ const SEVEN: [u8; 64] = [
 
 /// `f (n - 1)` in a recursive function `f` of `n`.
 fn next_call(alloc: Global) -> Result<Ir, AllocError>
-    ensures { IfOk result (λ code. ir_of code ≡ app (get Own) (prim Sub (get Argument) (num (pos 1)))) }
+    ensures { IfOk result (λ code. ir_of code ≡ next_step) }
 {
     let argument = Box::new(alloc, Ir::Get(Place::Argument))?;
     let less = Ir::Prim(Prim::Sub, argument, Box::new(alloc, Ir::Int(1))?);
@@ -47,7 +47,7 @@ fn next_call(alloc: Global) -> Result<Ir, AllocError>
 
 /// `if n = 0 then 0 else f (n - 1)`.
 fn down_body(alloc: Global) -> Result<Ir, AllocError>
-    ensures { IfOk result (λ code. ir_of code ≡ cond (prim Eq (get Argument) (num (pos 0))) (num (pos 0)) (app (get Own) (prim Sub (get Argument) (num (pos 1))))) }
+    ensures { IfOk result (λ code. ir_of code ≡ down_code) }
 {
     let argument = Box::new(alloc, Ir::Get(Place::Argument))?;
     let test = Ir::Prim(Prim::Eq, argument, Box::new(alloc, Ir::Int(0))?);

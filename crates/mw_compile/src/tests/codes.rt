@@ -16,7 +16,8 @@ ghost use Rattle.mw_term.specs.Terms.{
   prim,
 };
 ghost use Rattle.mw_term.specs.declared.term.Primitive.{Primitive as PurePrimitive};
-ghost use Rattle.mw_term.specs.declared.term.Primitive.TheVariants.{Add, Eq, Mul, Sub};
+ghost use Rattle.mw_term.specs.declared.term.Primitive.TheVariants.{Add, Eq, Mul};
+ghost use Rattle.mw_compile.specs.Examples.{next_step, down_code, summing_code, two_free_code};
 
 use mw_term::{Prim, Term};
 use std::alloc::{AllocError, Global};
@@ -76,7 +77,7 @@ pub fn cube(alloc: Global) -> Result<Term, AllocError>
 
 /// `f (n - 1)`, where n is variable 0 and f variable 1.
 fn next_call(alloc: Global) -> Result<Term, AllocError>
-    ensures { IfOk result (λ code. expression_of code ≡ app (var 1) (prim Sub (var 0) (num (pos 1)))) }
+    ensures { IfOk result (λ code. expression_of code ≡ next_step) }
 {
     let less = operation(alloc, Prim::Sub, Term::Var(0), Term::Int(1))?;
     applied(alloc, Term::Var(1), less)
@@ -84,7 +85,7 @@ fn next_call(alloc: Global) -> Result<Term, AllocError>
 
 /// `let rec f n = if n = 0 then 0 else f (n - 1) in f`, as a let.
 pub fn down(alloc: Global) -> Result<Term, AllocError>
-    ensures { IfOk result (λ code. expression_of code ≡ bind (fix (cond (prim Eq (var 0) (num (pos 0))) (num (pos 0)) (app (var 1) (prim Sub (var 0) (num (pos 1)))))) (var 0)) }
+    ensures { IfOk result (λ code. expression_of code ≡ down_code) }
 {
     let body = at_zero(alloc, 0, Term::Int(0), next_call(alloc)?)?;
     definition(alloc, recursive(alloc, body)?, Term::Var(0))
@@ -92,7 +93,7 @@ pub fn down(alloc: Global) -> Result<Term, AllocError>
 
 /// The recursive function of `two_free`, where y is variable 2 and x variable 3 in its body.
 fn summing(alloc: Global) -> Result<Term, AllocError>
-    ensures { IfOk result (λ code. expression_of code ≡ fix (cond (prim Eq (var 0) (num (pos 0))) (var 3) (prim Add (var 2) (app (var 1) (prim Sub (var 0) (num (pos 1))))))) }
+    ensures { IfOk result (λ code. expression_of code ≡ summing_code) }
 {
     let more = operation(alloc, Prim::Add, Term::Var(2), next_call(alloc)?)?;
     recursive(alloc, at_zero(alloc, 0, Term::Var(3), more)?)
@@ -100,7 +101,7 @@ fn summing(alloc: Global) -> Result<Term, AllocError>
 
 /// `fun x -> let y = x + 1 in (let rec f n = if n = 0 then x else y + f (n - 1) in f) x`.
 pub fn two_free(alloc: Global) -> Result<Term, AllocError>
-    ensures { IfOk result (λ code. expression_of code ≡ fun (bind (prim Add (var 0) (num (pos 1))) (app (fix (cond (prim Eq (var 0) (num (pos 0))) (var 3) (prim Add (var 2) (app (var 1) (prim Sub (var 0) (num (pos 1))))))) (var 1)))) }
+    ensures { IfOk result (λ code. expression_of code ≡ two_free_code) }
 {
     let call = applied(alloc, summing(alloc)?, Term::Var(1))?;
     let more = operation(alloc, Prim::Add, Term::Var(0), Term::Int(1))?;
