@@ -1,5 +1,5 @@
 -- Answers are what the kernel means.
-use Rattle.std.proofs.Common.{◌≡◌, ℕ, inl, inr, true, false, List, [], ◌∷◌, Option, Some, Result, Ok, Err, refl, sym, ap, ◌∙◌, subst, arith}
+use Rattle.std.proofs.Common.{◌≡◌, ℕ, true, false, List, [], ◌∷◌, Some, Result, Ok, Err, refl, sym, ap, ◌∙◌, subst, arith}
 use Rattle.std.specs.Prelude.{codes}
 use Rattle.std.specs.Int.{w64, cast_signed}
 use Rattle.std.proofs.lemmas.Int.{to_z-of_z}
@@ -9,7 +9,7 @@ use Rattle.mw_term.specs.declared.value.TrapKind.TheVariants as kind
 use Rattle.mw_term.specs.declared.value.Limit.TheVariants.{Fuel, Heap, KernelSize}
 use Rattle.mw_term.specs.Types.{ground_type, kernel_type}
 use Rattle.mw_term.specs.Typable.{HasKernelType}
-use Rattle.mw_term.specs.Typing.{Valued, v_int, v_bool, v_pair}
+use Rattle.mw_term.specs.Typing.{Valued, v_pair}
 use Rattle.mw_term.specs.Unlabelled.{unlabelled_value, IsClosedKernelValue}
 use Rattle.mw_wasm.specs.declared.modules.Module.{Module}
 use Rattle.mw_wasm.specs.declared.values.Trap.TheVariants as traps
@@ -23,11 +23,10 @@ use Rattle.mw_meaning.specs.Arithmetic.{trap, bound, stuck}
 use Rattle.mw_meaning.specs.KernelMeaning.{Ended, gives, stops, kernel_meaning}
 use Rattle.mw_meaning.specs.OutcomeLaws.{HasGroundType}
 use Rattle.mw_meaning.specs.StagedMeaning.{kernel_argument, argument_words, call_of}
-use Rattle.mw_meaning.specs.StandingFor.{IsWord, truth_number, AnswersAs, IsArgument, Call, AreCalls, Onward, CallsAnswer, CallsAfter, MeansKernel, StandsFor}
-use Rattle.mw_meaning.specs.Shapes.{IsWordOf, IsStrayEnd, in_init}
-use Rattle.mw_meaning.specs.TypingLaws.{IfMakes}
-use Rattle.mw_meaning.proofs.KernelTyping.{KernelSafe, Has, none, closed_code_safe, kernel_call_safe, safe_makes}
-use Rattle.mw_meaning.proofs.Straying.{standing_is_not_stray}
+use Rattle.mw_meaning.specs.StandingFor.{IsWord, truth_number, AnswersAs, IsArgument, Call, AreCalls, IfEnded, CallsAnswer, CallsAfter, MeansKernel, StandsFor}
+use Rattle.mw_meaning.specs.Shapes.{IsWordOf, in_init}
+use Rattle.mw_meaning.proofs.KernelTyping.{KernelSafe, Has, none, kernel_call_safe, safe_makes}
+use Rattle.mw_meaning.proofs.Straying.{word_of, answers_no_stray, argument_typed, kernel_safe, one_number, standing_is_not_stray}
 use Rattle.mw_machine.specs.declared.Ran.{Ran}
 use Rattle.mw_machine.specs.declared.Ran.TheVariants as ran
 use Rattle.mw_kernel.specs.declared.fault.RunFault.{RunFault}
@@ -40,40 +39,6 @@ use Rattle.mw_kernel.specs.KernelMeanings.{IsSameValue, Keeps, IsBeganFrom, IsRa
 use Rattle.mw_kernel.specs.Invoking.{FitsWords}
 use Rattle.mw_kernel.specs.Answering.{FitsUnlessMemory}
 use Rattle.mw_kernel.proofs.WordEnds.{is_argument}
-
--- the word of a value of a ground type may be one of the type
-word_of : (t : GroundType) (v : KernelValue) (n : ℕ) (memory : Memory) → Valued [] [] (unlabelled_value v) (ground_type t) → IsWord v n memory → IsWordOf t n memory
-word_of (base Int) v n memory h w = tt
-word_of (base Truth) (bool true) n memory h w = inr w
-word_of (base Truth) (bool false) n memory h w = inl w
-word_of (base Truth) (int z) n memory h w = elim h [ ]
-word_of (base Truth) (both u v) n memory h w = elim h [ ]
-word_of (base Truth) (function e) n memory h w = elim h [ ]
-word_of (base Truth) (recursive e) n memory h w = elim h [ ]
-word_of (product s t) (both u v) n memory (v_pair x y) w = (w.0, word_of s u _ memory x w.1, word_of t v _ memory y w.2)
-word_of (product s t) (int z) n memory h w = elim h [ ]
-word_of (product s t) (bool b) n memory h w = elim h [ ]
-word_of (product s t) (function e) n memory h w = elim h [ ]
-word_of (product s t) (recursive e) n memory h w = elim h [ ]
-
--- what answers as a kernel does doesn't end strayly, where the words of the kernel's values have P
-abbrev Words : (ℕ → Memory → Type 0) → KernelValue → Type 0
-Words P v = (n : ℕ) (memory : Memory) → IsWord v n memory → P n memory
-
-answers_no_stray : (P : ℕ → Memory → Type 0) (a : Ended) (e : End) → IfMakes (Words P) a → AnswersAs a e → IsStrayEnd P e → ⊥
-answers_no_stray P (gives v left words) (ended st vs units) f h x = let y = subst (λ vs. IsStrayEnd P (ended st vs units)) h.0.1 x in y (f h.0.0 st.memory h.0.2)
-answers_no_stray P (stops (trap kind.Divide)) (trapped traps.Divide st) f h x = x
-answers_no_stray P (stops (trap kind.Overflow)) (trapped traps.Overflow st) f h x = x
-answers_no_stray P (stops (bound Heap)) (trapped traps.OutOfBounds st) f h x = x
-answers_no_stray P (stops (bound Fuel)) spent f h x = x
-answers_no_stray P _ _ f h x = absurd h
-
--- an argument of a ground type is a value of it
-argument_typed : (s : GroundType) (v : Value) → IsArgument s v → Valued [] [] v (ground_type s)
-argument_typed (base Int) (int z) h = v_int
-argument_typed (base Truth) (bool b) h = v_bool
-argument_typed (product s t) (both v w) h = v_pair (argument_typed s v h.0) (argument_typed t w h.1)
-argument_typed _ _ h = absurd h
 
 -- one word is that of one value of the type
 same_truth : (b c : _) (n : ℕ) → n ≡ truth_number c → n ≡ truth_number b → c ≡ b
@@ -198,9 +163,6 @@ keeps_as wasm st n s t r f words h shut typed calls = record {
       (calls g (subst (λ w. exported (module_of w) (codes "call") ≡ Some g) h.wasm_is e) cs (subst (λ s. AreCalls s cs) h.argument_is are))));
 }
 
-same_number : {o : Option ℕ} {f g : ℕ} → o ≡ Some f → o ≡ Some g → f ≡ g
-same_number e f = cc
-
 -- the calls that follow an `init` which ended with a word
 module _ (wasm : Module) (c : Expression) (s t : GroundType) (units : ℕ) (typed : HasKernelType c (to s t)) (stands : StandsFor (module_of wasm) c (to s t)) where
   means : MeansKernel (module_of wasm) c (to s t) stands.store
@@ -209,7 +171,7 @@ module _ (wasm : Module) (c : Expression) (s t : GroundType) (units : ℕ) (type
   function_meant : (r : RunningState) (left : ℕ) (e : End) (a : Ended) → KernelSafe units (Has [] [] none (kernel_type (to s t))) a → IsBeganAs wasm (to s t) (began.Function r left) e → AnswersAs a e
       → ((calls : List Call) → AreCalls s calls → CallsAfter (module_of wasm) means.calls.0 a e calls) → IsBeganFrom (to s t) (began.Function r left) a
   function_meant r left (ended st (I64 n ∷ []) l) (gives f u words) safe h x after =
-      (keeps_as wasm st n s t r f words h.0 safe.is.1.0 safe.is.1.1 (λ g e cs are. subst (λ g. CallsAnswer (module_of wasm) g n f words cs st) (same_number means.calls.1 e) (after cs are)), h.1 ∙ x.1)
+      (keeps_as wasm st n s t r f words h.0 safe.is.1.0 safe.is.1.1 (λ g e cs are. subst (λ g. CallsAnswer (module_of wasm) g n f words cs st) (one_number (module_of wasm) (codes "call") e means.calls.1) (after cs are)), h.1 ∙ x.1)
   function_meant r left (ended st (I64 n ∷ []) l) (stops w) safe h x after = let g = given (stops w) st n l x in let p = g.is in absurd (cc)
   function_meant r left (ended st [] l) a safe h x after = absurd h
   function_meant r left (ended st (I32 n ∷ vs) l) a safe h x after = absurd h
@@ -228,7 +190,7 @@ module _ (wasm : Module) (c : Expression) (s t : GroundType) (units : ℕ) (type
       e = invoked (module_of wasm) stands.store means.init [] units
 
       safe : KernelSafe units (Has [] [] none (kernel_type (to s t))) (kernel_meaning units 0 c)
-      safe = closed_code_safe c 0 (kernel_type (to s t)) units 0 typed.is_code typed.typed
+      safe = kernel_safe c (to s t) units typed
 
       at_answer : (answer : Result Began RunFault) → IsStartOf answer wasm (to s t) (invoked (module_of wasm) stands.store means.init [] units) → IsStartMeant answer (to s t) (kernel_meaning units 0 c)
       at_answer (Ok (began.Function r left)) h = function_meant r left _ _ safe h (means.run units) (λ cs are. means.calls.2 units cs are)
@@ -246,7 +208,7 @@ module _ (wasm : Module) (c : Expression) (t : GroundType) (units : ℕ) (typed 
   ground_start_meant answer h = at_answer answer (h stands.store ground_means.init stands.has_instance ground_means.is_init)
     where
       safe : KernelSafe units (Has [] [] none (ground_type t)) (kernel_meaning units 0 c)
-      safe = closed_code_safe c 0 (kernel_type (of_ground t)) units 0 typed.is_code typed.typed
+      safe = kernel_safe c (of_ground t) units typed
 
       at_answer : (answer : Result Began RunFault) → IsStartOf answer wasm (of_ground t) (invoked (module_of wasm) stands.store ground_means.init [] units) → IsStartMeant answer (of_ground t) (kernel_meaning units 0 c)
       at_answer (Ok (began.Value v left)) h =
@@ -293,7 +255,7 @@ pub call_meant : (answer : Result Ran RunFault) (r : RunningState) (v : PureGrou
 call_meant answer r v units runnable has fits h f words keeps = at_answer r runnable v has units f words keeps answer fits (h runnable.call.index runnable.call.is_exported)
 
 -- and after a value it is kept
-onward : (t : GroundType) (v : PureGroundValue) (left : ℕ) (e : End) (after : Store) (P : Store → Type 0) → EndsWithValue t v left e → IsStoreAfter e after → Onward e P → P after
+onward : (t : GroundType) (v : PureGroundValue) (left : ℕ) (e : End) (after : Store) (P : Store → Type 0) → EndsWithValue t v left e → IsStoreAfter e after → IfEnded e P → P after
 onward t v left (ended st (I64 n ∷ []) units) after P h s o = subst P (sym s) o
 onward t v left (ended st [] units) after P h s o = absurd h
 onward t v left (ended st (I32 n ∷ vs) units) after P h s o = absurd h

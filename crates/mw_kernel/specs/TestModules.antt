@@ -2,7 +2,7 @@
 use Rattle.std.specs.Prelude.{List, [], ◌∷◌, Some, None, codes}
 use Rattle.mw_term.specs.declared.term.Base.TheVariants.{Int}
 use Rattle.mw_term.specs.Terms.{GroundType, base, of_ground, to}
-use Rattle.mw_meaning.specs.Shapes.{HasShape, init_type}
+use Rattle.mw_meaning.specs.Shapes.{HasShape, init_type, call_type}
 use Rattle.mw_wasm.specs.declared.modules.Exported.TheVariants as exported
 use Rattle.mw_wasm.specs.declared.modules.FuncType.{FuncType}
 use Rattle.mw_wasm.specs.declared.numbers.IntOp.TheVariants.{Add}
@@ -21,7 +21,7 @@ call_body =
     (next (local_get 1) (next (numeric (number.I64 Add)) (next (store store_op.I64 3 0) (next (const_i32 8) (next (load load_op.I64 3 0) end)))))))))))
 
 abbrev pub test_types : List FuncType
-test_types = init_type ∷ record { params = I64 ∷ I64 ∷ []; results = I64 ∷ [] } ∷ []
+test_types = init_type ∷ call_type (base Int) ∷ []
 
 abbrev pub test_functions : Code → List Function
 test_functions init = record { kind = 0; locals = []; body = init } ∷ record { kind = 1; locals = []; body = call_body } ∷ []

@@ -1,7 +1,8 @@
 use Rattle.std.proofs.Common.{◌≡◌, ℕ, List, [], ◌∷◌, ◌++◌, length, refl, sym, ◌∙◌, ap, subst, arith}
 use Rattle.std.proofs.lemmas.List.{length-map}
-use Rattle.mw_meaning.specs.Shapes.{init_type}
-use Rattle.mw_wasm.specs.declared.modules.FuncType.{FuncType}
+use Rattle.mw_term.specs.Terms.{base}
+use Rattle.mw_term.specs.declared.term.Base.TheVariants.{Int}
+use Rattle.mw_meaning.specs.Shapes.{init_type, call_type}
 use Rattle.mw_wasm.specs.declared.modules.Module.{Module}
 use Rattle.mw_wasm.specs.declared.values.ValType.{ValType}
 use Rattle.mw_wasm.specs.declared.values.ValType.TheVariants.{I32, I64}
@@ -26,9 +27,6 @@ t = I64
 abbrev w : ValType
 w = I32
 
-abbrev two_words : FuncType
-two_words = record { params = I64 ∷ I64 ∷ []; results = I64 ∷ [] }
-
 abbrev within : Code → Context
 within init = record (context_of (test_module init)) { locals = t ∷ t ∷ []; labels = (t ∷ []) ∷ []; results = t ∷ [] }
 
@@ -50,7 +48,7 @@ call_typed init =
 valid : (init : Code) → IsInitCode init → IsValid (test_module init)
 valid init h = record {
   types = (omega arith, (omega arith, tt));
-  funcs = ((init_type, refl, h), ((two_words, refl, call_typed init), tt));
+  funcs = ((init_type, refl, h), ((call_type (base Int), refl, call_typed init), tt));
   table = tt;
   memory = (omega arith, tt);
   globals = tt;
