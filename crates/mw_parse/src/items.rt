@@ -2,15 +2,14 @@
 
 #![tactic(auto, using(mw_grammar::proofs::Below::read_full, mw_grammar::proofs::Below::read_gives, mw_grammar::proofs::Below::read_refuses, mw_grammar::proofs::Below::read_reads, mw_grammar::proofs::Below::part_fails, mw_grammar::proofs::Below::fails_then))]
 
-ghost use Rattle.std.specs.Prelude.{◌≡◌, ◌<◌, ◌≤◌, ℕ, List, IfOk, map, length};
+ghost use Rattle.std.specs.Prelude.{◌≤◌, IfOk};
 ghost use Rattle.mw_lex.specs.Tokens.{tokens_of};
-ghost use Rattle.mw_term.specs.Terms.{ground_of};
-ghost use Rattle.mw_grammar.specs.SurfaceTrees.{tree_of, item_of, surface_of};
-ghost use Rattle.mw_grammar.specs.Grammar.{program, item, main_only};
+ghost use Rattle.mw_grammar.specs.SurfaceTrees.{item_of, surface_of};
+ghost use Rattle.mw_grammar.specs.Grammar.{program, item};
 ghost use Rattle.mw_grammar.specs.Forms.{pick, let_by, rec_item, kernel_by, main_of};
-ghost use Rattle.mw_grammar.specs.Descent.{none_yet, ok, full, reading};
-ghost use Rattle.mw_grammar.specs.Gives.{Gives};
-ghost use Rattle.mw_grammar.specs.Answers.{kernels};
+ghost use Rattle.mw_grammar.specs.Descent.{none_yet, full, reading};
+ghost use Rattle.mw_grammar.specs.Gives.{GivesRead};
+ghost use Rattle.mw_parse.specs.Reading.{GivesMain};
 
 use crate::trees::{body_tree, expr_tree, parameter_tree};
 use mw_grammar::fault::{Fault, Read};
@@ -27,7 +26,7 @@ use std::alloc::Global;
 
 fn item_tree(alloc: Global, tokens: &[Token], room: u32) -> Read<SurfaceItem>
     requires { room ≤ 200 }
-    ensures gives { Gives (λ x. ok (item_of x.0) x.1 (tokens_of x.2.now)) result (full room item (tokens_of tokens.now)) }
+    ensures gives { GivesRead item_of result (full room item (tokens_of tokens.now)) }
     ensures height { IfOk result (λ x. x.1 ≤ room) }
 {
     match in_hand(tokens) {
@@ -48,7 +47,7 @@ fn item_tree(alloc: Global, tokens: &[Token], room: u32) -> Read<SurfaceItem>
 
 fn let_item(alloc: Global, tokens: &[Token], room: u32) -> Read<SurfaceItem>
     requires { room ≤ 200 }
-    ensures gives { Gives (λ x. ok (item_of x.0) x.1 (tokens_of x.2.now)) result (reading room (pick let_by) none_yet (tokens_of tokens.now)) }
+    ensures gives { GivesRead item_of result (reading room (pick let_by) none_yet (tokens_of tokens.now)) }
     ensures height { IfOk result (λ x. x.1 ≤ room) }
 {
     match in_hand(tokens) {
@@ -72,7 +71,7 @@ fn let_item(alloc: Global, tokens: &[Token], room: u32) -> Read<SurfaceItem>
 
 fn recursive_item(alloc: Global, tokens: &[Token], room: u32) -> Read<SurfaceItem>
     requires { room ≤ 200 }
-    ensures gives { Gives (λ x. ok (item_of x.0) x.1 (tokens_of x.2.now)) result (reading room (pick rec_item) none_yet (tokens_of tokens.now)) }
+    ensures gives { GivesRead item_of result (reading room (pick rec_item) none_yet (tokens_of tokens.now)) }
     ensures height { IfOk result (λ x. x.1 ≤ room) }
 {
     match in_hand(tokens) {
@@ -97,7 +96,7 @@ fn recursive_item(alloc: Global, tokens: &[Token], room: u32) -> Read<SurfaceIte
 
 fn kernel_item(alloc: Global, tokens: &[Token], room: u32) -> Read<SurfaceItem>
     requires { room ≤ 200 }
-    ensures gives { Gives (λ x. ok (item_of x.0) x.1 (tokens_of x.2.now)) result (reading room (pick kernel_by) none_yet (tokens_of tokens.now)) }
+    ensures gives { GivesRead item_of result (reading room (pick kernel_by) none_yet (tokens_of tokens.now)) }
     ensures height { IfOk result (λ x. x.1 ≤ room) }
 {
     match in_hand(tokens) {
@@ -132,7 +131,7 @@ fn main_tree(
     room: u32,
 ) -> Result<(Ground, Tree, u32, &[Token]), Fault>
     requires { room ≤ 200 }
-    ensures gives { Gives (λ x. ok (main_only (ground_of x.0) (tree_of x.1)) x.2 (tokens_of x.3.now)) result (reading {n = program} room main_of none_yet (tokens_of tokens.now)) }
+    ensures gives { GivesMain result (reading room main_of none_yet (tokens_of tokens.now)) }
     ensures height { IfOk result (λ x. x.2 ≤ room) }
 {
     match after(Next::Colon, tokens) {
@@ -154,7 +153,7 @@ fn main_tree(
 #[tactic(auto, using(mw_grammar::proofs::Below::read_full, mw_grammar::proofs::Below::read_gives, mw_grammar::proofs::Below::read_refuses, mw_grammar::proofs::Below::read_reads, mw_grammar::proofs::Below::part_fails, mw_grammar::proofs::Below::fails_then, crate::proofs::Programs::behind_none, crate::proofs::Programs::item_goes, crate::proofs::Programs::main_goes, crate::proofs::Programs::fails_items))]
 pub fn program_tree(alloc: Global, tokens: &[Token], room: u32) -> Read<Surface>
     requires { room ≤ 200 }
-    ensures gives { Gives (λ x. ok (surface_of x.0) x.1 (tokens_of x.2.now)) result (full room program (tokens_of tokens.now)) }
+    ensures gives { GivesRead surface_of result (full room program (tokens_of tokens.now)) }
 {
     let mut items = SurfaceItems::new(alloc);
     let mut height = 0;

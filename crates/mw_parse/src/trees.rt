@@ -3,13 +3,13 @@
 
 #![tactic(auto, using(mw_grammar::proofs::Below::read_full, mw_grammar::proofs::Below::read_gives, mw_grammar::proofs::Below::read_refuses, mw_grammar::proofs::Below::read_reads, mw_grammar::proofs::Below::part_fails, mw_grammar::proofs::Below::fails_then, mw_grammar::proofs::Below::raise_ok, mw_grammar::proofs::Below::fails_raise))]
 
-ghost use Rattle.std.specs.Prelude.{◌≡◌, ◌<◌, ◌≤◌, ◌-◌, ℕ, suc, max, true, false, IfOk};
+ghost use Rattle.std.specs.Prelude.{◌≡◌, ◌<◌, ◌≤◌, ℕ, IfOk};
 ghost use Rattle.mw_lex.specs.Tokens.{tokens_of};
-ghost use Rattle.mw_grammar.specs.SurfaceTrees.{SurfaceTree, tree_of, bind, run, cond, pair, bracket, escape};
-ghost use Rattle.mw_grammar.specs.Grammar.{tree, expr, disjunction, conjunction, comparison, row as leveled, head, atom, operand, right, body, parameter, kernel_type, negative};
-ghost use Rattle.mw_grammar.specs.Forms.{gives, reads, pick, expect, in_next, then_next, else_next, paren_next, bracket_next, left_next, right_next, let_in_by, rec_by, paren_by, minus_by, behind_first, behind_mark, bound_rec, operated};
-ghost use Rattle.mw_grammar.specs.Descent.{none_yet, so_far, ok, and_then, full, reading, following};
-ghost use Rattle.mw_grammar.specs.Gives.{Gives};
+ghost use Rattle.mw_grammar.specs.SurfaceTrees.{tree_of, bind};
+ghost use Rattle.mw_grammar.specs.Grammar.{tree, expr, disjunction, conjunction, comparison, row as leveled, head, atom, operand, right, body, parameter};
+ghost use Rattle.mw_grammar.specs.Forms.{pick, let_in_by, rec_by, paren_by, minus_by, behind_mark, bound_rec, bracket_form, escape_form, group_form, pair_form, run_form, passed_form, condition_form, branches_form, disjunction_form, scope_form};
+ghost use Rattle.mw_grammar.specs.Descent.{none_yet, so_far, full, reading, following, following_operator};
+ghost use Rattle.mw_grammar.specs.Gives.{GivesRead};
 ghost use Rattle.mw_grammar.specs.Words.{mark_in, atom_form, head_form};
 ghost use Rattle.mw_grammar.specs.Levels.{row_of, op_of, function_of, definition_of};
 
@@ -32,7 +32,7 @@ use std::alloc::Global;
 
 /// After `(` and `-`.
 fn literal(tokens: &[Token]) -> Read<Tree>
-    ensures gives { (b : ℕ) → Gives (λ x. ok (tree_of x.0) x.1 (tokens_of x.2.now)) result (reading b (pick minus_by) none_yet (tokens_of tokens.now)) }
+    ensures gives { (b : ℕ) → GivesRead tree_of result (reading b (pick minus_by) none_yet (tokens_of tokens.now)) }
     ensures height { IfOk result (λ x. x.1 ≡ 0) }
 {
     match in_hand(tokens) {
@@ -50,7 +50,7 @@ fn literal(tokens: &[Token]) -> Read<Tree>
 #[cycle(trees)]
 fn atom_tree(alloc: Global, tokens: &[Token], room: u32) -> Read<Tree>
     requires { room ≤ 200 }
-    ensures gives { Gives (λ x. ok (tree_of x.0) x.1 (tokens_of x.2.now)) result (full room (tree atom) (tokens_of tokens.now)) }
+    ensures gives { GivesRead tree_of result (full room (tree atom) (tokens_of tokens.now)) }
     ensures height { IfOk result (λ x. x.1 ≤ room) }
 {
     match in_hand(tokens) {
@@ -77,7 +77,7 @@ fn atom_inside<'t>(
     room: u32,
 ) -> Read<'t, Tree>
     requires { room ≤ 200 }
-    ensures gives { Gives (λ x. ok (tree_of x.0) x.1 (tokens_of x.2.now)) result (reading room (atom_form atom.entry at) none_yet (tokens_of tokens.now)) }
+    ensures gives { GivesRead tree_of result (reading room (atom_form atom.entry at) none_yet (tokens_of tokens.now)) }
     ensures height { IfOk result (λ x. x.1 ≤ room) }
 {
     match atom {
@@ -91,7 +91,7 @@ fn atom_inside<'t>(
 #[cycle(trees)]
 fn bracketed(alloc: Global, at: u32, tokens: &[Token], room: u32) -> Read<Tree>
     requires { room ≤ 200 }
-    ensures gives { Gives (λ x. ok (tree_of x.0) x.1 (tokens_of x.2.now)) result (reading {n = tree atom} room (reads (tree expr) λ e. expect bracket_next (gives (bracket at e))) none_yet (tokens_of tokens.now)) }
+    ensures gives { GivesRead tree_of result (reading room (bracket_form at) none_yet (tokens_of tokens.now)) }
     ensures height { IfOk result (λ x. x.1 ≤ room) }
 {
     let (tree, height, mid) = expr_tree(alloc, tokens, room)?;
@@ -104,7 +104,7 @@ fn bracketed(alloc: Global, at: u32, tokens: &[Token], room: u32) -> Read<Tree>
 #[cycle(trees)]
 fn escaped(alloc: Global, at: u32, tokens: &[Token], room: u32) -> Read<Tree>
     requires { room ≤ 200 }
-    ensures gives { Gives (λ x. ok (tree_of x.0) x.1 (tokens_of x.2.now)) result (reading {n = tree atom} room (reads (tree atom) λ e. gives (escape at e)) none_yet (tokens_of tokens.now)) }
+    ensures gives { GivesRead tree_of result (reading room (escape_form at) none_yet (tokens_of tokens.now)) }
     ensures height { IfOk result (λ x. x.1 ≤ room) }
 {
     let (tree, height, rest) = atom_tree(alloc, tokens, room)?;
@@ -114,7 +114,7 @@ fn escaped(alloc: Global, at: u32, tokens: &[Token], room: u32) -> Read<Tree>
 #[cycle(trees)]
 fn in_parens(alloc: Global, tokens: &[Token], room: u32) -> Read<Tree>
     requires { room ≤ 200 }
-    ensures gives { Gives (λ x. ok (tree_of x.0) x.1 (tokens_of x.2.now)) result (reading room (pick paren_by) none_yet (tokens_of tokens.now)) }
+    ensures gives { GivesRead tree_of result (reading room (pick paren_by) none_yet (tokens_of tokens.now)) }
     ensures height { IfOk result (λ x. x.1 ≤ room) }
 {
     match in_hand(tokens) {
@@ -131,7 +131,7 @@ fn in_parens(alloc: Global, tokens: &[Token], room: u32) -> Read<Tree>
 #[cycle(trees)]
 fn grouped(alloc: Global, tokens: &[Token], room: u32) -> Read<Tree>
     requires { room ≤ 200 }
-    ensures gives { Gives (λ x. ok (tree_of x.0) x.1 (tokens_of x.2.now)) result (reading {n = tree atom} room (reads (tree expr) λ d. pick (behind_first d)) none_yet (tokens_of tokens.now)) }
+    ensures gives { GivesRead tree_of result (reading room group_form none_yet (tokens_of tokens.now)) }
     ensures height { IfOk result (λ x. x.1 ≤ room) }
 {
     let (tree, height, mid) = expr_tree(alloc, tokens, room)?;
@@ -148,7 +148,7 @@ fn grouped(alloc: Global, tokens: &[Token], room: u32) -> Read<Tree>
 #[cycle(trees)]
 fn paired(alloc: Global, left: Tree, height: u32, tokens: &[Token], room: u32) -> Read<Tree>
     requires { (height ≤ room) × (room ≤ 200) }
-    ensures gives { Gives (λ x. ok (tree_of x.0) x.1 (tokens_of x.2.now)) result (reading {n = tree atom} room (reads (tree expr) λ e. expect paren_next (gives (pair (tree_of left) e))) (so_far height) (tokens_of tokens.now)) }
+    ensures gives { GivesRead tree_of result (reading room (pair_form (tree_of left)) (so_far height) (tokens_of tokens.now)) }
     ensures height { IfOk result (λ x. x.1 ≤ room) }
 {
     let (right, other, mid) = expr_tree(alloc, tokens, room)?;
@@ -161,7 +161,7 @@ fn paired(alloc: Global, left: Tree, height: u32, tokens: &[Token], room: u32) -
 #[cycle(trees)]
 fn head_tree(alloc: Global, tokens: &[Token], room: u32) -> Read<Tree>
     requires { room ≤ 200 }
-    ensures gives { Gives (λ x. ok (tree_of x.0) x.1 (tokens_of x.2.now)) result (full room (tree head) (tokens_of tokens.now)) }
+    ensures gives { GivesRead tree_of result (full room (tree head) (tokens_of tokens.now)) }
     ensures height { IfOk result (λ x. x.1 ≤ room) }
 {
     match in_hand(tokens) {
@@ -182,7 +182,7 @@ fn head_tree(alloc: Global, tokens: &[Token], room: u32) -> Read<Tree>
 #[cycle(trees)]
 fn head_inside(alloc: Global, head: Head, at: u32, tokens: &[Token], room: u32) -> Read<Tree>
     requires { room ≤ 200 }
-    ensures gives { Gives (λ x. ok (tree_of x.0) x.1 (tokens_of x.2.now)) result (reading room (head_form head at) none_yet (tokens_of tokens.now)) }
+    ensures gives { GivesRead tree_of result (reading room (head_form head at) none_yet (tokens_of tokens.now)) }
     ensures height { IfOk result (λ x. x.1 ≤ room) }
 {
     match head {
@@ -197,7 +197,7 @@ fn head_inside(alloc: Global, head: Head, at: u32, tokens: &[Token], room: u32) 
 #[cycle(trees)]
 fn running(alloc: Global, at: u32, tokens: &[Token], room: u32) -> Read<Tree>
     requires { room ≤ 200 }
-    ensures gives { Gives (λ x. ok (tree_of x.0) x.1 (tokens_of x.2.now)) result (reading {n = tree head} room (expect left_next (reads kernel_type λ k. expect right_next (reads (tree atom) λ e. gives (run at k e)))) none_yet (tokens_of tokens.now)) }
+    ensures gives { GivesRead tree_of result (reading room (run_form at) none_yet (tokens_of tokens.now)) }
     ensures height { IfOk result (λ x. x.1 ≤ room) }
 {
     match after(Next::Left, tokens) {
@@ -218,7 +218,7 @@ fn running(alloc: Global, at: u32, tokens: &[Token], room: u32) -> Read<Tree>
 #[cycle(trees)]
 fn operand_tree(alloc: Global, row: Row, tokens: &[Token], room: u32) -> Read<Tree>
     requires { room ≤ 200 }
-    ensures gives { Gives (λ x. ok (tree_of x.0) x.1 (tokens_of x.2.now)) result (full room (tree (operand (row_of row))) (tokens_of tokens.now)) }
+    ensures gives { GivesRead tree_of result (full room (tree (operand (row_of row))) (tokens_of tokens.now)) }
     ensures height { IfOk result (λ x. x.1 ≤ room) }
 {
     match row {
@@ -231,7 +231,7 @@ fn operand_tree(alloc: Global, row: Row, tokens: &[Token], room: u32) -> Read<Tr
 #[cycle(trees)]
 fn right_tree(alloc: Global, row: Row, tokens: &[Token], room: u32) -> Read<Tree>
     requires { room ≤ 200 }
-    ensures gives { Gives (λ x. ok (tree_of x.0) x.1 (tokens_of x.2.now)) result (full room (tree (right (row_of row))) (tokens_of tokens.now)) }
+    ensures gives { GivesRead tree_of result (full room (tree (right (row_of row))) (tokens_of tokens.now)) }
     ensures height { IfOk result (λ x. x.1 ≤ room) }
 {
     match row {
@@ -245,7 +245,7 @@ fn right_tree(alloc: Global, row: Row, tokens: &[Token], room: u32) -> Read<Tree
 #[tactic(auto, using(mw_grammar::proofs::Below::read_full, mw_grammar::proofs::Below::read_gives, mw_grammar::proofs::Below::read_refuses, mw_grammar::proofs::Below::read_reads, mw_grammar::proofs::Below::part_fails, mw_grammar::proofs::Below::fails_then, mw_grammar::proofs::Below::raise_ok, mw_grammar::proofs::Below::fails_raise, mw_grammar::proofs::Below::read_more))]
 fn row_tree(alloc: Global, row: Row, tokens: &[Token], room: u32) -> Read<Tree>
     requires { room ≤ 200 }
-    ensures gives { Gives (λ x. ok (tree_of x.0) x.1 (tokens_of x.2.now)) result (full room (tree (leveled (row_of row))) (tokens_of tokens.now)) }
+    ensures gives { GivesRead tree_of result (full room (tree (leveled (row_of row))) (tokens_of tokens.now)) }
     ensures height { IfOk result (λ x. x.1 ≤ room) }
 {
     let (left, height, mid) = operand_tree(alloc, row, tokens, room)?;
@@ -264,7 +264,7 @@ fn more_trees(
     room: u32,
 ) -> Read<Tree>
     requires { (height ≤ room) × (room ≤ 200) }
-    ensures gives { Gives (λ x. ok (tree_of x.0) x.1 (tokens_of x.2.now)) result (following room (row_of row) (tree_of left) height (tokens_of tokens.now)) }
+    ensures gives { GivesRead tree_of result (following room (row_of row) (tree_of left) height (tokens_of tokens.now)) }
     ensures height { IfOk result (λ x. x.1 ≤ room) }
 {
     match next_operator(row, tokens) {
@@ -281,7 +281,7 @@ fn more_trees(
 #[cycle(trees)]
 fn comparison_tree(alloc: Global, tokens: &[Token], room: u32) -> Read<Tree>
     requires { room ≤ 200 }
-    ensures gives { Gives (λ x. ok (tree_of x.0) x.1 (tokens_of x.2.now)) result (full room (tree comparison) (tokens_of tokens.now)) }
+    ensures gives { GivesRead tree_of result (full room (tree comparison) (tokens_of tokens.now)) }
     ensures height { IfOk result (λ x. x.1 ≤ room) }
 {
     let (left, height, mid) = row_tree(alloc, Row::Sum, tokens, room)?;
@@ -301,7 +301,7 @@ fn comparison_tree(alloc: Global, tokens: &[Token], room: u32) -> Read<Tree>
 #[cycle(trees)]
 fn conjunction_tree(alloc: Global, tokens: &[Token], room: u32) -> Read<Tree>
     requires { room ≤ 200 }
-    ensures gives { Gives (λ x. ok (tree_of x.0) x.1 (tokens_of x.2.now)) result (full room (tree conjunction) (tokens_of tokens.now)) }
+    ensures gives { GivesRead tree_of result (full room (tree conjunction) (tokens_of tokens.now)) }
     ensures height { IfOk result (λ x. x.1 ≤ room) }
 {
     let (left, height, mid) = comparison_tree(alloc, tokens, room)?;
@@ -320,7 +320,7 @@ fn conjunction_tree(alloc: Global, tokens: &[Token], room: u32) -> Read<Tree>
 #[cycle(trees)]
 fn disjunction_tree(alloc: Global, tokens: &[Token], room: u32) -> Read<Tree>
     requires { room ≤ 200 }
-    ensures gives { Gives (λ x. ok (tree_of x.0) x.1 (tokens_of x.2.now)) result (full room (tree disjunction) (tokens_of tokens.now)) }
+    ensures gives { GivesRead tree_of result (full room (tree disjunction) (tokens_of tokens.now)) }
     ensures height { IfOk result (λ x. x.1 ≤ room) }
 {
     let (left, height, mid) = conjunction_tree(alloc, tokens, room)?;
@@ -339,7 +339,7 @@ fn disjunction_tree(alloc: Global, tokens: &[Token], room: u32) -> Read<Tree>
 #[cycle(trees)]
 pub fn expr_tree(alloc: Global, tokens: &[Token], room: u32) -> Read<Tree>
     requires { room ≤ 200 }
-    ensures gives { Gives (λ x. ok (tree_of x.0) x.1 (tokens_of x.2.now)) result (full room (tree expr) (tokens_of tokens.now)) }
+    ensures gives { GivesRead tree_of result (full room (tree expr) (tokens_of tokens.now)) }
     ensures height { IfOk result (λ x. x.1 ≤ room) }
 {
     match in_hand(tokens) {
@@ -371,7 +371,7 @@ pub fn expr_tree(alloc: Global, tokens: &[Token], room: u32) -> Read<Tree>
 #[cycle(trees)]
 fn conditional(alloc: Global, tokens: &[Token], room: u32) -> Read<Tree>
     requires { room ≤ 200 }
-    ensures gives { Gives (λ x. ok (tree_of x.0) x.1 (tokens_of x.2.now)) result (reading {n = tree expr} room (reads (tree expr) λ c. expect then_next (reads (tree expr) λ d. expect else_next (reads (tree expr) λ e. gives (cond c d e)))) none_yet (tokens_of tokens.now)) }
+    ensures gives { GivesRead tree_of result (reading room condition_form none_yet (tokens_of tokens.now)) }
     ensures height { IfOk result (λ x. x.1 ≤ room) }
 {
     let (test, height, mid) = expr_tree(alloc, tokens, room)?;
@@ -384,7 +384,7 @@ fn conditional(alloc: Global, tokens: &[Token], room: u32) -> Read<Tree>
 #[cycle(trees)]
 fn branches(alloc: Global, test: Tree, height: u32, tokens: &[Token], room: u32) -> Read<Tree>
     requires { (height ≤ room) × (room ≤ 200) }
-    ensures gives { Gives (λ x. ok (tree_of x.0) x.1 (tokens_of x.2.now)) result (reading {n = tree expr} room (reads (tree expr) λ d. expect else_next (reads (tree expr) λ e. gives (cond (tree_of test) d e))) (so_far height) (tokens_of tokens.now)) }
+    ensures gives { GivesRead tree_of result (reading room (branches_form (tree_of test)) (so_far height) (tokens_of tokens.now)) }
     ensures height { IfOk result (λ x. x.1 ≤ room) }
 {
     let (left, other, mid) = expr_tree(alloc, tokens, room)?;
@@ -401,7 +401,7 @@ fn branches(alloc: Global, test: Tree, height: u32, tokens: &[Token], room: u32)
 #[cycle(trees)]
 fn bound_tree(alloc: Global, tokens: &[Token], room: u32) -> Read<Tree>
     requires { room ≤ 200 }
-    ensures gives { Gives (λ x. ok (tree_of x.0) x.1 (tokens_of x.2.now)) result (reading room (pick let_in_by) none_yet (tokens_of tokens.now)) }
+    ensures gives { GivesRead tree_of result (reading room (pick let_in_by) none_yet (tokens_of tokens.now)) }
     ensures height { IfOk result (λ x. x.1 ≤ room) }
 {
     match in_hand(tokens) {
@@ -421,7 +421,7 @@ fn bound_tree(alloc: Global, tokens: &[Token], room: u32) -> Read<Tree>
 #[cycle(trees)]
 fn recursive(alloc: Global, tokens: &[Token], room: u32) -> Read<Tree>
     requires { room ≤ 200 }
-    ensures gives { Gives (λ x. ok (tree_of x.0) x.1 (tokens_of x.2.now)) result (reading room (pick rec_by) none_yet (tokens_of tokens.now)) }
+    ensures gives { GivesRead tree_of result (reading room (pick rec_by) none_yet (tokens_of tokens.now)) }
     ensures height { IfOk result (λ x. x.1 ≤ room) }
 {
     match in_hand(tokens) {
@@ -447,7 +447,7 @@ fn scoped(
     room: u32,
 ) -> Read<Tree>
     requires { (height ≤ room) × (room ≤ 200) }
-    ensures gives { Gives (λ x. ok (tree_of x.0) x.1 (tokens_of x.2.now)) result (reading {n = tree expr} room (expect in_next (reads (tree expr) λ e. gives (bind name (tree_of definition) e))) (so_far height) (tokens_of tokens.now)) }
+    ensures gives { GivesRead tree_of result (reading room (scope_form (bind name (tree_of definition))) (so_far height) (tokens_of tokens.now)) }
     ensures height { IfOk result (λ x. x.1 ≤ room) }
 {
     match after(Next::In, tokens) {
@@ -466,7 +466,7 @@ fn scoped(
 #[cycle(trees)]
 pub fn parameter_tree(alloc: Global, mark: Mark, tokens: &[Token], room: u32) -> Read<Function>
     requires { room ≤ 200 }
-    ensures gives { Gives (λ x. ok (function_of x.0) x.1 (tokens_of x.2.now)) result (full room (parameter (mark_in mark)) (tokens_of tokens.now)) }
+    ensures gives { GivesRead function_of result (full room (parameter (mark_in mark)) (tokens_of tokens.now)) }
     ensures height { IfOk result (λ x. x.1 ≤ room) }
 {
     match in_hand(tokens) {
@@ -490,7 +490,7 @@ pub fn parameter_tree(alloc: Global, mark: Mark, tokens: &[Token], room: u32) ->
 #[cycle(trees)]
 pub fn body_tree(alloc: Global, mark: Mark, tokens: &[Token], room: u32) -> Read<Defined>
     requires { room ≤ 200 }
-    ensures gives { Gives (λ x. ok (definition_of x.0) x.1 (tokens_of x.2.now)) result (full room (body (mark_in mark)) (tokens_of tokens.now)) }
+    ensures gives { GivesRead definition_of result (full room (body (mark_in mark)) (tokens_of tokens.now)) }
     ensures height { IfOk result (λ x. x.1 ≤ room) }
 {
     match in_hand(tokens) {
@@ -511,7 +511,7 @@ pub fn body_tree(alloc: Global, mark: Mark, tokens: &[Token], room: u32) -> Read
 #[cycle(trees)]
 fn behind_tree(alloc: Global, mark: Mark, tokens: &[Token], room: u32) -> Read<Defined>
     requires { room ≤ 200 }
-    ensures gives { Gives (λ x. ok (definition_of x.0) x.1 (tokens_of x.2.now)) result (reading room (pick (behind_mark (mark_in mark))) none_yet (tokens_of tokens.now)) }
+    ensures gives { GivesRead definition_of result (reading room (pick (behind_mark (mark_in mark))) none_yet (tokens_of tokens.now)) }
     ensures height { IfOk result (λ x. x.1 ≤ room) }
 {
     match in_hand(tokens) {
@@ -527,7 +527,7 @@ fn behind_tree(alloc: Global, mark: Mark, tokens: &[Token], room: u32) -> Read<D
 #[cycle(trees)]
 fn passed_atom(alloc: Global, tokens: &[Token], room: u32) -> Read<Tree>
     requires { room ≤ 200 }
-    ensures gives { Gives (λ x. ok (tree_of x.0) x.1 (tokens_of x.2.now)) result (reading {n = tree head} room (reads (tree atom) λ e. gives e) none_yet (tokens_of tokens.now)) }
+    ensures gives { GivesRead tree_of result (reading room passed_form none_yet (tokens_of tokens.now)) }
     ensures height { IfOk result (λ x. x.1 ≤ room) }
 {
     let (tree, height, rest) = atom_tree(alloc, tokens, room)?;
@@ -537,7 +537,7 @@ fn passed_atom(alloc: Global, tokens: &[Token], room: u32) -> Read<Tree>
 #[cycle(trees)]
 fn passed_disjunction(alloc: Global, tokens: &[Token], room: u32) -> Read<Tree>
     requires { room ≤ 200 }
-    ensures gives { Gives (λ x. ok (tree_of x.0) x.1 (tokens_of x.2.now)) result (reading {n = tree expr} room (reads (tree disjunction) λ e. gives e) none_yet (tokens_of tokens.now)) }
+    ensures gives { GivesRead tree_of result (reading room disjunction_form none_yet (tokens_of tokens.now)) }
     ensures height { IfOk result (λ x. x.1 ≤ room) }
 {
     let (tree, height, rest) = disjunction_tree(alloc, tokens, room)?;
@@ -556,7 +556,7 @@ fn next_operand(
     room: u32,
 ) -> Read<Tree>
     requires { (height < room) × (room ≤ 200) }
-    ensures gives { Gives (λ x. ok (tree_of x.0) x.1 (tokens_of x.2.now)) result (and_then (full (room - 1) (tree (right (row_of row))) (tokens_of tokens.now)) λ r h mid. following room (row_of row) (operated (op_of operator) (tree_of left) r) (suc (max height h)) mid) }
+    ensures gives { GivesRead tree_of result (following_operator room (row_of row) (op_of operator) (tree_of left) height (tokens_of tokens.now)) }
     ensures height { IfOk result (λ x. x.1 ≤ room) }
 {
     let (right, other, mid) = right_tree(alloc, row, tokens, room - 1)?;
@@ -574,7 +574,7 @@ fn scoped_function(
     room: u32,
 ) -> Read<Tree>
     requires { (height ≤ room) × (room ≤ 200) }
-    ensures gives { Gives (λ x. ok (tree_of x.0) x.1 (tokens_of x.2.now)) result (reading {n = tree expr} room (expect in_next (reads (tree expr) λ e. gives (bound_rec name (function_of function) e))) (so_far height) (tokens_of tokens.now)) }
+    ensures gives { GivesRead tree_of result (reading room (scope_form (bound_rec name (function_of function))) (so_far height) (tokens_of tokens.now)) }
     ensures height { IfOk result (λ x. x.1 ≤ room) }
 {
     match after(Next::In, tokens) {

@@ -28,7 +28,8 @@ capture =
 abbrev pub nameless_capture : PureProgram
 nameless_capture =
     let inner : nameless.Expression = nameless.fun (nameless.bracket (nameless.fun (nameless.prim Add (nameless.escape (nameless.var 1)) (nameless.var 0)))) in
-    nameless_program (nameless.run int (nameless.close 23 (nameless.bracket (nameless.app (nameless.app (nameless.fun (nameless.escape (nameless.app inner (nameless.bracket (nameless.var 0))))) (nameless.num (pos 1))) (nameless.num (pos 10))))))
+    let outer : nameless.Expression = nameless.fun (nameless.escape (nameless.app inner (nameless.bracket (nameless.var 0)))) in
+    nameless_program (nameless.run int (nameless.close 23 (nameless.bracket (nameless.app (nameless.app outer (nameless.num (pos 1))) (nameless.num (pos 10))))))
 
 -- main : int = let c = .<let rec loop n = loop n in loop 0>. in 3
 abbrev pub looping : PureSurface
@@ -37,7 +38,9 @@ looping =
     program [] (bind (codes "c") (bracket 21 (bind (codes "loop") (fix (codes "loop") (codes "n") (app (loop_at 38) (used (codes "n") 43))) (app (loop_at 48) (num (pos 0))))) (num (pos 3)))
 
 abbrev pub nameless_looping : PureProgram
-nameless_looping = nameless_program (nameless.bind (nameless.bracket (nameless.bind (nameless.fix (nameless.app (nameless.var 1) (nameless.var 0))) (nameless.app (nameless.var 0) (nameless.num (pos 0))))) (nameless.num (pos 3)))
+nameless_looping =
+    let loop : nameless.Expression = nameless.fix (nameless.app (nameless.var 1) (nameless.var 0)) in
+    nameless_program (nameless.bind (nameless.bracket (nameless.bind loop (nameless.app (nameless.var 0) (nameless.num (pos 0))))) (nameless.num (pos 3)))
 
 -- let f x = x ;; main : int = run[int] (close .<(fun x -> f x) 1>.)
 abbrev pub used_inside : PureSurface

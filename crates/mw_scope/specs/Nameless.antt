@@ -21,11 +21,14 @@ pub data Nameless (tops : TopNames) : List Binder → Level → SurfaceTree → 
   -- the binders of functions and lets have the level where these stand
   n_fun : {g : List Binder} {m : Level} {x : List ℕ} {t : SurfaceTree} {e : Expression} → Nameless tops (record { name = x; level = m } ∷ g) m t e → Nameless tops g m (surface.fun x t) (fun e)
   -- of a recursive function the argument is the nearest binder, and its own name the next
-  n_fix : {g : List Binder} {m : Level} {f x : List ℕ} {t : SurfaceTree} {e : Expression} → Nameless tops (record { name = x; level = m } ∷ record { name = f; level = m } ∷ g) m t e → Nameless tops g m (surface.fix f x t) (fix e)
+  n_fix : {g : List Binder} {m : Level} {f x : List ℕ} {t : SurfaceTree} {e : Expression} → Nameless tops (record { name = x; level = m } ∷ record { name = f; level = m } ∷ g) m t e
+      → Nameless tops g m (surface.fix f x t) (fix e)
   n_app : {g : List Binder} {m : Level} {s t : SurfaceTree} {d e : Expression} → Nameless tops g m s d → Nameless tops g m t e → Nameless tops g m (surface.app s t) (app d e)
   -- a let's name is not in scope in its definition
-  n_bind : {g : List Binder} {m : Level} {x : List ℕ} {s t : SurfaceTree} {d e : Expression} → Nameless tops g m s d → Nameless tops (record { name = x; level = m } ∷ g) m t e → Nameless tops g m (surface.bind x s t) (bind d e)
-  n_cond : {g : List Binder} {m : Level} {r s t : SurfaceTree} {c d e : Expression} → Nameless tops g m r c → Nameless tops g m s d → Nameless tops g m t e → Nameless tops g m (surface.cond r s t) (cond c d e)
+  n_bind : {g : List Binder} {m : Level} {x : List ℕ} {s t : SurfaceTree} {d e : Expression} → Nameless tops g m s d → Nameless tops (record { name = x; level = m } ∷ g) m t e
+      → Nameless tops g m (surface.bind x s t) (bind d e)
+  n_cond : {g : List Binder} {m : Level} {r s t : SurfaceTree} {c d e : Expression} → Nameless tops g m r c → Nameless tops g m s d → Nameless tops g m t e
+      → Nameless tops g m (surface.cond r s t) (cond c d e)
   n_pair : {g : List Binder} {m : Level} {s t : SurfaceTree} {d e : Expression} → Nameless tops g m s d → Nameless tops g m t e → Nameless tops g m (surface.pair s t) (pair d e)
   n_fst : {g : List Binder} {m : Level} {t : SurfaceTree} {e : Expression} → Nameless tops g m t e → Nameless tops g m (surface.fst t) (fst e)
   n_snd : {g : List Binder} {m : Level} {t : SurfaceTree} {e : Expression} → Nameless tops g m t e → Nameless tops g m (surface.snd t) (snd e)
@@ -57,7 +60,8 @@ pub data NamelessItem (before : List PureItem) : PureItem → Definition → Typ
 -- after the items before them, items are these definitions: each has a name that none before it has
 pub data NamelessItems : List PureItem → List PureItem → List Definition → Type 0 where
   no_item : {before : List PureItem} → NamelessItems before [] []
-  an_item : {before items : List PureItem} {item : PureItem} {d : Definition} {ds : List Definition} → items_of before (name_of item) ≡ None → NamelessItem before item d → NamelessItems (before ++ item ∷ []) items ds → NamelessItems before (item ∷ items) (d ∷ ds)
+  an_item : {before items : List PureItem} {item : PureItem} {d : Definition} {ds : List Definition} → items_of before (name_of item) ≡ None → NamelessItem before item d
+      → NamelessItems (before ++ item ∷ []) items ds → NamelessItems before (item ∷ items) (d ∷ ds)
 
 -- a surface program is this program; main sees all items
 pub record IsNameless (s : PureSurface) (p : PureProgram) : Type 0 where

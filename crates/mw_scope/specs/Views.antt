@@ -1,5 +1,5 @@
 -- The views from what the walk keeps to names, and the forms of its functions.
-use Rattle.std.specs.Prelude.{ℕ, ◌≡◌, ◌+◌, ◌*◌, ◌≤◌, List, Option}
+use Rattle.std.specs.Prelude.{ℕ, ◌≡◌, ◌+◌, ◌*◌, ◌≤◌, List, [], ◌∷◌, ◌++◌, length, Option}
 use Rattle.std.specs.Option.{option_flatten}
 use Rattle.std.specs.Str.{bytes_eq}
 use Rattle.indexmap.specs.IndexMap.{get_by}
@@ -60,3 +60,7 @@ IsStaging _ = ⊥
 pub record Knows (names : Names) (items : List PureItem) : Type 0 where
   pub lets : (x : List ℕ) → place_at names.lets x ≡ lets_of items x
   pub all : (x : List ℕ) → place_at names.all x ≡ items_of items x
+
+-- to the names of as many items as the index says, the name of this one was added
+abbrev pub AddsName : Names → Names → PureItem → ℕ → Type 0
+AddsName old new item index = (before : List PureItem) → Knows old before → length before ≡ index → Knows new (before ++ item ∷ [])

@@ -1,15 +1,15 @@
 // The walk of the items.
 
-ghost use Rattle.std.specs.Prelude.{◌≡◌, ◌≤◌, List, [], ◌∷◌, ◌++◌, length, map, IfOk, OnOk};
+ghost use Rattle.std.specs.Prelude.{◌≡◌, ◌≤◌, [], length, map, IfOk, OnOk};
 ghost use Rattle.mw_term.specs.Programs.{definition_of};
-ghost use Rattle.mw_grammar.specs.SurfaceTrees.{PureItem, item_of, tree_of};
+ghost use Rattle.mw_grammar.specs.SurfaceTrees.{item_of, tree_of};
 ghost use Rattle.mw_grammar.specs.SurfaceDepth.{AreShallow, bound_tree, surface_depth};
 ghost use Rattle.mw_scope.specs.Scopes.{name_of};
 ghost use Rattle.mw_scope.specs.Nameless.{is_value};
 ghost use Rattle.mw_scope.specs.Faults.{faults_in, faults_of_item, faults_of_items, faults_of_name, faults_of_value};
 ghost use Rattle.mw_scope.specs.Named.{named, named_item, named_items};
 ghost use Rattle.mw_scope.specs.Keeping.{kept};
-ghost use Rattle.mw_scope.specs.Views.{Knows, place_at};
+ghost use Rattle.mw_scope.specs.Views.{AddsName, Knows, place_at};
 ghost use Rattle.mw_scope.specs.declared.level.Level.TheVariants.{Live};
 ghost use Rattle.mw_term.specs.Terms.{expression_of};
 
@@ -115,7 +115,7 @@ fn item(
     ensures name { IfOk result (λ i. i.name ≡ name_of (item_of item.now)) }
     ensures definition { IfOk result (λ i. definition_of i.kind ≡ named_item (place_at names.old.lets) (item_of item.now)) }
     ensures faults { OnOk result (first.new ≡ kept first.old (faults_of_item (place_at names.old.lets) (place_at names.old.all) (item_of item.now))) }
-    ensures names { OnOk result ((before : List PureItem) → Knows names.old before → length before ≡ index → Knows names.new (before ++ item_of item.now ∷ [])) }
+    ensures names { OnOk result (AddsName names.old names.new (item_of item.now) index) }
 {
     let kind = kind(alloc, names, item, first)?;
     let name = copied_name(alloc, &item_name(item).name)?;

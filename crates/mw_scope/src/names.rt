@@ -1,7 +1,7 @@
 // The names of the items so far.
 
-ghost use Rattle.std.specs.Prelude.{◌≡◌, List, [], ◌∷◌, ◌++◌, length, OnOk};
-ghost use Rattle.mw_grammar.specs.SurfaceTrees.{PureItem, item_of};
+ghost use Rattle.std.specs.Prelude.{[], OnOk};
+ghost use Rattle.mw_grammar.specs.SurfaceTrees.{item_of};
 
 use crate::top_names::TopNames;
 use mw_grammar::SurfaceItem;
@@ -15,7 +15,7 @@ pub struct Names {
 }
 
 impl Names {
-    ghost use Rattle.mw_scope.specs.Views.{Knows};
+    ghost use Rattle.mw_scope.specs.Views.{AddsName, Knows};
 
     /// No names.
     pub fn new(alloc: Global) -> Names
@@ -29,7 +29,7 @@ impl Names {
 
     /// Adds the name of the item after the items so far, with its index.
     pub fn add(&mut self, alloc: Global, item: &SurfaceItem, index: u32) -> Result<(), AllocError>
-        ensures { OnOk result ((before : List PureItem) → Knows self.old before → length before ≡ index → Knows self.new (before ++ item_of item.now ∷ [])) }
+        ensures { OnOk result (AddsName self.old self.new (item_of item.now) index) }
     {
         match item {
             SurfaceItem::Let(name, _, _) => {
