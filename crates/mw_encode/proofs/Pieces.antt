@@ -1,6 +1,6 @@
 -- What the parts of a piece that is spelled are, and how items are written one after another.
 use Rattle.std.proofs.Common.{◌≡◌, ℕ, zero, suc, ◌+◌, ◌^◌, ◌≤◌, ◌<◌, List, [], ◌∷◌, ◌++◌, length, map, drop, get_or, drop-cons, add-one, append_assoc, append-nil, refl, sym, ap, ◌∙◌, inl, inr, arith}
-use Rattle.std.proofs.lemmas.List.{length-map}
+use Rattle.std.proofs.lemmas.List.{length-map, map-id}
 use Rattle.std.specs.List.{flat_map}
 use Rattle.mw_wasm.specs.Pieces.{Piece, ◌then◌, ◌when◌, items, vector, sized}
 use Rattle.mw_wasm.specs.BinaryModules.{section}
@@ -79,6 +79,10 @@ viewed_start P f v xs old out s e =
 
 pub viewed_count : {A B : Type 0} (P : B → Piece) (v : A → B) (xs : List A) → Spelled (vector P (map v xs)) → length xs < 2 ^ 32
 viewed_count P v xs s = let h : length (map v xs) < 2 ^ 32 = spelled_count P (map v xs) s in rw (length-map xs v) at h
+
+-- items that are seen as they are
+pub seen_same : {A : Type 0} (xs : List A) → map (λ x. x) xs ≡ xs
+seen_same xs = map-id xs
 
 -- sections
 pub section_vector : {A : Type 0} (id : ℕ) (P : A → Piece) (xs : List A) → 0 < length xs → Spelled (section id P xs) → Spelled (vector P xs)

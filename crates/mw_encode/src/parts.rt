@@ -1,6 +1,6 @@
 // The items of the sections.
 
-ghost use Rattle.std.specs.Prelude.{◌≡◌, ◌+◌, ◌^◌, ◌<◌, [], ◌∷◌, ◌++◌, length, OnOk, IfOk};
+ghost use Rattle.std.specs.Prelude.{◌≡◌, ◌+◌, ◌^◌, ◌<◌, [], ◌∷◌, ◌++◌, length, List, ℕ, OnOk, IfOk};
 ghost use Rattle.std.specs.List.{flat_map};
 ghost use Rattle.mw_wasm.specs.BinaryModules.{
   data_segment,
@@ -11,6 +11,14 @@ ghost use Rattle.mw_wasm.specs.BinaryModules.{
   global,
   locals,
 };
+ghost use Rattle.mw_wasm.specs.Syntax.{
+  DataSegment,
+  ElementSegment,
+  Exporting,
+  Function,
+  Global as PureGlobal,
+};
+ghost use Rattle.mw_wasm.specs.declared.modules.FuncType.{FuncType as PureType};
 ghost use Rattle.mw_wasm.specs.Views.{element_of, export_of, function_of, global_of, segment_of};
 ghost use Rattle.mw_encode.specs.Encoding.{
   element_bytes,
@@ -44,6 +52,25 @@ use mw_wasm::{
 };
 use std::alloc::{AllocError, Global};
 
+/// An item of a section.
+pub trait Encoded {
+    /// What contracts see of it.
+    ghost Seen: { Type 0 };
+
+    ghost seen: { Self → Seen };
+
+    /// Which bytes spell it.
+    ghost spelled: { Seen → List ℕ → Type 0 };
+
+    /// The bytes that are appended.
+    ghost bytes: { Seen → List ℕ };
+
+    /// Appends its bytes.
+    fn put(&self, alloc: Global, out: &mut Vec<u8>) -> Result<(), AllocError>
+        requires { Spelled (spelled (seen self.now)) }
+        ensures { OnOk result (out.new.items ≡ out.old.items ++ bytes (seen self.now)) };
+}
+
 /// Appends a vector of value types.
 pub fn put_value_types(out: &mut Vec<u8>, types: &ValTypes) -> Result<(), AllocError>
     requires { length types.now < 2 ^ 32 }
@@ -57,14 +84,20 @@ pub fn put_value_types(out: &mut Vec<u8>, types: &ValTypes) -> Result<(), AllocE
     Ok(())
 }
 
-/// Appends a function's type.
-pub fn put_function_type(out: &mut Vec<u8>, kind: &FuncType) -> Result<(), AllocError>
-    requires { Spelled (function_type kind.now) }
-    ensures { OnOk result (out.new.items ≡ out.old.items ++ function_type_bytes kind.now) }
-{
-    put_byte(out, 0x60)?;
-    put_value_types(out, &kind.params)?;
-    put_value_types(out, &kind.results)
+impl Encoded for FuncType {
+    ghost Seen = { PureType };
+
+    ghost seen = { λ kind. kind };
+
+    ghost spelled = { function_type };
+
+    ghost bytes = { function_type_bytes };
+
+    fn put(&self, _alloc: Global, out: &mut Vec<u8>) -> Result<(), AllocError> {
+        put_byte(out, 0x60)?;
+        put_value_types(out, &self.params)?;
+        put_value_types(out, &self.results)
+    }
 }
 
 /// Appends limits.
@@ -91,14 +124,20 @@ fn byte_of_mutability(variable: bool) -> u8
     if variable { 0x01 } else { 0x00 }
 }
 
-/// Appends a global.
-pub fn put_global(out: &mut Vec<u8>, variable: &GlobalVar) -> Result<(), AllocError>
-    requires { Spelled (global (global_of variable.now)) }
-    ensures { OnOk result (out.new.items ≡ out.old.items ++ global_bytes (global_of variable.now)) }
-{
-    put_byte(out, byte_of_type(variable.kind))?;
-    put_byte(out, byte_of_mutability(variable.variable))?;
-    put_expression(out, &variable.init)
+impl Encoded for GlobalVar {
+    ghost Seen = { PureGlobal };
+
+    ghost seen = { global_of };
+
+    ghost spelled = { global };
+
+    ghost bytes = { global_bytes };
+
+    fn put(&self, _alloc: Global, out: &mut Vec<u8>) -> Result<(), AllocError> {
+        put_byte(out, byte_of_type(self.kind))?;
+        put_byte(out, byte_of_mutability(self.variable))?;
+        put_expression(out, &self.init)
+    }
 }
 
 fn put_exported(out: &mut Vec<u8>, what: Exported) -> Result<(), AllocError>
@@ -112,33 +151,51 @@ fn put_exported(out: &mut Vec<u8>, what: Exported) -> Result<(), AllocError>
     }
 }
 
-/// Appends an export.
-pub fn put_export(out: &mut Vec<u8>, one: &Export) -> Result<(), AllocError>
-    requires { Spelled (export (export_of one.now)) }
-    ensures { OnOk result (out.new.items ≡ out.old.items ++ export_bytes (export_of one.now)) }
-{
-    put_octets(out, &one.name)?;
-    put_exported(out, one.what)
+impl Encoded for Export {
+    ghost Seen = { Exporting };
+
+    ghost seen = { export_of };
+
+    ghost spelled = { export };
+
+    ghost bytes = { export_bytes };
+
+    fn put(&self, _alloc: Global, out: &mut Vec<u8>) -> Result<(), AllocError> {
+        put_octets(out, &self.name)?;
+        put_exported(out, self.what)
+    }
 }
 
-/// Appends an element segment.
-pub fn put_element(out: &mut Vec<u8>, one: &Element) -> Result<(), AllocError>
-    requires { Spelled (element (element_of one.now)) }
-    ensures { OnOk result (out.new.items ≡ out.old.items ++ element_bytes (element_of one.now)) }
-{
-    put_u32(out, 0)?;
-    put_expression(out, &one.offset)?;
-    put_indices(out, &one.funcs)
+impl Encoded for Element {
+    ghost Seen = { ElementSegment };
+
+    ghost seen = { element_of };
+
+    ghost spelled = { element };
+
+    ghost bytes = { element_bytes };
+
+    fn put(&self, _alloc: Global, out: &mut Vec<u8>) -> Result<(), AllocError> {
+        put_u32(out, 0)?;
+        put_expression(out, &self.offset)?;
+        put_indices(out, &self.funcs)
+    }
 }
 
-/// Appends a data segment.
-pub fn put_segment(out: &mut Vec<u8>, one: &Segment) -> Result<(), AllocError>
-    requires { Spelled (data_segment (segment_of one.now)) }
-    ensures { OnOk result (out.new.items ≡ out.old.items ++ segment_bytes (segment_of one.now)) }
-{
-    put_u32(out, 0)?;
-    put_expression(out, &one.offset)?;
-    put_octets(out, &one.bytes)
+impl Encoded for Segment {
+    ghost Seen = { DataSegment };
+
+    ghost seen = { segment_of };
+
+    ghost spelled = { data_segment };
+
+    ghost bytes = { segment_bytes };
+
+    fn put(&self, _alloc: Global, out: &mut Vec<u8>) -> Result<(), AllocError> {
+        put_u32(out, 0)?;
+        put_expression(out, &self.offset)?;
+        put_octets(out, &self.bytes)
+    }
 }
 
 fn is_same(a: ValType, b: ValType) -> bool
@@ -197,17 +254,19 @@ pub fn put_locals(alloc: Global, out: &mut Vec<u8>, types: &ValTypes) -> Result<
     out.extend_from_slice(runs.as_slice())
 }
 
-/// Appends a function's locals and body after their size.
-pub fn put_function_code(
-    alloc: Global,
-    out: &mut Vec<u8>,
-    function: &Func,
-) -> Result<(), AllocError>
-    requires { Spelled (function_code (function_of function.now)) }
-    ensures { OnOk result (out.new.items ≡ out.old.items ++ function_code_bytes (function_of function.now)) }
-{
-    let mut content = Vec::new(alloc);
-    put_locals(alloc, &mut content, &function.locals)?;
-    put_expression(&mut content, &function.body)?;
-    put_sized(out, content.as_slice())
+impl Encoded for Func {
+    ghost Seen = { Function };
+
+    ghost seen = { function_of };
+
+    ghost spelled = { function_code };
+
+    ghost bytes = { function_code_bytes };
+
+    fn put(&self, alloc: Global, out: &mut Vec<u8>) -> Result<(), AllocError> {
+        let mut content = Vec::new(alloc);
+        put_locals(alloc, &mut content, &self.locals)?;
+        put_expression(&mut content, &self.body)?;
+        put_sized(out, content.as_slice())
+    }
 }

@@ -32,10 +32,7 @@ ghost use Rattle.mw_encode.specs.Encoding.{
   vector_bytes,
 };
 
-use crate::parts::{
-    put_element, put_export, put_function_code, put_function_type, put_global, put_limits,
-    put_segment, put_table,
-};
+use crate::parts::{Encoded, put_limits, put_table};
 use crate::vectors::{put_byte, put_count, put_sized};
 use mw_leb::put_u32;
 use mw_wasm::{Elements, Exports, FuncTypes, Funcs, Globals, Limits, Segments};
@@ -50,19 +47,20 @@ fn put_section(out: &mut Vec<u8>, id: u8, content: &[u8]) -> Result<(), AllocErr
     put_sized(out, content)
 }
 
-fn put_all_types(out: &mut Vec<u8>, list: &FuncTypes) -> Result<(), AllocError>
-    requires { Spelled (vector function_type list.now) }
-    ensures { OnOk result (out.new.items ≡ out.old.items ++ vector_bytes function_type_bytes list.now) }
+/// Appends a vector of items.
+fn put_all<T: Encoded>(alloc: Global, out: &mut Vec<u8>, list: &[T]) -> Result<(), AllocError>
+    requires { Spelled (vector T.spelled (map T.seen list.now)) }
+    ensures { OnOk result (out.new.items ≡ out.old.items ++ vector_bytes T.bytes (map T.seen list.now)) }
 {
     put_count(out, list.len())?;
-    let items = list.as_slice();
-    for one in items {
-        put_function_type(out, one)?;
+    for one in list {
+        one.put(alloc, out)?;
     }
     Ok(())
 }
 
 /// Appends the section of the types.
+#[tactic(auto, using(crate::proofs::Pieces::seen_same))]
 pub fn put_types(alloc: Global, out: &mut Vec<u8>, list: &FuncTypes) -> Result<(), AllocError>
     requires { Spelled (section 1 function_type list.now) }
     ensures { OnOk result (out.new.items ≡ out.old.items ++ section_bytes 1 function_type_bytes list.now) }
@@ -71,7 +69,7 @@ pub fn put_types(alloc: Global, out: &mut Vec<u8>, list: &FuncTypes) -> Result<(
         return Ok(());
     }
     let mut content = Vec::new(alloc);
-    put_all_types(&mut content, list)?;
+    put_all(alloc, &mut content, list.as_slice())?;
     put_section(out, 1, content.as_slice())
 }
 
@@ -100,18 +98,6 @@ pub fn put_kinds(alloc: Global, out: &mut Vec<u8>, list: &Funcs) -> Result<(), A
     put_section(out, 3, content.as_slice())
 }
 
-fn put_all_globals(out: &mut Vec<u8>, list: &Globals) -> Result<(), AllocError>
-    requires { Spelled (vector global (map global_of list.now)) }
-    ensures { OnOk result (out.new.items ≡ out.old.items ++ vector_bytes global_bytes (map global_of list.now)) }
-{
-    put_count(out, list.len())?;
-    let items = list.as_slice();
-    for one in items {
-        put_global(out, one)?;
-    }
-    Ok(())
-}
-
 /// Appends the section of the globals.
 pub fn put_globals(alloc: Global, out: &mut Vec<u8>, list: &Globals) -> Result<(), AllocError>
     requires { Spelled (section 6 global (map global_of list.now)) }
@@ -121,20 +107,8 @@ pub fn put_globals(alloc: Global, out: &mut Vec<u8>, list: &Globals) -> Result<(
         return Ok(());
     }
     let mut content = Vec::new(alloc);
-    put_all_globals(&mut content, list)?;
+    put_all(alloc, &mut content, list.as_slice())?;
     put_section(out, 6, content.as_slice())
-}
-
-fn put_all_exports(out: &mut Vec<u8>, list: &Exports) -> Result<(), AllocError>
-    requires { Spelled (vector export (map export_of list.now)) }
-    ensures { OnOk result (out.new.items ≡ out.old.items ++ vector_bytes export_bytes (map export_of list.now)) }
-{
-    put_count(out, list.len())?;
-    let items = list.as_slice();
-    for one in items {
-        put_export(out, one)?;
-    }
-    Ok(())
 }
 
 /// Appends the section of the exports.
@@ -146,20 +120,8 @@ pub fn put_exports(alloc: Global, out: &mut Vec<u8>, list: &Exports) -> Result<(
         return Ok(());
     }
     let mut content = Vec::new(alloc);
-    put_all_exports(&mut content, list)?;
+    put_all(alloc, &mut content, list.as_slice())?;
     put_section(out, 7, content.as_slice())
-}
-
-fn put_all_elements(out: &mut Vec<u8>, list: &Elements) -> Result<(), AllocError>
-    requires { Spelled (vector element (map element_of list.now)) }
-    ensures { OnOk result (out.new.items ≡ out.old.items ++ vector_bytes element_bytes (map element_of list.now)) }
-{
-    put_count(out, list.len())?;
-    let items = list.as_slice();
-    for one in items {
-        put_element(out, one)?;
-    }
-    Ok(())
 }
 
 /// Appends the section of the element segments.
@@ -171,20 +133,8 @@ pub fn put_elements(alloc: Global, out: &mut Vec<u8>, list: &Elements) -> Result
         return Ok(());
     }
     let mut content = Vec::new(alloc);
-    put_all_elements(&mut content, list)?;
+    put_all(alloc, &mut content, list.as_slice())?;
     put_section(out, 9, content.as_slice())
-}
-
-fn put_all_bodies(alloc: Global, out: &mut Vec<u8>, list: &Funcs) -> Result<(), AllocError>
-    requires { Spelled (vector function_code (map function_of list.now)) }
-    ensures { OnOk result (out.new.items ≡ out.old.items ++ vector_bytes function_code_bytes (map function_of list.now)) }
-{
-    put_count(out, list.len())?;
-    let items = list.as_slice();
-    for one in items {
-        put_function_code(alloc, out, one)?;
-    }
-    Ok(())
 }
 
 /// Appends the section of the functions' locals and bodies.
@@ -196,20 +146,8 @@ pub fn put_bodies(alloc: Global, out: &mut Vec<u8>, list: &Funcs) -> Result<(), 
         return Ok(());
     }
     let mut content = Vec::new(alloc);
-    put_all_bodies(alloc, &mut content, list)?;
+    put_all(alloc, &mut content, list.as_slice())?;
     put_section(out, 10, content.as_slice())
-}
-
-fn put_all_segments(out: &mut Vec<u8>, list: &Segments) -> Result<(), AllocError>
-    requires { Spelled (vector data_segment (map segment_of list.now)) }
-    ensures { OnOk result (out.new.items ≡ out.old.items ++ vector_bytes segment_bytes (map segment_of list.now)) }
-{
-    put_count(out, list.len())?;
-    let items = list.as_slice();
-    for one in items {
-        put_segment(out, one)?;
-    }
-    Ok(())
 }
 
 /// Appends the section of the data segments.
@@ -221,7 +159,7 @@ pub fn put_segments(alloc: Global, out: &mut Vec<u8>, list: &Segments) -> Result
         return Ok(());
     }
     let mut content = Vec::new(alloc);
-    put_all_segments(&mut content, list)?;
+    put_all(alloc, &mut content, list.as_slice())?;
     put_section(out, 11, content.as_slice())
 }
 
