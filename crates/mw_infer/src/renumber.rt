@@ -49,8 +49,8 @@ fn place(numbering: &mut Numbering, number: u64) -> u64
 
 /// A type with new numbers.
 pub fn renumber(
-    ty: &Ty,
     alloc: Global,
+    ty: &Ty,
     unknowns: &mut Numbering,
     classifiers: &mut Numbering,
 ) -> Result<Ty, AllocError>
@@ -62,25 +62,25 @@ pub fn renumber(
         Ty::Bool => Ok(Ty::Bool),
         Ty::Unknown(u) => Ok(Ty::Unknown(place(unknowns, *u))),
         Ty::Pair(s, t) => {
-            let left = renumber(s, alloc, unknowns, classifiers)?;
-            let right = renumber(t, alloc, unknowns, classifiers)?;
+            let left = renumber(alloc, s, unknowns, classifiers)?;
+            let right = renumber(alloc, t, unknowns, classifiers)?;
             let ty = pair(alloc, left, right)?;
             Ok(ty)
         }
         Ty::Arrow(s, t) => {
-            let from = renumber(s, alloc, unknowns, classifiers)?;
-            let to = renumber(t, alloc, unknowns, classifiers)?;
+            let from = renumber(alloc, s, unknowns, classifiers)?;
+            let to = renumber(alloc, t, unknowns, classifiers)?;
             let ty = function(alloc, from, to)?;
             Ok(ty)
         }
         Ty::Code(c, t) => {
             let c = place(classifiers, *c);
-            let below = renumber(t, alloc, unknowns, classifiers)?;
+            let below = renumber(alloc, t, unknowns, classifiers)?;
             let ty = code(alloc, c, below)?;
             Ok(ty)
         }
         Ty::Closed(t) => {
-            let below = renumber(t, alloc, unknowns, classifiers)?;
+            let below = renumber(alloc, t, unknowns, classifiers)?;
             let ty = closed(alloc, below)?;
             Ok(ty)
         }
@@ -100,7 +100,7 @@ pub fn let_type(
 {
     let mut unknowns = unseen(alloc, unknowns)?;
     let mut classifiers = unseen(alloc, classifiers)?;
-    let ty = renumber(ty, alloc, &mut unknowns, &mut classifiers)?;
+    let ty = renumber(alloc, ty, &mut unknowns, &mut classifiers)?;
     Ok(LetType {
         unknowns: unknowns.count,
         classifiers: classifiers.count,

@@ -123,5 +123,5 @@ is_no_let (let_item z a f d ∷ items) x h (suc j) at from y e is = let both = f
 is_no_let (kernel_item z a k d ∷ items) x h zero at from y e is = absurd (kernel_is_no_let (same_Some _ _ is))
 is_no_let (kernel_item z a k d ∷ items) x h (suc j) at from y e is = is_no_let items x (none_behind suc (lets_of items x) h) j at from y e is
 
-pub tops_are_items : TopNamesAreItems
-tops_are_items = record { item = is_item; no_item = is_no_item; a_let = is_let; no_let = is_no_let }
+pub top_names_are_items : TopNamesAreItems
+top_names_are_items = record { item = is_item; no_item = is_no_item; a_let = is_let; no_let = is_no_let }

@@ -25,7 +25,7 @@ pub fn nearest_is_nearest()
 {}
 
 /// The item that a top-level name stands for is one of that name.
-pub fn tops_are_items()
+pub fn top_names_are_items()
     ensures { TopNamesAreItems }
 {}
 
