@@ -160,8 +160,8 @@ mutual
     r_let : {a a' b b' c c' from : ℕ} {x : List ℕ} {ts mid rest : List PureToken} {d e : SurfaceTree} {s t : Nodes} → Reads (body by_equal) ts (define from d) s (token c c' in_word ∷ mid)
         → Reads (tree expr) mid e t rest
         → Reads (tree expr) (token a a' let_word ∷ token b b' (word x) ∷ ts) (bind x d e) (node (suc (suc (length ts))) (both s t)) rest
-    r_let_rec : {a a' b b' c c' g g' from : ℕ} {f x : List ℕ} {ts mid rest : List PureToken} {d e : SurfaceTree} {s t : Nodes} → Reads (parameter by_equal) ts (abstract x from d) s (token g g' in_word ∷ mid)
-        → Reads (tree expr) mid e t rest
+    r_let_rec : {a a' b b' c c' g g' from : ℕ} {f x : List ℕ} {ts mid rest : List PureToken} {d e : SurfaceTree} {s t : Nodes}
+        → Reads (parameter by_equal) ts (abstract x from d) s (token g g' in_word ∷ mid) → Reads (tree expr) mid e t rest
         → Reads (tree expr) (token a a' let_word ∷ token b b' rec_word ∷ token c c' (word f) ∷ ts) (bind f (fix f x d) e) (node (suc (suc (suc (length ts)))) (both s t)) rest
     r_fun : {a a' from : ℕ} {x : List ℕ} {ts rest : List PureToken} {e : SurfaceTree} {s : Nodes} → Reads (parameter by_arrow) ts (abstract x from e) s rest
         → Reads (tree expr) (token a a' fun_word ∷ ts) (fun x e) s rest

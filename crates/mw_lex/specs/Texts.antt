@@ -9,8 +9,8 @@ use Rattle.mw_lex.specs.Tokens.{Symbol, let_word, rec_word, in_word, fun_word, i
 abbrev pub reserved_words : List (List ℕ × Symbol)
 reserved_words = (codes "let", let_word) ∷ (codes "rec", rec_word) ∷ (codes "in", in_word) ∷ (codes "fun", fun_word) ∷ (codes "if", if_word) ∷ (codes "then", then_word) ∷ (codes "else", else_word)
     ∷ (codes "true", true_word) ∷ (codes "false", false_word) ∷ (codes "not", not_word) ∷ (codes "fst", fst_word) ∷ (codes "snd", snd_word) ∷ (codes "run", run_word) ∷ (codes "close", close_word)
-    ∷ (codes "open", open_word) ∷ (codes "lift", lift_word) ∷ (codes "liftb", lift_b_word) ∷ (codes "kernel", kernel_word) ∷ (codes "main", main_word) ∷ (codes "int", int_word) ∷ (codes "bool", bool_word)
-    ∷ (codes "mod", mod_word) ∷ []
+    ∷ (codes "open", open_word) ∷ (codes "lift", lift_word) ∷ (codes "liftb", lift_b_word) ∷ (codes "kernel", kernel_word) ∷ (codes "main", main_word) ∷ (codes "int", int_word)
+    ∷ (codes "bool", bool_word) ∷ (codes "mod", mod_word) ∷ []
 
 abbrev pub mark_texts : List (List ℕ × Symbol)
 mark_texts = (codes ".<", bracket_left) ∷ (codes ">.", bracket_right) ∷ (codes ".~", escape_mark) ∷ (codes "->", arrow) ∷ (codes ";;", item_end) ∷ (codes "<=", less_equal) ∷ (codes "&&", and_mark)
