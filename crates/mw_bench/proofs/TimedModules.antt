@@ -1,5 +1,5 @@
 -- The three modules are valid.
-use Rattle.std.proofs.Common.{◌≡◌, List, [], ◌∷◌, ◌++◌, None, Some, length, refl, sym, ◌∙◌, ap, subst, arith}
+use Rattle.std.proofs.Common.{◌≡◌, List, [], ◌∷◌, None, Some, length, refl, sym, ◌∙◌, ap, subst, arith}
 use Rattle.std.proofs.lemmas.List.{length-map}
 use Rattle.mw_wasm.specs.declared.values.ValType.{ValType}
 use Rattle.mw_wasm.specs.declared.values.ValType.TheVariants.{I32, I64}
@@ -11,9 +11,10 @@ use Rattle.mw_wasm.specs.declared.numbers.IntOp.TheVariants.{LtU}
 use Rattle.mw_wasm.specs.declared.instructions.Instr as instr
 use Rattle.mw_wasm.specs.declared.instructions.Instr.{Instr}
 use Rattle.mw_wasm.specs.declared.instructions.Instrs.{Instrs}
-use Rattle.mw_wasm.specs.Syntax.{Instruction, Code, local_get, local_set, const_i64, numeric, end, next}
-use Rattle.mw_wasm.specs.Validity.{Context, HasType, CodeHasType, of_end, of_next, of_loop, of_if, of_br_if, of_call, of_local_get, of_local_set, of_local_tee, of_load, of_store, of_const_i32, of_const_i64, of_numeric, context_of, with_label, IsValid}
+use Rattle.mw_wasm.specs.Syntax.{Code, local_get, local_set, const_i64, numeric, end, next}
+use Rattle.mw_wasm.specs.Validity.{Context, CodeHasType, of_end, of_loop, of_if, of_br_if, of_call, of_local_get, of_local_set, of_local_tee, of_load, of_store, of_const_i32, of_const_i64, of_numeric, context_of, with_label, IsValid}
 use Rattle.mw_wasm.specs.Views.{code_of, list_code, loop_is, cond_is, element_of, module_of, segment_of}
+use Rattle.mw_wasm.proofs.ValidSteps.{on}
 use Rattle.mw_validate.specs.Kept.{IsKept}
 use Rattle.mw_bench.specs.Modules.{timed, turn, loop_body, again, calls_body, access, memory_body}
 
@@ -22,10 +23,6 @@ t = I64
 
 abbrev w : ValType
 w = I32
-
--- an instruction on top of what stands below
-on : {c : Context} {i : Instruction} {code : Code} {outs : List ValType} (below taken left : List ValType) → HasType c i taken left → CodeHasType c code (below ++ left) outs → CodeHasType c (next i code) (below ++ taken) outs
-on below taken left h rest = of_next below taken left h refl rest
 
 abbrev inside : Code → Context
 inside body = record (context_of (timed body)) { locals = t ∷ t ∷ w ∷ []; labels = (t ∷ []) ∷ []; results = t ∷ [] }

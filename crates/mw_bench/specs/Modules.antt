@@ -29,7 +29,8 @@ timed body = record {
 -- a turn of ten simple instructions and a branch
 abbrev pub turn : Code
 turn = code_of_list (
-    local_get 1 ∷ local_get 0 ∷ numeric (number.I64 Add) ∷ local_set 1 ∷ local_get 0 ∷ const_i64 1 ∷ numeric (number.I64 Sub) ∷ local_tee 0 ∷ numeric (number.I64 Eqz) ∷ numeric (number.I32 Eqz) ∷ br_if 0 ∷ [])
+    local_get 1 ∷ local_get 0 ∷ numeric (number.I64 Add) ∷ local_set 1
+    ∷ local_get 0 ∷ const_i64 1 ∷ numeric (number.I64 Sub) ∷ local_tee 0 ∷ numeric (number.I64 Eqz) ∷ numeric (number.I32 Eqz) ∷ br_if 0 ∷ [])
 
 abbrev pub loop_body : Code
 loop_body = next (loop None turn) (next (local_get 1) end)
@@ -44,7 +45,8 @@ calls_body = next (local_get 0) (next (const_i64 2) (next (numeric (number.I64 L
 -- a turn that stores a word and loads it
 abbrev pub access : Code
 access = code_of_list (
-    local_get 2 ∷ const_i32 65528 ∷ numeric (number.I32 And) ∷ local_get 0 ∷ store store_op.I64 0 0 ∷ local_get 1 ∷ local_get 2 ∷ const_i32 65528 ∷ numeric (number.I32 And) ∷ load load_op.I64 0 0 ∷ numeric (number.I64 Add) ∷ local_set 1
+    local_get 2 ∷ const_i32 65528 ∷ numeric (number.I32 And) ∷ local_get 0 ∷ store store_op.I64 0 0
+    ∷ local_get 1 ∷ local_get 2 ∷ const_i32 65528 ∷ numeric (number.I32 And) ∷ load load_op.I64 0 0 ∷ numeric (number.I64 Add) ∷ local_set 1
     ∷ local_get 2 ∷ const_i32 1 ∷ numeric (number.I32 Sub) ∷ local_tee 2 ∷ br_if 0 ∷ [])
 
 abbrev pub memory_body : Code

@@ -17,7 +17,7 @@ fn takes_one_large(kind: &FuncType) -> bool
     if kind.params.len() != 1 {
         return false;
     }
-    match kind.params.get(0) {
+    match *kind.params.get(0) {
         ValType::I64 => true,
         ValType::I32 => false,
     }
