@@ -1,4 +1,4 @@
-use Rattle.std.proofs.Common.{◌≡◌, ℕ, List, [], ◌∷◌, ◌++◌, length, refl, sym, ◌∙◌, ap, subst, arith}
+use Rattle.std.proofs.Common.{◌≡◌, [], ◌∷◌, length, refl, sym, ◌∙◌, ap, subst, arith}
 use Rattle.std.proofs.lemmas.List.{length-map}
 use Rattle.mw_term.specs.Terms.{base}
 use Rattle.mw_term.specs.declared.term.Base.TheVariants.{Int}
@@ -6,20 +6,14 @@ use Rattle.mw_meaning.specs.Shapes.{init_type, call_type}
 use Rattle.mw_wasm.specs.declared.modules.Module.{Module}
 use Rattle.mw_wasm.specs.declared.values.ValType.{ValType}
 use Rattle.mw_wasm.specs.declared.values.ValType.TheVariants.{I32, I64}
-use Rattle.mw_wasm.specs.Syntax.{Instruction, Code, next}
-use Rattle.mw_wasm.specs.Validity.{Context, HasType, CodeHasType, of_end, of_next, of_call, of_drop, of_local_get, of_const_i32, of_load, of_store, of_numeric, context_of, IsValid}
+use Rattle.mw_wasm.specs.Syntax.{Code}
+use Rattle.mw_wasm.specs.Validity.{Context, CodeHasType, of_end, of_call, of_drop, of_local_get, of_const_i32, of_load, of_store, of_numeric, context_of, IsValid}
 use Rattle.mw_wasm.specs.Views.{code_of, element_of, module_of, segment_of}
+use Rattle.mw_wasm.proofs.ValidSteps.{on, heads}
 use Rattle.mw_validate.specs.Kept.{IsKept}
 use Rattle.mw_exec.specs.Instancing.{first_store}
 use Rattle.mw_kernel.specs.TestModules.{test_module, call_body, IsInitCode, HasTestShapes}
 use Rattle.mw_kernel.proofs.tests.modules.built.Goals as goal
-
--- an instruction on top of what stands below
-on : {c : Context} {i : Instruction} {code : Code} {outs : List ValType} (below taken left : List ValType) → HasType c i taken left → CodeHasType c code (below ++ left) outs → CodeHasType c (next i code) (below ++ taken) outs
-on below taken left h rest = of_next below taken left h refl rest
-
-heads : {a b : ℕ} {xs ys : List ℕ} → a ∷ xs ≡ b ∷ ys → a ≡ b
-heads e = cc
 
 abbrev t : ValType
 t = I64

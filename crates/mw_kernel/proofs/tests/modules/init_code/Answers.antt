@@ -1,20 +1,16 @@
-use Rattle.std.proofs.Common.{◌≡◌, ℕ, List, [], ◌∷◌, ◌++◌, Result, Ok, Err, IfOk, refl, sym, subst, arith}
+use Rattle.std.proofs.Common.{◌≡◌, ℕ, [], ◌∷◌, Result, Ok, Err, IfOk, refl, sym, subst, arith}
 use Rattle.std.specs.declared.alloc.AllocError.{AllocError}
 use Rattle.mw_wasm.specs.declared.instructions.Instrs.{Instrs}
 use Rattle.mw_wasm.specs.declared.numbers.IntOp.TheVariants.{DivS}
 use Rattle.mw_wasm.specs.declared.numbers.NumOp.TheVariants as number
 use Rattle.mw_wasm.specs.declared.numbers.StoreOp.TheVariants as store_op
-use Rattle.mw_wasm.specs.declared.values.ValType.{ValType}
 use Rattle.mw_wasm.specs.declared.values.ValType.TheVariants.{I32, I64}
-use Rattle.mw_wasm.specs.Syntax.{Instruction, Code, const_i32, const_i64, numeric, store, unreachable, end, next}
-use Rattle.mw_wasm.specs.Validity.{Context, HasType, CodeHasType, of_end, of_next, of_unreachable, of_const_i32, of_const_i64, of_store, of_numeric, context_of}
+use Rattle.mw_wasm.specs.Syntax.{Code, const_i32, const_i64, numeric, store, unreachable, end, next}
+use Rattle.mw_wasm.specs.Validity.{Context, of_end, of_unreachable, of_const_i32, of_const_i64, of_store, of_numeric, context_of}
 use Rattle.mw_wasm.specs.Views.{code_of}
+use Rattle.mw_wasm.proofs.ValidSteps.{on}
 use Rattle.mw_kernel.specs.TestModules.{test_module, IsInitCode}
 use Rattle.mw_kernel.proofs.tests.modules.init_code.Goals as goal
-
--- an instruction on top of what stands below
-on : {c : Context} {i : Instruction} {code : Code} {outs : List ValType} (below taken left : List ValType) → HasType c i taken left → CodeHasType c code (below ++ left) outs → CodeHasType c (next i code) (below ++ taken) outs
-on below taken left h rest = of_next below taken left h refl rest
 
 word_typed : (n : ℕ) → IsInitCode (next (const_i64 n) end)
 word_typed n = on [] [] (I64 ∷ []) of_const_i64 of_end
