@@ -1,6 +1,7 @@
 // Graphs of code, and the terms that they are read back to.
 
-ghost use Rattle.std.specs.Prelude.{◌≡◌, ◌<◌, length, IfOk, OnTrue};
+ghost use Rattle.std.specs.Prelude.{◌≡◌, ◌<◌, length, IfOk};
+ghost use Rattle.std.specs.Bool.{OnTrue};
 ghost use Rattle.mw_code.specs.Reading.{ArePartsBelow, IsDownward};
 
 use crate::node::CodeNode as Node;
