@@ -1,0 +1,5 @@
+use Rattle.mw_code.proofs.Placing.{Stands-put_in}
+use Rattle.mw_code.proofs.laws.shared_code_is_shifted.Goals as goal
+
+pub returns : goal.returns
+returns c = Stands-put_in

@@ -1,0 +1,5 @@
+use Rattle.mw_code.proofs.Unsharing.{at_node}
+use Rattle.mw_code.proofs.laws.term_by_form.Goals as goal
+
+pub returns : goal.returns
+returns c = at_node

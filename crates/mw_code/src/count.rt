@@ -1,0 +1,59 @@
+// Nodes counted over a list, for code that is deeper than the limit.
+
+ghost use Rattle.std.specs.Prelude.{◌≡◌, ◌<◌, ◌++◌, length, IfOk};
+ghost use Rattle.mw_code.specs.Reading.{IsDownward};
+ghost use Rattle.mw_code.specs.ReadViews.{AreCounted, parts_of, size_at};
+
+use crate::node::CodeNode;
+use mw_region::{Id, Pool};
+use std::alloc::{AllocError, Global};
+
+/// Puts the parts of a node at the list's end.
+#[tactic(auto, using(std::proofs::lemmas::List::append_assoc))]
+fn push_parts(left: &mut Vec<Id>, node: CodeNode) -> Result<(), AllocError>
+    ensures { IfOk result (λ _. left.new.items ≡ left.old.items ++ parts_of node) }
+{
+    match node {
+        CodeNode::Int(_) | CodeNode::Bool(_) | CodeNode::Var(_) => {}
+        CodeNode::Fun(_, e) | CodeNode::Rec(_, _, e) | CodeNode::Fst(e) | CodeNode::Snd(e) => {
+            left.push(e)?;
+        }
+        CodeNode::App(a, b)
+        | CodeNode::Let(a, _, b)
+        | CodeNode::Pair(a, b)
+        | CodeNode::Prim(_, a, b) => {
+            left.push(a)?;
+            left.push(b)?;
+        }
+        CodeNode::If(c, a, b) => {
+            left.push(c)?;
+            left.push(a)?;
+            left.push(b)?;
+        }
+    }
+    Ok(())
+}
+
+/// Takes the nodes of the code at a place from the budget, and answers whether it has that many.
+#[tactic(auto, using(crate::proofs::Counting::node_sizes, crate::proofs::Counting::node_here, crate::proofs::Counting::sizes_append, crate::proofs::Counting::AreHere_append, crate::proofs::Unsharing::size_positive))]
+pub(crate) fn count_nodes(
+    alloc: Global,
+    pool: &Pool<CodeNode>,
+    id: Id,
+    budget: &mut u32,
+) -> Result<bool, AllocError>
+    requires down { IsDownward pool.now.items }
+    requires here { id.place < length pool.now.items }
+    ensures { IfOk result (λ whole. AreCounted whole (size_at pool.now.items id.place) budget.old budget.new) }
+{
+    let mut left = Vec::new(alloc);
+    left.push(id)?;
+    while let Some(next) = left.pop() {
+        if *budget == 0 {
+            return Ok(false);
+        }
+        *budget -= 1;
+        push_parts(&mut left, *pool.get(next))?;
+    }
+    Ok(true)
+}

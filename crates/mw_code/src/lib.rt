@@ -1,0 +1,16 @@
+//! Code under construction: nodes in a pool, whose binders have numbers, and the terms that they are read back to.
+#![tactic(auto)]
+
+mod count;
+pub mod fault;
+pub mod laws;
+pub mod node;
+mod place;
+mod read;
+mod reader;
+#[cfg(test)]
+mod tests;
+
+pub use crate::fault::CodeFault;
+pub use crate::node::CodeNode;
+pub use crate::read::read_back;
