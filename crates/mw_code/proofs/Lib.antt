@@ -1,3 +1,4 @@
 pub mod Placing
 pub mod Unsharing
 pub mod Counting
+pub mod Adding

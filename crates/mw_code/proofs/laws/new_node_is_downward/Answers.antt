@@ -1,5 +1,5 @@
-use Rattle.mw_code.proofs.Unsharing.{IsDownward-push}
+use Rattle.mw_code.proofs.Adding.{IsDownward_push}
 use Rattle.mw_code.proofs.laws.new_node_is_downward.Goals as goal
 
 pub returns : goal.returns
-returns c = IsDownward-push
+returns c = IsDownward_push
