@@ -1,5 +1,7 @@
 // One walk over a term, which finds the free variables of each function and the slots that its lets need.
 
+#![tactic(auto, using(crate::proofs::Marks::unmarked, crate::proofs::Marks::joined_twice, crate::proofs::Marks::joined_thrice, crate::proofs::Marks::lets_few))]
+
 ghost use Rattle.std.specs.Prelude.{◌≡◌, ◌+◌, ◌-◌, ◌*◌, ◌^◌, ◌<◌, ◌≤◌, ◌==◌, ◌++◌, length, false, set, replicate, IfOk};
 ghost use Rattle.mw_term.specs.Terms.{expression_of, size};
 ghost use Rattle.mw_term.specs.Limits.{LiteralsFit};
@@ -13,7 +15,6 @@ use std::alloc::{AllocError, Global};
 
 /// Finds the functions of a term, of each after those within it, and marks the variables that occur in it. The term stands
 /// under the binders that have marks, and then under `under` more. Answers how many slots its lets need.
-#[tactic(auto, using(crate::proofs::Marks::unmarked, crate::proofs::Marks::joined_twice, crate::proofs::Marks::joined_thrice, crate::proofs::Marks::lets_few))]
 #[cycle(find)]
 pub(crate) fn find(
     alloc: Global,
@@ -64,7 +65,6 @@ pub(crate) fn find(
 }
 
 /// The same of a function, which binds `own` variables in its body. It needs no slot outside.
-#[tactic(auto, using(crate::proofs::Marks::unmarked, crate::proofs::Marks::joined_twice, crate::proofs::Marks::joined_thrice, crate::proofs::Marks::lets_few))]
 #[cycle(find)]
 fn find_function(
     alloc: Global,

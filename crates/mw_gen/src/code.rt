@@ -1,5 +1,7 @@
 // Code of expressions.
 
+#![tactic(auto, using(crate::proofs::Listed::code_is))]
+
 ghost use Rattle.std.specs.Prelude.{◌≡◌, ◌+◌, ◌<◌, ◌≤◌, IfOk};
 ghost use Rattle.mw_wasm.specs.Syntax.{end};
 ghost use Rattle.mw_wasm.specs.Views.{code_of};
@@ -21,7 +23,6 @@ fn word_of_truth(truth: bool) -> u64
 
 /// Appends the code of an expression, where the lets' slots begin at local `base`, and `spare` and the next are two locals
 /// for operands.
-#[tactic(auto, using(crate::proofs::Listed::code_is))]
 pub fn put_code(
     alloc: Global,
     out: &mut Instrs,
@@ -79,7 +80,6 @@ pub fn put_code(
 }
 
 /// The code of an expression alone.
-#[tactic(auto, using(crate::proofs::Listed::code_is))]
 pub fn code_alone(alloc: Global, code: &Ir, base: u32, spare: u32) -> Result<Instrs, AllocError>
     requires short { IsShort (ir_of code.now) }
     requires base { base ≤ 2 }

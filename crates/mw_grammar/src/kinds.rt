@@ -1,6 +1,8 @@
 // Ground types and kernel types, by descent. `room` is the number of nodes that may still stand on a path; each function
 // answers what it made, the height of its nodes and the tokens left.
 
+#![tactic(auto, using(crate::proofs::Below::read_full, crate::proofs::Below::read_gives, crate::proofs::Below::read_refuses, crate::proofs::Below::read_reads, crate::proofs::Below::part_fails, crate::proofs::Below::low_in, crate::proofs::Below::low_out, crate::proofs::Below::raise_ok, crate::proofs::Below::fails_raise))]
+
 ghost use Rattle.std.specs.Prelude.{◌≤◌, IfOk, IfSome, IfNone};
 ghost use Rattle.mw_lex.specs.Tokens.{tokens_of};
 ghost use Rattle.mw_term.specs.Terms.{ground_of, kernel_type_of};
@@ -70,7 +72,6 @@ fn base_type(tokens: &[Token], room: u32) -> Read<Base>
 }
 
 #[cycle(grounds)]
-#[tactic(auto, using(crate::proofs::Below::read_full, crate::proofs::Below::read_gives, crate::proofs::Below::read_refuses, crate::proofs::Below::read_reads, crate::proofs::Below::part_fails, crate::proofs::Below::low_in, crate::proofs::Below::low_out, crate::proofs::Below::raise_ok, crate::proofs::Below::fails_raise))]
 fn part_type(alloc: Global, tokens: &[Token], room: u32) -> Read<Ground>
     requires { room ≤ 200 }
     ensures gives { GivesRead ground_of result (full room part (tokens_of tokens.now)) }
@@ -93,7 +94,6 @@ fn part_type(alloc: Global, tokens: &[Token], room: u32) -> Read<Ground>
 }
 
 #[cycle(grounds)]
-#[tactic(auto, using(crate::proofs::Below::read_full, crate::proofs::Below::read_gives, crate::proofs::Below::read_refuses, crate::proofs::Below::read_reads, crate::proofs::Below::part_fails, crate::proofs::Below::low_in, crate::proofs::Below::low_out, crate::proofs::Below::raise_ok, crate::proofs::Below::fails_raise))]
 fn paren_ground(alloc: Global, tokens: &[Token], room: u32) -> Read<Ground>
     requires { room ≤ 200 }
     ensures gives { GivesRead ground_of result (reading room paren_form none_yet (tokens_of tokens.now)) }
@@ -108,7 +108,6 @@ fn paren_ground(alloc: Global, tokens: &[Token], room: u32) -> Read<Ground>
 
 /// A ground type.
 #[cycle(grounds)]
-#[tactic(auto, using(crate::proofs::Below::read_full, crate::proofs::Below::read_gives, crate::proofs::Below::read_refuses, crate::proofs::Below::read_reads, crate::proofs::Below::part_fails, crate::proofs::Below::low_in, crate::proofs::Below::low_out, crate::proofs::Below::raise_ok, crate::proofs::Below::fails_raise))]
 pub fn ground_type(alloc: Global, tokens: &[Token], room: u32) -> Read<Ground>
     requires { room ≤ 200 }
     ensures gives { GivesRead ground_of result (full room ground (tokens_of tokens.now)) }
@@ -129,7 +128,6 @@ pub fn ground_type(alloc: Global, tokens: &[Token], room: u32) -> Read<Ground>
 }
 
 /// A kernel type.
-#[tactic(auto, using(crate::proofs::Below::read_full, crate::proofs::Below::read_gives, crate::proofs::Below::read_refuses, crate::proofs::Below::read_reads, crate::proofs::Below::part_fails, crate::proofs::Below::low_in, crate::proofs::Below::low_out, crate::proofs::Below::raise_ok, crate::proofs::Below::fails_raise))]
 pub fn kernel(alloc: Global, tokens: &[Token], room: u32) -> Read<KType>
     requires { room ≤ 200 }
     ensures gives { GivesRead kernel_type_of result (full room kernel_type (tokens_of tokens.now)) }

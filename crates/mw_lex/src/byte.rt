@@ -1,5 +1,7 @@
 // Tests of bytes, and how far they hold.
 
+#![tactic(auto, using(crate::proofs::Counts::counts_on, crate::proofs::Counts::counts_off, crate::proofs::Counts::counts_all))]
+
 ghost use Rattle.std.specs.Prelude.{◌≡◌, ◌≤◌, length};
 ghost use Rattle.mw_lex.specs.Pieces.{is_blank, is_digit, is_word_byte, is_comment_byte, count};
 
@@ -34,7 +36,6 @@ pub fn is_comment_byte(byte: u8) -> bool
 }
 
 /// How many letters, digits and underscores stand at the front.
-#[tactic(auto, using(crate::proofs::Counts::counts_on, crate::proofs::Counts::counts_off, crate::proofs::Counts::counts_all))]
 pub fn word_length(bytes: &[u8]) -> usize
     ensures value { result ≡ count is_word_byte bytes.now }
     ensures within { result ≤ length bytes.now }
@@ -48,7 +49,6 @@ pub fn word_length(bytes: &[u8]) -> usize
 }
 
 /// How many bytes at the front a comment goes on over.
-#[tactic(auto, using(crate::proofs::Counts::counts_on, crate::proofs::Counts::counts_off, crate::proofs::Counts::counts_all))]
 pub fn comment_length(bytes: &[u8]) -> usize
     ensures value { result ≡ count is_comment_byte bytes.now }
     ensures within { result ≤ length bytes.now }
