@@ -254,12 +254,12 @@ exit_refused : (P : Refusal → Type 0) (result : Result Program Stop) (stop : S
 exit_refused P result stop k says = let e = err_from_is_err_and result k in rw (e.1, e.2) says
 
 -- a refusal is of no answer's type
-other_answer : {A B : Type 0} (r : Refusal) (stop : Stop) → IsRefusalOrMemory {A = A} (Err stop) r → IsRefusalOrMemory {A = B} (Err stop) r
-other_answer r (Refused q) k = k
-other_answer r (Memory m) k = tt
+other_answer : (A B : Type 0) (r : Refusal) (stop : Stop) → IsRefusalOrMemory {A = A} (Err stop) r → IsRefusalOrMemory {A = B} (Err stop) r
+other_answer A B r (Refused q) k = k
+other_answer A B r (Memory m) k = tt
 
-exit_first : {A : Type 0} (r : Refusal) (result : Result Program Stop) (stop : Stop) → IsErrAnd result (λ s. s ≡ stop) → IsRefusalOrMemory {A = A} (Err stop) r → IsRefusalOrMemory result r
-exit_first {A = A} r result stop k is = let e = err_from_is_err_and result k in rw (e.1, e.2) (other_answer {A = A} {B = Program} r stop is)
+exit_first : (A : Type 0) (r : Refusal) (result : Result Program Stop) (stop : Stop) → IsErrAnd result (λ s. s ≡ stop) → IsRefusalOrMemory {A = A} (Err stop) r → IsRefusalOrMemory result r
+exit_first A r result stop k is = let e = err_from_is_err_and result k in rw (e.1, e.2) (other_answer A Program r stop is)
 
 module _ (bytes : List ℕ) (lexed : Result (List Token) Stop) (l : Lexes bytes lexed) where
   module _ (result : Result Program Stop) (stop : Stop) (e : lexed ≡ Err stop) (k : IsErrAnd result (λ s. s ≡ stop)) where
@@ -267,7 +267,7 @@ module _ (bytes : List ℕ) (lexed : Result (List Token) Stop) (l : Lexes bytes 
     refused_at_lexing = exit_refused (IsRefused bytes) result stop k (lexing_says bytes lexed l stop e)
 
     pub first_at_lexing : (r : Refusal) → IsRefused bytes r → IsRefusalOrMemory result r
-    first_at_lexing r q = exit_first r result stop k (lexing_first bytes lexed l stop e r q)
+    first_at_lexing r q = exit_first (List Token) r result stop k (lexing_first bytes lexed l stop e r q)
 
   module _ (v : List Token) (found : lexed ≡ Ok v) (parsed : Result Surface Stop) (p : Parses (tokens_of v) (length bytes) parsed) where
     module _ (result : Result Program Stop) (stop : Stop) (e : parsed ≡ Err stop) (k : IsErrAnd result (λ s. s ≡ stop)) where
@@ -275,7 +275,7 @@ module _ (bytes : List ℕ) (lexed : Result (List Token) Stop) (l : Lexes bytes 
       refused_at_parsing = exit_refused (IsRefused bytes) result stop k (parsing_says bytes (tokens_of v) (has_tokens bytes lexed l v found) parsed p stop e)
 
       pub first_at_parsing : (r : Refusal) → IsRefused bytes r → IsRefusalOrMemory result r
-      first_at_parsing r q = exit_first r result stop k (parsing_first bytes (tokens_of v) (has_tokens bytes lexed l v found) parsed p stop e r q)
+      first_at_parsing r q = exit_first Surface r result stop k (parsing_first bytes (tokens_of v) (has_tokens bytes lexed l v found) parsed p stop e r q)
 
     module _ (s : Surface) (e : parsed ≡ Ok s) (resolved : Result Program Stop) (h : Resolves (surface_of s) resolved) where
       pub read_program : IfOk resolved (λ q. IsRead bytes (named_program_of q))

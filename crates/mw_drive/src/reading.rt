@@ -1,9 +1,9 @@
 // A source's bytes, read whole.
 
-ghost use Rattle.std.specs.Prelude.{IfOk, IfErr};
+ghost use Rattle.std.specs.Prelude.{◌≡◌, IfOk, IfErr};
 ghost use Rattle.mw_term.specs.declared.refusal.Refusal.{Refusal};
-ghost use Rattle.mw_drive.specs.NamedPrograms.{NamedProgram, named_program_of};
 ghost use Rattle.mw_term.specs.Stops.{AnswersOrMemory, IfRefused, IsRefusalOrMemory};
+ghost use Rattle.mw_drive.specs.NamedPrograms.{NamedProgram, named_program_of};
 ghost use Rattle.mw_drive.specs.SourceReading.{IsRead, IsRefused};
 
 use mw_lex::lex;
