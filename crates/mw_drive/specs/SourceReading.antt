@@ -1,10 +1,7 @@
 -- What reading gives of a source: a program, or the first refusal of its bytes, tokens, names and levels.
-use Rattle.std.specs.Prelude.{ℕ, ◌≡◌, ◌<◌, ◌≤◌, List, map, length, Result, Ok, Err}
-use Rattle.mw_term.specs.declared.program.Program.{Program}
+use Rattle.std.specs.Prelude.{ℕ, ◌≡◌, ◌<◌, ◌≤◌, List, map, length}
 use Rattle.mw_term.specs.declared.refusal.Refusal.{Refusal}
 use Rattle.mw_term.specs.declared.refusal.Refusal.TheVariants.{TooLarge}
-use Rattle.mw_term.specs.declared.refusal.Stop.{Stop}
-use Rattle.mw_term.specs.declared.refusal.Stop.TheVariants.{Refused, Memory}
 use Rattle.mw_lex.specs.Tokens.{PureToken}
 use Rattle.mw_lex.specs.Reading.{AreTokens, IsFirstFault}
 use Rattle.mw_grammar.specs.SurfaceTrees.{PureSurface}
@@ -14,7 +11,7 @@ use Rattle.mw_scope.specs.declared.fault.Fault.{Fault}
 use Rattle.mw_scope.specs.Scopes.{name_of}
 use Rattle.mw_scope.specs.Nameless.{IsNameless}
 use Rattle.mw_scope.specs.Faults.{faults_of, refusal_of, IsFirst as IsFirstOf}
-use Rattle.mw_drive.specs.NamedPrograms.{NamedProgram, unnamed, names_of, named_program_of}
+use Rattle.mw_drive.specs.NamedPrograms.{NamedProgram, unnamed, names_of}
 
 -- a source has at most 1,048,576 bytes
 abbrev pub IsSmall : List ℕ → Type 0
