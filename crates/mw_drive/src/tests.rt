@@ -2,6 +2,7 @@
 
 ghost use Rattle.std.specs.Prelude.{◌<◌};
 
+mod emitted;
 mod grammar;
 mod types;
 mod typing;
