@@ -1,4 +1,5 @@
 pub mod Substituting
+pub mod Swapping
 pub mod Closing
 pub mod Renaming
 pub mod TypedClosed
