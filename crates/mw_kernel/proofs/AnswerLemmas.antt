@@ -16,8 +16,8 @@ use Rattle.mw_wasm.specs.Syntax.{DataSegment, PureModule}
 use Rattle.mw_wasm.specs.Validity.{IsValid, AreLimitsOf}
 use Rattle.mw_wasm.proofs.InstanceTypes.{instances_are_typed}
 use Rattle.mw_exec.specs.Instancing.{first_store}
-use Rattle.mw_machine.specs.declared.Ran.{Ran}
-use Rattle.mw_machine.specs.declared.Ran.TheVariants as ran
+use Rattle.mw_machine.specs.declared.kernels.Ran.{Ran}
+use Rattle.mw_machine.specs.declared.kernels.Ran.TheVariants as ran
 use Rattle.mw_kernel.specs.declared.fault.RunFault.{RunFault}
 use Rattle.mw_kernel.specs.declared.fault.RunFault.TheVariants as fault
 use Rattle.mw_kernel.specs.declared.outcome.Outcome.{Outcome}

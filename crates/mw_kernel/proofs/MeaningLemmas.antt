@@ -27,8 +27,8 @@ use Rattle.mw_meaning.specs.StandingFor.{IsWord, truth_number, AnswersAs, IsArgu
 use Rattle.mw_meaning.specs.Shapes.{IsWordOf, in_init}
 use Rattle.mw_meaning.proofs.KernelTyping.{KernelSafe, Has, none, kernel_call_safe, safe_makes}
 use Rattle.mw_meaning.proofs.Straying.{word_of, answers_no_stray, argument_typed, kernel_safe, one_number, standing_is_not_stray}
-use Rattle.mw_machine.specs.declared.Ran.{Ran}
-use Rattle.mw_machine.specs.declared.Ran.TheVariants as ran
+use Rattle.mw_machine.specs.declared.kernels.Ran.{Ran}
+use Rattle.mw_machine.specs.declared.kernels.Ran.TheVariants as ran
 use Rattle.mw_kernel.specs.declared.fault.RunFault.{RunFault}
 use Rattle.mw_kernel.specs.declared.fault.RunFault.TheVariants as fault
 use Rattle.mw_kernel.specs.declared.running.Began.{Began}

@@ -16,7 +16,7 @@ use Rattle.mw_wasm.specs.Validity.{IsValid}
 use Rattle.mw_wasm.specs.Views.{module_of}
 use Rattle.mw_exec.specs.Instancing.{first_store}
 use Rattle.mw_exec.specs.InstanceStates.{InstanceState, store_in}
-use Rattle.mw_machine.specs.declared.Ran.{Ran}
+use Rattle.mw_machine.specs.declared.kernels.Ran.{Ran}
 use Rattle.mw_kernel.specs.declared.fault.RunFault.{RunFault}
 use Rattle.mw_kernel.specs.declared.fault.RunFault.TheVariants as fault
 use Rattle.mw_kernel.specs.declared.outcome.Outcome.{Outcome}

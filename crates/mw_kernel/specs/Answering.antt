@@ -5,8 +5,8 @@ use Rattle.mw_term.specs.declared.value.Limit.TheVariants.{Fuel}
 use Rattle.mw_meaning.specs.Shapes.{IsWordOf}
 use Rattle.mw_wasm.specs.Store.{Memory, Store}
 use Rattle.mw_exec.specs.InstanceStates.{InstanceState}
-use Rattle.mw_machine.specs.declared.Ran.{Ran}
-use Rattle.mw_machine.specs.declared.Ran.TheVariants as ran
+use Rattle.mw_machine.specs.declared.kernels.Ran.{Ran}
+use Rattle.mw_machine.specs.declared.kernels.Ran.TheVariants as ran
 use Rattle.mw_kernel.specs.declared.fault.RunFault.{RunFault}
 use Rattle.mw_kernel.specs.declared.fault.RunFault.TheVariants as fault
 use Rattle.mw_kernel.specs.declared.outcome.Outcome.{Outcome}

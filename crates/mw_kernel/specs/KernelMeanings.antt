@@ -14,8 +14,8 @@ use Rattle.mw_meaning.specs.StandingFor.{Call, AreCalls, CallsAnswer, StandsFor}
 use Rattle.mw_wasm.specs.declared.modules.Module.{Module}
 use Rattle.mw_wasm.specs.Instances.{exported}
 use Rattle.mw_wasm.specs.Views.{module_of}
-use Rattle.mw_machine.specs.declared.Ran.{Ran}
-use Rattle.mw_machine.specs.declared.Ran.TheVariants as ran
+use Rattle.mw_machine.specs.declared.kernels.Ran.{Ran}
+use Rattle.mw_machine.specs.declared.kernels.Ran.TheVariants as ran
 use Rattle.mw_kernel.specs.declared.fault.RunFault.{RunFault}
 use Rattle.mw_kernel.specs.declared.fault.RunFault.TheVariants as fault
 use Rattle.mw_kernel.specs.declared.running.Began.{Began}
