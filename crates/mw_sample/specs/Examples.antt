@@ -1,5 +1,5 @@
 -- Worked examples of the source, as theorems by computation.
-use Rattle.std.specs.Prelude.{◌≡◌, ◌++◌, codes, length}
+use Rattle.std.specs.Prelude.{◌≡◌, ◌++◌, codes}
 use Rattle.mw_sample.specs.Sample.{sample_text}
 
 -- the source with one kernel

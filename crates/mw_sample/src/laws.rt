@@ -1,6 +1,13 @@
-// Worked examples of the source, proved by computation, which no program calls.
+// Laws of the source, which no program calls, and worked examples, proved by computation.
 
 ghost use Rattle.mw_sample.specs.Examples.{OneKernel, TwoKernels};
+ghost use Rattle.mw_sample.specs.SourceLaws.{LinesOfSource, LastLineEnds};
+
+/// A source has two lines more than kernels, and its last line ends too.
+pub fn lines()
+    ensures number { LinesOfSource }
+    ensures end { LastLineEnds }
+{}
 
 /// The source with one kernel.
 pub fn one_kernel()

@@ -21,7 +21,7 @@ fn three_kernels(rt: HostRuntime) -> Result<(), AllocError> {
 #[test]
 fn most_kernels(rt: HostRuntime) -> Result<(), AllocError> {
     let text = sample(rt.alloc(), 100)?;
-    assert_eq!(rt; text.len(), 9_280);
+    assert_eq!(rt; text.len(), 9_072);
     assert!(rt; text.ends_with(b" + run[int -> int] k99 2 + run[int -> int] k100 2\n"));
     Ok(())
 }

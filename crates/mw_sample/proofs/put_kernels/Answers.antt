@@ -6,7 +6,8 @@ use Rattle.mw_sample.proofs.Counting.{next_put}
 use Rattle.mw_sample.proofs.put_kernels.Goals as goal
 
 pub loop-number-preserved : goal.loop-number-preserved
-loop-number-preserved c = next_put kernel_line 1 c.loop-number.number _ _ _ c.loop-number.auto.number c.loop-number.invariant c.in_ok-put_kernel.ensures
+loop-number-preserved c =
+    next_put kernel_line 1 c.loop-number.number _ _ _ c.loop-number.auto.number c.loop-number.invariant c.in_ok-put_kernel.ensures
 
 pub returns : goal.returns
 returns c = absurd (omega arith)
