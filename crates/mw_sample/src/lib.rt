@@ -1,4 +1,4 @@
-//! A valid source, made from a number: as many kernels, whose code is long, and a main that runs and calls each.
+//! A source, made from a number: as many kernels, whose code is long, and a main that runs and calls each.
 #![tactic(auto)]
 
 ghost use Rattle.std.specs.Prelude.{◌≡◌, ◌≤◌, ◌++◌, IfOk};
