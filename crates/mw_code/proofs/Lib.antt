@@ -2,3 +2,4 @@ pub mod Placing
 pub mod Unsharing
 pub mod Counting
 pub mod Adding
+pub mod Making

@@ -3,6 +3,7 @@
 
 mod count;
 pub mod fault;
+mod form;
 pub mod laws;
 pub mod node;
 mod place;
