@@ -1,0 +1,53 @@
+-- A machine that was started may turn, and one that ended with code has it.
+use Rattle.std.proofs.Common.{◌≡◌, ℕ, List, [], Some, None, Option, Result, Ok, Err, refl, false, Bool, sym, subst}
+use Rattle.std.specs.Prelude.{slice_get}
+use Rattle.mw_term.specs.Terms.{Expression, Value, KernelType}
+use Rattle.mw_term.specs.Programs.{Definition, kernel, PureProgram, program_of}
+use Rattle.mw_term.specs.declared.program.Program.{Program}
+use Rattle.mw_region.specs.declared.pool.Id.{Id}
+use Rattle.mw_meaning.specs.declared.mode.Mode.TheVariants.{Plain}
+use Rattle.mw_meaning.specs.Outcomes.{names_of_main}
+use Rattle.mw_meaning.specs.StagedMeaning.{Runs}
+use Rattle.mw_machine.specs.declared.kernels.KernelFault.{KernelFault}
+use Rattle.mw_machine.specs.declared.machine.Machine.{Machine}
+use Rattle.mw_machine.specs.declared.outcome.Outcome.{Outcome}
+use Rattle.mw_machine.specs.declared.outcome.Outcome.TheVariants as o
+use Rattle.mw_machine.specs.Begun.{Begins}
+use Rattle.mw_machine.specs.Evaluations.{HasNames, item_names, main_names}
+use Rattle.mw_machine.specs.Starting.{values_at_start}
+use Rattle.mw_machine.specs.TurnAnswers.{IsReady, DriveKeeps}
+use Rattle.mw_machine.specs.Underway.{IsUnderway}
+use Rattle.mw_machine.proofs.Naming.{start_item_names}
+use Rattle.mw_script.specs.Starts.{AreAllBuilt, IsStarted, HasItsCode}
+
+started : (p : PureProgram) (e : Expression) (m : Machine) (fuel : ℕ) (names : List Value) → HasNames p e names → Begins m p e fuel → IsStarted p m
+started p e m fuel names h b = λ functions none.
+    let meant = b.meant Plain functions names h in
+    ((e, (meant.0, meant.1)), refl)
+
+pub main_started : (p : PureProgram) (m : Machine) (fuel : ℕ) → AreAllBuilt p.items → Begins m p p.body fuel → IsStarted p m
+main_started p m fuel built b = started p p.body m fuel (names_of_main p.items built.0) (main_names built.0 built.1) b
+
+pub item_started : (p : Program) (m : Machine) (fuel i : ℕ) (k : KernelType) (e : Expression) → slice_get (program_of p).items i ≡ Some (kernel k e)
+    → Begins m (program_of p) e fuel → IsStarted (program_of p) m
+item_started p m fuel i k e at b =
+    started (program_of p) e m fuel (values_at_start p.items) (item_names i k at (start_item_names p.items i)) b
+
+-- a fault that the machine had is answered; where it had none, the evaluation was underway
+has_code : (p : PureProgram) (functions : Runs) (stopped : Bool) (old new : Machine) (r : Result Outcome KernelFault) (fault : Option KernelFault)
+    → old.fault ≡ fault → IsReady p functions stopped old → ((f : KernelFault) → old.fault ≡ Some f → r ≡ Err f)
+    → ((e : Expression) → IsUnderway p e functions old → DriveKeeps r p e new) → HasItsCode new r
+has_code p functions stopped old new (Err g) fault e ready again keeps = tt
+has_code p functions stopped old new (Ok (o.Value v)) fault e ready again keeps = tt
+has_code p functions stopped old new (Ok (o.Trap t)) fault e ready again keeps = tt
+has_code p functions stopped old new (Ok (o.Bound l)) fault e ready again keeps = tt
+has_code p functions stopped old new (Ok (o.Code id)) (Some f) e ready again keeps = let never = again f e in absurd (cc)
+has_code p functions stopped old new (Ok (o.Code id)) None e ready again keeps =
+    let on = ready e in
+    let kept = keeps on.0.0 on.0.1 in
+    (kept.2, kept.4)
+
+pub code_of_drive : (p : PureProgram) (functions : Runs) (stopped : Bool) (old new : Machine) (r : Result Outcome KernelFault)
+    → IsReady p functions stopped old → ((f : KernelFault) → old.fault ≡ Some f → r ≡ Err f)
+    → ((e : Expression) → IsUnderway p e functions old → DriveKeeps r p e new) → HasItsCode new r
+code_of_drive p functions stopped old new r ready again keeps = has_code p functions stopped old new r old.fault refl ready again keeps
