@@ -1,8 +1,10 @@
-//! The program `mw_bench`: it solves so many equations of a shape, runs a module with a number, or emits a large code so
-//! many times, and prints the answer, to be timed from outside. `form` prints the module of a sample of kernel code.
+//! The program `mw_bench`: it solves so many equations of a shape, runs a module with a number, evaluates a program of the
+//! first stage with a number, or emits a large code so many times, and prints the answer, to be timed from outside. `form`
+//! prints the module of a sample of kernel code.
 //!
 //!     mw_bench chain|star|groups|codes|doublings|late COUNT
 //!     mw_bench loop|calls|memory NUMBER
+//!     mw_bench down|closures|doubled NUMBER
 //!     mw_bench emissions TIMES
 //!     mw_bench form NUMBER
 #![tactic(auto)]
@@ -11,10 +13,12 @@ mod emissions;
 mod modules;
 mod runs;
 mod samples;
+mod timed;
 
 use crate::emissions::{emissions, module_of_sample};
 use crate::modules::Timed;
 use crate::runs::run;
+use crate::timed::{Repeated, timed_answer};
 use mw_types::{Equation, Equations, Pairs, SolveFault, Ty, solve};
 use std::alloc::{AllocError, Global};
 use std::env;
@@ -54,6 +58,15 @@ fn code_of(word: &str) -> Option<Timed> {
         "loop" => Some(Timed::Loop),
         "calls" => Some(Timed::Calls),
         "memory" => Some(Timed::Memory),
+        _ => None,
+    }
+}
+
+fn repeated_of(word: &str) -> Option<Repeated> {
+    match word {
+        "down" => Some(Repeated::Down),
+        "closures" => Some(Repeated::Closures),
+        "doubled" => Some(Repeated::Doubled),
         _ => None,
     }
 }
@@ -174,6 +187,11 @@ fn main(rt: HostRuntime) -> anyhow::Result<ExitCode> {
         println!(rt; "{}", run(rt.alloc(), code, number)?)?;
         return Ok(ExitCode::from(0));
     }
+    let repeated = word.and_then(|word| repeated_of(word));
+    if let (Some(what), Some(number)) = (repeated, count) {
+        println!(rt; "{}", timed_answer(rt.alloc(), what, number)?.as_str())?;
+        return Ok(ExitCode::from(0));
+    }
     if let (Some("form"), Some(number)) = (word, count) {
         let bytes = module_of_sample(rt.alloc(), number)?;
         println!(rt; "{}", hex::encode(rt.alloc(), bytes.as_slice())?.as_str())?;
@@ -185,7 +203,7 @@ fn main(rt: HostRuntime) -> anyhow::Result<ExitCode> {
     }
     let (Some(chosen), Some(count)) = (chosen, count) else {
         eprintln!(rt;
-            "mw_bench: usage: mw_bench chain|star|groups|codes|doublings|late|loop|calls|memory|emissions|form NUMBER"
+            "mw_bench: usage: mw_bench chain|star|groups|codes|doublings|late|loop|calls|memory|down|closures|doubled|emissions|form NUMBER"
         )?;
         return Ok(ExitCode::from(2));
     };
