@@ -1,6 +1,6 @@
 -- A machine that was started may turn, and one that ended with code has it.
 use Rattle.std.proofs.Common.{◌≡◌, ℕ, List, [], Some, None, Option, Result, Ok, Err, refl, false, Bool, sym, subst}
-use Rattle.std.specs.Prelude.{slice_get}
+use Rattle.std.specs.Prelude.{slice_get, IfSome}
 use Rattle.mw_term.specs.Terms.{Expression, Value, KernelType}
 use Rattle.mw_term.specs.Programs.{Definition, kernel, PureProgram, program_of}
 use Rattle.mw_term.specs.declared.program.Program.{Program}
@@ -51,3 +51,9 @@ pub code_of_drive : (p : PureProgram) (functions : Runs) (stopped : Bool) (old n
     → IsReady p functions stopped old → ((f : KernelFault) → old.fault ≡ Some f → r ≡ Err f)
     → ((e : Expression) → IsUnderway p e functions old → DriveKeeps r p e new) → HasItsCode new r
 code_of_drive p functions stopped old new r ready again keeps = has_code p functions stopped old new r old.fault refl ready again keeps
+
+-- a machine that was started may turn over kernels that have answered no trap, bound or fault
+pub started_ready : (p : PureProgram) (o : Option Machine) (m : Machine) (functions : Runs) (stopped : Bool) → o ≡ Some m → IfSome o (IsStarted p)
+    → stopped ≡ false → IsReady p functions stopped m
+started_ready p o m functions stopped is h open =
+    let started : IsStarted p m = subst (λ o. IfSome o (IsStarted p)) is h in rw open (started functions)
