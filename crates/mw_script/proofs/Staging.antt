@@ -55,5 +55,5 @@ code_of_drive p functions stopped old new r ready again keeps = has_code p funct
 -- a machine that was started may turn over kernels that have answered no trap, bound or fault
 pub started_ready : (p : PureProgram) (o : Option Machine) (m : Machine) (functions : Runs) (stopped : Bool) → o ≡ Some m → IfSome o (IsStarted p)
     → stopped ≡ false → IsReady p functions stopped m
-started_ready p o m functions stopped is h open =
-    let started : IsStarted p m = subst (λ o. IfSome o (IsStarted p)) is h in rw open (started functions)
+started_ready p o m functions stopped is h none =
+    let started : IsStarted p m = subst (λ o. IfSome o (IsStarted p)) is h in rw none (started functions)
