@@ -6,7 +6,7 @@ use Rattle.mw_term.specs.Terms.{GroundType, KernelType, base, product, of_ground
 use Rattle.mw_term.specs.declared.term.Base.{Base}
 use Rattle.mw_term.specs.declared.term.Base.TheVariants as word
 use Rattle.mw_term.specs.declared.refusal.Refusal.{Refusal}
-use Rattle.mw_term.specs.declared.refusal.Refusal.TheVariants.{TooLarge, Char, Number, Name, Syntax, TooDeep, TooMany, Unbound, Twice, NotValue, Level, IllTyped, TypeTooBig, NotClosed, NotYet}
+use Rattle.mw_term.specs.declared.refusal.Refusal.TheVariants.{TooLarge, Char, Number, Name, Syntax, TooDeep, TooMany, Unbound, Twice, NotValue, Level, IllTyped, TypeTooBig, NotClosed}
 use Rattle.mw_term.specs.declared.value.TrapKind.{TrapKind}
 use Rattle.mw_term.specs.declared.value.TrapKind.TheVariants.{Divide, Overflow}
 use Rattle.mw_term.specs.declared.value.Limit.{Limit}
@@ -79,7 +79,6 @@ place_line (Level at) = at_line (codes "11 level") at
 place_line (IllTyped item) = []
 place_line (TypeTooBig item) = []
 place_line (NotClosed at) = at_line (codes "14 not closed") at
-place_line NotYet = codes "refused 15 not yet\n"
 
 abbrev pub refusal_line : List (List ℕ) → Refusal → List ℕ
 refusal_line names (IllTyped item) = in_line (codes "12 type") (name_at names item)

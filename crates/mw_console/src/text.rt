@@ -26,7 +26,6 @@ fn placed_line(alloc: Global, refusal: Refusal) -> Result<String, AllocError>
         Refusal::NotValue(at) => format!(in alloc; "refused 10 not a value at {at}\n"),
         Refusal::Level(at) => format!(in alloc; "refused 11 level at {at}\n"),
         Refusal::NotClosed(at) => format!(in alloc; "refused 14 not closed at {at}\n"),
-        Refusal::NotYet => String::from_str(alloc, "refused 15 not yet\n"),
         Refusal::IllTyped(_) | Refusal::TypeTooBig(_) => String::from_str(alloc, ""),
     }
 }

@@ -52,6 +52,13 @@ impl<T: Drop> Sequence<T> {
         self.items.as_slice()
     }
 
+    /// All elements, by value.
+    pub fn into_vec(self) -> Vec<T>
+        ensures { result.items ≡ self }
+    {
+        self.items
+    }
+
     /// Adds an element at the end; a refusal of memory changes nothing.
     pub fn push(&mut self, element: T) -> Result<(), AllocError>
         ensures ok { OnOk result (self.new ≡ self.old ++ element ∷ []) }

@@ -25,7 +25,7 @@ use Rattle.mw_scope.proofs.ScopedPrograms.{nameless_is_scoped}
 use Rattle.mw_infer.specs.Checking.{IsResolved}
 use Rattle.mw_infer.proofs.Resolved as resolved
 use Rattle.mw_machine.specs.Starting.{AreBuilt, definitions_of}
-use Rattle.mw_machine.specs.Evaluations.{HasSmallDefinition}
+use Rattle.mw_term.specs.SmallTypes.{HasSmallDefinition}
 use Rattle.mw_script.specs.Starts.{IsBuilt, AreAllBuilt}
 
 few_items : (p : Program) (items : List PureItem) → map (λ (i : Item). i.name) p.items ≡ map name_of items → length items ≤ 1000

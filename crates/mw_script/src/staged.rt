@@ -3,7 +3,7 @@
 ghost use Rattle.std.specs.Prelude.{◌≡◌, IfOk, IfSome};
 ghost use Rattle.mw_term.specs.Programs.{program_of};
 ghost use Rattle.mw_term.specs.Typable.{Typable};
-ghost use Rattle.mw_machine.specs.Evaluations.{HasSmallTypes};
+ghost use Rattle.mw_term.specs.SmallTypes.{HasSmallTypes};
 ghost use Rattle.mw_machine.specs.TurnAnswers.{EndedWithCode, IsReady};
 ghost use Rattle.mw_script.specs.Starts.{IsStarted, HasItsCode};
 

@@ -10,4 +10,5 @@ pub mod Typable
 pub mod Scoped
 pub mod Stops
 pub mod Limits
+pub mod SmallTypes
 pub mod TypingLaws

@@ -37,8 +37,6 @@ pub enum Refusal {
     TypeTooBig(u32),
     /// A `close` whose classifier stands in its environment.
     NotClosed(u32),
-    /// A source outside the part of the language that this version runs.
-    NotYet,
 }
 
 /// Why there is no answer: a refusal of the source, or want of memory.

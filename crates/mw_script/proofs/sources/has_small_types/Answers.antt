@@ -1,7 +1,7 @@
 use Rattle.std.proofs.Common.{refl, subst}
 use Rattle.std.specs.List.{AllByRecursion}
 use Rattle.mw_term.specs.Programs.{definition_of}
-use Rattle.mw_machine.specs.Evaluations.{HasSmallDefinition}
+use Rattle.mw_term.specs.SmallTypes.{HasSmallDefinition}
 use Rattle.mw_script.proofs.Sourcing.{small_at}
 use Rattle.mw_script.proofs.sources.has_small_types.Goals as goal
 
