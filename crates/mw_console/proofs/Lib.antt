@@ -1,4 +1,3 @@
 pub mod LineLemmas
 pub mod ReadLemmas
 pub mod TextLemmas
-pub mod WordLemmas

@@ -100,6 +100,13 @@ limit_words Fuel = codes "fuel"
 limit_words KernelSize = codes "kernel size"
 limit_words Heap = codes "heap"
 
+-- the two lines of a sample: how many kernels gave code, and the bytes of their modules together
+abbrev pub total_line : List ℕ → ℕ → List ℕ
+total_line word number = word ++ (decimal number ++ codes "\n")
+
+abbrev pub totals_text : (kernels bytes : ℕ) → List ℕ
+totals_text kernels bytes = total_line (codes "kernels ") kernels ++ total_line (codes "modules ") bytes
+
 -- the last line of the output
 abbrev pub ending_line : Ending → List ℕ
 ending_line (answered v) = codes "answer " ++ value_text v ++ codes "\n"

@@ -1,4 +1,3 @@
-//! What a command reads and writes beside its work: the words of the command line, the source's file, the lines of the
 //! output, and statuses with their exit codes.
 #![tactic(auto)]
 
@@ -6,10 +5,8 @@ mod lines;
 mod source;
 mod status;
 mod text;
-mod words;
 
 pub use crate::lines::write_lines;
 pub use crate::source::{SourceFault, file_bytes};
 pub use crate::status::Status;
-pub use crate::text::{put_answer, put_bound, put_kernel, put_refusal};
-pub use crate::words::{Command, command_of};
+pub use crate::text::{put_answer, put_bound, put_kernel, put_refusal, put_totals, put_trap};

@@ -2,11 +2,12 @@
 
 ghost use Rattle.std.specs.Prelude.{◌≡◌, ◌++◌, codes, map, IfOk};
 ghost use Rattle.std.specs.String.{string_bytes};
+ghost use Rattle.hex.specs.Hex.{encode_lower};
 ghost use Rattle.mw_term.specs.Terms.{ground_of, kernel_type_of, ground_value_of, base_value_of};
 ghost use Rattle.mw_term.specs.declared.program.Item.{Item as PureItem};
-ghost use Rattle.mw_console.specs.Texts.{answered, bounded, base_text, ground_text, left_text, kind_text, kernel_text, kernel_line, digits_line, limit_words, ending_line, name_at, in_line, place_line, refusal_line, value_text};
+ghost use Rattle.mw_console.specs.Texts.{answered, trapped, bounded, base_text, ground_text, left_text, kind_text, kernel_text, kernel_line, digits_line, limit_words, trap_words, ending_line, total_line, totals_text, name_at, in_line, place_line, refusal_line, value_text};
 
-use mw_term::{Base, BaseValue, Ground, GroundValue, Item, KType, Limit, Refusal};
+use mw_term::{Base, BaseValue, Ground, GroundValue, Item, KType, Limit, Refusal, TrapKind};
 use std::alloc::{AllocError, Global};
 
 /// The line of a refusal of bytes, tokens, names or levels, or of a `close`.
@@ -80,7 +81,6 @@ fn put(text: &mut Vec<u8>, more: &[u8]) -> Result<(), AllocError>
 
 /// The three lines of a kernel: its name and type, its key and its module's bytes, both in hexadecimal digits.
 pub fn put_kernel(
-    alloc: Global,
     text: &mut Vec<u8>,
     name: &[u8],
     kind: &KType,
@@ -90,8 +90,8 @@ pub fn put_kernel(
     ensures { IfOk result (λ _. text.new.items ≡ text.old.items ++ kernel_text name.now (kernel_type_of kind.now) key.now bytes.now) }
 {
     put_name(text, name, kind)?;
-    put_digits(alloc, text, b"key ", key)?;
-    put_digits(alloc, text, b"module ", bytes)
+    put_digits(text, b"key ", key)?;
+    put_digits(text, b"module ", bytes)
 }
 
 /// The line of a kernel's name and type.
@@ -105,19 +105,26 @@ fn put_name(text: &mut Vec<u8>, name: &[u8], kind: &KType) -> Result<(), AllocEr
     put(text, b"\n")
 }
 
-/// The line of a word and of bytes in hexadecimal digits.
-fn put_digits(
-    alloc: Global,
-    text: &mut Vec<u8>,
-    word: &[u8],
-    bytes: &[u8],
-) -> Result<(), AllocError>
+/// The line of a word and of bytes in hexadecimal digits, which are written where they stand.
+fn put_digits(text: &mut Vec<u8>, word: &[u8], bytes: &[u8]) -> Result<(), AllocError>
     ensures { IfOk result (λ _. text.new.items ≡ text.old.items ++ digits_line word.now bytes.now) }
 {
-    let digits = hex::encode(alloc, bytes)?;
     put(text, word)?;
-    put(text, digits.as_bytes())?;
+    put_hex(text, bytes)?;
     put(text, b"\n")
+}
+
+/// Bytes in hexadecimal digits.
+fn put_hex(text: &mut Vec<u8>, bytes: &[u8]) -> Result<(), AllocError>
+    ensures { IfOk result (λ _. text.new.items ≡ text.old.items ++ encode_lower bytes.now) }
+{
+    let start = text.len();
+    let end = start.saturating_add(bytes.len().saturating_mul(2));
+    text.resize(end, 0)?;
+    match hex::encode_to_slice(bytes, &mut text[start..]) {
+        Ok(()) => Ok(()),
+        Err(_) => unreachable!(),
+    }
 }
 
 /// A kernel type.
@@ -224,6 +231,54 @@ pub fn put_bound(text: &mut Vec<u8>, limit: Limit, name: &[u8]) -> Result<(), Al
     put(text, b" in ")?;
     put(text, name)?;
     put(text, b"\n")
+}
+
+/// The line of a trap of the item of this name, or of main.
+pub fn put_trap(text: &mut Vec<u8>, trap: TrapKind, name: &[u8]) -> Result<(), AllocError>
+    ensures { IfOk result (λ _. text.new.items ≡ text.old.items ++ ending_line (trapped trap name.now)) }
+{
+    put(text, b"trap ")?;
+    put(text, trap_word(trap))?;
+    put(text, b" in ")?;
+    put(text, name)?;
+    put(text, b"\n")
+}
+
+/// The word of a trap.
+fn trap_word(trap: TrapKind) -> &'static [u8]
+    ensures { result.now ≡ trap_words trap }
+{
+    match trap {
+        TrapKind::Divide => b"divide",
+        TrapKind::Overflow => b"overflow",
+    }
+}
+
+/// The two lines of a sample: its kernels that gave code, and the bytes of their modules.
+pub fn put_totals(
+    alloc: Global,
+    text: &mut Vec<u8>,
+    kernels: u64,
+    bytes: u64,
+) -> Result<(), AllocError>
+    ensures { IfOk result (λ _. text.new.items ≡ text.old.items ++ totals_text kernels bytes) }
+{
+    put_total(alloc, text, b"kernels ", kernels)?;
+    put_total(alloc, text, b"modules ", bytes)
+}
+
+/// The line of a word and a number.
+fn put_total(
+    alloc: Global,
+    text: &mut Vec<u8>,
+    word: &[u8],
+    number: u64,
+) -> Result<(), AllocError>
+    ensures { IfOk result (λ _. text.new.items ≡ text.old.items ++ total_line word.now number) }
+{
+    let digits = format!(in alloc; "{number}\n")?;
+    put(text, word)?;
+    put(text, digits.as_bytes())
 }
 
 /// The words of a limit.

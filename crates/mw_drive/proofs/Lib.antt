@@ -1,14 +1,9 @@
-pub mod DecidedForms
-pub mod EvaluationLemmas
-pub mod FirstFormLemmas
-pub mod KernelLemmas
+pub mod Counts
+pub mod ItemsRun
 pub mod ModuleLemmas
 pub mod OneMeaning
-pub mod Reporting
+pub mod ProgramEnds
 pub mod RunLemmas
 pub mod ScopedTerms
-pub mod SimplifiedSums
 pub mod SomeMeaning
-pub mod SumMeanings
 pub mod SourceReadings
-pub mod SourceReports

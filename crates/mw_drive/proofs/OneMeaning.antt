@@ -1,5 +1,5 @@
 -- A work has one meaning at most.
-use Rattle.std.proofs.Common.{◌≡◌, ◌≤◌, ◌<◌, ◌⊎◌, inl, inr, ℕ, List, [], map, Err, length, refl, sym, ap, ◌∙◌, subst, arith}
+use Rattle.std.proofs.Common.{◌≡◌, ◌≤◌, ◌<◌, ℕ, List, [], map, Err, length, refl, sym, ap, ◌∙◌, subst, arith}
 use Rattle.mw_term.specs.declared.refusal.Refusal.{Refusal}
 use Rattle.mw_term.specs.declared.refusal.Stop.TheVariants.{Refused}
 use Rattle.mw_lex.specs.Tokens.{PureToken}
@@ -21,9 +21,8 @@ use Rattle.mw_infer.proofs.Refusals.{refusal-one, typable-refused}
 use Rattle.mw_console.specs.Texts.{Ending}
 use Rattle.mw_drive.specs.NamedPrograms.{NamedProgram, unnamed, names_of}
 use Rattle.mw_drive.specs.SourceReading.{IsRead, IsRefused, too_large, at_bytes, at_tokens, at_names}
-use Rattle.mw_drive.specs.FirstForms.{IsFirst}
 use Rattle.mw_drive.specs.ProgramMeaning.{Kernel, ended, program_run}
-use Rattle.mw_drive.specs.Works.{refused, ran, IsAccepted, of_refusal, of_types, of_other_forms, of_program}
+use Rattle.mw_drive.specs.Works.{refused, ran, IsAccepted, of_refusal, of_types, of_program, of_sample, as_sample}
 use Rattle.mw_drive.specs.WorkLaws.{OneMeaning}
 use Rattle.mw_drive.proofs.SourceReadings.{same_program}
 use Rattle.mw_drive.proofs.ScopedTerms.{is_resolved}
@@ -97,10 +96,6 @@ module _ (bytes : List ℕ) where
   accepted_or_refused p q r a b f g =
       typable-refused (unnamed q) (written q b) r g.typable g.small (subst (λ (x : NamedProgram). IsFirstRefusal (unnamed x) r) (one_program p q a b) f)
 
-  first_or_other : (p q : NamedProgram) → IsRead bytes p → IsRead bytes q → length bytes ≤ 256 → IsFirst p → (256 < length bytes) ⊎ (IsFirst q → ⊥) → ⊥
-  first_or_other p q a b short first (inl long) = absurd (omega arith)
-  first_or_other p q a b short first (inr other) = other (subst IsFirst (one_program p q a b) first)
-
 -- what ended one way ended no other way
 one_run : {k l : List Kernel} {d e : Ending} → ended k d ≡ ended l e → (k ≡ l)
 one_run is = cc
@@ -111,19 +106,13 @@ one_ending is = cc
 pub one_meaning : OneMeaning
 one_meaning work m n (of_refusal {bytes = bytes} {r = r} a) (of_refusal {r = q} b) = ap (λ x. refused x []) (one_source_refusal bytes r q a b)
 one_meaning work m n (of_refusal {bytes = bytes} {r = r} a) (of_types p b f) = absurd (read_or_refused bytes p r b a)
-one_meaning work m n (of_refusal {bytes = bytes} {r = r} a) (of_other_forms p b g o) = absurd (read_or_refused bytes p r b a)
-one_meaning work m n (of_refusal {bytes = bytes} {r = r} a) (of_program p b g short first is) = absurd (read_or_refused bytes p r b a)
+one_meaning work m n (of_refusal {bytes = bytes} {r = r} a) (of_program p b g is) = absurd (read_or_refused bytes p r b a)
 one_meaning work m n (of_types {bytes = bytes} p a f) (of_refusal {r = q} b) = absurd (read_or_refused bytes p q a b)
 one_meaning work m n (of_types {bytes = bytes} {r = r} p a f) (of_types {r = k} q b g) = types_once bytes p q r k a b f g
-one_meaning work m n (of_types {bytes = bytes} {r = r} p a f) (of_other_forms q b g o) = absurd (accepted_or_refused bytes p q r a b f g)
-one_meaning work m n (of_types {bytes = bytes} {r = r} p a f) (of_program q b g short first is) = absurd (accepted_or_refused bytes p q r a b f g)
-one_meaning work m n (of_other_forms {bytes = bytes} p a f o) (of_refusal {r = q} b) = absurd (read_or_refused bytes p q a b)
-one_meaning work m n (of_other_forms {bytes = bytes} p a f o) (of_types {r = r} q b g) = absurd (accepted_or_refused bytes q p r b a g f)
-one_meaning work m n (of_other_forms p a f o) (of_other_forms q b g i) = refl
-one_meaning work m n (of_other_forms {bytes = bytes} p a f o) (of_program q b g short first is) = absurd (first_or_other bytes q p b a short first o)
-one_meaning work m n (of_program {bytes = bytes} p a f short first is) (of_refusal {r = q} b) = absurd (read_or_refused bytes p q a b)
-one_meaning work m n (of_program {bytes = bytes} p a f short first is) (of_types {r = r} q b g) = absurd (accepted_or_refused bytes q p r b a g f)
-one_meaning work m n (of_program {bytes = bytes} p a f short first is) (of_other_forms q b g o) = absurd (first_or_other bytes p q a b short first o)
-one_meaning work m n (of_program {bytes = bytes} {fuel = fuel} {mode = mode} {kernels = ks} {e = d} p a f short first is) (of_program {kernels = ls} {e = e} q b g also second end) =
+one_meaning work m n (of_types {bytes = bytes} {r = r} p a f) (of_program q b g is) = absurd (accepted_or_refused bytes p q r a b f g)
+one_meaning work m n (of_program {bytes = bytes} p a f is) (of_refusal {r = q} b) = absurd (read_or_refused bytes p q a b)
+one_meaning work m n (of_program {bytes = bytes} p a f is) (of_types {r = r} q b g) = absurd (accepted_or_refused bytes q p r b a g f)
+one_meaning work m n (of_program {bytes = bytes} {fuel = fuel} {mode = mode} {kernels = ks} {e = d} p a f is) (of_program {kernels = ls} {e = e} q b g end) =
     let runs : ended ks d ≡ ended ls e = sym is ∙ (ap (program_run mode fuel) (one_program bytes p q a b) ∙ end) in
     ap (λ ks. ran mode ks d) (one_run runs) ∙ ap (λ e. ran mode ls e) (one_ending runs)
+one_meaning work m n (of_sample k a) (of_sample l b) = ap as_sample (one_meaning _ k l a b)

@@ -1,23 +1,26 @@
 -- From the parts of a run to the whole.
-use Rattle.std.proofs.Common.{◌≡◌, ◌⊎◌, inl, inr, ℕ, ◌<◌, List, [], ◌∷◌, ◌++◌, codes, Option, None, Some, Bool, IsTrue, IsNone, ap, ◌∙◌, take, drop, length, refl, sym, subst, arith}
+use Rattle.std.proofs.Common.{◌≡◌, ◌⊎◌, inl, inr, ℕ, ◌<◌, List, [], ◌++◌, Option, None, Some, Bool, IsTrue, IsNone, ap, ◌∙◌, take, drop, length, Result, Ok, Err, refl, sym, subst, arith}
 use Rattle.std.proofs.lemmas.List.{append-nil, take_all, length-take}
 use Rattle.mw_outside.specs.declared.named.NamedFile.{NamedFile}
+use Rattle.mw_outside.specs.declared.errors.WriteFault.{WriteFault}
+use Rattle.mw_outside.specs.declared.errors.WriteFault.TheVariants as fault
 use Rattle.mw_outside.specs.Count.{GrowsByFront}
 use Rattle.mw_outside.specs.Lookup.{file_of}
 use Rattle.mw_term.specs.declared.refusal.Refusal.TheVariants.{TooLarge}
 use Rattle.mw_meaning.specs.declared.mode.Mode.{Mode}
 use Rattle.mw_meaning.specs.declared.mode.Mode.TheVariants.{Plain}
-use Rattle.mw_console.specs.Commands.{PureCommand, run, fuel_of, file_read, command_in, Means, run_file, default_fuel}
-use Rattle.mw_console.specs.declared.words.Command.{Command}
-use Rattle.mw_console.specs.declared.words.Command.TheVariants.{Run}
+use Rattle.mw_words.specs.Words.{PureCommand, run, sample, Means}
+use Rattle.mw_words.proofs.OneCommand.{one_command}
 use Rattle.mw_console.specs.Reading.{most_read, IsFront, IsRest}
 use Rattle.mw_console.specs.Texts.{answered, trapped, bounded}
 use Rattle.mw_console.specs.declared.status.Status.{Status}
-use Rattle.mw_console.specs.declared.status.Status.TheVariants.{Usage, Read, Memory}
+use Rattle.mw_console.specs.declared.status.Status.TheVariants.{Answer, Trap, Usage, Refused, Bound, Read, Write, Cache, Memory, BadCache}
 use Rattle.mw_drive.specs.SourceReading.{IsSmall, too_large, at_bytes, at_tokens, at_names}
-use Rattle.mw_drive.specs.Works.{Work, running, Meaning, refused, ran, IsMeaning, of_refusal, of_types, of_other_forms, of_program, IsOutput, Reports, text_of, status_of}
+use Rattle.mw_drive.specs.Works.{Work, running, sampling, Meaning, refused, ran, sampled, IsMeaning, of_refusal, of_types, of_program, IsOutput, Reports, text_of, status_of}
+use Rattle.mw_drive.specs.ProgramRuns.{IsWrittenMeaning, shown_meaning}
+use Rattle.mw_drive.specs.declared.shown.Shown.{Shown}
+use Rattle.mw_drive.specs.Running.{AsksFor, Asks, asks_run, asks_sample, AsksMissing, IsTellingOf, IsLacking, IsFaithful, IsComplete, IsMemory, SpeaksOfCache, IsCarriedOut, IsStatusOf, IsReadUp}
 use Rattle.mw_drive.proofs.SomeMeaning.{some_meaning}
-use Rattle.mw_drive.specs.Running.{work_of, AsksFor, Asks, AsksMissing, IsFaithful, IsReadUp}
 
 -- a source with a meaning is too large, and refused for it, or small
 large_or_small : {bytes : List ℕ} {fuel : ℕ} {mode : Mode} {m : Meaning} → IsMeaning (running bytes fuel mode) m → ((m ≡ refused TooLarge []) × (1048576 < length bytes)) ⊎ IsSmall bytes
@@ -26,8 +29,7 @@ large_or_small (of_refusal (at_bytes small f)) = inr small
 large_or_small (of_refusal (at_tokens tokens small are r)) = inr small
 large_or_small (of_refusal (at_names tokens surface f small are is first e)) = inr small
 large_or_small (of_types p read fault) = inr read.small
-large_or_small (of_other_forms p read accepted other) = inr read.small
-large_or_small (of_program p read accepted short first is) = inr read.small
+large_or_small (of_program p read accepted is) = inr read.small
 
 -- a front that is longer than any source means what the whole does
 small_front : (bytes : List ℕ) → IsSmall (take most_read bytes) → take most_read bytes ≡ bytes
@@ -36,78 +38,142 @@ small_front bytes small = let short = rw length-take at small in take_all most_r
 large_whole : (bytes : List ℕ) → 1048576 < length (take most_read bytes) → 1048576 < length bytes
 large_whole bytes large = let long = rw length-take at large in omega arith
 
-means_whole : {bytes : List ℕ} {fuel : ℕ} {mode : Mode} {m : Meaning} → IsMeaning (running (take most_read bytes) fuel mode) m → IsMeaning (running bytes fuel mode) m
+pub means_whole : {bytes : List ℕ} {fuel : ℕ} {mode : Mode} {m : Meaning} → IsMeaning (running (take most_read bytes) fuel mode) m → IsMeaning (running bytes fuel mode) m
 means_whole {bytes} {fuel} {mode} {m} d = by_size (large_or_small d)
   where
     by_size : ((m ≡ refused TooLarge []) × (1048576 < length (take most_read bytes))) ⊎ IsSmall (take most_read bytes) → IsMeaning (running bytes fuel mode) m
     by_size (inl x) = subst (IsMeaning (running bytes fuel mode)) (sym x.0) (of_refusal (too_large (large_whole bytes x.1)))
     by_size (inr small) = subst (λ b. IsMeaning (running b fuel mode) m) (small_front bytes small) d
 
--- the words mean one command
-one_command : {words : List (List ℕ)} {c d : PureCommand} → Means words c → Means words d → c ≡ d
-one_command (run_file {file = file} named) g = other g refl
+-- what was read is the front of the bytes that the source tells, and what is left is the rest
+pub front_told : {tells : Bool} {told : List NamedFile} {file bytes : List ℕ} (taken : List ℕ) → IsTellingOf tells told file bytes → (IsTrue tells → IsFront (file_of told file) taken) → taken ≡ take most_read bytes
+front_told taken a front = rw a.found at (front a.telling)
+
+pub rest_told : {tells : Bool} {told : List NamedFile} {file bytes : List ℕ} (left : List ℕ) → IsTellingOf tells told file bytes → (IsTrue tells → IsRest (file_of told file) left) → left ≡ drop most_read bytes
+rest_told left a rest = rw a.found at (rest a.telling)
+
+-- so whatever the status, the source is read up
+pub read_up : {tells : Bool} {told : List NamedFile} {file bytes : List ℕ} (s : Status) (left : List ℕ) → IsTellingOf tells told file bytes → (IsTrue tells → IsRest (file_of told file) left) → IsReadUp bytes s left
+read_up Usage left a rest = tt
+read_up Read left a rest = tt
+read_up (Memory error) left a rest = tt
+read_up s left a rest = rest_told left a rest
+
+-- a file that was read isn't lacking
+pub not_lacking : {tells : Bool} {told : List NamedFile} {file : List ℕ} (taken : List ℕ) → (IsTrue tells → IsFront (file_of told file) taken) → IsLacking tells told file → ⊥
+not_lacking {told = told} {file = file} taken front a = no_front (file_of told file) a.missing (front a.telling)
   where
-    other : {words : List (List ℕ)} {d : PureCommand} → Means words d → words ≡ codes "run" ∷ file ∷ [] → run default_fuel Plain file ≡ d
-    other (run_file named) e = cc
+    no_front : (o : Option (List ℕ)) → IsNone o → IsFront o taken → ⊥
+    no_front None n f = f
+    no_front (Some bytes) n f = absurd (cc)
 
--- a command of the program is the run of a file as it was built
-plain_run : (c : Command) → command_in c ≡ run (fuel_of (command_in c)) Plain (file_read (command_in c))
-plain_run (Run fuel file) = refl
+-- nor is one whose bytes the source tells
+pub told_or_lacking : {tells : Bool} {told : List NamedFile} {file bytes : List ℕ} → IsTellingOf tells told file bytes → IsLacking tells told file → ⊥
+told_or_lacking {told = told} {file = file} a b = both (file_of told file) a.found b.missing
+  where
+    both : {bytes : List ℕ} (o : Option (List ℕ)) → o ≡ Some bytes → IsNone o → ⊥
+    both None e n = absurd (cc)
+    both (Some x) e n = absurd (cc)
 
-module _ {words : List (List ℕ)} {tells : Bool} {told : List NamedFile} (c : Command) (means : Means words (command_in c)) (file : List ℕ) (is_file : file ≡ file_read (command_in c)) where
-  -- the bytes that are asked for are those of this file, and the work is their run
-  same_file : (bytes : List ℕ) → AsksFor words tells told bytes → file_of told file ≡ Some bytes
-  same_file bytes a = rw is_file (subst (λ d. file_of told (file_read d) ≡ Some bytes) (one_command a.means means) a.found)
+-- What words that mean a run ask for is the run of the bytes of its file, and what a sample's ask for is the sample.
+pub asked_of_run : {words : List (List ℕ)} {tells : Bool} {told : List NamedFile} (workers fuel : ℕ) (file : List ℕ) → Means words (run workers fuel file) → (work : Work) → Asks words tells told work
+    → (bytes : List ℕ) × IsTellingOf tells told file bytes × (work ≡ running bytes fuel Plain)
+asked_of_run {tells = tells} {told = told} workers fuel file means work (asks_run {fuel = other} {bytes = bytes} a) =
+    let e = one_command means a.means in
+    (bytes, record { telling = a.telling; found = subst (λ f. file_of told f ≡ Some bytes) (sym (file_is e)) a.found }, ap (λ n. running bytes n Plain) (sym (fuel_is e)))
+  where
+    file_is : {v w m n : ℕ} {f g : List ℕ} → run v m f ≡ run w n g → f ≡ g
+    file_is e = cc
 
-  same_work : (work : Work) (a : Asks words tells told work) → work ≡ running a.bytes (fuel_of (command_in c)) Plain
-  same_work work a = subst (λ d. work ≡ work_of d a.bytes) (one_command a.asks.means means ∙ plain_run c) a.is_work
+    fuel_is : {v w m n : ℕ} {f g : List ℕ} → run v m f ≡ run w n g → m ≡ n
+    fuel_is e = cc
+asked_of_run workers fuel file means work (asks_sample {number = number} other) = absurd (clash (one_command means other))
+  where
+    clash : run workers fuel file ≡ sample number → ⊥
+    clash e = cc
 
-  -- what was read is the front of these bytes
-  front_told : (bytes taken : List ℕ) → AsksFor words tells told bytes → (IsTrue tells → IsFront (file_of told file) taken) → taken ≡ take most_read bytes
-  front_told bytes taken a front = rw (same_file bytes a) at (front a.telling)
+pub asked_of_sample : {words : List (List ℕ)} {tells : Bool} {told : List NamedFile} (number : ℕ) → Means words (sample number) → (work : Work) → Asks words tells told work → work ≡ sampling number
+asked_of_sample number means work (asks_sample other) = ap sampling (same (one_command other means))
+  where
+    same : {m n : ℕ} → sample m ≡ sample n → m ≡ n
+    same e = cc
+asked_of_sample number means work (asks_run a) = absurd (clash (one_command means a.means))
+  where
+    clash : {w n : ℕ} {f : List ℕ} → sample number ≡ run w n f → ⊥
+    clash e = cc
 
-  -- and what is left is the rest of them
-  pub rest_told : (bytes left : List ℕ) → AsksFor words tells told bytes → (IsTrue tells → IsRest (file_of told file) left) → left ≡ drop most_read bytes
-  rest_told bytes left a rest = rw (same_file bytes a) at (rest a.telling)
+-- The missing file of a run's words is the run's, and a sample has none.
+pub lacking_of_run : {words : List (List ℕ)} {tells : Bool} {told : List NamedFile} (workers fuel : ℕ) (file : List ℕ) → Means words (run workers fuel file) → AsksMissing words tells told → IsLacking tells told file
+lacking_of_run {told = told} workers fuel file means a = record { telling = a.telling; missing = subst (λ f. IsNone (file_of told f)) (sym (file_is (one_command means a.means))) a.missing }
+  where
+    file_is : {v w m n : ℕ} {f g : List ℕ} → run v m f ≡ run w n g → f ≡ g
+    file_is e = cc
 
-  -- so whatever the status, the source is read up
-  pub read_up : (s : Status) (bytes left : List ℕ) → AsksFor words tells told bytes → (IsTrue tells → IsRest (file_of told file) left) → IsReadUp bytes s left
-  read_up Usage bytes left a rest = tt
-  read_up Read bytes left a rest = tt
-  read_up (Memory error) bytes left a rest = tt
-  read_up s bytes left a rest = rest_told bytes left a rest
-
-  -- the report on what was read is the report on the work
-  pub whole_report : (work : Work) (taken : List ℕ) (fuel : ℕ) {text : List ℕ} {s : Status} → Asks words tells told work → (IsTrue tells → IsFront (file_of told file) taken) → fuel ≡ fuel_of (command_in c) → Reports (running taken fuel Plain) text s → Reports work text s
-  whole_report work taken fuel a front is_fuel r =
-      let means : IsMeaning (running (take most_read a.bytes) (fuel_of (command_in c)) Plain) r.meaning = rw (front_told a.bytes taken a.asks front, is_fuel) at r.is_meaning in
-      record { meaning = r.meaning; is_meaning = subst (λ w. IsMeaning w r.meaning) (sym (same_work work a)) (means_whole means); is_text = r.is_text; is_status = r.is_status }
-
-  -- a file that was read isn't missing
-  pub not_missing : (taken : List ℕ) → (IsTrue tells → IsFront (file_of told file) taken) → AsksMissing words tells told → ⊥
-  not_missing taken front a = no_front (file_of told file) (subst (λ d. IsNone (file_of told d)) (ap file_read (one_command a.means means) ∙ sym is_file) a.missing) (front a.telling)
-    where
-      no_front : (o : Option (List ℕ)) → IsNone o → IsFront o taken → ⊥
-      no_front None n f = f
-      no_front (Some bytes) n f = absurd (cc)
+pub no_file_of_sample : {words : List (List ℕ)} {tells : Bool} {told : List NamedFile} (number : ℕ) → Means words (sample number) → AsksMissing words tells told → ⊥
+no_file_of_sample number means a = clash (one_command means a.means)
+  where
+    clash : {w n : ℕ} {f : List ℕ} → sample number ≡ run w n f → ⊥
+    clash e = cc
 
 pub output_of_report : {work : Work} {text : List ℕ} {s : Status} → Reports work text s → IsOutput work text
 output_of_report r = record { meaning = r.meaning; is_meaning = r.is_meaning; is_text = r.is_text }
 
--- a report that was written is faithful
-faithful_at : {work : Work} {text : List ℕ} (before after : List ℕ) (m : Meaning) → Reports work text (status_of m) → after ≡ before ++ text → IsFaithful work (status_of m) before after
-faithful_at before after (refused r names) h e = (_, h, e)
-faithful_at before after (ran mode kernels (answered v)) h e = (_, h, e)
-faithful_at before after (ran mode kernels (trapped t name)) h e = (_, h, e)
-faithful_at before after (ran mode kernels (bounded l name)) h e = (_, h, e)
-
-pub faithful_report : {work : Work} {text : List ℕ} (before after : List ℕ) {s : Status} → Reports work text s → after ≡ before ++ text → IsFaithful work s before after
-faithful_report {work} {text} before after {s} r e =
-    let whole : Reports work text (status_of r.meaning) = rw r.is_status at r in
-    let P : Status → Type 0 = λ s. IsFaithful work s before after in subst P (sym r.is_status) (faithful_at before after r.meaning whole e)
+-- a text that was written whole is faithful
+faithful_at : {work : Work} (before after : List ℕ) (m : Meaning) → IsMeaning work m → after ≡ before ++ text_of m → IsFaithful work (status_of m) before after
+faithful_at before after (refused r names) h e = (_, record { meaning = _; is_meaning = h; is_text = refl; is_status = refl }, e)
+faithful_at before after (ran mode kernels (answered v)) h e = (_, record { meaning = _; is_meaning = h; is_text = refl; is_status = refl }, e)
+faithful_at before after (ran mode kernels (trapped t name)) h e = (_, record { meaning = _; is_meaning = h; is_text = refl; is_status = refl }, e)
+faithful_at before after (ran mode kernels (bounded l name)) h e = (_, record { meaning = _; is_meaning = h; is_text = refl; is_status = refl }, e)
+faithful_at before after (sampled kernels (answered v)) h e = (_, record { meaning = _; is_meaning = h; is_text = refl; is_status = refl }, e)
+faithful_at before after (sampled kernels (trapped t name)) h e = (_, record { meaning = _; is_meaning = h; is_text = refl; is_status = refl }, e)
+faithful_at before after (sampled kernels (bounded l name)) h e = (_, record { meaning = _; is_meaning = h; is_text = refl; is_status = refl }, e)
 
 -- nothing is a front of some text that belongs to the work
 pub some_output : (work : Work) (before : List ℕ) → (text : List ℕ) × IsOutput work text × GrowsByFront before before text
 some_output work before =
     let m = some_meaning work in
     (text_of m.0, record { meaning = m.0; is_meaning = m.1; is_text = refl }, (0, omega arith, sym (append-nil before)))
+
+-- a work whose meaning was written, or a front of it, was carried out
+pub carried : {shown : Shown} {bytes : List ℕ} {fuel : ℕ} (r : Result Status WriteFault) (s : Status) {tells : Bool} (before after : List ℕ) (work : Work) → IsWrittenMeaning shown bytes fuel r tells before after
+    → ((m : Meaning) → IsMeaning (running bytes fuel Plain) m → IsMeaning work (shown_meaning shown m)) → IsStatusOf r s → IsCarriedOut work s tells before after
+carried {shown} (Ok status) s before after work w means is =
+    let m = shown_meaning shown w.meaning in
+    let is_meaning = means w.meaning w.is_meaning in
+    let same : s ≡ status_of m = is ∙ w.is_status in
+    record { faithful = λ t. subst (λ s. IsFaithful work s before after) (sym same) (faithful_at before after m is_meaning (w.writes t)); meaning = λ c. (m, is_meaning, same) }
+carried {shown} (Err fault.Failed) s before after work w means is =
+    let m = shown_meaning shown w.meaning in
+    let o : IsOutput work (text_of m) = record { meaning = m; is_meaning = means w.meaning w.is_meaning; is_text = refl } in
+    record {
+      faithful = λ t. subst (λ s. IsFaithful work s before after) (sym is) (text_of m, o, w.writes t);
+      meaning = λ c. absurd (subst IsComplete is c);
+    }
+carried {shown} (Err (fault.Memory error)) s before after work w means is =
+    let m = shown_meaning shown w.meaning in
+    let o : IsOutput work (text_of m) = record { meaning = m; is_meaning = means w.meaning w.is_meaning; is_text = refl } in
+    record {
+      faithful = λ t. subst (λ s. IsFaithful work s before after) (sym is) (text_of m, o, w.writes t);
+      meaning = λ c. absurd (subst IsComplete is c);
+    }
+
+-- a status that is none of the others is that of a whole text
+pub complete : (s : Status) → (s ≡ Usage → ⊥) → (SpeaksOfCache s → ⊥) → (IsMemory s → ⊥) → (s ≡ Read → ⊥) → (s ≡ Write → ⊥) → IsComplete s
+complete Answer usage cache memory read write = tt
+complete (Trap t) usage cache memory read write = tt
+complete (Refused r) usage cache memory read write = tt
+complete (Bound l) usage cache memory read write = tt
+complete Usage usage cache memory read write = usage refl
+complete Cache usage cache memory read write = cache tt
+complete (BadCache d) usage cache memory read write = cache tt
+complete (Memory e) usage cache memory read write = memory tt
+complete Read usage cache memory read write = read refl
+complete Write usage cache memory read write = write refl
+
+-- with it the whole output was written
+pub output_written : {work : Work} (s : Status) {tells : Bool} {before after : List ℕ} → IsComplete s → IsCarriedOut work s tells before after → IsTrue tells → (text : List ℕ) × IsOutput work text × (after ≡ before ++ text)
+output_written Answer c h t = let f = h.faithful t in (f.0, output_of_report f.1, f.2)
+output_written (Trap k) c h t = let f = h.faithful t in (f.0, output_of_report f.1, f.2)
+output_written (Refused r) c h t = let f = h.faithful t in (f.0, output_of_report f.1, f.2)
+output_written (Bound l) c h t = let f = h.faithful t in (f.0, output_of_report f.1, f.2)
+output_written _ c h t = absurd (c)

@@ -1,17 +1,12 @@
 -- Each work has a meaning.
 use Rattle.std.proofs.Common.{◌≡◌, ◌≤◌, ◌<◌, ◌⊎◌, inl, inr, ℕ, List, [], ◌∷◌, ◌++◌, map, length, true, Option, Some, None, refl, sym, ap, ◌∙◌, subst}
-use Rattle.std.specs.Prelude.{slice_get}
-use Rattle.std.proofs.lemmas.List.{append_assoc, append-nil}
-use Rattle.mw_term.specs.Terms.{Expression, KernelType, PureGroundValue}
-use Rattle.mw_term.specs.Programs.{Definition, value as defines, kernel, PureProgram}
-use Rattle.mw_term.specs.Typable.{Typable, HasKernelType}
-use Rattle.mw_term.specs.Limits.{within_limits}
+use Rattle.mw_term.specs.Programs.{Definition}
+use Rattle.mw_term.specs.Typable.{Typable}
 use Rattle.mw_term.specs.declared.refusal.Refusal.{Refusal}
 use Rattle.mw_term.specs.declared.refusal.Refusal.TheVariants.{Syntax, TooDeep, TooMany}
 use Rattle.mw_meaning.specs.declared.mode.Mode.{Mode}
-use Rattle.mw_meaning.specs.Outcomes.{Outcome, came_to, trapped, bounded, stuck as no_outcome, item_outcome, main_outcome, names_of_items, names_of_main}
-use Rattle.mw_meaning.specs.OutcomeLaws.{ComesTo, AreCodesOf, HasGroundType}
-use Rattle.mw_meaning.proofs.ComingTo.{items_come_to_their_code, main_comes_to_its_value_after_items}
+use Rattle.mw_meaning.specs.declared.mode.Mode.TheVariants.{Plain}
+use Rattle.mw_sample.specs.Sample.{sample_text}
 use Rattle.mw_lex.specs.Tokens.{PureToken}
 use Rattle.mw_lex.specs.Reading.{AreTokens, IsFirstFault}
 use Rattle.mw_lex.proofs.StepsOn.{either}
@@ -29,16 +24,13 @@ use Rattle.mw_scope.proofs.FaultlessPrograms.{faultless_program}
 use Rattle.mw_infer.specs.Checking.{IsFirstRefusal, NoneTooBig}
 use Rattle.mw_infer.proofs.Progressing.{resolved-written}
 use Rattle.mw_infer.proofs.Deciding.{checked_or_refused}
-use Rattle.mw_console.specs.Texts.{Ending}
 use Rattle.mw_drive.specs.NamedPrograms.{NamedItem, NamedProgram, unnamed, names_of}
 use Rattle.mw_drive.specs.SourceReading.{IsSmall, IsRead, IsRefused, too_large, at_bytes, at_tokens, at_names}
-use Rattle.mw_drive.specs.FirstForms.{IsFirst}
-use Rattle.mw_drive.specs.ProgramMeaning.{Kernel, ProgramRun, ended, main_run, main_after, with_kernel, after_item, run_item, run_items}
-use Rattle.mw_drive.specs.Works.{running, Meaning, refused, ran, IsAccepted, IsMeaning, of_refusal, of_types, of_other_forms, of_program}
+use Rattle.mw_drive.specs.Works.{running, sampling, Meaning, refused, ran, as_sample, sample_fuel, IsAccepted, IsMeaning, of_refusal, of_types, of_program, of_sample}
 use Rattle.mw_drive.specs.WorkLaws.{SomeMeaning}
-use Rattle.mw_drive.proofs.DecidedForms.{first_or_not}
-use Rattle.mw_drive.proofs.SourceReports.{at_most_or_above}
 use Rattle.mw_drive.proofs.ScopedTerms.{is_resolved}
+use Rattle.mw_drive.proofs.ProgramEnds.{program_ends}
+use Rattle.mw_drive.proofs.Counts.{at_most_or_above}
 
 -- Reading answers: a program or a refusal.
 
@@ -114,92 +106,13 @@ reading_answers bytes = by_size (at_most_or_above (length bytes) 1048576)
     by_size (inl small) = bytes_answer bytes small (either bytes)
     by_size (inr large) = as_refusal _ (too_large large)
 
--- The run of a typable program ends.
-
-record Ends (r : ProgramRun) : Type 0 where
-  pub kernels : List Kernel
-  pub ending : Ending
-  pub is : r ≡ ended kernels ending
-
-kernel_ends : (x : List ℕ) (k : KernelType) (c : Expression) (r : ProgramRun) → Ends r → Ends (with_kernel x k c r)
-kernel_ends x k c r e = record { kernels = record { name = x; kind = k; code = c } ∷ e.kernels; ending = e.ending; is = ap (with_kernel x k c) e.is }
-
-main_ends : (P : PureGroundValue → Type 0) (o : Outcome PureGroundValue) → ComesTo P o → Ends (main_run o)
-main_ends P (came_to v) h = record { kernels = _; ending = _; is = refl }
-main_ends P (trapped t) h = record { kernels = _; ending = _; is = refl }
-main_ends P (bounded l) h = record { kernels = _; ending = _; is = refl }
-main_ends P no_outcome h = absurd (h)
-
-item_ends : (x : List ℕ) (k : KernelType) (o : Outcome Expression) (go : Expression → ProgramRun) → ComesTo (λ c. HasKernelType c k × (within_limits c ≡ true)) o → ((c : Expression) → HasKernelType c k → Ends (go c)) → Ends (after_item x k o go)
-item_ends x k (came_to c) go h ends = kernel_ends x k c (go c) (ends c h.0)
-item_ends x k (trapped t) go h ends = record { kernels = _; ending = _; is = refl }
-item_ends x k (bounded l) go h ends = record { kernels = _; ending = _; is = refl }
-item_ends x k no_outcome go h ends = absurd (h)
-
--- the codes of the items so far, with those of one item more
-codes_let : (before : List Definition) (codes : List Expression) (e : Expression) → AreCodesOf before codes → AreCodesOf (before ++ defines e ∷ []) codes
-codes_let [] [] e h = tt
-codes_let [] (c ∷ codes) e h = absurd (h)
-codes_let (defines d ∷ before) codes e h = codes_let before codes e h
-codes_let (kernel k d ∷ before) [] e h = absurd (h)
-codes_let (kernel k d ∷ before) (c ∷ codes) e h = (h.0, codes_let before codes e h.1)
-
-codes_kernel : (before : List Definition) (codes : List Expression) (k : KernelType) (e c : Expression) → AreCodesOf before codes → HasKernelType c k → AreCodesOf (before ++ kernel k e ∷ []) (codes ++ c ∷ [])
-codes_kernel [] [] k e c h t = (t, tt)
-codes_kernel [] (d ∷ codes) k e c h t = absurd (h)
-codes_kernel (defines d ∷ before) codes k e c h t = codes_kernel before codes k e c h t
-codes_kernel (kernel j d ∷ before) [] k e c h t = absurd (h)
-codes_kernel (kernel j d ∷ before) (b ∷ codes) k e c h t = (h.0, codes_kernel before codes k e c h.1 t)
-
-item_there : {A : Type 0} (before after : List A) (x : A) → slice_get (before ++ x ∷ after) (length before) ≡ Some x
-item_there [] after x = refl
-item_there (y ∷ before) after x = item_there before after x
-
-module _ (mode : Mode) (fuel : ℕ) (p : PureProgram) (typable : Typable p) where
-  abbrev RestEnds : List NamedItem → List Expression → Type 0
-  RestEnds items codes = Ends (run_items mode fuel (names_of_items p.items) (λ codes. main_after mode fuel p.items p.body codes) items codes)
-
-  kernel_item_ends : (before : List Definition) (x : List ℕ) (k : KernelType) (e : Expression) (items : List NamedItem) (codes : List Expression) → p.items ≡ before ++ kernel k e ∷ map (λ (i : NamedItem). i.is) items
-      → ((c : Expression) → HasKernelType c k → RestEnds items (codes ++ c ∷ []))
-      → Ends (run_item mode fuel (names_of_items p.items) (λ codes. main_after mode fuel p.items p.body codes) x (kernel k e) codes λ codes. run_items mode fuel (names_of_items p.items) (λ codes. main_after mode fuel p.items p.body codes) items codes)
-  kernel_item_ends before x k e items codes same rest =
-      let there : slice_get p.items (length before) ≡ Some (kernel k e) = ap (λ ds. slice_get ds (length before)) same ∙ item_there before (map (λ (i : NamedItem). i.is) items) (kernel k e) in
-      item_ends x k (item_outcome mode (names_of_items p.items) fuel e) (λ c. run_items mode fuel (names_of_items p.items) (λ codes. main_after mode fuel p.items p.body codes) items (codes ++ c ∷ []))
-      (items_come_to_their_code mode p (length before) k e fuel typable there) rest
-
-  abbrev Continues : List NamedItem → Type 0
-  Continues items = (before : List Definition) (codes : List Expression) → p.items ≡ before ++ map (λ (i : NamedItem). i.is) items → AreCodesOf before codes → RestEnds items codes
-
-  -- an item, after which the others end
-  one_ends : (item : NamedItem) (items : List NamedItem) → Continues items → Continues (item ∷ items)
-  one_ends item items rest before codes same are = by_kind item.is refl
-    where
-      more : (d : Definition) → item.is ≡ d → p.items ≡ (before ++ d ∷ []) ++ map (λ (i : NamedItem). i.is) items
-      more d e = same ∙ (ap (λ d. before ++ d ∷ map (λ (i : NamedItem). i.is) items) e ∙ sym (append_assoc before (d ∷ []) (map (λ (i : NamedItem). i.is) items)))
-
-      by_kind : (d : Definition) → item.is ≡ d → RestEnds (item ∷ items) codes
-      by_kind (defines e) is = subst (λ d. Ends (run_item mode fuel (names_of_items p.items) (λ codes. main_after mode fuel p.items p.body codes) item.name d codes λ codes. run_items mode fuel (names_of_items p.items) (λ codes. main_after mode fuel p.items p.body codes) items codes)) (sym is)
-          (rest (before ++ defines e ∷ []) codes (more (defines e) is) (codes_let before codes e are))
-      by_kind (kernel k e) is = subst (λ d. Ends (run_item mode fuel (names_of_items p.items) (λ codes. main_after mode fuel p.items p.body codes) item.name d codes λ codes. run_items mode fuel (names_of_items p.items) (λ codes. main_after mode fuel p.items p.body codes) items codes)) (sym is)
-          (kernel_item_ends before item.name k e items codes (same ∙ ap (λ d. before ++ d ∷ map (λ (i : NamedItem). i.is) items) is) (λ c t. rest (before ++ kernel k e ∷ []) (codes ++ c ∷ []) (more (kernel k e) is) (codes_kernel before codes k e c are t)))
-
-  items_end : (items : List NamedItem) → Continues items
-  items_end [] before codes same are =
-      let all : AreCodesOf p.items codes = subst (λ ds. AreCodesOf ds codes) (sym (same ∙ append-nil before)) are in
-      main_ends (HasGroundType p.result) (main_outcome mode (names_of_main p.items codes) fuel p.body) (main_comes_to_its_value_after_items mode p codes fuel typable all)
-  items_end (item ∷ items) before codes same are = one_ends item items (items_end items) before codes same are
-
 -- So each work has a meaning.
 
-accepted_means : (bytes : List ℕ) (fuel : ℕ) (mode : Mode) (p : NamedProgram) → IsRead bytes p → IsAccepted (unnamed p) → (length bytes ≤ 256) ⊎ (256 < length bytes) → IsFirst p ⊎ (IsFirst p → ⊥) → (m : Meaning) × IsMeaning (running bytes fuel mode) m
-accepted_means bytes fuel mode p read fine (inl short) (inl first) =
-    let e = items_end mode fuel (unnamed p) fine.typable p.items [] [] refl tt in
-    (ran mode e.kernels e.ending, of_program p read fine short first e.is)
-accepted_means bytes fuel mode p read fine (inl short) (inr other) = (refused _ [], of_other_forms p read fine (inr other))
-accepted_means bytes fuel mode p read fine (inr long) first = (refused _ [], of_other_forms p read fine (inl long))
+accepted_means : (bytes : List ℕ) (fuel : ℕ) (mode : Mode) (p : NamedProgram) → IsRead bytes p → IsAccepted (unnamed p) → (m : Meaning) × IsMeaning (running bytes fuel mode) m
+accepted_means bytes fuel mode p read fine = let e = program_ends mode fuel p fine.typable in (ran mode e.kernels e.ending, of_program p read fine e.is)
 
 program_means : (bytes : List ℕ) (fuel : ℕ) (mode : Mode) (p : NamedProgram) → IsRead bytes p → (Typable (unnamed p) × NoneTooBig (unnamed p)) ⊎ ((r : Refusal) × IsFirstRefusal (unnamed p) r) → (m : Meaning) × IsMeaning (running bytes fuel mode) m
-program_means bytes fuel mode p read (inl fine) = accepted_means bytes fuel mode p read (record { typable = fine.0; small = fine.1 }) (at_most_or_above (length bytes) 256) (first_or_not p)
+program_means bytes fuel mode p read (inl fine) = accepted_means bytes fuel mode p read (record { typable = fine.0; small = fine.1 })
 program_means bytes fuel mode p read (inr fault) = (refused fault.0 (names_of p), of_types p read fault.1)
 
 answer_means : (bytes : List ℕ) (fuel : ℕ) (mode : Mode) → IsAnswered bytes → (m : Meaning) × IsMeaning (running bytes fuel mode) m
@@ -208,3 +121,6 @@ answer_means bytes fuel mode (as_refusal r refusal) = (refused r [], of_refusal 
 
 pub some_meaning : SomeMeaning
 some_meaning (running bytes fuel mode) = answer_means bytes fuel mode (reading_answers bytes)
+some_meaning (sampling number) =
+    let bytes = sample_text number in
+    let m = answer_means bytes sample_fuel Plain (reading_answers bytes) in (as_sample m.0, of_sample m.0 m.1)

@@ -1,10 +1,8 @@
-pub mod Sums
-pub mod FirstForms
-pub mod Evaluation
 pub mod NamedPrograms
 pub mod SourceReading
 pub mod ProgramMeaning
 pub mod Works
 pub mod WorkLaws
+pub mod Written
 pub mod ProgramRuns
 pub mod Running

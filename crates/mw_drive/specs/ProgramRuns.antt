@@ -1,75 +1,93 @@
--- What the running of a program of the first forms gives, in the words of its meaning.
-use Rattle.std.specs.Prelude.{ℕ, ◌≡◌, ◌+◌, false, List, ◌++◌, map, Result, Ok, Err}
-use Rattle.std.specs.List.{flat_map}
-use Rattle.mw_term.specs.declared.program.Item.{Item}
-use Rattle.mw_term.specs.declared.refusal.Refusal.{Refusal}
-use Rattle.mw_term.specs.declared.value.Limit.TheVariants.{KernelSize}
-use Rattle.mw_term.specs.Terms.{Expression, Value, KernelType, prim, run, expression_of}
-use Rattle.mw_term.specs.Programs.{Definition, definition_of}
+-- What the running of a program gives, in the words of its meaning.
+use Rattle.std.specs.Prelude.{ℕ, ◌≡◌, true, List, [], ◌∷◌, ◌++◌, map, length, Bool, Option, Some, None, Result, Ok, Err, IfOk}
+use Rattle.std.specs.List.{AllByRecursion, flat_map}
+use Rattle.mw_outside.specs.declared.errors.WriteFault.{WriteFault}
+use Rattle.mw_term.specs.Terms.{Expression, KernelType, expression_of, kernel_type_of, ground_value_of}
+use Rattle.mw_term.specs.Programs.{Definition, value as defines, kernel}
+use Rattle.mw_term.specs.Typable.{HasKernelType}
 use Rattle.mw_term.specs.Limits.{within_limits}
-use Rattle.mw_meaning.specs.declared.mode.Mode.{Mode}
 use Rattle.mw_meaning.specs.declared.mode.Mode.TheVariants.{Plain}
-use Rattle.mw_drive.specs.declared.kernels.KernelEntry.{KernelEntry}
-use Rattle.mw_console.specs.Texts.{Ending, bounded, ending_line, ending_status, refusal_line}
+use Rattle.mw_meaning.specs.Outcomes.{Outcome, came_to, trapped as traps, bounded as bounds, item_outcome, names_of_items}
+use Rattle.mw_meaning.specs.OutcomeLaws.{AreCodesOf}
+use Rattle.mw_compile.specs.Entries.{IsEntryOf}
+use Rattle.mw_console.specs.Texts.{Ending, answered, trapped, bounded, totals_text, ending_line, ending_status}
 use Rattle.mw_console.specs.declared.status.Status.{Status}
-use Rattle.mw_console.specs.declared.status.Status.TheVariants as status
-use Rattle.mw_drive.specs.NamedPrograms.{NamedProgram, item_of}
-use Rattle.mw_drive.specs.FirstForms.{IsFirstKernel}
-use Rattle.mw_drive.specs.ProgramMeaning.{Kernel, ended, main_after, run_items, program_run}
-use Rattle.mw_drive.specs.Works.{kernel_lines}
-use Rattle.mw_drive.specs.Evaluation.{HasCode, IsSumEntry}
-use Rattle.mw_drive.specs.declared.evaluate.Interrupt.{Interrupt}
-use Rattle.mw_drive.specs.declared.evaluate.Interrupt.TheVariants.{Bound, Memory}
+use Rattle.mw_drive.specs.declared.ending.End.{End}
+use Rattle.mw_drive.specs.declared.ending.End.TheVariants as end
+use Rattle.mw_drive.specs.declared.items.Built.{Built}
+use Rattle.mw_drive.specs.declared.items.ItemEnd.{ItemEnd}
+use Rattle.mw_drive.specs.declared.items.ItemEnd.TheVariants as item
+use Rattle.mw_drive.specs.declared.shown.Shown.{Shown}
+use Rattle.mw_drive.specs.declared.shown.Shown.TheVariants.{Lines, Totals}
+use Rattle.mw_drive.specs.NamedPrograms.{NamedItem, NamedProgram, unnamed}
+use Rattle.mw_drive.specs.ProgramMeaning.{Kernel, ProgramRun, ended, with_kernel, main_after, program_run}
+use Rattle.mw_drive.specs.Works.{Meaning, IsMeaning, running, as_sample, kernel_lines, module_bytes, text_of, status_of}
+use Rattle.mw_drive.specs.Written.{Writes}
 
-abbrev pub IsFirstItem : Item → Type 0
-IsFirstItem i = IsFirstKernel (definition_of i.kind)
+abbrev pub ending_of : End → Ending
+ending_of (end.Answered v) = answered (ground_value_of v)
+ending_of (end.Trapped t name) = trapped t name.now
+ending_of (end.Bounded l name) = bounded l name.now
 
--- the definitions of items
-abbrev pub definitions_of : List Item → List Definition
-definitions_of items = map (λ (i : Item). definition_of i.kind) items
+-- a kernel that gave code
+abbrev pub kernel_of : Built → Kernel
+kernel_of b = record { name = b.name.now; kind = kernel_type_of b.kind.now; code = expression_of b.code }
 
--- the codes of entries
-abbrev pub entry_codes : List KernelEntry → List Expression
-entry_codes entries = map (λ (e : KernelEntry). expression_of e.code) entries
+abbrev pub kernels_of : List Built → List Kernel
+kernels_of built = map kernel_of built
 
--- the report on a refused source, whose items have these names
-abbrev pub IsRefusalReport : Refusal → List (List ℕ) → List ℕ → Status → Type 0
-IsRefusalReport r names text s = (text ≡ refusal_line names r) × (s ≡ status.Refused r)
+abbrev pub codes_of : List Kernel → List Expression
+codes_of kernels = map (λ (k : Kernel). k.code) kernels
 
--- After items that gave these entries: the run of the others and of main, with any fuel and whatever the items see, where
--- these are the definitions of all items; and its text and status.
-pub record IsRunFrom (all : List Definition) (entries : List KernelEntry) (items : List Item) (body : Expression) (before after : List ℕ) (s : Status) : Type 0 where
+-- its code is closed code of its type, within the limits of kernels, and the entry is that of the code at the type
+pub record IsBuilt (b : Built) : Type 0 where
+  pub typed : HasKernelType (expression_of b.code) (kernel_type_of b.kind.now)
+  pub limits : within_limits (expression_of b.code) ≡ true
+  pub entry : IsEntryOf b.entry (expression_of b.code) (kernel_type_of b.kind.now)
+
+-- a kernel item came to what its term means, with so many units, in a program with these items; a let is none
+abbrev pub IsEndOf : List Definition → ℕ → NamedItem → ItemEnd → Type 0
+IsEndOf items fuel i item.Let = (e : Expression) × (i.is ≡ defines e)
+IsEndOf items fuel i (item.Code b) =
+    (e : Expression) × (i.is ≡ kernel (kernel_type_of b.kind.now) e) × (b.name.now ≡ i.name) × IsBuilt b
+    × (item_outcome Plain (names_of_items items) fuel e ≡ came_to (expression_of b.code))
+IsEndOf items fuel i (item.Ended (end.Answered v)) = ⊥
+IsEndOf items fuel i (item.Ended (end.Trapped t name)) =
+    (k : KernelType) × (e : Expression) × (i.is ≡ kernel k e) × (name.now ≡ i.name) × (item_outcome Plain (names_of_items items) fuel e ≡ traps t)
+IsEndOf items fuel i (item.Ended (end.Bounded l name)) =
+    (k : KernelType) × (e : Expression) × (i.is ≡ kernel k e) × (name.now ≡ i.name) × (item_outcome Plain (names_of_items items) fuel e ≡ bounds l)
+
+-- kernels before the others of a run
+abbrev pub with_kernels : List Kernel → ProgramRun → ProgramRun
+with_kernels [] r = r
+with_kernels (k ∷ kernels) r = with_kernel k.name k.kind k.code (with_kernels kernels r)
+
+-- The kernel items of a program gave these kernels, and one that gave none ended the program, or main is to come.
+abbrev pub IsItemsRun : ℕ → NamedProgram → List Kernel → Option Ending → Type 0
+IsItemsRun fuel p kernels None =
+    (program_run Plain fuel p ≡ with_kernels kernels (main_after Plain fuel (unnamed p).items p.body (codes_of kernels))) × AreCodesOf (unnamed p).items (codes_of kernels)
+IsItemsRun fuel p kernels (Some e) = program_run Plain fuel p ≡ ended kernels e
+
+-- what is written of the kernels
+abbrev pub shown_text : Shown → List Kernel → List ℕ
+shown_text Lines kernels = flat_map (kernel_lines Plain) kernels
+shown_text Totals kernels = totals_text (length kernels) (module_bytes kernels)
+
+-- the run of a program was written, and the status is what its ending says
+pub record IsWrittenRun (shown : Shown) (fuel : ℕ) (p : NamedProgram) (result : Result Status WriteFault) (tells : Bool) (before after : List ℕ) : Type 0 where
   pub kernels : List Kernel
   pub ending : Ending
-  pub is_run : (fuel : ℕ) (names : List Value) → run_items Plain fuel names (λ codes. main_after Plain fuel all body codes) (map item_of items) (entry_codes entries) ≡ ended kernels ending
-  pub is_text : after ≡ before ++ (flat_map (kernel_lines Plain) kernels ++ ending_line ending)
-  pub is_status : s ≡ ending_status ending
+  pub is_run : program_run Plain fuel p ≡ ended kernels ending
+  pub is_status : IfOk result (λ s. s ≡ ending_status ending)
+  pub writes : Writes result tells before after (shown_text shown kernels ++ ending_line ending)
 
--- the run of a program, with any fuel
-pub record IsRunOfProgram (p : NamedProgram) (text : List ℕ) (s : Status) : Type 0 where
-  pub kernels : List Kernel
-  pub ending : Ending
-  pub is_run : (fuel : ℕ) → program_run Plain fuel p ≡ ended kernels ending
-  pub is_text : text ≡ flat_map (kernel_lines Plain) kernels ++ ending_line ending
-  pub is_status : s ≡ ending_status ending
+abbrev pub shown_meaning : Shown → Meaning → Meaning
+shown_meaning Lines m = m
+shown_meaning Totals m = as_sample m
 
--- what a kernel item's closed code gives: an entry, or code above the limits
-abbrev pub IsKernelOf : Result KernelEntry Interrupt → Expression → Type 0
-IsKernelOf (Ok e) d = IsSumEntry e × ((mode : Mode) (globals : List Value) → HasCode mode globals d (expression_of e.code))
-IsKernelOf (Err (Bound limit)) d = (limit ≡ KernelSize) × (c : Expression) × (within_limits c ≡ false) × ((mode : Mode) (globals : List Value) → HasCode mode globals d c)
-IsKernelOf (Err (Memory error)) d = Unit {0}
-
--- the lines of a kernel were put after a text
-abbrev pub IsKernelText : List ℕ → KernelType → Expression → List ℕ → List ℕ → Type 0
-IsKernelText x k c before after = after ≡ before ++ kernel_lines Plain (record { name = x; kind = k; code = c })
-
--- the line of a bound was put after a text; want of memory has no line
-abbrev pub IsStopped : Interrupt → List ℕ → List ℕ → List ℕ → Status → Type 0
-IsStopped (Bound l) x before after s = (after ≡ before ++ ending_line (bounded l x)) × (s ≡ status.Bound l)
-IsStopped (Memory error) x before after s = ⊥
-
--- the runs that main's term has at most
-abbrev pub run_count : Expression → ℕ
-run_count (prim p a b) = run_count a + run_count b
-run_count (run k e) = 1
-run_count _ = 0
+-- what a source's run means was written, and the status is what it says
+pub record IsWrittenMeaning (shown : Shown) (bytes : List ℕ) (fuel : ℕ) (result : Result Status WriteFault) (tells : Bool) (before after : List ℕ) : Type 0 where
+  pub meaning : Meaning
+  pub is_meaning : IsMeaning (running bytes fuel Plain) meaning
+  pub is_status : IfOk result (λ s. s ≡ status_of (shown_meaning shown meaning))
+  pub writes : Writes result tells before after (text_of (shown_meaning shown meaning))

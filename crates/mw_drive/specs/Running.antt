@@ -3,35 +3,50 @@ use Rattle.std.specs.Prelude.{◌≡◌, ℕ, List, ◌++◌, drop, Some, IsNone
 use Rattle.mw_outside.specs.declared.named.NamedFile.{NamedFile}
 use Rattle.mw_outside.specs.Count.{GrowsByFront}
 use Rattle.mw_outside.specs.Lookup.{file_of}
-use Rattle.mw_console.specs.Commands.{PureCommand, run, file_read, Means}
+use Rattle.mw_outside.specs.declared.errors.WriteFault.{WriteFault}
+use Rattle.mw_outside.specs.declared.errors.WriteFault.TheVariants as fault
+use Rattle.mw_meaning.specs.declared.mode.Mode.TheVariants.{Plain}
+use Rattle.mw_words.specs.Words.{run, sample, Means}
 use Rattle.mw_console.specs.Reading.{most_read}
 use Rattle.mw_console.specs.declared.status.Status.{Status}
-use Rattle.mw_console.specs.declared.status.Status.TheVariants.{Usage, Read, Write, Cache, Memory, BadCache}
-use Rattle.mw_drive.specs.Works.{Work, running, IsOutput, Reports}
+use Rattle.mw_console.specs.declared.status.Status.TheVariants.{Answer, Trap, Usage, Refused, Bound, Read, Write, Cache, Memory, BadCache}
+use Rattle.mw_drive.specs.Works.{Work, running, sampling, Meaning, IsMeaning, status_of, IsOutput, Reports}
 
--- a command with the bytes of the file that it reads
-abbrev pub work_of : PureCommand → List ℕ → Work
-work_of (run fuel mode file) bytes = running bytes fuel mode
-
--- the words mean a command, and these are the bytes of the file that it reads, which the source tells
-pub record AsksFor (words : List (List ℕ)) (tells : Bool) (told : List NamedFile) (bytes : List ℕ) : Type 0 where
-  pub command : PureCommand
-  pub means : Means words command
+-- the words mean the run of a file with so many units of fuel, and these are its bytes, which the source tells
+pub record AsksFor (words : List (List ℕ)) (tells : Bool) (told : List NamedFile) (fuel : ℕ) (bytes : List ℕ) : Type 0 where
+  pub workers : ℕ
+  pub file : List ℕ
+  pub means : Means words (run workers fuel file)
   pub telling : IsTrue tells
-  pub found : file_of told (file_read command) ≡ Some bytes
+  pub found : file_of told file ≡ Some bytes
 
--- the words and the source ask for this work
-pub record Asks (words : List (List ℕ)) (tells : Bool) (told : List NamedFile) (work : Work) : Type 0 where
-  pub bytes : List ℕ
-  pub asks : AsksFor words tells told bytes
-  pub is_work : work ≡ work_of asks.command bytes
+-- the words and the source ask for this work; a sample needs no source
+pub data Asks (words : List (List ℕ)) (tells : Bool) (told : List NamedFile) : Work → Type 0 where
+  asks_run : {fuel : ℕ} {bytes : List ℕ} → AsksFor words tells told fuel bytes → Asks words tells told (running bytes fuel Plain)
+  asks_sample : {number : ℕ} → Means words (sample number) → Asks words tells told (sampling number)
 
--- the words mean a command, and the source tells that it lacks the file that it reads
+-- the words mean the run of a file that the source tells that it lacks
 pub record AsksMissing (words : List (List ℕ)) (tells : Bool) (told : List NamedFile) : Type 0 where
-  pub command : PureCommand
-  pub means : Means words command
+  pub workers : ℕ
+  pub fuel : ℕ
+  pub file : List ℕ
+  pub means : Means words (run workers fuel file)
   pub telling : IsTrue tells
-  pub missing : IsNone (file_of told (file_read command))
+  pub missing : IsNone (file_of told file)
+
+-- the words mean a sample
+abbrev pub AsksSample : List (List ℕ) → Type 0
+AsksSample words = (number : ℕ) × Means words (sample number)
+
+-- the source tells that it has the file, of these bytes
+pub record IsTellingOf (tells : Bool) (told : List NamedFile) (file bytes : List ℕ) : Type 0 where
+  pub telling : IsTrue tells
+  pub found : file_of told file ≡ Some bytes
+
+-- the source tells that it lacks the file
+pub record IsLacking (tells : Bool) (told : List NamedFile) (file : List ℕ) : Type 0 where
+  pub telling : IsTrue tells
+  pub missing : IsNone (file_of told file)
 
 -- the status is want of memory
 abbrev pub IsMemory : Status → Type 0
@@ -62,3 +77,22 @@ IsReadUp bytes Usage left = Unit {0}
 IsReadUp bytes Read left = Unit {0}
 IsReadUp bytes (Memory error) left = Unit {0}
 IsReadUp bytes status left = left ≡ drop most_read bytes
+
+-- the status is that of a text that was written whole
+abbrev pub IsComplete : Status → Type 0
+IsComplete Answer = Unit {0}
+IsComplete (Trap t) = Unit {0}
+IsComplete (Refused r) = Unit {0}
+IsComplete (Bound l) = Unit {0}
+IsComplete _ = ⊥
+
+-- A work was carried out with this status: what was written is faithful, and a status of a whole text is what the work means.
+pub record IsCarriedOut (work : Work) (s : Status) (tells : Bool) (before after : List ℕ) : Type 0 where
+  pub faithful : IsTrue tells → IsFaithful work s before after
+  pub meaning : IsComplete s → (m : Meaning) × IsMeaning work m × (s ≡ status_of m)
+
+-- the status of what was written, or of why it wasn't
+abbrev pub IsStatusOf : Result Status WriteFault → Status → Type 0
+IsStatusOf (Ok status) s = s ≡ status
+IsStatusOf (Err fault.Failed) s = s ≡ Write
+IsStatusOf (Err (fault.Memory error)) s = s ≡ Memory error

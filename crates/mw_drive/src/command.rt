@@ -3,21 +3,29 @@
 ghost use Rattle.std.specs.Prelude.{◌≡◌, ◌↔◌, ◌≤◌, ◌⊎◌, ◌++◌, ℕ, List, IsTrue, map};
 ghost use Rattle.std.specs.String.{string_bytes};
 ghost use Rattle.mw_outside.specs.Count.{Rose};
-ghost use Rattle.mw_console.specs.Commands.{IsUsage};
+ghost use Rattle.mw_words.specs.Words.{IsUsage};
 ghost use Rattle.mw_console.specs.declared.status.Status.TheVariants.{Usage, Read, Write};
-ghost use Rattle.mw_drive.specs.Works.{Work, Meaning, IsMeaning, IsOutput, HaveModules, status_of};
-ghost use Rattle.mw_drive.specs.Running.{Asks, AsksFor, AsksMissing, IsFaithful, IsReadUp, IsMemory, SpeaksOfCache};
+ghost use Rattle.mw_meaning.specs.declared.mode.Mode.TheVariants.{Plain};
+ghost use Rattle.mw_drive.specs.Works.{Work, running, sampling, Meaning, IsMeaning, IsOutput, HaveModules, status_of};
+ghost use Rattle.mw_drive.specs.Running.{Asks, AsksFor, AsksMissing, AsksSample, IsTellingOf, IsLacking, IsCarriedOut, IsStatusOf, IsFaithful, IsReadUp, IsMemory, SpeaksOfCache};
 
-use crate::report::report_of;
-use mw_console::{SourceFault, Status, command_of, file_bytes, write_lines};
+use crate::shown::Shown;
+use crate::source::write_source;
+use mw_console::{SourceFault, Status, file_bytes};
 use mw_outside::{Gate, Keeper, Sink, Source, WriteFault};
+use mw_sample::sample;
+use mw_words::{Command, read_words};
 use std::alloc::Global;
 use std::marker::Brand;
 use std::sync::ledger::Blank;
 use std::thread::Threads;
 
-/// Carries out the command that the words mean: `run FILE` reads the file from the source, evaluates the program and
-/// writes its output to the sink. The keeper isn't touched.
+/// The units of fuel of a sample.
+const SAMPLE_FUEL: u64 = 1_000_000;
+
+/// Carries out the command that the words mean. `run FILE` reads the file from the source, checks it, evaluates its kernel items
+/// and writes what they came to, and then evaluates main and writes the last line. `sample N` does so with a source that is made
+/// from the number, and writes totals in place of the kernels. The keeper isn't touched.
 pub fn run<R: Threads + Sync, S: Source, K: Sink, C: Keeper, G: Gate>(
     _rt: &R,
     alloc: Global,
@@ -42,7 +50,7 @@ pub fn run<R: Threads + Sync, S: Source, K: Sink, C: Keeper, G: Gate>(
     ensures faults { (work : Work) → Asks (map string_bytes words.now) S.tells (S.told source.old) work → IsTrue K.tells
         → IsFaithful work result (K.written sink.old) (K.written sink.new) }
     // The source is read to its end, or to one byte more than the longest source has.
-    ensures left { (bytes : List ℕ) → AsksFor (map string_bytes words.now) S.tells (S.told source.old) bytes
+    ensures left { (fuel : ℕ) (bytes : List ℕ) → AsksFor (map string_bytes words.now) S.tells (S.told source.old) fuel bytes
         → IsReadUp bytes result (S.left source.new) }
     ensures usage { (result ≡ Usage) ↔ IsUsage (map string_bytes words.now) }
     ensures read { result ≡ Read
@@ -52,26 +60,82 @@ pub fn run<R: Threads + Sync, S: Source, K: Sink, C: Keeper, G: Gate>(
     ensures nothing { (result ≡ Usage) ⊎ (result ≡ Read) → IsTrue K.tells → K.written sink.new ≡ K.written sink.old }
     ensures nothing_missing { AsksMissing (map string_bytes words.now) S.tells (S.told source.old) → IsTrue K.tells
         → K.written sink.new ≡ K.written sink.old }
-    ensures unread { result ≡ Usage → source.new ≡ source.old }
+    ensures unread { (result ≡ Usage) ⊎ AsksSample (map string_bytes words.now) → source.new ≡ source.old }
     ensures no_cache { ¬ SpeaksOfCache result }
     ensures keeper { _keeper.new ≡ _keeper.old }
     ensures source_count { S.faults source.old ≤ S.faults source.new }
     ensures sink_count { K.faults sink.old ≤ K.faults sink.new }
 {
-    let Some(command) = command_of(words) else {
-        return Status::Usage;
-    };
-    let bytes = match file_bytes(alloc, source, command.file()) {
+    match read_words(words) {
+        Ok(Command::Run { fuel, file, .. }) => run_file(alloc, source, sink, file, fuel),
+        Ok(Command::Sample { number }) => run_sample(alloc, sink, number),
+        Err(_) => Status::Usage,
+    }
+}
+
+/// Runs the source of a file, with so many units for each evaluation.
+fn run_file<S: Source, K: Sink>(
+    alloc: Global,
+    source: &mut S,
+    sink: &mut K,
+    file: &str,
+    fuel: u64,
+) -> Status
+    ensures work { (bytes : List ℕ) → IsTellingOf S.tells (S.told source.old) file.now bytes
+        → IsCarriedOut (running bytes fuel Plain) result K.tells (K.written sink.old) (K.written sink.new) }
+    ensures left { (bytes : List ℕ) → IsTellingOf S.tells (S.told source.old) file.now bytes → IsReadUp bytes result (S.left source.new) }
+    ensures read { result ≡ Read → Rose (S.faults source.old) (S.faults source.new) ⊎ IsLacking S.tells (S.told source.old) file.now }
+    ensures missing { IsLacking S.tells (S.told source.old) file.now → (result ≡ Read) ⊎ IsMemory result }
+    ensures nothing { (result ≡ Read) ⊎ IsLacking S.tells (S.told source.old) file.now → IsTrue K.tells → K.written sink.new ≡ K.written sink.old }
+    ensures write { result ≡ Write → Rose (K.faults sink.old) (K.faults sink.new) }
+    ensures others { ¬ SpeaksOfCache result × ¬ (result ≡ Usage) }
+    ensures source_count { S.faults source.old ≤ S.faults source.new }
+    ensures sink_count { K.faults sink.old ≤ K.faults sink.new }
+{
+    let bytes = match file_bytes(alloc, source, file) {
         Ok(bytes) => bytes,
         Err(SourceFault::Failed) => return Status::Read,
         Err(SourceFault::Memory(error)) => return Status::Memory(error),
     };
-    let report = match report_of::<Brand>(alloc, bytes.as_slice(), command.fuel(), Blank::new(1)) {
-        Ok(report) => report,
+    status_of(write_source::<K, Brand>(
+        alloc,
+        bytes.as_slice(),
+        fuel,
+        Shown::Lines,
+        sink,
+        Blank::new(1),
+    ))
+}
+
+/// Runs the source that is made from a number, and writes its totals.
+fn run_sample<K: Sink>(alloc: Global, sink: &mut K, number: u32) -> Status
+    requires some { 1 ≤ number }
+    requires within_limit { number ≤ 100 }
+    ensures work { IsCarriedOut (sampling number) result K.tells (K.written sink.old) (K.written sink.new) }
+    ensures write { result ≡ Write → Rose (K.faults sink.old) (K.faults sink.new) }
+    ensures others { ¬ SpeaksOfCache result × ¬ (result ≡ Usage) × ¬ (result ≡ Read) }
+    ensures sink_count { K.faults sink.old ≤ K.faults sink.new }
+{
+    let bytes = match sample(alloc, number) {
+        Ok(bytes) => bytes,
         Err(error) => return Status::Memory(error),
     };
-    match write_lines(sink, report.text.as_slice()) {
-        Ok(()) => report.status,
+    status_of(write_source::<K, Brand>(
+        alloc,
+        bytes.as_slice(),
+        SAMPLE_FUEL,
+        Shown::Totals,
+        sink,
+        Blank::new(1),
+    ))
+}
+
+/// The status of a run that was written, or why it wasn't.
+fn status_of(written: Result<Status, WriteFault>) -> Status
+    ensures { IsStatusOf written result }
+{
+    match written {
+        Ok(status) => status,
         Err(WriteFault::Failed) => Status::Write,
         Err(WriteFault::Memory(error)) => Status::Memory(error),
     }

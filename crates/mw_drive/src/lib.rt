@@ -2,12 +2,14 @@
 #![tactic(auto)]
 
 mod command;
-mod evaluate;
-mod forms;
-mod kernels;
+mod ending;
+mod items;
 pub mod laws;
+mod main_end;
+mod program;
 mod reading;
-mod report;
+mod shown;
+mod source;
 
 pub use crate::command::run;
 pub use mw_console::Status;

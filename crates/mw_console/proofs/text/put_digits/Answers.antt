@@ -1,10 +1,9 @@
-use Rattle.std.proofs.Common.{◌∙◌, ap, ◌++◌}
 use Rattle.std.specs.Prelude.{codes}
 use Rattle.hex.specs.Hex.{encode_lower}
 use Rattle.mw_console.proofs.TextLemmas.{on_ok, three_put}
 use Rattle.mw_console.proofs.text.put_digits.Goals as goal
 
 pub returns : goal.returns
-returns c = on_ok c.put-3.result (λ _ w. three_put c.args.text.now.items c.put.new.text.items c.put-2.new.text.items c.put-3.new.text.items
+returns c = on_ok c.put-2.result (λ _ w. three_put c.args.text.now.items c.put.new.text.items c.put_hex.new.text.items c.put-2.new.text.items
     c.args.word.now (encode_lower c.args.bytes.now) (codes "\n")
-    c.in_ok-put.ensures (c.in_ok-put-2.ensures ∙ ap (λ x. c.put.new.text.items ++ x) (c.as_bytes.ensures.value ∙ c.in_ok-digits.ensures)) w) c.put-3.ensures
+    c.in_ok-put.ensures c.in_ok-put_hex.ensures w) c.put-2.ensures

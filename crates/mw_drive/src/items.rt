@@ -1,0 +1,132 @@
+// The kernel items of a program, one after the other.
+
+ghost use Rattle.std.specs.Prelude.{◌≡◌, IfOk, option_map, Some, slice_get};
+ghost use Rattle.std.specs.List.{AllByRecursion};
+ghost use Rattle.mw_term.specs.Programs.{program_of};
+ghost use Rattle.mw_term.specs.declared.program.Item.{Item as PureItem};
+ghost use Rattle.mw_term.specs.SmallTypes.{HasSmallTypes};
+ghost use Rattle.mw_term.specs.Typable.{Typable};
+ghost use Rattle.mw_infer.specs.Checking.{HasSmallKernels};
+ghost use Rattle.mw_drive.specs.NamedPrograms.{item_of, named_program_of};
+ghost use Rattle.mw_drive.specs.ProgramRuns.{ending_of, kernels_of, IsBuilt, IsEndOf, IsItemsRun, AreItemsRun};
+
+use crate::ending::End;
+use mw_compile::Entry;
+use mw_emitting::EmittingKernels;
+use mw_machine::KernelFault;
+use mw_tasks::{ItemOutcome, evaluate_item};
+use mw_term::{Item, ItemKind, KType, Program, Term};
+use std::alloc::{AllocError, Global};
+use std::sync::ledger::Ledger;
+
+/// A kernel item that gave code: its name and its type, the code, and what that was emitted as.
+#[derive(Drop)]
+pub struct Built<'p> {
+    pub name: &'p [u8],
+    pub kind: &'p KType,
+    pub code: Term,
+    pub entry: Entry,
+}
+
+/// What an item comes to: nothing where it is a let, and else its code, or the program's end.
+#[derive(Drop)]
+pub enum ItemEnd<'p> {
+    Let,
+    Code(Built<'p>),
+    Ended(End<'p>),
+}
+
+/// The kernel items that gave code, up to the first that gave none, and how that one ended the program.
+#[derive(Drop)]
+pub struct ItemsEnd<'p> {
+    pub kernels: Vec<Built<'p>>,
+    pub end: Option<End<'p>>,
+}
+
+/// Evaluates the kernel items in order, each with so many units, up to the first that gives no code.
+pub fn evaluate_items<'p, L: Ledger>(
+    alloc: Global,
+    program: &'p Program,
+    fuel: u64,
+    kernels: &mut EmittingKernels<L>,
+) -> Result<ItemsEnd<'p>, AllocError>
+    requires typable { Typable (program_of program.now) }
+    requires small { HasSmallTypes (program_of program.now) }
+    requires kernels { HasSmallKernels (program_of program.now) }
+    ensures run { IfOk result (λ items. IsItemsRun fuel (named_program_of program.now) (kernels_of items.kernels.items) (option_map ending_of items.end)) }
+    ensures built { IfOk result (λ items. AllByRecursion IsBuilt items.kernels.items) }
+{
+    let mut built = Vec::new(alloc);
+    for at in 0..program.items.len() {
+        match item_end(alloc, program, program.items.get(at), fuel, kernels)? {
+            ItemEnd::Let => {}
+            ItemEnd::Code(kernel) => built.push(kernel)?,
+            ItemEnd::Ended(end) => {
+                return Ok(ItemsEnd {
+                    kernels: built,
+                    end: Some(end),
+                });
+            }
+        }
+    }
+    Ok(ItemsEnd {
+        kernels: built,
+        end: None,
+    })
+}
+
+/// What an item of the program comes to.
+fn item_end<'p, L: Ledger>(
+    alloc: Global,
+    program: &Program,
+    item: &'p Item,
+    fuel: u64,
+    kernels: &mut EmittingKernels<L>,
+) -> Result<ItemEnd<'p>, AllocError>
+    requires typable { Typable (program_of program.now) }
+    requires small { HasSmallTypes (program_of program.now) }
+    requires kernels { HasSmallKernels (program_of program.now) }
+    requires item { (i : ℕ) × (slice_get program.now.items i ≡ Some item.now) }
+    ensures { IfOk result (λ end. IsEndOf (program_of program.now).items fuel (item_of item.now) end) }
+{
+    match &item.kind {
+        ItemKind::Value(_) => Ok(ItemEnd::Let),
+        ItemKind::Kernel(kind, term) => {
+            let name = item.name.as_slice();
+            match kernel_outcome(alloc, program, term, fuel, kernels)? {
+                ItemOutcome::Code(code) => {
+                    let entry = kernels.emit(&code, kind)?;
+                    Ok(ItemEnd::Code(Built {
+                        name,
+                        kind,
+                        code,
+                        entry,
+                    }))
+                }
+                ItemOutcome::Trap(trap) => Ok(ItemEnd::Ended(End::Trapped(trap, name))),
+                ItemOutcome::Bound(limit) => Ok(ItemEnd::Ended(End::Bounded(limit, name))),
+            }
+        }
+    }
+}
+
+/// The outcome of a kernel item's term. What was kept before is forgotten.
+fn kernel_outcome<L: Ledger>(
+    alloc: Global,
+    program: &Program,
+    term: &Term,
+    fuel: u64,
+    kernels: &mut EmittingKernels<L>,
+) -> Result<ItemOutcome, AllocError>
+    requires typable { Typable (program_of program.now) }
+    requires small { HasSmallTypes (program_of program.now) }
+    requires item { IsKernelOf (program_of program.now) (expression_of term.now) }
+    ensures { IfOk result (λ o. IsItemOutcome (Ok o) (item_outcome Plain (names_of_items (program_of program.now).items) fuel (expression_of term.now))) }
+{
+    kernels.forget();
+    match evaluate_item(alloc, program, term, fuel, kernels) {
+        Ok(outcome) => Ok(outcome),
+        Err(KernelFault::Memory(error)) => Err(error),
+        Err(KernelFault::Bad(_)) => unreachable!(),
+    }
+}

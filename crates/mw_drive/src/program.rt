@@ -1,0 +1,65 @@
+// The run of a program.
+
+ghost use Rattle.std.specs.Prelude.{◌≡◌, ◌≤◌, ◌<◌, ◌^◌, map, length, IfOk};
+ghost use Rattle.mw_term.specs.Terms.{expression_of};
+ghost use Rattle.mw_term.specs.Programs.{program_of};
+ghost use Rattle.mw_term.specs.SmallTypes.{HasSmallTypes};
+ghost use Rattle.mw_term.specs.Typable.{Typable};
+ghost use Rattle.mw_infer.specs.Checking.{HasSmallKernels};
+ghost use Rattle.mw_drive.specs.NamedPrograms.{named_program_of};
+ghost use Rattle.mw_drive.specs.ProgramRuns.{kernels_of, codes_of, IsWrittenRun};
+ghost use Rattle.mw_drive.specs.Written.{Blames};
+
+use crate::ending::write_end;
+use crate::items::{Built, evaluate_items};
+use crate::main_end::main_end;
+use crate::shown::{Shown, write_kernels};
+use mw_console::Status;
+use mw_emitting::EmittingKernels;
+use mw_outside::{Sink, WriteFault};
+use mw_term::{Program, Term};
+use std::alloc::{AllocError, Global};
+use std::sync::ledger::{Blank, Ledger};
+
+/// Runs an accepted program with so many units for each item and for main, and writes what it comes to: what is shown of the
+/// kernels once all items were evaluated, and its last line.
+pub fn write_run<K: Sink, L: Ledger>(
+    alloc: Global,
+    program: Program,
+    fuel: u64,
+    shown: Shown,
+    sink: &mut K,
+    blank: Blank,
+) -> Result<Status, WriteFault>
+    requires name { blank.name ≡ L.name }
+    requires parts { blank.parts ≡ L.parts }
+    requires some { 0 < L.parts }
+    requires typable { Typable (program_of program) }
+    requires small { HasSmallTypes (program_of program) }
+    requires kernels { HasSmallKernels (program_of program) }
+    requires few { length program.items < 2 ^ 32 }
+    ensures run { IsWrittenRun shown fuel (named_program_of program) result K.tells (K.written sink.old) (K.written sink.new) }
+    ensures blames { Blames result (K.faults sink.old) (K.faults sink.new) }
+    ensures count { K.faults sink.old ≤ K.faults sink.new }
+{
+    let mut kernels = EmittingKernels::<L>::new(alloc, blank);
+    let items = evaluate_items(alloc, &program, fuel, &mut kernels)?;
+    write_kernels(alloc, sink, shown, items.kernels.as_slice())?;
+    if let Some(end) = &items.end {
+        return write_end(alloc, sink, end);
+    }
+    let codes = codes(alloc, items.kernels)?;
+    let end = main_end(alloc, program, codes, fuel, &mut kernels)?;
+    write_end(alloc, sink, &end)
+}
+
+/// The codes of the kernels, in order.
+fn codes(alloc: Global, kernels: Vec<Built<'_>>) -> Result<Vec<Term>, AllocError>
+    ensures { IfOk result (λ codes. map expression_of codes.items ≡ codes_of (kernels_of kernels.items)) }
+{
+    let mut codes = Vec::new(alloc);
+    for kernel in kernels {
+        codes.push(kernel.code)?;
+    }
+    Ok(codes)
+}

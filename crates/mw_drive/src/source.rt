@@ -1,0 +1,67 @@
+// The run of a source.
+
+ghost use Rattle.std.specs.Prelude.{◌≡◌, ◌≤◌, ◌<◌, map, IfOk};
+ghost use Rattle.mw_term.specs.declared.program.Item.{Item as PureItem};
+ghost use Rattle.mw_console.specs.Texts.{refusal_line};
+ghost use Rattle.mw_console.specs.declared.status.Status.TheVariants.{Refused};
+ghost use Rattle.mw_drive.specs.ProgramRuns.{IsWrittenMeaning};
+ghost use Rattle.mw_drive.specs.Written.{Writes, Blames};
+
+use crate::program::write_run;
+use crate::reading::read;
+use crate::shown::Shown;
+use mw_console::{Status, put_refusal, write_lines};
+use mw_infer::check;
+use mw_outside::{Sink, WriteFault};
+use mw_term::{Item, Refusal, Stop};
+use std::alloc::Global;
+use std::sync::ledger::{Blank, Ledger};
+
+/// Reads and checks a source, runs its program with so many units for each item and for main, and writes what it means.
+pub fn write_source<K: Sink, L: Ledger>(
+    alloc: Global,
+    bytes: &[u8],
+    fuel: u64,
+    shown: Shown,
+    sink: &mut K,
+    blank: Blank,
+) -> Result<Status, WriteFault>
+    requires name { blank.name ≡ L.name }
+    requires parts { blank.parts ≡ L.parts }
+    requires some { 0 < L.parts }
+    ensures meaning { IsWrittenMeaning shown bytes.now fuel result K.tells (K.written sink.old) (K.written sink.new) }
+    ensures blames { Blames result (K.faults sink.old) (K.faults sink.new) }
+    ensures count { K.faults sink.old ≤ K.faults sink.new }
+{
+    let program = match read(alloc, bytes) {
+        Ok(program) => program,
+        Err(Stop::Refused(refusal)) => return write_refusal(alloc, sink, refusal, &[]),
+        Err(Stop::Memory(error)) => return Err(WriteFault::Memory(error)),
+    };
+    match check(alloc, &program) {
+        Ok(_) => {}
+        Err(Stop::Refused(refusal)) => {
+            return write_refusal(alloc, sink, refusal, program.items.as_slice());
+        }
+        Err(Stop::Memory(error)) => return Err(WriteFault::Memory(error)),
+    }
+    write_run::<K, L>(alloc, program, fuel, shown, sink, blank)
+}
+
+/// Writes the line of a refusal, with the items of the program where that was read.
+fn write_refusal<K: Sink>(
+    alloc: Global,
+    sink: &mut K,
+    refusal: Refusal,
+    items: &[Item],
+) -> Result<Status, WriteFault>
+    ensures status { IfOk result (λ status. status ≡ Refused refusal) }
+    ensures writes { Writes result K.tells (K.written sink.old) (K.written sink.new) (refusal_line (map (λ (i : PureItem). i.name) items.now) refusal) }
+    ensures blames { Blames result (K.faults sink.old) (K.faults sink.new) }
+    ensures count { K.faults sink.old ≤ K.faults sink.new }
+{
+    let mut text = Vec::new(alloc);
+    put_refusal(alloc, &mut text, refusal, items)?;
+    write_lines(sink, text.as_slice())?;
+    Ok(Status::Refused(refusal))
+}
