@@ -1,6 +1,7 @@
 pub mod Formed
 pub mod Shifting
 pub mod Sound
+pub mod SmallRuns
 pub mod Within
 pub mod Extending
 pub mod Complete

@@ -21,13 +21,13 @@ pub AreFresh-parts : (a : Assignment) (xs ys : List Close) → AreFresh a (xs ++
 AreFresh-parts a [] ys h = (tt, h)
 AreFresh-parts a (x ∷ xs) ys h = let r = AreFresh-parts a xs ys h.1 in ((h.0, r.0), r.1)
 
-Solves-three : (a : Assignment) (es fs gs : List TypeEquation) → Solves a ((es ++ fs) ++ gs) → Solves a es × Solves a fs × Solves a gs
+pub Solves-three : (a : Assignment) (es fs gs : List TypeEquation) → Solves a ((es ++ fs) ++ gs) → Solves a es × Solves a fs × Solves a gs
 Solves-three a es fs gs h = let p = Solves-parts a (es ++ fs) gs h in let q = Solves-parts a es fs p.0 in (q.0, q.1, p.1)
 
 AreFresh-three : (a : Assignment) (xs ys zs : List Close) → AreFresh a ((xs ++ ys) ++ zs) → AreFresh a xs × AreFresh a ys × AreFresh a zs
 AreFresh-three a xs ys zs h = let p = AreFresh-parts a (xs ++ ys) zs h in let q = AreFresh-parts a xs ys p.0 in (q.0, q.1, p.1)
 
-no_wrong : {X : Type 0} (a : Assignment) → Solves a wrong → X
+pub no_wrong : {X : Type 0} (a : Assignment) → Solves a wrong → X
 no_wrong a h = absurd (let e = h.0 in cc)
 
 -- each instance of a scheme, made a type of the language, is a type of the definition

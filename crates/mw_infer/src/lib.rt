@@ -5,6 +5,7 @@
 
 ghost use Rattle.std.specs.Prelude.{map, IfErr, IfOk};
 ghost use Rattle.mw_term.specs.Programs.{program_of};
+ghost use Rattle.mw_term.specs.SmallTypes.{HasSmallTypes};
 ghost use Rattle.mw_term.specs.Stops.{AnswersOrMemory, IfRefused, IsRefusalOrMemory};
 ghost use Rattle.mw_term.specs.Typable.{Typable};
 ghost use Rattle.mw_term.specs.declared.refusal.Refusal.{Refusal};
@@ -35,6 +36,7 @@ pub fn check(alloc: Global, program: &Program) -> Result<Typed, Stop>
     requires { IsResolved (program_of program.now) }
     ensures typable { IfOk result (λ _. Typable (program_of program.now)) }
     ensures small { IfOk result (λ _. NoneTooBig (program_of program.now)) }
+    ensures runs { IfOk result (λ _. HasSmallTypes (program_of program.now)) }
     ensures types { IfOk result (λ typed. AreTypesOf (program_of program.now) (map type_of typed)) }
     ensures only { Typable (program_of program.now) → NoneTooBig (program_of program.now) → AnswersOrMemory (λ typed. Unit {0}) result }
     ensures refused { IfErr result (IfRefused (IsFirstRefusal (program_of program.now))) }

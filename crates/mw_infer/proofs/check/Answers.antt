@@ -5,6 +5,7 @@ use Rattle.mw_infer.specs.Views.{tops_of}
 use Rattle.mw_infer.proofs.Answer.{typable-answer, first-answer}
 use Rattle.mw_infer.proofs.Progressing.{resolved-written}
 use Rattle.mw_infer.proofs.Refusals.{faultless-typable, faultless-none_too_big, faultless-refused}
+use Rattle.mw_infer.proofs.SmallRuns.{faultless-small_types}
 use Rattle.mw_infer.proofs.Stepping.{types-of}
 use Rattle.mw_infer.proofs.check.Goals as goal
 
@@ -13,6 +14,9 @@ returns-in_ok-types-in-Ok-clause-typable c = let p = program_of c.args.program.n
 
 pub returns-in_ok-types-in-Ok-clause-small : goal.returns-in_ok-types-in-Ok-clause-small
 returns-in_ok-types-in-Ok-clause-small c = let p = program_of c.args.program.now in faultless-none_too_big p (resolved-written p c.requires) c.in-Ok.ensures.faultless
+
+pub returns-in_ok-types-in-Ok-clause-runs : goal.returns-in_ok-types-in-Ok-clause-runs
+returns-in_ok-types-in-Ok-clause-runs c = faultless-small_types (program_of c.args.program.now) c.in-Ok.ensures.faultless
 
 pub returns-in_ok-types-in-Ok-clause-types : goal.returns-in_ok-types-in-Ok-clause-types
 returns-in_ok-types-in-Ok-clause-types c = rw (c.in_ok-types-in-Ok.ensures, c.as_slice.ensures.value) (types-of (program_of c.args.program.now) (tops_of c.in-Ok.names.items) c.in-Ok.ensures.faultless c.in-Ok.ensures.principal)
