@@ -15,13 +15,13 @@ use Rattle.mw_infer.specs.Schemes.{TopScheme, let_scheme, scheme_out_of_scope}
 use Rattle.mw_infer.specs.Sources.{IsSource}
 use Rattle.mw_infer.specs.ItemEquations.{Close}
 use Rattle.mw_infer.specs.Inferring.{item_unknowns, item_classifiers, item_closes, Place, main_place, item_equations, entry_of, AreFresh, least}
-use Rattle.mw_infer.specs.Checking.{Part, part_of_item, part_of_main, IsPart, an_item, main, ArePrincipal, IsFirstOpen, TypeFault, not_closed, HasFault, unsolvable, oversized, unclosed, IsFaultless, refusal_of, IsFirstRefusal, NoneTooBig, IsWritten}
+use Rattle.mw_infer.specs.Checking.{Part, part_of_item, part_of_main, IsPart, an_item, main, ArePrincipal, IsFirstOpen, TypeFault, not_closed, HasFault, unsolvable, oversized, unclosed, IsFaultless, refusal_of, IsFirstRefusal, AreFaultless, NoneTooBig, IsWritten}
 use Rattle.mw_infer.specs.Progress.{Progress}
 use Rattle.mw_infer.proofs.Growing.{principal-let, principal-kernel, principal-main, principal-own, revealed}
 use Rattle.mw_infer.proofs.Items.{item-within, fresh-typable, most_general-scheme_within}
 use Rattle.mw_infer.proofs.Ordering.{in_order, Within-reach}
 use Rattle.mw_infer.proofs.Progressing.{modest-let, modest-none}
-use Rattle.mw_infer.proofs.Refusals.{faultless-typable, faultless-none_too_big}
+use Rattle.mw_infer.proofs.Refusals.{faultless-typable, faultless-none_too_big, typable-refused}
 use Rattle.mw_infer.proofs.SameInstances.{IsSchemeOf-renumbered}
 use Rattle.mw_infer.proofs.Stepping.{earlier-next, progress-first, item-refused, main-refused, all-faultless}
 
@@ -146,15 +146,29 @@ module _ (p : PureProgram) (written : IsWritten p) where
       go (inr r) = inr r
       go (inl h) = let d = item-at p.items n (omega arith) in item-judged n d.0 h.0 d.1 h.1
 
-  main-next : (schemes : List TopScheme) → Progress p (length p.items) schemes → AcceptedOrFaulty (revealed p.items schemes) (main_place p.result) p.body → (Typable p × NoneTooBig p) ⊎ Refused
+  main-next : (schemes : List TopScheme) → Progress p (length p.items) schemes → AcceptedOrFaulty (revealed p.items schemes) (main_place p.result) p.body → AreFaultless p ⊎ Refused
   main-next schemes h (inl j) =
-      let f = all-faultless p schemes h (accepted-faultless (part_of_main p) (revealed p.items schemes) (principal-main p.items schemes h.principal) (written.sources (length p.items) _ (main refl)) j) in
-      inl (faultless-typable p written f, faultless-none_too_big p written f)
+      inl (all-faultless p schemes h (accepted-faultless (part_of_main p) (revealed p.items schemes) (principal-main p.items schemes h.principal) (written.sources (length p.items) _ (main refl)) j))
   main-next schemes h (inr f) = inr (refusal_of (length p.items) f.0, main-refused p schemes (refusal_of (length p.items) f.0) h (f.0, f.1, refl))
 
-  all-checked : ((schemes : List TopScheme) × Progress p (length p.items) schemes) ⊎ Refused → (Typable p × NoneTooBig p) ⊎ Refused
+  all-checked : ((schemes : List TopScheme) × Progress p (length p.items) schemes) ⊎ Refused → AreFaultless p ⊎ Refused
   all-checked (inr r) = inr r
   all-checked (inl h) = main-next h.0 h.1 (accepted_or_faulty (revealed p.items h.0) (main_place p.result) p.body (seen_by_main p.items) (principal-main p.items h.0 h.1.principal))
 
+  faultless_or_refused : AreFaultless p ⊎ Refused
+  faultless_or_refused = all-checked (checked_to (length p.items) (omega arith))
+
   pub checked_or_refused : (Typable p × NoneTooBig p) ⊎ Refused
-  checked_or_refused = all-checked (checked_to (length p.items) (omega arith))
+  checked_or_refused = typable_if faultless_or_refused
+    where
+      typable_if : AreFaultless p ⊎ Refused → (Typable p × NoneTooBig p) ⊎ Refused
+      typable_if (inl f) = inl (faultless-typable p written f, faultless-none_too_big p written f)
+      typable_if (inr r) = inr r
+
+  -- a typable program without a type that is too big has no fault
+  pub typable_faultless : Typable p → NoneTooBig p → AreFaultless p
+  typable_faultless t n = faultless_if faultless_or_refused
+    where
+      faultless_if : AreFaultless p ⊎ Refused → AreFaultless p
+      faultless_if (inl f) = f
+      faultless_if (inr r) = absurd (typable-refused p written r.0 t n r.1)

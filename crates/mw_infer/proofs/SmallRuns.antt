@@ -7,13 +7,15 @@ use Rattle.mw_term.specs.Terms.{num, truth, var, glob, fun, fix, app, bind, cond
 use Rattle.mw_term.specs.Types.{Level, live, under, closed_type, ground_type, kernel_type}
 use Rattle.mw_term.specs.Limits.{ground_nodes, kernel_nodes}
 use Rattle.mw_term.specs.Programs.{Definition, value as defines, kernel, PureProgram}
+use Rattle.mw_term.specs.Typing.{TopLevel}
+use Rattle.mw_term.specs.Typable.{seen_by_item}
 use Rattle.mw_term.specs.SmallTypes.{HasSmallRuns, HasSmallDefinition, HasSmallTypes}
 use Rattle.mw_types.specs.Types.{TypeExpression, int_ty, bool_ty, unknown, pair_ty, function_ty, code_ty, closed_ty, value, nodes, size, Substitution, after}
 use Rattle.mw_types.specs.Equations.{Solves, IsSmall}
 use Rattle.mw_infer.specs.Schemes.{TopScheme, kernel_expression}
 use Rattle.mw_infer.specs.ItemEquations.{Slot, slot, unknowns_of, classifiers_of, equations}
-use Rattle.mw_infer.specs.Inferring.{own_equations, least}
-use Rattle.mw_infer.specs.Checking.{Part, part_of_main, an_item, main, IsFaultless, AreFaultless}
+use Rattle.mw_infer.specs.Inferring.{kernel_place, own_equations, least}
+use Rattle.mw_infer.specs.Checking.{Part, part_of_item, part_of_main, an_item, main, IsFaultless, AreFaultless, HasSmallKernels}
 use Rattle.mw_infer.proofs.Shifting.{value-kernel_expression}
 use Rattle.mw_infer.proofs.Sound.{Solves-parts, Solves-three, no_wrong}
 
@@ -105,6 +107,13 @@ faultless-small_runs x h =
     let solved = (Solves-parts (after least s) (own_equations x.place) (equations h.schemes 0 1 0 [] live x.term) (h.fine.1.sound least)).1 in
     small-runs h.schemes _ s h.fine.2 0 1 0 [] live x.term (omega arith) solved
 
+-- and whose place asks closed code of a kernel type
+faultless-small_kernel : (names : List TopLevel) (k : KernelType) (e : Expression) → IsFaultless (part_of_item names (kernel k e)) → kernel_nodes k ≤ 10000
+faultless-small_kernel names k e h =
+    let s = h.fine.0 in
+    let solved = (Solves-parts (after least s) (own_equations (kernel_place k)) (equations h.schemes 0 1 0 [] live e) (h.fine.1.sound least)).0 in
+    small-run h.schemes _ s h.fine.2 0 k (h.fine.2 0 (omega arith)) solved.0
+
 module _ (p : PureProgram) (h : AreFaultless p) where
   small-definition : (i : ℕ) (d : Definition) → slice_get p.items i ≡ Some d → HasSmallDefinition d
   small-definition i (defines e) a = faultless-small_runs _ (h i _ (an_item a))
@@ -112,3 +121,6 @@ module _ (p : PureProgram) (h : AreFaultless p) where
 
   pub faultless-small_types : HasSmallTypes p
   faultless-small_types = record { items = small-definition; body = faultless-small_runs (part_of_main p) (h (length p.items) (part_of_main p) (main refl)) }
+
+  pub faultless-small_kernels : HasSmallKernels p
+  faultless-small_kernels i k e a = faultless-small_kernel (seen_by_item p.items i) k e (h i _ (an_item a))

@@ -1,6 +1,7 @@
 -- Which programs have types that are not too big, and the first fault of one that has not.
-use Rattle.std.specs.Prelude.{ℕ, ◌≡◌, ◌+◌, ◌<◌, ◌^◌, ◌↔◌, false, List, [], ◌∷◌, ◌++◌, map, take, length, Some, slice_get}
-use Rattle.mw_term.specs.Terms.{Expression, size}
+use Rattle.std.specs.Prelude.{ℕ, ◌≡◌, ◌+◌, ◌<◌, ◌≤◌, ◌^◌, ◌↔◌, false, List, [], ◌∷◌, ◌++◌, map, take, length, Some, slice_get}
+use Rattle.mw_term.specs.Terms.{Expression, KernelType, size}
+use Rattle.mw_term.specs.Limits.{kernel_nodes}
 use Rattle.mw_term.specs.Programs.{Definition, value, kernel, PureProgram, IsSyntacticValue}
 use Rattle.mw_term.specs.Types.{TermType, live, IsAbsent}
 use Rattle.mw_term.specs.Typing.{TopLevel, Typed}
@@ -98,6 +99,10 @@ AreFaultless p = (i : ℕ) (x : Part) → IsPart p i x → IsFaultless x
 -- no front of a part's equations is too big
 abbrev pub NoneTooBig : PureProgram → Type 0
 NoneTooBig p = (i : ℕ) (x : Part) (schemes : List TopScheme) (k : ℕ) → IsPart p i x → ArePrincipal x.names schemes → TooBig (item_unknowns schemes x.term) (item_classifiers schemes x.term) (take k (item_equations schemes x.place x.term)) → ⊥
+
+-- each kernel item's type has at most 10,000 nodes
+abbrev pub HasSmallKernels : PureProgram → Type 0
+HasSmallKernels p = (i : ℕ) (k : KernelType) (e : Expression) → slice_get p.items i ≡ Some (kernel k e) → kernel_nodes k ≤ 10000
 
 -- a program as it comes from a source: its lets are syntactic values, and no value was put into its terms
 pub record IsWritten (p : PureProgram) : Type 0 where

@@ -10,7 +10,7 @@ ghost use Rattle.mw_term.specs.Stops.{AnswersOrMemory, IfRefused, IsRefusalOrMem
 ghost use Rattle.mw_term.specs.Typable.{Typable};
 ghost use Rattle.mw_term.specs.declared.refusal.Refusal.{Refusal};
 ghost use Rattle.mw_types.specs.Types.{type_of};
-ghost use Rattle.mw_infer.specs.Checking.{AreTypesOf, IsFirstRefusal, IsResolved, NoneTooBig};
+ghost use Rattle.mw_infer.specs.Checking.{AreTypesOf, IsFirstRefusal, IsResolved, NoneTooBig, HasSmallKernels};
 
 mod build;
 mod emit;
@@ -37,6 +37,7 @@ pub fn check(alloc: Global, program: &Program) -> Result<Typed, Stop>
     ensures typable { IfOk result (λ _. Typable (program_of program.now)) }
     ensures small { IfOk result (λ _. NoneTooBig (program_of program.now)) }
     ensures runs { IfOk result (λ _. HasSmallTypes (program_of program.now)) }
+    ensures kernels { IfOk result (λ _. HasSmallKernels (program_of program.now)) }
     ensures types { IfOk result (λ typed. AreTypesOf (program_of program.now) (map type_of typed)) }
     ensures only { Typable (program_of program.now) → NoneTooBig (program_of program.now) → AnswersOrMemory (λ typed. Unit {0}) result }
     ensures refused { IfErr result (IfRefused (IsFirstRefusal (program_of program.now))) }

@@ -5,7 +5,7 @@ use Rattle.mw_infer.specs.Views.{tops_of}
 use Rattle.mw_infer.proofs.Answer.{typable-answer, first-answer}
 use Rattle.mw_infer.proofs.Progressing.{resolved-written}
 use Rattle.mw_infer.proofs.Refusals.{faultless-typable, faultless-none_too_big, faultless-refused}
-use Rattle.mw_infer.proofs.SmallRuns.{faultless-small_types}
+use Rattle.mw_infer.proofs.SmallRuns.{faultless-small_types, faultless-small_kernels}
 use Rattle.mw_infer.proofs.Stepping.{types-of}
 use Rattle.mw_infer.proofs.check.Goals as goal
 
@@ -17,6 +17,9 @@ returns-in_ok-types-in-Ok-clause-small c = let p = program_of c.args.program.now
 
 pub returns-in_ok-types-in-Ok-clause-runs : goal.returns-in_ok-types-in-Ok-clause-runs
 returns-in_ok-types-in-Ok-clause-runs c = faultless-small_types (program_of c.args.program.now) c.in-Ok.ensures.faultless
+
+pub returns-in_ok-types-in-Ok-clause-kernels : goal.returns-in_ok-types-in-Ok-clause-kernels
+returns-in_ok-types-in-Ok-clause-kernels c = faultless-small_kernels (program_of c.args.program.now) c.in-Ok.ensures.faultless
 
 pub returns-in_ok-types-in-Ok-clause-types : goal.returns-in_ok-types-in-Ok-clause-types
 returns-in_ok-types-in-Ok-clause-types c = rw (c.in_ok-types-in-Ok.ensures, c.as_slice.ensures.value) (types-of (program_of c.args.program.now) (tops_of c.in-Ok.names.items) c.in-Ok.ensures.faultless c.in-Ok.ensures.principal)
