@@ -9,6 +9,8 @@ mod given;
 pub mod laws;
 mod number;
 mod part;
+#[cfg(test)]
+mod tests;
 
 use crate::given::Given;
 use crate::number::number_up_to;
