@@ -1,6 +1,7 @@
 -- Worked examples of words.
 use Rattle.std.proofs.Common.{◌≡◌, ℕ, List, [], ◌∷◌, get_or, codes, refl, ap, arith, rules}
-use Rattle.mw_words.specs.Words.{IsFileWord, IsNumber, IsOption, apart, joined, with_workers, with_fuel, with_file, no_part, one_more, not_named, named_once, run_of, run_command, sample_command}
+use Rattle.mw_words.specs.Words.{IsFileWord, IsNumber, IsOption, apart, joined, with_workers, with_fuel}
+use Rattle.mw_words.specs.Words.{with_file, no_part, one_more, not_named, named_once, run_of, run_command, sample_command}
 use Rattle.mw_words.specs.Examples.{FileAlone, FuelApart, FuelJoined, BothOptions, SampleOfHundred, NoWord, OptionFirst, TwoFiles, TwoDashes, FuelTwice}
 use Rattle.mw_words.proofs.LawLemmas.{few_files, few_fuels}
 use Rattle.mw_words.proofs.OptionLemmas.{no_file}
@@ -35,11 +36,14 @@ pub fuel_apart : FuelApart
 fuel_apart = run_command (one_more (with_fuel (apart refl) eight) (one_more (with_file f_named) no_part)) (run_of not_named named_once refl)
 
 pub fuel_joined : FuelJoined
-fuel_joined = run_command (one_more (with_fuel (joined {value = codes "8"} refl) eight) (one_more (with_file f_named) no_part)) (run_of not_named named_once refl)
+fuel_joined = run_command (one_more (with_fuel (joined {value = codes "8"} refl) eight) (one_more (with_file f_named) no_part))
+    (run_of not_named named_once refl)
 
 pub both_options : BothOptions
 both_options =
-    run_command (one_more (with_fuel (joined {value = codes "10000000"} refl) most_fuel) (one_more (with_file f_named) (one_more (with_workers (apart refl) most_workers) no_part)))
+    run_command
+    (one_more (with_fuel (joined {value = codes "10000000"} refl) most_fuel)
+    (one_more (with_file f_named) (one_more (with_workers (apart refl) most_workers) no_part)))
     (run_of named_once named_once refl)
 
 pub sample_of_hundred : SampleOfHundred
@@ -66,7 +70,9 @@ dashes_no_fuel (joined e) = let third : ◌≡◌ {A = ℕ} 0 102 = ap (λ (t : 
 pub two_dashes : TwoDashes
 two_dashes =
     stuck_is_usage here (λ e. cc)
-    (λ part rest begins. no_part_first (λ v r h. dashes_no_workers h) (λ v r h. dashes_no_fuel h) (λ word r e h. no_file word (45 ∷ []) h (let same : word ≡ 45 ∷ 45 ∷ [] = cc in same)) begins)
+    (λ part rest begins.
+    no_part_first (λ v r h. dashes_no_workers h) (λ v r h. dashes_no_fuel h)
+    (λ word r e h. let same : word ≡ 45 ∷ 45 ∷ [] = cc in no_file word (45 ∷ []) h same) begins)
 
 pub fuel_twice : FuelTwice
 fuel_twice =

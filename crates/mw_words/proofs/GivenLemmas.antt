@@ -3,7 +3,8 @@ use Rattle.std.proofs.Common.{◌≡◌, ℕ, List, [], ◌∷◌, ◌++◌, Opt
 use Rattle.std.specs.Option.{option_to_list, option_map, unwrap_or, is_some}
 use denote.Ref.{Bor}
 use Rattle.mw_words.specs.declared.given.Given.{Given}
-use Rattle.mw_words.specs.Words.{PurePart, workers, fuel, file, workers_in, fuels_in, files_in, IsGiven, not_named, named_once, Makes, run_of, run, PureCommand}
+use Rattle.mw_words.specs.Words.{PurePart, workers, fuel, file, workers_in, fuels_in, files_in}
+use Rattle.mw_words.specs.Words.{IsGiven, not_named, named_once, Makes, run_of, run, PureCommand}
 use Rattle.mw_words.specs.Gathered.{Holds}
 
 pub workers_append : (a b : List PurePart) → workers_in (a ++ b) ≡ workers_in a ++ workers_in b
@@ -37,25 +38,29 @@ mapped f None = refl
 mapped f (Some a) = refl
 
 -- the parts hold one part more, where it is the first of its kind
-pub more_workers : (given : Given) (n : ℕ) (parts : List PurePart) → is_some given.workers ≡ false → Holds given parts → Holds (record given { workers = Some n }) (parts ++ workers n ∷ [])
+pub more_workers : (given : Given) (n : ℕ) (parts : List PurePart) → is_some given.workers ≡ false → Holds given parts
+    → Holds (record given { workers = Some n }) (parts ++ workers n ∷ [])
 more_workers given n parts none h = record {
   workers_are = first_one _ _ given.workers n (workers_append parts (workers n ∷ [])) h.workers_are none;
   fuels_are = no_more _ _ _ (fuels_append parts (workers n ∷ [])) h.fuels_are;
   files_are = no_more _ _ _ (files_append parts (workers n ∷ [])) h.files_are;
 }
 
-pub more_fuel : (given : Given) (n : ℕ) (parts : List PurePart) → is_some given.fuel ≡ false → Holds given parts → Holds (record given { fuel = Some n }) (parts ++ fuel n ∷ [])
+pub more_fuel : (given : Given) (n : ℕ) (parts : List PurePart) → is_some given.fuel ≡ false → Holds given parts
+    → Holds (record given { fuel = Some n }) (parts ++ fuel n ∷ [])
 more_fuel given n parts none h = record {
   workers_are = no_more _ _ _ (workers_append parts (fuel n ∷ [])) h.workers_are;
   fuels_are = first_one _ _ given.fuel n (fuels_append parts (fuel n ∷ [])) h.fuels_are none;
   files_are = no_more _ _ _ (files_append parts (fuel n ∷ [])) h.files_are;
 }
 
-pub more_files : (given : Given) (name : Bor (List ℕ)) (parts : List PurePart) → is_some given.file ≡ false → Holds given parts → Holds (record given { file = Some name }) (parts ++ file name.now ∷ [])
+pub more_files : (given : Given) (name : Bor (List ℕ)) (parts : List PurePart) → is_some given.file ≡ false → Holds given parts
+    → Holds (record given { file = Some name }) (parts ++ file name.now ∷ [])
 more_files given name parts none h = record {
   workers_are = no_more _ _ _ (workers_append parts (file name.now ∷ [])) h.workers_are;
   fuels_are = no_more _ _ _ (fuels_append parts (file name.now ∷ [])) h.fuels_are;
-  files_are = first_one _ _ (option_map (λ x. x.now) given.file) name.now (files_append parts (file name.now ∷ [])) h.files_are (mapped (λ x. x.now) given.file ∙ none);
+  files_are = first_one _ _ (option_map (λ x. x.now) given.file) name.now (files_append parts (file name.now ∷ [])) h.files_are
+      (mapped (λ x. x.now) given.file ∙ none);
 }
 
 -- one number at most is given
@@ -85,7 +90,8 @@ two_fuels given before later all b c some h e (run_of w u n) =
 pub two_files : (given : Given) (before later all : List PurePart) (b : List ℕ) (c : PureCommand) → is_some given.file ≡ true → Holds given before
     → all ≡ before ++ file b ∷ later → Makes all c → ⊥
 two_files given before later all b c some h e (run_of w u n) =
-    let two = second _ _ _ (option_map (λ x. x.now) given.file) b (ap files_in e ∙ files_append before (file b ∷ later)) h.files_are (mapped (λ x. x.now) given.file ∙ some) in
+    let all_files = ap files_in e ∙ files_append before (file b ∷ later) in
+    let two = second _ _ _ (option_map (λ x. x.now) given.file) b all_files h.files_are (mapped (λ x. x.now) given.file ∙ some) in
     let same = two.1 in cc
 
 -- the number that an option or else the default gives
@@ -96,4 +102,5 @@ given_or (Some x) xs default n e f = rw (e, f) named_once
 pub made : (given : Given) (w u : ℕ) (name : Bor (List ℕ)) (parts : List PurePart) → w ≡ unwrap_or given.workers 4 → u ≡ unwrap_or given.fuel 1000000
     → given.file ≡ Some name → Holds given parts → Makes parts (run w u name.now)
 made given w u name parts p q r h =
-    run_of (given_or given.workers _ 4 w h.workers_are p) (given_or given.fuel _ 1000000 u h.fuels_are q) (h.files_are ∙ ap (λ o. option_to_list (option_map (λ x. x.now) o)) r)
+    run_of (given_or given.workers _ 4 w h.workers_are p) (given_or given.fuel _ 1000000 u h.fuels_are q)
+    (h.files_are ∙ ap (λ o. option_to_list (option_map (λ x. x.now) o)) r)

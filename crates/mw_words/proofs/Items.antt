@@ -22,7 +22,8 @@ first_item f [] a low is = absurd (omega arith)
 first_item f (x ∷ xs) a low is = let e : length (x ∷ xs) - 1 ≡ length xs = omega arith in rw (e, take-length xs) (cc)
 
 -- a list of two items
-pub two_items : {A B : Type 0} (f : A → B) (xs : List A) (a b : A) → 2 ≤ length xs → length xs < 3 → a ≡ get_or xs 0 a → b ≡ get_or xs 1 b → map f xs ≡ f a ∷ f b ∷ []
+pub two_items : {A B : Type 0} (f : A → B) (xs : List A) (a b : A) → 2 ≤ length xs → length xs < 3 → a ≡ get_or xs 0 a → b ≡ get_or xs 1 b
+    → map f xs ≡ f a ∷ f b ∷ []
 two_items f [] a b low high p q = absurd (omega arith)
 two_items f (x ∷ []) a b low high p q = absurd (omega arith)
 two_items f (x ∷ y ∷ []) a b low high p q = cc

@@ -1,6 +1,7 @@
 -- Words mean one command at most, and options and files may stand in any order.
 use Rattle.std.proofs.Common.{◌≡◌, ℕ, ◌≤◌, List, ◌∷◌, ◌++◌, length, refl, sym, ◌∙◌, ap, subst, arith, length-append}
-use Rattle.mw_words.specs.Words.{apart, joined, IsGiven, not_named, named_once, PurePart, workers, fuel, file, workers_in, fuels_in, files_in, PureCommand, sample, AreParts, no_part, one_more, Makes, run_of, run_command, sample_command}
+use Rattle.mw_words.specs.Words.{apart, joined, IsGiven, not_named, named_once, PurePart, workers, fuel, file, workers_in}
+use Rattle.mw_words.specs.Words.{fuels_in, files_in, PureCommand, sample, AreParts, no_part, one_more, Makes, run_of, run_command, sample_command}
 use Rattle.mw_words.specs.WordLaws.{OneCommand, EitherForm, AnyOrder}
 use Rattle.mw_words.proofs.OptionLemmas.{one_value}
 use Rattle.mw_words.proofs.PartLemmas.{one_part, same_number}
@@ -40,7 +41,8 @@ at_most_one not_named = omega arith
 at_most_one named_once = omega arith
 
 -- lists that hold the same of each kind make the same run
-made_too : {ps qs : List PurePart} {c : PureCommand} → workers_in ps ≡ workers_in qs → fuels_in ps ≡ fuels_in qs → files_in ps ≡ files_in qs → Makes ps c → Makes qs c
+made_too : {ps qs : List PurePart} {c : PureCommand} → workers_in ps ≡ workers_in qs → fuels_in ps ≡ fuels_in qs → files_in ps ≡ files_in qs
+    → Makes ps c → Makes qs c
 made_too e f g (run_of w u n) = run_of (rw e at w) (rw f at u) (sym g ∙ n)
 
 -- of each kind, one at most makes a run
@@ -58,7 +60,8 @@ longer : {A : Type 0} (all xs ys : List A) (a b : A) → all ≡ xs ++ a ∷ b �
 longer {A = A} all xs ys a b e few = omega (arith, ap (λ (l : List A). length l) e, length-append xs (a ∷ b ∷ ys))
 
 workers_beside : (before after : List PurePart) (m n : ℕ) (c : PureCommand) → Makes (before ++ workers m ∷ workers n ∷ after) c → ⊥
-workers_beside before after m n c h = longer _ (workers_in before) (workers_in after) m n (workers_append before (workers m ∷ workers n ∷ after)) (few_workers h)
+workers_beside before after m n c h = longer _ (workers_in before) (workers_in after) m n (workers_append before (workers m ∷ workers n ∷ after))
+    (few_workers h)
 
 fuels_beside : (before after : List PurePart) (m n : ℕ) (c : PureCommand) → Makes (before ++ fuel m ∷ fuel n ∷ after) c → ⊥
 fuels_beside before after m n c h = longer _ (fuels_in before) (fuels_in after) m n (fuels_append before (fuel m ∷ fuel n ∷ after)) (few_fuels h)
@@ -68,7 +71,8 @@ files_beside before after m n c h = longer _ (files_in before) (files_in after) 
 
 -- two parts of different kinds, in either order
 swapped : (before after : List PurePart) (p q : PurePart) (c : PureCommand)
-    → workers_in (p ∷ q ∷ after) ≡ workers_in (q ∷ p ∷ after) → fuels_in (p ∷ q ∷ after) ≡ fuels_in (q ∷ p ∷ after) → files_in (p ∷ q ∷ after) ≡ files_in (q ∷ p ∷ after)
+    → workers_in (p ∷ q ∷ after) ≡ workers_in (q ∷ p ∷ after) → fuels_in (p ∷ q ∷ after) ≡ fuels_in (q ∷ p ∷ after)
+    → files_in (p ∷ q ∷ after) ≡ files_in (q ∷ p ∷ after)
     → Makes (before ++ p ∷ q ∷ after) c → Makes (before ++ q ∷ p ∷ after) c
 swapped before after p q c e f g =
     let one = p ∷ q ∷ after in

@@ -53,12 +53,14 @@ pub none_first : {name v : List ℕ} {r : List (List ℕ)} → IsOption name [] 
 none_first h = elim h [ ]
 
 -- a word that is neither of an option's forms
-not_first : {name word v : List ℕ} {rest r : List (List ℕ)} → (word ≡ name → ⊥) → ((w : List ℕ) → word ≡ name ++ codes "=" ++ w → ⊥) → IsOption name (word ∷ rest) v r → ⊥
+not_first : {name word v : List ℕ} {rest r : List (List ℕ)} → (word ≡ name → ⊥) → ((w : List ℕ) → word ≡ name ++ codes "=" ++ w → ⊥)
+    → IsOption name (word ∷ rest) v r → ⊥
 not_first f g (apart e) = f e
 not_first f g (joined e) = g _ e
 
 -- words of which the first is an option's name, and the second its value
-pub is_apart : {A : Type 0} (text : A → List ℕ) (words rest after : List A) (word value : A) (name bytes : List ℕ) → words ≡ word ∷ rest → rest ≡ value ∷ after
+pub is_apart : {A : Type 0} (text : A → List ℕ) (words rest after : List A) (word value : A) (name bytes : List ℕ) → words ≡ word ∷ rest
+    → rest ≡ value ∷ after
     → text word ≡ name → bytes ≡ text value → IsOption name (map text words) bytes (map text after)
 is_apart text words rest after word value name bytes e f named is = rw (e, f, is) (apart named)
 
@@ -76,7 +78,8 @@ not_named text words rest word name e other none v r h =
 
 -- words of which the first begins with the name, and has no value
 pub not_valued : {A : Type 0} (text : A → List ℕ) (words rest : List A) (word : A) (name left : List ℕ) → words ≡ word ∷ rest
-    → (text word ≡ name → ⊥) → text word ≡ name ++ left → ((w : List ℕ) → left ≡ codes "=" ++ w → ⊥) → (v : List ℕ) (r : List (List ℕ)) → IsOption name (map text words) v r → ⊥
+    → (text word ≡ name → ⊥) → text word ≡ name ++ left → ((w : List ℕ) → left ≡ codes "=" ++ w → ⊥) → (v : List ℕ) (r : List (List ℕ))
+    → IsOption name (map text words) v r → ⊥
 not_valued text words rest word name left e other begins none v r h =
     let first : IsOption name (text word ∷ map text rest) v r = rw e at h in
     not_first other (λ w f. none w (append_cancel_left name left (codes "=" ++ w) (sym begins ∙ (f ∙ append_assoc name (codes "=") w)))) first

@@ -26,12 +26,14 @@ fewer (with_fuel o n) = fewer_after o
 fewer (with_file h) = omega arith
 
 -- an option whose value is no number of its begins no part
-pub no_workers : {words r s : List (List ℕ)} {v : List ℕ} {p : PurePart} → IsOption (codes "--workers") words v r → ((n : ℕ) → IsNumber 64 v n → ⊥) → Begins words p s → ⊥
+pub no_workers : {words r s : List (List ℕ)} {v : List ℕ} {p : PurePart} → IsOption (codes "--workers") words v r → ((n : ℕ) → IsNumber 64 v n → ⊥)
+    → Begins words p s → ⊥
 no_workers o none (with_workers o' n) = none _ (rw (← (one_value o o').0) at n)
 no_workers o none (with_fuel o' n) = one_option o o'
 no_workers o none (with_file h) = no_workers_file h o
 
-pub no_fuel : {words r s : List (List ℕ)} {v : List ℕ} {p : PurePart} → IsOption (codes "--fuel") words v r → ((n : ℕ) → IsNumber 10000000 v n → ⊥) → Begins words p s → ⊥
+pub no_fuel : {words r s : List (List ℕ)} {v : List ℕ} {p : PurePart} → IsOption (codes "--fuel") words v r → ((n : ℕ) → IsNumber 10000000 v n → ⊥)
+    → Begins words p s → ⊥
 no_fuel o none (with_workers o' n) = one_option o' o
 no_fuel o none (with_fuel o' n) = none _ (rw (← (one_value o o').0) at n)
 no_fuel o none (with_file h) = no_fuel_file h o

@@ -8,10 +8,12 @@ use Rattle.mw_words.proofs.PartLemmas.{one_part}
 -- the words are the parts, and then the rest
 pub data Passes : List (List ℕ) → List PurePart → List (List ℕ) → Type 0 where
   here : {words : List (List ℕ)} → Passes words [] words
-  further : {words rest last : List (List ℕ)} {part : PurePart} {parts : List PurePart} → Begins words part rest → Passes rest parts last → Passes words (part ∷ parts) last
+  further : {words rest last : List (List ℕ)} {part : PurePart} {parts : List PurePart} → Begins words part rest → Passes rest parts last
+      → Passes words (part ∷ parts) last
 
 -- one part more
-pub passes_more : {words rest last : List (List ℕ)} {part : PurePart} {parts : List PurePart} → Passes words parts rest → Begins rest part last → Passes words (parts ++ part ∷ []) last
+pub passes_more : {words rest last : List (List ℕ)} {part : PurePart} {parts : List PurePart} → Passes words parts rest → Begins rest part last
+    → Passes words (parts ++ part ∷ []) last
 passes_more here b = further b here
 passes_more (further f h) b = further f (passes_more h b)
 
@@ -42,7 +44,8 @@ no_parts no_part = refl
 no_parts (one_more b h) = absurd (nothing_begins b)
 
 -- words that begin with no part are no parts
-pub stuck : {words : List (List ℕ)} {parts : List PurePart} → (words ≡ [] → ⊥) → ((part : PurePart) (rest : List (List ℕ)) → Begins words part rest → ⊥) → AreParts words parts → ⊥
+pub stuck : {words : List (List ℕ)} {parts : List PurePart} → (words ≡ [] → ⊥) → ((part : PurePart) (rest : List (List ℕ)) → Begins words part rest → ⊥)
+    → AreParts words parts → ⊥
 stuck some none no_part = some refl
 stuck some none (one_more b h) = none _ _ b
 
@@ -51,12 +54,14 @@ pub of_run : {words : List (List ℕ)} {c : PureCommand} → Means (codes "run" 
 of_run (run_command h m) = (_, (h, m))
 
 -- all parts of the words begin with the one that stands first
-first_is : {words rest : List (List ℕ)} {part : PurePart} {parts : List PurePart} → AreParts words parts → Begins words part rest → (later : List PurePart) × (parts ≡ part ∷ later)
+first_is : {words rest : List (List ℕ)} {part : PurePart} {parts : List PurePart} → AreParts words parts → Begins words part rest
+    → (later : List PurePart) × (parts ≡ part ∷ later)
 first_is no_part b = absurd (nothing_begins b)
 first_is (one_more {parts = later} c h) b = let same = (one_part c b).0 in (later, cc)
 
 -- where the rest begins with no part, the words are no run
-pub stuck_is_usage : {words rest : List (List ℕ)} {read : List PurePart} → Passes words read rest → (rest ≡ [] → ⊥) → ((part : PurePart) (after : List (List ℕ)) → Begins rest part after → ⊥)
+pub stuck_is_usage : {words rest : List (List ℕ)} {read : List PurePart} → Passes words read rest → (rest ≡ [] → ⊥)
+    → ((part : PurePart) (after : List (List ℕ)) → Begins rest part after → ⊥)
     → IsUsage (codes "run" ∷ words)
 stuck_is_usage h some none c means = let run = of_run means in stuck some none (parts_left h run.1.0).1.0
 

@@ -8,7 +8,8 @@ OneCommand = (words : List (List ℕ)) (a b : PureCommand) → Means words a →
 
 -- an option has the same value in either form, and the same words follow it
 abbrev pub EitherForm : Type 0
-EitherForm = (name value v : List ℕ) (rest r : List (List ℕ)) → (IsOption name (name ∷ value ∷ rest) v r) ↔ (IsOption name ((name ++ codes "=" ++ value) ∷ rest) v r)
+EitherForm = (name value v : List ℕ) (rest r : List (List ℕ))
+    → (IsOption name (name ∷ value ∷ rest) v r) ↔ (IsOption name ((name ++ codes "=" ++ value) ∷ rest) v r)
 
 -- options and files make the same run in any order
 abbrev pub AnyOrder : Type 0

@@ -41,14 +41,17 @@ pub data PurePart : Type 0 where
 
 -- an option with its value, or a file, stands first among the words, and others follow
 pub data Begins : List (List ℕ) → PurePart → List (List ℕ) → Type 0 where
-  with_workers : {words rest : List (List ℕ)} {value : List ℕ} {n : ℕ} → IsOption (codes "--workers") words value rest → IsNumber 64 value n → Begins words (workers n) rest
-  with_fuel : {words rest : List (List ℕ)} {value : List ℕ} {n : ℕ} → IsOption (codes "--fuel") words value rest → IsNumber 10000000 value n → Begins words (fuel n) rest
+  with_workers : {words rest : List (List ℕ)} {value : List ℕ} {n : ℕ} → IsOption (codes "--workers") words value rest → IsNumber 64 value n
+      → Begins words (workers n) rest
+  with_fuel : {words rest : List (List ℕ)} {value : List ℕ} {n : ℕ} → IsOption (codes "--fuel") words value rest → IsNumber 10000000 value n
+      → Begins words (fuel n) rest
   with_file : {word : List ℕ} {rest : List (List ℕ)} → IsFileWord word → Begins (word ∷ rest) (file word) rest
 
 -- the words are these options and files, one after the other
 pub data AreParts : List (List ℕ) → List PurePart → Type 0 where
   no_part : AreParts [] []
-  one_more : {words rest : List (List ℕ)} {part : PurePart} {parts : List PurePart} → Begins words part rest → AreParts rest parts → AreParts words (part ∷ parts)
+  one_more : {words rest : List (List ℕ)} {part : PurePart} {parts : List PurePart} → Begins words part rest → AreParts rest parts
+      → AreParts words (part ∷ parts)
 
 -- the numbers of workers among the parts, the units of fuel, and the files
 abbrev pub workers_in : List PurePart → List ℕ
@@ -76,13 +79,15 @@ pub data IsGiven (default : ℕ) : List ℕ → ℕ → Type 0 where
 
 -- the parts, in whatever order, make the run: one file, and each option at most once
 pub data Makes : List PurePart → PureCommand → Type 0 where
-  run_of : {parts : List PurePart} {worker_count units : ℕ} {name : List ℕ} → IsGiven 4 (workers_in parts) worker_count → IsGiven 1000000 (fuels_in parts) units → files_in parts ≡ name ∷ []
+  run_of : {parts : List PurePart} {worker_count units : ℕ} {name : List ℕ} → IsGiven 4 (workers_in parts) worker_count
+      → IsGiven 1000000 (fuels_in parts) units → files_in parts ≡ name ∷ []
       → Makes parts (run worker_count units name)
 
 -- the words mean the command
 pub data Means : List (List ℕ) → PureCommand → Type 0 where
   -- run [--workers N] [--fuel N] FILE
-  run_command : {words : List (List ℕ)} {parts : List PurePart} {command : PureCommand} → AreParts words parts → Makes parts command → Means (codes "run" ∷ words) command
+  run_command : {words : List (List ℕ)} {parts : List PurePart} {command : PureCommand} → AreParts words parts → Makes parts command
+      → Means (codes "run" ∷ words) command
   -- sample N
   sample_command : {word : List ℕ} {n : ℕ} → IsNumber 100 word n → Means (codes "sample" ∷ word ∷ []) (sample n)
 

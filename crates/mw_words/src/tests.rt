@@ -25,7 +25,7 @@ fn meaning<R: Abort + AllocGlobal>(rt: &R, words: &[&str]) -> Result<String, Fai
     Ok(text)
 }
 
-/// Words in the forms of `run`, and what they mean.
+/// Words, and what they mean.
 const RUNS: [(&[&str], &str); 30] = [
     (&["run", "f"], "run 4 1000000 f"),
     (&["run", "run"], "run 4 1000000 run"),

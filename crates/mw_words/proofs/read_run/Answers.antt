@@ -21,12 +21,14 @@ loop-given-preserved c =
 pub returns-in_err-part-clause-usage : goal.returns-in_err-part-clause-usage
 returns-in_err-part-clause-usage c =
     let some : 1 ≤ length c.loop-given.rest.now = search rules in
-    on_err c.from_residual.result _ (stuck_is_usage c.loop-given.invariant.1.0 (some_text string_bytes c.loop-given.rest.now some) c.in_err-part.ensures.usage)
+    on_err c.from_residual.result _
+    (stuck_is_usage c.loop-given.invariant.1.0 (some_text string_bytes c.loop-given.rest.now some) c.in_err-part.ensures.usage)
 
 pub returns-in_err-given-clause-usage : goal.returns-in_err-given-clause-usage
 returns-in_err-given-clause-usage c =
     let before = c.loop-given.invariant in
-    on_err c.from_residual-in_err-given.result _ (more_is_usage before.1.0 c.in_ok-part.ensures.ok (λ later. c.in_err-given.ensures.usage before.0 later before.1.1))
+    on_err c.from_residual-in_err-given.result _
+    (more_is_usage before.1.0 c.in_ok-part.ensures.ok (λ later. c.in_err-given.ensures.usage before.0 later before.1.1))
 
 pub returns-clause-some : goal.returns-clause-some
 returns-clause-some c =

@@ -5,7 +5,8 @@ use Rattle.mw_words.proofs.PartLemmas.{no_workers, no_fuel}
 use Rattle.mw_words.proofs.part.first_part.Goals as goal
 
 pub returns-in_err-workers-clause-usage : goal.returns-in_err-workers-clause-usage
-returns-in_err-workers-clause-usage c = on_err c.from_residual.result _ (λ part rest begins. no_workers c.in-Some.ensures.some c.in_err-workers.ensures.usage begins)
+returns-in_err-workers-clause-usage c = on_err c.from_residual.result _
+    (λ part rest begins. no_workers c.in-Some.ensures.some c.in_err-workers.ensures.usage begins)
 
 pub returns-in-Some-clause-ok : goal.returns-in-Some-clause-ok
 returns-in-Some-clause-ok c = with_workers c.in-Some.ensures.some c.in_ok-workers.ensures.ok
