@@ -1,0 +1,51 @@
+-- The first items of a list, and texts after a prefix.
+use Rattle.std.proofs.Common.{◌≡◌, ℕ, ◌≤◌, ◌<◌, ◌-◌, List, [], ◌∷◌, ◌++◌, Option, Some, None, length, get_or, take, drop, map, refl, arith}
+use Rattle.std.specs.Option.{IfNone}
+use Rattle.std.specs.Prelude.{Result, Ok, Err, IfOk, IfErr}
+use Rattle.std.specs.Str.Pattern.{FindsTextPrefix, StripsPrefix}
+use Rattle.std.proofs.Math.Seq.{take-length}
+
+-- a list of no item
+pub no_item : {A : Type 0} (xs : List A) → length xs < 1 → xs ≡ []
+no_item [] low = refl
+no_item (x ∷ xs) low = absurd (omega arith)
+
+-- a list of some item has some text
+pub some_text : {A B : Type 0} (f : A → B) (xs : List A) → 1 ≤ length xs → map f xs ≡ [] → ⊥
+some_text f [] low e = absurd (omega arith)
+some_text f (x ∷ xs) low e = cc
+
+-- a list of one item or more
+pub first_item : {A B : Type 0} (f : A → B) (xs : List A) (a : A) → 1 ≤ length xs → a ≡ get_or xs 0 a
+    → map f xs ≡ f a ∷ map f (take (length xs - 1) (drop 1 xs))
+first_item f [] a low is = absurd (omega arith)
+first_item f (x ∷ xs) a low is = let e : length (x ∷ xs) - 1 ≡ length xs = omega arith in rw (e, take-length xs) (cc)
+
+-- a list of two items
+pub two_items : {A B : Type 0} (f : A → B) (xs : List A) (a b : A) → 2 ≤ length xs → length xs < 3 → a ≡ get_or xs 0 a → b ≡ get_or xs 1 b
+    → map f xs ≡ f a ∷ f b ∷ []
+two_items f [] a b low high p q = absurd (omega arith)
+two_items f (x ∷ []) a b low high p q = absurd (omega arith)
+two_items f (x ∷ y ∷ []) a b low high p q = cc
+two_items f (x ∷ y ∷ z ∷ xs) a b low high p q = absurd (omega arith)
+
+-- a text with a prefix is the prefix and what is left
+pub with_prefix : (p s x : List ℕ) → StripsPrefix (FindsTextPrefix p) s x → s ≡ p ++ x
+with_prefix p s x (n, found, left, fits) = rw left found.1
+
+-- what holds of an answer, and what follows from it
+pub on_none : {T : Type 0} (o : Option T) (P : Type 0) → P → IfNone o P
+on_none None P h = h
+on_none (Some x) P h = tt
+
+pub on_err : {T E : Type 0} (r : Result T E) (P : Type 0) → P → IfErr r (λ _. P)
+on_err (Ok x) P h = tt
+on_err (Err e) P h = h
+
+pub then_ok : {T E : Type 0} (r : Result T E) (P Q : T → Type 0) → IfOk r P → ((x : T) → P x → Q x) → IfOk r Q
+then_ok (Ok x) P Q h f = f x h
+then_ok (Err e) P Q h f = tt
+
+pub then_err : {T E : Type 0} (r : Result T E) (P Q : Type 0) → IfErr r (λ _. P) → (P → Q) → IfErr r (λ _. Q)
+then_err (Ok x) P Q h f = tt
+then_err (Err e) P Q h f = f h

@@ -1,0 +1,4 @@
+pub mod Examples
+pub mod Gathered
+pub mod WordLaws
+pub mod Words

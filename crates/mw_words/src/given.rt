@@ -1,0 +1,70 @@
+// What the parts of the words give, each once.
+
+ghost use Rattle.std.specs.Prelude.{◌≡◌, ◌∷◌, [], ◌++◌, List, IfOk, IfErr};
+ghost use Rattle.mw_words.specs.Words.{command_in, Makes, PureCommand, PurePart};
+ghost use Rattle.mw_words.specs.Gathered.{part_in, Holds, MakesNone};
+
+use crate::part::Part;
+use crate::{Command, WordsFault};
+
+/// The number of workers where the words name none.
+const DEFAULT_WORKERS: u32 = 4;
+
+/// The units of fuel where the words name none.
+const DEFAULT_FUEL: u64 = 1_000_000;
+
+/// What has been given of options and file.
+#[derive(Clone, Copy)]
+pub struct Given<'w> {
+    workers: Option<u32>,
+    fuel: Option<u64>,
+    file: Option<&'w str>,
+}
+
+impl<'w> Given<'w> {
+    /// Nothing.
+    pub fn nothing() -> Given<'w>
+        ensures { Holds result [] }
+    {
+        Given {
+            workers: None,
+            fuel: None,
+            file: None,
+        }
+    }
+
+    /// What is given with one part more, which must be the first of its kind.
+    pub fn with(self, part: Part<'w>) -> Result<Given<'w>, WordsFault>
+        ensures ok { IfOk result (λ after. (parts : List PurePart) → Holds self.entry parts → Holds after (parts ++ part_in part.entry ∷ [])) }
+        ensures usage { IfErr result (λ _. (before later : List PurePart) → Holds self.entry before → MakesNone (before ++ part_in part.entry ∷ later)) }
+    {
+        match part {
+            Part::Workers(workers) if self.workers.is_none() => Ok(Given {
+                workers: Some(workers),
+                ..self
+            }),
+            Part::Fuel(fuel) if self.fuel.is_none() => Ok(Given {
+                fuel: Some(fuel),
+                ..self
+            }),
+            Part::File(file) if self.file.is_none() => Ok(Given {
+                file: Some(file),
+                ..self
+            }),
+            _ => Err(WordsFault::Usage),
+        }
+    }
+
+    /// The run that is given.
+    pub fn command(self) -> Result<Command<'w>, WordsFault>
+        ensures ok { IfOk result (λ c. (parts : List PurePart) → Holds self.entry parts → Makes parts (command_in c)) }
+        ensures usage { IfErr result (λ _. (parts : List PurePart) → Holds self.entry parts → MakesNone parts) }
+    {
+        let file = self.file.ok_or(WordsFault::Usage)?;
+        Ok(Command::Run {
+            workers: self.workers.unwrap_or(DEFAULT_WORKERS),
+            fuel: self.fuel.unwrap_or(DEFAULT_FUEL),
+            file,
+        })
+    }
+}

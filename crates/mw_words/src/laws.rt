@@ -1,0 +1,37 @@
+// Laws of the words, which no program calls, and worked examples.
+
+ghost use Rattle.mw_words.specs.WordLaws.{OneCommand, EitherForm, AnyOrder};
+ghost use Rattle.mw_words.specs.Examples.{FileAlone, FuelApart, FuelJoined, BothOptions, SampleOfHundred, NoWord, OptionFirst, TwoFiles, TwoDashes, FuelTwice};
+
+/// Words mean one command at most.
+pub fn one_command()
+    ensures { OneCommand }
+{}
+
+/// An option reads the same in either form.
+pub fn either_form()
+    ensures { EitherForm }
+{}
+
+/// Options and the file may stand in any order.
+pub fn any_order()
+    ensures { AnyOrder }
+{}
+
+/// Words that mean commands.
+pub fn commands()
+    ensures file_alone { FileAlone }
+    ensures fuel_apart { FuelApart }
+    ensures fuel_joined { FuelJoined }
+    ensures both_options { BothOptions }
+    ensures sample_of_hundred { SampleOfHundred }
+{}
+
+/// Words that mean none.
+pub fn usage()
+    ensures no_word { NoWord }
+    ensures option_first { OptionFirst }
+    ensures two_files { TwoFiles }
+    ensures two_dashes { TwoDashes }
+    ensures fuel_twice { FuelTwice }
+{}

@@ -1,0 +1,162 @@
+// Words beside the commands that they mean, found by hand.
+
+use super::*;
+use std::process::Abort;
+use std::test::Fail;
+
+/// What words mean, as text.
+fn meaning<R: Abort + AllocGlobal>(rt: &R, words: &[&str]) -> Result<String, Fail> {
+    let alloc = rt.alloc();
+    let mut owned = Vec::new(alloc);
+    for word in words {
+        owned.push(String::from_str(alloc, word)?)?;
+    }
+    let text = match read_words(owned.as_slice()) {
+        Ok(
+            Command::Run {
+                workers,
+                fuel,
+                file,
+            },
+        ) => format!(in alloc; "run {workers} {fuel} {file}")?,
+        Ok(Command::Sample { number }) => format!(in alloc; "sample {number}")?,
+        Err(WordsFault::Usage) => String::from_str(alloc, "usage")?,
+    };
+    Ok(text)
+}
+
+/// Words, and what they mean.
+const RUNS: [(&[&str], &str); 30] = [
+    (&["run", "f"], "run 4 1000000 f"),
+    (&["run", "run"], "run 4 1000000 run"),
+    (&["run", "a b"], "run 4 1000000 a b"),
+    (&["run", "f-"], "run 4 1000000 f-"),
+    (&["run", "=x"], "run 4 1000000 =x"),
+    (&["run", "8"], "run 4 1000000 8"),
+    (&["run", "--fuel", "8", "f"], "run 4 8 f"),
+    (&["run", "--fuel=8", "f"], "run 4 8 f"),
+    (&["run", "f", "--fuel", "8"], "run 4 8 f"),
+    (&["run", "f", "--fuel=8"], "run 4 8 f"),
+    (&["run", "--workers", "1", "f"], "run 1 1000000 f"),
+    (&["run", "--workers=64", "f"], "run 64 1000000 f"),
+    (&["run", "--workers", "64", "f"], "run 64 1000000 f"),
+    (&["run", "f", "--workers=2", "--fuel=3"], "run 2 3 f"),
+    (&["run", "--workers", "2", "f", "--fuel", "3"], "run 2 3 f"),
+    (&["run", "--fuel=3", "--workers=2", "f"], "run 2 3 f"),
+    (&["run", "--fuel", "3", "f", "--workers=2"], "run 2 3 f"),
+    (&["run", "f", "--fuel", "3", "--workers", "2"], "run 2 3 f"),
+    (&["run", "--fuel=1", "f"], "run 4 1 f"),
+    (&["run", "--fuel=10000000", "f"], "run 4 10000000 f"),
+    (&["run", "--fuel", "10000000", "f"], "run 4 10000000 f"),
+    (&["run", "--fuel=000000005", "f"], "run 4 5 f"),
+    (&["run", "--fuel", "000000005", "f"], "run 4 5 f"),
+    (&["run", "--workers=000000064", "f"], "run 64 1000000 f"),
+    (&["run", "--workers=01", "f"], "run 1 1000000 f"),
+    (&["run", "\u{e9}"], "run 4 1000000 \u{e9}"),
+    (&["sample", "1"], "sample 1"),
+    (&["sample", "100"], "sample 100"),
+    (&["sample", "000000100"], "sample 100"),
+    (&["sample", "07"], "sample 7"),
+];
+
+/// Words that mean nothing, for what stands around the options.
+const NO_COMMANDS: [&[&str]; 36] = [
+    &[],
+    &[""],
+    &["run"],
+    &["run", ""],
+    &["run", "-"],
+    &["run", "--"],
+    &["run", "-f"],
+    &["run", "f", "g"],
+    &["run", "f", "f"],
+    &["run", "f", ""],
+    &["run", "f", "-"],
+    &["run", "--", "f"],
+    &["run", "f", "--"],
+    &["run", "-x", "f"],
+    &["run", "--fuel"],
+    &["run", "f", "--fuel"],
+    &["run", "--fuel", "8"],
+    &["run", "--fuel=8"],
+    &["run", "--cache=c", "f"],
+    &["run", "--cache", "c", "f"],
+    &["run", "--simplify", "f"],
+    &["run", "--help"],
+    &["--help"],
+    &["--version"],
+    &["--fuel", "7", "run", "f"],
+    &["f"],
+    &["Run", "f"],
+    &["runs", "f"],
+    &["sample"],
+    &["sample", ""],
+    &["sample", "5", "6"],
+    &["sample", "--fuel=5", "6"],
+    &["sample", "f"],
+    &["check", "f"],
+    &["erased", "f"],
+    &["link", "f"],
+];
+
+/// Words that mean nothing, for an option that is named twice or amiss, or for its value.
+const NO_VALUES: [&[&str]; 36] = [
+    &["run", "--fuel=8", "--fuel=8", "f"],
+    &["run", "--fuel", "8", "f", "--fuel=8"],
+    &["run", "--fuel", "8", "f", "--fuel", "8"],
+    &["run", "--workers=2", "--workers=2", "f"],
+    &["run", "--workers", "2", "f", "--workers=2"],
+    &["run", "--fuel=", "f"],
+    &["run", "--fuel", "", "f"],
+    &["run", "--fuel= 8", "f"],
+    &["run", "--fuel=8 ", "f"],
+    &["run", "--fuel", " 8", "f"],
+    &["run", "--fuel=+5", "f"],
+    &["run", "--fuel", "+5", "f"],
+    &["run", "--fuel=-5", "f"],
+    &["run", "--fuel", "-5", "f"],
+    &["run", "--fuel", "--workers=2", "f"],
+    &["run", "--fuel", "f", "8"],
+    &["run", "--fuel=0x8", "f"],
+    &["run", "--fuel=1_000", "f"],
+    &["run", "--fuel==8", "f"],
+    &["run", "--fuel=0", "f"],
+    &["run", "--fuel", "0", "f"],
+    &["run", "--fuel=10000001", "f"],
+    &["run", "--fuel=999999999", "f"],
+    &["run", "--fuel=1000000000", "f"],
+    &["run", "--fuel=0000000005", "f"],
+    &["run", "--fuel=4294967304", "f"],
+    &["run", "--workers=0", "f"],
+    &["run", "--workers", "65", "f"],
+    &["run", "--workers=65", "f"],
+    &["run", "--workers=", "f"],
+    &["run", "-fuel=8", "f"],
+    &["run", "--fuels=8", "f"],
+    &["run", "--Fuel=8", "f"],
+    &["sample", "0"],
+    &["sample", "101"],
+    &["sample", "+5"],
+];
+
+#[test]
+fn commands(rt: HostRuntime) -> Result<(), Fail> {
+    for (words, expected) in RUNS {
+        let text = meaning(&rt, words)?;
+        assert_eq!(rt; text.as_str(), expected);
+    }
+    Ok(())
+}
+
+#[test]
+fn usage(rt: HostRuntime) -> Result<(), Fail> {
+    for words in NO_COMMANDS {
+        let text = meaning(&rt, words)?;
+        assert_eq!(rt; text.as_str(), "usage");
+    }
+    for words in NO_VALUES {
+        let text = meaning(&rt, words)?;
+        assert_eq!(rt; text.as_str(), "usage");
+    }
+    Ok(())
+}
