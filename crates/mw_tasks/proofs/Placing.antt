@@ -1,11 +1,8 @@
 -- The codes are put into the items one by one.
-use Rattle.std.proofs.Common.{◌≡◌, ℕ, List, [], ◌∷◌, ◌++◌, map, length, refl, ap, sym, ◌∙◌, arith, append_assoc, append-nil}
-use Rattle.std.proofs.lemmas.List.{map-append}
-use Rattle.mw_term.specs.Terms.{Expression, close, bracket, expression_of, kernel_type_of}
-use Rattle.mw_term.specs.Programs.{Definition, kernel, definition_of}
+use Rattle.std.proofs.Common.{◌≡◌, List, [], ◌∷◌, ◌++◌, map, refl, ap, sym, ◌∙◌, append_assoc, append-nil}
+use Rattle.mw_term.specs.Terms.{expression_of}
+use Rattle.mw_term.specs.Programs.{Definition, definition_of}
 use Rattle.mw_term.specs.declared.program.Item.{Item}
-use Rattle.mw_term.specs.declared.program.ItemKind.TheVariants.{Value, Kernel}
-use Rattle.mw_term.specs.declared.term.KType.{KType}
 use Rattle.mw_term.specs.declared.term.Term.{Term}
 use Rattle.mw_tasks.specs.CodesInPlace.{definitions_of, built_items}
 

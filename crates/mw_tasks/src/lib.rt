@@ -2,3 +2,11 @@
 #![tactic(auto)]
 
 mod codes;
+mod entry;
+mod evaluation;
+mod kernel_item;
+pub mod outcome;
+
+pub use crate::entry::evaluate_main;
+pub use crate::kernel_item::evaluate_item;
+pub use crate::outcome::{ItemOutcome, MainOutcome};
