@@ -39,7 +39,8 @@ pub(crate) fn evaluate<K: Kernels>(
         → EndsAs result (staged (K.mode kernels.old) names fuel (expression_of body.now)) }
     ensures cost { (names : List Value) → HasNames (program_of program.now) (expression_of body.now) names
         → AreSound (K.sound kernels.old) (runs (K.mode kernels.old) names fuel (expression_of body.now))
-        → IfOk result (λ _. K.cost kernels.new ≤ K.cost kernels.old + prices (K.price kernels.old) (runs (K.mode kernels.old) names fuel (expression_of body.now))) }
+        → IfOk result (λ _. K.cost kernels.new ≤ K.cost kernels.old
+        + prices (K.price kernels.old) (runs (K.mode kernels.old) names fuel (expression_of body.now))) }
     ensures typed { IfOk result (λ ended. IsTypedOutcome (program_of program.now) (expression_of body.now) ended.outcome ended.machine) }
     ensures open { IfOk result (λ ended. IfOpenEnd (Ok ended.outcome) (K.stopped kernels.new ≡ false)) }
     ensures bad { IfErr result (λ fault. IsNewlyBad fault (K.bad kernels.old) (K.bad kernels.new) (K.digest kernels.new)) }
