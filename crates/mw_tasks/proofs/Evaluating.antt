@@ -1,0 +1,91 @@
+-- An evaluation on the machine, from its start to its end.
+use Rattle.std.proofs.Common.{◌≡◌, ◌≤◌, ◌+◌, ℕ, List, [], None, Bool, false, Result, Ok, Err, IfErr, IsErrAnd, refl, ap, sym, ◌∙◌, subst, arith}
+use Rattle.std.proofs.lemmas.Result.{err_from_is_err_and}
+use Rattle.mw_term.specs.Terms.{Expression, Value, KernelType}
+use Rattle.mw_term.specs.Programs.{PureProgram}
+use Rattle.mw_meaning.specs.declared.mode.Mode.{Mode}
+use Rattle.mw_meaning.specs.declared.mode.Mode.TheVariants.{Plain}
+use Rattle.mw_meaning.specs.Outcomes.{names_of_items, names_of_main}
+use Rattle.mw_meaning.specs.StagedMeaning.{Runs, staged, runs}
+use Rattle.mw_meaning.proofs.ComingTo.{names_of_items_are_values}
+use Rattle.mw_machine.specs.declared.kernels.KernelFault.{KernelFault}
+use Rattle.mw_machine.specs.declared.kernels.KernelFault.TheVariants as fault
+use Rattle.mw_machine.specs.declared.machine.Machine.{Machine}
+use Rattle.mw_machine.specs.declared.outcome.Outcome.{Outcome}
+use Rattle.mw_machine.specs.Begun.{Begins}
+use Rattle.mw_machine.specs.Evaluations.{Evaluation, runs_of, IsBody, item_body, main_body, HasNames, item_names, main_names}
+use Rattle.mw_machine.specs.KernelCalls.{AreSound, prices}
+use Rattle.mw_machine.specs.TurnAnswers.{IsReady, IsTypedOutcome, DriveKeeps, DriveMeans}
+use Rattle.mw_machine.specs.Underway.{IsUnderway, IsMeant}
+use Rattle.mw_tasks.specs.declared.evaluation.Ended.{Ended}
+use Rattle.mw_tasks.specs.Endings.{EndsAs}
+use Rattle.mw_tasks.specs.TaskOutcomes.{IsKernelOf}
+
+pub item_is_body : (p : PureProgram) (e : Expression) → IsKernelOf p e → IsBody p e
+item_is_body p e h = item_body h.0 h.1 h.2
+
+pub item_has_names : (p : PureProgram) (e : Expression) → IsKernelOf p e → HasNames p e (names_of_items p.items)
+item_has_names p e h = item_names h.0 h.1 h.2 (names_of_items_are_values p.items h.0)
+
+-- the names of each term of a program have values
+named : (p : PureProgram) (e : Expression) → IsBody p e → (names : List Value) × HasNames p e names
+named p e (item_body i k q) = (names_of_items p.items, item_names i k q (names_of_items_are_values p.items i))
+named p _ (main_body codes b) = (names_of_main p.items codes, main_names codes b)
+
+-- the fault that `?` answers is the one that came
+pub err_is : {A E : Type 0} (result : Result A E) (f : E) → IsErrAnd result (λ g. g ≡ f) → result ≡ Err f
+err_is result f is = let x = err_from_is_err_and result is in x.1 ∙ ap (λ g. Err g) x.2
+
+-- what holds of a drive's fault where the machine had none
+pub fault_is : {A B N : Type 0} (P : KernelFault → Type 0) (result : Result A KernelFault) (r : Result B KernelFault) (f : KernelFault)
+    → IsErrAnd result (λ g. g ≡ f) → r ≡ Err f → IfErr r (λ g. N → P g) → N → IfErr result P
+fault_is {N = N} P result r f is q h none =
+    subst (λ r. IfErr r P) (sym (err_is result f is)) ((subst (λ r. IfErr r (λ g. N → P g)) q h) none)
+
+module _ (p : PureProgram) (e : Expression) (fuel : ℕ) (m : Machine) (b : Begins m p e fuel) where
+  -- the evaluation of the term with these values of the names
+  abbrev of : List Value → Evaluation
+  of names = record { program = p; term = e; names = names; units = fuel }
+
+  module _ (body : IsBody p e) (kept_runs : Runs) where
+    meant : IsMeant Plain kept_runs (of (named p e body).0) [] m
+    meant = b.meant Plain kept_runs (named p e body).0 (named p e body).1
+
+    pub underway : IsUnderway p e kept_runs m
+    underway = (meant.0, meant.1)
+
+    pub no_fault : m.fault ≡ None
+    no_fault = meant.1.0
+
+    pub ready : (stopped : Bool) → stopped ≡ false → IsReady p kept_runs stopped m
+    ready stopped q none = ((e, underway), q)
+
+    -- what a drive answers is typed
+    pub typed : (r : Result Outcome KernelFault) (x : Outcome) (n : Machine) → r ≡ Ok x
+        → ((e : Expression) → IsUnderway p e kept_runs m → DriveKeeps r p e n) → IsTypedOutcome p e x n
+    typed r x n q keeps = subst (λ r. DriveKeeps r p e n) q (keeps e underway)
+
+  module _ (mode : Mode) (kept_runs : Runs) (Sound : Expression → KernelType → Type 0) (price : Expression → KernelType → ℕ) (old new : ℕ)
+      (r : Result Outcome KernelFault) (n : Machine)
+      (means : (x : Evaluation) (begun : Runs) → x.program ≡ p → IsMeant mode kept_runs x begun m → AreSound Sound (runs_of mode x)
+      → DriveMeans r mode x begun n price old new)
+      (names : List Value) (has : HasNames p e names) (sound : AreSound Sound (runs mode names fuel e)) where
+    whole : DriveMeans r mode (of names) [] n price old new
+    whole = means (of names) [] refl (b.meant mode kept_runs names has) sound
+
+    pub ends_as : (x : Outcome) → r ≡ Ok x → EndsAs (Ok (record { machine = n; outcome = x })) (staged mode names fuel e)
+    ends_as x q = (subst (λ r. DriveMeans r mode (of names) [] n price old new) q whole).0
+
+    pub costs : (x : Outcome) → r ≡ Ok x → new ≤ old + prices price (runs mode names fuel e)
+    costs x q = let y = (subst (λ r. DriveMeans r mode (of names) [] n price old new) q whole).1 in omega (arith, y)
+
+    -- a fault is want of memory
+    faults_as : (f : KernelFault) → DriveMeans (Err f) mode (of names) [] n price old new → EndsAs (Err f) (staged mode names fuel e)
+    faults_as (fault.Memory x) h = tt
+    faults_as (fault.Bad d) h = absurd h
+
+    pub fails_as : (result : Result Ended KernelFault) (f : KernelFault) → IsErrAnd result (λ g. g ≡ f) → r ≡ Err f
+        → EndsAs result (staged mode names fuel e)
+    fails_as result f is q =
+        subst (λ r. EndsAs r (staged mode names fuel e)) (sym (err_is result f is))
+        (faults_as f (subst (λ r. DriveMeans r mode (of names) [] n price old new) q whole))

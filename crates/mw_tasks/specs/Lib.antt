@@ -1,0 +1,3 @@
+pub mod CodesInPlace
+pub mod Endings
+pub mod TaskOutcomes

@@ -1,0 +1,53 @@
+// Whole evaluations of a program's terms.
+
+ghost use Rattle.std.specs.Prelude.{◌≡◌, ◌≤◌, ◌+◌, Ok, false, List, IfOk, IfErr};
+ghost use Rattle.mw_term.specs.Terms.{Value, expression_of};
+ghost use Rattle.mw_term.specs.Programs.{program_of};
+ghost use Rattle.mw_term.specs.Typable.{Typable};
+ghost use Rattle.mw_term.specs.SmallTypes.{HasSmallTypes};
+ghost use Rattle.mw_meaning.specs.StagedMeaning.{staged, runs};
+ghost use Rattle.mw_machine.specs.KernelCalls.{AreSound, IsNewlyBad, prices};
+ghost use Rattle.mw_machine.specs.Evaluations.{IsBody, HasNames};
+ghost use Rattle.mw_machine.specs.TurnAnswers.{IsTypedOutcome, IfOpenEnd};
+ghost use Rattle.mw_tasks.specs.Endings.{EndsAs};
+
+use mw_machine::{KernelFault, Kernels, Machine, Outcome};
+use mw_term::{Program, Term};
+use std::alloc::Global;
+
+/// A machine at the end of an evaluation, and how it ended.
+#[derive(Drop)]
+pub(crate) struct Ended {
+    pub(crate) machine: Machine,
+    pub(crate) outcome: Outcome,
+}
+
+/// Evaluates a term of a program to its end, with so many units.
+pub(crate) fn evaluate<K: Kernels>(
+    alloc: Global,
+    program: &Program,
+    body: &Term,
+    fuel: u64,
+    kernels: &mut K,
+) -> Result<Ended, KernelFault>
+    requires typable { Typable (program_of program.now) }
+    requires small { HasSmallTypes (program_of program.now) }
+    requires body { IsBody (program_of program.now) (expression_of body.now) }
+    requires open { K.stopped kernels.old ≡ false }
+    ensures means { (names : List Value) → HasNames (program_of program.now) (expression_of body.now) names
+        → AreSound (K.sound kernels.old) (runs (K.mode kernels.old) names fuel (expression_of body.now))
+        → EndsAs result (staged (K.mode kernels.old) names fuel (expression_of body.now)) }
+    ensures cost { (names : List Value) → HasNames (program_of program.now) (expression_of body.now) names
+        → AreSound (K.sound kernels.old) (runs (K.mode kernels.old) names fuel (expression_of body.now))
+        → IfOk result (λ _. K.cost kernels.new ≤ K.cost kernels.old
+        + prices (K.price kernels.old) (runs (K.mode kernels.old) names fuel (expression_of body.now))) }
+    ensures typed { IfOk result (λ ended. IsTypedOutcome (program_of program.now) (expression_of body.now) ended.outcome ended.machine) }
+    ensures open { IfOk result (λ ended. IfOpenEnd (Ok ended.outcome) (K.stopped kernels.new ≡ false)) }
+    ensures bad { IfErr result (λ fault. IsNewlyBad fault (K.bad kernels.old) (K.bad kernels.new) (K.digest kernels.new)) }
+    ensures count { K.bad kernels.old ≤ K.bad kernels.new }
+    ensures hands { K.keeps kernels.old kernels.new }
+{
+    let mut machine = Machine::start(alloc, program, body, fuel)?;
+    let outcome = machine.drive(alloc, program, kernels)?;
+    Ok(Ended { machine, outcome })
+}
