@@ -4,7 +4,5 @@
 mod copies;
 mod function;
 mod kernels;
-#[cfg(test)]
-mod tests;
 
 pub use crate::kernels::EmittingKernels;
