@@ -1,5 +1,5 @@
 -- The codes that tests run have their types.
-use Rattle.std.proofs.Common.{◌≡◌, ℕ, Bool, false, ◌||◌, List, [], ◌∷◌, ◌++◌, length, slice_get, Some, Result, Ok, refl, subst, arith}
+use Rattle.std.proofs.Common.{◌≡◌, ℕ, Bool, false, ◌||◌, List, [], ◌∷◌, ◌++◌, length, slice_get, Some, Result, Ok, Err, refl, arith}
 use Rattle.std.specs.Prelude.{ℤ, pos, true}
 use Rattle.mw_term.specs.Terms.{Expression, GroundType, KernelType, int, of_ground, to, base, product, num, truth, var, fun, app, bind, pair, prim}
 use Rattle.mw_term.specs.declared.term.Base.TheVariants.{Int, Bool as Truth}
@@ -11,7 +11,7 @@ use Rattle.mw_machine.specs.declared.kernels.KernelFault.{KernelFault}
 use Rattle.mw_machine.specs.declared.kernels.Ran.{Ran}
 use Rattle.mw_machine.specs.declared.kernels.Ran.TheVariants as ran
 use Rattle.mw_machine.specs.KernelCalls.{IsRunnable, IsRunAt, IsCallable, kept_after}
-use Rattle.mw_emitting.specs.TestRuns.{IsSample, TakesIntegers}
+use Rattle.mw_emitting.specs.TestRuns.{IsSample, TakesIntegers, GivesFunction}
 
 pub seven : IsSample (num (pos 7)) (of_ground (base Int))
 seven = record { runnable = record { typed = record { is_code = tt; closed = tt; typed = t_num }; limits = refl; nodes = omega arith }; takes = tt }
@@ -60,10 +60,11 @@ last_item [] r = refl
 last_item (x ∷ old) r = last_item old r
 
 -- the function that a run gave may be called with an integer
-pub may_be_called : (answer : Result Ran KernelFault) (which left : ℕ) (c : Expression) (k : KernelType) (old new : Runs) → answer ≡ Ok (ran.Function which left) → IsRunAt answer k (length old) → new ≡ kept_after answer c k old → TakesIntegers k
+pub may_be_called : (answer : Result Ran KernelFault) (which : ℕ) (c : Expression) (k : KernelType) (old new : Runs) → GivesFunction which answer → IsRunAt answer k (length old) → new ≡ kept_after answer c k old → TakesIntegers k
     → (n : ℤ) → IsCallable new which (int n)
-may_be_called answer which left c (of_ground t) old new is at after takes n = absurd (subst (λ a. IsRunAt a (of_ground t) (length old)) is at)
-may_be_called answer which left c (to s t) old new is at after takes n =
-    let next = subst (λ a. IsRunAt a (to s t) (length old)) is at in
-    let after' = subst (λ a. new ≡ kept_after a c (to s t) old) is after in
-    record { code = c; type = to s t; here = rw (after', next) (last_item old (c, to s t)); fits = takes_integer s t n takes }
+may_be_called (Ok (ran.Function m left)) which c (to s t) old new is at after takes n = record { code = c; type = to s t; here = rw (after, is, at) (last_item old (c, to s t)); fits = takes_integer s t n takes }
+may_be_called (Ok (ran.Function m left)) which c (of_ground t) old new is at after takes n = absurd at
+may_be_called (Ok (ran.Value v left)) which c k old new is at after takes n = absurd is
+may_be_called (Ok (ran.Trap t)) which c k old new is at after takes n = absurd is
+may_be_called (Ok (ran.Bound l)) which c k old new is at after takes n = absurd is
+may_be_called (Err f) which c k old new is at after takes n = absurd is

@@ -4,5 +4,7 @@
 mod copies;
 mod function;
 mod kernels;
+#[cfg(test)]
+mod tests;
 
 pub use crate::kernels::EmittingKernels;
