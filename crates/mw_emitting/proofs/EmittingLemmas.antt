@@ -1,6 +1,6 @@
 -- Answers to runs and calls are what they mean.
-use Rattle.std.proofs.Common.{◌≡◌, ℕ, false, List, [], ◌∷◌, Some, Result, Ok, Err, IfErr, refl, sym, ap, ◌∙◌, subst}
-use Rattle.mw_term.specs.Terms.{Expression, Value, KernelValue, KernelType, GroundType, PureGroundValue, of_ground, to, int, bool, both, function, recursive, kept, ground_value, ground_value_of}
+use Rattle.std.proofs.Common.{◌≡◌, ℕ, false, [], ◌∷◌, Some, Result, Ok, Err, IfErr, refl, sym, ap, ◌∙◌, subst}
+use Rattle.mw_term.specs.Terms.{Expression, KernelValue, KernelType, GroundType, PureGroundValue, of_ground, to, int, bool, both, function, recursive, kept, ground_value, ground_value_of}
 use Rattle.mw_term.specs.Closed.{IsCode}
 use Rattle.mw_term.specs.Limits.{LiteralsFit}
 use Rattle.mw_term.specs.Types.{kernel_type}
@@ -9,26 +9,25 @@ use Rattle.mw_term.specs.Unlabelled.{unlabelled_value}
 use Rattle.mw_meaning.specs.declared.mode.Mode.TheVariants.{Plain}
 use Rattle.mw_meaning.specs.Arithmetic.{trap, bound, stuck}
 use Rattle.mw_meaning.specs.KernelMeaning.{Ended, gives, stops, kernel_meaning}
-use Rattle.mw_meaning.specs.OutcomeLaws.{HasGroundType}
-use Rattle.mw_meaning.specs.StagedMeaning.{Answer, gives as answers, stops as halts, Runs, run_of, run_ended, call_of, call_ended, ground_result, kernel_argument, argument_words}
+use Rattle.mw_meaning.specs.StagedMeaning.{gives as answers, Runs, run_of, run_ended, call_of, call_ended, ground_result, kernel_argument, argument_words}
 use Rattle.mw_machine.specs.declared.kernels.Ran.{Ran}
 use Rattle.mw_machine.specs.declared.kernels.Ran.TheVariants as ran
 use Rattle.mw_machine.specs.declared.kernels.KernelFault.{KernelFault}
 use Rattle.mw_machine.specs.declared.kernels.KernelFault.TheVariants as kernel
-use Rattle.mw_machine.specs.KernelCalls.{IsArgumentOf, IsMeantBy, AnswersCall, IsRunAt, IsCallAt, LeavesAtMost, IsNewlyBad, ends_all}
+use Rattle.mw_machine.specs.KernelCalls.{IsMeantBy, AnswersCall, IsRunAt, IsNewlyBad, ends_all}
 use Rattle.mw_kernel.specs.declared.fault.RunFault.{RunFault}
 use Rattle.mw_kernel.specs.declared.fault.RunFault.TheVariants as fault
 use Rattle.mw_kernel.specs.declared.running.Began.{Began}
 use Rattle.mw_kernel.specs.declared.running.Began.TheVariants as began
 use Rattle.mw_kernel.specs.Invoking.{FitsWords}
-use Rattle.mw_kernel.specs.KernelAnswers.{kernel_value, HasStartType, HasCallType, CallLeavesAtMost, IsSameFunction}
-use Rattle.mw_kernel.specs.KernelMeanings.{IsSameValue, HasShortIntegers, Keeps, IsBeganFrom, IsRanFrom, IsStartMeant, IsCallMeant, KeepsOn}
+use Rattle.mw_kernel.specs.KernelAnswers.{kernel_value, HasStartType, HasCallType, IsSameFunction}
+use Rattle.mw_kernel.specs.KernelMeanings.{IsSameValue, HasShortIntegers, IsBeganFrom, IsRanFrom, IsStartMeant, IsCallMeant, KeepsOn}
 use Rattle.mw_kernel.specs.RunningStates.{RunningState}
 use Rattle.mw_kernel.proofs.MeaningLemmas.{short_integers_are_kept}
 use Rattle.mw_emitting.specs.Answers.{IsWant, IsOnlyWant}
 use Rattle.mw_emitting.specs.KeptFunctions.{IsFunctionOf}
 use Rattle.mw_emitting.proofs.OtherUnits.{one_value}
-use Rattle.mw_emitting.proofs.ShortIntegers.{HasShortParts, code_gives_short, call_gives_short, short_integers, argument_is_short}
+use Rattle.mw_emitting.proofs.ShortIntegers.{code_gives_short, call_gives_short, short_integers, argument_is_short}
 
 -- a kernel's value that is a ground value is given back as that
 ground_back : (v : PureGroundValue) → ground_result (kernel_value v) ≡ Some (ground_value v)

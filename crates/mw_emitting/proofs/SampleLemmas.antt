@@ -1,5 +1,5 @@
 -- The codes that tests run have their types.
-use Rattle.std.proofs.Common.{◌≡◌, ℕ, Bool, false, ◌||◌, List, [], ◌∷◌, ◌++◌, length, slice_get, Some, Result, Ok, Err, refl, arith}
+use Rattle.std.proofs.Common.{◌≡◌, ℕ, Bool, false, ◌||◌, [], ◌∷◌, ◌++◌, length, slice_get, Some, Result, Ok, Err, refl, arith}
 use Rattle.std.specs.Prelude.{ℤ, pos, true}
 use Rattle.mw_term.specs.Terms.{Expression, GroundType, KernelType, int, of_ground, to, base, product, num, truth, var, fun, app, bind, pair, prim}
 use Rattle.mw_term.specs.declared.term.Base.TheVariants.{Int, Bool as Truth}
@@ -10,7 +10,7 @@ use Rattle.mw_meaning.specs.StagedMeaning.{Runs}
 use Rattle.mw_machine.specs.declared.kernels.KernelFault.{KernelFault}
 use Rattle.mw_machine.specs.declared.kernels.Ran.{Ran}
 use Rattle.mw_machine.specs.declared.kernels.Ran.TheVariants as ran
-use Rattle.mw_machine.specs.KernelCalls.{IsRunnable, IsRunAt, IsCallable, kept_after}
+use Rattle.mw_machine.specs.KernelCalls.{IsRunAt, IsCallable, kept_after}
 use Rattle.mw_emitting.specs.TestRuns.{IsSample, TakesIntegers, GivesFunction}
 
 pub seven : IsSample (num (pos 7)) (of_ground (base Int))

@@ -1,6 +1,5 @@
 use Rattle.std.proofs.Common.{length, Ok, is_ok, sym, ap, ◌∙◌, subst}
 use Rattle.std.proofs.lemmas.List.{length-map}
-use Rattle.std.specs.Arc.{arc_value}
 use Rattle.mw_term.specs.Terms.{expression_of, kernel_type_of}
 use Rattle.mw_meaning.specs.KernelMeaning.{kernel_meaning}
 use Rattle.mw_meaning.specs.StandingFor.{StandsFor}
