@@ -1,0 +1,5 @@
+pub mod EmittingLemmas
+pub mod KeptLemmas
+pub mod OtherUnits
+pub mod SampleLemmas
+pub mod ShortIntegers

@@ -1,0 +1,71 @@
+use Rattle.std.proofs.Common.{length, Ok, is_ok, sym, ap, ◌∙◌, subst}
+use Rattle.std.proofs.lemmas.List.{length-map}
+use Rattle.mw_term.specs.Terms.{expression_of, kernel_type_of}
+use Rattle.mw_meaning.specs.KernelMeaning.{kernel_meaning}
+use Rattle.mw_meaning.specs.StandingFor.{StandsFor}
+use Rattle.mw_wasm.specs.Views.{module_of}
+use Rattle.mw_machine.specs.declared.kernels.Ran.TheVariants as ran
+use Rattle.mw_machine.specs.KernelCalls.{IsRunAt}
+use Rattle.mw_kernel.specs.declared.running.Began.TheVariants as began
+use Rattle.mw_kernel.specs.KernelAnswers.{HasStartType}
+use Rattle.mw_kernel.specs.KernelMeanings.{IsBeganFrom}
+use Rattle.mw_emitting.specs.KeptFunctions.{IsKept}
+use Rattle.mw_emitting.proofs.EmittingLemmas.{run_meant, run_at, run_keeps}
+use Rattle.mw_emitting.proofs.KeptLemmas.{all_pushed, function_of_same}
+use Rattle.mw_emitting.proofs.kernels.EmittingKernels.answer.Goals as goal
+
+pub returns-in-Ok-Value-clause-means : goal.returns-in-Ok-Value-clause-means
+returns-in-Ok-Value-clause-means g c =
+    let code = expression_of c.args.code.now in
+    let kind = kernel_type_of c.args.kind.now in
+    let entry = c.in_ok-entry.ensures.entry in
+    run_meant 0 (began.Value c.in-Ok-Value.value c.in-Ok-Value.left) code kind c.args.fuel c.requires.typed.is_code entry.is_text.kernel.literals
+    (subst (λ b. IsBeganFrom kind b (kernel_meaning c.args.fuel 0 code)) c.in-Ok-Value.field-0-is
+    (c.in-Ok-Value.ensures.means code c.requires.typed (subst (λ w. StandsFor (module_of w) code kind) (sym c.module.ensures.wasm) entry.is.stands)))
+
+pub invariant_of-self-in-Ok-Function : goal.invariant_of-self-in-Ok-Function
+invariant_of-self-in-Ok-Function g c = λ open'.
+    let code = expression_of c.args.code.now in
+    let kind = kernel_type_of c.args.kind.now in
+    let entry = c.in_ok-entry.ensures.entry in
+    let function = c.in_ok-function-in-Ok-Function.function in
+    let is = c.in_ok-function-in-Ok-Function.ensures in
+    all_pushed IsKept (is_ok c.push.result) c.self.inside.functions.items c.push.new.self.items function c.push.ensures.items (c.self.invariant open')
+    (function_of_same code (expression_of function.source.code) kind (kernel_type_of function.source.kind) c.in-Ok-Function.running function.running is.code is.kind is.running
+    (run_keeps c.in-Ok-Function.running c.in-Ok-Function.left code kind c.args.fuel c.requires.typed.is_code entry.is_text.kernel.literals
+    (subst (λ b. HasStartType (Ok b) kind) c.in-Ok-Function.field-0-is c.in-Ok-Function.ensures.types)
+    (subst (λ b. IsBeganFrom kind b (kernel_meaning c.args.fuel 0 code)) c.in-Ok-Function.field-0-is
+    (c.in-Ok-Function.ensures.means code c.requires.typed (subst (λ w. StandsFor (module_of w) code kind) (sym c.module.ensures.wasm) entry.is.stands)))))
+
+pub returns-in-Ok-Function-clause-means : goal.returns-in-Ok-Function-clause-means
+returns-in-Ok-Function-clause-means g c =
+    let code = expression_of c.args.code.now in
+    let kind = kernel_type_of c.args.kind.now in
+    let entry = c.in_ok-entry.ensures.entry in
+    run_meant c.len-which.result (began.Function c.in-Ok-Function.running c.in-Ok-Function.left) code kind c.args.fuel c.requires.typed.is_code entry.is_text.kernel.literals
+    (subst (λ b. IsBeganFrom kind b (kernel_meaning c.args.fuel 0 code)) c.in-Ok-Function.field-0-is
+    (c.in-Ok-Function.ensures.means code c.requires.typed (subst (λ w. StandsFor (module_of w) code kind) (sym c.module.ensures.wasm) entry.is.stands)))
+
+pub returns-in-Ok-Function-clause-types : goal.returns-in-Ok-Function-clause-types
+returns-in-Ok-Function-clause-types g c =
+    let kind = kernel_type_of c.args.kind.now in
+    subst (λ next. IsRunAt (Ok (ran.Function c.len-which.result c.in-Ok-Function.left)) kind next) (c.len-which.ensures ∙ c.self.inside.functions.ok.0 ∙ sym (length-map c.self.inside.functions.items (λ f. f.source)) ∙ ap (λ s. length s.functions) c.self.view_is)
+    (run_at c.len-which.result (began.Function c.in-Ok-Function.running c.in-Ok-Function.left) kind (subst (λ b. HasStartType (Ok b) kind) c.in-Ok-Function.field-0-is c.in-Ok-Function.ensures.types))
+
+pub returns-in-Ok-Trap-clause-means : goal.returns-in-Ok-Trap-clause-means
+returns-in-Ok-Trap-clause-means g c =
+    let code = expression_of c.args.code.now in
+    let kind = kernel_type_of c.args.kind.now in
+    let entry = c.in_ok-entry.ensures.entry in
+    run_meant 0 (began.Trap c.in-Ok-Trap.trap) code kind c.args.fuel c.requires.typed.is_code entry.is_text.kernel.literals
+    (subst (λ b. IsBeganFrom kind b (kernel_meaning c.args.fuel 0 code)) c.in-Ok-Trap.field-0-is
+    (c.in-Ok-Trap.ensures.means code c.requires.typed (subst (λ w. StandsFor (module_of w) code kind) (sym c.module.ensures.wasm) entry.is.stands)))
+
+pub returns-in-Ok-Bound-clause-means : goal.returns-in-Ok-Bound-clause-means
+returns-in-Ok-Bound-clause-means g c =
+    let code = expression_of c.args.code.now in
+    let kind = kernel_type_of c.args.kind.now in
+    let entry = c.in_ok-entry.ensures.entry in
+    run_meant 0 (began.Bound c.in-Ok-Bound.limit) code kind c.args.fuel c.requires.typed.is_code entry.is_text.kernel.literals
+    (subst (λ b. IsBeganFrom kind b (kernel_meaning c.args.fuel 0 code)) c.in-Ok-Bound.field-0-is
+    (c.in-Ok-Bound.ensures.means code c.requires.typed (subst (λ w. StandsFor (module_of w) code kind) (sym c.module.ensures.wasm) entry.is.stands)))

@@ -1,0 +1,4 @@
+pub mod Answers
+pub mod EmittingStates
+pub mod KeptFunctions
+pub mod TestRuns

@@ -1,0 +1,103 @@
+// A function that a run gave.
+
+ghost use Rattle.std.specs.Prelude.{◌≡◌, false, IfOk, Err};
+ghost use Rattle.mw_term.specs.Terms.{expression_of, kernel_type_of, base_value_of, ground_value_of};
+ghost use Rattle.mw_meaning.specs.declared.mode.Mode.TheVariants.{Plain};
+ghost use Rattle.mw_machine.specs.KernelCalls.{IsArgumentOf, IsCallAt, LeavesAtMost, AnswersCall, ends_all};
+ghost use Rattle.mw_kernel.specs.Invoking.{FitsWords};
+ghost use Rattle.mw_emitting.specs.Answers.{IsWant, IsOnlyWant};
+ghost use Rattle.mw_emitting.specs.KeptFunctions.{IsKept};
+
+use crate::copies::copied;
+use mw_kernel::{RunFault, Running};
+use mw_machine::{KernelFault, Ran};
+use mw_term::{BaseValue, GroundValue, KType, Term, copied_kernel_type};
+use std::alloc::{AllocError, Global};
+
+/// The code and the type of a run.
+#[derive(Drop)]
+pub struct Source {
+    pub code: Term,
+    pub kind: KType,
+}
+
+/// A function that a run gave, with the run's code and type.
+#[derive(Drop)]
+pub struct Function {
+    pub source: Source,
+    pub running: Running,
+}
+
+impl Function {
+    /// The function that a run of the code at the type gave.
+    pub fn of(
+        alloc: Global,
+        code: &Term,
+        kind: &KType,
+        running: Running,
+    ) -> Result<Function, AllocError>
+        ensures code { IfOk result (λ function. expression_of function.source.code ≡ expression_of code.now) }
+        ensures kind { IfOk result (λ function. kernel_type_of function.source.kind ≡ kernel_type_of kind.now) }
+        ensures running { IfOk result (λ function. function.running ≡ running) }
+    {
+        Ok(Function {
+            source: Source {
+                code: copied(alloc, code)?,
+                kind: copied_kernel_type(alloc, kind)?,
+            },
+            running,
+        })
+    }
+
+    /// Calls the function. After a value it is kept as it was.
+    pub fn call(
+        &mut self,
+        alloc: Global,
+        argument: &GroundValue,
+        fuel: u64,
+    ) -> Result<Ran, KernelFault>
+        requires kept { IsKept self.old }
+        requires argument { IsArgumentOf (kernel_type_of self.old.source.kind) (ground_value_of argument.now) }
+        ensures types { IsCallAt result (kernel_type_of self.old.source.kind) }
+        ensures left { LeavesAtMost result fuel }
+        ensures means { AnswersCall Plain result (expression_of self.old.source.code) (kernel_type_of self.old.source.kind) (ground_value_of argument.now) fuel }
+        ensures want { IsOnlyWant result }
+        ensures source { self.new.source ≡ self.old.source }
+        ensures keeps { ends_all result ≡ false → IsKept self.new }
+    {
+        has_words(argument);
+        match self.running.call(alloc, argument, fuel) {
+            Ok(ran) => Ok(ran),
+            Err(fault) => Err(want(fault)),
+        }
+    }
+}
+
+/// Want of memory, as kernels answer it.
+pub fn want(fault: RunFault) -> KernelFault
+    requires { IsWant fault }
+    ensures { IsOnlyWant (Err result) }
+{
+    match fault {
+        RunFault::Memory(error) => KernelFault::Memory(error),
+        RunFault::Bad => unreachable!(),
+    }
+}
+
+/// Reads the whole value: each of its integers has 64 bits.
+fn has_words(value: &GroundValue)
+    ensures { FitsWords (ground_value_of value.now) }
+{
+    match value {
+        GroundValue::Base(base) => base_has_words(*base),
+        GroundValue::Pair(first, second) => {
+            has_words(first);
+            has_words(second);
+        }
+    }
+}
+
+/// Likewise of a base value.
+fn base_has_words(_value: BaseValue)
+    ensures { FitsWords (base_value_of _value) }
+{}
