@@ -1,11 +1,10 @@
 -- What the machine asks of a program that was read and checked.
-use Rattle.std.proofs.Common.{◌≡◌, ◌≤◌, ◌<◌, ◌^◌, ℕ, zero, suc, List, [], ◌∷◌, map, length, ap, arith, Some, None, Result, Ok, Err, refl, false, sym, ◌∙◌}
+use Rattle.std.proofs.Common.{◌≡◌, ◌≤◌, ◌<◌, ◌^◌, ℕ, zero, suc, List, [], ◌∷◌, map, length, ap, arith, Some, Result, Ok, Err, refl, sym, ◌∙◌}
 use Rattle.std.specs.Prelude.{slice_get, IfOk}
 use Rattle.std.specs.List.{AllByRecursion}
 use Rattle.std.proofs.lemmas.List.{length-map}
-use Rattle.mw_term.specs.Terms.{Expression, KernelType, depth_of, close, bracket, expression_of, kernel_type_of}
-use Rattle.mw_term.specs.Closed.{IsCode}
-use Rattle.mw_term.specs.Programs.{Definition, value, kernel, PureProgram, definition_of, program_of, program_size}
+use Rattle.mw_term.specs.Terms.{expression_of, kernel_type_of}
+use Rattle.mw_term.specs.Programs.{Definition, value, kernel, definition_of, program_of, program_size}
 use Rattle.mw_term.specs.declared.program.Item.{Item}
 use Rattle.mw_term.specs.declared.program.ItemKind.TheVariants.{Kernel}
 use Rattle.mw_term.specs.declared.term.KType.{KType}
@@ -24,7 +23,7 @@ use Rattle.mw_scope.specs.Resolving.{KeepsNames}
 use Rattle.mw_scope.proofs.ScopedPrograms.{nameless_is_scoped}
 use Rattle.mw_infer.specs.Checking.{IsResolved}
 use Rattle.mw_infer.proofs.Resolved as resolved
-use Rattle.mw_machine.specs.Starting.{AreBuilt, definitions_of}
+use Rattle.mw_machine.specs.Starting.{definitions_of}
 use Rattle.mw_script.specs.Starts.{IsBuilt, AreAllBuilt}
 
 few_items : (p : Program) (items : List PureItem) → map (λ (i : Item). i.name) p.items ≡ map name_of items → length items ≤ 1000
