@@ -1,11 +1,10 @@
--- What the machine asks of a program that was read, checked and found to have small types.
-use Rattle.std.proofs.Common.{◌≡◌, ◌≤◌, ◌<◌, ◌^◌, ℕ, zero, suc, List, [], ◌∷◌, map, length, ap, subst, arith, Some, None, Result, Ok, Err, refl, false, sym, ◌∙◌}
+-- What the machine asks of a program that was read and checked.
+use Rattle.std.proofs.Common.{◌≡◌, ◌≤◌, ◌<◌, ◌^◌, ℕ, zero, suc, List, [], ◌∷◌, map, length, ap, arith, Some, Result, Ok, Err, refl, sym, ◌∙◌}
 use Rattle.std.specs.Prelude.{slice_get, IfOk}
 use Rattle.std.specs.List.{AllByRecursion}
 use Rattle.std.proofs.lemmas.List.{length-map}
-use Rattle.mw_term.specs.Terms.{Expression, KernelType, depth_of, close, bracket, expression_of, kernel_type_of}
-use Rattle.mw_term.specs.Closed.{IsCode}
-use Rattle.mw_term.specs.Programs.{Definition, value, kernel, PureProgram, definition_of, program_of, program_size}
+use Rattle.mw_term.specs.Terms.{expression_of, kernel_type_of}
+use Rattle.mw_term.specs.Programs.{Definition, value, kernel, definition_of, program_of, program_size}
 use Rattle.mw_term.specs.declared.program.Item.{Item}
 use Rattle.mw_term.specs.declared.program.ItemKind.TheVariants.{Kernel}
 use Rattle.mw_term.specs.declared.term.KType.{KType}
@@ -24,8 +23,7 @@ use Rattle.mw_scope.specs.Resolving.{KeepsNames}
 use Rattle.mw_scope.proofs.ScopedPrograms.{nameless_is_scoped}
 use Rattle.mw_infer.specs.Checking.{IsResolved}
 use Rattle.mw_infer.proofs.Resolved as resolved
-use Rattle.mw_machine.specs.Starting.{AreBuilt, definitions_of}
-use Rattle.mw_term.specs.SmallTypes.{HasSmallDefinition}
+use Rattle.mw_machine.specs.Starting.{definitions_of}
 use Rattle.mw_script.specs.Starts.{IsBuilt, AreAllBuilt}
 
 few_items : (p : Program) (items : List PureItem) → map (λ (i : Item). i.name) p.items ≡ map name_of items → length items ≤ 1000
@@ -44,12 +42,6 @@ are_resolved tokens s (Ok p) program h names nodes =
     resolved.is_resolved (program_of p) nodes (λ i e at. scoped.items i (value e) at) (λ i k e at. scoped.items i (kernel k e) at) scoped.body
     (few_items p s.items names program.few.items)
 are_resolved tokens s (Err e) program h names nodes = tt
-
-pub small_at : (items : List Item) → AllByRecursion (λ i. HasSmallDefinition (definition_of i.kind)) items
-    → (i : ℕ) (d : Definition) → slice_get (definitions_of items) i ≡ Some d → HasSmallDefinition d
-small_at [] h i d e = absurd (cc)
-small_at (x ∷ items) h zero d e = let same : definition_of x.kind ≡ d = cc in subst HasSmallDefinition same h.0
-small_at (x ∷ items) h (suc i) d e = small_at items h.1 i d e
 
 built_more : (d : Definition) (ds : List Definition) → IsBuilt d → AreAllBuilt ds → AreAllBuilt (d ∷ ds)
 built_more (value e) ds h t = t

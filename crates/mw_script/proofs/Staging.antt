@@ -1,10 +1,9 @@
 -- A machine that was started may turn, and one that ended with code has it.
-use Rattle.std.proofs.Common.{◌≡◌, ℕ, List, [], Some, None, Option, Result, Ok, Err, refl, false, Bool, sym, subst}
+use Rattle.std.proofs.Common.{◌≡◌, ℕ, List, Some, None, Option, Result, Ok, Err, refl, false, Bool, subst}
 use Rattle.std.specs.Prelude.{slice_get, IfSome}
 use Rattle.mw_term.specs.Terms.{Expression, Value, KernelType}
-use Rattle.mw_term.specs.Programs.{Definition, kernel, PureProgram, program_of}
+use Rattle.mw_term.specs.Programs.{kernel, PureProgram, program_of}
 use Rattle.mw_term.specs.declared.program.Program.{Program}
-use Rattle.mw_region.specs.declared.pool.Id.{Id}
 use Rattle.mw_meaning.specs.declared.mode.Mode.TheVariants.{Plain}
 use Rattle.mw_meaning.specs.Outcomes.{names_of_main}
 use Rattle.mw_meaning.specs.StagedMeaning.{Runs}

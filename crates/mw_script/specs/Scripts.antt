@@ -1,5 +1,5 @@
 -- The functions that scripted kernels keep.
-use Rattle.std.specs.Prelude.{◌≡◌, List, map}
+use Rattle.std.specs.Prelude.{◌≡◌, map}
 use Rattle.mw_term.specs.Terms.{Expression, KernelType, expression_of, kernel_type_of}
 use Rattle.mw_meaning.specs.StagedMeaning.{Runs}
 use Rattle.mw_script.specs.declared.scripts.Kept.{Kept}

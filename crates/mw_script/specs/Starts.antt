@@ -1,5 +1,5 @@
 -- Where the machine can start, and what it ended with.
-use Rattle.std.specs.Prelude.{ℕ, ◌≡◌, ◌≤◌, false, List, Result, Ok, Err}
+use Rattle.std.specs.Prelude.{ℕ, ◌≡◌, ◌≤◌, false, List, Result, Ok}
 use Rattle.mw_term.specs.Terms.{Expression, close, bracket, depth_of}
 use Rattle.mw_term.specs.Closed.{IsCode}
 use Rattle.mw_term.specs.Programs.{Definition, value as defines, kernel, PureProgram}

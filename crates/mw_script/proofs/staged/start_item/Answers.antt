@@ -1,5 +1,4 @@
 use Rattle.mw_term.specs.Terms.{expression_of, kernel_type_of}
-use Rattle.mw_term.specs.Programs.{program_of, definition_of}
 use Rattle.mw_machine.specs.Evaluations.{item_body}
 use Rattle.mw_script.proofs.Sourcing.{kernel_at}
 use Rattle.mw_script.proofs.Staging.{item_started}
