@@ -16,3 +16,6 @@ pub use mw_console::Status;
 
 #[cfg(test)]
 mod tests;
+
+#[cfg(test)]
+mod tests;
