@@ -1,9 +1,17 @@
 pub mod Counts
+pub mod Faults
+pub mod Fronts
+pub mod ItemEnds
 pub mod ItemsRun
+pub mod Loops
 pub mod ModuleLemmas
 pub mod OneMeaning
 pub mod ProgramEnds
 pub mod RunLemmas
+pub mod RunWritten
 pub mod ScopedTerms
+pub mod Showing
 pub mod SomeMeaning
 pub mod SourceReadings
+pub mod SourceWritten
+pub mod Taking

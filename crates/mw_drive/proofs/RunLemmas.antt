@@ -10,7 +10,7 @@ use Rattle.mw_term.specs.declared.refusal.Refusal.TheVariants.{TooLarge}
 use Rattle.mw_meaning.specs.declared.mode.Mode.{Mode}
 use Rattle.mw_meaning.specs.declared.mode.Mode.TheVariants.{Plain}
 use Rattle.mw_words.specs.Words.{PureCommand, run, sample, Means}
-use Rattle.mw_words.proofs.OneCommand.{one_command}
+use Rattle.mw_words.proofs.LawLemmas.{one_command}
 use Rattle.mw_console.specs.Reading.{most_read, IsFront, IsRest}
 use Rattle.mw_console.specs.Texts.{answered, trapped, bounded}
 use Rattle.mw_console.specs.declared.status.Status.{Status}
@@ -78,8 +78,8 @@ told_or_lacking {told = told} {file = file} a b = both (file_of told file) a.fou
 -- What words that mean a run ask for is the run of the bytes of its file, and what a sample's ask for is the sample.
 pub asked_of_run : {words : List (List ℕ)} {tells : Bool} {told : List NamedFile} (workers fuel : ℕ) (file : List ℕ) → Means words (run workers fuel file) → (work : Work) → Asks words tells told work
     → (bytes : List ℕ) × IsTellingOf tells told file bytes × (work ≡ running bytes fuel Plain)
-asked_of_run {tells = tells} {told = told} workers fuel file means work (asks_run {fuel = other} {bytes = bytes} a) =
-    let e = one_command means a.means in
+asked_of_run {words = words} {tells = tells} {told = told} workers fuel file means work (asks_run {fuel = other} {bytes = bytes} a) =
+    let e = one_command words _ _ means a.means in
     (bytes, record { telling = a.telling; found = subst (λ f. file_of told f ≡ Some bytes) (sym (file_is e)) a.found }, ap (λ n. running bytes n Plain) (sym (fuel_is e)))
   where
     file_is : {v w m n : ℕ} {f g : List ℕ} → run v m f ≡ run w n g → f ≡ g
@@ -87,30 +87,30 @@ asked_of_run {tells = tells} {told = told} workers fuel file means work (asks_ru
 
     fuel_is : {v w m n : ℕ} {f g : List ℕ} → run v m f ≡ run w n g → m ≡ n
     fuel_is e = cc
-asked_of_run workers fuel file means work (asks_sample {number = number} other) = absurd (clash (one_command means other))
+asked_of_run {words = words} workers fuel file means work (asks_sample {number = number} other) = absurd (clash (one_command words _ _ means other))
   where
     clash : run workers fuel file ≡ sample number → ⊥
     clash e = cc
 
 pub asked_of_sample : {words : List (List ℕ)} {tells : Bool} {told : List NamedFile} (number : ℕ) → Means words (sample number) → (work : Work) → Asks words tells told work → work ≡ sampling number
-asked_of_sample number means work (asks_sample other) = ap sampling (same (one_command other means))
+asked_of_sample {words = words} number means work (asks_sample other) = ap sampling (same (one_command words _ _ other means))
   where
     same : {m n : ℕ} → sample m ≡ sample n → m ≡ n
     same e = cc
-asked_of_sample number means work (asks_run a) = absurd (clash (one_command means a.means))
+asked_of_sample {words = words} number means work (asks_run a) = absurd (clash (one_command words _ _ means a.means))
   where
     clash : {w n : ℕ} {f : List ℕ} → sample number ≡ run w n f → ⊥
     clash e = cc
 
 -- The missing file of a run's words is the run's, and a sample has none.
 pub lacking_of_run : {words : List (List ℕ)} {tells : Bool} {told : List NamedFile} (workers fuel : ℕ) (file : List ℕ) → Means words (run workers fuel file) → AsksMissing words tells told → IsLacking tells told file
-lacking_of_run {told = told} workers fuel file means a = record { telling = a.telling; missing = subst (λ f. IsNone (file_of told f)) (sym (file_is (one_command means a.means))) a.missing }
+lacking_of_run {words = words} {told = told} workers fuel file means a = record { telling = a.telling; missing = subst (λ f. IsNone (file_of told f)) (sym (file_is (one_command words _ _ means a.means))) a.missing }
   where
     file_is : {v w m n : ℕ} {f g : List ℕ} → run v m f ≡ run w n g → f ≡ g
     file_is e = cc
 
 pub no_file_of_sample : {words : List (List ℕ)} {tells : Bool} {told : List NamedFile} (number : ℕ) → Means words (sample number) → AsksMissing words tells told → ⊥
-no_file_of_sample number means a = clash (one_command means a.means)
+no_file_of_sample {words = words} number means a = clash (one_command words _ _ means a.means)
   where
     clash : {w n : ℕ} {f : List ℕ} → sample number ≡ run w n f → ⊥
     clash e = cc

@@ -5,4 +5,5 @@ pub mod Works
 pub mod WorkLaws
 pub mod Written
 pub mod ProgramRuns
+pub mod WrittenItems
 pub mod Running

@@ -1,5 +1,5 @@
 -- What the top call says of words, source and sink.
-use Rattle.std.specs.Prelude.{◌≡◌, ℕ, List, ◌++◌, drop, Some, IsNone, Bool, IsTrue}
+use Rattle.std.specs.Prelude.{◌≡◌, ℕ, List, ◌++◌, drop, Some, IsNone, Bool, IsTrue, Result, Ok, Err}
 use Rattle.mw_outside.specs.declared.named.NamedFile.{NamedFile}
 use Rattle.mw_outside.specs.Count.{GrowsByFront}
 use Rattle.mw_outside.specs.Lookup.{file_of}

@@ -1,14 +1,18 @@
 // The kernel items of a program, one after the other.
 
-ghost use Rattle.std.specs.Prelude.{◌≡◌, IfOk, option_map, Some, slice_get};
+ghost use Rattle.std.specs.Prelude.{◌≡◌, ◌≤◌, ℕ, length, IfOk, Ok, Some, slice_get};
+ghost use Rattle.std.specs.Option.{option_map};
 ghost use Rattle.std.specs.List.{AllByRecursion};
+ghost use Rattle.mw_term.specs.Terms.{expression_of};
 ghost use Rattle.mw_term.specs.Programs.{program_of};
-ghost use Rattle.mw_term.specs.declared.program.Item.{Item as PureItem};
 ghost use Rattle.mw_term.specs.SmallTypes.{HasSmallTypes};
 ghost use Rattle.mw_term.specs.Typable.{Typable};
+ghost use Rattle.mw_meaning.specs.declared.mode.Mode.TheVariants.{Plain};
+ghost use Rattle.mw_meaning.specs.Outcomes.{item_outcome, names_of_items};
 ghost use Rattle.mw_infer.specs.Checking.{HasSmallKernels};
+ghost use Rattle.mw_tasks.specs.TaskOutcomes.{IsKernelOf, IsItemOutcome};
 ghost use Rattle.mw_drive.specs.NamedPrograms.{item_of, named_program_of};
-ghost use Rattle.mw_drive.specs.ProgramRuns.{ending_of, kernels_of, IsBuilt, IsEndOf, IsItemsRun, AreItemsRun};
+ghost use Rattle.mw_drive.specs.ProgramRuns.{ending_of, kernels_of, IsBuilt, IsEndOf, IsItemsRun};
 
 use crate::ending::End;
 use mw_compile::Entry;
@@ -39,7 +43,7 @@ pub enum ItemEnd<'p> {
 /// The kernel items that gave code, up to the first that gave none, and how that one ended the program.
 #[derive(Drop)]
 pub struct ItemsEnd<'p> {
-    pub kernels: Vec<Built<'p>>,
+    pub built: Vec<Built<'p>>,
     pub end: Option<End<'p>>,
 }
 
@@ -53,8 +57,9 @@ pub fn evaluate_items<'p, L: Ledger>(
     requires typable { Typable (program_of program.now) }
     requires small { HasSmallTypes (program_of program.now) }
     requires kernels { HasSmallKernels (program_of program.now) }
-    ensures run { IfOk result (λ items. IsItemsRun fuel (named_program_of program.now) (kernels_of items.kernels.items) (option_map ending_of items.end)) }
-    ensures built { IfOk result (λ items. AllByRecursion IsBuilt items.kernels.items) }
+    ensures run { IfOk result (λ items. IsItemsRun fuel (named_program_of program.now) (kernels_of items.built.items) (option_map ending_of items.end)) }
+    ensures built { IfOk result (λ items. AllByRecursion IsBuilt items.built.items) }
+    ensures few { IfOk result (λ items. length items.built.items ≤ length program.now.items) }
 {
     let mut built = Vec::new(alloc);
     for at in 0..program.items.len() {
@@ -63,16 +68,13 @@ pub fn evaluate_items<'p, L: Ledger>(
             ItemEnd::Code(kernel) => built.push(kernel)?,
             ItemEnd::Ended(end) => {
                 return Ok(ItemsEnd {
-                    kernels: built,
+                    built,
                     end: Some(end),
                 });
             }
         }
     }
-    Ok(ItemsEnd {
-        kernels: built,
-        end: None,
-    })
+    Ok(ItemsEnd { built, end: None })
 }
 
 /// What an item of the program comes to.

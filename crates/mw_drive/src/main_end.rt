@@ -1,5 +1,16 @@
 // Main, where all kernel items gave code.
 
+ghost use Rattle.std.specs.Prelude.{◌≡◌, true, [], map, All, IfOk};
+ghost use Rattle.mw_term.specs.Terms.{expression_of};
+ghost use Rattle.mw_term.specs.Limits.{within_limits};
+ghost use Rattle.mw_term.specs.Programs.{program_of};
+ghost use Rattle.mw_term.specs.SmallTypes.{HasSmallTypes};
+ghost use Rattle.mw_term.specs.Typable.{Typable};
+ghost use Rattle.mw_meaning.specs.declared.mode.Mode.TheVariants.{Plain};
+ghost use Rattle.mw_meaning.specs.OutcomeLaws.{AreCodesOf};
+ghost use Rattle.mw_drive.specs.ProgramMeaning.{ended, main_after};
+ghost use Rattle.mw_drive.specs.ProgramRuns.{ending_of};
+
 use crate::ending::End;
 use mw_emitting::EmittingKernels;
 use mw_machine::KernelFault;

@@ -8,10 +8,11 @@ ghost use Rattle.mw_term.specs.Typable.{Typable};
 ghost use Rattle.mw_infer.specs.Checking.{HasSmallKernels};
 ghost use Rattle.mw_drive.specs.NamedPrograms.{named_program_of};
 ghost use Rattle.mw_drive.specs.ProgramRuns.{kernels_of, codes_of, IsWrittenRun};
+ghost use Rattle.mw_drive.specs.WrittenItems.{AreWrittenItems};
 ghost use Rattle.mw_drive.specs.Written.{Blames};
 
 use crate::ending::write_end;
-use crate::items::{Built, evaluate_items};
+use crate::items::{Built, ItemsEnd, evaluate_items};
 use crate::main_end::main_end;
 use crate::shown::{Shown, write_kernels};
 use mw_console::Status;
@@ -43,22 +44,53 @@ pub fn write_run<K: Sink, L: Ledger>(
     ensures count { K.faults sink.old ≤ K.faults sink.new }
 {
     let mut kernels = EmittingKernels::<L>::new(alloc, blank);
-    let items = evaluate_items(alloc, &program, fuel, &mut kernels)?;
-    write_kernels(alloc, sink, shown, items.kernels.as_slice())?;
-    if let Some(end) = &items.end {
-        return write_end(alloc, sink, end);
+    match write_items(alloc, &program, fuel, shown, sink, &mut kernels)? {
+        AfterItems::Ended(status) => Ok(status),
+        AfterItems::Main(codes) => {
+            let end = main_end(alloc, program, codes, fuel, &mut kernels)?;
+            write_end(alloc, sink, &end)
+        }
     }
-    let codes = codes(alloc, items.kernels)?;
-    let end = main_end(alloc, program, codes, fuel, &mut kernels)?;
-    write_end(alloc, sink, &end)
+}
+
+/// What is left of a program after its kernel items: nothing, since it ended, or main after their codes.
+#[derive(Drop)]
+pub enum AfterItems {
+    Ended(Status),
+    Main(Vec<Term>),
+}
+
+/// Evaluates the kernel items, and writes what is shown of them and, where one ended the program, the last line.
+fn write_items<K: Sink, L: Ledger>(
+    alloc: Global,
+    program: &Program,
+    fuel: u64,
+    shown: Shown,
+    sink: &mut K,
+    kernels: &mut EmittingKernels<L>,
+) -> Result<AfterItems, WriteFault>
+    requires typable { Typable (program_of program.now) }
+    requires small { HasSmallTypes (program_of program.now) }
+    requires kernels { HasSmallKernels (program_of program.now) }
+    requires few { length program.now.items < 2 ^ 32 }
+    ensures items { AreWrittenItems shown fuel (named_program_of program.now) result K.tells (K.written sink.old) (K.written sink.new) }
+    ensures blames { Blames result (K.faults sink.old) (K.faults sink.new) }
+    ensures count { K.faults sink.old ≤ K.faults sink.new }
+{
+    let ItemsEnd { built, end } = evaluate_items(alloc, program, fuel, kernels)?;
+    write_kernels(alloc, sink, shown, built.as_slice())?;
+    match end {
+        Some(end) => Ok(AfterItems::Ended(write_end(alloc, sink, &end)?)),
+        None => Ok(AfterItems::Main(codes(alloc, built)?)),
+    }
 }
 
 /// The codes of the kernels, in order.
-fn codes(alloc: Global, kernels: Vec<Built<'_>>) -> Result<Vec<Term>, AllocError>
-    ensures { IfOk result (λ codes. map expression_of codes.items ≡ codes_of (kernels_of kernels.items)) }
+fn codes(alloc: Global, built: Vec<Built<'_>>) -> Result<Vec<Term>, AllocError>
+    ensures { IfOk result (λ codes. map expression_of codes.items ≡ codes_of (kernels_of built.entry.items)) }
 {
     let mut codes = Vec::new(alloc);
-    for kernel in kernels {
+    for kernel in built {
         codes.push(kernel.code)?;
     }
     Ok(codes)

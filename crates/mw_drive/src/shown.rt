@@ -1,10 +1,11 @@
 // What is written of the kernels that gave code.
 
 ghost use Rattle.std.specs.Prelude.{◌≡◌, ◌≤◌, ◌<◌, ◌^◌, length};
-ghost use Rattle.std.specs.List.{AllByRecursion};
+ghost use Rattle.std.specs.List.{AllByRecursion, flat_map};
 ghost use Rattle.mw_meaning.specs.declared.mode.Mode.TheVariants.{Plain};
 ghost use Rattle.mw_drive.specs.Works.{kernel_lines, module_bytes};
 ghost use Rattle.mw_drive.specs.ProgramRuns.{kernel_of, kernels_of, IsBuilt, shown_text};
+ghost use Rattle.mw_drive.specs.declared.shown.Shown.TheVariants.{Totals};
 ghost use Rattle.mw_drive.specs.Written.{Writes, Blames};
 
 use crate::items::Built;

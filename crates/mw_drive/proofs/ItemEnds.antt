@@ -1,0 +1,82 @@
+-- What an item comes to.
+use Rattle.std.proofs.Common.{◌≡◌, ◌≤◌, ◌+◌, ℕ, zero, suc, List, [], ◌∷◌, ◌++◌, map, take, drop, true, Some, refl, sym, ap, ◌∙◌, subst, arith}
+use Rattle.std.specs.Prelude.{slice_get}
+use Rattle.std.specs.List.{AllByRecursion}
+use Rattle.std.proofs.lemmas.Option.{slice_get-map}
+use Rattle.mw_term.specs.Terms.{Expression, expression_of, kernel_type_of}
+use Rattle.mw_term.specs.Programs.{Definition, value as defines, kernel, definition_of, program_of}
+use Rattle.mw_term.specs.Typable.{Typable, HasKernelType}
+use Rattle.mw_term.specs.Limits.{within_limits, kernel_nodes}
+use Rattle.mw_term.specs.declared.program.Program.{Program}
+use Rattle.mw_term.specs.declared.program.Item.{Item}
+use Rattle.mw_term.specs.declared.program.ItemKind.{ItemKind}
+use Rattle.mw_term.specs.declared.program.ItemKind.TheVariants.{Value, Kernel as KernelItem}
+use Rattle.mw_term.specs.declared.term.KType.{KType}
+use Rattle.mw_term.specs.declared.term.Term.{Term}
+use Rattle.mw_term.specs.declared.value.TrapKind.{TrapKind}
+use Rattle.mw_term.specs.declared.value.Limit.{Limit}
+use Rattle.mw_meaning.specs.declared.mode.Mode.TheVariants.{Plain}
+use Rattle.mw_meaning.specs.Outcomes.{Outcome, came_to, trapped, bounded, stuck, item_outcome, names_of_items}
+use Rattle.mw_meaning.proofs.ComingTo.{items_come_to_their_code}
+use Rattle.mw_infer.specs.Checking.{HasSmallKernels}
+use Rattle.mw_tasks.specs.declared.outcome.ItemOutcome.{ItemOutcome}
+use Rattle.mw_tasks.specs.declared.outcome.ItemOutcome.TheVariants as outcome
+use Rattle.mw_tasks.specs.TaskOutcomes.{IsKernelOf, IsItemAnswer}
+use Rattle.mw_drive.proofs.ModuleLemmas.{what_came}
+
+-- an item's definition stands among those of the program
+pub defined_there : (p : Program) (item : Item) (i : ℕ) → slice_get p.items i ≡ Some item → slice_get (program_of p).items i ≡ Some (definition_of item.kind)
+defined_there p item i there = slice_get-map (λ (i : Item). definition_of i.kind) p.items i ∙ rw there refl
+
+pub let_is : (item : Item) (t : Term) → item.kind ≡ Value t → definition_of item.kind ≡ defines (expression_of t)
+let_is item t is = ap definition_of is
+
+pub kernel_is : (item : Item) (k : KType) (t : Term) → item.kind ≡ KernelItem k t → definition_of item.kind ≡ kernel (kernel_type_of k) (expression_of t)
+kernel_is item k t is = ap definition_of is
+
+module _ (p : Program) (item : Item) (k : KType) (t : Term) (is : item.kind ≡ KernelItem k t) (there : (i : ℕ) × (slice_get p.items i ≡ Some item)) where
+  pub kernel_there : slice_get (program_of p).items there.0 ≡ Some (kernel (kernel_type_of k) (expression_of t))
+  kernel_there = defined_there p item there.0 there.1 ∙ ap Some (kernel_is item k t is)
+
+  pub is_kernel_of : IsKernelOf (program_of p) (expression_of t)
+  is_kernel_of = (there.0, kernel_type_of k, kernel_there)
+
+  pub small_kernel : HasSmallKernels (program_of p) → kernel_nodes (kernel_type_of k) ≤ 10000
+  small_kernel small = small there.0 (kernel_type_of k) (expression_of t) kernel_there
+
+  -- its code is closed code of its type, within the limits
+  module _ (fuel : ℕ) (typable : Typable (program_of p)) (o : ItemOutcome) (answer : IsItemAnswer o (item_outcome Plain (names_of_items (program_of p).items) fuel (expression_of t))) where
+    abbrev meant : Outcome Expression
+    meant = item_outcome Plain (names_of_items (program_of p).items) fuel (expression_of t)
+
+    pub code_came : (c : Term) → o ≡ outcome.Code c → meant ≡ came_to (expression_of c)
+    code_came c e = by_outcome meant (subst (λ o. IsItemAnswer o meant) e answer)
+      where
+        by_outcome : (a : Outcome Expression) → IsItemAnswer (outcome.Code c) a → a ≡ came_to (expression_of c)
+        by_outcome (came_to d) h = ap came_to (sym h)
+        by_outcome (trapped u) h = absurd (h)
+        by_outcome (bounded b) h = absurd (h)
+        by_outcome stuck h = absurd (h)
+
+    pub code_typed : (c : Term) → o ≡ outcome.Code c → HasKernelType (expression_of c) (kernel_type_of k) × (within_limits (expression_of c) ≡ true)
+    code_typed c e =
+        what_came (λ c. HasKernelType c (kernel_type_of k) × (within_limits c ≡ true)) meant (expression_of c) (code_came c e)
+        (items_come_to_their_code Plain (program_of p) there.0 (kernel_type_of k) (expression_of t) fuel typable kernel_there)
+
+    pub trap_came : (u : TrapKind) → o ≡ outcome.Trap u → meant ≡ trapped u
+    trap_came u e = by_outcome meant (subst (λ o. IsItemAnswer o meant) e answer)
+      where
+        by_outcome : (a : Outcome Expression) → IsItemAnswer (outcome.Trap u) a → a ≡ trapped u
+        by_outcome (came_to d) h = absurd (h)
+        by_outcome (trapped w) h = ap trapped (sym h)
+        by_outcome (bounded b) h = absurd (h)
+        by_outcome stuck h = absurd (h)
+
+    pub bound_came : (l : Limit) → o ≡ outcome.Bound l → meant ≡ bounded l
+    bound_came l e = by_outcome meant (subst (λ o. IsItemAnswer o meant) e answer)
+      where
+        by_outcome : (a : Outcome Expression) → IsItemAnswer (outcome.Bound l) a → a ≡ bounded l
+        by_outcome (came_to d) h = absurd (h)
+        by_outcome (trapped w) h = absurd (h)
+        by_outcome (bounded b) h = ap bounded (sym h)
+        by_outcome stuck h = absurd (h)

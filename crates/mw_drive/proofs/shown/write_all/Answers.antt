@@ -1,0 +1,25 @@
+use Rattle.std.proofs.Common.{arith}
+use Rattle.mw_drive.specs.ProgramRuns.{IsBuilt}
+use Rattle.mw_drive.proofs.Faults.{front_written}
+use Rattle.mw_drive.proofs.Showing.{lines_written, lines_front}
+use Rattle.mw_drive.proofs.Taking.{all_at, got}
+use Rattle.mw_drive.proofs.shown.write_all.Goals as goal
+
+pub write_kernel-requires : goal.write_kernel-requires
+write_kernel-requires g c =
+    let here = got c.args.kernels.now c.loop-at.at c.index-kernels-at.result (omega (arith, c.loop-at-test.true)) c.index-kernels-at.is in
+    record { built = all_at IsBuilt c.args.kernels.now c.loop-at.at c.index-kernels-at.result c.requires.built here }
+
+pub returns-in_err-write_kernel-clause-writes : goal.returns-in_err-write_kernel-clause-writes
+returns-in_err-write_kernel-clause-writes g c =
+    let here = got c.args.kernels.now c.loop-at.at c.index-kernels-at.result (omega (arith, c.loop-at-test.true)) c.index-kernels-at.is in
+    front_written _ c.from_residual.result g.K.Sink.tells _ _ _ c.from_residual.ensures.1
+    (λ tells. lines_front c.args.kernels.now c.loop-at.at c.index-kernels-at.result _ _ _ here (c.loop-at.invariant.written tells) (c.in_err-write_kernel.ensures.writes tells))
+
+pub loop-at-preserved : goal.loop-at-preserved
+loop-at-preserved g c =
+    let here = got c.args.kernels.now c.loop-at.at c.index-kernels-at.result (omega (arith, c.loop-at-test.true)) c.index-kernels-at.is in
+    record {
+      written = λ tells. lines_written c.args.kernels.now c.loop-at.at c.index-kernels-at.result _ _ _ here (c.loop-at.invariant.written tells) (c.in_ok-write_kernel.ensures.writes tells);
+      count = omega (arith, c.loop-at.invariant.count, c.write_kernel.ensures.count);
+    }
