@@ -1,3 +1,4 @@
+pub mod CommandLemmas
 pub mod Counts
 pub mod Faults
 pub mod Fronts

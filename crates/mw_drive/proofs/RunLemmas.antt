@@ -177,3 +177,17 @@ output_written (Trap k) c h t = let f = h.faithful t in (f.0, output_of_report f
 output_written (Refused r) c h t = let f = h.faithful t in (f.0, output_of_report f.1, f.2)
 output_written (Bound l) c h t = let f = h.faithful t in (f.0, output_of_report f.1, f.2)
 output_written _ c h t = absurd (c)
+
+-- no words mean both
+pub same_run : {words : List (List ℕ)} {w n number : ℕ} {f : List ℕ} → Means words (run w n f) → Means words (sample number) → ⊥
+same_run {words = words} h k = clash (one_command words _ _ h k)
+  where
+    clash : {w n number : ℕ} {f : List ℕ} → run w n f ≡ sample number → ⊥
+    clash e = cc
+
+-- the bytes that are asked for are those of the words' file
+pub asked_telling : {words : List (List ℕ)} {tells : Bool} {told : List NamedFile} {bytes : List ℕ} {units : ℕ} (workers fuel : ℕ) (file : List ℕ) → Means words (run workers fuel file) → AsksFor words tells told units bytes → IsTellingOf tells told file bytes
+asked_telling {words = words} {told = told} {bytes = bytes} workers fuel file means a = record { telling = a.telling; found = subst (λ f. file_of told f ≡ Some bytes) (sym (file_is (one_command words _ _ means a.means))) a.found }
+  where
+    file_is : {v w m n : ℕ} {f g : List ℕ} → run v m f ≡ run w n g → f ≡ g
+    file_is e = cc

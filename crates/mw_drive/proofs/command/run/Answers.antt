@@ -1,83 +1,70 @@
+use Rattle.std.proofs.Common.{inr}
+use Rattle.mw_drive.proofs.CommandLemmas.{sample_range, run_text, run_status, run_faults, run_missing, run_left, no_sample, not_unread, sample_text, sample_status, sample_faults, asks_no_file}
+use Rattle.mw_drive.proofs.RunLemmas.{no_file_of_sample}
 use Rattle.mw_drive.proofs.ModuleLemmas.{meaning_modules}
-use Rattle.mw_drive.proofs.RunLemmas.{whole_report, rest_told, read_up, not_missing, output_of_report, some_output, faithful_report}
 use Rattle.mw_drive.proofs.command.run.Goals as goal
 
-pub returns-in-Ok-write_lines-clause-left : goal.returns-in-Ok-write_lines-clause-left
-returns-in-Ok-write_lines-clause-left g c = λ bytes asks. read_up c.in-Some.command c.in-Some.ensures.some _ c.file.ensures _ bytes _ asks c.in-Ok.ensures.rest
+pub run_sample-requires-clause-some : goal.run_sample-requires-clause-some
+run_sample-requires-clause-some g c = (sample_range c.in-Ok-Sample.number (rw c.in-Ok-Sample.field-0-is at c.in-Ok-Sample.ensures.some)).0
 
-pub returns-in-Ok-write_lines-clause-text : goal.returns-in-Ok-write_lines-clause-text
-returns-in-Ok-write_lines-clause-text g c =
-    λ work asks source sink memory tells.
-    let report = rw c.as_slice.ensures.value at c.in-Ok-report_of.ensures in
-    let whole = whole_report c.in-Some.command c.in-Some.ensures.some _ c.file.ensures work c.in-Ok.bytes.items _ asks c.in-Ok.ensures.ok c.fuel.ensures report in
-    (_, output_of_report whole, rw c.as_slice-2.ensures.value at (c.in-Ok-write_lines.ensures.ok tells))
+pub run_sample-requires-clause-within_limit : goal.run_sample-requires-clause-within_limit
+run_sample-requires-clause-within_limit g c = (sample_range c.in-Ok-Sample.number (rw c.in-Ok-Sample.field-0-is at c.in-Ok-Sample.ensures.some)).1
 
-pub returns-in-Ok-write_lines-clause-status : goal.returns-in-Ok-write_lines-clause-status
-returns-in-Ok-write_lines-clause-status g c =
-    λ work asks source sink memory.
-    let report = rw c.as_slice.ensures.value at c.in-Ok-report_of.ensures in
-    let whole = whole_report c.in-Some.command c.in-Some.ensures.some _ c.file.ensures work c.in-Ok.bytes.items _ asks c.in-Ok.ensures.ok c.fuel.ensures report in
-    (whole.meaning, whole.is_meaning, whole.is_status)
+pub returns-in-Ok-Run-clause-text : goal.returns-in-Ok-Run-clause-text
+returns-in-Ok-Run-clause-text g c = λ work asks source sink memory tells.
+    run_text _ c.in-Ok-Run.fuel c.in-Ok-Run.file.now (rw c.in-Ok-Run.field-0-is at c.in-Ok-Run.ensures.some) c.run_file.result g.K.Sink.tells _ _ _ _ c.run_file.ensures.work c.run_file.ensures.read c.run_file.ensures.write c.run_file.ensures.others
+    work asks source sink memory tells
 
-pub returns-in-Ok-write_lines-clause-faults : goal.returns-in-Ok-write_lines-clause-faults
-returns-in-Ok-write_lines-clause-faults g c =
-    λ work asks tells.
-    let report = rw c.as_slice.ensures.value at c.in-Ok-report_of.ensures in
-    let whole = whole_report c.in-Some.command c.in-Some.ensures.some _ c.file.ensures work c.in-Ok.bytes.items _ asks c.in-Ok.ensures.ok c.fuel.ensures report in
-    faithful_report _ _ whole (rw c.as_slice-2.ensures.value at (c.in-Ok-write_lines.ensures.ok tells))
+pub returns-in-Ok-Run-clause-status : goal.returns-in-Ok-Run-clause-status
+returns-in-Ok-Run-clause-status g c = λ work asks source sink memory.
+    run_status _ c.in-Ok-Run.fuel c.in-Ok-Run.file.now (rw c.in-Ok-Run.field-0-is at c.in-Ok-Run.ensures.some) c.run_file.result g.K.Sink.tells _ _ _ _ c.run_file.ensures.work c.run_file.ensures.read c.run_file.ensures.write c.run_file.ensures.others
+    work asks source sink memory
 
-pub returns-in-Err-Failed-clause-modules : goal.returns-in-Err-Failed-clause-modules
-returns-in-Err-Failed-clause-modules g c = λ work asks meaning is. meaning_modules work meaning is
+pub returns-in-Ok-Run-clause-modules : goal.returns-in-Ok-Run-clause-modules
+returns-in-Ok-Run-clause-modules g c = λ work asks meaning is. meaning_modules work meaning is
 
-pub returns-in-Err-Memory-clause-modules : goal.returns-in-Err-Memory-clause-modules
-returns-in-Err-Memory-clause-modules g c = λ work asks meaning is. meaning_modules work meaning is
+pub returns-in-Ok-Run-clause-faults : goal.returns-in-Ok-Run-clause-faults
+returns-in-Ok-Run-clause-faults g c = λ work asks tells.
+    run_faults _ c.in-Ok-Run.fuel c.in-Ok-Run.file.now (rw c.in-Ok-Run.field-0-is at c.in-Ok-Run.ensures.some) c.run_file.result g.K.Sink.tells _ _ _ _ c.run_file.ensures.work c.run_file.ensures.read c.run_file.ensures.write c.run_file.ensures.others
+    work asks tells
 
-pub returns-in-Err-clause-modules : goal.returns-in-Err-clause-modules
-returns-in-Err-clause-modules g c = λ work asks meaning is. meaning_modules work meaning is
+pub returns-in-Ok-Run-clause-left : goal.returns-in-Ok-Run-clause-left
+returns-in-Ok-Run-clause-left g c = λ fuel bytes asks.
+    run_left _ c.in-Ok-Run.fuel c.in-Ok-Run.file.now (rw c.in-Ok-Run.field-0-is at c.in-Ok-Run.ensures.some) c.run_file.result g.K.Sink.tells _ _ _ _ c.run_file.ensures.work c.run_file.ensures.read c.run_file.ensures.write c.run_file.ensures.others
+    _ c.run_file.ensures.left fuel bytes asks
 
-pub returns-in-Ok-write_lines-clause-modules : goal.returns-in-Ok-write_lines-clause-modules
-returns-in-Ok-write_lines-clause-modules g c = λ work asks meaning is. meaning_modules work meaning is
+pub returns-in-Ok-Run-clause-missing : goal.returns-in-Ok-Run-clause-missing
+returns-in-Ok-Run-clause-missing g c = λ missing.
+    c.run_file.ensures.missing (run_missing _ c.in-Ok-Run.fuel c.in-Ok-Run.file.now (rw c.in-Ok-Run.field-0-is at c.in-Ok-Run.ensures.some) c.run_file.result g.K.Sink.tells _ _ _ _ c.run_file.ensures.work c.run_file.ensures.read c.run_file.ensures.write c.run_file.ensures.others missing)
 
-pub returns-in-Err-Failed-write_lines-clause-modules : goal.returns-in-Err-Failed-write_lines-clause-modules
-returns-in-Err-Failed-write_lines-clause-modules g c = λ work asks meaning is. meaning_modules work meaning is
+pub returns-in-Ok-Run-clause-nothing_missing : goal.returns-in-Ok-Run-clause-nothing_missing
+returns-in-Ok-Run-clause-nothing_missing g c = λ missing tells.
+    c.run_file.ensures.nothing (inr (run_missing _ c.in-Ok-Run.fuel c.in-Ok-Run.file.now (rw c.in-Ok-Run.field-0-is at c.in-Ok-Run.ensures.some) c.run_file.result g.K.Sink.tells _ _ _ _ c.run_file.ensures.work c.run_file.ensures.read c.run_file.ensures.write c.run_file.ensures.others missing)) tells
 
-pub returns-clause-modules : goal.returns-clause-modules
-returns-clause-modules g c = λ work asks meaning is. meaning_modules work meaning is
+pub returns-in-Ok-Run-clause-unread : goal.returns-in-Ok-Run-clause-unread
+returns-in-Ok-Run-clause-unread g c = λ h.
+    absurd (not_unread c.run_file.ensures.others.1 (no_sample _ c.in-Ok-Run.fuel c.in-Ok-Run.file.now (rw c.in-Ok-Run.field-0-is at c.in-Ok-Run.ensures.some) c.run_file.result g.K.Sink.tells _ _ _ _ c.run_file.ensures.work c.run_file.ensures.read c.run_file.ensures.write c.run_file.ensures.others) h)
 
-pub returns-in-Err-Memory-clause-faults : goal.returns-in-Err-Memory-clause-faults
-returns-in-Err-Memory-clause-faults g c = λ work asks tells. some_output work _
+pub returns-in-Ok-Sample-clause-text : goal.returns-in-Ok-Sample-clause-text
+returns-in-Ok-Sample-clause-text g c = λ work asks source sink memory tells.
+    sample_text c.in-Ok-Sample.number (rw c.in-Ok-Sample.field-0-is at c.in-Ok-Sample.ensures.some) c.run_sample.result g.K.Sink.tells _ _ _ c.run_sample.ensures.work c.run_sample.ensures.write c.run_sample.ensures.others work asks sink memory tells
 
-pub returns-in-Err-clause-faults : goal.returns-in-Err-clause-faults
-returns-in-Err-clause-faults g c = λ work asks tells. some_output work _
+pub returns-in-Ok-Sample-clause-status : goal.returns-in-Ok-Sample-clause-status
+returns-in-Ok-Sample-clause-status g c = λ work asks source sink memory.
+    sample_status c.in-Ok-Sample.number (rw c.in-Ok-Sample.field-0-is at c.in-Ok-Sample.ensures.some) c.run_sample.result g.K.Sink.tells _ _ _ c.run_sample.ensures.work c.run_sample.ensures.write c.run_sample.ensures.others work asks sink memory
 
-pub returns-in-Err-Failed-write_lines-clause-faults : goal.returns-in-Err-Failed-write_lines-clause-faults
-returns-in-Err-Failed-write_lines-clause-faults g c =
-    λ work asks tells.
-    let report = rw c.as_slice.ensures.value at c.in-Ok-report_of.ensures in
-    let whole = whole_report c.in-Some.command c.in-Some.ensures.some _ c.file.ensures work c.in-Ok.bytes.items _ asks c.in-Ok.ensures.ok c.fuel.ensures report in
-    (_, output_of_report whole, rw c.as_slice-2.ensures.value at (c.in-Err-Failed-write_lines.ensures.front tells))
+pub returns-in-Ok-Sample-clause-modules : goal.returns-in-Ok-Sample-clause-modules
+returns-in-Ok-Sample-clause-modules g c = λ work asks meaning is. meaning_modules work meaning is
 
-pub returns-clause-faults : goal.returns-clause-faults
-returns-clause-faults g c =
-    λ work asks tells.
-    let report = rw c.as_slice.ensures.value at c.in-Ok-report_of.ensures in
-    let whole = whole_report c.in-Some.command c.in-Some.ensures.some _ c.file.ensures work c.in-Ok.bytes.items _ asks c.in-Ok.ensures.ok c.fuel.ensures report in
-    (_, output_of_report whole, rw c.as_slice-2.ensures.value at (c.in-Err-Memory-write_lines.ensures.front tells))
+pub returns-in-Ok-Sample-clause-faults : goal.returns-in-Ok-Sample-clause-faults
+returns-in-Ok-Sample-clause-faults g c = λ work asks tells.
+    sample_faults c.in-Ok-Sample.number (rw c.in-Ok-Sample.field-0-is at c.in-Ok-Sample.ensures.some) c.run_sample.result g.K.Sink.tells _ _ _ c.run_sample.ensures.work c.run_sample.ensures.write c.run_sample.ensures.others work asks tells
 
-pub returns-in-Err-Failed-write_lines-clause-left : goal.returns-in-Err-Failed-write_lines-clause-left
-returns-in-Err-Failed-write_lines-clause-left g c = λ bytes asks. rest_told c.in-Some.command c.in-Some.ensures.some _ c.file.ensures bytes _ asks c.in-Ok.ensures.rest
+pub returns-in-Ok-Sample-clause-left : goal.returns-in-Ok-Sample-clause-left
+returns-in-Ok-Sample-clause-left g c = λ fuel bytes asks. absurd (asks_no_file c.in-Ok-Sample.number (rw c.in-Ok-Sample.field-0-is at c.in-Ok-Sample.ensures.some) asks)
 
-pub returns-in-Ok-write_lines-clause-missing : goal.returns-in-Ok-write_lines-clause-missing
-returns-in-Ok-write_lines-clause-missing g c = λ missing. absurd (not_missing c.in-Some.command c.in-Some.ensures.some _ c.file.ensures c.in-Ok.bytes.items c.in-Ok.ensures.ok missing)
+pub returns-in-Ok-Sample-clause-missing : goal.returns-in-Ok-Sample-clause-missing
+returns-in-Ok-Sample-clause-missing g c = λ missing. absurd (no_file_of_sample c.in-Ok-Sample.number (rw c.in-Ok-Sample.field-0-is at c.in-Ok-Sample.ensures.some) missing)
 
-pub returns-in-Ok-write_lines-clause-nothing_missing : goal.returns-in-Ok-write_lines-clause-nothing_missing
-returns-in-Ok-write_lines-clause-nothing_missing g c = λ missing tells. absurd (not_missing c.in-Some.command c.in-Some.ensures.some _ c.file.ensures c.in-Ok.bytes.items c.in-Ok.ensures.ok missing)
-
-pub returns-in-Err-Failed-write_lines-clause-missing : goal.returns-in-Err-Failed-write_lines-clause-missing
-returns-in-Err-Failed-write_lines-clause-missing g c = λ missing. absurd (not_missing c.in-Some.command c.in-Some.ensures.some _ c.file.ensures c.in-Ok.bytes.items c.in-Ok.ensures.ok missing)
-
-pub returns-in-Err-Failed-write_lines-clause-nothing_missing : goal.returns-in-Err-Failed-write_lines-clause-nothing_missing
-returns-in-Err-Failed-write_lines-clause-nothing_missing g c = λ missing tells. absurd (not_missing c.in-Some.command c.in-Some.ensures.some _ c.file.ensures c.in-Ok.bytes.items c.in-Ok.ensures.ok missing)
-
-pub returns-clause-nothing_missing : goal.returns-clause-nothing_missing
-returns-clause-nothing_missing g c = λ missing tells. absurd (not_missing c.in-Some.command c.in-Some.ensures.some _ c.file.ensures c.in-Ok.bytes.items c.in-Ok.ensures.ok missing)
+pub returns-in-Ok-Sample-clause-nothing_missing : goal.returns-in-Ok-Sample-clause-nothing_missing
+returns-in-Ok-Sample-clause-nothing_missing g c = λ missing. absurd (no_file_of_sample c.in-Ok-Sample.number (rw c.in-Ok-Sample.field-0-is at c.in-Ok-Sample.ensures.some) missing)
