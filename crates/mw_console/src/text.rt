@@ -268,12 +268,7 @@ pub fn put_totals(
 }
 
 /// The line of a word and a number.
-fn put_total(
-    alloc: Global,
-    text: &mut Vec<u8>,
-    word: &[u8],
-    number: u64,
-) -> Result<(), AllocError>
+fn put_total(alloc: Global, text: &mut Vec<u8>, word: &[u8], number: u64) -> Result<(), AllocError>
     ensures { IfOk result (λ _. text.new.items ≡ text.old.items ++ total_line word.now number) }
 {
     let digits = format!(in alloc; "{number}\n")?;

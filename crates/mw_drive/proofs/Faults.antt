@@ -1,5 +1,5 @@
 -- Calls that ended with a fault.
-use Rattle.std.proofs.Common.{◌≡◌, ℕ, List, Bool, IsTrue, Result, Ok, Err, IfOk}
+use Rattle.std.proofs.Common.{ℕ, List, Bool, IsTrue, Result, Ok, Err, IfOk}
 use Rattle.std.specs.Result.{IsErrAnd}
 use Rattle.mw_outside.specs.Count.{GrowsByFront}
 use Rattle.mw_outside.specs.declared.errors.WriteFault.{WriteFault}

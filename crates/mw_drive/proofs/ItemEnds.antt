@@ -1,15 +1,13 @@
 -- What an item comes to.
-use Rattle.std.proofs.Common.{◌≡◌, ◌≤◌, ◌+◌, ℕ, zero, suc, List, [], ◌∷◌, ◌++◌, map, take, drop, true, Some, refl, sym, ap, ◌∙◌, subst, arith}
+use Rattle.std.proofs.Common.{◌≡◌, ◌≤◌, ℕ, true, Some, refl, sym, ap, ◌∙◌, subst}
 use Rattle.std.specs.Prelude.{slice_get}
-use Rattle.std.specs.List.{AllByRecursion}
 use Rattle.std.proofs.lemmas.Option.{slice_get-map}
 use Rattle.mw_term.specs.Terms.{Expression, expression_of, kernel_type_of}
-use Rattle.mw_term.specs.Programs.{Definition, value as defines, kernel, definition_of, program_of}
+use Rattle.mw_term.specs.Programs.{value as defines, kernel, definition_of, program_of}
 use Rattle.mw_term.specs.Typable.{Typable, HasKernelType}
 use Rattle.mw_term.specs.Limits.{within_limits, kernel_nodes}
 use Rattle.mw_term.specs.declared.program.Program.{Program}
 use Rattle.mw_term.specs.declared.program.Item.{Item}
-use Rattle.mw_term.specs.declared.program.ItemKind.{ItemKind}
 use Rattle.mw_term.specs.declared.program.ItemKind.TheVariants.{Value, Kernel as KernelItem}
 use Rattle.mw_term.specs.declared.term.KType.{KType}
 use Rattle.mw_term.specs.declared.term.Term.{Term}

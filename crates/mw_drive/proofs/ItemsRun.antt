@@ -1,7 +1,6 @@
 -- The run of a program's items, one after the other.
-use Rattle.std.proofs.Common.{◌≡◌, ℕ, zero, suc, List, [], ◌∷◌, ◌++◌, map, take, drop, Option, None, Some, refl, sym, ap, ◌∙◌, subst}
-use Rattle.std.specs.Prelude.{slice_get}
-use Rattle.std.proofs.lemmas.List.{append-nil, map-append}
+use Rattle.std.proofs.Common.{◌≡◌, ℕ, List, [], ◌∷◌, ◌++◌, None, Some, refl, sym, ap, ◌∙◌, subst}
+use Rattle.std.proofs.lemmas.List.{map-append}
 use Rattle.mw_term.specs.Terms.{Expression, KernelType}
 use Rattle.mw_term.specs.Programs.{Definition, value as defines, kernel}
 use Rattle.mw_term.specs.Typable.{HasKernelType}

@@ -1,21 +1,18 @@
 -- The loop over the items of a program.
-use Rattle.std.proofs.Common.{◌≡◌, ◌≤◌, ◌+◌, ◌-◌, ℕ, zero, suc, List, [], ◌∷◌, ◌++◌, map, take, drop, length, None, Some, refl, sym, ap, ◌∙◌, subst, arith}
+use Rattle.std.proofs.Common.{◌≡◌, ◌≤◌, ◌+◌, ℕ, zero, suc, List, [], ◌∷◌, ◌++◌, map, take, drop, length, None, Some, refl, sym, ap, ◌∙◌, subst, arith}
 use Rattle.std.specs.Prelude.{slice_get}
 use Rattle.std.specs.List.{AllByRecursion}
-use Rattle.std.proofs.lemmas.List.{append-nil, map-append, take_all, length-map, length-append}
+use Rattle.std.proofs.lemmas.List.{map-append, take_all, length-append}
 use Rattle.std.proofs.lemmas.Option.{slice_get-map}
 use Rattle.mw_term.specs.Programs.{Definition, PureProgram, program_of}
 use Rattle.mw_term.specs.declared.program.Program.{Program}
 use Rattle.mw_term.specs.declared.program.Item.{Item}
-use Rattle.mw_term.specs.declared.value.TrapKind.{TrapKind}
-use Rattle.mw_term.specs.declared.value.Limit.{Limit}
 use Rattle.mw_drive.specs.declared.ending.End.{End}
 use Rattle.mw_drive.specs.declared.ending.End.TheVariants as end
 use Rattle.mw_drive.specs.declared.items.Built.{Built}
 use Rattle.mw_drive.specs.declared.items.ItemEnd.{ItemEnd}
 use Rattle.mw_drive.specs.declared.items.ItemEnd.TheVariants as item
 use Rattle.mw_drive.specs.NamedPrograms.{NamedItem, NamedProgram, unnamed, item_of, named_program_of}
-use Rattle.mw_drive.specs.ProgramMeaning.{Kernel}
 use Rattle.mw_drive.specs.ProgramRuns.{ending_of, kernel_of, kernels_of, IsBuilt, IsEndOf, IsItemsRun}
 use Rattle.mw_drive.proofs.ItemsRun.{IsRunTo, run_first, run_let, run_code, run_trap, run_bound, run_all}
 use Rattle.mw_drive.proofs.SourceReadings.{unnamed_program}

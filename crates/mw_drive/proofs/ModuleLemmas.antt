@@ -1,5 +1,5 @@
 -- Each kernel of a program has its module.
-use Rattle.std.proofs.Common.{◌≡◌, ◌≤◌, ℕ, List, [], true, Some, refl, sym, ◌∙◌, subst}
+use Rattle.std.proofs.Common.{◌≡◌, ◌≤◌, ℕ, List, true, Some, refl, sym, ◌∙◌, subst}
 use Rattle.std.specs.Prelude.{slice_get}
 use Rattle.std.specs.List.{AllByRecursion}
 use Rattle.mw_term.specs.Terms.{Expression, KernelType}
@@ -28,7 +28,7 @@ use Rattle.mw_console.specs.Texts.{Ending}
 use Rattle.mw_drive.specs.NamedPrograms.{NamedProgram, unnamed}
 use Rattle.mw_drive.specs.SourceReading.{IsRead}
 use Rattle.mw_drive.specs.ProgramMeaning.{Kernel, ProgramRun, ended, program_run}
-use Rattle.mw_drive.specs.Works.{Work, running, Meaning, refused, ran, sampled, as_sample, IsAccepted, IsMeaning, of_refusal, of_types, of_program, of_sample, HasModule, HaveModules}
+use Rattle.mw_drive.specs.Works.{Work, running, Meaning, as_sample, IsAccepted, IsMeaning, of_refusal, of_types, of_program, of_sample, HasModule, HaveModules}
 use Rattle.mw_drive.proofs.ProgramEnds.{Ends, all_end}
 use Rattle.mw_drive.proofs.ScopedTerms.{is_resolved}
 

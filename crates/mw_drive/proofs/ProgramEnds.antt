@@ -13,7 +13,7 @@ use Rattle.mw_meaning.specs.OutcomeLaws.{ComesTo, AreCodesOf, HasGroundType}
 use Rattle.mw_meaning.proofs.ComingTo.{items_come_to_their_code, main_comes_to_its_value_after_items}
 use Rattle.mw_console.specs.Texts.{Ending}
 use Rattle.mw_drive.specs.NamedPrograms.{NamedItem, NamedProgram, unnamed}
-use Rattle.mw_drive.specs.ProgramMeaning.{Kernel, ProgramRun, ended, stuck, main_run, main_after, with_kernel, after_item, run_item, run_items, program_run}
+use Rattle.mw_drive.specs.ProgramMeaning.{Kernel, ProgramRun, ended, main_run, main_after, with_kernel, after_item, run_item, run_items, program_run}
 
 -- the run ends, and each of its kernels has a property
 pub record Ends (P : Kernel → Type 0) (r : ProgramRun) : Type 0 where

@@ -9,7 +9,7 @@ use Rattle.mw_outside.specs.Lookup.{file_of}
 use Rattle.mw_term.specs.declared.refusal.Refusal.TheVariants.{TooLarge}
 use Rattle.mw_meaning.specs.declared.mode.Mode.{Mode}
 use Rattle.mw_meaning.specs.declared.mode.Mode.TheVariants.{Plain}
-use Rattle.mw_words.specs.Words.{PureCommand, run, sample, Means}
+use Rattle.mw_words.specs.Words.{run, sample, Means}
 use Rattle.mw_words.proofs.LawLemmas.{one_command}
 use Rattle.mw_console.specs.Reading.{most_read, IsFront, IsRest}
 use Rattle.mw_console.specs.Texts.{answered, trapped, bounded}

@@ -1,10 +1,10 @@
 -- From the parts of a program's run to what was written of it.
-use Rattle.std.proofs.Common.{◌≡◌, ℕ, List, [], ◌++◌, map, Option, None, Some, Bool, IsTrue, Result, Ok, Err, IfOk, refl, sym, ap, ◌∙◌, subst}
+use Rattle.std.proofs.Common.{◌≡◌, ℕ, List, [], ◌++◌, map, Option, None, Some, Bool, IsTrue, Result, Ok, Err, refl, sym, ap, ◌∙◌, subst}
 use Rattle.std.specs.Result.{IsErrAnd}
 use Rattle.std.proofs.lemmas.List.{append_assoc}
 use Rattle.mw_outside.specs.Count.{GrowsByFront}
 use Rattle.mw_outside.specs.declared.errors.WriteFault.{WriteFault}
-use Rattle.mw_term.specs.Terms.{Expression, PureGroundValue, expression_of}
+use Rattle.mw_term.specs.Terms.{PureGroundValue, expression_of}
 use Rattle.mw_term.specs.Programs.{PureProgram, program_of}
 use Rattle.mw_term.specs.Typable.{Typable}
 use Rattle.mw_term.specs.declared.program.Program.{Program}
@@ -19,7 +19,7 @@ use Rattle.mw_drive.specs.declared.program.AfterItems.{AfterItems}
 use Rattle.mw_drive.specs.declared.program.AfterItems.TheVariants.{Main}
 use Rattle.mw_drive.specs.declared.shown.Shown.{Shown}
 use Rattle.mw_drive.specs.NamedPrograms.{NamedProgram, unnamed, named_program_of}
-use Rattle.mw_drive.specs.ProgramMeaning.{Kernel, ProgramRun, ended, main_run, main_after, program_run}
+use Rattle.mw_drive.specs.ProgramMeaning.{Kernel, ended, main_run, main_after, program_run}
 use Rattle.mw_drive.specs.ProgramRuns.{codes_of, with_kernels, IsItemsRun, shown_text}
 use Rattle.mw_drive.specs.WrittenItems.{AreWrittenItems}
 use Rattle.mw_drive.specs.Written.{Writes}

@@ -1,5 +1,5 @@
 -- What is shown of kernels, one kernel on.
-use Rattle.std.proofs.Common.{◌≡◌, ◌≤◌, ◌<◌, ◌+◌, ◌*◌, ℕ, List, [], ◌∷◌, ◌++◌, map, take, drop, length, true, Some, refl, sym, ap, ◌∙◌, subst, arith}
+use Rattle.std.proofs.Common.{◌≡◌, ◌≤◌, ◌+◌, ◌*◌, ℕ, List, [], ◌∷◌, ◌++◌, map, take, drop, length, true, Some, refl, sym, ap, ◌∙◌, subst, arith}
 use Rattle.std.specs.Prelude.{slice_get}
 use Rattle.std.specs.List.{AllByRecursion, flat_map}
 use Rattle.std.proofs.lemmas.Grind.{flat_map-append}
@@ -14,7 +14,7 @@ use Rattle.mw_term.specs.Limits.{within_limits}
 use Rattle.mw_term.specs.declared.term.Term.{Term}
 use Rattle.mw_drive.specs.Works.{kernel_lines, module_bytes}
 use Rattle.mw_drive.proofs.Fronts.{grows_front, grows_after}
-use Rattle.mw_drive.proofs.Taking.{take_next, drop_next}
+use Rattle.mw_drive.proofs.Taking.{take_next}
 
 kernels_next : (built : List Built) (at : ℕ) (b : Built) → slice_get built at ≡ Some b → kernels_of (take (at + 1) built) ≡ kernels_of (take at built) ++ kernel_of b ∷ []
 kernels_next built at b here = ap kernels_of (take_next built at b here) ∙ map-append kernel_of (take at built) (b ∷ [])
@@ -52,8 +52,8 @@ lines_front built at b old mid new here before h =
     let front : GrowsByFront old new (lines (kernels_of (take (at + 1) built))) = subst (GrowsByFront old new) (sym (lines_next built at b here)) (grows_after old mid new (lines (kernels_of (take at built))) (kernel_lines Plain (kernel_of b)) before h) in
     let rest = lines (kernels_of (drop (at + 1) built)) in
     let all : lines (kernels_of (take (at + 1) built)) ++ rest ≡ lines (kernels_of built) =
-        sym (flat_map-append (kernel_lines Plain) (kernels_of (take (at + 1) built)) (kernels_of (drop (at + 1) built)))
-        ∙ (ap lines (sym (map-append kernel_of (take (at + 1) built) (drop (at + 1) built))) ∙ ap (λ bs. lines (kernels_of bs)) (take-append-drop (at + 1) built)) in
+    sym (flat_map-append (kernel_lines Plain) (kernels_of (take (at + 1) built)) (kernels_of (drop (at + 1) built)))
+    ∙ (ap lines (sym (map-append kernel_of (take (at + 1) built) (drop (at + 1) built))) ∙ ap (λ bs. lines (kernels_of bs)) (take-append-drop (at + 1) built)) in
     subst (GrowsByFront old new) all (grows_front old new (lines (kernels_of (take (at + 1) built))) rest front)
 
 -- the codes of one kernel more

@@ -1,5 +1,5 @@
 -- Each work has a meaning.
-use Rattle.std.proofs.Common.{◌≡◌, ◌≤◌, ◌<◌, ◌⊎◌, inl, inr, ℕ, List, [], ◌∷◌, ◌++◌, map, length, true, Option, Some, None, refl, sym, ap, ◌∙◌, subst}
+use Rattle.std.proofs.Common.{◌≡◌, ◌≤◌, ◌<◌, ◌⊎◌, inl, inr, ℕ, List, [], ◌∷◌, map, length, Option, Some, None, refl, sym, ap, subst}
 use Rattle.mw_term.specs.Programs.{Definition}
 use Rattle.mw_term.specs.Typable.{Typable}
 use Rattle.mw_term.specs.declared.refusal.Refusal.{Refusal}

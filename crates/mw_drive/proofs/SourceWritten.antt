@@ -1,5 +1,5 @@
 -- What was written of a source is what it means.
-use Rattle.std.proofs.Common.{◌≡◌, ◌<◌, ℕ, ◌^◌, List, [], map, length, Bool, IsTrue, Result, Ok, Err, IfOk, refl, sym, ap, subst, arith}
+use Rattle.std.proofs.Common.{◌≡◌, ◌<◌, ℕ, ◌^◌, List, [], map, length, Bool, Result, Err, IfOk, sym, subst, arith}
 use Rattle.std.proofs.lemmas.List.{length-map}
 use Rattle.mw_outside.specs.declared.errors.WriteFault.{WriteFault}
 use Rattle.mw_outside.specs.declared.errors.WriteFault.TheVariants.{Memory}
@@ -18,10 +18,10 @@ use Rattle.mw_console.specs.declared.status.Status.{Status}
 use Rattle.mw_console.specs.declared.status.Status.TheVariants.{Refused}
 use Rattle.mw_drive.specs.declared.shown.Shown.{Shown}
 use Rattle.mw_drive.specs.declared.shown.Shown.TheVariants.{Lines, Totals}
-use Rattle.mw_drive.specs.NamedPrograms.{NamedProgram, unnamed, names_of, named_program_of}
+use Rattle.mw_drive.specs.NamedPrograms.{unnamed, names_of, named_program_of}
 use Rattle.mw_drive.specs.SourceReading.{IsRead, IsRefused}
 use Rattle.mw_drive.specs.ProgramRuns.{IsWrittenRun, IsWrittenMeaning}
-use Rattle.mw_drive.specs.Works.{IsAccepted, running, refused, ran, IsMeaning, of_refusal, of_types, of_program, text_of}
+use Rattle.mw_drive.specs.Works.{IsAccepted, running, refused, ran, IsMeaning, of_refusal, of_types, of_program}
 use Rattle.mw_drive.specs.Written.{Writes}
 use Rattle.mw_drive.proofs.Fronts.{grows_nothing}
 use Rattle.mw_drive.proofs.SomeMeaning.{some_meaning}

@@ -1,5 +1,5 @@
 -- Fronts and rests of lists, one element on.
-use Rattle.std.proofs.Common.{◌≡◌, ◌+◌, ◌<◌, length, ℕ, zero, suc, List, [], ◌∷◌, ◌++◌, map, take, drop, Some, refl, ap, arith}
+use Rattle.std.proofs.Common.{◌≡◌, ◌+◌, ◌<◌, length, ℕ, zero, suc, List, [], ◌∷◌, ◌++◌, take, drop, Some, ap, arith}
 use Rattle.std.specs.Prelude.{slice_get, get_or}
 use Rattle.std.specs.List.{AllByRecursion, All}
 

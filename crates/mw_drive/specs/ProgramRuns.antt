@@ -1,13 +1,13 @@
 -- What the running of a program gives, in the words of its meaning.
-use Rattle.std.specs.Prelude.{ℕ, ◌≡◌, true, List, [], ◌∷◌, ◌++◌, map, length, Bool, Option, Some, None, Result, Ok, Err, IfOk}
-use Rattle.std.specs.List.{AllByRecursion, flat_map}
+use Rattle.std.specs.Prelude.{ℕ, ◌≡◌, true, List, [], ◌∷◌, ◌++◌, map, length, Bool, Option, Some, None, Result, IfOk}
+use Rattle.std.specs.List.{flat_map}
 use Rattle.mw_outside.specs.declared.errors.WriteFault.{WriteFault}
 use Rattle.mw_term.specs.Terms.{Expression, KernelType, expression_of, kernel_type_of, ground_value_of}
 use Rattle.mw_term.specs.Programs.{Definition, value as defines, kernel}
 use Rattle.mw_term.specs.Typable.{HasKernelType}
 use Rattle.mw_term.specs.Limits.{within_limits}
 use Rattle.mw_meaning.specs.declared.mode.Mode.TheVariants.{Plain}
-use Rattle.mw_meaning.specs.Outcomes.{Outcome, came_to, trapped as traps, bounded as bounds, item_outcome, names_of_items}
+use Rattle.mw_meaning.specs.Outcomes.{came_to, trapped as traps, bounded as bounds, item_outcome, names_of_items}
 use Rattle.mw_meaning.specs.OutcomeLaws.{AreCodesOf}
 use Rattle.mw_compile.specs.Entries.{IsEntryOf}
 use Rattle.mw_console.specs.Texts.{Ending, answered, trapped, bounded, totals_text, ending_line, ending_status}

@@ -2,7 +2,7 @@
 use Rattle.std.specs.Prelude.{ℕ, ◌≡◌, ◌++◌, List, Bool, IsTrue, Result, Ok, Err}
 use Rattle.mw_outside.specs.Count.{Rose, GrowsByFront}
 use Rattle.mw_outside.specs.declared.errors.WriteFault.{WriteFault}
-use Rattle.mw_outside.specs.declared.errors.WriteFault.TheVariants.{Failed, Memory}
+use Rattle.mw_outside.specs.declared.errors.WriteFault.TheVariants.{Failed}
 
 -- where the sink tells: all of the text was written, or with a fault a front of it
 abbrev pub Writes : {A : Type 0} → Result A WriteFault → Bool → (before after : List ℕ) → List ℕ → Type 0

@@ -1,4 +1,3 @@
-use Rattle.hex.specs.Hex.{encode_lower}
 use Rattle.std.specs.Prelude.{codes}
 use Rattle.mw_term.specs.Terms.{kernel_type_of}
 use Rattle.mw_console.specs.Texts.{kernel_line, digits_line}

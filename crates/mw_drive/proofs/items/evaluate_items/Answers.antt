@@ -1,7 +1,7 @@
-use Rattle.std.proofs.Common.{◌+◌, length, map, ◌∙◌, arith}
+use Rattle.std.proofs.Common.{arith}
 use Rattle.std.proofs.lemmas.List.{length-map}
 use Rattle.mw_drive.specs.NamedPrograms.{item_of, named_program_of}
-use Rattle.mw_drive.proofs.Loops.{Reaches, reaches_first, reaches_let, reaches_code, reaches_end, reaches_all, named_there, named_end}
+use Rattle.mw_drive.proofs.Loops.{reaches_first, reaches_let, reaches_code, reaches_end, reaches_all, named_there, named_end}
 use Rattle.mw_drive.proofs.items.evaluate_items.Goals as goal
 use Rattle.mw_drive.proofs.items.evaluate_items.Goals.{in-Let, in-Code+in_ok-push-in-Code}
 
@@ -22,7 +22,7 @@ loop-at-preserved g c =
     let there = named_there c.args.program.now c.get.result.now c.loop-at.at c.get.ensures in
     let ends = named_end c.args.fuel c.args.program.now (item_of c.get.result.now) c.in_ok-item_end.field-0 c.in_ok-item_end.ensures in
     elim c.match-branch-2.branch [
-      in-Let w ↦
+      | in-Let w ↦
           rw w.built-is (reaches_let c.args.fuel (named_program_of c.args.program.now) c.loop-at.at (item_of c.get.result.now) c.loop-at.built.items there c.loop-at.invariant
           c.in_ok-item_end.field-0 w.in-Let.is ends)
       | in-Code+in_ok-push-in-Code w ↦

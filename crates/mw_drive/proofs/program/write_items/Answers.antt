@@ -1,4 +1,4 @@
-use Rattle.std.proofs.Common.{◌≡◌, ap, sym, subst, ◌∙◌, length, true, arith}
+use Rattle.std.proofs.Common.{◌≡◌, ap, length, true, arith}
 use Rattle.std.specs.Option.{option_map}
 use Rattle.mw_term.specs.Terms.{expression_of}
 use Rattle.mw_term.specs.Limits.{within_limits}

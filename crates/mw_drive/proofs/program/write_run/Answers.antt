@@ -1,4 +1,4 @@
-use Rattle.std.proofs.Common.{◌≡◌, ◌++◌, None}
+use Rattle.std.proofs.Common.{◌≡◌, None}
 use Rattle.mw_console.specs.Texts.{ending_line, ending_status}
 use Rattle.mw_drive.specs.ProgramRuns.{ending_of, shown_text}
 use Rattle.mw_drive.proofs.Faults.{front_written, no_answer}
