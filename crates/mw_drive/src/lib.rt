@@ -14,6 +14,5 @@ mod source;
 pub use crate::command::run;
 pub use mw_console::Status;
 
-
 #[cfg(test)]
 mod tests;
