@@ -40,7 +40,11 @@ fn put_end(alloc: Global, text: &mut Vec<u8>, end: &End<'_>) -> Result<Status, A
 }
 
 /// Writes the last line. The status says the same.
-pub fn write_end<K: Sink>(alloc: Global, sink: &mut K, end: &End<'_>) -> Result<Status, WriteFault>
+pub fn write_end<K: Sink>(
+    alloc: Global,
+    sink: &mut K,
+    end: &End<'_>,
+) -> Result<Status, WriteFault>
     ensures status { IfOk result (λ status. status ≡ ending_status (ending_of end.now)) }
     ensures writes { Writes result K.tells (K.written sink.old) (K.written sink.new) (ending_line (ending_of end.now)) }
     ensures blames { Blames result (K.faults sink.old) (K.faults sink.new) }

@@ -14,5 +14,6 @@ mod source;
 pub use crate::command::run;
 pub use mw_console::Status;
 
+
 #[cfg(test)]
 mod tests;

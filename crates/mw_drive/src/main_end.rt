@@ -19,6 +19,7 @@ use mw_term::{Program, Term};
 use std::alloc::{AllocError, Global};
 use std::sync::ledger::Ledger;
 
+
 /// How main ends after kernel items that gave these codes, with so many units. What was kept before is forgotten.
 pub fn main_end<L: Ledger>(
     alloc: Global,

@@ -41,7 +41,11 @@ pub fn write_kernels<K: Sink>(
 }
 
 /// Writes the lines of all kernels.
-fn write_all<K: Sink>(alloc: Global, sink: &mut K, kernels: &[Built<'_>]) -> Result<(), WriteFault>
+fn write_all<K: Sink>(
+    alloc: Global,
+    sink: &mut K,
+    kernels: &[Built<'_>],
+) -> Result<(), WriteFault>
     requires built { AllByRecursion IsBuilt kernels.now }
     ensures writes { Writes result K.tells (K.written sink.old) (K.written sink.new) (flat_map (kernel_lines Plain) (kernels_of kernels.now)) }
     ensures blames { Blames result (K.faults sink.old) (K.faults sink.new) }
@@ -54,7 +58,11 @@ fn write_all<K: Sink>(alloc: Global, sink: &mut K, kernels: &[Built<'_>]) -> Res
 }
 
 /// Writes the three lines of a kernel, each as one piece.
-fn write_kernel<K: Sink>(alloc: Global, sink: &mut K, kernel: &Built<'_>) -> Result<(), WriteFault>
+fn write_kernel<K: Sink>(
+    alloc: Global,
+    sink: &mut K,
+    kernel: &Built<'_>,
+) -> Result<(), WriteFault>
     requires built { IsBuilt kernel.now }
     ensures writes { Writes result K.tells (K.written sink.old) (K.written sink.new) (kernel_lines Plain (kernel_of kernel.now)) }
     ensures blames { Blames result (K.faults sink.old) (K.faults sink.new) }
@@ -62,13 +70,7 @@ fn write_kernel<K: Sink>(alloc: Global, sink: &mut K, kernel: &Built<'_>) -> Res
 {
     let mut text = Vec::new(alloc);
     let key = digest(kernel.entry.text());
-    put_kernel(
-        &mut text,
-        kernel.name,
-        kernel.kind,
-        &key,
-        kernel.entry.bytes(),
-    )?;
+    put_kernel(&mut text, kernel.name, kernel.kind, &key, kernel.entry.bytes())?;
     write_lines(sink, text.as_slice())
 }
 
