@@ -4,10 +4,13 @@ ghost use Rattle.std.specs.Prelude.{◌<◌};
 
 mod emitted;
 mod grammar;
+mod modules;
+mod programs;
 mod types;
 mod typing;
 
 use crate::command::run;
+use crate::tests::modules::SEVEN;
 use mw_console::Status;
 use mw_outside::{Bytes, Calls, Files, MemSink, MemSource, NamedFile, Pass, SureKeeper};
 use std::alloc::Global;
@@ -84,19 +87,8 @@ fn calls(rt: &impl AllocGlobal, numbers: &[u64]) -> Result<Calls, Fail> {
     Ok(calls)
 }
 
-/// The key and the module of `7`, and those of `1 + 2`, in hexadecimal digits.
-const SEVEN: [&str; 2] = [
-    "db91b92aa1f52a13e25214eaa7ca80e9023a02d81d98bad47507d5e451df62ee",
-    "0061736d01000000010b0260027e7e017e6000017e03020101040501700100000504010140400606017f0141000b07080104696e697400000a0601040042070b",
-];
-
-const THREE: [&str; 2] = [
-    "97d6c487f5c01c87e24266209cfd62951131d4662e73e4743ef808ac0bdff5f3",
-    "0061736d01000000010b0260027e7e017e6000017e03020101040501700100000504010140400606017f0141000b07080104696e697400000a09010700420142027c0b",
-];
-
 /// Sources, their exit codes and their last lines.
-const LAST_LINES: [(&str, u8, &str); 32] = [
+const LAST_LINES: [(&str, u8, &str); 27] = [
     ("main : int = run[int] (close .<1 + 2>.)", 0, "answer 3"),
     ("main : int = 1 + 2", 0, "answer 3"),
     ("main : int = run[int] (close .<7>.)", 0, "answer 7"),
@@ -168,17 +160,8 @@ const LAST_LINES: [(&str, u8, &str); 32] = [
     ("main : int = x )", 3, "refused 5 syntax at 15"),
     ("main : int = y .~1", 3, "refused 8 unbound at 13"),
     ("main : int = .~y", 3, "refused 11 level at 13"),
-    // types, and forms that aren't run yet
+    // types
     ("main : int = true", 3, "refused 12 type in main"),
-    ("main : int = 1 - 1", 3, "refused 15 not yet"),
-    ("main : int = (-1)", 3, "refused 15 not yet"),
-    ("main : bool = true", 3, "refused 15 not yet"),
-    ("let a = 1 ;; main : int = a", 3, "refused 15 not yet"),
-    (
-        "kernel k : bool = close .<true>. ;; main : int = 1",
-        3,
-        "refused 15 not yet",
-    ),
     (
         "main : int = run[int] (open (close .<1>.))",
         3,
@@ -197,48 +180,6 @@ fn sources_have_their_last_line(rt: HostRuntime) -> Result<(), Fail> {
     Ok(())
 }
 
-/// Sources with kernel items, the names, keys and modules of the kernels, and the numbers that are answered.
-const KERNELS: [(&str, &[(&str, [&str; 2])], &str); 4] = [
-    (
-        "kernel k : int = close .<7>. ;; main : int = run[int] k",
-        &[("k", SEVEN)],
-        "7",
-    ),
-    (
-        "kernel k : int = close .<1 + 2>. ;; main : int = run[int] k + run[int] k",
-        &[("k", THREE)],
-        "6",
-    ),
-    (
-        "kernel a : int = close .<.~.<1>. + 2>. ;; kernel b : int = (close .<7>.) ;; main : int = run[int] b + run[int] (a)",
-        &[("a", THREE), ("b", SEVEN)],
-        "10",
-    ),
-    (
-        "kernel x : int = close .<007>. ;; kernel unused : int = close .<7>. ;; main : int = 1",
-        &[("x", SEVEN), ("unused", SEVEN)],
-        "1",
-    ),
-];
-
-#[test]
-fn kernels_have_their_modules(rt: HostRuntime) -> Result<(), Fail> {
-    let alloc = rt.alloc();
-    for (file, kernels, number) in KERNELS {
-        let mut wanted = String::new(alloc);
-        for (name, [key, module]) in kernels {
-            let lines = format!(in alloc; "kernel {name} : int\nkey {key}\nmodule {module}\n")?;
-            wanted.push_str(lines.as_str())?;
-        }
-        let answer = format!(in alloc; "answer {number}\n")?;
-        wanted.push_str(answer.as_str())?;
-        let ran = ran(&rt, &["run", NAME], file.as_bytes(), &[], &[])?;
-        assert_eq!(rt; ran.status.code(), 0, "{file}");
-        assert_eq!(rt; ran.written.as_slice(), wanted.as_bytes(), "{file}");
-    }
-    Ok(())
-}
-
 /// The front of a source, then spaces up to a length.
 fn filled(alloc: Global, front: &[u8], length: usize) -> Result<Vec<u8>, Fail> {
     let mut file = Vec::from_slice(alloc, front)?;
@@ -251,13 +192,10 @@ fn filled(alloc: Global, front: &[u8], length: usize) -> Result<Vec<u8>, Fail> {
 #[test]
 fn long_sources_are_refused(rt: HostRuntime) -> Result<(), Fail> {
     let sum = b"main : int = 1";
-    let cases: [(&[u8], usize, &str); 7] = [
-        (sum, 256, "answer 1\n"),
-        (sum, 257, "refused 15 not yet\n"),
-        (b"main : int = 1 )", 257, "refused 5 syntax at 15\n"),
-        (b"main : int = y", 257, "refused 8 unbound at 13\n"),
-        (b"main : int = true", 257, "refused 12 type in main\n"),
-        (sum, 1_048_576, "refused 15 not yet\n"),
+    let cases: [(&[u8], usize, &str); 4] = [
+        (sum, 1_048_576, "answer 1\n"),
+        (sum, 1_048_577, "refused 1 too large\n"),
+        (b"?", 1_048_576, "refused 2 character at 0\n"),
         (b"?", 1_048_577, "refused 1 too large\n"),
     ];
     for (front, length, written) in cases {
@@ -291,10 +229,7 @@ fn deep_and_many_are_refused(rt: HostRuntime) -> Result<(), Fail> {
     );
     let fine = in_parentheses(rt.alloc(), 199)?;
     let ran_fine = ran(&rt, &["run", NAME], fine.as_slice(), &[], &[])?;
-    assert_eq!(rt;
-        ran_fine.written.as_slice(),
-        b"refused 15 not yet\n".as_slice()
-    );
+    assert_eq!(rt; ran_fine.written.as_slice(), b"answer 1\n".as_slice());
     let mut many = Vec::new(rt.alloc());
     for n in 0..101 {
         let item = format!(in rt.alloc(); "kernel k{n} : int = close .<1>. ;;\n")?;
