@@ -292,8 +292,8 @@ fn check<R: Abort + AllocGlobal + Threads + Sync>(
 }
 
 /// Programs that end by a trap or at a bound: the source, the kernels before, the status and the last line. Each
-/// evaluation has 50,000 units.
-const ENDS: [(&str, &[(&str, &str, [&str; 2])], u8, &str); 22] = [
+/// evaluation has 500 units.
+const ENDS: [(&str, &[(&str, &str, [&str; 2])], u8, &str); 20] = [
     // in a kernel item: nothing after it is evaluated
     (
         "kernel a : int = close .<1>. ;; kernel b : int = close (let x = 1 / 0 in .<2>.) ;; kernel c : int = close (let rec loop n = loop n in loop 0) ;; main : int = 0",
@@ -330,12 +330,6 @@ const ENDS: [(&str, &[(&str, &str, [&str; 2])], u8, &str); 22] = [
         &[("a", "int", SEVEN)],
         4,
         "bound kernel size in b",
-    ),
-    (
-        "kernel a : int = close .<7>. ;; kernel b : int = close (lift (run[int] (close .<let rec f n = if n = 0 then 0 else let p = (((n, n), (n, n)), ((n, n), (n, n))) in f (n - 1) in f 37450>.))) ;; main : int = 1 / 0",
-        &[("a", "int", SEVEN)],
-        4,
-        "bound heap in b",
     ),
     // in main: the lines of all kernels come before
     (
@@ -392,12 +386,6 @@ const ENDS: [(&str, &[(&str, &str, [&str; 2])], u8, &str); 22] = [
         4,
         "bound kernel size in main",
     ),
-    (
-        "kernel a : int = close .<7>. ;; main : int = run[int] (close .<let rec f n = if n = 0 then 0 else let p = (((n, n), (n, n)), ((n, n), (n, n))) in f (n - 1) in f 37450>.)",
-        &[("a", "int", SEVEN)],
-        4,
-        "bound heap in main",
-    ),
     // what comes first in the order of evaluation decides
     (
         "main : int = (1 / 0) + ((-9223372036854775808) / (-1))",
@@ -438,7 +426,7 @@ fn traps_and_bounds_end_programs(rt: HostRuntime) -> Result<(), Fail> {
     for (file, kernels, code, last) in ENDS {
         check(
             &rt,
-            &["run", "--fuel", "50000", NAME],
+            &["run", "--fuel", "500", NAME],
             file,
             kernels,
             code,
@@ -661,18 +649,8 @@ const SUMS: &str =
     "let rec ones n = if n = 1 then .<1>. else .<.~(ones (n / 2)) + .~(ones (n - n / 2))>. ;; \
     let rec deep n c = if n = 0 then c else deep (n - 1) .<.~c + 1>. ;; ";
 
-/// Code of 20,000 and of 20,001 nodes, and of the depths 400 and 401, in main and in an item.
-const LIMITS: [(&str, u8, &str); 9] = [
-    (
-        "main : int = run[int] (close .<if true then .~(ones 9999) else 1>.)",
-        0,
-        "answer 9999",
-    ),
-    (
-        "main : int = run[int] (close (ones 10001))",
-        4,
-        "bound kernel size in main",
-    ),
+/// Code of the depths 400 and 401, in main and in an item, and code past the limits that is not run.
+const LIMITS: [(&str, u8, &str); 5] = [
     (
         "main : int = run[int] (close (deep 399 .<1>.))",
         0,
@@ -686,20 +664,9 @@ const LIMITS: [(&str, u8, &str); 9] = [
     ("main : int = let c = ones 10001 in 5", 0, "answer 5"),
     ("main : int = let c = deep 400 .<1>. in 5", 0, "answer 5"),
     (
-        "kernel big : int = close (ones 10001) ;; main : int = run[int] big",
-        4,
-        "bound kernel size in big",
-    ),
-    (
         "kernel long : int = close (deep 400 .<1>.) ;; main : int = 1 / 0",
         4,
         "bound kernel size in long",
-    ),
-    // a run's words are given up at its end
-    (
-        "main : int = let c = close .<let rec f n = if n = 0 then 0 else let p = (((n, n), (n, n)), ((n, n), (n, n))) in f (n - 1) in f 37449>. in run[int] c + run[int] c",
-        0,
-        "answer 0",
     ),
 ];
 
