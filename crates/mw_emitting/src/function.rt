@@ -8,10 +8,9 @@ ghost use Rattle.mw_kernel.specs.Invoking.{FitsWords};
 ghost use Rattle.mw_emitting.specs.Answers.{IsWant, IsOnlyWant};
 ghost use Rattle.mw_emitting.specs.KeptFunctions.{IsKept};
 
-use crate::copies::copied;
 use mw_kernel::{RunFault, Running};
 use mw_machine::{KernelFault, Ran};
-use mw_term::{BaseValue, GroundValue, KType, Term, copied_kernel_type};
+use mw_term::{BaseValue, GroundValue, KType, Term, copied_kernel_type, copied_term};
 use std::alloc::{AllocError, Global};
 
 /// The code and the type of a run.
@@ -42,7 +41,7 @@ impl Function {
     {
         Ok(Function {
             source: Source {
-                code: copied(alloc, code)?,
+                code: copied_term(alloc, code)?,
                 kind: copied_kernel_type(alloc, kind)?,
             },
             running,

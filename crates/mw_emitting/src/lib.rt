@@ -1,7 +1,6 @@
 //! Kernels that emit each code that is run, and keep the functions that runs give.
 #![tactic(auto)]
 
-mod copies;
 mod function;
 mod kernels;
 #[cfg(test)]

@@ -13,7 +13,7 @@ use Rattle.mw_types.specs.Equations.{TypeEquation, AllWithin, Solves, Agree}
 use Rattle.mw_infer.specs.Schemes.{TopScheme}
 use Rattle.mw_infer.specs.ItemEquations.{Slot, plain_slot, quoted_slot, slot, equation, unknowns_of, classifiers_of, variable_equations, function_equations, recursion_equations, application_equations, let_equations, condition_equations, pair_equations, primitive_equations, bracket_equations, escape_equations, run_equations, close_equations, open_equations, lift_equations, equations, Close, closes}
 use Rattle.mw_infer.specs.Inferring.{entry_of, AreSchemesOf}
-use Rattle.mw_infer.specs.Sources.{IsSource}
+use Rattle.mw_term.specs.Sources.{IsSource}
 use Rattle.mw_infer.proofs.Formed.{level_of}
 use Rattle.mw_infer.proofs.Shifting.{from, value-shifted, Within-shifted, value-base_expression, value-kernel_expression, value-primitive_expression, Within-base_expression, Within-kernel_expression, Within-primitive_expression, scheme-of_let, scheme-of_kernel}
 use Rattle.mw_types.proofs.Verdicts.{value_agree}

@@ -12,7 +12,7 @@ use Rattle.mw_types.specs.Equations.{MostGeneral, IsSmall, Fine, FirstUnsolvable
 use Rattle.mw_types.proofs.Faults.{fine_or_faulty}
 use Rattle.mw_types.proofs.Lists.{same, other, is}
 use Rattle.mw_infer.specs.Schemes.{TopScheme, let_scheme, scheme_out_of_scope}
-use Rattle.mw_infer.specs.Sources.{IsSource}
+use Rattle.mw_term.specs.Sources.{IsSource}
 use Rattle.mw_infer.specs.ItemEquations.{Close}
 use Rattle.mw_infer.specs.Inferring.{item_unknowns, item_classifiers, item_closes, Place, main_place, item_equations, entry_of, AreFresh, least}
 use Rattle.mw_infer.specs.Checking.{Part, part_of_item, part_of_main, IsPart, an_item, main, ArePrincipal, IsFirstOpen, TypeFault, not_closed, HasFault, unsolvable, oversized, unclosed, IsFaultless, refusal_of, IsFirstRefusal, AreFaultless, NoneTooBig, IsWritten}

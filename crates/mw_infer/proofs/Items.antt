@@ -9,7 +9,7 @@ use Rattle.mw_term.proofs.TypesFormed.{IsPlain-kernel_type, Typed-formed}
 use Rattle.mw_types.specs.Types.{Within, Assignment, value, Substitution, after}
 use Rattle.mw_types.specs.Equations.{AllWithin, Solves, Solvable, MostGeneral, StaysWithin}
 use Rattle.mw_infer.specs.Schemes.{TopScheme, AreOwn}
-use Rattle.mw_infer.specs.Sources.{IsSource}
+use Rattle.mw_term.specs.Sources.{IsSource}
 use Rattle.mw_infer.specs.ItemEquations.{equations}
 use Rattle.mw_infer.specs.Inferring.{item_unknowns, item_classifiers, item_closes, Place, let_place, kernel_place, main_place, IsTypableAt, own_equations, item_equations, AreFresh, least, formed_type, IsInstance, IsSchemeOf, AreSchemesOf}
 use Rattle.mw_infer.proofs.Formed.{formed_type-formed, formed_type-plain, flat_type-plain, rename_type-formed_type}
@@ -103,25 +103,3 @@ module _ (tops : List TopLevel) (schemes : List TopScheme) (known : AreSchemesOf
 
       pub most_general-scheme : MostGeneral (item_unknowns schemes e) (item_classifiers schemes e) (item_equations schemes let_place e) s → StaysWithin (item_unknowns schemes e) (item_classifiers schemes e) s → AreFresh (after least s) (item_closes schemes e) → IsSchemeOf tops e (record { unknowns = item_unknowns schemes e; classifiers = item_classifiers schemes e; type = s.ty 0 })
       most_general-scheme g w f = most_general-scheme_within (item_unknowns schemes e) (item_classifiers schemes e) (w.types 0 (omega arith)) g f
-
-pub sources : (t : Term) → IsSource (expression_of t)
-sources (Int n) = tt
-sources (Truth b) = tt
-sources (Var i) = tt
-sources (Glob i) = tt
-sources (Fun' p e) = sources e
-sources (Rec' p e) = sources e
-sources (App' p f q a) = (sources f, sources a)
-sources (Let' p d q e) = (sources d, sources e)
-sources (If' p c q a r b) = (sources c, sources a, sources b)
-sources (Pair' p a q b) = (sources a, sources b)
-sources (Fst' p e) = sources e
-sources (Snd' p e) = sources e
-sources (Prim-Prim' o p a q b) = (sources a, sources b)
-sources (Bracket' p e) = sources e
-sources (Escape' p e) = sources e
-sources (Run' k p e) = sources e
-sources (CloseCode' at p e) = sources e
-sources (OpenCode' p e) = sources e
-sources (Lift' p e) = sources e
-sources (LiftB' p e) = sources e

@@ -6,7 +6,7 @@ use Rattle.mw_term.specs.Programs.{Definition, value, kernel, PureProgram}
 use Rattle.mw_term.specs.Typing.{TopLevel, let_item, kernel_item, out_of_scope}
 use Rattle.mw_term.specs.Scoped.{IsScoped, is_seen}
 use Rattle.mw_infer.specs.Schemes.{Scheme, TopScheme, let_scheme, kernel_scheme, scheme_out_of_scope, AreOwn}
-use Rattle.mw_infer.specs.Sources.{IsSource}
+use Rattle.mw_term.specs.Sources.{IsSource}
 use Rattle.mw_infer.specs.ItemEquations.{unknowns_of_name, classifiers_of_name, unknowns_of, classifiers_of}
 use Rattle.mw_infer.specs.Inferring.{item_unknowns, item_classifiers, let_place, IsSchemeOf, AreSchemesOf}
 use Rattle.mw_infer.specs.Scoped.{has_scheme}

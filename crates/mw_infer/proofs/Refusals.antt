@@ -11,7 +11,7 @@ use Rattle.mw_types.specs.Equations.{TypeEquation, Solves, TooBig, Fine}
 use Rattle.mw_types.proofs.Faults.{one_fault, small_of_fine}
 use Rattle.mw_types.proofs.Smallest.{too_big_not_small}
 use Rattle.mw_infer.specs.Schemes.{TopScheme, let_scheme, kernel_scheme, scheme_out_of_scope}
-use Rattle.mw_infer.specs.Sources.{IsSource}
+use Rattle.mw_term.specs.Sources.{IsSource}
 use Rattle.mw_infer.specs.Inferring.{item_unknowns, item_classifiers, item_closes, IsTypableAt, item_equations, AreSchemesOf}
 use Rattle.mw_infer.specs.Checking.{Part, part_of_main, IsPart, an_item, main, AreInOrder, ArePrincipal, TypeFault, not_closed, HasFault, unsolvable, oversized, unclosed, IsFaultless, IsFirstRefusal, AreFaultless, NoneTooBig, IsWritten}
 use Rattle.mw_infer.proofs.Items.{typable-solvable, typable-fresh}

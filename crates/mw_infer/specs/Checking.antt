@@ -12,7 +12,7 @@ use Rattle.mw_term.specs.declared.refusal.Refusal.TheVariants.{IllTyped, TypeToo
 use Rattle.mw_types.specs.Types.{TypeExpression, Substitution, after, closed_ty}
 use Rattle.mw_types.specs.Equations.{MostGeneral, IsSmall, TooBig, Fine, FirstUnsolvable, FirstTooBig}
 use Rattle.mw_infer.specs.Schemes.{TopScheme, let_scheme, kernel_scheme, scheme_out_of_scope, IsInOrder, ground_expression, kernel_expression}
-use Rattle.mw_infer.specs.Sources.{IsSource}
+use Rattle.mw_term.specs.Sources.{IsSource}
 use Rattle.mw_infer.specs.ItemEquations.{Close}
 use Rattle.mw_infer.specs.Inferring.{item_unknowns, item_classifiers, item_closes, Place, let_place, kernel_place, main_place, IsTypableAt, item_equations, entry_of, AreFresh, least, IsInstance, AreSchemesOf}
 

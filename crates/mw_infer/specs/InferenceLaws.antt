@@ -1,8 +1,6 @@
 -- How the equations of an item and its types go together.
 use Rattle.std.specs.Prelude.{◌≡◌, ◌↔◌, ◌⊎◌, List}
 use Rattle.mw_term.specs.Terms.{Expression}
-use Rattle.mw_term.specs.declared.term.Term.{Term}
-use Rattle.mw_term.specs.Terms.{expression_of}
 use Rattle.mw_term.specs.Typing.{TopLevel}
 use Rattle.mw_types.specs.Types.{Substitution, after}
 use Rattle.mw_types.specs.Equations.{AllWithin, Solvable, MostGeneral, StaysWithin}
@@ -11,7 +9,7 @@ use Rattle.mw_term.specs.Typable.{Typable}
 use Rattle.mw_term.specs.declared.refusal.Refusal.{Refusal}
 use Rattle.mw_infer.specs.Schemes.{Scheme, TopScheme, AreOwn, IsInOrder}
 use Rattle.mw_infer.specs.Checking.{IsFirstRefusal, AreFaultless, NoneTooBig, IsWritten}
-use Rattle.mw_infer.specs.Sources.{IsSource}
+use Rattle.mw_term.specs.Sources.{IsSource}
 use Rattle.mw_infer.specs.Inferring.{item_unknowns, item_classifiers, item_closes, Place, let_place, IsTypableAt, item_equations, AreFresh, least, IsSchemeOf, AreSchemesOf}
 
 -- the equations of an item name its own unknowns and classifier unknowns alone
@@ -31,10 +29,6 @@ TypableWhereFresh = (tops : List TopLevel) (schemes : List TopScheme) (place : P
 abbrev pub MostGeneralIsScheme : Type 0
 MostGeneralIsScheme = (tops : List TopLevel) (schemes : List TopScheme) (e : Expression) (s : Substitution) → AreSchemesOf tops tops schemes → IsSource e → MostGeneral (item_unknowns schemes e) (item_classifiers schemes e) (item_equations schemes let_place e) s → StaysWithin (item_unknowns schemes e) (item_classifiers schemes e) s → AreFresh (after least s) (item_closes schemes e)
     → IsSchemeOf tops e (record { unknowns = item_unknowns schemes e; classifiers = item_classifiers schemes e; type = s.ty 0 })
-
--- a term of a program is one that is written in a source
-abbrev pub TermsAreSources : Type 0
-TermsAreSources = (t : Term) → IsSource (expression_of t)
 
 -- a definition has one scheme at most whose numbers are in order
 abbrev pub SchemesInOrderAreOne : Type 0

@@ -1,7 +1,6 @@
 pub mod Schemes
 pub mod ItemEquations
 pub mod Below
-pub mod Sources
 pub mod Inferring
 pub mod Scoped
 pub mod Checking

@@ -1,7 +1,7 @@
 // Laws of how the equations of items and their types go together, which no program calls.
 
 ghost use Rattle.mw_infer.specs.InferenceLaws.{CheckedOrRefused, EquationsAreOwn, FaultlessAreTypable, MostGeneralIsScheme, RefusalsAreOne};
-ghost use Rattle.mw_infer.specs.InferenceLaws.{SchemesInOrderAreOne, TermsAreSources, TypableAreNotRefused, TypableIsSolvable, TypableWhereFresh};
+ghost use Rattle.mw_infer.specs.InferenceLaws.{SchemesInOrderAreOne, TypableAreNotRefused, TypableIsSolvable, TypableWhereFresh};
 
 /// The equations of an item name its own unknowns and classifier unknowns alone.
 pub fn equations_are_own()
@@ -22,11 +22,6 @@ pub fn typable_where_fresh()
 /// that this solution gives it.
 pub fn most_general_is_scheme()
     ensures { MostGeneralIsScheme }
-{}
-
-/// No term of a program has values that were put for variables.
-pub fn terms_are_sources()
-    ensures { TermsAreSources }
 {}
 
 /// A definition has one scheme at most whose numbers are in order.

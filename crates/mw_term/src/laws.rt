@@ -1,7 +1,13 @@
-// Laws of shifting, substitution and typing, which no program calls.
+// Laws of terms, of shifting, substitution and typing, which no program calls.
 
+ghost use Rattle.mw_term.specs.Sources.{TermsAreSources};
 ghost use Rattle.mw_term.specs.SubstitutionLaws.{ShiftKeepsSize, SubstitutionKeepsSize, SubstitutionUndoesShift, ShiftsCommute, ShiftKeepsClosed, SubstitutionKeepsClosed, ShiftRaisesFree, SubstitutionLowersFree};
 ghost use Rattle.mw_term.specs.TypingLaws.{TypesFit, TypedIsClosed, WeakeningKeepsTypes, SubstitutionKeepsTypes};
+
+/// No term of a program has values that were put for variables.
+pub fn terms_are_sources()
+    ensures { TermsAreSources }
+{}
 
 /// A shift keeps a term's size.
 pub fn shift_keeps_size()

@@ -13,7 +13,7 @@ pub mod refusal;
 pub mod term;
 pub mod value;
 
-pub use crate::copy::{copied_ground, copied_kernel_type, copied_name};
+pub use crate::copy::{copied_ground, copied_kernel_type, copied_name, copied_term};
 pub use crate::measure::{depth, nodes};
 pub use crate::name::Name;
 pub use crate::program::{Item, ItemKind, Items, Program};

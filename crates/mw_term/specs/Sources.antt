@@ -1,5 +1,6 @@
 -- Terms as they are written in a source.
-use Rattle.mw_term.specs.Terms.{Expression, num, truth, var, glob, fun, fix, app, bind, cond, pair, fst, snd, prim, bracket, escape, run, close, opened, lift, lift_b, done}
+use Rattle.mw_term.specs.declared.term.Term.{Term}
+use Rattle.mw_term.specs.Terms.{Expression, num, truth, var, glob, fun, fix, app, bind, cond, pair, fst, snd, prim, bracket, escape, run, close, opened, lift, lift_b, done, expression_of}
 
 -- no value was put for a variable
 abbrev pub IsSource : Expression → Type 0
@@ -24,3 +25,7 @@ IsSource (opened e) = IsSource e
 IsSource (lift e) = IsSource e
 IsSource (lift_b e) = IsSource e
 IsSource (done v) = ⊥
+
+-- a term of a program is one that is written in a source
+abbrev pub TermsAreSources : Type 0
+TermsAreSources = (t : Term) → IsSource (expression_of t)
