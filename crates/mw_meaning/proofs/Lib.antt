@@ -17,3 +17,8 @@ pub mod Straying
 pub mod ShapeExamples
 pub mod OtherPlaces
 pub mod WrongModule
+pub mod PlainReplacing
+pub mod Parallel
+pub mod ParallelMoves
+pub mod Developing
+pub mod Confluence

@@ -19,3 +19,10 @@ pub mod Shapes
 pub mod ShapeLaws
 pub mod ShapeExamples
 pub mod WrongModule
+pub mod PlainTerms
+pub mod Reduction
+pub mod Erasure
+pub mod ErasedPrograms
+pub mod ErasureLaws
+pub mod ErasureExamples
+pub mod Unstaged
