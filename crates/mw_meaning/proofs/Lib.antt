@@ -22,3 +22,14 @@ pub mod Parallel
 pub mod ParallelMoves
 pub mod Developing
 pub mod Confluence
+pub mod SimplificationReaches
+pub mod ErasedMoves
+pub mod Simulation
+pub mod KernelSimulation
+pub mod ErasedTyping
+pub mod ErasedProgramTyping
+pub mod Swapping
+pub mod NoStaging
+pub mod Quiet
+pub mod Reaching
+pub mod Agreement
