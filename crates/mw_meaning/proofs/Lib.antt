@@ -33,3 +33,4 @@ pub mod NoStaging
 pub mod Quiet
 pub mod Reaching
 pub mod Agreement
+pub mod NewNames

@@ -26,3 +26,4 @@ pub mod ErasedPrograms
 pub mod ErasureLaws
 pub mod ErasureExamples
 pub mod Unstaged
+pub mod NewNames

@@ -1,7 +1,11 @@
-//! The meanings of the language, as definitions over pure data, and their laws.
+//! The meanings of the language, as definitions over pure data, and their laws; and erasure.
 #![tactic(auto)]
 
+pub mod erasing;
 pub mod laws;
 pub mod mode;
+pub mod program;
 
+pub use crate::erasing::erase;
 pub use crate::mode::Mode;
+pub use crate::program::erase_program;
