@@ -34,3 +34,4 @@ pub mod Quiet
 pub mod Reaching
 pub mod Agreement
 pub mod NewNames
+pub mod ErasedMain

@@ -4,7 +4,8 @@ use Rattle.mw_term.specs.Terms.{Expression, Value, PureGroundValue, num, truth, 
 use Rattle.mw_term.specs.Sources.{IsSource}
 use Rattle.mw_term.specs.Programs.{Definition, value as defines, kernel, PureProgram}
 use Rattle.mw_meaning.specs.declared.mode.Mode.{Mode}
-use Rattle.mw_meaning.specs.Outcomes.{came_to, item_outcome, main_outcome, names_of_items, names_of_main}
+use Rattle.mw_meaning.specs.declared.mode.Mode.TheVariants.{Plain}
+use Rattle.mw_meaning.specs.Outcomes.{Outcome, came_to, item_outcome, main_outcome, names_of_items, names_of_main}
 use Rattle.mw_meaning.specs.PlainTerms.{PlainTerm, num, truth, var, glob, fun, fix, app, bind, cond, pair, fst, snd, prim}
 use Rattle.mw_meaning.specs.Erasure.{plain, term_of}
 
@@ -127,3 +128,7 @@ pub record Answers (mode : Mode) (fuel : ℕ) (p : PureProgram) (v : PureGroundV
   pub codes : List Expression
   pub items : ItemsCameTo mode fuel (names_of_items p.items) p.items codes
   pub main : main_outcome mode (names_of_main p.items codes) fuel p.body ≡ came_to v
+
+-- what the erased program's main comes to, with a fuel; it begins no run, so that the mode doesn't matter
+abbrev pub erased_outcome : ℕ → PureProgram → Outcome PureGroundValue
+erased_outcome fuel p = main_outcome Plain (names_of_items (erased_program p).items) fuel (erased_program p).body

@@ -27,3 +27,4 @@ pub mod ErasureLaws
 pub mod ErasureExamples
 pub mod Unstaged
 pub mod NewNames
+pub mod ReductionExamples

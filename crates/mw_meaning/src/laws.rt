@@ -1,6 +1,7 @@
 // Laws of the meanings, which no program calls.
 
 pub mod codes;
+pub mod erasure;
 pub mod examples;
 pub mod kernels;
 pub mod outcomes;
