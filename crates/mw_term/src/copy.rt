@@ -90,7 +90,10 @@ pub fn copied_term(alloc: Global, term: &Term) -> Result<Term, AllocError>
         }
         Term::Bracket(e) => Ok(Term::Bracket(Box::new(alloc, copied_term(alloc, e)?)?)),
         Term::Escape(e) => Ok(Term::Escape(Box::new(alloc, copied_term(alloc, e)?)?)),
-        Term::CloseCode(at, e) => Ok(Term::CloseCode(*at, Box::new(alloc, copied_term(alloc, e)?)?)),
+        Term::CloseCode(at, e) => Ok(Term::CloseCode(
+            *at,
+            Box::new(alloc, copied_term(alloc, e)?)?,
+        )),
         Term::OpenCode(e) => Ok(Term::OpenCode(Box::new(alloc, copied_term(alloc, e)?)?)),
         Term::Lift(e) => Ok(Term::Lift(Box::new(alloc, copied_term(alloc, e)?)?)),
         Term::LiftB(e) => Ok(Term::LiftB(Box::new(alloc, copied_term(alloc, e)?)?)),
