@@ -1,6 +1,6 @@
 -- The erased program: its lets are the program's, numbered among themselves, and its kernels are lets round main.
 use Rattle.std.specs.Prelude.{ℕ, zero, suc, ◌+◌, ◌<◌, ◌≡◌, length, List, [], ◌∷◌}
-use Rattle.mw_term.specs.Terms.{Expression, Value, PureGroundValue, num, truth, var, glob, fun, fix, app, bind, cond, pair, fst, snd, prim, bracket, escape, run, close, opened, lift, lift_b, done}
+use Rattle.mw_term.specs.Terms.{Expression, Value, PureGroundValue, num, truth, var, glob, fun, fix, app, bind, cond, pair, fst, snd, prim}
 use Rattle.mw_term.specs.Sources.{IsSource}
 use Rattle.mw_term.specs.Programs.{Definition, value as defines, kernel, PureProgram}
 use Rattle.mw_meaning.specs.declared.mode.Mode.{Mode}

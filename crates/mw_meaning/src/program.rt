@@ -122,10 +122,7 @@ fn wrapped(alloc: Global, item: &Item, names: &[NewName], inner: Term) -> Result
         ItemKind::Value(_) => Ok(inner),
         ItemKind::Kernel(_, term) => {
             let definition = erased_under(alloc, term, names, 0)?;
-            Ok(Term::Let(
-                Box::new(alloc, definition)?,
-                Box::new(alloc, inner)?,
-            ))
+            Ok(Term::Let(Box::new(alloc, definition)?, Box::new(alloc, inner)?))
         }
     }
 }

@@ -1,7 +1,6 @@
-use Rattle.std.proofs.Common.{◌≡◌, ◌<◌, ◌+◌, ◌^◌, Some, None, refl, ap, sym, ◌∙◌, length, arith}
+use Rattle.std.proofs.Common.{◌≡◌, ◌<◌, ◌+◌, ◌^◌, Some, refl, ap, sym, ◌∙◌, length, arith}
 use Rattle.std.specs.Prelude.{slice_get}
 use Rattle.std.proofs.lemmas.Option.{slice_get_read}
-use Rattle.mw_meaning.specs.declared.erasing.NewName.TheVariants.{Let, Kernel}
 use Rattle.mw_meaning.specs.Erasure.{term_of}
 use Rattle.mw_meaning.specs.NewNames.{new_name}
 use Rattle.mw_meaning.proofs.NewNames.{kernel_room, none_there}

@@ -1,13 +1,12 @@
-use Rattle.std.proofs.Common.{◌≡◌, ◌<◌, ◌≤◌, ◌^◌, length, ap, ◌∙◌, sym, subst, arith}
-use Rattle.mw_term.specs.Terms.{expression_of, size}
+use Rattle.std.proofs.Common.{◌≡◌, length, ap, ◌∙◌, sym, subst, arith}
+use Rattle.mw_term.specs.Terms.{size}
 use Rattle.mw_term.specs.Typable.{Typable}
-use Rattle.mw_term.specs.Programs.{PureProgram, program_of, program_size}
+use Rattle.mw_term.specs.Programs.{PureProgram, program_of}
 use Rattle.mw_meaning.specs.ErasureLaws.{IsWithoutStaging}
-use Rattle.mw_meaning.specs.ErasedPrograms.{erased_program}
 use Rattle.mw_meaning.specs.NewNames.{naming_of, new_names, inside_terms, definitions, HasRoom, HaveRoom}
 use Rattle.mw_meaning.proofs.ErasedProgramTyping.{erased_program_is_typable}
 use Rattle.mw_meaning.proofs.NoStaging.{erased_program_has_no_staging}
-use Rattle.mw_meaning.proofs.NewNames.{erased_lets_are, erased_body_is, program_is, program_with, program_room, items_sized, length-definitions}
+use Rattle.mw_meaning.proofs.NewNames.{erased_lets_are, erased_body_is, program_is, program_room, items_sized, length-definitions}
 use Rattle.mw_meaning.proofs.program.erase_program.Goals as goal
 
 pub names_of-requires : goal.names_of-requires
