@@ -95,7 +95,7 @@ literals_fit (snd e) x = literals_fit e x
 literals_fit (prim p a b) x = (literals_fit a x.0, literals_fit b x.1)
 literals_fit _ x = tt
 
-code_short : (c : Expression) → IsCode c → LiteralsFit c → HasShortLiterals c
+pub code_short : (c : Expression) → IsCode c → LiteralsFit c → HasShortLiterals c
 code_short (num z) i x = x
 code_short (truth b) i x = tt
 code_short (var j) i x = tt
