@@ -16,3 +16,5 @@ pub mod SomeMeaning
 pub mod SourceReadings
 pub mod SourceWritten
 pub mod Taking
+pub mod ErasedEnds
+pub mod ErasedAnswers

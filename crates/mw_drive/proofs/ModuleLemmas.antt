@@ -28,7 +28,7 @@ use Rattle.mw_console.specs.Texts.{Ending}
 use Rattle.mw_drive.specs.NamedPrograms.{NamedProgram, unnamed}
 use Rattle.mw_drive.specs.SourceReading.{IsRead}
 use Rattle.mw_drive.specs.ProgramMeaning.{Kernel, ProgramRun, ended, program_run}
-use Rattle.mw_drive.specs.Works.{Work, running, Meaning, as_sample, IsAccepted, IsMeaning, of_refusal, of_types, of_program, of_sample, HasModule, HaveModules}
+use Rattle.mw_drive.specs.Works.{Work, running, Meaning, as_sample, IsAccepted, IsMeaning, of_refusal, of_types, of_program, of_erased_refusal, of_erased, of_sample, HasModule, HaveModules}
 use Rattle.mw_drive.proofs.ProgramEnds.{Ends, all_end}
 use Rattle.mw_drive.proofs.ScopedTerms.{is_resolved}
 
@@ -75,4 +75,6 @@ pub meaning_modules : (work : Work) (m : Meaning) → IsMeaning work m → HaveM
 meaning_modules work m (of_refusal r) = tt
 meaning_modules work m (of_types p r fault) = tt
 meaning_modules work m (of_program {bytes = bytes} {fuel = fuel} {mode = mode} {kernels = kernels} {e = e} p read accepted is) = program_modules mode fuel bytes p kernels e read accepted is
+meaning_modules work m (of_erased_refusal h) = meaning_modules _ _ h
+meaning_modules work m (of_erased p read accepted is) = tt
 meaning_modules work m (of_sample k h) = sample_modules k h (meaning_modules _ k h)

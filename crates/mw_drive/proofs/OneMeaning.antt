@@ -19,10 +19,11 @@ use Rattle.mw_infer.specs.Checking.{IsFirstRefusal, IsWritten}
 use Rattle.mw_infer.proofs.Progressing.{resolved-written}
 use Rattle.mw_infer.proofs.Refusals.{refusal-one, typable-refused}
 use Rattle.mw_console.specs.Texts.{Ending}
+use Rattle.mw_meaning.specs.declared.mode.Mode.TheVariants.{Plain}
 use Rattle.mw_drive.specs.NamedPrograms.{NamedProgram, unnamed, names_of}
 use Rattle.mw_drive.specs.SourceReading.{IsRead, IsRefused, too_large, at_bytes, at_tokens, at_names}
-use Rattle.mw_drive.specs.ProgramMeaning.{Kernel, ended, program_run}
-use Rattle.mw_drive.specs.Works.{refused, ran, IsAccepted, of_refusal, of_types, of_program, of_sample, as_sample}
+use Rattle.mw_drive.specs.ProgramMeaning.{Kernel, ended, program_run, erased_run}
+use Rattle.mw_drive.specs.Works.{running, refused, ran, IsAccepted, IsMeaning, of_refusal, of_types, of_program, of_erased_refusal, of_erased, of_sample, as_sample}
 use Rattle.mw_drive.specs.WorkLaws.{OneMeaning}
 use Rattle.mw_drive.proofs.SourceReadings.{same_program}
 use Rattle.mw_drive.proofs.ScopedTerms.{is_resolved}
@@ -103,6 +104,11 @@ one_run is = cc
 one_ending : {k l : List Kernel} {d e : Ending} → ended k d ≡ ended l e → d ≡ e
 one_ending is = cc
 
+-- a source that is refused isn't accepted
+erased_or_refused : {bytes : List ℕ} {fuel : ℕ} {r : Refusal} {names : List (List ℕ)} → IsMeaning (running bytes fuel Plain) (refused r names) → (p : NamedProgram) → IsRead bytes p → IsAccepted (unnamed p) → ⊥
+erased_or_refused {bytes} (of_refusal {r = r} a) p b g = read_or_refused bytes p r b a
+erased_or_refused {bytes} (of_types {r = r} q a f) p b g = accepted_or_refused bytes q p r a b f g
+
 pub one_meaning : OneMeaning
 one_meaning work m n (of_refusal {bytes = bytes} {r = r} a) (of_refusal {r = q} b) = ap (λ x. refused x []) (one_source_refusal bytes r q a b)
 one_meaning work m n (of_refusal {bytes = bytes} {r = r} a) (of_types p b f) = absurd (read_or_refused bytes p r b a)
@@ -116,3 +122,9 @@ one_meaning work m n (of_program {bytes = bytes} {fuel = fuel} {mode = mode} {ke
     let runs : ended ks d ≡ ended ls e = sym is ∙ (ap (program_run mode fuel) (one_program bytes p q a b) ∙ end) in
     ap (λ ks. ran mode ks d) (one_run runs) ∙ ap (λ e. ran mode ls e) (one_ending runs)
 one_meaning work m n (of_sample k a) (of_sample l b) = ap as_sample (one_meaning _ k l a b)
+one_meaning work m n (of_erased_refusal {r = r} {names = names} a) (of_erased_refusal {r = q} {names = others} b) = one_meaning _ (refused r names) (refused q others) a b
+one_meaning work m n (of_erased_refusal a) (of_erased q b g is) = absurd (erased_or_refused a q b g)
+one_meaning work m n (of_erased p a f is) (of_erased_refusal b) = absurd (erased_or_refused b p a f)
+one_meaning work m n (of_erased {bytes = bytes} {fuel = fuel} {e = d} p a f is) (of_erased {e = e} q b g end) =
+    let runs : ended [] d ≡ ended [] e = sym is ∙ (ap (λ (p : NamedProgram). erased_run fuel (unnamed p)) (one_program bytes p q a b) ∙ end) in
+    ap (λ e. ran Plain [] e) (one_ending runs)

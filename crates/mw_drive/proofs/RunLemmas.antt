@@ -9,17 +9,18 @@ use Rattle.mw_outside.specs.Lookup.{file_of}
 use Rattle.mw_term.specs.declared.refusal.Refusal.TheVariants.{TooLarge}
 use Rattle.mw_meaning.specs.declared.mode.Mode.{Mode}
 use Rattle.mw_meaning.specs.declared.mode.Mode.TheVariants.{Plain}
-use Rattle.mw_words.specs.Words.{run, sample, Means}
+use Rattle.mw_words.specs.Words.{PureCommand, sample, Means}
 use Rattle.mw_words.proofs.LawLemmas.{one_command}
 use Rattle.mw_console.specs.Reading.{most_read, IsFront, IsRest}
 use Rattle.mw_console.specs.Texts.{answered, trapped, bounded}
 use Rattle.mw_console.specs.declared.status.Status.{Status}
 use Rattle.mw_console.specs.declared.status.Status.TheVariants.{Answer, Trap, Usage, Refused, Bound, Read, Write, Cache, Memory, BadCache}
-use Rattle.mw_drive.specs.SourceReading.{IsSmall, too_large, at_bytes, at_tokens, at_names}
-use Rattle.mw_drive.specs.Works.{Work, running, sampling, Meaning, refused, ran, sampled, IsMeaning, of_refusal, of_types, of_program, IsOutput, Reports, text_of, status_of}
-use Rattle.mw_drive.specs.ProgramRuns.{IsWrittenMeaning, shown_meaning}
-use Rattle.mw_drive.specs.declared.shown.Shown.{Shown}
-use Rattle.mw_drive.specs.Running.{AsksFor, Asks, asks_run, asks_sample, AsksMissing, IsTellingOf, IsLacking, IsFaithful, IsComplete, IsMemory, SpeaksOfCache, IsCarriedOut, IsStatusOf, IsReadUp}
+use Rattle.mw_drive.specs.SourceReading.{IsRead, IsSmall, too_large, at_bytes, at_tokens, at_names}
+use Rattle.mw_drive.specs.Works.{Work, running, erasing, sampling, Meaning, refused, ran, sampled, IsMeaning, of_refusal, of_types, of_program, of_erased_refusal, of_erased, IsOutput, Reports, text_of, status_of}
+use Rattle.mw_drive.specs.ProgramRuns.{IsWrittenMeaning, evaluated, written_meaning, Carries}
+use Rattle.mw_drive.specs.declared.source.Evaluation.{Evaluation}
+use Rattle.mw_drive.specs.declared.source.Evaluation.TheVariants.{Run, Erased}
+use Rattle.mw_drive.specs.Running.{file_named, work_of, AsksFor, Asks, asks_file, asks_sample, AsksMissing, IsTellingOf, IsLacking, IsFaithful, IsComplete, IsMemory, SpeaksOfCache, IsCarriedOut, IsStatusOf, IsReadUp}
 use Rattle.mw_drive.proofs.SomeMeaning.{some_meaning}
 
 -- a source with a meaning is too large, and refused for it, or small
@@ -44,6 +45,14 @@ means_whole {bytes} {fuel} {mode} {m} d = by_size (large_or_small d)
     by_size : ((m ≡ refused TooLarge []) × (1048576 < length (take most_read bytes))) ⊎ IsSmall (take most_read bytes) → IsMeaning (running bytes fuel mode) m
     by_size (inl x) = subst (IsMeaning (running bytes fuel mode)) (sym x.0) (of_refusal (too_large (large_whole bytes x.1)))
     by_size (inr small) = subst (λ b. IsMeaning (running b fuel mode) m) (small_front bytes small) d
+
+means_whole_erased : {bytes : List ℕ} {fuel : ℕ} {m : Meaning} → IsMeaning (erasing (take most_read bytes) fuel) m → IsMeaning (erasing bytes fuel) m
+means_whole_erased (of_erased_refusal h) = of_erased_refusal (means_whole h)
+means_whole_erased {bytes} {fuel} (of_erased {e = e} p read accepted is) = of_erased p (subst (λ b. IsRead b p) (small_front bytes read.small) read) accepted is
+
+pub means_evaluated : (evaluation : Evaluation) {bytes : List ℕ} {fuel : ℕ} {m : Meaning} → IsMeaning (evaluated evaluation (take most_read bytes) fuel) m → IsMeaning (evaluated evaluation bytes fuel) m
+means_evaluated (Run shown) h = means_whole h
+means_evaluated Erased h = means_whole_erased h
 
 -- what was read is the front of the bytes that the source tells, and what is left is the rest
 pub front_told : {tells : Bool} {told : List NamedFile} {file bytes : List ℕ} (taken : List ℕ) → IsTellingOf tells told file bytes → (IsTrue tells → IsFront (file_of told file) taken) → taken ≡ take most_read bytes
@@ -75,45 +84,43 @@ told_or_lacking {told = told} {file = file} a b = both (file_of told file) a.fou
     both None e n = absurd (cc)
     both (Some x) e n = absurd (cc)
 
--- What words that mean a run ask for is the run of the bytes of its file, and what a sample's ask for is the sample.
-pub asked_of_run : {words : List (List ℕ)} {tells : Bool} {told : List NamedFile} (workers fuel : ℕ) (file : List ℕ) → Means words (run workers fuel file) → (work : Work) → Asks words tells told work
-    → (bytes : List ℕ) × IsTellingOf tells told file bytes × (work ≡ running bytes fuel Plain)
-asked_of_run {words = words} {tells = tells} {told = told} workers fuel file means work (asks_run {fuel = other} {bytes = bytes} a) =
-    let e = one_command words _ _ means a.means in
-    (bytes, record { telling = a.telling; found = subst (λ f. file_of told f ≡ Some bytes) (sym (file_is e)) a.found }, ap (λ n. running bytes n Plain) (sym (fuel_is e)))
-  where
-    file_is : {v w m n : ℕ} {f g : List ℕ} → run v m f ≡ run w n g → f ≡ g
-    file_is e = cc
+some_same : {A : Type 0} {x y : A} → Some x ≡ Some y → x ≡ y
+some_same e = cc
 
-    fuel_is : {v w m n : ℕ} {f g : List ℕ} → run v m f ≡ run w n g → m ≡ n
-    fuel_is e = cc
-asked_of_run {words = words} workers fuel file means work (asks_sample {number = number} other) = absurd (clash (one_command words _ _ means other))
+-- words that mean one command name its file alone
+file_is : {words : List (List ℕ)} {command other : PureCommand} {file found : List ℕ} → Means words command → Means words other → file_named command ≡ Some file → file_named other ≡ Some found → file ≡ found
+file_is {words} {command} {other} h k named also = some_same (sym named ∙ (ap file_named (one_command words command other h k) ∙ also))
+
+-- and a sample's words name none
+pub no_file : {words : List (List ℕ)} {command : PureCommand} {file : List ℕ} (number : ℕ) → Means words (sample number) → Means words command → file_named command ≡ Some file → ⊥
+no_file {words} {command} {file} number h k named = clash (ap file_named (one_command words (sample number) command h k) ∙ named)
   where
-    clash : run workers fuel file ≡ sample number → ⊥
+    clash : file_named (sample number) ≡ Some file → ⊥
     clash e = cc
+
+-- What words that mean a command on a file ask for is its work on the bytes of the file, and what a sample's ask for is the sample.
+pub asked_of_file : {words : List (List ℕ)} {tells : Bool} {told : List NamedFile} (command : PureCommand) (file : List ℕ) → file_named command ≡ Some file → Means words command → (work : Work) → Asks words tells told work
+    → (bytes : List ℕ) × IsTellingOf tells told file bytes × (work ≡ work_of command bytes)
+asked_of_file {words = words} {told = told} command file named means work (asks_file {command = other} {bytes = bytes} a) = (
+  bytes,
+  record { telling = a.telling; found = subst (λ f. file_of told f ≡ Some bytes) (sym (file_is means a.means named a.named)) a.found },
+  ap (λ c. work_of c bytes) (sym (one_command words command other means a.means)),
+)
+asked_of_file command file named means work (asks_sample {number = number} other) = absurd (no_file number other means named)
 
 pub asked_of_sample : {words : List (List ℕ)} {tells : Bool} {told : List NamedFile} (number : ℕ) → Means words (sample number) → (work : Work) → Asks words tells told work → work ≡ sampling number
 asked_of_sample {words = words} number means work (asks_sample other) = ap sampling (same (one_command words _ _ other means))
   where
     same : {m n : ℕ} → sample m ≡ sample n → m ≡ n
     same e = cc
-asked_of_sample {words = words} number means work (asks_run a) = absurd (clash (one_command words _ _ means a.means))
-  where
-    clash : {w n : ℕ} {f : List ℕ} → sample number ≡ run w n f → ⊥
-    clash e = cc
+asked_of_sample number means work (asks_file a) = absurd (no_file number means a.means a.named)
 
--- The missing file of a run's words is the run's, and a sample has none.
-pub lacking_of_run : {words : List (List ℕ)} {tells : Bool} {told : List NamedFile} (workers fuel : ℕ) (file : List ℕ) → Means words (run workers fuel file) → AsksMissing words tells told → IsLacking tells told file
-lacking_of_run {words = words} {told = told} workers fuel file means a = record { telling = a.telling; missing = subst (λ f. IsNone (file_of told f)) (sym (file_is (one_command words _ _ means a.means))) a.missing }
-  where
-    file_is : {v w m n : ℕ} {f g : List ℕ} → run v m f ≡ run w n g → f ≡ g
-    file_is e = cc
+-- The missing file of a command's words is the command's, and a sample has none.
+pub lacking_of_file : {words : List (List ℕ)} {tells : Bool} {told : List NamedFile} (command : PureCommand) (file : List ℕ) → file_named command ≡ Some file → Means words command → AsksMissing words tells told → IsLacking tells told file
+lacking_of_file {told = told} command file named means a = record { telling = a.telling; missing = subst (λ f. IsNone (file_of told f)) (sym (file_is means a.means named a.named)) a.missing }
 
 pub no_file_of_sample : {words : List (List ℕ)} {tells : Bool} {told : List NamedFile} (number : ℕ) → Means words (sample number) → AsksMissing words tells told → ⊥
-no_file_of_sample {words = words} number means a = clash (one_command words _ _ means a.means)
-  where
-    clash : {w n : ℕ} {f : List ℕ} → sample number ≡ run w n f → ⊥
-    clash e = cc
+no_file_of_sample number means a = no_file number means a.means a.named
 
 pub output_of_report : {work : Work} {text : List ℕ} {s : Status} → Reports work text s → IsOutput work text
 output_of_report r = record { meaning = r.meaning; is_meaning = r.is_meaning; is_text = r.is_text }
@@ -135,22 +142,22 @@ some_output work before =
     (text_of m.0, record { meaning = m.0; is_meaning = m.1; is_text = refl }, (0, omega arith, sym (append-nil before)))
 
 -- a work whose meaning was written, or a front of it, was carried out
-pub carried : {shown : Shown} {bytes : List ℕ} {fuel : ℕ} (r : Result Status WriteFault) (s : Status) {tells : Bool} (before after : List ℕ) (work : Work) → IsWrittenMeaning shown bytes fuel r tells before after
-    → ((m : Meaning) → IsMeaning (running bytes fuel Plain) m → IsMeaning work (shown_meaning shown m)) → IsStatusOf r s → IsCarriedOut work s tells before after
-carried {shown} (Ok status) s before after work w means is =
-    let m = shown_meaning shown w.meaning in
+pub carried : {evaluation : Evaluation} {bytes : List ℕ} {fuel : ℕ} (r : Result Status WriteFault) (s : Status) {tells : Bool} (before after : List ℕ) (work : Work) → IsWrittenMeaning evaluation bytes fuel r tells before after
+    → Carries evaluation bytes fuel work → IsStatusOf r s → IsCarriedOut work s tells before after
+carried {evaluation} (Ok status) s before after work w means is =
+    let m = written_meaning evaluation w.meaning in
     let is_meaning = means w.meaning w.is_meaning in
     let same : s ≡ status_of m = is ∙ w.is_status in
     record { faithful = λ t. subst (λ s. IsFaithful work s before after) (sym same) (faithful_at before after m is_meaning (w.writes t)); meaning = λ c. (m, is_meaning, same) }
-carried {shown} (Err fault.Failed) s before after work w means is =
-    let m = shown_meaning shown w.meaning in
+carried {evaluation} (Err fault.Failed) s before after work w means is =
+    let m = written_meaning evaluation w.meaning in
     let o : IsOutput work (text_of m) = record { meaning = m; is_meaning = means w.meaning w.is_meaning; is_text = refl } in
     record {
       faithful = λ t. subst (λ s. IsFaithful work s before after) (sym is) (text_of m, o, w.writes t);
       meaning = λ c. absurd (subst IsComplete is c);
     }
-carried {shown} (Err (fault.Memory error)) s before after work w means is =
-    let m = shown_meaning shown w.meaning in
+carried {evaluation} (Err (fault.Memory error)) s before after work w means is =
+    let m = written_meaning evaluation w.meaning in
     let o : IsOutput work (text_of m) = record { meaning = m; is_meaning = means w.meaning w.is_meaning; is_text = refl } in
     record {
       faithful = λ t. subst (λ s. IsFaithful work s before after) (sym is) (text_of m, o, w.writes t);
@@ -178,16 +185,6 @@ output_written (Refused r) c h t = let f = h.faithful t in (f.0, output_of_repor
 output_written (Bound l) c h t = let f = h.faithful t in (f.0, output_of_report f.1, f.2)
 output_written _ c h t = absurd (c)
 
--- no words mean both
-pub same_run : {words : List (List ℕ)} {w n number : ℕ} {f : List ℕ} → Means words (run w n f) → Means words (sample number) → ⊥
-same_run {words = words} h k = clash (one_command words _ _ h k)
-  where
-    clash : {w n number : ℕ} {f : List ℕ} → run w n f ≡ sample number → ⊥
-    clash e = cc
-
 -- the bytes that are asked for are those of the words' file
-pub asked_telling : {words : List (List ℕ)} {tells : Bool} {told : List NamedFile} {bytes : List ℕ} {units : ℕ} (workers fuel : ℕ) (file : List ℕ) → Means words (run workers fuel file) → AsksFor words tells told units bytes → IsTellingOf tells told file bytes
-asked_telling {words = words} {told = told} {bytes = bytes} workers fuel file means a = record { telling = a.telling; found = subst (λ f. file_of told f ≡ Some bytes) (sym (file_is (one_command words _ _ means a.means))) a.found }
-  where
-    file_is : {v w m n : ℕ} {f g : List ℕ} → run v m f ≡ run w n g → f ≡ g
-    file_is e = cc
+pub asked_telling : {words : List (List ℕ)} {tells : Bool} {told : List NamedFile} {bytes : List ℕ} {other : PureCommand} (command : PureCommand) (file : List ℕ) → file_named command ≡ Some file → Means words command → AsksFor words tells told other bytes → IsTellingOf tells told file bytes
+asked_telling {told = told} {bytes = bytes} command file named means a = record { telling = a.telling; found = subst (λ f. file_of told f ≡ Some bytes) (sym (file_is means a.means named a.named)) a.found }

@@ -13,7 +13,7 @@ use Rattle.mw_infer.proofs.Resolved as resolved
 use Rattle.mw_drive.specs.NamedPrograms.{NamedItem, NamedProgram, unnamed, names_of}
 use Rattle.mw_drive.specs.SourceReading.{IsRead}
 
-small_program : (bytes : List ℕ) (p : NamedProgram) → IsRead bytes p → program_size (unnamed p) < 2 ^ 31
+pub small_program : (bytes : List ℕ) (p : NamedProgram) → IsRead bytes p → program_size (unnamed p) < 2 ^ 31
 small_program bytes p read =
     let same = same_program read.surface (unnamed p) read.is_nameless in
     let few = few_nodes read.tokens (length bytes) read.surface (in_order bytes read.tokens read.are_tokens) read.small (sparse_program read.tokens read.surface read.is_surface) in omega arith

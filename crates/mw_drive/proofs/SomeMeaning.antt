@@ -26,9 +26,10 @@ use Rattle.mw_infer.proofs.Progressing.{resolved-written}
 use Rattle.mw_infer.proofs.Deciding.{checked_or_refused}
 use Rattle.mw_drive.specs.NamedPrograms.{NamedItem, NamedProgram, unnamed, names_of}
 use Rattle.mw_drive.specs.SourceReading.{IsSmall, IsRead, IsRefused, too_large, at_bytes, at_tokens, at_names}
-use Rattle.mw_drive.specs.Works.{running, sampling, Meaning, refused, ran, as_sample, sample_fuel, IsAccepted, IsMeaning, of_refusal, of_types, of_program, of_sample}
+use Rattle.mw_drive.specs.Works.{running, erasing, sampling, Meaning, refused, ran, as_sample, sample_fuel, IsAccepted, IsMeaning, of_refusal, of_types, of_program, of_erased_refusal, of_erased, of_sample}
 use Rattle.mw_drive.specs.WorkLaws.{SomeMeaning}
 use Rattle.mw_drive.proofs.ScopedTerms.{is_resolved}
+use Rattle.mw_drive.proofs.ErasedEnds.{erased_ends, source_program}
 use Rattle.mw_drive.proofs.ProgramEnds.{program_ends}
 use Rattle.mw_drive.proofs.Counts.{at_most_or_above}
 
@@ -119,8 +120,20 @@ answer_means : (bytes : List ℕ) (fuel : ℕ) (mode : Mode) → IsAnswered byte
 answer_means bytes fuel mode (as_program p read) = program_means bytes fuel mode p read (checked_or_refused (unnamed p) (resolved-written (unnamed p) (is_resolved bytes p read)))
 answer_means bytes fuel mode (as_refusal r refusal) = (refused r [], of_refusal refusal)
 
+accepted_erased : (bytes : List ℕ) (fuel : ℕ) (p : NamedProgram) → IsRead bytes p → IsAccepted (unnamed p) → (m : Meaning) × IsMeaning (erasing bytes fuel) m
+accepted_erased bytes fuel p read fine = let e = erased_ends fuel (unnamed p) (source_program bytes p read) fine.typable in (ran Plain [] e.0, of_erased p read fine e.1)
+
+erased_means : (bytes : List ℕ) (fuel : ℕ) → IsAnswered bytes → (m : Meaning) × IsMeaning (erasing bytes fuel) m
+erased_means bytes fuel (as_refusal r refusal) = (refused r [], of_erased_refusal (of_refusal refusal))
+erased_means bytes fuel (as_program p read) = by_types (checked_or_refused (unnamed p) (resolved-written (unnamed p) (is_resolved bytes p read)))
+  where
+    by_types : (Typable (unnamed p) × NoneTooBig (unnamed p)) ⊎ ((r : Refusal) × IsFirstRefusal (unnamed p) r) → (m : Meaning) × IsMeaning (erasing bytes fuel) m
+    by_types (inl fine) = accepted_erased bytes fuel p read (record { typable = fine.0; small = fine.1 })
+    by_types (inr fault) = (refused fault.0 (names_of p), of_erased_refusal (of_types p read fault.1))
+
 pub some_meaning : SomeMeaning
 some_meaning (running bytes fuel mode) = answer_means bytes fuel mode (reading_answers bytes)
+some_meaning (erasing bytes fuel) = erased_means bytes fuel (reading_answers bytes)
 some_meaning (sampling number) =
     let bytes = sample_text number in
     let m = answer_means bytes sample_fuel Plain (reading_answers bytes) in (as_sample m.0, of_sample m.0 m.1)

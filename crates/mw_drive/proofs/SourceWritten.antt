@@ -3,7 +3,7 @@ use Rattle.std.proofs.Common.{◌≡◌, ◌<◌, ℕ, ◌^◌, List, [], map, l
 use Rattle.std.proofs.lemmas.List.{length-map}
 use Rattle.mw_outside.specs.declared.errors.WriteFault.{WriteFault}
 use Rattle.mw_outside.specs.declared.errors.WriteFault.TheVariants.{Memory}
-use Rattle.mw_term.specs.Programs.{program_of, definition_of}
+use Rattle.mw_term.specs.Programs.{program_of, program_size, definition_of}
 use Rattle.mw_term.specs.Typable.{Typable}
 use Rattle.mw_term.specs.Stops.{IfRefused}
 use Rattle.mw_term.specs.declared.program.Program.{Program}
@@ -16,34 +16,38 @@ use Rattle.mw_meaning.specs.declared.mode.Mode.TheVariants.{Plain}
 use Rattle.mw_console.specs.Texts.{refusal_line}
 use Rattle.mw_console.specs.declared.status.Status.{Status}
 use Rattle.mw_console.specs.declared.status.Status.TheVariants.{Refused}
+use Rattle.mw_drive.specs.declared.source.Evaluation.{Evaluation}
+use Rattle.mw_drive.specs.declared.source.Evaluation.TheVariants.{Run, Erased}
 use Rattle.mw_drive.specs.declared.shown.Shown.{Shown}
 use Rattle.mw_drive.specs.declared.shown.Shown.TheVariants.{Lines, Totals}
 use Rattle.mw_drive.specs.NamedPrograms.{unnamed, names_of, named_program_of}
 use Rattle.mw_drive.specs.SourceReading.{IsRead, IsRefused}
-use Rattle.mw_drive.specs.ProgramRuns.{IsWrittenRun, IsWrittenMeaning}
-use Rattle.mw_drive.specs.Works.{IsAccepted, running, refused, ran, IsMeaning, of_refusal, of_types, of_program}
+use Rattle.mw_drive.specs.ProgramMeaning.{ended, erased_run}
+use Rattle.mw_drive.specs.ProgramRuns.{evaluated, IsWrittenRun, IsWrittenErased, IsWrittenMeaning}
+use Rattle.mw_drive.specs.Works.{IsAccepted, running, refused, ran, IsMeaning, of_refusal, of_types, of_program, of_erased_refusal, of_erased}
 use Rattle.mw_drive.specs.Written.{Writes}
 use Rattle.mw_drive.proofs.Fronts.{grows_nothing}
 use Rattle.mw_drive.proofs.SomeMeaning.{some_meaning}
 use Rattle.mw_drive.proofs.SourceReadings.{unnamed_program, names_of_program}
-use Rattle.mw_drive.proofs.ScopedTerms.{is_resolved}
+use Rattle.mw_drive.proofs.ScopedTerms.{is_resolved, small_program}
 
 module _ (bytes : List ℕ) (fuel : ℕ) (tells : Bool) where
-  written_refusal : (shown : Shown) (result : Result Status WriteFault) (before after : List ℕ) (r : Refusal) (names : List (List ℕ)) → IsMeaning (running bytes fuel Plain) (refused r names)
-      → IfOk result (λ s. s ≡ Refused r) → Writes result tells before after (refusal_line names r) → IsWrittenMeaning shown bytes fuel result tells before after
-  written_refusal Lines result before after r names is status writes = record { meaning = refused r names; is_meaning = is; is_status = status; writes = writes }
-  written_refusal Totals result before after r names is status writes = record { meaning = refused r names; is_meaning = is; is_status = status; writes = writes }
+  written_refusal : (evaluation : Evaluation) (result : Result Status WriteFault) (before after : List ℕ) (r : Refusal) (names : List (List ℕ)) → IsMeaning (running bytes fuel Plain) (refused r names)
+      → IfOk result (λ s. s ≡ Refused r) → Writes result tells before after (refusal_line names r) → IsWrittenMeaning evaluation bytes fuel result tells before after
+  written_refusal (Run Lines) result before after r names is status writes = record { meaning = refused r names; is_meaning = is; is_status = status; writes = writes }
+  written_refusal (Run Totals) result before after r names is status writes = record { meaning = refused r names; is_meaning = is; is_status = status; writes = writes }
+  written_refusal Erased result before after r names is status writes = record { meaning = refused r names; is_meaning = of_erased_refusal is; is_status = status; writes = writes }
 
   -- want of memory before anything was written
-  pub written_nothing : (shown : Shown) (before : List ℕ) (e : _) → IsWrittenMeaning shown bytes fuel (Err (Memory e)) tells before before
-  written_nothing shown before e =
-      let m = some_meaning (running bytes fuel Plain) in
+  pub written_nothing : (evaluation : Evaluation) (before : List ℕ) (e : _) → IsWrittenMeaning evaluation bytes fuel (Err (Memory e)) tells before before
+  written_nothing evaluation before e =
+      let m = some_meaning (evaluated evaluation bytes fuel) in
       record { meaning = m.0; is_meaning = m.1; is_status = tt; writes = λ t. grows_nothing before _ }
 
   -- the refusal of its reading
-  pub refusal_written : (shown : Shown) (result : Result Status WriteFault) (before after : List ℕ) (r : Refusal) (stop : Stop) → stop ≡ StopRefused r → IfRefused (IsRefused bytes) stop
-      → IfOk result (λ s. s ≡ Refused r) → Writes result tells before after (refusal_line [] r) → IsWrittenMeaning shown bytes fuel result tells before after
-  refusal_written shown result before after r stop is says = written_refusal shown result before after r [] (of_refusal (subst (IfRefused (IsRefused bytes)) is says))
+  pub refusal_written : (evaluation : Evaluation) (result : Result Status WriteFault) (before after : List ℕ) (r : Refusal) (stop : Stop) → stop ≡ StopRefused r → IfRefused (IsRefused bytes) stop
+      → IfOk result (λ s. s ≡ Refused r) → Writes result tells before after (refusal_line [] r) → IsWrittenMeaning evaluation bytes fuel result tells before after
+  refusal_written evaluation result before after r stop is says = written_refusal evaluation result before after r [] (of_refusal (subst (IfRefused (IsRefused bytes)) is says))
 
   module _ (p : Program) (found : IsRead bytes (named_program_of p)) where
     pub resolved : IsResolved (program_of p)
@@ -53,21 +57,37 @@ module _ (bytes : List ℕ) (fuel : ℕ) (tells : Bool) where
     few_items = let n = length-map p.items (λ (i : Item). definition_of i.kind) in omega (arith, n, resolved.count)
 
     -- the refusal of its types
-    pub types_written : (shown : Shown) (result : Result Status WriteFault) (before after : List ℕ) (r : Refusal) (stop : Stop) → stop ≡ StopRefused r → IfRefused (IsFirstRefusal (program_of p)) stop
-        → IfOk result (λ s. s ≡ Refused r) → Writes result tells before after (refusal_line (map (λ (i : Item). i.name) p.items) r) → IsWrittenMeaning shown bytes fuel result tells before after
-    types_written shown result before after r stop is says status writes =
+    pub types_written : (evaluation : Evaluation) (result : Result Status WriteFault) (before after : List ℕ) (r : Refusal) (stop : Stop) → stop ≡ StopRefused r → IfRefused (IsFirstRefusal (program_of p)) stop
+        → IfOk result (λ s. s ≡ Refused r) → Writes result tells before after (refusal_line (map (λ (i : Item). i.name) p.items) r) → IsWrittenMeaning evaluation bytes fuel result tells before after
+    types_written evaluation result before after r stop is says status writes =
         let first : IsFirstRefusal (unnamed (named_program_of p)) r = subst (λ q. IsFirstRefusal q r) (sym (unnamed_program p)) (subst (IfRefused (IsFirstRefusal (program_of p))) is says) in
-        written_refusal shown result before after r (names_of (named_program_of p)) (of_types (named_program_of p) found first) status
+        written_refusal evaluation result before after r (names_of (named_program_of p)) (of_types (named_program_of p) found first) status
         (subst (λ names. Writes result tells before after (refusal_line names r)) (sym (names_of_program p)) writes)
+
+    accepted : Typable (program_of p) → NoneTooBig (program_of p) → IsAccepted (unnamed (named_program_of p))
+    accepted typable small = subst IsAccepted (sym (unnamed_program p)) record { typable = typable; small = small }
 
     -- the run of its program
     pub run_written : (shown : Shown) (result : Result Status WriteFault) (before after : List ℕ) → Typable (program_of p) → NoneTooBig (program_of p)
-        → IsWrittenRun shown fuel (named_program_of p) result tells before after → IsWrittenMeaning shown bytes fuel result tells before after
+        → IsWrittenRun shown fuel (named_program_of p) result tells before after → IsWrittenMeaning (Run shown) bytes fuel result tells before after
     run_written shown result before after typable small h = by_shown shown h
       where
-        accepted : IsAccepted (unnamed (named_program_of p))
-        accepted = subst IsAccepted (sym (unnamed_program p)) record { typable = typable; small = small }
+        fine : IsAccepted (unnamed (named_program_of p))
+        fine = accepted typable small
 
-        by_shown : (shown : Shown) → IsWrittenRun shown fuel (named_program_of p) result tells before after → IsWrittenMeaning shown bytes fuel result tells before after
-        by_shown Lines h = record { meaning = ran Plain h.kernels h.ending; is_meaning = of_program (named_program_of p) found accepted h.is_run; is_status = h.is_status; writes = h.writes }
-        by_shown Totals h = record { meaning = ran Plain h.kernels h.ending; is_meaning = of_program (named_program_of p) found accepted h.is_run; is_status = h.is_status; writes = h.writes }
+        by_shown : (shown : Shown) → IsWrittenRun shown fuel (named_program_of p) result tells before after → IsWrittenMeaning (Run shown) bytes fuel result tells before after
+        by_shown Lines h = record { meaning = ran Plain h.kernels h.ending; is_meaning = of_program (named_program_of p) found fine h.is_run; is_status = h.is_status; writes = h.writes }
+        by_shown Totals h = record { meaning = ran Plain h.kernels h.ending; is_meaning = of_program (named_program_of p) found fine h.is_run; is_status = h.is_status; writes = h.writes }
+
+    -- its erased program's main
+    pub erased_written : (result : Result Status WriteFault) (before after : List ℕ) → Typable (program_of p) → NoneTooBig (program_of p)
+        → IsWrittenErased fuel (program_of p) result tells before after → IsWrittenMeaning Erased bytes fuel result tells before after
+    erased_written result before after typable small h = record {
+      meaning = ran Plain [] h.ending;
+      is_meaning = of_erased (named_program_of p) found (accepted typable small) (subst (λ q. erased_run fuel q ≡ ended [] h.ending) (sym (unnamed_program p)) h.is_run);
+      is_status = h.is_status;
+      writes = h.writes;
+    }
+
+    pub few_nodes : program_size (program_of p) < 2 ^ 31
+    few_nodes = subst (λ q. program_size q < 2 ^ 31) (unnamed_program p) (small_program bytes (named_program_of p) found)

@@ -2,8 +2,9 @@
 -- code, and then, where all give code, main.
 use Rattle.std.specs.Prelude.{ℕ, List, [], ◌∷◌, ◌++◌}
 use Rattle.mw_term.specs.Terms.{Expression, Value, KernelType, PureGroundValue}
-use Rattle.mw_term.specs.Programs.{Definition, value as defines, kernel}
+use Rattle.mw_term.specs.Programs.{Definition, value as defines, kernel, PureProgram}
 use Rattle.mw_meaning.specs.declared.mode.Mode.{Mode}
+use Rattle.mw_meaning.specs.ErasedPrograms.{erased_outcome}
 use Rattle.mw_meaning.specs.Outcomes.{Outcome, came_to, trapped as traps, bounded as bounds, stuck as no_outcome, item_outcome, main_outcome, names_of_items, names_of_main}
 use Rattle.mw_console.specs.Texts.{Ending, answered, trapped, bounded, main_name}
 use Rattle.mw_drive.specs.NamedPrograms.{NamedItem, NamedProgram, unnamed}
@@ -57,3 +58,7 @@ main_after mode fuel items body codes = main_run (main_outcome mode (names_of_ma
 
 abbrev pub program_run : Mode → ℕ → NamedProgram → ProgramRun
 program_run mode fuel p = run_items mode fuel (names_of_items (unnamed p).items) (λ codes. main_after mode fuel (unnamed p).items p.body codes) p.items []
+
+-- how the erased program's main ends, with a fuel; its name is main's, whatever traps or meets a bound
+abbrev pub erased_run : ℕ → PureProgram → ProgramRun
+erased_run fuel p = main_run (erased_outcome fuel p)

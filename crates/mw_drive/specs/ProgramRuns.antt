@@ -3,7 +3,7 @@ use Rattle.std.specs.Prelude.{ℕ, ◌≡◌, true, List, [], ◌∷◌, ◌++�
 use Rattle.std.specs.List.{flat_map}
 use Rattle.mw_outside.specs.declared.errors.WriteFault.{WriteFault}
 use Rattle.mw_term.specs.Terms.{Expression, KernelType, expression_of, kernel_type_of, ground_value_of}
-use Rattle.mw_term.specs.Programs.{Definition, value as defines, kernel}
+use Rattle.mw_term.specs.Programs.{Definition, value as defines, kernel, PureProgram}
 use Rattle.mw_term.specs.Typable.{HasKernelType}
 use Rattle.mw_term.specs.Limits.{within_limits}
 use Rattle.mw_meaning.specs.declared.mode.Mode.TheVariants.{Plain}
@@ -17,11 +17,13 @@ use Rattle.mw_drive.specs.declared.ending.End.TheVariants as end
 use Rattle.mw_drive.specs.declared.items.Built.{Built}
 use Rattle.mw_drive.specs.declared.items.ItemEnd.{ItemEnd}
 use Rattle.mw_drive.specs.declared.items.ItemEnd.TheVariants as item
+use Rattle.mw_drive.specs.declared.source.Evaluation.{Evaluation}
+use Rattle.mw_drive.specs.declared.source.Evaluation.TheVariants.{Run, Erased}
 use Rattle.mw_drive.specs.declared.shown.Shown.{Shown}
 use Rattle.mw_drive.specs.declared.shown.Shown.TheVariants.{Lines, Totals}
 use Rattle.mw_drive.specs.NamedPrograms.{NamedItem, NamedProgram, unnamed}
-use Rattle.mw_drive.specs.ProgramMeaning.{Kernel, ProgramRun, ended, with_kernel, main_after, program_run}
-use Rattle.mw_drive.specs.Works.{Meaning, IsMeaning, running, as_sample, kernel_lines, module_bytes, text_of, status_of}
+use Rattle.mw_drive.specs.ProgramMeaning.{Kernel, ProgramRun, ended, with_kernel, main_after, program_run, erased_run}
+use Rattle.mw_drive.specs.Works.{Work, Meaning, IsMeaning, running, erasing, as_sample, kernel_lines, module_bytes, text_of, status_of}
 use Rattle.mw_drive.specs.Written.{Writes}
 
 abbrev pub ending_of : End → Ending
@@ -85,9 +87,29 @@ abbrev pub shown_meaning : Shown → Meaning → Meaning
 shown_meaning Lines m = m
 shown_meaning Totals m = as_sample m
 
--- what a source's run means was written, and the status is what it says
-pub record IsWrittenMeaning (shown : Shown) (bytes : List ℕ) (fuel : ℕ) (result : Result Status WriteFault) (tells : Bool) (before after : List ℕ) : Type 0 where
+-- how the erased program's main ends was written, and the status says the same
+pub record IsWrittenErased (fuel : ℕ) (p : PureProgram) (result : Result Status WriteFault) (tells : Bool) (before after : List ℕ) : Type 0 where
+  pub ending : Ending
+  pub is_run : erased_run fuel p ≡ ended [] ending
+  pub is_status : IfOk result (λ s. s ≡ ending_status ending)
+  pub writes : Writes result tells before after (ending_line ending)
+
+-- the work that an evaluation of a source is, and what of its meaning is written
+abbrev pub evaluated : Evaluation → List ℕ → ℕ → Work
+evaluated (Run shown) bytes fuel = running bytes fuel Plain
+evaluated Erased bytes fuel = erasing bytes fuel
+
+abbrev pub written_meaning : Evaluation → Meaning → Meaning
+written_meaning (Run shown) m = shown_meaning shown m
+written_meaning Erased m = m
+
+-- what is written of the evaluation is what the work means
+abbrev pub Carries : Evaluation → List ℕ → ℕ → Work → Type 0
+Carries evaluation bytes fuel work = (m : Meaning) → IsMeaning (evaluated evaluation bytes fuel) m → IsMeaning work (written_meaning evaluation m)
+
+-- what an evaluation of a source means was written, and the status is what it says
+pub record IsWrittenMeaning (evaluation : Evaluation) (bytes : List ℕ) (fuel : ℕ) (result : Result Status WriteFault) (tells : Bool) (before after : List ℕ) : Type 0 where
   pub meaning : Meaning
-  pub is_meaning : IsMeaning (running bytes fuel Plain) meaning
-  pub is_status : IfOk result (λ s. s ≡ status_of (shown_meaning shown meaning))
-  pub writes : Writes result tells before after (text_of (shown_meaning shown meaning))
+  pub is_meaning : IsMeaning (evaluated evaluation bytes fuel) meaning
+  pub is_status : IfOk result (λ s. s ≡ status_of (written_meaning evaluation meaning))
+  pub writes : Writes result tells before after (text_of (written_meaning evaluation meaning))

@@ -1,36 +1,47 @@
 -- What the top call says of words, source and sink.
-use Rattle.std.specs.Prelude.{◌≡◌, ℕ, List, ◌++◌, drop, Some, IsNone, Bool, IsTrue, Result, Ok, Err}
+use Rattle.std.specs.Prelude.{◌≡◌, ℕ, List, ◌++◌, drop, Option, Some, None, IsNone, Bool, IsTrue, Result, Ok, Err}
 use Rattle.mw_outside.specs.declared.named.NamedFile.{NamedFile}
 use Rattle.mw_outside.specs.Count.{GrowsByFront}
 use Rattle.mw_outside.specs.Lookup.{file_of}
 use Rattle.mw_outside.specs.declared.errors.WriteFault.{WriteFault}
 use Rattle.mw_outside.specs.declared.errors.WriteFault.TheVariants as fault
 use Rattle.mw_meaning.specs.declared.mode.Mode.TheVariants.{Plain}
-use Rattle.mw_words.specs.Words.{run, sample, Means}
+use Rattle.mw_words.specs.Words.{PureCommand, run, erased, sample, Means}
 use Rattle.mw_console.specs.Reading.{most_read}
 use Rattle.mw_console.specs.declared.status.Status.{Status}
 use Rattle.mw_console.specs.declared.status.Status.TheVariants.{Answer, Trap, Usage, Refused, Bound, Read, Write, Cache, Memory, BadCache}
-use Rattle.mw_drive.specs.Works.{Work, running, sampling, Meaning, IsMeaning, status_of, IsOutput, Reports}
+use Rattle.mw_drive.specs.Works.{Work, running, erasing, sampling, Meaning, IsMeaning, status_of, IsOutput, Reports}
 
--- the words mean the run of a file with so many units of fuel, and these are its bytes, which the source tells
-pub record AsksFor (words : List (List ℕ)) (tells : Bool) (told : List NamedFile) (fuel : ℕ) (bytes : List ℕ) : Type 0 where
-  pub workers : ℕ
+-- the file whose source a command evaluates, and its work on the file's bytes; a sample needs no source
+abbrev pub file_named : PureCommand → Option (List ℕ)
+file_named (run workers fuel file) = Some file
+file_named (erased fuel file) = Some file
+file_named (sample number) = None
+
+abbrev pub work_of : PureCommand → List ℕ → Work
+work_of (run workers fuel file) bytes = running bytes fuel Plain
+work_of (erased fuel file) bytes = erasing bytes fuel
+work_of (sample number) bytes = sampling number
+
+-- the words mean this command on a file, and these are its bytes, which the source tells
+pub record AsksFor (words : List (List ℕ)) (tells : Bool) (told : List NamedFile) (command : PureCommand) (bytes : List ℕ) : Type 0 where
   pub file : List ℕ
-  pub means : Means words (run workers fuel file)
+  pub means : Means words command
+  pub named : file_named command ≡ Some file
   pub telling : IsTrue tells
   pub found : file_of told file ≡ Some bytes
 
--- the words and the source ask for this work; a sample needs no source
+-- the words and the source ask for this work
 pub data Asks (words : List (List ℕ)) (tells : Bool) (told : List NamedFile) : Work → Type 0 where
-  asks_run : {fuel : ℕ} {bytes : List ℕ} → AsksFor words tells told fuel bytes → Asks words tells told (running bytes fuel Plain)
+  asks_file : {command : PureCommand} {bytes : List ℕ} → AsksFor words tells told command bytes → Asks words tells told (work_of command bytes)
   asks_sample : {number : ℕ} → Means words (sample number) → Asks words tells told (sampling number)
 
--- the words mean the run of a file that the source tells that it lacks
+-- the words mean a command on a file that the source tells that it lacks
 pub record AsksMissing (words : List (List ℕ)) (tells : Bool) (told : List NamedFile) : Type 0 where
-  pub workers : ℕ
-  pub fuel : ℕ
+  pub command : PureCommand
   pub file : List ℕ
-  pub means : Means words (run workers fuel file)
+  pub means : Means words command
+  pub named : file_named command ≡ Some file
   pub telling : IsTrue tells
   pub missing : IsNone (file_of told file)
 

@@ -24,12 +24,13 @@ use Rattle.mw_console.specs.Texts.{Ending, kernel_text, totals_text, refusal_lin
 use Rattle.mw_sample.specs.Sample.{sample_text}
 use Rattle.mw_drive.specs.NamedPrograms.{NamedProgram, unnamed, names_of}
 use Rattle.mw_drive.specs.SourceReading.{IsRead, IsRefused}
-use Rattle.mw_drive.specs.ProgramMeaning.{Kernel, ended, program_run}
+use Rattle.mw_drive.specs.ProgramMeaning.{Kernel, ended, program_run, erased_run}
 
--- the run of a source's bytes, with so many units of fuel for each evaluation, under a mode; or that of the source that is made
--- from a number, of which only totals are written
+-- the run of a source's bytes, with so many units of fuel for each evaluation, under a mode; that of its erased program's main; or
+-- the run of the source that is made from a number, of which only totals are written
 pub data Work : Type 0 where
   running : (bytes : List ℕ) (fuel : ℕ) (mode : Mode) → Work
+  erasing : (bytes : List ℕ) (fuel : ℕ) → Work
   sampling : (number : ℕ) → Work
 
 -- a refusal, with the names of the items where it speaks of one; or the kernels that gave code, under a mode, and an ending;
@@ -54,12 +55,17 @@ pub record IsAccepted (p : PureProgram) : Type 0 where
   pub small : NoneTooBig p
 
 -- The run of a source means the first refusal of its reading; else the first refusal of its types; else the run of its program.
--- A sample means what the run of its source does.
+-- What is refused is refused with its erased program too, which else means how its main ends; it has no kernels. A sample means
+-- what the run of its source does.
 pub data IsMeaning : Work → Meaning → Type 0 where
   of_refusal : {bytes : List ℕ} {fuel : ℕ} {mode : Mode} {r : Refusal} → IsRefused bytes r → IsMeaning (running bytes fuel mode) (refused r [])
   of_types : {bytes : List ℕ} {fuel : ℕ} {mode : Mode} {r : Refusal} (p : NamedProgram) → IsRead bytes p → IsFirstRefusal (unnamed p) r → IsMeaning (running bytes fuel mode) (refused r (names_of p))
   of_program : {bytes : List ℕ} {fuel : ℕ} {mode : Mode} {kernels : List Kernel} {e : Ending} (p : NamedProgram) → IsRead bytes p → IsAccepted (unnamed p) → program_run mode fuel p ≡ ended kernels e
       → IsMeaning (running bytes fuel mode) (ran mode kernels e)
+  of_erased_refusal : {bytes : List ℕ} {fuel : ℕ} {r : Refusal} {names : List (List ℕ)} → IsMeaning (running bytes fuel Plain) (refused r names)
+      → IsMeaning (erasing bytes fuel) (refused r names)
+  of_erased : {bytes : List ℕ} {fuel : ℕ} {e : Ending} (p : NamedProgram) → IsRead bytes p → IsAccepted (unnamed p) → erased_run fuel (unnamed p) ≡ ended [] e
+      → IsMeaning (erasing bytes fuel) (ran Plain [] e)
   of_sample : {number : ℕ} (m : Meaning) → IsMeaning (running (sample_text number) sample_fuel Plain) m → IsMeaning (sampling number) (as_sample m)
 
 -- the key of code at a type: the digest of their text

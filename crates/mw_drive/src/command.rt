@@ -1,16 +1,20 @@
 // The top call.
 
-ghost use Rattle.std.specs.Prelude.{◌≡◌, ◌↔◌, ◌≤◌, ◌⊎◌, ◌++◌, ℕ, List, IsTrue, map};
+ghost use Rattle.std.specs.Prelude.{◌≡◌, ◌↔◌, ◌≤◌, ◌⊎◌, ◌++◌, ℕ, List, [], IsTrue, map};
 ghost use Rattle.std.specs.String.{string_bytes};
 ghost use Rattle.mw_outside.specs.Count.{Rose};
-ghost use Rattle.mw_words.specs.Words.{IsUsage};
-ghost use Rattle.mw_console.specs.declared.status.Status.TheVariants.{Usage, Read, Write};
+ghost use Rattle.mw_term.specs.Terms.{PureGroundValue};
+ghost use Rattle.mw_words.specs.Words.{PureCommand, run, IsUsage};
+ghost use Rattle.mw_console.specs.declared.status.Status.TheVariants.{Answer, Usage, Read, Write};
+ghost use Rattle.mw_console.specs.Texts.{answered};
 ghost use Rattle.mw_meaning.specs.declared.mode.Mode.TheVariants.{Plain};
-ghost use Rattle.mw_drive.specs.Works.{Work, running, sampling, Meaning, IsMeaning, IsOutput, HaveModules, status_of};
+ghost use Rattle.mw_drive.specs.Works.{Work, running, erasing, sampling, Meaning, ran, IsMeaning, IsOutput, HaveModules, status_of};
+ghost use Rattle.mw_drive.specs.ProgramMeaning.{Kernel};
+ghost use Rattle.mw_drive.specs.ProgramRuns.{Carries};
 ghost use Rattle.mw_drive.specs.Running.{Asks, AsksFor, AsksMissing, AsksSample, IsTellingOf, IsLacking, IsCarriedOut, IsStatusOf, IsFaithful, IsReadUp, IsMemory, SpeaksOfCache};
 
 use crate::shown::Shown;
-use crate::source::write_source;
+use crate::source::{Evaluation, write_source};
 use mw_console::{SourceFault, Status, file_bytes};
 use mw_outside::{Gate, Keeper, Sink, Source, WriteFault};
 use mw_sample::sample;
@@ -24,7 +28,8 @@ use std::thread::Threads;
 const SAMPLE_FUEL: u64 = 1_000_000;
 
 /// Carries out the command that the words mean. `run FILE` reads the file from the source, checks it, evaluates its kernel items
-/// and writes what they came to, and then evaluates main and writes the last line. `sample N` does so with a source that is made
+/// and writes what they came to, and then evaluates main and writes the last line. `erased FILE` evaluates main of the erased
+/// program and writes the last line alone. `sample N` runs as `run` does, with a source that is made
 /// from the number, and writes totals in place of the kernels. The keeper isn't touched.
 pub fn run<R: Threads + Sync, S: Source, K: Sink, C: Keeper, G: Gate>(
     _rt: &R,
@@ -46,11 +51,16 @@ pub fn run<R: Threads + Sync, S: Source, K: Sink, C: Keeper, G: Gate>(
     // For each kernel that is printed, the bytes spell a module that is valid and means the code that is run.
     ensures modules { (work : Work) → Asks (map string_bytes words.now) S.tells (S.told source.old) work
         → (meaning : Meaning) → IsMeaning work meaning → HaveModules meaning }
+    // An answer of a run is any answer of the erased program, whatever the units of either.
+    ensures erasure { (workers fuel m : ℕ) (file bytes : List ℕ) (w : PureGroundValue)
+        → AsksFor (map string_bytes words.now) S.tells (S.told source.old) (run workers fuel file) bytes
+        → IsMeaning (erasing bytes m) (ran Plain [] (answered w)) → result ≡ Answer
+        → (kernels : List Kernel) × IsMeaning (running bytes fuel Plain) (ran Plain kernels (answered w)) }
     // Whatever failed, the status says what was written.
     ensures faults { (work : Work) → Asks (map string_bytes words.now) S.tells (S.told source.old) work → IsTrue K.tells
         → IsFaithful work result (K.written sink.old) (K.written sink.new) }
     // The source is read to its end, or to one byte more than the longest source has.
-    ensures left { (fuel : ℕ) (bytes : List ℕ) → AsksFor (map string_bytes words.now) S.tells (S.told source.old) fuel bytes
+    ensures left { (command : PureCommand) (bytes : List ℕ) → AsksFor (map string_bytes words.now) S.tells (S.told source.old) command bytes
         → IsReadUp bytes result (S.left source.new) }
     ensures usage { (result ≡ Usage) ↔ IsUsage (map string_bytes words.now) }
     ensures read { result ≡ Read
@@ -67,22 +77,29 @@ pub fn run<R: Threads + Sync, S: Source, K: Sink, C: Keeper, G: Gate>(
     ensures sink_count { K.faults sink.old ≤ K.faults sink.new }
 {
     match read_words(words) {
-        Ok(Command::Run { fuel, file, .. }) => run_file(alloc, source, sink, file, fuel),
+        Ok(Command::Run { fuel, file, .. }) => {
+            let evaluation = Evaluation::Run(Shown::Lines);
+            evaluate_file(alloc, source, sink, file, fuel, evaluation)
+        }
+        Ok(Command::Erased { fuel, file }) => {
+            evaluate_file(alloc, source, sink, file, fuel, Evaluation::Erased)
+        }
         Ok(Command::Sample { number }) => run_sample(alloc, sink, number),
         Err(_) => Status::Usage,
     }
 }
 
-/// Runs the source of a file, with so many units for each evaluation.
-fn run_file<S: Source, K: Sink>(
+/// Evaluates the source of a file, with so many units for each evaluation.
+fn evaluate_file<S: Source, K: Sink>(
     alloc: Global,
     source: &mut S,
     sink: &mut K,
     file: &str,
     fuel: u64,
+    evaluation: Evaluation,
 ) -> Status
-    ensures work { (bytes : List ℕ) → IsTellingOf S.tells (S.told source.old) file.now bytes
-        → IsCarriedOut (running bytes fuel Plain) result K.tells (K.written sink.old) (K.written sink.new) }
+    ensures work { (bytes : List ℕ) → IsTellingOf S.tells (S.told source.old) file.now bytes → (work : Work) → Carries evaluation bytes fuel work
+        → IsCarriedOut work result K.tells (K.written sink.old) (K.written sink.new) }
     ensures left { (bytes : List ℕ) → IsTellingOf S.tells (S.told source.old) file.now bytes → IsReadUp bytes result (S.left source.new) }
     ensures read { result ≡ Read → Rose (S.faults source.old) (S.faults source.new) ⊎ IsLacking S.tells (S.told source.old) file.now }
     ensures missing { IsLacking S.tells (S.told source.old) file.now → (result ≡ Read) ⊎ IsMemory result }
@@ -101,7 +118,7 @@ fn run_file<S: Source, K: Sink>(
         alloc,
         bytes.as_slice(),
         fuel,
-        Shown::Lines,
+        evaluation,
         sink,
         Blank::new(1),
     ))
@@ -124,7 +141,7 @@ fn run_sample<K: Sink>(alloc: Global, sink: &mut K, number: u32) -> Status
         alloc,
         bytes.as_slice(),
         SAMPLE_FUEL,
-        Shown::Totals,
+        Evaluation::Run(Shown::Totals),
         sink,
         Blank::new(1),
     ))

@@ -1,6 +1,6 @@
 // Laws of works and their meanings, which no program calls.
 
-ghost use Rattle.mw_drive.specs.WorkLaws.{OneMeaning, SomeMeaning};
+ghost use Rattle.mw_drive.specs.WorkLaws.{OneMeaning, SomeMeaning, AnswersAreErased};
 
 /// A work has one meaning at most: bytes, fuel and mode decide text and status.
 pub fn one_meaning()
@@ -10,4 +10,9 @@ pub fn one_meaning()
 /// Each work has a meaning.
 pub fn some_meaning()
     ensures { SomeMeaning }
+{}
+
+/// Where a source's run and its erased program both answer, the answers are equal.
+pub fn answers_are_erased()
+    ensures { AnswersAreErased }
 {}

@@ -3,6 +3,7 @@
 
 mod command;
 mod ending;
+mod erased;
 mod items;
 pub mod laws;
 mod main_end;

@@ -1,4 +1,4 @@
-// The run of a source.
+// The evaluation of a source.
 
 ghost use Rattle.std.specs.Prelude.{◌≡◌, ◌≤◌, ◌<◌, map, IfOk};
 ghost use Rattle.mw_term.specs.declared.program.Item.{Item as PureItem};
@@ -7,6 +7,7 @@ ghost use Rattle.mw_console.specs.declared.status.Status.TheVariants.{Refused};
 ghost use Rattle.mw_drive.specs.ProgramRuns.{IsWrittenMeaning};
 ghost use Rattle.mw_drive.specs.Written.{Writes, Blames};
 
+use crate::erased::write_erased;
 use crate::program::write_run;
 use crate::reading::read;
 use crate::shown::Shown;
@@ -17,19 +18,26 @@ use mw_term::{Item, Refusal, Stop};
 use std::alloc::Global;
 use std::sync::ledger::{Blank, Ledger};
 
-/// Reads and checks a source, runs its program with so many units for each item and for main, and writes what it means.
+/// What of a source is evaluated and written: the run of its program, or its erased program's main.
+#[derive(Clone, Copy, Debug)]
+pub enum Evaluation {
+    Run(Shown),
+    Erased,
+}
+
+/// Reads and checks a source, evaluates it with so many units for each item and for main, and writes what it means.
 pub fn write_source<K: Sink, L: Ledger>(
     alloc: Global,
     bytes: &[u8],
     fuel: u64,
-    shown: Shown,
+    evaluation: Evaluation,
     sink: &mut K,
     blank: Blank,
 ) -> Result<Status, WriteFault>
     requires name { blank.name ≡ L.name }
     requires parts { blank.parts ≡ L.parts }
     requires some { 0 < L.parts }
-    ensures meaning { IsWrittenMeaning shown bytes.now fuel result K.tells (K.written sink.old) (K.written sink.new) }
+    ensures meaning { IsWrittenMeaning evaluation bytes.now fuel result K.tells (K.written sink.old) (K.written sink.new) }
     ensures blames { Blames result (K.faults sink.old) (K.faults sink.new) }
     ensures count { K.faults sink.old ≤ K.faults sink.new }
 {
@@ -45,7 +53,10 @@ pub fn write_source<K: Sink, L: Ledger>(
         }
         Err(Stop::Memory(error)) => return Err(WriteFault::Memory(error)),
     }
-    write_run::<K, L>(alloc, program, fuel, shown, sink, blank)
+    match evaluation {
+        Evaluation::Run(shown) => write_run::<K, L>(alloc, program, fuel, shown, sink, blank),
+        Evaluation::Erased => write_erased::<K, L>(alloc, &program, fuel, sink, blank),
+    }
 }
 
 /// Writes the line of a refusal, with the items of the program where that was read.

@@ -3,27 +3,27 @@ use Rattle.mw_drive.proofs.source.write_source.Goals as goal
 
 pub returns-in-Err-Refused-clause-meaning : goal.returns-in-Err-Refused-clause-meaning
 returns-in-Err-Refused-clause-meaning g c =
-    refusal_written c.args.bytes.now c.args.fuel g.K.Sink.tells c.args.shown c.write_refusal.result _ _ c.in-Err-Refused.refusal c.in-Err-Refused.field-0 c.in-Err-Refused.field-0-is c.in-Err-Refused.ensures.refused
+    refusal_written c.args.bytes.now c.args.fuel g.K.Sink.tells c.args.evaluation c.write_refusal.result _ _ c.in-Err-Refused.refusal c.in-Err-Refused.field-0 c.in-Err-Refused.field-0-is c.in-Err-Refused.ensures.refused
     (rw c.in-Err-Refused.field-0-is at c.write_refusal.ensures.status) (rw c.in-Err-Refused.field-0-is at c.write_refusal.ensures.writes)
 
 pub returns-in-Err-Memory-clause-meaning : goal.returns-in-Err-Memory-clause-meaning
-returns-in-Err-Memory-clause-meaning g c = written_nothing c.args.bytes.now c.args.fuel g.K.Sink.tells c.args.shown _ _
+returns-in-Err-Memory-clause-meaning g c = written_nothing c.args.bytes.now c.args.fuel g.K.Sink.tells c.args.evaluation _ _
 
 pub check-requires : goal.check-requires
 check-requires g c = resolved c.args.bytes.now c.args.fuel g.K.Sink.tells c.in-Ok.program c.in-Ok.ensures.found
 
 pub returns-in-Err-Refused-check-clause-meaning : goal.returns-in-Err-Refused-check-clause-meaning
 returns-in-Err-Refused-check-clause-meaning g c =
-    types_written c.args.bytes.now c.args.fuel g.K.Sink.tells c.in-Ok.program c.in-Ok.ensures.found c.args.shown c.write_refusal-in-Err-Refused-check.result _ _ c.in-Err-Refused-check.refusal
+    types_written c.args.bytes.now c.args.fuel g.K.Sink.tells c.in-Ok.program c.in-Ok.ensures.found c.args.evaluation c.write_refusal-in-Err-Refused-check.result _ _ c.in-Err-Refused-check.refusal
     c.in-Err-Refused-check.field-0 c.in-Err-Refused-check.field-0-is c.in-Err-Refused-check.ensures.refused
     (rw c.in-Err-Refused-check.field-0-is at c.write_refusal-in-Err-Refused-check.ensures.status) (rw (c.in-Err-Refused-check.field-0-is, c.as_slice.ensures) at c.write_refusal-in-Err-Refused-check.ensures.writes)
 
 pub returns-in-Err-Memory-check-clause-meaning : goal.returns-in-Err-Memory-check-clause-meaning
-returns-in-Err-Memory-check-clause-meaning g c = written_nothing c.args.bytes.now c.args.fuel g.K.Sink.tells c.args.shown _ _
+returns-in-Err-Memory-check-clause-meaning g c = written_nothing c.args.bytes.now c.args.fuel g.K.Sink.tells c.args.evaluation _ _
 
 pub write_run-requires-clause-few : goal.write_run-requires-clause-few
 write_run-requires-clause-few g c = few_items c.args.bytes.now c.args.fuel g.K.Sink.tells c.in-Ok.program c.in-Ok.ensures.found
 
-pub returns-clause-meaning : goal.returns-clause-meaning
-returns-clause-meaning g c =
-    run_written c.args.bytes.now c.args.fuel g.K.Sink.tells c.in-Ok.program c.in-Ok.ensures.found c.args.shown c.write_run.result _ _ c.in-Ok-check.ensures.typable c.in-Ok-check.ensures.small c.write_run.ensures.run
+pub returns-in-Run-clause-meaning : goal.returns-in-Run-clause-meaning
+returns-in-Run-clause-meaning g c =
+    run_written c.args.bytes.now c.args.fuel g.K.Sink.tells c.in-Ok.program c.in-Ok.ensures.found c.in-Run.shown c.write_run.result _ _ c.in-Ok-check.ensures.typable c.in-Ok-check.ensures.small c.write_run.ensures.run

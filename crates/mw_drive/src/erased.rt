@@ -1,0 +1,41 @@
+// The erased program of a program.
+
+ghost use Rattle.std.specs.Prelude.{◌≡◌, ◌≤◌, ◌<◌, ◌^◌};
+ghost use Rattle.mw_term.specs.Programs.{program_of, program_size};
+ghost use Rattle.mw_term.specs.Typable.{Typable};
+ghost use Rattle.mw_drive.specs.ProgramRuns.{IsWrittenErased};
+ghost use Rattle.mw_drive.specs.Written.{Blames};
+
+use crate::ending::write_end;
+use crate::main_end::main_end;
+use mw_console::Status;
+use mw_emitting::EmittingKernels;
+use mw_meaning::erase_program;
+use mw_outside::{Sink, WriteFault};
+use mw_term::Program;
+use std::alloc::Global;
+use std::sync::ledger::{Blank, Ledger};
+
+/// Evaluates main of an accepted program's erased program with so many units, and writes the last line. The kernels are never
+/// asked.
+pub fn write_erased<K: Sink, L: Ledger>(
+    alloc: Global,
+    program: &Program,
+    fuel: u64,
+    sink: &mut K,
+    blank: Blank,
+) -> Result<Status, WriteFault>
+    requires name { blank.name ≡ L.name }
+    requires parts { blank.parts ≡ L.parts }
+    requires some { 0 < L.parts }
+    requires typable { Typable (program_of program.now) }
+    requires nodes { program_size (program_of program.now) < 2 ^ 31 }
+    ensures run { IsWrittenErased fuel (program_of program.now) result K.tells (K.written sink.old) (K.written sink.new) }
+    ensures blames { Blames result (K.faults sink.old) (K.faults sink.new) }
+    ensures count { K.faults sink.old ≤ K.faults sink.new }
+{
+    let erased = erase_program(alloc, program)?;
+    let mut kernels = EmittingKernels::<L>::new(alloc, blank);
+    let end = main_end(alloc, erased, Vec::new(alloc), fuel, &mut kernels)?;
+    write_end(alloc, sink, &end)
+}
