@@ -5,6 +5,7 @@ use Rattle.mw_term.specs.Terms.{PureGroundValue}
 use Rattle.mw_console.specs.Texts.{answered, trapped, bounded}
 use Rattle.mw_meaning.specs.declared.mode.Mode.TheVariants.{Plain, Simple}
 use Rattle.mw_words.specs.Words.{PureCommand, run, erased, sample, Means, run_command, erased_command, sample_command}
+use Rattle.mw_words.proofs.LawLemmas.{one_command}
 use Rattle.mw_console.specs.declared.status.Status.{Status}
 use Rattle.mw_console.specs.declared.status.Status.TheVariants.{Answer, Trap, Refused, Bound, Usage, Read, Write, Memory}
 use Rattle.mw_drive.specs.Works.{Work, running, erasing, sampling, Meaning, refused, ran, sampled, IsMeaning, IsOutput, status_of}
@@ -22,6 +23,28 @@ pub sample_range : {words : List (List ℕ)} (n : ℕ) → Means words (sample n
 sample_range n (sample_command h) = (h.low, h.high)
 sample_range n (run_command h m) = elim m [ ]
 sample_range n (erased_command h m) = elim m [ ]
+
+-- where the status is an answer, and the erased program answers too, the answer is the erased program's
+erased_answer : (s : Status) (sink_tells : Bool) (before after : List ℕ) (fuel m : ℕ) (bytes : List ℕ) (w : PureGroundValue)
+    → IsCarriedOut (running bytes fuel Plain) s sink_tells before after → IsMeaning (erasing bytes m) (ran Plain [] (answered w)) → s ≡ Answer → (kernels : List Kernel) × IsMeaning (running bytes fuel Plain) (ran Plain kernels (answered w))
+erased_answer s sink_tells before after fuel m bytes w carried other is = answer_of (carried.meaning (subst IsComplete (sym is) tt))
+  where
+    answer_of : (n : Meaning) × IsMeaning (running bytes fuel Plain) n × (s ≡ status_of n) → (kernels : List Kernel) × IsMeaning (running bytes fuel Plain) (ran Plain kernels (answered w))
+    answer_of (refused r names, h, e) = absurd (clash (sym is ∙ e))
+      where
+        clash : Answer ≡ Refused r → ⊥
+        clash e = cc
+    answer_of (ran Plain kernels (answered v), h, e) = (kernels, subst (λ v. IsMeaning (running bytes fuel Plain) (ran Plain kernels (answered v))) (answers_are_erased bytes fuel m Plain kernels v w h other) h)
+    answer_of (ran Plain kernels (trapped t name), h, e) = absurd (clash (sym is ∙ e))
+      where
+        clash : Answer ≡ Trap t → ⊥
+        clash e = cc
+    answer_of (ran Plain kernels (bounded l name), h, e) = absurd (clash (sym is ∙ e))
+      where
+        clash : Answer ≡ Bound l → ⊥
+        clash e = cc
+    answer_of (ran Simple kernels e, h, d) = elim h [ ]
+    answer_of (sampled kernels e, h, d) = elim h [ ]
 
 module _ {words : List (List ℕ)} {tells : Bool} {told : List NamedFile} (command : PureCommand) (file : List ℕ) (named : file_named command ≡ Some file) (means : Means words command)
     (s : Status) (sink_tells : Bool) (before after : List ℕ) (Rose_source Rose_sink : Type 0)
@@ -53,6 +76,11 @@ module _ {words : List (List ℕ)} {tells : Bool} {told : List NamedFile} (comma
   pub file_left : (left : List ℕ) → ((bytes : List ℕ) → IsTellingOf tells told file bytes → IsReadUp bytes s left) → (other : PureCommand) (bytes : List ℕ) → AsksFor words tells told other bytes → IsReadUp bytes s left
   file_left left reads other bytes asks = reads bytes (asked_telling command file named means asks)
 
+  pub file_erased : (workers fuel m : ℕ) (f bytes : List ℕ) (w : PureGroundValue) → AsksFor words tells told (run workers fuel f) bytes → IsMeaning (erasing bytes m) (ran Plain [] (answered w)) → s ≡ Answer
+      → (kernels : List Kernel) × IsMeaning (running bytes fuel Plain) (ran Plain kernels (answered w))
+  file_erased workers fuel m f bytes w asks other is =
+      erased_answer s sink_tells before after fuel m bytes w (subst (λ c. IsCarriedOut (work_of c bytes) s sink_tells before after) (one_command words command (run workers fuel f) means asks.means) (carried bytes (asked_telling command file named means asks))) other is
+
   pub no_sample : AsksSample words → ⊥
   no_sample h = no_file h.0 h.1 means named
 
@@ -80,25 +108,3 @@ asks_no_file number means asks = no_file number means asks.means asks.named
 pub not_unread : {A B : Type 0} → (A → ⊥) → (B → ⊥) → A ⊎ B → ⊥
 not_unread f g (inl a) = f a
 not_unread f g (inr b) = g b
-
--- where the status is an answer, and the erased program answers too, the answer is the erased program's
-pub erased_answer : {words : List (List ℕ)} {tells : Bool} {told : List NamedFile} (s : Status) (sink_tells : Bool) (before after : List ℕ) (workers fuel m : ℕ) (file bytes : List ℕ) (w : PureGroundValue)
-    → IsCarriedOut (running bytes fuel Plain) s sink_tells before after → IsMeaning (erasing bytes m) (ran Plain [] (answered w)) → s ≡ Answer → (kernels : List Kernel) × IsMeaning (running bytes fuel Plain) (ran Plain kernels (answered w))
-erased_answer s sink_tells before after workers fuel m file bytes w carried erased is = answer_of (carried.meaning (subst IsComplete (sym is) tt))
-  where
-    answer_of : (n : Meaning) × IsMeaning (running bytes fuel Plain) n × (s ≡ status_of n) → (kernels : List Kernel) × IsMeaning (running bytes fuel Plain) (ran Plain kernels (answered w))
-    answer_of (refused r names, h, e) = absurd (clash (sym is ∙ e))
-      where
-        clash : Answer ≡ Refused r → ⊥
-        clash e = cc
-    answer_of (ran Plain kernels (answered v), h, e) = (kernels, subst (λ v. IsMeaning (running bytes fuel Plain) (ran Plain kernels (answered v))) (answers_are_erased bytes fuel m Plain kernels v w h erased) h)
-    answer_of (ran Plain kernels (trapped t name), h, e) = absurd (clash (sym is ∙ e))
-      where
-        clash : Answer ≡ Trap t → ⊥
-        clash e = cc
-    answer_of (ran Plain kernels (bounded l name), h, e) = absurd (clash (sym is ∙ e))
-      where
-        clash : Answer ≡ Bound l → ⊥
-        clash e = cc
-    answer_of (ran Simple kernels e, h, d) = elim h [ ]
-    answer_of (sampled kernels e, h, d) = elim h [ ]

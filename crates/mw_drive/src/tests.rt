@@ -2,7 +2,9 @@
 
 ghost use Rattle.std.specs.Prelude.{◌<◌};
 
+mod bounds;
 mod emitted;
+mod erased;
 mod grammar;
 mod modules;
 mod programs;

@@ -1,7 +1,7 @@
 use Rattle.std.proofs.Common.{inr, refl}
 use Rattle.mw_words.specs.Words.{run, erased}
 use Rattle.mw_drive.specs.Running.{work_of}
-use Rattle.mw_drive.proofs.CommandLemmas.{sample_range, file_text, file_status, file_faults, file_missing, file_left, no_sample, erased_answer, no_run, not_unread, sample_text, sample_status, sample_faults, asks_no_file}
+use Rattle.mw_drive.proofs.CommandLemmas.{sample_range, file_text, file_status, file_faults, file_missing, file_left, no_sample, file_erased, not_unread, sample_text, sample_status, sample_faults, asks_no_file}
 use Rattle.mw_drive.proofs.RunLemmas.{no_file_of_sample}
 use Rattle.mw_drive.proofs.ModuleLemmas.{meaning_modules}
 use Rattle.mw_drive.proofs.command.run.Goals as goal
@@ -105,3 +105,16 @@ returns-in-Ok-Sample-clause-missing g c = λ missing. absurd (no_file_of_sample 
 
 pub returns-in-Ok-Sample-clause-nothing_missing : goal.returns-in-Ok-Sample-clause-nothing_missing
 returns-in-Ok-Sample-clause-nothing_missing g c = λ missing. absurd (no_file_of_sample c.in-Ok-Sample.number (rw c.in-Ok-Sample.field-0-is at c.in-Ok-Sample.ensures.some) missing)
+
+pub returns-in-Ok-Run-clause-erasure : goal.returns-in-Ok-Run-clause-erasure
+returns-in-Ok-Run-clause-erasure g c = λ workers fuel m f bytes w asks other is.
+    file_erased (run c.in-Ok-Run.workers c.in-Ok-Run.fuel c.in-Ok-Run.file.now) _ refl (rw c.in-Ok-Run.field-0-is at c.in-Ok-Run.ensures.some) c.evaluate_file.result g.K.Sink.tells _ _ _ _ (λ bytes telling. c.evaluate_file.ensures.work bytes telling (work_of (run c.in-Ok-Run.workers c.in-Ok-Run.fuel c.in-Ok-Run.file.now) bytes) (λ m h. h)) c.evaluate_file.ensures.read c.evaluate_file.ensures.write c.evaluate_file.ensures.others
+    workers fuel m f bytes w asks other is
+
+pub returns-in-Ok-Erased-clause-erasure : goal.returns-in-Ok-Erased-clause-erasure
+returns-in-Ok-Erased-clause-erasure g c = λ workers fuel m f bytes w asks other is.
+    file_erased (erased c.in-Ok-Erased.fuel c.in-Ok-Erased.file.now) _ refl (rw c.in-Ok-Erased.field-0-is at c.in-Ok-Erased.ensures.some) c.evaluate_file-in-Ok-Erased.result g.K.Sink.tells _ _ _ _ (λ bytes telling. c.evaluate_file-in-Ok-Erased.ensures.work bytes telling (work_of (erased c.in-Ok-Erased.fuel c.in-Ok-Erased.file.now) bytes) (λ m h. h)) c.evaluate_file-in-Ok-Erased.ensures.read c.evaluate_file-in-Ok-Erased.ensures.write c.evaluate_file-in-Ok-Erased.ensures.others
+    workers fuel m f bytes w asks other is
+
+pub returns-in-Ok-Sample-clause-erasure : goal.returns-in-Ok-Sample-clause-erasure
+returns-in-Ok-Sample-clause-erasure g c = λ workers fuel m f bytes w asks other is. absurd (asks_no_file c.in-Ok-Sample.number (rw c.in-Ok-Sample.field-0-is at c.in-Ok-Sample.ensures.some) asks)
