@@ -1,10 +1,10 @@
 -- What parts give, with one part more.
-use Rattle.std.proofs.Common.{◌≡◌, ℕ, List, [], ◌∷◌, ◌++◌, Option, Some, None, refl, ◌∙◌, ap, append-nil, true, false}
+use Rattle.std.proofs.Common.{◌≡◌, ℕ, List, [], ◌∷◌, ◌++◌, Option, Some, None, refl, ◌∙◌, ap, append-nil, codes, true, false}
 use Rattle.std.specs.Option.{option_to_list, option_map, unwrap_or, is_some}
 use denote.Ref.{Bor}
 use Rattle.mw_words.specs.declared.given.Given.{Given}
 use Rattle.mw_words.specs.Words.{PurePart, workers, fuel, file, workers_in, fuels_in, files_in}
-use Rattle.mw_words.specs.Words.{IsGiven, not_named, named_once, Makes, run_of, run, PureCommand}
+use Rattle.mw_words.specs.Words.{IsGiven, not_named, named_once, Makes, run_of, erased_of, run, erased, PureCommand}
 use Rattle.mw_words.specs.Gathered.{Holds}
 
 pub workers_append : (a b : List PurePart) → workers_in (a ++ b) ≡ workers_in a ++ workers_in b
@@ -74,22 +74,32 @@ second : {A : Type 0} (all xs rest : List A) (o : Option A) (b : A) → all ≡ 
 second all xs rest None b e h some = cc
 second all xs rest (Some a) b e h some = (a, rw (e, h) refl)
 
--- parts that hold another of a kind make no run
-pub two_workers : (given : Given) (before later all : List PurePart) (b : ℕ) (c : PureCommand) → is_some given.workers ≡ true → Holds given before
-    → all ≡ before ++ workers b ∷ later → Makes all c → ⊥
-two_workers given before later all b c some h e (run_of w u n) =
+-- parts that hold another of a kind make no command
+pub two_workers : (given : Given) (word : List ℕ) (before later all : List PurePart) (b : ℕ) (c : PureCommand) → is_some given.workers ≡ true → Holds given before
+    → all ≡ before ++ workers b ∷ later → Makes word all c → ⊥
+two_workers given word before later all b c some h e (run_of w u n) =
     let two = second _ _ _ given.workers b (ap workers_in e ∙ workers_append before (workers b ∷ later)) h.workers_are some in
     not_two two.0 b (workers_in later) w two.1
+two_workers given word before later all b c some h e (erased_of w u n) =
+    let two = second _ _ _ given.workers b (ap workers_in e ∙ workers_append before (workers b ∷ later)) h.workers_are some in
+    let same = two.1 in cc
 
-pub two_fuels : (given : Given) (before later all : List PurePart) (b : ℕ) (c : PureCommand) → is_some given.fuel ≡ true → Holds given before
-    → all ≡ before ++ fuel b ∷ later → Makes all c → ⊥
-two_fuels given before later all b c some h e (run_of w u n) =
+pub two_fuels : (given : Given) (word : List ℕ) (before later all : List PurePart) (b : ℕ) (c : PureCommand) → is_some given.fuel ≡ true → Holds given before
+    → all ≡ before ++ fuel b ∷ later → Makes word all c → ⊥
+two_fuels given word before later all b c some h e (run_of w u n) =
+    let two = second _ _ _ given.fuel b (ap fuels_in e ∙ fuels_append before (fuel b ∷ later)) h.fuels_are some in
+    not_two two.0 b (fuels_in later) u two.1
+two_fuels given word before later all b c some h e (erased_of w u n) =
     let two = second _ _ _ given.fuel b (ap fuels_in e ∙ fuels_append before (fuel b ∷ later)) h.fuels_are some in
     not_two two.0 b (fuels_in later) u two.1
 
-pub two_files : (given : Given) (before later all : List PurePart) (b : List ℕ) (c : PureCommand) → is_some given.file ≡ true → Holds given before
-    → all ≡ before ++ file b ∷ later → Makes all c → ⊥
-two_files given before later all b c some h e (run_of w u n) =
+pub two_files : (given : Given) (word : List ℕ) (before later all : List PurePart) (b : List ℕ) (c : PureCommand) → is_some given.file ≡ true → Holds given before
+    → all ≡ before ++ file b ∷ later → Makes word all c → ⊥
+two_files given word before later all b c some h e (run_of w u n) =
+    let all_files = ap files_in e ∙ files_append before (file b ∷ later) in
+    let two = second _ _ _ (option_map (λ x. x.now) given.file) b all_files h.files_are (mapped (λ x. x.now) given.file ∙ some) in
+    let same = two.1 in cc
+two_files given word before later all b c some h e (erased_of w u n) =
     let all_files = ap files_in e ∙ files_append before (file b ∷ later) in
     let two = second _ _ _ (option_map (λ x. x.now) given.file) b all_files h.files_are (mapped (λ x. x.now) given.file ∙ some) in
     let same = two.1 in cc
@@ -100,7 +110,17 @@ given_or None xs default n e f = rw (e, f) not_named
 given_or (Some x) xs default n e f = rw (e, f) named_once
 
 pub made : (given : Given) (w u : ℕ) (name : Bor (List ℕ)) (parts : List PurePart) → w ≡ unwrap_or given.workers 4 → u ≡ unwrap_or given.fuel 1000000
-    → given.file ≡ Some name → Holds given parts → Makes parts (run w u name.now)
+    → given.file ≡ Some name → Holds given parts → Makes (codes "run") parts (run w u name.now)
 made given w u name parts p q r h =
     run_of (given_or given.workers _ 4 w h.workers_are p) (given_or given.fuel _ 1000000 u h.fuels_are q)
     (h.files_are ∙ ap (λ o. option_to_list (option_map (λ x. x.now) o)) r)
+
+pub made_erased : (given : Given) (u : ℕ) (name : Bor (List ℕ)) (parts : List PurePart) → is_some given.workers ≡ false → u ≡ unwrap_or given.fuel 1000000
+    → given.file ≡ Some name → Holds given parts → Makes (codes "erased") parts (erased u name.now)
+made_erased given u name parts p q r h =
+    erased_of (h.workers_are ∙ none given.workers p) (given_or given.fuel _ 1000000 u h.fuels_are q)
+    (h.files_are ∙ ap (λ o. option_to_list (option_map (λ x. x.now) o)) r)
+  where
+    none : (o : Option ℕ) → is_some o ≡ false → option_to_list o ≡ []
+    none None e = refl
+    none (Some x) e = cc

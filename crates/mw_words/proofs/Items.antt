@@ -1,9 +1,8 @@
 -- The first items of a list, and texts after a prefix.
-use Rattle.std.proofs.Common.{◌≡◌, ℕ, ◌≤◌, ◌<◌, ◌-◌, List, [], ◌∷◌, ◌++◌, Option, Some, None, length, get_or, take, drop, map, refl, arith}
+use Rattle.std.proofs.Common.{◌≡◌, ℕ, ◌≤◌, ◌<◌, List, [], ◌∷◌, ◌++◌, Option, Some, None, length, get_or, map, refl, arith}
 use Rattle.std.specs.Option.{IfNone}
 use Rattle.std.specs.Prelude.{Result, Ok, Err, IfOk, IfErr}
 use Rattle.std.specs.Str.Pattern.{FindsTextPrefix, StripsPrefix}
-use Rattle.std.proofs.Math.Seq.{take-length}
 
 -- a list of no item
 pub no_item : {A : Type 0} (xs : List A) → length xs < 1 → xs ≡ []
@@ -15,19 +14,11 @@ pub some_text : {A B : Type 0} (f : A → B) (xs : List A) → 1 ≤ length xs �
 some_text f [] low e = absurd (omega arith)
 some_text f (x ∷ xs) low e = cc
 
--- a list of one item or more
-pub first_item : {A B : Type 0} (f : A → B) (xs : List A) (a : A) → 1 ≤ length xs → a ≡ get_or xs 0 a
-    → map f xs ≡ f a ∷ map f (take (length xs - 1) (drop 1 xs))
-first_item f [] a low is = absurd (omega arith)
-first_item f (x ∷ xs) a low is = let e : length (x ∷ xs) - 1 ≡ length xs = omega arith in rw (e, take-length xs) (cc)
-
--- a list of two items
-pub two_items : {A B : Type 0} (f : A → B) (xs : List A) (a b : A) → 2 ≤ length xs → length xs < 3 → a ≡ get_or xs 0 a → b ≡ get_or xs 1 b
-    → map f xs ≡ f a ∷ f b ∷ []
-two_items f [] a b low high p q = absurd (omega arith)
-two_items f (x ∷ []) a b low high p q = absurd (omega arith)
-two_items f (x ∷ y ∷ []) a b low high p q = cc
-two_items f (x ∷ y ∷ z ∷ xs) a b low high p q = absurd (omega arith)
+-- a list of one item
+pub one_item : {A B : Type 0} (f : A → B) (xs : List A) (a : A) → 1 ≤ length xs → length xs < 2 → a ≡ get_or xs 0 a → map f xs ≡ f a ∷ []
+one_item f [] a low high p = absurd (omega arith)
+one_item f (x ∷ []) a low high p = cc
+one_item f (x ∷ y ∷ xs) a low high p = absurd (omega arith)
 
 -- a text with a prefix is the prefix and what is left
 pub with_prefix : (p s x : List ℕ) → StripsPrefix (FindsTextPrefix p) s x → s ≡ p ++ x

@@ -1,7 +1,7 @@
 -- Parts that have been read, and those that are left.
-use Rattle.std.proofs.Common.{◌≡◌, ℕ, List, [], ◌∷◌, ◌++◌, codes, refl, sym, ◌∙◌, ap, subst, append-nil}
+use Rattle.std.proofs.Common.{◌≡◌, ℕ, List, [], ◌∷◌, ◌++◌, codes, refl, sym, ◌∙◌, ap, subst}
 use Rattle.mw_words.specs.Gathered.{MakesNone}
-use Rattle.mw_words.specs.Words.{PurePart, PureCommand, Begins, with_workers, with_fuel, AreParts, no_part, one_more, Makes, Means, run_command, IsUsage}
+use Rattle.mw_words.specs.Words.{PurePart, Begins, with_workers, with_fuel, AreParts, no_part, one_more, Makes, run_command, erased_command, IsUsage}
 use Rattle.mw_words.proofs.OptionLemmas.{none_first}
 use Rattle.mw_words.proofs.PartLemmas.{one_part}
 
@@ -38,20 +38,22 @@ parts_left (further f h) (one_more {parts = all} g whole) =
     let others = left.1.1 in
     (left.0, (left.1.0, cc))
 
--- no words are no parts
-pub no_parts : {parts : List PurePart} → AreParts [] parts → parts ≡ []
-no_parts no_part = refl
-no_parts (one_more b h) = absurd (nothing_begins b)
+-- words are one list of parts at most
+pub same_parts : {words : List (List ℕ)} {ps qs : List PurePart} → AreParts words ps → AreParts words qs → ps ≡ qs
+same_parts no_part no_part = refl
+same_parts no_part (one_more b h) = absurd (nothing_begins b)
+same_parts (one_more b h) no_part = absurd (nothing_begins b)
+same_parts (one_more b h) (one_more {parts = qs} c k) =
+    let same = one_part b c in
+    let first = same.0 in
+    let later = same_parts h (subst (λ (r : List (List ℕ)). AreParts r qs) (sym same.1) k) in
+    cc
 
 -- words that begin with no part are no parts
-pub stuck : {words : List (List ℕ)} {parts : List PurePart} → (words ≡ [] → ⊥) → ((part : PurePart) (rest : List (List ℕ)) → Begins words part rest → ⊥)
+stuck : {words : List (List ℕ)} {parts : List PurePart} → (words ≡ [] → ⊥) → ((part : PurePart) (rest : List (List ℕ)) → Begins words part rest → ⊥)
     → AreParts words parts → ⊥
 stuck some none no_part = some refl
 stuck some none (one_more b h) = none _ _ b
-
--- what makes a run
-pub of_run : {words : List (List ℕ)} {c : PureCommand} → Means (codes "run" ∷ words) c → (parts : List PurePart) × (AreParts words parts × Makes parts c)
-of_run (run_command h m) = (_, (h, m))
 
 -- all parts of the words begin with the one that stands first
 first_is : {words rest : List (List ℕ)} {part : PurePart} {parts : List PurePart} → AreParts words parts → Begins words part rest
@@ -59,26 +61,31 @@ first_is : {words rest : List (List ℕ)} {part : PurePart} {parts : List PurePa
 first_is no_part b = absurd (nothing_begins b)
 first_is (one_more {parts = later} c h) b = let same = (one_part c b).0 in (later, cc)
 
--- where the rest begins with no part, the words are no run
-pub stuck_is_usage : {words rest : List (List ℕ)} {read : List PurePart} → Passes words read rest → (rest ≡ [] → ⊥)
+-- where the rest begins with no part, the words are no parts
+pub stuck_is_none : {words rest : List (List ℕ)} {read : List PurePart} → Passes words read rest → (rest ≡ [] → ⊥)
     → ((part : PurePart) (after : List (List ℕ)) → Begins rest part after → ⊥)
-    → IsUsage (codes "run" ∷ words)
-stuck_is_usage h some none c means = let run = of_run means in stuck some none (parts_left h run.1.0).1.0
+    → (parts : List PurePart) → AreParts words parts → ⊥
+stuck_is_none h some none parts whole = stuck some none (parts_left h whole).1.0
 
--- where the next part makes a run impossible, the words are no run
-pub more_is_usage : {words rest after : List (List ℕ)} {read : List PurePart} {part : PurePart} → Passes words read rest → Begins rest part after
-    → ((later : List PurePart) → MakesNone (read ++ part ∷ later)) → IsUsage (codes "run" ∷ words)
-more_is_usage {read = read} {part = part} h b none c means =
-    let run = of_run means in
-    let left = parts_left h run.1.0 in
+-- where the next part makes a command impossible, the words' parts make none
+pub more_is_none : {words rest after : List (List ℕ)} {read : List PurePart} {part : PurePart} (word : List ℕ) → Passes words read rest
+    → Begins rest part after → ((later : List PurePart) → MakesNone word (read ++ part ∷ later))
+    → (parts : List PurePart) → AreParts words parts → MakesNone word parts
+more_is_none {read = read} {part = part} word h b none parts whole c makes =
+    let left = parts_left h whole in
     let next = first_is left.1.0 b in
-    let all : run.0 ≡ read ++ part ∷ next.0 = left.1.1 ∙ ap (λ l. read ++ l) next.1 in
-    none next.0 c (rw all at run.1.1)
+    let all : parts ≡ read ++ part ∷ next.0 = left.1.1 ∙ ap (λ l. read ++ l) next.1 in
+    none next.0 c (rw all at makes)
 
--- where all parts make no run, the words are none
-pub end_is_usage : {words : List (List ℕ)} {read : List PurePart} → Passes words read [] → MakesNone read → IsUsage (codes "run" ∷ words)
-end_is_usage {read = read} h none c means =
-    let run = of_run means in
-    let left = parts_left h run.1.0 in
-    let all : run.0 ≡ read = left.1.1 ∙ (ap (λ l. read ++ l) (no_parts left.1.0) ∙ append-nil read) in
-    none c (rw all at run.1.1)
+-- words whose parts make no run, or no run of an erased program
+pub no_run : {words : List (List ℕ)} → ((parts : List PurePart) → AreParts words parts → MakesNone (codes "run") parts) → IsUsage (codes "run" ∷ words)
+no_run none c (run_command h m) = none _ h c m
+
+pub no_erased : {words : List (List ℕ)} → ((parts : List PurePart) → AreParts words parts → MakesNone (codes "erased") parts)
+    → IsUsage (codes "erased" ∷ words)
+no_erased none c (erased_command h m) = none _ h c m
+
+-- where one list of the words' parts makes none, each does
+pub these_make_none : {words : List (List ℕ)} {read : List PurePart} (word : List ℕ) → AreParts words read → MakesNone word read
+    → (parts : List PurePart) → AreParts words parts → MakesNone word parts
+these_make_none word h none parts whole c makes = none c (subst (λ (ps : List PurePart). Makes word ps c) (sym (same_parts h whole)) makes)

@@ -1,6 +1,6 @@
 -- Worked examples of words, as theorems.
 use Rattle.std.specs.Prelude.{[], ◌∷◌, codes}
-use Rattle.mw_words.specs.Words.{run, sample, Means, IsUsage}
+use Rattle.mw_words.specs.Words.{run, erased, sample, Means, IsUsage}
 
 -- a file alone
 abbrev pub FileAlone : Type 0
@@ -17,6 +17,21 @@ FuelJoined = Means (codes "run" ∷ codes "--fuel=8" ∷ codes "f" ∷ []) (run 
 -- an option before the file, and one behind it, whose number has leading zeros
 abbrev pub BothOptions : Type 0
 BothOptions = Means (codes "run" ∷ codes "--fuel=10000000" ∷ codes "f" ∷ codes "--workers" ∷ codes "000000064" ∷ []) (run 64 10000000 (codes "f"))
+
+-- the erased program of a file
+abbrev pub ErasedAlone : Type 0
+ErasedAlone = Means (codes "erased" ∷ codes "f" ∷ []) (erased 1000000 (codes "f"))
+
+-- its option in either form
+abbrev pub ErasedApart : Type 0
+ErasedApart = Means (codes "erased" ∷ codes "--fuel" ∷ codes "8" ∷ codes "f" ∷ []) (erased 8 (codes "f"))
+
+abbrev pub ErasedJoined : Type 0
+ErasedJoined = Means (codes "erased" ∷ codes "--fuel=8" ∷ codes "f" ∷ []) (erased 8 (codes "f"))
+
+-- and behind the file
+abbrev pub ErasedBehind : Type 0
+ErasedBehind = Means (codes "erased" ∷ codes "f" ∷ codes "--fuel" ∷ codes "8" ∷ []) (erased 8 (codes "f"))
 
 -- a sample
 abbrev pub SampleOfHundred : Type 0
@@ -41,3 +56,19 @@ TwoDashes = IsUsage (codes "run" ∷ codes "--" ∷ codes "f" ∷ [])
 -- an option twice, in each form once
 abbrev pub FuelTwice : Type 0
 FuelTwice = IsUsage (codes "run" ∷ codes "--fuel=7" ∷ codes "f" ∷ codes "--fuel" ∷ codes "7" ∷ [])
+
+-- an erased program of no file
+abbrev pub ErasedNoFile : Type 0
+ErasedNoFile = IsUsage (codes "erased" ∷ [])
+
+-- an erased program by workers
+abbrev pub ErasedWorkers : Type 0
+ErasedWorkers = IsUsage (codes "erased" ∷ codes "--workers" ∷ codes "2" ∷ codes "f" ∷ [])
+
+-- an erased program of two files
+abbrev pub ErasedTwoFiles : Type 0
+ErasedTwoFiles = IsUsage (codes "erased" ∷ codes "f" ∷ codes "g" ∷ [])
+
+-- its option twice
+abbrev pub ErasedFuelTwice : Type 0
+ErasedFuelTwice = IsUsage (codes "erased" ∷ codes "--fuel=7" ∷ codes "f" ∷ codes "--fuel" ∷ codes "7" ∷ [])

@@ -1,5 +1,5 @@
 -- What is gathered from the parts of the words while they are read.
-use Rattle.std.specs.Prelude.{◌≡◌, List}
+use Rattle.std.specs.Prelude.{◌≡◌, ℕ, List}
 use Rattle.std.specs.Option.{option_map, option_to_list}
 use Rattle.mw_words.specs.declared.part.Part.{Part}
 use Rattle.mw_words.specs.declared.part.Part.TheVariants.{Workers, Fuel, File}
@@ -18,6 +18,6 @@ pub record Holds (given : Given) (parts : List PurePart) : Type 0 where
   pub fuels_are : fuels_in parts ≡ option_to_list given.fuel
   pub files_are : files_in parts ≡ option_to_list (option_map (λ name. name.now) given.file)
 
--- the parts make no run
-abbrev pub MakesNone : List PurePart → Type 0
-MakesNone parts = (c : PureCommand) → Makes parts c → ⊥
+-- the parts make no command of this word
+abbrev pub MakesNone : List ℕ → List PurePart → Type 0
+MakesNone word parts = (c : PureCommand) → Makes word parts c → ⊥

@@ -11,6 +11,7 @@ abbrev pub EitherForm : Type 0
 EitherForm = (name value v : List ℕ) (rest r : List (List ℕ))
     → (IsOption name (name ∷ value ∷ rest) v r) ↔ (IsOption name ((name ++ codes "=" ++ value) ∷ rest) v r)
 
--- options and files make the same run in any order
+-- options and files make the same command in any order
 abbrev pub AnyOrder : Type 0
-AnyOrder = (before after : List PurePart) (p q : PurePart) (c : PureCommand) → (Makes (before ++ p ∷ q ∷ after) c) ↔ (Makes (before ++ q ∷ p ∷ after) c)
+AnyOrder = (word : List ℕ) (before after : List PurePart) (p q : PurePart) (c : PureCommand)
+    → (Makes word (before ++ p ∷ q ∷ after) c) ↔ (Makes word (before ++ q ∷ p ∷ after) c)

@@ -2,15 +2,18 @@
 use Rattle.std.specs.Prelude.{◌≡◌, ℕ, ◌≤◌, ◌≢◌, List, [], ◌∷◌, ◌++◌, length, codes}
 use Rattle.std.specs.Str.Parse.{IsNumeral, digits_value}
 use Rattle.mw_words.specs.declared.Command.{Command}
-use Rattle.mw_words.specs.declared.Command.TheVariants.{Run, Sample}
+use Rattle.mw_words.specs.declared.Command.TheVariants.{Run, Erased, Sample}
 
--- a command as pure data: the run of a file by so many workers with so many units of fuel, or a source made from a number
+-- a command as pure data: the run of a file by so many workers with so many units of fuel, the run of a file's erased program with so many units,
+-- or a source made from a number
 pub data PureCommand : Type 0 where
   run : (workers fuel : ℕ) (file : List ℕ) → PureCommand
+  erased : (fuel : ℕ) (file : List ℕ) → PureCommand
   sample : (number : ℕ) → PureCommand
 
 abbrev pub command_in : Command → PureCommand
 command_in (Run workers fuel file) = run workers fuel file.now
+command_in (Erased fuel file) = erased fuel file.now
 command_in (Sample number) = sample number
 
 -- a word that may name a file: not empty, and not beginning with `-`
@@ -77,17 +80,24 @@ pub data IsGiven (default : ℕ) : List ℕ → ℕ → Type 0 where
   not_named : IsGiven default [] default
   named_once : {n : ℕ} → IsGiven default (n ∷ []) n
 
--- the parts, in whatever order, make the run: one file, and each option at most once
-pub data Makes : List PurePart → PureCommand → Type 0 where
+-- behind the command's word the parts, in whatever order, make the command: one file, and each of its options at most once
+pub data Makes : List ℕ → List PurePart → PureCommand → Type 0 where
   run_of : {parts : List PurePart} {worker_count units : ℕ} {name : List ℕ} → IsGiven 4 (workers_in parts) worker_count
       → IsGiven 1000000 (fuels_in parts) units → files_in parts ≡ name ∷ []
-      → Makes parts (run worker_count units name)
+      → Makes (codes "run") parts (run worker_count units name)
+  erased_of : {parts : List PurePart} {units : ℕ} {name : List ℕ} → workers_in parts ≡ [] → IsGiven 1000000 (fuels_in parts) units
+      → files_in parts ≡ name ∷ []
+      → Makes (codes "erased") parts (erased units name)
 
 -- the words mean the command
 pub data Means : List (List ℕ) → PureCommand → Type 0 where
   -- run [--workers N] [--fuel N] FILE
-  run_command : {words : List (List ℕ)} {parts : List PurePart} {command : PureCommand} → AreParts words parts → Makes parts command
+  run_command : {words : List (List ℕ)} {parts : List PurePart} {command : PureCommand} → AreParts words parts → Makes (codes "run") parts command
       → Means (codes "run" ∷ words) command
+  -- erased [--fuel N] FILE
+  erased_command : {words : List (List ℕ)} {parts : List PurePart} {command : PureCommand} → AreParts words parts
+      → Makes (codes "erased") parts command
+      → Means (codes "erased" ∷ words) command
   -- sample N
   sample_command : {word : List ℕ} {n : ℕ} → IsNumber 100 word n → Means (codes "sample" ∷ word ∷ []) (sample n)
 

@@ -1,6 +1,6 @@
 // What the parts of the words give, each once.
 
-ghost use Rattle.std.specs.Prelude.{◌≡◌, ◌∷◌, [], ◌++◌, List, IfOk, IfErr};
+ghost use Rattle.std.specs.Prelude.{◌≡◌, ◌∷◌, [], ◌++◌, ℕ, List, IfOk, IfErr, codes};
 ghost use Rattle.mw_words.specs.Words.{command_in, Makes, PureCommand, PurePart};
 ghost use Rattle.mw_words.specs.Gathered.{part_in, Holds, MakesNone};
 
@@ -36,7 +36,8 @@ impl<'w> Given<'w> {
     /// What is given with one part more, which must be the first of its kind.
     pub fn with(self, part: Part<'w>) -> Result<Given<'w>, WordsFault>
         ensures ok { IfOk result (λ after. (parts : List PurePart) → Holds self.entry parts → Holds after (parts ++ part_in part.entry ∷ [])) }
-        ensures usage { IfErr result (λ _. (before later : List PurePart) → Holds self.entry before → MakesNone (before ++ part_in part.entry ∷ later)) }
+        ensures usage { IfErr result (λ _. (word : List ℕ) (before later : List PurePart) → Holds self.entry before
+            → MakesNone word (before ++ part_in part.entry ∷ later)) }
     {
         match part {
             Part::Workers(workers) if self.workers.is_none() => Ok(Given {
@@ -57,12 +58,27 @@ impl<'w> Given<'w> {
 
     /// The run that is given.
     pub fn command(self) -> Result<Command<'w>, WordsFault>
-        ensures ok { IfOk result (λ c. (parts : List PurePart) → Holds self.entry parts → Makes parts (command_in c)) }
-        ensures usage { IfErr result (λ _. (parts : List PurePart) → Holds self.entry parts → MakesNone parts) }
+        ensures ok { IfOk result (λ c. (parts : List PurePart) → Holds self.entry parts → Makes (codes "run") parts (command_in c)) }
+        ensures usage { IfErr result (λ _. (parts : List PurePart) → Holds self.entry parts → MakesNone (codes "run") parts) }
     {
         let file = self.file.ok_or(WordsFault::Usage)?;
         Ok(Command::Run {
             workers: self.workers.unwrap_or(DEFAULT_WORKERS),
+            fuel: self.fuel.unwrap_or(DEFAULT_FUEL),
+            file,
+        })
+    }
+
+    /// The run of an erased program that is given, which no number of workers is part of.
+    pub fn erased(self) -> Result<Command<'w>, WordsFault>
+        ensures ok { IfOk result (λ c. (parts : List PurePart) → Holds self.entry parts → Makes (codes "erased") parts (command_in c)) }
+        ensures usage { IfErr result (λ _. (parts : List PurePart) → Holds self.entry parts → MakesNone (codes "erased") parts) }
+    {
+        if self.workers.is_some() {
+            return Err(WordsFault::Usage);
+        }
+        let file = self.file.ok_or(WordsFault::Usage)?;
+        Ok(Command::Erased {
             fuel: self.fuel.unwrap_or(DEFAULT_FUEL),
             file,
         })

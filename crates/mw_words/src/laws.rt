@@ -1,7 +1,8 @@
 // Laws of the words, which no program calls, and worked examples.
 
 ghost use Rattle.mw_words.specs.WordLaws.{OneCommand, EitherForm, AnyOrder};
-ghost use Rattle.mw_words.specs.Examples.{FileAlone, FuelApart, FuelJoined, BothOptions, SampleOfHundred, NoWord, OptionFirst, TwoFiles, TwoDashes, FuelTwice};
+ghost use Rattle.mw_words.specs.Examples.{FileAlone, FuelApart, FuelJoined, BothOptions, ErasedAlone, ErasedApart, ErasedJoined, ErasedBehind, SampleOfHundred};
+ghost use Rattle.mw_words.specs.Examples.{NoWord, OptionFirst, TwoFiles, TwoDashes, FuelTwice, ErasedNoFile, ErasedWorkers, ErasedTwoFiles, ErasedFuelTwice};
 
 /// Words mean one command at most.
 pub fn one_command()
@@ -24,6 +25,10 @@ pub fn commands()
     ensures fuel_apart { FuelApart }
     ensures fuel_joined { FuelJoined }
     ensures both_options { BothOptions }
+    ensures erased_alone { ErasedAlone }
+    ensures erased_apart { ErasedApart }
+    ensures erased_joined { ErasedJoined }
+    ensures erased_behind { ErasedBehind }
     ensures sample_of_hundred { SampleOfHundred }
 {}
 
@@ -34,4 +39,8 @@ pub fn usage()
     ensures two_files { TwoFiles }
     ensures two_dashes { TwoDashes }
     ensures fuel_twice { FuelTwice }
+    ensures erased_no_file { ErasedNoFile }
+    ensures erased_workers { ErasedWorkers }
+    ensures erased_two_files { ErasedTwoFiles }
+    ensures erased_fuel_twice { ErasedFuelTwice }
 {}

@@ -1,9 +1,10 @@
 //! The words of the command line, and the command that they mean.
 #![tactic(auto)]
 
-ghost use Rattle.std.specs.Prelude.{[], ◌∷◌, map, IfOk, IfErr, codes};
+ghost use Rattle.std.specs.Prelude.{◌∷◌, ℕ, List, map, IfOk, IfErr, codes};
 ghost use Rattle.std.specs.String.{string_bytes};
-ghost use Rattle.mw_words.specs.Words.{Means, IsUsage, command_in};
+ghost use Rattle.mw_words.specs.Words.{AreParts, Means, IsUsage, PurePart, command_in};
+ghost use Rattle.mw_words.specs.Gathered.{Holds, MakesNone};
 
 mod given;
 pub mod laws;
@@ -28,6 +29,11 @@ pub enum Command<'w> {
         fuel: u64,
         file: &'w str,
     },
+    /// The run of a file's erased program, with so many units of fuel.
+    Erased {
+        fuel: u64,
+        file: &'w str,
+    },
     /// A source with so many kernels.
     Sample {
         number: u32,
@@ -46,9 +52,11 @@ pub fn read_words(words: &[String]) -> Result<Command<'_>, WordsFault>
     ensures some { IfOk result (λ c. Means (map string_bytes words.now) (command_in c)) }
     ensures usage { IfErr result (λ _. IsUsage (map string_bytes words.now)) }
 {
-    match words {
-        [command, parts @ ..] if command.as_str() == "run" => read_run(parts),
-        [command, number] if command.as_str() == "sample" => read_sample(number),
+    let (command, rest) = words.split_first().ok_or(WordsFault::Usage)?;
+    match command.as_str() {
+        "run" => read_run(rest),
+        "erased" => read_erased(rest),
+        "sample" => read_sample(rest),
         _ => Err(WordsFault::Usage),
     }
 }
@@ -58,6 +66,22 @@ fn read_run(words: &[String]) -> Result<Command<'_>, WordsFault>
     ensures some { IfOk result (λ c. Means (codes "run" ∷ map string_bytes words.now) (command_in c)) }
     ensures usage { IfErr result (λ _. IsUsage (codes "run" ∷ map string_bytes words.now)) }
 {
+    gather(words)?.command()
+}
+
+/// The command that the words after `erased` mean.
+fn read_erased(words: &[String]) -> Result<Command<'_>, WordsFault>
+    ensures some { IfOk result (λ c. Means (codes "erased" ∷ map string_bytes words.now) (command_in c)) }
+    ensures usage { IfErr result (λ _. IsUsage (codes "erased" ∷ map string_bytes words.now)) }
+{
+    gather(words)?.erased()
+}
+
+/// What the words after the command give.
+fn gather(words: &[String]) -> Result<Given<'_>, WordsFault>
+    ensures ok { IfOk result (λ given. (parts : List PurePart) × (AreParts (map string_bytes words.now) parts × Holds given parts)) }
+    ensures usage { IfErr result (λ _. (word : List ℕ) (parts : List PurePart) → AreParts (map string_bytes words.now) parts → MakesNone word parts) }
+{
     let mut given = Given::nothing();
     let mut rest = words;
     while !rest.is_empty() {
@@ -65,14 +89,17 @@ fn read_run(words: &[String]) -> Result<Command<'_>, WordsFault>
         given = given.with(part)?;
         rest = after;
     }
-    given.command()
+    Ok(given)
 }
 
-/// The command that `sample` means with the word after it.
-fn read_sample(word: &str) -> Result<Command<'_>, WordsFault>
-    ensures some { IfOk result (λ c. Means (codes "sample" ∷ word.now ∷ []) (command_in c)) }
-    ensures usage { IfErr result (λ _. IsUsage (codes "sample" ∷ word.now ∷ [])) }
+/// The command that the words after `sample` mean.
+fn read_sample(words: &[String]) -> Result<Command<'_>, WordsFault>
+    ensures some { IfOk result (λ c. Means (codes "sample" ∷ map string_bytes words.now) (command_in c)) }
+    ensures usage { IfErr result (λ _. IsUsage (codes "sample" ∷ map string_bytes words.now)) }
 {
-    let number = number_up_to(word, MOST_KERNELS)?;
+    let [word] = words else {
+        return Err(WordsFault::Usage);
+    };
+    let number = number_up_to(word.as_str(), MOST_KERNELS)?;
     Ok(Command::Sample { number })
 }

@@ -1,4 +1,4 @@
-// The parts of the words after `run`: options with their values, and files.
+// The parts of the words after `run` or `erased`: options with their values, and files.
 
 ghost use Rattle.std.specs.Prelude.{◌↔◌, List, ℕ, map, IsTrue, IfOk, IfErr, IfSome, IfNone};
 ghost use Rattle.std.specs.String.{string_bytes};

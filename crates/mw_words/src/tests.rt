@@ -19,6 +19,7 @@ fn meaning<R: Abort + AllocGlobal>(rt: &R, words: &[&str]) -> Result<String, Fai
                 file,
             },
         ) => format!(in alloc; "run {workers} {fuel} {file}")?,
+        Ok(Command::Erased { fuel, file }) => format!(in alloc; "erased {fuel} {file}")?,
         Ok(Command::Sample { number }) => format!(in alloc; "sample {number}")?,
         Err(WordsFault::Usage) => String::from_str(alloc, "usage")?,
     };
@@ -26,7 +27,7 @@ fn meaning<R: Abort + AllocGlobal>(rt: &R, words: &[&str]) -> Result<String, Fai
 }
 
 /// Words, and what they mean.
-const RUNS: [(&[&str], &str); 30] = [
+const RUNS: [(&[&str], &str); 40] = [
     (&["run", "f"], "run 4 1000000 f"),
     (&["run", "run"], "run 4 1000000 run"),
     (&["run", "a b"], "run 4 1000000 a b"),
@@ -53,6 +54,16 @@ const RUNS: [(&[&str], &str); 30] = [
     (&["run", "--workers=000000064", "f"], "run 64 1000000 f"),
     (&["run", "--workers=01", "f"], "run 1 1000000 f"),
     (&["run", "\u{e9}"], "run 4 1000000 \u{e9}"),
+    (&["erased", "f"], "erased 1000000 f"),
+    (&["erased", "erased"], "erased 1000000 erased"),
+    (&["erased", "--fuel", "8", "f"], "erased 8 f"),
+    (&["erased", "--fuel=8", "f"], "erased 8 f"),
+    (&["erased", "f", "--fuel", "8"], "erased 8 f"),
+    (&["erased", "f", "--fuel=8"], "erased 8 f"),
+    (&["erased", "--fuel=1", "f"], "erased 1 f"),
+    (&["erased", "--fuel=10000000", "f"], "erased 10000000 f"),
+    (&["erased", "--fuel", "000000005", "f"], "erased 5 f"),
+    (&["run", "erased"], "run 4 1000000 erased"),
     (&["sample", "1"], "sample 1"),
     (&["sample", "100"], "sample 100"),
     (&["sample", "000000100"], "sample 100"),
@@ -60,7 +71,7 @@ const RUNS: [(&[&str], &str); 30] = [
 ];
 
 /// Words that mean nothing, for what stands around the options.
-const NO_COMMANDS: [&[&str]; 36] = [
+const NO_COMMANDS: [&[&str]; 47] = [
     &[],
     &[""],
     &["run"],
@@ -95,12 +106,23 @@ const NO_COMMANDS: [&[&str]; 36] = [
     &["sample", "--fuel=5", "6"],
     &["sample", "f"],
     &["check", "f"],
-    &["erased", "f"],
     &["link", "f"],
+    &["erased"],
+    &["erased", ""],
+    &["erased", "-"],
+    &["erased", "--", "f"],
+    &["erased", "f", "g"],
+    &["erased", "--fuel"],
+    &["erased", "--fuel", "8"],
+    &["erased", "--cache=c", "f"],
+    &["erased", "--simplify", "f"],
+    &["--fuel", "7", "erased", "f"],
+    &["Erased", "f"],
+    &["erase", "f"],
 ];
 
 /// Words that mean nothing, for an option that is named twice or amiss, or for its value.
-const NO_VALUES: [&[&str]; 36] = [
+const NO_VALUES: [&[&str]; 45] = [
     &["run", "--fuel=8", "--fuel=8", "f"],
     &["run", "--fuel", "8", "f", "--fuel=8"],
     &["run", "--fuel", "8", "f", "--fuel", "8"],
@@ -134,6 +156,15 @@ const NO_VALUES: [&[&str]; 36] = [
     &["run", "-fuel=8", "f"],
     &["run", "--fuels=8", "f"],
     &["run", "--Fuel=8", "f"],
+    &["erased", "--workers=2", "f"],
+    &["erased", "--workers", "2", "f"],
+    &["erased", "f", "--workers=4"],
+    &["erased", "--fuel=8", "--fuel=8", "f"],
+    &["erased", "--fuel", "8", "f", "--fuel=8"],
+    &["erased", "--fuel=0", "f"],
+    &["erased", "--fuel=10000001", "f"],
+    &["erased", "--fuel=", "f"],
+    &["erased", "--fuel=+5", "f"],
     &["sample", "0"],
     &["sample", "101"],
     &["sample", "+5"],

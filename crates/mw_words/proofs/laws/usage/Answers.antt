@@ -1,5 +1,16 @@
 use Rattle.mw_words.proofs.ExampleLemmas.{no_word, option_first, two_files, two_dashes, fuel_twice}
+use Rattle.mw_words.proofs.ExampleLemmas.{erased_no_file, erased_workers, erased_two_files, erased_fuel_twice}
 use Rattle.mw_words.proofs.laws.usage.Goals as goal
 
 pub returns : goal.returns
-returns c = record { no_word = no_word; option_first = option_first; two_files = two_files; two_dashes = two_dashes; fuel_twice = fuel_twice }
+returns c = record {
+  no_word = no_word;
+  option_first = option_first;
+  two_files = two_files;
+  two_dashes = two_dashes;
+  fuel_twice = fuel_twice;
+  erased_no_file = erased_no_file;
+  erased_workers = erased_workers;
+  erased_two_files = erased_two_files;
+  erased_fuel_twice = erased_fuel_twice;
+}

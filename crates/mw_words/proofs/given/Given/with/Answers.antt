@@ -15,14 +15,14 @@ pub returns-in-File-clause-ok : goal.returns-in-File-clause-ok
 returns-in-File-clause-ok c = λ parts holds. rw c.in-File.is (more_files c.args.self _ parts c.if-is_none-3.ensures holds)
 
 pub returns-in_default-clause-usage : goal.returns-in_default-clause-usage
-returns-in_default-clause-usage c = λ before later holds command makes.
+returns-in_default-clause-usage c = λ word before later holds command makes.
     elim c.in_default.branch [
       | in_default-via-in-Workers+else-is_none w ↦
-          two_workers c.args.self before later _ w.in-Workers.workers command w.if-is_none.ensures holds
+          two_workers c.args.self word before later _ w.in-Workers.workers command w.if-is_none.ensures holds
           (ap (λ p. before ++ part_in p ∷ later) w.in-Workers.is) makes
       | in_default-via-in-Fuel+else-is_none-2 w ↦
-          two_fuels c.args.self before later _ w.in-Fuel.fuel command w.if-is_none-2.ensures holds (ap (λ p. before ++ part_in p ∷ later) w.in-Fuel.is) makes
+          two_fuels c.args.self word before later _ w.in-Fuel.fuel command w.if-is_none-2.ensures holds (ap (λ p. before ++ part_in p ∷ later) w.in-Fuel.is) makes
       | in_default-via-in-File+else-is_none-3 w ↦
-          two_files c.args.self before later _ w.in-File.file.now command w.if-is_none-3.ensures holds
+          two_files c.args.self word before later _ w.in-File.file.now command w.if-is_none-3.ensures holds
           (ap (λ p. before ++ part_in p ∷ later) w.in-File.is) makes
     ]

@@ -3,7 +3,7 @@ use Rattle.std.specs.String.{string_bytes}
 use Rattle.mw_words.specs.Words.{PurePart}
 use Rattle.mw_words.specs.Gathered.{Holds}
 use Rattle.mw_words.proofs.Passing.{Passes}
-use Rattle.mw_words.proofs.read_run.Given as goal
+use Rattle.mw_words.proofs.gather.Given as goal
 
 -- parts have been read, of which each option and the file is held
 abbrev pub invariant-loop-given : goal.invariant-loop-given
