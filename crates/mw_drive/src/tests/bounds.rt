@@ -14,11 +14,7 @@ const LETS: &str =
 /// Programs after these lets, the status and the last line.
 const BOUNDS: [(&str, u8, &str); 12] = [
     // 524,288 words, which a call gives back
-    (
-        "main : int = taking 262143 + taking 262143",
-        0,
-        "answer 0",
-    ),
+    ("main : int = taking 262143 + taking 262143", 0, "answer 0"),
     ("main : int = taking 262144", 4, "bound heap in main"),
     (
         "kernel k : int = close (lift (taking 262143)) ;; main : int = run[int] k",
@@ -73,7 +69,10 @@ fn programs_meet_their_bounds(rt: HostRuntime) -> Result<(), Fail> {
         let ran = ran(&rt, &["run", NAME], file.as_bytes(), &[], &[])?;
         let wanted = format!(in rt.alloc(); "{last}\n")?;
         assert_eq!(rt; ran.status.code(), code, "{rest}");
-        assert!(rt; ran.written.as_slice().ends_with(wanted.as_bytes()), "{rest}");
+        assert!(rt;
+            ran.written.as_slice().ends_with(wanted.as_bytes()),
+            "{rest}"
+        );
     }
     Ok(())
 }

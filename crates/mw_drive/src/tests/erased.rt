@@ -35,8 +35,7 @@ const ITEM_OUT_OF_FUEL: &str =
     main : int = run[int] k";
 
 /// Lets and kernels in turn; an item names the lets before it, and main all four.
-const IN_TURN: &str =
-    "let f x = x + 1 ;; kernel a : int -> int = close .<fun x -> x * 2>. ;; \
+const IN_TURN: &str = "let f x = x + 1 ;; kernel a : int -> int = close .<fun x -> x * 2>. ;; \
     let g y = f (f y) ;; kernel b : int = close (lift (g 1)) ;; \
     main : int = let z = 100 in run[int -> int] a (g (run[int] b)) + z";
 
@@ -45,8 +44,7 @@ const THREE: &str =
     "kernel a : int = close .<1>. ;; kernel b : int = close .<20>. ;; kernel c : int -> int = close .<fun x -> x + 300>. ;; \
     main : int * int = let x = run[int] b in (run[int -> int] c x, (fun y -> fun z -> run[int] a + run[int -> int] c (y + z)) x 4)";
 
-const PAIR: &str =
-    "kernel p : int * bool -> bool * int = close .<fun p -> (snd p, fst p)>. ;; \
+const PAIR: &str = "kernel p : int * bool -> bool * int = close .<fun p -> (snd p, fst p)>. ;; \
     main : (bool * int) * int = (run[int * bool -> bool * int] p (3, true), 9)";
 
 /// Sources, the units, the status and last line of the run, and status and line of the erased program.
@@ -118,12 +116,7 @@ const ERASED: [(&str, &str, (u8, &str), (u8, &str)); 24] = [
         (0, "answer 5"),
         (1, "trap divide in main"),
     ),
-    (
-        KERNEL_LOOP,
-        "9",
-        (0, "answer 6"),
-        (4, "bound fuel in main"),
-    ),
+    (KERNEL_LOOP, "9", (0, "answer 6"), (4, "bound fuel in main")),
     // no bound of kernels is met
     (
         TOO_BIG,
@@ -137,12 +130,7 @@ const ERASED: [(&str, &str, (u8, &str), (u8, &str)); 24] = [
         (4, "bound kernel size in big"),
         (0, "answer 10001"),
     ),
-    (
-        HEAP,
-        "1000000",
-        (4, "bound heap in main"),
-        (0, "answer 3"),
-    ),
+    (HEAP, "1000000", (4, "bound heap in main"), (0, "answer 3")),
     // an item that traps or runs out of units is main's
     (
         "kernel k : int = close (let x = 1 / 0 in .<2>.) ;; main : int = 0",
@@ -156,12 +144,7 @@ const ERASED: [(&str, &str, (u8, &str), (u8, &str)); 24] = [
         (4, "bound fuel in k"),
         (4, "bound fuel in main"),
     ),
-    (
-        ITEM_OUT_OF_FUEL,
-        "21",
-        (0, "answer 8"),
-        (0, "answer 8"),
-    ),
+    (ITEM_OUT_OF_FUEL, "21", (0, "answer 8"), (0, "answer 8")),
     // refusals are the same
     (
         "main : int = x",
@@ -169,7 +152,12 @@ const ERASED: [(&str, &str, (u8, &str), (u8, &str)); 24] = [
         (3, "refused 8 unbound at 13"),
         (3, "refused 8 unbound at 13"),
     ),
-    ("", "9", (3, "refused 5 syntax at 0"), (3, "refused 5 syntax at 0")),
+    (
+        "",
+        "9",
+        (3, "refused 5 syntax at 0"),
+        (3, "refused 5 syntax at 0"),
+    ),
     (
         "let a = 1 ;; main : int = if a then 1 else 2",
         "9",
@@ -203,7 +191,14 @@ fn ends<R: Abort + AllocGlobal + Threads + Sync>(
 #[test]
 fn erased_programs_have_their_ends(rt: HostRuntime) -> Result<(), Fail> {
     for (file, units, (code, last), (erased_code, erased_last)) in ERASED {
-        ends(&rt, &["run", "--fuel", units, NAME], file, code, last, false)?;
+        ends(
+            &rt,
+            &["run", "--fuel", units, NAME],
+            file,
+            code,
+            last,
+            false,
+        )?;
         let words = ["erased", "--fuel", units, NAME];
         ends(&rt, &words, file, erased_code, erased_last, true)?;
     }
@@ -214,7 +209,11 @@ fn erased_programs_have_their_ends(rt: HostRuntime) -> Result<(), Fail> {
 const WORDED: [(&[&str], u8, &str); 7] = [
     (&["erased", NAME], 0, "answer 0\n"),
     (&["erased", NAME, "--fuel=1000000"], 0, "answer 0\n"),
-    (&["erased", "--fuel=999999", NAME], 4, "bound fuel in main\n"),
+    (
+        &["erased", "--fuel=999999", NAME],
+        4,
+        "bound fuel in main\n",
+    ),
     (&["erased", "other"], 5, ""),
     (&["erased", "--workers=2", NAME], 2, ""),
     (&["erased"], 2, ""),
