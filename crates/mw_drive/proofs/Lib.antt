@@ -18,3 +18,4 @@ pub mod SourceWritten
 pub mod Taking
 pub mod ErasedEnds
 pub mod ErasedAnswers
+pub mod ErasedWritten

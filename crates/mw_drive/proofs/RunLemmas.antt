@@ -6,17 +6,20 @@ use Rattle.mw_outside.specs.declared.errors.WriteFault.{WriteFault}
 use Rattle.mw_outside.specs.declared.errors.WriteFault.TheVariants as fault
 use Rattle.mw_outside.specs.Count.{GrowsByFront}
 use Rattle.mw_outside.specs.Lookup.{file_of}
+use Rattle.mw_term.specs.declared.refusal.Refusal.{Refusal}
 use Rattle.mw_term.specs.declared.refusal.Refusal.TheVariants.{TooLarge}
 use Rattle.mw_meaning.specs.declared.mode.Mode.{Mode}
 use Rattle.mw_meaning.specs.declared.mode.Mode.TheVariants.{Plain}
 use Rattle.mw_words.specs.Words.{PureCommand, sample, Means}
 use Rattle.mw_words.proofs.LawLemmas.{one_command}
 use Rattle.mw_console.specs.Reading.{most_read, IsFront, IsRest}
-use Rattle.mw_console.specs.Texts.{answered, trapped, bounded}
+use Rattle.mw_console.specs.Texts.{Ending, answered, trapped, bounded}
+use Rattle.mw_drive.specs.NamedPrograms.{NamedProgram, unnamed}
+use Rattle.mw_drive.specs.ProgramMeaning.{ended, erased_run}
 use Rattle.mw_console.specs.declared.status.Status.{Status}
 use Rattle.mw_console.specs.declared.status.Status.TheVariants.{Answer, Trap, Usage, Refused, Bound, Read, Write, Cache, Memory, BadCache}
 use Rattle.mw_drive.specs.SourceReading.{IsRead, IsSmall, too_large, at_bytes, at_tokens, at_names}
-use Rattle.mw_drive.specs.Works.{Work, running, erasing, sampling, Meaning, refused, ran, sampled, IsMeaning, of_refusal, of_types, of_program, of_erased_refusal, of_erased, IsOutput, Reports, text_of, status_of}
+use Rattle.mw_drive.specs.Works.{Work, running, erasing, sampling, IsAccepted, Meaning, refused, ran, sampled, IsMeaning, of_refusal, of_types, of_program, of_erased_refusal, of_erased, IsOutput, Reports, text_of, status_of}
 use Rattle.mw_drive.specs.ProgramRuns.{IsWrittenMeaning, evaluated, written_meaning, Carries}
 use Rattle.mw_drive.specs.declared.source.Evaluation.{Evaluation}
 use Rattle.mw_drive.specs.declared.source.Evaluation.TheVariants.{Run, Erased}
@@ -46,13 +49,23 @@ means_whole {bytes} {fuel} {mode} {m} d = by_size (large_or_small d)
     by_size (inl x) = subst (IsMeaning (running bytes fuel mode)) (sym x.0) (of_refusal (too_large (large_whole bytes x.1)))
     by_size (inr small) = subst (λ b. IsMeaning (running b fuel mode) m) (small_front bytes small) d
 
-means_whole_erased : {bytes : List ℕ} {fuel : ℕ} {m : Meaning} → IsMeaning (erasing (take most_read bytes) fuel) m → IsMeaning (erasing bytes fuel) m
-means_whole_erased (of_erased_refusal h) = of_erased_refusal (means_whole h)
-means_whole_erased {bytes} {fuel} (of_erased {e = e} p read accepted is) = of_erased p (subst (λ b. IsRead b p) (small_front bytes read.small) read) accepted is
+-- an erased program's meaning is a refusal of its run, or how its main ends
+erased_cases : {bytes : List ℕ} {fuel : ℕ} {m : Meaning} → IsMeaning (erasing bytes fuel) m
+    → ((r : Refusal) × (names : List (List ℕ)) × (m ≡ refused r names) × IsMeaning (running bytes fuel Plain) (refused r names)) ⊎ ((p : NamedProgram) × IsRead bytes p × IsAccepted (unnamed p) × (e : Ending) × (erased_run fuel (unnamed p) ≡ ended [] e) × (m ≡ ran Plain [] e))
+erased_cases (of_erased_refusal h) = inl (_, _, refl, h)
+erased_cases (of_erased p read accepted is) = inr (p, read, accepted, _, is, refl)
 
-pub means_evaluated : (evaluation : Evaluation) {bytes : List ℕ} {fuel : ℕ} {m : Meaning} → IsMeaning (evaluated evaluation (take most_read bytes) fuel) m → IsMeaning (evaluated evaluation bytes fuel) m
-means_evaluated (Run shown) h = means_whole h
-means_evaluated Erased h = means_whole_erased h
+means_erased : (bytes : List ℕ) (fuel : ℕ) (m : Meaning) → IsMeaning (erasing (take most_read bytes) fuel) m → IsMeaning (erasing bytes fuel) m
+means_erased bytes fuel m h = by_case (erased_cases h)
+  where
+    by_case : ((r : Refusal) × (names : List (List ℕ)) × (m ≡ refused r names) × IsMeaning (running (take most_read bytes) fuel Plain) (refused r names)) ⊎ ((p : NamedProgram) × IsRead (take most_read bytes) p × IsAccepted (unnamed p) × (e : Ending) × (erased_run fuel (unnamed p) ≡ ended [] e) × (m ≡ ran Plain [] e))
+        → IsMeaning (erasing bytes fuel) m
+    by_case (inl c) = subst (IsMeaning (erasing bytes fuel)) (sym c.2) (of_erased_refusal (means_whole c.3))
+    by_case (inr c) = subst (IsMeaning (erasing bytes fuel)) (sym c.5) (of_erased c.0 (subst (λ b. IsRead b c.0) (small_front bytes c.1.small) c.1) c.2 c.4)
+
+pub means_evaluated : (evaluation : Evaluation) (bytes : List ℕ) (fuel : ℕ) (m : Meaning) → IsMeaning (evaluated evaluation (take most_read bytes) fuel) m → IsMeaning (evaluated evaluation bytes fuel) m
+means_evaluated (Run shown) bytes fuel m h = means_whole h
+means_evaluated Erased bytes fuel m h = means_erased bytes fuel m h
 
 -- what was read is the front of the bytes that the source tells, and what is left is the rest
 pub front_told : {tells : Bool} {told : List NamedFile} {file bytes : List ℕ} (taken : List ℕ) → IsTellingOf tells told file bytes → (IsTrue tells → IsFront (file_of told file) taken) → taken ≡ take most_read bytes

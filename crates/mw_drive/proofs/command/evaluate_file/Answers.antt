@@ -11,4 +11,4 @@ returns-in-Err-Memory-clause-work g c = λ bytes telling work carries. carried_m
 pub returns-clause-work : goal.returns-clause-work
 returns-clause-work g c = λ bytes telling work carries.
     carried c.write_source.result c.status_of.result _ _ work c.write_source.ensures.meaning
-    (λ m h. carries m (means_evaluated c.args.evaluation (subst (λ (b : List ℕ). IsMeaning (evaluated c.args.evaluation b c.args.fuel) m) (c.as_slice.ensures.value ∙ front_told c.in-Ok.bytes.items telling c.in-Ok.ensures.ok) h))) c.status_of.ensures
+    (λ m h. carries m (means_evaluated c.args.evaluation bytes c.args.fuel m (subst (λ (b : List ℕ). IsMeaning (evaluated c.args.evaluation b c.args.fuel) m) (c.as_slice.ensures.value ∙ front_told c.in-Ok.bytes.items telling c.in-Ok.ensures.ok) h))) c.status_of.ensures

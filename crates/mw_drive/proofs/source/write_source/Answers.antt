@@ -1,4 +1,4 @@
-use Rattle.mw_drive.proofs.SourceWritten.{written_nothing, refusal_written, resolved, few_items, types_written, run_written}
+use Rattle.mw_drive.proofs.SourceWritten.{written_nothing, refusal_written, resolved, few_items, types_written, run_written, erased_written, few_nodes}
 use Rattle.mw_drive.proofs.source.write_source.Goals as goal
 
 pub returns-in-Err-Refused-clause-meaning : goal.returns-in-Err-Refused-clause-meaning
@@ -26,4 +26,11 @@ write_run-requires-clause-few g c = few_items c.args.bytes.now c.args.fuel g.K.S
 
 pub returns-in-Run-clause-meaning : goal.returns-in-Run-clause-meaning
 returns-in-Run-clause-meaning g c =
-    run_written c.args.bytes.now c.args.fuel g.K.Sink.tells c.in-Ok.program c.in-Ok.ensures.found c.in-Run.shown c.write_run.result _ _ c.in-Ok-check.ensures.typable c.in-Ok-check.ensures.small c.write_run.ensures.run
+    rw c.in-Run.is (run_written c.args.bytes.now c.args.fuel g.K.Sink.tells c.in-Ok.program c.in-Ok.ensures.found c.in-Run.shown c.write_run.result _ _ c.in-Ok-check.ensures.typable c.in-Ok-check.ensures.small c.write_run.ensures.run)
+
+pub write_erased-requires-clause-nodes : goal.write_erased-requires-clause-nodes
+write_erased-requires-clause-nodes g c = few_nodes c.args.bytes.now c.args.fuel g.K.Sink.tells c.in-Ok.program c.in-Ok.ensures.found
+
+pub returns-in-Erased-clause-meaning : goal.returns-in-Erased-clause-meaning
+returns-in-Erased-clause-meaning g c =
+    rw c.in-Erased.is (erased_written c.args.bytes.now c.args.fuel g.K.Sink.tells c.in-Ok.program c.in-Ok.ensures.found c.write_erased.result _ _ c.in-Ok-check.ensures.typable c.in-Ok-check.ensures.small c.write_erased.ensures.run)
