@@ -1,0 +1,13 @@
+pub mod Improving
+pub mod Bodies
+pub mod Following
+pub mod Steady
+pub mod PureCode
+pub mod Steps
+pub mod Simulation
+pub mod Occurring
+pub mod Counting
+pub mod Labels
+pub mod StepsImprove
+pub mod SimplifiedImproves
+pub mod SimplifiedMeaning

@@ -1,0 +1,4 @@
+//! Simplification of kernels' code, and that it keeps what code means.
+#![tactic(auto)]
+
+pub mod laws;
