@@ -11,3 +11,6 @@ pub mod Labels
 pub mod StepsImprove
 pub mod SimplifiedImproves
 pub mod SimplifiedMeaning
+pub mod Putting
+pub mod FreeBound
+pub mod Forms

@@ -1,1 +1,2 @@
 pub mod SimplificationTheorem
+pub mod Leaves

@@ -1,4 +1,11 @@
 //! Simplification of kernels' code, and that it keeps what code means.
 #![tactic(auto)]
 
+pub mod fold;
 pub mod laws;
+pub mod leaf;
+pub mod put;
+pub mod simplifying;
+pub mod uses;
+
+pub use crate::simplifying::simplify;
