@@ -14,3 +14,7 @@ pub mod SimplifiedMeaning
 pub mod Putting
 pub mod FreeBound
 pub mod Forms
+pub mod Alike
+pub mod StagedFollowing
+pub mod StagedSimulation
+pub mod SimplifiedOutcomes

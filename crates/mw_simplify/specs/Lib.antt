@@ -1,2 +1,3 @@
 pub mod SimplificationTheorem
+pub mod SimplifiedOutcomes
 pub mod Leaves
