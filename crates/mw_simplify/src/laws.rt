@@ -1,5 +1,6 @@
 // Laws of simplification, which no program calls.
 
+ghost use Rattle.mw_simplify.specs.SimplificationRows.{Primitives, Branches, Parts, NamesOfAtoms, UnusedLets};
 ghost use Rattle.mw_simplify.specs.SimplificationTheorem.{KeepsMeaning};
 ghost use Rattle.mw_simplify.specs.SimplifiedOutcomes.{ItemsStay, MainStays};
 
@@ -12,4 +13,13 @@ pub fn simplified_meaning()
 pub fn simplified_outcomes()
     ensures items { ItemsStay }
     ensures main { MainStays }
+{}
+
+/// Each rule met and just missed, by computation.
+pub fn simplification_rows()
+    ensures primitives { Primitives }
+    ensures branches { Branches }
+    ensures parts { Parts }
+    ensures names { NamesOfAtoms }
+    ensures unused { UnusedLets }
 {}

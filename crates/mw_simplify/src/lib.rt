@@ -6,6 +6,8 @@ pub mod laws;
 pub mod leaf;
 pub mod put;
 pub mod simplifying;
+#[cfg(test)]
+mod tests;
 pub mod uses;
 
 pub use crate::simplifying::simplify;
