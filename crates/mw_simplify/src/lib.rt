@@ -1,13 +1,13 @@
 //! Simplification of kernels' code, and that it keeps what code means.
 #![tactic(auto)]
 
-pub mod fold;
+mod fold;
 pub mod laws;
-pub mod leaf;
-pub mod put;
-pub mod simplifying;
+mod leaf;
+mod put;
+mod simplifying;
 #[cfg(test)]
 mod tests;
-pub mod uses;
+mod uses;
 
 pub use crate::simplifying::simplify;
