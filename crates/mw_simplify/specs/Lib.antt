@@ -1,0 +1,4 @@
+pub mod SimplificationTheorem
+pub mod SimplifiedOutcomes
+pub mod SimplificationRows
+pub mod Leaves
