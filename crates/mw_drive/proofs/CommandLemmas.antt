@@ -4,7 +4,7 @@ use Rattle.mw_outside.specs.declared.named.NamedFile.{NamedFile}
 use Rattle.mw_term.specs.Terms.{PureGroundValue}
 use Rattle.mw_console.specs.Texts.{answered, trapped, bounded}
 use Rattle.mw_meaning.specs.declared.mode.Mode.TheVariants.{Plain, Simple}
-use Rattle.mw_words.specs.Words.{PureCommand, run, erased, sample, Means, run_command, erased_command, sample_command}
+use Rattle.mw_words.specs.Words.{PureCommand, run, sample, Means, run_command, erased_command, sample_command}
 use Rattle.mw_words.proofs.LawLemmas.{one_command}
 use Rattle.mw_console.specs.declared.status.Status.{Status}
 use Rattle.mw_console.specs.declared.status.Status.TheVariants.{Answer, Trap, Refused, Bound, Usage, Read, Write, Memory}

@@ -1,5 +1,5 @@
 -- Where a source's program and its erased program both answer, the answers are equal.
-use Rattle.std.proofs.Common.{◌≡◌, ℕ, List, [], ◌∷◌, ◌++◌, map, refl, sym, ap, ◌∙◌, subst}
+use Rattle.std.proofs.Common.{◌≡◌, ℕ, List, [], ◌∷◌, ◌++◌, map, refl, sym, ap, ◌∙◌}
 use Rattle.std.proofs.lemmas.List.{append_assoc, append-nil}
 use Rattle.mw_term.specs.Terms.{Expression, Value, KernelType, PureGroundValue}
 use Rattle.mw_term.specs.Programs.{Definition, value as defines, kernel}
@@ -8,7 +8,7 @@ use Rattle.mw_meaning.specs.declared.mode.Mode.TheVariants.{Plain}
 use Rattle.mw_meaning.specs.Outcomes.{Outcome, came_to, trapped as traps, bounded as bounds, stuck as no_outcome, item_outcome, main_outcome, names_of_items, names_of_main}
 use Rattle.mw_meaning.specs.ErasedPrograms.{ItemsCameTo, Answers, erased_outcome}
 use Rattle.mw_meaning.proofs.Agreement.{answers_agree}
-use Rattle.mw_console.specs.Texts.{Ending, answered}
+use Rattle.mw_console.specs.Texts.{answered}
 use Rattle.mw_drive.specs.NamedPrograms.{NamedItem, NamedProgram, unnamed}
 use Rattle.mw_drive.specs.SourceReading.{IsRead}
 use Rattle.mw_drive.specs.ProgramMeaning.{Kernel, ProgramRun, ended, stuck, main_run, with_kernel, after_item, run_item, run_items, main_after, program_run, erased_run}

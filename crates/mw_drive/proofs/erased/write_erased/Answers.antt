@@ -1,11 +1,8 @@
-use Rattle.std.proofs.Common.{List, [], ◌≡◌, map, ap, subst}
+use Rattle.std.proofs.Common.{◌≡◌, map, ap}
 use Rattle.mw_term.specs.Terms.{expression_of}
 use Rattle.mw_term.specs.Programs.{program_of}
-use Rattle.mw_meaning.specs.OutcomeLaws.{AreCodesOf}
-use Rattle.mw_meaning.specs.declared.mode.Mode.TheVariants.{Plain}
 use Rattle.mw_meaning.proofs.ErasedMain.{typable_names_are_bound}
 use Rattle.mw_console.specs.Texts.{ending_line, ending_status}
-use Rattle.mw_drive.specs.ProgramMeaning.{ended, main_after}
 use Rattle.mw_drive.specs.ProgramRuns.{ending_of}
 use Rattle.mw_drive.proofs.Faults.{front_written, no_answer}
 use Rattle.mw_drive.proofs.Fronts.{grows_nothing}
