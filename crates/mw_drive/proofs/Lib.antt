@@ -19,3 +19,4 @@ pub mod Taking
 pub mod ErasedEnds
 pub mod ErasedAnswers
 pub mod ErasedWritten
+pub mod SimplifiedPrograms

@@ -7,3 +7,4 @@ pub mod Written
 pub mod ProgramRuns
 pub mod WrittenItems
 pub mod Running
+pub mod SimplifiedPrograms
