@@ -1,17 +1,24 @@
 -- From what a command's run gives to the clauses of the top call.
-use Rattle.std.proofs.Common.{◌≡◌, ◌≤◌, ◌⊎◌, inl, inr, ℕ, List, [], ◌++◌, Some, Bool, IsTrue, sym, subst, ◌∙◌}
+use Rattle.std.proofs.Common.{◌≡◌, ◌≤◌, ◌⊎◌, inl, inr, ℕ, List, [], ◌++◌, Some, Bool, true, IsTrue, sym, ap, subst, ◌∙◌}
 use Rattle.mw_outside.specs.declared.named.NamedFile.{NamedFile}
 use Rattle.mw_term.specs.Terms.{PureGroundValue}
-use Rattle.mw_console.specs.Texts.{answered, trapped, bounded}
+use Rattle.mw_console.specs.Texts.{Ending, answered, trapped, bounded, ending_status}
+use Rattle.mw_meaning.specs.declared.mode.Mode.{Mode}
 use Rattle.mw_meaning.specs.declared.mode.Mode.TheVariants.{Plain, Simple}
 use Rattle.mw_words.specs.Words.{PureCommand, run, sample, Means, run_command, erased_command, sample_command}
 use Rattle.mw_words.proofs.LawLemmas.{one_command}
 use Rattle.mw_console.specs.declared.status.Status.{Status}
 use Rattle.mw_console.specs.declared.status.Status.TheVariants.{Answer, Trap, Refused, Bound, Usage, Read, Write, Memory}
-use Rattle.mw_drive.specs.Works.{Work, running, erasing, sampling, Meaning, refused, ran, sampled, IsMeaning, IsOutput, status_of}
+use Rattle.mw_drive.specs.Works.{Work, running, erasing, sampling, Meaning, refused, ran, sampled, IsMeaning, of_refusal, of_types, of_program, IsOutput, status_of}
 use Rattle.mw_drive.specs.ProgramMeaning.{Kernel}
+use Rattle.mw_drive.specs.SimplifiedPrograms.{IsUnbounded}
+use Rattle.mw_drive.specs.declared.source.Evaluation.TheVariants.{Run}
+use Rattle.mw_drive.specs.declared.shown.Shown.TheVariants.{Lines}
+use Rattle.mw_drive.specs.ProgramRuns.{Carries}
 use Rattle.mw_drive.proofs.ErasedAnswers.{answers_are_erased}
-use Rattle.mw_drive.specs.Running.{file_named, work_of, AsksFor, Asks, AsksMissing, AsksSample, IsTellingOf, IsLacking, IsFaithful, IsComplete, IsMemory, SpeaksOfCache, IsCarriedOut, IsReadUp}
+use Rattle.mw_drive.proofs.OneMeaning.{one_meaning}
+use Rattle.mw_drive.proofs.SimplifiedWorks.{simplified_run}
+use Rattle.mw_drive.specs.Running.{file_named, work_of, AsksFor, Asks, AsksMissing, AsksSample, IsTellingOf, IsLacking, IsFaithful, IsComplete, IsMemory, SpeaksOfCache, IsCarriedOut, IsReadUp, mode_when}
 use Rattle.mw_drive.proofs.RunLemmas.{asked_of_file, asked_of_sample, lacking_of_file, told_or_lacking, some_output, complete, output_written, no_file, asked_telling}
 
 -- want of memory before anything was written
@@ -24,27 +31,32 @@ sample_range n (sample_command h) = (h.low, h.high)
 sample_range n (run_command h m) = elim m [ ]
 sample_range n (erased_command h m) = elim m [ ]
 
+no_refusal : {r : _} → Answer ≡ Refused r → ⊥
+no_refusal e = cc
+
+no_trap : {t : _} → Answer ≡ Trap t → ⊥
+no_trap e = cc
+
+no_bound : {l : _} → Answer ≡ Bound l → ⊥
+no_bound e = cc
+
+-- a run with an answer's status answered
+answer_of : {bytes : List ℕ} {fuel : ℕ} {mode : Mode} {n : Meaning} → IsMeaning (running bytes fuel mode) n → Answer ≡ status_of n
+    → (kernels : List Kernel) × (v : PureGroundValue) × IsMeaning (running bytes fuel mode) (ran mode kernels (answered v))
+answer_of (of_refusal r) e = absurd (no_refusal e)
+answer_of (of_types p read fault) e = absurd (no_refusal e)
+answer_of (of_program {kernels = kernels} {e = answered v} p read accepted is) e = (kernels, v, of_program p read accepted is)
+answer_of (of_program {e = trapped t name} p read accepted is) e = absurd (no_trap e)
+answer_of (of_program {e = bounded l name} p read accepted is) e = absurd (no_bound e)
+
 -- where the status is an answer, and the erased program answers too, the answer is the erased program's
-erased_answer : (s : Status) (sink_tells : Bool) (before after : List ℕ) (fuel m : ℕ) (bytes : List ℕ) (w : PureGroundValue)
-    → IsCarriedOut (running bytes fuel Plain) s sink_tells before after → IsMeaning (erasing bytes m) (ran Plain [] (answered w)) → s ≡ Answer → (kernels : List Kernel) × IsMeaning (running bytes fuel Plain) (ran Plain kernels (answered w))
-erased_answer s sink_tells before after fuel m bytes w carried other is = answer_of (carried.meaning (subst IsComplete (sym is) tt))
-  where
-    answer_of : (n : Meaning) × IsMeaning (running bytes fuel Plain) n × (s ≡ status_of n) → (kernels : List Kernel) × IsMeaning (running bytes fuel Plain) (ran Plain kernels (answered w))
-    answer_of (refused r names, h, e) = absurd (clash (sym is ∙ e))
-      where
-        clash : Answer ≡ Refused r → ⊥
-        clash e = cc
-    answer_of (ran Plain kernels (answered v), h, e) = (kernels, subst (λ v. IsMeaning (running bytes fuel Plain) (ran Plain kernels (answered v))) (answers_are_erased bytes fuel m Plain kernels v w h other) h)
-    answer_of (ran Plain kernels (trapped t name), h, e) = absurd (clash (sym is ∙ e))
-      where
-        clash : Answer ≡ Trap t → ⊥
-        clash e = cc
-    answer_of (ran Plain kernels (bounded l name), h, e) = absurd (clash (sym is ∙ e))
-      where
-        clash : Answer ≡ Bound l → ⊥
-        clash e = cc
-    answer_of (ran Simple kernels e, h, d) = elim h [ ]
-    answer_of (sampled kernels e, h, d) = elim h [ ]
+erased_answer : (mode : Mode) (s : Status) (sink_tells : Bool) (before after : List ℕ) (fuel m : ℕ) (bytes : List ℕ) (w : PureGroundValue)
+    → IsCarriedOut (running bytes fuel mode) s sink_tells before after → IsMeaning (erasing bytes m) (ran Plain [] (answered w)) → s ≡ Answer
+    → (kernels : List Kernel) × IsMeaning (running bytes fuel mode) (ran mode kernels (answered w))
+erased_answer mode s sink_tells before after fuel m bytes w carried other is =
+    let c = carried.meaning (subst IsComplete (sym is) tt) in
+    let a = answer_of c.1 (sym is ∙ c.2) in
+    (a.0, subst (λ v. IsMeaning (running bytes fuel mode) (ran mode a.0 (answered v))) (answers_are_erased bytes fuel m mode a.0 a.1 w a.2 other) a.2)
 
 module _ {words : List (List ℕ)} {tells : Bool} {told : List NamedFile} (command : PureCommand) (file : List ℕ) (named : file_named command ≡ Some file) (means : Means words command)
     (s : Status) (sink_tells : Bool) (before after : List ℕ) (Rose_source Rose_sink : Type 0)
@@ -76,13 +88,27 @@ module _ {words : List (List ℕ)} {tells : Bool} {told : List NamedFile} (comma
   pub file_left : (left : List ℕ) → ((bytes : List ℕ) → IsTellingOf tells told file bytes → IsReadUp bytes s left) → (other : PureCommand) (bytes : List ℕ) → AsksFor words tells told other bytes → IsReadUp bytes s left
   file_left left reads other bytes asks = reads bytes (asked_telling command file named means asks)
 
-  pub file_erased : (workers fuel m : ℕ) (f bytes : List ℕ) (w : PureGroundValue) → AsksFor words tells told (run workers fuel f) bytes → IsMeaning (erasing bytes m) (ran Plain [] (answered w)) → s ≡ Answer
-      → (kernels : List Kernel) × IsMeaning (running bytes fuel Plain) (ran Plain kernels (answered w))
-  file_erased workers fuel m f bytes w asks other is =
-      erased_answer s sink_tells before after fuel m bytes w (subst (λ c. IsCarriedOut (work_of c bytes) s sink_tells before after) (one_command words command (run workers fuel f) means asks.means) (carried bytes (asked_telling command file named means asks))) other is
+  -- a run that is asked for was carried out
+  asked_run : (workers fuel : ℕ) (simplify : Bool) (f bytes : List ℕ) → AsksFor words tells told (run workers fuel simplify f) bytes → IsCarriedOut (running bytes fuel (mode_when simplify)) s sink_tells before after
+  asked_run workers fuel simplify f bytes asks =
+      subst (λ c. IsCarriedOut (work_of c bytes) s sink_tells before after) (one_command words command (run workers fuel simplify f) means asks.means) (carried bytes (asked_telling command file named means asks))
+
+  pub file_erased : (workers fuel m : ℕ) (simplify : Bool) (f bytes : List ℕ) (w : PureGroundValue) → AsksFor words tells told (run workers fuel simplify f) bytes → IsMeaning (erasing bytes m) (ran Plain [] (answered w)) → s ≡ Answer
+      → (kernels : List Kernel) × IsMeaning (running bytes fuel (mode_when simplify)) (ran (mode_when simplify) kernels (answered w))
+  file_erased workers fuel m simplify f bytes w asks other is = erased_answer (mode_when simplify) s sink_tells before after fuel m bytes w (asked_run workers fuel simplify f bytes asks) other is
+
+  pub file_simplified : (workers fuel : ℕ) (f bytes : List ℕ) (kernels : List Kernel) (e : Ending) → AsksFor words tells told (run workers fuel true f) bytes → IsMeaning (running bytes fuel Plain) (ran Plain kernels e) → IsUnbounded e
+      → IsMeaning (running bytes fuel Simple) (ran Simple kernels e) × (IsComplete s → s ≡ ending_status e)
+  file_simplified workers fuel f bytes kernels e asks is unbounded =
+      let other = simplified_run bytes fuel kernels e is unbounded in
+      (other, λ c. let m = (asked_run workers fuel true f bytes asks).meaning c in m.2 ∙ ap status_of (one_meaning (running bytes fuel Simple) m.0 (ran Simple kernels e) m.1 other))
 
   pub no_sample : AsksSample words → ⊥
   no_sample h = no_file h.0 h.1 means named
+
+-- what is written of a run whose kernels' code is run so is what the run means
+pub carries_run : {mode : Mode} {simplify : Bool} (bytes : List ℕ) (fuel : ℕ) → mode ≡ mode_when simplify → Carries (Run (Lines mode)) bytes fuel (running bytes fuel (mode_when simplify))
+carries_run {mode = mode} bytes fuel e m h = subst (λ (k : Mode). IsMeaning (running bytes fuel k) m) e h
 
 -- a sample's status is that of a whole text, unless the sink or memory failed
 whole_sample : (s : Status) (Rose_sink : Type 0) → (s ≡ Write → Rose_sink) → (SpeaksOfCache s → ⊥) × (s ≡ Usage → ⊥) × (s ≡ Read → ⊥) → (Rose_sink → ⊥) → (IsMemory s → ⊥) → IsComplete s

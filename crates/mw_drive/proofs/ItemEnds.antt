@@ -13,7 +13,7 @@ use Rattle.mw_term.specs.declared.term.KType.{KType}
 use Rattle.mw_term.specs.declared.term.Term.{Term}
 use Rattle.mw_term.specs.declared.value.TrapKind.{TrapKind}
 use Rattle.mw_term.specs.declared.value.Limit.{Limit}
-use Rattle.mw_meaning.specs.declared.mode.Mode.TheVariants.{Plain}
+use Rattle.mw_meaning.specs.declared.mode.Mode.{Mode}
 use Rattle.mw_meaning.specs.Outcomes.{Outcome, came_to, trapped, bounded, stuck, item_outcome, names_of_items}
 use Rattle.mw_meaning.proofs.ComingTo.{items_come_to_their_code}
 use Rattle.mw_infer.specs.Checking.{HasSmallKernels}
@@ -43,9 +43,9 @@ module _ (p : Program) (item : Item) (k : KType) (t : Term) (is : item.kind ≡ 
   small_kernel small = small there.0 (kernel_type_of k) (expression_of t) kernel_there
 
   -- its code is closed code of its type, within the limits
-  module _ (fuel : ℕ) (typable : Typable (program_of p)) (o : ItemOutcome) (answer : IsItemAnswer o (item_outcome Plain (names_of_items (program_of p).items) fuel (expression_of t))) where
+  module _ (mode : Mode) (fuel : ℕ) (typable : Typable (program_of p)) (o : ItemOutcome) (answer : IsItemAnswer o (item_outcome mode (names_of_items (program_of p).items) fuel (expression_of t))) where
     abbrev meant : Outcome Expression
-    meant = item_outcome Plain (names_of_items (program_of p).items) fuel (expression_of t)
+    meant = item_outcome mode (names_of_items (program_of p).items) fuel (expression_of t)
 
     pub code_came : (c : Term) → o ≡ outcome.Code c → meant ≡ came_to (expression_of c)
     code_came c e = by_outcome meant (subst (λ o. IsItemAnswer o meant) e answer)
@@ -59,7 +59,7 @@ module _ (p : Program) (item : Item) (k : KType) (t : Term) (is : item.kind ≡ 
     pub code_typed : (c : Term) → o ≡ outcome.Code c → HasKernelType (expression_of c) (kernel_type_of k) × (within_limits (expression_of c) ≡ true)
     code_typed c e =
         what_came (λ c. HasKernelType c (kernel_type_of k) × (within_limits c ≡ true)) meant (expression_of c) (code_came c e)
-        (items_come_to_their_code Plain (program_of p) there.0 (kernel_type_of k) (expression_of t) fuel typable kernel_there)
+        (items_come_to_their_code mode (program_of p) there.0 (kernel_type_of k) (expression_of t) fuel typable kernel_there)
 
     pub trap_came : (u : TrapKind) → o ≡ outcome.Trap u → meant ≡ trapped u
     trap_came u e = by_outcome meant (subst (λ o. IsItemAnswer o meant) e answer)

@@ -12,6 +12,7 @@ use Rattle.mw_term.specs.declared.refusal.Refusal.{Refusal}
 use Rattle.mw_term.specs.declared.refusal.Stop.{Stop}
 use Rattle.mw_term.specs.declared.refusal.Stop.TheVariants.{Refused as StopRefused}
 use Rattle.mw_infer.specs.Checking.{IsFirstRefusal, IsResolved, NoneTooBig}
+use Rattle.mw_meaning.specs.declared.mode.Mode.{Mode}
 use Rattle.mw_meaning.specs.declared.mode.Mode.TheVariants.{Plain}
 use Rattle.mw_console.specs.Texts.{refusal_line}
 use Rattle.mw_console.specs.declared.status.Status.{Status}
@@ -32,11 +33,11 @@ use Rattle.mw_drive.proofs.SourceReadings.{unnamed_program, names_of_program}
 use Rattle.mw_drive.proofs.ScopedTerms.{is_resolved, small_program}
 
 module _ (bytes : List ℕ) (fuel : ℕ) (tells : Bool) where
-  written_refusal : (evaluation : Evaluation) (result : Result Status WriteFault) (before after : List ℕ) (r : Refusal) (names : List (List ℕ)) → IsMeaning (running bytes fuel Plain) (refused r names)
+  written_refusal : (evaluation : Evaluation) (result : Result Status WriteFault) (before after : List ℕ) (r : Refusal) (names : List (List ℕ)) → ((mode : Mode) → IsMeaning (running bytes fuel mode) (refused r names))
       → IfOk result (λ s. s ≡ Refused r) → Writes result tells before after (refusal_line names r) → IsWrittenMeaning evaluation bytes fuel result tells before after
-  written_refusal (Run Lines) result before after r names is status writes = record { meaning = refused r names; is_meaning = is; is_status = status; writes = writes }
-  written_refusal (Run Totals) result before after r names is status writes = record { meaning = refused r names; is_meaning = is; is_status = status; writes = writes }
-  written_refusal Erased result before after r names is status writes = record { meaning = refused r names; is_meaning = of_erased_refusal is; is_status = status; writes = writes }
+  written_refusal (Run (Lines mode)) result before after r names is status writes = record { meaning = refused r names; is_meaning = is mode; is_status = status; writes = writes }
+  written_refusal (Run Totals) result before after r names is status writes = record { meaning = refused r names; is_meaning = is Plain; is_status = status; writes = writes }
+  written_refusal Erased result before after r names is status writes = record { meaning = refused r names; is_meaning = of_erased_refusal (is Plain); is_status = status; writes = writes }
 
   -- want of memory before anything was written
   pub written_nothing : (evaluation : Evaluation) (before : List ℕ) (e : _) → IsWrittenMeaning evaluation bytes fuel (Err (Memory e)) tells before before
@@ -47,7 +48,7 @@ module _ (bytes : List ℕ) (fuel : ℕ) (tells : Bool) where
   -- the refusal of its reading
   pub refusal_written : (evaluation : Evaluation) (result : Result Status WriteFault) (before after : List ℕ) (r : Refusal) (stop : Stop) → stop ≡ StopRefused r → IfRefused (IsRefused bytes) stop
       → IfOk result (λ s. s ≡ Refused r) → Writes result tells before after (refusal_line [] r) → IsWrittenMeaning evaluation bytes fuel result tells before after
-  refusal_written evaluation result before after r stop is says = written_refusal evaluation result before after r [] (of_refusal (subst (IfRefused (IsRefused bytes)) is says))
+  refusal_written evaluation result before after r stop is says = written_refusal evaluation result before after r [] (λ mode. of_refusal (subst (IfRefused (IsRefused bytes)) is says))
 
   module _ (p : Program) (found : IsRead bytes (named_program_of p)) where
     pub resolved : IsResolved (program_of p)
@@ -61,7 +62,7 @@ module _ (bytes : List ℕ) (fuel : ℕ) (tells : Bool) where
         → IfOk result (λ s. s ≡ Refused r) → Writes result tells before after (refusal_line (map (λ (i : Item). i.name) p.items) r) → IsWrittenMeaning evaluation bytes fuel result tells before after
     types_written evaluation result before after r stop is says status writes =
         let first : IsFirstRefusal (unnamed (named_program_of p)) r = subst (λ q. IsFirstRefusal q r) (sym (unnamed_program p)) (subst (IfRefused (IsFirstRefusal (program_of p))) is says) in
-        written_refusal evaluation result before after r (names_of (named_program_of p)) (of_types (named_program_of p) found first) status
+        written_refusal evaluation result before after r (names_of (named_program_of p)) (λ mode. of_types (named_program_of p) found first) status
         (subst (λ names. Writes result tells before after (refusal_line names r)) (sym (names_of_program p)) writes)
 
     accepted : Typable (program_of p) → NoneTooBig (program_of p) → IsAccepted (unnamed (named_program_of p))
@@ -76,7 +77,7 @@ module _ (bytes : List ℕ) (fuel : ℕ) (tells : Bool) where
         fine = accepted typable small
 
         by_shown : (shown : Shown) → IsWrittenRun shown fuel (named_program_of p) result tells before after → IsWrittenMeaning (Run shown) bytes fuel result tells before after
-        by_shown Lines h = record { meaning = ran Plain h.kernels h.ending; is_meaning = of_program (named_program_of p) found fine h.is_run; is_status = h.is_status; writes = h.writes }
+        by_shown (Lines mode) h = record { meaning = ran mode h.kernels h.ending; is_meaning = of_program (named_program_of p) found fine h.is_run; is_status = h.is_status; writes = h.writes }
         by_shown Totals h = record { meaning = ran Plain h.kernels h.ending; is_meaning = of_program (named_program_of p) found fine h.is_run; is_status = h.is_status; writes = h.writes }
 
     -- its erased program's main

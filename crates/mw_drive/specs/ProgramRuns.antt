@@ -6,7 +6,9 @@ use Rattle.mw_term.specs.Terms.{Expression, KernelType, expression_of, kernel_ty
 use Rattle.mw_term.specs.Programs.{Definition, value as defines, kernel, PureProgram}
 use Rattle.mw_term.specs.Typable.{HasKernelType}
 use Rattle.mw_term.specs.Limits.{within_limits}
+use Rattle.mw_meaning.specs.declared.mode.Mode.{Mode}
 use Rattle.mw_meaning.specs.declared.mode.Mode.TheVariants.{Plain}
+use Rattle.mw_meaning.specs.Simplification.{in_mode}
 use Rattle.mw_meaning.specs.Outcomes.{came_to, trapped as traps, bounded as bounds, item_outcome, names_of_items}
 use Rattle.mw_meaning.specs.OutcomeLaws.{AreCodesOf}
 use Rattle.mw_compile.specs.Entries.{IsEntryOf}
@@ -41,23 +43,23 @@ kernels_of built = map kernel_of built
 abbrev pub codes_of : List Kernel → List Expression
 codes_of kernels = map (λ (k : Kernel). k.code) kernels
 
--- its code is closed code of its type, within the limits of kernels, and the entry is that of the code at the type
-pub record IsBuilt (b : Built) : Type 0 where
+-- its code is closed code of its type, within the limits of kernels, and the entry is that of what is run of the code at the type
+pub record IsBuilt (mode : Mode) (b : Built) : Type 0 where
   pub typed : HasKernelType (expression_of b.code) (kernel_type_of b.kind.now)
   pub limits : within_limits (expression_of b.code) ≡ true
-  pub entry : IsEntryOf b.entry (expression_of b.code) (kernel_type_of b.kind.now)
+  pub entry : IsEntryOf b.entry (in_mode mode (expression_of b.code)) (kernel_type_of b.kind.now)
 
 -- a kernel item came to what its term means, with so many units, in a program with these items; a let is none
-abbrev pub IsEndOf : List Definition → ℕ → NamedItem → ItemEnd → Type 0
-IsEndOf items fuel i item.Let = (e : Expression) × (i.is ≡ defines e)
-IsEndOf items fuel i (item.Code b) =
-    (e : Expression) × (i.is ≡ kernel (kernel_type_of b.kind.now) e) × (b.name.now ≡ i.name) × IsBuilt b
-    × (item_outcome Plain (names_of_items items) fuel e ≡ came_to (expression_of b.code))
-IsEndOf items fuel i (item.Ended (end.Answered v)) = ⊥
-IsEndOf items fuel i (item.Ended (end.Trapped t name)) =
-    (k : KernelType) × (e : Expression) × (i.is ≡ kernel k e) × (name.now ≡ i.name) × (item_outcome Plain (names_of_items items) fuel e ≡ traps t)
-IsEndOf items fuel i (item.Ended (end.Bounded l name)) =
-    (k : KernelType) × (e : Expression) × (i.is ≡ kernel k e) × (name.now ≡ i.name) × (item_outcome Plain (names_of_items items) fuel e ≡ bounds l)
+abbrev pub IsEndOf : Mode → List Definition → ℕ → NamedItem → ItemEnd → Type 0
+IsEndOf mode items fuel i item.Let = (e : Expression) × (i.is ≡ defines e)
+IsEndOf mode items fuel i (item.Code b) =
+    (e : Expression) × (i.is ≡ kernel (kernel_type_of b.kind.now) e) × (b.name.now ≡ i.name) × IsBuilt mode b
+    × (item_outcome mode (names_of_items items) fuel e ≡ came_to (expression_of b.code))
+IsEndOf mode items fuel i (item.Ended (end.Answered v)) = ⊥
+IsEndOf mode items fuel i (item.Ended (end.Trapped t name)) =
+    (k : KernelType) × (e : Expression) × (i.is ≡ kernel k e) × (name.now ≡ i.name) × (item_outcome mode (names_of_items items) fuel e ≡ traps t)
+IsEndOf mode items fuel i (item.Ended (end.Bounded l name)) =
+    (k : KernelType) × (e : Expression) × (i.is ≡ kernel k e) × (name.now ≡ i.name) × (item_outcome mode (names_of_items items) fuel e ≡ bounds l)
 
 -- kernels before the others of a run
 abbrev pub with_kernels : List Kernel → ProgramRun → ProgramRun
@@ -65,26 +67,31 @@ with_kernels [] r = r
 with_kernels (k ∷ kernels) r = with_kernel k.name k.kind k.code (with_kernels kernels r)
 
 -- The kernel items of a program gave these kernels, and one that gave none ended the program, or main is to come.
-abbrev pub IsItemsRun : ℕ → NamedProgram → List Kernel → Option Ending → Type 0
-IsItemsRun fuel p kernels None =
-    (program_run Plain fuel p ≡ with_kernels kernels (main_after Plain fuel (unnamed p).items p.body (codes_of kernels))) × AreCodesOf (unnamed p).items (codes_of kernels)
-IsItemsRun fuel p kernels (Some e) = program_run Plain fuel p ≡ ended kernels e
+abbrev pub IsItemsRun : Mode → ℕ → NamedProgram → List Kernel → Option Ending → Type 0
+IsItemsRun mode fuel p kernels None =
+    (program_run mode fuel p ≡ with_kernels kernels (main_after mode fuel (unnamed p).items p.body (codes_of kernels))) × AreCodesOf (unnamed p).items (codes_of kernels)
+IsItemsRun mode fuel p kernels (Some e) = program_run mode fuel p ≡ ended kernels e
+
+-- how code is run whose kernels are shown so
+abbrev pub mode_of : Shown → Mode
+mode_of (Lines mode) = mode
+mode_of Totals = Plain
 
 -- what is written of the kernels
 abbrev pub shown_text : Shown → List Kernel → List ℕ
-shown_text Lines kernels = flat_map (kernel_lines Plain) kernels
+shown_text (Lines mode) kernels = flat_map (kernel_lines mode) kernels
 shown_text Totals kernels = totals_text (length kernels) (module_bytes kernels)
 
 -- the run of a program was written, and the status is what its ending says
 pub record IsWrittenRun (shown : Shown) (fuel : ℕ) (p : NamedProgram) (result : Result Status WriteFault) (tells : Bool) (before after : List ℕ) : Type 0 where
   pub kernels : List Kernel
   pub ending : Ending
-  pub is_run : program_run Plain fuel p ≡ ended kernels ending
+  pub is_run : program_run (mode_of shown) fuel p ≡ ended kernels ending
   pub is_status : IfOk result (λ s. s ≡ ending_status ending)
   pub writes : Writes result tells before after (shown_text shown kernels ++ ending_line ending)
 
 abbrev pub shown_meaning : Shown → Meaning → Meaning
-shown_meaning Lines m = m
+shown_meaning (Lines mode) m = m
 shown_meaning Totals m = as_sample m
 
 -- how the erased program's main ends was written, and the status says the same
@@ -96,7 +103,7 @@ pub record IsWrittenErased (fuel : ℕ) (p : PureProgram) (result : Result Statu
 
 -- the work that an evaluation of a source is, and what of its meaning is written
 abbrev pub evaluated : Evaluation → List ℕ → ℕ → Work
-evaluated (Run shown) bytes fuel = running bytes fuel Plain
+evaluated (Run shown) bytes fuel = running bytes fuel (mode_of shown)
 evaluated Erased bytes fuel = erasing bytes fuel
 
 abbrev pub written_meaning : Evaluation → Meaning → Meaning

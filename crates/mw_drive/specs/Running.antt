@@ -1,25 +1,32 @@
 -- What the top call says of words, source and sink.
-use Rattle.std.specs.Prelude.{◌≡◌, ℕ, List, ◌++◌, drop, Option, Some, None, IsNone, Bool, IsTrue, Result, Ok, Err}
+use Rattle.std.specs.Prelude.{◌≡◌, ℕ, List, ◌++◌, drop, Option, Some, None, IsNone, Bool, true, false, IsTrue, Result, Ok, Err}
 use Rattle.mw_outside.specs.declared.named.NamedFile.{NamedFile}
 use Rattle.mw_outside.specs.Count.{GrowsByFront}
 use Rattle.mw_outside.specs.Lookup.{file_of}
 use Rattle.mw_outside.specs.declared.errors.WriteFault.{WriteFault}
 use Rattle.mw_outside.specs.declared.errors.WriteFault.TheVariants as fault
-use Rattle.mw_meaning.specs.declared.mode.Mode.TheVariants.{Plain}
+use Rattle.mw_meaning.specs.declared.mode.Mode.{Mode}
+use Rattle.mw_meaning.specs.declared.mode.Mode.TheVariants.{Plain, Simple}
 use Rattle.mw_words.specs.Words.{PureCommand, run, erased, sample, Means}
 use Rattle.mw_console.specs.Reading.{most_read}
 use Rattle.mw_console.specs.declared.status.Status.{Status}
 use Rattle.mw_console.specs.declared.status.Status.TheVariants.{Answer, Trap, Usage, Refused, Bound, Read, Write, Cache, Memory, BadCache}
 use Rattle.mw_drive.specs.Works.{Work, running, erasing, sampling, Meaning, IsMeaning, status_of, IsOutput, Reports}
 
--- the file whose source a command evaluates, and its work on the file's bytes; a sample needs no source
+-- the file whose source a command evaluates; a sample needs none
 abbrev pub file_named : PureCommand → Option (List ℕ)
-file_named (run workers fuel file) = Some file
+file_named (run workers fuel simplify file) = Some file
 file_named (erased fuel file) = Some file
 file_named (sample number) = None
 
+-- how kernels' code is run, by whether it is to be simplified
+abbrev pub mode_when : Bool → Mode
+mode_when true = Simple
+mode_when false = Plain
+
+-- a command's work on the bytes of its file
 abbrev pub work_of : PureCommand → List ℕ → Work
-work_of (run workers fuel file) bytes = running bytes fuel Plain
+work_of (run workers fuel simplify file) bytes = running bytes fuel (mode_when simplify)
 work_of (erased fuel file) bytes = erasing bytes fuel
 work_of (sample number) bytes = sampling number
 

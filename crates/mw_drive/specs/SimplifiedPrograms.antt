@@ -1,18 +1,18 @@
--- A program ends with the same answer or trap where its kernels' code is simplified before it is run.
-use Rattle.std.specs.Prelude.{◌≡◌, ℕ, ◌≤◌}
+-- A program that ends with an answer or a trap ends so too, with the same kernels, where their code is simplified before it is run.
+use Rattle.std.specs.Prelude.{◌≡◌, ℕ, ◌≤◌, List}
 use Rattle.mw_term.specs.Typable.{Typable}
 use Rattle.mw_meaning.specs.declared.mode.Mode.TheVariants.{Plain, Simple}
-use Rattle.mw_console.specs.Texts.{answered, trapped, bounded}
+use Rattle.mw_console.specs.Texts.{Ending, answered, trapped, bounded}
 use Rattle.mw_drive.specs.NamedPrograms.{NamedProgram, unnamed}
-use Rattle.mw_drive.specs.ProgramMeaning.{ProgramRun, ended, stuck, program_run}
+use Rattle.mw_drive.specs.ProgramMeaning.{Kernel, ended, program_run}
 
--- the second is the first, unless that ends with a bound or is stuck
-abbrev pub EndsAlike : ProgramRun → ProgramRun → Type 0
-EndsAlike (ended kernels (answered v)) b = b ≡ ended kernels (answered v)
-EndsAlike (ended kernels (trapped t name)) b = b ≡ ended kernels (trapped t name)
-EndsAlike (ended kernels (bounded l name)) b = Unit {0}
-EndsAlike stuck b = Unit {0}
+-- an answer or a trap, and no bound
+abbrev pub IsUnbounded : Ending → Type 0
+IsUnbounded (answered v) = Unit {0}
+IsUnbounded (trapped t name) = Unit {0}
+IsUnbounded (bounded l name) = ⊥
 
 -- with at least as much fuel
 abbrev pub ProgramsEndAlike : Type 0
-ProgramsEndAlike = (p : NamedProgram) (n m : ℕ) → Typable (unnamed p) → n ≤ m → EndsAlike (program_run Plain n p) (program_run Simple m p)
+ProgramsEndAlike = (p : NamedProgram) (n m : ℕ) (kernels : List Kernel) (e : Ending) → Typable (unnamed p) → n ≤ m → program_run Plain n p ≡ ended kernels e → IsUnbounded e
+    → program_run Simple m p ≡ ended kernels e

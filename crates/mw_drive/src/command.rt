@@ -1,21 +1,23 @@
 // The top call.
 
-ghost use Rattle.std.specs.Prelude.{◌≡◌, ◌↔◌, ◌≤◌, ◌⊎◌, ◌++◌, ℕ, List, [], IsTrue, map};
+ghost use Rattle.std.specs.Prelude.{◌≡◌, ◌↔◌, ◌≤◌, ◌⊎◌, ◌++◌, ℕ, Bool, true, List, [], IsTrue, map};
 ghost use Rattle.std.specs.String.{string_bytes};
 ghost use Rattle.mw_outside.specs.Count.{Rose};
 ghost use Rattle.mw_term.specs.Terms.{PureGroundValue};
 ghost use Rattle.mw_words.specs.Words.{PureCommand, run, IsUsage};
 ghost use Rattle.mw_console.specs.declared.status.Status.TheVariants.{Answer, Usage, Read, Write};
-ghost use Rattle.mw_console.specs.Texts.{answered};
-ghost use Rattle.mw_meaning.specs.declared.mode.Mode.TheVariants.{Plain};
+ghost use Rattle.mw_console.specs.Texts.{Ending, answered, ending_status};
+ghost use Rattle.mw_meaning.specs.declared.mode.Mode.TheVariants.{Plain, Simple};
 ghost use Rattle.mw_drive.specs.Works.{Work, running, erasing, sampling, Meaning, ran, IsMeaning, IsOutput, HaveModules, status_of};
 ghost use Rattle.mw_drive.specs.ProgramMeaning.{Kernel};
 ghost use Rattle.mw_drive.specs.ProgramRuns.{Carries};
-ghost use Rattle.mw_drive.specs.Running.{Asks, AsksFor, AsksMissing, AsksSample, IsTellingOf, IsLacking, IsCarriedOut, IsStatusOf, IsFaithful, IsReadUp, IsMemory, SpeaksOfCache};
+ghost use Rattle.mw_drive.specs.SimplifiedPrograms.{IsUnbounded};
+ghost use Rattle.mw_drive.specs.Running.{Asks, AsksFor, AsksMissing, AsksSample, IsTellingOf, IsLacking, IsCarriedOut, IsStatusOf, IsFaithful, IsComplete, IsReadUp, IsMemory, SpeaksOfCache, mode_when};
 
 use crate::shown::Shown;
 use crate::source::{Evaluation, write_source};
 use mw_console::{SourceFault, Status, file_bytes};
+use mw_meaning::Mode;
 use mw_outside::{Gate, Keeper, Sink, Source, WriteFault};
 use mw_sample::sample;
 use mw_words::{Command, read_words};
@@ -28,7 +30,8 @@ use std::thread::Threads;
 const SAMPLE_FUEL: u64 = 1_000_000;
 
 /// Carries out the command that the words mean. `run FILE` reads the file from the source, checks it, evaluates its kernel items
-/// and writes what they came to, and then evaluates main and writes the last line. `erased FILE` evaluates main of the erased
+/// and writes what they came to, and then evaluates main and writes the last line; with `--simplify` the kernels' code is
+/// simplified before it is compiled. `erased FILE` evaluates main of the erased
 /// program and writes the last line alone. `sample N` runs as `run` does, with a source that is made
 /// from the number, and writes totals in place of the kernels. The keeper isn't touched.
 pub fn run<R: Threads + Sync, S: Source, K: Sink, C: Keeper, G: Gate>(
@@ -52,10 +55,15 @@ pub fn run<R: Threads + Sync, S: Source, K: Sink, C: Keeper, G: Gate>(
     ensures modules { (work : Work) → Asks (map string_bytes words.now) S.tells (S.told source.old) work
         → (meaning : Meaning) → IsMeaning work meaning → HaveModules meaning }
     // An answer of a run is any answer of the erased program, whatever the units of either.
-    ensures erasure { (workers fuel m : ℕ) (file bytes : List ℕ) (w : PureGroundValue)
-        → AsksFor (map string_bytes words.now) S.tells (S.told source.old) (run workers fuel file) bytes
+    ensures erasure { (workers fuel m : ℕ) (simplify : Bool) (file bytes : List ℕ) (w : PureGroundValue)
+        → AsksFor (map string_bytes words.now) S.tells (S.told source.old) (run workers fuel simplify file) bytes
         → IsMeaning (erasing bytes m) (ran Plain [] (answered w)) → result ≡ Answer
-        → (kernels : List Kernel) × IsMeaning (running bytes fuel Plain) (ran Plain kernels (answered w)) }
+        → (kernels : List Kernel) × IsMeaning (running bytes fuel (mode_when simplify)) (ran (mode_when simplify) kernels (answered w)) }
+    // Where the run with the kernels' code as it was built ends with an answer or a trap, the run with simplified code ends so too.
+    ensures simplified { (workers fuel : ℕ) (file bytes : List ℕ) (kernels : List Kernel) (e : Ending)
+        → AsksFor (map string_bytes words.now) S.tells (S.told source.old) (run workers fuel true file) bytes
+        → IsMeaning (running bytes fuel Plain) (ran Plain kernels e) → IsUnbounded e
+        → IsMeaning (running bytes fuel Simple) (ran Simple kernels e) × (IsComplete result → result ≡ ending_status e) }
     // Whatever failed, the status says what was written.
     ensures faults { (work : Work) → Asks (map string_bytes words.now) S.tells (S.told source.old) work → IsTrue K.tells
         → IsFaithful work result (K.written sink.old) (K.written sink.new) }
@@ -77,8 +85,15 @@ pub fn run<R: Threads + Sync, S: Source, K: Sink, C: Keeper, G: Gate>(
     ensures sink_count { K.faults sink.old ≤ K.faults sink.new }
 {
     match read_words(words) {
-        Ok(Command::Run { fuel, file, .. }) => {
-            let evaluation = Evaluation::Run(Shown::Lines);
+        Ok(
+            Command::Run {
+                fuel,
+                simplify,
+                file,
+                ..
+            },
+        ) => {
+            let evaluation = Evaluation::Run(Shown::Lines(mode_when(simplify)));
             evaluate_file(alloc, source, sink, file, fuel, evaluation)
         }
         Ok(Command::Erased { fuel, file }) => {
@@ -86,6 +101,17 @@ pub fn run<R: Threads + Sync, S: Source, K: Sink, C: Keeper, G: Gate>(
         }
         Ok(Command::Sample { number }) => run_sample(alloc, sink, number),
         Err(_) => Status::Usage,
+    }
+}
+
+/// How kernels' code is run, by whether it is to be simplified.
+fn mode_when(simplify: bool) -> Mode
+    ensures { result ≡ mode_when simplify }
+{
+    if simplify {
+        Mode::Simple
+    } else {
+        Mode::Plain
     }
 }
 

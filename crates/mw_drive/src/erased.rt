@@ -10,7 +10,7 @@ use crate::ending::write_end;
 use crate::main_end::main_end;
 use mw_console::Status;
 use mw_emitting::EmittingKernels;
-use mw_meaning::erase_program;
+use mw_meaning::{Mode, erase_program};
 use mw_outside::{Sink, WriteFault};
 use mw_term::Program;
 use std::alloc::Global;
@@ -35,7 +35,7 @@ pub fn write_erased<K: Sink, L: Ledger>(
     ensures count { K.faults sink.old ≤ K.faults sink.new }
 {
     let erased = erase_program(alloc, program)?;
-    let mut kernels = EmittingKernels::<L>::new(alloc, blank);
+    let mut kernels = EmittingKernels::<L>::new(alloc, blank, Mode::Plain);
     let end = main_end(alloc, erased, Vec::new(alloc), fuel, &mut kernels)?;
     write_end(alloc, sink, &end)
 }

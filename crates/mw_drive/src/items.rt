@@ -7,7 +7,6 @@ ghost use Rattle.mw_term.specs.Terms.{expression_of};
 ghost use Rattle.mw_term.specs.Programs.{program_of};
 ghost use Rattle.mw_term.specs.SmallTypes.{HasSmallTypes};
 ghost use Rattle.mw_term.specs.Typable.{Typable};
-ghost use Rattle.mw_meaning.specs.declared.mode.Mode.TheVariants.{Plain};
 ghost use Rattle.mw_meaning.specs.Outcomes.{item_outcome, names_of_items};
 ghost use Rattle.mw_infer.specs.Checking.{HasSmallKernels};
 ghost use Rattle.mw_tasks.specs.TaskOutcomes.{IsKernelOf, IsItemOutcome};
@@ -57,9 +56,10 @@ pub fn evaluate_items<'p, L: Ledger>(
     requires typable { Typable (program_of program.now) }
     requires small { HasSmallTypes (program_of program.now) }
     requires kernels { HasSmallKernels (program_of program.now) }
-    ensures run { IfOk result (λ items. IsItemsRun fuel (named_program_of program.now) (kernels_of items.built.items) (option_map ending_of items.end)) }
-    ensures built { IfOk result (λ items. AllByRecursion IsBuilt items.built.items) }
+    ensures run { IfOk result (λ items. IsItemsRun kernels.old.mode fuel (named_program_of program.now) (kernels_of items.built.items) (option_map ending_of items.end)) }
+    ensures built { IfOk result (λ items. AllByRecursion (IsBuilt kernels.old.mode) items.built.items) }
     ensures few { IfOk result (λ items. length items.built.items ≤ length program.now.items) }
+    ensures mode { kernels.new.mode ≡ kernels.old.mode }
 {
     let mut built = Vec::new(alloc);
     for at in 0..program.items.len() {
@@ -89,7 +89,8 @@ fn item_end<'p, L: Ledger>(
     requires small { HasSmallTypes (program_of program.now) }
     requires kernels { HasSmallKernels (program_of program.now) }
     requires item { (i : ℕ) × (slice_get program.now.items i ≡ Some item.now) }
-    ensures { IfOk result (λ end. IsEndOf (program_of program.now).items fuel (item_of item.now) end) }
+    ensures end { IfOk result (λ end. IsEndOf kernels.old.mode (program_of program.now).items fuel (item_of item.now) end) }
+    ensures mode { kernels.new.mode ≡ kernels.old.mode }
 {
     match &item.kind {
         ItemKind::Value(_) => Ok(ItemEnd::Let),
@@ -123,7 +124,8 @@ fn kernel_outcome<L: Ledger>(
     requires typable { Typable (program_of program.now) }
     requires small { HasSmallTypes (program_of program.now) }
     requires item { IsKernelOf (program_of program.now) (expression_of term.now) }
-    ensures { IfOk result (λ o. IsItemOutcome (Ok o) (item_outcome Plain (names_of_items (program_of program.now).items) fuel (expression_of term.now))) }
+    ensures outcome { IfOk result (λ o. IsItemOutcome (Ok o) (item_outcome kernels.old.mode (names_of_items (program_of program.now).items) fuel (expression_of term.now))) }
+    ensures mode { kernels.new.mode ≡ kernels.old.mode }
 {
     kernels.forget();
     match evaluate_item(alloc, program, term, fuel, kernels) {

@@ -7,7 +7,7 @@ ghost use Rattle.mw_term.specs.SmallTypes.{HasSmallTypes};
 ghost use Rattle.mw_term.specs.Typable.{Typable};
 ghost use Rattle.mw_infer.specs.Checking.{HasSmallKernels};
 ghost use Rattle.mw_drive.specs.NamedPrograms.{named_program_of};
-ghost use Rattle.mw_drive.specs.ProgramRuns.{kernels_of, codes_of, IsWrittenRun};
+ghost use Rattle.mw_drive.specs.ProgramRuns.{kernels_of, codes_of, mode_of, IsWrittenRun};
 ghost use Rattle.mw_drive.specs.WrittenItems.{AreWrittenItems};
 ghost use Rattle.mw_drive.specs.Written.{Blames};
 
@@ -43,7 +43,7 @@ pub fn write_run<K: Sink, L: Ledger>(
     ensures blames { Blames result (K.faults sink.old) (K.faults sink.new) }
     ensures count { K.faults sink.old ≤ K.faults sink.new }
 {
-    let mut kernels = EmittingKernels::<L>::new(alloc, blank);
+    let mut kernels = EmittingKernels::<L>::new(alloc, blank, shown.mode());
     match write_items(alloc, &program, fuel, shown, sink, &mut kernels)? {
         AfterItems::Ended(status) => Ok(status),
         AfterItems::Main(codes) => {
@@ -73,9 +73,11 @@ fn write_items<K: Sink, L: Ledger>(
     requires small { HasSmallTypes (program_of program.now) }
     requires kernels { HasSmallKernels (program_of program.now) }
     requires few { length program.now.items < 2 ^ 32 }
+    requires mode { kernels.old.mode ≡ mode_of shown }
     ensures items { AreWrittenItems shown fuel (named_program_of program.now) result K.tells (K.written sink.old) (K.written sink.new) }
     ensures blames { Blames result (K.faults sink.old) (K.faults sink.new) }
     ensures count { K.faults sink.old ≤ K.faults sink.new }
+    ensures mode { kernels.new.mode ≡ kernels.old.mode }
 {
     let ItemsEnd { built, end } = evaluate_items(alloc, program, fuel, kernels)?;
     write_kernels(alloc, sink, shown, built.as_slice())?;

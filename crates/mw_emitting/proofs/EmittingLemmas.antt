@@ -6,9 +6,10 @@ use Rattle.mw_term.specs.Limits.{LiteralsFit}
 use Rattle.mw_term.specs.Types.{kernel_type}
 use Rattle.mw_term.specs.Typing.{Valued}
 use Rattle.mw_term.specs.Unlabelled.{unlabelled_value}
-use Rattle.mw_meaning.specs.declared.mode.Mode.TheVariants.{Plain}
+use Rattle.mw_meaning.specs.declared.mode.Mode.{Mode}
 use Rattle.mw_meaning.specs.Arithmetic.{trap, bound, stuck}
 use Rattle.mw_meaning.specs.KernelMeaning.{Ended, gives, stops, kernel_meaning}
+use Rattle.mw_meaning.specs.Simplification.{in_mode}
 use Rattle.mw_meaning.specs.StagedMeaning.{gives as answers, Runs, run_of, run_ended, call_of, call_ended, ground_result, kernel_argument, argument_words}
 use Rattle.mw_machine.specs.declared.kernels.Ran.{Ran}
 use Rattle.mw_machine.specs.declared.kernels.Ran.TheVariants as ran
@@ -90,9 +91,11 @@ began_meant which (began.Bound l) (to s g) (stops (trap t)) runs short h = absur
 began_meant which (began.Bound l) (of_ground g) (stops stuck) runs short h = absurd h
 began_meant which (began.Bound l) (to s g) (stops stuck) runs short h = absurd h
 
-pub run_meant : (which : ℕ) (b : Began) (c : Expression) (k : KernelType) (units : ℕ) → IsCode c → LiteralsFit c → IsBeganFrom k b (kernel_meaning units 0 c) → IsMeantBy (ran_of which b) (run_of Plain k c units [])
-run_meant which b c k units code fit h =
-    began_meant which b k (kernel_meaning units 0 c) ((c, k) ∷ []) (λ v left words e. short_integers v (code_gives_short c units 0 v left words code fit e)) h
+pub run_meant : (mode : Mode) (which : ℕ) (b : Began) (c : Expression) (k : KernelType) (units : ℕ) → IsCode (in_mode mode c) → LiteralsFit (in_mode mode c) → IsBeganFrom k b (kernel_meaning units 0 (in_mode mode c))
+    → IsMeantBy (ran_of which b) (run_of mode k c units [])
+run_meant mode which b c k units code fit h =
+    let d = in_mode mode c in
+    began_meant which b k (kernel_meaning units 0 d) ((c, k) ∷ []) (λ v left words e. short_integers v (code_gives_short d units 0 v left words code fit e)) h
 
 -- a call answers as it means
 ran_meant : (r : Ran) (a : Ended) (runs : Runs) → GivesShort a → IsRanFrom r a → IsMeantBy r (call_ended a runs)
@@ -118,7 +121,10 @@ function_of_run s t (gives (both u w) n h) k f words left runs after p = absurd 
 function_of_run s t (stops why) k f words left runs after p = absurd (cc)
 
 -- A call of a kept function.
-module _ (c : Expression) (k : KernelType) (r : RunningState) (is : IsFunctionOf c k r) (v : PureGroundValue) (units : ℕ) where
+module _ (mode : Mode) (c : Expression) (k : KernelType) (r : RunningState) (is : IsFunctionOf (in_mode mode c) k r) (v : PureGroundValue) (units : ℕ) where
+  abbrev d : Expression
+  d = in_mode mode c
+
   abbrev a : Ended
   a = call_of is.function is.words (kernel_argument (ground_value v)) (argument_words (ground_value v)) units
 
@@ -126,17 +132,17 @@ module _ (c : Expression) (k : KernelType) (r : RunningState) (is : IsFunctionOf
   gives_short fits = λ w left words e.
       short_integers w
       (call_gives_short is.function (kernel_value v) w is.words (argument_words (ground_value v)) units left words
-      (code_gives_short c is.units 0 is.function is.left is.words is.code is.literals is.is)
+      (code_gives_short d is.units 0 is.function is.left is.words is.code is.literals is.is)
       (argument_is_short v fits (kernel_value v) (argument_back v))
       (ap (λ o. call_of is.function is.words o (argument_words (ground_value v)) units) (sym (argument_back v)) ∙ e))
 
   -- it is the function that a run with any units gave
-  same_function : (f : KernelValue) (words given left : ℕ) (after : Runs) → run_of Plain k c given [] ≡ answers (kept k f words) left after → (is.function ≡ f) × (is.words ≡ words)
+  same_function : (f : KernelValue) (words given left : ℕ) (after : Runs) → run_of mode k c given [] ≡ answers (kept k f words) left after → (is.function ≡ f) × (is.words ≡ words)
   same_function f words given left after p =
-      one_value c is.units given is.function f is.left left is.words words is.is
-      (function_of_run r.argument r.result (kernel_meaning given 0 c) k f words left ((c, k) ∷ []) after (subst (λ j. run_ended j (kernel_meaning given 0 c) ((c, k) ∷ []) ≡ answers (kept k f words) left after) is.type p))
+      one_value d is.units given is.function f is.left left is.words words is.is
+      (function_of_run r.argument r.result (kernel_meaning given 0 d) k f words left ((c, k) ∷ []) after (subst (λ j. run_ended j (kernel_meaning given 0 d) ((c, k) ∷ []) ≡ answers (kept k f words) left after) is.type p))
 
-  pub call_meant : (answer : Ran) → FitsWords v → IsCallMeant (Ok answer) a → AnswersCall Plain (Ok answer) c k v units
+  pub call_meant : (answer : Ran) → FitsWords v → IsCallMeant (Ok answer) a → AnswersCall mode (Ok answer) c k v units
   call_meant answer fits h f words given left after p =
       let same = same_function f words given left after p in
       subst (λ f. IsMeantBy answer (call_ended (call_of f words (kernel_argument (ground_value v)) (argument_words (ground_value v)) units) [])) same.0

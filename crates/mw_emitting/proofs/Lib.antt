@@ -3,3 +3,4 @@ pub mod KeptLemmas
 pub mod OtherUnits
 pub mod SampleLemmas
 pub mod ShortIntegers
+pub mod SimplifiedLemmas

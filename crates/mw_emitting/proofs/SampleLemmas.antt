@@ -1,10 +1,11 @@
 -- The codes that tests run have their types.
 use Rattle.std.proofs.Common.{◌≡◌, ℕ, Bool, false, ◌||◌, [], ◌∷◌, ◌++◌, length, slice_get, Some, Result, Ok, Err, refl, arith}
 use Rattle.std.specs.Prelude.{ℤ, pos, true}
-use Rattle.mw_term.specs.Terms.{Expression, GroundType, KernelType, int, of_ground, to, base, product, num, truth, var, fun, app, bind, pair, prim}
+use Rattle.mw_term.specs.Terms.{Expression, GroundType, KernelType, int, of_ground, to, base, product, num, truth, var, fun, app, bind, cond, pair, prim}
 use Rattle.mw_term.specs.declared.term.Base.TheVariants.{Int, Bool as Truth}
-use Rattle.mw_term.specs.declared.term.Primitive.TheVariants.{Add, Div}
-use Rattle.mw_term.specs.Typing.{t_num, t_truth, t_var, t_fun, t_app, t_bind, t_pair, t_prim}
+use Rattle.mw_term.specs.declared.term.Primitive.TheVariants.{Add, Mul, Div, Eq}
+use Rattle.mw_term.specs.Types.{int_type}
+use Rattle.mw_term.specs.Typing.{t_num, t_truth, t_var, t_fun, t_app, t_bind, t_cond, t_pair, t_prim}
 use Rattle.mw_meaning.specs.OutcomeLaws.{HasGroundType}
 use Rattle.mw_meaning.specs.StagedMeaning.{Runs}
 use Rattle.mw_machine.specs.declared.kernels.KernelFault.{KernelFault}
@@ -43,6 +44,29 @@ dividing = record {
 pub twin : IsSample (fun (pair (var 0) (var 0))) (to (base Int) (product (base Int) (base Int)))
 twin = record {
   runnable = record { typed = record { is_code = (tt, tt); closed = (omega arith, omega arith); typed = t_fun tt (t_pair (t_var refl) (t_var refl)) }; limits = refl; nodes = omega arith };
+  takes = tt;
+}
+
+pub sum : IsSample (prim Add (num (pos 2)) (num (pos 3))) (of_ground (base Int))
+sum = record { runnable = record { typed = record { is_code = (tt, tt); closed = (tt, tt); typed = t_prim refl t_num t_num }; limits = refl; nodes = omega arith }; takes = tt }
+
+pub five_times : IsSample (fun (bind (prim Add (num (pos 2)) (num (pos 3))) (cond (prim Eq (var 0) (num (pos 5))) (prim Mul (var 1) (var 0)) (prim Div (num (pos 1)) (num (pos 0)))))) (to (base Int) (base Int))
+five_times = record {
+  runnable = record {
+    typed = record {
+      is_code = ((tt, tt), ((tt, tt), (tt, tt), (tt, tt)));
+      closed = ((tt, tt), ((omega arith, tt), (omega arith, omega arith), (tt, tt)));
+      typed = t_fun tt (t_bind (t_prim refl t_num t_num) (t_cond (t_prim refl (t_var refl) t_num) (t_prim refl (t_var refl) (t_var refl)) (t_prim refl t_num t_num)));
+    };
+    limits = refl;
+    nodes = omega arith;
+  };
+  takes = tt;
+}
+
+pub unused : IsSample (bind (fun (var 0)) (fun (var 0))) (to (base Int) (base Int))
+unused = record {
+  runnable = record { typed = record { is_code = (tt, tt); closed = (omega arith, omega arith); typed = t_bind (t_fun {s = int_type} tt (t_var refl)) (t_fun tt (t_var refl)) }; limits = refl; nodes = omega arith };
   takes = tt;
 }
 

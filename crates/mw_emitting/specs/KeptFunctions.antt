@@ -3,7 +3,9 @@ use Rattle.std.specs.Prelude.{ℕ, ◌≡◌}
 use Rattle.mw_term.specs.Terms.{Expression, KernelType, KernelValue, to, expression_of, kernel_type_of}
 use Rattle.mw_term.specs.Closed.{IsCode}
 use Rattle.mw_term.specs.Limits.{LiteralsFit}
+use Rattle.mw_meaning.specs.declared.mode.Mode.{Mode}
 use Rattle.mw_meaning.specs.KernelMeaning.{gives, kernel_meaning}
+use Rattle.mw_meaning.specs.Simplification.{in_mode}
 use Rattle.mw_kernel.specs.RunningStates.{RunningState}
 use Rattle.mw_kernel.specs.KernelMeanings.{Keeps}
 use Rattle.mw_emitting.specs.declared.function.Function.{Function}
@@ -20,5 +22,6 @@ pub record IsFunctionOf (c : Expression) (k : KernelType) (r : RunningState) : T
   pub is : kernel_meaning units 0 c ≡ gives function left words
   pub keeps : Keeps r function words
 
-abbrev pub IsKept : Function → Type 0
-IsKept f = IsFunctionOf (expression_of f.source.code) (kernel_type_of f.source.kind) f.running
+-- of its code in the mode, which is what was run
+abbrev pub IsKept : Mode → Function → Type 0
+IsKept mode f = IsFunctionOf (in_mode mode (expression_of f.source.code)) (kernel_type_of f.source.kind) f.running

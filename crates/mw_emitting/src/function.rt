@@ -2,7 +2,7 @@
 
 ghost use Rattle.std.specs.Prelude.{◌≡◌, false, IfOk, Err};
 ghost use Rattle.mw_term.specs.Terms.{expression_of, kernel_type_of, base_value_of, ground_value_of};
-ghost use Rattle.mw_meaning.specs.declared.mode.Mode.TheVariants.{Plain};
+ghost use Rattle.mw_meaning.specs.declared.mode.Mode.{Mode};
 ghost use Rattle.mw_machine.specs.KernelCalls.{IsArgumentOf, IsCallAt, LeavesAtMost, AnswersCall, ends_all};
 ghost use Rattle.mw_kernel.specs.Invoking.{FitsWords};
 ghost use Rattle.mw_emitting.specs.Answers.{IsWant, IsOnlyWant};
@@ -13,14 +13,14 @@ use mw_machine::{KernelFault, Ran};
 use mw_term::{BaseValue, GroundValue, KType, Term, copied_kernel_type, copied_term};
 use std::alloc::{AllocError, Global};
 
-/// The code and the type of a run.
+/// The code of a run, as it was built, and its type.
 #[derive(Drop)]
 pub struct Source {
     pub code: Term,
     pub kind: KType,
 }
 
-/// A function that a run gave, with the run's code and type.
+/// A function that a run gave in some mode, with the run's code and type.
 #[derive(Drop)]
 pub struct Function {
     pub source: Source,
@@ -48,21 +48,21 @@ impl Function {
         })
     }
 
-    /// Calls the function. After a value it is kept as it was.
+    /// Calls the function, in the mode in which it is kept. After a value it is kept as it was.
     pub fn call(
         &mut self,
         alloc: Global,
         argument: &GroundValue,
         fuel: u64,
     ) -> Result<Ran, KernelFault>
-        requires kept { IsKept self.old }
+        requires kept { (mode : Mode) × IsKept mode self.old }
         requires argument { IsArgumentOf (kernel_type_of self.old.source.kind) (ground_value_of argument.now) }
         ensures types { IsCallAt result (kernel_type_of self.old.source.kind) }
         ensures left { LeavesAtMost result fuel }
-        ensures means { AnswersCall Plain result (expression_of self.old.source.code) (kernel_type_of self.old.source.kind) (ground_value_of argument.now) fuel }
+        ensures means { (mode : Mode) → IsKept mode self.old → AnswersCall mode result (expression_of self.old.source.code) (kernel_type_of self.old.source.kind) (ground_value_of argument.now) fuel }
         ensures want { IsOnlyWant result }
         ensures source { self.new.source ≡ self.old.source }
-        ensures keeps { ends_all result ≡ false → IsKept self.new }
+        ensures keeps { ends_all result ≡ false → (mode : Mode) → IsKept mode self.old → IsKept mode self.new }
     {
         has_words(argument);
         match self.running.call(alloc, argument, fuel) {

@@ -4,26 +4,30 @@ ghost use Rattle.std.specs.Prelude.{◌≡◌, ◌≤◌, ◌<◌, ◌+◌, [], 
 ghost use Rattle.mw_term.specs.Terms.{expression_of, kernel_type_of};
 ghost use Rattle.mw_term.specs.Closed.{IsClosed, IsCode};
 ghost use Rattle.mw_term.specs.Limits.{within_limits, kernel_nodes};
-ghost use Rattle.mw_meaning.specs.declared.mode.Mode.TheVariants.{Plain};
+ghost use Rattle.mw_meaning.specs.Simplification.{in_mode};
 ghost use Rattle.mw_machine.specs.KernelCalls.{IsRunnable, IsRunAt, LeavesAtMost, AnswersRun, kept_after, ends_all};
 ghost use Rattle.mw_compile.specs.Entries.{IsEntryOf};
 ghost use Rattle.mw_emitting.specs.Answers.{IsOnlyWant};
 ghost use Rattle.mw_emitting.specs.EmittingStates.{functions_of};
 
+use crate::emission::emit_in;
 use crate::function::{Function, want};
 use mw_compile::{Entry, Steps};
 use mw_kernel::{Began, Running};
 use mw_machine::{KernelFault, Kernels, Ran};
+use mw_meaning::Mode;
 use mw_term::{GroundValue, KType, Term};
 use std::alloc::{AllocError, Global};
 use std::marker::Model;
 use std::sync::ledger::{Blank, Ledger};
 
-/// Kernels that emit each code that is run, and keep a running instance for each function that a run gave. Contracts see the
-/// code and the type of each kept function, whether the kernels are stopped, and how many emissions there were.
+/// Kernels that emit each code that is run, as it was built or simplified, and keep a running instance for each function that a
+/// run gave. Contracts see how code is run, the code as it was built and the type of each kept function, whether the kernels are
+/// stopped, and how many emissions there were.
 #[derive(Drop)]
 pub struct EmittingKernels<L: Ledger> {
     alloc: Global,
+    mode: Mode,
     functions: Vec<Function>,
     stopped: bool,
     steps: Steps<L>,
@@ -42,37 +46,41 @@ impl<L: Ledger> Model for EmittingKernels<L> {
 
     ghost coded = { Prim.hlevel (codes, term.the_row.coded, kind.the_row.coded, ground.the_row.coded) };
 
-    ghost view = { λ s. record { functions = map (λ f. f.source) s.functions.items; stopped = s.stopped; emissions = s.steps } };
+    ghost view = { λ s. record { mode = s.mode; functions = map (λ f. f.source) s.functions.items; stopped = s.stopped; emissions = s.steps } };
 
-    ghost invariant = { λ s. s.stopped ≡ false → All IsKept s.functions.items };
+    ghost invariant = { λ s. s.stopped ≡ false → All (IsKept s.mode) s.functions.items };
 }
 
 impl<L: Ledger> EmittingKernels<L> {
-    /// Kernels that keep no function, before any emission.
-    pub fn new(alloc: Global, blank: Blank) -> EmittingKernels<L>
+    /// Kernels that run code in the mode and keep no function, before any emission.
+    pub fn new(alloc: Global, blank: Blank, mode: Mode) -> EmittingKernels<L>
         requires name { blank.name ≡ L.name }
         requires parts { blank.parts ≡ L.parts }
         requires some { 0 < L.parts }
-        ensures { result ≡ record { functions = []; stopped = false; emissions = 0 } }
+        ensures { result ≡ record { mode = mode; functions = []; stopped = false; emissions = 0 } }
     {
         EmittingKernels {
             alloc,
+            mode,
             functions: Vec::new(alloc),
             stopped: false,
             steps: Steps::open(blank),
         }
     }
 
-    /// The entry of code at a type, which is one emission more.
+    /// The entry at a type of the code in the mode, which is one emission more. Without memory it may be none.
     pub fn emit(&mut self, code: &Term, kind: &KType) -> Result<Entry, AllocError>
         requires code { IsCode (expression_of code.now) }
         requires closed { IsClosed (expression_of code.now) }
         requires limits { within_limits (expression_of code.now) ≡ true }
         requires nodes { kernel_nodes (kernel_type_of kind.now) ≤ 10000 }
-        ensures entry { IfOk result (λ entry. IsEntryOf entry (expression_of code.now) (kernel_type_of kind.now)) }
-        ensures step { self.new ≡ record self.old { emissions = self.old.emissions + 1 } }
+        ensures entry { IfOk result (λ entry. IsEntryOf entry (in_mode self.old.mode (expression_of code.now)) (kernel_type_of kind.now)) }
+        ensures same { self.new ≡ record self.old { emissions = self.new.emissions } }
+        ensures step { IfOk result (λ _. self.new.emissions ≡ self.old.emissions + 1) }
+        ensures at_most { self.new.emissions ≤ self.old.emissions + 1 }
+        ensures rises { self.old.emissions ≤ self.new.emissions }
     {
-        mw_compile::emit(self.alloc, code, kind, &mut self.steps)
+        emit_in(self.alloc, self.mode, code, kind, &mut self.steps)
     }
 
     /// Drops the kept functions.
@@ -88,13 +96,15 @@ impl<L: Ledger> EmittingKernels<L> {
         requires { IsRunnable (expression_of code.now) (kernel_type_of kind.now) }
         ensures types { IsRunAt result (kernel_type_of kind.now) (length self.old.functions) }
         ensures left { LeavesAtMost result fuel }
-        ensures means { AnswersRun Plain result (expression_of code.now) (kernel_type_of kind.now) fuel }
+        ensures means { AnswersRun self.old.mode result (expression_of code.now) (kernel_type_of kind.now) fuel }
         ensures functions { functions_of self.new ≡ kept_after result (expression_of code.now) (kernel_type_of kind.now) (functions_of self.old) }
         ensures stopped { self.new.stopped ≡ self.old.stopped }
-        ensures emissions { self.new.emissions ≡ self.old.emissions + 1 }
+        ensures mode { self.new.mode ≡ self.old.mode }
+        ensures emissions { self.new.emissions ≤ self.old.emissions + 1 }
+        ensures rises { self.old.emissions ≤ self.new.emissions }
         ensures want { IsOnlyWant result }
     {
-        let entry = mw_compile::emit(self.alloc, code, kind, &mut self.steps)?;
+        let entry = emit_in(self.alloc, self.mode, code, kind, &mut self.steps)?;
         match Running::start(self.alloc, entry.module(), kind, fuel) {
             Ok(Began::Value(value, left)) => Ok(Ran::Value(value, left)),
             Ok(Began::Function(running, left)) => {
@@ -118,11 +128,11 @@ fn is_last(answer: &Result<Ran, KernelFault>) -> bool
 }
 
 impl<L: Ledger> Kernels for EmittingKernels<L> {
-    ghost use Rattle.std.specs.Prelude.{[], refl};
-    ghost use Rattle.mw_meaning.specs.declared.mode.Mode.TheVariants.{Plain};
+    ghost use Rattle.std.specs.Prelude.{◌≡◌, [], refl};
+    ghost use Rattle.std.proofs.Common.{◌∙◌};
     ghost use Rattle.mw_emitting.specs.EmittingStates.{functions_of};
 
-    ghost mode = { λ _. Plain };
+    ghost mode = { λ kernels. kernels.mode };
 
     ghost kept = { functions_of };
 
@@ -138,7 +148,7 @@ impl<L: Ledger> Kernels for EmittingKernels<L> {
 
     ghost cost = { λ kernels. kernels.emissions };
 
-    ghost keeps = { λ _ _. Unit {0} };
+    ghost keeps = { λ before after. after.mode ≡ before.mode };
 
     fn run(&mut self, code: &Term, kind: &KType, fuel: u64) -> Result<Ran, KernelFault> {
         let answer = self.answer(code, kind, fuel);
@@ -157,11 +167,11 @@ impl<L: Ledger> Kernels for EmittingKernels<L> {
         answer
     }
 
-    ghost keeps_itself = { λ _. tt };
+    ghost keeps_itself = { λ _. refl };
 
-    ghost keeps_through = { λ _ _ _ _ _. tt };
+    ghost keeps_through = { λ _ _ _ first second. second ∙ first };
 
-    ghost keeps_mode = { λ _ _ _. refl };
+    ghost keeps_mode = { λ _ _ same. same };
 
     ghost keeps_sound = { λ _ _ _ _ _. (λ h. h, λ h. h) };
 

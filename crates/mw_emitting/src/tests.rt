@@ -1,12 +1,13 @@
 // Runs and calls through the trait, by a table.
 
 ghost use Rattle.std.specs.Prelude.{◌≡◌, ◌<◌, true, false, IfOk, IfSome};
-ghost use Rattle.mw_term.specs.Terms.{base as base_of, product, fun as function, pair as pair_of, prim as primitive, expression_of, kernel_type_of, ground_of};
+ghost use Rattle.mw_term.specs.Terms.{base as base_of, product, fun as function, bind, cond, pair as pair_of, prim as primitive, expression_of, kernel_type_of, ground_of};
 ghost use Rattle.mw_machine.specs.KernelCalls.{ends_all};
 ghost use Rattle.mw_emitting.specs.TestRuns.{IsSample, GivesFunction};
 
 use crate::EmittingKernels;
 use mw_machine::{KernelFault, Kernels, Ran};
+use mw_meaning::Mode;
 use mw_term::{Base, BaseValue, Ground, GroundValue, KType, Prim, Term};
 use std::alloc::{AllocError, Global};
 use std::marker::Brand;
@@ -30,6 +31,12 @@ enum Sample {
     Dividing,
     /// fun x -> (x, x)
     Twin,
+    /// 2 + 3
+    Sum,
+    /// fun x -> let a = 2 + 3 in if a = 5 then x * a else 1 / 0
+    FiveTimes,
+    /// let d = fun x -> x in fun y -> y
+    Unused,
 }
 
 const INT: Ground = Ground::Base(Base::Int);
@@ -57,6 +64,23 @@ fn fun(alloc: Global, body: Term) -> Result<Term, AllocError>
     Ok(Term::Fun(Box::new(alloc, body)?))
 }
 
+/// A let.
+fn binding(alloc: Global, definition: Term, body: Term) -> Result<Term, AllocError>
+    ensures { IfOk result (λ term. expression_of term ≡ bind (expression_of definition) (expression_of body)) }
+{
+    let definition = Box::new(alloc, definition)?;
+    Ok(Term::Let(definition, Box::new(alloc, body)?))
+}
+
+/// An if.
+fn choice(alloc: Global, c: Term, a: Term, b: Term) -> Result<Term, AllocError>
+    ensures { IfOk result (λ term. expression_of term ≡ cond (expression_of c) (expression_of a) (expression_of b)) }
+{
+    let c = Box::new(alloc, c)?;
+    let a = Box::new(alloc, a)?;
+    Ok(Term::If(c, a, Box::new(alloc, b)?))
+}
+
 /// A pair type.
 fn pair_type(alloc: Global, a: Base, b: Base) -> Result<Ground, AllocError>
     ensures { IfOk result (λ pairs. ground_of pairs ≡ product (base_of a) (base_of b)) }
@@ -66,7 +90,7 @@ fn pair_type(alloc: Global, a: Base, b: Base) -> Result<Ground, AllocError>
 }
 
 /// The code, and its type.
-#[tactic(auto, using(crate::proofs::SampleLemmas::seven, crate::proofs::SampleLemmas::two, crate::proofs::SampleLemmas::applied, crate::proofs::SampleLemmas::divided, crate::proofs::SampleLemmas::adding, crate::proofs::SampleLemmas::dividing, crate::proofs::SampleLemmas::twin))]
+#[tactic(auto, using(crate::proofs::SampleLemmas::seven, crate::proofs::SampleLemmas::two, crate::proofs::SampleLemmas::applied, crate::proofs::SampleLemmas::divided, crate::proofs::SampleLemmas::adding, crate::proofs::SampleLemmas::dividing, crate::proofs::SampleLemmas::twin, crate::proofs::SampleLemmas::sum, crate::proofs::SampleLemmas::five_times, crate::proofs::SampleLemmas::unused))]
 fn built(alloc: Global, sample: Sample) -> Result<(Term, KType), AllocError>
     ensures { IfOk result (λ built. IsSample (expression_of built.0) (kernel_type_of built.1)) }
 {
@@ -101,6 +125,24 @@ fn built(alloc: Global, sample: Sample) -> Result<(Term, KType), AllocError>
             let body = pair(alloc, Term::Var(0), Term::Var(0))?;
             let pairs = pair_type(alloc, Base::Int, Base::Int)?;
             Ok((fun(alloc, body)?, KType::Fun(INT, pairs)))
+        }
+        Sample::Sum => {
+            let code = prim(alloc, Prim::Add, Term::Int(2), Term::Int(3))?;
+            Ok((code, KType::Ground(INT)))
+        }
+        Sample::FiveTimes => {
+            let five = prim(alloc, Prim::Add, Term::Int(2), Term::Int(3))?;
+            let is_five = prim(alloc, Prim::Eq, Term::Var(0), Term::Int(5))?;
+            let times = prim(alloc, Prim::Mul, Term::Var(1), Term::Var(0))?;
+            let divided = prim(alloc, Prim::Div, Term::Int(1), Term::Int(0))?;
+            let chosen = choice(alloc, is_five, times, divided)?;
+            let body = binding(alloc, five, chosen)?;
+            Ok((fun(alloc, body)?, KType::Fun(INT, INT)))
+        }
+        Sample::Unused => {
+            let unused = fun(alloc, Term::Var(0))?;
+            let function = fun(alloc, Term::Var(0))?;
+            Ok((binding(alloc, unused, function)?, KType::Fun(INT, INT)))
         }
     }
 }
@@ -151,14 +193,19 @@ fn told<K: Kernels>(
     Ok((text, on))
 }
 
-/// The kernels go on from row to row, and forget their functions only after a trap or a bound.
-fn check_rows<L: Ledger, R: Abort + AllocGlobal>(rt: &R, blank: Blank) -> Result<(), AllocError>
+/// In either mode the answers are the same. The kernels go on from row to row, and forget their functions only after a trap or a
+/// bound.
+fn check_rows<L: Ledger, R: Abort + AllocGlobal>(
+    rt: &R,
+    blank: Blank,
+    mode: Mode,
+) -> Result<(), AllocError>
     requires name { blank.name ≡ L.name }
     requires parts { blank.parts ≡ L.parts }
     requires some { 0 < L.parts }
 {
-    let mut kernels = EmittingKernels::<L>::new(rt.alloc(), blank);
-    let rows: [(Sample, u64, &[(i64, u64)], &str); 10] = [
+    let mut kernels = EmittingKernels::<L>::new(rt.alloc(), blank, mode);
+    let rows: [(Sample, u64, &[(i64, u64)], &str); 13] = [
         (Sample::Seven, 0, &[], "Ok(Value(Base(Int(7)), 0))"),
         (
             Sample::Pair,
@@ -200,11 +247,25 @@ fn check_rows<L: Ledger, R: Abort + AllocGlobal>(rt: &R, blank: Blank) -> Result
             &[(0, 3)],
             "Ok(Function(0, 4)) Ok(Value(Base(Int(40)), 2))",
         ),
+        // What is simplified to a literal, has its sum folded and its division dropped, or takes fewer words.
+        (Sample::Sum, 0, &[], "Ok(Value(Base(Int(5)), 0))"),
+        (
+            Sample::FiveTimes,
+            0,
+            &[(4, 1), (-3, 2)],
+            "Ok(Function(1, 0)) Ok(Value(Base(Int(20)), 0)) Ok(Value(Base(Int(-15)), 1))",
+        ),
+        (
+            Sample::Unused,
+            3,
+            &[(8, 1)],
+            "Ok(Function(2, 3)) Ok(Value(Base(Int(8)), 0))",
+        ),
     ];
     for (sample, fuel, calls, text) in rows {
         let built = built(rt.alloc(), sample)?;
         let (found, on) = told(rt.alloc(), &mut kernels, &built, fuel, calls)?;
-        assert_eq!(rt; found.as_str(), text, "{sample:?}");
+        assert_eq!(rt; found.as_str(), text, "{sample:?} {mode:?}");
         if !on {
             kernels.forget();
         }
@@ -214,5 +275,10 @@ fn check_rows<L: Ledger, R: Abort + AllocGlobal>(rt: &R, blank: Blank) -> Result
 
 #[test]
 fn runs_and_calls(rt: HostRuntime) -> Result<(), AllocError> {
-    check_rows::<Brand, HostRuntime>(&rt, Blank::new(1))
+    check_rows::<Brand, HostRuntime>(&rt, Blank::new(1), Mode::Plain)
+}
+
+#[test]
+fn simplified_runs_and_calls(rt: HostRuntime) -> Result<(), AllocError> {
+    check_rows::<Brand, HostRuntime>(&rt, Blank::new(1), Mode::Simple)
 }

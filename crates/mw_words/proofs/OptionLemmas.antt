@@ -43,6 +43,18 @@ pub no_fuel_file : {word v : List ℕ} {rest r : List (List ℕ)} → IsFileWord
 no_fuel_file h (apart e) = no_file _ _ h e
 no_fuel_file h (joined e) = no_file _ _ h e
 
+-- the option without a value is neither of the others, since the third bytes differ, and names no file
+pub no_workers_simplify : {word v : List ℕ} {rest r : List (List ℕ)} → word ≡ codes "--simplify" → IsOption (codes "--workers") (word ∷ rest) v r → ⊥
+no_workers_simplify e (apart f) = let same : ◌≡◌ {A = ℕ} 119 115 = ap (λ (t : List ℕ). get_or t 2 0) (sym f ∙ e) in absurd (omega arith)
+no_workers_simplify e (joined f) = let same : ◌≡◌ {A = ℕ} 119 115 = ap (λ (t : List ℕ). get_or t 2 0) (sym f ∙ e) in absurd (omega arith)
+
+pub no_fuel_simplify : {word v : List ℕ} {rest r : List (List ℕ)} → word ≡ codes "--simplify" → IsOption (codes "--fuel") (word ∷ rest) v r → ⊥
+no_fuel_simplify e (apart f) = let same : ◌≡◌ {A = ℕ} 102 115 = ap (λ (t : List ℕ). get_or t 2 0) (sym f ∙ e) in absurd (omega arith)
+no_fuel_simplify e (joined f) = let same : ◌≡◌ {A = ℕ} 102 115 = ap (λ (t : List ℕ). get_or t 2 0) (sym f ∙ e) in absurd (omega arith)
+
+pub no_simplify_file : {word : List ℕ} → IsFileWord word → word ≡ codes "--simplify" → ⊥
+no_simplify_file h e = no_file _ _ h e
+
 -- fewer words follow an option
 pub fewer_after : {name v : List ℕ} {words r : List (List ℕ)} → IsOption name words v r → length r < length words
 fewer_after (apart e) = omega arith

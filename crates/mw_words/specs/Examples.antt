@@ -1,22 +1,29 @@
 -- Worked examples of words, as theorems.
-use Rattle.std.specs.Prelude.{[], ◌∷◌, codes}
+use Rattle.std.specs.Prelude.{[], ◌∷◌, true, false, codes}
 use Rattle.mw_words.specs.Words.{run, erased, sample, Means, IsUsage}
 
 -- a file alone
 abbrev pub FileAlone : Type 0
-FileAlone = Means (codes "run" ∷ codes "f" ∷ []) (run 4 1000000 (codes "f"))
+FileAlone = Means (codes "run" ∷ codes "f" ∷ []) (run 4 1000000 false (codes "f"))
 
 -- an option's value as the next word
 abbrev pub FuelApart : Type 0
-FuelApart = Means (codes "run" ∷ codes "--fuel" ∷ codes "8" ∷ codes "f" ∷ []) (run 4 8 (codes "f"))
+FuelApart = Means (codes "run" ∷ codes "--fuel" ∷ codes "8" ∷ codes "f" ∷ []) (run 4 8 false (codes "f"))
 
 -- and after `=`
 abbrev pub FuelJoined : Type 0
-FuelJoined = Means (codes "run" ∷ codes "--fuel=8" ∷ codes "f" ∷ []) (run 4 8 (codes "f"))
+FuelJoined = Means (codes "run" ∷ codes "--fuel=8" ∷ codes "f" ∷ []) (run 4 8 false (codes "f"))
 
 -- an option before the file, and one behind it, whose number has leading zeros
 abbrev pub BothOptions : Type 0
-BothOptions = Means (codes "run" ∷ codes "--fuel=10000000" ∷ codes "f" ∷ codes "--workers" ∷ codes "000000064" ∷ []) (run 64 10000000 (codes "f"))
+BothOptions = Means (codes "run" ∷ codes "--fuel=10000000" ∷ codes "f" ∷ codes "--workers" ∷ codes "000000064" ∷ []) (run 64 10000000 false (codes "f"))
+
+-- simplification, before the file or behind it
+abbrev pub SimplifyFirst : Type 0
+SimplifyFirst = Means (codes "run" ∷ codes "--simplify" ∷ codes "f" ∷ []) (run 4 1000000 true (codes "f"))
+
+abbrev pub SimplifyLast : Type 0
+SimplifyLast = Means (codes "run" ∷ codes "f" ∷ codes "--fuel=8" ∷ codes "--simplify" ∷ []) (run 4 8 true (codes "f"))
 
 -- the erased program of a file
 abbrev pub ErasedAlone : Type 0
@@ -57,6 +64,14 @@ TwoDashes = IsUsage (codes "run" ∷ codes "--" ∷ codes "f" ∷ [])
 abbrev pub FuelTwice : Type 0
 FuelTwice = IsUsage (codes "run" ∷ codes "--fuel=7" ∷ codes "f" ∷ codes "--fuel" ∷ codes "7" ∷ [])
 
+-- simplification twice
+abbrev pub SimplifyTwice : Type 0
+SimplifyTwice = IsUsage (codes "run" ∷ codes "--simplify" ∷ codes "f" ∷ codes "--simplify" ∷ [])
+
+-- simplification with a value
+abbrev pub SimplifyValued : Type 0
+SimplifyValued = IsUsage (codes "run" ∷ codes "--simplify=1" ∷ codes "f" ∷ [])
+
 -- an erased program of no file
 abbrev pub ErasedNoFile : Type 0
 ErasedNoFile = IsUsage (codes "erased" ∷ [])
@@ -68,6 +83,10 @@ ErasedWorkers = IsUsage (codes "erased" ∷ codes "--workers" ∷ codes "2" ∷ 
 -- an erased program of two files
 abbrev pub ErasedTwoFiles : Type 0
 ErasedTwoFiles = IsUsage (codes "erased" ∷ codes "f" ∷ codes "g" ∷ [])
+
+-- and a simplified one
+abbrev pub ErasedSimplified : Type 0
+ErasedSimplified = IsUsage (codes "erased" ∷ codes "--simplify" ∷ codes "f" ∷ [])
 
 -- its option twice
 abbrev pub ErasedFuelTwice : Type 0

@@ -18,6 +18,7 @@ const DEFAULT_FUEL: u64 = 1_000_000;
 pub struct Given<'w> {
     workers: Option<u32>,
     fuel: Option<u64>,
+    simplify: bool,
     file: Option<&'w str>,
 }
 
@@ -29,6 +30,7 @@ impl<'w> Given<'w> {
         Given {
             workers: None,
             fuel: None,
+            simplify: false,
             file: None,
         }
     }
@@ -48,6 +50,10 @@ impl<'w> Given<'w> {
                 fuel: Some(fuel),
                 ..self
             }),
+            Part::Simplify if !self.simplify => Ok(Given {
+                simplify: true,
+                ..self
+            }),
             Part::File(file) if self.file.is_none() => Ok(Given {
                 file: Some(file),
                 ..self
@@ -65,16 +71,17 @@ impl<'w> Given<'w> {
         Ok(Command::Run {
             workers: self.workers.unwrap_or(DEFAULT_WORKERS),
             fuel: self.fuel.unwrap_or(DEFAULT_FUEL),
+            simplify: self.simplify,
             file,
         })
     }
 
-    /// The run of an erased program that is given, which no number of workers is part of.
+    /// The run of an erased program that is given, which neither a number of workers nor simplification is part of.
     pub fn erased(self) -> Result<Command<'w>, WordsFault>
         ensures ok { IfOk result (λ c. (parts : List PurePart) → Holds self.entry parts → Makes (codes "erased") parts (command_in c)) }
         ensures usage { IfErr result (λ _. (parts : List PurePart) → Holds self.entry parts → MakesNone (codes "erased") parts) }
     {
-        if self.workers.is_some() {
+        if self.workers.is_some() || self.simplify {
             return Err(WordsFault::Usage);
         }
         let file = self.file.ok_or(WordsFault::Usage)?;

@@ -1,8 +1,8 @@
 // Laws of the words, which no program calls, and worked examples.
 
 ghost use Rattle.mw_words.specs.WordLaws.{OneCommand, EitherForm, AnyOrder};
-ghost use Rattle.mw_words.specs.Examples.{FileAlone, FuelApart, FuelJoined, BothOptions, ErasedAlone, ErasedApart, ErasedJoined, ErasedBehind, SampleOfHundred};
-ghost use Rattle.mw_words.specs.Examples.{NoWord, OptionFirst, TwoFiles, TwoDashes, FuelTwice, ErasedNoFile, ErasedWorkers, ErasedTwoFiles, ErasedFuelTwice};
+ghost use Rattle.mw_words.specs.Examples.{FileAlone, FuelApart, FuelJoined, BothOptions, SimplifyFirst, SimplifyLast, ErasedAlone, ErasedApart, ErasedJoined, ErasedBehind, SampleOfHundred};
+ghost use Rattle.mw_words.specs.Examples.{NoWord, OptionFirst, TwoFiles, TwoDashes, FuelTwice, SimplifyTwice, SimplifyValued, ErasedNoFile, ErasedWorkers, ErasedTwoFiles, ErasedSimplified, ErasedFuelTwice};
 
 /// Words mean one command at most.
 pub fn one_command()
@@ -25,6 +25,8 @@ pub fn commands()
     ensures fuel_apart { FuelApart }
     ensures fuel_joined { FuelJoined }
     ensures both_options { BothOptions }
+    ensures simplify_first { SimplifyFirst }
+    ensures simplify_last { SimplifyLast }
     ensures erased_alone { ErasedAlone }
     ensures erased_apart { ErasedApart }
     ensures erased_joined { ErasedJoined }
@@ -39,8 +41,11 @@ pub fn usage()
     ensures two_files { TwoFiles }
     ensures two_dashes { TwoDashes }
     ensures fuel_twice { FuelTwice }
+    ensures simplify_twice { SimplifyTwice }
+    ensures simplify_valued { SimplifyValued }
     ensures erased_no_file { ErasedNoFile }
     ensures erased_workers { ErasedWorkers }
     ensures erased_two_files { ErasedTwoFiles }
+    ensures erased_simplified { ErasedSimplified }
     ensures erased_fuel_twice { ErasedFuelTwice }
 {}

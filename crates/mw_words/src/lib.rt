@@ -23,10 +23,12 @@ const MOST_KERNELS: u32 = 100;
 /// What the words ask for.
 #[derive(Clone, Copy, Debug)]
 pub enum Command<'w> {
-    /// The run of a file by so many workers, with so many units of fuel for each evaluation.
+    /// The run of a file by so many workers, with so many units of fuel for each evaluation, and with the kernels' code simplified
+    /// or as it was built.
     Run {
         workers: u32,
         fuel: u64,
+        simplify: bool,
         file: &'w str,
     },
     /// The run of a file's erased program, with so many units of fuel.

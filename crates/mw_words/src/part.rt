@@ -1,4 +1,4 @@
-// The parts of the words after `run` or `erased`: options with their values, and files.
+// The parts of the words after `run` or `erased`: options, with their values where they have some, and files.
 
 ghost use Rattle.std.specs.Prelude.{◌↔◌, List, ℕ, map, IsTrue, IfOk, IfErr, IfSome, IfNone};
 ghost use Rattle.std.specs.String.{string_bytes};
@@ -14,11 +14,12 @@ const MOST_WORKERS: u32 = 64;
 /// The most units of fuel for an evaluation.
 const MOST_FUEL: u32 = 10_000_000;
 
-/// An option with its value, or a file.
+/// An option, with its value if it has one, or a file.
 #[derive(Clone, Copy)]
 pub enum Part<'w> {
     Workers(u32),
     Fuel(u64),
+    Simplify,
     File(&'w str),
 }
 
@@ -36,6 +37,9 @@ pub fn first_part(words: &[String]) -> Result<(Part<'_>, &[String]), WordsFault>
         return Ok((Part::Fuel(u64::from(fuel)), rest));
     }
     let (word, rest) = words.split_first().ok_or(WordsFault::Usage)?;
+    if word.as_str() == "--simplify" {
+        return Ok((Part::Simplify, rest));
+    }
     if names_file(word.as_str()) {
         Ok((Part::File(word.as_str()), rest))
     } else {

@@ -16,9 +16,18 @@ fn meaning<R: Abort + AllocGlobal>(rt: &R, words: &[&str]) -> Result<String, Fai
             Command::Run {
                 workers,
                 fuel,
+                simplify: false,
                 file,
             },
         ) => format!(in alloc; "run {workers} {fuel} {file}")?,
+        Ok(
+            Command::Run {
+                workers,
+                fuel,
+                simplify: true,
+                file,
+            },
+        ) => format!(in alloc; "simplify {workers} {fuel} {file}")?,
         Ok(Command::Erased { fuel, file }) => format!(in alloc; "erased {fuel} {file}")?,
         Ok(Command::Sample { number }) => format!(in alloc; "sample {number}")?,
         Err(WordsFault::Usage) => String::from_str(alloc, "usage")?,
@@ -27,7 +36,7 @@ fn meaning<R: Abort + AllocGlobal>(rt: &R, words: &[&str]) -> Result<String, Fai
 }
 
 /// Words, and what they mean.
-const RUNS: [(&[&str], &str); 40] = [
+const RUNS: [(&[&str], &str); 47] = [
     (&["run", "f"], "run 4 1000000 f"),
     (&["run", "run"], "run 4 1000000 run"),
     (&["run", "a b"], "run 4 1000000 a b"),
@@ -54,6 +63,13 @@ const RUNS: [(&[&str], &str); 40] = [
     (&["run", "--workers=000000064", "f"], "run 64 1000000 f"),
     (&["run", "--workers=01", "f"], "run 1 1000000 f"),
     (&["run", "\u{e9}"], "run 4 1000000 \u{e9}"),
+    (&["run", "--simplify", "f"], "simplify 4 1000000 f"),
+    (&["run", "f", "--simplify"], "simplify 4 1000000 f"),
+    (&["run", "--simplify", "simplify"], "simplify 4 1000000 simplify"),
+    (&["run", "simplify"], "run 4 1000000 simplify"),
+    (&["run", "--fuel", "8", "--simplify", "f"], "simplify 4 8 f"),
+    (&["run", "--simplify", "--fuel=8", "f"], "simplify 4 8 f"),
+    (&["run", "--workers=2", "f", "--simplify", "--fuel", "3"], "simplify 2 3 f"),
     (&["erased", "f"], "erased 1000000 f"),
     (&["erased", "erased"], "erased 1000000 erased"),
     (&["erased", "--fuel", "8", "f"], "erased 8 f"),
@@ -71,7 +87,7 @@ const RUNS: [(&[&str], &str); 40] = [
 ];
 
 /// Words that mean nothing, for what stands around the options.
-const NO_COMMANDS: [&[&str]; 47] = [
+const NO_COMMANDS: [&[&str]; 59] = [
     &[],
     &[""],
     &["run"],
@@ -92,7 +108,17 @@ const NO_COMMANDS: [&[&str]; 47] = [
     &["run", "--fuel=8"],
     &["run", "--cache=c", "f"],
     &["run", "--cache", "c", "f"],
-    &["run", "--simplify", "f"],
+    &["run", "--simplify"],
+    &["run", "--simplify=1", "f"],
+    &["run", "--simplify=", "f"],
+    &["run", "--simplify", "f", "g"],
+    &["run", "--Simplify", "f"],
+    &["run", "-simplify", "f"],
+    &["run", "--simplif", "f"],
+    &["run", "--simplify ", "f"],
+    &["run", "--fuel", "--simplify", "f"],
+    &["--simplify", "run", "f"],
+    &["sample", "--simplify", "6"],
     &["run", "--help"],
     &["--help"],
     &["--version"],
@@ -116,18 +142,23 @@ const NO_COMMANDS: [&[&str]; 47] = [
     &["erased", "--fuel", "8"],
     &["erased", "--cache=c", "f"],
     &["erased", "--simplify", "f"],
+    &["erased", "f", "--simplify"],
+    &["erased", "--fuel=8", "f", "--simplify"],
     &["--fuel", "7", "erased", "f"],
     &["Erased", "f"],
     &["erase", "f"],
 ];
 
 /// Words that mean nothing, for an option that is named twice or amiss, or for its value.
-const NO_VALUES: [&[&str]; 45] = [
+const NO_VALUES: [&[&str]; 48] = [
     &["run", "--fuel=8", "--fuel=8", "f"],
     &["run", "--fuel", "8", "f", "--fuel=8"],
     &["run", "--fuel", "8", "f", "--fuel", "8"],
     &["run", "--workers=2", "--workers=2", "f"],
     &["run", "--workers", "2", "f", "--workers=2"],
+    &["run", "--simplify", "--simplify", "f"],
+    &["run", "--simplify", "f", "--simplify"],
+    &["run", "f", "--simplify", "--fuel=8", "--simplify"],
     &["run", "--fuel=", "f"],
     &["run", "--fuel", "", "f"],
     &["run", "--fuel= 8", "f"],

@@ -2,6 +2,7 @@ use Rattle.std.proofs.Common.{◌≡◌, map, ap}
 use Rattle.mw_term.specs.Terms.{expression_of}
 use Rattle.mw_term.specs.Programs.{program_of}
 use Rattle.mw_meaning.proofs.ErasedMain.{typable_names_are_bound}
+use Rattle.mw_emitting.specs.EmittingStates.{EmittingState}
 use Rattle.mw_console.specs.Texts.{ending_line, ending_status}
 use Rattle.mw_drive.specs.ProgramRuns.{ending_of}
 use Rattle.mw_drive.proofs.Faults.{front_written, no_answer}
@@ -46,7 +47,7 @@ returns-in_err-end-clause-run g c =
 pub returns-clause-run : goal.returns-clause-run
 returns-clause-run g c = record {
   ending = ending_of c.in_ok-end.end;
-  is_run = erased_is (program_of c.args.program.now) (program_of c.in_ok-erased.erased) c.args.fuel (ending_of c.in_ok-end.end) c.in_ok-erased.ensures.erased c.in_ok-erased.ensures.unstaged (rw (ap (map expression_of) c.new.ensures.items) at c.in_ok-end.ensures);
+  is_run = erased_is (program_of c.args.program.now) (program_of c.in_ok-erased.erased) c.args.fuel (ending_of c.in_ok-end.end) c.in_ok-erased.ensures.erased c.in_ok-erased.ensures.unstaged (rw (ap (map expression_of) c.new.ensures.items, ap (λ (k : EmittingState). k.mode) c.new-kernels.ensures) at c.in_ok-end.ensures);
   is_status = c.write_end.ensures.status;
   writes = c.write_end.ensures.writes;
 }

@@ -1,6 +1,7 @@
-use Rattle.std.proofs.Common.{◌≡◌, None}
+use Rattle.std.proofs.Common.{◌≡◌, None, ap, ◌∙◌}
+use Rattle.mw_emitting.specs.EmittingStates.{EmittingState}
 use Rattle.mw_console.specs.Texts.{ending_line, ending_status}
-use Rattle.mw_drive.specs.ProgramRuns.{ending_of, shown_text}
+use Rattle.mw_drive.specs.ProgramRuns.{ending_of, mode_of, shown_text}
 use Rattle.mw_drive.proofs.Faults.{front_written, no_answer}
 use Rattle.mw_drive.proofs.Fronts.{grows_whole}
 use Rattle.mw_drive.proofs.RunWritten.{codes_of_items, items_ending, main_is, main_items, writes_after}
@@ -9,7 +10,7 @@ use Rattle.mw_drive.proofs.program.write_run.Goals as goal
 pub main_end-requires-clause-codes : goal.main_end-requires-clause-codes
 main_end-requires-clause-codes g c =
     let m = main_items c.args.fuel c.args.program c.args.shown c.in_ok-status.field-0 c.in-Main.codes g.K.Sink.tells _ _ c.in-Main.is c.in_ok-status.ensures.items in
-    codes_of_items c.args.fuel c.args.program c.requires.typable m.0 c.in-Main.codes.items m.1 m.2
+    codes_of_items (mode_of c.args.shown) c.args.fuel c.args.program c.requires.typable m.0 c.in-Main.codes.items m.1 m.2
 
 pub main_end-requires-clause-limits : goal.main_end-requires-clause-limits
 main_end-requires-clause-limits g c =
@@ -18,7 +19,7 @@ main_end-requires-clause-limits g c =
 pub returns-in_err-end-in-Main-clause-run : goal.returns-in_err-end-in-Main-clause-run
 returns-in_err-end-in-Main-clause-run g c =
     let m = main_items c.args.fuel c.args.program c.args.shown c.in_ok-status.field-0 c.in-Main.codes g.K.Sink.tells _ _ c.in-Main.is c.in_ok-status.ensures.items in
-    let e = items_ending c.args.fuel c.args.program c.requires.typable m.0 None m.1 in
+    let e = items_ending (mode_of c.args.shown) c.args.fuel c.args.program c.requires.typable m.0 None m.1 in
     record {
       kernels = m.0;
       ending = e.0;
@@ -34,7 +35,8 @@ returns-in_ok-end-in-Main-clause-run g c =
     record {
       kernels = m.0;
       ending = e;
-      is_run = main_is c.args.fuel c.args.program c.requires.typable m.0 c.in-Main.codes.items e m.1 m.2 c.in_ok-end-in-Main.ensures;
+      is_run = main_is (mode_of c.args.shown) c.args.fuel c.args.program c.requires.typable m.0 c.in-Main.codes.items e m.1 m.2
+          (rw (c.write_items.ensures.mode ∙ (ap (λ (k : EmittingState). k.mode) c.new-kernels.ensures ∙ c.mode.ensures)) at c.in_ok-end-in-Main.ensures);
       is_status = c.write_end.ensures.status;
       writes = writes_after c.write_end.result g.K.Sink.tells _ _ _ (shown_text c.args.shown m.0) (ending_line e) m.4 c.write_end.ensures.writes;
     }

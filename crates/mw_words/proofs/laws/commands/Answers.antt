@@ -1,4 +1,4 @@
-use Rattle.mw_words.proofs.ExampleLemmas.{file_alone, fuel_apart, fuel_joined, both_options, erased_alone, erased_apart, erased_joined, erased_behind, sample_of_hundred}
+use Rattle.mw_words.proofs.ExampleLemmas.{file_alone, fuel_apart, fuel_joined, both_options, simplify_first, simplify_last, erased_alone, erased_apart, erased_joined, erased_behind, sample_of_hundred}
 use Rattle.mw_words.proofs.laws.commands.Goals as goal
 
 pub returns : goal.returns
@@ -7,6 +7,8 @@ returns c = record {
   fuel_apart = fuel_apart;
   fuel_joined = fuel_joined;
   both_options = both_options;
+  simplify_first = simplify_first;
+  simplify_last = simplify_last;
   erased_alone = erased_alone;
   erased_apart = erased_apart;
   erased_joined = erased_joined;

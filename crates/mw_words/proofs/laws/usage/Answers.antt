@@ -1,5 +1,5 @@
-use Rattle.mw_words.proofs.ExampleLemmas.{no_word, option_first, two_files, two_dashes, fuel_twice}
-use Rattle.mw_words.proofs.ExampleLemmas.{erased_no_file, erased_workers, erased_two_files, erased_fuel_twice}
+use Rattle.mw_words.proofs.ExampleLemmas.{no_word, option_first, two_files, two_dashes, fuel_twice, simplify_twice, simplify_valued}
+use Rattle.mw_words.proofs.ExampleLemmas.{erased_no_file, erased_workers, erased_two_files, erased_simplified, erased_fuel_twice}
 use Rattle.mw_words.proofs.laws.usage.Goals as goal
 
 pub returns : goal.returns
@@ -9,8 +9,11 @@ returns c = record {
   two_files = two_files;
   two_dashes = two_dashes;
   fuel_twice = fuel_twice;
+  simplify_twice = simplify_twice;
+  simplify_valued = simplify_valued;
   erased_no_file = erased_no_file;
   erased_workers = erased_workers;
   erased_two_files = erased_two_files;
+  erased_simplified = erased_simplified;
   erased_fuel_twice = erased_fuel_twice;
 }
