@@ -107,8 +107,8 @@ module _ {words : List (List ℕ)} {tells : Bool} {told : List NamedFile} (comma
   no_sample h = no_file h.0 h.1 means named
 
 -- what is written of a run whose kernels' code is run so is what the run means
-pub carries_run : {mode : Mode} {simplify : Bool} (bytes : List ℕ) (fuel : ℕ) → mode ≡ mode_when simplify → Carries (Run (Lines mode)) bytes fuel (running bytes fuel (mode_when simplify))
-carries_run {mode = mode} bytes fuel e m h = subst (λ (k : Mode). IsMeaning (running bytes fuel k) m) e h
+pub carries_run : {mode : Mode} (simplify : Bool) (bytes : List ℕ) (fuel : ℕ) → mode ≡ mode_when simplify → Carries (Run (Lines mode)) bytes fuel (running bytes fuel (mode_when simplify))
+carries_run {mode = mode} simplify bytes fuel e m h = subst (λ (k : Mode). IsMeaning (running bytes fuel k) m) e h
 
 -- a sample's status is that of a whole text, unless the sink or memory failed
 whole_sample : (s : Status) (Rose_sink : Type 0) → (s ≡ Write → Rose_sink) → (SpeaksOfCache s → ⊥) × (s ≡ Usage → ⊥) × (s ≡ Read → ⊥) → (Rose_sink → ⊥) → (IsMemory s → ⊥) → IsComplete s

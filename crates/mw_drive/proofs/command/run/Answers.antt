@@ -15,12 +15,12 @@ run_sample-requires-clause-within_limit g c = (sample_range c.in-Ok-Sample.numbe
 
 pub returns-in-Ok-Run-clause-text : goal.returns-in-Ok-Run-clause-text
 returns-in-Ok-Run-clause-text g c = λ work asks source sink memory tells.
-    file_text (run _ c.in-Ok-Run.fuel c.in-Ok-Run.simplify c.in-Ok-Run.file.now) c.in-Ok-Run.file.now refl (rw c.in-Ok-Run.field-0-is at c.in-Ok-Run.ensures.some) c.evaluate_file.result g.K.Sink.tells _ _ _ _ (λ bytes telling. c.evaluate_file.ensures.work bytes telling (running bytes c.in-Ok-Run.fuel (mode_when c.in-Ok-Run.simplify)) (carries_run bytes c.in-Ok-Run.fuel c.mode_when.ensures)) c.evaluate_file.ensures.read c.evaluate_file.ensures.write c.evaluate_file.ensures.others
+    file_text (run _ c.in-Ok-Run.fuel c.in-Ok-Run.simplify c.in-Ok-Run.file.now) c.in-Ok-Run.file.now refl (rw c.in-Ok-Run.field-0-is at c.in-Ok-Run.ensures.some) c.evaluate_file.result g.K.Sink.tells _ _ _ _ (λ bytes telling. c.evaluate_file.ensures.work bytes telling (running bytes c.in-Ok-Run.fuel (mode_when c.in-Ok-Run.simplify)) (carries_run c.in-Ok-Run.simplify bytes c.in-Ok-Run.fuel c.mode_when.ensures)) c.evaluate_file.ensures.read c.evaluate_file.ensures.write c.evaluate_file.ensures.others
     work asks source sink memory tells
 
 pub returns-in-Ok-Run-clause-status : goal.returns-in-Ok-Run-clause-status
 returns-in-Ok-Run-clause-status g c = λ work asks source sink memory.
-    file_status (run _ c.in-Ok-Run.fuel c.in-Ok-Run.simplify c.in-Ok-Run.file.now) c.in-Ok-Run.file.now refl (rw c.in-Ok-Run.field-0-is at c.in-Ok-Run.ensures.some) c.evaluate_file.result g.K.Sink.tells _ _ _ _ (λ bytes telling. c.evaluate_file.ensures.work bytes telling (running bytes c.in-Ok-Run.fuel (mode_when c.in-Ok-Run.simplify)) (carries_run bytes c.in-Ok-Run.fuel c.mode_when.ensures)) c.evaluate_file.ensures.read c.evaluate_file.ensures.write c.evaluate_file.ensures.others
+    file_status (run _ c.in-Ok-Run.fuel c.in-Ok-Run.simplify c.in-Ok-Run.file.now) c.in-Ok-Run.file.now refl (rw c.in-Ok-Run.field-0-is at c.in-Ok-Run.ensures.some) c.evaluate_file.result g.K.Sink.tells _ _ _ _ (λ bytes telling. c.evaluate_file.ensures.work bytes telling (running bytes c.in-Ok-Run.fuel (mode_when c.in-Ok-Run.simplify)) (carries_run c.in-Ok-Run.simplify bytes c.in-Ok-Run.fuel c.mode_when.ensures)) c.evaluate_file.ensures.read c.evaluate_file.ensures.write c.evaluate_file.ensures.others
     work asks source sink memory
 
 pub returns-in-Ok-Run-clause-modules : goal.returns-in-Ok-Run-clause-modules
@@ -28,25 +28,25 @@ returns-in-Ok-Run-clause-modules g c = λ work asks meaning is. meaning_modules 
 
 pub returns-in-Ok-Run-clause-faults : goal.returns-in-Ok-Run-clause-faults
 returns-in-Ok-Run-clause-faults g c = λ work asks tells.
-    file_faults (run _ c.in-Ok-Run.fuel c.in-Ok-Run.simplify c.in-Ok-Run.file.now) c.in-Ok-Run.file.now refl (rw c.in-Ok-Run.field-0-is at c.in-Ok-Run.ensures.some) c.evaluate_file.result g.K.Sink.tells _ _ _ _ (λ bytes telling. c.evaluate_file.ensures.work bytes telling (running bytes c.in-Ok-Run.fuel (mode_when c.in-Ok-Run.simplify)) (carries_run bytes c.in-Ok-Run.fuel c.mode_when.ensures)) c.evaluate_file.ensures.read c.evaluate_file.ensures.write c.evaluate_file.ensures.others
+    file_faults (run _ c.in-Ok-Run.fuel c.in-Ok-Run.simplify c.in-Ok-Run.file.now) c.in-Ok-Run.file.now refl (rw c.in-Ok-Run.field-0-is at c.in-Ok-Run.ensures.some) c.evaluate_file.result g.K.Sink.tells _ _ _ _ (λ bytes telling. c.evaluate_file.ensures.work bytes telling (running bytes c.in-Ok-Run.fuel (mode_when c.in-Ok-Run.simplify)) (carries_run c.in-Ok-Run.simplify bytes c.in-Ok-Run.fuel c.mode_when.ensures)) c.evaluate_file.ensures.read c.evaluate_file.ensures.write c.evaluate_file.ensures.others
     work asks tells
 
 pub returns-in-Ok-Run-clause-left : goal.returns-in-Ok-Run-clause-left
 returns-in-Ok-Run-clause-left g c = λ other bytes asks.
-    file_left (run _ c.in-Ok-Run.fuel c.in-Ok-Run.simplify c.in-Ok-Run.file.now) c.in-Ok-Run.file.now refl (rw c.in-Ok-Run.field-0-is at c.in-Ok-Run.ensures.some) c.evaluate_file.result g.K.Sink.tells _ _ _ _ (λ bytes telling. c.evaluate_file.ensures.work bytes telling (running bytes c.in-Ok-Run.fuel (mode_when c.in-Ok-Run.simplify)) (carries_run bytes c.in-Ok-Run.fuel c.mode_when.ensures)) c.evaluate_file.ensures.read c.evaluate_file.ensures.write c.evaluate_file.ensures.others
+    file_left (run _ c.in-Ok-Run.fuel c.in-Ok-Run.simplify c.in-Ok-Run.file.now) c.in-Ok-Run.file.now refl (rw c.in-Ok-Run.field-0-is at c.in-Ok-Run.ensures.some) c.evaluate_file.result g.K.Sink.tells _ _ _ _ (λ bytes telling. c.evaluate_file.ensures.work bytes telling (running bytes c.in-Ok-Run.fuel (mode_when c.in-Ok-Run.simplify)) (carries_run c.in-Ok-Run.simplify bytes c.in-Ok-Run.fuel c.mode_when.ensures)) c.evaluate_file.ensures.read c.evaluate_file.ensures.write c.evaluate_file.ensures.others
     _ c.evaluate_file.ensures.left other bytes asks
 
 pub returns-in-Ok-Run-clause-missing : goal.returns-in-Ok-Run-clause-missing
 returns-in-Ok-Run-clause-missing g c = λ missing.
-    c.evaluate_file.ensures.missing (file_missing (run _ c.in-Ok-Run.fuel c.in-Ok-Run.simplify c.in-Ok-Run.file.now) c.in-Ok-Run.file.now refl (rw c.in-Ok-Run.field-0-is at c.in-Ok-Run.ensures.some) c.evaluate_file.result g.K.Sink.tells _ _ _ _ (λ bytes telling. c.evaluate_file.ensures.work bytes telling (running bytes c.in-Ok-Run.fuel (mode_when c.in-Ok-Run.simplify)) (carries_run bytes c.in-Ok-Run.fuel c.mode_when.ensures)) c.evaluate_file.ensures.read c.evaluate_file.ensures.write c.evaluate_file.ensures.others missing)
+    c.evaluate_file.ensures.missing (file_missing (run _ c.in-Ok-Run.fuel c.in-Ok-Run.simplify c.in-Ok-Run.file.now) c.in-Ok-Run.file.now refl (rw c.in-Ok-Run.field-0-is at c.in-Ok-Run.ensures.some) c.evaluate_file.result g.K.Sink.tells _ _ _ _ (λ bytes telling. c.evaluate_file.ensures.work bytes telling (running bytes c.in-Ok-Run.fuel (mode_when c.in-Ok-Run.simplify)) (carries_run c.in-Ok-Run.simplify bytes c.in-Ok-Run.fuel c.mode_when.ensures)) c.evaluate_file.ensures.read c.evaluate_file.ensures.write c.evaluate_file.ensures.others missing)
 
 pub returns-in-Ok-Run-clause-nothing_missing : goal.returns-in-Ok-Run-clause-nothing_missing
 returns-in-Ok-Run-clause-nothing_missing g c = λ missing tells.
-    c.evaluate_file.ensures.nothing (inr (file_missing (run _ c.in-Ok-Run.fuel c.in-Ok-Run.simplify c.in-Ok-Run.file.now) c.in-Ok-Run.file.now refl (rw c.in-Ok-Run.field-0-is at c.in-Ok-Run.ensures.some) c.evaluate_file.result g.K.Sink.tells _ _ _ _ (λ bytes telling. c.evaluate_file.ensures.work bytes telling (running bytes c.in-Ok-Run.fuel (mode_when c.in-Ok-Run.simplify)) (carries_run bytes c.in-Ok-Run.fuel c.mode_when.ensures)) c.evaluate_file.ensures.read c.evaluate_file.ensures.write c.evaluate_file.ensures.others missing)) tells
+    c.evaluate_file.ensures.nothing (inr (file_missing (run _ c.in-Ok-Run.fuel c.in-Ok-Run.simplify c.in-Ok-Run.file.now) c.in-Ok-Run.file.now refl (rw c.in-Ok-Run.field-0-is at c.in-Ok-Run.ensures.some) c.evaluate_file.result g.K.Sink.tells _ _ _ _ (λ bytes telling. c.evaluate_file.ensures.work bytes telling (running bytes c.in-Ok-Run.fuel (mode_when c.in-Ok-Run.simplify)) (carries_run c.in-Ok-Run.simplify bytes c.in-Ok-Run.fuel c.mode_when.ensures)) c.evaluate_file.ensures.read c.evaluate_file.ensures.write c.evaluate_file.ensures.others missing)) tells
 
 pub returns-in-Ok-Run-clause-unread : goal.returns-in-Ok-Run-clause-unread
 returns-in-Ok-Run-clause-unread g c = λ h.
-    absurd (not_unread c.evaluate_file.ensures.others.1 (no_sample (run _ c.in-Ok-Run.fuel c.in-Ok-Run.simplify c.in-Ok-Run.file.now) c.in-Ok-Run.file.now refl (rw c.in-Ok-Run.field-0-is at c.in-Ok-Run.ensures.some) c.evaluate_file.result g.K.Sink.tells _ _ _ _ (λ bytes telling. c.evaluate_file.ensures.work bytes telling (running bytes c.in-Ok-Run.fuel (mode_when c.in-Ok-Run.simplify)) (carries_run bytes c.in-Ok-Run.fuel c.mode_when.ensures)) c.evaluate_file.ensures.read c.evaluate_file.ensures.write c.evaluate_file.ensures.others) h)
+    absurd (not_unread c.evaluate_file.ensures.others.1 (no_sample (run _ c.in-Ok-Run.fuel c.in-Ok-Run.simplify c.in-Ok-Run.file.now) c.in-Ok-Run.file.now refl (rw c.in-Ok-Run.field-0-is at c.in-Ok-Run.ensures.some) c.evaluate_file.result g.K.Sink.tells _ _ _ _ (λ bytes telling. c.evaluate_file.ensures.work bytes telling (running bytes c.in-Ok-Run.fuel (mode_when c.in-Ok-Run.simplify)) (carries_run c.in-Ok-Run.simplify bytes c.in-Ok-Run.fuel c.mode_when.ensures)) c.evaluate_file.ensures.read c.evaluate_file.ensures.write c.evaluate_file.ensures.others) h)
 
 pub returns-in-Ok-Erased-clause-text : goal.returns-in-Ok-Erased-clause-text
 returns-in-Ok-Erased-clause-text g c = λ work asks source sink memory tells.
@@ -109,7 +109,7 @@ returns-in-Ok-Sample-clause-nothing_missing g c = λ missing. absurd (no_file_of
 
 pub returns-in-Ok-Run-clause-erasure : goal.returns-in-Ok-Run-clause-erasure
 returns-in-Ok-Run-clause-erasure g c = λ workers fuel m simplify f bytes w asks other is.
-    file_erased (run _ c.in-Ok-Run.fuel c.in-Ok-Run.simplify c.in-Ok-Run.file.now) c.in-Ok-Run.file.now refl (rw c.in-Ok-Run.field-0-is at c.in-Ok-Run.ensures.some) c.evaluate_file.result g.K.Sink.tells _ _ _ _ (λ bytes telling. c.evaluate_file.ensures.work bytes telling (running bytes c.in-Ok-Run.fuel (mode_when c.in-Ok-Run.simplify)) (carries_run bytes c.in-Ok-Run.fuel c.mode_when.ensures)) c.evaluate_file.ensures.read c.evaluate_file.ensures.write c.evaluate_file.ensures.others
+    file_erased (run _ c.in-Ok-Run.fuel c.in-Ok-Run.simplify c.in-Ok-Run.file.now) c.in-Ok-Run.file.now refl (rw c.in-Ok-Run.field-0-is at c.in-Ok-Run.ensures.some) c.evaluate_file.result g.K.Sink.tells _ _ _ _ (λ bytes telling. c.evaluate_file.ensures.work bytes telling (running bytes c.in-Ok-Run.fuel (mode_when c.in-Ok-Run.simplify)) (carries_run c.in-Ok-Run.simplify bytes c.in-Ok-Run.fuel c.mode_when.ensures)) c.evaluate_file.ensures.read c.evaluate_file.ensures.write c.evaluate_file.ensures.others
     workers fuel m simplify f bytes w asks other is
 
 pub returns-in-Ok-Erased-clause-erasure : goal.returns-in-Ok-Erased-clause-erasure
@@ -122,7 +122,7 @@ returns-in-Ok-Sample-clause-erasure g c = λ workers fuel m simplify f bytes w a
 
 pub returns-in-Ok-Run-clause-simplified : goal.returns-in-Ok-Run-clause-simplified
 returns-in-Ok-Run-clause-simplified g c = λ workers fuel f bytes kernels e asks is unbounded.
-    file_simplified (run _ c.in-Ok-Run.fuel c.in-Ok-Run.simplify c.in-Ok-Run.file.now) c.in-Ok-Run.file.now refl (rw c.in-Ok-Run.field-0-is at c.in-Ok-Run.ensures.some) c.evaluate_file.result g.K.Sink.tells _ _ _ _ (λ bytes telling. c.evaluate_file.ensures.work bytes telling (running bytes c.in-Ok-Run.fuel (mode_when c.in-Ok-Run.simplify)) (carries_run bytes c.in-Ok-Run.fuel c.mode_when.ensures)) c.evaluate_file.ensures.read c.evaluate_file.ensures.write c.evaluate_file.ensures.others
+    file_simplified (run _ c.in-Ok-Run.fuel c.in-Ok-Run.simplify c.in-Ok-Run.file.now) c.in-Ok-Run.file.now refl (rw c.in-Ok-Run.field-0-is at c.in-Ok-Run.ensures.some) c.evaluate_file.result g.K.Sink.tells _ _ _ _ (λ bytes telling. c.evaluate_file.ensures.work bytes telling (running bytes c.in-Ok-Run.fuel (mode_when c.in-Ok-Run.simplify)) (carries_run c.in-Ok-Run.simplify bytes c.in-Ok-Run.fuel c.mode_when.ensures)) c.evaluate_file.ensures.read c.evaluate_file.ensures.write c.evaluate_file.ensures.others
     workers fuel f bytes kernels e asks is unbounded
 
 pub returns-in-Ok-Erased-clause-simplified : goal.returns-in-Ok-Erased-clause-simplified
