@@ -42,7 +42,7 @@ fn carry_out(rt: &(impl Files + Print + AllocGlobal + Threads + Sync), words: &[
 fn explain(rt: &(impl Eprint + AllocGlobal), status: &Status) -> std::io::Result<()> {
     match status {
         Status::Usage => eprintln!(rt;
-            "metaml: usage: metaml run [--workers N] [--fuel N] FILE, metaml erased [--fuel N] FILE, or metaml sample N"
+            "metaml: usage: metaml run [--workers N] [--fuel N] [--simplify] FILE, metaml erased [--fuel N] FILE, or metaml sample N"
         ),
         Status::Read => eprintln!(rt; "metaml: cannot read the source"),
         Status::Write => eprintln!(rt; "metaml: cannot write"),

@@ -8,6 +8,7 @@ mod erased;
 mod grammar;
 mod modules;
 mod programs;
+mod simplified;
 mod types;
 mod typing;
 
