@@ -108,11 +108,7 @@ pub fn run<R: Threads + Sync, S: Source, K: Sink, C: Keeper, G: Gate>(
 fn mode_when(simplify: bool) -> Mode
     ensures { result ≡ mode_when simplify }
 {
-    if simplify {
-        Mode::Simple
-    } else {
-        Mode::Plain
-    }
+    if simplify { Mode::Simple } else { Mode::Plain }
 }
 
 /// Evaluates the source of a file, with so many units for each evaluation.

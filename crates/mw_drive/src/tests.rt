@@ -9,6 +9,7 @@ mod grammar;
 mod modules;
 mod programs;
 mod simplified;
+mod simplified_runs;
 mod types;
 mod typing;
 

@@ -23,11 +23,17 @@ loop-at-preserved g c =
     let ends = named_end _ c.args.fuel c.args.program.now (item_of c.get.result.now) c.in_ok-item_end.field-0 (rw c.loop-at.invariant.mode at c.in_ok-item_end.ensures.end) in
     elim c.match-branch-2.branch [
       | in-Let w ↦
-          rw w.built-is record { mode = c.item_end.ensures.mode ∙ c.loop-at.invariant.mode; reaches = reaches_let _ c.args.fuel (named_program_of c.args.program.now) c.loop-at.at (item_of c.get.result.now) c.loop-at.built.items there c.loop-at.invariant.reaches
-          c.in_ok-item_end.field-0 w.in-Let.is ends }
+          rw w.built-is record {
+            mode = c.item_end.ensures.mode ∙ c.loop-at.invariant.mode;
+            reaches = reaches_let _ c.args.fuel (named_program_of c.args.program.now) c.loop-at.at (item_of c.get.result.now) c.loop-at.built.items there c.loop-at.invariant.reaches
+                c.in_ok-item_end.field-0 w.in-Let.is ends;
+          }
       | in-Code+in_ok-push-in-Code w ↦
-          rw w.built-is record { mode = c.item_end.ensures.mode ∙ c.loop-at.invariant.mode; reaches = reaches_code _ c.args.fuel (named_program_of c.args.program.now) c.loop-at.at (item_of c.get.result.now) c.loop-at.built.items there c.loop-at.invariant.reaches
-          c.in_ok-item_end.field-0 w.in-Code.kernel w.push.new.self.items w.in-Code.is w.in_ok-push-in-Code.ensures.items ends }
+          rw w.built-is record {
+            mode = c.item_end.ensures.mode ∙ c.loop-at.invariant.mode;
+            reaches = reaches_code _ c.args.fuel (named_program_of c.args.program.now) c.loop-at.at (item_of c.get.result.now) c.loop-at.built.items there c.loop-at.invariant.reaches
+                c.in_ok-item_end.field-0 w.in-Code.kernel w.push.new.self.items w.in-Code.is w.in_ok-push-in-Code.ensures.items ends;
+          }
     ]
 
 pub returns-clause-run : goal.returns-clause-run
