@@ -1,7 +1,7 @@
 -- The erased program of an accepted one, as main's evaluation takes it, and how its main ends.
 use Rattle.std.proofs.Common.{◌≡◌, ℕ, zero, suc, List, [], ◌∷◌, map, Some, refl, sym, ap, ◌∙◌, subst}
 use Rattle.std.specs.Prelude.{slice_get}
-use Rattle.mw_term.specs.Terms.{Expression, num, truth, var, glob, fun, fix, app, bind, cond, pair, fst, snd, prim, bracket, escape, run, close, opened, lift, lift_b, done}
+use Rattle.mw_term.specs.Terms.{Expression, num, truth, var, glob, fun, fix, app, bind, cond, pair, fst, snd, prim}
 use Rattle.mw_term.specs.SmallTypes.{HasSmallRuns, HasSmallDefinition, HasSmallTypes}
 use Rattle.mw_term.specs.Programs.{Definition, value as defines, kernel, definition_of, PureProgram, program_of}
 use Rattle.mw_term.specs.declared.program.Program.{Program}
@@ -44,14 +44,7 @@ small_term (pair a b) h = (small_term a h.0, small_term b h.1)
 small_term (fst e) h = small_term e h
 small_term (snd e) h = small_term e h
 small_term (prim p a b) h = (small_term a h.0, small_term b h.1)
-small_term (bracket e) h = absurd h
-small_term (escape e) h = absurd h
-small_term (run k e) h = absurd h
-small_term (close at e) h = absurd h
-small_term (opened e) h = absurd h
-small_term (lift e) h = absurd h
-small_term (lift_b e) h = absurd h
-small_term (done v) h = absurd h
+small_term _ h = absurd h
 
 small_items : (items : List Definition) → AreWithoutStaging items → (i : ℕ) (d : Definition) → slice_get items i ≡ Some d → HasSmallDefinition d
 small_items [] h i d q = absurd (cc)

@@ -5,42 +5,41 @@ use Rattle.mw_term.specs.Closed.{IsCode}
 use Rattle.mw_term.specs.Limits.{LiteralsFit}
 use Rattle.mw_term.specs.Types.{kernel_type}
 use Rattle.mw_term.specs.Typing.{Valued}
+use Rattle.mw_term.specs.Typable.{HasKernelType}
 use Rattle.mw_term.specs.Unlabelled.{unlabelled_value}
 use Rattle.mw_meaning.specs.declared.mode.Mode.{Mode}
-use Rattle.mw_meaning.specs.Arithmetic.{trap, bound, stuck}
+use Rattle.mw_meaning.specs.Arithmetic.{trap, bound}
 use Rattle.mw_meaning.specs.KernelMeaning.{Ended, gives, stops, kernel_meaning}
 use Rattle.mw_meaning.specs.Simplification.{in_mode}
+use Rattle.mw_meaning.specs.StandingFor.{StandsFor}
 use Rattle.mw_meaning.specs.StagedMeaning.{gives as answers, Runs, run_of, run_ended, call_of, call_ended, ground_result, kernel_argument, argument_words}
+use Rattle.mw_meaning.proofs.SimplifyingKept.{keeps_kernel_type}
+use Rattle.mw_wasm.specs.declared.modules.Module.{Module}
+use Rattle.mw_wasm.specs.Views.{module_of}
 use Rattle.mw_machine.specs.declared.kernels.Ran.{Ran}
 use Rattle.mw_machine.specs.declared.kernels.Ran.TheVariants as ran
 use Rattle.mw_machine.specs.declared.kernels.KernelFault.{KernelFault}
 use Rattle.mw_machine.specs.declared.kernels.KernelFault.TheVariants as kernel
-use Rattle.mw_machine.specs.KernelCalls.{IsMeantBy, AnswersCall, IsRunAt, IsNewlyBad, ends_all}
+use Rattle.mw_machine.specs.KernelCalls.{IsMeantBy, AnswersRun, AnswersCall, IsRunAt, IsNewlyBad, ends_all}
 use Rattle.mw_kernel.specs.declared.fault.RunFault.{RunFault}
 use Rattle.mw_kernel.specs.declared.fault.RunFault.TheVariants as fault
 use Rattle.mw_kernel.specs.declared.running.Began.{Began}
 use Rattle.mw_kernel.specs.declared.running.Began.TheVariants as began
 use Rattle.mw_kernel.specs.Invoking.{FitsWords}
 use Rattle.mw_kernel.specs.KernelAnswers.{kernel_value, HasStartType, HasCallType, IsSameFunction}
-use Rattle.mw_kernel.specs.KernelMeanings.{IsSameValue, HasShortIntegers, IsBeganFrom, IsRanFrom, IsStartMeant, IsCallMeant, KeepsOn}
+use Rattle.mw_kernel.specs.KernelMeanings.{IsSameValue, HasShortIntegers, IsBeganFrom, IsRanFrom, IsStartMeant, IsCallMeant, MeansStart, KeepsOn}
 use Rattle.mw_kernel.specs.RunningStates.{RunningState}
 use Rattle.mw_kernel.proofs.MeaningLemmas.{short_integers_are_kept}
 use Rattle.mw_emitting.specs.Answers.{IsWant, IsOnlyWant}
 use Rattle.mw_emitting.specs.KeptFunctions.{IsFunctionOf}
 use Rattle.mw_emitting.proofs.OtherUnits.{one_value}
-use Rattle.mw_emitting.proofs.ShortIntegers.{code_gives_short, call_gives_short, short_integers, argument_is_short}
+use Rattle.mw_emitting.proofs.ShortIntegers.{code_gives_short, call_gives_short, short_integers, argument_of, argument_is_short}
 
 -- a kernel's value that is a ground value is given back as that
 ground_back : (v : PureGroundValue) → ground_result (kernel_value v) ≡ Some (ground_value v)
 ground_back (int n) = refl
 ground_back (bool b) = refl
 ground_back (both v w) = rw (ground_back v, ground_back w) refl
-
--- and taken as that
-argument_back : (v : PureGroundValue) → kernel_argument (ground_value v) ≡ Some (kernel_value v)
-argument_back (int n) = refl
-argument_back (bool b) = refl
-argument_back (both v w) = rw (argument_back v, argument_back w) refl
 
 result_back : (w : KernelValue) (v : PureGroundValue) → HasShortIntegers w → IsSameValue w v → ground_result w ≡ Some (ground_value v)
 result_back w v short same = subst (λ w. ground_result w ≡ Some (ground_value v)) (short_integers_are_kept w v short same) (ground_back v)
@@ -68,28 +67,13 @@ function_given (both v w) s t g h which left units words runs p e' = elim p [ ]
 -- a beginning answers as the run means
 began_meant : (which : ℕ) (b : Began) (k : KernelType) (a : Ended) (runs : Runs) → GivesShort a → IsBeganFrom k b a → IsMeantBy (ran_of which b) (run_ended k a runs)
 began_meant which (began.Value v left) (of_ground t) (gives w units words) runs short h = rw (result_back w (ground_value_of v) (short w units words refl) h.0) (refl, h.1)
-began_meant which (began.Value v left) (of_ground t) (stops why) runs short h = absurd h
-began_meant which (began.Value v left) (to s t) a runs short h = absurd h
-began_meant which (began.Function r left) (of_ground t) a runs short h = absurd h
 began_meant which (began.Function r left) (to s t) (gives f units words) runs short h =
     function_given f s t r.argument r.result which left units words runs h.0.typed h.1
-began_meant which (began.Function r left) (to s t) (stops why) runs short h = absurd h
 began_meant which (began.Trap t) (of_ground g) (stops (trap u)) runs short h = h
 began_meant which (began.Trap t) (to s g) (stops (trap u)) runs short h = h
-began_meant which (began.Trap t) (of_ground g) (gives f units words) runs short h = absurd h
-began_meant which (began.Trap t) (to s g) (gives f units words) runs short h = absurd h
-began_meant which (began.Trap t) (of_ground g) (stops (bound l)) runs short h = absurd h
-began_meant which (began.Trap t) (to s g) (stops (bound l)) runs short h = absurd h
-began_meant which (began.Trap t) (of_ground g) (stops stuck) runs short h = absurd h
-began_meant which (began.Trap t) (to s g) (stops stuck) runs short h = absurd h
 began_meant which (began.Bound l) (of_ground g) (stops (bound b)) runs short h = h
 began_meant which (began.Bound l) (to s g) (stops (bound b)) runs short h = h
-began_meant which (began.Bound l) (of_ground g) (gives f units words) runs short h = absurd h
-began_meant which (began.Bound l) (to s g) (gives f units words) runs short h = absurd h
-began_meant which (began.Bound l) (of_ground g) (stops (trap t)) runs short h = absurd h
-began_meant which (began.Bound l) (to s g) (stops (trap t)) runs short h = absurd h
-began_meant which (began.Bound l) (of_ground g) (stops stuck) runs short h = absurd h
-began_meant which (began.Bound l) (to s g) (stops stuck) runs short h = absurd h
+began_meant which _ _ _ runs short h = absurd h
 
 pub run_meant : (mode : Mode) (which : ℕ) (b : Began) (c : Expression) (k : KernelType) (units : ℕ) → IsCode (in_mode mode c) → LiteralsFit (in_mode mode c) → IsBeganFrom k b (kernel_meaning units 0 (in_mode mode c))
     → IsMeantBy (ran_of which b) (run_of mode k c units [])
@@ -97,28 +81,27 @@ run_meant mode which b c k units code fit h =
     let d = in_mode mode c in
     began_meant which b k (kernel_meaning units 0 d) ((c, k) ∷ []) (λ v left words e. short_integers v (code_gives_short d units 0 v left words code fit e)) h
 
+-- so a run answers, where the module stands for the code
+pub run_answers : (mode own : Mode) (which : ℕ) (b begun : Began) (wasm given : Module) (c : Expression) (k : KernelType) (units : ℕ) → mode ≡ own → begun ≡ b → wasm ≡ given → HasKernelType c k → LiteralsFit (in_mode mode c)
+    → StandsFor (module_of given) (in_mode mode c) k → MeansStart (Ok begun) wasm k units → AnswersRun own (Ok (ran_of which b)) c k units
+run_answers mode own which b begun wasm given c k units same is from typed fit stands means =
+    let code = keeps_kernel_type mode c k typed in
+    subst (λ mode. AnswersRun mode (Ok (ran_of which b)) c k units) same
+    (run_meant mode which b c k units code.is_code fit
+    (subst (λ b. IsBeganFrom k b (kernel_meaning units 0 (in_mode mode c))) is (means (in_mode mode c) code (subst (λ w. StandsFor (module_of w) (in_mode mode c) k) (sym from) stands))))
+
 -- a call answers as it means
 ran_meant : (r : Ran) (a : Ended) (runs : Runs) → GivesShort a → IsRanFrom r a → IsMeantBy r (call_ended a runs)
 ran_meant (ran.Value v left) (gives w units words) runs short h = rw (result_back w (ground_value_of v) (short w units words refl) h.0) (refl, h.1)
-ran_meant (ran.Value v left) (stops why) runs short h = absurd h
-ran_meant (ran.Function which left) a runs short h = absurd h
 ran_meant (ran.Trap t) (stops (trap u)) runs short h = h
-ran_meant (ran.Trap t) (stops (bound l)) runs short h = absurd h
-ran_meant (ran.Trap t) (stops stuck) runs short h = absurd h
-ran_meant (ran.Trap t) (gives w units words) runs short h = absurd h
 ran_meant (ran.Bound l) (stops (bound b)) runs short h = h
-ran_meant (ran.Bound l) (stops (trap t)) runs short h = absurd h
-ran_meant (ran.Bound l) (stops stuck) runs short h = absurd h
-ran_meant (ran.Bound l) (gives w units words) runs short h = absurd h
+ran_meant _ _ runs short h = absurd h
 
 -- the value that a run gave, where it gave a function
 function_of_run : (s t : GroundType) (a : Ended) (k : KernelType) (f : KernelValue) (words left : ℕ) (runs after : Runs) → run_ended (to s t) a runs ≡ answers (kept k f words) left after → a ≡ gives f left words
 function_of_run s t (gives (function e) n h) k f words left runs after p = cc
 function_of_run s t (gives (recursive e) n h) k f words left runs after p = cc
-function_of_run s t (gives (int z) n h) k f words left runs after p = absurd (cc)
-function_of_run s t (gives (bool z) n h) k f words left runs after p = absurd (cc)
-function_of_run s t (gives (both u w) n h) k f words left runs after p = absurd (cc)
-function_of_run s t (stops why) k f words left runs after p = absurd (cc)
+function_of_run s t _ k f words left runs after p = absurd (cc)
 
 -- A call of a kept function.
 module _ (mode : Mode) (c : Expression) (k : KernelType) (r : RunningState) (is : IsFunctionOf (in_mode mode c) k r) (v : PureGroundValue) (units : ℕ) where
@@ -133,8 +116,8 @@ module _ (mode : Mode) (c : Expression) (k : KernelType) (r : RunningState) (is 
       short_integers w
       (call_gives_short is.function (kernel_value v) w is.words (argument_words (ground_value v)) units left words
       (code_gives_short d is.units 0 is.function is.left is.words is.code is.literals is.is)
-      (argument_is_short v fits (kernel_value v) (argument_back v))
-      (ap (λ o. call_of is.function is.words o (argument_words (ground_value v)) units) (sym (argument_back v)) ∙ e))
+      (argument_is_short v fits (kernel_value v) (argument_of v))
+      (ap (λ o. call_of is.function is.words o (argument_words (ground_value v)) units) (sym (argument_of v)) ∙ e))
 
   -- it is the function that a run with any units gave
   same_function : (f : KernelValue) (words given left : ℕ) (after : Runs) → run_of mode k c given [] ≡ answers (kept k f words) left after → (is.function ≡ f) × (is.words ≡ words)

@@ -18,7 +18,7 @@ use Rattle.mw_infer.proofs.Formed.{level_of}
 use Rattle.mw_infer.proofs.Shifting.{from, value-shifted, Within-shifted, value-base_expression, value-kernel_expression, value-primitive_expression, Within-base_expression, Within-kernel_expression, Within-primitive_expression, scheme-of_let, scheme-of_kernel}
 use Rattle.mw_types.proofs.Verdicts.{value_agree}
 use Rattle.mw_infer.proofs.Within.{variable-within}
-use Rattle.mw_infer.proofs.Extending.{extended, extended-keeps, extended-ty, extended-classifier, started, started-starts, Ready, Grown, then, Own, first, ending, Ready-part, Ready-bound, Ready-gives, Ready-later, Ready-under, Ready-live}
+use Rattle.mw_infer.proofs.Extending.{extended, extended-keeps, extended-ty, extended-classifier, started, started-starts, Ready, Grown, then, Own, Own-started, first, ending, Ready-part, Ready-bound, Ready-gives, Ready-later, Ready-under, Ready-live}
 
 -- the slot of a variable
 find : (a : Assignment) (g : List Slot) (i : ℕ) (x : Entry) → slice_get (map (entry_of a) g) i ≡ Some x → (s : Slot) × (slice_get g i ≡ Some s) × (entry_of a s ≡ x)
@@ -79,15 +79,9 @@ module _ (tops : List TopLevel) (schemes : List TopScheme) (known : AreSchemesOf
   found-fun a u o c g m h l e s t r part =
       let z = started-starts a o c s t t 0 in
       let y = r.own in
-      let x : Own a (started a o c s t t 0) o c (o + 2) c (function_equations u o) [] = record {
-        unknowns = omega arith;
-        classifiers = omega arith;
-        keeps = z.keeps;
-        within = ((omega arith, (omega arith, omega arith)), tt);
-        below = tt;
-        solves = (Ready-gives z.keeps r ∙ rw (z.first, z.second) refl, tt);
-        fresh = tt;
-      } in
+      let x = Own-started (function_equations u o) (o + 2) c (omega arith) (omega arith) z
+      ((omega arith, (omega arith, omega arith)), tt)
+      (Ready-gives z.keeps r ∙ rw (z.first, z.second) refl, tt) in
       ending (omega arith) refl (first x (part _ (Ready-bound o (omega arith) z.first (Ready-part (o + 1) (o + 2) c (omega arith) (omega arith) (omega arith) z.keeps z.second r))))
 
   found-fix : (a : Assignment) (u o c : ℕ) (g : List Slot) (m : Level) (h : List Entry) (l : Level) (e : Expression) (s t : TermType) → Ready a u o c g m h l (function_type s t)
@@ -95,15 +89,9 @@ module _ (tops : List TopLevel) (schemes : List TopScheme) (known : AreSchemesOf
   found-fix a u o c g m h l e s t r part =
       let z = started-starts a o c s (function_type s t) t 0 in
       let y = r.own in
-      let x : Own a (started a o c s (function_type s t) t 0) o c (o + 3) c (recursion_equations u o) [] = record {
-        unknowns = omega arith;
-        classifiers = omega arith;
-        keeps = z.keeps;
-        within = ((omega arith, (omega arith, omega arith)), ((omega arith, omega arith), tt));
-        below = tt;
-        solves = (z.second ∙ rw (z.first, z.third) refl, (Ready-gives z.keeps r ∙ sym z.second, tt));
-        fresh = tt;
-      } in
+      let x = Own-started (recursion_equations u o) (o + 3) c (omega arith) (omega arith) z
+      ((omega arith, (omega arith, omega arith)), ((omega arith, omega arith), tt))
+      (z.second ∙ rw (z.first, z.third) refl, (Ready-gives z.keeps r ∙ sym z.second, tt)) in
       ending (omega arith) refl (first x (part _ (Ready-bound o (omega arith) z.first (Ready-bound (o + 1) (omega arith) z.second (Ready-part (o + 2) (o + 3) c (omega arith) (omega arith) (omega arith) z.keeps z.third r)))))
 
   found-app : (a : Assignment) (u o c : ℕ) (g : List Slot) (m : Level) (h : List Entry) (l : Level) (e f : Expression) (s t : TermType) → Ready a u o c g m h l t
@@ -111,15 +99,9 @@ module _ (tops : List TopLevel) (schemes : List TopScheme) (known : AreSchemesOf
   found-app a u o c g m h l e f s t r part next =
       let z = started-starts a o c (function_type s t) s t 0 in
       let y = r.own in
-      let x : Own a (started a o c (function_type s t) s t 0) o c (o + 2) c (application_equations u o) [] = record {
-        unknowns = omega arith;
-        classifiers = omega arith;
-        keeps = z.keeps;
-        within = ((omega arith, (omega arith, omega arith)), tt);
-        below = tt;
-        solves = (z.first ∙ rw (z.second, Ready-gives z.keeps r) refl, tt);
-        fresh = tt;
-      } in
+      let x = Own-started (application_equations u o) (o + 2) c (omega arith) (omega arith) z
+      ((omega arith, (omega arith, omega arith)), tt)
+      (z.first ∙ rw (z.second, Ready-gives z.keeps r) refl, tt) in
       let one = part _ (Ready-part o (o + 2) c (omega arith) (omega arith) (omega arith) z.keeps z.first r) in
       let two = next one.by (Ready-later (o + 1) (omega arith) (omega arith) (omega arith) z.keeps z.second one r) in
       ending (omega arith) (omega arith) (first x (then one two))
@@ -129,15 +111,9 @@ module _ (tops : List TopLevel) (schemes : List TopScheme) (known : AreSchemesOf
   found-bind a u o c g m h l d e s t r part next =
       let z = started-starts a o c s s t 0 in
       let y = r.own in
-      let x : Own a (started a o c s s t 0) o c (o + 3) c (let_equations u o) [] = record {
-        unknowns = omega arith;
-        classifiers = omega arith;
-        keeps = z.keeps;
-        within = ((omega arith, omega arith), ((omega arith, omega arith), tt));
-        below = tt;
-        solves = (z.first ∙ sym z.second, (Ready-gives z.keeps r ∙ sym z.third, tt));
-        fresh = tt;
-      } in
+      let x = Own-started (let_equations u o) (o + 3) c (omega arith) (omega arith) z
+      ((omega arith, omega arith), ((omega arith, omega arith), tt))
+      (z.first ∙ sym z.second, (Ready-gives z.keeps r ∙ sym z.third, tt)) in
       let one = part _ (Ready-part (o + 1) (o + 3) c (omega arith) (omega arith) (omega arith) z.keeps z.second r) in
       let i = one.unknowns in
       let two = next one.by (Ready-bound o (omega arith) (sym (one.keeps.types o (omega arith)) ∙ z.first) (Ready-later (o + 2) (omega arith) (omega arith) (omega arith) z.keeps z.third one r)) in
@@ -151,15 +127,9 @@ module _ (tops : List TopLevel) (schemes : List TopScheme) (known : AreSchemesOf
   found-cond a u o c g m h l p d e t r part next last =
       let z = started-starts a o c bool_type t t 0 in
       let y = r.own in
-      let x : Own a (started a o c bool_type t t 0) o c (o + 3) c (condition_equations u o) [] = record {
-        unknowns = omega arith;
-        classifiers = omega arith;
-        keeps = z.keeps;
-        within = ((omega arith, tt), ((omega arith, omega arith), ((omega arith, omega arith), tt)));
-        below = tt;
-        solves = (z.first, (z.second ∙ sym (Ready-gives z.keeps r), (z.third ∙ sym (Ready-gives z.keeps r), tt)));
-        fresh = tt;
-      } in
+      let x = Own-started (condition_equations u o) (o + 3) c (omega arith) (omega arith) z
+      ((omega arith, tt), ((omega arith, omega arith), ((omega arith, omega arith), tt)))
+      (z.first, (z.second ∙ sym (Ready-gives z.keeps r), (z.third ∙ sym (Ready-gives z.keeps r), tt))) in
       let one = part _ (Ready-part o (o + 3) c (omega arith) (omega arith) (omega arith) z.keeps z.first r) in
       let two = next one.by (Ready-later (o + 1) (omega arith) (omega arith) (omega arith) z.keeps z.second one r) in
       let three = last two.by (Ready-later (o + 2) (omega arith) (omega arith) (omega arith) z.keeps z.third (then one two) r) in
@@ -170,15 +140,9 @@ module _ (tops : List TopLevel) (schemes : List TopScheme) (known : AreSchemesOf
   found-pair a u o c g m h l d e s t r part next =
       let z = started-starts a o c s t t 0 in
       let y = r.own in
-      let x : Own a (started a o c s t t 0) o c (o + 2) c (pair_equations u o) [] = record {
-        unknowns = omega arith;
-        classifiers = omega arith;
-        keeps = z.keeps;
-        within = ((omega arith, (omega arith, omega arith)), tt);
-        below = tt;
-        solves = (Ready-gives z.keeps r ∙ rw (z.first, z.second) refl, tt);
-        fresh = tt;
-      } in
+      let x = Own-started (pair_equations u o) (o + 2) c (omega arith) (omega arith) z
+      ((omega arith, (omega arith, omega arith)), tt)
+      (Ready-gives z.keeps r ∙ rw (z.first, z.second) refl, tt) in
       let one = part _ (Ready-part o (o + 2) c (omega arith) (omega arith) (omega arith) z.keeps z.first r) in
       let two = next one.by (Ready-later (o + 1) (omega arith) (omega arith) (omega arith) z.keeps z.second one r) in
       ending (omega arith) (omega arith) (first x (then one two))
@@ -190,15 +154,9 @@ module _ (tops : List TopLevel) (schemes : List TopScheme) (known : AreSchemesOf
   found-part a u o c g m h l e own other whole q gives within r part =
       let z = started-starts a o c other whole other 0 in
       let y = r.own in
-      let x : Own a (started a o c other whole other 0) o c (o + 2) c (equation (unknown (o + 1)) q ∷ []) [] = record {
-        unknowns = omega arith;
-        classifiers = omega arith;
-        keeps = z.keeps;
-        within = ((omega arith, within y), tt);
-        below = tt;
-        solves = (z.second ∙ gives _ (Ready-gives z.keeps r) z.first, tt);
-        fresh = tt;
-      } in
+      let x = Own-started (equation (unknown (o + 1)) q ∷ []) (o + 2) c (omega arith) (omega arith) z
+      ((omega arith, within y), tt)
+      (z.second ∙ gives _ (Ready-gives z.keeps r) z.first, tt) in
       ending (omega arith) refl (first x (part _ (Ready-part (o + 1) (o + 2) c (omega arith) (omega arith) (omega arith) z.keeps z.second r)))
 
   found-fst : (a : Assignment) (u o c : ℕ) (g : List Slot) (m : Level) (h : List Entry) (l : Level) (e : Expression) (s t : TermType) → Ready a u o c g m h l s
@@ -214,15 +172,9 @@ module _ (tops : List TopLevel) (schemes : List TopScheme) (known : AreSchemesOf
   found-prim a u o c g m h l p d e t q r part next =
       let z = started-starts a o c int_type int_type t 0 in
       let y = r.own in
-      let x : Own a (started a o c int_type int_type t 0) o c (o + 2) c (primitive_equations u o p) [] = record {
-        unknowns = omega arith;
-        classifiers = omega arith;
-        keeps = z.keeps;
-        within = ((omega arith, tt), ((omega arith, tt), ((omega arith, Within-primitive_expression _ _ p), tt)));
-        below = tt;
-        solves = (z.first, (z.second, (Ready-gives z.keeps r ∙ q ∙ sym (value-primitive_expression _ p), tt)));
-        fresh = tt;
-      } in
+      let x = Own-started (primitive_equations u o p) (o + 2) c (omega arith) (omega arith) z
+      ((omega arith, tt), ((omega arith, tt), ((omega arith, Within-primitive_expression _ _ p), tt)))
+      (z.first, (z.second, (Ready-gives z.keeps r ∙ q ∙ sym (value-primitive_expression _ p), tt))) in
       let one = part _ (Ready-part o (o + 2) c (omega arith) (omega arith) (omega arith) z.keeps z.first r) in
       let two = next one.by (Ready-later (o + 1) (omega arith) (omega arith) (omega arith) z.keeps z.second one r) in
       ending (omega arith) (omega arith) (first x (then one two))
@@ -232,15 +184,9 @@ module _ (tops : List TopLevel) (schemes : List TopScheme) (known : AreSchemesOf
   found-bracket a u o c g h k e t r part =
       let z = started-starts a o c t t t k in
       let y = r.own in
-      let x : Own a (started a o c t t t k) o c (o + 1) (c + 1) (bracket_equations u o c) [] = record {
-        unknowns = omega arith;
-        classifiers = omega arith;
-        keeps = z.keeps;
-        within = ((omega arith, (omega arith, omega arith)), tt);
-        below = tt;
-        solves = (Ready-gives z.keeps r ∙ rw (z.first, z.label) refl, tt);
-        fresh = tt;
-      } in
+      let x = Own-started (bracket_equations u o c) (o + 1) (c + 1) (omega arith) (omega arith) z
+      ((omega arith, (omega arith, omega arith)), tt)
+      (Ready-gives z.keeps r ∙ rw (z.first, z.label) refl, tt) in
       ending (omega arith) (omega arith) (first x (part _ (Ready-under c k (omega arith) z.label (Ready-part o (o + 1) (c + 1) (omega arith) (omega arith) (omega arith) z.keeps z.first r))))
 
   found-escape : (a : Assignment) (u o c : ℕ) (g : List Slot) (d : ℕ) (h : List Entry) (k : ℕ) (e : Expression) (t : TermType) → Ready a u o c g (under d) h (under k) t
@@ -250,15 +196,9 @@ module _ (tops : List TopLevel) (schemes : List TopScheme) (known : AreSchemesOf
       let y = r.own in
       let w : d < c = r.level in
       let n : a.classifier d ≡ k = let q = r.at in cc in
-      let x : Own a (started a o c (code_type k t) t t 0) o c (o + 1) c (escape_equations u o d) [] = record {
-        unknowns = omega arith;
-        classifiers = omega arith;
-        keeps = z.keeps;
-        within = ((omega arith, (w, omega arith)), tt);
-        below = tt;
-        solves = (z.first ∙ rw (← z.keeps.classifiers d w, n, Ready-gives z.keeps r) refl, tt);
-        fresh = tt;
-      } in
+      let x = Own-started (escape_equations u o d) (o + 1) c (omega arith) (omega arith) z
+      ((omega arith, (w, omega arith)), tt)
+      (z.first ∙ rw (← z.keeps.classifiers d w, n, Ready-gives z.keeps r) refl, tt) in
       ending (omega arith) refl (first x (part _ (Ready-live (Ready-part o (o + 1) c (omega arith) (omega arith) (omega arith) z.keeps z.first r))))
 
   found-run : (a : Assignment) (u o c : ℕ) (g : List Slot) (h : List Entry) (k : KernelType) (e : Expression) (t : TermType) → t ≡ kernel_type k → Ready a u o c g live h live t
@@ -266,15 +206,9 @@ module _ (tops : List TopLevel) (schemes : List TopScheme) (known : AreSchemesOf
   found-run a u o c g h k e t q r part =
       let z = started-starts a o c (closed_type t) t t 0 in
       let y = r.own in
-      let x : Own a (started a o c (closed_type t) t t 0) o c (o + 1) c (run_equations u o k) [] = record {
-        unknowns = omega arith;
-        classifiers = omega arith;
-        keeps = z.keeps;
-        within = ((omega arith, Within-kernel_expression _ _ k), ((omega arith, Within-kernel_expression _ _ k), tt));
-        below = tt;
-        solves = (z.first ∙ ap closed_type (q ∙ sym (value-kernel_expression _ k)), (Ready-gives z.keeps r ∙ q ∙ sym (value-kernel_expression _ k), tt));
-        fresh = tt;
-      } in
+      let x = Own-started (run_equations u o k) (o + 1) c (omega arith) (omega arith) z
+      ((omega arith, Within-kernel_expression _ _ k), ((omega arith, Within-kernel_expression _ _ k), tt))
+      (z.first ∙ ap closed_type (q ∙ sym (value-kernel_expression _ k)), (Ready-gives z.keeps r ∙ q ∙ sym (value-kernel_expression _ k), tt)) in
       ending (omega arith) refl (first x (part _ (Ready-part o (o + 1) c (omega arith) (omega arith) (omega arith) z.keeps z.first r)))
 
   found-close : (a : Assignment) (u o c : ℕ) (g : List Slot) (h : List Entry) (k at : ℕ) (e : Expression) (t : TermType) → IsAbsent k h → Ready a u o c g live h live (closed_type t)
@@ -299,15 +233,9 @@ module _ (tops : List TopLevel) (schemes : List TopScheme) (known : AreSchemesOf
   found-open a u o c g h k e t r part =
       let z = started-starts a o c t (closed_type t) t k in
       let y = r.own in
-      let x : Own a (started a o c t (closed_type t) t k) o c (o + 2) (c + 1) (open_equations u o c) [] = record {
-        unknowns = omega arith;
-        classifiers = omega arith;
-        keeps = z.keeps;
-        within = ((omega arith, omega arith), ((omega arith, (omega arith, omega arith)), tt));
-        below = tt;
-        solves = (z.second ∙ rw z.first refl, (Ready-gives z.keeps r ∙ rw (z.first, z.label) refl, tt));
-        fresh = tt;
-      } in
+      let x = Own-started (open_equations u o c) (o + 2) (c + 1) (omega arith) (omega arith) z
+      ((omega arith, omega arith), ((omega arith, (omega arith, omega arith)), tt))
+      (z.second ∙ rw z.first refl, (Ready-gives z.keeps r ∙ rw (z.first, z.label) refl, tt)) in
       ending (omega arith) (omega arith) (first x (part _ (Ready-part (o + 1) (o + 2) (c + 1) (omega arith) (omega arith) (omega arith) z.keeps z.second r)))
 
   -- both lifts, at a base type
@@ -316,15 +244,9 @@ module _ (tops : List TopLevel) (schemes : List TopScheme) (known : AreSchemesOf
   found-lift b a u o c g h k e r part =
       let z = started-starts a o c (base_type b) int_type int_type k in
       let y = r.own in
-      let x : Own a (started a o c (base_type b) int_type int_type k) o c (o + 1) (c + 1) (lift_equations u o c b) [] = record {
-        unknowns = omega arith;
-        classifiers = omega arith;
-        keeps = z.keeps;
-        within = ((omega arith, Within-base_expression _ _ b), ((omega arith, (omega arith, Within-base_expression _ _ b)), tt));
-        below = tt;
-        solves = (z.first ∙ sym (value-base_expression _ b), (Ready-gives z.keeps r ∙ rw (z.label, value-base_expression (started a o c (base_type b) int_type int_type k) b) refl, tt));
-        fresh = tt;
-      } in
+      let x = Own-started (lift_equations u o c b) (o + 1) (c + 1) (omega arith) (omega arith) z
+      ((omega arith, Within-base_expression _ _ b), ((omega arith, (omega arith, Within-base_expression _ _ b)), tt))
+      (z.first ∙ sym (value-base_expression _ b), (Ready-gives z.keeps r ∙ rw (z.label, value-base_expression (started a o c (base_type b) int_type int_type k) b) refl, tt)) in
       ending (omega arith) (omega arith) (first x (part _ (Ready-part o (o + 1) (c + 1) (omega arith) (omega arith) (omega arith) z.keeps z.first r)))
 
   -- each type of a term comes from a solution that goes on from an assignment which is ready for it

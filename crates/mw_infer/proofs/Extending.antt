@@ -128,6 +128,11 @@ pub record Own (a b : Assignment) (o c p d : ℕ) (es : List TypeEquation) (xs :
   pub solves : Solves b es
   pub fresh : AreFresh b xs
 
+-- a form's own equations, which speak of the types and the classifier that an assignment goes on with; it has no close of
+-- its own
+pub Own-started : {a b : Assignment} {o c : ℕ} {s t r : TermType} {k : ℕ} (es : List TypeEquation) (p d : ℕ) → o ≤ p → c ≤ d → Starts a b o c s t r k → AllWithin p d es → Solves b es → Own a b o c p d es []
+Own-started es p d i j z w h = record { unknowns = i; classifiers = j; keeps = z.keeps; within = w; below = tt; solves = h; fresh = tt }
+
 -- a term after what stands first
 pub first : {a b : Assignment} {o c p d q f : ℕ} {es fs : List TypeEquation} {xs ys : List Close} → Own a b o c p d es xs → Grown b p d q f fs ys → Grown a o c q f (es ++ fs) (xs ++ ys)
 first one two = then (record { by = _; keeps = one.keeps; solves = one.solves; fresh = one.fresh; unknowns = one.unknowns; classifiers = one.classifiers; within = one.within; below = one.below }) two

@@ -5,6 +5,7 @@ use Rattle.mw_term.specs.declared.term.Primitive.{Primitive as Prim}
 use Rattle.mw_term.specs.declared.term.Primitive.TheVariants.{Add, Sub, Mul, Div, Mod, Eq, Lt, Le}
 use Rattle.mw_term.specs.Types.{TermType, int_type, bool_type, pair_type, function_type, code_type, closed_type, Level, live, under, Entry, value as at_live, quoted, entry, IsPlain, IsFormed, Fits, IsAbsentIn, IsAbsent, primitive_type}
 use Rattle.mw_term.proofs.Renaming.{rename_type}
+use Rattle.mw_term.proofs.MovedCode.{IsFormed-plain}
 use Rattle.mw_types.specs.Types.{Assignment}
 use Rattle.mw_infer.specs.ItemEquations.{Slot, plain_slot, quoted_slot, slot}
 use Rattle.mw_infer.specs.Inferring.{entry_of, flat_type, formed_type}
@@ -43,12 +44,7 @@ formed_type-formed (code_type a t) h = rw (flat_type-plain t h) refl
 formed_type-formed (closed_type t) h = rw (flat_type-plain t h) refl
 
 pub formed_type-plain : (t : TermType) → IsPlain t → formed_type t ≡ t
-formed_type-plain int_type h = refl
-formed_type-plain bool_type h = refl
-formed_type-plain (pair_type s t) h = rw (formed_type-plain s h.0, formed_type-plain t h.1) refl
-formed_type-plain (function_type s t) h = rw (formed_type-plain s h.0, formed_type-plain t h.1) refl
-formed_type-plain (code_type a t) h = absurd h
-formed_type-plain (closed_type t) h = absurd h
+formed_type-plain t h = formed_type-formed t (IsFormed-plain t h)
 
 -- classifiers only go
 IsAbsentIn-flat_type : (k : ℕ) (t : TermType) → IsAbsentIn k (flat_type t)

@@ -1,8 +1,9 @@
 -- A definition has one scheme at most whose numbers are in order.
 use Rattle.std.proofs.Common.{◌≡◌, ℕ, zero, suc, ◌<◌, List, refl, ap, sym, ◌∙◌, arith}
 use Rattle.mw_term.specs.Terms.{Expression}
-use Rattle.mw_term.specs.Types.{TermType, int_type, bool_type, pair_type, function_type, code_type, closed_type, IsPlain, IsFormed}
+use Rattle.mw_term.specs.Types.{TermType, int_type, pair_type, IsPlain, IsFormed}
 use Rattle.mw_term.specs.Typing.{TopLevel}
+use Rattle.mw_term.proofs.MovedCode.{IsFormed-plain}
 use Rattle.mw_types.specs.Types.{TypeExpression, int_ty, bool_ty, unknown, pair_ty, function_ty, code_ty, closed_ty, Assignment, value}
 use Rattle.mw_infer.specs.Schemes.{Scheme, IsNumbered, an_int, a_bool, seen, next, a_pair, a_function, code_seen, code_next, a_closed, IsInOrder}
 use Rattle.mw_infer.specs.Inferring.{least, flat_type, formed_type, IsSchemeOf}
@@ -17,18 +18,10 @@ plain_under b d (function_ty s t) h e = (plain_under b d s h (cc), plain_under b
 plain_under b d (code_ty c t) h e = absurd (cc)
 plain_under b d (closed_ty t) h e = absurd (cc)
 
-formed_plain : (t : TermType) → IsPlain t → IsFormed t
-formed_plain int_type h = tt
-formed_plain bool_type h = tt
-formed_plain (pair_type s t) h = (formed_plain s h.0, formed_plain t h.1)
-formed_plain (function_type s t) h = (formed_plain s h.0, formed_plain t h.1)
-formed_plain (code_type a t) h = absurd h
-formed_plain (closed_type t) h = absurd h
-
 formed_under : (b d : Assignment) (t : TypeExpression) → ((u : ℕ) → IsPlain (b.ty u)) → value d t ≡ formed_type (value b t) → IsFormed (value b t)
 formed_under b d int_ty h e = tt
 formed_under b d bool_ty h e = tt
-formed_under b d (unknown u) h e = formed_plain (b.ty u) (h u)
+formed_under b d (unknown u) h e = IsFormed-plain (b.ty u) (h u)
 formed_under b d (pair_ty s t) h e = (formed_under b d s h (cc), formed_under b d t h (cc))
 formed_under b d (function_ty s t) h e = (formed_under b d s h (cc), formed_under b d t h (cc))
 formed_under b d (code_ty c t) h e = plain_under b d t h (cc)

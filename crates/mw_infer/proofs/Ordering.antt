@@ -137,6 +137,21 @@ record Ordered (p q : Numbers) (t : TypeExpression) : Type 0 where
 first-kept : (p q : Numbers) (s t : TypeExpression) (x : Ordered p q s) (y : Ordered x.k x.l t) → renamed y.k.old y.l.old x.type ≡ s
 first-kept p q s t x y = renamed-kept y.unknowns y.classifiers x.type (reaches x.numbered).within ∙ x.is
 
+-- a type of two parts, from theirs
+ordered-both : (p q : Numbers) (s t whole : TypeExpression) (x : Ordered p q s) (y : Ordered x.k x.l t) (type : TypeExpression)
+    → renamed y.k.old y.l.old type ≡ whole → IsNumbered p.count q.count type y.k.count y.l.count → nodes s + nodes t ≤ nodes whole → Ordered p q whole
+ordered-both p q s t whole x y type e f le = record {
+  k = y.k;
+  l = y.l;
+  type = type;
+  unknowns = Grows-join x.unknowns y.unknowns;
+  classifiers = Grows-join x.classifiers y.classifiers;
+  is = e;
+  numbered = f;
+  unknown_count = omega (arith, x.unknown_count, y.unknown_count);
+  classifier_count = omega (arith, x.classifier_count, y.classifier_count);
+}
+
 ordered : (p q : Numbers) (t : TypeExpression) → Ordered p q t
 ordered p q int_ty = record { k = p; l = q; type = int_ty; unknowns = Grows-same p; classifiers = Grows-same q; is = refl; numbered = an_int; unknown_count = omega arith; classifier_count = omega arith }
 ordered p q bool_ty = record { k = p; l = q; type = bool_ty; unknowns = Grows-same p; classifiers = Grows-same q; is = refl; numbered = a_bool; unknown_count = omega arith; classifier_count = omega arith }
@@ -156,31 +171,11 @@ ordered p q (unknown u) =
 ordered p q (pair_ty s t) =
     let x = ordered p q s in
     let y = ordered x.k x.l t in
-    record {
-      k = y.k;
-      l = y.l;
-      type = pair_ty x.type y.type;
-      unknowns = Grows-join x.unknowns y.unknowns;
-      classifiers = Grows-join x.classifiers y.classifiers;
-      is = rw (first-kept p q s t x y, y.is) refl;
-      numbered = a_pair x.numbered y.numbered;
-      unknown_count = omega (arith, x.unknown_count, y.unknown_count);
-      classifier_count = omega (arith, x.classifier_count, y.classifier_count);
-    }
+    ordered-both p q s t _ x y (pair_ty x.type y.type) (rw (first-kept p q s t x y, y.is) refl) (a_pair x.numbered y.numbered) (omega arith)
 ordered p q (function_ty s t) =
     let x = ordered p q s in
     let y = ordered x.k x.l t in
-    record {
-      k = y.k;
-      l = y.l;
-      type = function_ty x.type y.type;
-      unknowns = Grows-join x.unknowns y.unknowns;
-      classifiers = Grows-join x.classifiers y.classifiers;
-      is = rw (first-kept p q s t x y, y.is) refl;
-      numbered = a_function x.numbered y.numbered;
-      unknown_count = omega (arith, x.unknown_count, y.unknown_count);
-      classifier_count = omega (arith, x.classifier_count, y.classifier_count);
-    }
+    ordered-both p q s t _ x y (function_ty x.type y.type) (rw (first-kept p q s t x y, y.is) refl) (a_function x.numbered y.numbered) (omega arith)
 ordered p q (code_ty c t) =
     let x = number q c in
     let y = ordered p x.0 t in

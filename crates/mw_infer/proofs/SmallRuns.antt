@@ -10,24 +10,15 @@ use Rattle.mw_term.specs.Programs.{Definition, value as defines, kernel, PurePro
 use Rattle.mw_term.specs.Typing.{TopLevel}
 use Rattle.mw_term.specs.Typable.{seen_by_item}
 use Rattle.mw_term.specs.SmallTypes.{HasSmallRuns, HasSmallDefinition, HasSmallTypes}
-use Rattle.mw_types.specs.Types.{TypeExpression, int_ty, bool_ty, unknown, pair_ty, function_ty, code_ty, closed_ty, value, nodes, size, Substitution, after}
+use Rattle.mw_types.specs.Types.{unknown, closed_ty, value, nodes, size, Substitution, after}
 use Rattle.mw_types.specs.Equations.{Solves, IsSmall}
+use Rattle.mw_types.proofs.Smallest.{least_size}
 use Rattle.mw_infer.specs.Schemes.{TopScheme, kernel_expression}
 use Rattle.mw_infer.specs.ItemEquations.{Slot, slot, unknowns_of, classifiers_of, equations}
 use Rattle.mw_infer.specs.Inferring.{kernel_place, own_equations, least}
 use Rattle.mw_infer.specs.Checking.{Part, part_of_item, part_of_main, an_item, main, IsFaultless, AreFaultless, HasSmallKernels}
 use Rattle.mw_infer.proofs.Shifting.{value-kernel_expression}
 use Rattle.mw_infer.proofs.Sound.{Solves-parts, Solves-three, no_wrong}
-
--- an unknown is one node, as the int that stands for it
-size-least : (t : TypeExpression) → size (value least t) ≡ nodes t
-size-least int_ty = refl
-size-least bool_ty = refl
-size-least (unknown u) = refl
-size-least (pair_ty s t) = rw (size-least s, size-least t) refl
-size-least (function_ty s t) = rw (size-least s, size-least t) refl
-size-least (code_ty c t) = rw (size-least t) refl
-size-least (closed_ty t) = rw (size-least t) refl
 
 size-ground : (t : GroundType) → size (ground_type t) ≡ ground_nodes t
 size-ground (base Int) = refl
@@ -44,7 +35,7 @@ module _ (tops : List TopScheme) (n : ℕ) (s : Substitution) (small : IsSmall n
       → value (after least s) (unknown o) ≡ value (after least s) (closed_ty (kernel_expression k)) → kernel_nodes k ≤ 10000
   small-run o k le e =
       let v = ap closed_type (value-kernel_expression (after least s) k) in
-      let p : nodes (s.ty o) ≡ size (kernel_type k) + 1 = sym (size-least (s.ty o)) ∙ ap size (e ∙ v) in
+      let p : nodes (s.ty o) ≡ size (kernel_type k) + 1 = sym (least_size (s.ty o)) ∙ ap size (e ∙ v) in
       omega (arith, p, size-kernel k)
 
   -- a term whose equations have a small solution

@@ -17,7 +17,7 @@ Moves-binder {a} {m} {f} {g} h s = record { at = go }
     go zero t e = let p : s ≡ t = cc in rw p refl
     go (suc i) t e = h.at i t e
 
-IsFormed-plain : (t : TermType) → IsPlain t → IsFormed t
+pub IsFormed-plain : (t : TermType) → IsPlain t → IsFormed t
 IsFormed-plain int_type h = tt
 IsFormed-plain bool_type h = tt
 IsFormed-plain (pair_type s t) h = (IsFormed-plain s h.0, IsFormed-plain t h.1)

@@ -7,26 +7,20 @@ use Rattle.mw_meaning.specs.StandingFor.{StandsFor}
 use Rattle.mw_meaning.proofs.SimplifyingKept.{keeps_kernel_type}
 use Rattle.mw_wasm.specs.Views.{module_of}
 use Rattle.mw_machine.specs.declared.kernels.Ran.TheVariants as ran
-use Rattle.mw_machine.specs.KernelCalls.{IsRunAt, AnswersRun}
+use Rattle.mw_machine.specs.KernelCalls.{IsRunAt}
 use Rattle.mw_kernel.specs.declared.running.Began.TheVariants as began
 use Rattle.mw_kernel.specs.KernelAnswers.{HasStartType}
 use Rattle.mw_kernel.specs.KernelMeanings.{IsBeganFrom}
 use Rattle.mw_emitting.specs.KeptFunctions.{IsKept}
-use Rattle.mw_emitting.proofs.EmittingLemmas.{run_meant, run_at, run_keeps, run_wants}
+use Rattle.mw_emitting.proofs.EmittingLemmas.{run_answers, run_at, run_keeps, run_wants}
 use Rattle.mw_emitting.proofs.KeptLemmas.{all_pushed, function_of_same}
 use Rattle.mw_emitting.proofs.kernels.EmittingKernels.answer.Goals as goal
 
 pub returns-in-Ok-Value-clause-means : goal.returns-in-Ok-Value-clause-means
 returns-in-Ok-Value-clause-means g c =
-    let code = expression_of c.args.code.now in
-    let kind = kernel_type_of c.args.kind.now in
-    let mode = c.self.inside.mode in
-    let typed = keeps_kernel_type mode code kind c.requires.typed in
     let entry = c.in_ok-entry.ensures.entry in
-    subst (λ mode. AnswersRun mode (Ok (ran.Value c.in-Ok-Value.value c.in-Ok-Value.left)) code kind c.args.fuel) (ap (λ s. s.mode) c.self.view_is)
-    (run_meant mode 0 (began.Value c.in-Ok-Value.value c.in-Ok-Value.left) code kind c.args.fuel typed.is_code entry.is_text.kernel.literals
-    (subst (λ b. IsBeganFrom kind b (kernel_meaning c.args.fuel 0 (in_mode mode code))) c.in-Ok-Value.field-0-is
-    (c.in-Ok-Value.ensures.means (in_mode mode code) typed (subst (λ w. StandsFor (module_of w) (in_mode mode code) kind) (sym c.module.ensures.wasm) entry.is.stands))))
+    run_answers c.self.inside.mode _ 0 (began.Value c.in-Ok-Value.value c.in-Ok-Value.left) _ _ _ (expression_of c.args.code.now) (kernel_type_of c.args.kind.now) c.args.fuel
+    (ap (λ s. s.mode) c.self.view_is) c.in-Ok-Value.field-0-is c.module.ensures.wasm c.requires.typed entry.is_text.kernel.literals entry.is.stands c.in-Ok-Value.ensures.means
 
 pub invariant_of-self-in-Ok-Function : goal.invariant_of-self-in-Ok-Function
 invariant_of-self-in-Ok-Function g c = λ open'.
@@ -46,15 +40,9 @@ invariant_of-self-in-Ok-Function g c = λ open'.
 
 pub returns-in-Ok-Function-clause-means : goal.returns-in-Ok-Function-clause-means
 returns-in-Ok-Function-clause-means g c =
-    let code = expression_of c.args.code.now in
-    let kind = kernel_type_of c.args.kind.now in
-    let mode = c.self.inside.mode in
-    let typed = keeps_kernel_type mode code kind c.requires.typed in
     let entry = c.in_ok-entry.ensures.entry in
-    subst (λ mode. AnswersRun mode (Ok (ran.Function c.len-which.result c.in-Ok-Function.left)) code kind c.args.fuel) (ap (λ s. s.mode) c.self.view_is)
-    (run_meant mode c.len-which.result (began.Function c.in-Ok-Function.running c.in-Ok-Function.left) code kind c.args.fuel typed.is_code entry.is_text.kernel.literals
-    (subst (λ b. IsBeganFrom kind b (kernel_meaning c.args.fuel 0 (in_mode mode code))) c.in-Ok-Function.field-0-is
-    (c.in-Ok-Function.ensures.means (in_mode mode code) typed (subst (λ w. StandsFor (module_of w) (in_mode mode code) kind) (sym c.module.ensures.wasm) entry.is.stands))))
+    run_answers c.self.inside.mode _ c.len-which.result (began.Function c.in-Ok-Function.running c.in-Ok-Function.left) _ _ _ (expression_of c.args.code.now) (kernel_type_of c.args.kind.now) c.args.fuel
+    (ap (λ s. s.mode) c.self.view_is) c.in-Ok-Function.field-0-is c.module.ensures.wasm c.requires.typed entry.is_text.kernel.literals entry.is.stands c.in-Ok-Function.ensures.means
 
 pub returns-in-Ok-Function-clause-types : goal.returns-in-Ok-Function-clause-types
 returns-in-Ok-Function-clause-types g c =
@@ -64,27 +52,15 @@ returns-in-Ok-Function-clause-types g c =
 
 pub returns-in-Ok-Trap-clause-means : goal.returns-in-Ok-Trap-clause-means
 returns-in-Ok-Trap-clause-means g c =
-    let code = expression_of c.args.code.now in
-    let kind = kernel_type_of c.args.kind.now in
-    let mode = c.self.inside.mode in
-    let typed = keeps_kernel_type mode code kind c.requires.typed in
     let entry = c.in_ok-entry.ensures.entry in
-    subst (λ mode. AnswersRun mode (Ok (ran.Trap c.in-Ok-Trap.trap)) code kind c.args.fuel) (ap (λ s. s.mode) c.self.view_is)
-    (run_meant mode 0 (began.Trap c.in-Ok-Trap.trap) code kind c.args.fuel typed.is_code entry.is_text.kernel.literals
-    (subst (λ b. IsBeganFrom kind b (kernel_meaning c.args.fuel 0 (in_mode mode code))) c.in-Ok-Trap.field-0-is
-    (c.in-Ok-Trap.ensures.means (in_mode mode code) typed (subst (λ w. StandsFor (module_of w) (in_mode mode code) kind) (sym c.module.ensures.wasm) entry.is.stands))))
+    run_answers c.self.inside.mode _ 0 (began.Trap c.in-Ok-Trap.trap) _ _ _ (expression_of c.args.code.now) (kernel_type_of c.args.kind.now) c.args.fuel
+    (ap (λ s. s.mode) c.self.view_is) c.in-Ok-Trap.field-0-is c.module.ensures.wasm c.requires.typed entry.is_text.kernel.literals entry.is.stands c.in-Ok-Trap.ensures.means
 
 pub returns-in-Ok-Bound-clause-means : goal.returns-in-Ok-Bound-clause-means
 returns-in-Ok-Bound-clause-means g c =
-    let code = expression_of c.args.code.now in
-    let kind = kernel_type_of c.args.kind.now in
-    let mode = c.self.inside.mode in
-    let typed = keeps_kernel_type mode code kind c.requires.typed in
     let entry = c.in_ok-entry.ensures.entry in
-    subst (λ mode. AnswersRun mode (Ok (ran.Bound c.in-Ok-Bound.limit)) code kind c.args.fuel) (ap (λ s. s.mode) c.self.view_is)
-    (run_meant mode 0 (began.Bound c.in-Ok-Bound.limit) code kind c.args.fuel typed.is_code entry.is_text.kernel.literals
-    (subst (λ b. IsBeganFrom kind b (kernel_meaning c.args.fuel 0 (in_mode mode code))) c.in-Ok-Bound.field-0-is
-    (c.in-Ok-Bound.ensures.means (in_mode mode code) typed (subst (λ w. StandsFor (module_of w) (in_mode mode code) kind) (sym c.module.ensures.wasm) entry.is.stands))))
+    run_answers c.self.inside.mode _ 0 (began.Bound c.in-Ok-Bound.limit) _ _ _ (expression_of c.args.code.now) (kernel_type_of c.args.kind.now) c.args.fuel
+    (ap (λ s. s.mode) c.self.view_is) c.in-Ok-Bound.field-0-is c.module.ensures.wasm c.requires.typed entry.is_text.kernel.literals entry.is.stands c.in-Ok-Bound.ensures.means
 
 pub want-requires : goal.want-requires
 want-requires g c =
