@@ -738,10 +738,10 @@ const FIRST_STAGE_CALLS: &str = "main : int = let a = (fun x -> x) ((fun x -> x)
 const ENDINGS: [(&str, &str, &str, &str); 21] = [
     // 524,288 words, which the unused pairs would take
     (
-        "main : int = taking 17476 + taking 17476",
+        "main : int = taking 17476",
         "1000000",
-        "answer 6",
-        "answer 6",
+        "answer 3",
+        "answer 3",
     ),
     (
         "main : int = taking 17477",
