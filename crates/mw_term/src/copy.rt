@@ -47,6 +47,7 @@ pub fn copied_kernel_type(alloc: Global, kind: &KType) -> Result<KType, AllocErr
 }
 
 /// The same term.
+#[cycle(terms)]
 pub fn copied_term(alloc: Global, term: &Term) -> Result<Term, AllocError>
     ensures { IfOk result (λ copy. expression_of copy ≡ expression_of term.now) }
 {
@@ -55,47 +56,49 @@ pub fn copied_term(alloc: Global, term: &Term) -> Result<Term, AllocError>
         Term::Bool(b) => Ok(Term::Bool(*b)),
         Term::Var(i) => Ok(Term::Var(*i)),
         Term::Glob(i) => Ok(Term::Glob(*i)),
-        Term::Fun(e) => Ok(Term::Fun(Box::new(alloc, copied_term(alloc, e)?)?)),
-        Term::Rec(e) => Ok(Term::Rec(Box::new(alloc, copied_term(alloc, e)?)?)),
-        Term::App(f, a) => Ok(Term::App(
-            Box::new(alloc, copied_term(alloc, f)?)?,
-            Box::new(alloc, copied_term(alloc, a)?)?,
-        )),
-        Term::Let(d, e) => Ok(Term::Let(
-            Box::new(alloc, copied_term(alloc, d)?)?,
-            Box::new(alloc, copied_term(alloc, e)?)?,
-        )),
-        Term::If(c, a, b) => {
-            let condition = Box::new(alloc, copied_term(alloc, c)?)?;
-            Ok(Term::If(
-                condition,
-                Box::new(alloc, copied_term(alloc, a)?)?,
-                Box::new(alloc, copied_term(alloc, b)?)?,
-            ))
+        Term::Fun(e) => Ok(Term::Fun(boxed_copy(alloc, e)?)),
+        Term::Rec(e) => Ok(Term::Rec(boxed_copy(alloc, e)?)),
+        Term::App(f, a) => {
+            let f = boxed_copy(alloc, f)?;
+            Ok(Term::App(f, boxed_copy(alloc, a)?))
         }
-        Term::Pair(a, b) => Ok(Term::Pair(
-            Box::new(alloc, copied_term(alloc, a)?)?,
-            Box::new(alloc, copied_term(alloc, b)?)?,
-        )),
-        Term::Fst(e) => Ok(Term::Fst(Box::new(alloc, copied_term(alloc, e)?)?)),
-        Term::Snd(e) => Ok(Term::Snd(Box::new(alloc, copied_term(alloc, e)?)?)),
-        Term::Prim(p, a, b) => Ok(Term::Prim(
-            *p,
-            Box::new(alloc, copied_term(alloc, a)?)?,
-            Box::new(alloc, copied_term(alloc, b)?)?,
-        )),
+        Term::Let(d, e) => {
+            let d = boxed_copy(alloc, d)?;
+            Ok(Term::Let(d, boxed_copy(alloc, e)?))
+        }
+        Term::If(c, a, b) => {
+            let c = boxed_copy(alloc, c)?;
+            let a = boxed_copy(alloc, a)?;
+            Ok(Term::If(c, a, boxed_copy(alloc, b)?))
+        }
+        Term::Pair(a, b) => {
+            let a = boxed_copy(alloc, a)?;
+            Ok(Term::Pair(a, boxed_copy(alloc, b)?))
+        }
+        Term::Fst(e) => Ok(Term::Fst(boxed_copy(alloc, e)?)),
+        Term::Snd(e) => Ok(Term::Snd(boxed_copy(alloc, e)?)),
+        Term::Prim(p, a, b) => {
+            let a = boxed_copy(alloc, a)?;
+            Ok(Term::Prim(*p, a, boxed_copy(alloc, b)?))
+        }
         Term::Run(kind, e) => {
             let kind = copied_kernel_type(alloc, kind)?;
-            Ok(Term::Run(kind, Box::new(alloc, copied_term(alloc, e)?)?))
+            Ok(Term::Run(kind, boxed_copy(alloc, e)?))
         }
-        Term::Bracket(e) => Ok(Term::Bracket(Box::new(alloc, copied_term(alloc, e)?)?)),
-        Term::Escape(e) => Ok(Term::Escape(Box::new(alloc, copied_term(alloc, e)?)?)),
-        Term::CloseCode(at, e) => Ok(Term::CloseCode(
-            *at,
-            Box::new(alloc, copied_term(alloc, e)?)?,
-        )),
-        Term::OpenCode(e) => Ok(Term::OpenCode(Box::new(alloc, copied_term(alloc, e)?)?)),
-        Term::Lift(e) => Ok(Term::Lift(Box::new(alloc, copied_term(alloc, e)?)?)),
-        Term::LiftB(e) => Ok(Term::LiftB(Box::new(alloc, copied_term(alloc, e)?)?)),
+        Term::Bracket(e) => Ok(Term::Bracket(boxed_copy(alloc, e)?)),
+        Term::Escape(e) => Ok(Term::Escape(boxed_copy(alloc, e)?)),
+        Term::CloseCode(at, e) => Ok(Term::CloseCode(*at, boxed_copy(alloc, e)?)),
+        Term::OpenCode(e) => Ok(Term::OpenCode(boxed_copy(alloc, e)?)),
+        Term::Lift(e) => Ok(Term::Lift(boxed_copy(alloc, e)?)),
+        Term::LiftB(e) => Ok(Term::LiftB(boxed_copy(alloc, e)?)),
     }
+}
+
+/// The same term, in a box.
+#[cycle(terms)]
+fn boxed_copy(alloc: Global, term: &Term) -> Result<Box<Term>, AllocError>
+    ensures { IfOk result (λ copy. expression_of copy.value ≡ expression_of term.now) }
+{
+    let copy = copied_term(alloc, term)?;
+    Ok(Box::new(alloc, copy)?)
 }
