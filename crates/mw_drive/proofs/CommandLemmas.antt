@@ -9,7 +9,7 @@ use Rattle.mw_words.specs.Words.{PureCommand, run, sample, Means, run_command, e
 use Rattle.mw_words.proofs.LawLemmas.{one_command}
 use Rattle.mw_console.specs.declared.status.Status.{Status}
 use Rattle.mw_console.specs.declared.status.Status.TheVariants.{Answer, Trap, Refused, Bound, Usage, Read, Write, Memory}
-use Rattle.mw_drive.specs.Works.{Work, running, erasing, sampling, Meaning, refused, ran, sampled, IsMeaning, of_refusal, of_types, of_program, IsOutput, status_of}
+use Rattle.mw_drive.specs.Works.{Work, running, erasing, sampling, Meaning, ran, IsMeaning, of_refusal, of_types, of_program, IsOutput, status_of}
 use Rattle.mw_drive.specs.ProgramMeaning.{Kernel}
 use Rattle.mw_drive.specs.SimplifiedPrograms.{IsUnbounded}
 use Rattle.mw_drive.specs.declared.source.Evaluation.TheVariants.{Run}

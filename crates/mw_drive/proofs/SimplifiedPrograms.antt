@@ -1,5 +1,5 @@
 -- Programs end alike where kernels are simplified.
-use Rattle.std.proofs.Common.{◌≡◌, ℕ, ◌≤◌, zero, suc, List, [], ◌∷◌, ◌++◌, Some, refl, ◌∙◌, subst}
+use Rattle.std.proofs.Common.{◌≡◌, ℕ, ◌≤◌, zero, suc, List, [], ◌∷◌, ◌++◌, Some, refl, subst}
 use Rattle.std.specs.Prelude.{map, slice_get}
 use Rattle.mw_term.specs.Programs.{Definition, value as defines, kernel}
 use Rattle.mw_term.specs.Terms.{Expression, Value, KernelType, PureGroundValue}

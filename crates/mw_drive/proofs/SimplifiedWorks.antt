@@ -1,5 +1,5 @@
 -- The run of a source with simplified kernels ends as the run with kernels as they were built does.
-use Rattle.std.proofs.Common.{◌≡◌, ℕ, List, [], refl, arith}
+use Rattle.std.proofs.Common.{◌≡◌, ℕ, List, refl, arith}
 use Rattle.mw_meaning.specs.declared.mode.Mode.TheVariants.{Plain, Simple}
 use Rattle.mw_console.specs.Texts.{Ending}
 use Rattle.mw_drive.specs.ProgramMeaning.{Kernel}

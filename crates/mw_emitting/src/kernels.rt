@@ -1,6 +1,6 @@
 // Kernels that emit.
 
-ghost use Rattle.std.specs.Prelude.{◌≡◌, ◌≤◌, ◌<◌, ◌+◌, [], true, false, length, IfOk, Some, slice_get};
+ghost use Rattle.std.specs.Prelude.{◌≡◌, ◌≤◌, ◌<◌, ◌+◌, [], true, false, length, IfOk};
 ghost use Rattle.mw_term.specs.Terms.{expression_of, kernel_type_of};
 ghost use Rattle.mw_term.specs.Closed.{IsClosed, IsCode};
 ghost use Rattle.mw_term.specs.Limits.{within_limits, kernel_nodes};

@@ -1,6 +1,6 @@
 -- Worked examples of words.
 use Rattle.std.proofs.Common.{◌≡◌, ℕ, List, [], ◌∷◌, length, get_or, codes, refl, sym, ◌∙◌, ap, arith, rules}
-use Rattle.mw_words.specs.Words.{IsFileWord, IsNumber, IsOption, PurePart, PureCommand, fuel, simplify, file, Begins, AreParts, Makes, apart, joined, with_workers, with_fuel, with_simplify}
+use Rattle.mw_words.specs.Words.{IsFileWord, IsNumber, IsOption, PurePart, PureCommand, fuel, file, Begins, AreParts, Makes, apart, joined, with_workers, with_fuel, with_simplify}
 use Rattle.mw_words.specs.Words.{with_file, no_part, one_more, not_named, named_once, off, on, run_of, erased_of, run_command, erased_command, sample_command}
 use Rattle.mw_words.specs.Examples.{FileAlone, FuelApart, FuelJoined, BothOptions, SimplifyFirst, SimplifyLast, ErasedAlone, ErasedApart, ErasedJoined, ErasedBehind, SampleOfHundred}
 use Rattle.mw_words.specs.Examples.{NoWord, OptionFirst, TwoFiles, TwoDashes, FuelTwice, SimplifyTwice, SimplifyValued, ErasedNoFile, ErasedWorkers, ErasedTwoFiles, ErasedSimplified, ErasedFuelTwice}
