@@ -175,7 +175,10 @@ pub fn program_tree(alloc: Global, tokens: &[Token], room: u32) -> Read<Surface>
                 Start::Item => {
                     let (item, other, mid) = item_tree(alloc, rest, room)?;
                     match after(Next::End, mid) {
-                        None => return Err(Fault::Syntax(mid)),
+                        None => {
+                            drop(item);
+                            return Err(Fault::Syntax(mid));
+                        }
                         Some(behind) => {
                             items.push(item)?;
                             height = height.max(other);

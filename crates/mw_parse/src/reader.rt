@@ -53,12 +53,15 @@ fn parse_tokens(alloc: Global, tokens: &[Token], length: u32) -> Result<Surface,
         Err(Fault::Deep(rest)) => Err(Stop::Refused(Refusal::TooDeep(place(rest, 0)))),
         Ok((surface, _, rest)) => {
             if !rest.is_empty() {
+                drop(surface);
                 return Err(Stop::Refused(Refusal::Syntax(place(rest, length))));
             }
             if surface.items.len() > 1000 {
+                drop(surface);
                 return Err(Stop::Refused(Refusal::TooMany));
             }
             if kernel_count(surface.items.as_slice()) > 100 {
+                drop(surface);
                 return Err(Stop::Refused(Refusal::TooMany));
             }
             Ok(surface)

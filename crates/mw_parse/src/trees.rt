@@ -96,7 +96,10 @@ fn bracketed(alloc: Global, at: u32, tokens: &[Token], room: u32) -> Read<Tree>
 {
     let (tree, height, mid) = expr_tree(alloc, tokens, room)?;
     match after(Next::Bracket, mid) {
-        None => Err(Fault::Syntax(mid)),
+        None => {
+            drop(tree);
+            Err(Fault::Syntax(mid))
+        }
         Some(rest) => Ok((bracket_tree(alloc, at, tree)?, height, rest)),
     }
 }
@@ -136,9 +139,15 @@ fn grouped(alloc: Global, tokens: &[Token], room: u32) -> Read<Tree>
 {
     let (tree, height, mid) = expr_tree(alloc, tokens, room)?;
     match in_hand(mid) {
-        None => Err(Fault::Syntax(mid)),
+        None => {
+            drop(tree);
+            Err(Fault::Syntax(mid))
+        }
         Some((token, rest)) => match closing(token) {
-            Close::Other => Err(Fault::Syntax(mid)),
+            Close::Other => {
+                drop(tree);
+                Err(Fault::Syntax(mid))
+            }
             Close::Paren => Ok((tree, height, rest)),
             Close::Comma => paired(alloc, tree, height, rest, room),
         },
@@ -151,10 +160,19 @@ fn paired(alloc: Global, left: Tree, height: u32, tokens: &[Token], room: u32) -
     ensures gives { GivesRead tree_of result (reading room (pair_form (tree_of left)) (so_far height) (tokens_of tokens.now)) }
     ensures height { IfOk result (λ x. x.1 ≤ room) }
 {
-    let (right, other, mid) = expr_tree(alloc, tokens, room)?;
-    match after(Next::Paren, mid) {
-        None => Err(Fault::Syntax(mid)),
-        Some(rest) => Ok((pair_tree(alloc, left, right)?, height.max(other), rest)),
+    match expr_tree(alloc, tokens, room) {
+        Err(fault) => {
+            drop(left);
+            Err(fault)
+        }
+        Ok((right, other, mid)) => match after(Next::Paren, mid) {
+            None => {
+                drop(left);
+                drop(right);
+                Err(Fault::Syntax(mid))
+            }
+            Some(rest) => Ok((pair_tree(alloc, left, right)?, height.max(other), rest)),
+        },
     }
 }
 
@@ -205,11 +223,19 @@ fn running(alloc: Global, at: u32, tokens: &[Token], room: u32) -> Read<Tree>
         Some(rest) => {
             let (kind, height, mid) = kernel(alloc, rest, room)?;
             match after(Next::Right, mid) {
-                None => Err(Fault::Syntax(mid)),
-                Some(rest) => {
-                    let (tree, other, rest) = atom_tree(alloc, rest, room)?;
-                    Ok((run_tree(alloc, at, kind, tree)?, height.max(other), rest))
+                None => {
+                    drop(kind);
+                    Err(Fault::Syntax(mid))
                 }
+                Some(rest) => match atom_tree(alloc, rest, room) {
+                    Err(fault) => {
+                        drop(kind);
+                        Err(fault)
+                    }
+                    Ok((tree, other, rest)) => {
+                        Ok((run_tree(alloc, at, kind, tree)?, height.max(other), rest))
+                    }
+                },
             }
         }
     }
@@ -271,6 +297,7 @@ fn more_trees(
         None => Ok((left, height, tokens)),
         Some((operator, rest)) => {
             if height >= room {
+                drop(left);
                 return Err(Fault::Deep(tokens));
             }
             next_operand(alloc, row, operator, left, height, rest, room)
@@ -289,11 +316,19 @@ fn comparison_tree(alloc: Global, tokens: &[Token], room: u32) -> Read<Tree>
         None => Ok((left, height, mid)),
         Some((prim, rest)) => {
             if height >= room {
+                drop(left);
                 return Err(Fault::Deep(mid));
             }
-            let (right, other, rest) = row_tree(alloc, Row::Sum, rest, room - 1)?;
-            let tree = joined(alloc, Operator::Sign(prim), left, right)?;
-            Ok((tree, height.max(other) + 1, rest))
+            match row_tree(alloc, Row::Sum, rest, room - 1) {
+                Err(fault) => {
+                    drop(left);
+                    Err(fault)
+                }
+                Ok((right, other, rest)) => {
+                    let tree = joined(alloc, Operator::Sign(prim), left, right)?;
+                    Ok((tree, height.max(other) + 1, rest))
+                }
+            }
         }
     }
 }
@@ -309,10 +344,18 @@ fn conjunction_tree(alloc: Global, tokens: &[Token], room: u32) -> Read<Tree>
         None => Ok((left, height, mid)),
         Some(rest) => {
             if height >= room {
+                drop(left);
                 return Err(Fault::Deep(mid));
             }
-            let (right, other, rest) = conjunction_tree(alloc, rest, room - 1)?;
-            Ok((conjoined(alloc, left, right)?, height.max(other) + 1, rest))
+            match conjunction_tree(alloc, rest, room - 1) {
+                Err(fault) => {
+                    drop(left);
+                    Err(fault)
+                }
+                Ok((right, other, rest)) => {
+                    Ok((conjoined(alloc, left, right)?, height.max(other) + 1, rest))
+                }
+            }
         }
     }
 }
@@ -328,10 +371,18 @@ fn disjunction_tree(alloc: Global, tokens: &[Token], room: u32) -> Read<Tree>
         None => Ok((left, height, mid)),
         Some(rest) => {
             if height >= room {
+                drop(left);
                 return Err(Fault::Deep(mid));
             }
-            let (right, other, rest) = disjunction_tree(alloc, rest, room - 1)?;
-            Ok((disjoined(alloc, left, right)?, height.max(other) + 1, rest))
+            match disjunction_tree(alloc, rest, room - 1) {
+                Err(fault) => {
+                    drop(left);
+                    Err(fault)
+                }
+                Ok((right, other, rest)) => {
+                    Ok((disjoined(alloc, left, right)?, height.max(other) + 1, rest))
+                }
+            }
         }
     }
 }
@@ -376,7 +427,10 @@ fn conditional(alloc: Global, tokens: &[Token], room: u32) -> Read<Tree>
 {
     let (test, height, mid) = expr_tree(alloc, tokens, room)?;
     match after(Next::Then, mid) {
-        None => Err(Fault::Syntax(mid)),
+        None => {
+            drop(test);
+            Err(Fault::Syntax(mid))
+        }
         Some(rest) => branches(alloc, test, height, rest, room),
     }
 }
@@ -387,14 +441,29 @@ fn branches(alloc: Global, test: Tree, height: u32, tokens: &[Token], room: u32)
     ensures gives { GivesRead tree_of result (reading room (branches_form (tree_of test)) (so_far height) (tokens_of tokens.now)) }
     ensures height { IfOk result (λ x. x.1 ≤ room) }
 {
-    let (left, other, mid) = expr_tree(alloc, tokens, room)?;
-    match after(Next::Else, mid) {
-        None => Err(Fault::Syntax(mid)),
-        Some(rest) => {
-            let (right, last, rest) = expr_tree(alloc, rest, room)?;
-            let tree = if_tree(alloc, test, left, right)?;
-            Ok((tree, height.max(other).max(last), rest))
+    match expr_tree(alloc, tokens, room) {
+        Err(fault) => {
+            drop(test);
+            Err(fault)
         }
+        Ok((left, other, mid)) => match after(Next::Else, mid) {
+            None => {
+                drop(test);
+                drop(left);
+                Err(Fault::Syntax(mid))
+            }
+            Some(rest) => match expr_tree(alloc, rest, room) {
+                Err(fault) => {
+                    drop(test);
+                    drop(left);
+                    Err(fault)
+                }
+                Ok((right, last, rest)) => {
+                    let tree = if_tree(alloc, test, left, right)?;
+                    Ok((tree, height.max(other).max(last), rest))
+                }
+            },
+        },
     }
 }
 
@@ -451,15 +520,20 @@ fn scoped(
     ensures height { IfOk result (λ x. x.1 ≤ room) }
 {
     match after(Next::In, tokens) {
-        None => Err(Fault::Syntax(tokens)),
-        Some(rest) => {
-            let (tree, other, rest) = expr_tree(alloc, rest, room)?;
-            Ok((
-                let_tree(alloc, name, definition, tree)?,
-                height.max(other),
-                rest,
-            ))
+        None => {
+            drop(definition);
+            Err(Fault::Syntax(tokens))
         }
+        Some(rest) => match expr_tree(alloc, rest, room) {
+            Err(fault) => {
+                drop(definition);
+                Err(fault)
+            }
+            Ok((tree, other, rest)) => {
+                let tree = let_tree(alloc, name, definition, tree)?;
+                Ok((tree, height.max(other), rest))
+            }
+        },
     }
 }
 
@@ -578,11 +652,19 @@ fn scoped_function(
     ensures height { IfOk result (λ x. x.1 ≤ room) }
 {
     match after(Next::In, tokens) {
-        None => Err(Fault::Syntax(tokens)),
-        Some(rest) => {
-            let (tree, other, rest) = expr_tree(alloc, rest, room)?;
-            let tree = let_rec_tree(alloc, name, function, tree)?;
-            Ok((tree, height.max(other), rest))
+        None => {
+            drop(function);
+            Err(Fault::Syntax(tokens))
         }
+        Some(rest) => match expr_tree(alloc, rest, room) {
+            Err(fault) => {
+                drop(function);
+                Err(fault)
+            }
+            Ok((tree, other, rest)) => {
+                let tree = let_rec_tree(alloc, name, function, tree)?;
+                Ok((tree, height.max(other), rest))
+            }
+        },
     }
 }
