@@ -1,5 +1,6 @@
 // Expressions, by descent. `room` is the number of nodes that may still stand on a path; each function answers what it
-// made, the height of its nodes and the tokens left, and says of which form.
+// made, the height of its nodes and the tokens left, and says of which form. Where a step fails, the trees in hand are let go by
+// `drop`, which the prover reads as one call; where they are let go unsaid, it reads all that goes with them.
 
 #![tactic(auto, using(mw_grammar::proofs::Below::read_full, mw_grammar::proofs::Below::read_gives, mw_grammar::proofs::Below::read_refuses, mw_grammar::proofs::Below::read_reads, mw_grammar::proofs::Below::part_fails, mw_grammar::proofs::Below::fails_then, mw_grammar::proofs::Below::raise_ok, mw_grammar::proofs::Below::fails_raise))]
 
