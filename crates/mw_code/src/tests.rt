@@ -110,7 +110,7 @@ fn measured(alloc: Global, pool: &Pool<Node>) -> Result<String, AllocError>
 }
 
 // Nodes, and the term of the last one.
-const GRAPHS: [(&[Node], &str); 21] = [
+const GRAPHS: &[(&[Node], &str)] = &[
     (&[Node::Int(-7)], "Int(-7)"),
     (&[Node::Bool(true)], "Bool(true)"),
     (&[Node::Var(5), Node::Fun(5, ZERO)], "Fun(Var(0))"),
@@ -222,7 +222,7 @@ const GRAPHS: [(&[Node], &str); 21] = [
 
 #[test]
 fn graphs(rt: HostRuntime) -> Result<(), Fail> {
-    for (nodes, expected) in GRAPHS {
+    for &(nodes, expected) in GRAPHS {
         let pool = pool_of(rt.alloc(), nodes)?;
         let term = shown(rt.alloc(), &pool)?;
         assert_eq!(rt; term.as_str(), expected);
@@ -261,7 +261,7 @@ fn grow(pool: &mut Pool<Node>, step: Step, times: u32) -> Result<(), AllocError>
 }
 
 // Steps with their times, from one literal; what the last node is read back to, or the nodes and the depth of its term.
-const LARGE: [(&[(Step, u32)], &str); 17] = [
+const LARGE: &[(&[(Step, u32)], &str)] = &[
     (&[(Step::Once, 399)], "400 400"),
     (&[(Step::Once, 400)], "too deep"),
     (&[(Step::Once, 19_999)], "too deep"),
@@ -303,7 +303,7 @@ fn large(alloc: Global, steps: &[(Step, u32)]) -> Result<Pool<Node>, AllocError>
 
 #[test]
 fn limits(rt: HostRuntime) -> Result<(), Fail> {
-    for (steps, expected) in LARGE {
+    for &(steps, expected) in LARGE {
         let pool = large(rt.alloc(), steps)?;
         let answer = measured(rt.alloc(), &pool)?;
         assert_eq!(rt; answer.as_str(), expected);

@@ -57,15 +57,15 @@ fn functions<L: Ledger>(alloc: Global, steps: &mut Steps<L>) -> Result<[bool; 3]
     ensures { IfOk result (λ _. steps.new ≡ steps.old + 3) }
 {
     let kind = KType::Fun(INT, INT);
-    let first = is_emitted(alloc, &cube(alloc)?, &kind, steps, CUBE_TEXT, &CUBE)?;
-    let second = is_emitted(alloc, &down(alloc)?, &kind, steps, DOWN_TEXT, &DOWN)?;
+    let first = is_emitted(alloc, &cube(alloc)?, &kind, steps, CUBE_TEXT, CUBE)?;
+    let second = is_emitted(alloc, &down(alloc)?, &kind, steps, DOWN_TEXT, DOWN)?;
     let third = is_emitted(
         alloc,
         &two_free(alloc)?,
         &kind,
         steps,
         TWO_FREE_TEXT,
-        &TWO_FREE,
+        TWO_FREE,
     )?;
     Ok([first, second, third])
 }
@@ -75,14 +75,14 @@ fn numbers<L: Ledger>(alloc: Global, steps: &mut Steps<L>) -> Result<[bool; 2], 
     ensures { IfOk result (λ _. steps.new ≡ steps.old + 2) }
 {
     let kind = KType::Ground(INT);
-    let first = is_emitted(alloc, &Term::Int(7), &kind, steps, SEVEN_TEXT, &SEVEN)?;
+    let first = is_emitted(alloc, &Term::Int(7), &kind, steps, SEVEN_TEXT, SEVEN)?;
     let second = is_emitted(
         alloc,
         &let_in_let(alloc)?,
         &kind,
         steps,
         LET_IN_LET_TEXT,
-        &LET_IN_LET,
+        LET_IN_LET,
     )?;
     Ok([first, second])
 }
@@ -99,7 +99,7 @@ fn pairs<L: Ledger>(alloc: Global, steps: &mut Steps<L>) -> Result<bool, AllocEr
         &KType::Fun(argument, result),
         steps,
         SWAP_TEXT,
-        &SWAP,
+        SWAP,
     )
 }
 

@@ -92,7 +92,7 @@ fn calls(rt: &impl AllocGlobal, numbers: &[u64]) -> Result<Calls, Fail> {
 }
 
 /// Sources, their exit codes and their last lines.
-const LAST_LINES: [(&str, u8, &str); 27] = [
+const LAST_LINES: &[(&str, u8, &str)] = &[
     ("main : int = run[int] (close .<1 + 2>.)", 0, "answer 3"),
     ("main : int = 1 + 2", 0, "answer 3"),
     ("main : int = run[int] (close .<7>.)", 0, "answer 7"),
@@ -175,7 +175,7 @@ const LAST_LINES: [(&str, u8, &str); 27] = [
 
 #[test]
 fn sources_have_their_last_line(rt: HostRuntime) -> Result<(), Fail> {
-    for (file, code, line) in LAST_LINES {
+    for &(file, code, line) in LAST_LINES {
         let ran = ran(&rt, &["run", NAME], file.as_bytes(), &[], &[])?;
         let wanted = format!(in rt.alloc(); "{line}\n")?;
         assert_eq!(rt; ran.status.code(), code, "{file}");
@@ -196,13 +196,13 @@ fn filled(alloc: Global, front: &[u8], length: usize) -> Result<Vec<u8>, Fail> {
 #[test]
 fn long_sources_are_refused(rt: HostRuntime) -> Result<(), Fail> {
     let sum = b"main : int = 1";
-    let cases: [(&[u8], usize, &str); 4] = [
+    let cases: &[(&[u8], usize, &str)] = &[
         (sum, 1_048_576, "answer 1\n"),
         (sum, 1_048_577, "refused 1 too large\n"),
         (b"?", 1_048_576, "refused 2 character at 0\n"),
         (b"?", 1_048_577, "refused 1 too large\n"),
     ];
-    for (front, length, written) in cases {
+    for &(front, length, written) in cases {
         let file = filled(rt.alloc(), front, length)?;
         let ran = ran(&rt, &["run", NAME], file.as_slice(), &[], &[])?;
         assert_eq!(rt; ran.written.as_slice(), written.as_bytes(), "{length}");
@@ -251,7 +251,7 @@ fn deep_and_many_are_refused(rt: HostRuntime) -> Result<(), Fail> {
 #[test]
 fn faults_have_their_status(rt: HostRuntime) -> Result<(), Fail> {
     let file = b"main : int = 1 + 2";
-    let cases: [(&[&str], &[u64], &[u64], u8, &str); 16] = [
+    let cases: &[(&[&str], &[u64], &[u64], u8, &str)] = &[
         (&["run", NAME], &[0], &[], 5, ""),
         (&["run", NAME], &[2], &[], 5, ""),
         (&["run", "other.metaml"], &[], &[], 5, ""),
@@ -269,7 +269,7 @@ fn faults_have_their_status(rt: HostRuntime) -> Result<(), Fail> {
         (&["", NAME], &[], &[], 2, ""),
         (&[NAME, "run"], &[], &[], 2, ""),
     ];
-    for (words, failing_reads, failing_writes, code, written) in cases {
+    for &(words, failing_reads, failing_writes, code, written) in cases {
         let ran = ran(&rt, words, file, failing_reads, failing_writes)?;
         assert_eq!(rt; ran.status.code(), code, "{words:?}");
         assert_eq!(rt; ran.written.as_slice(), written.as_bytes(), "{words:?}");

@@ -205,7 +205,7 @@ fn check_rows<L: Ledger, R: Abort + AllocGlobal>(
     requires some { 0 < L.parts }
 {
     let mut kernels = EmittingKernels::<L>::new(rt.alloc(), blank, mode);
-    let rows: [(Sample, u64, &[(i64, u64)], &str); 13] = [
+    let rows: &[(Sample, u64, &[(i64, u64)], &str)] = &[
         (Sample::Seven, 0, &[], "Ok(Value(Base(Int(7)), 0))"),
         (
             Sample::Pair,
@@ -262,7 +262,7 @@ fn check_rows<L: Ledger, R: Abort + AllocGlobal>(
             "Ok(Function(2, 3)) Ok(Value(Base(Int(8)), 0))",
         ),
     ];
-    for (sample, fuel, calls, text) in rows {
+    for &(sample, fuel, calls, text) in rows {
         let built = built(rt.alloc(), sample)?;
         let (found, on) = told(rt.alloc(), &mut kernels, &built, fuel, calls)?;
         assert_eq!(rt; found.as_str(), text, "{sample:?} {mode:?}");

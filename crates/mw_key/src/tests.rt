@@ -6,7 +6,7 @@ use std::alloc::{AllocError, Global};
 use std::test::Fail;
 
 // A text, and its version, code and type.
-const TEXTS: [(&[u8], &str); 21] = [
+const TEXTS: &[(&[u8], &str)] = &[
     (b"emit1 int i 7", "One Int(7) Ground(Base(Int))"),
     (b"emit2 int i 7", "Two Int(7) Ground(Base(Int))"),
     (b"emit2 bool true", "Two Bool(true) Ground(Base(Bool))"),
@@ -97,7 +97,7 @@ fn is_written_back(alloc: Global, text: &[u8]) -> Result<bool, TextFault> {
 
 #[test]
 fn texts(rt: HostRuntime) -> Result<(), Fail> {
-    for (text, expected) in TEXTS {
+    for &(text, expected) in TEXTS {
         let parts = shown(rt.alloc(), text)?;
         assert_eq!(rt; parts.as_str(), expected);
         let is_back = is_written_back(rt.alloc(), text)?;
@@ -115,7 +115,7 @@ fn literal(rt: HostRuntime) -> Result<(), Fail> {
 }
 
 // Bytes that are no text.
-const NO_TEXTS: [&[u8]; 41] = [
+const NO_TEXTS: &[&[u8]] = &[
     b"",
     b" ",
     b"emit2",
@@ -170,14 +170,14 @@ fn is_text(alloc: Global, bytes: &[u8]) -> Result<bool, AllocError> {
 
 #[test]
 fn no_texts(rt: HostRuntime) -> Result<(), Fail> {
-    for bytes in NO_TEXTS {
+    for &bytes in NO_TEXTS {
         assert!(rt; !is_text(rt.alloc(), bytes)?, "{bytes:?}");
     }
     Ok(())
 }
 
 // A head, a word so many times, and a tail; and whether they are a text.
-const LONG: [(&[u8], &[u8], u32, &[u8], bool); 7] = [
+const LONG: &[(&[u8], &[u8], u32, &[u8], bool)] = &[
     // Depth 400, and one more.
     (b"emit2 int", b" fst", 399, b" true", true),
     (b"emit2 int", b" fst", 400, b" true", false),
@@ -218,7 +218,7 @@ fn limits(rt: HostRuntime) -> Result<(), Fail> {
         let bytes = wide(rt.alloc(), more)?;
         assert_eq!(rt; is_text(rt.alloc(), bytes.as_slice())?, expected);
     }
-    for (head, word, times, tail, expected) in LONG {
+    for &(head, word, times, tail, expected) in LONG {
         let mut bytes = Vec::new(rt.alloc());
         repeat(&mut bytes, head, 1)?;
         repeat(&mut bytes, word, times)?;

@@ -30,7 +30,7 @@ fn shown(alloc: Global, source: &[u8]) -> Result<String, AllocError> {
     Ok(text)
 }
 
-const ROWS: [(&[u8], &str); 62] = [
+const ROWS: &[(&[u8], &str)] = &[
     (b"", ""),
     (
         b"main : int = 1 +",
@@ -130,7 +130,7 @@ const ROWS: [(&[u8], &str); 62] = [
 
 #[test]
 fn rows(rt: HostRuntime) -> Result<(), Fail> {
-    for (source, expected) in ROWS {
+    for &(source, expected) in ROWS {
         let text = shown(rt.alloc(), source)?;
         assert_eq!(rt; text.as_str(), expected);
     }

@@ -12,7 +12,7 @@ enum Step {
 use Step::{Cut, Put};
 
 // What is done with an empty pool, and the items that it has then.
-const STEPS: [(&[Step], &[u32]); 8] = [
+const STEPS: &[(&[Step], &[u32])] = &[
     (&[], &[]),
     (&[Put(7)], &[7]),
     (&[Put(7), Put(8), Put(7)], &[7, 8, 7]),
@@ -46,7 +46,7 @@ fn filled(alloc: Global, steps: &[Step]) -> Result<Pool<u32>, AllocError> {
 
 #[test]
 fn items(rt: HostRuntime) -> Result<(), Fail> {
-    for (steps, expected) in STEPS {
+    for &(steps, expected) in STEPS {
         let pool = filled(rt.alloc(), steps)?;
         assert_eq!(rt; pool.len(), expected.len());
         assert_eq!(rt; pool.mark().length, expected.len());

@@ -231,7 +231,7 @@ fn shown(alloc: Global, surface: &Surface) -> Result<String, Fail> {
 
 #[test]
 fn rows(rt: HostRuntime) -> Result<(), Fail> {
-    for (steps, expected) in ROWS {
+    for &(steps, expected) in ROWS {
         let surface = surface(rt.alloc(), steps)?;
         assert_eq!(rt; shown(rt.alloc(), &surface)?.as_str(), expected);
     }

@@ -6,7 +6,7 @@ use std::alloc::{AllocError, Global};
 use std::test::Fail;
 
 /// Sources, units, and what main is or how it stops, with the units that are left.
-const MAINS: [(&str, u64, &str); 51] = [
+const MAINS: &[(&str, u64, &str)] = &[
     // literals, names and pairs
     ("main : int = (-7)", 3, "-7 left 3"),
     ("main : bool = true", 0, "true left 0"),
@@ -177,7 +177,7 @@ const MAINS: [(&str, u64, &str); 51] = [
 
 #[test]
 fn mains_are_evaluated(rt: HostRuntime) -> Result<(), Fail> {
-    for (source, fuel, wanted) in MAINS {
+    for &(source, fuel, wanted) in MAINS {
         let found = answer(rt.alloc(), source, None, fuel, &[])?;
         assert_eq!(rt; found.as_str(), wanted, "{source} with {fuel}");
     }
@@ -186,7 +186,7 @@ fn mains_are_evaluated(rt: HostRuntime) -> Result<(), Fail> {
 
 /// Kernels by their types and definitions, units, and the code that is built. A variable's number is how many binders are
 /// between.
-const KERNELS: [(&str, u64, &str); 27] = [
+const KERNELS: &[(&str, u64, &str)] = &[
     // each form of code
     ("int = close .<7>.", 3, "Int(7) left 3"),
     ("bool = close .<false>.", 0, "Bool(false) left 0"),
@@ -327,7 +327,7 @@ fn source_of(alloc: Global, kernel: &str) -> Result<String, AllocError> {
 
 #[test]
 fn kernels_are_built(rt: HostRuntime) -> Result<(), Fail> {
-    for (kernel, fuel, wanted) in KERNELS {
+    for &(kernel, fuel, wanted) in KERNELS {
         let source = source_of(rt.alloc(), kernel)?;
         let found = answer(rt.alloc(), source.as_str(), Some(0), fuel, &[])?;
         assert_eq!(rt; found.as_str(), wanted, "{kernel} with {fuel}");
@@ -336,7 +336,7 @@ fn kernels_are_built(rt: HostRuntime) -> Result<(), Fail> {
 }
 
 /// Kernels that use lets: the sources, the places of the kernels, units, and the code that is built.
-const WITH_LETS: [(&str, usize, u64, &str); 7] = [
+const WITH_LETS: &[(&str, usize, u64, &str)] = &[
     (
         "let rec pow n c = if n = 0 then .<1>. else .<.~c * .~(pow (n - 1) c)>. ;; kernel k : int -> int = close .<fun x -> .~(pow 3 .<x>.)>. ;; main : int = 0",
         1,
@@ -385,7 +385,7 @@ const WITH_LETS: [(&str, usize, u64, &str); 7] = [
 
 #[test]
 fn kernels_use_lets(rt: HostRuntime) -> Result<(), Fail> {
-    for (source, item, fuel, wanted) in WITH_LETS {
+    for &(source, item, fuel, wanted) in WITH_LETS {
         let found = answer(rt.alloc(), source, Some(item), fuel, &[])?;
         assert_eq!(rt; found.as_str(), wanted, "{source} with {fuel}");
     }
@@ -394,7 +394,7 @@ fn kernels_use_lets(rt: HostRuntime) -> Result<(), Fail> {
 
 /// Sources of main with its units, what the kernels reply in turn, and what they are asked and main is. Each reply leaves half
 /// of the units.
-const ASKED: [(&str, u64, &[Reply], &str); 20] = [
+const ASKED: &[(&str, u64, &[Reply], &str)] = &[
     // values of each kind
     (
         "main : int = run[int] (close .<1 + 2>.)",
@@ -539,7 +539,7 @@ const ASKED: [(&str, u64, &[Reply], &str); 20] = [
 
 #[test]
 fn kernels_are_asked(rt: HostRuntime) -> Result<(), Fail> {
-    for (source, fuel, replies, wanted) in ASKED {
+    for &(source, fuel, replies, wanted) in ASKED {
         let found = answer(rt.alloc(), source, None, fuel, replies)?;
         assert_eq!(rt; found.as_str(), wanted, "{source} with {fuel}");
     }
@@ -547,7 +547,7 @@ fn kernels_are_asked(rt: HostRuntime) -> Result<(), Fail> {
 }
 
 /// Sources of main with 100,001 frames, and with as many frames and closures.
-const LONG: [(&str, u64, &str); 4] = [
+const LONG: &[(&str, u64, &str)] = &[
     (
         "let rec sum n = if n = 0 then 0 else n + sum (n - 1) ;; main : int = sum 100000",
         100_001,
@@ -572,7 +572,7 @@ const LONG: [(&str, u64, &str); 4] = [
 
 #[test]
 fn long_mains_are_evaluated(rt: HostRuntime) -> Result<(), Fail> {
-    for (source, fuel, wanted) in LONG {
+    for &(source, fuel, wanted) in LONG {
         let found = answer(rt.alloc(), source, None, fuel, &[])?;
         assert_eq!(rt; found.as_str(), wanted, "{source} with {fuel}");
     }

@@ -36,7 +36,7 @@ fn meaning<R: Abort + AllocGlobal>(rt: &R, words: &[&str]) -> Result<String, Fai
 }
 
 /// Words, and what they mean.
-const RUNS: [(&[&str], &str); 47] = [
+const RUNS: &[(&[&str], &str)] = &[
     (&["run", "f"], "run 4 1000000 f"),
     (&["run", "run"], "run 4 1000000 run"),
     (&["run", "a b"], "run 4 1000000 a b"),
@@ -93,7 +93,7 @@ const RUNS: [(&[&str], &str); 47] = [
 ];
 
 /// Words that mean nothing, for what stands around the options.
-const NO_COMMANDS: [&[&str]; 59] = [
+const NO_COMMANDS: &[&[&str]] = &[
     &[],
     &[""],
     &["run"],
@@ -156,7 +156,7 @@ const NO_COMMANDS: [&[&str]; 59] = [
 ];
 
 /// Words that mean nothing, for an option that is named twice or amiss, or for its value.
-const NO_VALUES: [&[&str]; 48] = [
+const NO_VALUES: &[&[&str]] = &[
     &["run", "--fuel=8", "--fuel=8", "f"],
     &["run", "--fuel", "8", "f", "--fuel=8"],
     &["run", "--fuel", "8", "f", "--fuel", "8"],
@@ -209,7 +209,7 @@ const NO_VALUES: [&[&str]; 48] = [
 
 #[test]
 fn commands(rt: HostRuntime) -> Result<(), Fail> {
-    for (words, expected) in RUNS {
+    for &(words, expected) in RUNS {
         let text = meaning(&rt, words)?;
         assert_eq!(rt; text.as_str(), expected);
     }
@@ -218,11 +218,11 @@ fn commands(rt: HostRuntime) -> Result<(), Fail> {
 
 #[test]
 fn usage(rt: HostRuntime) -> Result<(), Fail> {
-    for words in NO_COMMANDS {
+    for &words in NO_COMMANDS {
         let text = meaning(&rt, words)?;
         assert_eq!(rt; text.as_str(), "usage");
     }
-    for words in NO_VALUES {
+    for &words in NO_VALUES {
         let text = meaning(&rt, words)?;
         assert_eq!(rt; text.as_str(), "usage");
     }

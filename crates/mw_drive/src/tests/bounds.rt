@@ -12,7 +12,7 @@ const LETS: &str =
     let rec down n = if n = 0 then 0 else down (n - 1) ;; ";
 
 /// Programs after these lets, the status and the last line.
-const BOUNDS: [(&str, u8, &str); 12] = [
+const BOUNDS: &[(&str, u8, &str)] = &[
     // 524,288 words, which a call gives back
     ("main : int = taking 262143 + taking 262143", 0, "answer 0"),
     ("main : int = taking 262144", 4, "bound heap in main"),
@@ -64,7 +64,7 @@ const BOUNDS: [(&str, u8, &str); 12] = [
 
 #[test]
 fn programs_meet_their_bounds(rt: HostRuntime) -> Result<(), Fail> {
-    for (rest, code, last) in BOUNDS {
+    for &(rest, code, last) in BOUNDS {
         let file = format!(in rt.alloc(); "{LETS}{rest}")?;
         let ran = ran(&rt, &["run", NAME], file.as_bytes(), &[], &[])?;
         let wanted = format!(in rt.alloc(); "{last}\n")?;

@@ -119,7 +119,7 @@ fn check_runs<L: Ledger, R: Abort + AllocGlobal>(rt: &R, blank: Blank) -> Result
     requires some { 0 < L.parts }
 {
     let mut steps = Steps::<L>::open(blank);
-    for (text, fuel, wanted) in [
+    for &(text, fuel, wanted) in &[
         ("emit2 int i 7", 0, "Base(Int(7)) 0"),
         ("emit2 bool true", 3, "Base(Bool(true)) 3"),
         (
@@ -261,7 +261,7 @@ fn check_functions<L: Ledger, R: Abort + AllocGlobal>(rt: &R, blank: Blank) -> R
     requires some { 0 < L.parts }
 {
     let mut steps = Steps::<L>::open(blank);
-    let functions: [(&str, &[(i64, u64, &str)]); 4] = [
+    let functions: &[(&str, &[(i64, u64, &str)])] = &[
         (
             CUBE,
             &[
@@ -295,10 +295,10 @@ fn check_functions<L: Ledger, R: Abort + AllocGlobal>(rt: &R, blank: Blank) -> R
             ],
         ),
     ];
-    for (text, calls) in functions {
+    for &(text, calls) in functions {
         check_of_numbers(rt, &mut steps, text, calls)?;
     }
-    let divisions: [&[(i64, i64, u64, &str)]; 3] = [
+    let divisions: &[&[(i64, i64, u64, &str)]] = &[
         &[
             (7, 2, 1, "Value(Base(Int(3)), 0)"),
             (i64::MIN, 1, 2, "Value(Base(Int(-9223372036854775808)), 1)"),
@@ -310,16 +310,16 @@ fn check_functions<L: Ledger, R: Abort + AllocGlobal>(rt: &R, blank: Blank) -> R
         ],
         &[(7, 0, 0, "Bound(Fuel)")],
     ];
-    for calls in divisions {
+    for &calls in divisions {
         check_of_pairs(rt, &mut steps, DIVIDE, INT, calls)?;
     }
-    let swaps: [(i64, i64, u64, &str); 3] = [
+    let swaps: &[(i64, i64, u64, &str)] = &[
         (1, 2, 1, "Value(Pair(Base(Int(2)), Base(Int(1))), 0)"),
         (-1, 0, 2, "Value(Pair(Base(Int(0)), Base(Int(-1))), 1)"),
         (1, 2, 0, "Bound(Fuel)"),
     ];
     let pair = pair_of_numbers(rt.alloc())?;
-    check_of_pairs(rt, &mut steps, SWAP, pair, &swaps)
+    check_of_pairs(rt, &mut steps, SWAP, pair, swaps)
 }
 
 #[test]

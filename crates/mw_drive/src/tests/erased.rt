@@ -48,7 +48,7 @@ const PAIR: &str = "kernel p : int * bool -> bool * int = close .<fun p -> (snd 
     main : (bool * int) * int = (run[int * bool -> bool * int] p (3, true), 9)";
 
 /// Sources, the units, the status and last line of the run, and status and line of the erased program.
-const ERASED: [(&str, &str, (u8, &str), (u8, &str)); 24] = [
+const ERASED: &[(&str, &str, (u8, &str), (u8, &str))] = &[
     // both answer, and alike
     ("main : int = 1 + 2", "9", (0, "answer 3"), (0, "answer 3")),
     (
@@ -190,7 +190,7 @@ fn ends<R: Abort + AllocGlobal + Threads + Sync>(
 
 #[test]
 fn erased_programs_have_their_ends(rt: HostRuntime) -> Result<(), Fail> {
-    for (file, units, (code, last), (erased_code, erased_last)) in ERASED {
+    for &(file, units, (code, last), (erased_code, erased_last)) in ERASED {
         ends(
             &rt,
             &["run", "--fuel", units, NAME],
@@ -206,7 +206,7 @@ fn erased_programs_have_their_ends(rt: HostRuntime) -> Result<(), Fail> {
 }
 
 /// Words of the erased program beside the status and what is written, of a program that takes 1,000,000 units.
-const WORDED: [(&[&str], u8, &str); 7] = [
+const WORDED: &[(&[&str], u8, &str)] = &[
     (&["erased", NAME], 0, "answer 0\n"),
     (&["erased", NAME, "--fuel=1000000"], 0, "answer 0\n"),
     (
@@ -223,7 +223,7 @@ const WORDED: [(&[&str], u8, &str); 7] = [
 #[test]
 fn erased_has_its_words(rt: HostRuntime) -> Result<(), Fail> {
     let file = b"let rec down n = if n = 0 then 0 else down (n - 1) ;; main : int = down 999999";
-    for (words, code, written) in WORDED {
+    for &(words, code, written) in WORDED {
         let ran = ran(&rt, words, file, &[], &[])?;
         assert_eq!(rt; ran.status.code(), code, "{words:?}");
         assert_eq!(rt; ran.written.as_slice(), written.as_bytes(), "{words:?}");
@@ -236,12 +236,13 @@ fn erased_has_its_words(rt: HostRuntime) -> Result<(), Fail> {
 fn erased_has_its_faults(rt: HostRuntime) -> Result<(), Fail> {
     let file = b"kernel a : int = close .<7>. ;; main : int = 1 / 0";
     let words = ["erased", NAME];
-    for (reads, writes, code, written) in [
-        (&[0][..], &[][..], 5, ""),
+    let faults: &[(&[u64], &[u64], u8, &str)] = &[
+        (&[0], &[], 5, ""),
         (&[], &[0], 6, ""),
         (&[], &[1], 6, "trap divid"),
         (&[], &[2], 1, "trap divide in main\n"),
-    ] {
+    ];
+    for &(reads, writes, code, written) in faults {
         let ran = ran(&rt, &words, file, reads, writes)?;
         assert_eq!(rt; ran.status.code(), code, "{reads:?} {writes:?}");
         assert_eq!(rt; ran.written.as_slice(), written.as_bytes());

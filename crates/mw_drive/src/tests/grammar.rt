@@ -50,7 +50,7 @@ pub fn parts<'a>(row: &'a str) -> Result<(&'a str, &'a str), Fail> {
     Ok(row.split_once(" => ").ok_or("a row without a mark")?)
 }
 
-const ATOMS: [&str; 24] = [
+const ATOMS: &[&str] = &[
     "0 => Int(0)",
     "7 => Int(7)",
     "9223372036854775807 => Int(9223372036854775807)",
@@ -77,7 +77,7 @@ const ATOMS: [&str; 24] = [
     "(1 || 2, 3 + 4) => Pair(If(Int(1), Bool(true), Int(2)), Prim(Add, Int(3), Int(4)))",
 ];
 
-const OPERATIONS: [&str; 33] = [
+const OPERATIONS: &[&str] = &[
     "1 - 2 - 3 => Prim(Sub, Prim(Sub, Int(1), Int(2)), Int(3))",
     "1 + 2 + 3 => Prim(Add, Prim(Add, Int(1), Int(2)), Int(3))",
     "1-2+3 => Prim(Add, Prim(Sub, Int(1), Int(2)), Int(3))",
@@ -113,7 +113,7 @@ const OPERATIONS: [&str; 33] = [
     "1 + not 2 => Prim(Add, Int(1), If(Int(2), Bool(false), Bool(true)))",
 ];
 
-const HEADS: [&str; 32] = [
+const HEADS: &[&str] = &[
     "1 2 3 => App(App(Int(1), Int(2)), Int(3))",
     "1 (2 3) => App(Int(1), App(Int(2), Int(3)))",
     "f x => App(Used(Placed { name: Sequence { items: [102] }, at: 13 }), Used(Placed { name: Sequence { items: [120] }, at: 15 }))",
@@ -148,7 +148,7 @@ const HEADS: [&str; 32] = [
     ".<if 1 then 2 else 3>. => Bracket(13, If(Int(1), Int(2), Int(3)))",
 ];
 
-const BINDERS: [&str; 21] = [
+const BINDERS: &[&str] = &[
     "fun x -> x => Fun(Sequence { items: [120] }, Used(Placed { name: Sequence { items: [120] }, at: 22 }))",
     "fun x y z -> 1 => Fun(Sequence { items: [120] }, Fun(Sequence { items: [121] }, Fun(Sequence { items: [122] }, Int(1))))",
     "fun x->fun y->1 => Fun(Sequence { items: [120] }, Fun(Sequence { items: [121] }, Int(1)))",
@@ -175,8 +175,8 @@ const BINDERS: [&str; 21] = [
 #[test]
 fn expressions_have_their_trees(rt: HostRuntime) -> Result<(), Fail> {
     let alloc = rt.alloc();
-    let tables: [&[&str]; 4] = [&ATOMS, &OPERATIONS, &HEADS, &BINDERS];
-    for table in tables {
+    let tables: &[&[&str]] = &[ATOMS, OPERATIONS, HEADS, BINDERS];
+    for &table in tables {
         for row in table {
             let (expression, text) = parts(row)?;
             let source = format!(in alloc; "main : int = {expression}")?;
@@ -189,7 +189,7 @@ fn expressions_have_their_trees(rt: HostRuntime) -> Result<(), Fail> {
 }
 
 /// Items before a main of the type bool, each with the text of the list.
-const ITEMS: [&str; 11] = [
+const ITEMS: &[&str] = &[
     " => ",
     "let a = 1 ;; => Let(Placed { name: Sequence { items: [97] }, at: 4 }, 8, Int(1))",
     "let f x y = 1 ;; => Let(Placed { name: Sequence { items: [102] }, at: 4 }, 12, Fun(Sequence { items: [120] }, Fun(Sequence { items: [121] }, Int(1))))",
@@ -204,7 +204,7 @@ const ITEMS: [&str; 11] = [
 ];
 
 /// Whole sources, each with the text of main's type and expression.
-const SPACED: [&str; 8] = [
+const SPACED: &[&str] = &[
     "main:int=1 => Base(Int), body: Int(1)",
     "main : bool = true => Base(Bool), body: Bool(true)",
     "\tmain\r\n:\nint\r=\t1 \n => Base(Int), body: Int(1)",
@@ -218,7 +218,7 @@ const SPACED: [&str; 8] = [
 #[test]
 fn programs_have_their_trees(rt: HostRuntime) -> Result<(), Fail> {
     let alloc = rt.alloc();
-    for row in ITEMS {
+    for &row in ITEMS {
         let (items, text) = parts(row)?;
         let source = format!(in alloc; "{items} main : bool = 3")?;
         let tree = format!(in alloc;
@@ -227,7 +227,7 @@ fn programs_have_their_trees(rt: HostRuntime) -> Result<(), Fail> {
         let found = shown(alloc, source.as_bytes())?;
         assert_eq!(rt; found.as_str(), tree.as_str(), "{items}");
     }
-    for row in SPACED {
+    for &row in SPACED {
         let (source, text) = parts(row)?;
         let tree = format!(in alloc;
             "Surface {{ items: Sequence {{ items: [] }}, result: {text} }}"
@@ -239,7 +239,7 @@ fn programs_have_their_trees(rt: HostRuntime) -> Result<(), Fail> {
 }
 
 /// Refusals of expressions.
-const REFUSED: [&str; 46] = [
+const REFUSED: &[&str] = &[
     "9223372036854775808 => Number(13)",
     "(9223372036854775808) => Number(14)",
     "1 - 9223372036854775808 => Number(17)",
@@ -294,7 +294,7 @@ const REFUSED: [&str; 46] = [
 ];
 
 /// Refusals of whole sources.
-const REFUSED_SOURCES: [&str; 16] = [
+const REFUSED_SOURCES: &[&str] = &[
     " => Syntax(0)",
     "# main : int = 1 => Syntax(16)",
     "main  => Syntax(5)",
@@ -316,8 +316,8 @@ const REFUSED_SOURCES: [&str; 16] = [
 #[test]
 fn refusals_have_their_places(rt: HostRuntime) -> Result<(), Fail> {
     let alloc = rt.alloc();
-    let tables: [(&str, &[&str]); 2] = [("main : int = ", &REFUSED), ("", &REFUSED_SOURCES)];
-    for (front, table) in tables {
+    let tables: &[(&str, &[&str])] = &[("main : int = ", REFUSED), ("", REFUSED_SOURCES)];
+    for &(front, table) in tables {
         for row in table {
             let (rest, text) = parts(row)?;
             let source = format!(in alloc; "{front}{rest}")?;
@@ -371,7 +371,7 @@ const HEAD: &str = "fst snd not close open lift liftb run";
 
 /// Fronts of expressions, with a `$` between two, and the tokens that may follow each; a token that may not is refused
 /// at itself.
-const FOLLOWED: [&str; 30] = [
+const FOLLOWED: &[&str] = &[
     " $ (1, $ .< $ fun x -> $ let x = $ let x = 1 in $ let rec f x = $ let rec f x = 1 in => ATOM HEAD let fun if",
     "if $ if 1 then $ if 1 then 2 else => ATOM HEAD let fun if",
     "( $ 1 ( => ATOM HEAD let fun if -",
@@ -405,7 +405,7 @@ const FOLLOWED: [&str; 30] = [
 ];
 
 /// Fronts of sources in the same form.
-const FOLLOWED_SOURCES: [&str; 13] = [
+const FOLLOWED_SOURCES: &[&str] = &[
     " $ let a = 1 ;; $ kernel a : int = 1 ;; => let kernel main",
     "main $ kernel a => :",
     "main : $ main : ( $ main : int * $ kernel a : int -> $ kernel a : (int) -> => int bool (",
@@ -442,8 +442,8 @@ fn follows(token: &str, words: &str) -> bool {
 #[test]
 fn each_token_follows_or_is_refused(rt: HostRuntime) -> Result<(), Fail> {
     let alloc = rt.alloc();
-    let tables: [(&str, &[&str]); 2] = [("main : int = ", &FOLLOWED), ("", &FOLLOWED_SOURCES)];
-    for (main, table) in tables {
+    let tables: &[(&str, &[&str])] = &[("main : int = ", FOLLOWED), ("", FOLLOWED_SOURCES)];
+    for &(main, table) in tables {
         for row in table {
             let (fronts, words) = parts(row)?;
             for front in fronts.split('$') {
@@ -489,7 +489,7 @@ fn built(alloc: Global, text: &str, times: u32) -> Result<Vec<u8>, Fail> {
 
 /// Expressions of depth 200, where the parts in braces stand so many times. With one time more, the first token that is
 /// deeper stands at the offset.
-const EDGES: [(&str, u32, u32); 86] = [
+const EDGES: &[(&str, u32, u32)] = &[
     ("{(}1{)}", 199, 213),
     ("{(}(-1){)}", 199, 213),
     ("{(}1{,1)}", 199, 213),
@@ -584,7 +584,7 @@ const EDGES: [(&str, u32, u32); 86] = [
 ];
 
 /// The same with whole sources.
-const EDGES_OF_ITEMS: [(&str, u32, u32); 11] = [
+const EDGES_OF_ITEMS: &[(&str, u32, u32)] = &[
     ("kernel a:{int*}int->int=1;;main:int=1", 198, 808),
     ("kernel a:{(}int{)}->int=1;;main:int=1", 198, 410),
     ("kernel a:{(}int{)*int}->int=1;;main:int=1", 99, 608),
@@ -601,11 +601,8 @@ const EDGES_OF_ITEMS: [(&str, u32, u32); 11] = [
 #[test]
 fn trees_may_be_200_deep(rt: HostRuntime) -> Result<(), Fail> {
     let alloc = rt.alloc();
-    let tables: [(&str, &[(&str, u32, u32)]); 2] = [
-        ("main : int = ", &EDGES),
-        ("", &EDGES_OF_ITEMS),
-    ];
-    for (main, table) in tables {
+    let tables: &[(&str, &[(&str, u32, u32)])] = &[("main : int = ", EDGES), ("", EDGES_OF_ITEMS)];
+    for &(main, table) in tables {
         for &(row, times, at) in table {
             let text = format!(in alloc; "{main}{row}")?;
             let whole = built(alloc, text.as_str(), times)?;
@@ -621,7 +618,7 @@ fn trees_may_be_200_deep(rt: HostRuntime) -> Result<(), Fail> {
 }
 
 /// Expressions, with the times of the parts in braces and the verdict.
-const BUILT: [(&str, u32, &str); 33] = [
+const BUILT: &[(&str, u32, &str)] = &[
     // The part that is too deep is one in the middle or at the end, or a parameter.
     ("{(}((1),1)", 198, "TooDeep(213)"),
     ("{(}(1,(1))", 198, "TooDeep(215)"),
@@ -661,7 +658,7 @@ const BUILT: [(&str, u32, &str); 33] = [
 ];
 
 /// The same with whole sources.
-const BUILT_SOURCES: [(&str, u32, &str); 18] = [
+const BUILT_SOURCES: &[(&str, u32, &str)] = &[
     ("kernel a:{int*}int=1;;", 199, "Syntax(812)"),
     ("kernel a:{int* }int->int=1;;", 200, "TooDeep(1007)"),
     ("kernel a:{(}int{)}=1;;", 199, "Syntax(414)"),
@@ -685,11 +682,8 @@ const BUILT_SOURCES: [(&str, u32, &str); 18] = [
 #[test]
 fn built_sources_have_their_verdicts(rt: HostRuntime) -> Result<(), Fail> {
     let alloc = rt.alloc();
-    let tables: [(&str, &[(&str, u32, &str)]); 2] = [
-        ("main : int = ", &BUILT),
-        ("", &BUILT_SOURCES),
-    ];
-    for (main, table) in tables {
+    let tables: &[(&str, &[(&str, u32, &str)])] = &[("main : int = ", BUILT), ("", BUILT_SOURCES)];
+    for &(main, table) in tables {
         for &(row, times, text) in table {
             let whole = format!(in alloc; "{main}{row}")?;
             let source = built(alloc, whole.as_str(), times)?;
@@ -711,7 +705,7 @@ fn built_sources_have_their_verdicts(rt: HostRuntime) -> Result<(), Fail> {
 }
 
 /// Programs that use every form. The expression of main stands in parentheses, so no front is a program.
-const FRONTS: [&str; 3] = [
+const FRONTS: &[&str] = &[
     "let one = 1 ;; # a comment\nlet pair a b = (a, (-2)) ;;\nlet rec sum n rest = if n <= 0 then rest else sum (n - 1) (rest + n) ;;\nmain : int = (sum one 0 * 12 / 3 mod 5, fst (pair 1 true))",
     "kernel k : int = close .<fun x -> x>. ;;\nkernel m : (int * bool) * int -> bool = open .<.~(lift 1) = .~x || false && not true>. ;;\nmain : bool = (run[int] k < 4)",
     "main : int = (let x = 10 in let rec f y z = y in let g v w = fun a b -> liftb v in\n(if snd x then run[int * (bool * int) -> bool] g else (-9223372036854775808)))",
@@ -744,7 +738,7 @@ fn cut_short(tokens: &[Token], cut: u32) -> Refusal {
 #[test]
 fn every_front_is_refused(rt: HostRuntime) -> Result<(), Fail> {
     let alloc = rt.alloc();
-    for source in FRONTS {
+    for &source in FRONTS {
         let tokens = lex(alloc, source.as_bytes())?;
         let mut front = Vec::new(alloc);
         let mut cut: u32 = 0;

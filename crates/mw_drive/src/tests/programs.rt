@@ -10,7 +10,7 @@ use std::test::Fail;
 use std::thread::Threads;
 
 /// Programs without kernel items, and their answers after ` => `.
-const LIVE: [&str; 60] = [
+const LIVE: &[&str] = &[
     // functions
     "main : int = (fun x -> x + 1) 2 => 3",
     "main : int = (fun x y -> x - y) 7 2 => 5",
@@ -81,7 +81,7 @@ const LIVE: [&str; 60] = [
 ];
 
 /// Programs without kernel items that run code, and their answers after ` => `.
-const CODE: [&str; 69] = [
+const CODE: &[&str] = &[
     // the forms of code
     "main : int = run[int] (close .<7>.) => 7",
     "main : bool = run[bool] (close .<true>.) => true",
@@ -160,8 +160,8 @@ const CODE: [&str; 69] = [
 
 #[test]
 fn forms_have_their_answers(rt: HostRuntime) -> Result<(), Fail> {
-    let tables: [&[&str]; 2] = [&LIVE, &CODE];
-    for table in tables {
+    let tables: &[&[&str]] = &[LIVE, CODE];
+    for &table in tables {
         for row in table {
             let (source, answer) = row.split_once(" => ").ok_or("a row without a mark")?;
             let ran = ran(&rt, &["run", NAME], source.as_bytes(), &[], &[])?;
@@ -174,7 +174,7 @@ fn forms_have_their_answers(rt: HostRuntime) -> Result<(), Fail> {
 
 /// Programs whose kernels give code and whose main answers: the source, the kernels with their types, keys and modules, and
 /// the answer.
-const KERNELS: [(&str, &[(&str, &str, [&str; 2])], &str); 13] = [
+const KERNELS: &[(&str, &[(&str, &str, [&str; 2])], &str)] = &[
     (
         "kernel k : int = close .<7>. ;; main : int = run[int] k",
         &[("k", "int", SEVEN)],
@@ -264,7 +264,7 @@ fn lines(alloc: Global, kernels: &[(&str, &str, [&str; 2])], last: &str) -> Resu
 
 #[test]
 fn kernels_have_their_modules(rt: HostRuntime) -> Result<(), Fail> {
-    for (file, kernels, answer) in KERNELS {
+    for &(file, kernels, answer) in KERNELS {
         let last = format!(in rt.alloc(); "answer {answer}")?;
         check(&rt, &["run", NAME], file, kernels, 0, last.as_str())?;
     }
@@ -293,7 +293,7 @@ fn check<R: Abort + AllocGlobal + Threads + Sync>(
 
 /// Programs that end by a trap or at a bound: the source, the kernels before, the status and the last line. Each
 /// evaluation has 500 units.
-const ENDS: [(&str, &[(&str, &str, [&str; 2])], u8, &str); 20] = [
+const ENDS: &[(&str, &[(&str, &str, [&str; 2])], u8, &str)] = &[
     // in a kernel item: nothing after it is evaluated
     (
         "kernel a : int = close .<1>. ;; kernel b : int = close (let x = 1 / 0 in .<2>.) ;; kernel c : int = close (let rec loop n = loop n in loop 0) ;; main : int = 0",
@@ -423,7 +423,7 @@ const ENDS: [(&str, &[(&str, &str, [&str; 2])], u8, &str); 20] = [
 
 #[test]
 fn traps_and_bounds_end_programs(rt: HostRuntime) -> Result<(), Fail> {
-    for (file, kernels, code, last) in ENDS {
+    for &(file, kernels, code, last) in ENDS {
         check(
             &rt,
             &["run", "--fuel", "500", NAME],
@@ -451,7 +451,7 @@ const CHAIN: &str =
     main : int = chain 1000 (fun x -> x)";
 
 /// Sources with the words that run them: the kernels, the status and the last line.
-const WORDED: [(&str, &[&str], &[(&str, &str, [&str; 2])], u8, &str); 25] = [
+const WORDED: &[(&str, &[&str], &[(&str, &str, [&str; 2])], u8, &str)] = &[
     // an item and main have five units each, and spend them
     (
         COUNTING,
@@ -638,7 +638,7 @@ const WORDED: [(&str, &[&str], &[(&str, &str, [&str; 2])], u8, &str); 25] = [
 
 #[test]
 fn words_give_units(rt: HostRuntime) -> Result<(), Fail> {
-    for (file, words, kernels, code, last) in WORDED {
+    for &(file, words, kernels, code, last) in WORDED {
         check(&rt, words, file, kernels, code, last)?;
     }
     Ok(())
@@ -650,7 +650,7 @@ const SUMS: &str =
     let rec deep n c = if n = 0 then c else deep (n - 1) .<.~c + 1>. ;; ";
 
 /// Code of the depths 400 and 401, in main and in an item, and code past the limits that is not run.
-const LIMITS: [(&str, u8, &str); 5] = [
+const LIMITS: &[(&str, u8, &str)] = &[
     (
         "main : int = run[int] (close (deep 399 .<1>.))",
         0,
@@ -672,7 +672,7 @@ const LIMITS: [(&str, u8, &str); 5] = [
 
 #[test]
 fn code_has_its_limits(rt: HostRuntime) -> Result<(), Fail> {
-    for (rest, code, last) in LIMITS {
+    for &(rest, code, last) in LIMITS {
         let file = format!(in rt.alloc(); "{SUMS}{rest}")?;
         check(&rt, &["run", NAME], file.as_str(), &[], code, last)?;
     }
@@ -680,7 +680,7 @@ fn code_has_its_limits(rt: HostRuntime) -> Result<(), Fail> {
 }
 
 /// Words, the calls of the sink that fail, the status, and what is written. The source fails at each call.
-const SAMPLES: [(&[&str], &[u64], u8, &str); 14] = [
+const SAMPLES: &[(&[&str], &[u64], u8, &str)] = &[
     (
         &["sample", "1"],
         &[],
@@ -714,7 +714,7 @@ const SAMPLES: [(&[&str], &[u64], u8, &str); 14] = [
 
 #[test]
 fn samples_have_their_totals(rt: HostRuntime) -> Result<(), Fail> {
-    for (words, failing, code, written) in SAMPLES {
+    for &(words, failing, code, written) in SAMPLES {
         let ran = ran_by(&rt, words, b"?", &[0, 1, 2, 3], failing, 1_000_000)?;
         assert_eq!(rt; ran.status.code(), code, "{words:?}");
         assert_eq!(rt; ran.written.as_slice(), written.as_bytes(), "{words:?}");
@@ -732,7 +732,7 @@ fn a_failing_write_ends_what_is_written(rt: HostRuntime) -> Result<(), Fail> {
     let whole = lines(rt.alloc(), &kernels, last)?;
     let front = lines(rt.alloc(), &kernels[..1], "kernel b : int")?;
     let all = whole.len().saturating_sub(20);
-    for (failing, length, code) in [
+    for &(failing, length, code) in &[
         (0, 0, 6),
         (1, 15, 6),
         (3, front.len().saturating_sub(15), 6),

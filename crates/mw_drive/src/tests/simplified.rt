@@ -13,7 +13,7 @@ pub(super) const SIMPLIFIED: [&str; 3] = ["run", "--simplify", NAME];
 pub(super) const PLAIN: [&str; 2] = ["run", NAME];
 
 /// Kernels of a number: the code as it is built, simplified, the text of that, and the last line of the run.
-const NUMBERS: [(&str, &str, &str, &str); 53] = [
+const NUMBERS: &[(&str, &str, &str, &str)] = &[
     // two literals, wrapped to 64 bits
     (
         "9223372036854775807 + 1",
@@ -242,7 +242,7 @@ const NUMBERS: [(&str, &str, &str, &str); 53] = [
 ];
 
 /// Kernels of a function of a number, which is called with 4.
-const FUNCTIONS: [(&str, &str, &str, &str); 31] = [
+const FUNCTIONS: &[(&str, &str, &str, &str)] = &[
     // two literals, and less than two
     (
         "fun x -> 1 + 2 + x",
@@ -446,7 +446,7 @@ const CALLS: &str =
 
 /// Kernels of other types: the type and its words, the code as it is built, simplified, the text of that, main with its type,
 /// and the last line.
-const OTHERS: [(&str, &str, &str, &str, &str, &str, &str); 13] = [
+const OTHERS: &[(&str, &str, &str, &str, &str, &str, &str)] = &[
     (
         "bool",
         "bool",
@@ -612,7 +612,7 @@ fn check_row<R: Abort + AllocGlobal + Threads + Sync>(
 
 #[test]
 fn kernels_of_numbers_are_simplified(rt: HostRuntime) -> Result<(), Fail> {
-    for row in NUMBERS {
+    for &row in NUMBERS {
         check_row(&rt, ("int", "int"), "int = run[int] k", row)?;
     }
     Ok(())
@@ -621,7 +621,7 @@ fn kernels_of_numbers_are_simplified(rt: HostRuntime) -> Result<(), Fail> {
 #[test]
 fn kernels_of_functions_are_simplified(rt: HostRuntime) -> Result<(), Fail> {
     let kind = ("int -> int", "to int int");
-    for row in FUNCTIONS {
+    for &row in FUNCTIONS {
         check_row(&rt, kind, "int = run[int -> int] k 4", row)?;
     }
     Ok(())
@@ -629,7 +629,7 @@ fn kernels_of_functions_are_simplified(rt: HostRuntime) -> Result<(), Fail> {
 
 #[test]
 fn kernels_of_other_types_are_simplified(rt: HostRuntime) -> Result<(), Fail> {
-    for (kind, kind_words, code, simple, text, main, last) in OTHERS {
+    for &(kind, kind_words, code, simple, text, main, last) in OTHERS {
         check_row(&rt, (kind, kind_words), main, (code, simple, text, last))?;
     }
     Ok(())

@@ -16,7 +16,7 @@ const LETS: &str =
 
 /// Programs after these lets whose first kernel isn't one bracket: its type, the text of its simplified code, and the exit code
 /// and the last line, which the plain run has too.
-const BUILT: [(&str, &str, &str, u8, &str); 7] = [
+const BUILT: &[(&str, &str, &str, u8, &str)] = &[
     // a run in an item
     (
         "kernel k : int = close .<.~(lift (run[int] (close .<1 + 1>.))) + 3>. ;; main : int = run[int] k",
@@ -76,7 +76,7 @@ const BUILT: [(&str, &str, &str, u8, &str); 7] = [
 #[test]
 fn built_code_is_simplified_as_a_whole(rt: HostRuntime) -> Result<(), Fail> {
     let alloc = rt.alloc();
-    for (rest, kind, text, code, last) in BUILT {
+    for &(rest, kind, text, code, last) in BUILT {
         let file = format!(in alloc; "{LETS}{rest}")?;
         let wanted_front = front(alloc, kind, text)?;
         let wanted_last = format!(in alloc; "\n{last}\n")?;
@@ -105,7 +105,7 @@ const UNUSED_CALLS: &str =
 const FIRST_STAGE_CALLS: &str = "main : int = let a = (fun x -> x) ((fun x -> x) 1) in 3";
 
 /// Programs after the lets, the units, and the only or the last line of the run and of the simplified run.
-const ENDINGS: [(&str, &str, &str, &str); 21] = [
+const ENDINGS: &[(&str, &str, &str, &str)] = &[
     // 524,288 words, which the unused pairs would take
     (
         "main : int = taking 17476 + taking 17476",
@@ -227,7 +227,7 @@ const ENDINGS: [(&str, &str, &str, &str); 21] = [
 #[test]
 fn simplified_runs_have_their_ends(rt: HostRuntime) -> Result<(), Fail> {
     let alloc = rt.alloc();
-    for (rest, units, plain_last, simplified_last) in ENDINGS {
+    for &(rest, units, plain_last, simplified_last) in ENDINGS {
         let file = format!(in alloc; "{LETS}{rest}")?;
         let plain = ["run", "--fuel", units, NAME];
         let simplified = ["run", "--simplify", "--fuel", units, NAME];
@@ -245,7 +245,7 @@ fn simplified_runs_have_their_ends(rt: HostRuntime) -> Result<(), Fail> {
 }
 
 /// Words, the exit code, and the text of the kernel that is printed; where nothing is written it is empty.
-const WORDED: [(&[&str], u8, &str); 18] = [
+const WORDED: &[(&[&str], u8, &str)] = &[
     (&["run", NAME], 0, "int add i 1 i 2"),
     (&["run", "--simplify", NAME], 0, "int i 3"),
     (&["run", NAME, "--simplify"], 0, "int i 3"),
@@ -273,7 +273,7 @@ const WORDED: [(&[&str], u8, &str); 18] = [
 #[test]
 fn simplification_has_its_words(rt: HostRuntime) -> Result<(), Fail> {
     let file = b"kernel k : int = close .<1 + 2>. ;; main : int = (fun x -> x) (run[int] k)";
-    for (words, code, text) in WORDED {
+    for &(words, code, text) in WORDED {
         let ran = ran(&rt, words, file, &[], &[])?;
         let written = ran.written.as_slice();
         assert_eq!(rt; ran.status.code(), code, "{words:?}");
@@ -290,12 +290,13 @@ fn simplification_has_its_words(rt: HostRuntime) -> Result<(), Fail> {
 #[test]
 fn simplified_runs_have_their_faults(rt: HostRuntime) -> Result<(), Fail> {
     let file = b"main : int = run[int] (close .<let a = 1 / 0 in 3>.)";
-    for (reads, writes, code, written) in [
-        (&[0][..], &[][..], 5, ""),
+    let faults: &[(&[u64], &[u64], u8, &str)] = &[
+        (&[0], &[], 5, ""),
         (&[], &[0], 6, ""),
         (&[], &[1], 6, "trap divid"),
         (&[], &[2], 1, "trap divide in main\n"),
-    ] {
+    ];
+    for &(reads, writes, code, written) in faults {
         let ran = ran(&rt, &SIMPLIFIED, file, reads, writes)?;
         assert_eq!(rt; ran.status.code(), code, "{reads:?} {writes:?}");
         assert_eq!(rt; ran.written.as_slice(), written.as_bytes());

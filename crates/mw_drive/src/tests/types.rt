@@ -8,7 +8,7 @@ use std::alloc::Global;
 use std::test::Fail;
 
 /// Kernel types, each with its text.
-const KERNEL_TYPES: [&str; 18] = [
+const KERNEL_TYPES: &[&str] = &[
     "int => Ground(Base(Int))",
     "bool => Ground(Base(Bool))",
     "(int) => Ground(Base(Int))",
@@ -32,7 +32,7 @@ const KERNEL_TYPES: [&str; 18] = [
 #[test]
 fn kernel_types_have_their_trees(rt: HostRuntime) -> Result<(), Fail> {
     let alloc = rt.alloc();
-    for row in KERNEL_TYPES {
+    for &row in KERNEL_TYPES {
         let (kernel_type, text) = parts(row)?;
         let source = format!(in alloc; "kernel k : {kernel_type} = 1 ;; main : bool = 2")?;
         let tree = format!(in alloc;
@@ -51,7 +51,7 @@ fn kernel_types_have_their_trees(rt: HostRuntime) -> Result<(), Fail> {
 
 /// Ground types of every shape up to a depth of three, with blanks, parentheses and words in turn, each with its text and a
 /// value of it.
-const MAIN_TYPES: [&str; 12] = [
+const MAIN_TYPES: &[&str] = &[
     "int => Base(Int) => 1",
     "bool => Base(Bool) => true",
     "((int)) => Base(Int) => 1",
@@ -77,14 +77,14 @@ fn main_of_type(alloc: Global, text: &str) -> Result<String, Fail> {
 #[test]
 fn main_has_any_ground_type(rt: HostRuntime) -> Result<(), Fail> {
     let alloc = rt.alloc();
-    for row in MAIN_TYPES {
+    for &row in MAIN_TYPES {
         let (main_type, rest) = parts(row)?;
         let (text, value) = parts(rest)?;
         let source = format!(in alloc; "main : {main_type} = 7")?;
         let tree = main_of_type(alloc, text)?;
         let found = shown(alloc, source.as_bytes())?;
         assert_eq!(rt; found.as_str(), tree.as_str(), "{main_type}");
-        for other in MAIN_TYPES {
+        for &other in MAIN_TYPES {
             let (_, rest) = parts(other)?;
             let (other_text, other_value) = parts(rest)?;
             let source = format!(in alloc; "main : {main_type} = {other_value}")?;
@@ -105,7 +105,7 @@ fn main_has_any_ground_type(rt: HostRuntime) -> Result<(), Fail> {
 }
 
 /// Kernel types as they are written and as they are printed.
-const PRINTED: [&str; 12] = [
+const PRINTED: &[&str] = &[
     "int => int",
     "((bool)) => bool",
     "int*bool => int * bool",
@@ -145,7 +145,7 @@ fn printed(alloc: Global, kernel_type: &str) -> Result<String, Fail> {
 #[test]
 fn kernel_types_are_printed_in_their_words(rt: HostRuntime) -> Result<(), Fail> {
     let alloc = rt.alloc();
-    for row in PRINTED {
+    for &row in PRINTED {
         let (kernel_type, words) = parts(row)?;
         let wanted = format!(in alloc; "kernel k : {words}\nkey 07\nmodule 0aff\n")?;
         let found = printed(alloc, kernel_type)?;

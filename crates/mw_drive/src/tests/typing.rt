@@ -4,7 +4,7 @@ use super::{NAME, ran};
 use std::test::Fail;
 
 /// Sources, and their last lines after ` => `.
-const TYPES: [&str; 43] = [
+const TYPES: &[&str] = &[
     // types that aren't what a place asks
     "main : int = true => refused 12 type in main",
     "main : bool = 1 => refused 12 type in main",
@@ -58,7 +58,7 @@ const TYPES: [&str; 43] = [
 
 #[test]
 fn types_are_right_or_refused(rt: HostRuntime) -> Result<(), Fail> {
-    for row in TYPES {
+    for &row in TYPES {
         let (source, last) = row.split_once(" => ").ok_or("a row without a mark")?;
         let ran = ran(&rt, &["run", NAME], source.as_bytes(), &[], &[])?;
         let wanted = format!(in rt.alloc(); "{last}\n")?;

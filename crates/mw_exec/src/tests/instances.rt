@@ -212,7 +212,7 @@ fn result_of(instance: &Instance, name: &[u8]) -> Option<Option<ValType>> {
 
 #[test]
 fn instances(rt: HostRuntime) -> Result<(), AllocError> {
-    for (places, fault) in [
+    for &(places, fault) in &[
         // Two functions and two bytes at the end, and nothing at the very end.
         ((0, 2, 65_534, 65_536), None),
         ((0, 0, 0, 0), None),
@@ -242,7 +242,7 @@ fn invocations(rt: HostRuntime) -> Result<(), AllocError> {
         assert!(rt; false, "there is an instance");
         return Ok(());
     };
-    for (name, kind, fuel, end) in [
+    for &(name, kind, fuel, end) in &[
         (
             "init",
             Some(Some(ValType::I64)),
@@ -270,7 +270,7 @@ fn invocations(rt: HostRuntime) -> Result<(), AllocError> {
         let found = answer(rt.alloc(), &mut instance, name.as_bytes(), fuel)?;
         assert_eq!(rt; found, end, "{name}");
     }
-    for (at, word) in [
+    for &(at, word) in &[
         (0, Some(2055)),
         (1, Some(8)),
         (2, Some(0)),

@@ -59,10 +59,10 @@ fn called(alloc: Global, running: &mut Running, n: i64, fuel: u64) -> Result<Str
 
 #[test]
 fn starts(rt: HostRuntime) -> Result<(), AllocError> {
-    let eight =
+    const EIGHT: &str =
         "Pair(Pair(Pair(Base(Int(32)), Base(Int(32))), Pair(Base(Int(32)), Base(Int(32)))), \
         Pair(Pair(Base(Int(32)), Base(Int(32))), Pair(Base(Int(32)), Base(Int(32))))) 0";
-    for (init, base, depth, fuel, text) in [
+    for &(init, base, depth, fuel, text) in &[
         (Init::Word(7), Base::Int, 0, 5, "Base(Int(7)) 5"),
         (Init::Word(2), Base::Int, 0, 0, "Base(Int(2)) 0"),
         (Init::Word(2), Base::Bool, 0, 0, "Bad"),
@@ -99,7 +99,7 @@ fn starts(rt: HostRuntime) -> Result<(), AllocError> {
         ),
         (Init::Word(16), Base::Bool, 1, 0, "Bad"),
         // A pair whose parts are the pair itself.
-        (Init::Word(32), Base::Int, 3, 0, eight),
+        (Init::Word(32), Base::Int, 3, 0, EIGHT),
         (Init::Unreachable, Base::Int, 0, 1, "Bad"),
         (Init::Divide, Base::Int, 0, 1, "Divide"),
         (Init::Overflow, Base::Int, 0, 1, "Overflow"),
@@ -120,7 +120,7 @@ fn calls(rt: HostRuntime) -> Result<(), AllocError> {
         return Ok(());
     };
     assert_eq!(rt; left, 3);
-    for (n, fuel, text) in [
+    for &(n, fuel, text) in &[
         (2, 1, "Value(Base(Int(42)), 0)"),
         (5, 9, "Value(Base(Int(87)), 8)"),
         (-127, 1, "Value(Base(Int(0)), 0)"),

@@ -33,7 +33,7 @@ pub enum Step {
 /// A program, and the terms or the refusal that it gives.
 pub type Row = (&'static [Step], &'static str);
 
-pub const ROWS: [Row; 45] = [
+pub const ROWS: &[Row] = &[
     (
         &[
             Used(b"c", 47),

@@ -420,7 +420,7 @@ fn edge_values_of_64_bits(rt: HostRuntime) {
 #[test]
 fn conversions_and_unread_operands(rt: HostRuntime) {
     let zero = Value::I32(0);
-    for (a, want) in [
+    for &(a, want) in &[
         (0x1_0000_0000, 0),
         (ALL_ONES_64, ALL_ONES_32),
         (0x1234_5678_9abc_def0, 0x9abc_def0),
@@ -431,7 +431,7 @@ fn conversions_and_unread_operands(rt: HostRuntime) {
             "{a}"
         );
     }
-    for (a, signed) in [
+    for &(a, signed) in &[
         (0, 0),
         (1, 1),
         (GREATEST_32, 0x7fff_ffff),
