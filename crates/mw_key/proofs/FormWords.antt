@@ -12,7 +12,9 @@ use Rattle.mw_key.specs.CanonicalText.{version_word}
 use Rattle.mw_key.specs.declared.version.Version.{Version}
 use Rattle.mw_key.specs.declared.version.Version.TheVariants.{One, Two}
 use Rattle.mw_key.specs.declared.form.Form.{Form}
-use Rattle.mw_key.specs.declared.form.Form.TheVariants.{Int, Bool as Truth, Var, Fun, Rec, App, Let, If, Pair, Fst, Snd, Prim}
+use Rattle.mw_key.specs.declared.form.Form.TheVariants.{Int, Bool as Truth, Var, WithOne, WithTwo, If}
+use Rattle.mw_key.specs.declared.form.OnePart.TheVariants.{Fun, Rec, Fst, Snd}
+use Rattle.mw_key.specs.declared.form.TwoParts.TheVariants.{App, Let, Pair, Prim}
 use Rattle.mw_key.specs.declared.form.TypeForm.{TypeForm}
 use Rattle.mw_key.specs.declared.form.TypeForm.TheVariants.{Base, Pair as PairType, To}
 use Rattle.mw_key.specs.Forms.{version_words, type_words, code_forms, version_of, type_form_of, form_of}
@@ -34,15 +36,15 @@ form_word Int = codes "i"
 form_word (Truth true) = codes "true"
 form_word (Truth false) = codes "false"
 form_word Var = codes "v"
-form_word Fun = codes "fun"
-form_word Rec = codes "rec"
-form_word App = codes "app"
-form_word Let = codes "let"
+form_word (WithOne Fun) = codes "fun"
+form_word (WithOne Rec) = codes "rec"
+form_word (WithTwo App) = codes "app"
+form_word (WithTwo Let) = codes "let"
 form_word If = codes "if"
-form_word Pair = codes "pair"
-form_word Fst = codes "fst"
-form_word Snd = codes "snd"
-form_word (Prim p) = primitive_name p
+form_word (WithTwo Pair) = codes "pair"
+form_word (WithOne Fst) = codes "fst"
+form_word (WithOne Snd) = codes "snd"
+form_word (WithTwo (Prim p)) = primitive_name p
 
 abbrev pub type_form_word : TypeForm → List ℕ
 type_form_word (Base base.Int) = codes "int"
@@ -89,7 +91,7 @@ type_form_from (Base base.Bool) = refl
 type_form_from PairType = refl
 type_form_from To = refl
 
-primitive_from : (p : Prim') → form_of (primitive_name p) ≡ Some (Prim p)
+primitive_from : (p : Prim') → form_of (primitive_name p) ≡ Some (WithTwo (Prim p))
 primitive_from Add = refl
 primitive_from Sub = refl
 primitive_from Mul = refl
@@ -104,15 +106,15 @@ form_from Int = refl
 form_from (Truth true) = refl
 form_from (Truth false) = refl
 form_from Var = refl
-form_from Fun = refl
-form_from Rec = refl
-form_from App = refl
-form_from Let = refl
+form_from (WithOne Fun) = refl
+form_from (WithOne Rec) = refl
+form_from (WithTwo App) = refl
+form_from (WithTwo Let) = refl
 form_from If = refl
-form_from Pair = refl
-form_from Fst = refl
-form_from Snd = refl
-form_from (Prim p) = primitive_from p
+form_from (WithTwo Pair) = refl
+form_from (WithOne Fst) = refl
+form_from (WithOne Snd) = refl
+form_from (WithTwo (Prim p)) = primitive_from p
 
 -- no word has a space
 pub version_no_space : (v : Version) → no_space (version_word v) ≡ true

@@ -8,7 +8,9 @@ use Rattle.mw_term.specs.Terms.{Expression, num, truth, var, glob, fun, fix, app
 use Rattle.mw_term.specs.Closed.{IsCode, ClosedBelow}
 use Rattle.mw_term.specs.Limits.{LiteralsFit}
 use Rattle.mw_key.specs.declared.form.Form.{Form}
-use Rattle.mw_key.specs.declared.form.Form.TheVariants.{Int, Bool as Truth, Var, Fun, Rec, App, Let, If, Pair, Fst, Snd, Prim}
+use Rattle.mw_key.specs.declared.form.Form.TheVariants.{Int, Bool as Truth, Var, WithOne, WithTwo, If}
+use Rattle.mw_key.specs.declared.form.OnePart.TheVariants.{Fun, Rec, Fst, Snd}
+use Rattle.mw_key.specs.declared.form.TwoParts.TheVariants.{App, Let, Pair, Prim}
 use Rattle.mw_key.specs.Forms.{form_of}
 use Rattle.mw_key.specs.Numbers.{natural_of, integer_of, below}
 use Rattle.mw_key.specs.Reading.{Found, then_find, make, find_form, find_integer, find_variable, code_parts, find_code}
@@ -133,12 +135,12 @@ module _ (d : ℕ) (part : ℕ → List (List ℕ) → ℕ → Found Expression)
         closed = spelling.1;
         literals = tt;
       }
-  parts_stand Fun k ws vs n l e g = one_stands (form_word Fun) fun k (k + 1) ws vs n l e g λ a. record { words = refl; nodes = refl; depth = refl; code = λ x. x; closed = λ x. subst (λ j. ClosedBelow j a) (add-one k) x; literals = λ x. x }
-  parts_stand Rec k ws vs n l e g =
+  parts_stand (WithOne Fun) k ws vs n l e g = one_stands (form_word (WithOne Fun)) fun k (k + 1) ws vs n l e g λ a. record { words = refl; nodes = refl; depth = refl; code = λ x. x; closed = λ x. subst (λ j. ClosedBelow j a) (add-one k) x; literals = λ x. x }
+  parts_stand (WithOne Rec) k ws vs n l e g =
       let two : k + 2 ≡ suc (suc k) = omega arith in
-      one_stands (form_word Rec) fix k (k + 2) ws vs n l e g λ a. record { words = refl; nodes = refl; depth = refl; code = λ x. x; closed = λ x. subst (λ j. ClosedBelow j a) two x; literals = λ x. x }
-  parts_stand App k ws vs n l e g = two_stand (form_word App) app k k ws vs n l e g λ a b. record { words = refl; nodes = refl; depth = refl; code = λ x. x; closed = λ x. x; literals = λ x. x }
-  parts_stand Let k ws vs n l e g = two_stand (form_word Let) bind k (k + 1) ws vs n l e g λ a b. record { words = refl; nodes = refl; depth = refl; code = λ x. x; closed = λ x. (x.0, subst (λ j. ClosedBelow j b) (add-one k) x.1); literals = λ x. x }
+      one_stands (form_word (WithOne Rec)) fix k (k + 2) ws vs n l e g λ a. record { words = refl; nodes = refl; depth = refl; code = λ x. x; closed = λ x. subst (λ j. ClosedBelow j a) two x; literals = λ x. x }
+  parts_stand (WithTwo App) k ws vs n l e g = two_stand (form_word (WithTwo App)) app k k ws vs n l e g λ a b. record { words = refl; nodes = refl; depth = refl; code = λ x. x; closed = λ x. x; literals = λ x. x }
+  parts_stand (WithTwo Let) k ws vs n l e g = two_stand (form_word (WithTwo Let)) bind k (k + 1) ws vs n l e g λ a b. record { words = refl; nodes = refl; depth = refl; code = λ x. x; closed = λ x. (x.0, subst (λ j. ClosedBelow j b) (add-one k) x.1); literals = λ x. x }
   parts_stand If k ws vs n l e g =
       let P : Found Expression → Type 0 = λ x. CodeStands (suc d) k ws n x in
       after_found P (part k vs l) _ tt λ c us m h. after_found P (part k us m) _ tt λ a ts j i. made_found P (cond c a) (part k ts j) tt λ b rest o u.
@@ -160,10 +162,10 @@ module _ (d : ℕ) (part : ℕ → List (List ℕ) → ℕ → Found Expression)
         closed = (p.closed, q.closed, r.closed);
         literals = (p.literals, q.literals, r.literals);
       }
-  parts_stand Pair k ws vs n l e g = two_stand (form_word Pair) pair k k ws vs n l e g λ a b. record { words = refl; nodes = refl; depth = refl; code = λ x. x; closed = λ x. x; literals = λ x. x }
-  parts_stand Fst k ws vs n l e g = one_stands (form_word Fst) fst k k ws vs n l e g λ a. record { words = refl; nodes = refl; depth = refl; code = λ x. x; closed = λ x. x; literals = λ x. x }
-  parts_stand Snd k ws vs n l e g = one_stands (form_word Snd) snd k k ws vs n l e g λ a. record { words = refl; nodes = refl; depth = refl; code = λ x. x; closed = λ x. x; literals = λ x. x }
-  parts_stand (Prim o) k ws vs n l e g = two_stand (form_word (Prim o)) (prim o) k k ws vs n l e g λ a b. record { words = refl; nodes = refl; depth = refl; code = λ x. x; closed = λ x. x; literals = λ x. x }
+  parts_stand (WithTwo Pair) k ws vs n l e g = two_stand (form_word (WithTwo Pair)) pair k k ws vs n l e g λ a b. record { words = refl; nodes = refl; depth = refl; code = λ x. x; closed = λ x. x; literals = λ x. x }
+  parts_stand (WithOne Fst) k ws vs n l e g = one_stands (form_word (WithOne Fst)) fst k k ws vs n l e g λ a. record { words = refl; nodes = refl; depth = refl; code = λ x. x; closed = λ x. x; literals = λ x. x }
+  parts_stand (WithOne Snd) k ws vs n l e g = one_stands (form_word (WithOne Snd)) snd k k ws vs n l e g λ a. record { words = refl; nodes = refl; depth = refl; code = λ x. x; closed = λ x. x; literals = λ x. x }
+  parts_stand (WithTwo (Prim o)) k ws vs n l e g = two_stand (form_word (WithTwo (Prim o))) (prim o) k k ws vs n l e g λ a b. record { words = refl; nodes = refl; depth = refl; code = λ x. x; closed = λ x. x; literals = λ x. x }
 
 -- what is found stands there
 pub code_stands : (d k : ℕ) (ws : List (List ℕ)) (n : ℕ) → CodeStands d k ws n (find_code d k ws n)
@@ -201,23 +203,23 @@ code_from (var i) d k rest m code closed literals deep room =
 code_from (glob i) d k rest m code closed literals deep room = absurd code
 code_from (fun e) d k rest m code closed literals deep room =
     let part = code_from e (d - 1) (k + 1) rest m code (subst (λ j. ClosedBelow j e) (sym (add-one k)) closed) literals (omega arith) (omega arith) in
-    begins Fun d k (code_list (fun e) ++ rest) (code_list e ++ rest) (size (fun e) + m) (size e + m) (omega arith) refl (omega arith)
+    begins (WithOne Fun) d k (code_list (fun e) ++ rest) (code_list e ++ rest) (size (fun e) + m) (size e + m) (omega arith) refl (omega arith)
     ∙ make_at fun part
 code_from (fix e) d k rest m code closed literals deep room =
     let two : suc (suc k) ≡ k + 2 = omega arith in
     let part = code_from e (d - 1) (k + 2) rest m code (subst (λ j. ClosedBelow j e) two closed) literals (omega arith) (omega arith) in
-    begins Rec d k (code_list (fix e) ++ rest) (code_list e ++ rest) (size (fix e) + m) (size e + m) (omega arith) refl (omega arith)
+    begins (WithOne Rec) d k (code_list (fix e) ++ rest) (code_list e ++ rest) (size (fix e) + m) (size e + m) (omega arith) refl (omega arith)
     ∙ make_at fix part
 code_from (app a b) d k rest m code closed literals deep room =
     let first = code_from a (d - 1) k (code_list b ++ rest) (size b + m) code.0 closed.0 literals.0 (omega arith) (omega arith) in
     let second = code_from b (d - 1) k rest m code.1 closed.1 literals.1 (omega arith) (omega arith) in
-    begins App d k (code_list (app a b) ++ rest) (code_list a ++ (code_list b ++ rest)) (size (app a b) + m) (size a + (size b + m)) (omega arith) (ap (λ x. form_word App ∷ x) (append_assoc (code_list a) (code_list b) rest)) (omega arith)
+    begins (WithTwo App) d k (code_list (app a b) ++ rest) (code_list a ++ (code_list b ++ rest)) (size (app a b) + m) (size a + (size b + m)) (omega arith) (ap (λ x. form_word (WithTwo App) ∷ x) (append_assoc (code_list a) (code_list b) rest)) (omega arith)
     ∙ then_at (λ c ws n. make (app c) (find_code (d - 1) k ws n)) first
     ∙ make_at (app a) second
 code_from (bind a b) d k rest m code closed literals deep room =
     let first = code_from a (d - 1) k (code_list b ++ rest) (size b + m) code.0 closed.0 literals.0 (omega arith) (omega arith) in
     let second = code_from b (d - 1) (k + 1) rest m code.1 (subst (λ j. ClosedBelow j b) (sym (add-one k)) closed.1) literals.1 (omega arith) (omega arith) in
-    begins Let d k (code_list (bind a b) ++ rest) (code_list a ++ (code_list b ++ rest)) (size (bind a b) + m) (size a + (size b + m)) (omega arith) (ap (λ x. form_word Let ∷ x) (append_assoc (code_list a) (code_list b) rest)) (omega arith)
+    begins (WithTwo Let) d k (code_list (bind a b) ++ rest) (code_list a ++ (code_list b ++ rest)) (size (bind a b) + m) (size a + (size b + m)) (omega arith) (ap (λ x. form_word (WithTwo Let) ∷ x) (append_assoc (code_list a) (code_list b) rest)) (omega arith)
     ∙ then_at (λ c ws n. make (bind c) (find_code (d - 1) (k + 1) ws n)) first
     ∙ make_at (bind a) second
 code_from (cond c a b) d k rest m code closed literals deep room =
@@ -232,21 +234,21 @@ code_from (cond c a b) d k rest m code closed literals deep room =
 code_from (pair a b) d k rest m code closed literals deep room =
     let first = code_from a (d - 1) k (code_list b ++ rest) (size b + m) code.0 closed.0 literals.0 (omega arith) (omega arith) in
     let second = code_from b (d - 1) k rest m code.1 closed.1 literals.1 (omega arith) (omega arith) in
-    begins Pair d k (code_list (pair a b) ++ rest) (code_list a ++ (code_list b ++ rest)) (size (pair a b) + m) (size a + (size b + m)) (omega arith) (ap (λ x. form_word Pair ∷ x) (append_assoc (code_list a) (code_list b) rest)) (omega arith)
+    begins (WithTwo Pair) d k (code_list (pair a b) ++ rest) (code_list a ++ (code_list b ++ rest)) (size (pair a b) + m) (size a + (size b + m)) (omega arith) (ap (λ x. form_word (WithTwo Pair) ∷ x) (append_assoc (code_list a) (code_list b) rest)) (omega arith)
     ∙ then_at (λ c ws n. make (pair c) (find_code (d - 1) k ws n)) first
     ∙ make_at (pair a) second
 code_from (fst e) d k rest m code closed literals deep room =
     let part = code_from e (d - 1) k rest m code closed literals (omega arith) (omega arith) in
-    begins Fst d k (code_list (fst e) ++ rest) (code_list e ++ rest) (size (fst e) + m) (size e + m) (omega arith) refl (omega arith)
+    begins (WithOne Fst) d k (code_list (fst e) ++ rest) (code_list e ++ rest) (size (fst e) + m) (size e + m) (omega arith) refl (omega arith)
     ∙ make_at fst part
 code_from (snd e) d k rest m code closed literals deep room =
     let part = code_from e (d - 1) k rest m code closed literals (omega arith) (omega arith) in
-    begins Snd d k (code_list (snd e) ++ rest) (code_list e ++ rest) (size (snd e) + m) (size e + m) (omega arith) refl (omega arith)
+    begins (WithOne Snd) d k (code_list (snd e) ++ rest) (code_list e ++ rest) (size (snd e) + m) (size e + m) (omega arith) refl (omega arith)
     ∙ make_at snd part
 code_from (prim o a b) d k rest m code closed literals deep room =
     let first = code_from a (d - 1) k (code_list b ++ rest) (size b + m) code.0 closed.0 literals.0 (omega arith) (omega arith) in
     let second = code_from b (d - 1) k rest m code.1 closed.1 literals.1 (omega arith) (omega arith) in
-    begins (Prim o) d k (code_list (prim o a b) ++ rest) (code_list a ++ (code_list b ++ rest)) (size (prim o a b) + m) (size a + (size b + m)) (omega arith) (ap (λ x. form_word (Prim o) ∷ x) (append_assoc (code_list a) (code_list b) rest)) (omega arith)
+    begins (WithTwo (Prim o)) d k (code_list (prim o a b) ++ rest) (code_list a ++ (code_list b ++ rest)) (size (prim o a b) + m) (size a + (size b + m)) (omega arith) (ap (λ x. form_word (WithTwo (Prim o)) ∷ x) (append_assoc (code_list a) (code_list b) rest)) (omega arith)
     ∙ then_at (λ c ws n. make (prim o c) (find_code (d - 1) k ws n)) first
     ∙ make_at (prim o a) second
 code_from (bracket e) d k rest m code closed literals deep room = absurd code

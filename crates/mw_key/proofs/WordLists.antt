@@ -8,7 +8,9 @@ use Rattle.mw_term.specs.declared.term.Primitive.{Primitive as Prim'}
 use Rattle.mw_term.specs.declared.term.Primitive.TheVariants.{Add, Sub, Mul, Div, Mod, Eq, Lt, Le}
 use Rattle.mw_key.specs.CanonicalText.{version_word, ground_words, kernel_words, primitive_word, code_words, canonical_text}
 use Rattle.mw_key.specs.declared.version.Version.{Version}
-use Rattle.mw_key.specs.declared.form.Form.TheVariants.{Int, Bool as Truth, Var, Fun, Rec, App, Let, If, Pair, Fst, Snd, Prim}
+use Rattle.mw_key.specs.declared.form.Form.TheVariants.{Int, Bool as Truth, Var, WithOne, WithTwo, If}
+use Rattle.mw_key.specs.declared.form.OnePart.TheVariants.{Fun, Rec, Fst, Snd}
+use Rattle.mw_key.specs.declared.form.TwoParts.TheVariants.{App, Let, Pair, Prim}
 use Rattle.mw_key.specs.declared.form.TypeForm.TheVariants.{Base, Pair as PairType, To}
 use Rattle.mw_key.specs.Reading.{words}
 use Rattle.mw_key.proofs.Words.{spaced, spaced-append, NoSpaces, NoSpaces-append, words_of_bytes, bytes_of_words}
@@ -27,15 +29,15 @@ abbrev pub code_list : Expression → List (List ℕ)
 code_list (num n) = form_word Int ∷ signed_decimal n ∷ []
 code_list (truth t) = form_word (Truth t) ∷ []
 code_list (var i) = form_word Var ∷ decimal i ∷ []
-code_list (fun e) = form_word Fun ∷ code_list e
-code_list (fix e) = form_word Rec ∷ code_list e
-code_list (app f a) = form_word App ∷ (code_list f ++ code_list a)
-code_list (bind d e) = form_word Let ∷ (code_list d ++ code_list e)
+code_list (fun e) = form_word (WithOne Fun) ∷ code_list e
+code_list (fix e) = form_word (WithOne Rec) ∷ code_list e
+code_list (app f a) = form_word (WithTwo App) ∷ (code_list f ++ code_list a)
+code_list (bind d e) = form_word (WithTwo Let) ∷ (code_list d ++ code_list e)
 code_list (cond c a t) = form_word If ∷ (code_list c ++ (code_list a ++ code_list t))
-code_list (pair a t) = form_word Pair ∷ (code_list a ++ code_list t)
-code_list (fst e) = form_word Fst ∷ code_list e
-code_list (snd e) = form_word Snd ∷ code_list e
-code_list (prim p a t) = form_word (Prim p) ∷ (code_list a ++ code_list t)
+code_list (pair a t) = form_word (WithTwo Pair) ∷ (code_list a ++ code_list t)
+code_list (fst e) = form_word (WithOne Fst) ∷ code_list e
+code_list (snd e) = form_word (WithOne Snd) ∷ code_list e
+code_list (prim p a t) = form_word (WithTwo (Prim p)) ∷ (code_list a ++ code_list t)
 code_list _ = []
 
 -- a word before what follows it

@@ -1,14 +1,14 @@
 -- What stands at the front of words, as functions. Each takes the words that are left and how many nodes may come, and
 -- finds something and what is left after it, or nothing.
-use Rattle.std.specs.Prelude.{◌≡◌, ℕ, zero, suc, ◌+◌, ℤ, ◌==◌, List, [], ◌∷◌, Option, Some, None, Result, Ok, Err}
+use Rattle.std.specs.Prelude.{◌≡◌, ℕ, zero, suc, ℤ, ◌==◌, List, [], ◌∷◌, Option, Some, None, Result, Ok, Err}
 use Rattle.std.specs.Borrow.{Bor}
 use Rattle.std.specs.List.{slice_split}
-use Rattle.mw_term.specs.Terms.{Expression, GroundType, KernelType, base, product, of_ground, to, num, truth, var, fun, fix, app, bind, cond, pair, fst, snd, prim}
-use Rattle.mw_key.specs.Forms.{version_of, type_form_of, form_of}
+use Rattle.mw_term.specs.Terms.{Expression, GroundType, KernelType, base, product, of_ground, to, num, truth, var, cond}
+use Rattle.mw_key.specs.Forms.{version_of, type_form_of, form_of, under_one, under_two, code_of_one, code_of_two}
 use Rattle.mw_key.specs.Numbers.{natural_of, integer_of, below}
 use Rattle.mw_key.specs.declared.version.Version.{Version}
 use Rattle.mw_key.specs.declared.form.Form.{Form}
-use Rattle.mw_key.specs.declared.form.Form.TheVariants.{Int, Bool, Var, Fun, Rec, App, Let, If, Pair, Fst, Snd, Prim}
+use Rattle.mw_key.specs.declared.form.Form.TheVariants.{Int, Bool, Var, WithOne, WithTwo, If}
 use Rattle.mw_key.specs.declared.form.TypeForm.{TypeForm}
 use Rattle.mw_key.specs.declared.form.TypeForm.TheVariants.{Base, Pair as PairType, To}
 use Rattle.mw_key.specs.declared.fault.TextFault.{TextFault}
@@ -90,15 +90,9 @@ abbrev pub code_parts : (ℕ → List (List ℕ) → ℕ → Found Expression) �
 code_parts part Int k ws n = make num (find_integer ws n)
 code_parts part (Bool b) k ws n = Some (truth b, ws, n)
 code_parts part Var k ws n = make var (find_variable k ws n)
-code_parts part Fun k ws n = make fun (part (k + 1) ws n)
-code_parts part Rec k ws n = make fix (part (k + 2) ws n)
-code_parts part App k ws n = then_find (part k ws n) λ f ws n. make (app f) (part k ws n)
-code_parts part Let k ws n = then_find (part k ws n) λ d ws n. make (bind d) (part (k + 1) ws n)
+code_parts part (WithOne form) k ws n = make (code_of_one form) (part (under_one form k) ws n)
+code_parts part (WithTwo form) k ws n = then_find (part k ws n) λ a ws n. make (code_of_two form a) (part (under_two form k) ws n)
 code_parts part If k ws n = then_find (part k ws n) λ c ws n. then_find (part k ws n) λ a ws n. make (cond c a) (part k ws n)
-code_parts part Pair k ws n = then_find (part k ws n) λ a ws n. make (pair a) (part k ws n)
-code_parts part Fst k ws n = make fst (part k ws n)
-code_parts part Snd k ws n = make snd (part k ws n)
-code_parts part (Prim p) k ws n = then_find (part k ws n) λ a ws n. make (prim p a) (part k ws n)
 
 -- code of at most this depth under this many binders
 unfoldable pub find_code : ℕ → ℕ → List (List ℕ) → ℕ → Found Expression

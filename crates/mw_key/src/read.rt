@@ -120,30 +120,19 @@ fn code_of(alloc: Global, reader: &mut Reader, form: Form, depth: u32, binders: 
         Form::Int => Ok(Term::Int(reader.integer()?)),
         Form::Bool(b) => Ok(Term::Bool(b)),
         Form::Var => Ok(Term::Var(reader.variable(binders)?)),
-        Form::Fun => Ok(Term::Fun(boxed(alloc, reader, depth, binders + 1)?)),
-        Form::Rec => Ok(Term::Rec(boxed(alloc, reader, depth, binders + 2)?)),
-        Form::App => {
-            let f = boxed(alloc, reader, depth, binders)?;
-            Ok(Term::App(f, boxed(alloc, reader, depth, binders)?))
+        Form::WithOne(form) => {
+            let part = boxed(alloc, reader, depth, form.under(binders))?;
+            Ok(form.of(part))
         }
-        Form::Let => {
-            let d = boxed(alloc, reader, depth, binders)?;
-            Ok(Term::Let(d, boxed(alloc, reader, depth, binders + 1)?))
+        Form::WithTwo(form) => {
+            let first = boxed(alloc, reader, depth, binders)?;
+            let second = boxed(alloc, reader, depth, form.under(binders))?;
+            Ok(form.of(first, second))
         }
         Form::If => {
             let c = boxed(alloc, reader, depth, binders)?;
             let a = boxed(alloc, reader, depth, binders)?;
             Ok(Term::If(c, a, boxed(alloc, reader, depth, binders)?))
-        }
-        Form::Pair => {
-            let a = boxed(alloc, reader, depth, binders)?;
-            Ok(Term::Pair(a, boxed(alloc, reader, depth, binders)?))
-        }
-        Form::Fst => Ok(Term::Fst(boxed(alloc, reader, depth, binders)?)),
-        Form::Snd => Ok(Term::Snd(boxed(alloc, reader, depth, binders)?)),
-        Form::Prim(p) => {
-            let a = boxed(alloc, reader, depth, binders)?;
-            Ok(Term::Prim(p, a, boxed(alloc, reader, depth, binders)?))
         }
     }
 }
