@@ -1,6 +1,6 @@
 -- Texts put together.
 use Rattle.std.proofs.Common.{◌≡◌, ℕ, ◌+◌, ◌-◌, ◌≤◌, List, ◌++◌, take, drop, refl, sym, ◌∙◌, ap, arith}
-use Rattle.std.specs.Prelude.{codes, length, Result, Ok, Err, IfOk, OnErr}
+use Rattle.std.specs.Prelude.{length, Result, Ok, Err, IfOk, OnErr}
 use Rattle.mw_outside.specs.Count.{GrowsByFront}
 use Rattle.std.proofs.Math.Seq.{take-add}
 use Rattle.std.proofs.lemmas.List.{append_assoc, length-take, take-take}
@@ -13,12 +13,11 @@ put_more t x more u v e f = f ∙ (ap (λ y. y ++ more) e ∙ append_assoc t x m
 pub three_put : (t a b c x y z : List ℕ) → a ≡ t ++ x → b ≡ a ++ y → c ≡ b ++ z → c ≡ t ++ (x ++ y ++ z)
 three_put t a b c x y z p q r = put_more t (x ++ y) z b c (put_more t x y a b p q) r
 
--- the line of a name and a type, piece by piece
-pub name_put : (t a b c d e name kind : List ℕ) → a ≡ t ++ codes "kernel " → b ≡ a ++ name → c ≡ b ++ codes " : " → d ≡ c ++ kind → e ≡ d ++ codes "\n"
-    → e ≡ t ++ (codes "kernel " ++ name ++ codes " : " ++ kind ++ codes "\n")
-name_put t a b c d e name kind p q r s u =
-    let line = codes "kernel " ++ name ++ codes " : " in
-    put_more t (line ++ kind) (codes "\n") d e (put_more t line kind c d (three_put t a b c (codes "kernel ") name (codes " : ") p q r) s) u
+-- five pieces that were put after others
+pub five_put : (t a b c d e v w x y z : List ℕ) → a ≡ t ++ v → b ≡ a ++ w → c ≡ b ++ x → d ≡ c ++ y → e ≡ d ++ z → e ≡ t ++ (v ++ w ++ x ++ y ++ z)
+five_put t a b c d e v w x y z p q r s u =
+    let line = v ++ w ++ x in
+    put_more t (line ++ y) z d e (put_more t line y c d (three_put t a b c v w x p q r) s) u
 
 -- a line that was written after a front of the text
 pub line_written : (old middle new text : List ℕ) (done end : ℕ) → done ≤ end → middle ≡ old ++ take done text → new ≡ middle ++ take (end - done) (drop done text) → new ≡ old ++ take end text

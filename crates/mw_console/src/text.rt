@@ -5,30 +5,26 @@ ghost use Rattle.std.specs.String.{string_bytes};
 ghost use Rattle.hex.specs.Hex.{encode_lower};
 ghost use Rattle.mw_term.specs.Terms.{ground_of, kernel_type_of, ground_value_of, base_value_of};
 ghost use Rattle.mw_term.specs.declared.program.Item.{Item as PureItem};
-ghost use Rattle.mw_console.specs.Texts.{answered, trapped, bounded, base_text, ground_text, left_text, kind_text, kernel_text, kernel_line, digits_line, limit_words, trap_words, ending_line, total_line, totals_text, name_at, in_line, place_line, refusal_line, value_text};
+ghost use Rattle.mw_console.specs.Texts.{answered, trapped, bounded, base_text, ground_text, left_text, kind_text, kernel_text, kernel_line, digits_line, limit_words, trap_words, ending_line, total_line, totals_text, name_at, in_line, at_line, refusal_line, value_text};
 
 use mw_term::{Base, BaseValue, Ground, GroundValue, Item, KType, Limit, Refusal, TrapKind};
 use std::alloc::{AllocError, Global};
 
-/// The line of a refusal of bytes, tokens, names or levels, or of a `close`.
-fn placed_line(alloc: Global, refusal: Refusal) -> Result<String, AllocError>
-    ensures { IfOk result (λ line. string_bytes line ≡ place_line refusal) }
+/// The line of a refusal at a place of the source.
+fn put_place_line(
+    alloc: Global,
+    text: &mut Vec<u8>,
+    words: &[u8],
+    at: u32,
+) -> Result<(), AllocError>
+    ensures { IfOk result (λ _. text.new.items ≡ text.old.items ++ at_line words.now at) }
 {
-    match refusal {
-        Refusal::TooLarge => String::from_str(alloc, "refused 1 too large\n"),
-        Refusal::Char(at) => format!(in alloc; "refused 2 character at {at}\n"),
-        Refusal::Number(at) => format!(in alloc; "refused 3 number at {at}\n"),
-        Refusal::Name(at) => format!(in alloc; "refused 4 name at {at}\n"),
-        Refusal::Syntax(at) => format!(in alloc; "refused 5 syntax at {at}\n"),
-        Refusal::TooDeep(at) => format!(in alloc; "refused 6 too deep at {at}\n"),
-        Refusal::TooMany => String::from_str(alloc, "refused 7 too many items\n"),
-        Refusal::Unbound(at) => format!(in alloc; "refused 8 unbound at {at}\n"),
-        Refusal::Twice(at) => format!(in alloc; "refused 9 bound twice at {at}\n"),
-        Refusal::NotValue(at) => format!(in alloc; "refused 10 not a value at {at}\n"),
-        Refusal::Level(at) => format!(in alloc; "refused 11 level at {at}\n"),
-        Refusal::NotClosed(at) => format!(in alloc; "refused 14 not closed at {at}\n"),
-        Refusal::IllTyped(_) | Refusal::TypeTooBig(_) => String::from_str(alloc, ""),
-    }
+    put(text, b"refused ")?;
+    put(text, words)?;
+    put(text, b" at ")?;
+    let place = format!(in alloc; "{at}")?;
+    put(text, place.as_bytes())?;
+    put(text, b"\n")
 }
 
 /// The name of the item at an index, or `main` for their number.
@@ -64,10 +60,18 @@ pub fn put_refusal(
     match refusal {
         Refusal::IllTyped(item) => put_item_line(text, b"12 type", name_of(items, item)),
         Refusal::TypeTooBig(item) => put_item_line(text, b"13 type too big", name_of(items, item)),
-        _ => {
-            let line = placed_line(alloc, refusal)?;
-            put(text, line.as_bytes())
-        }
+        Refusal::TooLarge => put(text, b"refused 1 too large\n"),
+        Refusal::TooMany => put(text, b"refused 7 too many items\n"),
+        Refusal::Char(at) => put_place_line(alloc, text, b"2 character", at),
+        Refusal::Number(at) => put_place_line(alloc, text, b"3 number", at),
+        Refusal::Name(at) => put_place_line(alloc, text, b"4 name", at),
+        Refusal::Syntax(at) => put_place_line(alloc, text, b"5 syntax", at),
+        Refusal::TooDeep(at) => put_place_line(alloc, text, b"6 too deep", at),
+        Refusal::Unbound(at) => put_place_line(alloc, text, b"8 unbound", at),
+        Refusal::Twice(at) => put_place_line(alloc, text, b"9 bound twice", at),
+        Refusal::NotValue(at) => put_place_line(alloc, text, b"10 not a value", at),
+        Refusal::Level(at) => put_place_line(alloc, text, b"11 level", at),
+        Refusal::NotClosed(at) => put_place_line(alloc, text, b"14 not closed", at),
     }
 }
 
