@@ -60,8 +60,12 @@ name_at names i = get_or names i main_name
 abbrev pub at_line : List ℕ → ℕ → List ℕ
 at_line words at = codes "refused " ++ words ++ codes " at " ++ decimal at ++ codes "\n"
 
+-- a line that ends with an item's name
+abbrev pub named_line : (first words name : List ℕ) → List ℕ
+named_line first words name = first ++ words ++ codes " in " ++ name ++ codes "\n"
+
 abbrev pub in_line : List ℕ → List ℕ → List ℕ
-in_line words name = codes "refused " ++ words ++ codes " in " ++ name ++ codes "\n"
+in_line words name = named_line (codes "refused ") words name
 
 -- a refusal that isn't of an item's types as a whole
 abbrev pub place_line : Refusal → List ℕ

@@ -5,7 +5,7 @@ ghost use Rattle.std.specs.String.{string_bytes};
 ghost use Rattle.hex.specs.Hex.{encode_lower};
 ghost use Rattle.mw_term.specs.Terms.{ground_of, kernel_type_of, ground_value_of, base_value_of};
 ghost use Rattle.mw_term.specs.declared.program.Item.{Item as PureItem};
-ghost use Rattle.mw_console.specs.Texts.{answered, trapped, bounded, base_text, ground_text, left_text, kind_text, kernel_text, kernel_line, digits_line, limit_words, trap_words, ending_line, total_line, totals_text, name_at, in_line, at_line, refusal_line, value_text};
+ghost use Rattle.mw_console.specs.Texts.{answered, trapped, bounded, base_text, ground_text, left_text, kind_text, kernel_text, kernel_line, digits_line, limit_words, trap_words, ending_line, total_line, totals_text, name_at, in_line, at_line, named_line, refusal_line, value_text};
 
 use mw_term::{Base, BaseValue, Ground, GroundValue, Item, KType, Limit, Refusal, TrapKind};
 use std::alloc::{AllocError, Global};
@@ -37,15 +37,22 @@ fn name_of(items: &[Item], index: u32) -> &[u8]
     }
 }
 
-/// The line of a refusal in an item.
-fn put_item_line(text: &mut Vec<u8>, words: &[u8], name: &[u8]) -> Result<(), AllocError>
-    ensures { IfOk result (λ _. text.new.items ≡ text.old.items ++ in_line words.now name.now) }
+/// A line that ends with an item's name.
+fn put_in(text: &mut Vec<u8>, first: &[u8], words: &[u8], name: &[u8]) -> Result<(), AllocError>
+    ensures { IfOk result (λ _. text.new.items ≡ text.old.items ++ named_line first.now words.now name.now) }
 {
-    put(text, b"refused ")?;
+    put(text, first)?;
     put(text, words)?;
     put(text, b" in ")?;
     put(text, name)?;
     put(text, b"\n")
+}
+
+/// The line of a refusal in an item.
+fn put_item_line(text: &mut Vec<u8>, words: &[u8], name: &[u8]) -> Result<(), AllocError>
+    ensures { IfOk result (λ _. text.new.items ≡ text.old.items ++ in_line words.now name.now) }
+{
+    put_in(text, b"refused ", words, name)
 }
 
 /// The line of a refusal, where a program was read with its items.
@@ -230,22 +237,14 @@ fn put_base(alloc: Global, text: &mut Vec<u8>, value: BaseValue) -> Result<(), A
 pub fn put_bound(text: &mut Vec<u8>, limit: Limit, name: &[u8]) -> Result<(), AllocError>
     ensures { IfOk result (λ _. text.new.items ≡ text.old.items ++ ending_line (bounded limit name.now)) }
 {
-    put(text, b"bound ")?;
-    put(text, limit_word(limit))?;
-    put(text, b" in ")?;
-    put(text, name)?;
-    put(text, b"\n")
+    put_in(text, b"bound ", limit_word(limit), name)
 }
 
 /// The line of a trap of the item of this name, or of main.
 pub fn put_trap(text: &mut Vec<u8>, trap: TrapKind, name: &[u8]) -> Result<(), AllocError>
     ensures { IfOk result (λ _. text.new.items ≡ text.old.items ++ ending_line (trapped trap name.now)) }
 {
-    put(text, b"trap ")?;
-    put(text, trap_word(trap))?;
-    put(text, b" in ")?;
-    put(text, name)?;
-    put(text, b"\n")
+    put_in(text, b"trap ", trap_word(trap), name)
 }
 
 /// The word of a trap.
