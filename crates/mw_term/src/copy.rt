@@ -59,31 +59,31 @@ pub fn copied_term(alloc: Global, term: &Term) -> Result<Term, AllocError>
         Term::Fun(e) => Ok(Term::Fun(boxed_copy(alloc, e)?)),
         Term::Rec(e) => Ok(Term::Rec(boxed_copy(alloc, e)?)),
         Term::App(f, a) => {
-            let f = boxed_copy(alloc, f)?;
-            Ok(Term::App(f, boxed_copy(alloc, a)?))
+            let (f, a) = boxed_copies(alloc, f, a)?;
+            Ok(Term::App(f, a))
         }
         Term::Let(d, e) => {
-            let d = boxed_copy(alloc, d)?;
-            Ok(Term::Let(d, boxed_copy(alloc, e)?))
+            let (d, e) = boxed_copies(alloc, d, e)?;
+            Ok(Term::Let(d, e))
         }
         Term::If(c, a, b) => {
             let c = boxed_copy(alloc, c)?;
-            let a = boxed_copy(alloc, a)?;
-            Ok(Term::If(c, a, boxed_copy(alloc, b)?))
+            let (a, b) = boxed_copies(alloc, a, b)?;
+            Ok(Term::If(c, a, b))
         }
         Term::Pair(a, b) => {
-            let a = boxed_copy(alloc, a)?;
-            Ok(Term::Pair(a, boxed_copy(alloc, b)?))
+            let (a, b) = boxed_copies(alloc, a, b)?;
+            Ok(Term::Pair(a, b))
         }
         Term::Fst(e) => Ok(Term::Fst(boxed_copy(alloc, e)?)),
         Term::Snd(e) => Ok(Term::Snd(boxed_copy(alloc, e)?)),
         Term::Prim(p, a, b) => {
-            let a = boxed_copy(alloc, a)?;
-            Ok(Term::Prim(*p, a, boxed_copy(alloc, b)?))
+            let (a, b) = boxed_copies(alloc, a, b)?;
+            Ok(Term::Prim(*p, a, b))
         }
         Term::Run(kind, e) => {
-            let kind = copied_kernel_type(alloc, kind)?;
-            Ok(Term::Run(kind, boxed_copy(alloc, e)?))
+            let e = boxed_copy(alloc, e)?;
+            Ok(Term::Run(copied_kernel_type(alloc, kind)?, e))
         }
         Term::Bracket(e) => Ok(Term::Bracket(boxed_copy(alloc, e)?)),
         Term::Escape(e) => Ok(Term::Escape(boxed_copy(alloc, e)?)),
@@ -101,4 +101,19 @@ fn boxed_copy(alloc: Global, term: &Term) -> Result<Box<Term>, AllocError>
 {
     let copy = copied_term(alloc, term)?;
     Ok(Box::new(alloc, copy)?)
+}
+
+/// The same two terms, each in a box.
+#[cycle(terms)]
+fn boxed_copies(
+    alloc: Global,
+    first: &Term,
+    second: &Term,
+) -> Result<(Box<Term>, Box<Term>), AllocError>
+    ensures first { IfOk result (λ copies. expression_of copies.0.value ≡ expression_of first.now) }
+    ensures second { IfOk result (λ copies. expression_of copies.1.value ≡ expression_of second.now) }
+{
+    let first = boxed_copy(alloc, first)?;
+    let second = boxed_copy(alloc, second)?;
+    Ok((first, second))
 }

@@ -1,4 +1,5 @@
 pub mod NumericOperands
+pub mod SignedQuotients
 pub mod ExamplesValid
 pub mod ValidSteps
 pub mod ActLaws
