@@ -101,7 +101,10 @@ fn paren_ground(alloc: Global, tokens: &[Token], room: u32) -> Read<Ground>
 {
     let (ground, height, mid) = ground_type(alloc, tokens, room)?;
     match after(Next::Paren, mid) {
-        None => Err(Fault::Syntax(mid)),
+        None => {
+            drop(ground);
+            Err(Fault::Syntax(mid))
+        }
         Some(rest) => Ok((ground, height, rest)),
     }
 }
@@ -118,10 +121,12 @@ pub fn ground_type(alloc: Global, tokens: &[Token], room: u32) -> Read<Ground>
         None => Ok((left, height, mid)),
         Some(rest) => {
             if height >= room {
+                drop(left);
                 return Err(Fault::Deep(mid));
             }
+            let left = Box::new(alloc, left)?;
             let (right, other, rest) = ground_type(alloc, rest, room - 1)?;
-            let pair = Ground::Pair(Box::new(alloc, left)?, Box::new(alloc, right)?);
+            let pair = Ground::Pair(left, Box::new(alloc, right)?);
             Ok((pair, height.max(other) + 1, rest))
         }
     }
@@ -138,10 +143,18 @@ pub fn kernel(alloc: Global, tokens: &[Token], room: u32) -> Read<KType>
         None => Ok((KType::Ground(ground), height, mid)),
         Some(rest) => {
             if height >= room {
+                drop(ground);
                 return Err(Fault::Deep(mid));
             }
-            let (result, other, rest) = ground_type(alloc, rest, room - 1)?;
-            Ok((KType::Fun(ground, result), height.max(other) + 1, rest))
+            match ground_type(alloc, rest, room - 1) {
+                Err(fault) => {
+                    drop(ground);
+                    Err(fault)
+                }
+                Ok((result, other, rest)) => {
+                    Ok((KType::Fun(ground, result), height.max(other) + 1, rest))
+                }
+            }
         }
     }
 }

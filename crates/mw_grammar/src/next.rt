@@ -1,7 +1,8 @@
 // What the next token decides.
 
-ghost use Rattle.std.specs.Prelude.{IfSome, IfNone};
-ghost use Rattle.mw_lex.specs.Tokens.{tokens_of};
+ghost use Rattle.std.specs.Prelude.{◌≡◌, IfSome, IfNone};
+ghost use Rattle.mw_lex.specs.Tokens.{symbol_of, tokens_of};
+ghost use Rattle.mw_grammar.specs.Forms.{is};
 ghost use Rattle.mw_grammar.specs.Gives.{expected_of};
 ghost use Rattle.mw_grammar.specs.Steps.{Lack, Have, EndBefore, GoOn, GoTooDeep};
 
@@ -33,6 +34,31 @@ pub enum Next {
     Or,
 }
 
+/// Whether a token of this kind is the mark or the word.
+fn is_next(next: Next, kind: &Kind) -> bool
+    ensures { result ≡ is (expected_of next) (symbol_of kind.now) }
+{
+    match (next, kind) {
+        (Next::In, Kind::In) => true,
+        (Next::Then, Kind::Then) => true,
+        (Next::Else, Kind::Else) => true,
+        (Next::Paren, Kind::ParenRight) => true,
+        (Next::Bracket, Kind::BracketRight) => true,
+        (Next::Left, Kind::SquareLeft) => true,
+        (Next::Right, Kind::SquareRight) => true,
+        (Next::End, Kind::ItemEnd) => true,
+        (Next::Colon, Kind::Colon) => true,
+        (Next::Equal, Kind::Equal) => true,
+        (Next::Arrow, Kind::Arrow) => true,
+        (Next::Star, Kind::Star) => true,
+        (Next::Less, Kind::Less) => true,
+        (Next::LessEqual, Kind::LessEqual) => true,
+        (Next::And, Kind::And) => true,
+        (Next::Or, Kind::Or) => true,
+        _ => false,
+    }
+}
+
 /// The tokens after it, where it comes next.
 #[tactic(auto, using(crate::proofs::Below::low_in, crate::proofs::Below::low_out), unfolding(crate::specs::Descent::reading))]
 pub fn after<'a>(next: Next, tokens: &'a [Token]) -> Option<&'a [Token]>
@@ -44,24 +70,12 @@ pub fn after<'a>(next: Next, tokens: &'a [Token]) -> Option<&'a [Token]>
 {
     match tokens {
         [] => None,
-        [token, rest @ ..] => match (next, &token.kind) {
-            (Next::In, Kind::In) => Some(rest),
-            (Next::Then, Kind::Then) => Some(rest),
-            (Next::Else, Kind::Else) => Some(rest),
-            (Next::Paren, Kind::ParenRight) => Some(rest),
-            (Next::Bracket, Kind::BracketRight) => Some(rest),
-            (Next::Left, Kind::SquareLeft) => Some(rest),
-            (Next::Right, Kind::SquareRight) => Some(rest),
-            (Next::End, Kind::ItemEnd) => Some(rest),
-            (Next::Colon, Kind::Colon) => Some(rest),
-            (Next::Equal, Kind::Equal) => Some(rest),
-            (Next::Arrow, Kind::Arrow) => Some(rest),
-            (Next::Star, Kind::Star) => Some(rest),
-            (Next::Less, Kind::Less) => Some(rest),
-            (Next::LessEqual, Kind::LessEqual) => Some(rest),
-            (Next::And, Kind::And) => Some(rest),
-            (Next::Or, Kind::Or) => Some(rest),
-            _ => None,
-        },
+        [token, rest @ ..] => {
+            if is_next(next, &token.kind) {
+                Some(rest)
+            } else {
+                None
+            }
+        }
     }
 }

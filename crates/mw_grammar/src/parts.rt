@@ -64,18 +64,43 @@ pub fn leaf_tree(alloc: Global, leaf: Leaf, at: u32) -> Result<Tree, AllocError>
     }
 }
 
+/// A tree in a box.
+fn boxed(alloc: Global, tree: Tree) -> Result<Box<Tree>, AllocError>
+    ensures { IfOk result (λ t. t.value ≡ tree) }
+{
+    Ok(Box::new(alloc, tree)?)
+}
+
+/// Two trees in boxes.
+fn both(alloc: Global, left: Tree, right: Tree) -> Result<(Box<Tree>, Box<Tree>), AllocError>
+    ensures left { IfOk result (λ t. t.0.value ≡ left) }
+    ensures right { IfOk result (λ t. t.1.value ≡ right) }
+{
+    match boxed(alloc, left) {
+        Err(error) => {
+            drop(right);
+            Err(error)
+        }
+        Ok(left) => Ok((left, boxed(alloc, right)?)),
+    }
+}
+
 /// An atom after a word.
 pub fn prefixed_tree(alloc: Global, prefix: Prefix, at: u32, tree: Tree) -> Result<Tree, AllocError>
     ensures { IfOk result (λ t. tree_of t ≡ prefixed prefix at (tree_of tree)) }
 {
+    let tree = boxed(alloc, tree)?;
     match prefix {
-        Prefix::Fst => Ok(Tree::Fst(Box::new(alloc, tree)?)),
-        Prefix::Snd => Ok(Tree::Snd(Box::new(alloc, tree)?)),
-        Prefix::Not => if_tree(alloc, tree, Tree::Bool(false), Tree::Bool(true)),
-        Prefix::Close => Ok(Tree::CloseCode(at, Box::new(alloc, tree)?)),
-        Prefix::Open => Ok(Tree::OpenCode(at, Box::new(alloc, tree)?)),
-        Prefix::Lift => Ok(Tree::Lift(at, Box::new(alloc, tree)?)),
-        Prefix::LiftB => Ok(Tree::LiftB(at, Box::new(alloc, tree)?)),
+        Prefix::Fst => Ok(Tree::Fst(tree)),
+        Prefix::Snd => Ok(Tree::Snd(tree)),
+        Prefix::Not => {
+            let (left, right) = both(alloc, Tree::Bool(false), Tree::Bool(true))?;
+            Ok(Tree::If(tree, left, right))
+        }
+        Prefix::Close => Ok(Tree::CloseCode(at, tree)),
+        Prefix::Open => Ok(Tree::OpenCode(at, tree)),
+        Prefix::Lift => Ok(Tree::Lift(at, tree)),
+        Prefix::LiftB => Ok(Tree::LiftB(at, tree)),
     }
 }
 
@@ -83,39 +108,48 @@ pub fn prefixed_tree(alloc: Global, prefix: Prefix, at: u32, tree: Tree) -> Resu
 pub fn run_tree(alloc: Global, at: u32, kind: KType, tree: Tree) -> Result<Tree, AllocError>
     ensures { IfOk result (λ t. tree_of t ≡ run at (kernel_type_of kind) (tree_of tree)) }
 {
-    Ok(Tree::Run(at, kind, Box::new(alloc, tree)?))
+    match boxed(alloc, tree) {
+        Err(error) => {
+            drop(kind);
+            Err(error)
+        }
+        Ok(tree) => Ok(Tree::Run(at, kind, tree)),
+    }
 }
 
 /// `.<e>.`.
 pub fn bracket_tree(alloc: Global, at: u32, tree: Tree) -> Result<Tree, AllocError>
     ensures { IfOk result (λ t. tree_of t ≡ bracket at (tree_of tree)) }
 {
-    Ok(Tree::Bracket(at, Box::new(alloc, tree)?))
+    Ok(Tree::Bracket(at, boxed(alloc, tree)?))
 }
 
 /// `.~e`.
 pub fn escape_tree(alloc: Global, at: u32, tree: Tree) -> Result<Tree, AllocError>
     ensures { IfOk result (λ t. tree_of t ≡ escape at (tree_of tree)) }
 {
-    Ok(Tree::Escape(at, Box::new(alloc, tree)?))
+    Ok(Tree::Escape(at, boxed(alloc, tree)?))
 }
 
 /// A pair.
 pub fn pair_tree(alloc: Global, left: Tree, right: Tree) -> Result<Tree, AllocError>
     ensures { IfOk result (λ t. tree_of t ≡ pair (tree_of left) (tree_of right)) }
 {
-    Ok(Tree::Pair(Box::new(alloc, left)?, Box::new(alloc, right)?))
+    let (left, right) = both(alloc, left, right)?;
+    Ok(Tree::Pair(left, right))
 }
 
 /// `if` with its test and branches.
 pub fn if_tree(alloc: Global, test: Tree, left: Tree, right: Tree) -> Result<Tree, AllocError>
     ensures { IfOk result (λ t. tree_of t ≡ cond (tree_of test) (tree_of left) (tree_of right)) }
 {
-    Ok(Tree::If(
-        Box::new(alloc, test)?,
-        Box::new(alloc, left)?,
-        Box::new(alloc, right)?,
-    ))
+    match both(alloc, test, left) {
+        Err(error) => {
+            drop(right);
+            Err(error)
+        }
+        Ok((test, left)) => Ok(Tree::If(test, left, boxed(alloc, right)?)),
+    }
 }
 
 /// `&&`.
@@ -141,8 +175,7 @@ pub fn joined(
 ) -> Result<Tree, AllocError>
     ensures { IfOk result (λ t. tree_of t ≡ operated (op_of operator) (tree_of left) (tree_of right)) }
 {
-    let left = Box::new(alloc, left)?;
-    let right = Box::new(alloc, right)?;
+    let (left, right) = both(alloc, left, right)?;
     match operator {
         Operator::Sign(prim) => Ok(Tree::Prim(prim, left, right)),
         Operator::Apply => Ok(Tree::App(left, right)),
@@ -153,22 +186,28 @@ pub fn joined(
 pub fn function_tree(alloc: Global, parameter: Function) -> Result<Tree, AllocError>
     ensures { IfOk result (λ t. tree_of t ≡ function (function_of parameter)) }
 {
-    Ok(Tree::Fun(parameter.name, Box::new(alloc, parameter.tree)?))
+    Ok(Tree::Fun(parameter.name, boxed(alloc, parameter.tree)?))
 }
 
 /// The function of a parameter, with a name of its own.
 pub fn rec_tree(alloc: Global, name: &Name, parameter: Function) -> Result<Tree, AllocError>
     ensures { IfOk result (λ t. tree_of t ≡ fix name.now parameter.name (tree_of parameter.tree)) }
 {
-    let own = copied_name(alloc, name)?;
-    Ok(Tree::Rec(own, parameter.name, Box::new(alloc, parameter.tree)?))
+    match copied_name(alloc, name) {
+        Err(error) => {
+            drop(parameter);
+            Err(error)
+        }
+        Ok(own) => Ok(Tree::Rec(own, parameter.name, boxed(alloc, parameter.tree)?)),
+    }
 }
 
 /// `let` with its definition, and what it is in scope in.
 pub fn let_tree(alloc: Global, name: Name, definition: Tree, tree: Tree) -> Result<Tree, AllocError>
     ensures { IfOk result (λ t. tree_of t ≡ bind name (tree_of definition) (tree_of tree)) }
 {
-    Ok(Tree::Let(name, Box::new(alloc, definition)?, Box::new(alloc, tree)?))
+    let (definition, tree) = both(alloc, definition, tree)?;
+    Ok(Tree::Let(name, definition, tree))
 }
 
 /// `let rec` with its function, and what it is in scope in.
@@ -180,6 +219,11 @@ pub fn let_rec_tree(
 ) -> Result<Tree, AllocError>
     ensures { IfOk result (λ t. tree_of t ≡ bound_rec name (function_of parameter) (tree_of tree)) }
 {
-    let definition = rec_tree(alloc, &name, parameter)?;
-    let_tree(alloc, name, definition, tree)
+    match rec_tree(alloc, &name, parameter) {
+        Err(error) => {
+            drop(tree);
+            Err(error)
+        }
+        Ok(definition) => let_tree(alloc, name, definition, tree),
+    }
 }

@@ -7,6 +7,7 @@ pub mod Checking
 pub mod InferenceLaws
 pub mod Views
 pub mod Emitting
+pub mod OwnParts
 pub mod Numbering
 pub mod Judging
 pub mod Progress

@@ -44,17 +44,26 @@ pub fn base_ty(base: Base) -> Ty
 }
 
 /// A ground type.
+#[cycle(grounds)]
 pub fn ground_ty(alloc: Global, ground: &Ground) -> Result<Ty, AllocError>
     ensures { IfOk result (λ ty. type_of ty ≡ ground_expression (ground_of ground.now)) }
 {
     match ground {
         Ground::Base(base) => Ok(base_ty(*base)),
         Ground::Pair(a, b) => {
-            let left = ground_ty(alloc, a)?;
-            let right = ground_ty(alloc, b)?;
-            pair(alloc, left, right)
+            let left = boxed_ground(alloc, a)?;
+            Ok(Ty::Pair(left, boxed_ground(alloc, b)?))
         }
     }
+}
+
+/// The same, in a box.
+#[cycle(grounds)]
+fn boxed_ground(alloc: Global, ground: &Ground) -> Result<Box<Ty>, AllocError>
+    ensures { IfOk result (λ ty. type_of ty.value ≡ ground_expression (ground_of ground.now)) }
+{
+    let ty = ground_ty(alloc, ground)?;
+    Ok(Box::new(alloc, ty)?)
 }
 
 /// A kernel type.
@@ -64,14 +73,14 @@ pub fn kernel_ty(alloc: Global, kind: &KType) -> Result<Ty, AllocError>
     match kind {
         KType::Ground(ground) => ground_ty(alloc, ground),
         KType::Fun(from, to) => {
-            let from = ground_ty(alloc, from)?;
-            let to = ground_ty(alloc, to)?;
-            function(alloc, from, to)
+            let from = boxed_ground(alloc, from)?;
+            Ok(Ty::Arrow(from, boxed_ground(alloc, to)?))
         }
     }
 }
 
 /// A type on the unknowns and classifier unknowns from these numbers on.
+#[cycle(shifting)]
 pub fn shift(alloc: Global, ty: &Ty, unknowns: u64, classifiers: u64) -> Result<Ty, AllocError>
     requires within { Within (2 ^ 63) (2 ^ 63) (type_of ty.now) }
     requires unknowns { unknowns ≤ 2 ^ 63 }
@@ -83,22 +92,34 @@ pub fn shift(alloc: Global, ty: &Ty, unknowns: u64, classifiers: u64) -> Result<
         Ty::Bool => Ok(Ty::Bool),
         Ty::Unknown(u) => Ok(Ty::Unknown(unknowns + *u)),
         Ty::Pair(s, t) => {
-            let left = shift(alloc, s, unknowns, classifiers)?;
-            let right = shift(alloc, t, unknowns, classifiers)?;
-            pair(alloc, left, right)
+            let left = boxed_shift(alloc, s, unknowns, classifiers)?;
+            Ok(Ty::Pair(left, boxed_shift(alloc, t, unknowns, classifiers)?))
         }
         Ty::Arrow(s, t) => {
-            let from = shift(alloc, s, unknowns, classifiers)?;
-            let to = shift(alloc, t, unknowns, classifiers)?;
-            function(alloc, from, to)
+            let from = boxed_shift(alloc, s, unknowns, classifiers)?;
+            Ok(Ty::Arrow(from, boxed_shift(alloc, t, unknowns, classifiers)?))
         }
         Ty::Code(c, t) => {
-            let below = shift(alloc, t, unknowns, classifiers)?;
-            code(alloc, classifiers + *c, below)
+            let below = boxed_shift(alloc, t, unknowns, classifiers)?;
+            Ok(Ty::Code(classifiers + *c, below))
         }
-        Ty::Closed(t) => {
-            let below = shift(alloc, t, unknowns, classifiers)?;
-            closed(alloc, below)
-        }
+        Ty::Closed(t) => Ok(Ty::Closed(boxed_shift(alloc, t, unknowns, classifiers)?)),
     }
+}
+
+/// The same, in a box.
+#[cycle(shifting)]
+fn boxed_shift(
+    alloc: Global,
+    ty: &Ty,
+    unknowns: u64,
+    classifiers: u64,
+) -> Result<Box<Ty>, AllocError>
+    requires within { Within (2 ^ 63) (2 ^ 63) (type_of ty.now) }
+    requires unknowns { unknowns ≤ 2 ^ 63 }
+    requires classifiers { classifiers ≤ 2 ^ 63 }
+    ensures { IfOk result (λ moved. type_of moved.value ≡ shifted unknowns classifiers (type_of ty.now)) }
+{
+    let moved = shift(alloc, ty, unknowns, classifiers)?;
+    Ok(Box::new(alloc, moved)?)
 }

@@ -2,10 +2,11 @@
 
 ghost use Rattle.std.specs.Prelude.{◌≡◌, [], ◌∷◌, IsTrue, OnOk};
 ghost use Rattle.mw_term.specs.Terms.{expression_of};
-ghost use Rattle.mw_infer.specs.ItemEquations.{slot};
+ghost use Rattle.mw_infer.specs.ItemEquations.{slot, close_equations};
 ghost use Rattle.mw_term.specs.Types.{under};
 ghost use Rattle.mw_infer.specs.Scoped.{is_quoted};
-ghost use Rattle.mw_infer.specs.Emitting.{Adds, AddsTerm, Binds, CanEmit, IsStaging};
+ghost use Rattle.mw_infer.specs.Emitting.{Adds, AddsTerm, CanEmit, HasRoom};
+ghost use Rattle.mw_infer.specs.OwnParts.{AddsOwn};
 ghost use Rattle.mw_infer.specs.Views.{level_at, slot_of, slots_of, tops_of};
 
 use crate::names::TopScheme;
@@ -34,7 +35,6 @@ fn bound(level: Level, unknown: u64) -> Binder
 }
 
 /// The equations and closes of a term of type `own`.
-#[cycle(emission)]
 pub fn emit(
     term: &Term,
     setting: &Setting,
@@ -47,87 +47,46 @@ pub fn emit(
     ensures { OnOk result (AddsTerm out.old out.new (tops_of setting.now.names.now) own (slots_of scope.now) (level_at level) (expression_of term.now)) }
 {
     let o = out.unknowns;
+    let classifier = out.classifiers;
+    emit_own(term, setting, scope, level, own, out)?;
     match term {
-        Term::Int(_) => equate(out, Ty::Unknown(own), Ty::Int),
-        Term::Bool(_) => equate(out, Ty::Unknown(own), Ty::Bool),
-        Term::Var(number) => own::variable(setting.alloc, out, own, level, find(scope, *number)),
-        Term::Glob(index) => own::name(setting.alloc, setting.names, out, own, *index),
-        Term::Fun(_) | Term::Rec(_) | Term::Let(_, _) => {
-            binding(term, setting, scope, level, own, out)
-        }
-        Term::App(f, a) => {
-            own::application(setting.alloc, out, own)?;
-            emit(f, setting, scope, level, o, out)?;
-            emit(a, setting, scope, level, o + 1, out)
-        }
-        Term::If(p, a, b) => {
-            own::condition(out, own)?;
-            emit(p, setting, scope, level, o, out)?;
-            emit(a, setting, scope, level, o + 1, out)?;
-            emit(b, setting, scope, level, o + 2, out)
-        }
-        Term::Pair(a, b) => {
-            own::pairing(setting.alloc, out, own)?;
-            emit(a, setting, scope, level, o, out)?;
-            emit(b, setting, scope, level, o + 1, out)
-        }
-        Term::Fst(e) => {
-            own::first_part(setting.alloc, out, own)?;
-            emit(e, setting, scope, level, o + 1, out)
-        }
-        Term::Snd(e) => {
-            own::second_part(setting.alloc, out, own)?;
-            emit(e, setting, scope, level, o + 1, out)
-        }
-        Term::Prim(prim, a, b) => {
-            own::operation(out, own, *prim)?;
-            emit(a, setting, scope, level, o, out)?;
-            emit(b, setting, scope, level, o + 1, out)
-        }
-        _ => staging(term, setting, scope, level, own, out),
-    }
-}
-
-/// The same, of a function or a let.
-#[cycle(emission)]
-fn binding(
-    term: &Term,
-    setting: &Setting,
-    scope: &Scope,
-    level: Level,
-    own: u64,
-    out: &mut Output,
-) -> Result<(), AllocError>
-    requires room { CanEmit out.old (tops_of setting.now.names.now) (slots_of scope.now) (level_at level) (expression_of term.now) }
-    requires form { Binds (expression_of term.now) }
-    ensures { OnOk result (AddsTerm out.old out.new (tops_of setting.now.names.now) own (slots_of scope.now) (level_at level) (expression_of term.now)) }
-{
-    let o = out.unknowns;
-    match term {
+        Term::Int(_) | Term::Bool(_) | Term::Var(_) | Term::Glob(_) => Ok(()),
         Term::Fun(e) => {
-            own::lambda(setting.alloc, out, own)?;
             let inner = Scope::Bound(bound(level, o), &*scope);
             emit(e, setting, &inner, level, o + 1, out)
         }
         Term::Rec(e) => {
-            own::recursive(setting.alloc, out, own)?;
             let outer = Scope::Bound(bound(level, o + 1), &*scope);
             let inner = Scope::Bound(bound(level, o), &outer);
             emit(e, setting, &inner, level, o + 2, out)
         }
         Term::Let(d, e) => {
-            own::binding(out, own)?;
             emit(d, setting, scope, level, o + 1, out)?;
             let inner = Scope::Bound(bound(level, o), &*scope);
             emit(e, setting, &inner, level, o + 2, out)
         }
-        _ => unreachable!(),
+        Term::App(a, b) | Term::Pair(a, b) | Term::Prim(_, a, b) => {
+            emit(a, setting, scope, level, o, out)?;
+            emit(b, setting, scope, level, o + 1, out)
+        }
+        Term::If(p, a, b) => {
+            emit(p, setting, scope, level, o, out)?;
+            emit(a, setting, scope, level, o + 1, out)?;
+            emit(b, setting, scope, level, o + 2, out)
+        }
+        Term::Fst(e) | Term::Snd(e) | Term::CloseCode(_, e) | Term::OpenCode(e) => {
+            emit(e, setting, scope, level, o + 1, out)
+        }
+        Term::Bracket(e) => emit(e, setting, scope, Level::Under(classifier), o, out),
+        Term::Escape(e) => emit(e, setting, scope, Level::Live, o, out),
+        Term::Run(_, e) | Term::Lift(e) | Term::LiftB(e) => {
+            emit(e, setting, scope, level, o, out)
+        }
     }
 }
 
-/// The same, of a form of staging.
-#[cycle(emission)]
-fn staging(
+/// The equations and closes that a node has of its own, which come before those of its parts.
+fn emit_own(
     term: &Term,
     setting: &Setting,
     scope: &Scope,
@@ -135,44 +94,31 @@ fn staging(
     own: u64,
     out: &mut Output,
 ) -> Result<(), AllocError>
-    requires room { CanEmit out.old (tops_of setting.now.names.now) (slots_of scope.now) (level_at level) (expression_of term.now) }
-    requires form { IsStaging (expression_of term.now) }
-    ensures { OnOk result (AddsTerm out.old out.new (tops_of setting.now.names.now) own (slots_of scope.now) (level_at level) (expression_of term.now)) }
+    requires { CanEmit out.old (tops_of setting.now.names.now) (slots_of scope.now) (level_at level) (expression_of term.now) }
+    ensures { OnOk result (AddsOwn out.old out.new (tops_of setting.now.names.now) own (slots_of scope.now) (level_at level) (expression_of term.now)) }
 {
-    let o = out.unknowns;
+    let alloc = setting.alloc;
     match term {
-        Term::Bracket(e) => {
-            let classifier = out.classifiers;
-            own::bracket(setting.alloc, out, own)?;
-            emit(e, setting, scope, Level::Under(classifier), o, out)
-        }
-        Term::Escape(e) => {
-            own::escape(setting.alloc, out, own, classifier_of(level))?;
-            emit(e, setting, scope, Level::Live, o, out)
-        }
-        Term::Run(kind, e) => {
-            own::run(setting.alloc, out, own, kind)?;
-            emit(e, setting, scope, level, o, out)
-        }
-        Term::CloseCode(at, e) => {
-            let classifier = out.classifiers;
-            own::close(setting.alloc, out, own)?;
-            close_here(setting.alloc, out, *at, classifier, scope)?;
-            emit(e, setting, scope, level, o + 1, out)
-        }
-        Term::OpenCode(e) => {
-            own::open(setting.alloc, out, own)?;
-            emit(e, setting, scope, level, o + 1, out)
-        }
-        Term::Lift(e) => {
-            own::lift(setting.alloc, out, own, Base::Int)?;
-            emit(e, setting, scope, level, o, out)
-        }
-        Term::LiftB(e) => {
-            own::lift(setting.alloc, out, own, Base::Bool)?;
-            emit(e, setting, scope, level, o, out)
-        }
-        _ => unreachable!(),
+        Term::Int(_) => equate(out, Ty::Unknown(own), Ty::Int),
+        Term::Bool(_) => equate(out, Ty::Unknown(own), Ty::Bool),
+        Term::Var(number) => own::variable(alloc, out, own, level, find(scope, *number)),
+        Term::Glob(index) => own::name(alloc, setting.names, out, own, *index),
+        Term::Fun(_) => own::lambda(alloc, out, own),
+        Term::Rec(_) => own::recursive(alloc, out, own),
+        Term::App(_, _) => own::application(alloc, out, own),
+        Term::Let(_, _) => own::binding(out, own),
+        Term::If(_, _, _) => own::condition(out, own),
+        Term::Pair(_, _) => own::pairing(alloc, out, own),
+        Term::Fst(_) => own::first_part(alloc, out, own),
+        Term::Snd(_) => own::second_part(alloc, out, own),
+        Term::Prim(prim, _, _) => own::operation(out, own, *prim),
+        Term::Bracket(_) => own::bracket(alloc, out, own),
+        Term::Escape(_) => own::escape(alloc, out, own, classifier_of(level)),
+        Term::Run(kind, _) => own::run(alloc, out, own, kind),
+        Term::CloseCode(at, _) => close(alloc, out, own, *at, scope),
+        Term::OpenCode(_) => own::open(alloc, out, own),
+        Term::Lift(_) => own::lift(alloc, out, own, Base::Int),
+        Term::LiftB(_) => own::lift(alloc, out, own, Base::Bool),
     }
 }
 
@@ -184,6 +130,22 @@ fn classifier_of(level: Level) -> u64
         Level::Live => 0,
         Level::Under(classifier) => classifier,
     }
+}
+
+/// A `close` of type `own`, in these binders.
+fn close(
+    alloc: Global,
+    out: &mut Output,
+    own: u64,
+    at: u32,
+    scope: &Scope,
+) -> Result<(), AllocError>
+    requires { HasRoom out.old 2 1 }
+    ensures { OnOk result (Adds out.old out.new 2 1 (close_equations own out.old.unknowns out.old.classifiers) (record { at = at; classifier = out.old.classifiers; scope = slots_of scope.now } ∷ [])) }
+{
+    let classifier = out.classifiers;
+    own::close(alloc, out, own)?;
+    close_here(alloc, out, at, classifier, scope)
 }
 
 /// A close in these binders.

@@ -20,7 +20,7 @@ use mw_types::{Equations, Pairs, SolveFault, Ty, solve};
 use std::alloc::{AllocError, Global};
 
 /// What is judged of an item: its most general type, or its fault.
-#[derive(Debug, Drop)]
+#[derive(Drop)]
 pub enum Verdict {
     Fine(LetType),
     IllTyped,

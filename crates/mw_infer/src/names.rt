@@ -4,7 +4,7 @@ use mw_term::KType;
 use mw_types::Ty;
 
 /// A let's most general type. Its unknowns and classifier unknowns have the numbers below these two.
-#[derive(Debug, Drop)]
+#[derive(Drop)]
 pub struct LetType {
     pub unknowns: u64,
     pub classifiers: u64,
@@ -12,7 +12,7 @@ pub struct LetType {
 }
 
 /// What a name has: a let its most general type, a kernel item that is in scope its kernel type.
-#[derive(Debug, Drop)]
+#[derive(Drop)]
 pub enum TopScheme<'p> {
     Let(LetType),
     Kernel(&'p KType),

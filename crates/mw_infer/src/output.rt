@@ -10,7 +10,7 @@ use mw_types::{Equation, Pairs, Ty};
 use std::alloc::AllocError;
 
 /// A `close`: its offset in the source, the classifier unknown of its code, and the binders in scope, the nearest first.
-#[derive(Debug, Drop)]
+#[derive(Drop)]
 pub struct Spot {
     pub at: u32,
     pub classifier: u64,
@@ -18,7 +18,7 @@ pub struct Spot {
 }
 
 /// The equations and closes so far, and the next free numbers of unknowns and classifier unknowns.
-#[derive(Debug, Drop)]
+#[derive(Drop)]
 pub struct Output {
     pub unknowns: u64,
     pub classifiers: u64,

@@ -20,7 +20,7 @@ use mw_types::Ty;
 use std::alloc::{AllocError, Global};
 
 /// What the place of an item asks of its type.
-#[derive(Debug, Drop)]
+#[derive(Drop)]
 pub enum Asked<'p> {
     Anything,
     /// Closed code of a kernel type.

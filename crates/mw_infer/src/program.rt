@@ -14,7 +14,7 @@ ghost use Rattle.mw_infer.specs.Progress.{IsFaultOf, IsFaultOfItem, Steps, revea
 ghost use Rattle.mw_infer.specs.Views.{top_of, tops_of};
 ghost use Rattle.mw_infer.specs.declared.judge.Verdict.TheVariants.{Fine};
 
-use crate::build::{closed, code, function, ground_ty, kernel_ty, pair};
+use crate::build::{closed, ground_ty, kernel_ty};
 use crate::judge::{Verdict, judge};
 use crate::names::{LetType, TopScheme};
 use crate::own::Asked;
@@ -55,7 +55,8 @@ fn step(alloc: Global, names: &mut Vec<TopScheme>, item: &Item, index: u32) -> R
             Ok(())
         }
         ItemKind::Kernel(kind, term) => {
-            let _known = judged(alloc, names.as_slice(), &Asked::Kernel(kind), term, index)?;
+            let known = judged(alloc, names.as_slice(), &Asked::Kernel(kind), term, index)?;
+            drop(known);
             names.push(TopScheme::OutOfScope)?;
             Ok(())
         }
@@ -86,7 +87,8 @@ fn last(
     ensures fine { OnOk result ((l : LetType) × Judges (tops_of names.now) (main_place (ground_of ground.now)) (expression_of body.now) (Fine l)) }
     ensures refused { IfErr result (IfRefused (IsFaultOf (tops_of names.now) (main_place (ground_of ground.now)) (expression_of body.now) index)) }
 {
-    let _known = judged(alloc, names, &Asked::Main(ground), body, index)?;
+    let known = judged(alloc, names, &Asked::Main(ground), body, index)?;
+    drop(known);
     Ok(())
 }
 
@@ -121,6 +123,7 @@ pub fn whole<'p>(alloc: Global, program: &'p Program) -> Result<Vec<TopScheme<'p
 }
 
 /// The same type.
+#[cycle(copying)]
 fn copied(alloc: Global, ty: &Ty) -> Result<Ty, AllocError>
     ensures { IfOk result (λ copy. type_of copy ≡ type_of ty.now) }
 {
@@ -129,24 +132,25 @@ fn copied(alloc: Global, ty: &Ty) -> Result<Ty, AllocError>
         Ty::Bool => Ok(Ty::Bool),
         Ty::Unknown(u) => Ok(Ty::Unknown(*u)),
         Ty::Pair(s, t) => {
-            let left = copied(alloc, s)?;
-            let right = copied(alloc, t)?;
-            pair(alloc, left, right)
+            let left = boxed_copy(alloc, s)?;
+            Ok(Ty::Pair(left, boxed_copy(alloc, t)?))
         }
         Ty::Arrow(s, t) => {
-            let from = copied(alloc, s)?;
-            let to = copied(alloc, t)?;
-            function(alloc, from, to)
+            let from = boxed_copy(alloc, s)?;
+            Ok(Ty::Arrow(from, boxed_copy(alloc, t)?))
         }
-        Ty::Code(c, t) => {
-            let below = copied(alloc, t)?;
-            code(alloc, *c, below)
-        }
-        Ty::Closed(t) => {
-            let below = copied(alloc, t)?;
-            closed(alloc, below)
-        }
+        Ty::Code(c, t) => Ok(Ty::Code(*c, boxed_copy(alloc, t)?)),
+        Ty::Closed(t) => Ok(Ty::Closed(boxed_copy(alloc, t)?)),
     }
+}
+
+/// The same, in a box.
+#[cycle(copying)]
+fn boxed_copy(alloc: Global, ty: &Ty) -> Result<Box<Ty>, AllocError>
+    ensures { IfOk result (λ copy. type_of copy.value ≡ type_of ty.now) }
+{
+    let copy = copied(alloc, ty)?;
+    Ok(Box::new(alloc, copy)?)
 }
 
 /// The type of a name.

@@ -5,13 +5,12 @@ ghost use Rattle.mw_types.specs.Types.{Within, nodes, type_of};
 ghost use Rattle.mw_infer.specs.Numbering.{CanRenumber, IsOrder, IsRenumbering, Places, Renumbers};
 ghost use Rattle.mw_infer.specs.Views.{scheme_of};
 
-use crate::build::{closed, code, function, pair};
 use crate::names::LetType;
 use mw_types::Ty;
 use std::alloc::{AllocError, Global};
 
 /// New numbers: of each number the new one, or `u64::MAX` where it was not seen, and how many were seen.
-#[derive(Debug, Drop)]
+#[derive(Drop)]
 pub struct Numbering {
     pub places: Vec<u64>,
     pub count: u64,
@@ -48,6 +47,7 @@ fn place(numbering: &mut Numbering, number: u64) -> u64
 }
 
 /// A type with new numbers.
+#[cycle(renumbering)]
 pub fn renumber(
     alloc: Global,
     ty: &Ty,
@@ -62,29 +62,40 @@ pub fn renumber(
         Ty::Bool => Ok(Ty::Bool),
         Ty::Unknown(u) => Ok(Ty::Unknown(place(unknowns, *u))),
         Ty::Pair(s, t) => {
-            let left = renumber(alloc, s, unknowns, classifiers)?;
-            let right = renumber(alloc, t, unknowns, classifiers)?;
-            let ty = pair(alloc, left, right)?;
-            Ok(ty)
+            let left = boxed(alloc, s, unknowns, classifiers)?;
+            let right = boxed(alloc, t, unknowns, classifiers)?;
+            Ok(Ty::Pair(left, right))
         }
         Ty::Arrow(s, t) => {
-            let from = renumber(alloc, s, unknowns, classifiers)?;
-            let to = renumber(alloc, t, unknowns, classifiers)?;
-            let ty = function(alloc, from, to)?;
-            Ok(ty)
+            let from = boxed(alloc, s, unknowns, classifiers)?;
+            let to = boxed(alloc, t, unknowns, classifiers)?;
+            Ok(Ty::Arrow(from, to))
         }
         Ty::Code(c, t) => {
             let c = place(classifiers, *c);
-            let below = renumber(alloc, t, unknowns, classifiers)?;
-            let ty = code(alloc, c, below)?;
-            Ok(ty)
+            let below = boxed(alloc, t, unknowns, classifiers)?;
+            Ok(Ty::Code(c, below))
         }
         Ty::Closed(t) => {
-            let below = renumber(alloc, t, unknowns, classifiers)?;
-            let ty = closed(alloc, below)?;
-            Ok(ty)
+            let below = boxed(alloc, t, unknowns, classifiers)?;
+            Ok(Ty::Closed(below))
         }
     }
+}
+
+/// The same, in a box.
+#[cycle(renumbering)]
+fn boxed(
+    alloc: Global,
+    ty: &Ty,
+    unknowns: &mut Numbering,
+    classifiers: &mut Numbering,
+) -> Result<Box<Ty>, AllocError>
+    requires { CanRenumber unknowns.old classifiers.old (type_of ty.now) }
+    ensures { IfOk result (λ r. Renumbers unknowns.old classifiers.old unknowns.new classifiers.new (type_of ty.now) (type_of r.value)) }
+{
+    let ty = renumber(alloc, ty, unknowns, classifiers)?;
+    Ok(Box::new(alloc, ty)?)
 }
 
 /// A type as a let's, its numbers in order.

@@ -7,14 +7,14 @@ ghost use Rattle.mw_infer.specs.Views.{slot_of, slots_of};
 use std::alloc::{AllocError, Global};
 
 /// The level of a term: 0, or 1 under a classifier unknown.
-#[derive(Clone, Copy, Debug, PartialEq, Eq)]
+#[derive(Clone, Copy)]
 pub enum Level {
     Live,
     Under(u64),
 }
 
 /// A binder: its unknown, after the classifier unknown of one at level 1.
-#[derive(Clone, Copy, Debug, PartialEq, Eq)]
+#[derive(Clone, Copy)]
 pub enum Binder {
     Plain(u64),
     Quoted(u64, u64),

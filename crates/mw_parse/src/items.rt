@@ -11,11 +11,11 @@ ghost use Rattle.mw_grammar.specs.Descent.{none_yet, full, reading};
 ghost use Rattle.mw_grammar.specs.Gives.{GivesRead};
 ghost use Rattle.mw_parse.specs.Reading.{GivesMain};
 
+use crate::boxes::boxed_rec;
 use crate::trees::{body_tree, expr_tree, parameter_tree};
 use mw_grammar::fault::{Fault, Read};
 use mw_grammar::kinds::{ground_type, kernel};
 use mw_grammar::next::{Next, after};
-use mw_grammar::parts::rec_tree;
 use mw_grammar::words::{
     ItemWord, Mark, Named, Start, in_hand, item_word, name_of, name_or_rec, start_word,
 };
@@ -58,7 +58,8 @@ fn let_item(alloc: Global, tokens: &[Token], room: u32) -> Read<SurfaceItem>
                 let name = copied_name(alloc, name)?;
                 let at = token.start;
                 let (definition, height, rest) = body_tree(alloc, Mark::Equal, rest, room)?;
-                let item = SurfaceItem::Let(Placed { name, at }, definition.from, definition.tree);
+                let tree = Box::into_inner(definition.tree);
+                let item = SurfaceItem::Let(Placed { name, at }, definition.from, tree);
                 Ok((item, height, rest))
             }
             Named::Rec => {
@@ -83,7 +84,7 @@ fn recursive_item(alloc: Global, tokens: &[Token], room: u32) -> Read<SurfaceIte
                 let at = token.start;
                 let (function, height, rest) = parameter_tree(alloc, Mark::Equal, rest, room)?;
                 let from = function.from;
-                let tree = rec_tree(alloc, &name, function)?;
+                let tree = Box::into_inner(boxed_rec(alloc, &name, function)?);
                 Ok((
                     SurfaceItem::Let(Placed { name, at }, from, tree),
                     height,
@@ -114,6 +115,7 @@ fn kernel_item(alloc: Global, tokens: &[Token], room: u32) -> Read<SurfaceItem>
                             None => Err(Fault::Syntax(mid)),
                             Some(rest) => {
                                 let (tree, other, rest) = expr_tree(alloc, rest, room)?;
+                                let tree = Box::into_inner(tree);
                                 let item = SurfaceItem::Kernel(Placed { name, at }, kind, tree);
                                 Ok((item, height.max(other), rest))
                             }
@@ -142,7 +144,7 @@ fn main_tree(
                 None => Err(Fault::Syntax(mid)),
                 Some(rest) => {
                     let (tree, other, rest) = expr_tree(alloc, rest, room)?;
-                    Ok((ground, tree, height.max(other), rest))
+                    Ok((ground, Box::into_inner(tree), height.max(other), rest))
                 }
             }
         }

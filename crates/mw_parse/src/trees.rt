@@ -1,27 +1,28 @@
 // Expressions, by descent. `room` is the number of nodes that may still stand on a path; each function answers what it
-// made, the height of its nodes and the tokens left, and says of which form. Where a step fails, the trees in hand are let go by
-// `drop`, which the prover reads as one call; where they are let go unsaid, it reads all that goes with them.
+// made, the height of its nodes and the tokens left, and says of which form. Trees are passed on in boxes.
 
 #![tactic(auto, using(mw_grammar::proofs::Below::read_full, mw_grammar::proofs::Below::read_gives, mw_grammar::proofs::Below::read_refuses, mw_grammar::proofs::Below::read_reads, mw_grammar::proofs::Below::part_fails, mw_grammar::proofs::Below::fails_then, mw_grammar::proofs::Below::raise_ok, mw_grammar::proofs::Below::fails_raise))]
 
 ghost use Rattle.std.specs.Prelude.{◌≡◌, ◌<◌, ◌≤◌, ℕ, IfOk};
 ghost use Rattle.mw_lex.specs.Tokens.{tokens_of};
-ghost use Rattle.mw_grammar.specs.SurfaceTrees.{tree_of, bind};
+ghost use Rattle.mw_grammar.specs.SurfaceTrees.{bind};
 ghost use Rattle.mw_grammar.specs.Grammar.{tree, expr, disjunction, conjunction, comparison, row as leveled, head, atom, operand, right, body, parameter};
 ghost use Rattle.mw_grammar.specs.Forms.{pick, let_in_by, rec_by, paren_by, minus_by, behind_mark, bound_rec, bracket_form, escape_form, group_form, pair_form, run_form, passed_form, condition_form, branches_form, disjunction_form, scope_form};
 ghost use Rattle.mw_grammar.specs.Descent.{none_yet, so_far, full, reading, following, following_operator};
 ghost use Rattle.mw_grammar.specs.Gives.{GivesRead};
 ghost use Rattle.mw_grammar.specs.Words.{mark_in, atom_form, head_form};
-ghost use Rattle.mw_grammar.specs.Levels.{row_of, op_of, function_of, definition_of};
+ghost use Rattle.mw_grammar.specs.Levels.{row_of, op_of};
+ghost use Rattle.mw_parse.specs.Boxes.{definition_in, function_in, tree_in};
 
+use crate::boxes::{
+    Defined, Function, boxed_bracket, boxed_escape, boxed_function, boxed_if, boxed_leaf,
+    boxed_let, boxed_let_rec, boxed_negative, boxed_pair, boxed_prefixed, boxed_run, conjoined,
+    disjoined, joined,
+};
 use mw_grammar::Tree;
 use mw_grammar::fault::{Fault, Read};
 use mw_grammar::kinds::kernel;
 use mw_grammar::next::{Next, after};
-use mw_grammar::parts::{
-    Defined, Function, bracket_tree, conjoined, disjoined, escape_tree, function_tree, if_tree,
-    joined, leaf_tree, let_rec_tree, let_tree, negative_of, pair_tree, prefixed_tree, run_tree,
-};
 use mw_grammar::rows::{Operator, Row, next_comparison, next_operator};
 use mw_grammar::words::{
     Atom, Body, Close, First, Head, Inside, Mark, Named, atom_word, body_word, closing, first_word,
@@ -32,8 +33,8 @@ use mw_term::{Name, copied_name};
 use std::alloc::Global;
 
 /// After `(` and `-`.
-fn literal(tokens: &[Token]) -> Read<Tree>
-    ensures gives { (b : ℕ) → GivesRead tree_of result (reading b (pick minus_by) none_yet (tokens_of tokens.now)) }
+fn literal(alloc: Global, tokens: &[Token]) -> Read<Box<Tree>>
+    ensures gives { (b : ℕ) → GivesRead tree_in result (reading b (pick minus_by) none_yet (tokens_of tokens.now)) }
     ensures height { IfOk result (λ x. x.1 ≡ 0) }
 {
     match in_hand(tokens) {
@@ -42,16 +43,16 @@ fn literal(tokens: &[Token]) -> Read<Tree>
             None => Err(Fault::Syntax(tokens)),
             Some(n) => match after(Next::Paren, mid) {
                 None => Err(Fault::Syntax(mid)),
-                Some(rest) => Ok((Tree::Int(negative_of(n)), 0, rest)),
+                Some(rest) => Ok((boxed_negative(alloc, n)?, 0, rest)),
             },
         },
     }
 }
 
 #[cycle(trees)]
-fn atom_tree(alloc: Global, tokens: &[Token], room: u32) -> Read<Tree>
+fn atom_tree(alloc: Global, tokens: &[Token], room: u32) -> Read<Box<Tree>>
     requires { room ≤ 200 }
-    ensures gives { GivesRead tree_of result (full room (tree atom) (tokens_of tokens.now)) }
+    ensures gives { GivesRead tree_in result (full room (tree atom) (tokens_of tokens.now)) }
     ensures height { IfOk result (λ x. x.1 ≤ room) }
 {
     match in_hand(tokens) {
@@ -76,13 +77,13 @@ fn atom_inside<'t>(
     at: u32,
     tokens: &'t [Token],
     room: u32,
-) -> Read<'t, Tree>
+) -> Read<'t, Box<Tree>>
     requires { room ≤ 200 }
-    ensures gives { GivesRead tree_of result (reading room (atom_form atom.entry at) none_yet (tokens_of tokens.now)) }
+    ensures gives { GivesRead tree_in result (reading room (atom_form atom.entry at) none_yet (tokens_of tokens.now)) }
     ensures height { IfOk result (λ x. x.1 ≤ room) }
 {
     match atom {
-        Atom::Leaf(leaf) => Ok((leaf_tree(alloc, leaf, at)?, 0, tokens)),
+        Atom::Leaf(leaf) => Ok((boxed_leaf(alloc, leaf, at)?, 0, tokens)),
         Atom::Paren => in_parens(alloc, tokens, room),
         Atom::Bracket => bracketed(alloc, at, tokens, room),
         Atom::Escape => escaped(alloc, at, tokens, room),
@@ -90,42 +91,39 @@ fn atom_inside<'t>(
 }
 
 #[cycle(trees)]
-fn bracketed(alloc: Global, at: u32, tokens: &[Token], room: u32) -> Read<Tree>
+fn bracketed(alloc: Global, at: u32, tokens: &[Token], room: u32) -> Read<Box<Tree>>
     requires { room ≤ 200 }
-    ensures gives { GivesRead tree_of result (reading room (bracket_form at) none_yet (tokens_of tokens.now)) }
+    ensures gives { GivesRead tree_in result (reading room (bracket_form at) none_yet (tokens_of tokens.now)) }
     ensures height { IfOk result (λ x. x.1 ≤ room) }
 {
     let (tree, height, mid) = expr_tree(alloc, tokens, room)?;
     match after(Next::Bracket, mid) {
-        None => {
-            drop(tree);
-            Err(Fault::Syntax(mid))
-        }
-        Some(rest) => Ok((bracket_tree(alloc, at, tree)?, height, rest)),
+        None => Err(Fault::Syntax(mid)),
+        Some(rest) => Ok((boxed_bracket(alloc, at, tree)?, height, rest)),
     }
 }
 
 #[cycle(trees)]
-fn escaped(alloc: Global, at: u32, tokens: &[Token], room: u32) -> Read<Tree>
+fn escaped(alloc: Global, at: u32, tokens: &[Token], room: u32) -> Read<Box<Tree>>
     requires { room ≤ 200 }
-    ensures gives { GivesRead tree_of result (reading room (escape_form at) none_yet (tokens_of tokens.now)) }
+    ensures gives { GivesRead tree_in result (reading room (escape_form at) none_yet (tokens_of tokens.now)) }
     ensures height { IfOk result (λ x. x.1 ≤ room) }
 {
     let (tree, height, rest) = atom_tree(alloc, tokens, room)?;
-    Ok((escape_tree(alloc, at, tree)?, height, rest))
+    Ok((boxed_escape(alloc, at, tree)?, height, rest))
 }
 
 #[cycle(trees)]
-fn in_parens(alloc: Global, tokens: &[Token], room: u32) -> Read<Tree>
+fn in_parens(alloc: Global, tokens: &[Token], room: u32) -> Read<Box<Tree>>
     requires { room ≤ 200 }
-    ensures gives { GivesRead tree_of result (reading room (pick paren_by) none_yet (tokens_of tokens.now)) }
+    ensures gives { GivesRead tree_in result (reading room (pick paren_by) none_yet (tokens_of tokens.now)) }
     ensures height { IfOk result (λ x. x.1 ≤ room) }
 {
     match in_hand(tokens) {
         None => Err(Fault::Syntax(tokens)),
         Some((token, rest)) => {
             match inside_word(token) {
-                Inside::Minus => literal(rest),
+                Inside::Minus => literal(alloc, rest),
                 Inside::Other => grouped(alloc, tokens, room),
             }
         },
@@ -133,22 +131,16 @@ fn in_parens(alloc: Global, tokens: &[Token], room: u32) -> Read<Tree>
 }
 
 #[cycle(trees)]
-fn grouped(alloc: Global, tokens: &[Token], room: u32) -> Read<Tree>
+fn grouped(alloc: Global, tokens: &[Token], room: u32) -> Read<Box<Tree>>
     requires { room ≤ 200 }
-    ensures gives { GivesRead tree_of result (reading room group_form none_yet (tokens_of tokens.now)) }
+    ensures gives { GivesRead tree_in result (reading room group_form none_yet (tokens_of tokens.now)) }
     ensures height { IfOk result (λ x. x.1 ≤ room) }
 {
     let (tree, height, mid) = expr_tree(alloc, tokens, room)?;
     match in_hand(mid) {
-        None => {
-            drop(tree);
-            Err(Fault::Syntax(mid))
-        }
+        None => Err(Fault::Syntax(mid)),
         Some((token, rest)) => match closing(token) {
-            Close::Other => {
-                drop(tree);
-                Err(Fault::Syntax(mid))
-            }
+            Close::Other => Err(Fault::Syntax(mid)),
             Close::Paren => Ok((tree, height, rest)),
             Close::Comma => paired(alloc, tree, height, rest, room),
         },
@@ -156,31 +148,28 @@ fn grouped(alloc: Global, tokens: &[Token], room: u32) -> Read<Tree>
 }
 
 #[cycle(trees)]
-fn paired(alloc: Global, left: Tree, height: u32, tokens: &[Token], room: u32) -> Read<Tree>
+fn paired(
+    alloc: Global,
+    left: Box<Tree>,
+    height: u32,
+    tokens: &[Token],
+    room: u32,
+) -> Read<Box<Tree>>
     requires { (height ≤ room) × (room ≤ 200) }
-    ensures gives { GivesRead tree_of result (reading room (pair_form (tree_of left)) (so_far height) (tokens_of tokens.now)) }
+    ensures gives { GivesRead tree_in result (reading room (pair_form (tree_in left)) (so_far height) (tokens_of tokens.now)) }
     ensures height { IfOk result (λ x. x.1 ≤ room) }
 {
-    match expr_tree(alloc, tokens, room) {
-        Err(fault) => {
-            drop(left);
-            Err(fault)
-        }
-        Ok((right, other, mid)) => match after(Next::Paren, mid) {
-            None => {
-                drop(left);
-                drop(right);
-                Err(Fault::Syntax(mid))
-            }
-            Some(rest) => Ok((pair_tree(alloc, left, right)?, height.max(other), rest)),
-        },
+    let (right, other, mid) = expr_tree(alloc, tokens, room)?;
+    match after(Next::Paren, mid) {
+        None => Err(Fault::Syntax(mid)),
+        Some(rest) => Ok((boxed_pair(alloc, left, right)?, height.max(other), rest)),
     }
 }
 
 #[cycle(trees)]
-fn head_tree(alloc: Global, tokens: &[Token], room: u32) -> Read<Tree>
+fn head_tree(alloc: Global, tokens: &[Token], room: u32) -> Read<Box<Tree>>
     requires { room ≤ 200 }
-    ensures gives { GivesRead tree_of result (full room (tree head) (tokens_of tokens.now)) }
+    ensures gives { GivesRead tree_in result (full room (tree head) (tokens_of tokens.now)) }
     ensures height { IfOk result (λ x. x.1 ≤ room) }
 {
     match in_hand(tokens) {
@@ -199,24 +188,24 @@ fn head_tree(alloc: Global, tokens: &[Token], room: u32) -> Read<Tree>
 }
 
 #[cycle(trees)]
-fn head_inside(alloc: Global, head: Head, at: u32, tokens: &[Token], room: u32) -> Read<Tree>
+fn head_inside(alloc: Global, head: Head, at: u32, tokens: &[Token], room: u32) -> Read<Box<Tree>>
     requires { room ≤ 200 }
-    ensures gives { GivesRead tree_of result (reading room (head_form head at) none_yet (tokens_of tokens.now)) }
+    ensures gives { GivesRead tree_in result (reading room (head_form head at) none_yet (tokens_of tokens.now)) }
     ensures height { IfOk result (λ x. x.1 ≤ room) }
 {
     match head {
         Head::Prefix(prefix) => {
             let (tree, height, rest) = atom_tree(alloc, tokens, room)?;
-            Ok((prefixed_tree(alloc, prefix, at, tree)?, height, rest))
+            Ok((boxed_prefixed(alloc, prefix, at, tree)?, height, rest))
         }
         Head::Run => running(alloc, at, tokens, room),
     }
 }
 
 #[cycle(trees)]
-fn running(alloc: Global, at: u32, tokens: &[Token], room: u32) -> Read<Tree>
+fn running(alloc: Global, at: u32, tokens: &[Token], room: u32) -> Read<Box<Tree>>
     requires { room ≤ 200 }
-    ensures gives { GivesRead tree_of result (reading room (run_form at) none_yet (tokens_of tokens.now)) }
+    ensures gives { GivesRead tree_in result (reading room (run_form at) none_yet (tokens_of tokens.now)) }
     ensures height { IfOk result (λ x. x.1 ≤ room) }
 {
     match after(Next::Left, tokens) {
@@ -234,7 +223,7 @@ fn running(alloc: Global, at: u32, tokens: &[Token], room: u32) -> Read<Tree>
                         Err(fault)
                     }
                     Ok((tree, other, rest)) => {
-                        Ok((run_tree(alloc, at, kind, tree)?, height.max(other), rest))
+                        Ok((boxed_run(alloc, at, kind, tree)?, height.max(other), rest))
                     }
                 },
             }
@@ -243,9 +232,9 @@ fn running(alloc: Global, at: u32, tokens: &[Token], room: u32) -> Read<Tree>
 }
 
 #[cycle(trees)]
-fn operand_tree(alloc: Global, row: Row, tokens: &[Token], room: u32) -> Read<Tree>
+fn operand_tree(alloc: Global, row: Row, tokens: &[Token], room: u32) -> Read<Box<Tree>>
     requires { room ≤ 200 }
-    ensures gives { GivesRead tree_of result (full room (tree (operand (row_of row))) (tokens_of tokens.now)) }
+    ensures gives { GivesRead tree_in result (full room (tree (operand (row_of row))) (tokens_of tokens.now)) }
     ensures height { IfOk result (λ x. x.1 ≤ room) }
 {
     match row {
@@ -256,9 +245,9 @@ fn operand_tree(alloc: Global, row: Row, tokens: &[Token], room: u32) -> Read<Tr
 }
 
 #[cycle(trees)]
-fn right_tree(alloc: Global, row: Row, tokens: &[Token], room: u32) -> Read<Tree>
+fn right_tree(alloc: Global, row: Row, tokens: &[Token], room: u32) -> Read<Box<Tree>>
     requires { room ≤ 200 }
-    ensures gives { GivesRead tree_of result (full room (tree (right (row_of row))) (tokens_of tokens.now)) }
+    ensures gives { GivesRead tree_in result (full room (tree (right (row_of row))) (tokens_of tokens.now)) }
     ensures height { IfOk result (λ x. x.1 ≤ room) }
 {
     match row {
@@ -270,9 +259,9 @@ fn right_tree(alloc: Global, row: Row, tokens: &[Token], room: u32) -> Read<Tree
 
 #[cycle(trees)]
 #[tactic(auto, using(mw_grammar::proofs::Below::read_full, mw_grammar::proofs::Below::read_gives, mw_grammar::proofs::Below::read_refuses, mw_grammar::proofs::Below::read_reads, mw_grammar::proofs::Below::part_fails, mw_grammar::proofs::Below::fails_then, mw_grammar::proofs::Below::raise_ok, mw_grammar::proofs::Below::fails_raise, mw_grammar::proofs::Below::read_more))]
-fn row_tree(alloc: Global, row: Row, tokens: &[Token], room: u32) -> Read<Tree>
+fn row_tree(alloc: Global, row: Row, tokens: &[Token], room: u32) -> Read<Box<Tree>>
     requires { room ≤ 200 }
-    ensures gives { GivesRead tree_of result (full room (tree (leveled (row_of row))) (tokens_of tokens.now)) }
+    ensures gives { GivesRead tree_in result (full room (tree (leveled (row_of row))) (tokens_of tokens.now)) }
     ensures height { IfOk result (λ x. x.1 ≤ room) }
 {
     let (left, height, mid) = operand_tree(alloc, row, tokens, room)?;
@@ -285,20 +274,19 @@ fn row_tree(alloc: Global, row: Row, tokens: &[Token], room: u32) -> Read<Tree>
 fn more_trees(
     alloc: Global,
     row: Row,
-    left: Tree,
+    left: Box<Tree>,
     height: u32,
     tokens: &[Token],
     room: u32,
-) -> Read<Tree>
+) -> Read<Box<Tree>>
     requires { (height ≤ room) × (room ≤ 200) }
-    ensures gives { GivesRead tree_of result (following room (row_of row) (tree_of left) height (tokens_of tokens.now)) }
+    ensures gives { GivesRead tree_in result (following room (row_of row) (tree_in left) height (tokens_of tokens.now)) }
     ensures height { IfOk result (λ x. x.1 ≤ room) }
 {
     match next_operator(row, tokens) {
         None => Ok((left, height, tokens)),
         Some((operator, rest)) => {
             if height >= room {
-                drop(left);
                 return Err(Fault::Deep(tokens));
             }
             next_operand(alloc, row, operator, left, height, rest, room)
@@ -307,9 +295,9 @@ fn more_trees(
 }
 
 #[cycle(trees)]
-fn comparison_tree(alloc: Global, tokens: &[Token], room: u32) -> Read<Tree>
+fn comparison_tree(alloc: Global, tokens: &[Token], room: u32) -> Read<Box<Tree>>
     requires { room ≤ 200 }
-    ensures gives { GivesRead tree_of result (full room (tree comparison) (tokens_of tokens.now)) }
+    ensures gives { GivesRead tree_in result (full room (tree comparison) (tokens_of tokens.now)) }
     ensures height { IfOk result (λ x. x.1 ≤ room) }
 {
     let (left, height, mid) = row_tree(alloc, Row::Sum, tokens, room)?;
@@ -317,27 +305,19 @@ fn comparison_tree(alloc: Global, tokens: &[Token], room: u32) -> Read<Tree>
         None => Ok((left, height, mid)),
         Some((prim, rest)) => {
             if height >= room {
-                drop(left);
                 return Err(Fault::Deep(mid));
             }
-            match row_tree(alloc, Row::Sum, rest, room - 1) {
-                Err(fault) => {
-                    drop(left);
-                    Err(fault)
-                }
-                Ok((right, other, rest)) => {
-                    let tree = joined(alloc, Operator::Sign(prim), left, right)?;
-                    Ok((tree, height.max(other) + 1, rest))
-                }
-            }
+            let (right, other, rest) = row_tree(alloc, Row::Sum, rest, room - 1)?;
+            let tree = joined(alloc, Operator::Sign(prim), left, right)?;
+            Ok((tree, height.max(other) + 1, rest))
         }
     }
 }
 
 #[cycle(trees)]
-fn conjunction_tree(alloc: Global, tokens: &[Token], room: u32) -> Read<Tree>
+fn conjunction_tree(alloc: Global, tokens: &[Token], room: u32) -> Read<Box<Tree>>
     requires { room ≤ 200 }
-    ensures gives { GivesRead tree_of result (full room (tree conjunction) (tokens_of tokens.now)) }
+    ensures gives { GivesRead tree_in result (full room (tree conjunction) (tokens_of tokens.now)) }
     ensures height { IfOk result (λ x. x.1 ≤ room) }
 {
     let (left, height, mid) = comparison_tree(alloc, tokens, room)?;
@@ -345,26 +325,18 @@ fn conjunction_tree(alloc: Global, tokens: &[Token], room: u32) -> Read<Tree>
         None => Ok((left, height, mid)),
         Some(rest) => {
             if height >= room {
-                drop(left);
                 return Err(Fault::Deep(mid));
             }
-            match conjunction_tree(alloc, rest, room - 1) {
-                Err(fault) => {
-                    drop(left);
-                    Err(fault)
-                }
-                Ok((right, other, rest)) => {
-                    Ok((conjoined(alloc, left, right)?, height.max(other) + 1, rest))
-                }
-            }
+            let (right, other, rest) = conjunction_tree(alloc, rest, room - 1)?;
+            Ok((conjoined(alloc, left, right)?, height.max(other) + 1, rest))
         }
     }
 }
 
 #[cycle(trees)]
-fn disjunction_tree(alloc: Global, tokens: &[Token], room: u32) -> Read<Tree>
+fn disjunction_tree(alloc: Global, tokens: &[Token], room: u32) -> Read<Box<Tree>>
     requires { room ≤ 200 }
-    ensures gives { GivesRead tree_of result (full room (tree disjunction) (tokens_of tokens.now)) }
+    ensures gives { GivesRead tree_in result (full room (tree disjunction) (tokens_of tokens.now)) }
     ensures height { IfOk result (λ x. x.1 ≤ room) }
 {
     let (left, height, mid) = conjunction_tree(alloc, tokens, room)?;
@@ -372,26 +344,18 @@ fn disjunction_tree(alloc: Global, tokens: &[Token], room: u32) -> Read<Tree>
         None => Ok((left, height, mid)),
         Some(rest) => {
             if height >= room {
-                drop(left);
                 return Err(Fault::Deep(mid));
             }
-            match disjunction_tree(alloc, rest, room - 1) {
-                Err(fault) => {
-                    drop(left);
-                    Err(fault)
-                }
-                Ok((right, other, rest)) => {
-                    Ok((disjoined(alloc, left, right)?, height.max(other) + 1, rest))
-                }
-            }
+            let (right, other, rest) = disjunction_tree(alloc, rest, room - 1)?;
+            Ok((disjoined(alloc, left, right)?, height.max(other) + 1, rest))
         }
     }
 }
 
 #[cycle(trees)]
-pub fn expr_tree(alloc: Global, tokens: &[Token], room: u32) -> Read<Tree>
+pub fn expr_tree(alloc: Global, tokens: &[Token], room: u32) -> Read<Box<Tree>>
     requires { room ≤ 200 }
-    ensures gives { GivesRead tree_of result (full room (tree expr) (tokens_of tokens.now)) }
+    ensures gives { GivesRead tree_in result (full room (tree expr) (tokens_of tokens.now)) }
     ensures height { IfOk result (λ x. x.1 ≤ room) }
 {
     match in_hand(tokens) {
@@ -406,7 +370,7 @@ pub fn expr_tree(alloc: Global, tokens: &[Token], room: u32) -> Read<Tree>
             }
             First::Fun => {
                 let (function, height, rest) = parameter_tree(alloc, Mark::Arrow, rest, room)?;
-                Ok((function_tree(alloc, function)?, height, rest))
+                Ok((boxed_function(alloc, function)?, height, rest))
             }
             First::If => {
                 if room == 0 {
@@ -421,57 +385,45 @@ pub fn expr_tree(alloc: Global, tokens: &[Token], room: u32) -> Read<Tree>
 }
 
 #[cycle(trees)]
-fn conditional(alloc: Global, tokens: &[Token], room: u32) -> Read<Tree>
+fn conditional(alloc: Global, tokens: &[Token], room: u32) -> Read<Box<Tree>>
     requires { room ≤ 200 }
-    ensures gives { GivesRead tree_of result (reading room condition_form none_yet (tokens_of tokens.now)) }
+    ensures gives { GivesRead tree_in result (reading room condition_form none_yet (tokens_of tokens.now)) }
     ensures height { IfOk result (λ x. x.1 ≤ room) }
 {
     let (test, height, mid) = expr_tree(alloc, tokens, room)?;
     match after(Next::Then, mid) {
-        None => {
-            drop(test);
-            Err(Fault::Syntax(mid))
-        }
+        None => Err(Fault::Syntax(mid)),
         Some(rest) => branches(alloc, test, height, rest, room),
     }
 }
 
 #[cycle(trees)]
-fn branches(alloc: Global, test: Tree, height: u32, tokens: &[Token], room: u32) -> Read<Tree>
+fn branches(
+    alloc: Global,
+    test: Box<Tree>,
+    height: u32,
+    tokens: &[Token],
+    room: u32,
+) -> Read<Box<Tree>>
     requires { (height ≤ room) × (room ≤ 200) }
-    ensures gives { GivesRead tree_of result (reading room (branches_form (tree_of test)) (so_far height) (tokens_of tokens.now)) }
+    ensures gives { GivesRead tree_in result (reading room (branches_form (tree_in test)) (so_far height) (tokens_of tokens.now)) }
     ensures height { IfOk result (λ x. x.1 ≤ room) }
 {
-    match expr_tree(alloc, tokens, room) {
-        Err(fault) => {
-            drop(test);
-            Err(fault)
+    let (left, other, mid) = expr_tree(alloc, tokens, room)?;
+    match after(Next::Else, mid) {
+        None => Err(Fault::Syntax(mid)),
+        Some(rest) => {
+            let (right, last, rest) = expr_tree(alloc, rest, room)?;
+            let tree = boxed_if(alloc, test, left, right)?;
+            Ok((tree, height.max(other).max(last), rest))
         }
-        Ok((left, other, mid)) => match after(Next::Else, mid) {
-            None => {
-                drop(test);
-                drop(left);
-                Err(Fault::Syntax(mid))
-            }
-            Some(rest) => match expr_tree(alloc, rest, room) {
-                Err(fault) => {
-                    drop(test);
-                    drop(left);
-                    Err(fault)
-                }
-                Ok((right, last, rest)) => {
-                    let tree = if_tree(alloc, test, left, right)?;
-                    Ok((tree, height.max(other).max(last), rest))
-                }
-            },
-        },
     }
 }
 
 #[cycle(trees)]
-fn bound_tree(alloc: Global, tokens: &[Token], room: u32) -> Read<Tree>
+fn bound_tree(alloc: Global, tokens: &[Token], room: u32) -> Read<Box<Tree>>
     requires { room ≤ 200 }
-    ensures gives { GivesRead tree_of result (reading room (pick let_in_by) none_yet (tokens_of tokens.now)) }
+    ensures gives { GivesRead tree_in result (reading room (pick let_in_by) none_yet (tokens_of tokens.now)) }
     ensures height { IfOk result (λ x. x.1 ≤ room) }
 {
     match in_hand(tokens) {
@@ -489,9 +441,9 @@ fn bound_tree(alloc: Global, tokens: &[Token], room: u32) -> Read<Tree>
 }
 
 #[cycle(trees)]
-fn recursive(alloc: Global, tokens: &[Token], room: u32) -> Read<Tree>
+fn recursive(alloc: Global, tokens: &[Token], room: u32) -> Read<Box<Tree>>
     requires { room ≤ 200 }
-    ensures gives { GivesRead tree_of result (reading room (pick rec_by) none_yet (tokens_of tokens.now)) }
+    ensures gives { GivesRead tree_in result (reading room (pick rec_by) none_yet (tokens_of tokens.now)) }
     ensures height { IfOk result (λ x. x.1 ≤ room) }
 {
     match in_hand(tokens) {
@@ -511,37 +463,29 @@ fn recursive(alloc: Global, tokens: &[Token], room: u32) -> Read<Tree>
 fn scoped(
     alloc: Global,
     name: Name,
-    definition: Tree,
+    definition: Box<Tree>,
     height: u32,
     tokens: &[Token],
     room: u32,
-) -> Read<Tree>
+) -> Read<Box<Tree>>
     requires { (height ≤ room) × (room ≤ 200) }
-    ensures gives { GivesRead tree_of result (reading room (scope_form (bind name (tree_of definition))) (so_far height) (tokens_of tokens.now)) }
+    ensures gives { GivesRead tree_in result (reading room (scope_form (bind name (tree_in definition))) (so_far height) (tokens_of tokens.now)) }
     ensures height { IfOk result (λ x. x.1 ≤ room) }
 {
     match after(Next::In, tokens) {
-        None => {
-            drop(definition);
-            Err(Fault::Syntax(tokens))
+        None => Err(Fault::Syntax(tokens)),
+        Some(rest) => {
+            let (tree, other, rest) = expr_tree(alloc, rest, room)?;
+            let tree = boxed_let(alloc, name, definition, tree)?;
+            Ok((tree, height.max(other), rest))
         }
-        Some(rest) => match expr_tree(alloc, rest, room) {
-            Err(fault) => {
-                drop(definition);
-                Err(fault)
-            }
-            Ok((tree, other, rest)) => {
-                let tree = let_tree(alloc, name, definition, tree)?;
-                Ok((tree, height.max(other), rest))
-            }
-        },
     }
 }
 
 #[cycle(trees)]
 pub fn parameter_tree(alloc: Global, mark: Mark, tokens: &[Token], room: u32) -> Read<Function>
     requires { room ≤ 200 }
-    ensures gives { GivesRead function_of result (full room (parameter (mark_in mark)) (tokens_of tokens.now)) }
+    ensures gives { GivesRead function_in result (full room (parameter (mark_in mark)) (tokens_of tokens.now)) }
     ensures height { IfOk result (λ x. x.1 ≤ room) }
 {
     match in_hand(tokens) {
@@ -565,7 +509,7 @@ pub fn parameter_tree(alloc: Global, mark: Mark, tokens: &[Token], room: u32) ->
 #[cycle(trees)]
 pub fn body_tree(alloc: Global, mark: Mark, tokens: &[Token], room: u32) -> Read<Defined>
     requires { room ≤ 200 }
-    ensures gives { GivesRead definition_of result (full room (body (mark_in mark)) (tokens_of tokens.now)) }
+    ensures gives { GivesRead definition_in result (full room (body (mark_in mark)) (tokens_of tokens.now)) }
     ensures height { IfOk result (λ x. x.1 ≤ room) }
 {
     match in_hand(tokens) {
@@ -575,7 +519,7 @@ pub fn body_tree(alloc: Global, mark: Mark, tokens: &[Token], room: u32) -> Read
             Body::Parameter => {
                 let (function, height, rest) = parameter_tree(alloc, mark, tokens, room)?;
                 let from = function.from;
-                let tree = function_tree(alloc, function)?;
+                let tree = boxed_function(alloc, function)?;
                 Ok((Defined { from, tree }, height, rest))
             }
             Body::Mark => behind_tree(alloc, mark, rest, room),
@@ -586,7 +530,7 @@ pub fn body_tree(alloc: Global, mark: Mark, tokens: &[Token], room: u32) -> Read
 #[cycle(trees)]
 fn behind_tree(alloc: Global, mark: Mark, tokens: &[Token], room: u32) -> Read<Defined>
     requires { room ≤ 200 }
-    ensures gives { GivesRead definition_of result (reading room (pick (behind_mark (mark_in mark))) none_yet (tokens_of tokens.now)) }
+    ensures gives { GivesRead definition_in result (reading room (pick (behind_mark (mark_in mark))) none_yet (tokens_of tokens.now)) }
     ensures height { IfOk result (λ x. x.1 ≤ room) }
 {
     match in_hand(tokens) {
@@ -600,9 +544,9 @@ fn behind_tree(alloc: Global, mark: Mark, tokens: &[Token], room: u32) -> Read<D
 }
 
 #[cycle(trees)]
-fn passed_atom(alloc: Global, tokens: &[Token], room: u32) -> Read<Tree>
+fn passed_atom(alloc: Global, tokens: &[Token], room: u32) -> Read<Box<Tree>>
     requires { room ≤ 200 }
-    ensures gives { GivesRead tree_of result (reading room passed_form none_yet (tokens_of tokens.now)) }
+    ensures gives { GivesRead tree_in result (reading room passed_form none_yet (tokens_of tokens.now)) }
     ensures height { IfOk result (λ x. x.1 ≤ room) }
 {
     let (tree, height, rest) = atom_tree(alloc, tokens, room)?;
@@ -610,9 +554,9 @@ fn passed_atom(alloc: Global, tokens: &[Token], room: u32) -> Read<Tree>
 }
 
 #[cycle(trees)]
-fn passed_disjunction(alloc: Global, tokens: &[Token], room: u32) -> Read<Tree>
+fn passed_disjunction(alloc: Global, tokens: &[Token], room: u32) -> Read<Box<Tree>>
     requires { room ≤ 200 }
-    ensures gives { GivesRead tree_of result (reading room disjunction_form none_yet (tokens_of tokens.now)) }
+    ensures gives { GivesRead tree_in result (reading room disjunction_form none_yet (tokens_of tokens.now)) }
     ensures height { IfOk result (λ x. x.1 ≤ room) }
 {
     let (tree, height, rest) = disjunction_tree(alloc, tokens, room)?;
@@ -625,13 +569,13 @@ fn next_operand(
     alloc: Global,
     row: Row,
     operator: Operator,
-    left: Tree,
+    left: Box<Tree>,
     height: u32,
     tokens: &[Token],
     room: u32,
-) -> Read<Tree>
+) -> Read<Box<Tree>>
     requires { (height < room) × (room ≤ 200) }
-    ensures gives { GivesRead tree_of result (following_operator room (row_of row) (op_of operator) (tree_of left) height (tokens_of tokens.now)) }
+    ensures gives { GivesRead tree_in result (following_operator room (row_of row) (op_of operator) (tree_in left) height (tokens_of tokens.now)) }
     ensures height { IfOk result (λ x. x.1 ≤ room) }
 {
     let (right, other, mid) = right_tree(alloc, row, tokens, room - 1)?;
@@ -647,25 +591,17 @@ fn scoped_function(
     height: u32,
     tokens: &[Token],
     room: u32,
-) -> Read<Tree>
+) -> Read<Box<Tree>>
     requires { (height ≤ room) × (room ≤ 200) }
-    ensures gives { GivesRead tree_of result (reading room (scope_form (bound_rec name (function_of function))) (so_far height) (tokens_of tokens.now)) }
+    ensures gives { GivesRead tree_in result (reading room (scope_form (bound_rec name (function_in function))) (so_far height) (tokens_of tokens.now)) }
     ensures height { IfOk result (λ x. x.1 ≤ room) }
 {
     match after(Next::In, tokens) {
-        None => {
-            drop(function);
-            Err(Fault::Syntax(tokens))
+        None => Err(Fault::Syntax(tokens)),
+        Some(rest) => {
+            let (tree, other, rest) = expr_tree(alloc, rest, room)?;
+            let tree = boxed_let_rec(alloc, name, function, tree)?;
+            Ok((tree, height.max(other), rest))
         }
-        Some(rest) => match expr_tree(alloc, rest, room) {
-            Err(fault) => {
-                drop(function);
-                Err(fault)
-            }
-            Ok((tree, other, rest)) => {
-                let tree = let_rec_tree(alloc, name, function, tree)?;
-                Ok((tree, height.max(other), rest))
-            }
-        },
     }
 }

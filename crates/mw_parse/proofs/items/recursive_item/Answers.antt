@@ -1,0 +1,21 @@
+use Rattle.std.proofs.Common.{arith}
+use Rattle.mw_grammar.proofs.Below.{read_full, read_gives, read_refuses, read_reads, part_fails, fails_then}
+use Rattle.mw_parse.proofs.items.recursive_item.Goals as goal
+
+pub returns-in-None-clause-gives : goal.returns-in-None-clause-gives
+returns-in-None-clause-gives c = grind (arith, read_full, read_gives, read_refuses, read_reads, part_fails, fails_then)
+
+pub returns-in-None-name_of-clause-gives : goal.returns-in-None-name_of-clause-gives
+returns-in-None-name_of-clause-gives c = grind (arith, read_full, read_gives, read_refuses, read_reads, part_fails, fails_then)
+
+pub returns-in_err-boxed_rec-in-Some-name_of-clause-gives : goal.returns-in_err-boxed_rec-in-Some-name_of-clause-gives
+returns-in_err-boxed_rec-in-Some-name_of-clause-gives c = grind (arith, read_full, read_gives, read_refuses, read_reads, part_fails, fails_then)
+
+pub returns-in_err-function-in-Some-name_of-clause-gives : goal.returns-in_err-function-in-Some-name_of-clause-gives
+returns-in_err-function-in-Some-name_of-clause-gives c = grind (arith, read_full, read_gives, read_refuses, read_reads, part_fails, fails_then)
+
+pub returns-in_err-name-in-Some-name_of-clause-gives : goal.returns-in_err-name-in-Some-name_of-clause-gives
+returns-in_err-name-in-Some-name_of-clause-gives c = grind (arith, read_full, read_gives, read_refuses, read_reads, part_fails, fails_then)
+
+pub returns-in_ok-boxed_rec-in-Some-name_of-clause-gives : goal.returns-in_ok-boxed_rec-in-Some-name_of-clause-gives
+returns-in_ok-boxed_rec-in-Some-name_of-clause-gives c = grind (arith, read_full, read_gives, read_refuses, read_reads, part_fails, fails_then)
