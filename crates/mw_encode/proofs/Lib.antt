@@ -7,3 +7,4 @@ pub mod Pieces
 pub mod Codes
 pub mod Runs
 pub mod Modules
+pub mod Appending

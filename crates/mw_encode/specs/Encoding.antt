@@ -161,6 +161,19 @@ section_bytes id f (x ∷ xs) = id ∷ sized_bytes (vector_bytes f (x ∷ xs))
 abbrev pub header_bytes : List ℕ
 header_bytes = 0x00 ∷ 0x61 ∷ 0x73 ∷ 0x6D ∷ 0x01 ∷ 0x00 ∷ 0x00 ∷ 0x00 ∷ []
 
+-- the sections of a module, after bytes that are there
+abbrev pub with_sections : List ℕ → PureModule → List ℕ
+with_sections old m = old
+    ++ section_bytes 1 function_type_bytes m.types
+    ++ section_bytes 3 function_kind_bytes m.funcs
+    ++ section_bytes 4 table_bytes (at_most_one m.table)
+    ++ section_bytes 5 limits_bytes (at_most_one m.memory)
+    ++ section_bytes 6 global_bytes m.globals
+    ++ section_bytes 7 export_bytes m.exports
+    ++ section_bytes 9 element_bytes m.elements
+    ++ section_bytes 10 function_code_bytes m.funcs
+    ++ section_bytes 11 segment_bytes m.segments
+
 abbrev pub encoding : PureModule → List ℕ
 encoding m = header_bytes
     ++ section_bytes 1 function_type_bytes m.types

@@ -1,6 +1,6 @@
 // Instructions and expressions.
 
-ghost use Rattle.std.specs.Prelude.{◌≡◌, [], ◌∷◌, ◌++◌, OnOk};
+ghost use Rattle.std.specs.Prelude.{◌≡◌, ◌<◌, ◌^◌, [], ◌∷◌, ◌++◌, length, OnOk};
 ghost use Rattle.mw_wasm.specs.BinaryInstructions.{code, instruction};
 ghost use Rattle.mw_wasm.specs.Views.{code_of, instruction_of};
 ghost use Rattle.mw_encode.specs.Encoding.{
@@ -8,8 +8,10 @@ ghost use Rattle.mw_encode.specs.Encoding.{
   code_bytes,
   expression_bytes,
   instruction_bytes,
+  number,
   Spelled,
   value_type_byte,
+  vector_bytes,
 };
 
 use crate::opcodes::{opcode_of_load, opcode_of_numeric, opcode_of_store};
@@ -17,7 +19,7 @@ use crate::vectors::{
     put_byte, put_constant_32, put_constant_64, put_indexed, put_indices, put_pair, put_two,
 };
 use mw_leb::put_u32;
-use mw_wasm::{Instr, Instrs, ValType};
+use mw_wasm::{Indices, Instr, Instrs, ValType};
 use std::alloc::AllocError;
 
 /// The byte of a value type.
@@ -39,6 +41,24 @@ fn put_opening(out: &mut Vec<u8>, opcode: u8, kind: Option<ValType>) -> Result<(
         None => put_byte(out, 0x40),
         Some(kind) => put_byte(out, byte_of_type(kind)),
     }
+}
+
+/// Appends a branch by a table.
+fn put_branches(out: &mut Vec<u8>, labels: &Indices, label: u32) -> Result<(), AllocError>
+    requires { length labels.now < 2 ^ 32 }
+    ensures { OnOk result (out.new.items ≡ out.old.items ++ 14 ∷ (vector_bytes number labels.now ++ number label)) }
+{
+    put_byte(out, 0x0e)?;
+    put_indices(out, labels)?;
+    put_u32(out, label)
+}
+
+/// Appends a call by the table.
+fn put_indirect_call(out: &mut Vec<u8>, kind: u32) -> Result<(), AllocError>
+    ensures { OnOk result (out.new.items ≡ out.old.items ++ 17 ∷ (number kind ++ 0 ∷ [])) }
+{
+    put_indexed(out, 0x11, kind)?;
+    put_byte(out, 0x00)
 }
 
 /// Appends instructions and the byte that ends them.
@@ -121,17 +141,10 @@ fn put_instruction(out: &mut Vec<u8>, one: &Instr) -> Result<(), AllocError>
         }
         Instr::Br(label) => put_indexed(out, 0x0c, *label),
         Instr::BrIf(label) => put_indexed(out, 0x0d, *label),
-        Instr::BrTable(labels, label) => {
-            put_byte(out, 0x0e)?;
-            put_indices(out, labels)?;
-            put_u32(out, *label)
-        }
+        Instr::BrTable(labels, label) => put_branches(out, labels, *label),
         Instr::Return => put_byte(out, 0x0f),
         Instr::Call(function) => put_indexed(out, 0x10, *function),
-        Instr::CallIndirect(kind) => {
-            put_indexed(out, 0x11, *kind)?;
-            put_byte(out, 0x00)
-        }
+        Instr::CallIndirect(kind) => put_indirect_call(out, *kind),
         Instr::Drop => put_byte(out, 0x1a),
         Instr::Select => put_byte(out, 0x1b),
         Instr::LocalGet(local) => put_indexed(out, 0x20, *local),

@@ -1,10 +1,10 @@
 //! The bytes of a module: its shortest spelling in the binary format.
 #![tactic(auto)]
 
-ghost use Rattle.std.specs.Prelude.{◌≡◌, List, ℕ, IfOk};
+ghost use Rattle.std.specs.Prelude.{◌≡◌, List, ℕ, IfOk, OnOk};
 ghost use Rattle.mw_wasm.specs.BinaryModules.{Spells};
 ghost use Rattle.mw_wasm.specs.Views.{module_of};
-ghost use Rattle.mw_encode.specs.Encoding.{encoding};
+ghost use Rattle.mw_encode.specs.Encoding.{encoding, with_sections};
 
 mod instructions;
 pub mod laws;
@@ -33,14 +33,22 @@ pub fn encode(alloc: Global, module: &Module) -> Result<Vec<u8>, AllocError>
     ensures exact { IfOk result (λ bytes. bytes.items ≡ encoding (module_of «module».now)) }
 {
     let mut out = Vec::from_slice(alloc, &HEADER)?;
-    put_types(alloc, &mut out, &module.types)?;
-    put_kinds(alloc, &mut out, &module.funcs)?;
-    put_table_section(alloc, &mut out, module.table)?;
-    put_memory_section(alloc, &mut out, module.memory)?;
-    put_globals(alloc, &mut out, &module.globals)?;
-    put_exports(alloc, &mut out, &module.exports)?;
-    put_elements(alloc, &mut out, &module.elements)?;
-    put_bodies(alloc, &mut out, &module.funcs)?;
-    put_segments(alloc, &mut out, &module.segments)?;
+    put_sections(alloc, &mut out, module)?;
     Ok(out)
+}
+
+/// Appends the sections of a module that can be spelled.
+fn put_sections(alloc: Global, out: &mut Vec<u8>, module: &Module) -> Result<(), AllocError>
+    requires { (bytes : List ℕ) × Spells bytes (module_of «module».now) }
+    ensures { OnOk result (out.new.items ≡ with_sections out.old.items (module_of «module».now)) }
+{
+    put_types(alloc, out, &module.types)?;
+    put_kinds(alloc, out, &module.funcs)?;
+    put_table_section(alloc, out, module.table)?;
+    put_memory_section(alloc, out, module.memory)?;
+    put_globals(alloc, out, &module.globals)?;
+    put_exports(alloc, out, &module.exports)?;
+    put_elements(alloc, out, &module.elements)?;
+    put_bodies(alloc, out, &module.funcs)?;
+    put_segments(alloc, out, &module.segments)
 }

@@ -59,18 +59,31 @@ fn put_all<T: Encoded>(alloc: Global, out: &mut Vec<u8>, list: &[T]) -> Result<(
     Ok(())
 }
 
-/// Appends the section of the types.
-#[tactic(auto, using(crate::proofs::Pieces::seen_same))]
-pub fn put_types(alloc: Global, out: &mut Vec<u8>, list: &FuncTypes) -> Result<(), AllocError>
-    requires { Spelled (section 1 function_type list.now) }
-    ensures { OnOk result (out.new.items ≡ out.old.items ++ section_bytes 1 function_type_bytes list.now) }
+/// Appends the section of items, where there are any.
+fn put_items<T: Encoded>(
+    alloc: Global,
+    out: &mut Vec<u8>,
+    id: u8,
+    list: &[T],
+) -> Result<(), AllocError>
+    requires spelled { Spelled (section id T.spelled (map T.seen list.now)) }
+    requires small { 0 < length list.now → length (vector_bytes T.bytes (map T.seen list.now)) < 2 ^ 32 }
+    ensures { OnOk result (out.new.items ≡ out.old.items ++ section_bytes id T.bytes (map T.seen list.now)) }
 {
     if list.len() == 0 {
         return Ok(());
     }
     let mut content = Vec::new(alloc);
-    put_all(alloc, &mut content, list.as_slice())?;
-    put_section(out, 1, content.as_slice())
+    put_all(alloc, &mut content, list)?;
+    put_section(out, id, content.as_slice())
+}
+
+/// Appends the section of the types.
+pub fn put_types(alloc: Global, out: &mut Vec<u8>, list: &FuncTypes) -> Result<(), AllocError>
+    requires { Spelled (section 1 function_type list.now) }
+    ensures { OnOk result (out.new.items ≡ out.old.items ++ section_bytes 1 function_type_bytes list.now) }
+{
+    put_items(alloc, out, 1, list.as_slice())
 }
 
 fn put_all_kinds(out: &mut Vec<u8>, list: &Funcs) -> Result<(), AllocError>
@@ -103,12 +116,7 @@ pub fn put_globals(alloc: Global, out: &mut Vec<u8>, list: &Globals) -> Result<(
     requires { Spelled (section 6 global (map global_of list.now)) }
     ensures { OnOk result (out.new.items ≡ out.old.items ++ section_bytes 6 global_bytes (map global_of list.now)) }
 {
-    if list.len() == 0 {
-        return Ok(());
-    }
-    let mut content = Vec::new(alloc);
-    put_all(alloc, &mut content, list.as_slice())?;
-    put_section(out, 6, content.as_slice())
+    put_items(alloc, out, 6, list.as_slice())
 }
 
 /// Appends the section of the exports.
@@ -116,12 +124,7 @@ pub fn put_exports(alloc: Global, out: &mut Vec<u8>, list: &Exports) -> Result<(
     requires { Spelled (section 7 export (map export_of list.now)) }
     ensures { OnOk result (out.new.items ≡ out.old.items ++ section_bytes 7 export_bytes (map export_of list.now)) }
 {
-    if list.len() == 0 {
-        return Ok(());
-    }
-    let mut content = Vec::new(alloc);
-    put_all(alloc, &mut content, list.as_slice())?;
-    put_section(out, 7, content.as_slice())
+    put_items(alloc, out, 7, list.as_slice())
 }
 
 /// Appends the section of the element segments.
@@ -129,12 +132,7 @@ pub fn put_elements(alloc: Global, out: &mut Vec<u8>, list: &Elements) -> Result
     requires { Spelled (section 9 element (map element_of list.now)) }
     ensures { OnOk result (out.new.items ≡ out.old.items ++ section_bytes 9 element_bytes (map element_of list.now)) }
 {
-    if list.len() == 0 {
-        return Ok(());
-    }
-    let mut content = Vec::new(alloc);
-    put_all(alloc, &mut content, list.as_slice())?;
-    put_section(out, 9, content.as_slice())
+    put_items(alloc, out, 9, list.as_slice())
 }
 
 /// Appends the section of the functions' locals and bodies.
@@ -142,12 +140,7 @@ pub fn put_bodies(alloc: Global, out: &mut Vec<u8>, list: &Funcs) -> Result<(), 
     requires { Spelled (section 10 function_code (map function_of list.now)) }
     ensures { OnOk result (out.new.items ≡ out.old.items ++ section_bytes 10 function_code_bytes (map function_of list.now)) }
 {
-    if list.len() == 0 {
-        return Ok(());
-    }
-    let mut content = Vec::new(alloc);
-    put_all(alloc, &mut content, list.as_slice())?;
-    put_section(out, 10, content.as_slice())
+    put_items(alloc, out, 10, list.as_slice())
 }
 
 /// Appends the section of the data segments.
@@ -155,12 +148,7 @@ pub fn put_segments(alloc: Global, out: &mut Vec<u8>, list: &Segments) -> Result
     requires { Spelled (section 11 data_segment (map segment_of list.now)) }
     ensures { OnOk result (out.new.items ≡ out.old.items ++ section_bytes 11 segment_bytes (map segment_of list.now)) }
 {
-    if list.len() == 0 {
-        return Ok(());
-    }
-    let mut content = Vec::new(alloc);
-    put_all(alloc, &mut content, list.as_slice())?;
-    put_section(out, 11, content.as_slice())
+    put_items(alloc, out, 11, list.as_slice())
 }
 
 /// Appends the section of the table.

@@ -20,3 +20,5 @@ pub mod Beginnings
 pub mod FirstStores
 pub mod InstanceRules
 pub mod KindRules
+pub mod Mapping
+pub mod Passing

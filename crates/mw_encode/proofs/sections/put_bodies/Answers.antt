@@ -1,15 +1,16 @@
-use Rattle.std.proofs.Common.{◌<◌, ◌^◌, length, map, arith}
-use Rattle.std.proofs.lemmas.List.{length-map}
-use Rattle.std.proofs.lemmas.Grind.{common_steps}
+use Rattle.std.proofs.Common.{sym, ap, map}
 use Rattle.mw_wasm.specs.BinaryModules.{function_code}
 use Rattle.mw_wasm.specs.Views.{function_of}
-use Rattle.mw_encode.specs.Encoding.{function_code_bytes, vector_bytes}
-use Rattle.mw_encode.proofs.Pieces.{section_small}
+use Rattle.mw_encode.specs.Encoding.{function_code_bytes, section_bytes}
 use Rattle.mw_encode.proofs.BestModules.{best_function_code}
+use Rattle.mw_encode.proofs.Appending.{content_small, ends_with}
 use Rattle.mw_encode.proofs.sections.put_bodies.Goals as goal
 
-pub put_section-requires : goal.put_section-requires
-put_section-requires c =
-    let some : 0 < length (map function_of c.args.list.now) = rw (length-map c.args.list.now function_of) (omega (arith, c.len.ensures)) in
-    let small : length (vector_bytes function_code_bytes (map function_of c.args.list.now)) < 2 ^ 32 = section_small 10 function_code function_code_bytes best_function_code (map function_of c.args.list.now) some c.requires in
-    grind (arith, common_steps)
+pub put_items-requires-clause-spelled : goal.put_items-requires-clause-spelled
+put_items-requires-clause-spelled c = rw c.as_slice.ensures c.requires
+
+pub put_items-requires-clause-small : goal.put_items-requires-clause-small
+put_items-requires-clause-small c = rw c.as_slice.ensures (content_small 10 function_code function_code_bytes best_function_code function_of c.args.list.now c.requires)
+
+pub returns : goal.returns
+returns c = ends_with c.put_items.result c.put_items.new.out.items c.args.out.now.items _ _ (ap (λ items. section_bytes 10 function_code_bytes (map function_of items)) (sym c.as_slice.ensures)) c.put_items.ensures

@@ -11,3 +11,12 @@ returns-in-Loop c = control_at c.repeat.result (module_of c.args.wasm.now) c.arg
 
 pub returns-in-If : goal.returns-in-If
 returns-in-If c = control_at c.choose.result (module_of c.args.wasm.now) c.args.held.now (instruction_of c.args.instruction.now) _ c.args.state.now c.choose.new.state (ap instruction_of c.in-If.is ∙ cond_is c.in-If.t c.in-If.a c.in-If.b) c.choose.ensures
+
+pub returns-in-Br : goal.returns-in-Br
+returns-in-Br c = control_at c.jump.result (module_of c.args.wasm.now) c.args.held.now (instruction_of c.args.instruction.now) _ c.args.state.now c.jump.new.state (ap instruction_of c.in-Br.is) c.jump.ensures
+
+pub returns-in-BrIf : goal.returns-in-BrIf
+returns-in-BrIf c = control_at c.jump_if.result (module_of c.args.wasm.now) c.args.held.now (instruction_of c.args.instruction.now) _ c.args.state.now c.jump_if.new.state (ap instruction_of c.in-BrIf.is) c.jump_if.ensures
+
+pub returns-in-Return : goal.returns-in-Return
+returns-in-Return c = control_at c.return_now.result (module_of c.args.wasm.now) c.args.held.now (instruction_of c.args.instruction.now) _ c.args.state.now c.return_now.new.state (ap instruction_of c.in-Return.is) c.return_now.ensures

@@ -3,9 +3,10 @@ use Rattle.mw_wasm.specs.Views.{module_of}
 use Rattle.mw_wasm.specs.Instances.{invoked}
 use Rattle.mw_exec.specs.declared.ended.Ended.TheVariants as ends
 use Rattle.mw_exec.specs.Views.{store_of}
-use Rattle.mw_exec.specs.Turns.{Stopped}
+use Rattle.mw_exec.specs.Turns.{FewResults, Stopped}
 use Rattle.mw_exec.specs.Instancing.{EndsAs}
-use Rattle.mw_exec.proofs.InvokeRules.{typed_there, not_lost, ends_done, ends_trapped, ends_spent, stays_typed}
+use Rattle.mw_exec.proofs.CallRules.{all_at}
+use Rattle.mw_exec.proofs.InvokeRules.{few_results, typed_there, not_lost, ends_done, ends_trapped, ends_spent, stays_typed}
 use Rattle.mw_exec.proofs.invocation.invoke_function.Goals as goal
 
 pub returns-in-Done-clause-ends : goal.returns-in-Done-clause-ends
@@ -48,3 +49,12 @@ pub unreachable-requires : goal.unreachable-requires
 unreachable-requires c = not_lost c.args.wasm.now c.args.held.now c.args.f c.get-function.result.now c.get-kind.result.now c.args.args.now c.args.fuel c.in_ok-state.state c.get-function.ensures c.get-kind.ensures c.in_ok-state.ensures
     (typed_there c.args.wasm.now c.args.f c.args.args.now c.get-function.result.now c.get-kind.result.now c.requires.can c.get-function.ensures c.get-kind.ensures) c.requires.valid c.requires.typed
     c.run.new.held c.run.new.state (subst (λ t. Stopped (module_of c.args.wasm.now) c.args.held.now c.in_ok-state.state t c.run.new.held c.run.new.state) c.in-Lost.is c.in_ok-run.ensures.stopped).ending
+
+pub begin-requires : goal.begin-requires
+begin-requires c = all_at FewResults c.args.wasm.now.types c.get-function.result.now.kind c.get-kind.result.now (few_results c.args.wasm.now c.requires.valid) c.get-kind.ensures
+
+pub run-requires-clause-formed : goal.run-requires-clause-formed
+run-requires-clause-formed c = c.in_ok-state.ensures.formed
+
+pub run-requires-clause-few : goal.run-requires-clause-few
+run-requires-clause-few c = few_results c.args.wasm.now c.requires.valid

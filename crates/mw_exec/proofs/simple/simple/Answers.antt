@@ -6,7 +6,7 @@ use Rattle.mw_wasm.specs.Act.{constant}
 use Rattle.mw_wasm.specs.Views.{instruction_of, module_of}
 use Rattle.mw_exec.specs.declared.outcome.Outcome.TheVariants as outcome
 use Rattle.mw_exec.specs.Views.{store_of}
-use Rattle.mw_exec.proofs.ArmRules.{arm, arm_st, arm_ls, arm_in, arm_held, arm_aligned, arm_const, arm_size}
+use Rattle.mw_exec.proofs.ArmRules.{arm, arm_st, arm_ls, arm_in, arm_held, arm_aligned, arm_const, arm_size, arm_simply, is_control}
 use Rattle.mw_exec.proofs.simple.simple.Goals as goal
 
 pub returns-in-LocalGet-clause-simply : goal.returns-in-LocalGet-clause-simply
@@ -53,3 +53,33 @@ returns-in-MemorySize-clause-simply c = arm_size c.constant-in-MemorySize.result
 
 pub returns-in-MemoryGrow-clause-simply : goal.returns-in-MemoryGrow-clause-simply
 returns-in-MemoryGrow-clause-simply c = arm_in c.grow.result (module_of c.args.wasm.now) (instruction_of c.args.instruction.now) memory_grow c.args.held.now c.grow.new.held _ c.args.height c.args.stack.now c.grow.new.stack (ap instruction_of c.in-MemoryGrow.is) refl c.grow.ensures.comes
+
+pub returns-in-LocalTee-clause-simply : goal.returns-in-LocalTee-clause-simply
+returns-in-LocalTee-clause-simply c = arm_simply c.local_tee.result (module_of c.args.wasm.now) (instruction_of c.args.instruction.now) _ (store_of c.args.held.now) c.args.base c.args.locals.now c.local_tee.new.locals c.args.height c.args.stack.now c.local_tee.new.stack (ap instruction_of c.in-LocalTee.is) c.local_tee.ensures.simply
+
+pub returns-in-Block-clause-simply : goal.returns-in-Block-clause-simply
+returns-in-Block-clause-simply c = (is_control (instruction_of c.args.instruction.now) _ (ap instruction_of c.in-Block.is) tt, refl, refl, refl)
+
+pub returns-in-Loop-clause-simply : goal.returns-in-Loop-clause-simply
+returns-in-Loop-clause-simply c = (is_control (instruction_of c.args.instruction.now) _ (ap instruction_of c.in-Loop.is) tt, refl, refl, refl)
+
+pub returns-in-If-clause-simply : goal.returns-in-If-clause-simply
+returns-in-If-clause-simply c = (is_control (instruction_of c.args.instruction.now) _ (ap instruction_of c.in-If.is) tt, refl, refl, refl)
+
+pub returns-in-Br-clause-simply : goal.returns-in-Br-clause-simply
+returns-in-Br-clause-simply c = (is_control (instruction_of c.args.instruction.now) _ (ap instruction_of c.in-Br.is) tt, refl, refl, refl)
+
+pub returns-in-BrIf-clause-simply : goal.returns-in-BrIf-clause-simply
+returns-in-BrIf-clause-simply c = (is_control (instruction_of c.args.instruction.now) _ (ap instruction_of c.in-BrIf.is) tt, refl, refl, refl)
+
+pub returns-in-BrTable-clause-simply : goal.returns-in-BrTable-clause-simply
+returns-in-BrTable-clause-simply c = (is_control (instruction_of c.args.instruction.now) _ (ap instruction_of c.in-BrTable.is) tt, refl, refl, refl)
+
+pub returns-in-Return-clause-simply : goal.returns-in-Return-clause-simply
+returns-in-Return-clause-simply c = (is_control (instruction_of c.args.instruction.now) _ (ap instruction_of c.in-Return.is) tt, refl, refl, refl)
+
+pub returns-in-Call-clause-simply : goal.returns-in-Call-clause-simply
+returns-in-Call-clause-simply c = (is_control (instruction_of c.args.instruction.now) _ (ap instruction_of c.in-Call.is) tt, refl, refl, refl)
+
+pub returns-in-CallIndirect-clause-simply : goal.returns-in-CallIndirect-clause-simply
+returns-in-CallIndirect-clause-simply c = (is_control (instruction_of c.args.instruction.now) _ (ap instruction_of c.in-CallIndirect.is) tt, refl, refl, refl)
