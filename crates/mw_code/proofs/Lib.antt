@@ -3,3 +3,4 @@ pub mod Unsharing
 pub mod Counting
 pub mod Adding
 pub mod Making
+pub mod Forming

@@ -9,29 +9,20 @@ use mw_region::{Id, Pool};
 use std::alloc::{AllocError, Global};
 
 /// Puts the parts of a node at the list's end.
-#[tactic(auto, using(std::proofs::lemmas::List::append_assoc))]
 fn push_parts(left: &mut Vec<Id>, node: CodeNode) -> Result<(), AllocError>
     ensures { IfOk result (λ _. left.new.items ≡ left.old.items ++ parts_of node) }
 {
     match node {
-        CodeNode::Int(_) | CodeNode::Bool(_) | CodeNode::Var(_) => {}
+        CodeNode::Int(_) | CodeNode::Bool(_) | CodeNode::Var(_) => Ok(()),
         CodeNode::Fun(_, e) | CodeNode::Rec(_, _, e) | CodeNode::Fst(e) | CodeNode::Snd(e) => {
-            left.push(e)?;
+            left.extend_from_slice(&[e])
         }
         CodeNode::App(a, b)
         | CodeNode::Let(a, _, b)
         | CodeNode::Pair(a, b)
-        | CodeNode::Prim(_, a, b) => {
-            left.push(a)?;
-            left.push(b)?;
-        }
-        CodeNode::If(c, a, b) => {
-            left.push(c)?;
-            left.push(a)?;
-            left.push(b)?;
-        }
+        | CodeNode::Prim(_, a, b) => left.extend_from_slice(&[a, b]),
+        CodeNode::If(c, a, b) => left.extend_from_slice(&[c, a, b]),
     }
-    Ok(())
 }
 
 /// Takes the nodes of the code at a place from the budget, and answers whether it has that many.

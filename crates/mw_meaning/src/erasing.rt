@@ -64,8 +64,8 @@ pub fn erased_under(
         Term::Fun(e) => Ok(Term::Fun(boxed(alloc, e, names, deeper(names, depth, 1))?)),
         Term::Rec(e) => Ok(Term::Rec(boxed(alloc, e, names, deeper(names, depth, 2))?)),
         Term::App(f, a) => {
-            let f = boxed(alloc, f, names, depth)?;
-            Ok(Term::App(f, boxed(alloc, a, names, depth)?))
+            let (f, a) = both(alloc, f, a, names, depth)?;
+            Ok(Term::App(f, a))
         }
         Term::Let(d, e) => {
             let d = boxed(alloc, d, names, depth)?;
@@ -73,18 +73,18 @@ pub fn erased_under(
         }
         Term::If(c, a, b) => {
             let c = boxed(alloc, c, names, depth)?;
-            let a = boxed(alloc, a, names, depth)?;
-            Ok(Term::If(c, a, boxed(alloc, b, names, depth)?))
+            let (a, b) = both(alloc, a, b, names, depth)?;
+            Ok(Term::If(c, a, b))
         }
         Term::Pair(a, b) => {
-            let a = boxed(alloc, a, names, depth)?;
-            Ok(Term::Pair(a, boxed(alloc, b, names, depth)?))
+            let (a, b) = both(alloc, a, b, names, depth)?;
+            Ok(Term::Pair(a, b))
         }
         Term::Fst(e) => Ok(Term::Fst(boxed(alloc, e, names, depth)?)),
         Term::Snd(e) => Ok(Term::Snd(boxed(alloc, e, names, depth)?)),
         Term::Prim(p, a, b) => {
-            let a = boxed(alloc, a, names, depth)?;
-            Ok(Term::Prim(*p, a, boxed(alloc, b, names, depth)?))
+            let (a, b) = both(alloc, a, b, names, depth)?;
+            Ok(Term::Prim(*p, a, b))
         }
         Term::Bracket(e)
         | Term::Escape(e)
@@ -98,12 +98,35 @@ pub fn erased_under(
 
 /// The same, in a box.
 #[cycle(erasing)]
-fn boxed(alloc: Global, term: &Term, names: &[NewName], depth: u32) -> Result<Box<Term>, AllocError>
+pub(crate) fn boxed(
+    alloc: Global,
+    term: &Term,
+    names: &[NewName],
+    depth: u32,
+) -> Result<Box<Term>, AllocError>
     requires { HasRoom names.now depth (size (expression_of term.now)) }
     ensures { IfOk result (λ t. expression_of t.value ≡ term_of (renamed (naming_of names.now) depth (plain (expression_of term.now)))) }
 {
     let term = erased_under(alloc, term, names, depth)?;
     Ok(Box::new(alloc, term)?)
+}
+
+/// The same of two terms.
+#[cycle(erasing)]
+fn both(
+    alloc: Global,
+    first: &Term,
+    second: &Term,
+    names: &[NewName],
+    depth: u32,
+) -> Result<(Box<Term>, Box<Term>), AllocError>
+    requires room_first { HasRoom names.now depth (size (expression_of first.now)) }
+    requires room_second { HasRoom names.now depth (size (expression_of second.now)) }
+    ensures first { IfOk result (λ t. expression_of t.0.value ≡ term_of (renamed (naming_of names.now) depth (plain (expression_of first.now)))) }
+    ensures second { IfOk result (λ t. expression_of t.1.value ≡ term_of (renamed (naming_of names.now) depth (plain (expression_of second.now)))) }
+{
+    let first = boxed(alloc, first, names, depth)?;
+    Ok((first, boxed(alloc, second, names, depth)?))
 }
 
 /// The term without brackets, escapes, `run`, `close`, `open`, `lift` and `liftb`. The one error is want of memory.

@@ -8,7 +8,7 @@ ghost use Rattle.mw_meaning.specs.ErasedPrograms.{kernels_in, lets_of, erased_pr
 ghost use Rattle.mw_meaning.specs.ErasureLaws.{IsWithoutStaging};
 ghost use Rattle.mw_meaning.specs.NewNames.{naming_of, new_names, inside_terms, IsNext, HasRoom, HaveRoom, definitions};
 
-use crate::erasing::{NewName, erased_under};
+use crate::erasing::{NewName, boxed, erased_under};
 use mw_term::{Item, ItemKind, Items, Program, Term, copied_ground, copied_name};
 use std::alloc::{AllocError, Global};
 
@@ -114,23 +114,33 @@ fn erased_lets(alloc: Global, items: &[Item], names: &[NewName]) -> Result<Items
 }
 
 /// A term inside a let, where the item is a kernel.
-fn wrapped(alloc: Global, item: &Item, names: &[NewName], inner: Term) -> Result<Term, AllocError>
+fn wrapped(
+    alloc: Global,
+    item: &Item,
+    names: &[NewName],
+    inner: Box<Term>,
+) -> Result<Box<Term>, AllocError>
     requires { HasRoom names.now 0 (definition_size (definition_of item.now.kind)) }
-    ensures { IfOk result (λ t. expression_of t ≡ inside_terms (naming_of names.now) (definition_of item.now.kind ∷ []) (expression_of inner)) }
+    ensures { IfOk result (λ t. expression_of t.value ≡ inside_terms (naming_of names.now) (definition_of item.now.kind ∷ []) (expression_of inner.value)) }
 {
     match &item.kind {
         ItemKind::Value(_) => Ok(inner),
         ItemKind::Kernel(_, term) => {
-            let definition = erased_under(alloc, term, names, 0)?;
-            Ok(Term::Let(Box::new(alloc, definition)?, Box::new(alloc, inner)?))
+            let definition = boxed(alloc, term, names, 0)?;
+            Ok(Box::new(alloc, Term::Let(definition, inner))?)
         }
     }
 }
 
 /// A term inside one let for each kernel, from the last to the first.
-fn inside(alloc: Global, items: &[Item], names: &[NewName], body: Term) -> Result<Term, AllocError>
+fn inside(
+    alloc: Global,
+    items: &[Item],
+    names: &[NewName],
+    body: Box<Term>,
+) -> Result<Box<Term>, AllocError>
     requires { HaveRoom names.now (definitions items.now) }
-    ensures { IfOk result (λ t. expression_of t ≡ inside_terms (naming_of names.now) (definitions items.now) (expression_of body)) }
+    ensures { IfOk result (λ t. expression_of t.value ≡ inside_terms (naming_of names.now) (definitions items.now) (expression_of body.value)) }
 {
     let mut inner = body;
     let mut rest = items.len();
@@ -153,11 +163,12 @@ pub fn erase_program(alloc: Global, program: &Program) -> Result<Program, AllocE
     let items = program.items.as_slice();
     let names = names_of(alloc, items)?;
     let lets = erased_lets(alloc, items, names.as_slice())?;
-    let main = erased_under(alloc, &program.body, names.as_slice(), 0)?;
+    let main = boxed(alloc, &program.body, names.as_slice(), 0)?;
     let body = inside(alloc, items, names.as_slice(), main)?;
+    let result = copied_ground(alloc, &program.result)?;
     Ok(Program {
         items: lets,
-        result: copied_ground(alloc, &program.result)?,
-        body,
+        result,
+        body: Box::into_inner(body),
     })
 }

@@ -1,57 +1,73 @@
 // A simplification that was worked out by hand.
 
-ghost use Rattle.std.specs.Prelude.{◌≡◌, ◌+◌, ◌<◌, ◌^◌, IfOk};
-ghost use Rattle.mw_term.specs.Closed.{ClosedBelow, IsClosed, IsCode};
-ghost use Rattle.mw_term.specs.Terms.{expression_of, size, fun, bind, cond, pair, prim};
+ghost use Rattle.std.specs.Prelude.{◌≡◌, ◌<◌, ◌^◌, IfOk, pos};
+ghost use Rattle.mw_term.specs.Closed.{IsClosed, IsCode};
+ghost use Rattle.mw_term.specs.Terms.{expression_of, size, num, var, bind, cond, pair, prim};
+ghost use Rattle.mw_term.specs.declared.term.Primitive.TheVariants.{Mul, Div, Eq};
+ghost use Rattle.mw_simplify.specs.Leaves.{leaf_expression};
 
+use crate::leaf::Leaf;
 use crate::simplify;
 use mw_term::{Prim, Term};
 use std::alloc::{AllocError, Global};
 
-fn bound(alloc: Global, d: Term, e: Term) -> Result<Term, AllocError>
-    ensures { IfOk result (λ code. expression_of code ≡ bind (expression_of d) (expression_of e)) }
+/// A term in a box.
+fn boxed(alloc: Global, term: Term) -> Result<Box<Term>, AllocError>
+    ensures { IfOk result (λ code. code.value ≡ term) }
 {
-    Ok(Term::Let(Box::new(alloc, d)?, Box::new(alloc, e)?))
+    Ok(Box::new(alloc, term)?)
 }
 
-fn computed(alloc: Global, p: Prim, a: Term, b: Term) -> Result<Term, AllocError>
-    ensures { IfOk result (λ code. expression_of code ≡ prim p (expression_of a) (expression_of b)) }
+/// A leaf in a box.
+fn leaf(alloc: Global, leaf: Leaf) -> Result<Box<Term>, AllocError>
+    ensures { IfOk result (λ code. expression_of code.value ≡ leaf_expression leaf) }
 {
-    Ok(Term::Prim(p, Box::new(alloc, a)?, Box::new(alloc, b)?))
+    boxed(alloc, leaf.term())
 }
 
-fn both(alloc: Global, a: Term, b: Term) -> Result<Term, AllocError>
-    ensures { IfOk result (λ code. expression_of code ≡ pair (expression_of a) (expression_of b)) }
+fn computed(alloc: Global, p: Prim, a: Leaf, b: Leaf) -> Result<Box<Term>, AllocError>
+    ensures { IfOk result (λ code. expression_of code.value ≡ prim p (leaf_expression a) (leaf_expression b)) }
 {
-    Ok(Term::Pair(Box::new(alloc, a)?, Box::new(alloc, b)?))
+    let a = leaf(alloc, a)?;
+    let b = leaf(alloc, b)?;
+    boxed(alloc, Term::Prim(p, a, b))
+}
+
+/// `let b = (x, x) in if a = 5 then x * a else 1 / 0`.
+fn inner(alloc: Global) -> Result<Box<Term>, AllocError>
+    ensures { IfOk result (λ code. expression_of code.value ≡ bind (pair (var 1) (var 1)) (cond (prim Eq (var 1) (num (pos 5))) (prim Mul (var 2) (var 1)) (prim Div (num (pos 1)) (num (pos 0))))) }
+{
+    let product = computed(alloc, Prim::Mul, Leaf::Var(2), Leaf::Var(1))?;
+    let trap = computed(alloc, Prim::Div, Leaf::Int(1), Leaf::Int(0))?;
+    let test = computed(alloc, Prim::Eq, Leaf::Var(1), Leaf::Int(5))?;
+    let choice = boxed(alloc, Term::If(test, product, trap))?;
+    let first = leaf(alloc, Leaf::Var(1))?;
+    let second = leaf(alloc, Leaf::Var(1))?;
+    let both = boxed(alloc, Term::Pair(first, second))?;
+    boxed(alloc, Term::Let(both, choice))
 }
 
 /// `fun x -> let a = 2 + 3 in let b = (x, x) in if a = 5 then x * a else 1 / 0`.
-fn five_times(alloc: Global) -> Result<Term, AllocError>
-    ensures code { IfOk result (λ code. IsCode (expression_of code)) }
-    ensures closed { IfOk result (λ code. IsClosed (expression_of code)) }
-    ensures small { IfOk result (λ code. size (expression_of code) < 2 ^ 31) }
+fn five_times(alloc: Global) -> Result<Box<Term>, AllocError>
+    ensures code { IfOk result (λ code. IsCode (expression_of code.value)) }
+    ensures closed { IfOk result (λ code. IsClosed (expression_of code.value)) }
+    ensures small { IfOk result (λ code. size (expression_of code.value) < 2 ^ 31) }
 {
-    let product = computed(alloc, Prim::Mul, Term::Var(2), Term::Var(1))?;
-    let trap = computed(alloc, Prim::Div, Term::Int(1), Term::Int(0))?;
-    let test = computed(alloc, Prim::Eq, Term::Var(1), Term::Int(5))?;
-    let choice = Term::If(
-        Box::new(alloc, test)?,
-        Box::new(alloc, product)?,
-        Box::new(alloc, trap)?,
-    );
-    let inner = bound(alloc, both(alloc, Term::Var(1), Term::Var(1))?, choice)?;
-    let sum = computed(alloc, Prim::Add, Term::Int(2), Term::Int(3))?;
-    Ok(Term::Fun(Box::new(alloc, bound(alloc, sum, inner)?)?))
+    let sum = computed(alloc, Prim::Add, Leaf::Int(2), Leaf::Int(3))?;
+    let body = boxed(alloc, Term::Let(sum, inner(alloc)?))?;
+    boxed(alloc, Term::Fun(body))
+}
+
+/// Its simplification, as text.
+fn simplified_text(alloc: Global) -> Result<String, AllocError> {
+    let code = five_times(alloc)?;
+    let simple = boxed(alloc, simplify(alloc, &code)?)?;
+    format!(in alloc; "{simple:?}")
 }
 
 #[test]
 fn five_times_is_simplified(rt: HostRuntime) -> Result<(), AllocError> {
-    let alloc = rt.alloc();
-    let simple = simplify(alloc, &five_times(alloc)?)?;
-    assert_eq!(rt;
-        format!(in alloc; "{simple:?}")?.as_str(),
-        "Fun(Prim(Mul, Var(0), Int(5)))"
-    );
+    let text = simplified_text(rt.alloc())?;
+    assert_eq!(rt; text.as_str(), "Fun(Prim(Mul, Var(0), Int(5)))");
     Ok(())
 }

@@ -1,5 +1,5 @@
 use Rattle.std.proofs.Common.{◌≡◌, length, ap, ◌∙◌, sym, subst, arith}
-use Rattle.mw_term.specs.Terms.{size}
+use Rattle.mw_term.specs.Terms.{expression_of, size}
 use Rattle.mw_term.specs.Typable.{Typable}
 use Rattle.mw_term.specs.Programs.{PureProgram, program_of}
 use Rattle.mw_meaning.specs.ErasureLaws.{IsWithoutStaging}
@@ -23,8 +23,8 @@ erased_lets-requires c =
     let names : c.in_ok-names.names.items ≡ new_names p.items 0 = c.in_ok-names.ensures ∙ ap (λ i. new_names i 0) items in
     subst (λ n. HaveRoom n (definitions c.as_slice-items.result.now)) (sym (c.as_slice.ensures.value ∙ names)) (subst (HaveRoom (new_names p.items 0)) (sym items) (program_room p c.requires.nodes).0)
 
-pub erased_under-requires : goal.erased_under-requires
-erased_under-requires c =
+pub boxed-requires : goal.boxed-requires
+boxed-requires c =
     let p : PureProgram = program_of c.args.program.now in
     let items : definitions c.as_slice-items.result.now ≡ p.items = ap definitions c.as_slice-items.ensures in
     let names : c.in_ok-names.names.items ≡ new_names p.items 0 = c.in_ok-names.ensures ∙ ap (λ i. new_names i 0) items in
@@ -43,9 +43,9 @@ returns-clause-erased c =
     let items : definitions c.as_slice-items.result.now ≡ p.items = ap definitions c.as_slice-items.ensures in
     let names : c.in_ok-names.names.items ≡ new_names p.items 0 = c.in_ok-names.ensures ∙ ap (λ i. new_names i 0) items in
     program_is _ _ _ _ _ _
-    (ap definitions c.lets.view_is ∙ c.in_ok-lets.ensures ∙ erased_lets_are p c.as_slice.result.now (definitions c.as_slice-items.result.now) (c.as_slice.ensures.value ∙ names) items c.requires.names)
-    c.in_ok-copied_ground.ensures
-    (c.in_ok-body.ensures ∙ ap (λ e. inside_terms (naming_of c.as_slice-3.result.now) (definitions c.as_slice-items.result.now) e) c.in_ok-main.ensures ∙ erased_body_is p c.as_slice-3.result.now c.as_slice-2.result.now (definitions c.as_slice-items.result.now) (c.as_slice-3.ensures.value ∙ names) (c.as_slice-2.ensures.value ∙ names) items c.requires.names)
+    (c.in_ok-lets.ensures ∙ erased_lets_are p c.as_slice.result.now (definitions c.as_slice-items.result.now) (c.as_slice.ensures.value ∙ names) items c.requires.names)
+    c.in_ok-result.ensures
+    (ap expression_of c.into_inner.ensures ∙ c.in_ok-body.ensures ∙ ap (λ e. inside_terms (naming_of c.as_slice-3.result.now) (definitions c.as_slice-items.result.now) e) c.in_ok-main.ensures ∙ erased_body_is p c.as_slice-3.result.now c.as_slice-2.result.now (definitions c.as_slice-items.result.now) (c.as_slice-3.ensures.value ∙ names) (c.as_slice-2.ensures.value ∙ names) items c.requires.names)
 
 pub returns-clause-typable : goal.returns-clause-typable
 returns-clause-typable c = λ s h. subst Typable (sym (returns-clause-erased c)) (erased_program_is_typable (program_of c.args.program.now) s h)
