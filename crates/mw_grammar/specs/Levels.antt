@@ -1,9 +1,6 @@
 -- The rows of operators of the reader, as the grammar's.
 use Rattle.mw_grammar.specs.Grammar as Pure
 use Rattle.mw_grammar.specs.Forms as forms
-use Rattle.mw_grammar.specs.SurfaceTrees.{tree_of}
-use Rattle.mw_grammar.specs.declared.parts.Function.{Function}
-use Rattle.mw_grammar.specs.declared.parts.Defined.{Defined}
 use Rattle.mw_grammar.specs.declared.rows.Row.{Row}
 use Rattle.mw_grammar.specs.declared.rows.Row.TheVariants as rows
 use Rattle.mw_grammar.specs.declared.rows.Operator.{Operator}
@@ -17,9 +14,3 @@ row_of rows.Application = Pure.application
 abbrev pub op_of : Operator → forms.Op
 op_of (operators.Sign p) = forms.by_sign p
 op_of operators.Apply = forms.apply
-
-abbrev pub function_of : Function → Pure.Abstraction
-function_of f = Pure.abstract f.name f.from (tree_of f.tree)
-
-abbrev pub definition_of : Defined → Pure.Definition
-definition_of d = Pure.define d.from (tree_of d.tree)

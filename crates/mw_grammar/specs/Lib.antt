@@ -11,3 +11,4 @@ pub mod Opened
 pub mod Steps
 pub mod Words
 pub mod Levels
+pub mod Boxes

@@ -1,11 +1,13 @@
-// Trees made of the parts that were read.
+// Trees made of the parts that were read, in boxes. The prover reads dropping a box as one step, and dropping a tree anew at
+// each place where a failed call leaves one behind.
 
 ghost use Rattle.std.specs.Prelude.{◌≡◌, IfOk, true, false};
 ghost use Rattle.mw_term.specs.Terms.{kernel_type_of};
-ghost use Rattle.mw_grammar.specs.SurfaceTrees.{tree_of, bind, bracket, cond, escape, fix, pair, run, truth};
+ghost use Rattle.mw_grammar.specs.Boxes.{function_in, tree_in};
+ghost use Rattle.mw_grammar.specs.SurfaceTrees.{tree_of, bind, bracket, cond, escape, fix, num, pair, run, truth};
 ghost use Rattle.mw_grammar.specs.Grammar.{positive, negative};
 ghost use Rattle.mw_grammar.specs.Forms.{bound_rec, function, operated};
-ghost use Rattle.mw_grammar.specs.Levels.{op_of, function_of};
+ghost use Rattle.mw_grammar.specs.Levels.{op_of};
 ghost use Rattle.mw_grammar.specs.Words.{leaf_of, prefixed};
 
 use crate::rows::Operator;
@@ -18,7 +20,7 @@ use std::alloc::{AllocError, Global};
 #[derive(Drop)]
 pub struct Defined {
     pub from: u32,
-    pub tree: Tree,
+    pub tree: Box<Tree>,
 }
 
 /// A parameter, and what stands after it.
@@ -26,18 +28,18 @@ pub struct Defined {
 pub struct Function {
     pub name: Name,
     pub from: u32,
-    pub tree: Tree,
+    pub tree: Box<Tree>,
 }
 
 /// A number; one that no token has is 0.
-pub fn positive_of(n: u64) -> i64
+fn positive_of(n: u64) -> i64
     ensures { result ≡ positive n }
 {
     if n < 1 << 63 { n as i64 } else { 0 }
 }
 
 /// A number after a minus; one that no token has is 0.
-pub fn negative_of(n: u64) -> i64
+fn negative_of(n: u64) -> i64
     ensures { result ≡ negative n }
 {
     if n == 0 {
@@ -49,8 +51,29 @@ pub fn negative_of(n: u64) -> i64
     }
 }
 
+/// A tree in a box.
+fn boxed(alloc: Global, tree: Tree) -> Result<Box<Tree>, AllocError>
+    ensures { IfOk result (λ t. tree_in t ≡ tree_of tree) }
+{
+    Ok(Box::new(alloc, tree)?)
+}
+
+/// A truth value.
+fn boxed_truth(alloc: Global, value: bool) -> Result<Box<Tree>, AllocError>
+    ensures { IfOk result (λ t. tree_in t ≡ truth value) }
+{
+    boxed(alloc, Tree::Bool(value))
+}
+
+/// A number after a minus.
+pub fn boxed_negative(alloc: Global, n: u64) -> Result<Box<Tree>, AllocError>
+    ensures { IfOk result (λ t. tree_in t ≡ num (negative n)) }
+{
+    boxed(alloc, Tree::Int(negative_of(n)))
+}
+
 /// An atom of one token.
-pub fn leaf_tree(alloc: Global, leaf: Leaf, at: u32) -> Result<Tree, AllocError>
+fn leaf_tree(alloc: Global, leaf: Leaf, at: u32) -> Result<Tree, AllocError>
     ensures { IfOk result (λ t. tree_of t ≡ leaf_of leaf.entry at) }
 {
     match leaf {
@@ -64,39 +87,35 @@ pub fn leaf_tree(alloc: Global, leaf: Leaf, at: u32) -> Result<Tree, AllocError>
     }
 }
 
-/// A tree in a box.
-fn boxed(alloc: Global, tree: Tree) -> Result<Box<Tree>, AllocError>
-    ensures { IfOk result (λ t. t.value ≡ tree) }
+/// The same, in a box.
+pub fn boxed_leaf(alloc: Global, leaf: Leaf, at: u32) -> Result<Box<Tree>, AllocError>
+    ensures { IfOk result (λ t. tree_in t ≡ leaf_of leaf.entry at) }
 {
-    Ok(Box::new(alloc, tree)?)
+    let tree = leaf_tree(alloc, leaf, at)?;
+    boxed(alloc, tree)
 }
 
-/// Two trees in boxes.
-fn both(alloc: Global, left: Tree, right: Tree) -> Result<(Box<Tree>, Box<Tree>), AllocError>
-    ensures left { IfOk result (λ t. t.0.value ≡ left) }
-    ensures right { IfOk result (λ t. t.1.value ≡ right) }
+/// The negation of a truth value.
+fn negation(alloc: Global, tree: Box<Tree>) -> Result<Tree, AllocError>
+    ensures { IfOk result (λ t. tree_of t ≡ cond (tree_in tree) (truth false) (truth true)) }
 {
-    match boxed(alloc, left) {
-        Err(error) => {
-            drop(right);
-            Err(error)
-        }
-        Ok(left) => Ok((left, boxed(alloc, right)?)),
-    }
+    let left = boxed_truth(alloc, false)?;
+    Ok(Tree::If(tree, left, boxed_truth(alloc, true)?))
 }
 
 /// An atom after a word.
-pub fn prefixed_tree(alloc: Global, prefix: Prefix, at: u32, tree: Tree) -> Result<Tree, AllocError>
-    ensures { IfOk result (λ t. tree_of t ≡ prefixed prefix at (tree_of tree)) }
+fn prefixed_tree(
+    alloc: Global,
+    prefix: Prefix,
+    at: u32,
+    tree: Box<Tree>,
+) -> Result<Tree, AllocError>
+    ensures { IfOk result (λ t. tree_of t ≡ prefixed prefix at (tree_in tree)) }
 {
-    let tree = boxed(alloc, tree)?;
     match prefix {
         Prefix::Fst => Ok(Tree::Fst(tree)),
         Prefix::Snd => Ok(Tree::Snd(tree)),
-        Prefix::Not => {
-            let (left, right) = both(alloc, Tree::Bool(false), Tree::Bool(true))?;
-            Ok(Tree::If(tree, left, right))
-        }
+        Prefix::Not => negation(alloc, tree),
         Prefix::Close => Ok(Tree::CloseCode(at, tree)),
         Prefix::Open => Ok(Tree::OpenCode(at, tree)),
         Prefix::Lift => Ok(Tree::Lift(at, tree)),
@@ -104,126 +123,138 @@ pub fn prefixed_tree(alloc: Global, prefix: Prefix, at: u32, tree: Tree) -> Resu
     }
 }
 
-/// `run` at a kernel type.
-pub fn run_tree(alloc: Global, at: u32, kind: KType, tree: Tree) -> Result<Tree, AllocError>
-    ensures { IfOk result (λ t. tree_of t ≡ run at (kernel_type_of kind) (tree_of tree)) }
+/// The same, in a box.
+pub fn boxed_prefixed(
+    alloc: Global,
+    prefix: Prefix,
+    at: u32,
+    tree: Box<Tree>,
+) -> Result<Box<Tree>, AllocError>
+    ensures { IfOk result (λ t. tree_in t ≡ prefixed prefix at (tree_in tree)) }
 {
-    match boxed(alloc, tree) {
-        Err(error) => {
-            drop(kind);
-            Err(error)
-        }
-        Ok(tree) => Ok(Tree::Run(at, kind, tree)),
-    }
+    let tree = prefixed_tree(alloc, prefix, at, tree)?;
+    boxed(alloc, tree)
+}
+
+/// `run` at a kernel type.
+pub fn boxed_run(
+    alloc: Global,
+    at: u32,
+    kind: KType,
+    tree: Box<Tree>,
+) -> Result<Box<Tree>, AllocError>
+    ensures { IfOk result (λ t. tree_in t ≡ run at (kernel_type_of kind) (tree_in tree)) }
+{
+    boxed(alloc, Tree::Run(at, kind, tree))
 }
 
 /// `.<e>.`.
-pub fn bracket_tree(alloc: Global, at: u32, tree: Tree) -> Result<Tree, AllocError>
-    ensures { IfOk result (λ t. tree_of t ≡ bracket at (tree_of tree)) }
+pub fn boxed_bracket(alloc: Global, at: u32, tree: Box<Tree>) -> Result<Box<Tree>, AllocError>
+    ensures { IfOk result (λ t. tree_in t ≡ bracket at (tree_in tree)) }
 {
-    Ok(Tree::Bracket(at, boxed(alloc, tree)?))
+    boxed(alloc, Tree::Bracket(at, tree))
 }
 
 /// `.~e`.
-pub fn escape_tree(alloc: Global, at: u32, tree: Tree) -> Result<Tree, AllocError>
-    ensures { IfOk result (λ t. tree_of t ≡ escape at (tree_of tree)) }
+pub fn boxed_escape(alloc: Global, at: u32, tree: Box<Tree>) -> Result<Box<Tree>, AllocError>
+    ensures { IfOk result (λ t. tree_in t ≡ escape at (tree_in tree)) }
 {
-    Ok(Tree::Escape(at, boxed(alloc, tree)?))
+    boxed(alloc, Tree::Escape(at, tree))
 }
 
 /// A pair.
-pub fn pair_tree(alloc: Global, left: Tree, right: Tree) -> Result<Tree, AllocError>
-    ensures { IfOk result (λ t. tree_of t ≡ pair (tree_of left) (tree_of right)) }
+pub fn boxed_pair(alloc: Global, left: Box<Tree>, right: Box<Tree>) -> Result<Box<Tree>, AllocError>
+    ensures { IfOk result (λ t. tree_in t ≡ pair (tree_in left) (tree_in right)) }
 {
-    let (left, right) = both(alloc, left, right)?;
-    Ok(Tree::Pair(left, right))
+    boxed(alloc, Tree::Pair(left, right))
 }
 
 /// `if` with its test and branches.
-pub fn if_tree(alloc: Global, test: Tree, left: Tree, right: Tree) -> Result<Tree, AllocError>
-    ensures { IfOk result (λ t. tree_of t ≡ cond (tree_of test) (tree_of left) (tree_of right)) }
+pub fn boxed_if(
+    alloc: Global,
+    test: Box<Tree>,
+    left: Box<Tree>,
+    right: Box<Tree>,
+) -> Result<Box<Tree>, AllocError>
+    ensures { IfOk result (λ t. tree_in t ≡ cond (tree_in test) (tree_in left) (tree_in right)) }
 {
-    match both(alloc, test, left) {
-        Err(error) => {
-            drop(right);
-            Err(error)
-        }
-        Ok((test, left)) => Ok(Tree::If(test, left, boxed(alloc, right)?)),
-    }
+    boxed(alloc, Tree::If(test, left, right))
 }
 
 /// `&&`.
-pub fn conjoined(alloc: Global, left: Tree, right: Tree) -> Result<Tree, AllocError>
-    ensures { IfOk result (λ t. tree_of t ≡ cond (tree_of left) (tree_of right) (truth false)) }
+pub fn conjoined(alloc: Global, left: Box<Tree>, right: Box<Tree>) -> Result<Box<Tree>, AllocError>
+    ensures { IfOk result (λ t. tree_in t ≡ cond (tree_in left) (tree_in right) (truth false)) }
 {
-    if_tree(alloc, left, right, Tree::Bool(false))
+    let other = boxed_truth(alloc, false)?;
+    boxed_if(alloc, left, right, other)
 }
 
 /// `||`.
-pub fn disjoined(alloc: Global, left: Tree, right: Tree) -> Result<Tree, AllocError>
-    ensures { IfOk result (λ t. tree_of t ≡ cond (tree_of left) (truth true) (tree_of right)) }
+pub fn disjoined(alloc: Global, left: Box<Tree>, right: Box<Tree>) -> Result<Box<Tree>, AllocError>
+    ensures { IfOk result (λ t. tree_in t ≡ cond (tree_in left) (truth true) (tree_in right)) }
 {
-    if_tree(alloc, left, Tree::Bool(true), right)
+    let other = boxed_truth(alloc, true)?;
+    boxed_if(alloc, left, other, right)
 }
 
 /// An operator with its operands.
+fn operated_tree(operator: Operator, left: Box<Tree>, right: Box<Tree>) -> Tree
+    ensures { tree_of result ≡ operated (op_of operator) (tree_in left) (tree_in right) }
+{
+    match operator {
+        Operator::Sign(prim) => Tree::Prim(prim, left, right),
+        Operator::Apply => Tree::App(left, right),
+    }
+}
+
+/// The same, in a box.
 pub fn joined(
     alloc: Global,
     operator: Operator,
-    left: Tree,
-    right: Tree,
-) -> Result<Tree, AllocError>
-    ensures { IfOk result (λ t. tree_of t ≡ operated (op_of operator) (tree_of left) (tree_of right)) }
+    left: Box<Tree>,
+    right: Box<Tree>,
+) -> Result<Box<Tree>, AllocError>
+    ensures { IfOk result (λ t. tree_in t ≡ operated (op_of operator) (tree_in left) (tree_in right)) }
 {
-    let (left, right) = both(alloc, left, right)?;
-    match operator {
-        Operator::Sign(prim) => Ok(Tree::Prim(prim, left, right)),
-        Operator::Apply => Ok(Tree::App(left, right)),
-    }
+    boxed(alloc, operated_tree(operator, left, right))
 }
 
 /// The function of a parameter.
-pub fn function_tree(alloc: Global, parameter: Function) -> Result<Tree, AllocError>
-    ensures { IfOk result (λ t. tree_of t ≡ function (function_of parameter)) }
+pub fn boxed_function(alloc: Global, parameter: Function) -> Result<Box<Tree>, AllocError>
+    ensures { IfOk result (λ t. tree_in t ≡ function (function_in parameter)) }
 {
-    Ok(Tree::Fun(parameter.name, boxed(alloc, parameter.tree)?))
+    boxed(alloc, Tree::Fun(parameter.name, parameter.tree))
 }
 
 /// The function of a parameter, with a name of its own.
-pub fn rec_tree(alloc: Global, name: &Name, parameter: Function) -> Result<Tree, AllocError>
-    ensures { IfOk result (λ t. tree_of t ≡ fix name.now parameter.name (tree_of parameter.tree)) }
+pub fn boxed_rec(alloc: Global, name: &Name, parameter: Function) -> Result<Box<Tree>, AllocError>
+    ensures { IfOk result (λ t. tree_in t ≡ fix name.now parameter.name (tree_in parameter.tree)) }
 {
-    match copied_name(alloc, name) {
-        Err(error) => {
-            drop(parameter);
-            Err(error)
-        }
-        Ok(own) => Ok(Tree::Rec(own, parameter.name, boxed(alloc, parameter.tree)?)),
-    }
+    let own = copied_name(alloc, name)?;
+    boxed(alloc, Tree::Rec(own, parameter.name, parameter.tree))
 }
 
 /// `let` with its definition, and what it is in scope in.
-pub fn let_tree(alloc: Global, name: Name, definition: Tree, tree: Tree) -> Result<Tree, AllocError>
-    ensures { IfOk result (λ t. tree_of t ≡ bind name (tree_of definition) (tree_of tree)) }
+pub fn boxed_let(
+    alloc: Global,
+    name: Name,
+    definition: Box<Tree>,
+    tree: Box<Tree>,
+) -> Result<Box<Tree>, AllocError>
+    ensures { IfOk result (λ t. tree_in t ≡ bind name (tree_in definition) (tree_in tree)) }
 {
-    let (definition, tree) = both(alloc, definition, tree)?;
-    Ok(Tree::Let(name, definition, tree))
+    boxed(alloc, Tree::Let(name, definition, tree))
 }
 
 /// `let rec` with its function, and what it is in scope in.
-pub fn let_rec_tree(
+pub fn boxed_let_rec(
     alloc: Global,
     name: Name,
     parameter: Function,
-    tree: Tree,
-) -> Result<Tree, AllocError>
-    ensures { IfOk result (λ t. tree_of t ≡ bound_rec name (function_of parameter) (tree_of tree)) }
+    tree: Box<Tree>,
+) -> Result<Box<Tree>, AllocError>
+    ensures { IfOk result (λ t. tree_in t ≡ bound_rec name (function_in parameter) (tree_in tree)) }
 {
-    match rec_tree(alloc, &name, parameter) {
-        Err(error) => {
-            drop(tree);
-            Err(error)
-        }
-        Ok(definition) => let_tree(alloc, name, definition, tree),
-    }
+    let definition = boxed_rec(alloc, &name, parameter)?;
+    boxed_let(alloc, name, definition, tree)
 }

@@ -11,11 +11,11 @@ ghost use Rattle.mw_grammar.specs.Descent.{none_yet, full, reading};
 ghost use Rattle.mw_grammar.specs.Gives.{GivesRead};
 ghost use Rattle.mw_parse.specs.Reading.{GivesMain};
 
-use crate::boxes::boxed_rec;
 use crate::trees::{body_tree, expr_tree, parameter_tree};
 use mw_grammar::fault::{Fault, Read};
 use mw_grammar::kinds::{ground_type, kernel};
 use mw_grammar::next::{Next, after};
+use mw_grammar::parts::boxed_rec;
 use mw_grammar::words::{
     ItemWord, Mark, Named, Start, in_hand, item_word, name_of, name_or_rec, start_word,
 };

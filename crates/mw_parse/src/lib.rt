@@ -3,7 +3,6 @@
 //! The grammar and what the answers mean in its words stand in `mw_grammar`, apart from the reader.
 #![tactic(auto)]
 
-mod boxes;
 mod items;
 pub mod laws;
 mod reader;

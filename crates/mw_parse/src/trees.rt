@@ -12,17 +12,17 @@ ghost use Rattle.mw_grammar.specs.Descent.{none_yet, so_far, full, reading, foll
 ghost use Rattle.mw_grammar.specs.Gives.{GivesRead};
 ghost use Rattle.mw_grammar.specs.Words.{mark_in, atom_form, head_form};
 ghost use Rattle.mw_grammar.specs.Levels.{row_of, op_of};
-ghost use Rattle.mw_parse.specs.Boxes.{definition_in, function_in, tree_in};
+ghost use Rattle.mw_grammar.specs.Boxes.{definition_in, function_in, tree_in};
 
-use crate::boxes::{
-    Defined, Function, boxed_bracket, boxed_escape, boxed_function, boxed_if, boxed_leaf,
-    boxed_let, boxed_let_rec, boxed_negative, boxed_pair, boxed_prefixed, boxed_run, conjoined,
-    disjoined, joined,
-};
 use mw_grammar::Tree;
 use mw_grammar::fault::{Fault, Read};
 use mw_grammar::kinds::kernel;
 use mw_grammar::next::{Next, after};
+use mw_grammar::parts::{
+    Defined, Function, boxed_bracket, boxed_escape, boxed_function, boxed_if, boxed_leaf,
+    boxed_let, boxed_let_rec, boxed_negative, boxed_pair, boxed_prefixed, boxed_run, conjoined,
+    disjoined, joined,
+};
 use mw_grammar::rows::{Operator, Row, next_comparison, next_operator};
 use mw_grammar::words::{
     Atom, Body, Close, First, Head, Inside, Mark, Named, atom_word, body_word, closing, first_word,

@@ -2,7 +2,7 @@ use Rattle.std.proofs.Common.{arith}
 use Rattle.mw_lex.specs.Tokens.{tokens_of}
 use Rattle.mw_grammar.specs.Descent.{ok}
 use Rattle.mw_grammar.specs.Levels.{row_of}
-use Rattle.mw_parse.specs.Boxes.{tree_in}
+use Rattle.mw_grammar.specs.Boxes.{tree_in}
 use Rattle.mw_grammar.proofs.Below.{read_full, read_gives, read_refuses, read_reads, part_fails, fails_then, raise_ok, fails_raise, read_more, follow_none, follow_deep, follow_on, next_goes, gives_as}
 use Rattle.mw_parse.proofs.trees.+trees.Goals as goal
 

@@ -3,8 +3,8 @@ use Rattle.std.specs.Global.{Box}
 use Rattle.mw_grammar.specs.declared.tree.Tree.{Tree}
 use Rattle.mw_grammar.specs.SurfaceTrees.{SurfaceTree, tree_of}
 use Rattle.mw_grammar.specs.Grammar.{Abstraction, abstract, Definition, define}
-use Rattle.mw_parse.specs.declared.boxes.Function.{Function}
-use Rattle.mw_parse.specs.declared.boxes.Defined.{Defined}
+use Rattle.mw_grammar.specs.declared.parts.Function.{Function}
+use Rattle.mw_grammar.specs.declared.parts.Defined.{Defined}
 
 abbrev pub tree_in : Box Tree → SurfaceTree
 tree_in b = tree_of b.value
