@@ -5,7 +5,7 @@ ghost use Rattle.std.specs.String.{string_bytes};
 ghost use Rattle.hex.specs.Hex.{encode_lower};
 ghost use Rattle.mw_term.specs.Terms.{ground_of, kernel_type_of, ground_value_of, base_value_of};
 ghost use Rattle.mw_term.specs.declared.program.Item.{Item as PureItem};
-ghost use Rattle.mw_console.specs.Texts.{answered, trapped, bounded, base_text, ground_text, left_text, kind_text, kernel_text, kernel_line, digits_line, limit_words, trap_words, ending_line, total_line, totals_text, name_at, in_line, place_line, refusal_line, value_text};
+ghost use Rattle.mw_console.specs.Texts.{answered, at_line, trapped, bounded, base_text, ground_text, left_text, kind_text, kernel_text, kernel_line, digits_line, limit_words, trap_words, ending_line, total_line, totals_text, name_at, in_line, place_line, refusal_line, value_text};
 
 use mw_term::{Base, BaseValue, Ground, GroundValue, Item, KType, Limit, Refusal, TrapKind};
 use std::alloc::{AllocError, Global};
@@ -16,19 +16,26 @@ fn placed_line(alloc: Global, refusal: Refusal) -> Result<String, AllocError>
 {
     match refusal {
         Refusal::TooLarge => String::from_str(alloc, "refused 1 too large\n"),
-        Refusal::Char(at) => format!(in alloc; "refused 2 character at {at}\n"),
-        Refusal::Number(at) => format!(in alloc; "refused 3 number at {at}\n"),
-        Refusal::Name(at) => format!(in alloc; "refused 4 name at {at}\n"),
-        Refusal::Syntax(at) => format!(in alloc; "refused 5 syntax at {at}\n"),
-        Refusal::TooDeep(at) => format!(in alloc; "refused 6 too deep at {at}\n"),
+        Refusal::Char(at) => line_at(alloc, "2 character", at),
+        Refusal::Number(at) => line_at(alloc, "3 number", at),
+        Refusal::Name(at) => line_at(alloc, "4 name", at),
+        Refusal::Syntax(at) => line_at(alloc, "5 syntax", at),
+        Refusal::TooDeep(at) => line_at(alloc, "6 too deep", at),
         Refusal::TooMany => String::from_str(alloc, "refused 7 too many items\n"),
-        Refusal::Unbound(at) => format!(in alloc; "refused 8 unbound at {at}\n"),
-        Refusal::Twice(at) => format!(in alloc; "refused 9 bound twice at {at}\n"),
-        Refusal::NotValue(at) => format!(in alloc; "refused 10 not a value at {at}\n"),
-        Refusal::Level(at) => format!(in alloc; "refused 11 level at {at}\n"),
-        Refusal::NotClosed(at) => format!(in alloc; "refused 14 not closed at {at}\n"),
+        Refusal::Unbound(at) => line_at(alloc, "8 unbound", at),
+        Refusal::Twice(at) => line_at(alloc, "9 bound twice", at),
+        Refusal::NotValue(at) => line_at(alloc, "10 not a value", at),
+        Refusal::Level(at) => line_at(alloc, "11 level", at),
+        Refusal::NotClosed(at) => line_at(alloc, "14 not closed", at),
         Refusal::IllTyped(_) | Refusal::TypeTooBig(_) => String::from_str(alloc, ""),
     }
+}
+
+/// The line of a refusal at a place of the source, whose number and words these are.
+fn line_at(alloc: Global, words: &str, at: u32) -> Result<String, AllocError>
+    ensures { IfOk result (λ line. string_bytes line ≡ at_line words.now at) }
+{
+    format!(in alloc; "refused {words} at {at}\n")
 }
 
 /// The name of the item at an index, or `main` for their number.
