@@ -45,11 +45,17 @@ fn whole_text(alloc: Global, reader: &mut Reader) -> Read<(Version, Term, KType)
     let version = reader.version()?;
     let kind = kernel_type(alloc, reader)?;
     reader.allow(MOST_CODE_NODES);
-    let code = code(alloc, reader, MOST_DEPTH, 0)?;
-    if reader.is_at_end() {
-        Ok((version, code, kind))
-    } else {
-        Err(TextFault::BadText)
+    match code(alloc, reader, MOST_DEPTH, 0) {
+        Ok(code) if reader.is_at_end() => Ok((version, code, kind)),
+        Ok(code) => {
+            drop(code);
+            drop(kind);
+            Err(TextFault::BadText)
+        }
+        Err(fault) => {
+            drop(kind);
+            Err(fault)
+        }
     }
 }
 
