@@ -1,8 +1,6 @@
 -- The types of items by most general solutions of their equations.
 use Rattle.std.proofs.Common.{◌≡◌, ℕ, ◌<◌, List, [], refl, ap, sym, ◌∙◌, arith}
-use Rattle.mw_term.specs.Terms.{Expression, of_ground, expression_of}
-use Rattle.mw_term.specs.declared.term.Term.{Term}
-use Rattle.mw_term.specs.declared.term.Term.TheVariants.{Int, Bool as Truth, Var, Glob, Fun', Rec', App', Let', If', Pair', Fst', Snd', Prim' as Prim-Prim', Bracket', Escape', Run', CloseCode', OpenCode', Lift', LiftB'}
+use Rattle.mw_term.specs.Terms.{Expression, of_ground}
 use Rattle.mw_term.specs.Types.{TermType, closed_type, live, ground_type, kernel_type}
 use Rattle.mw_term.specs.Typing.{TopLevel, Typed}
 use Rattle.mw_term.proofs.TypesFormed.{IsPlain-kernel_type, Typed-formed}

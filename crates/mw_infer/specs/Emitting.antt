@@ -1,6 +1,6 @@
 -- What the emission of a term's equations adds to those that are there.
 use Rattle.std.specs.Prelude.{ℕ, ◌≡◌, ◌+◌, ◌^◌, ◌≤◌, List, [], ◌∷◌, ◌++◌, map, Option}
-use Rattle.mw_term.specs.Terms.{Expression, fun, fix, bind, bracket, escape, run, close, opened, lift, lift_b}
+use Rattle.mw_term.specs.Terms.{Expression}
 use Rattle.mw_term.specs.Types.{Level, live}
 use Rattle.mw_term.specs.Scoped.{IsScoped}
 use Rattle.mw_types.specs.Types.{Within}
@@ -55,21 +55,3 @@ pub record CanEmit (old : Output) (tops : List TopScheme) (g : List Slot) (m : L
   pub room : HasRoom old (unknowns_of tops e) (classifiers_of tops e)
   pub scoped : IsScoped (map has_scheme tops) (map is_quoted_slot g) (is_quoted m) e
   pub low : AreLow tops
-
--- a function or a let
-abbrev pub Binds : Expression → Type 0
-Binds (fun e) = Unit {0}
-Binds (fix e) = Unit {0}
-Binds (bind d e) = Unit {0}
-Binds _ = ⊥
-
--- a form of staging
-abbrev pub IsStaging : Expression → Type 0
-IsStaging (bracket e) = Unit {0}
-IsStaging (escape e) = Unit {0}
-IsStaging (run k e) = Unit {0}
-IsStaging (close at e) = Unit {0}
-IsStaging (opened e) = Unit {0}
-IsStaging (lift e) = Unit {0}
-IsStaging (lift_b e) = Unit {0}
-IsStaging _ = ⊥

@@ -117,10 +117,15 @@ fn item(
     ensures faults { OnOk result (first.new ≡ kept first.old (faults_of_item (place_at names.old.lets) (place_at names.old.all) (item_of item.now))) }
     ensures names { OnOk result (AddsName names.old names.new (item_of item.now) index) }
 {
-    let kind = kind(alloc, names, item, first)?;
     let name = copied_name(alloc, &item_name(item).name)?;
-    names.add(alloc, item, index)?;
-    Ok(Item { name, kind })
+    let kind = kind(alloc, names, item, first)?;
+    match names.add(alloc, item, index) {
+        Err(error) => {
+            drop(kind);
+            Err(error)
+        }
+        Ok(()) => Ok(Item { name, kind }),
+    }
 }
 
 /// The items of a program, with their faults kept and their names added to none.

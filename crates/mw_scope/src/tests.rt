@@ -21,37 +21,50 @@ fn name(alloc: Global, bytes: &[u8]) -> Result<Name, Fail> {
     Ok(name)
 }
 
+/// The part that was made last.
+fn popped(stack: &mut Vec<Tree>) -> Result<Tree, Fail> {
+    Ok(stack.pop().ok_or("no part is left")?)
+}
+
 fn taken(alloc: Global, stack: &mut Vec<Tree>) -> Result<Box<Tree>, Fail> {
-    let tree = stack.pop().ok_or("no part is left")?;
+    let tree = popped(stack)?;
     Ok(Box::new(alloc, tree)?)
 }
 
 /// The form of a step, with its parts from the stack.
 fn form(alloc: Global, stack: &mut Vec<Tree>, step: Step) -> Result<Tree, Fail> {
-    let int = KType::Ground(Ground::Base(Base::Int));
     match step {
         Step::Int(n) => Ok(Tree::Int(n)),
-        Step::Used(x, at) => Ok(Tree::Used(Placed {
-            name: name(alloc, x)?,
-            at,
-        })),
-        Step::Fun(x) => Ok(Tree::Fun(name(alloc, x)?, taken(alloc, stack)?)),
-        Step::Rec(f, x) => Ok(Tree::Rec(name(alloc, f)?, name(alloc, x)?, taken(alloc, stack)?)),
-        Step::Fst => Ok(Tree::Fst(taken(alloc, stack)?)),
-        Step::Bracket(at) => Ok(Tree::Bracket(at, taken(alloc, stack)?)),
-        Step::Escape(at) => Ok(Tree::Escape(at, taken(alloc, stack)?)),
-        Step::Run(at) => Ok(Tree::Run(at, int, taken(alloc, stack)?)),
-        Step::Close(at) => Ok(Tree::CloseCode(at, taken(alloc, stack)?)),
-        Step::Open(at) => Ok(Tree::OpenCode(at, taken(alloc, stack)?)),
-        Step::Lift(at) => Ok(Tree::Lift(at, taken(alloc, stack)?)),
-        Step::LiftB(at) => Ok(Tree::LiftB(at, taken(alloc, stack)?)),
-        _ => wide_form(alloc, stack, step),
+        Step::Used(x, at) => Ok(Tree::Used(placed(alloc, x, at)?)),
+        _ => narrow_form(alloc, stack, step),
     }
 }
 
-/// The form of a step with two or three parts.
-fn wide_form(alloc: Global, stack: &mut Vec<Tree>, step: Step) -> Result<Tree, Fail> {
+/// The form of a step with one part, or with more.
+fn narrow_form(alloc: Global, stack: &mut Vec<Tree>, step: Step) -> Result<Tree, Fail> {
     let last = taken(alloc, stack)?;
+    match step {
+        Step::Fun(x) => Ok(Tree::Fun(name(alloc, x)?, last)),
+        Step::Rec(f, x) => Ok(Tree::Rec(name(alloc, f)?, name(alloc, x)?, last)),
+        Step::Fst => Ok(Tree::Fst(last)),
+        Step::Bracket(at) => Ok(Tree::Bracket(at, last)),
+        Step::Escape(at) => Ok(Tree::Escape(at, last)),
+        Step::Run(at) => Ok(Tree::Run(at, int_type(), last)),
+        Step::Close(at) => Ok(Tree::CloseCode(at, last)),
+        Step::Open(at) => Ok(Tree::OpenCode(at, last)),
+        Step::Lift(at) => Ok(Tree::Lift(at, last)),
+        Step::LiftB(at) => Ok(Tree::LiftB(at, last)),
+        _ => wide_form(alloc, stack, step, last),
+    }
+}
+
+/// The form of a step with two or three parts, of which this is the last.
+fn wide_form(
+    alloc: Global,
+    stack: &mut Vec<Tree>,
+    step: Step,
+    last: Box<Tree>,
+) -> Result<Tree, Fail> {
     let before = taken(alloc, stack)?;
     match step {
         Step::App => Ok(Tree::App(before, last)),
@@ -62,6 +75,30 @@ fn wide_form(alloc: Global, stack: &mut Vec<Tree>, step: Step) -> Result<Tree, F
     }
 }
 
+/// The kernel type of integers.
+fn int_type() -> KType {
+    KType::Ground(Ground::Base(Base::Int))
+}
+
+/// A name with its offset.
+fn placed(alloc: Global, bytes: &[u8], at: u32) -> Result<Placed, Fail> {
+    Ok(Placed {
+        name: name(alloc, bytes)?,
+        at,
+    })
+}
+
+/// A let of the part that was made last.
+fn let_item(stack: &mut Vec<Tree>, name: Placed, from: u32) -> Result<SurfaceItem, Fail> {
+    Ok(SurfaceItem::Let(name, from, popped(stack)?))
+}
+
+/// A kernel item of it.
+fn kernel_item(stack: &mut Vec<Tree>, name: Placed) -> Result<SurfaceItem, Fail> {
+    let code = popped(stack)?;
+    Ok(SurfaceItem::Kernel(name, int_type(), code))
+}
+
 /// The program of some steps.
 fn surface(alloc: Global, steps: &[Step]) -> Result<Surface, Fail> {
     let mut stack = Vec::new(alloc);
@@ -69,26 +106,12 @@ fn surface(alloc: Global, steps: &[Step]) -> Result<Surface, Fail> {
     for step in steps {
         match *step {
             Step::Bind(x, at, from) => {
-                let bound = stack.pop().ok_or("no definition")?;
-                items.push(SurfaceItem::Let(
-                    Placed {
-                        name: name(alloc, x)?,
-                        at,
-                    },
-                    from,
-                    bound,
-                ))?;
+                let name = placed(alloc, x, at)?;
+                items.push(let_item(&mut stack, name, from)?)?;
             }
             Step::Kernel(x, at) => {
-                let code = stack.pop().ok_or("no code")?;
-                items.push(SurfaceItem::Kernel(
-                    Placed {
-                        name: name(alloc, x)?,
-                        at,
-                    },
-                    KType::Ground(Ground::Base(Base::Int)),
-                    code,
-                ))?;
+                let name = placed(alloc, x, at)?;
+                items.push(kernel_item(&mut stack, name)?)?;
             }
             other => {
                 let tree = form(alloc, &mut stack, other)?;
@@ -96,7 +119,7 @@ fn surface(alloc: Global, steps: &[Step]) -> Result<Surface, Fail> {
             }
         }
     }
-    let body = stack.pop().ok_or("no body")?;
+    let body = popped(&mut stack)?;
     Ok(Surface {
         items,
         result: Ground::Base(Base::Int),

@@ -1,4 +1,5 @@
-use Rattle.std.proofs.Common.{◌≡◌, List, suc, Some}
+use Rattle.std.proofs.Common.{◌≡◌, List, suc, Some, arith}
+use Rattle.std.proofs.lemmas.Grind.{common_steps}
 use Rattle.mw_grammar.specs.SurfaceTrees.{tree_of}
 use Rattle.mw_scope.specs.declared.fault.Fault.{Fault}
 use Rattle.mw_scope.specs.Keeping.{kept}
@@ -79,3 +80,123 @@ term-returns-in_ok-boxed-in-Prim-clause-faults t c =
     let same : SameBinders c.args.binders.now c.boxed-in-Prim.new.binders = c.in_ok-a-in-Prim.ensures.binders in
     let then : c.boxed-in-Prim-2.new.first ≡ kept c.boxed-in-Prim.new.first second = rw (c.deref-in-Prim-2.ensures, same.bound, same.count) at c.in_ok-boxed-in-Prim.ensures.faults in
     rw c.in-Prim.is (kept_two c.args.first.now c.boxed-in-Prim.new.first c.boxed-in-Prim-2.new.first first second (rw c.deref-in-Prim.ensures at c.in_ok-a-in-Prim.ensures.faults) then)
+
+pub term-returns-in_ok-boxed-in-App-clause-term : goal.term-returns-in_ok-boxed-in-App-clause-term
+term-returns-in_ok-boxed-in-App-clause-term t c = grind (arith, common_steps)
+
+pub term-returns-in_ok-boxed-in-App-clause-binders : goal.term-returns-in_ok-boxed-in-App-clause-binders
+term-returns-in_ok-boxed-in-App-clause-binders t c = grind (arith, common_steps)
+
+pub term-returns-in_ok-boxed-in-If-clause-term : goal.term-returns-in_ok-boxed-in-If-clause-term
+term-returns-in_ok-boxed-in-If-clause-term t c = grind (arith, common_steps)
+
+pub term-returns-in_ok-boxed-in-If-clause-binders : goal.term-returns-in_ok-boxed-in-If-clause-binders
+term-returns-in_ok-boxed-in-If-clause-binders t c = grind (arith, common_steps)
+
+pub term-returns-in_ok-boxed-in-Pair-clause-term : goal.term-returns-in_ok-boxed-in-Pair-clause-term
+term-returns-in_ok-boxed-in-Pair-clause-term t c = grind (arith, common_steps)
+
+pub term-returns-in_ok-boxed-in-Pair-clause-binders : goal.term-returns-in_ok-boxed-in-Pair-clause-binders
+term-returns-in_ok-boxed-in-Pair-clause-binders t c = grind (arith, common_steps)
+
+pub term-returns-in_ok-boxed-in-Fst-clause-term : goal.term-returns-in_ok-boxed-in-Fst-clause-term
+term-returns-in_ok-boxed-in-Fst-clause-term t c = grind (arith, common_steps)
+
+pub term-returns-in_ok-boxed-in-Fst-clause-faults : goal.term-returns-in_ok-boxed-in-Fst-clause-faults
+term-returns-in_ok-boxed-in-Fst-clause-faults t c = grind (arith, common_steps)
+
+pub term-returns-in_ok-boxed-in-Fst-clause-binders : goal.term-returns-in_ok-boxed-in-Fst-clause-binders
+term-returns-in_ok-boxed-in-Fst-clause-binders t c = grind (arith, common_steps)
+
+pub term-returns-in_ok-boxed-in-Snd-clause-term : goal.term-returns-in_ok-boxed-in-Snd-clause-term
+term-returns-in_ok-boxed-in-Snd-clause-term t c = grind (arith, common_steps)
+
+pub term-returns-in_ok-boxed-in-Snd-clause-faults : goal.term-returns-in_ok-boxed-in-Snd-clause-faults
+term-returns-in_ok-boxed-in-Snd-clause-faults t c = grind (arith, common_steps)
+
+pub term-returns-in_ok-boxed-in-Snd-clause-binders : goal.term-returns-in_ok-boxed-in-Snd-clause-binders
+term-returns-in_ok-boxed-in-Snd-clause-binders t c = grind (arith, common_steps)
+
+pub term-returns-in_ok-boxed-in-Prim-clause-term : goal.term-returns-in_ok-boxed-in-Prim-clause-term
+term-returns-in_ok-boxed-in-Prim-clause-term t c = grind (arith, common_steps)
+
+pub term-returns-in_ok-boxed-in-Prim-clause-binders : goal.term-returns-in_ok-boxed-in-Prim-clause-binders
+term-returns-in_ok-boxed-in-Prim-clause-binders t c = grind (arith, common_steps)
+
+pub staged-returns-in_ok-boxed-in-Bracket-clause-term : goal.staged-returns-in_ok-boxed-in-Bracket-clause-term
+staged-returns-in_ok-boxed-in-Bracket-clause-term t c = grind (arith, common_steps)
+
+pub staged-returns-in_ok-boxed-in-Bracket-clause-faults : goal.staged-returns-in_ok-boxed-in-Bracket-clause-faults
+staged-returns-in_ok-boxed-in-Bracket-clause-faults t c = grind (arith, common_steps)
+
+pub staged-returns-in_ok-boxed-in-Bracket-clause-binders : goal.staged-returns-in_ok-boxed-in-Bracket-clause-binders
+staged-returns-in_ok-boxed-in-Bracket-clause-binders t c = grind (arith, common_steps)
+
+pub staged-returns-in_ok-boxed-in-Escape-clause-term : goal.staged-returns-in_ok-boxed-in-Escape-clause-term
+staged-returns-in_ok-boxed-in-Escape-clause-term t c = grind (arith, common_steps)
+
+pub staged-returns-in_ok-boxed-in-Escape-clause-faults : goal.staged-returns-in_ok-boxed-in-Escape-clause-faults
+staged-returns-in_ok-boxed-in-Escape-clause-faults t c = grind (arith, common_steps)
+
+pub staged-returns-in_ok-boxed-in-Escape-clause-binders : goal.staged-returns-in_ok-boxed-in-Escape-clause-binders
+staged-returns-in_ok-boxed-in-Escape-clause-binders t c = grind (arith, common_steps)
+
+pub staged-returns-in_ok-boxed-in-Run-clause-term : goal.staged-returns-in_ok-boxed-in-Run-clause-term
+staged-returns-in_ok-boxed-in-Run-clause-term t c = grind (arith, common_steps)
+
+pub staged-returns-in_ok-boxed-in-Run-clause-faults : goal.staged-returns-in_ok-boxed-in-Run-clause-faults
+staged-returns-in_ok-boxed-in-Run-clause-faults t c = grind (arith, common_steps)
+
+pub staged-returns-in_ok-boxed-in-Run-clause-binders : goal.staged-returns-in_ok-boxed-in-Run-clause-binders
+staged-returns-in_ok-boxed-in-Run-clause-binders t c = grind (arith, common_steps)
+
+pub staged-returns-in_ok-boxed-in-CloseCode-clause-term : goal.staged-returns-in_ok-boxed-in-CloseCode-clause-term
+staged-returns-in_ok-boxed-in-CloseCode-clause-term t c = grind (arith, common_steps)
+
+pub staged-returns-in_ok-boxed-in-CloseCode-clause-faults : goal.staged-returns-in_ok-boxed-in-CloseCode-clause-faults
+staged-returns-in_ok-boxed-in-CloseCode-clause-faults t c = grind (arith, common_steps)
+
+pub staged-returns-in_ok-boxed-in-CloseCode-clause-binders : goal.staged-returns-in_ok-boxed-in-CloseCode-clause-binders
+staged-returns-in_ok-boxed-in-CloseCode-clause-binders t c = grind (arith, common_steps)
+
+pub staged-returns-in_ok-boxed-in-OpenCode-clause-term : goal.staged-returns-in_ok-boxed-in-OpenCode-clause-term
+staged-returns-in_ok-boxed-in-OpenCode-clause-term t c = grind (arith, common_steps)
+
+pub staged-returns-in_ok-boxed-in-OpenCode-clause-faults : goal.staged-returns-in_ok-boxed-in-OpenCode-clause-faults
+staged-returns-in_ok-boxed-in-OpenCode-clause-faults t c = grind (arith, common_steps)
+
+pub staged-returns-in_ok-boxed-in-OpenCode-clause-binders : goal.staged-returns-in_ok-boxed-in-OpenCode-clause-binders
+staged-returns-in_ok-boxed-in-OpenCode-clause-binders t c = grind (arith, common_steps)
+
+pub staged-returns-in_ok-boxed-in-Lift-clause-term : goal.staged-returns-in_ok-boxed-in-Lift-clause-term
+staged-returns-in_ok-boxed-in-Lift-clause-term t c = grind (arith, common_steps)
+
+pub staged-returns-in_ok-boxed-in-Lift-clause-faults : goal.staged-returns-in_ok-boxed-in-Lift-clause-faults
+staged-returns-in_ok-boxed-in-Lift-clause-faults t c = grind (arith, common_steps)
+
+pub staged-returns-in_ok-boxed-in-Lift-clause-binders : goal.staged-returns-in_ok-boxed-in-Lift-clause-binders
+staged-returns-in_ok-boxed-in-Lift-clause-binders t c = grind (arith, common_steps)
+
+pub staged-returns-in_ok-boxed-in-LiftB-clause-term : goal.staged-returns-in_ok-boxed-in-LiftB-clause-term
+staged-returns-in_ok-boxed-in-LiftB-clause-term t c = grind (arith, common_steps)
+
+pub staged-returns-in_ok-boxed-in-LiftB-clause-faults : goal.staged-returns-in_ok-boxed-in-LiftB-clause-faults
+staged-returns-in_ok-boxed-in-LiftB-clause-faults t c = grind (arith, common_steps)
+
+pub staged-returns-in_ok-boxed-in-LiftB-clause-binders : goal.staged-returns-in_ok-boxed-in-LiftB-clause-binders
+staged-returns-in_ok-boxed-in-LiftB-clause-binders t c = grind (arith, common_steps)
+
+pub binding-returns-in_ok-leave-in-Fun-clause-term : goal.binding-returns-in_ok-leave-in-Fun-clause-term
+binding-returns-in_ok-leave-in-Fun-clause-term t c = grind (arith, common_steps)
+
+pub binding-returns-in_ok-leave-in-Fun-clause-faults : goal.binding-returns-in_ok-leave-in-Fun-clause-faults
+binding-returns-in_ok-leave-in-Fun-clause-faults t c = grind (arith, common_steps)
+
+pub binding-returns-in_ok-leave-in-Rec-2-clause-term : goal.binding-returns-in_ok-leave-in-Rec-2-clause-term
+binding-returns-in_ok-leave-in-Rec-2-clause-term t c = grind (arith, common_steps)
+
+pub binding-returns-in_ok-leave-in-Rec-2-clause-faults : goal.binding-returns-in_ok-leave-in-Rec-2-clause-faults
+binding-returns-in_ok-leave-in-Rec-2-clause-faults t c = grind (arith, common_steps)
+
+pub binding-returns-in_ok-leave-in-Let-clause-term : goal.binding-returns-in_ok-leave-in-Let-clause-term
+binding-returns-in_ok-leave-in-Let-clause-term t c = grind (arith, common_steps)
