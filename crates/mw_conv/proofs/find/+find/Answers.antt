@@ -159,7 +159,7 @@ find-returns-in_ok-second-in-App-clause-slots t c =
 
 pub find-returns-in_ok-second-in-App-clause-literals : goal.find-returns-in_ok-second-in-App-clause-literals
 find-returns-in_ok-second-in-App-clause-literals t c =
-        let a = c.deref-in-App.ensures in
+    let a = c.deref-in-App.ensures in
     let b = c.deref-in-App-2.ensures in
     either c.in-App.is (λ e. rw (e, ← a, ← b) (c.in_ok-first-in-App.ensures.literals, c.in_ok-second-in-App.ensures.literals)) (λ s. either s (λ e. rw (e, ← a, ← b) (c.in_ok-first-in-App.ensures.literals, c.in_ok-second-in-App.ensures.literals)) (λ r. rw (r.1, ← a, ← b) (c.in_ok-first-in-App.ensures.literals, c.in_ok-second-in-App.ensures.literals)))
 
