@@ -10,3 +10,4 @@ pub mod Ends
 pub mod Closures
 pub mod Ranges
 pub mod Conversions
+pub mod Finds

@@ -133,21 +133,21 @@ pub fn control<'m>(
         Instr::Return => return_now(state),
         Instr::Call(f) => call_now(wasm, state, *f),
         Instr::CallIndirect(t) => call_indirect_now(wasm, held, state, *t),
-        Instr::Unreachable
-        | Instr::Nop
-        | Instr::Drop
-        | Instr::Select
-        | Instr::LocalGet(_)
-        | Instr::LocalSet(_)
-        | Instr::LocalTee(_)
-        | Instr::GlobalGet(_)
-        | Instr::GlobalSet(_)
-        | Instr::Load(_, _, _)
-        | Instr::Store(_, _, _)
-        | Instr::MemorySize
-        | Instr::MemoryGrow
-        | Instr::ConstI32(_)
-        | Instr::ConstI64(_)
-        | Instr::Num(_) => unreachable!(),
+        Instr::Unreachable => unreachable!(),
+        Instr::Nop => unreachable!(),
+        Instr::Drop => unreachable!(),
+        Instr::Select => unreachable!(),
+        Instr::LocalGet(_) => unreachable!(),
+        Instr::LocalSet(_) => unreachable!(),
+        Instr::LocalTee(_) => unreachable!(),
+        Instr::GlobalGet(_) => unreachable!(),
+        Instr::GlobalSet(_) => unreachable!(),
+        Instr::Load(_, _, _) => unreachable!(),
+        Instr::Store(_, _, _) => unreachable!(),
+        Instr::MemorySize => unreachable!(),
+        Instr::MemoryGrow => unreachable!(),
+        Instr::ConstI32(_) => unreachable!(),
+        Instr::ConstI64(_) => unreachable!(),
+        Instr::Num(_) => unreachable!(),
     }
 }

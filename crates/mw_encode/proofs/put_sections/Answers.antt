@@ -1,4 +1,3 @@
-use Rattle.std.proofs.Common.{ap, ◌∙◌}
 use Rattle.mw_encode.proofs.Modules.{sections_of}
 use Rattle.mw_encode.proofs.Appending.{after, after_last}
 use Rattle.mw_encode.proofs.put_sections.Goals as goal
