@@ -39,13 +39,10 @@ impl Function {
         ensures kind { IfOk result (λ function. kernel_type_of function.source.kind ≡ kernel_type_of kind.now) }
         ensures running { IfOk result (λ function. function.running ≡ running) }
     {
-        Ok(Function {
-            source: Source {
-                code: copied_term(alloc, code)?,
-                kind: copied_kernel_type(alloc, kind)?,
-            },
-            running,
-        })
+        let kind = copied_kernel_type(alloc, kind)?;
+        let code = copied_term(alloc, code)?;
+        let source = Source { code, kind };
+        Ok(Function { source, running })
     }
 
     /// Calls the function, in the mode in which it is kept. After a value it is kept as it was.
