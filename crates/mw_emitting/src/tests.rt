@@ -1,11 +1,13 @@
 // Runs and calls through the trait, by a table.
 
 ghost use Rattle.std.specs.Prelude.{◌≡◌, ◌<◌, true, false, IfOk, IfSome};
-ghost use Rattle.mw_term.specs.Terms.{base as base_of, product, fun as function, bind, cond, pair as pair_of, prim as primitive, expression_of, kernel_type_of, ground_of};
+ghost use Rattle.mw_term.specs.Terms.{base as base_of, product, of_ground, to, pair as pair_of, prim as primitive, expression_of, kernel_type_of, ground_of};
+ghost use Rattle.mw_term.specs.declared.term.Base.TheVariants.{Int};
 ghost use Rattle.mw_machine.specs.KernelCalls.{ends_all};
 ghost use Rattle.mw_emitting.specs.TestRuns.{IsSample, GivesFunction};
 
 use crate::EmittingKernels;
+use crate::function::Source;
 use mw_machine::{KernelFault, Kernels, Ran};
 use mw_meaning::Mode;
 use mw_term::{Base, BaseValue, Ground, GroundValue, KType, Prim, Term};
@@ -41,44 +43,40 @@ enum Sample {
 
 const INT: Ground = Ground::Base(Base::Int);
 
-/// A primitive of two terms.
-fn prim(alloc: Global, prim: Prim, a: Term, b: Term) -> Result<Term, AllocError>
-    ensures { IfOk result (λ term. expression_of term ≡ primitive prim (expression_of a) (expression_of b)) }
+/// A term in a box.
+fn boxed(alloc: Global, term: Term) -> Result<Box<Term>, AllocError>
+    ensures { IfOk result (λ code. code.value ≡ term) }
 {
-    let a = Box::new(alloc, a)?;
-    Ok(Term::Prim(prim, a, Box::new(alloc, b)?))
+    Ok(Box::new(alloc, term)?)
+}
+
+/// Two terms in boxes.
+fn both(alloc: Global, a: Term, b: Term) -> Result<(Box<Term>, Box<Term>), AllocError>
+    ensures { IfOk result (λ terms. (terms.0.value ≡ a) × (terms.1.value ≡ b)) }
+{
+    match boxed(alloc, a) {
+        Err(error) => {
+            drop(b);
+            Err(error)
+        }
+        Ok(a) => Ok((a, boxed(alloc, b)?)),
+    }
+}
+
+/// A primitive of two terms.
+fn prim(alloc: Global, prim: Prim, a: Term, b: Term) -> Result<Box<Term>, AllocError>
+    ensures { IfOk result (λ term. expression_of term.value ≡ primitive prim (expression_of a) (expression_of b)) }
+{
+    let (a, b) = both(alloc, a, b)?;
+    boxed(alloc, Term::Prim(prim, a, b))
 }
 
 /// A pair of two terms.
-fn pair(alloc: Global, a: Term, b: Term) -> Result<Term, AllocError>
-    ensures { IfOk result (λ term. expression_of term ≡ pair_of (expression_of a) (expression_of b)) }
+fn pair(alloc: Global, a: Term, b: Term) -> Result<Box<Term>, AllocError>
+    ensures { IfOk result (λ term. expression_of term.value ≡ pair_of (expression_of a) (expression_of b)) }
 {
-    let a = Box::new(alloc, a)?;
-    Ok(Term::Pair(a, Box::new(alloc, b)?))
-}
-
-/// A function.
-fn fun(alloc: Global, body: Term) -> Result<Term, AllocError>
-    ensures { IfOk result (λ term. expression_of term ≡ function (expression_of body)) }
-{
-    Ok(Term::Fun(Box::new(alloc, body)?))
-}
-
-/// A let.
-fn binding(alloc: Global, definition: Term, body: Term) -> Result<Term, AllocError>
-    ensures { IfOk result (λ term. expression_of term ≡ bind (expression_of definition) (expression_of body)) }
-{
-    let definition = Box::new(alloc, definition)?;
-    Ok(Term::Let(definition, Box::new(alloc, body)?))
-}
-
-/// An if.
-fn choice(alloc: Global, c: Term, a: Term, b: Term) -> Result<Term, AllocError>
-    ensures { IfOk result (λ term. expression_of term ≡ cond (expression_of c) (expression_of a) (expression_of b)) }
-{
-    let c = Box::new(alloc, c)?;
-    let a = Box::new(alloc, a)?;
-    Ok(Term::If(c, a, Box::new(alloc, b)?))
+    let (a, b) = both(alloc, a, b)?;
+    boxed(alloc, Term::Pair(a, b))
 }
 
 /// A pair type.
@@ -89,61 +87,141 @@ fn pair_type(alloc: Global, a: Base, b: Base) -> Result<Ground, AllocError>
     Ok(Ground::Pair(a, Box::new(alloc, Ground::Base(b))?))
 }
 
+/// Code that gives an integer.
+fn integer(code: Term) -> Source
+    ensures code { expression_of result.code ≡ expression_of code }
+    ensures kind { kernel_type_of result.kind ≡ of_ground (base_of Int) }
+{
+    Source {
+        code,
+        kind: KType::Ground(INT),
+    }
+}
+
+/// A function from integers to integers.
+fn of_integers(code: Term) -> Source
+    ensures code { expression_of result.code ≡ expression_of code }
+    ensures kind { kernel_type_of result.kind ≡ to (base_of Int) (base_of Int) }
+{
+    Source {
+        code,
+        kind: KType::Fun(INT, INT),
+    }
+}
+
+/// (1, true)
+#[tactic(auto, using(crate::proofs::SampleLemmas::two))]
+fn two(alloc: Global) -> Result<Source, AllocError>
+    ensures { IfOk result (λ built. IsSample (expression_of built.code) (kernel_type_of built.kind)) }
+{
+    let code = pair(alloc, Term::Int(1), Term::Bool(true))?;
+    let pairs = pair_type(alloc, Base::Int, Base::Bool)?;
+    Ok(Source {
+        code: Box::into_inner(code),
+        kind: KType::Ground(pairs),
+    })
+}
+
+/// (fun x -> x + 1) 6
+#[tactic(auto, using(crate::proofs::SampleLemmas::applied))]
+fn applied(alloc: Global) -> Result<Source, AllocError>
+    ensures { IfOk result (λ built. IsSample (expression_of built.code) (kernel_type_of built.kind)) }
+{
+    let body = prim(alloc, Prim::Add, Term::Var(0), Term::Int(1))?;
+    let (function, argument) = both(alloc, Term::Fun(body), Term::Int(6))?;
+    Ok(integer(Term::App(function, argument)))
+}
+
+/// 1 / 0
+#[tactic(auto, using(crate::proofs::SampleLemmas::divided))]
+fn divided(alloc: Global) -> Result<Source, AllocError>
+    ensures { IfOk result (λ built. IsSample (expression_of built.code) (kernel_type_of built.kind)) }
+{
+    let code = prim(alloc, Prim::Div, Term::Int(1), Term::Int(0))?;
+    Ok(integer(Box::into_inner(code)))
+}
+
+/// let y = 40 in fun x -> x + y
+#[tactic(auto, using(crate::proofs::SampleLemmas::adding))]
+fn adding(alloc: Global) -> Result<Source, AllocError>
+    ensures { IfOk result (λ built. IsSample (expression_of built.code) (kernel_type_of built.kind)) }
+{
+    let body = prim(alloc, Prim::Add, Term::Var(0), Term::Var(1))?;
+    let (forty, function) = both(alloc, Term::Int(40), Term::Fun(body))?;
+    Ok(of_integers(Term::Let(forty, function)))
+}
+
+/// fun x -> 10 / x
+#[tactic(auto, using(crate::proofs::SampleLemmas::dividing))]
+fn dividing(alloc: Global) -> Result<Source, AllocError>
+    ensures { IfOk result (λ built. IsSample (expression_of built.code) (kernel_type_of built.kind)) }
+{
+    let body = prim(alloc, Prim::Div, Term::Int(10), Term::Var(0))?;
+    Ok(of_integers(Term::Fun(body)))
+}
+
+/// fun x -> (x, x)
+#[tactic(auto, using(crate::proofs::SampleLemmas::twin))]
+fn twin(alloc: Global) -> Result<Source, AllocError>
+    ensures { IfOk result (λ built. IsSample (expression_of built.code) (kernel_type_of built.kind)) }
+{
+    let body = pair(alloc, Term::Var(0), Term::Var(0))?;
+    let pairs = pair_type(alloc, Base::Int, Base::Int)?;
+    Ok(Source {
+        code: Term::Fun(body),
+        kind: KType::Fun(INT, pairs),
+    })
+}
+
+/// 2 + 3
+#[tactic(auto, using(crate::proofs::SampleLemmas::sum))]
+fn sum(alloc: Global) -> Result<Source, AllocError>
+    ensures { IfOk result (λ built. IsSample (expression_of built.code) (kernel_type_of built.kind)) }
+{
+    let code = prim(alloc, Prim::Add, Term::Int(2), Term::Int(3))?;
+    Ok(integer(Box::into_inner(code)))
+}
+
+/// fun x -> let a = 2 + 3 in if a = 5 then x * a else 1 / 0
+#[tactic(auto, using(crate::proofs::SampleLemmas::five_times))]
+fn five_times(alloc: Global) -> Result<Source, AllocError>
+    ensures { IfOk result (λ built. IsSample (expression_of built.code) (kernel_type_of built.kind)) }
+{
+    let five = prim(alloc, Prim::Add, Term::Int(2), Term::Int(3))?;
+    let is_five = prim(alloc, Prim::Eq, Term::Var(0), Term::Int(5))?;
+    let times = prim(alloc, Prim::Mul, Term::Var(1), Term::Var(0))?;
+    let divided = prim(alloc, Prim::Div, Term::Int(1), Term::Int(0))?;
+    let chosen = boxed(alloc, Term::If(is_five, times, divided))?;
+    let body = boxed(alloc, Term::Let(five, chosen))?;
+    Ok(of_integers(Term::Fun(body)))
+}
+
+/// let d = fun x -> x in fun y -> y
+#[tactic(auto, using(crate::proofs::SampleLemmas::unused))]
+fn unused(alloc: Global) -> Result<Source, AllocError>
+    ensures { IfOk result (λ built. IsSample (expression_of built.code) (kernel_type_of built.kind)) }
+{
+    let (x, y) = both(alloc, Term::Var(0), Term::Var(0))?;
+    let (unused, function) = both(alloc, Term::Fun(x), Term::Fun(y))?;
+    Ok(of_integers(Term::Let(unused, function)))
+}
+
 /// The code, and its type.
-#[tactic(auto, using(crate::proofs::SampleLemmas::seven, crate::proofs::SampleLemmas::two, crate::proofs::SampleLemmas::applied, crate::proofs::SampleLemmas::divided, crate::proofs::SampleLemmas::adding, crate::proofs::SampleLemmas::dividing, crate::proofs::SampleLemmas::twin, crate::proofs::SampleLemmas::sum, crate::proofs::SampleLemmas::five_times, crate::proofs::SampleLemmas::unused))]
-fn built(alloc: Global, sample: Sample) -> Result<(Term, KType), AllocError>
-    ensures { IfOk result (λ built. IsSample (expression_of built.0) (kernel_type_of built.1)) }
+#[tactic(auto, using(crate::proofs::SampleLemmas::seven))]
+fn built(alloc: Global, sample: Sample) -> Result<Source, AllocError>
+    ensures { IfOk result (λ built. IsSample (expression_of built.code) (kernel_type_of built.kind)) }
 {
     match sample {
-        Sample::Seven => Ok((Term::Int(7), KType::Ground(INT))),
-        Sample::Pair => {
-            let code = pair(alloc, Term::Int(1), Term::Bool(true))?;
-            let pairs = pair_type(alloc, Base::Int, Base::Bool)?;
-            Ok((code, KType::Ground(pairs)))
-        }
-        Sample::Applied => {
-            let body = prim(alloc, Prim::Add, Term::Var(0), Term::Int(1))?;
-            let function = Box::new(alloc, fun(alloc, body)?)?;
-            let code = Term::App(function, Box::new(alloc, Term::Int(6))?);
-            Ok((code, KType::Ground(INT)))
-        }
-        Sample::Divided => {
-            let code = prim(alloc, Prim::Div, Term::Int(1), Term::Int(0))?;
-            Ok((code, KType::Ground(INT)))
-        }
-        Sample::Adding => {
-            let body = prim(alloc, Prim::Add, Term::Var(0), Term::Var(1))?;
-            let function = Box::new(alloc, fun(alloc, body)?)?;
-            let code = Term::Let(Box::new(alloc, Term::Int(40))?, function);
-            Ok((code, KType::Fun(INT, INT)))
-        }
-        Sample::Dividing => {
-            let body = prim(alloc, Prim::Div, Term::Int(10), Term::Var(0))?;
-            Ok((fun(alloc, body)?, KType::Fun(INT, INT)))
-        }
-        Sample::Twin => {
-            let body = pair(alloc, Term::Var(0), Term::Var(0))?;
-            let pairs = pair_type(alloc, Base::Int, Base::Int)?;
-            Ok((fun(alloc, body)?, KType::Fun(INT, pairs)))
-        }
-        Sample::Sum => {
-            let code = prim(alloc, Prim::Add, Term::Int(2), Term::Int(3))?;
-            Ok((code, KType::Ground(INT)))
-        }
-        Sample::FiveTimes => {
-            let five = prim(alloc, Prim::Add, Term::Int(2), Term::Int(3))?;
-            let is_five = prim(alloc, Prim::Eq, Term::Var(0), Term::Int(5))?;
-            let times = prim(alloc, Prim::Mul, Term::Var(1), Term::Var(0))?;
-            let divided = prim(alloc, Prim::Div, Term::Int(1), Term::Int(0))?;
-            let chosen = choice(alloc, is_five, times, divided)?;
-            let body = binding(alloc, five, chosen)?;
-            Ok((fun(alloc, body)?, KType::Fun(INT, INT)))
-        }
-        Sample::Unused => {
-            let unused = fun(alloc, Term::Var(0))?;
-            let function = fun(alloc, Term::Var(0))?;
-            Ok((binding(alloc, unused, function)?, KType::Fun(INT, INT)))
-        }
+        Sample::Seven => Ok(integer(Term::Int(7))),
+        Sample::Pair => two(alloc),
+        Sample::Applied => applied(alloc),
+        Sample::Divided => divided(alloc),
+        Sample::Adding => adding(alloc),
+        Sample::Dividing => dividing(alloc),
+        Sample::Twin => twin(alloc),
+        Sample::Sum => sum(alloc),
+        Sample::FiveTimes => five_times(alloc),
+        Sample::Unused => unused(alloc),
     }
 }
 
@@ -168,15 +246,15 @@ fn function_in(answer: &Result<Ran, KernelFault>) -> Option<usize>
 fn told<K: Kernels>(
     alloc: Global,
     kernels: &mut K,
-    built: &(Term, KType),
+    built: &Source,
     fuel: u64,
     calls: &[(i64, u64)],
 ) -> Result<(String, bool), AllocError>
-    requires sample { IsSample (expression_of built.now.0) (kernel_type_of built.now.1) }
+    requires sample { IsSample (expression_of built.now.code) (kernel_type_of built.now.kind) }
     requires open { K.stopped kernels.old ≡ false }
     ensures { IfOk result (λ told. told.1 ≡ true → K.stopped kernels.new ≡ false) }
 {
-    let answer = kernels.run(&built.0, &built.1, fuel);
+    let answer = kernels.run(&built.code, &built.kind, fuel);
     let mut text = format!(in alloc; "{answer:?}")?;
     let mut on = goes_on(&answer);
     if let Some(which) = function_in(&answer) {
