@@ -4,6 +4,7 @@ use Rattle.mw_grammar.specs.Descent.{ok}
 use Rattle.mw_grammar.specs.Levels.{row_of}
 use Rattle.mw_grammar.specs.Boxes.{tree_in}
 use Rattle.mw_grammar.proofs.Below.{read_full, read_gives, read_refuses, read_reads, part_fails, fails_then, raise_ok, fails_raise, read_more, follow_none, follow_deep, follow_on, next_goes, gives_as}
+use Rattle.mw_parse.proofs.Connectives.{read_connected}
 use Rattle.mw_parse.proofs.trees.+trees.Goals as goal
 
 pub more_trees-returns-else-height-room-clause-gives : goal.more_trees-returns-else-height-room-clause-gives
@@ -68,24 +69,6 @@ body_tree-returns-in_err-tree-in-Parameter-clause-gives t c = grind (arith, read
 pub body_tree-returns-in_ok-tree-in-Parameter-clause-gives : goal.body_tree-returns-in_ok-tree-in-Parameter-clause-gives
 body_tree-returns-in_ok-tree-in-Parameter-clause-gives t c = grind (arith, read_full, read_gives, read_refuses, read_reads, part_fails, fails_then, raise_ok, fails_raise)
 
-pub bound_tree-returns-in-None-clause-gives : goal.bound_tree-returns-in-None-clause-gives
-bound_tree-returns-in-None-clause-gives t c = grind (arith, read_full, read_gives, read_refuses, read_reads, part_fails, fails_then, raise_ok, fails_raise)
-
-pub bound_tree-returns-in-Other-clause-gives : goal.bound_tree-returns-in-Other-clause-gives
-bound_tree-returns-in-Other-clause-gives t c = grind (arith, read_full, read_gives, read_refuses, read_reads, part_fails, fails_then, raise_ok, fails_raise)
-
-pub bound_tree-returns-in-Rec-clause-gives : goal.bound_tree-returns-in-Rec-clause-gives
-bound_tree-returns-in-Rec-clause-gives t c = grind (arith, read_full, read_gives, read_refuses, read_reads, part_fails, fails_then, raise_ok, fails_raise)
-
-pub bound_tree-returns-in_err-definition-in-Word-clause-gives : goal.bound_tree-returns-in_err-definition-in-Word-clause-gives
-bound_tree-returns-in_err-definition-in-Word-clause-gives t c = grind (arith, read_full, read_gives, read_refuses, read_reads, part_fails, fails_then, raise_ok, fails_raise)
-
-pub bound_tree-returns-in_err-name-in-Word-clause-gives : goal.bound_tree-returns-in_err-name-in-Word-clause-gives
-bound_tree-returns-in_err-name-in-Word-clause-gives t c = grind (arith, read_full, read_gives, read_refuses, read_reads, part_fails, fails_then, raise_ok, fails_raise)
-
-pub bound_tree-returns-in_ok-definition-in-Word-clause-gives : goal.bound_tree-returns-in_ok-definition-in-Word-clause-gives
-bound_tree-returns-in_ok-definition-in-Word-clause-gives t c = grind (arith, read_full, read_gives, read_refuses, read_reads, part_fails, fails_then, raise_ok, fails_raise)
-
 pub bracketed-returns-in-None-clause-gives : goal.bracketed-returns-in-None-clause-gives
 bracketed-returns-in-None-clause-gives t c = grind (arith, read_full, read_gives, read_refuses, read_reads, part_fails, fails_then, raise_ok, fails_raise)
 
@@ -139,42 +122,6 @@ conditional-returns-in-Some-clause-gives t c = grind (arith, read_full, read_giv
 
 pub conditional-returns-in_err-test-clause-gives : goal.conditional-returns-in_err-test-clause-gives
 conditional-returns-in_err-test-clause-gives t c = grind (arith, read_full, read_gives, read_refuses, read_reads, part_fails, fails_then, raise_ok, fails_raise)
-
-pub conjunction_tree-returns-in-None-clause-gives : goal.conjunction_tree-returns-in-None-clause-gives
-conjunction_tree-returns-in-None-clause-gives t c = grind (arith, read_full, read_gives, read_refuses, read_reads, part_fails, fails_then, raise_ok, fails_raise)
-
-pub conjunction_tree-returns-in_err-conjoined-in-Some-clause-gives : goal.conjunction_tree-returns-in_err-conjoined-in-Some-clause-gives
-conjunction_tree-returns-in_err-conjoined-in-Some-clause-gives t c = grind (arith, read_full, read_gives, read_refuses, read_reads, part_fails, fails_then, raise_ok, fails_raise)
-
-pub conjunction_tree-returns-in_err-left-clause-gives : goal.conjunction_tree-returns-in_err-left-clause-gives
-conjunction_tree-returns-in_err-left-clause-gives t c = grind (arith, read_full, read_gives, read_refuses, read_reads, part_fails, fails_then, raise_ok, fails_raise)
-
-pub conjunction_tree-returns-in_err-right-in-Some-clause-gives : goal.conjunction_tree-returns-in_err-right-in-Some-clause-gives
-conjunction_tree-returns-in_err-right-in-Some-clause-gives t c = grind (arith, read_full, read_gives, read_refuses, read_reads, part_fails, fails_then, raise_ok, fails_raise)
-
-pub conjunction_tree-returns-in_ok-conjoined-in-Some-clause-gives : goal.conjunction_tree-returns-in_ok-conjoined-in-Some-clause-gives
-conjunction_tree-returns-in_ok-conjoined-in-Some-clause-gives t c = grind (arith, read_full, read_gives, read_refuses, read_reads, part_fails, fails_then, raise_ok, fails_raise)
-
-pub conjunction_tree-returns-then-height-room-clause-gives : goal.conjunction_tree-returns-then-height-room-clause-gives
-conjunction_tree-returns-then-height-room-clause-gives t c = grind (arith, read_full, read_gives, read_refuses, read_reads, part_fails, fails_then, raise_ok, fails_raise)
-
-pub disjunction_tree-returns-in-None-clause-gives : goal.disjunction_tree-returns-in-None-clause-gives
-disjunction_tree-returns-in-None-clause-gives t c = grind (arith, read_full, read_gives, read_refuses, read_reads, part_fails, fails_then, raise_ok, fails_raise)
-
-pub disjunction_tree-returns-in_err-disjoined-in-Some-clause-gives : goal.disjunction_tree-returns-in_err-disjoined-in-Some-clause-gives
-disjunction_tree-returns-in_err-disjoined-in-Some-clause-gives t c = grind (arith, read_full, read_gives, read_refuses, read_reads, part_fails, fails_then, raise_ok, fails_raise)
-
-pub disjunction_tree-returns-in_err-left-clause-gives : goal.disjunction_tree-returns-in_err-left-clause-gives
-disjunction_tree-returns-in_err-left-clause-gives t c = grind (arith, read_full, read_gives, read_refuses, read_reads, part_fails, fails_then, raise_ok, fails_raise)
-
-pub disjunction_tree-returns-in_err-right-in-Some-clause-gives : goal.disjunction_tree-returns-in_err-right-in-Some-clause-gives
-disjunction_tree-returns-in_err-right-in-Some-clause-gives t c = grind (arith, read_full, read_gives, read_refuses, read_reads, part_fails, fails_then, raise_ok, fails_raise)
-
-pub disjunction_tree-returns-in_ok-disjoined-in-Some-clause-gives : goal.disjunction_tree-returns-in_ok-disjoined-in-Some-clause-gives
-disjunction_tree-returns-in_ok-disjoined-in-Some-clause-gives t c = grind (arith, read_full, read_gives, read_refuses, read_reads, part_fails, fails_then, raise_ok, fails_raise)
-
-pub disjunction_tree-returns-then-height-room-clause-gives : goal.disjunction_tree-returns-then-height-room-clause-gives
-disjunction_tree-returns-then-height-room-clause-gives t c = grind (arith, read_full, read_gives, read_refuses, read_reads, part_fails, fails_then, raise_ok, fails_raise)
 
 pub escaped-returns-clause-gives : goal.escaped-returns-clause-gives
 escaped-returns-clause-gives t c = grind (arith, read_full, read_gives, read_refuses, read_reads, part_fails, fails_then, raise_ok, fails_raise)
@@ -332,21 +279,6 @@ passed_disjunction-returns-clause-gives t c = grind (arith, read_full, read_give
 pub passed_disjunction-returns-in_err-tree-clause-gives : goal.passed_disjunction-returns-in_err-tree-clause-gives
 passed_disjunction-returns-in_err-tree-clause-gives t c = grind (arith, read_full, read_gives, read_refuses, read_reads, part_fails, fails_then, raise_ok, fails_raise)
 
-pub recursive-returns-in-None-clause-gives : goal.recursive-returns-in-None-clause-gives
-recursive-returns-in-None-clause-gives t c = grind (arith, read_full, read_gives, read_refuses, read_reads, part_fails, fails_then, raise_ok, fails_raise)
-
-pub recursive-returns-in-None-name_of-clause-gives : goal.recursive-returns-in-None-name_of-clause-gives
-recursive-returns-in-None-name_of-clause-gives t c = grind (arith, read_full, read_gives, read_refuses, read_reads, part_fails, fails_then, raise_ok, fails_raise)
-
-pub recursive-returns-in_err-function-in-Some-name_of-clause-gives : goal.recursive-returns-in_err-function-in-Some-name_of-clause-gives
-recursive-returns-in_err-function-in-Some-name_of-clause-gives t c = grind (arith, read_full, read_gives, read_refuses, read_reads, part_fails, fails_then, raise_ok, fails_raise)
-
-pub recursive-returns-in_err-name-in-Some-name_of-clause-gives : goal.recursive-returns-in_err-name-in-Some-name_of-clause-gives
-recursive-returns-in_err-name-in-Some-name_of-clause-gives t c = grind (arith, read_full, read_gives, read_refuses, read_reads, part_fails, fails_then, raise_ok, fails_raise)
-
-pub recursive-returns-in_ok-function-in-Some-name_of-clause-gives : goal.recursive-returns-in_ok-function-in-Some-name_of-clause-gives
-recursive-returns-in_ok-function-in-Some-name_of-clause-gives t c = grind (arith, read_full, read_gives, read_refuses, read_reads, part_fails, fails_then, raise_ok, fails_raise)
-
 pub right_tree-returns-in-Application-clause-gives : goal.right_tree-returns-in-Application-clause-gives
 right_tree-returns-in-Application-clause-gives t c = grind (arith, read_full, read_gives, read_refuses, read_reads, part_fails, fails_then, raise_ok, fails_raise)
 
@@ -392,14 +324,17 @@ scoped-returns-in_err-tree-in-Some-clause-gives t c = grind (arith, read_full, r
 pub scoped-returns-in_ok-tree-in-Some-2-clause-gives : goal.scoped-returns-in_ok-tree-in-Some-2-clause-gives
 scoped-returns-in_ok-tree-in-Some-2-clause-gives t c = grind (arith, read_full, read_gives, read_refuses, read_reads, part_fails, fails_then, raise_ok, fails_raise)
 
-pub scoped_function-returns-in-None-clause-gives : goal.scoped_function-returns-in-None-clause-gives
-scoped_function-returns-in-None-clause-gives t c = grind (arith, read_full, read_gives, read_refuses, read_reads, part_fails, fails_then, raise_ok, fails_raise)
+pub connected_tree-returns-in_err-left-clause-gives : goal.connected_tree-returns-in_err-left-clause-gives
+connected_tree-returns-in_err-left-clause-gives t c = grind (arith, read_connected, read_gives, read_reads, part_fails, raise_ok, fails_raise)
 
-pub scoped_function-returns-in_err-tree-in-Some-2-clause-gives : goal.scoped_function-returns-in_err-tree-in-Some-2-clause-gives
-scoped_function-returns-in_err-tree-in-Some-2-clause-gives t c = grind (arith, read_full, read_gives, read_refuses, read_reads, part_fails, fails_then, raise_ok, fails_raise)
+pub connected_tree-returns-then-height-room-clause-gives : goal.connected_tree-returns-then-height-room-clause-gives
+connected_tree-returns-then-height-room-clause-gives t c = grind (arith, read_connected, read_gives, read_reads, part_fails, raise_ok, fails_raise)
 
-pub scoped_function-returns-in_err-tree-in-Some-clause-gives : goal.scoped_function-returns-in_err-tree-in-Some-clause-gives
-scoped_function-returns-in_err-tree-in-Some-clause-gives t c = grind (arith, read_full, read_gives, read_refuses, read_reads, part_fails, fails_then, raise_ok, fails_raise)
+pub connected_tree-returns-in_err-right-in-Some-clause-gives : goal.connected_tree-returns-in_err-right-in-Some-clause-gives
+connected_tree-returns-in_err-right-in-Some-clause-gives t c = grind (arith, read_connected, read_gives, read_reads, part_fails, raise_ok, fails_raise)
 
-pub scoped_function-returns-in_ok-tree-in-Some-2-clause-gives : goal.scoped_function-returns-in_ok-tree-in-Some-2-clause-gives
-scoped_function-returns-in_ok-tree-in-Some-2-clause-gives t c = grind (arith, read_full, read_gives, read_refuses, read_reads, part_fails, fails_then, raise_ok, fails_raise)
+pub connected_tree-returns-in-None-clause-gives : goal.connected_tree-returns-in-None-clause-gives
+connected_tree-returns-in-None-clause-gives t c = grind (arith, read_connected, read_gives, read_reads, part_fails, raise_ok, fails_raise)
+
+pub connected_tree-returns-in_ok-tree-in-Some-clause-gives : goal.connected_tree-returns-in_ok-tree-in-Some-clause-gives
+connected_tree-returns-in_ok-tree-in-Some-clause-gives t c = grind (arith, read_connected, read_gives, read_reads, part_fails, raise_ok, fails_raise)
