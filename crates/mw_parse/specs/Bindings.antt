@@ -1,9 +1,13 @@
 -- What the functions that read a name and what a `let` binds say of the forms that begin with them.
 use Rattle.std.specs.Prelude.{ℕ, List, Result}
 use Rattle.std.specs.Borrow.{Bor}
+use Rattle.std.specs.Global.{Box}
+use Rattle.mw_term.specs.Terms.{kernel_type_of}
+use Rattle.mw_term.specs.declared.term.KType.{KType}
 use Rattle.mw_lex.specs.Tokens.{PureToken, tokens_of}
 use Rattle.mw_lex.specs.declared.token.Token.{Token}
 use Rattle.mw_grammar.specs.declared.tree.Placed.{Placed}
+use Rattle.mw_grammar.specs.declared.tree.Tree.{Tree}
 use Rattle.mw_grammar.specs.declared.parts.Defined.{Defined}
 use Rattle.mw_grammar.specs.declared.fault.Fault.{Fault}
 use Rattle.mw_grammar.specs.SurfaceTrees.{bind, PureItem, let_item, kernel_item}
@@ -20,8 +24,15 @@ rec_form f = reads (parameter by_equal) λ d. scope_form (bound_rec f.name d)
 abbrev pub rec_item_form : Placed → Form item
 rec_item_form f = reads (parameter by_equal) λ d. gives (rec_bound f.name f.at d)
 
+abbrev pub kernel_rest : Placed → Form item
+kernel_rest x = reads kernel_type λ k. expect equal_next (reads (tree expr) λ e. gives (kernel_item x.name x.at k e))
+
 abbrev pub kernel_form : Placed → Form item
-kernel_form x = expect colon_next (reads kernel_type λ k. expect equal_next (reads (tree expr) λ e. gives (kernel_item x.name x.at k e)))
+kernel_form x = expect colon_next (kernel_rest x)
+
+-- a kernel item of this name, of its type and its expression
+abbrev pub typed_item : Placed → KType × Box Tree → PureItem
+typed_item x r = kernel_item x.name x.at (kernel_type_of r.0) (tree_in r.1)
 
 -- where a name was read, a form that is picked by it goes on so; else it fails
 abbrev pub GivesName : {n : Nonterminal} → (Placed → Form n) → Result (Placed × Bor (List Token)) Fault → (PureToken → Form n) → List PureToken → Type 0

@@ -9,6 +9,8 @@ ghost use Rattle.mw_grammar.specs.Grammar.{program, item};
 ghost use Rattle.mw_grammar.specs.Forms.{pick, let_by, kernel_by, main_of};
 ghost use Rattle.mw_grammar.specs.Descent.{none_yet, full, reading};
 ghost use Rattle.mw_grammar.specs.Gives.{GivesRead};
+ghost use Rattle.mw_grammar.specs.declared.tree.Placed.{Placed as PlacedName};
+ghost use Rattle.mw_parse.specs.Bindings.{kernel_rest, typed_item};
 ghost use Rattle.mw_parse.specs.Reading.{GivesMain};
 
 use crate::trees::{binding, expr_tree, placed_name};
@@ -18,7 +20,7 @@ use mw_grammar::next::{Next, after};
 use mw_grammar::words::{ItemWord, Start, in_hand, item_word, start_word};
 use mw_grammar::{Surface, SurfaceItem, SurfaceItems, Tree};
 use mw_lex::Token;
-use mw_term::Ground;
+use mw_term::{Ground, KType};
 use std::alloc::Global;
 
 fn item_tree(alloc: Global, tokens: &[Token], room: u32) -> Read<SurfaceItem>
@@ -59,17 +61,32 @@ fn kernel_item(alloc: Global, tokens: &[Token], room: u32) -> Read<SurfaceItem>
     match after(Next::Colon, mid) {
         None => Err(Fault::Syntax(mid)),
         Some(rest) => {
-            let (kind, height, mid) = kernel(alloc, rest, room)?;
-            match after(Next::Equal, mid) {
-                None => Err(Fault::Syntax(mid)),
-                Some(rest) => {
-                    let (tree, other, rest) = expr_tree(alloc, rest, room)?;
-                    let tree = Box::into_inner(tree);
-                    let item = SurfaceItem::Kernel(placed, kind, tree);
-                    Ok((item, height.max(other), rest))
-                }
-            }
+            let ((kind, tree), height, rest) = typed_tree(alloc, rest, room)?;
+            let tree = Box::into_inner(tree);
+            Ok((SurfaceItem::Kernel(placed, kind, tree), height, rest))
         }
+    }
+}
+
+/// A kernel type, and what stands after `=`.
+fn typed_tree(alloc: Global, tokens: &[Token], room: u32) -> Read<(KType, Box<Tree>)>
+    requires { room ≤ 200 }
+    ensures gives { (x : PlacedName) → GivesRead (typed_item x) result (reading room (kernel_rest x) none_yet (tokens_of tokens.now)) }
+    ensures height { IfOk result (λ x. x.1 ≤ room) }
+{
+    let (kind, height, mid) = kernel(alloc, tokens, room)?;
+    match after(Next::Equal, mid) {
+        None => {
+            drop(kind);
+            Err(Fault::Syntax(mid))
+        }
+        Some(rest) => match expr_tree(alloc, rest, room) {
+            Err(fault) => {
+                drop(kind);
+                Err(fault)
+            }
+            Ok((tree, other, rest)) => Ok(((kind, tree), height.max(other), rest)),
+        },
     }
 }
 

@@ -7,7 +7,7 @@ ghost use Rattle.std.specs.Prelude.{◌≡◌, ◌<◌, ◌≤◌, ℕ, IfOk};
 ghost use Rattle.mw_lex.specs.Tokens.{tokens_of};
 ghost use Rattle.mw_grammar.specs.SurfaceTrees.{bind};
 ghost use Rattle.mw_grammar.specs.Grammar.{tree, expr, comparison, row as leveled, head, atom, operand, right, body, parameter};
-ghost use Rattle.mw_grammar.specs.Forms.{pick, let_in_by, rec_by, paren_by, minus_by, behind_mark, let_by, rec_item, kernel_by, bracket_form, escape_form, group_form, pair_form, run_form, passed_form, condition_form, branches_form, disjunction_form, scope_form};
+ghost use Rattle.mw_grammar.specs.Forms.{pick, let_in_by, rec_by, paren_by, minus_by, behind_mark, let_by, rec_item, kernel_by, bracket_form, escape_form, group_form, pair_form, run_form, condition_form, branches_form, scope_form};
 ghost use Rattle.mw_grammar.specs.Descent.{none_yet, so_far, full, reading, following, following_operator};
 ghost use Rattle.mw_grammar.specs.Gives.{GivesRead, expected_of};
 ghost use Rattle.mw_grammar.specs.Words.{mark_in, atom_form, head_form};
@@ -184,7 +184,7 @@ fn head_tree(alloc: Global, tokens: &[Token], room: u32) -> Read<Box<Tree>>
     match in_hand(tokens) {
         None => Err(Fault::Syntax(tokens)),
         Some((token, rest)) => match head_word(token) {
-            None => passed_atom(alloc, tokens, room),
+            None => atom_tree(alloc, tokens, room),
             Some(head) => {
                 if room == 0 {
                     return Err(Fault::Deep(tokens));
@@ -274,8 +274,7 @@ fn row_tree(alloc: Global, row: Row, tokens: &[Token], room: u32) -> Read<Box<Tr
     ensures height { IfOk result (λ x. x.1 ≤ room) }
 {
     let (left, height, mid) = operand_tree(alloc, row, tokens, room)?;
-    let (tree, height, rest) = more_trees(alloc, row, left, height, mid, room)?;
-    Ok((tree, height, rest))
+    more_trees(alloc, row, left, height, mid, room)
 }
 
 #[cycle(trees)]
@@ -417,7 +416,7 @@ pub fn expr_tree(alloc: Global, tokens: &[Token], room: u32) -> Read<Box<Tree>>
                 let (tree, height, rest) = conditional(alloc, rest, room - 1)?;
                 Ok((tree, height + 1, rest))
             }
-            First::Other => passed_disjunction(alloc, tokens, room),
+            First::Other => connected_tree(alloc, Connective::Or, tokens, room),
         },
     }
 }
@@ -611,26 +610,6 @@ fn behind_tree(alloc: Global, mark: Mark, tokens: &[Token], room: u32) -> Read<D
             Ok((Defined { from, tree }, height, rest))
         },
     }
-}
-
-#[cycle(trees)]
-fn passed_atom(alloc: Global, tokens: &[Token], room: u32) -> Read<Box<Tree>>
-    requires { room ≤ 200 }
-    ensures gives { GivesRead tree_in result (reading room passed_form none_yet (tokens_of tokens.now)) }
-    ensures height { IfOk result (λ x. x.1 ≤ room) }
-{
-    let (tree, height, rest) = atom_tree(alloc, tokens, room)?;
-    Ok((tree, height, rest))
-}
-
-#[cycle(trees)]
-fn passed_disjunction(alloc: Global, tokens: &[Token], room: u32) -> Read<Box<Tree>>
-    requires { room ≤ 200 }
-    ensures gives { GivesRead tree_in result (reading room disjunction_form none_yet (tokens_of tokens.now)) }
-    ensures height { IfOk result (λ x. x.1 ≤ room) }
-{
-    let (tree, height, rest) = connected_tree(alloc, Connective::Or, tokens, room)?;
-    Ok((tree, height, rest))
 }
 
 #[cycle(trees)]

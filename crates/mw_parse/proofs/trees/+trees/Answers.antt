@@ -1,10 +1,12 @@
 use Rattle.std.proofs.Common.{arith}
 use Rattle.mw_lex.specs.Tokens.{tokens_of}
-use Rattle.mw_grammar.specs.Descent.{ok}
+use Rattle.mw_grammar.specs.Grammar.{tree, expr, disjunction, head, atom}
+use Rattle.mw_grammar.specs.Forms.{disjunction_form, passed_form}
+use Rattle.mw_grammar.specs.Descent.{none_yet, ok, full, reading}
 use Rattle.mw_grammar.specs.Levels.{row_of}
 use Rattle.mw_grammar.specs.Boxes.{tree_in}
 use Rattle.mw_grammar.proofs.Below.{read_full, read_gives, read_refuses, read_reads, part_fails, fails_then, raise_ok, fails_raise, read_more, follow_none, follow_deep, follow_on, next_goes, gives_as}
-use Rattle.mw_parse.proofs.Connectives.{read_connected}
+use Rattle.mw_parse.proofs.Connectives.{read_connected, passed, passed_more}
 use Rattle.mw_parse.proofs.trees.+trees.Goals as goal
 
 pub more_trees-returns-else-height-room-clause-gives : goal.more_trees-returns-else-height-room-clause-gives
@@ -135,9 +137,6 @@ escaped-returns-in_err-tree-clause-gives t c = grind (arith, read_full, read_giv
 pub expr_tree-returns-in-None-clause-gives : goal.expr_tree-returns-in-None-clause-gives
 expr_tree-returns-in-None-clause-gives t c = grind (arith, read_full, read_gives, read_refuses, read_reads, part_fails, fails_then, raise_ok, fails_raise)
 
-pub expr_tree-returns-in-Other-clause-gives : goal.expr_tree-returns-in-Other-clause-gives
-expr_tree-returns-in-Other-clause-gives t c = grind (arith, read_full, read_gives, read_refuses, read_reads, part_fails, fails_then, raise_ok, fails_raise)
-
 pub expr_tree-returns-in_err-boxed_function-in-Fun-clause-gives : goal.expr_tree-returns-in_err-boxed_function-in-Fun-clause-gives
 expr_tree-returns-in_err-boxed_function-in-Fun-clause-gives t c = grind (arith, read_full, read_gives, read_refuses, read_reads, part_fails, fails_then, raise_ok, fails_raise)
 
@@ -194,9 +193,6 @@ head_inside-returns-in_ok-boxed_prefixed-in-Prefix-clause-gives t c = grind (ari
 
 pub head_tree-returns-in-None-clause-gives : goal.head_tree-returns-in-None-clause-gives
 head_tree-returns-in-None-clause-gives t c = grind (arith, read_full, read_gives, read_refuses, read_reads, part_fails, fails_then, raise_ok, fails_raise)
-
-pub head_tree-returns-in-None-head_word-clause-gives : goal.head_tree-returns-in-None-head_word-clause-gives
-head_tree-returns-in-None-head_word-clause-gives t c = grind (arith, read_full, read_gives, read_refuses, read_reads, part_fails, fails_then, raise_ok, fails_raise)
 
 pub head_tree-returns-in_err-tree-in-Some-head_word-clause-gives : goal.head_tree-returns-in_err-tree-in-Some-head_word-clause-gives
 head_tree-returns-in_err-tree-in-Some-head_word-clause-gives t c = grind (arith, read_full, read_gives, read_refuses, read_reads, part_fails, fails_then, raise_ok, fails_raise)
@@ -267,18 +263,6 @@ parameter_tree-returns-in_ok-definition-in-Some-name_of-clause-gives t c = grind
 pub parameter_tree-returns-then-room-eq0-clause-gives : goal.parameter_tree-returns-then-room-eq0-clause-gives
 parameter_tree-returns-then-room-eq0-clause-gives t c = grind (arith, read_full, read_gives, read_refuses, read_reads, part_fails, fails_then, raise_ok, fails_raise)
 
-pub passed_atom-returns-clause-gives : goal.passed_atom-returns-clause-gives
-passed_atom-returns-clause-gives t c = grind (arith, read_full, read_gives, read_refuses, read_reads, part_fails, fails_then, raise_ok, fails_raise)
-
-pub passed_atom-returns-in_err-tree-clause-gives : goal.passed_atom-returns-in_err-tree-clause-gives
-passed_atom-returns-in_err-tree-clause-gives t c = grind (arith, read_full, read_gives, read_refuses, read_reads, part_fails, fails_then, raise_ok, fails_raise)
-
-pub passed_disjunction-returns-clause-gives : goal.passed_disjunction-returns-clause-gives
-passed_disjunction-returns-clause-gives t c = grind (arith, read_full, read_gives, read_refuses, read_reads, part_fails, fails_then, raise_ok, fails_raise)
-
-pub passed_disjunction-returns-in_err-tree-clause-gives : goal.passed_disjunction-returns-in_err-tree-clause-gives
-passed_disjunction-returns-in_err-tree-clause-gives t c = grind (arith, read_full, read_gives, read_refuses, read_reads, part_fails, fails_then, raise_ok, fails_raise)
-
 pub right_tree-returns-in-Application-clause-gives : goal.right_tree-returns-in-Application-clause-gives
 right_tree-returns-in-Application-clause-gives t c = grind (arith, read_full, read_gives, read_refuses, read_reads, part_fails, fails_then, raise_ok, fails_raise)
 
@@ -290,9 +274,6 @@ right_tree-returns-in-Sum-clause-gives t c = grind (arith, read_full, read_gives
 
 pub row_tree-returns-in_err-left-clause-gives : goal.row_tree-returns-in_err-left-clause-gives
 row_tree-returns-in_err-left-clause-gives t c = grind (arith, read_full, read_gives, read_refuses, read_reads, part_fails, fails_then, raise_ok, fails_raise, read_more)
-
-pub row_tree-returns-in_err-tree-clause-gives : goal.row_tree-returns-in_err-tree-clause-gives
-row_tree-returns-in_err-tree-clause-gives t c = grind (arith, read_full, read_gives, read_refuses, read_reads, part_fails, fails_then, raise_ok, fails_raise, read_more)
 
 pub running-returns-in-Err-clause-gives : goal.running-returns-in-Err-clause-gives
 running-returns-in-Err-clause-gives t c = grind (arith, read_full, read_gives, read_refuses, read_reads, part_fails, fails_then, raise_ok, fails_raise)
@@ -338,3 +319,18 @@ connected_tree-returns-in-None-clause-gives t c = grind (arith, read_connected, 
 
 pub connected_tree-returns-in_ok-tree-in-Some-clause-gives : goal.connected_tree-returns-in_ok-tree-in-Some-clause-gives
 connected_tree-returns-in_ok-tree-in-Some-clause-gives t c = grind (arith, read_connected, read_gives, read_reads, part_fails, raise_ok, fails_raise)
+
+pub head_tree-returns-in-None-head_word-clause-gives : goal.head_tree-returns-in-None-head_word-clause-gives
+head_tree-returns-in-None-head_word-clause-gives t c =
+    gives_as (λ x. ok (tree_in x.0) x.1 (tokens_of x.2.now)) c.atom_tree.result (full c.args.room (tree head) (tokens_of c.args.tokens.now)) (reading c.args.room passed_form none_yet (tokens_of c.args.tokens.now))
+    (grind (arith, read_full)) (passed atom head tree_in c.atom_tree.result c.args.room (tokens_of c.args.tokens.now) c.atom_tree.ensures.gives)
+
+pub expr_tree-returns-in-Other-clause-gives : goal.expr_tree-returns-in-Other-clause-gives
+expr_tree-returns-in-Other-clause-gives t c =
+    gives_as (λ x. ok (tree_in x.0) x.1 (tokens_of x.2.now)) c.connected_tree.result (full c.args.room (tree expr) (tokens_of c.args.tokens.now)) (reading c.args.room disjunction_form none_yet (tokens_of c.args.tokens.now))
+    (grind (arith, read_full)) (passed disjunction expr tree_in c.connected_tree.result c.args.room (tokens_of c.args.tokens.now) c.connected_tree.ensures.gives)
+
+pub row_tree-returns-clause-gives : goal.row_tree-returns-clause-gives
+row_tree-returns-clause-gives t c =
+    gives_as (λ x. ok (tree_in x.0) x.1 (tokens_of x.2.now)) c.more_trees.result _ _
+    (grind (arith, read_full, read_reads, read_more)) (passed_more _ tree_in c.more_trees.result c.args.room (row_of c.args.row) (tree_in c.in_ok-left.left) c.in_ok-left.height (tokens_of c.in_ok-left.mid.now) c.more_trees.ensures.gives)

@@ -97,11 +97,5 @@ decreases-right_tree l = l.room * 1000 + level (row_of l.row)
 abbrev pub decreases-more_trees : goal.decreases-more_trees
 decreases-more_trees l = l.room * 1000 + (l.room - l.height) * 2 + 1
 
-abbrev pub decreases-passed_atom : goal.decreases-passed_atom
-decreases-passed_atom l = l.room * 1000 + 15
-
-abbrev pub decreases-passed_disjunction : goal.decreases-passed_disjunction
-decreases-passed_disjunction l = l.room * 1000 + 900
-
 abbrev pub decreases-next_operand : goal.decreases-next_operand
 decreases-next_operand l = l.room * 1000 + (l.room - l.height) * 2
