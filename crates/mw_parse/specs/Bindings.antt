@@ -11,8 +11,8 @@ use Rattle.mw_grammar.specs.declared.tree.Tree.{Tree}
 use Rattle.mw_grammar.specs.declared.parts.Defined.{Defined}
 use Rattle.mw_grammar.specs.declared.fault.Fault.{Fault}
 use Rattle.mw_grammar.specs.SurfaceTrees.{bind, PureItem, let_item, kernel_item}
-use Rattle.mw_grammar.specs.Grammar.{Nonterminal, item, tree, expr, parameter, kernel_type, by_equal}
-use Rattle.mw_grammar.specs.Forms.{Form, gives, reads, expect, pick, colon_next, equal_next, bound_rec, rec_bound, scope_form}
+use Rattle.mw_grammar.specs.Grammar.{Nonterminal, item, tree, expr, parameter, kernel_type, by_arrow, by_equal}
+use Rattle.mw_grammar.specs.Forms.{Form, gives, reads, expect, pick, colon_next, equal_next, function, bound_rec, rec_bound, scope_form}
 use Rattle.mw_grammar.specs.Descent.{none_yet, so_far, reading}
 use Rattle.mw_grammar.specs.Gives.{Gives}
 use Rattle.mw_grammar.specs.Boxes.{tree_in}
@@ -33,6 +33,10 @@ kernel_form x = expect colon_next (kernel_rest x)
 -- a kernel item of this name, of its type and its expression
 abbrev pub typed_item : Placed → KType × Box Tree → PureItem
 typed_item x r = kernel_item x.name x.at (kernel_type_of r.0) (tree_in r.1)
+
+-- what stands after `fun`
+abbrev pub function_form : Form (tree expr)
+function_form = reads (parameter by_arrow) λ p. gives (function p)
 
 -- where a name was read, a form that is picked by it goes on so; else it fails
 abbrev pub GivesName : {n : Nonterminal} → (Placed → Form n) → Result (Placed × Bor (List Token)) Fault → (PureToken → Form n) → List PureToken → Type 0

@@ -13,7 +13,7 @@ ghost use Rattle.mw_grammar.specs.Gives.{GivesRead, expected_of};
 ghost use Rattle.mw_grammar.specs.Words.{mark_in, atom_form, head_form};
 ghost use Rattle.mw_grammar.specs.Levels.{row_of, op_of};
 ghost use Rattle.mw_grammar.specs.Boxes.{definition_in, function_in, tree_in};
-ghost use Rattle.mw_parse.specs.Bindings.{GivesBound, GivesName, bound_item, kernel_form, rec_form, rec_item_form};
+ghost use Rattle.mw_parse.specs.Bindings.{GivesBound, GivesName, bound_item, function_form, kernel_form, rec_form, rec_item_form};
 ghost use Rattle.mw_parse.specs.Connectives.{connected, level_of, operand_of, sign_of};
 
 use mw_grammar::fault::{Fault, Read};
@@ -405,10 +405,7 @@ pub fn expr_tree(alloc: Global, tokens: &[Token], room: u32) -> Read<Box<Tree>>
                 let (tree, height, rest) = bound_tree(alloc, rest, room - 1)?;
                 Ok((tree, height + 1, rest))
             }
-            First::Fun => {
-                let (function, height, rest) = parameter_tree(alloc, Mark::Arrow, rest, room)?;
-                Ok((boxed_function(alloc, function)?, height, rest))
-            }
+            First::Fun => function_tree(alloc, rest, room),
             First::If => {
                 if room == 0 {
                     return Err(Fault::Deep(tokens));
@@ -419,6 +416,16 @@ pub fn expr_tree(alloc: Global, tokens: &[Token], room: u32) -> Read<Box<Tree>>
             First::Other => connected_tree(alloc, Connective::Or, tokens, room),
         },
     }
+}
+
+#[cycle(trees)]
+fn function_tree(alloc: Global, tokens: &[Token], room: u32) -> Read<Box<Tree>>
+    requires { room ≤ 200 }
+    ensures gives { GivesRead tree_in result (reading room function_form none_yet (tokens_of tokens.now)) }
+    ensures height { IfOk result (λ x. x.1 ≤ room) }
+{
+    let (function, height, rest) = parameter_tree(alloc, Mark::Arrow, tokens, room)?;
+    Ok((boxed_function(alloc, function)?, height, rest))
 }
 
 #[cycle(trees)]

@@ -137,20 +137,11 @@ escaped-returns-in_err-tree-clause-gives t c = grind (arith, read_full, read_giv
 pub expr_tree-returns-in-None-clause-gives : goal.expr_tree-returns-in-None-clause-gives
 expr_tree-returns-in-None-clause-gives t c = grind (arith, read_full, read_gives, read_refuses, read_reads, part_fails, fails_then, raise_ok, fails_raise)
 
-pub expr_tree-returns-in_err-boxed_function-in-Fun-clause-gives : goal.expr_tree-returns-in_err-boxed_function-in-Fun-clause-gives
-expr_tree-returns-in_err-boxed_function-in-Fun-clause-gives t c = grind (arith, read_full, read_gives, read_refuses, read_reads, part_fails, fails_then, raise_ok, fails_raise)
-
-pub expr_tree-returns-in_err-function-in-Fun-clause-gives : goal.expr_tree-returns-in_err-function-in-Fun-clause-gives
-expr_tree-returns-in_err-function-in-Fun-clause-gives t c = grind (arith, read_full, read_gives, read_refuses, read_reads, part_fails, fails_then, raise_ok, fails_raise)
-
 pub expr_tree-returns-in_err-tree-in-If-clause-gives : goal.expr_tree-returns-in_err-tree-in-If-clause-gives
 expr_tree-returns-in_err-tree-in-If-clause-gives t c = grind (arith, read_full, read_gives, read_refuses, read_reads, part_fails, fails_then, raise_ok, fails_raise)
 
 pub expr_tree-returns-in_err-tree-in-Let-clause-gives : goal.expr_tree-returns-in_err-tree-in-Let-clause-gives
 expr_tree-returns-in_err-tree-in-Let-clause-gives t c = grind (arith, read_full, read_gives, read_refuses, read_reads, part_fails, fails_then, raise_ok, fails_raise)
-
-pub expr_tree-returns-in_ok-boxed_function-in-Fun-clause-gives : goal.expr_tree-returns-in_ok-boxed_function-in-Fun-clause-gives
-expr_tree-returns-in_ok-boxed_function-in-Fun-clause-gives t c = grind (arith, read_full, read_gives, read_refuses, read_reads, part_fails, fails_then, raise_ok, fails_raise)
 
 pub expr_tree-returns-in_ok-tree-in-If-clause-gives : goal.expr_tree-returns-in_ok-tree-in-If-clause-gives
 expr_tree-returns-in_ok-tree-in-If-clause-gives t c = grind (arith, read_full, read_gives, read_refuses, read_reads, part_fails, fails_then, raise_ok, fails_raise)
@@ -334,3 +325,81 @@ pub row_tree-returns-clause-gives : goal.row_tree-returns-clause-gives
 row_tree-returns-clause-gives t c =
     gives_as (λ x. ok (tree_in x.0) x.1 (tokens_of x.2.now)) c.more_trees.result _ _
     (grind (arith, read_full, read_reads, read_more)) (passed_more _ tree_in c.more_trees.result c.args.room (row_of c.args.row) (tree_in c.in_ok-left.left) c.in_ok-left.height (tokens_of c.in_ok-left.mid.now) c.more_trees.ensures.gives)
+
+pub binding-returns-in-None-clause-inner : goal.binding-returns-in-None-clause-inner
+binding-returns-in-None-clause-inner t c = grind (arith, read_full, read_gives, read_refuses, read_reads, part_fails, fails_then)
+
+pub binding-returns-in-None-clause-top : goal.binding-returns-in-None-clause-top
+binding-returns-in-None-clause-top t c = grind (arith, read_full, read_gives, read_refuses, read_reads, part_fails, fails_then)
+
+pub binding-returns-in-Other-clause-inner : goal.binding-returns-in-Other-clause-inner
+binding-returns-in-Other-clause-inner t c = grind (arith, read_full, read_gives, read_refuses, read_reads, part_fails, fails_then)
+
+pub binding-returns-in-Other-clause-top : goal.binding-returns-in-Other-clause-top
+binding-returns-in-Other-clause-top t c = grind (arith, read_full, read_gives, read_refuses, read_reads, part_fails, fails_then)
+
+pub binding-returns-in-Rec-clause-inner : goal.binding-returns-in-Rec-clause-inner
+binding-returns-in-Rec-clause-inner t c = grind (arith, read_full, read_gives, read_refuses, read_reads, part_fails, fails_then)
+
+pub binding-returns-in-Rec-clause-top : goal.binding-returns-in-Rec-clause-top
+binding-returns-in-Rec-clause-top t c = grind (arith, read_full, read_gives, read_refuses, read_reads, part_fails, fails_then)
+
+pub binding-returns-in_err-name-in-Word-clause-inner : goal.binding-returns-in_err-name-in-Word-clause-inner
+binding-returns-in_err-name-in-Word-clause-inner t c = grind (arith, read_full, read_gives, read_refuses, read_reads, part_fails, fails_then)
+
+pub binding-returns-in_err-name-in-Word-clause-top : goal.binding-returns-in_err-name-in-Word-clause-top
+binding-returns-in_err-name-in-Word-clause-top t c = grind (arith, read_full, read_gives, read_refuses, read_reads, part_fails, fails_then)
+
+pub binding-returns-in_err-definition-in-Word-clause-inner : goal.binding-returns-in_err-definition-in-Word-clause-inner
+binding-returns-in_err-definition-in-Word-clause-inner t c = grind (arith, read_full, read_gives, read_refuses, read_reads, part_fails, fails_then)
+
+pub binding-returns-in_err-definition-in-Word-clause-top : goal.binding-returns-in_err-definition-in-Word-clause-top
+binding-returns-in_err-definition-in-Word-clause-top t c = grind (arith, read_full, read_gives, read_refuses, read_reads, part_fails, fails_then)
+
+pub binding-returns-in_ok-definition-in-Word-clause-inner : goal.binding-returns-in_ok-definition-in-Word-clause-inner
+binding-returns-in_ok-definition-in-Word-clause-inner t c = grind (arith, read_full, read_gives, read_refuses, read_reads, part_fails, fails_then)
+
+pub binding-returns-in_ok-definition-in-Word-clause-top : goal.binding-returns-in_ok-definition-in-Word-clause-top
+binding-returns-in_ok-definition-in-Word-clause-top t c = grind (arith, read_full, read_gives, read_refuses, read_reads, part_fails, fails_then)
+
+pub recursive-returns-in_err-placed-clause-inner : goal.recursive-returns-in_err-placed-clause-inner
+recursive-returns-in_err-placed-clause-inner t c = grind (arith, read_full, read_gives, read_refuses, read_reads, part_fails, fails_then)
+
+pub recursive-returns-in_err-placed-clause-top : goal.recursive-returns-in_err-placed-clause-top
+recursive-returns-in_err-placed-clause-top t c = grind (arith, read_full, read_gives, read_refuses, read_reads, part_fails, fails_then)
+
+pub recursive-returns-in_err-function-clause-inner : goal.recursive-returns-in_err-function-clause-inner
+recursive-returns-in_err-function-clause-inner t c = grind (arith, read_full, read_gives, read_refuses, read_reads, part_fails, fails_then)
+
+pub recursive-returns-in_err-function-clause-top : goal.recursive-returns-in_err-function-clause-top
+recursive-returns-in_err-function-clause-top t c = grind (arith, read_full, read_gives, read_refuses, read_reads, part_fails, fails_then)
+
+pub recursive-returns-in_err-tree-clause-inner : goal.recursive-returns-in_err-tree-clause-inner
+recursive-returns-in_err-tree-clause-inner t c = grind (arith, read_full, read_gives, read_refuses, read_reads, part_fails, fails_then)
+
+pub recursive-returns-in_err-tree-clause-top : goal.recursive-returns-in_err-tree-clause-top
+recursive-returns-in_err-tree-clause-top t c = grind (arith, read_full, read_gives, read_refuses, read_reads, part_fails, fails_then)
+
+pub recursive-returns-clause-inner : goal.recursive-returns-clause-inner
+recursive-returns-clause-inner t c = grind (arith, read_full, read_gives, read_refuses, read_reads, part_fails, fails_then)
+
+pub recursive-returns-clause-top : goal.recursive-returns-clause-top
+recursive-returns-clause-top t c = grind (arith, read_full, read_gives, read_refuses, read_reads, part_fails, fails_then)
+
+pub bound_tree-returns-in_err-placed-clause-gives : goal.bound_tree-returns-in_err-placed-clause-gives
+bound_tree-returns-in_err-placed-clause-gives t c = grind (arith, read_full, read_gives, read_refuses, read_reads, part_fails, fails_then)
+
+pub bound_tree-returns-clause-gives : goal.bound_tree-returns-clause-gives
+bound_tree-returns-clause-gives t c = grind (arith, read_full, read_gives, read_refuses, read_reads, part_fails, fails_then)
+
+pub function_tree-returns-in_err-function-clause-gives : goal.function_tree-returns-in_err-function-clause-gives
+function_tree-returns-in_err-function-clause-gives t c = grind (arith, read_full, read_gives, read_refuses, read_reads, part_fails, fails_then)
+
+pub function_tree-returns-in_err-boxed_function-clause-gives : goal.function_tree-returns-in_err-boxed_function-clause-gives
+function_tree-returns-in_err-boxed_function-clause-gives t c = grind (arith, read_full, read_gives, read_refuses, read_reads, part_fails, fails_then)
+
+pub function_tree-returns-clause-gives : goal.function_tree-returns-clause-gives
+function_tree-returns-clause-gives t c = grind (arith, read_full, read_gives, read_refuses, read_reads, part_fails, fails_then)
+
+pub connected_tree-returns-in_err-tree-in-Some-clause-gives : goal.connected_tree-returns-in_err-tree-in-Some-clause-gives
+connected_tree-returns-in_err-tree-in-Some-clause-gives t c = grind arith

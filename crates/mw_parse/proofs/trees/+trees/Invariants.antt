@@ -58,6 +58,9 @@ decreases-connective_operand l = l.room * 1000 + connective_level l.connective
 abbrev pub decreases-expr_tree : goal.decreases-expr_tree
 decreases-expr_tree l = l.room * 1000 + 950
 
+abbrev pub decreases-function_tree : goal.decreases-function_tree
+decreases-function_tree l = l.room * 1000 + 940
+
 abbrev pub decreases-conditional : goal.decreases-conditional
 decreases-conditional l = l.room * 1000 + 960
 
