@@ -1,6 +1,6 @@
 -- `&&` and `||` of the reader, as the grammar's.
-use Rattle.mw_grammar.specs.SurfaceTrees.{SurfaceTree, truth, cond}
 use Rattle.std.specs.Prelude.{true, false}
+use Rattle.mw_grammar.specs.SurfaceTrees.{SurfaceTree, truth, cond}
 use Rattle.mw_grammar.specs.Grammar.{Precedence, disjunction, conjunction, comparison}
 use Rattle.mw_grammar.specs.Forms.{Expected, and_next, or_next}
 use Rattle.mw_parse.specs.declared.trees.Connective.{Connective}

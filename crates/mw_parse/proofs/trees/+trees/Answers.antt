@@ -403,3 +403,6 @@ function_tree-returns-clause-gives t c = grind (arith, read_full, read_gives, re
 
 pub connected_tree-returns-in_err-tree-in-Some-clause-gives : goal.connected_tree-returns-in_err-tree-in-Some-clause-gives
 connected_tree-returns-in_err-tree-in-Some-clause-gives t c = grind arith
+
+pub expr_tree-returns-in-Fun-clause-gives : goal.expr_tree-returns-in-Fun-clause-gives
+expr_tree-returns-in-Fun-clause-gives t c = grind (arith, read_full, read_gives, read_refuses, read_reads, part_fails, fails_then)
