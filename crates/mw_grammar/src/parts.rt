@@ -6,7 +6,7 @@ ghost use Rattle.mw_term.specs.Terms.{kernel_type_of};
 ghost use Rattle.mw_grammar.specs.Boxes.{function_in, tree_in};
 ghost use Rattle.mw_grammar.specs.SurfaceTrees.{tree_of, bind, bracket, cond, escape, fix, num, pair, run, truth};
 ghost use Rattle.mw_grammar.specs.Grammar.{positive, negative};
-ghost use Rattle.mw_grammar.specs.Forms.{bound_rec, function, operated};
+ghost use Rattle.mw_grammar.specs.Forms.{function, operated};
 ghost use Rattle.mw_grammar.specs.Levels.{op_of};
 ghost use Rattle.mw_grammar.specs.Words.{leaf_of, prefixed};
 
@@ -244,17 +244,4 @@ pub fn boxed_let(
     ensures { IfOk result (λ t. tree_in t ≡ bind name (tree_in definition) (tree_in tree)) }
 {
     boxed(alloc, Tree::Let(name, definition, tree))
-}
-
-/// `let rec` with its function, and what it is in scope in.
-pub fn boxed_let_rec(
-    alloc: Global,
-    name: Name,
-    parameter: Function,
-    tree: Box<Tree>,
-) -> Result<Box<Tree>, AllocError>
-    ensures { IfOk result (λ t. tree_in t ≡ bound_rec name (function_in parameter) (tree_in tree)) }
-{
-    let definition = boxed_rec(alloc, &name, parameter)?;
-    boxed_let(alloc, name, definition, tree)
 }

@@ -1,27 +1,24 @@
 // Items and programs.
 
-#![tactic(auto, using(mw_grammar::proofs::Below::read_full, mw_grammar::proofs::Below::read_gives, mw_grammar::proofs::Below::read_refuses, mw_grammar::proofs::Below::read_reads, mw_grammar::proofs::Below::part_fails, mw_grammar::proofs::Below::fails_then))]
-
 ghost use Rattle.std.specs.Prelude.{◌≤◌, IfOk};
 ghost use Rattle.mw_lex.specs.Tokens.{tokens_of};
 ghost use Rattle.mw_grammar.specs.SurfaceTrees.{item_of, surface_of};
 ghost use Rattle.mw_grammar.specs.Grammar.{program, item};
-ghost use Rattle.mw_grammar.specs.Forms.{pick, let_by, rec_item, kernel_by, main_of};
+ghost use Rattle.mw_grammar.specs.Forms.{pick, let_by, kernel_by, main_of};
 ghost use Rattle.mw_grammar.specs.Descent.{none_yet, full, reading};
 ghost use Rattle.mw_grammar.specs.Gives.{GivesRead};
+ghost use Rattle.mw_grammar.specs.declared.tree.Placed.{Placed as PlacedName};
+ghost use Rattle.mw_parse.specs.Bindings.{kernel_rest, typed_item};
 ghost use Rattle.mw_parse.specs.Reading.{GivesMain};
 
-use crate::trees::{body_tree, expr_tree, parameter_tree};
+use crate::trees::{binding, expr_tree, placed_name};
 use mw_grammar::fault::{Fault, Read};
 use mw_grammar::kinds::{ground_type, kernel};
 use mw_grammar::next::{Next, after};
-use mw_grammar::parts::boxed_rec;
-use mw_grammar::words::{
-    ItemWord, Mark, Named, Start, in_hand, item_word, name_of, name_or_rec, start_word,
-};
-use mw_grammar::{Placed, Surface, SurfaceItem, SurfaceItems, Tree};
+use mw_grammar::words::{ItemWord, Start, in_hand, item_word, start_word};
+use mw_grammar::{Surface, SurfaceItem, SurfaceItems, Tree};
 use mw_lex::Token;
-use mw_term::{Ground, copied_name};
+use mw_term::{Ground, KType};
 use std::alloc::Global;
 
 fn item_tree(alloc: Global, tokens: &[Token], room: u32) -> Read<SurfaceItem>
@@ -33,14 +30,8 @@ fn item_tree(alloc: Global, tokens: &[Token], room: u32) -> Read<SurfaceItem>
         None => Err(Fault::Syntax(tokens)),
         Some((token, rest)) => match item_word(token) {
             ItemWord::Other => Err(Fault::Syntax(tokens)),
-            ItemWord::Let => {
-                let (item, height, rest) = let_item(alloc, rest, room)?;
-                Ok((item, height, rest))
-            }
-            ItemWord::Kernel => {
-                let (item, height, rest) = kernel_item(alloc, rest, room)?;
-                Ok((item, height, rest))
-            }
+            ItemWord::Let => let_item(alloc, rest, room),
+            ItemWord::Kernel => kernel_item(alloc, rest, room),
         },
     }
 }
@@ -50,49 +41,13 @@ fn let_item(alloc: Global, tokens: &[Token], room: u32) -> Read<SurfaceItem>
     ensures gives { GivesRead item_of result (reading room (pick let_by) none_yet (tokens_of tokens.now)) }
     ensures height { IfOk result (λ x. x.1 ≤ room) }
 {
-    match in_hand(tokens) {
-        None => Err(Fault::Syntax(tokens)),
-        Some((token, rest)) => match name_or_rec(token) {
-            Named::Other => Err(Fault::Syntax(tokens)),
-            Named::Word(name) => {
-                let name = copied_name(alloc, name)?;
-                let at = token.start;
-                let (definition, height, rest) = body_tree(alloc, Mark::Equal, rest, room)?;
-                let tree = Box::into_inner(definition.tree);
-                let item = SurfaceItem::Let(Placed { name, at }, definition.from, tree);
-                Ok((item, height, rest))
-            }
-            Named::Rec => {
-                let (item, height, rest) = recursive_item(alloc, rest, room)?;
-                Ok((item, height, rest))
-            }
-        },
-    }
-}
-
-fn recursive_item(alloc: Global, tokens: &[Token], room: u32) -> Read<SurfaceItem>
-    requires { room ≤ 200 }
-    ensures gives { GivesRead item_of result (reading room (pick rec_item) none_yet (tokens_of tokens.now)) }
-    ensures height { IfOk result (λ x. x.1 ≤ room) }
-{
-    match in_hand(tokens) {
-        None => Err(Fault::Syntax(tokens)),
-        Some((token, rest)) => match name_of(token) {
-            None => Err(Fault::Syntax(tokens)),
-            Some(name) => {
-                let name = copied_name(alloc, name)?;
-                let at = token.start;
-                let (function, height, rest) = parameter_tree(alloc, Mark::Equal, rest, room)?;
-                let from = function.from;
-                let tree = Box::into_inner(boxed_rec(alloc, &name, function)?);
-                Ok((
-                    SurfaceItem::Let(Placed { name, at }, from, tree),
-                    height,
-                    rest,
-                ))
-            }
-        },
-    }
+    let ((placed, definition), height, rest) = binding(alloc, tokens, room)?;
+    let tree = Box::into_inner(definition.tree);
+    Ok((
+        SurfaceItem::Let(placed, definition.from, tree),
+        height,
+        rest,
+    ))
 }
 
 fn kernel_item(alloc: Global, tokens: &[Token], room: u32) -> Read<SurfaceItem>
@@ -100,29 +55,35 @@ fn kernel_item(alloc: Global, tokens: &[Token], room: u32) -> Read<SurfaceItem>
     ensures gives { GivesRead item_of result (reading room (pick kernel_by) none_yet (tokens_of tokens.now)) }
     ensures height { IfOk result (λ x. x.1 ≤ room) }
 {
-    match in_hand(tokens) {
-        None => Err(Fault::Syntax(tokens)),
-        Some((token, rest)) => match name_of(token) {
-            None => Err(Fault::Syntax(tokens)),
-            Some(name) => {
-                let name = copied_name(alloc, name)?;
-                let at = token.start;
-                match after(Next::Colon, rest) {
-                    None => Err(Fault::Syntax(rest)),
-                    Some(rest) => {
-                        let (kind, height, mid) = kernel(alloc, rest, room)?;
-                        match after(Next::Equal, mid) {
-                            None => Err(Fault::Syntax(mid)),
-                            Some(rest) => {
-                                let (tree, other, rest) = expr_tree(alloc, rest, room)?;
-                                let tree = Box::into_inner(tree);
-                                let item = SurfaceItem::Kernel(Placed { name, at }, kind, tree);
-                                Ok((item, height.max(other), rest))
-                            }
-                        }
-                    }
-                }
+    let (placed, mid) = placed_name(alloc, tokens)?;
+    match after(Next::Colon, mid) {
+        None => Err(Fault::Syntax(mid)),
+        Some(rest) => {
+            let ((kind, tree), height, rest) = typed_tree(alloc, rest, room)?;
+            let tree = Box::into_inner(tree);
+            Ok((SurfaceItem::Kernel(placed, kind, tree), height, rest))
+        }
+    }
+}
+
+/// A kernel type, and what stands after `=`.
+fn typed_tree(alloc: Global, tokens: &[Token], room: u32) -> Read<(KType, Box<Tree>)>
+    requires { room ≤ 200 }
+    ensures gives { (x : PlacedName) → GivesRead (typed_item x) result (reading room (kernel_rest x) none_yet (tokens_of tokens.now)) }
+    ensures height { IfOk result (λ x. x.1 ≤ room) }
+{
+    let (kind, height, mid) = kernel(alloc, tokens, room)?;
+    match after(Next::Equal, mid) {
+        None => {
+            drop(kind);
+            Err(Fault::Syntax(mid))
+        }
+        Some(rest) => match expr_tree(alloc, rest, room) {
+            Err(fault) => {
+                drop(kind);
+                Err(fault)
             }
+            Ok((tree, other, rest)) => Ok(((kind, tree), height.max(other), rest)),
         },
     }
 }

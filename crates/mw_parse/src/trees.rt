@@ -1,26 +1,25 @@
 // Expressions, by descent. `room` is the number of nodes that may still stand on a path; each function answers what it
 // made, the height of its nodes and the tokens left, and says of which form. Trees are passed on in boxes.
 
-#![tactic(auto, using(mw_grammar::proofs::Below::read_full, mw_grammar::proofs::Below::read_gives, mw_grammar::proofs::Below::read_refuses, mw_grammar::proofs::Below::read_reads, mw_grammar::proofs::Below::part_fails, mw_grammar::proofs::Below::fails_then, mw_grammar::proofs::Below::raise_ok, mw_grammar::proofs::Below::fails_raise))]
-
 ghost use Rattle.std.specs.Prelude.{◌≡◌, ◌<◌, ◌≤◌, ℕ, IfOk};
 ghost use Rattle.mw_lex.specs.Tokens.{tokens_of};
 ghost use Rattle.mw_grammar.specs.SurfaceTrees.{bind};
-ghost use Rattle.mw_grammar.specs.Grammar.{tree, expr, disjunction, conjunction, comparison, row as leveled, head, atom, operand, right, body, parameter};
-ghost use Rattle.mw_grammar.specs.Forms.{pick, let_in_by, rec_by, paren_by, minus_by, behind_mark, bound_rec, bracket_form, escape_form, group_form, pair_form, run_form, passed_form, condition_form, branches_form, disjunction_form, scope_form};
+ghost use Rattle.mw_grammar.specs.Grammar.{tree, expr, comparison, row as leveled, head, atom, operand, right, body, parameter};
+ghost use Rattle.mw_grammar.specs.Forms.{pick, let_in_by, rec_by, paren_by, minus_by, behind_mark, let_by, rec_item, kernel_by, bracket_form, escape_form, group_form, pair_form, run_form, condition_form, branches_form, scope_form};
 ghost use Rattle.mw_grammar.specs.Descent.{none_yet, so_far, full, reading, following, following_operator};
-ghost use Rattle.mw_grammar.specs.Gives.{GivesRead};
+ghost use Rattle.mw_grammar.specs.Gives.{GivesRead, expected_of};
 ghost use Rattle.mw_grammar.specs.Words.{mark_in, atom_form, head_form};
 ghost use Rattle.mw_grammar.specs.Levels.{row_of, op_of};
 ghost use Rattle.mw_grammar.specs.Boxes.{definition_in, function_in, tree_in};
+ghost use Rattle.mw_parse.specs.Bindings.{GivesBound, GivesName, bound_item, function_form, kernel_form, rec_form, rec_item_form};
+ghost use Rattle.mw_parse.specs.Connectives.{connected, level_of, operand_of, sign_of};
 
-use mw_grammar::Tree;
 use mw_grammar::fault::{Fault, Read};
 use mw_grammar::kinds::kernel;
 use mw_grammar::next::{Next, after};
 use mw_grammar::parts::{
     Defined, Function, boxed_bracket, boxed_escape, boxed_function, boxed_if, boxed_leaf,
-    boxed_let, boxed_let_rec, boxed_negative, boxed_pair, boxed_prefixed, boxed_run, conjoined,
+    boxed_let, boxed_negative, boxed_pair, boxed_prefixed, boxed_rec, boxed_run, conjoined,
     disjoined, joined,
 };
 use mw_grammar::rows::{Operator, Row, next_comparison, next_operator};
@@ -28,11 +27,20 @@ use mw_grammar::words::{
     Atom, Body, Close, First, Head, Inside, Mark, Named, atom_word, body_word, closing, first_word,
     head_word, in_hand, inside_word, name_of, name_or_rec, number_of,
 };
+use mw_grammar::{Placed, Tree};
 use mw_lex::Token;
 use mw_term::{Name, copied_name};
-use std::alloc::Global;
+use std::alloc::{AllocError, Global};
+
+/// What stands between truth values.
+#[derive(Clone, Copy)]
+enum Connective {
+    And,
+    Or,
+}
 
 /// After `(` and `-`.
+#[tactic(auto, using(mw_grammar::proofs::Below::read_full, mw_grammar::proofs::Below::read_gives, mw_grammar::proofs::Below::read_refuses))]
 fn literal(alloc: Global, tokens: &[Token]) -> Read<Box<Tree>>
     ensures gives { (b : ℕ) → GivesRead tree_in result (reading b (pick minus_by) none_yet (tokens_of tokens.now)) }
     ensures height { IfOk result (λ x. x.1 ≡ 0) }
@@ -175,7 +183,7 @@ fn head_tree(alloc: Global, tokens: &[Token], room: u32) -> Read<Box<Tree>>
     match in_hand(tokens) {
         None => Err(Fault::Syntax(tokens)),
         Some((token, rest)) => match head_word(token) {
-            None => passed_atom(alloc, tokens, room),
+            None => atom_tree(alloc, tokens, room),
             Some(head) => {
                 if room == 0 {
                     return Err(Fault::Deep(tokens));
@@ -258,19 +266,16 @@ fn right_tree(alloc: Global, row: Row, tokens: &[Token], room: u32) -> Read<Box<
 }
 
 #[cycle(trees)]
-#[tactic(auto, using(mw_grammar::proofs::Below::read_full, mw_grammar::proofs::Below::read_gives, mw_grammar::proofs::Below::read_refuses, mw_grammar::proofs::Below::read_reads, mw_grammar::proofs::Below::part_fails, mw_grammar::proofs::Below::fails_then, mw_grammar::proofs::Below::raise_ok, mw_grammar::proofs::Below::fails_raise, mw_grammar::proofs::Below::read_more))]
 fn row_tree(alloc: Global, row: Row, tokens: &[Token], room: u32) -> Read<Box<Tree>>
     requires { room ≤ 200 }
     ensures gives { GivesRead tree_in result (full room (tree (leveled (row_of row))) (tokens_of tokens.now)) }
     ensures height { IfOk result (λ x. x.1 ≤ room) }
 {
     let (left, height, mid) = operand_tree(alloc, row, tokens, room)?;
-    let (tree, height, rest) = more_trees(alloc, row, left, height, mid, room)?;
-    Ok((tree, height, rest))
+    more_trees(alloc, row, left, height, mid, room)
 }
 
 #[cycle(trees)]
-#[tactic(auto, using(mw_grammar::proofs::Below::read_full, mw_grammar::proofs::Below::read_gives, mw_grammar::proofs::Below::read_refuses, mw_grammar::proofs::Below::read_reads, mw_grammar::proofs::Below::part_fails, mw_grammar::proofs::Below::fails_then, mw_grammar::proofs::Below::raise_ok, mw_grammar::proofs::Below::fails_raise, mw_grammar::proofs::Below::follow_none, mw_grammar::proofs::Below::follow_deep, mw_grammar::proofs::Below::follow_on))]
 fn more_trees(
     alloc: Global,
     row: Row,
@@ -314,40 +319,69 @@ fn comparison_tree(alloc: Global, tokens: &[Token], room: u32) -> Read<Box<Tree>
     }
 }
 
-#[cycle(trees)]
-fn conjunction_tree(alloc: Global, tokens: &[Token], room: u32) -> Read<Box<Tree>>
-    requires { room ≤ 200 }
-    ensures gives { GivesRead tree_in result (full room (tree conjunction) (tokens_of tokens.now)) }
-    ensures height { IfOk result (λ x. x.1 ≤ room) }
+/// The mark of a connective.
+fn sign(connective: Connective) -> Next
+    ensures { expected_of result ≡ sign_of connective }
 {
-    let (left, height, mid) = comparison_tree(alloc, tokens, room)?;
-    match after(Next::And, mid) {
-        None => Ok((left, height, mid)),
-        Some(rest) => {
-            if height >= room {
-                return Err(Fault::Deep(mid));
-            }
-            let (right, other, rest) = conjunction_tree(alloc, rest, room - 1)?;
-            Ok((conjoined(alloc, left, right)?, height.max(other) + 1, rest))
-        }
+    match connective {
+        Connective::And => Next::And,
+        Connective::Or => Next::Or,
+    }
+}
+
+/// A connective with its operands.
+fn connect(
+    alloc: Global,
+    connective: Connective,
+    left: Box<Tree>,
+    right: Box<Tree>,
+) -> Result<Box<Tree>, AllocError>
+    ensures { IfOk result (λ t. tree_in t ≡ connected connective (tree_in left) (tree_in right)) }
+{
+    match connective {
+        Connective::And => conjoined(alloc, left, right),
+        Connective::Or => disjoined(alloc, left, right),
     }
 }
 
 #[cycle(trees)]
-fn disjunction_tree(alloc: Global, tokens: &[Token], room: u32) -> Read<Box<Tree>>
+fn connective_operand(
+    alloc: Global,
+    connective: Connective,
+    tokens: &[Token],
+    room: u32,
+) -> Read<Box<Tree>>
     requires { room ≤ 200 }
-    ensures gives { GivesRead tree_in result (full room (tree disjunction) (tokens_of tokens.now)) }
+    ensures gives { GivesRead tree_in result (full room (tree (operand_of connective)) (tokens_of tokens.now)) }
     ensures height { IfOk result (λ x. x.1 ≤ room) }
 {
-    let (left, height, mid) = conjunction_tree(alloc, tokens, room)?;
-    match after(Next::Or, mid) {
+    match connective {
+        Connective::And => comparison_tree(alloc, tokens, room),
+        Connective::Or => connected_tree(alloc, Connective::And, tokens, room),
+    }
+}
+
+#[cycle(trees)]
+fn connected_tree(
+    alloc: Global,
+    connective: Connective,
+    tokens: &[Token],
+    room: u32,
+) -> Read<Box<Tree>>
+    requires { room ≤ 200 }
+    ensures gives { GivesRead tree_in result (full room (tree (level_of connective)) (tokens_of tokens.now)) }
+    ensures height { IfOk result (λ x. x.1 ≤ room) }
+{
+    let (left, height, mid) = connective_operand(alloc, connective, tokens, room)?;
+    match after(sign(connective), mid) {
         None => Ok((left, height, mid)),
         Some(rest) => {
             if height >= room {
                 return Err(Fault::Deep(mid));
             }
-            let (right, other, rest) = disjunction_tree(alloc, rest, room - 1)?;
-            Ok((disjoined(alloc, left, right)?, height.max(other) + 1, rest))
+            let (right, other, rest) = connected_tree(alloc, connective, rest, room - 1)?;
+            let tree = connect(alloc, connective, left, right)?;
+            Ok((tree, height.max(other) + 1, rest))
         }
     }
 }
@@ -368,10 +402,7 @@ pub fn expr_tree(alloc: Global, tokens: &[Token], room: u32) -> Read<Box<Tree>>
                 let (tree, height, rest) = bound_tree(alloc, rest, room - 1)?;
                 Ok((tree, height + 1, rest))
             }
-            First::Fun => {
-                let (function, height, rest) = parameter_tree(alloc, Mark::Arrow, rest, room)?;
-                Ok((boxed_function(alloc, function)?, height, rest))
-            }
+            First::Fun => function_tree(alloc, rest, room),
             First::If => {
                 if room == 0 {
                     return Err(Fault::Deep(tokens));
@@ -379,9 +410,19 @@ pub fn expr_tree(alloc: Global, tokens: &[Token], room: u32) -> Read<Box<Tree>>
                 let (tree, height, rest) = conditional(alloc, rest, room - 1)?;
                 Ok((tree, height + 1, rest))
             }
-            First::Other => passed_disjunction(alloc, tokens, room),
+            First::Other => connected_tree(alloc, Connective::Or, tokens, room),
         },
     }
+}
+
+#[cycle(trees)]
+fn function_tree(alloc: Global, tokens: &[Token], room: u32) -> Read<Box<Tree>>
+    requires { room ≤ 200 }
+    ensures gives { GivesRead tree_in result (reading room function_form none_yet (tokens_of tokens.now)) }
+    ensures height { IfOk result (λ x. x.1 ≤ room) }
+{
+    let (function, height, rest) = parameter_tree(alloc, Mark::Arrow, tokens, room)?;
+    Ok((boxed_function(alloc, function)?, height, rest))
 }
 
 #[cycle(trees)]
@@ -420,10 +461,46 @@ fn branches(
     }
 }
 
+/// A name, and where it stands.
+pub fn placed_name(alloc: Global, tokens: &[Token]) -> Result<(Placed, &[Token]), Fault>
+    ensures inner { GivesName rec_form result rec_by (tokens_of tokens.now) }
+    ensures top { GivesName rec_item_form result rec_item (tokens_of tokens.now) }
+    ensures kernel { GivesName kernel_form result kernel_by (tokens_of tokens.now) }
+{
+    match in_hand(tokens) {
+        None => Err(Fault::Syntax(tokens)),
+        Some((token, rest)) => match name_of(token) {
+            None => Err(Fault::Syntax(tokens)),
+            Some(name) => {
+                let name = copied_name(alloc, name)?;
+                Ok((
+                    Placed {
+                        name,
+                        at: token.start,
+                    },
+                    rest,
+                ))
+            }
+        },
+    }
+}
+
 #[cycle(trees)]
 fn bound_tree(alloc: Global, tokens: &[Token], room: u32) -> Read<Box<Tree>>
     requires { room ≤ 200 }
     ensures gives { GivesRead tree_in result (reading room (pick let_in_by) none_yet (tokens_of tokens.now)) }
+    ensures height { IfOk result (λ x. x.1 ≤ room) }
+{
+    let ((placed, definition), height, rest) = binding(alloc, tokens, room)?;
+    scoped(alloc, placed.name, definition.tree, height, rest, room)
+}
+
+/// What a `let` binds.
+#[cycle(trees)]
+pub fn binding(alloc: Global, tokens: &[Token], room: u32) -> Read<(Placed, Defined)>
+    requires { room ≤ 200 }
+    ensures inner { GivesBound room result let_in_by (tokens_of tokens.now) }
+    ensures top { GivesRead bound_item result (reading room (pick let_by) none_yet (tokens_of tokens.now)) }
     ensures height { IfOk result (λ x. x.1 ≤ room) }
 {
     match in_hand(tokens) {
@@ -432,8 +509,9 @@ fn bound_tree(alloc: Global, tokens: &[Token], room: u32) -> Read<Box<Tree>>
             Named::Other => Err(Fault::Syntax(tokens)),
             Named::Word(name) => {
                 let name = copied_name(alloc, name)?;
-                let (definition, height, mid) = body_tree(alloc, Mark::Equal, rest, room)?;
-                scoped(alloc, name, definition.tree, height, mid, room)
+                let at = token.start;
+                let (definition, height, rest) = body_tree(alloc, Mark::Equal, rest, room)?;
+                Ok(((Placed { name, at }, definition), height, rest))
             }
             Named::Rec => recursive(alloc, rest, room),
         },
@@ -441,22 +519,17 @@ fn bound_tree(alloc: Global, tokens: &[Token], room: u32) -> Read<Box<Tree>>
 }
 
 #[cycle(trees)]
-fn recursive(alloc: Global, tokens: &[Token], room: u32) -> Read<Box<Tree>>
+fn recursive(alloc: Global, tokens: &[Token], room: u32) -> Read<(Placed, Defined)>
     requires { room ≤ 200 }
-    ensures gives { GivesRead tree_in result (reading room (pick rec_by) none_yet (tokens_of tokens.now)) }
+    ensures inner { GivesBound room result rec_by (tokens_of tokens.now) }
+    ensures top { GivesRead bound_item result (reading room (pick rec_item) none_yet (tokens_of tokens.now)) }
     ensures height { IfOk result (λ x. x.1 ≤ room) }
 {
-    match in_hand(tokens) {
-        None => Err(Fault::Syntax(tokens)),
-        Some((token, rest)) => match name_of(token) {
-            None => Err(Fault::Syntax(tokens)),
-            Some(name) => {
-                let name = copied_name(alloc, name)?;
-                let (function, height, mid) = parameter_tree(alloc, Mark::Equal, rest, room)?;
-                scoped_function(alloc, name, function, height, mid, room)
-            }
-        },
-    }
+    let (placed, mid) = placed_name(alloc, tokens)?;
+    let (function, height, rest) = parameter_tree(alloc, Mark::Equal, mid, room)?;
+    let from = function.from;
+    let tree = boxed_rec(alloc, &placed.name, function)?;
+    Ok(((placed, Defined { from, tree }), height, rest))
 }
 
 #[cycle(trees)]
@@ -544,26 +617,6 @@ fn behind_tree(alloc: Global, mark: Mark, tokens: &[Token], room: u32) -> Read<D
 }
 
 #[cycle(trees)]
-fn passed_atom(alloc: Global, tokens: &[Token], room: u32) -> Read<Box<Tree>>
-    requires { room ≤ 200 }
-    ensures gives { GivesRead tree_in result (reading room passed_form none_yet (tokens_of tokens.now)) }
-    ensures height { IfOk result (λ x. x.1 ≤ room) }
-{
-    let (tree, height, rest) = atom_tree(alloc, tokens, room)?;
-    Ok((tree, height, rest))
-}
-
-#[cycle(trees)]
-fn passed_disjunction(alloc: Global, tokens: &[Token], room: u32) -> Read<Box<Tree>>
-    requires { room ≤ 200 }
-    ensures gives { GivesRead tree_in result (reading room disjunction_form none_yet (tokens_of tokens.now)) }
-    ensures height { IfOk result (λ x. x.1 ≤ room) }
-{
-    let (tree, height, rest) = disjunction_tree(alloc, tokens, room)?;
-    Ok((tree, height, rest))
-}
-
-#[cycle(trees)]
 #[tactic(auto, using(mw_grammar::proofs::Below::read_full, mw_grammar::proofs::Below::read_gives, mw_grammar::proofs::Below::read_refuses, mw_grammar::proofs::Below::read_reads, mw_grammar::proofs::Below::part_fails, mw_grammar::proofs::Below::fails_then, mw_grammar::proofs::Below::raise_ok, mw_grammar::proofs::Below::fails_raise, mw_grammar::proofs::Below::next_goes))]
 fn next_operand(
     alloc: Global,
@@ -581,27 +634,4 @@ fn next_operand(
     let (right, other, mid) = right_tree(alloc, row, tokens, room - 1)?;
     let tree = joined(alloc, operator, left, right)?;
     more_trees(alloc, row, tree, height.max(other) + 1, mid, room)
-}
-
-#[cycle(trees)]
-fn scoped_function(
-    alloc: Global,
-    name: Name,
-    function: Function,
-    height: u32,
-    tokens: &[Token],
-    room: u32,
-) -> Read<Box<Tree>>
-    requires { (height ≤ room) × (room ≤ 200) }
-    ensures gives { GivesRead tree_in result (reading room (scope_form (bound_rec name (function_in function))) (so_far height) (tokens_of tokens.now)) }
-    ensures height { IfOk result (λ x. x.1 ≤ room) }
-{
-    match after(Next::In, tokens) {
-        None => Err(Fault::Syntax(tokens)),
-        Some(rest) => {
-            let (tree, other, rest) = expr_tree(alloc, rest, room)?;
-            let tree = boxed_let_rec(alloc, name, function, tree)?;
-            Ok((tree, height.max(other), rest))
-        }
-    }
 }

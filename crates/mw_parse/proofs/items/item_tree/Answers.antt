@@ -8,14 +8,8 @@ returns-in-None-clause-gives c = grind (arith, read_full, read_gives, read_refus
 pub returns-in-Other-clause-gives : goal.returns-in-Other-clause-gives
 returns-in-Other-clause-gives c = grind (arith, read_full, read_gives, read_refuses, read_reads, part_fails, fails_then)
 
-pub returns-in_err-item-in-Kernel-clause-gives : goal.returns-in_err-item-in-Kernel-clause-gives
-returns-in_err-item-in-Kernel-clause-gives c = grind (arith, read_full, read_gives, read_refuses, read_reads, part_fails, fails_then)
+pub returns-in-Let-clause-gives : goal.returns-in-Let-clause-gives
+returns-in-Let-clause-gives c = grind (arith, read_full, read_gives, read_refuses, read_reads, part_fails, fails_then)
 
-pub returns-in_err-item-in-Let-clause-gives : goal.returns-in_err-item-in-Let-clause-gives
-returns-in_err-item-in-Let-clause-gives c = grind (arith, read_full, read_gives, read_refuses, read_reads, part_fails, fails_then)
-
-pub returns-in_ok-item-in-Kernel-clause-gives : goal.returns-in_ok-item-in-Kernel-clause-gives
-returns-in_ok-item-in-Kernel-clause-gives c = grind (arith, read_full, read_gives, read_refuses, read_reads, part_fails, fails_then)
-
-pub returns-in_ok-item-in-Let-clause-gives : goal.returns-in_ok-item-in-Let-clause-gives
-returns-in_ok-item-in-Let-clause-gives c = grind (arith, read_full, read_gives, read_refuses, read_reads, part_fails, fails_then)
+pub returns-in-Kernel-clause-gives : goal.returns-in-Kernel-clause-gives
+returns-in-Kernel-clause-gives c = grind (arith, read_full, read_gives, read_refuses, read_reads, part_fails, fails_then)

@@ -2,23 +2,8 @@ use Rattle.std.proofs.Common.{arith}
 use Rattle.mw_grammar.proofs.Below.{read_full, read_gives, read_refuses, read_reads, part_fails, fails_then}
 use Rattle.mw_parse.proofs.items.let_item.Goals as goal
 
-pub returns-in-None-clause-gives : goal.returns-in-None-clause-gives
-returns-in-None-clause-gives c = grind (arith, read_full, read_gives, read_refuses, read_reads, part_fails, fails_then)
+pub returns-in_err-placed-clause-gives : goal.returns-in_err-placed-clause-gives
+returns-in_err-placed-clause-gives c = grind (arith, read_full, read_gives, read_refuses, read_reads, part_fails, fails_then)
 
-pub returns-in-Other-clause-gives : goal.returns-in-Other-clause-gives
-returns-in-Other-clause-gives c = grind (arith, read_full, read_gives, read_refuses, read_reads, part_fails, fails_then)
-
-pub returns-in_err-definition-in-Word-clause-gives : goal.returns-in_err-definition-in-Word-clause-gives
-returns-in_err-definition-in-Word-clause-gives c = grind (arith, read_full, read_gives, read_refuses, read_reads, part_fails, fails_then)
-
-pub returns-in_err-item-in-Rec-clause-gives : goal.returns-in_err-item-in-Rec-clause-gives
-returns-in_err-item-in-Rec-clause-gives c = grind (arith, read_full, read_gives, read_refuses, read_reads, part_fails, fails_then)
-
-pub returns-in_err-name-in-Word-clause-gives : goal.returns-in_err-name-in-Word-clause-gives
-returns-in_err-name-in-Word-clause-gives c = grind (arith, read_full, read_gives, read_refuses, read_reads, part_fails, fails_then)
-
-pub returns-in_ok-definition-in-Word-clause-gives : goal.returns-in_ok-definition-in-Word-clause-gives
-returns-in_ok-definition-in-Word-clause-gives c = grind (arith, read_full, read_gives, read_refuses, read_reads, part_fails, fails_then)
-
-pub returns-in_ok-item-in-Rec-clause-gives : goal.returns-in_ok-item-in-Rec-clause-gives
-returns-in_ok-item-in-Rec-clause-gives c = grind (arith, read_full, read_gives, read_refuses, read_reads, part_fails, fails_then)
+pub returns-clause-gives : goal.returns-clause-gives
+returns-clause-gives c = grind (arith, read_full, read_gives, read_refuses, read_reads, part_fails, fails_then)

@@ -1,6 +1,8 @@
 use Rattle.std.proofs.Common.{ℕ, ◌+◌, ◌-◌, ◌*◌}
 use Rattle.mw_grammar.specs.Grammar.{Row, sum, product, application}
 use Rattle.mw_grammar.specs.Levels.{row_of}
+use Rattle.mw_parse.specs.declared.trees.Connective.{Connective}
+use Rattle.mw_parse.specs.declared.trees.Connective.TheVariants.{And, Or}
 use Rattle.mw_parse.proofs.trees.+trees.Given as goal
 
 -- room first, then the functions in turn, and what is left of a row of operators
@@ -9,6 +11,10 @@ abbrev level : Row → ℕ
 level sum = 700
 level product = 600
 level application = 500
+
+abbrev connective_level : Connective → ℕ
+connective_level And = 800
+connective_level Or = 850
 
 abbrev pub decreases-atom_tree : goal.decreases-atom_tree
 decreases-atom_tree l = l.room * 1000 + 10
@@ -43,14 +49,17 @@ decreases-running l = l.room * 1000 + 30
 abbrev pub decreases-comparison_tree : goal.decreases-comparison_tree
 decreases-comparison_tree l = l.room * 1000 + 790
 
-abbrev pub decreases-conjunction_tree : goal.decreases-conjunction_tree
-decreases-conjunction_tree l = l.room * 1000 + 800
+abbrev pub decreases-connected_tree : goal.decreases-connected_tree
+decreases-connected_tree l = l.room * 1000 + (connective_level l.connective + 5)
 
-abbrev pub decreases-disjunction_tree : goal.decreases-disjunction_tree
-decreases-disjunction_tree l = l.room * 1000 + 850
+abbrev pub decreases-connective_operand : goal.decreases-connective_operand
+decreases-connective_operand l = l.room * 1000 + connective_level l.connective
 
 abbrev pub decreases-expr_tree : goal.decreases-expr_tree
 decreases-expr_tree l = l.room * 1000 + 950
+
+abbrev pub decreases-function_tree : goal.decreases-function_tree
+decreases-function_tree l = l.room * 1000 + 940
 
 abbrev pub decreases-conditional : goal.decreases-conditional
 decreases-conditional l = l.room * 1000 + 960
@@ -61,8 +70,11 @@ decreases-branches l = l.room * 1000 + 955
 abbrev pub decreases-bound_tree : goal.decreases-bound_tree
 decreases-bound_tree l = l.room * 1000 + 985
 
+abbrev pub decreases-binding : goal.decreases-binding
+decreases-binding l = l.room * 1000 + 984
+
 abbrev pub decreases-recursive : goal.decreases-recursive
-decreases-recursive l = l.room * 1000 + 984
+decreases-recursive l = l.room * 1000 + 983
 
 abbrev pub decreases-scoped : goal.decreases-scoped
 decreases-scoped l = l.room * 1000 + 955
@@ -87,15 +99,6 @@ decreases-right_tree l = l.room * 1000 + level (row_of l.row)
 
 abbrev pub decreases-more_trees : goal.decreases-more_trees
 decreases-more_trees l = l.room * 1000 + (l.room - l.height) * 2 + 1
-
-abbrev pub decreases-passed_atom : goal.decreases-passed_atom
-decreases-passed_atom l = l.room * 1000 + 15
-
-abbrev pub decreases-passed_disjunction : goal.decreases-passed_disjunction
-decreases-passed_disjunction l = l.room * 1000 + 900
-
-abbrev pub decreases-scoped_function : goal.decreases-scoped_function
-decreases-scoped_function l = l.room * 1000 + 956
 
 abbrev pub decreases-next_operand : goal.decreases-next_operand
 decreases-next_operand l = l.room * 1000 + (l.room - l.height) * 2
