@@ -1,10 +1,13 @@
-use Rattle.std.proofs.Common.{suc, map, ◌-◌, ◌≡◌, ◌++◌, ◌∙◌, sym, ap, subst, arith, length, vec_len}
-use Rattle.mw_term.specs.Terms.{expression_of}
+use Rattle.std.proofs.Common.{suc, map, ◌-◌, ◌≡◌, ◌+◌, ◌++◌, refl, ◌∙◌, sym, ap, subst, arith, length, vec_len}
+use Rattle.mw_term.specs.Terms.{expression_of, size, app, bind, cond, pair, fst, snd, prim}
 use Rattle.mw_term.specs.Closed.{ClosedBelow}
-use Rattle.mw_ir.specs.Views.{ir_func_of}
+use Rattle.mw_ir.specs.Ir as i
+use Rattle.mw_ir.specs.Views.{ir_of, ir_func_of}
+use Rattle.mw_conv.specs.Convert.{funs}
+use Rattle.mw_conv.specs.Contexts.{code_in, AreAdded}
 use Rattle.mw_conv.specs.Finding.{all_found, EndsWith}
 use Rattle.mw_conv.proofs.Contexts.{one_more, popped}
-use Rattle.mw_conv.proofs.Ends.{ends_left, ends_right}
+use Rattle.mw_conv.proofs.Ends.{ends_left, ends_right, two_taken, two_added}
 use Rattle.std.proofs.lemmas.List.{map-append}
 use Rattle.mw_conv.proofs.Closures.{outer_free, the_found, the_rest, found_again, all_within, few, inner_within, closure_is, function_added, funs_is, size_is, closed_is, within_is, ok_map}
 use Rattle.mw_conv.proofs.code.+convert.Goals as goal
@@ -101,3 +104,195 @@ two_of-box_of-requires-2 t c =
     let k = ap length c.in_ok-second.ensures.same in
     let e = expression_of c.args.first.now in
     (omega arith, (subst (λ n. ClosedBelow n e) (sym k) c.requires.closed.0, (omega arith, (omega arith, (omega (arith, c.in_ok-second.ensures.left), subst (λ n. EndsWith c.box_of.new.found.items (all_found e n)) (sym k) (ends_left _ _ _ _ c.requires.found c.in_ok-second.ensures.found))))))
+
+pub code_of-two_of-requires : goal.code_of-two_of-requires
+code_of-two_of-requires t c =
+    let e : expression_of c.args.term.now ≡ app (expression_of c.deref-in-App.result.now) (expression_of c.deref-in-App-2.result.now) = rw (c.in-App.is, ← c.deref-in-App.ensures, ← c.deref-in-App-2.ensures) refl in
+    let z = ap size e in
+    let u = ap funs e in
+    (omega arith, (subst (λ x. ClosedBelow (length c.args.context.now.items) x) e c.requires.closed, (omega arith, (omega arith, (omega arith, subst (λ x. EndsWith c.args.found.now.items (all_found x (length c.args.context.now.items))) e c.requires.found)))))
+
+pub code_of-returns-in_ok-first-in-App-clause-left : goal.code_of-returns-in_ok-first-in-App-clause-left
+code_of-returns-in_ok-first-in-App-clause-left t c =
+    let e : expression_of c.args.term.now ≡ app (expression_of c.deref-in-App.result.now) (expression_of c.deref-in-App-2.result.now) = rw (c.in-App.is, ← c.deref-in-App.ensures, ← c.deref-in-App-2.ensures) refl in
+    subst (λ x. c.args.left.now ≡ c.two_of.new.left + funs x) (sym e) c.in_ok-first-in-App.ensures.left
+
+pub code_of-returns-in_ok-first-in-App-clause-found : goal.code_of-returns-in_ok-first-in-App-clause-found
+code_of-returns-in_ok-first-in-App-clause-found t c =
+    let e : expression_of c.args.term.now ≡ app (expression_of c.deref-in-App.result.now) (expression_of c.deref-in-App-2.result.now) = rw (c.in-App.is, ← c.deref-in-App.ensures, ← c.deref-in-App-2.ensures) refl in
+    subst (λ x. c.args.found.now.items ≡ c.two_of.new.found.items ++ all_found x (length c.args.context.now.items)) (sym e) c.in_ok-first-in-App.ensures.found
+
+pub code_of-returns-in_ok-first-in-App-clause-code : goal.code_of-returns-in_ok-first-in-App-clause-code
+code_of-returns-in_ok-first-in-App-clause-code t c =
+    let e : expression_of c.args.term.now ≡ app (expression_of c.deref-in-App.result.now) (expression_of c.deref-in-App-2.result.now) = rw (c.in-App.is, ← c.deref-in-App.ensures, ← c.deref-in-App-2.ensures) refl in
+    subst (λ x. i.app (ir_of c.in_ok-first-in-App.first.value) (ir_of c.in_ok-first-in-App.second.value) ≡ code_in x c.two_of.new.left c.args.context.now.items c.args.slot) (sym e) (λ j. i.app (c.in_ok-first-in-App.ensures.first j) (c.in_ok-first-in-App.ensures.second j))
+
+pub code_of-returns-in_ok-first-in-App-clause-funcs : goal.code_of-returns-in_ok-first-in-App-clause-funcs
+code_of-returns-in_ok-first-in-App-clause-funcs t c =
+    let e : expression_of c.args.term.now ≡ app (expression_of c.deref-in-App.result.now) (expression_of c.deref-in-App-2.result.now) = rw (c.in-App.is, ← c.deref-in-App.ensures, ← c.deref-in-App-2.ensures) refl in
+    subst (λ x. AreAdded c.args.funcs.now c.two_of.new.funcs x c.two_of.new.left c.args.context.now.items) (sym e) c.in_ok-first-in-App.ensures.funcs
+
+pub code_of-two_of-requires-in-Pair : goal.code_of-two_of-requires-in-Pair
+code_of-two_of-requires-in-Pair t c =
+    let e : expression_of c.args.term.now ≡ pair (expression_of c.deref-in-Pair.result.now) (expression_of c.deref-in-Pair-2.result.now) = rw (c.in-Pair.is, ← c.deref-in-Pair.ensures, ← c.deref-in-Pair-2.ensures) refl in
+    let z = ap size e in
+    let u = ap funs e in
+    (omega arith, (subst (λ x. ClosedBelow (length c.args.context.now.items) x) e c.requires.closed, (omega arith, (omega arith, (omega arith, subst (λ x. EndsWith c.args.found.now.items (all_found x (length c.args.context.now.items))) e c.requires.found)))))
+
+pub code_of-returns-in_ok-first-in-Pair-clause-left : goal.code_of-returns-in_ok-first-in-Pair-clause-left
+code_of-returns-in_ok-first-in-Pair-clause-left t c =
+    let e : expression_of c.args.term.now ≡ pair (expression_of c.deref-in-Pair.result.now) (expression_of c.deref-in-Pair-2.result.now) = rw (c.in-Pair.is, ← c.deref-in-Pair.ensures, ← c.deref-in-Pair-2.ensures) refl in
+    subst (λ x. c.args.left.now ≡ c.two_of-in-Pair.new.left + funs x) (sym e) c.in_ok-first-in-Pair.ensures.left
+
+pub code_of-returns-in_ok-first-in-Pair-clause-found : goal.code_of-returns-in_ok-first-in-Pair-clause-found
+code_of-returns-in_ok-first-in-Pair-clause-found t c =
+    let e : expression_of c.args.term.now ≡ pair (expression_of c.deref-in-Pair.result.now) (expression_of c.deref-in-Pair-2.result.now) = rw (c.in-Pair.is, ← c.deref-in-Pair.ensures, ← c.deref-in-Pair-2.ensures) refl in
+    subst (λ x. c.args.found.now.items ≡ c.two_of-in-Pair.new.found.items ++ all_found x (length c.args.context.now.items)) (sym e) c.in_ok-first-in-Pair.ensures.found
+
+pub code_of-returns-in_ok-first-in-Pair-clause-code : goal.code_of-returns-in_ok-first-in-Pair-clause-code
+code_of-returns-in_ok-first-in-Pair-clause-code t c =
+    let e : expression_of c.args.term.now ≡ pair (expression_of c.deref-in-Pair.result.now) (expression_of c.deref-in-Pair-2.result.now) = rw (c.in-Pair.is, ← c.deref-in-Pair.ensures, ← c.deref-in-Pair-2.ensures) refl in
+    subst (λ x. i.pair (ir_of c.in_ok-first-in-Pair.first.value) (ir_of c.in_ok-first-in-Pair.second.value) ≡ code_in x c.two_of-in-Pair.new.left c.args.context.now.items c.args.slot) (sym e) (λ j. i.pair (c.in_ok-first-in-Pair.ensures.first j) (c.in_ok-first-in-Pair.ensures.second j))
+
+pub code_of-returns-in_ok-first-in-Pair-clause-funcs : goal.code_of-returns-in_ok-first-in-Pair-clause-funcs
+code_of-returns-in_ok-first-in-Pair-clause-funcs t c =
+    let e : expression_of c.args.term.now ≡ pair (expression_of c.deref-in-Pair.result.now) (expression_of c.deref-in-Pair-2.result.now) = rw (c.in-Pair.is, ← c.deref-in-Pair.ensures, ← c.deref-in-Pair-2.ensures) refl in
+    subst (λ x. AreAdded c.args.funcs.now c.two_of-in-Pair.new.funcs x c.two_of-in-Pair.new.left c.args.context.now.items) (sym e) c.in_ok-first-in-Pair.ensures.funcs
+
+pub code_of-two_of-requires-in-Prim : goal.code_of-two_of-requires-in-Prim
+code_of-two_of-requires-in-Prim t c =
+    let e : expression_of c.args.term.now ≡ prim c.in-Prim.p (expression_of c.deref-in-Prim.result.now) (expression_of c.deref-in-Prim-2.result.now) = rw (c.in-Prim.is, ← c.deref-in-Prim.ensures, ← c.deref-in-Prim-2.ensures) refl in
+    let z = ap size e in
+    let u = ap funs e in
+    (omega arith, (subst (λ x. ClosedBelow (length c.args.context.now.items) x) e c.requires.closed, (omega arith, (omega arith, (omega arith, subst (λ x. EndsWith c.args.found.now.items (all_found x (length c.args.context.now.items))) e c.requires.found)))))
+
+pub code_of-returns-in_ok-first-in-Prim-clause-left : goal.code_of-returns-in_ok-first-in-Prim-clause-left
+code_of-returns-in_ok-first-in-Prim-clause-left t c =
+    let e : expression_of c.args.term.now ≡ prim c.in-Prim.p (expression_of c.deref-in-Prim.result.now) (expression_of c.deref-in-Prim-2.result.now) = rw (c.in-Prim.is, ← c.deref-in-Prim.ensures, ← c.deref-in-Prim-2.ensures) refl in
+    subst (λ x. c.args.left.now ≡ c.two_of-in-Prim.new.left + funs x) (sym e) c.in_ok-first-in-Prim.ensures.left
+
+pub code_of-returns-in_ok-first-in-Prim-clause-found : goal.code_of-returns-in_ok-first-in-Prim-clause-found
+code_of-returns-in_ok-first-in-Prim-clause-found t c =
+    let e : expression_of c.args.term.now ≡ prim c.in-Prim.p (expression_of c.deref-in-Prim.result.now) (expression_of c.deref-in-Prim-2.result.now) = rw (c.in-Prim.is, ← c.deref-in-Prim.ensures, ← c.deref-in-Prim-2.ensures) refl in
+    subst (λ x. c.args.found.now.items ≡ c.two_of-in-Prim.new.found.items ++ all_found x (length c.args.context.now.items)) (sym e) c.in_ok-first-in-Prim.ensures.found
+
+pub code_of-returns-in_ok-first-in-Prim-clause-code : goal.code_of-returns-in_ok-first-in-Prim-clause-code
+code_of-returns-in_ok-first-in-Prim-clause-code t c =
+    let e : expression_of c.args.term.now ≡ prim c.in-Prim.p (expression_of c.deref-in-Prim.result.now) (expression_of c.deref-in-Prim-2.result.now) = rw (c.in-Prim.is, ← c.deref-in-Prim.ensures, ← c.deref-in-Prim-2.ensures) refl in
+    subst (λ x. i.prim c.in-Prim.p (ir_of c.in_ok-first-in-Prim.first.value) (ir_of c.in_ok-first-in-Prim.second.value) ≡ code_in x c.two_of-in-Prim.new.left c.args.context.now.items c.args.slot) (sym e) (λ j. i.prim c.in-Prim.p (c.in_ok-first-in-Prim.ensures.first j) (c.in_ok-first-in-Prim.ensures.second j))
+
+pub code_of-returns-in_ok-first-in-Prim-clause-funcs : goal.code_of-returns-in_ok-first-in-Prim-clause-funcs
+code_of-returns-in_ok-first-in-Prim-clause-funcs t c =
+    let e : expression_of c.args.term.now ≡ prim c.in-Prim.p (expression_of c.deref-in-Prim.result.now) (expression_of c.deref-in-Prim-2.result.now) = rw (c.in-Prim.is, ← c.deref-in-Prim.ensures, ← c.deref-in-Prim-2.ensures) refl in
+    subst (λ x. AreAdded c.args.funcs.now c.two_of-in-Prim.new.funcs x c.two_of-in-Prim.new.left c.args.context.now.items) (sym e) c.in_ok-first-in-Prim.ensures.funcs
+
+pub code_of-box_of-requires : goal.code_of-box_of-requires
+code_of-box_of-requires t c =
+    let e : expression_of c.args.term.now ≡ fst (expression_of c.deref-in-Fst.result.now) = rw (c.in-Fst.is, ← c.deref-in-Fst.ensures) refl in
+    let z = ap size e in
+    let u = ap funs e in
+    (omega arith, (subst (λ x. ClosedBelow (length c.args.context.now.items) x) e c.requires.closed, (omega arith, (omega arith, (omega arith, subst (λ x. EndsWith c.args.found.now.items (all_found x (length c.args.context.now.items))) e c.requires.found)))))
+
+pub code_of-returns-in_ok-box_of-in-Fst-clause-left : goal.code_of-returns-in_ok-box_of-in-Fst-clause-left
+code_of-returns-in_ok-box_of-in-Fst-clause-left t c =
+    let e : expression_of c.args.term.now ≡ fst (expression_of c.deref-in-Fst.result.now) = rw (c.in-Fst.is, ← c.deref-in-Fst.ensures) refl in
+    subst (λ x. c.args.left.now ≡ c.box_of.new.left + funs x) (sym e) c.in_ok-box_of-in-Fst.ensures.left
+
+pub code_of-returns-in_ok-box_of-in-Fst-clause-found : goal.code_of-returns-in_ok-box_of-in-Fst-clause-found
+code_of-returns-in_ok-box_of-in-Fst-clause-found t c =
+    let e : expression_of c.args.term.now ≡ fst (expression_of c.deref-in-Fst.result.now) = rw (c.in-Fst.is, ← c.deref-in-Fst.ensures) refl in
+    subst (λ x. c.args.found.now.items ≡ c.box_of.new.found.items ++ all_found x (length c.args.context.now.items)) (sym e) c.in_ok-box_of-in-Fst.ensures.found
+
+pub code_of-returns-in_ok-box_of-in-Fst-clause-code : goal.code_of-returns-in_ok-box_of-in-Fst-clause-code
+code_of-returns-in_ok-box_of-in-Fst-clause-code t c =
+    let e : expression_of c.args.term.now ≡ fst (expression_of c.deref-in-Fst.result.now) = rw (c.in-Fst.is, ← c.deref-in-Fst.ensures) refl in
+    subst (λ x. i.fst (ir_of c.in_ok-box_of-in-Fst.field-0.value) ≡ code_in x c.box_of.new.left c.args.context.now.items c.args.slot) (sym e) (ap i.fst c.in_ok-box_of-in-Fst.ensures.code)
+
+pub code_of-returns-in_ok-box_of-in-Fst-clause-funcs : goal.code_of-returns-in_ok-box_of-in-Fst-clause-funcs
+code_of-returns-in_ok-box_of-in-Fst-clause-funcs t c =
+    let e : expression_of c.args.term.now ≡ fst (expression_of c.deref-in-Fst.result.now) = rw (c.in-Fst.is, ← c.deref-in-Fst.ensures) refl in
+    subst (λ x. AreAdded c.args.funcs.now c.box_of.new.funcs x c.box_of.new.left c.args.context.now.items) (sym e) c.in_ok-box_of-in-Fst.ensures.funcs
+
+pub code_of-box_of-requires-in-Snd : goal.code_of-box_of-requires-in-Snd
+code_of-box_of-requires-in-Snd t c =
+    let e : expression_of c.args.term.now ≡ snd (expression_of c.deref-in-Snd.result.now) = rw (c.in-Snd.is, ← c.deref-in-Snd.ensures) refl in
+    let z = ap size e in
+    let u = ap funs e in
+    (omega arith, (subst (λ x. ClosedBelow (length c.args.context.now.items) x) e c.requires.closed, (omega arith, (omega arith, (omega arith, subst (λ x. EndsWith c.args.found.now.items (all_found x (length c.args.context.now.items))) e c.requires.found)))))
+
+pub code_of-returns-in_ok-box_of-in-Snd-clause-left : goal.code_of-returns-in_ok-box_of-in-Snd-clause-left
+code_of-returns-in_ok-box_of-in-Snd-clause-left t c =
+    let e : expression_of c.args.term.now ≡ snd (expression_of c.deref-in-Snd.result.now) = rw (c.in-Snd.is, ← c.deref-in-Snd.ensures) refl in
+    subst (λ x. c.args.left.now ≡ c.box_of-in-Snd.new.left + funs x) (sym e) c.in_ok-box_of-in-Snd.ensures.left
+
+pub code_of-returns-in_ok-box_of-in-Snd-clause-found : goal.code_of-returns-in_ok-box_of-in-Snd-clause-found
+code_of-returns-in_ok-box_of-in-Snd-clause-found t c =
+    let e : expression_of c.args.term.now ≡ snd (expression_of c.deref-in-Snd.result.now) = rw (c.in-Snd.is, ← c.deref-in-Snd.ensures) refl in
+    subst (λ x. c.args.found.now.items ≡ c.box_of-in-Snd.new.found.items ++ all_found x (length c.args.context.now.items)) (sym e) c.in_ok-box_of-in-Snd.ensures.found
+
+pub code_of-returns-in_ok-box_of-in-Snd-clause-code : goal.code_of-returns-in_ok-box_of-in-Snd-clause-code
+code_of-returns-in_ok-box_of-in-Snd-clause-code t c =
+    let e : expression_of c.args.term.now ≡ snd (expression_of c.deref-in-Snd.result.now) = rw (c.in-Snd.is, ← c.deref-in-Snd.ensures) refl in
+    subst (λ x. i.snd (ir_of c.in_ok-box_of-in-Snd.field-0.value) ≡ code_in x c.box_of-in-Snd.new.left c.args.context.now.items c.args.slot) (sym e) (ap i.snd c.in_ok-box_of-in-Snd.ensures.code)
+
+pub code_of-returns-in_ok-box_of-in-Snd-clause-funcs : goal.code_of-returns-in_ok-box_of-in-Snd-clause-funcs
+code_of-returns-in_ok-box_of-in-Snd-clause-funcs t c =
+    let e : expression_of c.args.term.now ≡ snd (expression_of c.deref-in-Snd.result.now) = rw (c.in-Snd.is, ← c.deref-in-Snd.ensures) refl in
+    subst (λ x. AreAdded c.args.funcs.now c.box_of-in-Snd.new.funcs x c.box_of-in-Snd.new.left c.args.context.now.items) (sym e) c.in_ok-box_of-in-Snd.ensures.funcs
+
+pub code_of-let_of-requires : goal.code_of-let_of-requires
+code_of-let_of-requires t c =
+    let e : expression_of c.args.term.now ≡ bind (expression_of c.deref-in-Let.result.now) (expression_of c.deref-in-Let-2.result.now) = rw (c.in-Let.is, ← c.deref-in-Let.ensures, ← c.deref-in-Let-2.ensures) refl in
+    let z = ap size e in
+    let u = ap funs e in
+    (omega arith, (subst (λ x. ClosedBelow (length c.args.context.now.items) x) e c.requires.closed, (omega arith, (omega arith, (omega arith, subst (λ x. EndsWith c.args.found.now.items (all_found x (length c.args.context.now.items))) e c.requires.found)))))
+
+pub code_of-if_of-requires : goal.code_of-if_of-requires
+code_of-if_of-requires t c =
+    let e : expression_of c.args.term.now ≡ cond (expression_of c.deref-in-If.result.now) (expression_of c.deref-in-If-2.result.now) (expression_of c.deref-in-If-3.result.now) = rw (c.in-If.is, ← c.deref-in-If.ensures, ← c.deref-in-If-2.ensures, ← c.deref-in-If-3.ensures) refl in
+    let z = ap size e in
+    let u = ap funs e in
+    (omega arith, (subst (λ x. ClosedBelow (length c.args.context.now.items) x) e c.requires.closed, (omega arith, (omega arith, (omega arith, subst (λ x. EndsWith c.args.found.now.items (all_found x (length c.args.context.now.items))) e c.requires.found)))))
+
+pub two_of-returns-clause-same : goal.two_of-returns-clause-same
+two_of-returns-clause-same t c = c.in_ok-first.ensures.same ∙ c.in_ok-second.ensures.same
+
+pub two_of-returns-clause-left : goal.two_of-returns-clause-left
+two_of-returns-clause-left t c = omega (arith, c.in_ok-second.ensures.left, c.in_ok-first.ensures.left)
+
+pub two_of-returns-clause-found : goal.two_of-returns-clause-found
+two_of-returns-clause-found t c = two_taken _ _ _ _ _ c.in_ok-second.ensures.found (subst (λ ps. c.box_of.new.found.items ≡ c.box_of-2.new.found.items ++ all_found (expression_of c.args.first.now) (length ps)) c.in_ok-second.ensures.same c.in_ok-first.ensures.found)
+
+pub two_of-returns-clause-first : goal.two_of-returns-clause-first
+two_of-returns-clause-first t c = subst (λ ps. ir_of c.in_ok-first.first.value ≡ code_in (expression_of c.args.first.now) c.box_of-2.new.left ps c.args.slot) c.in_ok-second.ensures.same c.in_ok-first.ensures.code
+
+pub two_of-returns-clause-second : goal.two_of-returns-clause-second
+two_of-returns-clause-second t c = subst (λ k. ir_of c.in_ok-second.second.value ≡ code_in (expression_of c.args.second.now) k c.args.context.now.items c.args.slot) c.in_ok-first.ensures.left c.in_ok-second.ensures.code
+
+pub two_of-returns-clause-funcs : goal.two_of-returns-clause-funcs
+two_of-returns-clause-funcs t c =
+    let g = subst (λ k. AreAdded c.args.funcs.now c.box_of.new.funcs (expression_of c.args.second.now) k c.args.context.now.items) c.in_ok-first.ensures.left c.in_ok-second.ensures.funcs in
+    let h = subst (λ ps. AreAdded c.box_of.new.funcs c.box_of-2.new.funcs (expression_of c.args.first.now) c.box_of-2.new.left ps) c.in_ok-second.ensures.same c.in_ok-first.ensures.funcs in
+    two_added c.args.funcs.now c.box_of.new.funcs c.box_of-2.new.funcs (expression_of c.args.first.now) (expression_of c.args.second.now) c.box_of-2.new.left c.args.context.now.items g h
+
+pub if_of-returns-clause-same : goal.if_of-returns-clause-same
+if_of-returns-clause-same t c = c.in_ok-condition.ensures.same ∙ c.in_ok-yes.ensures.same
+
+pub if_of-returns-clause-left : goal.if_of-returns-clause-left
+if_of-returns-clause-left t c = omega (arith, c.in_ok-yes.ensures.left, c.in_ok-condition.ensures.left)
+
+pub if_of-returns-clause-found : goal.if_of-returns-clause-found
+if_of-returns-clause-found t c = two_taken _ _ _ _ _ c.in_ok-yes.ensures.found (subst (λ ps. c.two_of.new.found.items ≡ c.box_of.new.found.items ++ all_found (expression_of c.args.condition.now) (length ps)) c.in_ok-yes.ensures.same c.in_ok-condition.ensures.found)
+
+pub if_of-returns-clause-code : goal.if_of-returns-clause-code
+if_of-returns-clause-code t c =
+    let x = subst (λ ps. ir_of c.in_ok-condition.condition.value ≡ code_in (expression_of c.args.condition.now) c.box_of.new.left ps c.args.slot) c.in_ok-yes.ensures.same c.in_ok-condition.ensures.code in
+    let y = subst (λ k. ir_of c.in_ok-yes.yes.value ≡ code_in (expression_of c.args.yes.now) k c.args.context.now.items c.args.slot) c.in_ok-condition.ensures.left c.in_ok-yes.ensures.first in
+    let z = subst (λ k. ir_of c.in_ok-yes.no.value ≡ code_in (expression_of c.args.no.now) (k + funs (expression_of c.args.yes.now)) c.args.context.now.items c.args.slot) c.in_ok-condition.ensures.left c.in_ok-yes.ensures.second in
+    λ j. i.cond (x j) (y j) (z j)
+
+pub if_of-returns-clause-funcs : goal.if_of-returns-clause-funcs
+if_of-returns-clause-funcs t c =
+    let g = subst (λ k. AreAdded c.args.funcs.now c.two_of.new.funcs (pair (expression_of c.args.yes.now) (expression_of c.args.no.now)) k c.args.context.now.items) c.in_ok-condition.ensures.left c.in_ok-yes.ensures.funcs in
+    let h = subst (λ ps. AreAdded c.two_of.new.funcs c.box_of.new.funcs (expression_of c.args.condition.now) c.box_of.new.left ps) c.in_ok-yes.ensures.same c.in_ok-condition.ensures.funcs in
+    two_added c.args.funcs.now c.two_of.new.funcs c.box_of.new.funcs (expression_of c.args.condition.now) (pair (expression_of c.args.yes.now) (expression_of c.args.no.now)) c.box_of.new.left c.args.context.now.items g h
