@@ -1,12 +1,14 @@
 use Rattle.std.proofs.Common.{suc, map, ◌-◌, ◌≡◌, ◌+◌, ◌++◌, refl, ◌∙◌, sym, ap, subst, arith, length, vec_len}
-use Rattle.mw_term.specs.Terms.{expression_of, size, app, bind, cond, pair, fst, snd, prim}
+use Rattle.mw_term.specs.Terms.{expression_of, size, fun, fix, app, bind, cond, pair, fst, snd, prim}
 use Rattle.mw_term.specs.Closed.{ClosedBelow}
+use Rattle.std.specs.Prelude.{IfOk}
+use Rattle.mw_ir.specs.declared.place.Place.TheVariants.{Slot}
 use Rattle.mw_ir.specs.Ir as i
 use Rattle.mw_ir.specs.Views.{ir_of, ir_func_of}
-use Rattle.mw_conv.specs.Convert.{funs}
-use Rattle.mw_conv.specs.Contexts.{code_in, AreAdded}
+use Rattle.mw_conv.specs.Convert.{funs, code}
+use Rattle.mw_conv.specs.Contexts.{place_at, code_in, AreAdded}
 use Rattle.mw_conv.specs.Finding.{all_found, EndsWith}
-use Rattle.mw_conv.proofs.Contexts.{one_more, popped}
+use Rattle.mw_conv.proofs.Contexts.{pushed, one_more, popped}
 use Rattle.mw_conv.proofs.Ends.{ends_left, ends_right, two_taken, two_added}
 use Rattle.std.proofs.lemmas.List.{map-append}
 use Rattle.mw_conv.proofs.Closures.{outer_free, the_found, the_rest, found_again, all_within, few, inner_within, closure_is, function_added, funs_is, size_is, closed_is, within_is, ok_map}
@@ -296,3 +298,128 @@ if_of-returns-clause-funcs t c =
     let g = subst (λ k. AreAdded c.args.funcs.now c.two_of.new.funcs (pair (expression_of c.args.yes.now) (expression_of c.args.no.now)) k c.args.context.now.items) c.in_ok-condition.ensures.left c.in_ok-yes.ensures.funcs in
     let h = subst (λ ps. AreAdded c.two_of.new.funcs c.box_of.new.funcs (expression_of c.args.condition.now) c.box_of.new.left ps) c.in_ok-yes.ensures.same c.in_ok-condition.ensures.funcs in
     two_added c.args.funcs.now c.two_of.new.funcs c.box_of.new.funcs (expression_of c.args.condition.now) (pair (expression_of c.args.yes.now) (expression_of c.args.no.now)) c.box_of.new.left c.args.context.now.items g h
+
+pub code_of-closure_of-requires : goal.code_of-closure_of-requires
+code_of-closure_of-requires t c =
+    let e : expression_of c.args.term.now ≡ fun (expression_of c.deref.result.now) = rw (c.in-Fun.is, ← c.deref.ensures) refl in
+    let z = ap size e in
+    let u = ap funs e in
+    (omega arith, (subst (λ x. ClosedBelow (length c.args.context.now.items) x) e c.requires.closed, (omega arith, (omega arith, subst (λ x. EndsWith c.args.found.now.items (all_found x (length c.args.context.now.items))) e c.requires.found))))
+
+pub code_of-returns-in-Fun-clause-left : goal.code_of-returns-in-Fun-clause-left
+code_of-returns-in-Fun-clause-left t c =
+    let e : expression_of c.args.term.now ≡ fun (expression_of c.deref.result.now) = rw (c.in-Fun.is, ← c.deref.ensures) refl in
+    subst (λ x. IfOk c.closure_of.result (λ _. c.args.left.now ≡ c.closure_of.new.left + funs x)) (sym e) c.closure_of.ensures.left
+
+pub code_of-returns-in-Fun-clause-found : goal.code_of-returns-in-Fun-clause-found
+code_of-returns-in-Fun-clause-found t c =
+    let e : expression_of c.args.term.now ≡ fun (expression_of c.deref.result.now) = rw (c.in-Fun.is, ← c.deref.ensures) refl in
+    subst (λ x. IfOk c.closure_of.result (λ _. c.args.found.now.items ≡ c.closure_of.new.found.items ++ all_found x (length c.args.context.now.items))) (sym e) c.closure_of.ensures.found
+
+pub code_of-returns-in-Fun-clause-funcs : goal.code_of-returns-in-Fun-clause-funcs
+code_of-returns-in-Fun-clause-funcs t c =
+    let e : expression_of c.args.term.now ≡ fun (expression_of c.deref.result.now) = rw (c.in-Fun.is, ← c.deref.ensures) refl in
+    subst (λ x. IfOk c.closure_of.result (λ _. AreAdded c.args.funcs.now c.closure_of.new.funcs x c.closure_of.new.left c.args.context.now.items)) (sym e) c.closure_of.ensures.funcs
+
+pub code_of-closure_of-requires-in-Rec : goal.code_of-closure_of-requires-in-Rec
+code_of-closure_of-requires-in-Rec t c =
+    let e : expression_of c.args.term.now ≡ fix (expression_of c.deref-in-Rec.result.now) = rw (c.in-Rec.is, ← c.deref-in-Rec.ensures) refl in
+    let z = ap size e in
+    let u = ap funs e in
+    (omega arith, (subst (λ x. ClosedBelow (length c.args.context.now.items) x) e c.requires.closed, (omega arith, (omega arith, subst (λ x. EndsWith c.args.found.now.items (all_found x (length c.args.context.now.items))) e c.requires.found))))
+
+pub code_of-returns-in-Rec-clause-left : goal.code_of-returns-in-Rec-clause-left
+code_of-returns-in-Rec-clause-left t c =
+    let e : expression_of c.args.term.now ≡ fix (expression_of c.deref-in-Rec.result.now) = rw (c.in-Rec.is, ← c.deref-in-Rec.ensures) refl in
+    subst (λ x. IfOk c.closure_of-in-Rec.result (λ _. c.args.left.now ≡ c.closure_of-in-Rec.new.left + funs x)) (sym e) c.closure_of-in-Rec.ensures.left
+
+pub code_of-returns-in-Rec-clause-found : goal.code_of-returns-in-Rec-clause-found
+code_of-returns-in-Rec-clause-found t c =
+    let e : expression_of c.args.term.now ≡ fix (expression_of c.deref-in-Rec.result.now) = rw (c.in-Rec.is, ← c.deref-in-Rec.ensures) refl in
+    subst (λ x. IfOk c.closure_of-in-Rec.result (λ _. c.args.found.now.items ≡ c.closure_of-in-Rec.new.found.items ++ all_found x (length c.args.context.now.items))) (sym e) c.closure_of-in-Rec.ensures.found
+
+pub code_of-returns-in-Rec-clause-funcs : goal.code_of-returns-in-Rec-clause-funcs
+code_of-returns-in-Rec-clause-funcs t c =
+    let e : expression_of c.args.term.now ≡ fix (expression_of c.deref-in-Rec.result.now) = rw (c.in-Rec.is, ← c.deref-in-Rec.ensures) refl in
+    subst (λ x. IfOk c.closure_of-in-Rec.result (λ _. AreAdded c.args.funcs.now c.closure_of-in-Rec.new.funcs x c.closure_of-in-Rec.new.left c.args.context.now.items)) (sym e) c.closure_of-in-Rec.ensures.funcs
+
+pub code_of-returns-in-Let-clause-left : goal.code_of-returns-in-Let-clause-left
+code_of-returns-in-Let-clause-left t c =
+    let e : expression_of c.args.term.now ≡ bind (expression_of c.deref-in-Let.result.now) (expression_of c.deref-in-Let-2.result.now) = rw (c.in-Let.is, ← c.deref-in-Let.ensures, ← c.deref-in-Let-2.ensures) refl in
+    subst (λ x. IfOk c.let_of.result (λ _. c.args.left.now ≡ c.let_of.new.left + funs x)) (sym e) c.let_of.ensures.left
+
+pub code_of-returns-in-Let-clause-found : goal.code_of-returns-in-Let-clause-found
+code_of-returns-in-Let-clause-found t c =
+    let e : expression_of c.args.term.now ≡ bind (expression_of c.deref-in-Let.result.now) (expression_of c.deref-in-Let-2.result.now) = rw (c.in-Let.is, ← c.deref-in-Let.ensures, ← c.deref-in-Let-2.ensures) refl in
+    subst (λ x. IfOk c.let_of.result (λ _. c.args.found.now.items ≡ c.let_of.new.found.items ++ all_found x (length c.args.context.now.items))) (sym e) c.let_of.ensures.found
+
+pub code_of-returns-in-Let-clause-funcs : goal.code_of-returns-in-Let-clause-funcs
+code_of-returns-in-Let-clause-funcs t c =
+    let e : expression_of c.args.term.now ≡ bind (expression_of c.deref-in-Let.result.now) (expression_of c.deref-in-Let-2.result.now) = rw (c.in-Let.is, ← c.deref-in-Let.ensures, ← c.deref-in-Let-2.ensures) refl in
+    subst (λ x. IfOk c.let_of.result (λ _. AreAdded c.args.funcs.now c.let_of.new.funcs x c.let_of.new.left c.args.context.now.items)) (sym e) c.let_of.ensures.funcs
+
+pub code_of-returns-in-Let-clause-code : goal.code_of-returns-in-Let-clause-code
+code_of-returns-in-Let-clause-code t c =
+    let e : expression_of c.args.term.now ≡ bind (expression_of c.deref-in-Let.result.now) (expression_of c.deref-in-Let-2.result.now) = rw (c.in-Let.is, ← c.deref-in-Let.ensures, ← c.deref-in-Let-2.ensures) refl in
+    subst (λ x. IfOk c.let_of.result (λ r. ir_of r ≡ code_in x c.let_of.new.left c.args.context.now.items c.args.slot)) (sym e) c.let_of.ensures.code
+
+pub code_of-returns-in-Let-clause-same : goal.code_of-returns-in-Let-clause-same
+code_of-returns-in-Let-clause-same t c = c.let_of.ensures.same
+
+pub code_of-returns-in-If-clause-left : goal.code_of-returns-in-If-clause-left
+code_of-returns-in-If-clause-left t c =
+    let e : expression_of c.args.term.now ≡ cond (expression_of c.deref-in-If.result.now) (expression_of c.deref-in-If-2.result.now) (expression_of c.deref-in-If-3.result.now) = rw (c.in-If.is, ← c.deref-in-If.ensures, ← c.deref-in-If-2.ensures, ← c.deref-in-If-3.ensures) refl in
+    subst (λ x. IfOk c.if_of.result (λ _. c.args.left.now ≡ c.if_of.new.left + funs x)) (sym e) c.if_of.ensures.left
+
+pub code_of-returns-in-If-clause-found : goal.code_of-returns-in-If-clause-found
+code_of-returns-in-If-clause-found t c =
+    let e : expression_of c.args.term.now ≡ cond (expression_of c.deref-in-If.result.now) (expression_of c.deref-in-If-2.result.now) (expression_of c.deref-in-If-3.result.now) = rw (c.in-If.is, ← c.deref-in-If.ensures, ← c.deref-in-If-2.ensures, ← c.deref-in-If-3.ensures) refl in
+    subst (λ x. IfOk c.if_of.result (λ _. c.args.found.now.items ≡ c.if_of.new.found.items ++ all_found x (length c.args.context.now.items))) (sym e) c.if_of.ensures.found
+
+pub code_of-returns-in-If-clause-funcs : goal.code_of-returns-in-If-clause-funcs
+code_of-returns-in-If-clause-funcs t c =
+    let e : expression_of c.args.term.now ≡ cond (expression_of c.deref-in-If.result.now) (expression_of c.deref-in-If-2.result.now) (expression_of c.deref-in-If-3.result.now) = rw (c.in-If.is, ← c.deref-in-If.ensures, ← c.deref-in-If-2.ensures, ← c.deref-in-If-3.ensures) refl in
+    subst (λ x. IfOk c.if_of.result (λ _. AreAdded c.args.funcs.now c.if_of.new.funcs x c.if_of.new.left c.args.context.now.items)) (sym e) c.if_of.ensures.funcs
+
+pub code_of-returns-in-If-clause-code : goal.code_of-returns-in-If-clause-code
+code_of-returns-in-If-clause-code t c =
+    let e : expression_of c.args.term.now ≡ cond (expression_of c.deref-in-If.result.now) (expression_of c.deref-in-If-2.result.now) (expression_of c.deref-in-If-3.result.now) = rw (c.in-If.is, ← c.deref-in-If.ensures, ← c.deref-in-If-2.ensures, ← c.deref-in-If-3.ensures) refl in
+    subst (λ x. IfOk c.if_of.result (λ r. ir_of r ≡ code_in x c.if_of.new.left c.args.context.now.items c.args.slot)) (sym e) c.if_of.ensures.code
+
+pub code_of-returns-in-If-clause-same : goal.code_of-returns-in-If-clause-same
+code_of-returns-in-If-clause-same t c = c.if_of.ensures.same
+
+pub let_of-returns-clause-same : goal.let_of-returns-clause-same
+let_of-returns-clause-same t c =
+    let q = c.in_ok-body.ensures.same ∙ c.in_ok-push.ensures.items in
+    let l = one_more c.args.context.now.items c.box_of.new.context.items _ q in
+    let j : vec_len c.box_of.new.context - 1 ≡ length c.args.context.now.items = omega arith in
+    let p = popped c.args.context.now.items c.box_of.new.context.items c.pop-slot.new.self.items _ _ q j c.pop-slot.ensures.rest in
+    c.in_ok-definition.ensures.same ∙ p
+
+pub let_of-returns-clause-left : goal.let_of-returns-clause-left
+let_of-returns-clause-left t c = omega (arith, c.in_ok-body.ensures.left, c.in_ok-definition.ensures.left)
+
+pub let_of-returns-clause-found : goal.let_of-returns-clause-found
+let_of-returns-clause-found t c =
+    let q = c.in_ok-body.ensures.same ∙ c.in_ok-push.ensures.items in
+    let l = one_more c.args.context.now.items c.box_of.new.context.items _ q in
+    let j : vec_len c.box_of.new.context - 1 ≡ length c.args.context.now.items = omega arith in
+    let p = popped c.args.context.now.items c.box_of.new.context.items c.pop-slot.new.self.items _ _ q j c.pop-slot.ensures.rest in
+    let m = one_more c.args.context.now.items c.push.new.self.items _ c.in_ok-push.ensures.items in
+    let f = subst (λ n. c.args.found.now.items ≡ c.box_of.new.found.items ++ all_found (expression_of c.args.body.now) n) m c.in_ok-body.ensures.found in
+    let g = subst (λ ps. c.box_of.new.found.items ≡ c.box_of-2.new.found.items ++ all_found (expression_of c.args.definition.now) (length ps)) p c.in_ok-definition.ensures.found in
+    two_taken _ _ _ _ _ f g
+
+pub let_of-returns-clause-code : goal.let_of-returns-clause-code
+let_of-returns-clause-code t c =
+    let q = c.in_ok-body.ensures.same ∙ c.in_ok-push.ensures.items in
+    let l = one_more c.args.context.now.items c.box_of.new.context.items _ q in
+    let j : vec_len c.box_of.new.context - 1 ≡ length c.args.context.now.items = omega arith in
+    let p = popped c.args.context.now.items c.box_of.new.context.items c.pop-slot.new.self.items _ _ q j c.pop-slot.ensures.rest in
+    let m = one_more c.args.context.now.items c.push.new.self.items _ c.in_ok-push.ensures.items in
+    let n : c.args.slot + 1 ≡ suc c.args.slot = omega arith in
+    let r = ap place_at c.in_ok-push.ensures.items ∙ pushed c.args.context.now.items (Slot c.args.slot) in
+    let x = subst (λ ps. ir_of c.in_ok-definition.definition.value ≡ code_in (expression_of c.args.definition.now) c.box_of-2.new.left ps c.args.slot) p c.in_ok-definition.ensures.code in
+    let y = c.in_ok-body.ensures.code ∙ (λ h. code (expression_of c.args.body.now) (c.in_ok-definition.ensures.left h) (m h) (n h) (r h)) in
+    λ h. i.bind c.args.slot (x h) (y h)
