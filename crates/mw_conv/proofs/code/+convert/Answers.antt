@@ -11,7 +11,7 @@ use Rattle.mw_conv.specs.Finding.{all_found, EndsWith}
 use Rattle.mw_conv.proofs.Contexts.{pushed, one_more, popped}
 use Rattle.mw_conv.proofs.Ends.{ends_left, ends_right, two_taken, two_added}
 use Rattle.std.proofs.lemmas.List.{map-append}
-use Rattle.mw_conv.proofs.Closures.{outer_free, the_found, the_rest, found_again, all_within, few, inner_within, closure_is, function_added, funs_is, size_is, closed_is, within_is, ok_map}
+use Rattle.mw_conv.proofs.Closures.{outer_free, the_found, the_rest, found_again, all_within, few, inner_within, closure_is, function_added, funs_is, size_is, closed_is, within_is, ok_map, no_ok}
 use Rattle.mw_conv.proofs.code.+convert.Goals as goal
 
 pub closure_of-places_of-requires : goal.closure_of-places_of-requires
@@ -423,3 +423,93 @@ let_of-returns-clause-code t c =
     let x = subst (λ ps. ir_of c.in_ok-definition.definition.value ≡ code_in (expression_of c.args.definition.now) c.box_of-2.new.left ps c.args.slot) p c.in_ok-definition.ensures.code in
     let y = c.in_ok-body.ensures.code ∙ (λ h. code (expression_of c.args.body.now) (c.in_ok-definition.ensures.left h) (m h) (n h) (r h)) in
     λ h. i.bind c.args.slot (x h) (y h)
+
+pub box_of-returns-in_err-code_of : goal.box_of-returns-in_err-code_of
+box_of-returns-in_err-code_of t c =
+    let n = c.from_residual.ensures.0 in
+    record { same = no_ok c.from_residual.result _ n; left = no_ok c.from_residual.result _ n; found = no_ok c.from_residual.result _ n; code = no_ok c.from_residual.result _ n; funcs = no_ok c.from_residual.result _ n }
+
+pub box_of-returns-in_err-new : goal.box_of-returns-in_err-new
+box_of-returns-in_err-new t c =
+    let n = c.from_residual-in_err-new.ensures.0 in
+    record { same = no_ok c.from_residual-in_err-new.result _ n; left = no_ok c.from_residual-in_err-new.result _ n; found = no_ok c.from_residual-in_err-new.result _ n; code = no_ok c.from_residual-in_err-new.result _ n; funcs = no_ok c.from_residual-in_err-new.result _ n }
+
+pub closure_of-returns-in_err-places : goal.closure_of-returns-in_err-places
+closure_of-returns-in_err-places t c =
+    let n = c.from_residual.ensures.0 in
+    record { left = no_ok c.from_residual.result _ n; found = no_ok c.from_residual.result _ n; code = no_ok c.from_residual.result _ n; funcs = no_ok c.from_residual.result _ n }
+
+pub closure_of-returns-in_err-inner : goal.closure_of-returns-in_err-inner
+closure_of-returns-in_err-inner t c =
+    let n = c.from_residual-in_err-inner.ensures.0 in
+    record { left = no_ok c.from_residual-in_err-inner.result _ n; found = no_ok c.from_residual-in_err-inner.result _ n; code = no_ok c.from_residual-in_err-inner.result _ n; funcs = no_ok c.from_residual-in_err-inner.result _ n }
+
+pub closure_of-returns-in_err-body : goal.closure_of-returns-in_err-body
+closure_of-returns-in_err-body t c =
+    let n = c.from_residual-in_err-body.ensures.0 in
+    record { left = no_ok c.from_residual-in_err-body.result _ n; found = no_ok c.from_residual-in_err-body.result _ n; code = no_ok c.from_residual-in_err-body.result _ n; funcs = no_ok c.from_residual-in_err-body.result _ n }
+
+pub closure_of-returns-in_err-push : goal.closure_of-returns-in_err-push
+closure_of-returns-in_err-push t c =
+    let n = c.from_residual-in_err-push.ensures.0 in
+    record { left = no_ok c.from_residual-in_err-push.result _ n; found = no_ok c.from_residual-in_err-push.result _ n; code = no_ok c.from_residual-in_err-push.result _ n; funcs = no_ok c.from_residual-in_err-push.result _ n }
+
+pub code_of-returns-in_err-first-in-App : goal.code_of-returns-in_err-first-in-App
+code_of-returns-in_err-first-in-App t c =
+    let n = c.from_residual.ensures.0 in
+    record { same = no_ok c.from_residual.result _ n; left = no_ok c.from_residual.result _ n; found = no_ok c.from_residual.result _ n; code = no_ok c.from_residual.result _ n; funcs = no_ok c.from_residual.result _ n }
+
+pub code_of-returns-in_err-first-in-Pair : goal.code_of-returns-in_err-first-in-Pair
+code_of-returns-in_err-first-in-Pair t c =
+    let n = c.from_residual-in_err-first-in-Pair.ensures.0 in
+    record { same = no_ok c.from_residual-in_err-first-in-Pair.result _ n; left = no_ok c.from_residual-in_err-first-in-Pair.result _ n; found = no_ok c.from_residual-in_err-first-in-Pair.result _ n; code = no_ok c.from_residual-in_err-first-in-Pair.result _ n; funcs = no_ok c.from_residual-in_err-first-in-Pair.result _ n }
+
+pub code_of-returns-in_err-box_of-in-Fst : goal.code_of-returns-in_err-box_of-in-Fst
+code_of-returns-in_err-box_of-in-Fst t c =
+    let n = c.from_residual-in_err-box_of-in-Fst.ensures.0 in
+    record { same = no_ok c.from_residual-in_err-box_of-in-Fst.result _ n; left = no_ok c.from_residual-in_err-box_of-in-Fst.result _ n; found = no_ok c.from_residual-in_err-box_of-in-Fst.result _ n; code = no_ok c.from_residual-in_err-box_of-in-Fst.result _ n; funcs = no_ok c.from_residual-in_err-box_of-in-Fst.result _ n }
+
+pub code_of-returns-in_err-box_of-in-Snd : goal.code_of-returns-in_err-box_of-in-Snd
+code_of-returns-in_err-box_of-in-Snd t c =
+    let n = c.from_residual-in_err-box_of-in-Snd.ensures.0 in
+    record { same = no_ok c.from_residual-in_err-box_of-in-Snd.result _ n; left = no_ok c.from_residual-in_err-box_of-in-Snd.result _ n; found = no_ok c.from_residual-in_err-box_of-in-Snd.result _ n; code = no_ok c.from_residual-in_err-box_of-in-Snd.result _ n; funcs = no_ok c.from_residual-in_err-box_of-in-Snd.result _ n }
+
+pub code_of-returns-in_err-first-in-Prim : goal.code_of-returns-in_err-first-in-Prim
+code_of-returns-in_err-first-in-Prim t c =
+    let n = c.from_residual-in_err-first-in-Prim.ensures.0 in
+    record { same = no_ok c.from_residual-in_err-first-in-Prim.result _ n; left = no_ok c.from_residual-in_err-first-in-Prim.result _ n; found = no_ok c.from_residual-in_err-first-in-Prim.result _ n; code = no_ok c.from_residual-in_err-first-in-Prim.result _ n; funcs = no_ok c.from_residual-in_err-first-in-Prim.result _ n }
+
+pub if_of-returns-in_err-yes : goal.if_of-returns-in_err-yes
+if_of-returns-in_err-yes t c =
+    let n = c.from_residual.ensures.0 in
+    record { same = no_ok c.from_residual.result _ n; left = no_ok c.from_residual.result _ n; found = no_ok c.from_residual.result _ n; code = no_ok c.from_residual.result _ n; funcs = no_ok c.from_residual.result _ n }
+
+pub if_of-returns-in_err-condition : goal.if_of-returns-in_err-condition
+if_of-returns-in_err-condition t c =
+    let n = c.from_residual-in_err-condition.ensures.0 in
+    record { same = no_ok c.from_residual-in_err-condition.result _ n; left = no_ok c.from_residual-in_err-condition.result _ n; found = no_ok c.from_residual-in_err-condition.result _ n; code = no_ok c.from_residual-in_err-condition.result _ n; funcs = no_ok c.from_residual-in_err-condition.result _ n }
+
+pub let_of-returns-in_err-push : goal.let_of-returns-in_err-push
+let_of-returns-in_err-push t c =
+    let n = c.from_residual.ensures.0 in
+    record { same = no_ok c.from_residual.result _ n; left = no_ok c.from_residual.result _ n; found = no_ok c.from_residual.result _ n; code = no_ok c.from_residual.result _ n; funcs = no_ok c.from_residual.result _ n }
+
+pub let_of-returns-in_err-body : goal.let_of-returns-in_err-body
+let_of-returns-in_err-body t c =
+    let n = c.from_residual-in_err-body.ensures.0 in
+    record { same = no_ok c.from_residual-in_err-body.result _ n; left = no_ok c.from_residual-in_err-body.result _ n; found = no_ok c.from_residual-in_err-body.result _ n; code = no_ok c.from_residual-in_err-body.result _ n; funcs = no_ok c.from_residual-in_err-body.result _ n }
+
+pub let_of-returns-in_err-definition : goal.let_of-returns-in_err-definition
+let_of-returns-in_err-definition t c =
+    let n = c.from_residual-in_err-definition.ensures.0 in
+    record { same = no_ok c.from_residual-in_err-definition.result _ n; left = no_ok c.from_residual-in_err-definition.result _ n; found = no_ok c.from_residual-in_err-definition.result _ n; code = no_ok c.from_residual-in_err-definition.result _ n; funcs = no_ok c.from_residual-in_err-definition.result _ n }
+
+pub two_of-returns-in_err-second : goal.two_of-returns-in_err-second
+two_of-returns-in_err-second t c =
+    let n = c.from_residual.ensures.0 in
+    record { same = no_ok c.from_residual.result _ n; left = no_ok c.from_residual.result _ n; found = no_ok c.from_residual.result _ n; first = no_ok c.from_residual.result _ n; second = no_ok c.from_residual.result _ n; funcs = no_ok c.from_residual.result _ n }
+
+pub two_of-returns-in_err-first : goal.two_of-returns-in_err-first
+two_of-returns-in_err-first t c =
+    let n = c.from_residual-in_err-first.ensures.0 in
+    record { same = no_ok c.from_residual-in_err-first.result _ n; left = no_ok c.from_residual-in_err-first.result _ n; found = no_ok c.from_residual-in_err-first.result _ n; first = no_ok c.from_residual-in_err-first.result _ n; second = no_ok c.from_residual-in_err-first.result _ n; funcs = no_ok c.from_residual-in_err-first.result _ n }
