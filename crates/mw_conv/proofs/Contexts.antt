@@ -1,8 +1,8 @@
 -- A context that is pushed and read, and the one within a function.
-use Rattle.std.proofs.Common.{◌≡◌, ℕ, zero, suc, ◌+◌, ◌-◌, ◌<◌, ◌≤◌, Bool, true, false, List, [], ◌∷◌, ◌++◌, length, reverse, get_or, set, map, refl, ap, ◌∙◌, sym, arith, append_assoc}
+use Rattle.std.proofs.Common.{◌≡◌, ℕ, zero, suc, ◌+◌, ◌-◌, ◌<◌, ◌≤◌, Bool, true, false, List, [], ◌∷◌, ◌++◌, length, take, reverse, get_or, set, map, refl, ap, ◌∙◌, sym, arith, append_assoc, length-append}
 use Rattle.std.specs.Prelude.{◌==◌, slice_index_or}
 use Rattle.std.proofs.lemmas.Bool.{eqb-true, eqb-false}
-use Rattle.std.proofs.lemmas.List.{reverse-append, get_or-reverse, get_or-set_same, get_or-set_other, length-set}
+use Rattle.std.proofs.lemmas.List.{reverse-append, get_or-reverse, get_or-set_same, get_or-set_other, length-set, take_all, take-append-le}
 use Rattle.mw_term.specs.Terms.{Expression}
 use Rattle.mw_meaning.specs.KernelMeaning.{occurs}
 use Rattle.mw_ir.specs.declared.place.Place.{Place}
@@ -17,6 +17,13 @@ front_is p qs (suc i) = refl
 
 pub pushed : (ps : List Place) (p : Place) → place_at (ps ++ p ∷ []) ≡ here p (place_at ps)
 pushed ps p = ap (λ qs i. get_or qs i Argument) (reverse-append ps (p ∷ [])) ∙ (λ j i. front_is p (reverse ps) i j)
+
+pub one_more : (ps qs : List Place) (p : Place) → qs ≡ ps ++ p ∷ [] → length qs ≡ suc (length ps)
+one_more ps qs p e = omega (arith, ap length e, length-append ps (p ∷ []))
+
+-- what was pushed is taken off
+pub popped : (ps qs rest : List Place) (p : Place) (n : ℕ) → qs ≡ ps ++ p ∷ [] → n ≡ length ps → rest ≡ take n qs → rest ≡ ps
+popped ps qs rest p n e l f = f ∙ (ap (λ n. take n qs) l ∙ (ap (λ qs. take (length ps) qs) e ∙ (take-append-le (length ps) ps (p ∷ []) (omega arith) ∙ take_all (length ps) ps (omega arith))))
 
 pub place_read : (ps : List Place) (i : ℕ) → i < length ps → place_at ps i ≡ get_or ps (length ps - 1 - i) Argument
 place_read ps i lt = get_or-reverse ps i Argument lt

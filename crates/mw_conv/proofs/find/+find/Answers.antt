@@ -2,6 +2,7 @@ use Rattle.std.proofs.Common.{◌≡◌, length, replicate, false, ◌+◌, ◌�
 use Rattle.mw_term.specs.Terms.{expression_of}
 use Rattle.mw_conv.specs.Convert.{lets}
 use Rattle.mw_conv.specs.Finding.{marking, all_found}
+use Rattle.mw_conv.proofs.Closures.{no_ok}
 use Rattle.mw_conv.proofs.Finds.{found_twice, found_under, found_thrice}
 use Rattle.mw_conv.proofs.Marks.{either, unmarked, joined_twice, joined_thrice, let_marks, function_marks, function_is_found}
 use Rattle.mw_conv.proofs.find.+find.Goals as goal
@@ -207,3 +208,58 @@ find-returns-in-Fst-clause-literals t c =
     let h = c.find-in-Fst.ensures.literals in
     let a = c.deref-in-Fst.ensures in
     either c.in-Fst.is (λ e. rw (e, ← a) h) (λ e. rw (e, ← a) h)
+
+pub find-returns-in_err-first-in-Let : goal.find-returns-in_err-first-in-Let
+find-returns-in_err-first-in-Let t c =
+    let n = c.from_residual.ensures.0 in
+    record { marks = no_ok c.from_residual.result _ n; found = no_ok c.from_residual.result _ n; length = no_ok c.from_residual.result _ n; slots = no_ok c.from_residual.result _ n; literals = no_ok c.from_residual.result _ n }
+
+pub find-returns-in_err-second-in-Let : goal.find-returns-in_err-second-in-Let
+find-returns-in_err-second-in-Let t c =
+    let n = c.from_residual-in_err-second-in-Let.ensures.0 in
+    record { marks = no_ok c.from_residual-in_err-second-in-Let.result _ n; found = no_ok c.from_residual-in_err-second-in-Let.result _ n; length = no_ok c.from_residual-in_err-second-in-Let.result _ n; slots = no_ok c.from_residual-in_err-second-in-Let.result _ n; literals = no_ok c.from_residual-in_err-second-in-Let.result _ n }
+
+pub find-returns-in_err-first-in-If : goal.find-returns-in_err-first-in-If
+find-returns-in_err-first-in-If t c =
+    let n = c.from_residual-in_err-first-in-If.ensures.0 in
+    record { marks = no_ok c.from_residual-in_err-first-in-If.result _ n; found = no_ok c.from_residual-in_err-first-in-If.result _ n; length = no_ok c.from_residual-in_err-first-in-If.result _ n; slots = no_ok c.from_residual-in_err-first-in-If.result _ n; literals = no_ok c.from_residual-in_err-first-in-If.result _ n }
+
+pub find-returns-in_err-second-in-If : goal.find-returns-in_err-second-in-If
+find-returns-in_err-second-in-If t c =
+    let n = c.from_residual-in_err-second-in-If.ensures.0 in
+    record { marks = no_ok c.from_residual-in_err-second-in-If.result _ n; found = no_ok c.from_residual-in_err-second-in-If.result _ n; length = no_ok c.from_residual-in_err-second-in-If.result _ n; slots = no_ok c.from_residual-in_err-second-in-If.result _ n; literals = no_ok c.from_residual-in_err-second-in-If.result _ n }
+
+pub find-returns-in_err-third-in-If : goal.find-returns-in_err-third-in-If
+find-returns-in_err-third-in-If t c =
+    let n = c.from_residual-in_err-third-in-If.ensures.0 in
+    record { marks = no_ok c.from_residual-in_err-third-in-If.result _ n; found = no_ok c.from_residual-in_err-third-in-If.result _ n; length = no_ok c.from_residual-in_err-third-in-If.result _ n; slots = no_ok c.from_residual-in_err-third-in-If.result _ n; literals = no_ok c.from_residual-in_err-third-in-If.result _ n }
+
+pub find-returns-in_err-first-in-App : goal.find-returns-in_err-first-in-App
+find-returns-in_err-first-in-App t c =
+    let n = c.from_residual-in_err-first-in-App.ensures.0 in
+    record { marks = no_ok c.from_residual-in_err-first-in-App.result _ n; found = no_ok c.from_residual-in_err-first-in-App.result _ n; length = no_ok c.from_residual-in_err-first-in-App.result _ n; slots = no_ok c.from_residual-in_err-first-in-App.result _ n; literals = no_ok c.from_residual-in_err-first-in-App.result _ n }
+
+pub find-returns-in_err-second-in-App : goal.find-returns-in_err-second-in-App
+find-returns-in_err-second-in-App t c =
+    let n = c.from_residual-in_err-second-in-App.ensures.0 in
+    record { marks = no_ok c.from_residual-in_err-second-in-App.result _ n; found = no_ok c.from_residual-in_err-second-in-App.result _ n; length = no_ok c.from_residual-in_err-second-in-App.result _ n; slots = no_ok c.from_residual-in_err-second-in-App.result _ n; literals = no_ok c.from_residual-in_err-second-in-App.result _ n }
+
+pub find_function-returns-in_err-inner : goal.find_function-returns-in_err-inner
+find_function-returns-in_err-inner t c =
+    let n = c.from_residual.ensures.0 in
+    record { marks = no_ok c.from_residual.result _ n; found = no_ok c.from_residual.result _ n; length = no_ok c.from_residual.result _ n; slots = no_ok c.from_residual.result _ n; literals = no_ok c.from_residual.result _ n }
+
+pub find_function-returns-in_err-slots : goal.find_function-returns-in_err-slots
+find_function-returns-in_err-slots t c =
+    let n = c.from_residual-in_err-slots.ensures.0 in
+    record { marks = no_ok c.from_residual-in_err-slots.result _ n; found = no_ok c.from_residual-in_err-slots.result _ n; length = no_ok c.from_residual-in_err-slots.result _ n; slots = no_ok c.from_residual-in_err-slots.result _ n; literals = no_ok c.from_residual-in_err-slots.result _ n }
+
+pub find_function-returns-in_err-free : goal.find_function-returns-in_err-free
+find_function-returns-in_err-free t c =
+    let n = c.from_residual-in_err-free.ensures.0 in
+    record { marks = no_ok c.from_residual-in_err-free.result _ n; found = no_ok c.from_residual-in_err-free.result _ n; length = no_ok c.from_residual-in_err-free.result _ n; slots = no_ok c.from_residual-in_err-free.result _ n; literals = no_ok c.from_residual-in_err-free.result _ n }
+
+pub find_function-returns-in_err-push : goal.find_function-returns-in_err-push
+find_function-returns-in_err-push t c =
+    let n = c.from_residual-in_err-push.ensures.0 in
+    record { marks = no_ok c.from_residual-in_err-push.result _ n; found = no_ok c.from_residual-in_err-push.result _ n; length = no_ok c.from_residual-in_err-push.result _ n; slots = no_ok c.from_residual-in_err-push.result _ n; literals = no_ok c.from_residual-in_err-push.result _ n }
