@@ -1,7 +1,39 @@
 use Rattle.std.proofs.Common.{◌≡◌, subst, arith}
 use Rattle.mw_types.specs.Answering.{TreesTo}
-use Rattle.mw_types.proofs.Answering.{answers}
+use Rattle.mw_types.proofs.Answering.{answers, no_trees, tree_more, roots_inside}
 use Rattle.mw_types.proofs.answer.answer.Goals as goal
+
+pub names_of-requires : goal.names_of-requires
+names_of-requires c = record { low = rw c.as_slice.ensures.value c.requires.sound.low_classifiers }
+
+pub loop-unknown-init : goal.loop-unknown-init
+loop-unknown-init c = rw (c.new-roots.ensures.items, c.new-trees.ensures.items) (no_trees c.args.state.now c.in_ok-names.names.items)
+
+pub own_tree-requires-clause-sound : goal.own_tree-requires-clause-sound
+own_tree-requires-clause-sound c = c.requires.sound
+
+pub own_tree-requires-clause-named : goal.own_tree-requires-clause-named
+own_tree-requires-clause-named c = rw (c.as_slice-in-loop-unknown.ensures.value, ← c.as_slice.ensures.value) c.in_ok-names.ensures
+
+pub own_tree-requires-clause-inside : goal.own_tree-requires-clause-inside
+own_tree-requires-clause-inside c = omega (arith, c.requires.unknowns, c.loop-unknown-test.true)
+
+pub own_tree-requires-clause-room : goal.own_tree-requires-clause-room
+own_tree-requires-clause-room c = c.requires.room c.as_slice-in-loop-unknown.result.now c.loop-unknown.unknown c.loop-unknown-test.true
+
+pub find-requires-clause-low : goal.find-requires-clause-low
+find-requires-clause-low c = rw c.as_slice-in-loop-unknown-2.ensures.value c.requires.sound.low
+
+pub find-requires-clause-inside : goal.find-requires-clause-inside
+find-requires-clause-inside c = rw c.as_slice-in-loop-unknown-2.ensures.value (omega (arith, c.requires.unknowns, c.loop-unknown-test.true))
+
+pub loop-unknown-preserved : goal.loop-unknown-preserved
+loop-unknown-preserved c =
+    rw (c.in_ok-push.ensures.items, c.in_ok-push-2.ensures.items)
+    (tree_more c.args.state.now c.in_ok-names.names.items c.loop-unknown.roots.items c.loop-unknown.trees.items c.loop-unknown.unknown c.find.result c.in_ok-own_tree.field-0 c.loop-unknown.invariant c.find.ensures.below (rw c.as_slice-in-loop-unknown-2.ensures.value at c.find.ensures.leads) (rw c.as_slice-in-loop-unknown-2.ensures.value at c.find.ensures.root) (rw c.as_slice-in-loop-unknown.ensures.value at c.in_ok-own_tree.ensures))
+
+pub invariant_of-result : goal.invariant_of-result
+invariant_of-result c = roots_inside c.loop-unknown.invariant
 
 pub returns : goal.returns
 returns c =
