@@ -1,7 +1,7 @@
 -- Steps of a state, one after another.
-use Rattle.std.proofs.Common.{◌≡◌, ◌≢◌, ℕ, ◌≤◌, ◌<◌, List, [], ◌∷◌, ◌++◌, length, refl, ap, sym, subst, ◌∙◌, arith}
+use Rattle.std.proofs.Common.{true≢false, ◌≡◌, ◌≢◌, ℕ, ◌≤◌, ◌<◌, List, [], ◌∷◌, ◌++◌, length, refl, ap, sym, subst, ◌∙◌, arith}
 use Rattle.std.proofs.lemmas.List.{get_or_default}
-use Rattle.std.specs.Prelude.{slice_index_or, slice_set, IfOk, Result, Ok, Err}
+use Rattle.std.specs.Prelude.{slice_index_or, slice_set, IfOk, IsErr, IsErrAnd, Result, Ok, Err}
 use Rattle.mw_types.specs.Types.{Assignment}
 use Rattle.mw_types.specs.Forest.{Low, Joins}
 use Rattle.mw_types.specs.Holds.{Waits, joined, Means, Meeting, kept, Extra, ExtraInside, Inside, WaitsInside, Sound, Step, Linked}
@@ -204,3 +204,25 @@ put_linked s t low high m p below lt rl rh meet full ins e f g h = record {
         | other b ↦ rw (at_rest i a b) (k i le (let z = set_length s.parent.items high low in omega arith) (sym (get_other s.parent.items high i low 0 b) ∙ o))
       ]
     ]
+
+-- what an answer would have, where there is none
+pub no_answer : {A E : Type 0} (P : A → Type 0) (r : Result A E) → IsErr r → IfOk r P
+no_answer P (Ok x) e = absurd (true≢false (sym e))
+no_answer P (Err x) e = tt
+
+-- what is met but Clash
+pub keep_not_clash : {h : Shape} → Keep h ≢ Clash
+keep_not_clash e = absurd (cc)
+
+pub one_not_clash : {h : Shape} {w : Pending} → One h w ≢ Clash
+one_not_clash e = absurd (cc)
+
+pub two_not_clash : {h : Shape} {w x : Pending} → Two h w x ≢ Clash
+two_not_clash e = absurd (cc)
+
+pub classes_not_clash : {h : Shape} {c d : ℕ} {w : Pending} → Classes h c d w ≢ Clash
+classes_not_clash e = absurd (cc)
+
+-- the same of shapes that were read
+pub at_shapes : {x y u v : Shape} (P : Shape → Shape → Type 0) → x ≡ u → y ≡ v → P x y → P u v
+at_shapes {x = x} {v = v} P e f h = subst (λ z. P z v) e (subst (λ z. P x z) f h)

@@ -1,6 +1,7 @@
 use Rattle.std.proofs.Common.{◌≡◌, subst, arith}
 use Rattle.mw_types.specs.Answering.{TreesTo}
 use Rattle.mw_types.proofs.Answering.{answers, no_trees, tree_more, roots_inside}
+use Rattle.mw_types.proofs.Steps.{no_answer}
 use Rattle.mw_types.proofs.answer.answer.Goals as goal
 
 pub names_of-requires : goal.names_of-requires
@@ -40,3 +41,15 @@ returns c =
     let e : c.loop-unknown.unknown ≡ c.args.unknowns = omega (arith, c.loop-unknown-test.false, c.loop-unknown.auto.unknown-end) in
     answers c.args.state.now c.in_ok-names.names.items c.loop-unknown.roots.items c.loop-unknown.trees.items c.args.unknowns c.requires.unknowns (rw c.as_slice.ensures.value at c.in_ok-names.ensures)
     (subst (λ k. TreesTo c.args.state.now c.in_ok-names.names.items c.loop-unknown.roots.items c.loop-unknown.trees.items k) e c.loop-unknown.invariant)
+
+pub returns-in_err-names : goal.returns-in_err-names
+returns-in_err-names c = no_answer _ c.from_residual.result c.from_residual.ensures.0
+
+pub returns-in_err-own_tree : goal.returns-in_err-own_tree
+returns-in_err-own_tree c = no_answer _ c.from_residual-in_err-own_tree.result c.from_residual-in_err-own_tree.ensures.0
+
+pub returns-in_err-push : goal.returns-in_err-push
+returns-in_err-push c = no_answer _ c.from_residual-in_err-push.result c.from_residual-in_err-push.ensures.0
+
+pub returns-in_err-push-2 : goal.returns-in_err-push-2
+returns-in_err-push-2 c = no_answer _ c.from_residual-in_err-push-2.result c.from_residual-in_err-push-2.ensures.0

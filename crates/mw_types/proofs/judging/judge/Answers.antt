@@ -6,6 +6,7 @@ use Rattle.mw_types.specs.Judged.{Stated}
 use Rattle.mw_types.specs.Walks.{AllSized}
 use Rattle.mw_types.proofs.Verdicts.{blank_stated, left_within, right_within, item_stated, all_stated, never_unsolvable, never_after, fine, ready, big, small_more, unsolvable_not_fine, too_big_not_fine}
 use Rattle.mw_types.proofs.Work.{same_step}
+use Rattle.mw_types.proofs.Steps.{no_answer}
 use Rattle.mw_types.proofs.judging.judge.Goals as goal
 
 pub loop-equation-init : goal.loop-equation-init
@@ -112,3 +113,33 @@ loop-index-preserved c =
 
 pub returns-in-None-clause-ready : goal.returns-in-None-clause-ready
 returns-in-None-clause-ready c e = absurd (unsolvable_not_fine e)
+
+pub returns-in_err-left-clause-judged : goal.returns-in_err-left-clause-judged
+returns-in_err-left-clause-judged c = no_answer _ c.from_residual.result c.from_residual.ensures.0
+
+pub returns-in_err-left-clause-ready : goal.returns-in_err-left-clause-ready
+returns-in_err-left-clause-ready c = no_answer _ c.from_residual.result c.from_residual.ensures.0
+
+pub returns-in_err-right-clause-judged : goal.returns-in_err-right-clause-judged
+returns-in_err-right-clause-judged c = no_answer _ c.from_residual-in_err-right.result c.from_residual-in_err-right.ensures.0
+
+pub returns-in_err-right-clause-ready : goal.returns-in_err-right-clause-ready
+returns-in_err-right-clause-ready c = no_answer _ c.from_residual-in_err-right.result c.from_residual-in_err-right.ensures.0
+
+pub returns-in_err-postpone-clause-judged : goal.returns-in_err-postpone-clause-judged
+returns-in_err-postpone-clause-judged c = no_answer _ c.from_residual-in_err-postpone.result c.from_residual-in_err-postpone.ensures.0
+
+pub returns-in_err-postpone-clause-ready : goal.returns-in_err-postpone-clause-ready
+returns-in_err-postpone-clause-ready c = no_answer _ c.from_residual-in_err-postpone.result c.from_residual-in_err-postpone.ensures.0
+
+pub returns-in_err-settle-clause-judged : goal.returns-in_err-settle-clause-judged
+returns-in_err-settle-clause-judged c = no_answer _ c.from_residual-in_err-settle.result c.from_residual-in_err-settle.ensures.0
+
+pub returns-in_err-settle-clause-ready : goal.returns-in_err-settle-clause-ready
+returns-in_err-settle-clause-ready c = no_answer _ c.from_residual-in_err-settle.result c.from_residual-in_err-settle.ensures.0
+
+pub returns-in_err-sizes-clause-judged : goal.returns-in_err-sizes-clause-judged
+returns-in_err-sizes-clause-judged c = no_answer _ c.from_residual-in_err-sizes.result c.from_residual-in_err-sizes.ensures.0
+
+pub returns-in_err-sizes-clause-ready : goal.returns-in_err-sizes-clause-ready
+returns-in_err-sizes-clause-ready c = no_answer _ c.from_residual-in_err-sizes.result c.from_residual-in_err-sizes.ensures.0

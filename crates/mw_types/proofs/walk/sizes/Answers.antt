@@ -1,6 +1,7 @@
 use Rattle.std.proofs.Common.{◌≡◌, length, sym, subst, ◌∙◌, arith}
 use Rattle.mw_types.specs.Walks.{AllNew}
 use Rattle.mw_types.proofs.Walking.{start_sized, one_sized, all_sized, found_size, mark_read}
+use Rattle.mw_types.proofs.Steps.{no_answer}
 use Rattle.mw_types.proofs.walk.sizes.Goals as goal
 
 pub loop-node-preserved : goal.loop-node-preserved
@@ -67,3 +68,21 @@ returns-clause-sized c =
 
 pub returns-clause-none : goal.returns-clause-none
 returns-clause-none c = tt
+
+pub returns-in_err-marks-clause-sized : goal.returns-in_err-marks-clause-sized
+returns-in_err-marks-clause-sized c = no_answer _ c.from_residual.result c.from_residual.ensures.0
+
+pub returns-in_err-marks-clause-none : goal.returns-in_err-marks-clause-none
+returns-in_err-marks-clause-none c = no_answer _ c.from_residual.result c.from_residual.ensures.0
+
+pub returns-in_err-visit-clause-sized : goal.returns-in_err-visit-clause-sized
+returns-in_err-visit-clause-sized c = no_answer _ c.from_residual-in_err-visit.result c.from_residual-in_err-visit.ensures.0
+
+pub returns-in_err-visit-clause-none : goal.returns-in_err-visit-clause-none
+returns-in_err-visit-clause-none c = no_answer _ c.from_residual-in_err-visit.result c.from_residual-in_err-visit.ensures.0
+
+pub returns-in_err-push-in-Done-clause-sized : goal.returns-in_err-push-in-Done-clause-sized
+returns-in_err-push-in-Done-clause-sized c = no_answer _ c.from_residual-in_err-push-in-Done.result c.from_residual-in_err-push-in-Done.ensures.0
+
+pub returns-in_err-push-in-Done-clause-none : goal.returns-in_err-push-in-Done-clause-none
+returns-in_err-push-in-Done-clause-none c = no_answer _ c.from_residual-in_err-push-in-Done.result c.from_residual-in_err-push-in-Done.ensures.0

@@ -1,5 +1,6 @@
 use Rattle.std.proofs.Common.{true≢false, ap, sym, ◌∙◌, arith, length}
 use Rattle.mw_types.proofs.Walking.{start_walk, open_not_new, done_not_new, open_met, done_met, all_shut, top_in, walk_at, finish_top, cycle, ready_smaller, down_smaller, lower_at, now_new, now_open, went_down, set_not_new}
+use Rattle.mw_types.proofs.Steps.{no_answer}
 use Rattle.mw_types.proofs.walk.visit.Goals as goal
 
 pub inspect-requires-clause-inside : goal.inspect-requires-clause-inside
@@ -99,3 +100,39 @@ returns-clause-shut c = λ t. all_shut c.args.state.now c.loop-top.marks.items c
 
 pub returns-clause-none : goal.returns-clause-none
 returns-clause-none c = λ f. absurd (true≢false f)
+
+pub returns-in_err-push-clause-marked : goal.returns-in_err-push-clause-marked
+returns-in_err-push-clause-marked c = no_answer _ c.from_residual.result c.from_residual.ensures.0
+
+pub returns-in_err-push-clause-met : goal.returns-in_err-push-clause-met
+returns-in_err-push-clause-met c = no_answer _ c.from_residual.result c.from_residual.ensures.0
+
+pub returns-in_err-push-clause-shut : goal.returns-in_err-push-clause-shut
+returns-in_err-push-clause-shut c = no_answer _ c.from_residual.result c.from_residual.ensures.0
+
+pub returns-in_err-push-clause-none : goal.returns-in_err-push-clause-none
+returns-in_err-push-clause-none c = no_answer _ c.from_residual.result c.from_residual.ensures.0
+
+pub returns-in_err-push-in-Down-clause-marked : goal.returns-in_err-push-in-Down-clause-marked
+returns-in_err-push-in-Down-clause-marked c = no_answer _ c.from_residual-in_err-push-in-Down.result c.from_residual-in_err-push-in-Down.ensures.0
+
+pub returns-in_err-push-in-Down-clause-met : goal.returns-in_err-push-in-Down-clause-met
+returns-in_err-push-in-Down-clause-met c = no_answer _ c.from_residual-in_err-push-in-Down.result c.from_residual-in_err-push-in-Down.ensures.0
+
+pub returns-in_err-push-in-Down-clause-shut : goal.returns-in_err-push-in-Down-clause-shut
+returns-in_err-push-in-Down-clause-shut c = no_answer _ c.from_residual-in_err-push-in-Down.result c.from_residual-in_err-push-in-Down.ensures.0
+
+pub returns-in_err-push-in-Down-clause-none : goal.returns-in_err-push-in-Down-clause-none
+returns-in_err-push-in-Down-clause-none c = no_answer _ c.from_residual-in_err-push-in-Down.result c.from_residual-in_err-push-in-Down.ensures.0
+
+pub returns-in_err-push-in-Down-2-clause-marked : goal.returns-in_err-push-in-Down-2-clause-marked
+returns-in_err-push-in-Down-2-clause-marked c = no_answer _ c.from_residual-in_err-push-in-Down-2.result c.from_residual-in_err-push-in-Down-2.ensures.0
+
+pub returns-in_err-push-in-Down-2-clause-met : goal.returns-in_err-push-in-Down-2-clause-met
+returns-in_err-push-in-Down-2-clause-met c = no_answer _ c.from_residual-in_err-push-in-Down-2.result c.from_residual-in_err-push-in-Down-2.ensures.0
+
+pub returns-in_err-push-in-Down-2-clause-shut : goal.returns-in_err-push-in-Down-2-clause-shut
+returns-in_err-push-in-Down-2-clause-shut c = no_answer _ c.from_residual-in_err-push-in-Down-2.result c.from_residual-in_err-push-in-Down-2.ensures.0
+
+pub returns-in_err-push-in-Down-2-clause-none : goal.returns-in_err-push-in-Down-2-clause-none
+returns-in_err-push-in-Down-2-clause-none c = no_answer _ c.from_residual-in_err-push-in-Down-2.result c.from_residual-in_err-push-in-Down-2.ensures.0
