@@ -1,4 +1,5 @@
-use Rattle.std.proofs.Common.{arith}
+use Rattle.std.proofs.Common.{◌≡◌, length, subst, arith}
+use Rattle.mw_types.specs.Answering.{NamedTo}
 use Rattle.mw_types.proofs.Answering.{name_more, no_names}
 use Rattle.mw_types.proofs.Steps.{no_answer}
 use Rattle.mw_types.proofs.answer.names_of.Goals as goal
@@ -17,3 +18,6 @@ returns-in_err-push c = no_answer _ c.from_residual.result c.from_residual.ensur
 
 pub name-requires-clause-low : goal.name-requires-clause-low
 name-requires-clause-low c = c.requires.low
+
+pub returns : goal.returns
+returns c = let e : c.loop-class.class ≡ length c.args.parent.now = omega arith in subst (λ k. NamedTo c.args.parent.now c.loop-class.names.items k) e c.loop-class.invariant
