@@ -81,13 +81,10 @@ pub index_mut-requires-in-Down : goal.index_mut-requires-in-Down
 index_mut-requires-in-Down c = omega (arith, c.in-Down.ensures.inside, c.loop-top.invariant.0.marked.count)
 
 pub returns-then-is_open-clause-marked : goal.returns-then-is_open-clause-marked
-returns-then-is_open-clause-marked c = λ t. absurd (true≢false (sym t))
+returns-then-is_open-clause-marked c = λ t. c.loop-top.invariant.0.marked
 
 pub returns-then-is_open-clause-met : goal.returns-then-is_open-clause-met
-returns-then-is_open-clause-met c = λ t. absurd (true≢false (sym t))
-
-pub returns-then-is_open-clause-shut : goal.returns-then-is_open-clause-shut
-returns-then-is_open-clause-shut c = λ t. absurd (true≢false (sym t))
+returns-then-is_open-clause-met c = λ t. c.loop-top.invariant.1
 
 pub returns-clause-marked : goal.returns-clause-marked
 returns-clause-marked c = λ t. c.loop-top.invariant.0.marked
