@@ -114,7 +114,6 @@ fn own_tree(alloc: Global, state: &State, names: &[u64], node: usize) -> Result<
 }
 
 // The type that a node stands for, which has at most `room` nodes.
-#[cycle(tree)]
 fn tree(
     alloc: Global,
     state: &State,
@@ -134,43 +133,24 @@ fn tree(
         Shape::Int => Ok(Ty::Int),
         Shape::Bool => Ok(Ty::Bool),
         Shape::Pair(l, r) => {
-            let left = boxed_tree(alloc, state, names, l, room - 1)?;
-            let right = boxed_tree(alloc, state, names, r, room - 1)?;
-            Ok(Ty::Pair(left, right))
+            let left = tree(alloc, state, names, l, room - 1)?;
+            let right = tree(alloc, state, names, r, room - 1)?;
+            Ok(Ty::Pair(Box::new(alloc, left)?, Box::new(alloc, right)?))
         }
         Shape::Arrow(l, r) => {
-            let left = boxed_tree(alloc, state, names, l, room - 1)?;
-            let right = boxed_tree(alloc, state, names, r, room - 1)?;
-            Ok(Ty::Arrow(left, right))
+            let left = tree(alloc, state, names, l, room - 1)?;
+            let right = tree(alloc, state, names, r, room - 1)?;
+            Ok(Ty::Arrow(Box::new(alloc, left)?, Box::new(alloc, right)?))
         }
         Shape::Code(c, t) => {
-            let below = boxed_tree(alloc, state, names, t, room - 1)?;
-            Ok(Ty::Code(name_at(names, c), below))
+            let below = tree(alloc, state, names, t, room - 1)?;
+            Ok(Ty::Code(name_at(names, c), Box::new(alloc, below)?))
         }
         Shape::Closed(t) => {
-            let below = boxed_tree(alloc, state, names, t, room - 1)?;
-            Ok(Ty::Closed(below))
+            let below = tree(alloc, state, names, t, room - 1)?;
+            Ok(Ty::Closed(Box::new(alloc, below)?))
         }
     }
-}
-
-// The same, in a box.
-#[cycle(tree)]
-fn boxed_tree(
-    alloc: Global,
-    state: &State,
-    names: &[u64],
-    node: usize,
-    room: usize,
-) -> Result<Box<Ty>, AllocError>
-    requires sound { Sound state.now }
-    requires named { NamedTo state.now.classifier.items names.now (length state.now.classifier.items) }
-    requires inside { node < length state.now.parent.items }
-    requires room { HasRoom state.now names.now node room }
-    ensures { IfOk result (λ ty. StandsFor state.now names.now node (type_of ty.value)) }
-{
-    let ty = tree(alloc, state, names, node, room)?;
-    Ok(Box::new(alloc, ty)?)
 }
 
 // A classifier unknown's representative.
