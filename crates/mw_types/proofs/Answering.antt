@@ -1,7 +1,7 @@
 -- From what nodes stand for to the answer.
 use Rattle.std.proofs.Common.{length-append, ◌≡◌, inl, inr, ℕ, zero, suc, ◌+◌, ◌-◌, ◌≤◌, ◌<◌, map, List, [], ◌∷◌, ◌++◌, length, refl, ap, sym, subst, ◌∙◌, arith, ◌⊎◌}
 use Rattle.std.proofs.lemmas.List.{get_or_default}
-use Rattle.std.specs.Prelude.{slice_index_or, All}
+use Rattle.std.specs.Prelude.{slice_index_or, slice_get, Some, All}
 use Rattle.mw_types.specs.Types.{TypeExpression, int_ty, bool_ty, unknown, pair_ty, function_ty, code_ty, closed_ty, type_of, Assignment, value, nodes, Substitution, after, Within}
 use Rattle.mw_types.specs.Equations.{TypeEquation, AllWithin, Solves, Agree, MostGeneral, IsSmall, StaysWithin}
 use Rattle.mw_types.specs.Forest.{Low, Leads, here, up}
@@ -186,7 +186,7 @@ no_trees s names = record {
   own = λ i lt. absurd (omega arith);
 }
 
-map_length : {A B : Type 0} (f : A → B) (xs : List A) → length (map f xs) ≡ length xs
+pub map_length : {A B : Type 0} (f : A → B) (xs : List A) → length (map f xs) ≡ length xs
 map_length f [] = refl
 map_length f (x ∷ xs) = ap suc (map_length f xs)
 
@@ -194,6 +194,12 @@ map_at : {A B : Type 0} (f : A → B) (xs : List A) (i : ℕ) (d : A) (e : B) �
 map_at f [] i d e lt = absurd (omega arith)
 map_at f (x ∷ xs) zero d e lt = refl
 map_at f (x ∷ xs) (suc i) d e lt = map_at f xs i d e (omega arith)
+
+-- an unknown's type, as it is read
+pub read_type : (roots : List ℕ) (trees : List Ty) (u r : ℕ) (t : Ty) → u < length roots → r ≡ slice_index_or roots u r → r < length trees → t ≡ slice_index_or trees r t → slice_get (map (λ k. slice_index_or trees k int_tree) roots) u ≡ Some t
+read_type [] trees u r t lt e ll f = absurd (omega arith)
+read_type (x ∷ roots) trees zero r t lt e ll f = ap Some (ap (λ k. slice_index_or trees k int_tree) (sym e) ∙ sym (get_or_default trees r t int_tree ll) ∙ sym f)
+read_type (x ∷ roots) trees (suc u) r t lt e ll f = read_type roots trees u r t (omega arith) e ll f
 
 pub roots_inside : {s : State} {names roots : List ℕ} {trees : List Ty} {n : ℕ} → TreesTo s names roots trees n → All (λ r. r < length trees) roots
 roots_inside {roots = roots} h = λ i d lt. let p = h.below i (omega (arith, h.root_count)) in let q = get_or_default roots i d 0 lt in omega (arith, h.root_count, h.tree_count)

@@ -237,3 +237,26 @@ node_shaped ps hs h e f n k i le lt o = elim (is i (length ps)) [
 
 pub node_shaped_at : (ps qs : List ℕ) (hs gs : List Shape) (h : Shape) → qs ≡ ps ++ length ps ∷ [] → gs ≡ hs ++ h ∷ [] → length hs ≡ length ps → h ≢ Free → (n : ℕ) → IsShaped n ps hs → IsShaped n qs gs
 node_shaped_at ps qs hs gs h e f l m n k = rw (e, f) (node_shaped ps hs h l m n k)
+
+-- no node more, where all is said already
+pub none_grew : {s : State} {X : Assignment → Type 0} → Sound s → ((a : Assignment) → X a) → Grew s s X
+none_grew p f = record { sound = p; long = omega arith; classifier_count = refl; out = λ a h. (h, f a); more = λ a h. (a, record { types = λ i lt. refl; classifiers = λ c lt. refl }, h) }
+
+-- each shape but Free
+pub int_not_free : Int ≢ Free
+int_not_free e = absurd (cc)
+
+pub bool_not_free : Bool ≢ Free
+bool_not_free e = absurd (cc)
+
+pub pair_not_free : {l r : ℕ} → Pair l r ≢ Free
+pair_not_free e = absurd (cc)
+
+pub arrow_not_free : {l r : ℕ} → Arrow l r ≢ Free
+arrow_not_free e = absurd (cc)
+
+pub code_not_free : {c t : ℕ} → Code c t ≢ Free
+code_not_free e = absurd (cc)
+
+pub closed_not_free : {t : ℕ} → Closed t ≢ Free
+closed_not_free e = absurd (cc)

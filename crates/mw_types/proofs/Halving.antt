@@ -110,3 +110,19 @@ class_blank n m s t b e f w g = record {
   where
     len : length (s.classifier.items ++ m ∷ []) ≡ length s.classifier.items + 1
     len = length-append s.classifier.items (m ∷ [])
+
+-- a state of no nodes
+pub none_blank : (s : State) → s.parent.items ≡ [] → s.shape.items ≡ [] → s.classifier.items ≡ [] → s.waiting.items ≡ [] → Blank 0 0 s
+none_blank s p h c w = record {
+  sound = record {
+    low = rw p (λ i lt. absurd (omega arith));
+    low_classifiers = rw c (λ i lt. absurd (omega arith));
+    lengths = rw (p, h) refl;
+    bare = rw p (λ i lt. absurd (omega arith));
+    inside = λ i. rw h tt;
+    waiting = rw w tt;
+  };
+  node_count = ap length p;
+  classifier_count = ap length c;
+  means = λ a. record { types = rw p (λ i lt. absurd (omega arith)); classifiers = rw c (λ i lt. absurd (omega arith)); shapes = λ i. rw h tt; waits = rw w tt };
+}

@@ -1,12 +1,13 @@
 -- Steps of a state, one after another.
-use Rattle.std.proofs.Common.{◌≡◌, ◌≢◌, ℕ, ◌≤◌, ◌<◌, List, [], ◌∷◌, ◌++◌, length, refl, ap, sym, subst, ◌∙◌, arith}
+use Rattle.std.proofs.Common.{true≢false, ◌≡◌, ◌≢◌, ℕ, ◌≤◌, ◌<◌, List, [], ◌∷◌, ◌++◌, length, refl, ap, sym, subst, ◌∙◌, arith}
 use Rattle.std.proofs.lemmas.List.{get_or_default}
-use Rattle.std.specs.Prelude.{slice_index_or, slice_set, IfOk, Result, Ok, Err}
+use Rattle.std.specs.Prelude.{slice_index_or, slice_set, IfOk, IsErr, Result, Ok, Err}
+use Rattle.mw_term.specs.Types.{pair_type, function_type, code_type, closed_type}
 use Rattle.mw_types.specs.Types.{Assignment}
 use Rattle.mw_types.specs.Forest.{Low, Joins}
-use Rattle.mw_types.specs.Holds.{Waits, joined, Means, Meeting, kept, Extra, ExtraInside, Inside, WaitsInside, Sound, Step, Linked}
+use Rattle.mw_types.specs.Holds.{Meets, Waits, joined, Means, Meeting, kept, Extra, ExtraInside, Inside, WaitsInside, Sound, Step, Linked}
 use Rattle.mw_types.specs.declared.state.Shape.{Shape}
-use Rattle.mw_types.specs.declared.state.Shape.TheVariants.{Free}
+use Rattle.mw_types.specs.declared.state.Shape.TheVariants.{Free, Pair, Arrow, Code, Closed}
 use Rattle.mw_types.specs.declared.state.Pending.{Pending}
 use Rattle.mw_types.specs.declared.state.State.{State}
 use Rattle.mw_types.specs.declared.state.Met.{Met}
@@ -204,3 +205,49 @@ put_linked s t low high m p below lt rl rh meet full ins e f g h = record {
         | other b ↦ rw (at_rest i a b) (k i le (let z = set_length s.parent.items high low in omega arith) (sym (get_other s.parent.items high i low 0 b) ∙ o))
       ]
     ]
+
+-- what an answer would have, where there is none
+pub no_answer : {A E : Type 0} (P : A → Type 0) (r : Result A E) → IsErr r → IfOk r P
+no_answer P (Ok x) e = absurd (true≢false (sym e))
+no_answer P (Err x) e = tt
+
+-- what is met but Clash
+pub keep_not_clash : {h : Shape} → Keep h ≢ Clash
+keep_not_clash e = absurd (cc)
+
+pub one_not_clash : {h : Shape} {w : Pending} → One h w ≢ Clash
+one_not_clash e = absurd (cc)
+
+pub two_not_clash : {h : Shape} {w x : Pending} → Two h w x ≢ Clash
+two_not_clash e = absurd (cc)
+
+pub classes_not_clash : {h : Shape} {c d : ℕ} {w : Pending} → Classes h c d w ≢ Clash
+classes_not_clash e = absurd (cc)
+
+-- the same of shapes that were read
+pub at_shapes : {x y u v : Shape} (P : Shape → Shape → Type 0) → x ≡ u → y ≡ v → P x y → P u v
+at_shapes {x = x} {v = v} P e f h = subst (λ z. P z v) e (subst (λ z. P x z) f h)
+
+-- what two shapes come to: a shape and none
+pub free_meets : {x : Shape} (y : Shape) → x ≡ Free → Meeting x y (Keep y)
+free_meets y e g a = ((λ p q. (q, tt)), (λ q u. (rw e tt, q)))
+
+pub meets_free : (x : Shape) {y : Shape} → y ≡ Free → Meeting x y (Keep x)
+meets_free x e g a = ((λ p q. (p, tt)), (λ p u. (p, rw e tt)))
+
+-- one shape twice
+pub meets_same : {x y h : Shape} → x ≡ h → y ≡ h → Meeting x y (Keep x)
+meets_same e f g a = ((λ p q. (p, tt)), (λ p u. (p, subst (λ z. Meets z g a) (e ∙ sym f) p)))
+
+-- two shapes of one kind
+pub pairs_meet : (l r m s : ℕ) → Meeting (Pair l r) (Pair m s) (Two (Pair l r) (record { left = l; right = m }) (record { left = r; right = s }))
+pairs_meet l r m s g a = ((λ p q. let e : pair_type (a.ty l) (a.ty r) ≡ pair_type (a.ty m) (a.ty s) = sym p ∙ q in (p, (cc, cc))), (λ p z. (p, p ∙ rw (z.0, z.1) refl)))
+
+pub arrows_meet : (l r m s : ℕ) → Meeting (Arrow l r) (Arrow m s) (Two (Arrow l r) (record { left = l; right = m }) (record { left = r; right = s }))
+arrows_meet l r m s g a = ((λ p q. let e : function_type (a.ty l) (a.ty r) ≡ function_type (a.ty m) (a.ty s) = sym p ∙ q in (p, (cc, cc))), (λ p z. (p, p ∙ rw (z.0, z.1) refl)))
+
+pub codes_meet : (c t d u : ℕ) → Meeting (Code c t) (Code d u) (Classes (Code c t) c d (record { left = t; right = u }))
+codes_meet c t d u g a = ((λ p q. let e : code_type (a.classifier c) (a.ty t) ≡ code_type (a.classifier d) (a.ty u) = sym p ∙ q in (p, (cc, cc))), (λ p z. (p, p ∙ rw (z.0, z.1) refl)))
+
+pub closed_meet : (t u : ℕ) → Meeting (Closed t) (Closed u) (One (Closed t) (record { left = t; right = u }))
+closed_meet t u g a = ((λ p q. let e : closed_type (a.ty t) ≡ closed_type (a.ty u) = sym p ∙ q in (p, cc)), (λ p z. (p, p ∙ rw z refl)))

@@ -1,5 +1,6 @@
 -- A front's verdict, from what the parts say.
-use Rattle.std.proofs.Common.{◌≡◌, ℕ, zero, suc, ◌+◌, ◌≤◌, ◌<◌, min, List, [], ◌∷◌, ◌++◌, take, length, refl, ap, sym, subst, ◌∙◌, arith}
+use Rattle.std.proofs.Common.{◌≡◌, ◌≢◌, ℕ, zero, suc, ◌+◌, ◌≤◌, ◌<◌, min, List, [], ◌∷◌, ◌++◌, take, length, refl, ap, sym, subst, ◌∙◌, arith}
+use Rattle.std.proofs.lemmas.List.{get_or_default}
 use Rattle.std.specs.Prelude.{slice_index_or, slice_get, Some}
 use Rattle.mw_types.specs.Equations.{TypeEquation, Solves, Solvable, Agree, AllWithin, equations_of, equation_of}
 use Rattle.mw_types.specs.Fronts.{Small}
@@ -12,6 +13,8 @@ use Rattle.mw_types.specs.Walks.{AllSized}
 use Rattle.mw_types.specs.Stands.{Names}
 use Rattle.mw_types.specs.declared.types.Equation.{Equation}
 use Rattle.mw_types.specs.declared.state.State.{State}
+use Rattle.mw_types.specs.declared.judging.Verdict.TheVariants.{Fine, Unsolvable, TooBig}
+use Rattle.mw_types.proofs.Lists.{same, other, is}
 use Rattle.mw_types.proofs.Smallest.{grows, least, least_size}
 use Rattle.mw_types.proofs.Reps.{rep, names, answer, answer_sound, answer_general, answer_size}
 
@@ -149,3 +152,16 @@ within_snoc n m (d ∷ es) e w l r = (w.0, within_snoc n m es e w.1 l r)
 
 pub within_more : (n m : ℕ) (xs : List Equation) (i : ℕ) (x : Equation) → slice_get xs i ≡ Some x → AllWithin n m (equations_of (take i xs)) → Within n m (type_of x.left) → Within n m (type_of x.right) → AllWithin n m (equations_of (take (i + 1) xs))
 within_more n m xs i x g w l r = rw (take_one xs i x g) (within_snoc n m (equations_of (take i xs)) (equation_of x) w l r)
+
+-- one more unknown is small
+pub small_more : (xs : List ℕ) (i x : ℕ) → i < length xs → x ≡ slice_index_or xs i x → x ≤ 10000 → ((u : ℕ) → u < i → slice_index_or xs u 0 ≤ 10000) → (u : ℕ) → u < i + 1 → slice_index_or xs u 0 ≤ 10000
+small_more xs i x lt e le h u ul = elim (is u i) [
+  | same q ↦ rw q (let p = get_or_default xs i x 0 lt in omega (arith, p, e, le))
+  | other n ↦ h u (omega (arith, n, ul))
+]
+
+pub unsolvable_not_fine : Unsolvable ≢ Fine
+unsolvable_not_fine e = absurd (cc)
+
+pub too_big_not_fine : TooBig ≢ Fine
+too_big_not_fine e = absurd (cc)

@@ -1,5 +1,5 @@
 -- Steps of the walk over classes.
-use Rattle.std.proofs.Common.{length-append, ◌≡◌, ◌≢◌, ◌⊎◌, inl, inr, ℕ, zero, suc, ◌+◌, ◌*◌, ◌≤◌, ◌<◌, min, List, [], ◌∷◌, ◌++◌, length, refl, sym, subst, ◌∙◌, arith}
+use Rattle.std.proofs.Common.{length-append, ◌≡◌, ◌≢◌, ◌⊎◌, inl, inr, ℕ, zero, suc, ◌+◌, ◌*◌, ◌≤◌, ◌<◌, min, List, [], ◌∷◌, ◌++◌, length, refl, ap, sym, subst, ◌∙◌, arith}
 use Rattle.std.proofs.lemmas.List.{get_or_default}
 use Rattle.std.specs.Prelude.{slice_index_or, slice_set}
 use Rattle.mw_types.specs.Types.{TypeExpression, pair_ty, function_ty, code_ty, closed_ty, Assignment, nodes, size}
@@ -187,6 +187,52 @@ go_down s marks path x y w l = record {
   where
     not_done : (z m : ℕ) → y ≡ z → slice_index_or (slice_set marks y Open) z New ≡ Done m → ⊥
     not_done z m q e = let f : Open ≡ Done m = sym (get_here marks y Open New (let p = w.marked.count in let r = l.inside in omega arith)) ∙ subst (λ v. slice_index_or (slice_set marks y Open) v New ≡ Done m) (sym q) e in absurd (cc)
+
+pub open_not_new : Open ≢ New
+open_not_new e = absurd (cc)
+
+pub done_not_new : {n : ℕ} → Done n ≢ New
+done_not_new e = absurd (cc)
+
+-- a class that was met isn't new
+pub open_met : (marks : List Mark) (x : ℕ) (d : Mark) → x < length marks → d ≡ slice_index_or marks x d → d ≡ Open → slice_index_or marks x New ≢ New
+open_met marks x d lt e f g = open_not_new (sym f ∙ e ∙ get_or_default marks x d New lt ∙ g)
+
+pub done_met : (marks : List Mark) (x n : ℕ) (d : Mark) → x < length marks → d ≡ slice_index_or marks x d → d ≡ Done n → slice_index_or marks x New ≢ New
+done_met marks x n d lt e f g = done_not_new (sym f ∙ e ∙ get_or_default marks x d New lt ∙ g)
+
+-- nothing is open where the path is done
+pub all_shut : (s : State) (marks : List Mark) (path : List ℕ) → Walk s marks path → length path ≡ 0 → (x : ℕ) → slice_index_or marks x New ≢ Open
+all_shut s marks [] w e x f = w.opens x f
+all_shut s marks (y ∷ path) w e x f = absurd (omega arith)
+
+-- the walk starts at a class that isn't met
+pub start_walk : (s : State) (marks : List Mark) (none path : List ℕ) (x : ℕ) → Marked s marks → ((y : ℕ) → slice_index_or marks y New ≢ Open) → x < length s.parent.items → slice_index_or s.parent.items x 0 ≡ x → none ≡ [] → path ≡ none ++ x ∷ []
+    → Walk s (slice_set marks x Open) path × (slice_index_or (slice_set marks x Open) x New ≢ New)
+start_walk s marks none path x m h lt e n p = (subst (λ k. Walk s (slice_set marks x Open) k) (sym (p ∙ ap (λ k. k ++ x ∷ []) n)) one, λ f. let g = at_x in absurd (cc))
+  where
+    at_x : slice_index_or (slice_set marks x Open) x New ≡ Open
+    at_x = get_here marks x Open New (let q = m.count in omega arith)
+
+    not_done : (z k : ℕ) → x ≡ z → slice_index_or (slice_set marks x Open) z New ≡ Done k → ⊥
+    not_done z k q f = let g : Open ≡ Done k = sym at_x ∙ subst (λ v. slice_index_or (slice_set marks x Open) v New ≡ Done k) (sym q) f in absurd (cc)
+
+    one : Walk s (slice_set marks x Open) (x ∷ [])
+    one = record {
+      marked = record {
+        count = set_length marks x Open ∙ m.count;
+        done = λ z k f. elim (is x z) [
+          | same q ↦ absurd (not_done z k q f)
+          | other o ↦ m.done z k (sym (get_other marks x z Open New o) ∙ f)
+        ];
+      };
+      roots = λ z i. elim i [ inl q ↦ rw q (lt, e) | inr b ↦ absurd b ];
+      falls = (tt, tt);
+      opens = λ z f. elim (is x z) [
+        | same q ↦ inl (sym q)
+        | other o ↦ absurd (h z (sym (get_other marks x z Open New o) ∙ f))
+      ];
+    }
 
 pub shape_read : (s : State) (i : ℕ) (h x : Shape) → Sound s → i < length s.parent.items → h ≡ slice_index_or s.shape.items i h → h ≡ x → slice_index_or s.shape.items i Free ≡ x
 shape_read s i h x p lt e f = sym (get_or_default s.shape.items i h Free (omega (arith, p.lengths))) ∙ sym e ∙ f

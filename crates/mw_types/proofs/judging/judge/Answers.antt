@@ -4,8 +4,9 @@ use Rattle.std.proofs.lemmas.Grind.{get_or_default_zero}
 use Rattle.mw_types.specs.Equations.{equations_of}
 use Rattle.mw_types.specs.Judged.{Stated}
 use Rattle.mw_types.specs.Walks.{AllSized}
-use Rattle.mw_types.proofs.Verdicts.{blank_stated, left_within, right_within, item_stated, all_stated, never_unsolvable, never_after, fine, ready, big}
+use Rattle.mw_types.proofs.Verdicts.{blank_stated, left_within, right_within, item_stated, all_stated, never_unsolvable, never_after, fine, ready, big, small_more, unsolvable_not_fine, too_big_not_fine}
 use Rattle.mw_types.proofs.Work.{same_step}
+use Rattle.mw_types.proofs.Steps.{no_answer}
 use Rattle.mw_types.proofs.judging.judge.Goals as goal
 
 pub loop-equation-init : goal.loop-equation-init
@@ -55,3 +56,90 @@ returns-after-loop-index-clause-ready c e =
     (all_stated c.len-unknowns.result _ (length c.args.state.now.parent.items) c.args.equations.now c.loop-equation.equation-index _ (omega (arith, c.len-unknowns.ensures)) (omega arith) c.loop-equation.invariant)
     (same_step (c.in_ok-settle.ensures.same c.if-not-branch.false) c.flatten.ensures.same) (ap (λ v. v.items) c.flatten.ensures.waiting ∙ c.in_ok-settle.ensures.empty c.if-not-branch.false) c.in-Some.all.items (rw c.in-Some.is at c.in_ok-sizes.ensures.sized)
     (λ u lt. c.loop-index.invariant u (omega (arith, c.len-unknowns.ensures, c.loop-index-test.false)))
+
+pub bounds-equations-equation-index : goal.bounds-equations-equation-index
+bounds-equations-equation-index c = c.loop-equation-test.true
+
+pub add-requires-clause-sound : goal.add-requires-clause-sound
+add-requires-clause-sound c = c.loop-equation.invariant.sound
+
+pub add-requires-clause-room : goal.add-requires-clause-room
+add-requires-clause-room c = c.loop-equation.invariant.long
+
+pub add-requires-in-loop-equation-clause-sound : goal.add-requires-in-loop-equation-clause-sound
+add-requires-in-loop-equation-clause-sound c = c.in_ok-left.ensures.grew.sound
+
+pub add-requires-in-loop-equation-clause-room : goal.add-requires-in-loop-equation-clause-room
+add-requires-in-loop-equation-clause-room c = omega (arith, c.loop-equation.invariant.long, c.in_ok-left.ensures.grew.long)
+
+pub postpone-requires-clause-sound : goal.postpone-requires-clause-sound
+postpone-requires-clause-sound c = c.in_ok-right.ensures.grew.sound
+
+pub postpone-requires-clause-left : goal.postpone-requires-clause-left
+postpone-requires-clause-left c = omega (arith, c.in_ok-left.ensures.inside, c.in_ok-right.ensures.grew.long)
+
+pub postpone-requires-clause-right : goal.postpone-requires-clause-right
+postpone-requires-clause-right c = c.in_ok-right.ensures.inside
+
+pub settle-requires : goal.settle-requires
+settle-requires c = record { sound = c.loop-equation.invariant.sound }
+
+pub returns-then-not-branch-clause-ready : goal.returns-then-not-branch-clause-ready
+returns-then-not-branch-clause-ready c e = absurd (unsolvable_not_fine e)
+
+pub flatten-requires : goal.flatten-requires
+flatten-requires c = record { sound = (c.in_ok-settle.ensures.same c.if-not-branch.false).sound }
+
+pub sizes-requires : goal.sizes-requires
+sizes-requires c = record { sound = c.flatten.ensures.same.sound }
+
+pub loop-index-init : goal.loop-index-init
+loop-index-init c u lt = absurd (omega (arith, lt))
+
+pub index-requires : goal.index-requires
+index-requires c =
+    let k : AllSized c.flatten.new.state c.in-Some.all.items = rw c.in-Some.is at c.in_ok-sizes.ensures.sized in
+    let n = (same_step (c.in_ok-settle.ensures.same c.if-not-branch.false) c.flatten.ensures.same).node_count in
+    omega (arith, k.count, n, c.loop-equation.invariant.long, c.loop-index-test.true)
+
+pub returns-then-index-gt10000-clause-ready : goal.returns-then-index-gt10000-clause-ready
+returns-then-index-gt10000-clause-ready c e = absurd (too_big_not_fine e)
+
+pub loop-index-preserved : goal.loop-index-preserved
+loop-index-preserved c =
+    let k : AllSized c.flatten.new.state c.in-Some.all.items = rw c.in-Some.is at c.in_ok-sizes.ensures.sized in
+    let n = (same_step (c.in_ok-settle.ensures.same c.if-not-branch.false) c.flatten.ensures.same).node_count in
+    small_more c.in-Some.all.items c.loop-index.index c.index.result.now (omega (arith, k.count, n, c.loop-equation.invariant.long, c.loop-index-test.true)) c.index.ensures c.if-index-gt10000.false c.loop-index.invariant
+
+pub returns-in-None-clause-ready : goal.returns-in-None-clause-ready
+returns-in-None-clause-ready c e = absurd (unsolvable_not_fine e)
+
+pub returns-in_err-left-clause-judged : goal.returns-in_err-left-clause-judged
+returns-in_err-left-clause-judged c = no_answer _ c.from_residual.result c.from_residual.ensures.0
+
+pub returns-in_err-left-clause-ready : goal.returns-in_err-left-clause-ready
+returns-in_err-left-clause-ready c = no_answer _ c.from_residual.result c.from_residual.ensures.0
+
+pub returns-in_err-right-clause-judged : goal.returns-in_err-right-clause-judged
+returns-in_err-right-clause-judged c = no_answer _ c.from_residual-in_err-right.result c.from_residual-in_err-right.ensures.0
+
+pub returns-in_err-right-clause-ready : goal.returns-in_err-right-clause-ready
+returns-in_err-right-clause-ready c = no_answer _ c.from_residual-in_err-right.result c.from_residual-in_err-right.ensures.0
+
+pub returns-in_err-postpone-clause-judged : goal.returns-in_err-postpone-clause-judged
+returns-in_err-postpone-clause-judged c = no_answer _ c.from_residual-in_err-postpone.result c.from_residual-in_err-postpone.ensures.0
+
+pub returns-in_err-postpone-clause-ready : goal.returns-in_err-postpone-clause-ready
+returns-in_err-postpone-clause-ready c = no_answer _ c.from_residual-in_err-postpone.result c.from_residual-in_err-postpone.ensures.0
+
+pub returns-in_err-settle-clause-judged : goal.returns-in_err-settle-clause-judged
+returns-in_err-settle-clause-judged c = no_answer _ c.from_residual-in_err-settle.result c.from_residual-in_err-settle.ensures.0
+
+pub returns-in_err-settle-clause-ready : goal.returns-in_err-settle-clause-ready
+returns-in_err-settle-clause-ready c = no_answer _ c.from_residual-in_err-settle.result c.from_residual-in_err-settle.ensures.0
+
+pub returns-in_err-sizes-clause-judged : goal.returns-in_err-sizes-clause-judged
+returns-in_err-sizes-clause-judged c = no_answer _ c.from_residual-in_err-sizes.result c.from_residual-in_err-sizes.ensures.0
+
+pub returns-in_err-sizes-clause-ready : goal.returns-in_err-sizes-clause-ready
+returns-in_err-sizes-clause-ready c = no_answer _ c.from_residual-in_err-sizes.result c.from_residual-in_err-sizes.ensures.0
