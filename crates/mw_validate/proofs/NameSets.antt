@@ -1,7 +1,7 @@
 -- Names collected into a set: there are as many as items exactly where no two are the same.
 use Rattle.std.proofs.Common.{◌≡◌, ◌≢◌, ℕ, Bool, true, false, List, [], ◌∷◌, length, map, Bor, refl, sym, ap, subst, ◌∙◌, ◌⊎◌, inl, inr, Ordering}
 use Rattle.std.specs.List.{AllByRecursion, IsDistinct}
-use Rattle.std.specs.Cmp.{IsTotalOrder, IsEquivalence}
+use Rattle.std.specs.Cmp.{IsTotalOrder}
 use Rattle.std.specs.Cmp.Lexicographic.{slice_cmp}
 use Rattle.std.specs.Ordering.{nat_cmp, eq_by_cmp}
 use Rattle.std.specs.Set.{distinct_count}
@@ -11,7 +11,6 @@ use Rattle.std.proofs.lemmas.Map.Lookups.{exact_bytes}
 use Rattle.std.proofs.lemmas.Map.Views.{btree_set_len-from_list, tells_apart}
 use Rattle.std.proofs.lemmas.Map.Made.{IsDistinct-from_count, distinct_count-from_IsDistinct}
 use Rattle.std.proofs.lemmas.List.{length-map}
-use Rattle.std.proofs.lemmas.Bool.Decides.{eqb_tells}
 use Rattle.mw_wasm.specs.declared.modules.Export.{Export}
 use Rattle.mw_wasm.specs.Syntax.{Exporting}
 use Rattle.mw_wasm.specs.Views.{export_of}

@@ -1,5 +1,5 @@
 -- A test decides.
-use Rattle.std.specs.Prelude.{◌≡◌, ◌≤◌, ◌<◌, ℕ, length, Bool, true, false, List, Option, Some, None}
+use Rattle.std.specs.Prelude.{◌≤◌, ◌<◌, ℕ, length, Bool, true, false, List, Option, Some, None}
 use Rattle.std.specs.List.{AllByRecursion}
 use Rattle.mw_wasm.specs.declared.values.ValType.{ValType}
 use Rattle.mw_wasm.specs.declared.modules.FuncType.{FuncType}

@@ -1,7 +1,6 @@
 -- What a refusal says.
 use Rattle.mw_wasm.specs.Syntax.{PureModule}
 use Rattle.mw_wasm.specs.Validity.{IsValid}
-use Rattle.mw_validate.specs.declared.validation.Invalid.{Invalid}
 use Rattle.mw_validate.specs.declared.validation.ValidFault.{ValidFault}
 use Rattle.mw_validate.specs.declared.validation.ValidFault.TheVariants.{Bad, Memory}
 
