@@ -6,7 +6,7 @@ use std::alloc::{AllocError, Global};
 /// The numbers of rows, by the place of their kind.
 #[derive(Drop)]
 pub struct Counts {
-    by_kind: [u64; 10],
+    by_kind: [u64; 11],
 }
 
 fn place(kind: Kind) -> usize {
@@ -18,15 +18,16 @@ fn place(kind: Kind) -> usize {
         Kind::Fronts => 4,
         Kind::Program => 5,
         Kind::Machine => 6,
-        Kind::Kernel => 7,
-        Kind::Text => 8,
-        Kind::Digest => 9,
+        Kind::Code => 7,
+        Kind::Kernel => 8,
+        Kind::Text => 9,
+        Kind::Digest => 10,
     }
 }
 
 impl Counts {
     pub fn none() -> Counts {
-        Counts { by_kind: [0; 10] }
+        Counts { by_kind: [0; 11] }
     }
 
     /// Counts a row.

@@ -19,6 +19,8 @@ pub enum Kind {
     Program,
     /// An evaluation on the machine, over kernels that answer from a list.
     Machine,
+    /// How the invocations of code end.
+    Code,
     /// A canonical text's kernel, run and called.
     Kernel,
     /// What a canonical text spells.
@@ -36,6 +38,7 @@ pub const KINDS: &[Kind] = &[
     Kind::Fronts,
     Kind::Program,
     Kind::Machine,
+    Kind::Code,
     Kind::Kernel,
     Kind::Text,
     Kind::Digest,
@@ -52,6 +55,7 @@ impl Kind {
             Kind::Fronts => "fronts",
             Kind::Program => "program",
             Kind::Machine => "machine",
+            Kind::Code => "code",
             Kind::Kernel => "kernel",
             Kind::Text => "text",
             Kind::Digest => "digest",
@@ -68,6 +72,7 @@ impl Kind {
             Kind::Verdicts => &["source", "next"],
             Kind::Followers => &["front", "tokens"],
             Kind::Machine => &["source", "item", "fuel", "reply"],
+            Kind::Code => &["code", "type", "table", "element", "data", "invoke", "word"],
             Kind::Kernel => &["text", "fuel", "call"],
             Kind::Text | Kind::Digest => &["text"],
         }
@@ -110,6 +115,16 @@ pub struct Field {
     pub bytes: Vec<u8>,
 }
 
+impl Field {
+    /// Its text.
+    pub fn text(&self) -> Result<&str, Fault> {
+        match std::str::from_utf8(self.bytes.as_slice()) {
+            Ok(text) => Ok(text),
+            Err(_) => Err(Fault::Malformed("a text isn't UTF-8")),
+        }
+    }
+}
+
 /// A row, with the number of the line on which it begins.
 #[derive(Drop)]
 pub struct Row {
@@ -142,6 +157,17 @@ impl Row {
             Ok(text) => Ok(text),
             Err(_) => Err(Fault::Malformed("a text isn't UTF-8")),
         }
+    }
+
+    /// The texts of the fields of this name.
+    pub fn texts<'a>(&'a self, alloc: Global, name: &str) -> Result<Vec<&'a str>, Fault> {
+        let mut texts = Vec::new(alloc);
+        for field in self.fields.as_slice() {
+            if field.name.as_str() == name {
+                texts.push(field.text()?)?;
+            }
+        }
+        Ok(texts)
     }
 
     /// The number that stands in the field of this name, or this one where there is no such field.

@@ -101,13 +101,8 @@ fn called_in_turn(
 ) -> Result<(), Fault>
     requires { running.argument ≡ ground_of argument.now }
 {
-    for field in row.fields.as_slice() {
-        if field.name.as_str() == "call" {
-            let Ok(call) = std::str::from_utf8(field.bytes.as_slice()) else {
-                return Err(Fault::Malformed("not an argument and units"));
-            };
-            text.push_str(called(alloc, &mut running, argument, call)?.as_str())?;
-        }
+    for call in row.texts(alloc, "call")?.as_slice() {
+        text.push_str(called(alloc, &mut running, argument, call)?.as_str())?;
     }
     Ok(())
 }

@@ -45,13 +45,8 @@ fn reply(text: &str) -> Result<Reply, Fault> {
 /// What the kernels answer in turn.
 fn replies(alloc: Global, row: &Row) -> Result<Vec<Reply>, Fault> {
     let mut replies = Vec::new(alloc);
-    for field in row.fields.as_slice() {
-        if field.name.as_str() == "reply" {
-            let Ok(text) = std::str::from_utf8(field.bytes.as_slice()) else {
-                return Err(Fault::Malformed("no reply"));
-            };
-            replies.push(reply(text)?)?;
-        }
+    for text in row.texts(alloc, "reply")?.as_slice() {
+        replies.push(reply(text)?)?;
     }
     Ok(replies)
 }

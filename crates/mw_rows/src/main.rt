@@ -8,10 +8,13 @@
 //! status is 1.
 #![tactic(auto)]
 
+mod code;
 mod count;
 mod fields;
+mod invocations;
 mod kernels;
 mod machine;
+mod modules;
 mod programs;
 mod reading;
 mod runs;
@@ -42,6 +45,7 @@ fn carried_out<R: AllocGlobal + Threads + Sync>(
         Kind::Fronts => sources::fronts(alloc, row),
         Kind::Program => programs::carried_out(alloc, row),
         Kind::Machine => machine::carried_out(alloc, row),
+        Kind::Code => invocations::carried_out(alloc, row),
         Kind::Kernel => kernels::carried_out(alloc, row),
         Kind::Text => texts::text(alloc, row),
         Kind::Digest => texts::digest_lines(alloc, row),
