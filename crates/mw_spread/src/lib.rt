@@ -3,6 +3,8 @@
 
 mod job;
 mod parallel;
+#[cfg(test)]
+mod tests;
 
 pub use crate::job::{Job, JobFault};
 pub use crate::parallel::spread;
