@@ -1,7 +1,7 @@
 #!/bin/sh
 # decode.sh: times decoding beside wabt's wasm-validate and wasm2wat, where they are installed: on a module of 10 MB,
-# and on the 100 modules of `sample 100`. Then the stack and the memory that decoding takes: 500 blocks one in another in a
-# stack of 512 KB, modules of 67,108,864 bytes, and a count of 4,294,967,295 items with none there.
+# and on the 100 modules of `sample 100`. Then the stack and the memory that decoding takes: 500 blocks one in another in
+# a stack of 512 KB, modules of 67,108,864 bytes, and a count of 4,294,967,295 items with none there.
 set -u
 here=$(cd "$(dirname "$0")" && pwd)
 program="$here/../crates/mw_modules/out/mw_modules"
