@@ -1,6 +1,6 @@
-//! The program `mw_modules`: it decodes modules, and prints what came.
+//! The program `mw_modules`: it decodes and validates modules, and prints what came.
 //!
-//!     mw_modules verdict FILE    the verdict of a file: `module`, or its first fault and its place
+//!     mw_modules verdict FILE    the verdict of a file: `valid`, `invalid`, or its first fault and its place
 //!     mw_modules rows FILE..     the verdict of each row of these files, under its name, and how many rows there were
 #![tactic(auto)]
 

@@ -1,13 +1,17 @@
 // What came of bytes, as text.
 
+ghost use Rattle.std.specs.Prelude.{◌^◌, ◌<◌, length};
+
 use mw_decode::{BadModule, DecodeFault, decode};
 use mw_encode::encode;
+use mw_validate::{ValidFault, validate};
+use mw_wasm::Module;
 use std::alloc::{AllocError, Global};
 
-/// `module` where bytes are decoded, else their first fault and its place.
+/// `valid` or `invalid` where bytes are decoded, else their first fault and its place.
 pub fn verdict(alloc: Global, bytes: &[u8]) -> Result<String, AllocError> {
     match decode(alloc, bytes) {
-        Ok(_) => String::from_str(alloc, "module"),
+        Ok(module) => String::from_str(alloc, validity(alloc, module)?),
         Err(DecodeFault::Bad(fault)) => text_of(alloc, fault),
         Err(DecodeFault::Memory(error)) => Err(error),
     }
@@ -17,15 +21,29 @@ pub fn verdict(alloc: Global, bytes: &[u8]) -> Result<String, AllocError> {
 pub fn verdict_of_row(alloc: Global, bytes: &[u8]) -> Result<String, AllocError> {
     match decode(alloc, bytes) {
         Ok(module) => {
-            let encoding = encode(alloc, &module)?;
-            if encoding.as_slice() == bytes {
-                String::from_str(alloc, "module, shortest")
-            } else {
-                String::from_str(alloc, "module")
-            }
+            let spelling = spelling(encode(alloc, &module)?.as_slice(), bytes);
+            let validity = validity(alloc, module)?;
+            format!(in alloc; "{validity}{spelling}")
         }
         Err(DecodeFault::Bad(fault)) => text_of(alloc, fault),
         Err(DecodeFault::Memory(error)) => Err(error),
+    }
+}
+
+/// What bytes are to the encoding of their module.
+fn spelling(encoding: &[u8], bytes: &[u8]) -> &'static str {
+    if encoding == bytes { ", shortest" } else { "" }
+}
+
+/// Whether a module is valid.
+fn validity(alloc: Global, module: Module) -> Result<&'static str, AllocError>
+    requires elements { length module.elements < 2 ^ 32 }
+    requires segments { length module.segments < 2 ^ 32 }
+{
+    match validate(alloc, module) {
+        Ok(_) => Ok("valid"),
+        Err(ValidFault::Bad(_)) => Ok("invalid"),
+        Err(ValidFault::Memory(error)) => Err(error),
     }
 }
 
