@@ -1,4 +1,4 @@
-//! Numbers as bytes of seven bits each (LEB128): the shortest spelling of a number is appended to bytes.
+//! Numbers as bytes of seven bits each (LEB128): read from a place in bytes, and appended by their shortest spelling.
 #![tactic(auto)]
 
 ghost use Rattle.std.specs.Prelude.{◌≡◌, ◌+◌, ◌%◌, ◌<◌, ◌≤◌, ◌++◌, length, OnOk, OnErr, vec_len, vec_capacity};
@@ -8,6 +8,9 @@ ghost use Rattle.mw_leb.specs.Shortest.{AppendsShortest, groups, seven_bits, sho
 use std::alloc::AllocError;
 
 pub mod laws;
+pub mod reading;
+
+pub use crate::reading::{Leb, read_s32, read_s64, read_u32};
 
 /// Appends an unsigned number; a refusal of memory changes nothing, and comes only where the bytes have no room.
 pub fn put_u32(out: &mut Vec<u8>, value: u32) -> Result<(), AllocError>

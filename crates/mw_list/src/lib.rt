@@ -6,6 +6,8 @@ ghost use Rattle.std.specs.Prelude.{◌≡◌, ◌<◌, [], ◌∷◌, ◌++◌,
 use std::alloc::{AllocError, Global};
 use std::marker::Model;
 
+pub mod laws;
+
 /// Elements in order, which contracts see as a list.
 #[derive(Debug, Drop)]
 pub struct Sequence<T: Drop> {

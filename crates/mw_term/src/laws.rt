@@ -1,8 +1,14 @@
 // Laws of terms, of shifting, substitution and typing, which no program calls.
 
+ghost use denote.Param.Send.{IsSend, IsSync};
+ghost use Rattle.mw_term.specs.contracts.program.Program as program;
+ghost use Rattle.mw_term.specs.contracts.term.Term as term;
 ghost use Rattle.mw_term.specs.Sources.{TermsAreSources};
 ghost use Rattle.mw_term.specs.SubstitutionLaws.{ShiftKeepsSize, SubstitutionKeepsSize, SubstitutionUndoesShift, ShiftsCommute, ShiftKeepsClosed, SubstitutionKeepsClosed, ShiftRaisesFree, SubstitutionLowersFree};
 ghost use Rattle.mw_term.specs.TypingLaws.{TypesFit, TypedIsClosed, WeakeningKeepsTypes, SubstitutionKeepsTypes};
+
+use crate::program::Program;
+use crate::term::Term;
 
 /// No term of a program has values that were put for variables.
 pub fn terms_are_sources()
@@ -68,3 +74,25 @@ pub fn weakening_keeps_types()
 pub fn substitution_keeps_types()
     ensures { SubstitutionKeepsTypes }
 {}
+
+/// What may be sent to other threads, and shared with them, may.
+fn crosses<E: Send + Sync>()
+    ensures send { IsSend E.row }
+    ensures sync { IsSync E.row }
+{}
+
+/// A term may be sent to other threads, and shared with them.
+pub fn terms_cross()
+    ensures send { IsSend term.the_row }
+    ensures sync { IsSync term.the_row }
+{
+    crosses::<Term>();
+}
+
+/// A program may be sent to other threads, and shared with them.
+pub fn programs_cross()
+    ensures send { IsSend program.the_row }
+    ensures sync { IsSync program.the_row }
+{
+    crosses::<Program>();
+}

@@ -1,0 +1,14 @@
+pub mod Standing
+pub mod Sound
+pub mod Complete
+pub mod Waitings
+pub mod OperandLists
+pub mod Turning
+pub mod Widths
+pub mod Labels
+pub mod Comparing
+pub mod ByEffect
+pub mod AllPassing
+pub mod Mapped
+pub mod NameSets
+pub mod Outcomes

@@ -6,4 +6,5 @@ pub mod invocations;
 pub mod reduction;
 pub mod rows;
 pub mod soundness;
+pub mod threads;
 pub mod validity;
