@@ -6,7 +6,7 @@ use std::alloc::{AllocError, Global};
 /// The numbers of rows, by the place of their kind.
 #[derive(Drop)]
 pub struct Counts {
-    by_kind: [u64; 11],
+    by_kind: [u64; 12],
 }
 
 fn place(kind: Kind) -> usize {
@@ -20,14 +20,15 @@ fn place(kind: Kind) -> usize {
         Kind::Machine => 6,
         Kind::Code => 7,
         Kind::Kernel => 8,
-        Kind::Text => 9,
-        Kind::Digest => 10,
+        Kind::Module => 9,
+        Kind::Text => 10,
+        Kind::Digest => 11,
     }
 }
 
 impl Counts {
     pub fn none() -> Counts {
-        Counts { by_kind: [0; 11] }
+        Counts { by_kind: [0; 12] }
     }
 
     /// Counts a row.

@@ -23,6 +23,8 @@ pub enum Kind {
     Code,
     /// A canonical text's kernel, run and called.
     Kernel,
+    /// The bytes of the module of a canonical text's kernel.
+    Module,
     /// What a canonical text spells.
     Text,
     /// The digest of bytes, and where a table looks for their name.
@@ -40,6 +42,7 @@ pub const KINDS: &[Kind] = &[
     Kind::Machine,
     Kind::Code,
     Kind::Kernel,
+    Kind::Module,
     Kind::Text,
     Kind::Digest,
 ];
@@ -57,6 +60,7 @@ impl Kind {
             Kind::Machine => "machine",
             Kind::Code => "code",
             Kind::Kernel => "kernel",
+            Kind::Module => "module",
             Kind::Text => "text",
             Kind::Digest => "digest",
         }
@@ -74,7 +78,7 @@ impl Kind {
             Kind::Machine => &["source", "item", "fuel", "reply"],
             Kind::Code => &["code", "type", "table", "element", "data", "invoke", "word"],
             Kind::Kernel => &["text", "fuel", "call"],
-            Kind::Text | Kind::Digest => &["text"],
+            Kind::Module | Kind::Text | Kind::Digest => &["text"],
         }
     }
 }

@@ -1,7 +1,8 @@
 // Kernels of canonical texts, emitted, run and called.
 //
 // `text` is the kernel's, `fuel` the units of its run. Where the run gives a function, each `call` has an argument and units: the
-// leaves of the argument's value in turn, then the units, with blanks between them.
+// leaves of the argument's value in turn, then the units, with blanks between them. Of a `module` row's `text` the bytes are printed
+// that its kernel's module has, in hexadecimal.
 
 ghost use Rattle.std.specs.Prelude.{◌≡◌, ◌<◌, IfOk, IfSome};
 ghost use Rattle.mw_term.specs.Terms.{base as base_of, ground_of, ground_value_of, kernel_type_of};
@@ -148,6 +149,30 @@ fn run<L: Ledger>(alloc: Global, row: &Row, blank: Blank) -> Result<String, Faul
         Err(TextFault::BadText) => Ok(String::from_str(alloc, "no text\n")?),
         Err(TextFault::Memory(error)) => Err(Fault::Memory(error)),
     }
+}
+
+/// The bytes of the module of a row's kernel at the type that its text says, as a line.
+fn module_line<L: Ledger>(alloc: Global, row: &Row, blank: Blank) -> Result<String, Fault>
+    requires name { blank.name ≡ L.name }
+    requires parts { blank.parts ≡ L.parts }
+    requires some { 0 < L.parts }
+{
+    let text = row.bytes(alloc, "text")?;
+    let mut steps = Steps::<L>::open(blank);
+    match read_text(alloc, text.as_slice()) {
+        Ok((_, code, kind)) => {
+            let entry = emit(alloc, &code, &kind, &mut steps)?;
+            let bytes = hex::encode(alloc, entry.bytes())?;
+            Ok(format!(in alloc; "{bytes}\n")?)
+        }
+        Err(TextFault::BadText) => Ok(String::from_str(alloc, "no text\n")?),
+        Err(TextFault::Memory(error)) => Err(Fault::Memory(error)),
+    }
+}
+
+/// The bytes of the module of a row's kernel.
+pub fn module_bytes(alloc: Global, row: &Row) -> Result<String, Fault> {
+    module_line::<Brand>(alloc, row, Blank::new(1))
 }
 
 /// The run of a row's kernel, and its calls.

@@ -47,6 +47,7 @@ fn carried_out<R: AllocGlobal + Threads + Sync>(
         Kind::Machine => machine::carried_out(alloc, row),
         Kind::Code => invocations::carried_out(alloc, row),
         Kind::Kernel => kernels::carried_out(alloc, row),
+        Kind::Module => kernels::module_bytes(alloc, row),
         Kind::Text => texts::text(alloc, row),
         Kind::Digest => texts::digest_lines(alloc, row),
     }
