@@ -4,7 +4,7 @@
 // has, and what `table`, `element` and `data` change. Each `invoke` has a function's name, units, and the arguments; each
 // `word` asks for the eight bytes at an address. They are carried out in turn, on one instance.
 
-ghost use Rattle.std.specs.Prelude.{◌≡◌, IsTrue, map};
+ghost use Rattle.std.specs.Prelude.{◌≡◌, true, map};
 ghost use Rattle.mw_wasm.specs.NumericTypes.{type_of_value};
 
 use crate::fields::{Fault, Row, number_in};
@@ -27,7 +27,7 @@ fn type_of(value: &Value) -> ValType
 
 /// Whether values have these types.
 fn fit(values: &[Value], types: &[ValType]) -> bool
-    ensures { IsTrue result → map type_of_value values.now ≡ types.now }
+    ensures { result ≡ true → map type_of_value values.now ≡ types.now }
 {
     match (values, types) {
         ([], []) => true,
