@@ -2,7 +2,8 @@
 # validate.sh: times decoding and validating together on modules that would be slow to validate without care, each at a size and at
 # twice that size, beside wabt's wasm-validate, where that is installed: a br_table of many labels, calls of a function of a million
 # parameters behind unreachable, many functions of such a type, 50,000 locals from 8 bytes of each function, many exports, and
-# exports whose names differ late. wasm-validate is given up after 20 seconds.
+# exports whose names differ late. wasm-validate is given up after 20 seconds, or past
+# 4 GB of memory.
 set -u
 here=$(cd "$(dirname "$0")" && pwd)
 program="$here/../crates/mw_modules/out/mw_modules"
@@ -56,8 +57,9 @@ timed() {
   python3 - "$@" <<'END'
 import os, resource, subprocess, sys
 words = sys.argv[1:]
+few = lambda: resource.setrlimit(resource.RLIMIT_AS, (4 << 30, 4 << 30))
 try:
-    said = subprocess.run(words, capture_output=True, text=True, timeout=20)
+    said = subprocess.run(words, capture_output=True, text=True, timeout=20, preexec_fn=few)
 except subprocess.TimeoutExpired:
     sys.exit(print(f"  {os.path.basename(words[0]):14} more than 20 s"))
 used = resource.getrusage(resource.RUSAGE_CHILDREN)
