@@ -1,11 +1,8 @@
 // Three modules whose export `run` is timed, by hand.
 
-ghost use Rattle.std.specs.Prelude.{◌≡◌, [], ◌∷◌, None, Some, IfOk};
-ghost use Rattle.mw_wasm.specs.Views.{code_of, module_of};
-ghost use Rattle.mw_validate.specs.Kept.{IsKept};
-ghost use Rattle.mw_bench.specs.Modules.{timed, turn as turn_code, loop_body, again as again_code, calls_body, access as access_code, memory_body};
+ghost use Rattle.std.specs.Prelude.{◌≡◌, [], IfOk};
 
-use mw_validate::Valid;
+use mw_validate::{Valid, ValidFault, validate};
 use mw_wasm::{
     Elements, Export, Exported, Exports, Func, FuncType, FuncTypes, Funcs, Globals, Instr, Instrs,
     IntOp, Limits, LoadOp, Module, NumOp, Octets, Segments, StoreOp, ValType, ValTypes,
@@ -22,9 +19,7 @@ pub enum Timed {
     Memory,
 }
 
-fn turn(alloc: Global) -> Result<Instrs, AllocError>
-    ensures { IfOk result (λ c. code_of c ≡ turn_code) }
-{
+fn turn(alloc: Global) -> Result<Instrs, AllocError> {
     let mut code = Instrs::new(alloc);
     code.push(Instr::LocalGet(1))?;
     code.push(Instr::LocalGet(0))?;
@@ -40,18 +35,14 @@ fn turn(alloc: Global) -> Result<Instrs, AllocError>
     Ok(code)
 }
 
-fn loop_code(alloc: Global) -> Result<Instrs, AllocError>
-    ensures { IfOk result (λ c. code_of c ≡ loop_body) }
-{
+fn loop_code(alloc: Global) -> Result<Instrs, AllocError> {
     let mut code = Instrs::new(alloc);
     code.push(Instr::Loop(None, turn(alloc)?))?;
     code.push(Instr::LocalGet(1))?;
     Ok(code)
 }
 
-fn again(alloc: Global) -> Result<Instrs, AllocError>
-    ensures { IfOk result (λ c. code_of c ≡ again_code) }
-{
+fn again(alloc: Global) -> Result<Instrs, AllocError> {
     let mut code = Instrs::new(alloc);
     code.push(Instr::LocalGet(0))?;
     code.push(Instr::ConstI64(1))?;
@@ -65,9 +56,7 @@ fn again(alloc: Global) -> Result<Instrs, AllocError>
     Ok(code)
 }
 
-fn calls_code(alloc: Global) -> Result<Instrs, AllocError>
-    ensures { IfOk result (λ c. code_of c ≡ calls_body) }
-{
+fn calls_code(alloc: Global) -> Result<Instrs, AllocError> {
     let mut first = Instrs::new(alloc);
     first.push(Instr::LocalGet(0))?;
     let mut code = Instrs::new(alloc);
@@ -78,9 +67,7 @@ fn calls_code(alloc: Global) -> Result<Instrs, AllocError>
     Ok(code)
 }
 
-fn access(alloc: Global) -> Result<Instrs, AllocError>
-    ensures { IfOk result (λ c. code_of c ≡ access_code) }
-{
+fn access(alloc: Global) -> Result<Instrs, AllocError> {
     let mut code = Instrs::new(alloc);
     code.push(Instr::LocalGet(2))?;
     code.push(Instr::ConstI32(65_528))?;
@@ -102,9 +89,7 @@ fn access(alloc: Global) -> Result<Instrs, AllocError>
     Ok(code)
 }
 
-fn memory_code(alloc: Global) -> Result<Instrs, AllocError>
-    ensures { IfOk result (λ c. code_of c ≡ memory_body) }
-{
+fn memory_code(alloc: Global) -> Result<Instrs, AllocError> {
     let mut code = Instrs::new(alloc);
     code.push(Instr::LocalGet(0))?;
     code.push(Instr::Num(NumOp::Wrap))?;
@@ -116,7 +101,8 @@ fn memory_code(alloc: Global) -> Result<Instrs, AllocError>
 
 /// The module with this body.
 fn timed_module(alloc: Global, body: Instrs) -> Result<Module, AllocError>
-    ensures { IfOk result (λ wasm. module_of wasm ≡ timed (code_of body)) }
+    ensures elements { IfOk result (λ wasm. wasm.elements ≡ []) }
+    ensures segments { IfOk result (λ wasm. wasm.segments ≡ []) }
 {
     let mut params = ValTypes::new(alloc);
     params.push(ValType::I64)?;
@@ -154,23 +140,12 @@ fn timed_module(alloc: Global, body: Instrs) -> Result<Module, AllocError>
     })
 }
 
-fn loop_module(alloc: Global) -> Result<Valid, AllocError> {
-    Ok(Valid::sure(timed_module(alloc, loop_code(alloc)?)?))
-}
-
-fn calls_module(alloc: Global) -> Result<Valid, AllocError> {
-    Ok(Valid::sure(timed_module(alloc, calls_code(alloc)?)?))
-}
-
-fn memory_module(alloc: Global) -> Result<Valid, AllocError> {
-    Ok(Valid::sure(timed_module(alloc, memory_code(alloc)?)?))
-}
-
 /// The module with this code.
-pub fn module_with(alloc: Global, code: Timed) -> Result<Valid, AllocError> {
-    match code {
-        Timed::Loop => loop_module(alloc),
-        Timed::Calls => calls_module(alloc),
-        Timed::Memory => memory_module(alloc),
-    }
+pub fn module_with(alloc: Global, code: Timed) -> Result<Valid, ValidFault> {
+    let body = match code {
+        Timed::Loop => loop_code(alloc)?,
+        Timed::Calls => calls_code(alloc)?,
+        Timed::Memory => memory_code(alloc)?,
+    };
+    validate(alloc, timed_module(alloc, body)?)
 }

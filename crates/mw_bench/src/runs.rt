@@ -6,6 +6,7 @@ ghost use Rattle.mw_wasm.specs.NumericTypes.{type_of_value};
 
 use crate::modules::{Timed, module_with};
 use mw_exec::{Ended, Instance, InstanceFault};
+use mw_validate::ValidFault;
 use mw_wasm::{FuncType, ValType, Value};
 use std::alloc::{AllocError, Global};
 use std::sync::Arc;
@@ -14,18 +15,16 @@ use std::sync::Arc;
 fn takes_one_large(kind: &FuncType) -> bool
     ensures { result ≡ true → map type_of_value (I64 0 ∷ []) ≡ kind.now.params }
 {
-    if kind.params.len() != 1 {
-        return false;
-    }
-    match *kind.params.get(0) {
-        ValType::I64 => true,
-        ValType::I32 => false,
-    }
+    matches!(kind.params.as_slice(), [ValType::I64])
 }
 
-/// What the invocation of `run` with a number gives, with 10^9 units; 0 where it gives no i64.
+/// What the invocation of `run` with a number gives, with 10^9 units; 0 where it is not valid or gives no i64.
 pub fn run(alloc: Global, code: Timed, count: u64) -> Result<u64, AllocError> {
-    let wasm = Arc::new(alloc, module_with(alloc, code)?)?;
+    let wasm = match module_with(alloc, code) {
+        Ok(wasm) => Arc::new(alloc, wasm)?,
+        Err(ValidFault::Bad(_)) => return Ok(0),
+        Err(ValidFault::Memory(error)) => return Err(error),
+    };
     let mut instance = match Instance::new(alloc, wasm) {
         Ok(instance) => instance,
         Err(InstanceFault::Memory(error)) => return Err(error),

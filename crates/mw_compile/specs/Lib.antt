@@ -1,4 +1,3 @@
 pub mod Emission
 pub mod EmissionLaws
 pub mod Entries
-pub mod Examples

@@ -5,8 +5,6 @@ mod emission;
 mod entry;
 pub mod laws;
 mod steps;
-#[cfg(test)]
-mod tests;
 
 pub use crate::emission::emit;
 pub use crate::entry::Entry;

@@ -14,6 +14,3 @@ mod source;
 
 pub use crate::command::run;
 pub use mw_console::Status;
-
-#[cfg(test)]
-mod tests;

@@ -8,4 +8,3 @@ pub mod FirstStores
 pub mod InstanceStates
 pub mod Instancing
 pub mod Invoking
-pub mod SegmentExamples

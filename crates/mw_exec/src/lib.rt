@@ -20,8 +20,6 @@ mod segments;
 mod simple;
 mod state;
 mod tables;
-#[cfg(test)]
-mod tests;
 
 pub use crate::ended::{Ended, InstanceFault};
 pub use crate::instance::Instance;

@@ -9,8 +9,6 @@ pub mod laws;
 mod number;
 mod read;
 mod reader;
-#[cfg(test)]
-mod tests;
 pub mod version;
 mod write;
 

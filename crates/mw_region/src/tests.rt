@@ -2,6 +2,8 @@
 
 use super::*;
 use std::alloc::{AllocError, Global};
+use std::sync::atomic::AtomicU64;
+use std::sync::atomic::Ordering::SeqCst;
 use std::test::Fail;
 
 enum Step {
@@ -67,5 +69,80 @@ fn many(rt: HostRuntime) -> Result<(), Fail> {
         assert_eq!(rt; *pool.get(id), item);
     }
     assert_eq!(rt; pool.len(), 100_000);
+    Ok(())
+}
+
+/// Counts its drop.
+struct Counted<'a> {
+    count: &'a AtomicU64,
+}
+
+impl<'a> Drop for Counted<'a> {
+    fn drop(self) {
+        let Counted { count } = self;
+        count.fetch_add(1, SeqCst);
+    }
+}
+
+/// Makes room for 3,000 items and puts them.
+fn put_all<'a>(pool: &mut Pool<Counted<'a>>, count: &'a AtomicU64) -> Result<(), AllocError> {
+    for _ in 0..3000 {
+        pool.reserve(1)?;
+        let _id = pool.put(Counted { count });
+    }
+    Ok(())
+}
+
+/// How many items a cut to 1,000 drops, and how many are dropped in all.
+fn drops(alloc: Global) -> Result<(u64, u64), AllocError> {
+    let count = AtomicU64::new(0);
+    let mut pool = Pool::new(alloc);
+    put_all(&mut pool, &count)?;
+    if pool.len() >= 1000 {
+        pool.cut(Mark { length: 1000 });
+    }
+    let cut = count.load(SeqCst);
+    drop(pool);
+    Ok((cut, count.load(SeqCst)))
+}
+
+#[test]
+fn each_item_is_dropped_once(rt: HostRuntime) -> Result<(), Fail> {
+    let (cut, all) = drops(rt.alloc())?;
+    assert!(rt; cut == 2000 && all == 3000);
+    Ok(())
+}
+
+/// A pool with the numbers below 2,000, put in after one reserve.
+fn numbers(alloc: Global) -> Result<Pool<u32>, AllocError> {
+    let mut pool = Pool::new(alloc);
+    pool.reserve(2000)?;
+    for n in 0..2000u32 {
+        let _id = pool.put(n);
+    }
+    Ok(pool)
+}
+
+#[test]
+fn items_of_two_chunks(rt: HostRuntime) -> Result<(), Fail> {
+    let pool = numbers(rt.alloc())?;
+    assert!(rt; pool.len() == 2000);
+    assert!(rt; *pool.get(Id { place: 1023 }) == 1023 && *pool.get(Id { place: 1024 }) == 1024);
+    Ok(())
+}
+
+// 48 places are left of two chunks, and five more chunks make 5,168. In an ordinary run the second call succeeds. It makes the
+// fifth to tenth allocation, the list of chunks and then each chunk: `rt try --test --fail-alloc N` refuses the Nth.
+#[test]
+fn refused_room_changes_nothing(rt: HostRuntime) -> Result<(), Fail> {
+    let mut pool = numbers(rt.alloc())?;
+    for more in [usize::MAX, 5000] {
+        let refused = pool.reserve(more).is_err();
+        assert!(rt; refused || more == 5000);
+        let room = if refused { 48 } else { 5168 };
+        assert_eq!(rt; pool.spare(), room);
+        assert_eq!(rt; pool.len(), 2000);
+        assert!(rt; *pool.get(Id { place: 0 }) == 0 && *pool.get(Id { place: 1999 }) == 1999);
+    }
     Ok(())
 }

@@ -45,6 +45,3 @@ pub fn resolve(alloc: Global, surface: &Surface) -> Result<Program, Stop>
     let program = whole(alloc, surface, &mut first)?;
     answer(first, program)
 }
-
-#[cfg(test)]
-mod tests;

@@ -5,8 +5,6 @@
 mod scripts;
 mod sources;
 mod staged;
-#[cfg(test)]
-mod tests;
 
 pub use crate::scripts::Reply;
 pub use crate::staged::answer;

@@ -1,0 +1,202 @@
+// Rows: their kinds, and their fields by name.
+
+use std::alloc::{AllocError, AllocFailed, Global};
+
+/// What a row does with its fields.
+#[derive(Clone, Copy, Debug, Drop)]
+pub enum Kind {
+    /// A command over a source in memory.
+    Run,
+    /// The tree of a source.
+    Tree,
+    /// Whether sources have trees.
+    Verdicts,
+    /// Which tokens may follow a front.
+    Followers,
+    /// Whether each front of a source has a tree.
+    Fronts,
+    /// The nameless program of a source.
+    Program,
+    /// An evaluation on the machine, over kernels that answer from a list.
+    Machine,
+    /// How the invocations of code end.
+    Code,
+    /// A canonical text's kernel, run and called.
+    Kernel,
+    /// The bytes of the module of a canonical text's kernel.
+    Module,
+    /// What a canonical text spells.
+    Text,
+    /// The digest of bytes, and where a table looks for their name.
+    Digest,
+}
+
+/// All kinds, in the order in which they are counted.
+pub const KINDS: &[Kind] = &[
+    Kind::Run,
+    Kind::Tree,
+    Kind::Verdicts,
+    Kind::Followers,
+    Kind::Fronts,
+    Kind::Program,
+    Kind::Machine,
+    Kind::Code,
+    Kind::Kernel,
+    Kind::Module,
+    Kind::Text,
+    Kind::Digest,
+];
+
+impl Kind {
+    /// The word that stands for it in a file of rows.
+    pub fn word(self) -> &'static str {
+        match self {
+            Kind::Run => "run",
+            Kind::Tree => "tree",
+            Kind::Verdicts => "verdicts",
+            Kind::Followers => "followers",
+            Kind::Fronts => "fronts",
+            Kind::Program => "program",
+            Kind::Machine => "machine",
+            Kind::Code => "code",
+            Kind::Kernel => "kernel",
+            Kind::Module => "module",
+            Kind::Text => "text",
+            Kind::Digest => "digest",
+        }
+    }
+
+    /// The fields that its rows may have.
+    pub fn fields(self) -> &'static [&'static str] {
+        match self {
+            Kind::Run => &[
+                "source", "words", "reads", "writes", "step", "shows", "beside",
+            ],
+            Kind::Tree | Kind::Fronts | Kind::Program => &["source"],
+            Kind::Verdicts => &["source", "next"],
+            Kind::Followers => &["front", "tokens"],
+            Kind::Machine => &["source", "item", "fuel", "reply"],
+            Kind::Code => &["code", "type", "table", "element", "data", "invoke", "word"],
+            Kind::Kernel => &["text", "fuel", "call"],
+            Kind::Module | Kind::Text | Kind::Digest => &["text"],
+        }
+    }
+}
+
+/// Why a row can't be carried out.
+#[derive(Debug, Drop)]
+pub enum Fault {
+    Malformed(&'static str),
+    Memory(AllocError),
+}
+
+impl Fault {
+    /// The reason in words.
+    pub fn why(&self) -> &'static str {
+        match self {
+            Fault::Malformed(why) => why,
+            Fault::Memory(_) => "out of memory",
+        }
+    }
+}
+
+impl From<AllocError> for Fault {
+    fn from(error: AllocError) -> Fault {
+        Fault::Memory(error)
+    }
+}
+
+impl<T: Drop> From<AllocFailed<T>> for Fault {
+    fn from(error: AllocFailed<T>) -> Fault {
+        Fault::Memory(AllocError::from(error))
+    }
+}
+
+/// A field of a row: its name and its bytes.
+#[derive(Drop)]
+pub struct Field {
+    pub name: String,
+    pub bytes: Vec<u8>,
+}
+
+impl Field {
+    /// Its text.
+    pub fn text(&self) -> Result<&str, Fault> {
+        match std::str::from_utf8(self.bytes.as_slice()) {
+            Ok(text) => Ok(text),
+            Err(_) => Err(Fault::Malformed("a text isn't UTF-8")),
+        }
+    }
+}
+
+/// A row, with the number of the line on which it begins.
+#[derive(Drop)]
+pub struct Row {
+    pub kind: Kind,
+    pub name: String,
+    pub line: usize,
+    pub fields: Vec<Field>,
+}
+
+impl Row {
+    /// Whether it has a field of this name.
+    pub fn has(&self, name: &str) -> bool {
+        self.fields.iter().any(|field| field.name.as_str() == name)
+    }
+
+    /// The bytes of all fields of this name, one after the other.
+    pub fn bytes(&self, alloc: Global, name: &str) -> Result<Vec<u8>, AllocError> {
+        let mut all = Vec::new(alloc);
+        for field in self.fields.as_slice() {
+            if field.name.as_str() == name {
+                all.extend_from_slice(field.bytes.as_slice())?;
+            }
+        }
+        Ok(all)
+    }
+
+    /// The same as a text.
+    pub fn text(&self, alloc: Global, name: &str) -> Result<String, Fault> {
+        match String::from_utf8(self.bytes(alloc, name)?) {
+            Ok(text) => Ok(text),
+            Err(_) => Err(Fault::Malformed("a text isn't UTF-8")),
+        }
+    }
+
+    /// The texts of the fields of this name.
+    pub fn texts<'a>(&'a self, alloc: Global, name: &str) -> Result<Vec<&'a str>, Fault> {
+        let mut texts = Vec::new(alloc);
+        for field in self.fields.as_slice() {
+            if field.name.as_str() == name {
+                texts.push(field.text()?)?;
+            }
+        }
+        Ok(texts)
+    }
+
+    /// The number that stands in the field of this name, or this one where there is no such field.
+    pub fn number(&self, alloc: Global, name: &str, otherwise: u64) -> Result<u64, Fault> {
+        if !self.has(name) {
+            return Ok(otherwise);
+        }
+        number_in(self.text(alloc, name)?.as_str())
+    }
+
+    /// The numbers that stand in the fields of this name, with blanks between them.
+    pub fn numbers(&self, alloc: Global, name: &str) -> Result<Vec<u64>, Fault> {
+        let text = self.text(alloc, name)?;
+        let mut numbers = Vec::new(alloc);
+        for word in text.as_str().split_whitespace() {
+            numbers.push(number_in(word)?)?;
+        }
+        Ok(numbers)
+    }
+}
+
+/// The number that a word spells.
+pub fn number_in(word: &str) -> Result<u64, Fault> {
+    match word.parse::<u64>() {
+        Ok(number) => Ok(number),
+        Err(_) => Err(Fault::Malformed("not a number")),
+    }
+}

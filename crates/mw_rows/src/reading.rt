@@ -1,0 +1,214 @@
+// Files of rows.
+//
+// A row begins with a line `[kind] name`. The lines after it are its fields: a name, a colon, a blank and a text. A name may come
+// more than once: its texts stand one after the other. `name*9: text` stands for nine times the text. `name^9: text` puts the
+// text of the line before, which has the same name, in the place of each `$`, nine times over: what comes is the next time's.
+// In a text `\n`, `\r`, `\t`, `\\` and `\xHH` are a byte each. Empty lines and lines that begin with `#` are passed over.
+
+use crate::fields::{Fault, Field, KINDS, Kind, Row, number_in};
+use std::alloc::{AllocError, Global};
+
+/// Why a file has no rows, and the number of the line.
+#[derive(Drop)]
+pub struct Misread {
+    pub line: usize,
+    pub why: &'static str,
+}
+
+/// The kind that a word stands for.
+fn kind_of(word: &str) -> Option<Kind> {
+    KINDS.iter().copied().find(|kind| kind.word() == word)
+}
+
+fn digit(byte: u8) -> Option<u8> {
+    match byte {
+        b'0'..=b'9' => Some(byte - b'0'),
+        b'a'..=b'f' => Some(byte - b'a' + 10),
+        _ => None,
+    }
+}
+
+/// The byte that an escape stands for, from what follows its backslash, and what follows the escape.
+fn escaped(after: &[u8]) -> Option<(u8, &[u8])> {
+    match after {
+        [b'n', rest @ ..] => Some((b'\n', rest)),
+        [b'r', rest @ ..] => Some((b'\r', rest)),
+        [b't', rest @ ..] => Some((b'\t', rest)),
+        [b'\\', rest @ ..] => Some((b'\\', rest)),
+        [b'x', high, low, rest @ ..] => {
+            let high = digit(*high)?;
+            let low = digit(*low)?;
+            Some((high.wrapping_mul(16) | low, rest))
+        }
+        _ => None,
+    }
+}
+
+/// The bytes that a text stands for.
+fn unescaped(alloc: Global, text: &[u8]) -> Result<Vec<u8>, Fault> {
+    let mut bytes = Vec::new(alloc);
+    let mut left = text;
+    for _ in 0..text.len() {
+        match left {
+            [] => break,
+            [b'\\', after @ ..] => {
+                let Some((byte, rest)) = escaped(after) else {
+                    return Err(Fault::Malformed("an escape that isn't one"));
+                };
+                bytes.push(byte)?;
+                left = rest;
+            }
+            [byte, rest @ ..] => {
+                bytes.push(*byte)?;
+                left = rest;
+            }
+        }
+    }
+    Ok(bytes)
+}
+
+/// What a field's line does with its text.
+#[derive(Clone, Copy, Drop)]
+enum Times {
+    /// It stands there so many times.
+    Repeated(u64),
+    /// The text before is put into it so many times.
+    Nested(u64),
+}
+
+/// So many times the bytes.
+fn repeated(alloc: Global, bytes: &[u8], times: u64) -> Result<Vec<u8>, AllocError> {
+    let mut all = Vec::new(alloc);
+    for _ in 0..times {
+        all.extend_from_slice(bytes)?;
+    }
+    Ok(all)
+}
+
+/// The bytes of a frame with these in the place of each `$`.
+fn framed(alloc: Global, frame: &[u8], inner: &[u8]) -> Result<Vec<u8>, AllocError> {
+    let mut all = Vec::new(alloc);
+    for byte in frame {
+        if *byte == b'$' {
+            all.extend_from_slice(inner)?;
+        } else {
+            all.push(*byte)?;
+        }
+    }
+    Ok(all)
+}
+
+/// Puts the bytes into the frame so many times.
+fn nested(alloc: Global, frame: &[u8], inner: &mut Vec<u8>, times: u64) -> Result<(), AllocError> {
+    for _ in 0..times {
+        *inner = framed(alloc, frame, inner.as_slice())?;
+    }
+    Ok(())
+}
+
+/// A field's name, what is done with its text, and the text.
+fn parts(line: &str) -> Result<(&str, Times, &str), Fault> {
+    let Some((front, text)) = line.split_once(':') else {
+        return Err(Fault::Malformed("a line that is no row's and no field's"));
+    };
+    let text = match text.strip_prefix(" ") {
+        Some(rest) => rest,
+        None if text.is_empty() => text,
+        None => return Err(Fault::Malformed("no blank after the colon")),
+    };
+    if let Some((name, times)) = front.split_once('*') {
+        return Ok((name, Times::Repeated(number_in(times)?), text));
+    }
+    if let Some((name, times)) = front.split_once('^') {
+        return Ok((name, Times::Nested(number_in(times)?), text));
+    }
+    Ok((front, Times::Repeated(1), text))
+}
+
+/// The row that begins on a line.
+fn row(alloc: Global, head: &str, line: usize) -> Result<Row, Fault> {
+    let Some((word, name)) = head.split_once("] ") else {
+        return Err(Fault::Malformed("a row without a name"));
+    };
+    let Some(kind) = kind_of(word) else {
+        return Err(Fault::Malformed("no kind of row"));
+    };
+    Ok(Row {
+        kind,
+        name: String::from_str(alloc, name)?,
+        line,
+        fields: Vec::new(alloc),
+    })
+}
+
+/// Nests the last field, which has this name.
+fn nest(
+    alloc: Global,
+    fields: &mut Vec<Field>,
+    name: &str,
+    frame: &[u8],
+    times: u64,
+) -> Result<(), Fault> {
+    match fields.last_mut() {
+        Some(last) if last.name.as_str() == name => {
+            nested(alloc, frame, &mut last.bytes, times)?;
+            Ok(())
+        }
+        _ => Err(Fault::Malformed("no line before to be nested")),
+    }
+}
+
+/// Adds what a line says to a row's fields.
+fn add_to(alloc: Global, row: &mut Row, line: &str) -> Result<(), Fault> {
+    let (name, times, text) = parts(line)?;
+    if !row.kind.fields().contains(&name) {
+        return Err(Fault::Malformed("a field that rows of this kind don't have"));
+    }
+    let bytes = unescaped(alloc, text.as_bytes())?;
+    match times {
+        Times::Nested(times) => nest(alloc, &mut row.fields, name, bytes.as_slice(), times),
+        Times::Repeated(times) => {
+            row.fields.push(Field {
+                name: String::from_str(alloc, name)?,
+                bytes: repeated(alloc, bytes.as_slice(), times)?,
+            })?;
+            Ok(())
+        }
+    }
+}
+
+/// Adds a field to the last row.
+fn add(alloc: Global, rows: &mut Vec<Row>, line: &str) -> Result<(), Fault> {
+    match rows.last_mut() {
+        Some(last) => add_to(alloc, last, line),
+        None => Err(Fault::Malformed("a field before the first row")),
+    }
+}
+
+/// What a line adds to the rows.
+fn read_line(alloc: Global, rows: &mut Vec<Row>, line: &str, number: usize) -> Result<(), Fault> {
+    if line.is_empty() || line.starts_with('#') {
+        return Ok(());
+    }
+    match line.strip_prefix("[") {
+        Some(head) => rows.push(row(alloc, head, number)?)?,
+        None => add(alloc, rows, line)?,
+    }
+    Ok(())
+}
+
+/// The rows of a file's text.
+pub fn rows_of(alloc: Global, text: &str) -> Result<Vec<Row>, Misread> {
+    let mut rows = Vec::new(alloc);
+    let mut number = 0usize;
+    for line in text.lines() {
+        number = number.saturating_add(1);
+        if let Err(fault) = read_line(alloc, &mut rows, line, number) {
+            return Err(Misread {
+                line: number,
+                why: fault.why(),
+            });
+        }
+    }
+    Ok(rows)
+}

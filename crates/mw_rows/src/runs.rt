@@ -1,0 +1,129 @@
+// Commands over a source in memory.
+//
+// `source` is the one file that there is, `source.metaml`. `words` are the command's, with a blank between two; `''` is an empty
+// one, and `run source.metaml` stands there where the field doesn't. `reads` and `writes` number the calls of source and sink
+// that fail, from 0 on. The sink takes `step` bytes at once, 10 where the field isn't there. `shows` says which lines are
+// printed. `beside` names the row before: where the same bytes were written, that is said in place of the lines.
+
+use crate::fields::{Fault, Row};
+use crate::shown::{Shows, push_lines, shows_of};
+use mw_console::Status;
+use mw_drive::run;
+use mw_outside::{Bytes, Calls, Files, MemSink, MemSource, NamedFile, Pass, SureKeeper};
+use std::alloc::{AllocError, Global};
+use std::thread::Threads;
+
+/// The name of the one file.
+const NAME: &str = "source.metaml";
+
+/// The row before, and what was written.
+#[derive(Drop)]
+pub struct Before {
+    name: String,
+    written: Vec<u8>,
+}
+
+impl Before {
+    /// No row.
+    pub fn none(alloc: Global) -> Before {
+        Before {
+            name: String::new(alloc),
+            written: Vec::new(alloc),
+        }
+    }
+}
+
+/// The source with its one file.
+fn source_of(alloc: Global, row: &Row) -> Result<MemSource, Fault> {
+    let file = row.bytes(alloc, "source")?;
+    let mut files = Files::new(alloc);
+    files.push(NamedFile {
+        name: Bytes::copied(alloc, NAME.as_bytes())?,
+        bytes: Bytes::copied(alloc, file.as_slice())?,
+    })?;
+    if !files.names_differ() {
+        return Err(Fault::Malformed("two files of one name"));
+    }
+    Ok(MemSource::new(files, calls(alloc, row, "reads")?, 7))
+}
+
+/// The numbers of the calls that fail.
+fn calls(alloc: Global, row: &Row, name: &str) -> Result<Calls, Fault> {
+    let mut calls = Calls::new(alloc);
+    for number in row.numbers(alloc, name)?.as_slice() {
+        calls.push(*number)?;
+    }
+    Ok(calls)
+}
+
+/// The words of the command.
+fn words(alloc: Global, row: &Row) -> Result<Vec<String>, Fault> {
+    let text = if row.has("words") {
+        row.text(alloc, "words")?
+    } else {
+        String::from_str(alloc, "run source.metaml")?
+    };
+    let mut words = Vec::new(alloc);
+    for word in text.as_str().split_whitespace() {
+        let word = if word == "''" { "" } else { word };
+        words.push(String::from_str(alloc, word)?)?;
+    }
+    Ok(words)
+}
+
+fn shows(alloc: Global, row: &Row) -> Result<Shows, Fault> {
+    if !row.has("shows") {
+        return Ok(Shows::All);
+    }
+    match shows_of(row.text(alloc, "shows")?.as_str()) {
+        Some(shows) => Ok(shows),
+        None => Err(Fault::Malformed("no such lines are shown")),
+    }
+}
+
+/// The status, and what is written.
+fn ran<R: AllocGlobal + Threads + Sync>(rt: &R, row: &Row) -> Result<(Status, Vec<u8>), Fault> {
+    let alloc = rt.alloc();
+    let step = row.number(alloc, "step", 10)?;
+    if step == 0 {
+        return Err(Fault::Malformed("a sink that takes nothing"));
+    }
+    let mut source = source_of(alloc, row)?;
+    let mut sink = MemSink::new(alloc, calls(alloc, row, "writes")?, step as usize);
+    let mut keeper = SureKeeper::new(Bytes::new(alloc));
+    let words = words(alloc, row)?;
+    let status = run(
+        rt,
+        alloc,
+        words.as_slice(),
+        &mut source,
+        &mut sink,
+        &mut keeper,
+        &Pass,
+    );
+    Ok((status, Vec::from_slice(alloc, sink.written())?))
+}
+
+/// The exit code, and the lines that were written.
+pub fn carried_out<R: AllocGlobal + Threads + Sync>(
+    rt: &R,
+    row: &Row,
+    before: &mut Before,
+) -> Result<String, Fault> {
+    let alloc = rt.alloc();
+    let shows = shows(alloc, row)?;
+    let beside = row.text(alloc, "beside")?;
+    if row.has("beside") && beside.as_str() != before.name.as_str() {
+        return Err(Fault::Malformed("not the name of the row before"));
+    }
+    let (status, written) = ran(rt, row)?;
+    let mut text = format!(in alloc; "status {}\n", status.code())?;
+    if row.has("beside") && written.as_slice() == before.written.as_slice() {
+        text.push_str("the same lines\n")?;
+    } else {
+        push_lines(alloc, &mut text, written.as_slice(), shows)?;
+    }
+    before.name = row.name.clone()?;
+    before.written = written;
+    Ok(text)
+}

@@ -1,0 +1,78 @@
+// What is printed of bytes that were written.
+
+use std::alloc::{AllocError, Global};
+
+/// Which lines are printed.
+#[derive(Clone, Copy, Drop)]
+pub enum Shows {
+    All,
+    /// All but the bytes of modules.
+    Keys,
+    /// Those with the names and types of kernels.
+    Kernels,
+    /// The last alone.
+    Last,
+}
+
+/// What a word shows.
+pub fn shows_of(word: &str) -> Option<Shows> {
+    match word {
+        "all" => Some(Shows::All),
+        "keys" => Some(Shows::Keys),
+        "kernels" => Some(Shows::Kernels),
+        "last" => Some(Shows::Last),
+        _ => None,
+    }
+}
+
+/// Whether a line is printed, which is the last or isn't.
+fn is_shown(shows: Shows, line: &[u8], is_last: bool) -> bool {
+    match shows {
+        Shows::All => true,
+        Shows::Keys => !line.starts_with(b"module "),
+        Shows::Kernels => line.starts_with(b"kernel "),
+        Shows::Last => is_last,
+    }
+}
+
+/// Adds a byte: what isn't a printable character of ASCII, and a backslash, by an escape.
+fn push_byte(alloc: Global, text: &mut String, byte: u8) -> Result<(), AllocError> {
+    match byte {
+        b'\\' => text.push_str("\\\\"),
+        b' '..=b'~' => text.push(byte as char),
+        _ => text.push_str(format!(in alloc; "\\x{byte:02x}")?.as_str()),
+    }
+}
+
+/// Adds a line after a mark.
+fn push_line(alloc: Global, text: &mut String, mark: &str, line: &[u8]) -> Result<(), AllocError> {
+    text.push_str(mark)?;
+    for byte in line {
+        push_byte(alloc, text, *byte)?;
+    }
+    text.push_str("\n")
+}
+
+/// Adds lines that were written: `> ` stands before one that has its line feed, and `: ` before a last one that has none.
+pub fn push_lines(
+    alloc: Global,
+    text: &mut String,
+    written: &[u8],
+    shows: Shows,
+) -> Result<(), AllocError> {
+    let mut left = written;
+    for _ in 0..written.len() {
+        let Some(end) = left.iter().position(|byte| *byte == b'\n') else {
+            break;
+        };
+        let (line, rest) = left.split_at(end);
+        left = rest.get(1..).unwrap_or(&[]);
+        if is_shown(shows, line, left.is_empty()) {
+            push_line(alloc, text, "> ", line)?;
+        }
+    }
+    if !left.is_empty() {
+        push_line(alloc, text, ": ", left)?;
+    }
+    Ok(())
+}

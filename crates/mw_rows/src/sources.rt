@@ -1,0 +1,117 @@
+// Sources and their trees.
+//
+// A `tree` row prints the tree of its source, or the refusal. A `verdicts` row has several sources: each begins with what
+// `source` says and ends with one of the texts of `next`; for each it is printed whether it has a tree, or the refusal. A
+// `followers` row has tokens that stand, each alone, behind its front: it prints those that the reader takes, those that are
+// refused at themselves, and all others. A `fronts` row prints the verdict of each front of its source, the shortest first.
+
+use crate::fields::{Fault, Row};
+use mw_lex::lex;
+use mw_parse::{Surface, parse};
+use mw_term::{Refusal, Stop};
+use std::alloc::{AllocError, Global};
+
+/// The tree of bytes.
+fn surface(alloc: Global, bytes: &[u8]) -> Result<Surface, Stop> {
+    let tokens = lex(alloc, bytes)?;
+    parse(alloc, &tokens, bytes.len() as u32)
+}
+
+/// The refusal of bytes that have no tree.
+fn refusal(alloc: Global, bytes: &[u8]) -> Result<Option<Refusal>, AllocError> {
+    match surface(alloc, bytes) {
+        Ok(_) => Ok(None),
+        Err(Stop::Refused(refusal)) => Ok(Some(refusal)),
+        Err(Stop::Memory(error)) => Err(error),
+    }
+}
+
+/// `accepted`, or the refusal.
+fn verdict(alloc: Global, bytes: &[u8]) -> Result<String, AllocError> {
+    match refusal(alloc, bytes)? {
+        None => String::from_str(alloc, "accepted"),
+        Some(refusal) => format!(in alloc; "{refusal:?}"),
+    }
+}
+
+/// The tree of a row's source, or the refusal.
+pub fn tree(alloc: Global, row: &Row) -> Result<String, Fault> {
+    let source = row.bytes(alloc, "source")?;
+    match surface(alloc, source.as_slice()) {
+        Ok(tree) => Ok(format!(in alloc; "{tree:?}\n")?),
+        Err(Stop::Refused(refusal)) => Ok(format!(in alloc; "{refusal:?}\n")?),
+        Err(Stop::Memory(error)) => Err(Fault::Memory(error)),
+    }
+}
+
+/// A verdict for each of a row's texts.
+pub fn verdicts(alloc: Global, row: &Row) -> Result<String, Fault> {
+    let front = row.bytes(alloc, "source")?;
+    let mut text = String::new(alloc);
+    for field in row.fields.as_slice() {
+        if field.name.as_str() == "next" {
+            let mut source = Vec::from_slice(alloc, front.as_slice())?;
+            source.extend_from_slice(field.bytes.as_slice())?;
+            let verdict = verdict(alloc, source.as_slice())?;
+            text.push_str(format!(in alloc; "{verdict}\n")?.as_str())?;
+        }
+    }
+    Ok(text)
+}
+
+/// What the reader does with the last token of a source.
+enum Behind {
+    /// The source has a tree, or it ends too soon.
+    Taken,
+    /// It is refused at the token.
+    Refused,
+    Other,
+}
+
+/// What the reader does with a token behind a front.
+fn follows(alloc: Global, front: &[u8], token: &str) -> Result<Behind, AllocError> {
+    let mut source = Vec::from_slice(alloc, front)?;
+    source.extend_from_slice(token.as_bytes())?;
+    let end = source.len();
+    Ok(match refusal(alloc, source.as_slice())? {
+        None => Behind::Taken,
+        Some(Refusal::Syntax(at)) if at as usize == end => Behind::Taken,
+        Some(Refusal::Syntax(at)) if at as usize == front.len() => Behind::Refused,
+        Some(_) => Behind::Other,
+    })
+}
+
+/// Adds a token after a blank.
+fn push_token(list: &mut String, token: &str) -> Result<(), AllocError> {
+    list.push_str(" ")?;
+    list.push_str(token)
+}
+
+/// Which tokens may follow a row's front, and which may not.
+pub fn followers(alloc: Global, row: &Row) -> Result<String, Fault> {
+    let front = row.bytes(alloc, "front")?;
+    let tokens = row.text(alloc, "tokens")?;
+    let mut taken = String::new(alloc);
+    let mut refused = String::new(alloc);
+    let mut others = String::new(alloc);
+    for token in tokens.as_str().split_whitespace() {
+        match follows(alloc, front.as_slice(), token)? {
+            Behind::Taken => push_token(&mut taken, token)?,
+            Behind::Refused => push_token(&mut refused, token)?,
+            Behind::Other => push_token(&mut others, token)?,
+        }
+    }
+    Ok(format!(in alloc; "taken:{taken}\nrefused:{refused}\nothers:{others}\n")?)
+}
+
+/// The verdict of each front of a row's source, with its length.
+pub fn fronts(alloc: Global, row: &Row) -> Result<String, Fault> {
+    let source = row.bytes(alloc, "source")?;
+    let mut text = String::new(alloc);
+    for cut in 0..source.len().saturating_add(1) {
+        let front = source.as_slice().get(..cut).unwrap_or(&[]);
+        let verdict = verdict(alloc, front)?;
+        text.push_str(format!(in alloc; "{cut} {verdict}\n")?.as_str())?;
+    }
+    Ok(text)
+}

@@ -1,0 +1,6 @@
+pub mod CoreRuns
+pub mod Lists
+pub mod Machine
+pub mod Made
+pub mod Slots
+pub mod Windows
