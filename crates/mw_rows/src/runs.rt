@@ -56,6 +56,15 @@ fn calls(alloc: Global, row: &Row, name: &str) -> Result<Calls, Fault> {
     Ok(calls)
 }
 
+/// The word that a text spells: `''` is the empty one.
+fn spelled(alloc: Global, text: &str) -> Result<String, AllocError> {
+    if text == "''" {
+        Ok(String::new(alloc))
+    } else {
+        String::from_str(alloc, text)
+    }
+}
+
 /// The words of the command.
 fn words(alloc: Global, row: &Row) -> Result<Vec<String>, Fault> {
     let text = if row.has("words") {
@@ -65,8 +74,7 @@ fn words(alloc: Global, row: &Row) -> Result<Vec<String>, Fault> {
     };
     let mut words = Vec::new(alloc);
     for word in text.as_str().split_whitespace() {
-        let word = if word == "''" { "" } else { word };
-        words.push(String::from_str(alloc, word)?)?;
+        words.push(spelled(alloc, word)?)?;
     }
     Ok(words)
 }
