@@ -63,6 +63,9 @@ fn put_word(alloc: Global, word: &str, bytes: &mut Vec<u8>) -> Result<(), RowFau
             Err(_) => return Err(RowFault::Malformed),
         },
     };
+    if digits.is_empty() {
+        return Err(RowFault::Malformed);
+    }
     let piece = match hex::decode(alloc, digits) {
         Ok(piece) => piece,
         Err(FromHexError::OutOfMemory) => return Err(RowFault::Memory(AllocError)),

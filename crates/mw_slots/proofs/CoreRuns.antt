@@ -1,6 +1,6 @@
 -- The worked example's run.
-use Rattle.std.proofs.Common.{◌≡◌, ℕ, List, [], ◌∷◌, Option, Some, None, refl, inl, inr}
-use Rattle.mw_slots.specs.Core.{State, asker, going}
+use Rattle.std.proofs.Common.{[], ◌∷◌, refl, inl, inr}
+use Rattle.mw_slots.specs.Core.{asker, going}
 use Rattle.mw_slots.specs.CoreExamples.{ThreeAskersOfTwoNames}
 
 pub three_askers_run : ThreeAskersOfTwoNames

@@ -3,7 +3,7 @@ use Rattle.std.proofs.Common.{◌≡◌, ◌≢◌, ℕ, zero, suc, ◌+◌, ◌
 use native.Mathlib.Nat.{mod-lt}
 use Rattle.std.proofs.lemmas.Option.{same_Some, none-some, slice_get_within, slice_get-get_or}
 use Rattle.std.proofs.lemmas.Bool.{cases_lt, false≢true, eqb-true}
-use Rattle.mw_slots.specs.Core.{Name, Standing, going, has, no_room, Asker, asker, State, Event, begin, look, fill, empty, with_asker, Holds, place, next, IsOther, Steps, Follows, Core}
+use Rattle.mw_slots.specs.Core.{Name, going, has, no_room, Asker, asker, State, Event, begin, look, fill, empty, with_asker, Holds, place, next, IsOther, Steps, Follows, Core}
 
 slice_get_set_same : {X : Type 0} (xs : List X) (i : ℕ) (v : X) → i < length xs → slice_get (set xs i v) i ≡ Some v
 slice_get_set_same [] i v h = absurd (omega arith)

@@ -1,8 +1,8 @@
 -- Receipts of one name_of have one slot.
-use Rattle.std.proofs.Common.{◌≡◌, ◌≢◌, ℕ, ◌+◌, ◌<◌, ◌≤◌, ◌%◌, List, length, map, Option, Some, refl, ap, sym, ◌∙◌, subst, arith, slice_get, get_or}
+use Rattle.std.proofs.Common.{◌≡◌, ◌≢◌, ℕ, ◌<◌, List, length, map, Some, ap, sym, ◌∙◌, subst, slice_get, get_or}
 use Rattle.std.proofs.lemmas.List.{length-map}
 use Rattle.std.proofs.lemmas.Option.{same_Some}
-use Rattle.mw_slots.specs.Receipts.{Known, IsFirst, IsFetched, window}
+use Rattle.mw_slots.specs.Receipts.{Known, IsFetched, window}
 use Rattle.mw_slots.proofs.Lists.{slice_get-image}
 
 module _ {X : Type 0} (name_of : X → List ℕ) (home : List ℕ → ℕ) (cells : List ℕ) where

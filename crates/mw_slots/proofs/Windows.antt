@@ -1,5 +1,5 @@
 -- The slots of a window that hold other names.
-use Rattle.std.proofs.Common.{◌≡◌, ◌≢◌, ℕ, ◌+◌, ◌<◌, ◌%◌, ◌⊎◌, List, [], ◌∷◌, ◌++◌, length, map, Option, Some, None, refl, ap, sym, ◌∙◌, subst, inl, inr, arith, slice_get, get_or}
+use Rattle.std.proofs.Common.{◌≡◌, ◌≢◌, ℕ, ◌<◌, List, [], ◌∷◌, ◌++◌, length, map, Some, refl, ap, sym, ◌∙◌, subst, inl, inr, slice_get, get_or}
 use Rattle.std.proofs.lemmas.Option.{none-some}
 use Rattle.mw_slots.specs.Receipts.{Known, IsOther, AllOther, Ends, IsTaken, AllTaken, window}
 use Rattle.std.proofs.lemmas.List.{map-append, length-map}

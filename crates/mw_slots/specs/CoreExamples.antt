@@ -1,5 +1,5 @@
 -- A worked example of the table as a pure machine.
-use Rattle.std.specs.Prelude.{◌≡◌, ℕ, List, [], ◌∷◌, ◌++◌, replicate}
+use Rattle.std.specs.Prelude.{◌≡◌, List, [], ◌∷◌, ◌++◌, replicate}
 use Rattle.std.specs.declared.option.Option.TheVariants.{Some, None}
 use Rattle.mw_slots.specs.Core.{State, Event, begin, look, fill, asker, has, empty, Follows}
 

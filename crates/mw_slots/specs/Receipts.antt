@@ -1,5 +1,5 @@
 -- What receipts know of a table, which a contract sees as the list of its cells' names, one for each slot.
-use Rattle.std.specs.Prelude.{◌≡◌, ◌≢◌, ℕ, ◌+◌, ◌%◌, ◌<◌, List, length, slice_get, Option}
+use Rattle.std.specs.Prelude.{◌≡◌, ◌≢◌, ℕ, ◌+◌, ◌%◌, ◌<◌, List, length, slice_get}
 use Rattle.std.specs.declared.option.Option.TheVariants.{Some}
 
 -- an entry that stands in a slot for good, and the cells that were passed over before it, with their entries

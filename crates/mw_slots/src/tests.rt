@@ -1,6 +1,6 @@
 // Small tables, with one thread and with two.
 
-ghost use Rattle.std.specs.Prelude.{◌≡◌, ℕ, List, IfOk, slice_index};
+ghost use Rattle.std.specs.Prelude.{◌≡◌, ◌≤◌, ℕ, List, [], ◌∷◌, IfOk, slice_index};
 ghost use Rattle.mw_slots.specs.Receipts.{IsOf};
 
 use crate::{Make, Named, NoRoom, Receipt, Receipts, Refused, Table};
@@ -131,6 +131,32 @@ fn is_full(none: &NoRoom<Word>, window: &Window, name: &[u8]) -> bool {
     fine
 }
 
+/// Whether there is no receipt, for want of room.
+fn has_no_room(
+    answer: &Result<Receipt<Word>, Refused<Word>>,
+    window: &Window,
+    name: &[u8],
+) -> bool {
+    match answer {
+        Ok(_) => false,
+        Err(refused) => match refused {
+            Refused::NoRoom(none) => is_full(none, window, name),
+            Refused::Memory(_) => false,
+        },
+    }
+}
+
+/// Whether there is no receipt, for want of memory.
+fn has_no_memory(answer: &Result<Receipt<Word>, Refused<Word>>) -> bool {
+    match answer {
+        Ok(_) => false,
+        Err(refused) => match refused {
+            Refused::NoRoom(_) => false,
+            Refused::Memory(_) => true,
+        },
+    }
+}
+
 /// Whether sixteen names get the slots of their window, a name more finds no room, and the sixteen are read as before.
 fn fills(alloc: Global, window: &Window) -> Result<bool, Refused<Word>>
     requires { 16 ≤ window.now.slots }
@@ -144,10 +170,8 @@ fn fills(alloc: Global, window: &Window) -> Result<bool, Refused<Word>>
         fine = fine && is_at(alloc, &table, &receipt, place, &[window.home, number])?;
     }
     fine = fine && maker.made == 16;
-    match fetched(alloc, &table, window.home, 16, &mut maker) {
-        Err(Refused::NoRoom(none)) => fine = fine && is_full(&none, window, &[window.home, 16]),
-        _ => return Ok(false),
-    }
+    let none = fetched(alloc, &table, window.home, 16, &mut maker);
+    fine = fine && has_no_room(&none, window, &[window.home, 16]);
     fine = fine && maker.made == 17;
     for number in 0..16u8 {
         let receipt = fetched(alloc, &table, window.home, number, &mut NoMaker)?;
@@ -173,10 +197,8 @@ fn full_window_has_no_room(rt: HostRuntime) -> Result<(), Fail> {
 /// Whether want of memory leaves the first slot of a window empty, for another name of the same home.
 fn refused(alloc: Global) -> Result<bool, Refused<Word>> {
     let table: Table<Word> = Table::new(alloc, 16)?;
-    let memory = matches!(
-        fetched(alloc, &table, 5, 1, &mut NoMaker),
-        Err(Refused::Memory(_))
-    );
+    let none = fetched(alloc, &table, 5, 1, &mut NoMaker);
+    let memory = has_no_memory(&none);
     let receipt = fetched(alloc, &table, 5, 2, &mut Maker { made: 0 })?;
     Ok(memory && is_at(alloc, &table, &receipt, 5, &[5, 2])?)
 }

@@ -1,7 +1,7 @@
-use Rattle.std.proofs.Common.{◌≡◌, ◌<◌, ℕ, length, List, ap, sym, ◌∙◌, arith}
+use Rattle.std.proofs.Common.{◌≡◌, ◌<◌, length, ap, sym, ◌∙◌, arith}
 use Rattle.std.specs.Arc.{arc_value}
 use Rattle.mw_slots.specs.Receipts.{Known}
-use Rattle.mw_slots.specs.Witnesses.{shown, all_shown}
+use Rattle.mw_slots.specs.Witnesses.{shown}
 use Rattle.mw_slots.proofs.Slots.{passed_over, same_slot}
 use Rattle.mw_slots.proofs.laws.one_slot.Goals as goal
 

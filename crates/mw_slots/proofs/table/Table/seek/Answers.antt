@@ -1,4 +1,4 @@
-use Rattle.std.proofs.Common.{◌≡◌, List, sym, subst, ap, ◌∙◌, arith}
+use Rattle.std.proofs.Common.{List, sym, subst, ◌∙◌, arith}
 use Rattle.mw_slots.specs.Receipts.{AllOther}
 use Rattle.mw_slots.specs.Witnesses.{shown, all_shown}
 use Rattle.mw_slots.proofs.Windows.{others_pushed}

@@ -1,4 +1,4 @@
-use Rattle.std.proofs.Common.{◌≡◌, ◌≤◌, ◌-◌, vec_len, vec_capacity}
+use Rattle.std.proofs.Common.{◌≤◌, ◌-◌, vec_len, vec_capacity}
 use Rattle.mw_slots.specs.Receipts.{AllOther}
 use Rattle.mw_slots.specs.Witnesses.{all_shown}
 use Rattle.mw_slots.proofs.table.Table.settle.Given as goal
