@@ -1,15 +1,40 @@
 // Emissions that are printed or timed.
 
-ghost use Rattle.std.specs.Prelude.{◌≡◌, ◌<◌};
+ghost use Rattle.std.specs.Prelude.{◌≡◌, ◌<◌, ◌≤◌, true};
+ghost use Rattle.mw_term.specs.Terms.{expression_of, kernel_type_of};
+ghost use Rattle.mw_term.specs.Closed.{IsClosed, IsCode};
+ghost use Rattle.mw_term.specs.Limits.{kernel_nodes, within_limits};
 
 use crate::samples::{large, sample};
 use mw_compile::{Steps, emit};
 use mw_key::{TextFault, read_text};
+use mw_term::{KType, Term};
 use std::alloc::{AllocError, Global};
 use std::marker::Brand;
 use std::sync::ledger::{Blank, Ledger};
 
-/// The bytes of the module of a text's code, which is emitted so many times; none where it is no text.
+/// The bytes of the module of code, which is emitted so many times.
+fn repeated<L: Ledger>(
+    alloc: Global,
+    code: &Term,
+    kind: &KType,
+    times: u64,
+    steps: &mut Steps<L>,
+) -> Result<Vec<u8>, AllocError>
+    requires code { IsCode (expression_of code.now) }
+    requires closed { IsClosed (expression_of code.now) }
+    requires limits { within_limits (expression_of code.now) ≡ true }
+    requires nodes { kernel_nodes (kernel_type_of kind.now) ≤ 10000 }
+{
+    let mut bytes = Vec::new(alloc);
+    for _ in 0..times {
+        let entry = emit(alloc, code, kind, steps)?;
+        bytes = Vec::from_slice(alloc, entry.bytes())?;
+    }
+    Ok(bytes)
+}
+
+/// The bytes of the module of a text's code, which is emitted so many times, from no emissions on; none where it is no text.
 fn bytes_of<L: Ledger>(
     alloc: Global,
     text: &str,
@@ -21,27 +46,39 @@ fn bytes_of<L: Ledger>(
     requires some { 0 < L.parts }
 {
     let mut steps = Steps::<L>::open(blank);
-    let mut bytes = Vec::new(alloc);
     match read_text(alloc, text.as_bytes()) {
-        Ok((_, code, kind)) => {
-            for _ in 0..times {
-                let entry = emit(alloc, &code, &kind, &mut steps)?;
-                bytes = Vec::from_slice(alloc, entry.bytes())?;
-            }
-            Ok(bytes)
-        }
-        Err(TextFault::BadText) => Ok(bytes),
+        Ok((_, code, kind)) => repeated(alloc, &code, &kind, times, &mut steps),
+        Err(TextFault::BadText) => Ok(Vec::new(alloc)),
         Err(TextFault::Memory(error)) => Err(error),
     }
 }
 
+/// How many bytes the module of the large code has, which is emitted so many times.
+fn large_bytes<L: Ledger>(alloc: Global, times: u64, blank: Blank) -> Result<u64, AllocError>
+    requires name { blank.name ≡ L.name }
+    requires parts { blank.parts ≡ L.parts }
+    requires some { 0 < L.parts }
+{
+    let text = large(alloc)?;
+    let bytes = bytes_of::<L>(alloc, text.as_str(), times, blank)?;
+    Ok(bytes.len() as u64)
+}
+
+/// The bytes of the module of a sample, by its number.
+fn sample_bytes<L: Ledger>(alloc: Global, number: u64, blank: Blank) -> Result<Vec<u8>, AllocError>
+    requires name { blank.name ≡ L.name }
+    requires parts { blank.parts ≡ L.parts }
+    requires some { 0 < L.parts }
+{
+    bytes_of::<L>(alloc, sample(number), 1, blank)
+}
+
 /// The bytes of the module of a sample, by its number.
 pub fn module_of_sample(alloc: Global, number: u64) -> Result<Vec<u8>, AllocError> {
-    bytes_of::<Brand>(alloc, sample(number), 1, Blank::new(1))
+    sample_bytes::<Brand>(alloc, number, Blank::new(1))
 }
 
 /// How many bytes the module of the large code has, which is emitted so many times.
 pub fn emissions(alloc: Global, times: u64) -> Result<u64, AllocError> {
-    let text = large(alloc)?;
-    Ok(bytes_of::<Brand>(alloc, text.as_str(), times, Blank::new(1))?.len() as u64)
+    large_bytes::<Brand>(alloc, times, Blank::new(1))
 }

@@ -17,10 +17,10 @@ const SAMPLES: &[&str] = &[
 
 /// The text of code of a form, by its number; from 8 on it is the literal 7.
 pub fn sample(number: u64) -> &'static str {
-    usize::try_from(number)
-        .ok()
-        .and_then(|place| SAMPLES.get(place).copied())
-        .unwrap_or("emit2 int i 7")
+    match usize::try_from(number) {
+        Ok(place) if place < SAMPLES.len() => SAMPLES[place],
+        _ => "emit2 int i 7",
+    }
 }
 
 /// Adds functions applied to each other, so many levels deep, beneath so many binders.

@@ -1,4 +1,4 @@
 use Rattle.mw_bench.proofs.emissions.emissions.Given as goal
 
-abbrev pub ghosts-bytes_of : goal.ghosts-bytes_of
-ghosts-bytes_of a = record { name = a.blank.name; parts = a.blank.parts }
+abbrev pub ghosts-large_bytes : goal.ghosts-large_bytes
+ghosts-large_bytes a = record { name = a.blank.name; parts = a.blank.parts }
