@@ -61,14 +61,16 @@ fn invoked(alloc: Global, instance: &mut Instance, text: &str) -> Result<String,
         return Err(Fault::Malformed("no name and units"));
     };
     let fuel = number_in(units)?;
-    let Some(kind) = instance.export(name.as_bytes()) else {
+    let name = name.as_bytes();
+    let Some(kind) = instance.export(name) else {
         return Ok(String::from_str(alloc, "no function\n")?);
     };
     let args = values(alloc, words, kind.params.as_slice())?;
-    if !fit(args.as_slice(), kind.params.as_slice()) {
+    let args = args.as_slice();
+    if !fit(args, kind.params.as_slice()) {
         return Err(Fault::Malformed("too few arguments"));
     }
-    let end = instance.invoke(alloc, name.as_bytes(), args.as_slice(), fuel)?;
+    let end = instance.invoke(alloc, name, args, fuel)?;
     Ok(format!(in alloc; "{end:?}\n")?)
 }
 

@@ -1,3 +1,4 @@
+use Rattle.std.proofs.Common.{◌∙◌}
 use Rattle.mw_rows.proofs.invocations.invoked.Goals as goal
 
 pub invoke-requires : goal.invoke-requires
@@ -6,6 +7,6 @@ invoke-requires c = record {
     function = c.in-Some.ensures.some.0;
     type = c.in-Some.kind.now;
     there = c.in-Some.ensures.some.1;
-    fit = c.fit.ensures c.if-not-fit.false;
+    fit = c.fit.ensures c.if-not-fit.false ∙ c.as_slice-3.ensures;
   };
 }
