@@ -1,11 +1,10 @@
 -- From what a command's run gives to the clauses of the top call.
-use Rattle.std.proofs.Common.{◌≡◌, ◌≤◌, ◌⊎◌, inl, inr, ℕ, List, [], ◌++◌, Some, Bool, true, IsTrue, sym, ap, subst, ◌∙◌}
-use Rattle.mw_outside.specs.declared.named.NamedFile.{NamedFile}
+use Rattle.std.proofs.Common.{◌≡◌, ◌≤◌, ◌⊎◌, inl, inr, ℕ, List, [], ◌∷◌, ◌++◌, Bool, true, IsTrue, refl, sym, ap, subst, ◌∙◌}
 use Rattle.mw_term.specs.Terms.{PureGroundValue}
 use Rattle.mw_console.specs.Texts.{Ending, answered, trapped, bounded, ending_status}
 use Rattle.mw_meaning.specs.declared.mode.Mode.{Mode}
 use Rattle.mw_meaning.specs.declared.mode.Mode.TheVariants.{Plain, Simple}
-use Rattle.mw_words.specs.Words.{PureCommand, run, sample, Means, run_command, erased_command, sample_command}
+use Rattle.mw_words.specs.Words.{PureCommand, run, erased, sample, Means, run_command, erased_command, sample_command}
 use Rattle.mw_words.proofs.LawLemmas.{one_command}
 use Rattle.mw_console.specs.declared.status.Status.{Status}
 use Rattle.mw_console.specs.declared.status.Status.TheVariants.{Answer, Trap, Refused, Bound, Usage, Read, Write, Memory}
@@ -18,18 +17,22 @@ use Rattle.mw_drive.specs.ProgramRuns.{Carries}
 use Rattle.mw_drive.proofs.ErasedAnswers.{answers_are_erased}
 use Rattle.mw_drive.proofs.OneMeaning.{one_meaning}
 use Rattle.mw_drive.proofs.SimplifiedWorks.{simplified_run}
-use Rattle.mw_drive.specs.Running.{file_named, work_of, AsksFor, Asks, AsksMissing, AsksSample, IsTellingOf, IsLacking, IsFaithful, IsComplete, IsMemory, SpeaksOfCache, IsCarriedOut, IsReadUp, mode_when}
-use Rattle.mw_drive.proofs.RunLemmas.{asked_of_file, asked_of_sample, lacking_of_file, told_or_lacking, some_output, complete, output_written, no_file, asked_telling}
+use Rattle.mw_drive.specs.Extents.{whole, never, Kind, on_a_file, extent}
+use Rattle.mw_drive.specs.Running.{Outside, Wanted, source_file, files_of, Has, Lacks, HasAll, has_none, has_more, LacksFirst, lacks_first, IsWork, run_works, erased_works, sample_works, AsksOn, Asks, AsksMissing, AsksNoFile, kind_of, IsFaithful, IsMemory, IsCarriedOut, mode_when}
+use Rattle.mw_drive.proofs.RunLemmas.{all_or_first, some_output, whole_else}
 
 -- want of memory before anything was written
-pub carried_memory : (work : Work) (e : _) (tells : Bool) (before : List ℕ) → IsCarriedOut work (Memory e) tells before before
-carried_memory work e tells before = record { faithful = λ t. some_output work before; meaning = λ c. absurd (c) }
+pub carried_memory : (kind : Kind) (work : Work) (e : _) (tells : Bool) (before : List ℕ) → IsCarriedOut kind work (Memory e) tells before before
+carried_memory kind work e tells before = record { faithful = λ t. some_output work before; meaning = λ c. absurd (cc) }
 
 -- the number of a sample's words is in its range
-pub sample_range : {words : List (List ℕ)} (n : ℕ) → Means words (sample n) → (1 ≤ n) × (n ≤ 100)
-sample_range n (sample_command h) = (h.low, h.high)
-sample_range n (run_command h m) = elim m [ ]
-sample_range n (erased_command h m) = elim m [ ]
+pub sample_range : {words : List (List ℕ)} (command : PureCommand) (n : ℕ) → Means words command → command ≡ sample n → (1 ≤ n) × (n ≤ 100)
+sample_range {words} command n means e = by_form (subst (Means words) e means)
+  where
+    by_form : Means words (sample n) → (1 ≤ n) × (n ≤ 100)
+    by_form (sample_command h) = (h.low, h.high)
+    by_form (run_command h m) = elim m [ ]
+    by_form (erased_command h m) = elim m [ ]
 
 no_refusal : {r : _} → Answer ≡ Refused r → ⊥
 no_refusal e = cc
@@ -50,87 +53,135 @@ answer_of (of_program {e = trapped t name} p read accepted is) e = absurd (no_tr
 answer_of (of_program {e = bounded l name} p read accepted is) e = absurd (no_bound e)
 
 -- where the status is an answer, and the erased program answers too, the answer is the erased program's
-erased_answer : (mode : Mode) (s : Status) (sink_tells : Bool) (before after : List ℕ) (fuel m : ℕ) (bytes : List ℕ) (w : PureGroundValue)
-    → IsCarriedOut (running bytes fuel mode) s sink_tells before after → IsMeaning (erasing bytes m) (ran Plain [] (answered w)) → s ≡ Answer
+erased_answer : (kind : Kind) (mode : Mode) (s : Status) (sink_tells : Bool) (before after : List ℕ) (fuel m : ℕ) (bytes : List ℕ) (w : PureGroundValue)
+    → IsCarriedOut kind (running bytes fuel mode) s sink_tells before after → IsMeaning (erasing bytes m) (ran Plain [] (answered w)) → s ≡ Answer
     → (kernels : List Kernel) × IsMeaning (running bytes fuel mode) (ran mode kernels (answered w))
-erased_answer mode s sink_tells before after fuel m bytes w carried other is =
-    let c = carried.meaning (subst IsComplete (sym is) tt) in
+erased_answer kind mode s sink_tells before after fuel m bytes w carried other is =
+    let c = carried.meaning (subst (λ s. extent kind s ≡ whole) (sym is) refl) in
     let a = answer_of c.1 (sym is ∙ c.2) in
     (a.0, subst (λ v. IsMeaning (running bytes fuel mode) (ran mode a.0 (answered v))) (answers_are_erased bytes fuel m mode a.0 a.1 w a.2 other) a.2)
 
-module _ {words : List (List ℕ)} {tells : Bool} {told : List NamedFile} (command : PureCommand) (file : List ℕ) (named : file_named command ≡ Some file) (means : Means words command)
-    (s : Status) (sink_tells : Bool) (before after : List ℕ) (Rose_source Rose_sink : Type 0)
-    (carried : (bytes : List ℕ) → IsTellingOf tells told file bytes → IsCarriedOut (work_of command bytes) s sink_tells before after)
-    (reads : s ≡ Read → Rose_source ⊎ IsLacking tells told file) (writes : s ≡ Write → Rose_sink) (others : (SpeaksOfCache s → ⊥) × (s ≡ Usage → ⊥)) where
-  whole : (bytes : List ℕ) → IsTellingOf tells told file bytes → (Rose_source → ⊥) → (Rose_sink → ⊥) → (IsMemory s → ⊥) → IsComplete s
-  whole bytes telling source sink memory = complete s others.1 others.0 memory (λ r. not_read (reads r)) (λ w. sink (writes w))
+-- What words ask for that mean a command, where what its call answers is known.
+module _ {words : List (List ℕ)} {o : Outside} (command : PureCommand) (means : Means words command) (s : Status) (sink_tells : Bool) (before after : List ℕ)
+    (Rose_source Rose_sink : Type 0)
+    (carried : (contents : List (List ℕ)) (work : Work) → HasAll o (files_of command) contents → IsWork command contents work
+    → IsCarriedOut (kind_of command) work s sink_tells before after)
+    (reads : s ≡ Read → Rose_source ⊎ LacksFirst o (files_of command)) (writes : s ≡ Write → Rose_sink)
+    (possible : extent (kind_of command) s ≡ never → ⊥) where
+  same : (other : PureCommand) → Means words other → other ≡ command
+  same other also = one_command words other command also means
+
+  has_on : (other : PureCommand) (contents : List (List ℕ)) → AsksOn words o other contents → HasAll o (files_of command) contents
+  has_on other contents on = subst (λ c. HasAll o (files_of c) contents) (same other on.means) on.has
+
+  -- the work that is asked for was carried out
+  asked_carried : (work : Work) → Asks words o work → IsCarriedOut (kind_of command) work s sink_tells before after
+  asked_carried work asked =
+      carried asked.contents work (has_on asked.command asked.contents asked.on)
+      (subst (λ c. IsWork c asked.contents work) (same asked.command asked.on.means) asked.works)
+
+  -- where nothing failed, whole
+  asked_whole : (work : Work) → Asks words o work → (Rose_source → ⊥) → (Rose_sink → ⊥) → (IsMemory s → ⊥) → extent (kind_of command) s ≡ whole
+  asked_whole work asked source sink memory = whole_else (kind_of command) s possible memory (λ r. not_read (reads r)) (λ w. sink (writes w))
     where
-      not_read : Rose_source ⊎ IsLacking tells told file → ⊥
+      not_read : Rose_source ⊎ LacksFirst o (files_of command) → ⊥
       not_read (inl rose) = source rose
-      not_read (inr lacks) = told_or_lacking telling lacks
+      not_read (inr lacks) = all_or_first (has_on asked.command asked.contents asked.on) lacks
 
-  pub file_text : (work : Work) → Asks words tells told work → (Rose_source → ⊥) → (Rose_sink → ⊥) → (IsMemory s → ⊥) → IsTrue sink_tells → (text : List ℕ) × IsOutput work text × (after ≡ before ++ text)
-  file_text work asks source sink memory t =
-      let a = asked_of_file command file named means work asks in
-      subst (λ w. (text : List ℕ) × IsOutput w text × (after ≡ before ++ text)) (sym a.2) (output_written s (whole a.0 a.1 source sink memory) (carried a.0 a.1) t)
+  pub asked_text : (work : Work) → Asks words o work → (Rose_source → ⊥) → (Rose_sink → ⊥) → (IsMemory s → ⊥) → IsTrue sink_tells
+      → IsFaithful whole work s before after
+  asked_text work asked source sink memory t =
+      subst (λ x. IsFaithful x work s before after) (asked_whole work asked source sink memory) ((asked_carried work asked).faithful t)
 
-  pub file_status : (work : Work) → Asks words tells told work → (Rose_source → ⊥) → (Rose_sink → ⊥) → (IsMemory s → ⊥) → (m : Meaning) × IsMeaning work m × (s ≡ status_of m)
-  file_status work asks source sink memory =
-      let a = asked_of_file command file named means work asks in
-      subst (λ w. (m : Meaning) × IsMeaning w m × (s ≡ status_of m)) (sym a.2) ((carried a.0 a.1).meaning (whole a.0 a.1 source sink memory))
+  pub asked_status : (work : Work) → Asks words o work → (Rose_source → ⊥) → (Rose_sink → ⊥) → (IsMemory s → ⊥)
+      → (m : Meaning) × IsMeaning work m × (s ≡ status_of m)
+  asked_status work asked source sink memory = (asked_carried work asked).meaning (asked_whole work asked source sink memory)
 
-  pub file_faults : (work : Work) → Asks words tells told work → IsTrue sink_tells → IsFaithful work s before after
-  file_faults work asks t = let a = asked_of_file command file named means work asks in subst (λ w. IsFaithful w s before after) (sym a.2) ((carried a.0 a.1).faithful t)
+  pub asked_complete : (work : Work) (asked : Asks words o work) → extent (kind_of asked.command) s ≡ whole
+      → (m : Meaning) × IsMeaning work m × (s ≡ status_of m)
+  asked_complete work asked is =
+      (asked_carried work asked).meaning (subst (λ c. extent (kind_of c) s ≡ whole) (same asked.command asked.on.means) is)
 
-  pub file_missing : AsksMissing words tells told → IsLacking tells told file
-  file_missing missing = lacking_of_file command file named means missing
+  pub asked_faults : (work : Work) (asked : Asks words o work) → IsTrue sink_tells → IsFaithful (extent (kind_of asked.command) s) work s before after
+  asked_faults work asked t =
+      subst (λ c. IsFaithful (extent (kind_of c) s) work s before after) (sym (same asked.command asked.on.means)) ((asked_carried work asked).faithful t)
 
-  pub file_left : (left : List ℕ) → ((bytes : List ℕ) → IsTellingOf tells told file bytes → IsReadUp bytes s left) → (other : PureCommand) (bytes : List ℕ) → AsksFor words tells told other bytes → IsReadUp bytes s left
-  file_left left reads other bytes asks = reads bytes (asked_telling command file named means asks)
+  pub asked_possible : (other : PureCommand) → Means words other → extent (kind_of other) s ≡ never → ⊥
+  asked_possible other also n = possible (subst (λ c. extent (kind_of c) s ≡ never) (same other also) n)
+
+  pub asked_unfailed : {P : Type 0} → (extent (kind_of command) s ≡ whole → P) → (other : PureCommand) → Means words other
+      → extent (kind_of other) s ≡ whole → P
+  asked_unfailed unfailed other also w = unfailed (subst (λ c. extent (kind_of c) s ≡ whole) (same other also) w)
+
+  pub asked_missing : AsksMissing words o → LacksFirst o (files_of command)
+  asked_missing asked = subst (λ c. LacksFirst o (files_of c)) (same asked.command asked.means) asked.lacks
+
+  pub asked_no_file : AsksNoFile words → files_of command ≡ []
+  asked_no_file asked = ap files_of (sym (same asked.command asked.means)) ∙ asked.none
+
+  pub asked_read : s ≡ Read → Rose_source ⊎ AsksMissing words o
+  asked_read is = by_case (reads is)
+    where
+      by_case : Rose_source ⊎ LacksFirst o (files_of command) → Rose_source ⊎ AsksMissing words o
+      by_case (inl rose) = inl rose
+      by_case (inr lacks) = inr (record { command = command; means = means; lacks = lacks })
+
+  pub asked_has : (other : PureCommand) (bytes : List ℕ) → AsksOn words o other (bytes ∷ []) → HasAll o (files_of command) (bytes ∷ [])
+  asked_has other bytes on = has_on other (bytes ∷ []) on
 
   -- a run that is asked for was carried out
-  asked_run : (workers fuel : ℕ) (simplify : Bool) (f bytes : List ℕ) → AsksFor words tells told (run workers fuel simplify f) bytes → IsCarriedOut (running bytes fuel (mode_when simplify)) s sink_tells before after
-  asked_run workers fuel simplify f bytes asks =
-      subst (λ c. IsCarriedOut (work_of c bytes) s sink_tells before after) (one_command words command (run workers fuel simplify f) means asks.means) (carried bytes (asked_telling command file named means asks))
+  asked_run : (workers fuel : ℕ) (simplify : Bool) (f bytes : List ℕ) → AsksOn words o (run workers fuel simplify f) (bytes ∷ [])
+      → IsCarriedOut on_a_file (running bytes fuel (mode_when simplify)) s sink_tells before after
+  asked_run workers fuel simplify f bytes on =
+      let is = same (run workers fuel simplify f) on.means in
+      subst (λ c. IsCarriedOut (kind_of c) (running bytes fuel (mode_when simplify)) s sink_tells before after) (sym is)
+      (carried (bytes ∷ []) (running bytes fuel (mode_when simplify)) (has_on (run workers fuel simplify f) (bytes ∷ []) on)
+      (subst (λ c. IsWork c (bytes ∷ []) (running bytes fuel (mode_when simplify))) is run_works))
 
-  pub file_erased : (workers fuel m : ℕ) (simplify : Bool) (f bytes : List ℕ) (w : PureGroundValue) → AsksFor words tells told (run workers fuel simplify f) bytes → IsMeaning (erasing bytes m) (ran Plain [] (answered w)) → s ≡ Answer
+  pub asked_erased : (workers fuel m : ℕ) (simplify : Bool) (f bytes : List ℕ) (w : PureGroundValue)
+      → AsksOn words o (run workers fuel simplify f) (bytes ∷ []) → IsMeaning (erasing bytes m) (ran Plain [] (answered w)) → s ≡ Answer
       → (kernels : List Kernel) × IsMeaning (running bytes fuel (mode_when simplify)) (ran (mode_when simplify) kernels (answered w))
-  file_erased workers fuel m simplify f bytes w asks other is = erased_answer (mode_when simplify) s sink_tells before after fuel m bytes w (asked_run workers fuel simplify f bytes asks) other is
+  asked_erased workers fuel m simplify f bytes w on other is =
+      erased_answer on_a_file (mode_when simplify) s sink_tells before after fuel m bytes w (asked_run workers fuel simplify f bytes on) other is
 
-  pub file_simplified : (workers fuel : ℕ) (f bytes : List ℕ) (kernels : List Kernel) (e : Ending) → AsksFor words tells told (run workers fuel true f) bytes → IsMeaning (running bytes fuel Plain) (ran Plain kernels e) → IsUnbounded e
-      → IsMeaning (running bytes fuel Simple) (ran Simple kernels e) × (IsComplete s → s ≡ ending_status e)
-  file_simplified workers fuel f bytes kernels e asks is unbounded =
-      let other = simplified_run bytes fuel kernels e is unbounded in
-      (other, λ c. let m = (asked_run workers fuel true f bytes asks).meaning c in m.2 ∙ ap status_of (one_meaning (running bytes fuel Simple) m.0 (ran Simple kernels e) m.1 other))
-
-  pub no_sample : AsksSample words → ⊥
-  no_sample h = no_file h.0 h.1 means named
+  pub asked_simplified : (workers fuel : ℕ) (f bytes : List ℕ) (kernels : List Kernel) (e : Ending) → AsksOn words o (run workers fuel true f) (bytes ∷ [])
+      → IsMeaning (running bytes fuel Plain) (ran Plain kernels e) → IsUnbounded e
+      → IsMeaning (running bytes fuel Simple) (ran Simple kernels e) × (extent on_a_file s ≡ whole → s ≡ ending_status e)
+  asked_simplified workers fuel f bytes kernels e on is unbounded =
+      let other = simplified_run bytes fuel kernels e is unbounded in (
+        other,
+        λ c.
+            let m = (asked_run workers fuel true f bytes on).meaning c in
+            m.2 ∙ ap status_of (one_meaning (running bytes fuel Simple) m.0 (ran Simple kernels e) m.1 other),
+      )
 
 -- what is written of a run whose kernels' code is run so is what the run means
 pub carries_run : {mode : Mode} (simplify : Bool) (bytes : List ℕ) (fuel : ℕ) → mode ≡ mode_when simplify → Carries (Run (Lines mode)) bytes fuel (running bytes fuel (mode_when simplify))
 carries_run {mode = mode} simplify bytes fuel e m h = subst (λ (k : Mode). IsMeaning (running bytes fuel k) m) e h
 
--- a sample's status is that of a whole text, unless the sink or memory failed
-whole_sample : (s : Status) (Rose_sink : Type 0) → (s ≡ Write → Rose_sink) → (SpeaksOfCache s → ⊥) × (s ≡ Usage → ⊥) × (s ≡ Read → ⊥) → (Rose_sink → ⊥) → (IsMemory s → ⊥) → IsComplete s
-whole_sample s Rose_sink writes others sink memory = complete s others.1 others.0 memory others.2 (λ w. sink (writes w))
+-- A command's work is that on what its file holds.
+pub run_on : {o : Outside} {workers fuel : ℕ} {simplify : Bool} {file : List ℕ} (contents : List (List ℕ)) (work : Work)
+    → HasAll o (files_of (run workers fuel simplify file)) contents → IsWork (run workers fuel simplify file) contents work
+    → (bytes : List ℕ) × Has o (source_file file) bytes × (work ≡ running bytes fuel (mode_when simplify))
+run_on contents work (has_more {bytes = bytes} has has_none) run_works = (bytes, has, refl)
 
-module _ {words : List (List ℕ)} {tells : Bool} {told : List NamedFile} (number : ℕ) (means : Means words (sample number))
-    (s : Status) (sink_tells : Bool) (before after : List ℕ) (Rose_sink : Type 0) (carried : IsCarriedOut (sampling number) s sink_tells before after)
-    (writes : s ≡ Write → Rose_sink) (others : (SpeaksOfCache s → ⊥) × (s ≡ Usage → ⊥) × (s ≡ Read → ⊥)) where
-  pub sample_text : (work : Work) → Asks words tells told work → (Rose_sink → ⊥) → (IsMemory s → ⊥) → IsTrue sink_tells → (text : List ℕ) × IsOutput work text × (after ≡ before ++ text)
-  sample_text work asks sink memory t = subst (λ w. (text : List ℕ) × IsOutput w text × (after ≡ before ++ text)) (sym (asked_of_sample number means work asks)) (output_written s (whole_sample s Rose_sink writes others sink memory) carried t)
+pub erased_on : {o : Outside} {fuel : ℕ} {file : List ℕ} (contents : List (List ℕ)) (work : Work) → HasAll o (files_of (erased fuel file)) contents
+    → IsWork (erased fuel file) contents work → (bytes : List ℕ) × Has o (source_file file) bytes × (work ≡ erasing bytes fuel)
+erased_on contents work (has_more {bytes = bytes} has has_none) erased_works = (bytes, has, refl)
 
-  pub sample_status : (work : Work) → Asks words tells told work → (Rose_sink → ⊥) → (IsMemory s → ⊥) → (m : Meaning) × IsMeaning work m × (s ≡ status_of m)
-  sample_status work asks sink memory = subst (λ w. (m : Meaning) × IsMeaning w m × (s ≡ status_of m)) (sym (asked_of_sample number means work asks)) (carried.meaning (whole_sample s Rose_sink writes others sink memory))
+pub sample_on : {number : ℕ} (contents : List (List ℕ)) (work : Work) → IsWork (sample number) contents work → work ≡ sampling number
+sample_on contents work sample_works = refl
 
-  pub sample_faults : (work : Work) → Asks words tells told work → IsTrue sink_tells → IsFaithful work s before after
-  sample_faults work asks t = subst (λ w. IsFaithful w s before after) (sym (asked_of_sample number means work asks)) (carried.faithful t)
+-- of one file
+pub has_one : {o : Outside} {file : Wanted} {bytes : List ℕ} → HasAll o (file ∷ []) (bytes ∷ []) → Has o file bytes
+has_one (has_more has rest) = has
 
--- a sample asks for no file
-pub asks_no_file : {words : List (List ℕ)} {tells : Bool} {told : List NamedFile} {command : PureCommand} {bytes : List ℕ} (number : ℕ) → Means words (sample number) → AsksFor words tells told command bytes → ⊥
-asks_no_file number means asks = no_file number means asks.means asks.named
+pub lacks_one : {o : Outside} {file : Wanted} → LacksFirst o (file ∷ []) → Lacks o file
+lacks_one (lacks_first lacks) = lacks
 
--- neither of two is so
-pub not_unread : {A B : Type 0} → (A → ⊥) → (B → ⊥) → A ⊎ B → ⊥
-not_unread f g (inl a) = f a
-not_unread f g (inr b) = g b
+-- and of none
+pub lacks_no : {o : Outside} → LacksFirst o [] → ⊥
+lacks_no h = elim h [ ]
+
+pub has_no : {o : Outside} {bytes : List ℕ} → HasAll o [] (bytes ∷ []) → ⊥
+has_no h = elim h [ ]

@@ -1,7 +1,6 @@
 -- What an item comes to.
 use Rattle.std.proofs.Common.{◌≡◌, ◌≤◌, ℕ, true, Some, refl, sym, ap, ◌∙◌, subst}
 use Rattle.std.specs.Prelude.{slice_get}
-use Rattle.std.proofs.lemmas.Option.{slice_get-map}
 use Rattle.mw_term.specs.Terms.{Expression, expression_of, kernel_type_of}
 use Rattle.mw_term.specs.Programs.{value as defines, kernel, definition_of, program_of}
 use Rattle.mw_term.specs.Typable.{Typable, HasKernelType}
@@ -19,33 +18,37 @@ use Rattle.mw_meaning.proofs.ComingTo.{items_come_to_their_code}
 use Rattle.mw_infer.specs.Checking.{HasSmallKernels}
 use Rattle.mw_tasks.specs.declared.outcome.ItemOutcome.{ItemOutcome}
 use Rattle.mw_tasks.specs.declared.outcome.ItemOutcome.TheVariants as outcome
-use Rattle.mw_tasks.specs.TaskOutcomes.{IsKernelOf, IsItemAnswer}
+use Rattle.mw_machine.specs.Evaluations.{defined, term_of}
+use Rattle.mw_machine.specs.Evaluations as part
+use Rattle.mw_tasks.specs.TaskOutcomes.{IsKernelItem, IsItemAnswer}
+use Rattle.mw_tasks.proofs.Items.{defined_there, kernel_is}
 use Rattle.mw_drive.proofs.ModuleLemmas.{what_came}
-
--- an item's definition stands among those of the program
-pub defined_there : (p : Program) (item : Item) (i : ℕ) → slice_get p.items i ≡ Some item → slice_get (program_of p).items i ≡ Some (definition_of item.kind)
-defined_there p item i there = slice_get-map (λ (i : Item). definition_of i.kind) p.items i ∙ rw there refl
 
 pub let_is : (item : Item) (t : Term) → item.kind ≡ Value t → definition_of item.kind ≡ defines (expression_of t)
 let_is item t is = ap definition_of is
 
-pub kernel_is : (item : Item) (k : KType) (t : Term) → item.kind ≡ KernelItem k t → definition_of item.kind ≡ kernel (kernel_type_of k) (expression_of t)
-kernel_is item k t is = ap definition_of is
+module _ (p : Program) (item : Item) (k : KType) (t : Term) (is : item.kind ≡ KernelItem k t) (i : ℕ) (there : slice_get p.items i ≡ Some item) where
+  pub kernel_there : slice_get (program_of p).items i ≡ Some (kernel (kernel_type_of k) (expression_of t))
+  kernel_there = defined_there p item i there ∙ ap Some (kernel_is item k t is)
 
-module _ (p : Program) (item : Item) (k : KType) (t : Term) (is : item.kind ≡ KernelItem k t) (there : (i : ℕ) × (slice_get p.items i ≡ Some item)) where
-  pub kernel_there : slice_get (program_of p).items there.0 ≡ Some (kernel (kernel_type_of k) (expression_of t))
-  kernel_there = defined_there p item there.0 there.1 ∙ ap Some (kernel_is item k t is)
+  pub is_kernel_item : IsKernelItem (program_of p) i
+  is_kernel_item = (kernel_type_of k, expression_of t, kernel_there)
 
-  pub is_kernel_of : IsKernelOf (program_of p) (expression_of t)
-  is_kernel_of = (there.0, kernel_type_of k, kernel_there)
+  -- the part's term is the item's
+  its_term : term_of (program_of p) (part.item i) ≡ expression_of t
+  its_term = ap defined kernel_there
 
   pub small_kernel : HasSmallKernels (program_of p) → kernel_nodes (kernel_type_of k) ≤ 10000
-  small_kernel small = small there.0 (kernel_type_of k) (expression_of t) kernel_there
+  small_kernel small = small i (kernel_type_of k) (expression_of t) kernel_there
 
   -- its code is closed code of its type, within the limits
-  module _ (mode : Mode) (fuel : ℕ) (typable : Typable (program_of p)) (o : ItemOutcome) (answer : IsItemAnswer o (item_outcome mode (names_of_items (program_of p).items) fuel (expression_of t))) where
+  module _ (mode : Mode) (fuel : ℕ) (typable : Typable (program_of p)) (o : ItemOutcome)
+      (answers : IsItemAnswer o (item_outcome mode (names_of_items (program_of p).items) fuel (term_of (program_of p) (part.item i)))) where
     abbrev meant : Outcome Expression
     meant = item_outcome mode (names_of_items (program_of p).items) fuel (expression_of t)
+
+    answer : IsItemAnswer o meant
+    answer = subst (λ e. IsItemAnswer o (item_outcome mode (names_of_items (program_of p).items) fuel e)) its_term answers
 
     pub code_came : (c : Term) → o ≡ outcome.Code c → meant ≡ came_to (expression_of c)
     code_came c e = by_outcome meant (subst (λ o. IsItemAnswer o meant) e answer)
@@ -59,7 +62,7 @@ module _ (p : Program) (item : Item) (k : KType) (t : Term) (is : item.kind ≡ 
     pub code_typed : (c : Term) → o ≡ outcome.Code c → HasKernelType (expression_of c) (kernel_type_of k) × (within_limits (expression_of c) ≡ true)
     code_typed c e =
         what_came (λ c. HasKernelType c (kernel_type_of k) × (within_limits c ≡ true)) meant (expression_of c) (code_came c e)
-        (items_come_to_their_code mode (program_of p) there.0 (kernel_type_of k) (expression_of t) fuel typable kernel_there)
+        (items_come_to_their_code mode (program_of p) i (kernel_type_of k) (expression_of t) fuel typable kernel_there)
 
     pub trap_came : (u : TrapKind) → o ≡ outcome.Trap u → meant ≡ trapped u
     trap_came u e = by_outcome meant (subst (λ o. IsItemAnswer o meant) e answer)

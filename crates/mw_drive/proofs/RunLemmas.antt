@@ -1,7 +1,7 @@
 -- From the parts of a run to the whole.
 use Rattle.std.proofs.Common.{◌≡◌, ◌⊎◌, inl, inr, ℕ, ◌<◌, List, [], ◌++◌, Option, None, Some, Bool, IsTrue, IsNone, ap, ◌∙◌, take, drop, length, Result, Ok, Err, refl, sym, subst, arith}
+use Rattle.std.specs.Prelude.{alloc_error}
 use Rattle.std.proofs.lemmas.List.{append-nil, take_all, length-take}
-use Rattle.mw_outside.specs.declared.named.NamedFile.{NamedFile}
 use Rattle.mw_outside.specs.declared.errors.WriteFault.{WriteFault}
 use Rattle.mw_outside.specs.declared.errors.WriteFault.TheVariants as fault
 use Rattle.mw_outside.specs.Count.{GrowsByFront}
@@ -10,8 +10,6 @@ use Rattle.mw_term.specs.declared.refusal.Refusal.{Refusal}
 use Rattle.mw_term.specs.declared.refusal.Refusal.TheVariants.{TooLarge}
 use Rattle.mw_meaning.specs.declared.mode.Mode.{Mode}
 use Rattle.mw_meaning.specs.declared.mode.Mode.TheVariants.{Plain}
-use Rattle.mw_words.specs.Words.{PureCommand, sample, Means}
-use Rattle.mw_words.proofs.LawLemmas.{one_command}
 use Rattle.mw_console.specs.Reading.{most_read, IsFront, IsRest}
 use Rattle.mw_console.specs.Texts.{Ending, answered, trapped, bounded}
 use Rattle.mw_drive.specs.NamedPrograms.{NamedProgram, unnamed}
@@ -23,7 +21,9 @@ use Rattle.mw_drive.specs.Works.{Work, running, erasing, sampling, IsAccepted, M
 use Rattle.mw_drive.specs.ProgramRuns.{IsWrittenMeaning, evaluated, written_meaning, Carries}
 use Rattle.mw_drive.specs.declared.source.Evaluation.{Evaluation}
 use Rattle.mw_drive.specs.declared.source.Evaluation.TheVariants.{Run, Erased}
-use Rattle.mw_drive.specs.Running.{file_named, work_of, AsksFor, Asks, asks_file, asks_sample, AsksMissing, IsTellingOf, IsLacking, IsFaithful, IsComplete, IsMemory, SpeaksOfCache, IsCarriedOut, IsStatusOf, IsReadUp}
+use Rattle.mw_drive.specs.Extents.{Extent, a_front, whole, never, Kind, extent}
+use Rattle.mw_drive.specs.Written.{Blames}
+use Rattle.mw_drive.specs.Running.{Outside, Wanted, source_file, Has, Lacks, HasAll, has_more, LacksFirst, lacks_first, IsFaithful, IsMemory, IsCarriedOut, IsStatusOf}
 use Rattle.mw_drive.proofs.SomeMeaning.{some_meaning}
 
 -- a source with a meaning is too large, and refused for it, or small
@@ -68,85 +68,53 @@ means_evaluated (Run shown) bytes fuel m h = means_whole h
 means_evaluated Erased bytes fuel m h = means_erased bytes fuel m h
 
 -- what was read is the front of the bytes that the source tells, and what is left is the rest
-pub front_told : {tells : Bool} {told : List NamedFile} {file bytes : List ℕ} (taken : List ℕ) → IsTellingOf tells told file bytes → (IsTrue tells → IsFront (file_of told file) taken) → taken ≡ take most_read bytes
-front_told taken a front = rw a.found at (front a.telling)
+pub front_told : {o : Outside} {name bytes : List ℕ} (taken : List ℕ) → Has o (source_file name) bytes
+    → (IsTrue o.tells → IsFront (file_of o.files name) taken) → taken ≡ take most_read bytes
+front_told taken has front = rw has.found at (front has.telling)
 
-pub rest_told : {tells : Bool} {told : List NamedFile} {file bytes : List ℕ} (left : List ℕ) → IsTellingOf tells told file bytes → (IsTrue tells → IsRest (file_of told file) left) → left ≡ drop most_read bytes
-rest_told left a rest = rw a.found at (rest a.telling)
-
--- so whatever the status, the source is read up
-pub read_up : {tells : Bool} {told : List NamedFile} {file bytes : List ℕ} (s : Status) (left : List ℕ) → IsTellingOf tells told file bytes → (IsTrue tells → IsRest (file_of told file) left) → IsReadUp bytes s left
-read_up Usage left a rest = tt
-read_up Read left a rest = tt
-read_up (Memory error) left a rest = tt
-read_up s left a rest = rest_told left a rest
+pub rest_told : {o : Outside} {name bytes : List ℕ} (left : List ℕ) → Has o (source_file name) bytes
+    → (IsTrue o.tells → IsRest (file_of o.files name) left) → left ≡ drop most_read bytes
+rest_told left has rest = rw has.found at (rest has.telling)
 
 -- a file that was read isn't lacking
-pub not_lacking : {tells : Bool} {told : List NamedFile} {file : List ℕ} (taken : List ℕ) → (IsTrue tells → IsFront (file_of told file) taken) → IsLacking tells told file → ⊥
-not_lacking {told = told} {file = file} taken front a = no_front (file_of told file) a.missing (front a.telling)
+pub not_lacking : {o : Outside} {name : List ℕ} (taken : List ℕ) → (IsTrue o.tells → IsFront (file_of o.files name) taken)
+    → Lacks o (source_file name) → ⊥
+not_lacking {o} {name} taken front lacks = no_front (file_of o.files name) lacks.missing (front lacks.telling)
   where
-    no_front : (o : Option (List ℕ)) → IsNone o → IsFront o taken → ⊥
+    no_front : (f : Option (List ℕ)) → IsNone f → IsFront f taken → ⊥
     no_front None n f = f
     no_front (Some bytes) n f = absurd (cc)
 
--- nor is one whose bytes the source tells
-pub told_or_lacking : {tells : Bool} {told : List NamedFile} {file bytes : List ℕ} → IsTellingOf tells told file bytes → IsLacking tells told file → ⊥
-told_or_lacking {told = told} {file = file} a b = both (file_of told file) a.found b.missing
+-- nor is one whose bytes the outside tells
+has_or_lacks : {o : Outside} {file : Wanted} {bytes : List ℕ} → Has o file bytes → Lacks o file → ⊥
+has_or_lacks {o} {file} {bytes} has lacks = both (file_of o.files file.name) has.found lacks.missing
   where
-    both : {bytes : List ℕ} (o : Option (List ℕ)) → o ≡ Some bytes → IsNone o → ⊥
+    both : (f : Option (List ℕ)) → f ≡ Some bytes → IsNone f → ⊥
     both None e n = absurd (cc)
     both (Some x) e n = absurd (cc)
 
-some_same : {A : Type 0} {x y : A} → Some x ≡ Some y → x ≡ y
-some_same e = cc
-
--- words that mean one command name its file alone
-file_is : {words : List (List ℕ)} {command other : PureCommand} {file found : List ℕ} → Means words command → Means words other → file_named command ≡ Some file → file_named other ≡ Some found → file ≡ found
-file_is {words} {command} {other} h k named also = some_same (sym named ∙ (ap file_named (one_command words command other h k) ∙ also))
-
--- and a sample's words name none
-pub no_file : {words : List (List ℕ)} {command : PureCommand} {file : List ℕ} (number : ℕ) → Means words (sample number) → Means words command → file_named command ≡ Some file → ⊥
-no_file {words} {command} {file} number h k named = clash (ap file_named (one_command words (sample number) command h k) ∙ named)
-  where
-    clash : file_named (sample number) ≡ Some file → ⊥
-    clash e = cc
-
--- What words that mean a command on a file ask for is its work on the bytes of the file, and what a sample's ask for is the sample.
-pub asked_of_file : {words : List (List ℕ)} {tells : Bool} {told : List NamedFile} (command : PureCommand) (file : List ℕ) → file_named command ≡ Some file → Means words command → (work : Work) → Asks words tells told work
-    → (bytes : List ℕ) × IsTellingOf tells told file bytes × (work ≡ work_of command bytes)
-asked_of_file {words = words} {told = told} command file named means work (asks_file {command = other} {bytes = bytes} a) = (
-  bytes,
-  record { telling = a.telling; found = subst (λ f. file_of told f ≡ Some bytes) (sym (file_is means a.means named a.named)) a.found },
-  ap (λ c. work_of c bytes) (sym (one_command words command other means a.means)),
-)
-asked_of_file command file named means work (asks_sample {number = number} other) = absurd (no_file number other means named)
-
-pub asked_of_sample : {words : List (List ℕ)} {tells : Bool} {told : List NamedFile} (number : ℕ) → Means words (sample number) → (work : Work) → Asks words tells told work → work ≡ sampling number
-asked_of_sample {words = words} number means work (asks_sample other) = ap sampling (same (one_command words _ _ other means))
-  where
-    same : {m n : ℕ} → sample m ≡ sample n → m ≡ n
-    same e = cc
-asked_of_sample number means work (asks_file a) = absurd (no_file number means a.means a.named)
-
--- The missing file of a command's words is the command's, and a sample has none.
-pub lacking_of_file : {words : List (List ℕ)} {tells : Bool} {told : List NamedFile} (command : PureCommand) (file : List ℕ) → file_named command ≡ Some file → Means words command → AsksMissing words tells told → IsLacking tells told file
-lacking_of_file {told = told} command file named means a = record { telling = a.telling; missing = subst (λ f. IsNone (file_of told f)) (sym (file_is means a.means named a.named)) a.missing }
-
-pub no_file_of_sample : {words : List (List ℕ)} {tells : Bool} {told : List NamedFile} (number : ℕ) → Means words (sample number) → AsksMissing words tells told → ⊥
-no_file_of_sample number means a = no_file number means a.means a.named
+pub all_or_first : {o : Outside} {files : List Wanted} {contents : List (List ℕ)} → HasAll o files contents → LacksFirst o files → ⊥
+all_or_first (has_more has rest) (lacks_first lacks) = has_or_lacks has lacks
 
 pub output_of_report : {work : Work} {text : List ℕ} {s : Status} → Reports work text s → IsOutput work text
 output_of_report r = record { meaning = r.meaning; is_meaning = r.is_meaning; is_text = r.is_text }
 
--- a text that was written whole is faithful
-faithful_at : {work : Work} (before after : List ℕ) (m : Meaning) → IsMeaning work m → after ≡ before ++ text_of m → IsFaithful work (status_of m) before after
-faithful_at before after (refused r names) h e = (_, record { meaning = _; is_meaning = h; is_text = refl; is_status = refl }, e)
-faithful_at before after (ran mode kernels (answered v)) h e = (_, record { meaning = _; is_meaning = h; is_text = refl; is_status = refl }, e)
-faithful_at before after (ran mode kernels (trapped t name)) h e = (_, record { meaning = _; is_meaning = h; is_text = refl; is_status = refl }, e)
-faithful_at before after (ran mode kernels (bounded l name)) h e = (_, record { meaning = _; is_meaning = h; is_text = refl; is_status = refl }, e)
-faithful_at before after (sampled kernels (answered v)) h e = (_, record { meaning = _; is_meaning = h; is_text = refl; is_status = refl }, e)
-faithful_at before after (sampled kernels (trapped t name)) h e = (_, record { meaning = _; is_meaning = h; is_text = refl; is_status = refl }, e)
-faithful_at before after (sampled kernels (bounded l name)) h e = (_, record { meaning = _; is_meaning = h; is_text = refl; is_status = refl }, e)
+-- each meaning's status is that of a whole text
+whole_status : (kind : Kind) (m : Meaning) → extent kind (status_of m) ≡ whole
+whole_status kind (refused r names) = refl
+whole_status kind (ran mode kernels (answered v)) = refl
+whole_status kind (ran mode kernels (trapped t name)) = refl
+whole_status kind (ran mode kernels (bounded l name)) = refl
+whole_status kind (sampled kernels (answered v)) = refl
+whole_status kind (sampled kernels (trapped t name)) = refl
+whole_status kind (sampled kernels (bounded l name)) = refl
+
+-- so a text that was written whole is faithful
+faithful_at : {work : Work} (kind : Kind) (before after : List ℕ) (m : Meaning) → IsMeaning work m → after ≡ before ++ text_of m
+    → IsFaithful (extent kind (status_of m)) work (status_of m) before after
+faithful_at {work} kind before after m h e =
+    subst (λ x. IsFaithful x work (status_of m) before after) (sym (whole_status kind m))
+    (text_of m, record { meaning = m; is_meaning = h; is_text = refl; is_status = refl }, e)
 
 -- nothing is a front of some text that belongs to the work
 pub some_output : (work : Work) (before : List ℕ) → (text : List ℕ) × IsOutput work text × GrowsByFront before before text
@@ -154,50 +122,77 @@ some_output work before =
     let m = some_meaning work in
     (text_of m.0, record { meaning = m.0; is_meaning = m.1; is_text = refl }, (0, omega arith, sym (append-nil before)))
 
+-- a front is not the whole
+front_not_whole : a_front ≡ whole → ⊥
+front_not_whole e = cc
+
 -- a work whose meaning was written, or a front of it, was carried out
-pub carried : {evaluation : Evaluation} {bytes : List ℕ} {fuel : ℕ} (r : Result Status WriteFault) (s : Status) {tells : Bool} (before after : List ℕ) (work : Work) → IsWrittenMeaning evaluation bytes fuel r tells before after
-    → Carries evaluation bytes fuel work → IsStatusOf r s → IsCarriedOut work s tells before after
-carried {evaluation} (Ok status) s before after work w means is =
+pub carried : {evaluation : Evaluation} {bytes : List ℕ} {fuel : ℕ} (kind : Kind) (r : Result Status WriteFault) (s : Status) {tells : Bool} (before after : List ℕ)
+    (work : Work) → IsWrittenMeaning evaluation bytes fuel r tells before after → Carries evaluation bytes fuel work → IsStatusOf r s
+    → IsCarriedOut kind work s tells before after
+carried {evaluation} kind (Ok status) s before after work w means is =
     let m = written_meaning evaluation w.meaning in
     let is_meaning = means w.meaning w.is_meaning in
     let same : s ≡ status_of m = is ∙ w.is_status in
-    record { faithful = λ t. subst (λ s. IsFaithful work s before after) (sym same) (faithful_at before after m is_meaning (w.writes t)); meaning = λ c. (m, is_meaning, same) }
-carried {evaluation} (Err fault.Failed) s before after work w means is =
+    record {
+      faithful = λ t. subst (λ s. IsFaithful (extent kind s) work s before after) (sym same) (faithful_at kind before after m is_meaning (w.writes t));
+      meaning = λ c. (m, is_meaning, same);
+    }
+carried {evaluation} kind (Err fault.Failed) s before after work w means is =
     let m = written_meaning evaluation w.meaning in
     let o : IsOutput work (text_of m) = record { meaning = m; is_meaning = means w.meaning w.is_meaning; is_text = refl } in
     record {
-      faithful = λ t. subst (λ s. IsFaithful work s before after) (sym is) (text_of m, o, w.writes t);
-      meaning = λ c. absurd (subst IsComplete is c);
+      faithful = λ t. subst (λ s. IsFaithful (extent kind s) work s before after) (sym is) (text_of m, o, w.writes t);
+      meaning = λ c. absurd (front_not_whole (subst (λ s. extent kind s ≡ whole) is c));
     }
-carried {evaluation} (Err (fault.Memory error)) s before after work w means is =
+carried {evaluation} kind (Err (fault.Memory error)) s before after work w means is =
     let m = written_meaning evaluation w.meaning in
     let o : IsOutput work (text_of m) = record { meaning = m; is_meaning = means w.meaning w.is_meaning; is_text = refl } in
     record {
-      faithful = λ t. subst (λ s. IsFaithful work s before after) (sym is) (text_of m, o, w.writes t);
-      meaning = λ c. absurd (subst IsComplete is c);
+      faithful = λ t. subst (λ s. IsFaithful (extent kind s) work s before after) (sym is) (text_of m, o, w.writes t);
+      meaning = λ c. absurd (front_not_whole (subst (λ s. extent kind s ≡ whole) is c));
     }
+
+-- a status that is written isn't one that never comes
+not_never : {x : Extent} → x ≡ whole → x ≡ never → ⊥
+not_never e n = cc
+
+-- The status of what was written: it may come, and with it, unless the sink failed, the count of faults stands.
+module _ {evaluation : Evaluation} {bytes : List ℕ} {fuel : ℕ} {tells : Bool} {before after : List ℕ} (kind : Kind) (old new : ℕ) (s : Status) where
+  pub written_possible : (r : Result Status WriteFault) → IsWrittenMeaning evaluation bytes fuel r tells before after → IsStatusOf r s → extent kind s ≡ never → ⊥
+  written_possible (Ok status) w is n =
+      not_never (subst (λ s. extent kind s ≡ whole) (sym (is ∙ w.is_status)) (whole_status kind (written_meaning evaluation w.meaning))) n
+  written_possible (Err fault.Failed) w is n = no_front (subst (λ s. extent kind s ≡ never) is n)
+    where
+      no_front : a_front ≡ never → ⊥
+      no_front e = cc
+  written_possible (Err (fault.Memory error)) w is n = no_front (subst (λ s. extent kind s ≡ never) is n)
+    where
+      no_front : a_front ≡ never → ⊥
+      no_front e = cc
+
+  pub written_unfailed : (r : Result Status WriteFault) → IsStatusOf r s → Blames r old new → extent kind s ≡ whole → new ≡ old
+  written_unfailed (Ok status) is b w = b
+  written_unfailed (Err fault.Failed) is b w = absurd (front_not_whole (subst (λ s. extent kind s ≡ whole) is w))
+  written_unfailed (Err (fault.Memory error)) is b w = b
+
+  pub written_memory : (r : Result Status WriteFault) → IsStatusOf r s → Blames r old new → IsMemory s → new ≡ old
+  written_memory (Ok status) is b m = b
+  written_memory (Err fault.Failed) is b m = absurd (not_both is m)
+    where
+      not_both : s ≡ Write → s ≡ Memory alloc_error → ⊥
+      not_both e f = cc
+  written_memory (Err (fault.Memory error)) is b m = b
 
 -- a status that is none of the others is that of a whole text
-pub complete : (s : Status) → (s ≡ Usage → ⊥) → (SpeaksOfCache s → ⊥) → (IsMemory s → ⊥) → (s ≡ Read → ⊥) → (s ≡ Write → ⊥) → IsComplete s
-complete Answer usage cache memory read write = tt
-complete (Trap t) usage cache memory read write = tt
-complete (Refused r) usage cache memory read write = tt
-complete (Bound l) usage cache memory read write = tt
-complete Usage usage cache memory read write = usage refl
-complete Cache usage cache memory read write = cache tt
-complete (BadCache d) usage cache memory read write = cache tt
-complete (Memory e) usage cache memory read write = memory tt
-complete Read usage cache memory read write = read refl
-complete Write usage cache memory read write = write refl
-
--- with it the whole output was written
-pub output_written : {work : Work} (s : Status) {tells : Bool} {before after : List ℕ} → IsComplete s → IsCarriedOut work s tells before after → IsTrue tells → (text : List ℕ) × IsOutput work text × (after ≡ before ++ text)
-output_written Answer c h t = let f = h.faithful t in (f.0, output_of_report f.1, f.2)
-output_written (Trap k) c h t = let f = h.faithful t in (f.0, output_of_report f.1, f.2)
-output_written (Refused r) c h t = let f = h.faithful t in (f.0, output_of_report f.1, f.2)
-output_written (Bound l) c h t = let f = h.faithful t in (f.0, output_of_report f.1, f.2)
-output_written _ c h t = absurd (c)
-
--- the bytes that are asked for are those of the words' file
-pub asked_telling : {words : List (List ℕ)} {tells : Bool} {told : List NamedFile} {bytes : List ℕ} {other : PureCommand} (command : PureCommand) (file : List ℕ) → file_named command ≡ Some file → Means words command → AsksFor words tells told other bytes → IsTellingOf tells told file bytes
-asked_telling {told = told} {bytes = bytes} command file named means a = record { telling = a.telling; found = subst (λ f. file_of told f ≡ Some bytes) (sym (file_is means a.means named a.named)) a.found }
+pub whole_else : (kind : Kind) (s : Status) → (extent kind s ≡ never → ⊥) → (IsMemory s → ⊥) → (s ≡ Read → ⊥) → (s ≡ Write → ⊥) → extent kind s ≡ whole
+whole_else kind Answer possible memory read write = refl
+whole_else kind (Trap t) possible memory read write = refl
+whole_else kind (Refused r) possible memory read write = refl
+whole_else kind (Bound l) possible memory read write = refl
+whole_else kind Usage possible memory read write = absurd (possible refl)
+whole_else kind Cache possible memory read write = absurd (possible refl)
+whole_else kind (BadCache d) possible memory read write = absurd (possible refl)
+whole_else kind (Memory e) possible memory read write = absurd (memory refl)
+whole_else kind Read possible memory read write = absurd (read refl)
+whole_else kind Write possible memory read write = absurd (write refl)

@@ -6,5 +6,6 @@ pub mod WorkLaws
 pub mod Written
 pub mod ProgramRuns
 pub mod WrittenItems
+pub mod Extents
 pub mod Running
 pub mod SimplifiedPrograms

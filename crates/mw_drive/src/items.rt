@@ -3,13 +3,13 @@
 ghost use Rattle.std.specs.Prelude.{◌≡◌, ◌≤◌, ℕ, length, IfOk, Ok, Some, slice_get};
 ghost use Rattle.std.specs.Option.{option_map};
 ghost use Rattle.std.specs.List.{AllByRecursion};
-ghost use Rattle.mw_term.specs.Terms.{expression_of};
 ghost use Rattle.mw_term.specs.Programs.{program_of};
 ghost use Rattle.mw_term.specs.SmallTypes.{HasSmallTypes};
 ghost use Rattle.mw_term.specs.Typable.{Typable};
 ghost use Rattle.mw_meaning.specs.Outcomes.{item_outcome, names_of_items};
 ghost use Rattle.mw_infer.specs.Checking.{HasSmallKernels};
-ghost use Rattle.mw_tasks.specs.TaskOutcomes.{IsKernelOf, IsItemOutcome};
+ghost use Rattle.mw_machine.specs.Evaluations.{item, term_of};
+ghost use Rattle.mw_tasks.specs.TaskOutcomes.{IsKernelItem, IsItemOutcome};
 ghost use Rattle.mw_drive.specs.NamedPrograms.{item_of, named_program_of};
 ghost use Rattle.mw_drive.specs.ProgramRuns.{ending_of, kernels_of, IsBuilt, IsEndOf, IsItemsRun};
 
@@ -63,7 +63,7 @@ pub fn evaluate_items<'p, L: Ledger>(
 {
     let mut built = Vec::new(alloc);
     for at in 0..program.items.len() {
-        match item_end(alloc, program, program.items.get(at), fuel, kernels)? {
+        match item_end(alloc, program, at, program.items.get(at), fuel, kernels)? {
             ItemEnd::Let => {}
             ItemEnd::Code(kernel) => built.push(kernel)?,
             ItemEnd::Ended(end) => {
@@ -77,10 +77,11 @@ pub fn evaluate_items<'p, L: Ledger>(
     Ok(ItemsEnd { built, end: None })
 }
 
-/// What an item of the program comes to.
+/// What the item of the program with this number comes to.
 fn item_end<'p, L: Ledger>(
     alloc: Global,
     program: &Program,
+    number: usize,
     item: &'p Item,
     fuel: u64,
     kernels: &mut EmittingKernels<L>,
@@ -88,15 +89,15 @@ fn item_end<'p, L: Ledger>(
     requires typable { Typable (program_of program.now) }
     requires small { HasSmallTypes (program_of program.now) }
     requires kernels { HasSmallKernels (program_of program.now) }
-    requires item { (i : ℕ) × (slice_get program.now.items i ≡ Some item.now) }
+    requires item { slice_get program.now.items number ≡ Some item.now }
     ensures end { IfOk result (λ end. IsEndOf kernels.old.mode (program_of program.now).items fuel (item_of item.now) end) }
     ensures mode { kernels.new.mode ≡ kernels.old.mode }
 {
     match &item.kind {
         ItemKind::Value(_) => Ok(ItemEnd::Let),
-        ItemKind::Kernel(kind, term) => {
+        ItemKind::Kernel(kind, _) => {
             let name = item.name.as_slice();
-            match kernel_outcome(alloc, program, term, fuel, kernels)? {
+            match kernel_outcome(alloc, program, number, fuel, kernels)? {
                 ItemOutcome::Code(code) => {
                     let entry = kernels.emit(&code, kind)?;
                     Ok(ItemEnd::Code(Built {
@@ -113,22 +114,23 @@ fn item_end<'p, L: Ledger>(
     }
 }
 
-/// The outcome of a kernel item's term. What was kept before is forgotten.
+/// The outcome of the kernel item with this number. What was kept before is forgotten.
 fn kernel_outcome<L: Ledger>(
     alloc: Global,
     program: &Program,
-    term: &Term,
+    number: usize,
     fuel: u64,
     kernels: &mut EmittingKernels<L>,
 ) -> Result<ItemOutcome, AllocError>
     requires typable { Typable (program_of program.now) }
     requires small { HasSmallTypes (program_of program.now) }
-    requires item { IsKernelOf (program_of program.now) (expression_of term.now) }
-    ensures outcome { IfOk result (λ o. IsItemOutcome (Ok o) (item_outcome kernels.old.mode (names_of_items (program_of program.now).items) fuel (expression_of term.now))) }
+    requires item { IsKernelItem (program_of program.now) number }
+    ensures outcome { let p = program_of program.now in IfOk result
+        (λ o. IsItemOutcome (Ok o) (item_outcome kernels.old.mode (names_of_items p.items) fuel (term_of p (item number)))) }
     ensures mode { kernels.new.mode ≡ kernels.old.mode }
 {
     kernels.forget();
-    match evaluate_item(alloc, program, term, fuel, kernels) {
+    match evaluate_item(alloc, program, number, fuel, kernels) {
         Ok(outcome) => Ok(outcome),
         Err(KernelFault::Memory(error)) => Err(error),
         Err(KernelFault::Bad(_)) => unreachable!(),

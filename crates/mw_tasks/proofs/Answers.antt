@@ -1,14 +1,17 @@
 -- What the machine's outcome is as that of a kernel item, and of main.
-use Rattle.std.proofs.Common.{◌≡◌, Some, Bool, true, false, Result, Ok, Err, IsErrAnd, refl, sym, subst}
-use Rattle.mw_term.specs.Terms.{Expression, Value, PureGroundValue, int, bool, both, code, expression_of, ground_value, ground_value_of}
+use Rattle.std.proofs.Common.{◌≡◌, ℕ, Some, ◌∙◌, Bool, true, false, Result, Ok, Err, IsErrAnd, refl, sym, subst}
+use Rattle.mw_term.specs.Terms.{Expression, Value, PureGroundValue, KernelType, int, bool, both, code, expression_of, ground_value, ground_value_of}
 use Rattle.mw_term.specs.declared.term.Term.{Term}
 use Rattle.mw_term.specs.declared.value.GroundValue.{GroundValue}
 use Rattle.mw_term.specs.declared.value.Limit.{Limit}
 use Rattle.mw_term.specs.declared.value.TrapKind.{TrapKind}
 use Rattle.mw_term.specs.Limits.{within_limits}
-use Rattle.mw_term.specs.Programs.{PureProgram}
+use Rattle.mw_term.specs.Programs.{kernel, PureProgram}
+use Rattle.mw_term.specs.Typable.{HasKernelType}
+use Rattle.std.specs.Prelude.{slice_get}
 use Rattle.mw_meaning.specs.Arithmetic.{trap, bound}
 use Rattle.mw_meaning.specs.Outcomes.{ground_in, code_outcome, value_outcome, measured_code}
+use Rattle.mw_meaning.specs.OutcomeLaws.{HasGroundType}
 use Rattle.mw_meaning.specs.StagedMeaning.{Answer, gives, stops, Runs}
 use Rattle.mw_region.specs.declared.pool.Id.{Id}
 use Rattle.mw_machine.specs.declared.machine.Machine.{Machine}
@@ -16,9 +19,10 @@ use Rattle.mw_machine.specs.declared.kernels.KernelFault.{KernelFault}
 use Rattle.mw_machine.specs.declared.kernels.KernelFault.TheVariants as fault
 use Rattle.mw_machine.specs.declared.outcome.Outcome.{Outcome}
 use Rattle.mw_machine.specs.declared.outcome.Outcome.TheVariants as o
+use Rattle.mw_machine.specs.Evaluations.{item, main}
 use Rattle.mw_machine.specs.TurnAnswers.{HasCode, IsOutcome, IsTypedOutcome}
 use Rattle.mw_tasks.specs.declared.outcome.ItemOutcome.{ItemOutcome}
-use Rattle.mw_tasks.specs.declared.outcome.ItemOutcome.TheVariants as i
+use Rattle.mw_tasks.specs.declared.outcome.ItemOutcome.TheVariants as x
 use Rattle.mw_tasks.specs.declared.outcome.MainOutcome.{MainOutcome}
 use Rattle.mw_tasks.specs.declared.outcome.MainOutcome.TheVariants as m
 use Rattle.mw_tasks.specs.declared.evaluation.Ended.{Ended}
@@ -34,12 +38,12 @@ code_as (gives _ left s) n id x h f = absurd h
 code_as (stops why s) n id x h f = absurd h
 
 trap_as : (a : Answer Runs Value) (n : Machine) (t : TrapKind) → IsOutcome (o.Trap t) n a
-    → IsItemAnswer (i.Trap t) (code_outcome a) × IsMainAnswer (m.Trap t) (value_outcome a)
+    → IsItemAnswer (x.Trap t) (code_outcome a) × IsMainAnswer (m.Trap t) (value_outcome a)
 trap_as (stops (trap u) s) n t h = (h, h)
 trap_as _ n t h = absurd h
 
 bound_as : (a : Answer Runs Value) (n : Machine) (l : Limit) → IsOutcome (o.Bound l) n a
-    → IsItemAnswer (i.Bound l) (code_outcome a) × IsMainAnswer (m.Bound l) (value_outcome a)
+    → IsItemAnswer (x.Bound l) (code_outcome a) × IsMainAnswer (m.Bound l) (value_outcome a)
 bound_as (stops (bound b) s) n l h = (h, h)
 bound_as _ n l h = absurd h
 
@@ -58,10 +62,10 @@ module _ (a : Answer Runs Value) (n : Machine) (y : Outcome) (h : IsOutcome y n 
   pub item_code : (id : Id) (x : ItemOutcome) → y ≡ o.Code id → ((c : Expression) → HasCode n id c → IsMeasured x c) → IsItemAnswer x (code_outcome a)
   item_code id x q f = code_as a n id x (subst (λ y. IsOutcome y n a) q h) f
 
-  pub item_trap : (t : TrapKind) → y ≡ o.Trap t → IsItemAnswer (i.Trap t) (code_outcome a)
+  pub item_trap : (t : TrapKind) → y ≡ o.Trap t → IsItemAnswer (x.Trap t) (code_outcome a)
   item_trap t q = (trap_as a n t (subst (λ y. IsOutcome y n a) q h)).0
 
-  pub item_bound : (l : Limit) → y ≡ o.Bound l → IsItemAnswer (i.Bound l) (code_outcome a)
+  pub item_bound : (l : Limit) → y ≡ o.Bound l → IsItemAnswer (x.Bound l) (code_outcome a)
   item_bound l q = (bound_as a n l (subst (λ y. IsOutcome y n a) q h)).0
 
   pub main_trap : (t : TrapKind) → y ≡ o.Trap t → IsMainAnswer (m.Trap t) (value_outcome a)
@@ -90,19 +94,35 @@ main_fails result r a f is q h =
     subst (λ r. IsMainOutcome r (value_outcome a)) (sym (err_is result f is)) (fault_as f a (subst (λ r. EndsAs r a) q h)).1
 
 -- what is measured is the code, within the limits
-code_within : (t : Term) (c : Expression) (b : Bool) → within_limits c ≡ b → IsItemAnswer (i.Code t) (measured_code b c)
+code_within : (t : Term) (c : Expression) (b : Bool) → within_limits c ≡ b → IsItemAnswer (x.Code t) (measured_code b c)
     → (expression_of t ≡ c) × (within_limits c ≡ true)
 code_within t c true w h = (h, w)
 code_within t c false w h = absurd h
 
-typed_as : (p : PureProgram) (e : Expression) (n : Machine) (id : Id) (x : ItemOutcome) → IsTypedOutcome p e (o.Code id) n
-    → ((c : Expression) → HasCode n id c → IsMeasured x c) → IfCode (Ok x) (IsCodeOf p e)
-typed_as p e n id (i.Code t) h f =
-    let w = code_within t h.2 (within_limits h.2) refl (f h.2 h.4) in
-    subst (IsCodeOf p e) (sym w.0) (h.0, h.1, h.3, h.5, w.1)
-typed_as p e n id (i.Trap t) h f = tt
-typed_as p e n id (i.Bound l) h f = tt
+typed_as : (p : PureProgram) (i : ℕ) (n : Machine) (id : Id) (x : ItemOutcome) → IsTypedOutcome p (item i) (o.Code id) n
+    → ((c : Expression) → HasCode n id c → IsMeasured x c) → IfCode (Ok x) (IsCodeOf p i)
+typed_as p i n id (x.Code t) h f =
+    let w = code_within t h.built (within_limits h.built) refl (f h.built h.has) in
+    λ k e here.
+    let same : h.kind ≡ k = kind_of here in
+    (subst (λ c. HasKernelType c k) (sym w.0) (subst (λ k. HasKernelType h.built k) same h.typed), rw w.0 w.1)
+  where
+    kind_of : {k : KernelType} {e : Expression} → slice_get p.items i ≡ Some (kernel k e) → h.kind ≡ k
+    kind_of q = let r = sym h.here ∙ q in cc
+typed_as p i n id (x.Trap t) h f = tt
+typed_as p i n id (x.Bound l) h f = tt
 
-pub item_typed : (p : PureProgram) (e : Expression) (n : Machine) (y : Outcome) (id : Id) (x : ItemOutcome) → IsTypedOutcome p e y n → y ≡ o.Code id
-    → ((c : Expression) → HasCode n id c → IsMeasured x c) → IfCode (Ok x) (IsCodeOf p e)
-item_typed p e n y id x h q f = typed_as p e n id x (subst (λ y. IsTypedOutcome p e y n) q h) f
+pub item_typed : (p : PureProgram) (i : ℕ) (n : Machine) (y : Outcome) (id : Id) (x : ItemOutcome) → IsTypedOutcome p (item i) y n → y ≡ o.Code id
+    → ((c : Expression) → HasCode n id c → IsMeasured x c) → IfCode (Ok x) (IsCodeOf p i)
+item_typed p i n y id x h q f = typed_as p i n id x (subst (λ y. IsTypedOutcome p (item i) y n) q h) f
+
+-- an item never ends with a value, and main never with code
+pub item_no_value : (p : PureProgram) (i : ℕ) (n : Machine) (y : Outcome) (v : GroundValue) → IsTypedOutcome p (item i) y n → y ≡ o.Value v → ⊥
+item_no_value p i n y v h q = subst (λ y. IsTypedOutcome p (item i) y n) q h
+
+pub main_no_code : (p : PureProgram) (n : Machine) (y : Outcome) (id : Id) → IsTypedOutcome p main y n → y ≡ o.Code id → ⊥
+main_no_code p n y id h q = subst (λ y. IsTypedOutcome p main y n) q h
+
+pub main_typed : (p : PureProgram) (n : Machine) (y : Outcome) (v : GroundValue) → IsTypedOutcome p main y n → y ≡ o.Value v
+    → HasGroundType p.result (ground_value_of v)
+main_typed p n y v h q = subst (λ y. IsTypedOutcome p main y n) q h

@@ -13,24 +13,21 @@ use Rattle.mw_machine.specs.declared.kernels.KernelFault.TheVariants as fault
 use Rattle.mw_machine.specs.declared.machine.Machine.{Machine}
 use Rattle.mw_machine.specs.declared.outcome.Outcome.{Outcome}
 use Rattle.mw_machine.specs.Begun.{Begins}
-use Rattle.mw_machine.specs.Evaluations.{Evaluation, runs_of, IsBody, item_body, main_body, HasNames, item_names, main_names}
+use Rattle.mw_machine.specs.Evaluations.{Part, item, term_of, Evaluation, runs_of, IsPart, item_part, main_part, HasNames, item_names, main_names}
 use Rattle.mw_machine.specs.KernelCalls.{AreSound, prices}
 use Rattle.mw_machine.specs.TurnAnswers.{IsReady, IsTypedOutcome, DriveKeeps, DriveMeans}
 use Rattle.mw_machine.specs.Underway.{IsUnderway, IsMeant}
 use Rattle.mw_tasks.specs.declared.evaluation.Ended.{Ended}
 use Rattle.mw_tasks.specs.Endings.{EndsAs}
-use Rattle.mw_tasks.specs.TaskOutcomes.{IsKernelOf}
+use Rattle.mw_tasks.specs.TaskOutcomes.{IsKernelItem}
 
-pub item_is_body : (p : PureProgram) (e : Expression) → IsKernelOf p e → IsBody p e
-item_is_body p e h = item_body h.0 h.1 h.2
+pub item_has_names : (p : PureProgram) (i : ℕ) → IsKernelItem p i → HasNames p (item i) (names_of_items p.items)
+item_has_names p i h = item_names i h.0 h.1 h.2 (names_of_items_are_values p.items i)
 
-pub item_has_names : (p : PureProgram) (e : Expression) → IsKernelOf p e → HasNames p e (names_of_items p.items)
-item_has_names p e h = item_names h.0 h.1 h.2 (names_of_items_are_values p.items h.0)
-
--- the names of each term of a program have values
-named : (p : PureProgram) (e : Expression) → IsBody p e → (names : List Value) × HasNames p e names
-named p e (item_body i k q) = (names_of_items p.items, item_names i k q (names_of_items_are_values p.items i))
-named p _ (main_body codes b) = (names_of_main p.items codes, main_names codes b)
+-- the names of each part of a program have values
+named : (p : PureProgram) (part : Part) (e : Expression) → IsPart p part e → (names : List Value) × HasNames p part names
+named p _ e (item_part i k q) = (names_of_items p.items, item_names i k e q (names_of_items_are_values p.items i))
+named p _ _ (main_part codes b) = (names_of_main p.items codes, main_names codes b)
 
 -- the fault that `?` answers is the one that came
 pub err_is : {A E : Type 0} (result : Result A E) (f : E) → IsErrAnd result (λ g. g ≡ f) → result ≡ Err f
@@ -42,34 +39,41 @@ pub fault_is : {A B N : Type 0} (P : KernelFault → Type 0) (result : Result A 
 fault_is {N = N} P result r f is q h none =
     subst (λ r. IfErr r P) (sym (err_is result f is)) ((subst (λ r. IfErr r (λ g. N → P g)) q h) none)
 
-module _ (p : PureProgram) (e : Expression) (fuel : ℕ) (m : Machine) (b : Begins m p e fuel) where
-  -- the evaluation of the term with these values of the names
+module _ (p : PureProgram) (body : Expression) (fuel : ℕ) (m : Machine) (begins : (part : Part) → IsPart p part body → Begins m p part fuel)
+    (part : Part) (is : IsPart p part body) where
+  -- the evaluation of the part with these values of the names
   abbrev of : List Value → Evaluation
-  of names = record { program = p; term = e; names = names; units = fuel }
+  of names = record { program = p; part = part; names = names; units = fuel }
 
-  module _ (body : IsBody p e) (kept_runs : Runs) where
-    meant : IsMeant Plain kept_runs (of (named p e body).0) [] m
-    meant = b.meant Plain kept_runs (named p e body).0 (named p e body).1
+  b : Begins m p part fuel
+  b = begins part is
 
-    pub underway : IsUnderway p e kept_runs m
+  abbrev e : Expression
+  e = term_of p part
+
+  module _ (kept_runs : Runs) where
+    meant : IsMeant Plain kept_runs (of (named p part body is).0) [] m
+    meant = b.meant Plain kept_runs (named p part body is).0 (named p part body is).1
+
+    pub underway : IsUnderway p part kept_runs m
     underway = (meant.0, meant.1)
 
     pub no_fault : m.fault ≡ None
     no_fault = meant.1.0
 
     pub ready : (stopped : Bool) → stopped ≡ false → IsReady p kept_runs stopped m
-    ready stopped q none = ((e, underway), q)
+    ready stopped q none = ((part, underway), q)
 
     -- what a drive answers is typed
     pub typed : (r : Result Outcome KernelFault) (x : Outcome) (n : Machine) → r ≡ Ok x
-        → ((e : Expression) → IsUnderway p e kept_runs m → DriveKeeps r p e n) → IsTypedOutcome p e x n
-    typed r x n q keeps = subst (λ r. DriveKeeps r p e n) q (keeps e underway)
+        → ((part : Part) → IsUnderway p part kept_runs m → DriveKeeps r p part n) → IsTypedOutcome p part x n
+    typed r x n q keeps = subst (λ r. DriveKeeps r p part n) q (keeps part underway)
 
   module _ (mode : Mode) (kept_runs : Runs) (Sound : Expression → KernelType → Type 0) (price : Expression → KernelType → ℕ) (old new : ℕ)
       (r : Result Outcome KernelFault) (n : Machine)
       (means : (x : Evaluation) (begun : Runs) → x.program ≡ p → IsMeant mode kept_runs x begun m → AreSound Sound (runs_of mode x)
       → DriveMeans r mode x begun n price old new)
-      (names : List Value) (has : HasNames p e names) (sound : AreSound Sound (runs mode names fuel e)) where
+      (names : List Value) (has : HasNames p part names) (sound : AreSound Sound (runs mode names fuel e)) where
     whole : DriveMeans r mode (of names) [] n price old new
     whole = means (of names) [] refl (b.meant mode kept_runs names has) sound
 

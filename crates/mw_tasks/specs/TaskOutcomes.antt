@@ -12,9 +12,9 @@ use Rattle.mw_tasks.specs.declared.outcome.ItemOutcome.TheVariants as i
 use Rattle.mw_tasks.specs.declared.outcome.MainOutcome.{MainOutcome}
 use Rattle.mw_tasks.specs.declared.outcome.MainOutcome.TheVariants as m
 
--- the term is that of a kernel item
-abbrev pub IsKernelOf : PureProgram → Expression → Type 0
-IsKernelOf p e = (at : ℕ) × (k : KernelType) × (slice_get p.items at ≡ Some (kernel k e))
+-- the item of this number is a kernel
+abbrev pub IsKernelItem : PureProgram → ℕ → Type 0
+IsKernelItem p i = (k : KernelType) × (e : Expression) × (slice_get p.items i ≡ Some (kernel k e))
 
 -- the outcome is the meaning's: its code, its trap or its bound
 abbrev pub IsItemAnswer : ItemOutcome → Outcome Expression → Type 0
@@ -51,7 +51,7 @@ abbrev pub IfValue : Result MainOutcome KernelFault → (PureGroundValue → Typ
 IfValue (Ok (m.Value v)) P = P (ground_value_of v)
 IfValue _ P = Unit {0}
 
--- closed code of the type of a kernel item with this term, within the limits
-abbrev pub IsCodeOf : PureProgram → Expression → Expression → Type 0
-IsCodeOf p e c =
-    (at : ℕ) × (k : KernelType) × (slice_get p.items at ≡ Some (kernel k e)) × HasKernelType c k × (within_limits c ≡ true)
+-- closed code of the type of the kernel item of this number, within the limits
+abbrev pub IsCodeOf : PureProgram → ℕ → Expression → Type 0
+IsCodeOf p i c =
+    (k : KernelType) (e : Expression) → slice_get p.items i ≡ Some (kernel k e) → HasKernelType c k × (within_limits c ≡ true)

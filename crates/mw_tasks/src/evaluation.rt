@@ -7,7 +7,7 @@ ghost use Rattle.mw_term.specs.Typable.{Typable};
 ghost use Rattle.mw_term.specs.SmallTypes.{HasSmallTypes};
 ghost use Rattle.mw_meaning.specs.StagedMeaning.{staged, runs};
 ghost use Rattle.mw_machine.specs.KernelCalls.{AreSound, IsNewlyBad, prices};
-ghost use Rattle.mw_machine.specs.Evaluations.{IsBody, HasNames};
+ghost use Rattle.mw_machine.specs.Evaluations.{Part, IsPart, HasNames, term_of};
 ghost use Rattle.mw_machine.specs.TurnAnswers.{IsTypedOutcome, IfOpenEnd};
 ghost use Rattle.mw_tasks.specs.Endings.{EndsAs};
 
@@ -22,7 +22,7 @@ pub(crate) struct Ended {
     pub(crate) outcome: Outcome,
 }
 
-/// Evaluates a term of a program to its end, with so many units.
+/// Evaluates the parts of a program that have this term to their end, with so many units.
 pub(crate) fn evaluate<K: Kernels>(
     alloc: Global,
     program: &Program,
@@ -32,16 +32,19 @@ pub(crate) fn evaluate<K: Kernels>(
 ) -> Result<Ended, KernelFault>
     requires typable { Typable (program_of program.now) }
     requires small { HasSmallTypes (program_of program.now) }
-    requires body { IsBody (program_of program.now) (expression_of body.now) }
+    requires body { (part : Part) × IsPart (program_of program.now) part (expression_of body.now) }
     requires open { K.stopped kernels.old ≡ false }
-    ensures means { (names : List Value) → HasNames (program_of program.now) (expression_of body.now) names
-        → AreSound (K.sound kernels.old) (runs (K.mode kernels.old) names fuel (expression_of body.now))
-        → EndsAs result (staged (K.mode kernels.old) names fuel (expression_of body.now)) }
-    ensures cost { (names : List Value) → HasNames (program_of program.now) (expression_of body.now) names
-        → AreSound (K.sound kernels.old) (runs (K.mode kernels.old) names fuel (expression_of body.now))
+    ensures means { (part : Part) (names : List Value) → IsPart (program_of program.now) part (expression_of body.now)
+        → HasNames (program_of program.now) part names
+        → AreSound (K.sound kernels.old) (runs (K.mode kernels.old) names fuel (term_of (program_of program.now) part))
+        → EndsAs result (staged (K.mode kernels.old) names fuel (term_of (program_of program.now) part)) }
+    ensures cost { (part : Part) (names : List Value) → IsPart (program_of program.now) part (expression_of body.now)
+        → HasNames (program_of program.now) part names
+        → AreSound (K.sound kernels.old) (runs (K.mode kernels.old) names fuel (term_of (program_of program.now) part))
         → IfOk result (λ _. K.cost kernels.new ≤ K.cost kernels.old
-        + prices (K.price kernels.old) (runs (K.mode kernels.old) names fuel (expression_of body.now))) }
-    ensures typed { IfOk result (λ ended. IsTypedOutcome (program_of program.now) (expression_of body.now) ended.outcome ended.machine) }
+        + prices (K.price kernels.old) (runs (K.mode kernels.old) names fuel (term_of (program_of program.now) part))) }
+    ensures typed { IfOk result (λ ended. (part : Part) → IsPart (program_of program.now) part (expression_of body.now)
+        → IsTypedOutcome (program_of program.now) part ended.outcome ended.machine) }
     ensures open { IfOk result (λ ended. IfOpenEnd (Ok ended.outcome) (K.stopped kernels.new ≡ false)) }
     ensures bad { IfErr result (λ fault. IsNewlyBad fault (K.bad kernels.old) (K.bad kernels.new) (K.digest kernels.new)) }
     ensures count { K.bad kernels.old ≤ K.bad kernels.new }

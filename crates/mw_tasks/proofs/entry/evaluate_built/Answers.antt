@@ -1,45 +1,46 @@
 use Rattle.mw_term.specs.Programs.{program_of}
-use Rattle.mw_machine.specs.Evaluations.{main_body, main_names}
-use Rattle.mw_machine.specs.TurnAnswers.{IsTypedOutcome}
-use Rattle.std.proofs.Common.{subst}
-use Rattle.mw_tasks.proofs.Answers.{main_value, main_trap, main_bound, main_fails}
-use Rattle.mw_tasks.proofs.BuiltPrograms.{main_gives_no_code}
+use Rattle.mw_machine.specs.Evaluations.{main, main_part, main_names}
+use Rattle.mw_tasks.proofs.Answers.{main_value, main_trap, main_bound, main_fails, main_typed, main_no_code}
 use Rattle.mw_tasks.proofs.entry.evaluate_built.Goals as goal
 
 pub evaluate-requires-clause-body : goal.evaluate-requires-clause-body
-evaluate-requires-clause-body g c = main_body c.requires.built.0 c.requires.built.1
+evaluate-requires-clause-body g c = (main, main_part c.requires.built.0 c.requires.built.1)
 
 pub returns-in_err-outcome-clause-means : goal.returns-in_err-outcome-clause-means
 returns-in_err-outcome-clause-means g c = λ codes built sound.
     main_fails c.from_residual.result c.evaluate.result _ c.in_err-outcome.field-0.0 c.from_residual.ensures.1 c.in_err-outcome.was
-    (c.evaluate.ensures.means _ (main_names codes built) sound)
+    (c.evaluate.ensures.means main _ (main_part codes built) (main_names codes built) sound)
 
 pub unreachable-requires : goal.unreachable-requires
 unreachable-requires g c =
-    main_gives_no_code (program_of c.args.program.now) c.requires.typable c.requires.built c.in_ok-outcome.field-0.machine c.in-Code.field-0
-    (subst (λ y. IsTypedOutcome (program_of c.args.program.now) (program_of c.args.program.now).body y c.in_ok-outcome.field-0.machine) c.in-Code.is
-    c.in_ok-outcome.ensures.typed)
+    main_no_code (program_of c.args.program.now) c.in_ok-outcome.field-0.machine c.in_ok-outcome.field-0.outcome c.in-Code.field-0
+    (c.in_ok-outcome.ensures.typed main (main_part c.requires.built.0 c.requires.built.1)) c.in-Code.is
 
 pub returns-in-Value-clause-means : goal.returns-in-Value-clause-means
 returns-in-Value-clause-means g c = λ codes built sound.
-    main_value _ c.in_ok-outcome.field-0.machine c.in_ok-outcome.field-0.outcome (c.in_ok-outcome.ensures.means _ (main_names codes built) sound)
+    main_value _ c.in_ok-outcome.field-0.machine c.in_ok-outcome.field-0.outcome (c.in_ok-outcome.ensures.means main _ (main_part codes built) (main_names codes built) sound)
     c.in-Value.value c.in-Value.is
 
 pub returns-in-Value-clause-cost : goal.returns-in-Value-clause-cost
-returns-in-Value-clause-cost g c = λ codes built sound. c.in_ok-outcome.ensures.cost _ (main_names codes built) sound
+returns-in-Value-clause-cost g c = λ codes built sound. c.in_ok-outcome.ensures.cost main _ (main_part codes built) (main_names codes built) sound
 
 pub returns-in-Trap-clause-means : goal.returns-in-Trap-clause-means
 returns-in-Trap-clause-means g c = λ codes built sound.
-    main_trap _ c.in_ok-outcome.field-0.machine c.in_ok-outcome.field-0.outcome (c.in_ok-outcome.ensures.means _ (main_names codes built) sound)
+    main_trap _ c.in_ok-outcome.field-0.machine c.in_ok-outcome.field-0.outcome (c.in_ok-outcome.ensures.means main _ (main_part codes built) (main_names codes built) sound)
     c.in-Trap.trap c.in-Trap.is
 
 pub returns-in-Trap-clause-cost : goal.returns-in-Trap-clause-cost
-returns-in-Trap-clause-cost g c = λ codes built sound. c.in_ok-outcome.ensures.cost _ (main_names codes built) sound
+returns-in-Trap-clause-cost g c = λ codes built sound. c.in_ok-outcome.ensures.cost main _ (main_part codes built) (main_names codes built) sound
 
 pub returns-in-Bound-clause-means : goal.returns-in-Bound-clause-means
 returns-in-Bound-clause-means g c = λ codes built sound.
-    main_bound _ c.in_ok-outcome.field-0.machine c.in_ok-outcome.field-0.outcome (c.in_ok-outcome.ensures.means _ (main_names codes built) sound)
+    main_bound _ c.in_ok-outcome.field-0.machine c.in_ok-outcome.field-0.outcome (c.in_ok-outcome.ensures.means main _ (main_part codes built) (main_names codes built) sound)
     c.in-Bound.limit c.in-Bound.is
 
 pub returns-in-Bound-clause-cost : goal.returns-in-Bound-clause-cost
-returns-in-Bound-clause-cost g c = λ codes built sound. c.in_ok-outcome.ensures.cost _ (main_names codes built) sound
+returns-in-Bound-clause-cost g c = λ codes built sound. c.in_ok-outcome.ensures.cost main _ (main_part codes built) (main_names codes built) sound
+
+pub returns-in-Value-clause-typed : goal.returns-in-Value-clause-typed
+returns-in-Value-clause-typed g c =
+    main_typed (program_of c.args.program.now) c.in_ok-outcome.field-0.machine c.in_ok-outcome.field-0.outcome c.in-Value.value
+    (c.in_ok-outcome.ensures.typed main (main_part c.requires.built.0 c.requires.built.1)) c.in-Value.is
