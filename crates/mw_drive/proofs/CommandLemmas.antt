@@ -1,14 +1,15 @@
 -- From what a command's run gives to the clauses of the top call.
-use Rattle.std.proofs.Common.{◌≡◌, ◌≤◌, ◌⊎◌, inl, inr, ℕ, List, [], ◌∷◌, ◌++◌, Bool, true, IsTrue, refl, sym, ap, subst, ◌∙◌}
+use Rattle.std.proofs.Common.{◌≡◌, ◌≤◌, ◌⊎◌, inl, inr, ℕ, List, [], ◌∷◌, Bool, true, IsTrue, refl, sym, ap, subst, ◌∙◌}
 use Rattle.mw_term.specs.Terms.{PureGroundValue}
 use Rattle.mw_console.specs.Texts.{Ending, answered, trapped, bounded, ending_status}
 use Rattle.mw_meaning.specs.declared.mode.Mode.{Mode}
 use Rattle.mw_meaning.specs.declared.mode.Mode.TheVariants.{Plain, Simple}
-use Rattle.mw_words.specs.Words.{PureCommand, run, erased, sample, Means, run_command, erased_command, sample_command}
+use Rattle.std.specs.Prelude.{codes}
+use Rattle.mw_words.specs.Words.{PureCommand, PurePart, run, erased, sample, IsNumber, Makes, Means, run_command, erased_command, sample_command}
 use Rattle.mw_words.proofs.LawLemmas.{one_command}
 use Rattle.mw_console.specs.declared.status.Status.{Status}
-use Rattle.mw_console.specs.declared.status.Status.TheVariants.{Answer, Trap, Refused, Bound, Usage, Read, Write, Memory}
-use Rattle.mw_drive.specs.Works.{Work, running, erasing, sampling, Meaning, ran, IsMeaning, of_refusal, of_types, of_program, IsOutput, status_of}
+use Rattle.mw_console.specs.declared.status.Status.TheVariants.{Answer, Trap, Refused, Bound, Read, Write, Memory}
+use Rattle.mw_drive.specs.Works.{Work, running, erasing, sampling, Meaning, ran, IsMeaning, of_refusal, of_types, of_program, status_of}
 use Rattle.mw_drive.specs.ProgramMeaning.{Kernel}
 use Rattle.mw_drive.specs.SimplifiedPrograms.{IsUnbounded}
 use Rattle.mw_drive.specs.declared.source.Evaluation.TheVariants.{Run}
@@ -27,12 +28,18 @@ carried_memory kind work e tells before = record { faithful = λ t. some_output 
 
 -- the number of a sample's words is in its range
 pub sample_range : {words : List (List ℕ)} (command : PureCommand) (n : ℕ) → Means words command → command ≡ sample n → (1 ≤ n) × (n ≤ 100)
-sample_range {words} command n means e = by_form (subst (Means words) e means)
+sample_range command n (sample_command h) e = same_number h e
   where
-    by_form : Means words (sample n) → (1 ≤ n) × (n ≤ 100)
-    by_form (sample_command h) = (h.low, h.high)
-    by_form (run_command h m) = elim m [ ]
-    by_form (erased_command h m) = elim m [ ]
+    same_number : {word : List ℕ} {k : ℕ} → IsNumber 100 word k → sample k ≡ sample n → (1 ≤ n) × (n ≤ 100)
+    same_number {k = k} h e = let same : k ≡ n = cc in rw (← same) (h.low, h.high)
+sample_range command n (run_command h m) e = absurd (makes_none (subst (Makes (codes "run") _) e m))
+  where
+    makes_none : {parts : List PurePart} → Makes (codes "run") parts (sample n) → ⊥
+    makes_none m = elim m [ ]
+sample_range command n (erased_command h m) e = absurd (makes_none (subst (Makes (codes "erased") _) e m))
+  where
+    makes_none : {parts : List PurePart} → Makes (codes "erased") parts (sample n) → ⊥
+    makes_none m = elim m [ ]
 
 no_refusal : {r : _} → Answer ≡ Refused r → ⊥
 no_refusal e = cc
@@ -175,6 +182,10 @@ sample_on contents work sample_works = refl
 -- of one file
 pub has_one : {o : Outside} {file : Wanted} {bytes : List ℕ} → HasAll o (file ∷ []) (bytes ∷ []) → Has o file bytes
 has_one (has_more has rest) = has
+
+pub first_lacks : {o : Outside} {file : Wanted} {Rose_source : Type 0} → Rose_source ⊎ Lacks o file → Rose_source ⊎ LacksFirst o (file ∷ [])
+first_lacks (inl rose) = inl rose
+first_lacks (inr lacks) = inr (lacks_first lacks)
 
 pub lacks_one : {o : Outside} {file : Wanted} → LacksFirst o (file ∷ []) → Lacks o file
 lacks_one (lacks_first lacks) = lacks

@@ -1,5 +1,5 @@
 -- What an item comes to.
-use Rattle.std.proofs.Common.{◌≡◌, ◌≤◌, ℕ, true, Some, refl, sym, ap, ◌∙◌, subst}
+use Rattle.std.proofs.Common.{◌≡◌, ◌≤◌, ℕ, true, Some, sym, ap, ◌∙◌, subst}
 use Rattle.std.specs.Prelude.{slice_get}
 use Rattle.mw_term.specs.Terms.{Expression, expression_of, kernel_type_of}
 use Rattle.mw_term.specs.Programs.{value as defines, kernel, definition_of, program_of}

@@ -1,5 +1,5 @@
 -- From the parts of a run to the whole.
-use Rattle.std.proofs.Common.{◌≡◌, ◌⊎◌, inl, inr, ℕ, ◌<◌, List, [], ◌++◌, Option, None, Some, Bool, IsTrue, IsNone, ap, ◌∙◌, take, drop, length, Result, Ok, Err, refl, sym, subst, arith}
+use Rattle.std.proofs.Common.{◌≡◌, ◌⊎◌, inl, inr, ℕ, ◌<◌, List, [], ◌++◌, Option, None, Some, Bool, IsTrue, IsNone, ◌∙◌, take, drop, length, Result, Ok, Err, refl, sym, subst, arith}
 use Rattle.std.specs.Prelude.{alloc_error}
 use Rattle.std.proofs.lemmas.List.{append-nil, take_all, length-take}
 use Rattle.mw_outside.specs.declared.errors.WriteFault.{WriteFault}
@@ -17,13 +17,13 @@ use Rattle.mw_drive.specs.ProgramMeaning.{ended, erased_run}
 use Rattle.mw_console.specs.declared.status.Status.{Status}
 use Rattle.mw_console.specs.declared.status.Status.TheVariants.{Answer, Trap, Usage, Refused, Bound, Read, Write, Cache, Memory, BadCache}
 use Rattle.mw_drive.specs.SourceReading.{IsRead, IsSmall, too_large, at_bytes, at_tokens, at_names}
-use Rattle.mw_drive.specs.Works.{Work, running, erasing, sampling, IsAccepted, Meaning, refused, ran, sampled, IsMeaning, of_refusal, of_types, of_program, of_erased_refusal, of_erased, IsOutput, Reports, text_of, status_of}
+use Rattle.mw_drive.specs.Works.{Work, running, erasing, IsAccepted, Meaning, refused, ran, sampled, IsMeaning, of_refusal, of_types, of_program, of_erased_refusal, of_erased, IsOutput, Reports, text_of, status_of}
 use Rattle.mw_drive.specs.ProgramRuns.{IsWrittenMeaning, evaluated, written_meaning, Carries}
 use Rattle.mw_drive.specs.declared.source.Evaluation.{Evaluation}
 use Rattle.mw_drive.specs.declared.source.Evaluation.TheVariants.{Run, Erased}
 use Rattle.mw_drive.specs.Extents.{Extent, a_front, whole, never, Kind, extent}
 use Rattle.mw_drive.specs.Written.{Blames}
-use Rattle.mw_drive.specs.Running.{Outside, Wanted, source_file, Has, Lacks, HasAll, has_more, LacksFirst, lacks_first, IsFaithful, IsMemory, IsCarriedOut, IsStatusOf}
+use Rattle.mw_drive.specs.Running.{Outside, Wanted, source_file, Has, Lacks, HasAll, has_none, has_more, LacksFirst, lacks_first, IsFaithful, IsMemory, IsCarriedOut, IsStatusOf}
 use Rattle.mw_drive.proofs.SomeMeaning.{some_meaning}
 
 -- a source with a meaning is too large, and refused for it, or small
@@ -94,6 +94,7 @@ has_or_lacks {o} {file} {bytes} has lacks = both (file_of o.files file.name) has
     both (Some x) e n = absurd (cc)
 
 pub all_or_first : {o : Outside} {files : List Wanted} {contents : List (List ℕ)} → HasAll o files contents → LacksFirst o files → ⊥
+all_or_first has_none lacks = elim lacks [ ]
 all_or_first (has_more has rest) (lacks_first lacks) = has_or_lacks has lacks
 
 pub output_of_report : {work : Work} {text : List ℕ} {s : Status} → Reports work text s → IsOutput work text
@@ -157,20 +158,20 @@ carried {evaluation} kind (Err (fault.Memory error)) s before after work w means
 not_never : {x : Extent} → x ≡ whole → x ≡ never → ⊥
 not_never e n = cc
 
--- The status of what was written: it may come, and with it, unless the sink failed, the count of faults stands.
-module _ {evaluation : Evaluation} {bytes : List ℕ} {fuel : ℕ} {tells : Bool} {before after : List ℕ} (kind : Kind) (old new : ℕ) (s : Status) where
-  pub written_possible : (r : Result Status WriteFault) → IsWrittenMeaning evaluation bytes fuel r tells before after → IsStatusOf r s → extent kind s ≡ never → ⊥
-  written_possible (Ok status) w is n =
-      not_never (subst (λ s. extent kind s ≡ whole) (sym (is ∙ w.is_status)) (whole_status kind (written_meaning evaluation w.meaning))) n
-  written_possible (Err fault.Failed) w is n = no_front (subst (λ s. extent kind s ≡ never) is n)
-    where
-      no_front : a_front ≡ never → ⊥
-      no_front e = cc
-  written_possible (Err (fault.Memory error)) w is n = no_front (subst (λ s. extent kind s ≡ never) is n)
-    where
-      no_front : a_front ≡ never → ⊥
-      no_front e = cc
+-- a front isn't what never comes
+front_not_never : a_front ≡ never → ⊥
+front_not_never e = cc
 
+-- the status of what was written may come
+pub written_possible : {evaluation : Evaluation} {bytes : List ℕ} {fuel : ℕ} {tells : Bool} {before after : List ℕ} (kind : Kind) (s : Status)
+    (r : Result Status WriteFault) → IsWrittenMeaning evaluation bytes fuel r tells before after → IsStatusOf r s → extent kind s ≡ never → ⊥
+written_possible {evaluation} kind s (Ok status) w is n =
+    not_never (subst (λ s. extent kind s ≡ whole) (sym (is ∙ w.is_status)) (whole_status kind (written_meaning evaluation w.meaning))) n
+written_possible kind s (Err fault.Failed) w is n = front_not_never (subst (λ s. extent kind s ≡ never) is n)
+written_possible kind s (Err (fault.Memory error)) w is n = front_not_never (subst (λ s. extent kind s ≡ never) is n)
+
+-- with it, unless the sink failed, the count of faults stands
+module _ (kind : Kind) (old new : ℕ) (s : Status) where
   pub written_unfailed : (r : Result Status WriteFault) → IsStatusOf r s → Blames r old new → extent kind s ≡ whole → new ≡ old
   written_unfailed (Ok status) is b w = b
   written_unfailed (Err fault.Failed) is b w = absurd (front_not_whole (subst (λ s. extent kind s ≡ whole) is w))

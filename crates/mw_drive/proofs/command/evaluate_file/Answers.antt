@@ -3,7 +3,7 @@ use Rattle.mw_drive.specs.Extents.{on_a_file}
 use Rattle.mw_drive.specs.Works.{IsMeaning}
 use Rattle.mw_drive.specs.ProgramRuns.{evaluated}
 use Rattle.mw_drive.proofs.CommandLemmas.{carried_memory}
-use Rattle.mw_drive.proofs.RunLemmas.{carried, front_told, rest_told, means_evaluated, not_lacking, written_possible, written_unfailed, written_memory}
+use Rattle.mw_drive.proofs.RunLemmas.{carried, front_told, means_evaluated}
 use Rattle.mw_drive.proofs.command.evaluate_file.Goals as goal
 
 pub returns-in-Err-Memory-clause-work : goal.returns-in-Err-Memory-clause-work

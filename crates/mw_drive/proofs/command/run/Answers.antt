@@ -1,4 +1,6 @@
-use Rattle.std.proofs.Common.{inl, inr}
+use Rattle.std.proofs.Common.{inl, inr, ap}
+use Rattle.mw_drive.specs.Extents.{extent}
+use Rattle.mw_drive.specs.Running.{kind_of}
 use Rattle.mw_words.specs.Words.{command_in}
 use Rattle.mw_drive.proofs.CommandLemmas.{sample_range, asked_text, asked_status, asked_complete, asked_faults, asked_possible, asked_unfailed, asked_missing, asked_no_file, asked_read, asked_has, asked_erased, asked_simplified}
 use Rattle.mw_drive.proofs.ModuleLemmas.{meaning_modules}
@@ -65,3 +67,9 @@ pub returns-in-Ok-clause-left : goal.returns-in-Ok-clause-left
 returns-in-Ok-clause-left g c = λ other bytes on. c.carry_out.ensures.left bytes
     (asked_has (command_in c.in-Ok.command) c.in-Ok.ensures.some c.carry_out.result g.K.Sink.tells _ _ _ _ c.carry_out.ensures.work c.carry_out.ensures.read
     c.carry_out.ensures.write c.carry_out.ensures.possible other bytes on)
+
+pub returns-in-Ok-clause-unread : goal.returns-in-Ok-clause-unread
+returns-in-Ok-clause-unread g c (inl usage) = absurd (c.carry_out.ensures.possible (ap (extent (kind_of (command_in c.in-Ok.command))) usage))
+returns-in-Ok-clause-unread g c (inr asked) = c.carry_out.ensures.unread
+    (asked_no_file (command_in c.in-Ok.command) c.in-Ok.ensures.some c.carry_out.result g.K.Sink.tells _ _ _ _ c.carry_out.ensures.work c.carry_out.ensures.read
+    c.carry_out.ensures.write c.carry_out.ensures.possible asked)

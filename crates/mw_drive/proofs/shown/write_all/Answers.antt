@@ -1,4 +1,4 @@
-use Rattle.std.proofs.Common.{arith}
+use Rattle.std.proofs.Common.{◌∙◌, arith}
 use Rattle.mw_drive.specs.ProgramRuns.{IsBuilt}
 use Rattle.mw_drive.proofs.Faults.{front_written}
 use Rattle.mw_drive.proofs.Showing.{lines_written, lines_front}
@@ -16,5 +16,5 @@ loop-at-preserved g c =
     let here = got c.args.kernels.now c.loop-at.at c.index-kernels-at.result (omega (arith, c.loop-at-test.true)) c.index-kernels-at.is in
     record {
       written = λ mode built tells. lines_written mode c.args.kernels.now c.loop-at.at c.index-kernels-at.result _ _ _ here (c.loop-at.invariant.written mode built tells) (c.in_ok-write_kernel.ensures.writes mode (all_at (IsBuilt mode) c.args.kernels.now c.loop-at.at c.index-kernels-at.result built here) tells);
-      count = omega (arith, c.loop-at.invariant.count, c.write_kernel.ensures.count);
+      count = c.in_ok-write_kernel.ensures.blames ∙ c.loop-at.invariant.count;
     }
