@@ -5,7 +5,7 @@ use Rattle.mw_term.specs.Terms.{PureGroundValue}
 use Rattle.mw_console.specs.Texts.{Ending, answered, trapped, bounded, ending_status}
 use Rattle.mw_meaning.specs.declared.mode.Mode.{Mode}
 use Rattle.mw_meaning.specs.declared.mode.Mode.TheVariants.{Plain, Simple}
-use Rattle.mw_words.specs.Words.{PureCommand, run, sample, Means, run_command, erased_command, sample_command}
+use Rattle.mw_words.specs.Words.{PureCommand, run, sample, Means, parts_command, sample_command}
 use Rattle.mw_words.proofs.LawLemmas.{one_command}
 use Rattle.mw_console.specs.declared.status.Status.{Status}
 use Rattle.mw_console.specs.declared.status.Status.TheVariants.{Answer, Trap, Refused, Bound, Usage, Read, Write, Memory}
@@ -28,8 +28,7 @@ carried_memory work e tells before = record { faithful = λ t. some_output work 
 -- the number of a sample's words is in its range
 pub sample_range : {words : List (List ℕ)} (n : ℕ) → Means words (sample n) → (1 ≤ n) × (n ≤ 100)
 sample_range n (sample_command h) = (h.low, h.high)
-sample_range n (run_command h m) = elim m [ ]
-sample_range n (erased_command h m) = elim m [ ]
+sample_range n (parts_command h m) = elim m [ ]
 
 no_refusal : {r : _} → Answer ≡ Refused r → ⊥
 no_refusal e = cc
