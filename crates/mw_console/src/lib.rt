@@ -1,4 +1,5 @@
-//! output, and statuses with their exit codes.
+//! What a command reads and writes beside its work: the source's file, the lines of the output, and statuses with their
+//! exit codes.
 #![tactic(auto)]
 
 mod lines;

@@ -1,8 +1,8 @@
 // The source's file, whole.
 
-ghost use Rattle.std.specs.Prelude.{◌≡◌, ◌≤◌, ◌⊎◌, Some, IsTrue, IsNone, IsErrOf, IfOk};
+ghost use Rattle.std.specs.Prelude.{◌≡◌, ◌≤◌, ◌⊎◌, Some, IsTrue, IsErrOf, IfOk, OnOk, alloc_error};
 ghost use Rattle.mw_outside.specs.Count.{Rose};
-ghost use Rattle.mw_outside.specs.Lookup.{file_of};
+ghost use Rattle.mw_outside.specs.Lookup.{file_of, LacksFile};
 ghost use Rattle.mw_console.specs.Reading.{IsFront, IsRest};
 ghost use Rattle.mw_console.specs.declared.source.SourceFault.TheVariants.{Failed, Memory};
 
@@ -40,7 +40,8 @@ impl From<ReadStop> for SourceFault {
     }
 }
 
-/// The bytes of the file of this name, or the first 1,048,577 of them where there are more.
+/// The bytes of the file of this name, or the first 1,048,577 of them where there are more. Where the source
+/// lacks the file or a call on it fails, the answer is `Failed`.
 pub fn file_bytes<S: Source>(
     alloc: Global,
     source: &mut S,
@@ -48,8 +49,12 @@ pub fn file_bytes<S: Source>(
 ) -> Result<Vec<u8>, SourceFault>
     ensures ok { IfOk result (λ bytes. IsTrue S.tells → IsFront (file_of (S.told source.old) name.now) bytes.items) }
     ensures rest { IfOk result (λ _. IsTrue S.tells → IsRest (file_of (S.told source.old) name.now) (S.left source.new)) }
+    ensures missing { LacksFile S.tells (S.told source.old) name.now → IsErrOf result SourceFault.Failed }
     ensures failed { IsErrOf result SourceFault.Failed
-        → Rose (S.faults source.old) (S.faults source.new) ⊎ (IsTrue S.tells × IsNone (file_of (S.told source.old) name.now)) }
+        → Rose (S.faults source.old) (S.faults source.new) ⊎ LacksFile S.tells (S.told source.old) name.now }
+    ensures same_count { OnOk result (S.faults source.new ≡ S.faults source.old) }
+    ensures memory { IsErrOf result (SourceFault.Memory alloc_error) → S.faults source.new ≡ S.faults source.old }
+    ensures same_files { S.told source.new ≡ S.told source.old }
     ensures count { S.faults source.old ≤ S.faults source.new }
 {
     source.start(name)?;

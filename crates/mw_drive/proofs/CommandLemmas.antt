@@ -4,8 +4,7 @@ use Rattle.mw_term.specs.Terms.{PureGroundValue}
 use Rattle.mw_console.specs.Texts.{Ending, answered, trapped, bounded, ending_status}
 use Rattle.mw_meaning.specs.declared.mode.Mode.{Mode}
 use Rattle.mw_meaning.specs.declared.mode.Mode.TheVariants.{Plain, Simple}
-use Rattle.std.specs.Prelude.{codes}
-use Rattle.mw_words.specs.Words.{PureCommand, PurePart, run, erased, sample, IsNumber, Makes, Means, run_command, erased_command, sample_command}
+use Rattle.mw_words.specs.Words.{PureCommand, PurePart, run, erased, sample, IsNumber, Makes, Means, parts_command, sample_command}
 use Rattle.mw_words.proofs.LawLemmas.{one_command}
 use Rattle.mw_console.specs.declared.status.Status.{Status}
 use Rattle.mw_console.specs.declared.status.Status.TheVariants.{Answer, Trap, Refused, Bound, Read, Write, Memory}
@@ -32,13 +31,9 @@ sample_range command n (sample_command h) e = same_number h e
   where
     same_number : {word : List ℕ} {k : ℕ} → IsNumber 100 word k → sample k ≡ sample n → (1 ≤ n) × (n ≤ 100)
     same_number {k = k} h e = let same : k ≡ n = cc in rw (← same) (h.low, h.high)
-sample_range command n (run_command h m) e = absurd (makes_none (subst (Makes (codes "run") _) e m))
+sample_range command n (parts_command {word = word} {parts = parts} h m) e = absurd (makes_none (subst (Makes word parts) e m))
   where
-    makes_none : {parts : List PurePart} → Makes (codes "run") parts (sample n) → ⊥
-    makes_none m = elim m [ ]
-sample_range command n (erased_command h m) e = absurd (makes_none (subst (Makes (codes "erased") _) e m))
-  where
-    makes_none : {parts : List PurePart} → Makes (codes "erased") parts (sample n) → ⊥
+    makes_none : Makes word parts (sample n) → ⊥
     makes_none m = elim m [ ]
 
 no_refusal : {r : _} → Answer ≡ Refused r → ⊥

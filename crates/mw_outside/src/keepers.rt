@@ -14,13 +14,14 @@ pub trait Keeper {
     /// The bytes held: those of the file to be named, before its start as well. A missing file holds none.
     ghost held: { Self → List ℕ };
 
-    /// How often it has failed. The count never falls, and stands in a call that succeeds.
+    /// How often it has failed. The count never falls, and stands in a call that succeeds or only lacked memory.
     ghost faults: { Self → ℕ };
 
     /// Names the file. The bytes held stay.
     fn start(&mut self, name: &str) -> Result<(), KeepFault>
         ensures kept { IsTrue tells → held self.new ≡ held self.old }
         ensures same_count { OnOk result (faults self.new ≡ faults self.old) }
+        ensures memory_count { IsErrOf result (KeepFault.Memory alloc_error) → faults self.new ≡ faults self.old }
         ensures failed { IsErrOf result KeepFault.Failed → Rose (faults self.old) (faults self.new) }
         ensures count { faults self.old ≤ faults self.new };
 
@@ -30,6 +31,7 @@ pub trait Keeper {
         ensures bound { IfOk result (λ bytes. vec_len bytes ≤ most) }
         ensures kept { IsTrue tells → held self.new ≡ held self.old }
         ensures same_count { OnOk result (faults self.new ≡ faults self.old) }
+        ensures memory_count { IsErrOf result (KeepFault.Memory alloc_error) → faults self.new ≡ faults self.old }
         ensures failed { IsErrOf result KeepFault.Failed → Rose (faults self.old) (faults self.new) }
         ensures count { faults self.old ≤ faults self.new };
 
@@ -39,6 +41,7 @@ pub trait Keeper {
         ensures ok { OnOk result (IsTrue tells → held self.new ≡ take length (held self.old)) }
         ensures err { OnErr result (IsTrue tells → held self.new ≡ held self.old) }
         ensures same_count { OnOk result (faults self.new ≡ faults self.old) }
+        ensures memory_count { IsErrOf result (KeepFault.Memory alloc_error) → faults self.new ≡ faults self.old }
         ensures failed { IsErrOf result KeepFault.Failed → Rose (faults self.old) (faults self.new) }
         ensures count { faults self.old ≤ faults self.new };
 
@@ -49,6 +52,7 @@ pub trait Keeper {
         ensures front { OnErr result (IsTrue tells → GrowsByFront (held self.old) (held self.new) bytes.now) }
         ensures memory { IsErrOf result (KeepFault.Memory alloc_error) → IsTrue tells → held self.new ≡ held self.old }
         ensures same_count { OnOk result (faults self.new ≡ faults self.old) }
+        ensures memory_count { IsErrOf result (KeepFault.Memory alloc_error) → faults self.new ≡ faults self.old }
         ensures failed { IsErrOf result KeepFault.Failed → Rose (faults self.old) (faults self.new) }
         ensures count { faults self.old ≤ faults self.new };
 }

@@ -1,6 +1,6 @@
 // Reading a started file to its end, or to a length.
 
-ghost use Rattle.std.specs.Prelude.{◌≡◌, ◌<◌, ◌≤◌, ◌++◌, take, drop, IsTrue, IsErrOf, IfOk, OnOk, vec_len};
+ghost use Rattle.std.specs.Prelude.{◌≡◌, ◌<◌, ◌≤◌, ◌++◌, take, drop, IsTrue, IsErrOf, IfOk, OnOk, vec_len, alloc_error};
 ghost use Rattle.mw_outside.specs.Count.{Rose, IsEndWithin};
 
 use crate::errors::ReadStop;
@@ -12,7 +12,7 @@ const PIECE: usize = 4096;
 
 /// Reads what is left of the started file, or its first `most` bytes where there are more, in memory of
 /// `alloc`. After an error some front of what was left, of at most `most` bytes, has been read and is given
-/// up. A call that fails ends the reading: where the source's count of faults rose, the answer is an error.
+/// up. A call that fails ends the reading: where the source's count of faults rose, the answer is `Failed`.
 pub fn read_up_to<S: Source>(
     alloc: Global,
     source: &mut S,
@@ -26,6 +26,7 @@ pub fn read_up_to<S: Source>(
     ensures bound { IfOk result (λ bytes. vec_len bytes ≤ most) }
     ensures rest { IsTrue S.tells → IsEndWithin most (S.left source.new) (S.left source.old) }
     ensures same_count { OnOk result (S.faults source.new ≡ S.faults source.old) }
+    ensures memory { IsErrOf result (ReadStop.Memory alloc_error) → S.faults source.new ≡ S.faults source.old }
     ensures failed { IsErrOf result ReadStop.Failed → Rose (S.faults source.old) (S.faults source.new) }
     ensures still_ready { S.IsStarted source.new }
     ensures same_files { S.told source.new ≡ S.told source.old }

@@ -1,6 +1,7 @@
 // A source and a sink in memory, with calls that fail by plan.
 
-ghost use Rattle.std.specs.Prelude.{◌≡◌, ◌<◌, ◌≤◌, ◌↔◌, ◌++◌, [], ℕ, length, min, take, true, IsTrue, IsNone, IsErr, IsErrOf, IfOk, OnOk, OnErr, Some};
+ghost use Rattle.std.specs.Prelude.{◌≡◌, ◌<◌, ◌≤◌, ◌↔◌, ◌++◌, [], ℕ, length, min, take, true, IsTrue, Some};
+ghost use Rattle.std.specs.Prelude.{IsNone, IsErr, IsErrOf, IfOk, OnOk, OnErr, alloc_error};
 ghost use Rattle.mw_outside.specs.Lookup.{bytes_at};
 
 use crate::errors::{ReadFault, StartFault, WriteFault};
@@ -184,6 +185,8 @@ impl Sink for MemSink {
         ensures ok { IfOk result (λ count. written_of self.new ≡ written_of self.old ++ take count bytes.now) }
         ensures err { OnErr result (written_of self.new ≡ written_of self.old) }
         ensures same_count { OnOk result (fault_count (sink_plan self.new) ≡ fault_count (sink_plan self.old)) }
+        ensures memory { IsErrOf result (WriteFault.Memory alloc_error)
+            → fault_count (sink_plan self.new) ≡ fault_count (sink_plan self.old) }
         ensures failed { IsErrOf result WriteFault.Failed → Rose (fault_count (sink_plan self.old)) (fault_count (sink_plan self.new)) }
         ensures count { fault_count (sink_plan self.old) ≤ fault_count (sink_plan self.new) }
     {

@@ -1,6 +1,7 @@
 // Where bytes are written.
 
-ghost use Rattle.std.specs.Prelude.{◌≡◌, ◌<◌, ◌≤◌, ◌++◌, ℕ, List, Bool, length, take, IsTrue, IsErrOf, IfOk, OnOk, OnErr};
+ghost use Rattle.std.specs.Prelude.{◌≡◌, ◌<◌, ◌≤◌, ◌++◌, ℕ, List, Bool, length, take, IsTrue, IsErrOf};
+ghost use Rattle.std.specs.Prelude.{IfOk, OnOk, OnErr, alloc_error};
 ghost use Rattle.mw_outside.specs.Count.{Rose};
 
 use crate::errors::WriteFault;
@@ -13,7 +14,7 @@ pub trait Sink {
     /// The bytes written so far.
     ghost written: { Self → List ℕ };
 
-    /// How often it has failed. The count never falls, and stands in a call that succeeds.
+    /// How often it has failed. The count never falls, and stands in a call that succeeds or only lacked memory.
     ghost faults: { Self → ℕ };
 
     /// Writes a front of a piece that isn't empty, and answers how many bytes that is: at least one.
@@ -25,6 +26,7 @@ pub trait Sink {
         ensures ok { IfOk result (λ count. IsTrue tells → written self.new ≡ written self.old ++ take count bytes.now) }
         ensures err { OnErr result (IsTrue tells → written self.new ≡ written self.old) }
         ensures same_count { OnOk result (faults self.new ≡ faults self.old) }
+        ensures memory { IsErrOf result (WriteFault.Memory alloc_error) → faults self.new ≡ faults self.old }
         ensures failed { IsErrOf result WriteFault.Failed → Rose (faults self.old) (faults self.new) }
         ensures count { faults self.old ≤ faults self.new };
 }

@@ -1,14 +1,19 @@
 -- Worked examples of words.
-use Rattle.std.proofs.Common.{◌≡◌, ℕ, List, [], ◌∷◌, length, get_or, codes, refl, sym, ◌∙◌, ap, arith, rules}
-use Rattle.mw_words.specs.Words.{IsFileWord, IsNumber, IsOption, PurePart, PureCommand, fuel, file, Begins, AreParts, Makes, apart, joined, with_workers, with_fuel, with_simplify}
-use Rattle.mw_words.specs.Words.{with_file, no_part, one_more, not_named, named_once, off, on, run_of, erased_of, run_command, erased_command, sample_command}
-use Rattle.mw_words.specs.Examples.{FileAlone, FuelApart, FuelJoined, BothOptions, SimplifyFirst, SimplifyLast, ErasedAlone, ErasedApart, ErasedJoined, ErasedBehind, SampleOfHundred}
-use Rattle.mw_words.specs.Examples.{NoWord, OptionFirst, TwoFiles, TwoDashes, FuelTwice, SimplifyTwice, SimplifyValued, ErasedNoFile, ErasedWorkers, ErasedTwoFiles, ErasedSimplified, ErasedFuelTwice}
-use Rattle.mw_words.proofs.GivenLemmas.{few_simplify}
-use Rattle.mw_words.proofs.LawLemmas.{few_files, few_fuels, no_workers_erased, no_simplify_erased}
-use Rattle.mw_words.proofs.OptionLemmas.{no_file}
-use Rattle.mw_words.proofs.PartLemmas.{no_part_first}
-use Rattle.mw_words.proofs.Passing.{here, stuck_is_none, no_run, no_erased, these_make_none}
+use Rattle.std.proofs.Common.{◌≡◌, ℕ, List, [], ◌∷◌, Some, None, codes, refl, arith}
+use Rattle.std.proofs.Common.{rules}
+use Rattle.mw_words.specs.Words.{IsFileWord, IsNumber, PurePart, option, file, Begins, AreParts}
+use Rattle.mw_words.specs.Words.{apart, joined, valued, alone, filed}
+use Rattle.mw_words.specs.Words.{no_part, one_more, not_named, named_once, off, on, run_of, erased_of, parts_command}
+use Rattle.mw_words.specs.Words.{sample_command}
+use Rattle.mw_words.specs.Examples.{FileAlone, FuelApart, FuelJoined, BothOptions, SimplifyFirst, SimplifyLast}
+use Rattle.mw_words.specs.Examples.{ErasedAlone, ErasedApart, ErasedJoined, ErasedBehind, SampleOfHundred}
+use Rattle.mw_words.specs.Examples.{NoWord, OptionFirst, TwoFiles, TwoDashes, FuelTwice, SimplifyTwice, SimplifyValued}
+use Rattle.mw_words.specs.Examples.{ErasedNoFile, ErasedWorkers, ErasedTwoFiles, ErasedSimplified, ErasedFuelTwice}
+use Rattle.mw_words.proofs.OptionLemmas.{no_equal}
+use Rattle.mw_words.proofs.PartLemmas.{no_file, no_option_begins}
+use Rattle.mw_words.proofs.Passing.{here, stuck_is_none}
+use Rattle.mw_words.proofs.Usage.{run_is_other, erased_is_other, no_command, these_make_none, fuel_once, simplify_once}
+use Rattle.mw_words.proofs.Usage.{one_file_only, no_file_none, only_fuel}
 
 f_named : IsFileWord (codes "f")
 f_named = omega arith
@@ -19,12 +24,6 @@ g_named = omega arith
 eight : IsNumber 10000000 (codes "8") 8
 eight = record { digits = search rules; few = omega arith; value = refl; low = omega arith; high = omega arith }
 
-seven : IsNumber 10000000 (codes "7") 7
-seven = record { digits = search rules; few = omega arith; value = refl; low = omega arith; high = omega arith }
-
-two : IsNumber 64 (codes "2") 2
-two = record { digits = search rules; few = omega arith; value = refl; low = omega arith; high = omega arith }
-
 most_fuel : IsNumber 10000000 (codes "10000000") 10000000
 most_fuel = record { digits = search rules; few = omega arith; value = refl; low = omega arith; high = omega arith }
 
@@ -34,44 +33,64 @@ most_workers = record { digits = search rules; few = omega arith; value = refl; 
 hundred : IsNumber 100 (codes "100") 100
 hundred = record { digits = search rules; few = omega arith; value = refl; low = omega arith; high = omega arith }
 
+-- the parts of the words, one by one
+then_file : {name : List ℕ} {rest : List (List ℕ)} {parts : List PurePart} → IsFileWord name → AreParts rest parts
+    → AreParts (name ∷ rest) (file name ∷ parts)
+then_file h more = one_more (filed h) more
+
+fuel_apart_first : (value : List ℕ) {rest : List (List ℕ)} {parts : List PurePart} → AreParts rest parts
+    → AreParts (codes "--fuel" ∷ value ∷ rest) (option (codes "--fuel") (Some value) ∷ parts)
+fuel_apart_first value more = one_more (valued refl (apart refl)) more
+
+simplify_first_of : {rest : List (List ℕ)} {parts : List PurePart} → AreParts rest parts
+    → AreParts (codes "--simplify" ∷ rest) (option (codes "--simplify") None ∷ parts)
+simplify_first_of more = one_more (alone refl) more
+
 pub file_alone : FileAlone
-file_alone = run_command (one_more (with_file f_named) no_part) (run_of not_named not_named off refl)
+file_alone = parts_command (then_file f_named no_part) (run_of refl (not_named refl) (not_named refl) (off refl) refl)
 
 pub fuel_apart : FuelApart
-fuel_apart = run_command (one_more (with_fuel (apart refl) eight) (one_more (with_file f_named) no_part)) (run_of not_named named_once off refl)
+fuel_apart = parts_command (fuel_apart_first (codes "8") (then_file f_named no_part)) (run_of refl (not_named refl)
+    (named_once refl eight) (off refl) refl)
 
 pub fuel_joined : FuelJoined
-fuel_joined = run_command (one_more (with_fuel (joined {value = codes "8"} refl) eight) (one_more (with_file f_named) no_part))
-    (run_of not_named named_once off refl)
+fuel_joined = parts_command (one_more (valued {name = codes "--fuel"} refl (joined {value = codes "8"} refl))
+    (then_file f_named no_part))
+    (run_of refl (not_named refl) (named_once refl eight) (off refl) refl)
 
 pub both_options : BothOptions
 both_options =
-    run_command
-    (one_more (with_fuel (joined {value = codes "10000000"} refl) most_fuel)
-    (one_more (with_file f_named) (one_more (with_workers (apart refl) most_workers) no_part)))
-    (run_of named_once named_once off refl)
+    parts_command
+    (one_more (valued {name = codes "--fuel"} refl (joined {value = codes "10000000"} refl))
+    (then_file f_named (one_more (valued {name = codes "--workers"} refl (apart refl)) no_part)))
+    (run_of refl (named_once refl most_workers) (named_once refl most_fuel) (off refl) refl)
 
 pub simplify_first : SimplifyFirst
-simplify_first = run_command (one_more (with_simplify refl) (one_more (with_file f_named) no_part)) (run_of not_named not_named on refl)
+simplify_first = parts_command (simplify_first_of (then_file f_named no_part)) (run_of refl (not_named refl)
+    (not_named refl) (on refl) refl)
 
 pub simplify_last : SimplifyLast
 simplify_last =
-    run_command
-    (one_more (with_file f_named) (one_more (with_fuel (joined {value = codes "8"} refl) eight) (one_more (with_simplify refl) no_part)))
-    (run_of not_named named_once on refl)
+    parts_command
+    (then_file f_named (one_more (valued {name = codes "--fuel"} refl (joined {value = codes "8"} refl))
+    (simplify_first_of no_part)))
+    (run_of refl (not_named refl) (named_once refl eight) (on refl) refl)
 
 pub erased_alone : ErasedAlone
-erased_alone = erased_command (one_more (with_file f_named) no_part) (erased_of refl not_named refl refl)
+erased_alone = parts_command (then_file f_named no_part) (erased_of refl (not_named refl) refl)
 
 pub erased_apart : ErasedApart
-erased_apart = erased_command (one_more (with_fuel (apart refl) eight) (one_more (with_file f_named) no_part)) (erased_of refl named_once refl refl)
+erased_apart = parts_command (fuel_apart_first (codes "8") (then_file f_named no_part)) (erased_of refl
+    (named_once refl eight) refl)
 
 pub erased_joined : ErasedJoined
-erased_joined = erased_command (one_more (with_fuel (joined {value = codes "8"} refl) eight) (one_more (with_file f_named) no_part))
-    (erased_of refl named_once refl refl)
+erased_joined = parts_command (one_more (valued {name = codes "--fuel"} refl (joined {value = codes "8"} refl))
+    (then_file f_named no_part))
+    (erased_of refl (named_once refl eight) refl)
 
 pub erased_behind : ErasedBehind
-erased_behind = erased_command (one_more (with_file f_named) (one_more (with_fuel (apart refl) eight) no_part)) (erased_of refl named_once refl refl)
+erased_behind = parts_command (then_file f_named (fuel_apart_first (codes "8") no_part)) (erased_of refl
+    (named_once refl eight) refl)
 
 pub sample_of_hundred : SampleOfHundred
 sample_of_hundred = sample_command hundred
@@ -80,77 +99,59 @@ pub no_word : NoWord
 no_word c h = elim h [ ]
 
 pub option_first : OptionFirst
-option_first c h = elim h [ ]
+option_first c (parts_command h m) = elim m [ ]
 
 pub two_files : TwoFiles
-two_files = no_run (these_make_none (codes "run") (one_more (with_file f_named) (one_more (with_file g_named) no_part))
-    (λ c makes. let few = few_files makes in absurd (omega arith)))
+two_files = no_command run_is_other (these_make_none (codes "run") (then_file f_named (then_file g_named no_part))
+    (λ c makes. one_file_only makes (omega arith)))
 
--- no word of an option has its third byte
-third_workers : {word v : List ℕ} {rest r : List (List ℕ)} → (get_or word 2 0 ≡ 119 → ⊥) → IsOption (codes "--workers") (word ∷ rest) v r → ⊥
-third_workers other (apart e) = other (ap (λ (t : List ℕ). get_or t 2 0) e)
-third_workers other (joined e) = other (ap (λ (t : List ℕ). get_or t 2 0) e)
-
-third_fuel : {word v : List ℕ} {rest r : List (List ℕ)} → (get_or word 2 0 ≡ 102 → ⊥) → IsOption (codes "--fuel") (word ∷ rest) v r → ⊥
-third_fuel other (apart e) = other (ap (λ (t : List ℕ). get_or t 2 0) e)
-third_fuel other (joined e) = other (ap (λ (t : List ℕ). get_or t 2 0) e)
-
--- a word that begins with `--`, whose third byte is neither `w` nor `f`, and that isn't simplification's, begins no part
-no_known_option : {rest s : List (List ℕ)} {p : PurePart} (word left : List ℕ) → word ≡ 45 ∷ left → (get_or word 2 0 ≡ 119 → ⊥) → (get_or word 2 0 ≡ 102 → ⊥)
-    → (word ≡ codes "--simplify" → ⊥) → Begins (word ∷ rest) p s → ⊥
-no_known_option word left dash w f s begins =
-    no_part_first (λ v r h. third_workers w h) (λ v r h. third_fuel f h) (λ v r e h. let same : v ≡ word = cc in s (sym same ∙ h))
-    (λ v r e h. let same : v ≡ word = cc in no_file v left h (same ∙ dash)) begins
+-- a word that is no option's, and names no file
+stuck : {words : List (List ℕ)} {parts : List PurePart} → (words ≡ [] → ⊥)
+    → ((part : PurePart) (rest : List (List ℕ)) → Begins words part rest → ⊥) → AreParts words parts → ⊥
+stuck some none whole = stuck_is_none here some none _ whole
 
 pub two_dashes : TwoDashes
-two_dashes =
-    no_run
-    (λ parts whole. absurd (stuck_is_none here (λ e. cc)
-    (λ part rest begins.
-    no_known_option (codes "--") (45 ∷ []) refl (λ e. omega (arith, e)) (λ e. omega (arith, e)) (λ e. omega (arith, ap (λ (t : List ℕ). length t) e)) begins) parts whole))
+two_dashes = no_command run_is_other
+    (λ parts whole c makes. stuck (λ e. cc) (no_option_begins _ (codes "f" ∷ []) (codes "--") (codes "--") None refl
+    (no_file (codes "--") (codes "-") refl) (refl, no_equal (codes "--") refl) refl) whole)
 
-fuel_file_fuel : AreParts (codes "--fuel=7" ∷ codes "f" ∷ codes "--fuel" ∷ codes "7" ∷ []) (fuel 7 ∷ file (codes "f") ∷ fuel 7 ∷ [])
-fuel_file_fuel =
-    one_more (with_fuel (joined {value = codes "7"} refl) seven) (one_more (with_file f_named) (one_more (with_fuel (apart refl) seven) no_part))
+fuel_file_fuel : AreParts (codes "--fuel=7" ∷ codes "f" ∷ codes "--fuel" ∷ codes "7" ∷ [])
+    (option (codes "--fuel") (Some (codes "7")) ∷ file (codes "f") ∷ option (codes "--fuel") (Some (codes "7")) ∷ [])
+fuel_file_fuel = one_more (valued {name = codes "--fuel"} refl (joined {value = codes "7"} refl)) (then_file f_named
+    (fuel_apart_first (codes "7") no_part))
 
 pub fuel_twice : FuelTwice
-fuel_twice =
-    no_run
-    (these_make_none (codes "run") fuel_file_fuel (λ c makes. let few = few_fuels makes in absurd (omega arith)))
+fuel_twice = no_command run_is_other (these_make_none (codes "run") fuel_file_fuel (λ c makes. fuel_once makes
+    (omega arith)))
 
 pub simplify_twice : SimplifyTwice
-simplify_twice =
-    no_run
-    (these_make_none (codes "run") (one_more (with_simplify refl) (one_more (with_file f_named) (one_more (with_simplify refl) no_part)))
-    (λ c makes. let few = few_simplify makes in absurd (omega arith)))
+simplify_twice = no_command run_is_other
+    (these_make_none (codes "run") (simplify_first_of (then_file f_named (simplify_first_of no_part)))
+    (λ c makes. simplify_once makes (omega arith)))
 
 pub simplify_valued : SimplifyValued
-simplify_valued =
-    no_run
-    (λ parts whole. absurd (stuck_is_none here (λ e. cc)
-    (λ part rest begins.
-    no_known_option (codes "--simplify=1") (codes "-simplify=1") refl (λ e. omega (arith, e)) (λ e. omega (arith, e)) (λ e. omega (arith, ap (λ (t : List ℕ). length t) e))
-    begins) parts whole))
+simplify_valued = no_command run_is_other
+    (λ parts whole c makes. stuck (λ e. cc) (no_option_begins _ (codes "f" ∷ []) (codes "--simplify=1")
+    (codes "--simplify") (Some (codes "1")) refl
+    (no_file (codes "--simplify=1") (codes "-simplify=1") refl) (refl, no_equal (codes "--simplify") refl) refl) whole)
 
 pub erased_no_file : ErasedNoFile
-erased_no_file = no_erased (these_make_none (codes "erased") no_part (λ c makes. no_file_made makes))
-  where
-    no_file_made : {c : PureCommand} → Makes (codes "erased") [] c → ⊥
-    no_file_made (erased_of w u s n) = cc
+erased_no_file = no_command erased_is_other (these_make_none (codes "erased") no_part (λ c makes. no_file_none makes
+    (omega arith)))
 
 pub erased_workers : ErasedWorkers
-erased_workers = no_erased (these_make_none (codes "erased") (one_more (with_workers (apart refl) two) (one_more (with_file f_named) no_part))
-    (λ c makes. let none : 2 ∷ [] ≡ [] = no_workers_erased makes in cc))
+erased_workers = no_command erased_is_other (these_make_none (codes "erased") (one_more (valued {name =
+    codes "--workers"} refl (apart {value = codes "2"} refl)) (then_file f_named no_part))
+    (λ c makes. let none = only_fuel makes in cc))
 
 pub erased_two_files : ErasedTwoFiles
-erased_two_files = no_erased (these_make_none (codes "erased") (one_more (with_file f_named) (one_more (with_file g_named) no_part))
-    (λ c makes. let few = few_files makes in absurd (omega arith)))
+erased_two_files = no_command erased_is_other (these_make_none (codes "erased") (then_file f_named
+    (then_file g_named no_part)) (λ c makes. one_file_only makes (omega arith)))
 
 pub erased_simplified : ErasedSimplified
-erased_simplified = no_erased (these_make_none (codes "erased") (one_more (with_simplify refl) (one_more (with_file f_named) no_part))
-    (λ c makes. let none : ◌≡◌ {A = ℕ} 1 0 = no_simplify_erased makes in absurd (omega arith)))
+erased_simplified = no_command erased_is_other (these_make_none (codes "erased") (simplify_first_of
+    (then_file f_named no_part)) (λ c makes. let none = only_fuel makes in cc))
 
 pub erased_fuel_twice : ErasedFuelTwice
-erased_fuel_twice =
-    no_erased
-    (these_make_none (codes "erased") fuel_file_fuel (λ c makes. let few = few_fuels makes in absurd (omega arith)))
+erased_fuel_twice = no_command erased_is_other (these_make_none (codes "erased") fuel_file_fuel
+    (λ c makes. fuel_once makes (omega arith)))

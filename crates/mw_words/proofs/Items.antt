@@ -1,8 +1,8 @@
 -- The first items of a list, and texts after a prefix.
-use Rattle.std.proofs.Common.{◌≡◌, ℕ, ◌≤◌, ◌<◌, List, [], ◌∷◌, ◌++◌, Option, Some, None, length, get_or, map, refl, arith}
-use Rattle.std.specs.Option.{IfNone}
+use Rattle.std.proofs.Common.{◌≡◌, ℕ, ◌≤◌, ◌<◌, List, [], ◌∷◌, Option, Some, None, length, get_or, map, true}
+use Rattle.std.proofs.Common.{false, refl, arith}
+use Rattle.std.specs.Option.{IfNone, is_some, option_map, option_to_list}
 use Rattle.std.specs.Prelude.{Result, Ok, Err, IfOk, IfErr}
-use Rattle.std.specs.Str.Pattern.{FindsTextPrefix, StripsPrefix}
 
 -- a list of no item
 pub no_item : {A : Type 0} (xs : List A) → length xs < 1 → xs ≡ []
@@ -15,14 +15,24 @@ some_text f [] low e = absurd (omega arith)
 some_text f (x ∷ xs) low e = cc
 
 -- a list of one item
-pub one_item : {A B : Type 0} (f : A → B) (xs : List A) (a : A) → 1 ≤ length xs → length xs < 2 → a ≡ get_or xs 0 a → map f xs ≡ f a ∷ []
+pub one_item : {A B : Type 0} (f : A → B) (xs : List A) (a : A) → 1 ≤ length xs → length xs < 2 → a ≡ get_or xs 0 a
+    → map f xs ≡ f a ∷ []
 one_item f [] a low high p = absurd (omega arith)
 one_item f (x ∷ []) a low high p = cc
 one_item f (x ∷ y ∷ xs) a low high p = absurd (omega arith)
 
--- a text with a prefix is the prefix and what is left
-pub with_prefix : (p s x : List ℕ) → StripsPrefix (FindsTextPrefix p) s x → s ≡ p ++ x
-with_prefix p s x (n, found, left, fits) = rw left found.1
+pub first_same : {a b : List ℕ} {xs ys : List (List ℕ)} → a ∷ xs ≡ b ∷ ys → a ≡ b
+first_same e = cc
+
+-- nothing was found, or something
+pub none_listed : {A B : Type 0} (f : A → B) (o : Option A) → is_some o ≡ false → option_to_list (option_map f o) ≡ []
+none_listed f None e = refl
+none_listed f (Some x) e = cc
+
+pub some_listed : {A B : Type 0} (f : A → B) (o : Option A) → is_some o ≡ true
+    → 1 ≤ length (option_to_list (option_map f o))
+some_listed f None e = cc
+some_listed f (Some x) e = omega arith
 
 -- what holds of an answer, and what follows from it
 pub on_none : {T : Type 0} (o : Option T) (P : Type 0) → P → IfNone o P

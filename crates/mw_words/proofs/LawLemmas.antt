@@ -1,30 +1,53 @@
 -- Words mean one command at most, and options and files may stand in any order.
-use Rattle.std.proofs.Common.{◌≡◌, ℕ, ◌+◌, ◌≤◌, Bool, List, [], ◌∷◌, ◌++◌, codes, length, refl, sym, ◌∙◌, ap, subst, arith, length-append}
-use Rattle.mw_words.specs.Words.{apart, joined, IsGiven, not_named, named_once, IsSwitched, off, on, PurePart, workers, fuel, simplify, file, workers_in}
-use Rattle.mw_words.specs.Words.{fuels_in, files_in, times_simplify, PureCommand, sample, Makes, run_of, erased_of, run_command, erased_command, sample_command}
+use Rattle.std.proofs.Common.{◌≡◌, ℕ, ◌≤◌, Bool, not, List, [], ◌∷◌, ◌++◌, Some, None, codes, length, refl, sym, ◌∙◌}
+use Rattle.std.proofs.Common.{ap, subst, arith}
+use Rattle.mw_words.specs.Words.{apart, joined, PurePart, is_named, is_taken, parts_named, HaveOnly, IsNumberOf}
+use Rattle.mw_words.specs.Words.{not_named, named_once, IsSwitchOf, off, on, IsFileOf}
+use Rattle.mw_words.specs.Words.{PureCommand, sample, Makes, run_of, erased_of, parts_command, sample_command}
 use Rattle.mw_words.specs.WordLaws.{OneCommand, EitherForm, AnyOrder}
 use Rattle.mw_words.proofs.OptionLemmas.{one_value}
 use Rattle.mw_words.proofs.PartLemmas.{same_number}
 use Rattle.mw_words.proofs.Passing.{same_parts}
-use Rattle.mw_words.proofs.GivenLemmas.{workers_append, fuels_append, files_append, times_append, few_simplify}
+use Rattle.mw_words.proofs.Picking.{swapped}
 
-one_given : {default m n : ℕ} {xs : List ℕ} → IsGiven default xs m → IsGiven default xs n → m ≡ n
-one_given not_named not_named = refl
-one_given named_once named_once = refl
+one_number : {name : List ℕ} {most default m n : ℕ} {parts : List PurePart} → IsNumberOf name most default parts m
+    → IsNumberOf name most default parts n → m ≡ n
+one_number (not_named e) (not_named f) = refl
+one_number (not_named e) (named_once f k) = let no = sym e ∙ f in cc
+one_number (named_once e h) (not_named f) = let no = sym f ∙ e in cc
+one_number (named_once {word = v} e h) (named_once {word = w} f k) = let same = sym e ∙ f in let word : v ≡ w = cc in
+    same_number word h k
 
-one_switch : {n : ℕ} {a b : Bool} → IsSwitched n a → IsSwitched n b → a ≡ b
-one_switch off off = refl
-one_switch on on = refl
+one_switch : {name : List ℕ} {parts : List PurePart} {a b : Bool} → IsSwitchOf name parts a → IsSwitchOf name parts b
+    → a ≡ b
+one_switch (off e) (off f) = refl
+one_switch (off e) (on f) = let no = sym e ∙ f in cc
+one_switch (on e) (off f) = let no = sym f ∙ e in cc
+one_switch (on e) (on f) = refl
 
-same_made : {word : List ℕ} {parts : List PurePart} {a b : PureCommand} → Makes word parts a → Makes word parts b → a ≡ b
-same_made (run_of w u s n) (run_of w' u' s' n') = let workers_same = one_given w w' in let fuels_same = one_given u u' in let switches_same = one_switch s s' in cc
-same_made (erased_of w u s n) (erased_of w' u' s' n') = let fuels_same = one_given u u' in cc
+one_file : (parts : List PurePart) (a b : List ℕ) → IsFileOf parts a → IsFileOf parts b → a ≡ b
+one_file parts a b e f = let same = sym e ∙ f in cc
+
+same_made : {word : List ℕ} {parts : List PurePart} {a b : PureCommand} → Makes word parts a → Makes word parts b
+    → a ≡ b
+same_made {parts = parts} (run_of {name = a} o w u s f) (run_of {name = b} o' w' u' s' f') =
+    let workers_same = one_number w w' in
+    let fuels_same = one_number u u' in
+    let switches_same = one_switch s s' in
+    let files_same = one_file parts a b f f' in
+    cc
+same_made {parts = parts} (erased_of {name = a} o u f) (erased_of {name = b} o' u' f') = let fuels_same =
+    one_number u u' in let files_same = one_file parts a b f f' in cc
+
+-- a sample has no parts
+pub no_sample_parts : {parts : List PurePart} {c : PureCommand} → Makes (codes "sample") parts c → ⊥
+no_sample_parts m = elim m [ ]
 
 pub one_command : OneCommand
-one_command words a b (run_command h m) (run_command h' m') =
-    same_made m (subst (λ (ps : List PurePart). Makes (codes "run") ps b) (sym (same_parts h h')) m')
-one_command words a b (erased_command h m) (erased_command h' m') =
-    same_made m (subst (λ (ps : List PurePart). Makes (codes "erased") ps b) (sym (same_parts h h')) m')
+one_command words a b (parts_command {word = word} h m) (parts_command h' m') =
+    same_made m (subst (λ (ps : List PurePart). Makes word ps b) (sym (same_parts h h')) m')
+one_command words a b (parts_command h m) (sample_command n) = absurd (no_sample_parts m)
+one_command words a b (sample_command n) (parts_command h m) = absurd (no_sample_parts m)
 one_command words a b (sample_command n) (sample_command n') = ap sample (same_number refl n n')
 
 pub either_form : EitherForm
@@ -33,86 +56,56 @@ either_form name value v rest r = (
   (λ h. let same = one_value h (joined refl) in rw (same.0, same.1) (apart refl)),
 )
 
--- one number at most is given
-at_most_one : {default n : ℕ} {xs : List ℕ} → IsGiven default xs n → length xs ≤ 1
-at_most_one not_named = omega arith
-at_most_one named_once = omega arith
+-- lists of which the same parts have a name make the same number, switch and file
+number_too : {name : List ℕ} {most default n : ℕ} {ps qs : List PurePart}
+    → parts_named (Some name) ps ≡ parts_named (Some name) qs
+    → IsNumberOf name most default ps n → IsNumberOf name most default qs n
+number_too e (not_named f) = not_named (sym e ∙ f)
+number_too e (named_once f h) = named_once (sym e ∙ f) h
 
--- lists that hold the same of each kind make the same command
-made_too : {word : List ℕ} {ps qs : List PurePart} {c : PureCommand} → workers_in ps ≡ workers_in qs → fuels_in ps ≡ fuels_in qs
-    → times_simplify ps ≡ times_simplify qs → files_in ps ≡ files_in qs → Makes word ps c → Makes word qs c
-made_too e f t g (run_of w u s n) = run_of (rw e at w) (rw f at u) (rw t at s) (sym g ∙ n)
-made_too e f t g (erased_of w u s n) = erased_of (sym e ∙ w) (rw f at u) (sym t ∙ s) (sym g ∙ n)
+switch_too : {name : List ℕ} {b : Bool} {ps qs : List PurePart}
+    → parts_named (Some name) ps ≡ parts_named (Some name) qs
+    → IsSwitchOf name ps b → IsSwitchOf name qs b
+switch_too e (off f) = off (sym e ∙ f)
+switch_too e (on f) = on (sym e ∙ f)
 
--- of each kind, one at most makes a command
-few_workers : {word : List ℕ} {ps : List PurePart} {c : PureCommand} → Makes word ps c → length (workers_in ps) ≤ 1
-few_workers (run_of w u s n) = at_most_one w
-few_workers (erased_of w u s n) = rw w (omega arith)
+-- a number, a switch and a file are of one part at most
+pub few_number : {name : List ℕ} {most default n : ℕ} {parts : List PurePart} → IsNumberOf name most default parts n
+    → length (parts_named (Some name) parts) ≤ 1
+few_number (not_named e) = rw e (omega arith)
+few_number (named_once e h) = rw e (omega arith)
 
-pub few_fuels : {word : List ℕ} {ps : List PurePart} {c : PureCommand} → Makes word ps c → length (fuels_in ps) ≤ 1
-few_fuels (run_of w u s n) = at_most_one u
-few_fuels (erased_of w u s n) = at_most_one u
+pub few_switch : {name : List ℕ} {b : Bool} {parts : List PurePart} → IsSwitchOf name parts b
+    → length (parts_named (Some name) parts) ≤ 1
+few_switch (off e) = rw e (omega arith)
+few_switch (on e) = rw e (omega arith)
 
-pub few_files : {word : List ℕ} {ps : List PurePart} {c : PureCommand} → Makes word ps c → length (files_in ps) ≤ 1
-few_files (run_of w u s n) = rw n (omega arith)
-few_files (erased_of w u s n) = rw n (omega arith)
+few_file : (parts : List PurePart) (name : List ℕ) → IsFileOf parts name → length (parts_named None parts) ≤ 1
+few_file parts name e = rw e (omega arith)
 
--- an erased program has neither a number of workers nor simplification
-pub no_workers_erased : {ps : List PurePart} {c : PureCommand} → Makes (codes "erased") ps c → workers_in ps ≡ []
-no_workers_erased (erased_of w u s n) = w
+module _ (before after : List PurePart) (p q : PurePart) where
+  number_swapped : {name : List ℕ} {most default n : ℕ} → IsNumberOf name most default (before ++ p ∷ q ∷ after) n
+      → IsNumberOf name most default (before ++ q ∷ p ∷ after) n
+  number_swapped {name = name} h = number_too (swapped (is_named (Some name)) before after p q (few_number h)) h
 
-pub no_simplify_erased : {ps : List PurePart} {c : PureCommand} → Makes (codes "erased") ps c → times_simplify ps ≡ 0
-no_simplify_erased (erased_of w u s n) = s
+  switch_swapped : {name : List ℕ} {b : Bool} → IsSwitchOf name (before ++ p ∷ q ∷ after) b
+      → IsSwitchOf name (before ++ q ∷ p ∷ after) b
+  switch_swapped {name = name} h = switch_too (swapped (is_named (Some name)) before after p q (few_switch h)) h
 
--- so two of a kind make none
-longer : {A : Type 0} (all xs ys : List A) (a b : A) → all ≡ xs ++ a ∷ b ∷ ys → length all ≤ 1 → ⊥
-longer {A = A} all xs ys a b e few = omega (arith, ap (λ (l : List A). length l) e, length-append xs (a ∷ b ∷ ys))
+  file_swapped : (name : List ℕ) → IsFileOf (before ++ p ∷ q ∷ after) name → IsFileOf (before ++ q ∷ p ∷ after) name
+  file_swapped name h = sym (swapped (is_named None) before after p q (few_file (before ++ p ∷ q ∷ after) name h)) ∙ h
 
-module _ (word : List ℕ) where
-  workers_beside : (before after : List PurePart) (m n : ℕ) (c : PureCommand) → Makes word (before ++ workers m ∷ workers n ∷ after) c → ⊥
-  workers_beside before after m n c h = longer _ (workers_in before) (workers_in after) m n (workers_append before (workers m ∷ workers n ∷ after))
-      (few_workers h)
+  only_swapped : (names : List (List ℕ)) → HaveOnly names (before ++ p ∷ q ∷ after)
+      → HaveOnly names (before ++ q ∷ p ∷ after)
+  only_swapped names h = sym (swapped (λ part. not (is_taken names part)) before after p q (rw h (omega arith))) ∙ h
 
-  fuels_beside : (before after : List PurePart) (m n : ℕ) (c : PureCommand) → Makes word (before ++ fuel m ∷ fuel n ∷ after) c → ⊥
-  fuels_beside before after m n c h = longer _ (fuels_in before) (fuels_in after) m n (fuels_append before (fuel m ∷ fuel n ∷ after)) (few_fuels h)
-
-  files_beside : (before after : List PurePart) (m n : List ℕ) (c : PureCommand) → Makes word (before ++ file m ∷ file n ∷ after) c → ⊥
-  files_beside before after m n c h = longer _ (files_in before) (files_in after) m n (files_append before (file m ∷ file n ∷ after)) (few_files h)
-
-  simplify_beside : (before after : List PurePart) (c : PureCommand) → Makes word (before ++ simplify ∷ simplify ∷ after) c → ⊥
-  simplify_beside before after c h = omega (arith, times_append before (simplify ∷ simplify ∷ after), few_simplify h)
-
-  -- two parts of different kinds, in either order
-  swapped : (before after : List PurePart) (p q : PurePart) (c : PureCommand)
-      → workers_in (p ∷ q ∷ after) ≡ workers_in (q ∷ p ∷ after) → fuels_in (p ∷ q ∷ after) ≡ fuels_in (q ∷ p ∷ after)
-      → times_simplify (p ∷ q ∷ after) ≡ times_simplify (q ∷ p ∷ after) → files_in (p ∷ q ∷ after) ≡ files_in (q ∷ p ∷ after)
-      → Makes word (before ++ p ∷ q ∷ after) c → Makes word (before ++ q ∷ p ∷ after) c
-  swapped before after p q c e f t g =
-      let one = p ∷ q ∷ after in
-      let other = q ∷ p ∷ after in
-      made_too
-      (workers_append before one ∙ (ap (λ l. workers_in before ++ l) e ∙ sym (workers_append before other)))
-      (fuels_append before one ∙ (ap (λ l. fuels_in before ++ l) f ∙ sym (fuels_append before other)))
-      (times_append before one ∙ (ap (λ n. times_simplify before + n) t ∙ sym (times_append before other)))
-      (files_append before one ∙ (ap (λ l. files_in before ++ l) g ∙ sym (files_append before other)))
-
-  in_other_order : (before after : List PurePart) (p q : PurePart) (c : PureCommand) → Makes word (before ++ p ∷ q ∷ after) c → Makes word (before ++ q ∷ p ∷ after) c
-  in_other_order before after (workers m) (workers n) c h = absurd (workers_beside before after m n c h)
-  in_other_order before after (workers m) (fuel n) c h = swapped before after (workers m) (fuel n) c refl refl refl refl h
-  in_other_order before after (workers m) simplify c h = swapped before after (workers m) simplify c refl refl refl refl h
-  in_other_order before after (workers m) (file n) c h = swapped before after (workers m) (file n) c refl refl refl refl h
-  in_other_order before after (fuel m) (workers n) c h = swapped before after (fuel m) (workers n) c refl refl refl refl h
-  in_other_order before after (fuel m) (fuel n) c h = absurd (fuels_beside before after m n c h)
-  in_other_order before after (fuel m) simplify c h = swapped before after (fuel m) simplify c refl refl refl refl h
-  in_other_order before after (fuel m) (file n) c h = swapped before after (fuel m) (file n) c refl refl refl refl h
-  in_other_order before after simplify (workers n) c h = swapped before after simplify (workers n) c refl refl refl refl h
-  in_other_order before after simplify (fuel n) c h = swapped before after simplify (fuel n) c refl refl refl refl h
-  in_other_order before after simplify simplify c h = absurd (simplify_beside before after c h)
-  in_other_order before after simplify (file n) c h = swapped before after simplify (file n) c refl refl refl refl h
-  in_other_order before after (file m) (workers n) c h = swapped before after (file m) (workers n) c refl refl refl refl h
-  in_other_order before after (file m) (fuel n) c h = swapped before after (file m) (fuel n) c refl refl refl refl h
-  in_other_order before after (file m) simplify c h = swapped before after (file m) simplify c refl refl refl refl h
-  in_other_order before after (file m) (file n) c h = absurd (files_beside before after m n c h)
+  in_other_order : {word : List ℕ} {c : PureCommand} → Makes word (before ++ p ∷ q ∷ after) c
+      → Makes word (before ++ q ∷ p ∷ after) c
+  in_other_order (run_of {name = name} o w u s f) = run_of (only_swapped
+      (codes "--workers" ∷ codes "--fuel" ∷ codes "--simplify" ∷ []) o) (number_swapped w) (number_swapped u)
+      (switch_swapped s) (file_swapped name f)
+  in_other_order (erased_of {name = name} o u f) = erased_of (only_swapped (codes "--fuel" ∷ []) o) (number_swapped u)
+      (file_swapped name f)
 
 pub any_order : AnyOrder
-any_order word before after p q c = (in_other_order word before after p q c, in_other_order word before after q p c)
+any_order word before after p q c = (in_other_order before after p q, in_other_order before after q p)

@@ -1,7 +1,8 @@
 pub mod ExampleLemmas
-pub mod GivenLemmas
 pub mod Items
 pub mod LawLemmas
 pub mod OptionLemmas
 pub mod PartLemmas
 pub mod Passing
+pub mod Picking
+pub mod Usage

@@ -1,18 +1,18 @@
 -- Parts that have been read, and those that are left.
-use Rattle.std.proofs.Common.{◌≡◌, ℕ, List, [], ◌∷◌, ◌++◌, codes, refl, sym, ◌∙◌, ap, subst}
-use Rattle.mw_words.specs.Gathered.{MakesNone}
-use Rattle.mw_words.specs.Words.{PurePart, Begins, with_workers, with_fuel, AreParts, no_part, one_more, Makes, run_command, erased_command, IsUsage}
-use Rattle.mw_words.proofs.OptionLemmas.{none_first}
-use Rattle.mw_words.proofs.PartLemmas.{one_part}
+use Rattle.std.proofs.Common.{◌≡◌, ℕ, List, [], ◌∷◌, ◌++◌, refl, sym, ◌∙◌, ap, subst}
+use Rattle.mw_words.specs.Words.{PurePart, Begins, AreParts, no_part, one_more}
+use Rattle.mw_words.proofs.PartLemmas.{one_part, nothing_begins}
 
 -- the words are the parts, and then the rest
 pub data Passes : List (List ℕ) → List PurePart → List (List ℕ) → Type 0 where
   here : {words : List (List ℕ)} → Passes words [] words
-  further : {words rest last : List (List ℕ)} {part : PurePart} {parts : List PurePart} → Begins words part rest → Passes rest parts last
+  further : {words rest last : List (List ℕ)} {part : PurePart} {parts : List PurePart} → Begins words part rest
+      → Passes rest parts last
       → Passes words (part ∷ parts) last
 
 -- one part more
-pub passes_more : {words rest last : List (List ℕ)} {part : PurePart} {parts : List PurePart} → Passes words parts rest → Begins rest part last
+pub passes_more : {words rest last : List (List ℕ)} {part : PurePart} {parts : List PurePart}
+    → Passes words parts rest → Begins rest part last
     → Passes words (parts ++ part ∷ []) last
 passes_more here b = further b here
 passes_more (further f h) b = further f (passes_more h b)
@@ -21,10 +21,6 @@ passes_more (further f h) b = further f (passes_more h b)
 pub passes_all : {words : List (List ℕ)} {parts : List PurePart} → Passes words parts [] → AreParts words parts
 passes_all here = no_part
 passes_all (further f h) = one_more f (passes_all h)
-
-pub nothing_begins : {rest : List (List ℕ)} {part : PurePart} → Begins [] part rest → ⊥
-nothing_begins (with_workers o n) = none_first o
-nothing_begins (with_fuel o n) = none_first o
 
 -- all parts of the words begin with those that were read
 pub parts_left : {words rest : List (List ℕ)} {read all : List PurePart} → Passes words read rest → AreParts words all
@@ -50,13 +46,15 @@ same_parts (one_more b h) (one_more {parts = qs} c k) =
     cc
 
 -- words that begin with no part are no parts
-stuck : {words : List (List ℕ)} {parts : List PurePart} → (words ≡ [] → ⊥) → ((part : PurePart) (rest : List (List ℕ)) → Begins words part rest → ⊥)
+stuck : {words : List (List ℕ)} {parts : List PurePart} → (words ≡ [] → ⊥)
+    → ((part : PurePart) (rest : List (List ℕ)) → Begins words part rest → ⊥)
     → AreParts words parts → ⊥
 stuck some none no_part = some refl
 stuck some none (one_more b h) = none _ _ b
 
 -- all parts of the words begin with the one that stands first
-first_is : {words rest : List (List ℕ)} {part : PurePart} {parts : List PurePart} → AreParts words parts → Begins words part rest
+first_is : {words rest : List (List ℕ)} {part : PurePart} {parts : List PurePart} → AreParts words parts
+    → Begins words part rest
     → (later : List PurePart) × (parts ≡ part ∷ later)
 first_is no_part b = absurd (nothing_begins b)
 first_is (one_more {parts = later} c h) b = let same = (one_part c b).0 in (later, cc)
@@ -67,25 +65,11 @@ pub stuck_is_none : {words rest : List (List ℕ)} {read : List PurePart} → Pa
     → (parts : List PurePart) → AreParts words parts → ⊥
 stuck_is_none h some none parts whole = stuck some none (parts_left h whole).1.0
 
--- where the next part makes a command impossible, the words' parts make none
-pub more_is_none : {words rest after : List (List ℕ)} {read : List PurePart} {part : PurePart} (word : List ℕ) → Passes words read rest
-    → Begins rest part after → ((later : List PurePart) → MakesNone word (read ++ part ∷ later))
-    → (parts : List PurePart) → AreParts words parts → MakesNone word parts
-more_is_none {read = read} {part = part} word h b none parts whole c makes =
+-- where the rest begins with a part, all parts of the words go on with it
+pub next_is : {words rest after : List (List ℕ)} {read : List PurePart} {part : PurePart} → Passes words read rest
+    → Begins rest part after
+    → (parts : List PurePart) → AreParts words parts → (later : List PurePart) × (parts ≡ read ++ part ∷ later)
+next_is {read = read} h b parts whole =
     let left = parts_left h whole in
     let next = first_is left.1.0 b in
-    let all : parts ≡ read ++ part ∷ next.0 = left.1.1 ∙ ap (λ l. read ++ l) next.1 in
-    none next.0 c (rw all at makes)
-
--- words whose parts make no run, or no run of an erased program
-pub no_run : {words : List (List ℕ)} → ((parts : List PurePart) → AreParts words parts → MakesNone (codes "run") parts) → IsUsage (codes "run" ∷ words)
-no_run none c (run_command h m) = none _ h c m
-
-pub no_erased : {words : List (List ℕ)} → ((parts : List PurePart) → AreParts words parts → MakesNone (codes "erased") parts)
-    → IsUsage (codes "erased" ∷ words)
-no_erased none c (erased_command h m) = none _ h c m
-
--- where one list of the words' parts makes none, each does
-pub these_make_none : {words : List (List ℕ)} {read : List PurePart} (word : List ℕ) → AreParts words read → MakesNone word read
-    → (parts : List PurePart) → AreParts words parts → MakesNone word parts
-these_make_none word h none parts whole c makes = none c (subst (λ (ps : List PurePart). Makes word ps c) (sym (same_parts h whole)) makes)
+    (next.0, left.1.1 ∙ ap (λ l. read ++ l) next.1)

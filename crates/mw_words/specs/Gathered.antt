@@ -1,30 +1,38 @@
--- What is gathered from the parts of the words while they are read.
-use Rattle.std.specs.Prelude.{◌≡◌, ℕ, Bool, true, false, List}
-use Rattle.std.specs.Option.{option_map, option_to_list}
+-- Parts as pure data, and how a word of an option is read.
+use Rattle.std.specs.Prelude.{◌≡◌, ◌≢◌, ◌<◌, ℕ, List, ◌∷◌, ◌++◌, length, get_or, Bool, true, false}
+use Rattle.std.specs.Prelude.{Option, Some, None, option_map}
+use denote.Ref.{Bor}
 use Rattle.mw_words.specs.declared.part.Part.{Part}
-use Rattle.mw_words.specs.declared.part.Part.TheVariants.{Workers, Fuel, Simplify, File}
-use Rattle.mw_words.specs.declared.given.Given.{Given}
-use Rattle.mw_words.specs.Words.{PureCommand, PurePart, workers, fuel, simplify, file, workers_in, fuels_in, files_in, times_simplify, Makes}
+use Rattle.mw_words.specs.declared.part.Part.TheVariants.{Named, File}
+use Rattle.mw_words.specs.Words.{PurePart, option, file, takes_value}
 
--- a part as pure data
+-- the bytes of a word
+abbrev pub word_in : Bor (List ℕ) → List ℕ
+word_in word = word.now
+
 abbrev pub part_in : Part → PurePart
-part_in (Workers n) = workers n
-part_in (Fuel n) = fuel n
-part_in Simplify = simplify
+part_in (Named name value) = option name.now (option_map word_in value)
 part_in (File name) = file name.now
 
--- how often an option was named that is on or off
-abbrev pub times : Bool → ℕ
-times true = 1
-times false = 0
+-- no byte is `=`
+abbrev pub HasNoEqual : List ℕ → Type 0
+HasNoEqual bytes = (i : ℕ) → i < length bytes → get_or bytes i 0 ≢ 61
 
--- the parts give just what was gathered
-pub record Holds (given : Given) (parts : List PurePart) : Type 0 where
-  pub workers_are : workers_in parts ≡ option_to_list given.workers
-  pub fuels_are : fuels_in parts ≡ option_to_list given.fuel
-  pub simplify_is : times_simplify parts ≡ times given.simplify
-  pub files_are : files_in parts ≡ option_to_list (option_map (λ name. name.now) given.file)
+-- a word without `=` is a name, and else what stands before the first one is
+abbrev pub IsSplit : List ℕ → List ℕ → Option (List ℕ) → Type 0
+IsSplit word name None = (word ≡ name) × HasNoEqual name
+IsSplit word name (Some value) = (word ≡ name ++ 61 ∷ value) × HasNoEqual name
 
--- the parts make no command of this word
-abbrev pub MakesNone : List ℕ → List PurePart → Type 0
-MakesNone word parts = (c : PureCommand) → Makes word parts c → ⊥
+-- the option of a kind, with the value that was joined to its name or is the next word, and the words
+-- after it
+abbrev pub option_of_kind : Option Bool → List ℕ → Option (List ℕ) → List (List ℕ)
+    → Option (PurePart × List (List ℕ))
+option_of_kind (Some true) name (Some value) rest = Some (option name (Some value), rest)
+option_of_kind (Some true) name None (value ∷ rest) = Some (option name (Some value), rest)
+option_of_kind (Some false) name None rest = Some (option name None, rest)
+option_of_kind _ name joined rest = None
+
+-- the same, of a name
+abbrev pub option_part : List ℕ → Option (List ℕ) → List (List ℕ)
+    → Option (PurePart × List (List ℕ))
+option_part name joined rest = option_of_kind (takes_value name) name joined rest

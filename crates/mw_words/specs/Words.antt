@@ -1,11 +1,15 @@
 -- What the words of the command line mean: a command, or none.
-use Rattle.std.specs.Prelude.{◌≡◌, ℕ, ◌+◌, ◌≤◌, ◌≢◌, Bool, true, false, List, [], ◌∷◌, ◌++◌, length, codes}
+use Rattle.std.specs.Prelude.{◌≡◌, ℕ, ◌≤◌, ◌≢◌, Bool, true, false, not, List, [], ◌∷◌, ◌++◌, length, filter, codes}
+use Rattle.std.specs.Prelude.{bytes_eq, Option, Some, None}
+use Rattle.std.specs.List.{list_any}
+use Rattle.std.specs.Map.{lookup}
 use Rattle.std.specs.Str.Parse.{IsNumeral, digits_value}
 use Rattle.mw_words.specs.declared.Command.{Command}
 use Rattle.mw_words.specs.declared.Command.TheVariants.{Run, Erased, Sample}
 
--- a command as pure data: the run of a file by so many workers with so many units of fuel, with the kernels' code simplified or as it was built;
--- the run of a file's erased program with so many units; or a source made from a number
+-- a command as pure data: the run of a file by so many workers with so many units of fuel, with the
+-- kernels' code simplified or as it was built; the run of a file's erased program with so many units;
+-- or a source made from a number
 pub data PureCommand : Type 0 where
   run : (workers fuel : ℕ) (simplify : Bool) (file : List ℕ) → PureCommand
   erased : (fuel : ℕ) (file : List ℕ) → PureCommand
@@ -29,95 +33,107 @@ pub record IsNumber (most : ℕ) (word : List ℕ) (n : ℕ) : Type 0 where
   pub low : 1 ≤ n
   pub high : n ≤ most
 
--- an option of this name stands first among the words, and others follow it and its value
+-- the options' names, each with whether the option takes a value
+abbrev pub options : List (List ℕ × Bool)
+options = (codes "--workers", true) ∷ (codes "--fuel", true) ∷ (codes "--simplify", false) ∷ []
+
+-- whether the option of this name takes a value, where there is one of this name
+abbrev pub takes_value : List ℕ → Option Bool
+takes_value name = lookup (bytes_eq name) options
+
+-- an option of this name stands first among the words with a value, and others follow
 pub data IsOption (name : List ℕ) : List (List ℕ) → List ℕ → List (List ℕ) → Type 0 where
   -- name VALUE
-  apart : {word value : List ℕ} {rest : List (List ℕ)} → word ≡ name → IsOption name (word ∷ value ∷ rest) value rest
+  apart : {word value : List ℕ} {rest : List (List ℕ)} → word ≡ name
+      → IsOption name (word ∷ value ∷ rest) value rest
   -- name=VALUE
-  joined : {word value : List ℕ} {rest : List (List ℕ)} → word ≡ name ++ codes "=" ++ value → IsOption name (word ∷ rest) value rest
+  joined : {word value : List ℕ} {rest : List (List ℕ)} → word ≡ name ++ codes "=" ++ value
+      → IsOption name (word ∷ rest) value rest
 
--- what an option or a file gives
+-- a part of the words: an option by its name, with the word of its value if it takes one, or a file
 pub data PurePart : Type 0 where
-  workers : (n : ℕ) → PurePart
-  fuel : (n : ℕ) → PurePart
-  simplify : PurePart
+  option : (name : List ℕ) (value : Option (List ℕ)) → PurePart
   file : (name : List ℕ) → PurePart
 
--- an option with its value, if it has one, or a file, stands first among the words, and others follow
+-- the part stands first among the words, and others follow
 pub data Begins : List (List ℕ) → PurePart → List (List ℕ) → Type 0 where
-  with_workers : {words rest : List (List ℕ)} {value : List ℕ} {n : ℕ} → IsOption (codes "--workers") words value rest → IsNumber 64 value n
-      → Begins words (workers n) rest
-  with_fuel : {words rest : List (List ℕ)} {value : List ℕ} {n : ℕ} → IsOption (codes "--fuel") words value rest → IsNumber 10000000 value n
-      → Begins words (fuel n) rest
-  with_simplify : {word : List ℕ} {rest : List (List ℕ)} → word ≡ codes "--simplify" → Begins (word ∷ rest) simplify rest
-  with_file : {word : List ℕ} {rest : List (List ℕ)} → IsFileWord word → Begins (word ∷ rest) (file word) rest
+  valued : {words rest : List (List ℕ)} {name value : List ℕ} → takes_value name ≡ Some true
+      → IsOption name words value rest → Begins words (option name (Some value)) rest
+  alone : {name : List ℕ} {rest : List (List ℕ)} → takes_value name ≡ Some false
+      → Begins (name ∷ rest) (option name None) rest
+  filed : {word : List ℕ} {rest : List (List ℕ)} → IsFileWord word
+      → Begins (word ∷ rest) (file word) rest
 
--- the words are these options and files, one after the other
+-- the words are these parts, one after the other
 pub data AreParts : List (List ℕ) → List PurePart → Type 0 where
   no_part : AreParts [] []
-  one_more : {words rest : List (List ℕ)} {part : PurePart} {parts : List PurePart} → Begins words part rest → AreParts rest parts
-      → AreParts words (part ∷ parts)
+  one_more : {words rest : List (List ℕ)} {part : PurePart} {parts : List PurePart}
+      → Begins words part rest → AreParts rest parts → AreParts words (part ∷ parts)
 
--- the numbers of workers among the parts, the units of fuel, and the files
-abbrev pub workers_in : List PurePart → List ℕ
-workers_in [] = []
-workers_in (workers n ∷ parts) = n ∷ workers_in parts
-workers_in (fuel n ∷ parts) = workers_in parts
-workers_in (simplify ∷ parts) = workers_in parts
-workers_in (file name ∷ parts) = workers_in parts
+-- an option of this name, or, of no name, a file
+abbrev pub is_named : Option (List ℕ) → PurePart → Bool
+is_named (Some name) (option own value) = bytes_eq own name
+is_named None (file name) = true
+is_named _ _ = false
 
-abbrev pub fuels_in : List PurePart → List ℕ
-fuels_in [] = []
-fuels_in (workers n ∷ parts) = fuels_in parts
-fuels_in (fuel n ∷ parts) = n ∷ fuels_in parts
-fuels_in (simplify ∷ parts) = fuels_in parts
-fuels_in (file name ∷ parts) = fuels_in parts
+-- the parts of this name, or of no name, in order
+abbrev pub parts_named : Option (List ℕ) → List PurePart → List PurePart
+parts_named name parts = filter (is_named name) parts
 
-abbrev pub files_in : List PurePart → List (List ℕ)
-files_in [] = []
-files_in (workers n ∷ parts) = files_in parts
-files_in (fuel n ∷ parts) = files_in parts
-files_in (simplify ∷ parts) = files_in parts
-files_in (file name ∷ parts) = name ∷ files_in parts
+-- a file, or an option of one of these names
+abbrev pub is_taken : List (List ℕ) → PurePart → Bool
+is_taken names (option name value) = list_any (λ own. bytes_eq own name) names
+is_taken names (file name) = true
 
--- how often simplification is named among the parts
-abbrev pub times_simplify : List PurePart → ℕ
-times_simplify [] = 0
-times_simplify (workers n ∷ parts) = times_simplify parts
-times_simplify (fuel n ∷ parts) = times_simplify parts
-times_simplify (simplify ∷ parts) = 1 + times_simplify parts
-times_simplify (file name ∷ parts) = times_simplify parts
+-- no part is an option of another name
+abbrev pub HaveOnly : List (List ℕ) → List PurePart → Type 0
+HaveOnly names parts = filter (λ part. not (is_taken names part)) parts ≡ []
 
--- the one number that is given, or the default where none is
-pub data IsGiven (default : ℕ) : List ℕ → ℕ → Type 0 where
-  not_named : IsGiven default [] default
-  named_once : {n : ℕ} → IsGiven default (n ∷ []) n
+-- an option that is named at most once gives a number from 1 to the most, and its default where it isn't
+-- named
+pub data IsNumberOf (name : List ℕ) (most default : ℕ) (parts : List PurePart) : ℕ → Type 0 where
+  not_named : parts_named (Some name) parts ≡ [] → IsNumberOf name most default parts default
+  named_once : {word : List ℕ} {n : ℕ}
+      → parts_named (Some name) parts ≡ option name (Some word) ∷ []
+      → IsNumber most word n → IsNumberOf name most default parts n
 
 -- an option without a value is on where it is named once, and off where it isn't named
-pub data IsSwitched : ℕ → Bool → Type 0 where
-  off : IsSwitched 0 false
-  on : IsSwitched 1 true
+pub data IsSwitchOf (name : List ℕ) (parts : List PurePart) : Bool → Type 0 where
+  off : parts_named (Some name) parts ≡ [] → IsSwitchOf name parts false
+  on : parts_named (Some name) parts ≡ option name None ∷ [] → IsSwitchOf name parts true
 
--- behind the command's word the parts, in whatever order, make the command: one file, and each of its options at most once
+-- the one file among the parts
+abbrev pub IsFileOf : List PurePart → List ℕ → Type 0
+IsFileOf parts name = parts_named None parts ≡ file name ∷ []
+
+-- the workers and the units of fuel that the parts give
+abbrev pub AreWorkersOf : List PurePart → ℕ → Type 0
+AreWorkersOf parts n = IsNumberOf (codes "--workers") 64 4 parts n
+
+abbrev pub AreUnitsOf : List PurePart → ℕ → Type 0
+AreUnitsOf parts n = IsNumberOf (codes "--fuel") 10000000 1000000 parts n
+
+-- behind the command's word the parts, in whatever order, make the command
 pub data Makes : List ℕ → List PurePart → PureCommand → Type 0 where
-  run_of : {parts : List PurePart} {worker_count units : ℕ} {simplifies : Bool} {name : List ℕ} → IsGiven 4 (workers_in parts) worker_count
-      → IsGiven 1000000 (fuels_in parts) units → IsSwitched (times_simplify parts) simplifies → files_in parts ≡ name ∷ []
-      → Makes (codes "run") parts (run worker_count units simplifies name)
-  erased_of : {parts : List PurePart} {units : ℕ} {name : List ℕ} → workers_in parts ≡ [] → IsGiven 1000000 (fuels_in parts) units
-      → times_simplify parts ≡ 0 → files_in parts ≡ name ∷ []
-      → Makes (codes "erased") parts (erased units name)
+  -- run [--workers N] [--fuel N] [--simplify] FILE
+  run_of : {parts : List PurePart} {workers fuel : ℕ} {simplify : Bool} {name : List ℕ}
+      → HaveOnly (codes "--workers" ∷ codes "--fuel" ∷ codes "--simplify" ∷ []) parts
+      → AreWorkersOf parts workers → AreUnitsOf parts fuel
+      → IsSwitchOf (codes "--simplify") parts simplify → IsFileOf parts name
+      → Makes (codes "run") parts (run workers fuel simplify name)
+  -- erased [--fuel N] FILE
+  erased_of : {parts : List PurePart} {fuel : ℕ} {name : List ℕ}
+      → HaveOnly (codes "--fuel" ∷ []) parts → AreUnitsOf parts fuel → IsFileOf parts name
+      → Makes (codes "erased") parts (erased fuel name)
 
 -- the words mean the command
 pub data Means : List (List ℕ) → PureCommand → Type 0 where
-  -- run [--workers N] [--fuel N] [--simplify] FILE
-  run_command : {words : List (List ℕ)} {parts : List PurePart} {command : PureCommand} → AreParts words parts → Makes (codes "run") parts command
-      → Means (codes "run" ∷ words) command
-  -- erased [--fuel N] FILE
-  erased_command : {words : List (List ℕ)} {parts : List PurePart} {command : PureCommand} → AreParts words parts
-      → Makes (codes "erased") parts command
-      → Means (codes "erased" ∷ words) command
+  -- a command with options: its word, and then its parts
+  parts_command : {word : List ℕ} {words : List (List ℕ)} {parts : List PurePart}
+      {command : PureCommand} → AreParts words parts → Makes word parts command → Means (word ∷ words) command
   -- sample N
-  sample_command : {word : List ℕ} {n : ℕ} → IsNumber 100 word n → Means (codes "sample" ∷ word ∷ []) (sample n)
+  sample_command : {word : List ℕ} {n : ℕ} → IsNumber 100 word n
+      → Means (codes "sample" ∷ word ∷ []) (sample n)
 
 -- the words mean no command
 abbrev pub IsUsage : List (List ℕ) → Type 0

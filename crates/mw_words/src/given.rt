@@ -1,93 +1,116 @@
-// What the parts of the words give, each once.
+// What the words give of the options and the file of a command.
 
-ghost use Rattle.std.specs.Prelude.{◌≡◌, ◌∷◌, [], ◌++◌, ℕ, List, IfOk, IfErr, codes};
-ghost use Rattle.mw_words.specs.Words.{command_in, Makes, PureCommand, PurePart};
-ghost use Rattle.mw_words.specs.Gathered.{part_in, Holds, MakesNone};
+ghost use Rattle.std.specs.Prelude.{◌≡◌, ◌≤◌, List, ℕ, Bool, length, map, option_map, option_to_list};
+ghost use Rattle.std.specs.Prelude.{IfOk, OnOk, OnErr};
+ghost use Rattle.std.specs.String.{string_bytes};
+ghost use Rattle.mw_words.specs.Words.{AreParts, HaveOnly, IsFileOf, IsNumberOf, IsSwitchOf, PurePart};
+ghost use Rattle.mw_words.specs.Words.{is_named, is_taken, parts_named};
+ghost use Rattle.mw_words.specs.Gathered.{part_in, word_in};
 
-use crate::part::Part;
-use crate::{Command, WordsFault};
+use crate::WordsFault;
+use crate::number::number_up_to;
+use crate::part::{Part, first_part};
 
-/// The number of workers where the words name none.
-const DEFAULT_WORKERS: u32 = 4;
-
-/// The units of fuel where the words name none.
-const DEFAULT_FUEL: u64 = 1_000_000;
-
-/// What has been given of options and file.
-#[derive(Clone, Copy)]
-pub struct Given<'w> {
-    workers: Option<u32>,
-    fuel: Option<u64>,
-    simplify: bool,
-    file: Option<&'w str>,
-}
-
-impl<'w> Given<'w> {
-    /// Nothing.
-    pub fn nothing() -> Given<'w>
-        ensures { Holds result [] }
-    {
-        Given {
-            workers: None,
-            fuel: None,
-            simplify: false,
-            file: None,
-        }
-    }
-
-    /// What is given with one part more, which must be the first of its kind.
-    pub fn with(self, part: Part<'w>) -> Result<Given<'w>, WordsFault>
-        ensures ok { IfOk result (λ after. (parts : List PurePart) → Holds self.entry parts → Holds after (parts ++ part_in part.entry ∷ [])) }
-        ensures usage { IfErr result (λ _. (word : List ℕ) (before later : List PurePart) → Holds self.entry before
-            → MakesNone word (before ++ part_in part.entry ∷ later)) }
-    {
-        match part {
-            Part::Workers(workers) if self.workers.is_none() => Ok(Given {
-                workers: Some(workers),
-                ..self
-            }),
-            Part::Fuel(fuel) if self.fuel.is_none() => Ok(Given {
-                fuel: Some(fuel),
-                ..self
-            }),
-            Part::Simplify if !self.simplify => Ok(Given {
-                simplify: true,
-                ..self
-            }),
-            Part::File(file) if self.file.is_none() => Ok(Given {
-                file: Some(file),
-                ..self
-            }),
-            _ => Err(WordsFault::Usage),
-        }
-    }
-
-    /// The run that is given.
-    pub fn command(self) -> Result<Command<'w>, WordsFault>
-        ensures ok { IfOk result (λ c. (parts : List PurePart) → Holds self.entry parts → Makes (codes "run") parts (command_in c)) }
-        ensures usage { IfErr result (λ _. (parts : List PurePart) → Holds self.entry parts → MakesNone (codes "run") parts) }
-    {
-        let file = self.file.ok_or(WordsFault::Usage)?;
-        Ok(Command::Run {
-            workers: self.workers.unwrap_or(DEFAULT_WORKERS),
-            fuel: self.fuel.unwrap_or(DEFAULT_FUEL),
-            simplify: self.simplify,
-            file,
-        })
-    }
-
-    /// The run of an erased program that is given, which neither a number of workers nor simplification is part of.
-    pub fn erased(self) -> Result<Command<'w>, WordsFault>
-        ensures ok { IfOk result (λ c. (parts : List PurePart) → Holds self.entry parts → Makes (codes "erased") parts (command_in c)) }
-        ensures usage { IfErr result (λ _. (parts : List PurePart) → Holds self.entry parts → MakesNone (codes "erased") parts) }
-    {
-        if self.workers.is_some() || self.simplify {
+/// Finds that the words are parts, and that each option among them is one of these.
+pub fn have_only(words: &[String], options: &[&str]) -> Result<(), WordsFault>
+    ensures ok { OnOk result ((parts : List PurePart)
+        × (AreParts (map string_bytes words.now) parts
+        × HaveOnly (map word_in options.now) parts)) }
+    ensures usage { OnErr result ((parts : List PurePart)
+        → AreParts (map string_bytes words.now) parts → ¬ HaveOnly (map word_in options.now) parts) }
+{
+    let mut rest = words;
+    while !rest.is_empty() {
+        let (part, after) = first_part(rest)?;
+        if !is_taken(part, options) {
             return Err(WordsFault::Usage);
         }
-        let file = self.file.ok_or(WordsFault::Usage)?;
-        Ok(Command::Erased {
-            fuel: self.fuel.unwrap_or(DEFAULT_FUEL),
-            file,
-        })
+        rest = after;
+    }
+    Ok(())
+}
+
+/// Whether a part is a file, or one of these options.
+fn is_taken(part: Part<'_>, options: &[&str]) -> bool
+    ensures { result ≡ is_taken (map word_in options.now) (part_in part.entry) }
+{
+    match part {
+        Part::Named(name, _) => options.contains(&name),
+        Part::File(_) => true,
+    }
+}
+
+/// The number that an option gives, from 1 to the most, or the default where it isn't named.
+pub fn number_of(words: &[String], name: &str, most: u32, default: u32) -> Result<u32, WordsFault>
+    ensures ok { IfOk result (λ n. (parts : List PurePart)
+        → AreParts (map string_bytes words.now) parts → IsNumberOf name.now most default parts n) }
+    ensures usage { OnErr result ((parts : List PurePart)
+        → AreParts (map string_bytes words.now) parts → (n : ℕ) → ¬ IsNumberOf name.now most default parts n) }
+{
+    match only_part(words, Some(name))? {
+        None => Ok(default),
+        Some(Part::Named(_, Some(word))) => number_up_to(word, most),
+        Some(_) => Err(WordsFault::Usage),
+    }
+}
+
+/// Whether the words name an option without a value.
+pub fn switch_of(words: &[String], name: &str) -> Result<bool, WordsFault>
+    ensures ok { IfOk result (λ on. (parts : List PurePart)
+        → AreParts (map string_bytes words.now) parts → IsSwitchOf name.now parts on) }
+    ensures usage { OnErr result ((parts : List PurePart)
+        → AreParts (map string_bytes words.now) parts → (on : Bool) → ¬ IsSwitchOf name.now parts on) }
+{
+    match only_part(words, Some(name))? {
+        None => Ok(false),
+        Some(Part::Named(_, None)) => Ok(true),
+        Some(_) => Err(WordsFault::Usage),
+    }
+}
+
+/// The one file among the words.
+pub fn file_of(words: &[String]) -> Result<&str, WordsFault>
+    ensures ok { IfOk result (λ file. (parts : List PurePart)
+        → AreParts (map string_bytes words.now) parts → IsFileOf parts file.now) }
+    ensures usage { OnErr result ((parts : List PurePart)
+        → AreParts (map string_bytes words.now) parts → (file : List ℕ) → ¬ IsFileOf parts file) }
+{
+    match only_part(words, None)? {
+        Some(Part::File(file)) => Ok(file),
+        _ => Err(WordsFault::Usage),
+    }
+}
+
+/// The part of this name, or of no name, if there is one. Two are refused.
+fn only_part<'w>(words: &'w [String], name: Option<&str>) -> Result<Option<Part<'w>>, WordsFault>
+    ensures ok { IfOk result (λ found. (parts : List PurePart)
+        → AreParts (map string_bytes words.now) parts
+        → parts_named (option_map word_in name.entry) parts ≡ option_to_list (option_map part_in found)) }
+    ensures usage { OnErr result ((parts : List PurePart)
+        → AreParts (map string_bytes words.now) parts → 2 ≤ length (parts_named (option_map word_in name.entry) parts)) }
+{
+    let mut found = None;
+    let mut rest = words;
+    while !rest.is_empty() {
+        let (part, after) = first_part(rest)?;
+        if is_named(part, name) {
+            if found.is_some() {
+                return Err(WordsFault::Usage);
+            }
+            found = Some(part);
+        }
+        rest = after;
+    }
+    Ok(found)
+}
+
+/// Whether a part is an option of this name, or, of no name, a file.
+fn is_named(part: Part<'_>, name: Option<&str>) -> bool
+    ensures { result ≡ is_named (option_map word_in name.entry) (part_in part.entry) }
+{
+    match (part, name) {
+        (Part::Named(own, _), Some(name)) => own == name,
+        (Part::File(_), None) => true,
+        _ => false,
     }
 }

@@ -1,10 +1,9 @@
 //! The words of the command line, and the command that they mean.
 #![tactic(auto)]
 
-ghost use Rattle.std.specs.Prelude.{◌∷◌, ℕ, List, map, IfOk, IfErr, codes};
+ghost use Rattle.std.specs.Prelude.{◌∷◌, ℕ, List, map, IfOk, IfErr, OnErr, codes};
 ghost use Rattle.std.specs.String.{string_bytes};
-ghost use Rattle.mw_words.specs.Words.{AreParts, Means, IsUsage, PurePart, command_in};
-ghost use Rattle.mw_words.specs.Gathered.{Holds, MakesNone};
+ghost use Rattle.mw_words.specs.Words.{AreParts, AreUnitsOf, Means, IsUsage, PurePart, command_in};
 
 mod given;
 pub mod laws;
@@ -13,9 +12,18 @@ mod part;
 #[cfg(test)]
 mod tests;
 
-use crate::given::Given;
+use crate::given::{file_of, have_only, number_of, switch_of};
 use crate::number::number_up_to;
-use crate::part::first_part;
+
+/// The most workers of a run, and how many there are where the words name none.
+const MOST_WORKERS: u32 = 64;
+
+const DEFAULT_WORKERS: u32 = 4;
+
+/// The most units of fuel for an evaluation, and how many there are where the words name none.
+const MOST_FUEL: u32 = 10_000_000;
+
+const DEFAULT_FUEL: u32 = 1_000_000;
 
 /// The most kernels of a sample.
 const MOST_KERNELS: u32 = 100;
@@ -23,8 +31,8 @@ const MOST_KERNELS: u32 = 100;
 /// What the words ask for.
 #[derive(Clone, Copy, Debug)]
 pub enum Command<'w> {
-    /// The run of a file by so many workers, with so many units of fuel for each evaluation, and with the kernels' code simplified
-    /// or as it was built.
+    /// The run of a file by so many workers, with so many units of fuel for each evaluation, and with
+    /// the kernels' code simplified or as it was built.
     Run {
         workers: u32,
         fuel: u64,
@@ -68,7 +76,13 @@ fn read_run(words: &[String]) -> Result<Command<'_>, WordsFault>
     ensures some { IfOk result (λ c. Means (codes "run" ∷ map string_bytes words.now) (command_in c)) }
     ensures usage { IfErr result (λ _. IsUsage (codes "run" ∷ map string_bytes words.now)) }
 {
-    gather(words)?.command()
+    have_only(words, &["--workers", "--fuel", "--simplify"])?;
+    Ok(Command::Run {
+        workers: number_of(words, "--workers", MOST_WORKERS, DEFAULT_WORKERS)?,
+        fuel: fuel_of(words)?,
+        simplify: switch_of(words, "--simplify")?,
+        file: file_of(words)?,
+    })
 }
 
 /// The command that the words after `erased` mean.
@@ -76,22 +90,21 @@ fn read_erased(words: &[String]) -> Result<Command<'_>, WordsFault>
     ensures some { IfOk result (λ c. Means (codes "erased" ∷ map string_bytes words.now) (command_in c)) }
     ensures usage { IfErr result (λ _. IsUsage (codes "erased" ∷ map string_bytes words.now)) }
 {
-    gather(words)?.erased()
+    have_only(words, &["--fuel"])?;
+    Ok(Command::Erased {
+        fuel: fuel_of(words)?,
+        file: file_of(words)?,
+    })
 }
 
-/// What the words after the command give.
-fn gather(words: &[String]) -> Result<Given<'_>, WordsFault>
-    ensures ok { IfOk result (λ given. (parts : List PurePart) × (AreParts (map string_bytes words.now) parts × Holds given parts)) }
-    ensures usage { IfErr result (λ _. (word : List ℕ) (parts : List PurePart) → AreParts (map string_bytes words.now) parts → MakesNone word parts) }
+/// The units of fuel that the words give.
+fn fuel_of(words: &[String]) -> Result<u64, WordsFault>
+    ensures ok { IfOk result (λ n. (parts : List PurePart)
+        → AreParts (map string_bytes words.now) parts → AreUnitsOf parts n) }
+    ensures usage { OnErr result ((parts : List PurePart)
+        → AreParts (map string_bytes words.now) parts → (n : ℕ) → ¬ AreUnitsOf parts n) }
 {
-    let mut given = Given::nothing();
-    let mut rest = words;
-    while !rest.is_empty() {
-        let (part, after) = first_part(rest)?;
-        given = given.with(part)?;
-        rest = after;
-    }
-    Ok(given)
+    Ok(u64::from(number_of(words, "--fuel", MOST_FUEL, DEFAULT_FUEL)?))
 }
 
 /// The command that the words after `sample` mean.

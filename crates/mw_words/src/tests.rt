@@ -86,6 +86,13 @@ const RUNS: &[(&[&str], &str)] = &[
     (&["erased", "--fuel=10000000", "f"], "erased 10000000 f"),
     (&["erased", "--fuel", "000000005", "f"], "erased 5 f"),
     (&["run", "erased"], "run 4 1000000 erased"),
+    (
+        &["run", "--workers", "8", "--fuel", "2", "--simplify", "f"],
+        "simplify 8 2 f",
+    ),
+    (&["run", "f", "--fuel=2", "--workers=8"], "run 8 2 f"),
+    (&["run", "--workers=8", "f"], "run 8 1000000 f"),
+    (&["erased", "f=g"], "erased 1000000 f=g"),
     (&["sample", "1"], "sample 1"),
     (&["sample", "100"], "sample 100"),
     (&["sample", "000000100"], "sample 100"),
@@ -155,6 +162,42 @@ const NO_COMMANDS: &[&[&str]] = &[
     &["erase", "f"],
 ];
 
+/// Words that mean nothing, for each command: an option that it doesn't take, an option twice in each
+/// form, an option without its value at the end, `=` with no value behind it, two files, no file.
+const OF_EACH_COMMAND: &[&[&str]] = &[
+    &["run", "f", "--cache", "c"],
+    &["run", "f", "--cache=c"],
+    &["run", "--workers=2", "f", "--workers", "3"],
+    &["run", "--workers", "2", "--workers", "3", "f"],
+    &["run", "--fuel", "7", "--fuel=8", "f"],
+    &["run", "--fuel=8", "--simplify", "f", "--fuel=8"],
+    &["run", "--simplify", "--fuel=8", "f", "--simplify"],
+    &["run", "f", "--workers"],
+    &["run", "f", "--fuel=8", "--workers"],
+    &["run", "f", "--simplify", "--fuel"],
+    &["run", "f", "--workers="],
+    &["run", "f", "--fuel="],
+    &["run", "f", "--simplify="],
+    &["run", "f", "--workers=2", "g"],
+    &["run", "--workers=2", "--fuel=8", "--simplify"],
+    &["erased", "f", "--workers", "4"],
+    &["erased", "f", "--simplify", "--fuel=8"],
+    &["erased", "--cache", "c", "f"],
+    &["erased", "--fuel", "7", "f", "--fuel", "8"],
+    &["erased", "--fuel=7", "f", "--fuel", "8"],
+    &["erased", "f", "--fuel"],
+    &["erased", "f", "--fuel="],
+    &["erased", "--fuel=8", "f", "g"],
+    &["erased", "--fuel=8"],
+    &["sample", "5", "f"],
+    &["sample", "f", "5"],
+    &["sample", "5", "--fuel=5"],
+    &["sample", "5", "--workers", "2"],
+    &["sample", "--simplify", "5"],
+    &["sample", "--workers"],
+    &["sample", "--fuel="],
+];
+
 /// Words that mean nothing, for an option that is named twice or amiss, or for its value.
 const NO_VALUES: &[&[&str]] = &[
     &["run", "--fuel=8", "--fuel=8", "f"],
@@ -219,6 +262,10 @@ fn commands(rt: HostRuntime) -> Result<(), Fail> {
 #[test]
 fn usage(rt: HostRuntime) -> Result<(), Fail> {
     for &words in NO_COMMANDS {
+        let text = meaning(&rt, words)?;
+        assert_eq!(rt; text.as_str(), "usage");
+    }
+    for &words in OF_EACH_COMMAND {
         let text = meaning(&rt, words)?;
         assert_eq!(rt; text.as_str(), "usage");
     }

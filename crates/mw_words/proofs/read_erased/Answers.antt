@@ -1,18 +1,27 @@
-use Rattle.std.proofs.Common.{codes}
-use Rattle.mw_words.specs.Words.{erased_command}
-use Rattle.mw_words.proofs.Items.{on_err, then_ok, then_err}
-use Rattle.mw_words.proofs.Passing.{no_erased, these_make_none}
+use Rattle.mw_words.specs.Words.{parts_command, erased_of}
+use Rattle.mw_words.proofs.Items.{on_err}
+use Rattle.mw_words.proofs.Usage.{erased_is_other, no_command, only_fuel, units_of, file_of_parts}
 use Rattle.mw_words.proofs.read_erased.Goals as goal
 
-pub returns-in_err-gather-clause-usage : goal.returns-in_err-gather-clause-usage
-returns-in_err-gather-clause-usage c = on_err c.from_residual.result _ (no_erased (c.in_err-gather.ensures.usage (codes "erased")))
+pub returns-in_err-have_only-clause-usage : goal.returns-in_err-have_only-clause-usage
+returns-in_err-have_only-clause-usage c =
+    on_err c.from_residual.result _ (no_command erased_is_other
+    (λ parts whole command makes. c.in_err-have_only.ensures.usage parts whole (only_fuel makes)))
+
+pub returns-in_err-fuel_of-clause-usage : goal.returns-in_err-fuel_of-clause-usage
+returns-in_err-fuel_of-clause-usage c =
+    on_err c.from_residual-in_err-fuel_of.result _ (no_command erased_is_other (λ parts whole command makes. let has =
+    units_of makes in c.in_err-fuel_of.ensures.usage parts whole has.0 has.1))
+
+pub returns-in_err-file_of-clause-usage : goal.returns-in_err-file_of-clause-usage
+returns-in_err-file_of-clause-usage c =
+    on_err c.from_residual-in_err-file_of.result _ (no_command erased_is_other (λ parts whole command makes. let has =
+    file_of_parts makes in c.in_err-file_of.ensures.usage parts whole has.0 has.1))
 
 pub returns-clause-some : goal.returns-clause-some
 returns-clause-some c =
-    let parts = c.in_ok-gather.ensures.ok in
-    then_ok c.erased.result _ _ c.erased.ensures.ok (λ command makes. erased_command parts.1.0 (makes parts.0 parts.1.1))
-
-pub returns-clause-usage : goal.returns-clause-usage
-returns-clause-usage c =
-    let parts = c.in_ok-gather.ensures.ok in
-    then_err c.erased.result _ _ c.erased.ensures.usage (λ none. no_erased (these_make_none (codes "erased") parts.1.0 (none parts.0 parts.1.1)))
+    let all = c.in_ok-have_only.ensures.ok in
+    let parts = all.0 in
+    let whole = all.1.0 in
+    parts_command whole (erased_of all.1.1 (c.in_ok-fuel_of.ensures.ok parts whole)
+    (c.in_ok-file_of.ensures.ok parts whole))

@@ -1,18 +1,39 @@
-use Rattle.std.proofs.Common.{codes}
-use Rattle.mw_words.specs.Words.{run_command}
-use Rattle.mw_words.proofs.Items.{on_err, then_ok, then_err}
-use Rattle.mw_words.proofs.Passing.{no_run, these_make_none}
+use Rattle.mw_words.specs.Words.{parts_command, run_of}
+use Rattle.mw_words.proofs.Items.{on_err}
+use Rattle.mw_words.proofs.Usage.{run_is_other, no_command, options_of_run, workers_of_run, switch_of_run, units_of}
+use Rattle.mw_words.proofs.Usage.{file_of_parts}
 use Rattle.mw_words.proofs.read_run.Goals as goal
 
-pub returns-in_err-gather-clause-usage : goal.returns-in_err-gather-clause-usage
-returns-in_err-gather-clause-usage c = on_err c.from_residual.result _ (no_run (c.in_err-gather.ensures.usage (codes "run")))
+pub returns-in_err-have_only-clause-usage : goal.returns-in_err-have_only-clause-usage
+returns-in_err-have_only-clause-usage c =
+    on_err c.from_residual.result _ (no_command run_is_other
+    (λ parts whole command makes. c.in_err-have_only.ensures.usage parts whole (options_of_run makes)))
+
+pub returns-in_err-number_of-clause-usage : goal.returns-in_err-number_of-clause-usage
+returns-in_err-number_of-clause-usage c =
+    on_err c.from_residual-in_err-number_of.result _ (no_command run_is_other (λ parts whole command makes. let has =
+    workers_of_run makes in c.in_err-number_of.ensures.usage parts whole has.0 has.1))
+
+pub returns-in_err-fuel_of-clause-usage : goal.returns-in_err-fuel_of-clause-usage
+returns-in_err-fuel_of-clause-usage c =
+    on_err c.from_residual-in_err-fuel_of.result _ (no_command run_is_other (λ parts whole command makes. let has =
+    units_of makes in c.in_err-fuel_of.ensures.usage parts whole has.0 has.1))
+
+pub returns-in_err-switch_of-clause-usage : goal.returns-in_err-switch_of-clause-usage
+returns-in_err-switch_of-clause-usage c =
+    on_err c.from_residual-in_err-switch_of.result _ (no_command run_is_other (λ parts whole command makes. let has =
+    switch_of_run makes in c.in_err-switch_of.ensures.usage parts whole has.0 has.1))
+
+pub returns-in_err-file_of-clause-usage : goal.returns-in_err-file_of-clause-usage
+returns-in_err-file_of-clause-usage c =
+    on_err c.from_residual-in_err-file_of.result _ (no_command run_is_other (λ parts whole command makes. let has =
+    file_of_parts makes in c.in_err-file_of.ensures.usage parts whole has.0 has.1))
 
 pub returns-clause-some : goal.returns-clause-some
 returns-clause-some c =
-    let parts = c.in_ok-gather.ensures.ok in
-    then_ok c.command.result _ _ c.command.ensures.ok (λ command makes. run_command parts.1.0 (makes parts.0 parts.1.1))
-
-pub returns-clause-usage : goal.returns-clause-usage
-returns-clause-usage c =
-    let parts = c.in_ok-gather.ensures.ok in
-    then_err c.command.result _ _ c.command.ensures.usage (λ none. no_run (these_make_none (codes "run") parts.1.0 (none parts.0 parts.1.1)))
+    let all = c.in_ok-have_only.ensures.ok in
+    let parts = all.0 in
+    let whole = all.1.0 in
+    parts_command whole (run_of all.1.1 (c.in_ok-number_of.ensures.ok parts whole)
+    (c.in_ok-fuel_of.ensures.ok parts whole)
+    (c.in_ok-switch_of.ensures.ok parts whole) (c.in_ok-file_of.ensures.ok parts whole))

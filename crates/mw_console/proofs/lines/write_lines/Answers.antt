@@ -1,4 +1,4 @@
-use Rattle.std.proofs.Common.{arith}
+use Rattle.std.proofs.Common.{◌∙◌, arith}
 use Rattle.mw_console.proofs.TextLemmas.{line_written, front_written}
 use Rattle.mw_console.proofs.lines.write_lines.Goals as goal
 
@@ -6,7 +6,7 @@ pub loop-done-preserved : goal.loop-done-preserved
 loop-done-preserved g c = record {
   bound = c.line_end-end.ensures.within;
   front = λ told. line_written _ _ _ c.args.text.now c.loop-done.done c.line_end-end.result (omega (arith, c.line_end-end.ensures.above)) (c.loop-done.invariant.front told) (c.in-Ok.ensures.ok told);
-  count = omega (arith, c.in-Ok.ensures.count);
+  count = c.in-Ok.ensures.same_count ∙ c.loop-done.invariant.count;
 }
 
 pub returns-in-Err-clause-front : goal.returns-in-Err-clause-front

@@ -8,7 +8,7 @@ invariant-loop-done g l =
     record {
       bound : l.done ≤ length l.text;
       front : IsTrue sink.tells → sink.written l.sink ≡ sink.written l.fn.sink ++ take l.done l.text;
-      count : sink.faults l.fn.sink ≤ sink.faults l.sink;
+      count : sink.faults l.sink ≡ sink.faults l.fn.sink;
     }
 
 abbrev pub decreases-loop-done : goal.decreases-loop-done
