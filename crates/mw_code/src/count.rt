@@ -1,12 +1,14 @@
 // Nodes counted over a list, for code that is deeper than the limit.
 
-ghost use Rattle.std.specs.Prelude.{◌≡◌, ◌<◌, ◌++◌, length, IfOk};
+ghost use Rattle.std.specs.Prelude.{◌≡◌, ◌+◌, ◌<◌, ◌++◌, length, IfOk};
 ghost use Rattle.mw_code.specs.Reading.{IsDownward};
 ghost use Rattle.mw_code.specs.ReadViews.{AreCounted, parts_of, size_at};
 
 use crate::node::CodeNode;
+use crate::steps::Steps;
 use mw_region::{Id, Pool};
 use std::alloc::{AllocError, Global};
+use std::sync::ledger::Ledger;
 
 /// Puts the parts of a node at the list's end.
 fn push_parts(left: &mut Vec<Id>, node: CodeNode) -> Result<(), AllocError>
@@ -27,15 +29,17 @@ fn push_parts(left: &mut Vec<Id>, node: CodeNode) -> Result<(), AllocError>
 
 /// Takes the nodes of the code at a place from the budget, and answers whether it has that many.
 #[tactic(auto, using(crate::proofs::Counting::node_sizes, crate::proofs::Counting::node_here, crate::proofs::Counting::sizes_append, crate::proofs::Counting::AreHere_append, crate::proofs::Unsharing::size_positive))]
-pub(crate) fn count_nodes(
+pub(crate) fn count_nodes<L: Ledger>(
     alloc: Global,
     pool: &Pool<CodeNode>,
     id: Id,
     budget: &mut u32,
+    steps: &mut Steps<L>,
 ) -> Result<bool, AllocError>
     requires down { IsDownward pool.now.items }
     requires here { id.place < length pool.now.items }
-    ensures { IfOk result (λ whole. AreCounted whole (size_at pool.now.items id.place) budget.old budget.new) }
+    ensures count { IfOk result (λ whole. AreCounted whole (size_at pool.now.items id.place) budget.old budget.new) }
+    ensures visits { steps.new + budget.new ≡ steps.old + budget.old }
 {
     let mut left = Vec::new(alloc);
     left.push(id)?;
@@ -43,8 +47,9 @@ pub(crate) fn count_nodes(
         if *budget == 0 {
             return Ok(false);
         }
+        let node = steps.visit(pool, next);
         *budget -= 1;
-        push_parts(&mut left, *pool.get(next))?;
+        push_parts(&mut left, node)?;
     }
     Ok(true)
 }

@@ -9,9 +9,11 @@ pub mod node;
 mod place;
 mod read;
 mod reader;
+mod steps;
 #[cfg(test)]
 mod tests;
 
 pub use crate::fault::CodeFault;
 pub use crate::node::CodeNode;
 pub use crate::read::read_back;
+pub use crate::steps::Steps;

@@ -5,10 +5,12 @@ ghost use Rattle.std.specs.Bool.{OnTrue};
 ghost use Rattle.mw_code.specs.Reading.{ArePartsBelow, IsDownward};
 
 use crate::node::CodeNode as Node;
-use crate::{CodeFault, read_back};
+use crate::{CodeFault, Steps, read_back};
 use mw_region::{Id, Pool};
 use mw_term::{Prim, Term, depth, nodes};
 use std::alloc::{AllocError, Global};
+use std::marker::Brand;
+use std::sync::ledger::{Blank, Ledger};
 use std::test::Fail;
 
 const ZERO: Id = Id { place: 0 };
@@ -67,13 +69,23 @@ fn pool_of(alloc: Global, nodes: &[Node]) -> Result<Pool<Node>, AllocError>
     Ok(pool)
 }
 
+// What the last node of a pool is read back to, from no visits on.
+fn read_last<L: Ledger>(alloc: Global, pool: &Pool<Node>, blank: Blank) -> Result<Term, CodeFault>
+    requires down { IsDownward pool.now.items }
+    requires name { blank.name ≡ L.name }
+    requires parts { blank.parts ≡ L.parts }
+    requires some { 0 < L.parts }
+{
+    let place = pool.len().checked_sub(1).ok_or(AllocError)?;
+    let id = Id { place };
+    read_back(alloc, pool, id, &mut Steps::<L>::open(blank))
+}
+
 // What the last node of a pool is read back to.
 fn read(alloc: Global, pool: &Pool<Node>) -> Result<Term, CodeFault>
     requires { IsDownward pool.now.items }
 {
-    let place = pool.len().checked_sub(1).ok_or(AllocError)?;
-    let id = Id { place };
-    read_back(alloc, pool, id)
+    read_last::<Brand>(alloc, pool, Blank::new(1))
 }
 
 // The fault.

@@ -25,8 +25,7 @@ use Rattle.mw_kernel.specs.declared.fault.RunFault.{RunFault}
 use Rattle.mw_kernel.specs.declared.fault.RunFault.TheVariants as fault
 use Rattle.mw_kernel.specs.declared.running.Began.{Began}
 use Rattle.mw_kernel.specs.declared.running.Began.TheVariants as began
-use Rattle.mw_kernel.specs.Invoking.{FitsWords}
-use Rattle.mw_kernel.specs.KernelAnswers.{kernel_value, HasStartType, HasCallType, IsSameFunction}
+use Rattle.mw_kernel.specs.KernelAnswers.{FitsWords, kernel_value, HasStartType, HasCallType, IsSameFunction}
 use Rattle.mw_kernel.specs.KernelMeanings.{IsSameValue, HasShortIntegers, IsBeganFrom, IsRanFrom, IsStartMeant, IsCallMeant, MeansStart, KeepsOn}
 use Rattle.mw_kernel.specs.RunningStates.{RunningState}
 use Rattle.mw_kernel.proofs.MeaningLemmas.{short_integers_are_kept}

@@ -1,16 +1,15 @@
 // A function that a run gave.
 
 ghost use Rattle.std.specs.Prelude.{◌≡◌, false, IfOk, Err};
-ghost use Rattle.mw_term.specs.Terms.{expression_of, kernel_type_of, base_value_of, ground_value_of};
+ghost use Rattle.mw_term.specs.Terms.{expression_of, kernel_type_of, ground_value_of};
 ghost use Rattle.mw_meaning.specs.declared.mode.Mode.{Mode};
 ghost use Rattle.mw_machine.specs.KernelCalls.{IsArgumentOf, IsCallAt, LeavesAtMost, AnswersCall, ends_all};
-ghost use Rattle.mw_kernel.specs.Invoking.{FitsWords};
 ghost use Rattle.mw_emitting.specs.Answers.{IsWant, IsOnlyWant};
 ghost use Rattle.mw_emitting.specs.KeptFunctions.{IsKept};
 
 use mw_kernel::{RunFault, Running};
 use mw_machine::{KernelFault, Ran};
-use mw_term::{BaseValue, GroundValue, KType, Term, copied_kernel_type, copied_term};
+use mw_term::{GroundValue, KType, Term, copied_kernel_type, copied_term};
 use std::alloc::{AllocError, Global};
 
 /// The code of a run, as it was built, and its type.
@@ -61,7 +60,6 @@ impl Function {
         ensures source { self.new.source ≡ self.old.source }
         ensures keeps { ends_all result ≡ false → (mode : Mode) → IsKept mode self.old → IsKept mode self.new }
     {
-        has_words(argument);
         match self.running.call(alloc, argument, fuel) {
             Ok(ran) => Ok(ran),
             Err(fault) => Err(want(fault)),
@@ -79,21 +77,3 @@ pub fn want(fault: RunFault) -> KernelFault
         RunFault::Bad => unreachable!(),
     }
 }
-
-/// Reads the whole value: each of its integers has 64 bits.
-fn has_words(value: &GroundValue)
-    ensures { FitsWords (ground_value_of value.now) }
-{
-    match value {
-        GroundValue::Base(base) => base_has_words(*base),
-        GroundValue::Pair(first, second) => {
-            has_words(first);
-            has_words(second);
-        }
-    }
-}
-
-/// Likewise of a base value.
-fn base_has_words(_value: BaseValue)
-    ensures { FitsWords (base_value_of _value) }
-{}

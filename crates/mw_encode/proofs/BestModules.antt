@@ -9,12 +9,12 @@ use Rattle.mw_wasm.specs.Pieces.{octet, u32}
 use Rattle.mw_wasm.specs.BinaryInstructions.{value_type}
 use Rattle.mw_wasm.specs.BinaryModules.{function_type, limits_of, limits, table, mutability, global, function_kind, exported, export, element, data_segment, function_code, import_section, customs, at_most_one, Spells}
 use Rattle.mw_encode.specs.Encoding.{number, value_type_bytes, octet_bytes, function_type_bytes, limits_of_bytes, limits_bytes, table_bytes, mutability_byte, global_bytes, function_kind_bytes, exported_bytes, export_bytes, element_bytes, segment_bytes, function_code_bytes, header_bytes, encoding, EncodingIsShortest}
-use Rattle.mw_encode.proofs.Best.{Best, best_exactly, best_byte, best_octet, best_then, best_u32, best_vector, best_when, best_sized, best_section, best_or_left}
+use Rattle.mw_encode.proofs.Best.{Best, best_exactly, best_byte, best_octet, best_then, best_u32, best_vector, best_sized, best_section, best_or_left}
 use Rattle.mw_encode.proofs.BestInstructions.{best_value_type, best_expression}
 use Rattle.mw_encode.proofs.BestLocals.{best_locals}
 
 pub best_function_type : (t : FuncType) → Best (function_type t) (function_type_bytes t)
-best_function_type t = best_when (best_then (best_byte 0x60) (best_then (best_vector value_type value_type_bytes best_value_type t.params) (best_vector value_type value_type_bytes best_value_type t.results)))
+best_function_type t = best_then (best_byte 0x60) (best_then (best_vector value_type value_type_bytes best_value_type t.params) (best_vector value_type value_type_bytes best_value_type t.results))
 
 best_limits_of : (min : ℕ) (max : Option ℕ) → Best (limits_of min max) (limits_of_bytes min max)
 best_limits_of min None = best_then (best_byte 0x00) (best_u32 min)

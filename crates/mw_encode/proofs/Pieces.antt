@@ -2,7 +2,7 @@
 use Rattle.std.proofs.Common.{◌≡◌, ℕ, zero, suc, ◌+◌, ◌^◌, ◌≤◌, ◌<◌, List, [], ◌∷◌, ◌++◌, length, map, drop, get_or, drop-cons, add-one, append_assoc, append-nil, refl, sym, ap, ◌∙◌, inl, inr, arith}
 use Rattle.std.proofs.lemmas.List.{length-map, map-id}
 use Rattle.std.specs.List.{flat_map}
-use Rattle.mw_wasm.specs.Pieces.{Piece, ◌then◌, ◌when◌, items, vector, sized}
+use Rattle.mw_wasm.specs.Pieces.{Piece, ◌then◌, items, vector, sized}
 use Rattle.mw_wasm.specs.BinaryModules.{section}
 use Rattle.mw_encode.specs.Encoding.{Spelled, number, octet_bytes, vector_bytes, sized_bytes, section_bytes}
 use Rattle.mw_encode.proofs.Best.{Best, best_vector, content_small}
@@ -13,9 +13,6 @@ spelled_first s = record { bytes = s.spell.front; spell = s.spell.first }
 
 pub spelled_second : {P Q : List ℕ → Type 0} → Spelled (P then Q) → Spelled Q
 spelled_second s = record { bytes = s.spell.back; spell = s.spell.second }
-
-pub spelled_when : {P : List ℕ → Type 0} {A : Type 0} → Spelled (P when A) → Spelled P
-spelled_when s = record { bytes = s.bytes; spell = s.spell.1 }
 
 pub spelled_inside : {P : List ℕ → Type 0} → Spelled (sized P) → Spelled P
 spelled_inside s = record { bytes = s.spell.content; spell = s.spell.inside }

@@ -127,9 +127,13 @@ funcs_length v t slots body k = length-append (map (function_for v) t) (init_fun
 heads : {a b : ℕ} {xs ys : List ℕ} → a ∷ xs ≡ b ∷ ys → a ≡ b
 heads e = cc
 
+pub few_results : (k : KernelType) → AllByRecursion (λ (t : FuncType). length t.results ≤ 1) (more_types k)
+few_results (of_ground g) = tt
+few_results (to s b) = (omega arith, tt)
+
 pub module_valid : (v : Version) (t : List IrFunc) (slots : ℕ) (body : Ir) (k : KernelType) → AllProper t → ((n : ℕ) → slots ≤ n → Sees body 0 n) → slots_needed body ≤ slots → length t ≤ 2 ^ 32 → IsValid (module_with v t slots body k)
 module_valid v t slots body k proper sees nd few = record {
-  types = (omega arith, (omega arith, types k));
+  types = (omega arith, (omega arith, few_results k));
   funcs = all_append _ (map (function_for v) t) _ (funcs_valid v t slots body k t proper) (init_valid v t slots body k (sees slots (omega arith)) nd sees, more_valid v t slots body k);
   table = (few, (few, omega arith));
   memory = (omega arith, (omega arith, omega arith));
@@ -140,10 +144,6 @@ module_valid v t slots body k proper sees nd few = record {
   segments = tt;
 }
   where
-    types : (k : KernelType) → AllByRecursion (λ (t : FuncType). length t.results ≤ 1) (more_types k)
-    types (of_ground g) = tt
-    types (to s b) = (omega arith, tt)
-
     exports : (k : KernelType) → AllByRecursion (λ (e : Exporting). IsThere (module_with v t slots body k) e.what) (module_with v t slots body k).exports
     exports (of_ground g) = (omega (arith, funcs_length v t slots body (of_ground g)), tt)
     exports (to s b) = (omega (arith, funcs_length v t slots body (to s b)), (omega (arith, funcs_length v t slots body (to s b)), tt))

@@ -9,7 +9,7 @@ use Rattle.mw_wasm.specs.declared.values.ValType.TheVariants.{I64}
 use Rattle.mw_wasm.specs.declared.modules.Limits.{Limits}
 use Rattle.mw_wasm.specs.declared.modules.Exported.TheVariants.{Func}
 use Rattle.mw_wasm.specs.Leb.{IsUnsigned, IsSigned, unsigned_of}
-use Rattle.mw_wasm.specs.Pieces.{Piece, byte, octet, i32, ◌then◌, ◌when◌, u32, items, vector, sized}
+use Rattle.mw_wasm.specs.Pieces.{Piece, byte, octet, i32, ◌then◌, u32, items, vector, sized}
 use Rattle.mw_wasm.specs.BinaryInstructions.{instruction, expression, value_type}
 use Rattle.mw_wasm.specs.BinaryModules.{locals, function_type, table, limits, limits_of, global, export, section, customs, import_section, header}
 use Rattle.mw_wasm.specs.Syntax.{const_i32, const_i64, end, next}
@@ -124,16 +124,13 @@ header_within = record { bytes = _; spell = refl; short = omega arith }
 pub one_result : SpelledWithin 6 (vector value_type (I64 ∷ []))
 one_result = within_vector value_type (I64 ∷ []) (omega arith) (within_cons value_type I64 [] (within_byte 0x7E) (within_nil value_type))
 
-pub within_when : {k : ℕ} {P : List ℕ → Type 0} {A : Type 0} → A → SpelledWithin k P → SpelledWithin k (P when A)
-within_when a s = record { bytes = s.bytes; spell = (a, s.spell); short = s.short }
-
 pub closure_within : SpelledWithin 14 (function_type closure_type)
 closure_within =
     let params = within_vector {k = 2} value_type (I64 ∷ I64 ∷ []) (omega arith) (within_cons {j = 1} {k = 1} value_type I64 (I64 ∷ []) (within_byte 0x7E) (within_cons value_type I64 [] (within_byte 0x7E) (within_nil value_type))) in
-    within_when (omega arith) (within_then {j = 1} {k = 13} (within_byte 0x60) (within_then {j = 7} {k = 6} params one_result))
+    within_then {j = 1} {k = 13} (within_byte 0x60) (within_then {j = 7} {k = 6} params one_result)
 
 pub init_within : SpelledWithin 12 (function_type init_type)
-init_within = within_when (omega arith) (within_then {j = 1} {k = 11} (within_byte 0x60) (within_then {j = 5} {k = 6} (within_vector {k = 0} value_type [] (omega arith) (within_nil value_type)) one_result))
+init_within = within_then {j = 1} {k = 11} (within_byte 0x60) (within_then {j = 5} {k = 6} (within_vector {k = 0} value_type [] (omega arith) (within_nil value_type)) one_result)
 
 -- a vector of one item
 pub within_one : {A : Type 0} {k : ℕ} (P : A → Piece) (x : A) → SpelledWithin k (P x) → SpelledWithin (5 + (k + 0)) (vector P (x ∷ []))

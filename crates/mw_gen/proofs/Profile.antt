@@ -15,7 +15,7 @@ use Rattle.mw_ir.specs.declared.place.Place.{Place}
 use Rattle.mw_ir.specs.Ir.{Ir, IrFunc}
 use Rattle.mw_meaning.specs.Shapes.{leaf_count}
 use Rattle.mw_gen.specs.Generate.{Version, expression_code, tail_code, is_own, place_code, stores_code, prim_code, application_code, spare_count, is_loop, body_wants_spare, body_code, function_for, init_function, call_function, call_of, argument_of, wants_spare, elements_of, more_functions, more_exports, module_with}
-use Rattle.mw_gen.proofs.Modules.{all_append}
+use Rattle.mw_gen.proofs.Modules.{all_append, few_results}
 
 -- the choices that stand one in another
 abbrev pub ifs : Ir → ℕ
@@ -112,6 +112,7 @@ module _ (v : Version) where
 
 pub module_within_profile : (v : Version) (t : List IrFunc) (slots : ℕ) (body : Ir) (k : KernelType) → length t ≤ 20000 → AllByRecursion (IsModest 400 20000) t → slots ≤ 20000 → ifs body ≤ 400 → IsWithinProfile (module_with v t slots body k)
 module_within_profile v t slots body k many modest few flat = record {
+  type_results = (omega arith, (omega arith, few_results k));
   table_elements = omega arith;
   memory_pages = omega arith;
   further_locals = all_append _ (map (function_for v) t) _ (locals_few v t modest) (omega (arith, length-replicate (slots + spare_count (wants_spare body)) I64, temps_two (wants_spare body)), call_few k);

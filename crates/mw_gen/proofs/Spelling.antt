@@ -22,7 +22,7 @@ use Rattle.mw_gen.proofs.Instance.{counting_length}
 use Rattle.mw_gen.proofs.Valid.{Sees}
 use Rattle.mw_gen.proofs.Modules.{argument_sees}
 use Rattle.mw_gen.proofs.Profile.{temps_two}
-use Rattle.mw_gen.proofs.Pieces.{SpelledWithin, within_then, within_more, within_byte, within_u32, within_sized, within_nil, within_cons, within_vector, within_section, within_absent, within_when, within_one, customs_within, no_imports, header_within, one_result, closure_within, init_within, table_within, memory_within, globals_within, zero_code_within, octet_within, name_within}
+use Rattle.mw_gen.proofs.Pieces.{SpelledWithin, within_then, within_more, within_byte, within_u32, within_sized, within_nil, within_cons, within_vector, within_section, within_absent, within_one, customs_within, no_imports, header_within, one_result, closure_within, init_within, table_within, memory_within, globals_within, zero_code_within, octet_within, name_within}
 use Rattle.mw_gen.proofs.Spelled.{expression_within, breadth, body_width, expression_width, Near, expression_fit, body_fit}
 
 -- what the code of a function's body needs to be spelled
@@ -107,7 +107,7 @@ leaves_within zero = within_nil value_type
 leaves_within (suc n) = within_more (suc n) (omega arith) (within_then {j = 1} {k = n} (within_byte 0x7E) (leaves_within n))
 
 call_type_within : (s : GroundType) → leaf_count s ≤ 10000 → SpelledWithin 10013 (function_type (call_type s))
-call_type_within s few = within_when (omega arith) (within_then {j = 1} {k = 10012} (within_byte 0x60) (within_then {j = 10006} {k = 6} (within_more 10006 (omega arith) (within_vector value_type (I64 ∷ replicate (leaf_count s) I64) (omega (arith, length-replicate (leaf_count s) I64)) (leaves_within (suc (leaf_count s))))) one_result))
+call_type_within s few = within_then {j = 1} {k = 10012} (within_byte 0x60) (within_then {j = 10006} {k = 6} (within_more 10006 (omega arith) (within_vector value_type (I64 ∷ replicate (leaf_count s) I64) (omega (arith, length-replicate (leaf_count s) I64)) (leaves_within (suc (leaf_count s))))) one_result)
 
 types_within : (k : KernelType) → kernel_nodes k ≤ 10000 → SpelledWithin 10050 (section 1 function_type (closure_type ∷ init_type ∷ more_types k))
 types_within (of_ground g) few = within_more 10050 (omega arith) (within_section {k = 31} 1 function_type (closure_type ∷ init_type ∷ []) (omega arith)

@@ -34,10 +34,8 @@ use Rattle.mw_kernel.specs.declared.fault.RunFault.TheVariants as fault
 use Rattle.mw_kernel.specs.declared.running.Began.{Began}
 use Rattle.mw_kernel.specs.declared.running.Began.TheVariants as began
 use Rattle.mw_kernel.specs.RunningStates.{RunningState, IsRunnable, store_of}
-use Rattle.mw_kernel.specs.KernelAnswers.{kernel_value, EndsWithValue, EndsByTrap, EndsAtBound, IsKeptAs, IsBeganAs, IsStartOf, IsCallOf, AnswersStart, AnswersCall, call_end, IsStoreAfter, StoreAfterCall, IsSameFunction}
+use Rattle.mw_kernel.specs.KernelAnswers.{kernel_value, EndsWithValue, EndsByTrap, EndsAtBound, IsKeptAs, IsBeganAs, IsStartOf, IsCallOf, AnswersStart, AnswersCall, call_end, IsStoreAfter, StoreAfterCall, IsSameFunction, FitsWords, FitsUnlessMemory}
 use Rattle.mw_kernel.specs.KernelMeanings.{IsSameValue, Keeps, IsBeganFrom, IsRanFrom, IsStartMeant, IsCallMeant, MeansStart, MeansCall, KeepsOn, ShortIntegersAreKept}
-use Rattle.mw_kernel.specs.Invoking.{FitsWords}
-use Rattle.mw_kernel.specs.Answering.{FitsUnlessMemory}
 use Rattle.mw_kernel.proofs.WordEnds.{is_argument}
 
 -- one word is that of one value of the type

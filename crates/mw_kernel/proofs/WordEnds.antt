@@ -30,7 +30,8 @@ use Rattle.mw_exec.specs.Instancing.{CanInvoke, EndsAs, values_of}
 use Rattle.mw_kernel.specs.declared.outcome.Outcome.{Outcome}
 use Rattle.mw_kernel.specs.declared.outcome.Outcome.TheVariants as outcome
 use Rattle.mw_kernel.specs.RunningStates.{IsStoreOf}
-use Rattle.mw_kernel.specs.Invoking.{GivesWord, IsOneWord, IsOutcomeOf, EndsAsOutcome, LeavesStore, FitsWords}
+use Rattle.mw_kernel.specs.Invoking.{GivesWord, IsOneWord, IsOutcomeOf, EndsAsOutcome, LeavesStore}
+use Rattle.mw_kernel.specs.KernelAnswers.{FitsWords}
 use Rattle.mw_kernel.proofs.Units.{Leaves, invoked_leaves}
 
 -- an exported function can be invoked with arguments of its types

@@ -1,6 +1,6 @@
 -- Answers by outcomes.
 use Rattle.std.specs.Prelude.{◌≡◌, ◌≤◌, Option, Some, None, Result, Ok, Err}
-use Rattle.mw_term.specs.Terms.{GroundType, PureGroundValue, ground_value_of}
+use Rattle.mw_term.specs.Terms.{GroundType, ground_value_of}
 use Rattle.mw_term.specs.declared.value.Limit.TheVariants.{Fuel}
 use Rattle.mw_meaning.specs.Shapes.{IsWordOf}
 use Rattle.mw_wasm.specs.Store.{Memory, Store}
@@ -14,7 +14,6 @@ use Rattle.mw_kernel.specs.declared.outcome.Outcome.TheVariants as outcome
 use Rattle.mw_kernel.specs.declared.running.Began.{Began}
 use Rattle.mw_kernel.specs.declared.running.Began.TheVariants as began
 use Rattle.mw_kernel.specs.KernelAnswers.{IsValueAt}
-use Rattle.mw_kernel.specs.Invoking.{FitsWords}
 
 -- where there is a word, the memory has few pages
 abbrev pub HasFewPages : Outcome → Store → Type 0
@@ -47,8 +46,3 @@ IsBegunAnswer _ _ = ⊥
 abbrev pub IsHeldAfter : Outcome → InstanceState → Option InstanceState → Type 0
 IsHeldAfter (outcome.Bound Fuel) i held = held ≡ None
 IsHeldAfter _ i held = held ≡ Some i
-
--- unless memory was wanting, the argument's integers have 64 bits
-abbrev pub FitsUnlessMemory : Result Ran RunFault → PureGroundValue → Type 0
-FitsUnlessMemory (Err (fault.Memory _)) v = Unit {0}
-FitsUnlessMemory _ v = FitsWords v

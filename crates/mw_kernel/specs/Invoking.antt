@@ -1,7 +1,6 @@
 -- Invocations that give one word, on an instance.
-use Rattle.std.specs.Prelude.{ℕ, ◌+◌, ◌≡◌, if◌then◌else◌, List, [], ◌∷◌, map, Option, Some, None, FitsSigned}
-use Rattle.std.specs.Int.{w64}
-use Rattle.mw_term.specs.Terms.{GroundType, PureGroundValue, int, bool, both, ground_value_of}
+use Rattle.std.specs.Prelude.{ℕ, ◌+◌, ◌≡◌, if◌then◌else◌, List, [], ◌∷◌, map, Option, Some, None}
+use Rattle.mw_term.specs.Terms.{GroundType, ground_value_of}
 use Rattle.mw_term.specs.declared.value.GroundValue.{GroundValue}
 use Rattle.mw_term.specs.declared.value.Limit.TheVariants.{Fuel, Heap, KernelSize}
 use Rattle.mw_term.specs.declared.value.TrapKind.TheVariants as kind
@@ -72,12 +71,6 @@ EndsAsOutcome outcome.Stray after e = (t : Trap) × IsOtherTrap t × (e ≡ trap
 abbrev pub LeavesStore : Outcome → PureModule → Store → Type 0
 LeavesStore (outcome.Bound Fuel) m after = Unit {0}
 LeavesStore _ m after = IsStoreOf m after
-
--- the integers of a ground value have 64 bits
-abbrev pub FitsWords : PureGroundValue → Type 0
-FitsWords (int z) = FitsSigned w64 z
-FitsWords (bool b) = Unit {0}
-FitsWords (both v w) = FitsWords v × FitsWords w
 
 -- what is read at a word: its value of the ground type, or none where it is the word of none
 abbrev pub IsReadAt : GroundType → Option GroundValue → ℕ → Memory → Type 0

@@ -1,5 +1,6 @@
 -- What an answer says of how the invocation of `init` or of `call` ends.
-use Rattle.std.specs.Prelude.{ℕ, ◌≡◌, ◌≤◌, [], ◌∷◌, Some, Result, Ok, Err, codes}
+use Rattle.std.specs.Prelude.{ℕ, ◌≡◌, ◌≤◌, [], ◌∷◌, Some, Result, Ok, Err, codes, FitsSigned}
+use Rattle.std.specs.Int.{w64}
 use Rattle.mw_term.specs.Terms.{GroundType, KernelType, KernelValue, PureGroundValue, of_ground, to, int, bool, both, ground_value, ground_value_of}
 use Rattle.mw_term.specs.declared.value.Limit.{Limit}
 use Rattle.mw_term.specs.declared.value.Limit.TheVariants.{Fuel, Heap}
@@ -28,6 +29,12 @@ abbrev pub kernel_value : PureGroundValue → KernelValue
 kernel_value (int n) = int n
 kernel_value (bool b) = bool b
 kernel_value (both v w) = both (kernel_value v) (kernel_value w)
+
+-- the integers of a ground value have 64 bits
+abbrev pub FitsWords : PureGroundValue → Type 0
+FitsWords (int z) = FitsSigned w64 z
+FitsWords (bool b) = Unit {0}
+FitsWords (both v w) = FitsWords v × FitsWords w
 
 -- The word is this value of the ground type, beside this memory; the value's integers have 64 bits.
 pub record IsValueAt (t : GroundType) (v : PureGroundValue) (n : ℕ) (memory : Memory) : Type 0 where
@@ -147,3 +154,8 @@ abbrev pub CallLeavesAtMost : Result Ran RunFault → ℕ → Type 0
 CallLeavesAtMost (Ok (ran.Value v left)) units = left ≤ units
 CallLeavesAtMost (Ok (ran.Function i left)) units = left ≤ units
 CallLeavesAtMost _ units = Unit {0}
+
+-- unless memory was wanting, the argument's integers have 64 bits
+abbrev pub FitsUnlessMemory : Result Ran RunFault → PureGroundValue → Type 0
+FitsUnlessMemory (Err (fault.Memory _)) v = Unit {0}
+FitsUnlessMemory _ v = FitsWords v

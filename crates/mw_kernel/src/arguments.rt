@@ -4,7 +4,7 @@ ghost use Rattle.std.specs.Prelude.{◌≡◌, [], ◌∷◌, ◌++◌, IfOk, On
 ghost use Rattle.mw_term.specs.Terms.{base_value_of, ground_value, ground_value_of};
 ghost use Rattle.mw_meaning.specs.StandingFor.{leaves};
 ghost use Rattle.mw_wasm.specs.declared.values.Value.TheVariants.{I64};
-ghost use Rattle.mw_kernel.specs.Invoking.{FitsWords};
+ghost use Rattle.mw_kernel.specs.KernelAnswers.{FitsWords};
 
 use mw_term::{BaseValue, GroundValue};
 use mw_wasm::Value;

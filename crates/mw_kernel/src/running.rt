@@ -9,9 +9,9 @@ ghost use Rattle.mw_wasm.specs.Views.{module_of};
 ghost use Rattle.mw_wasm.specs.Validity.{IsValid};
 ghost use Rattle.mw_exec.specs.InstanceStates.{store_in};
 ghost use Rattle.mw_kernel.specs.RunningStates.{IsRunnable};
-ghost use Rattle.mw_kernel.specs.KernelAnswers.{AnswersStart, AnswersCall, StoreAfterCall, IsSameFunction, HasStartType, HasCallType, StartLeavesAtMost, CallLeavesAtMost};
+ghost use Rattle.mw_kernel.specs.KernelAnswers.{AnswersStart, AnswersCall, StoreAfterCall, IsSameFunction, HasStartType, HasCallType, StartLeavesAtMost, CallLeavesAtMost, FitsUnlessMemory};
 ghost use Rattle.mw_kernel.specs.KernelMeanings.{MeansStart, MeansCall, KeepsOn};
-ghost use Rattle.mw_kernel.specs.Answering.{HasFewPages, IsAnswerOf, IsNoFunction, IsBegunAnswer, IsHeldAfter, FitsUnlessMemory};
+ghost use Rattle.mw_kernel.specs.Answering.{HasFewPages, IsAnswerOf, IsNoFunction, IsBegunAnswer, IsHeldAfter};
 
 use crate::arguments::arguments_of;
 use crate::fault::RunFault;
@@ -99,6 +99,7 @@ impl Running {
         ensures store { StoreAfterCall result self.old self.new (ground_value_of argument.now) fuel }
         ensures keeps { KeepsOn result self.old self.new }
         ensures same { IsSameFunction self.old self.new }
+        ensures fits { FitsUnlessMemory result (ground_value_of argument.now) }
         ensures runnable { IsRunnable self.old }
     {
         self.invoke(alloc, argument, fuel)

@@ -1,8 +1,12 @@
 -- The erased program: its lets are the program's, numbered among themselves, and its kernels are lets round main.
-use Rattle.std.specs.Prelude.{ℕ, zero, suc, ◌+◌, ◌<◌, ◌≡◌, length, List, [], ◌∷◌}
+use Rattle.std.specs.Prelude.{ℕ, zero, suc, ◌+◌, ◌<◌, ◌≡◌, length, map, List, [], ◌∷◌}
+use Rattle.std.specs.List.{flat_map}
 use Rattle.mw_term.specs.Terms.{Expression, Value, PureGroundValue, num, truth, var, glob, fun, fix, app, bind, cond, pair, fst, snd, prim}
 use Rattle.mw_term.specs.Sources.{IsSource}
 use Rattle.mw_term.specs.Programs.{Definition, value as defines, kernel, PureProgram}
+use Rattle.mw_term.specs.declared.program.Item.{Item}
+use Rattle.mw_term.specs.declared.program.ItemKind.{ItemKind}
+use Rattle.mw_term.specs.declared.program.ItemKind.TheVariants.{Value as ValueItem, Kernel as KernelItem}
 use Rattle.mw_meaning.specs.declared.mode.Mode.{Mode}
 use Rattle.mw_meaning.specs.declared.mode.Mode.TheVariants.{Plain}
 use Rattle.mw_meaning.specs.Outcomes.{Outcome, came_to, item_outcome, main_outcome, names_of_items, names_of_main}
@@ -61,6 +65,17 @@ erased_program p = record {
   result = p.result;
   body = term_of (inside_lets (name_in p.items zero) p.items (renamed (name_in p.items zero) zero (plain p.body)));
 }
+
+-- the names of items, and of the lets among them, in order
+abbrev pub item_names : List Item → List (List ℕ)
+item_names items = map (λ (i : Item). i.name) items
+
+abbrev pub name_of_let : ItemKind → List ℕ → List (List ℕ)
+name_of_let (ValueItem t) x = x ∷ []
+name_of_let (KernelItem k t) x = []
+
+abbrev pub let_names : List Item → List (List ℕ)
+let_names items = flat_map (λ (i : Item). name_of_let i.kind i.name) items
 
 -- no value was put for a variable yet, as in a program that was read
 abbrev pub AreSourceItems : List Definition → Type 0

@@ -4,7 +4,7 @@ ghost use Rattle.std.specs.Prelude.{◌≡◌, ◌+◌, ◌++◌, ◌<◌, ◌�
 ghost use Rattle.mw_term.specs.Terms.{expression_of, size};
 ghost use Rattle.mw_term.specs.Programs.{definition_of, definition_size, program_of, program_size};
 ghost use Rattle.mw_term.specs.Typable.{Typable};
-ghost use Rattle.mw_meaning.specs.ErasedPrograms.{kernels_in, lets_of, erased_program, HasBoundNames, IsSourceProgram};
+ghost use Rattle.mw_meaning.specs.ErasedPrograms.{kernels_in, lets_of, erased_program, item_names, let_names, HasBoundNames, IsSourceProgram};
 ghost use Rattle.mw_meaning.specs.ErasureLaws.{IsWithoutStaging};
 ghost use Rattle.mw_meaning.specs.NewNames.{naming_of, new_names, inside_terms, IsNext, HasRoom, HaveRoom, definitions};
 
@@ -89,7 +89,8 @@ fn put_let(
     names: &[NewName],
 ) -> Result<(), AllocError>
     requires { HasRoom names.now 0 (definition_size (definition_of item.now.kind)) }
-    ensures { IfOk result (λ _. definitions lets.new ≡ definitions lets.old ++ lets_of (naming_of names.now) (definition_of item.now.kind ∷ [])) }
+    ensures lets { IfOk result (λ _. definitions lets.new ≡ definitions lets.old ++ lets_of (naming_of names.now) (definition_of item.now.kind ∷ [])) }
+    ensures named { IfOk result (λ _. item_names lets.new ≡ item_names lets.old ++ let_names (item.now ∷ [])) }
 {
     match &item.kind {
         ItemKind::Kernel(_, _) => Ok(()),
@@ -104,7 +105,8 @@ fn put_let(
 /// The lets among the items, erased.
 fn erased_lets(alloc: Global, items: &[Item], names: &[NewName]) -> Result<Items, AllocError>
     requires { HaveRoom names.now (definitions items.now) }
-    ensures { IfOk result (λ lets. definitions lets ≡ lets_of (naming_of names.now) (definitions items.now)) }
+    ensures lets { IfOk result (λ lets. definitions lets ≡ lets_of (naming_of names.now) (definitions items.now)) }
+    ensures named { IfOk result (λ lets. item_names lets ≡ let_names items.now) }
 {
     let mut lets = Items::new(alloc);
     for item in items {
@@ -151,12 +153,14 @@ fn inside(
     Ok(inner)
 }
 
-/// The erased program: the program's lets, erased, and main, erased, inside one let for each kernel. It needs fewer than 2^31
-/// nodes, and that each name is an item's, as in a program that was checked. The one error is want of memory.
+/// The erased program: the program's lets, erased, each under its name, and main, erased, inside one let for each kernel. It
+/// needs fewer than 2^31 nodes, and that each name is an item's, as in a program that was checked. The one error is want of
+/// memory.
 pub fn erase_program(alloc: Global, program: &Program) -> Result<Program, AllocError>
     requires names { HasBoundNames (program_of program.now) }
     requires nodes { program_size (program_of program.now) < 2 ^ 31 }
     ensures erased { IfOk result (λ p. program_of p ≡ erased_program (program_of program.now)) }
+    ensures named { IfOk result (λ p. item_names p.items ≡ let_names program.now.items) }
     ensures typable { IfOk result (λ p. IsSourceProgram (program_of program.now) → Typable (program_of program.now) → Typable (program_of p)) }
     ensures unstaged { IfOk result (λ p. IsWithoutStaging (program_of p)) }
 {

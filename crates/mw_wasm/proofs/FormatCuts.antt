@@ -1,7 +1,9 @@
 -- The worked examples of the binary format, cut into their pieces.
-use Rattle.std.proofs.Common.{◌≡◌, ℕ, zero, suc, ◌<◌, ◌≤◌, ◌^◌, ◌-◌, T, ltb, ltb→lt, lit<, lit≤, ℤ, pos, negsuc, inl, inr, List, [], ◌∷◌, length, take, drop, refl, sym, arith}
+use Rattle.std.proofs.Common.{◌≡◌, ℕ, zero, suc, ◌<◌, ◌≤◌, ◌^◌, ◌-◌, T, ltb, ltb→lt, lit<, lit≤, ℤ, pos, negsuc, inl, inr, List, [], ◌∷◌, length, take, drop, refl, sym, subst, arith}
+use Rattle.std.specs.List.{AllByRecursion}
 use Rattle.std.proofs.lemmas.List.{take-append-drop}
 use Rattle.mw_wasm.specs.declared.values.ValType.TheVariants.{I32, I64}
+use Rattle.mw_wasm.specs.declared.modules.FuncType.{FuncType}
 use Rattle.mw_wasm.specs.Leb.{IsUnsigned, IsSigned, IsInteger}
 use Rattle.mw_wasm.specs.Pieces.{Joined, Sized, octet}
 use Rattle.mw_wasm.specs.BinaryInstructions.{expression}
@@ -9,7 +11,7 @@ use Rattle.mw_wasm.specs.BinaryModules.{function_type, limits, table, global, fu
 use Rattle.mw_wasm.specs.Syntax.{const_i64, end, next}
 use Rattle.mw_wasm.specs.ExampleModules.{example_a, example_b, cube_body, closure_body, call_body}
 use Rattle.mw_wasm.specs.Profile.{depth}
-use Rattle.mw_wasm.specs.FormatExamples.{ExampleAIsSpelled, ExampleBIsSpelled, LongerIndexIsSpelled, PaddedModuleIsSpelled, EmptyElseIsSpelled, ExamplesAreWithinProfile, nested, DepthEndsAt500, SixBytesAreNoIndex, UnusedBitsAreZero, MinusOneIsSpelled, UnusedBitsAreTheSign}
+use Rattle.mw_wasm.specs.FormatExamples.{ExampleAIsSpelled, ExampleBIsSpelled, LongerIndexIsSpelled, PaddedModuleIsSpelled, EmptyElseIsSpelled, ExamplesAreWithinProfile, two_results, TwoResultsAreOutside, nested, DepthEndsAt500, SixBytesAreNoIndex, UnusedBitsAreZero, MinusOneIsSpelled, UnusedBitsAreTheSign}
 
 -- one piece of n bytes, and another
 pub cut : (n : ℕ) {P Q : List ℕ → Type 0} {bytes : List ℕ} → P (take n bytes) → Q (drop n bytes) → Joined P Q bytes
@@ -51,15 +53,9 @@ call_locals = record {
 }
 
 types_a : section 1 function_type example_a.types (0x01 ∷ 0x0B ∷ 0x02 ∷ 0x60 ∷ 0x02 ∷ 0x7E ∷ 0x7E ∷ 0x01 ∷ 0x7E ∷ 0x60 ∷ 0x00 ∷ 0x01 ∷ 0x7E ∷ [])
-types_a = inr (cut 1 refl (measured 1 (small 11 tt) (cut 1 (small 2 tt) (cut 6 (
-  lit≤ tt,
-  cut 1 refl (cut 3 (cut 1 (small 2 tt) (cut 1 refl
-      (cut 1 refl refl))) (cut 1 (small 1 tt) (cut 1 refl refl))),
-) (cut 4 (
-  lit≤ tt,
-  cut 1 refl (cut 1 (cut 1 (small 0 tt) refl) (cut 1 (small 1 tt)
-      (cut 1 refl refl))),
-) refl)))))
+types_a = inr (cut 1 refl (measured 1 (small 11 tt) (cut 1 (small 2 tt)
+    (cut 6 (cut 1 refl (cut 3 (cut 1 (small 2 tt) (cut 1 refl (cut 1 refl refl))) (cut 1 (small 1 tt) (cut 1 refl refl))))
+    (cut 4 (cut 1 refl (cut 1 (cut 1 (small 0 tt) refl) (cut 1 (small 1 tt) (cut 1 refl refl)))) refl)))))
 
 kinds_a : section 3 function_kind example_a.funcs (0x03 ∷ 0x02 ∷ 0x01 ∷ 0x01 ∷ [])
 kinds_a = inr (cut 1 refl (measured 1 (small 2 tt) (cut 1 (small 1 tt) (cut 1 (small 1 tt) refl))))
@@ -101,19 +97,10 @@ longer_index_is_spelled = cut 8 refl (cut 0 no_customs (cut 13 types_a (cut 0 no
 
 types_b : section 1 function_type example_b.types (0x01 ∷ 0x11 ∷ 0x03 ∷ 0x60 ∷ 0x02 ∷ 0x7E ∷ 0x7E ∷ 0x01 ∷ 0x7E ∷ 0x60 ∷ 0x00 ∷ 0x01 ∷ 0x7E ∷ 0x60 ∷
     0x02 ∷ 0x7E ∷ 0x7E ∷ 0x01 ∷ 0x7E ∷ [])
-types_b = inr (cut 1 refl (measured 1 (small 17 tt) (cut 1 (small 3 tt) (cut 6 (
-  lit≤ tt,
-  cut 1 refl (cut 3 (cut 1 (small 2 tt) (cut 1 refl
-      (cut 1 refl refl))) (cut 1 (small 1 tt) (cut 1 refl refl))),
-) (cut 4 (
-  lit≤ tt,
-  cut 1 refl (cut 1 (cut 1 (small 0 tt) refl) (cut 1 (small 1 tt)
-      (cut 1 refl refl))),
-) (cut 6 (
-  lit≤ tt,
-  cut 1 refl (cut 3 (cut 1 (small 2 tt) (cut 1 refl (cut 1 refl refl))) (cut 1 (small 1 tt)
-      (cut 1 refl refl))),
-) refl))))))
+types_b = inr (cut 1 refl (measured 1 (small 17 tt) (cut 1 (small 3 tt)
+    (cut 6 (cut 1 refl (cut 3 (cut 1 (small 2 tt) (cut 1 refl (cut 1 refl refl))) (cut 1 (small 1 tt) (cut 1 refl refl))))
+    (cut 4 (cut 1 refl (cut 1 (cut 1 (small 0 tt) refl) (cut 1 (small 1 tt) (cut 1 refl refl))))
+    (cut 6 (cut 1 refl (cut 3 (cut 1 (small 2 tt) (cut 1 refl (cut 1 refl refl))) (cut 1 (small 1 tt) (cut 1 refl refl)))) refl))))))
 
 kinds_b : section 3 function_kind example_b.funcs (0x03 ∷ 0x04 ∷ 0x03 ∷ 0x00 ∷ 0x01 ∷ 0x02 ∷ [])
 kinds_b = inr (cut 1 refl (measured 1 (small 4 tt) (cut 1 (small 3 tt) (cut 1 (small 0 tt) (cut 1 (small 1 tt) (cut 1 (small 2 tt) refl))))))
@@ -190,6 +177,7 @@ padded_module_is_spelled = cut 8 refl (cut 8 two_customs (cut 13 types_a
 pub examples_are_within_profile : ExamplesAreWithinProfile
 examples_are_within_profile = record {
   module_a = record {
+    type_results = (lit≤ tt, (lit≤ tt, tt));
     table_elements = lit≤ tt;
     memory_pages = lit≤ tt;
     further_locals = (lit≤ tt, tt);
@@ -200,6 +188,7 @@ examples_are_within_profile = record {
     segment_depth = tt;
   };
   module_b = record {
+    type_results = (lit≤ tt, (lit≤ tt, (lit≤ tt, tt)));
     table_elements = lit≤ tt;
     memory_pages = lit≤ tt;
     further_locals = (lit≤ tt, (lit≤ tt, (lit≤ tt, tt)));
@@ -284,3 +273,9 @@ no_last_byte z (inr h) = let k : 64 ≤ 15 = h.0 in omega arith
 
 pub unused_bits_are_the_sign : UnusedBitsAreTheSign
 unused_bits_are_the_sign n h = no_last_byte h.1.3.1.3.1.3.1.3.0 h.1.3.1.3.1.3.1.3.1
+
+pub two_results_are_outside : TwoResultsAreOutside
+two_results_are_outside = record {
+  spelled = cut 1 refl (cut 1 (cut 1 (small 0 tt) refl) (cut 1 (small 2 tt) (cut 1 refl (cut 1 refl refl))));
+  outside = λ m rest e w. (let h = subst (AllByRecursion (λ (t : FuncType). length t.results ≤ 1)) e w.type_results in let k : 2 ≤ 1 = h.0 in omega arith);
+}

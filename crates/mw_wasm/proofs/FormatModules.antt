@@ -10,14 +10,14 @@ use Rattle.mw_wasm.specs.Syntax.{Code, Function, Global, Exporting, ElementSegme
 use Rattle.mw_wasm.specs.Pieces.{Piece, byte, octet, ◌then◌, u32, vector}
 use Rattle.mw_wasm.specs.BinaryInstructions.{value_type}
 use Rattle.mw_wasm.specs.BinaryModules.{function_type, limits_of, limits, table, mutability, global, function_kind, exported, export, element, data_segment, Run, run, locals, function_code, section, import_section, customs, at_most_one, Spells}
-use Rattle.mw_wasm.proofs.FormatPieces.{Agree, Whole, behind, agree_whole, agree_so, agree_byte, agree_octet, agree_then, agree_when, agree_u32, agree_parts, agree_vector, agree_sized}
+use Rattle.mw_wasm.proofs.FormatPieces.{Agree, Whole, behind, agree_whole, agree_so, agree_byte, agree_octet, agree_then, agree_u32, agree_parts, agree_vector, agree_sized}
 use Rattle.mw_wasm.proofs.FormatInstructions.{agree_value_type, agree_index, agree_expression}
 use Rattle.mw_wasm.proofs.FormatSections.{Found, Behind, IsNone, Tails, found_end, found_more, found_import, tails_end, tails_more, found_agree, Section}
 
 agree_function_type : (t u : FuncType) → Agree (function_type t) (function_type u) (t ≡ u)
-agree_function_type t u = agree_when (agree_so
+agree_function_type t u = agree_so
     (agree_then (agree_byte 0x60 0x60) (λ _. agree_then (agree_vector value_type agree_value_type t.params u.params) (λ _. agree_vector value_type agree_value_type t.results u.results)))
-    (λ e i. record { params = e.1.0 i; results = e.1.1 i }))
+    (λ e i. record { params = e.1.0 i; results = e.1.1 i })
 
 agree_limits_of : (m n : ℕ) (o p : Option ℕ) → Agree (limits_of m o) (limits_of n p) ((m ≡ n) × (o ≡ p))
 agree_limits_of m n None None = agree_so (agree_then (agree_byte 0x00 0x00) (λ _. agree_u32 m n)) (λ e. (e.1, refl))

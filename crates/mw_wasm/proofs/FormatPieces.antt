@@ -2,7 +2,7 @@
 use Rattle.std.proofs.Common.{◌≡◌, ℕ, ◌-◌, ◌^◌, ◌<◌, ℤ, inl, inr, List, [], ◌∷◌, ◌++◌, map, length, refl, sym, ap, ◌∙◌, append_assoc, arith}
 use Rattle.std.proofs.lemmas.List.{append_cancel_left}
 use Rattle.mw_wasm.specs.Leb.{IsUnsigned, IsSigned, IsInteger, unsigned_of}
-use Rattle.mw_wasm.specs.Pieces.{Piece, Joined, Sized, nothing, byte, octet, ◌then◌, ◌when◌, u32, items, vector, sized}
+use Rattle.mw_wasm.specs.Pieces.{Piece, Joined, Sized, nothing, byte, octet, ◌then◌, u32, items, vector, sized}
 
 -- Where a spelling of P and one of Q begin the same bytes they are one, and E holds of what they spell.
 pub record Agree (P Q : List ℕ → Type 0) (E : Type 0) : Type 0 where
@@ -44,9 +44,6 @@ agree_then {P} {Q} {P'} {Q'} {E} {F} first second = record { agree = λ a b r s 
         let x = first.agree p.front q.front (p.back ++ r) (q.back ++ s) p.first q.first h in
         let y = (second x.1).agree p.back q.back r s p.second q.second (behind p.front q.front (p.back ++ r) (q.back ++ s) x.0 h) in
         (joined p q x.0 y.0, (x.1, y.1))
-
-pub agree_when : {P Q : List ℕ → Type 0} {E A B : Type 0} → Agree P Q E → Agree (P when A) (Q when B) E
-agree_when h = record { agree = λ a b r s p q e. h.agree a b r s p.1 q.1 e }
 
 agree_nothing : {E : Type 0} → E → Agree nothing nothing E
 agree_nothing e = record { agree = λ a b r s p q _. (p ∙ sym q, e) }

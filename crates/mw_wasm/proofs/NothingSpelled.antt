@@ -1,7 +1,6 @@
 -- Bytes that spell no module, by their first bytes.
-use Rattle.std.specs.Prelude.{◌≡◌, ℕ, ◌<◌, ◌≤◌, ◌⊎◌, List, [], ◌∷◌, ◌++◌, length}
+use Rattle.std.specs.Prelude.{◌≡◌, ℕ, ◌<◌, ◌⊎◌, List, [], ◌∷◌, ◌++◌, length}
 use Rattle.std.proofs.Common.{refl, sym, ap, ◌∙◌, subst, inl, inr, arith, lit<}
-use Rattle.mw_wasm.specs.declared.modules.FuncType.{FuncType}
 use Rattle.mw_wasm.specs.Syntax.{PureModule}
 use Rattle.mw_wasm.specs.Pieces.{Piece, Joined, ◌then◌, items, sized, exactly, byte}
 use Rattle.mw_wasm.specs.BinaryModules.{Spells, customs, section, import_section, header, function_type, function_kind, table, limits, global, export, element, function_code, data_segment, at_most_one}
@@ -109,8 +108,5 @@ data_count_first m rest = refused 12 not_twelve m rest
     not_twelve (inl h) = let k : 12 < 8 = h in omega arith
     not_twelve (inr h) = let k : 12 < 12 = h.1 in omega arith
 
-two_results : (t : FuncType) (bytes : List ℕ) → length t.results ≡ 2 → ¬ function_type t bytes
-two_results t bytes e j = let k : length t.results ≤ 1 = j.0 in omega (arith, e, k)
-
 pub nothing_is_spelled : NothingIsSpelled
-nothing_is_spelled = record { empty = empty; seven_bytes = seven_bytes; version_two = version_two; start_first = start_first; data_count_first = data_count_first; two_results = two_results }
+nothing_is_spelled = record { empty = empty; seven_bytes = seven_bytes; version_two = version_two; start_first = start_first; data_count_first = data_count_first }

@@ -1,5 +1,5 @@
 -- How modules are spelled (standard: Binary Format, Types and Modules).
-use Rattle.std.specs.Prelude.{◌≡◌, ℕ, ◌<◌, ◌≤◌, ◌^◌, Bool, true, false, List, [], ◌∷◌, length, replicate, Option, Some, None}
+use Rattle.std.specs.Prelude.{◌≡◌, ℕ, ◌<◌, ◌^◌, Bool, true, false, List, [], ◌∷◌, length, replicate, Option, Some, None}
 use Rattle.std.specs.List.{flat_map}
 use Rattle.mw_wasm.specs.declared.values.ValType.{ValType}
 use Rattle.mw_wasm.specs.declared.modules.Limits.{Limits}
@@ -10,9 +10,9 @@ use Rattle.mw_wasm.specs.Syntax.{Function, Global, Exporting, ElementSegment, Da
 use Rattle.mw_wasm.specs.Pieces.{Piece, nothing, byte, exactly, octet, ◌then◌, ◌or◌, ◌when◌, u32, items, vector, sized}
 use Rattle.mw_wasm.specs.BinaryInstructions.{value_type, expression}
 
--- function types, of at most one result (standard: Binary Format, Types, Function Types)
+-- function types (standard: Binary Format, Types, Function Types)
 abbrev pub function_type : FuncType → Piece
-function_type t = byte 0x60 then vector value_type t.params then vector value_type t.results when (length t.results ≤ 1)
+function_type t = byte 0x60 then vector value_type t.params then vector value_type t.results
 
 -- limits without and with a maximum (standard: Binary Format, Types, Limits)
 abbrev pub limits_of : ℕ → Option ℕ → Piece

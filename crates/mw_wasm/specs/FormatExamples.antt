@@ -1,9 +1,11 @@
 -- Worked examples of the binary format, proved by computation.
-use Rattle.std.specs.Prelude.{ℕ, zero, suc, ◌^◌, ◌-◌, List, [], ◌∷◌, None}
+use Rattle.std.specs.Prelude.{ℕ, zero, suc, ◌^◌, ◌-◌, ◌≡◌, List, [], ◌∷◌, None}
+use Rattle.mw_wasm.specs.declared.values.ValType.TheVariants.{I64}
+use Rattle.mw_wasm.specs.declared.modules.FuncType.{FuncType}
 use Rattle.mw_wasm.specs.Leb.{IsUnsigned, IsInteger}
 use Rattle.mw_wasm.specs.BinaryInstructions.{SpellsExpression}
-use Rattle.mw_wasm.specs.BinaryModules.{Spells}
-use Rattle.mw_wasm.specs.Syntax.{Code, block, cond, const_i32, end, next}
+use Rattle.mw_wasm.specs.BinaryModules.{Spells, function_type}
+use Rattle.mw_wasm.specs.Syntax.{Code, block, cond, const_i32, end, next, PureModule}
 use Rattle.mw_wasm.specs.Profile.{IsWithinFileLimit, IsWithinProfile, IsShallow}
 use Rattle.mw_wasm.specs.ExampleModules.{example_a, example_b}
 
@@ -93,6 +95,15 @@ pub record ExamplesAreWithinProfile : Type 0 where
   pub module_b : IsWithinProfile example_b
   pub file_a : IsWithinFileLimit bytes_a
   pub file_b : IsWithinFileLimit bytes_b
+
+-- the type of functions from nothing to two i64
+abbrev pub two_results : FuncType
+two_results = record { params = []; results = I64 ∷ I64 ∷ [] }
+
+-- a function type with two results is spelled, and a module that has one is outside the profile
+pub record TwoResultsAreOutside : Type 0 where
+  pub spelled : function_type two_results (0x60 ∷ 0x00 ∷ 0x02 ∷ 0x7E ∷ 0x7E ∷ [])
+  pub outside : (m : PureModule) (rest : List FuncType) → m.types ≡ two_results ∷ rest → ¬ IsWithinProfile m
 
 -- so many blocks, each in the one before
 abbrev pub nested : ℕ → Code

@@ -1,8 +1,7 @@
 -- Bytes that spell no module, whatever stands after them.
-use Rattle.std.specs.Prelude.{◌≡◌, ℕ, List, [], ◌∷◌, length}
+use Rattle.std.specs.Prelude.{ℕ, List, [], ◌∷◌}
 use Rattle.mw_wasm.specs.Syntax.{PureModule}
-use Rattle.mw_wasm.specs.declared.modules.FuncType.{FuncType}
-use Rattle.mw_wasm.specs.BinaryModules.{Spells, function_type}
+use Rattle.mw_wasm.specs.BinaryModules.{Spells}
 
 -- bytes after the header
 abbrev pub begun : List ℕ → List ℕ
@@ -15,5 +14,3 @@ pub record NothingIsSpelled : Type 0 where
   pub start_first : (m : PureModule) (rest : List ℕ) → ¬ Spells (begun (0x08 ∷ rest)) m
   -- a section of this id came with a later version of the standard
   pub data_count_first : (m : PureModule) (rest : List ℕ) → ¬ Spells (begun (0x0C ∷ rest)) m
-  -- a function type with two results
-  pub two_results : (t : FuncType) (bytes : List ℕ) → length t.results ≡ 2 → ¬ function_type t bytes

@@ -29,6 +29,7 @@ IsWithinFileLimit bytes = length bytes ≤ 67_108_864
 
 -- a module within the profile's limits, however long the file that spells it
 pub record IsWithinProfile (m : PureModule) : Type 0 where
+  pub type_results : AllByRecursion (λ t. length t.results ≤ 1) m.types
   pub table_elements : IfSome m.table (λ t. t.min ≤ 100_000)
   pub memory_pages : IfSome m.memory (λ l. l.min ≤ 1_024)
   pub further_locals : AllByRecursion (λ f. length f.locals ≤ 50_000) m.funcs

@@ -1,7 +1,7 @@
 // The binary format.
 
 ghost use Rattle.mw_wasm.specs.FormatLaws.{UnsignedNumbersFit, IntegersFit, OneExpression, OneModule};
-ghost use Rattle.mw_wasm.specs.FormatExamples.{ExampleAIsSpelled, ExampleBIsSpelled, LongerIndexIsSpelled, PaddedModuleIsSpelled, EmptyElseIsSpelled, ExamplesAreWithinProfile, DepthEndsAt500, SixBytesAreNoIndex, UnusedBitsAreZero, MinusOneIsSpelled, UnusedBitsAreTheSign};
+ghost use Rattle.mw_wasm.specs.FormatExamples.{ExampleAIsSpelled, ExampleBIsSpelled, LongerIndexIsSpelled, PaddedModuleIsSpelled, EmptyElseIsSpelled, ExamplesAreWithinProfile, TwoResultsAreOutside, DepthEndsAt500, SixBytesAreNoIndex, UnusedBitsAreZero, MinusOneIsSpelled, UnusedBitsAreTheSign};
 ghost use Rattle.mw_wasm.specs.OpcodeRows.{InstructionRows, OpcodeRows};
 ghost use Rattle.mw_wasm.specs.NothingSpelled.{NothingIsSpelled};
 
@@ -49,6 +49,11 @@ pub fn empty_else_is_spelled()
 /// Both examples are within the profile.
 pub fn examples_are_within_profile()
     ensures { ExamplesAreWithinProfile }
+{}
+
+/// A function type may have two results as bytes go, and not within the profile.
+pub fn two_results_are_outside()
+    ensures { TwoResultsAreOutside }
 {}
 
 /// Blocks may nest 500 deep.

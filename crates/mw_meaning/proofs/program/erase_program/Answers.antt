@@ -43,7 +43,7 @@ returns-clause-erased c =
     let items : definitions c.as_slice-items.result.now ≡ p.items = ap definitions c.as_slice-items.ensures in
     let names : c.in_ok-names.names.items ≡ new_names p.items 0 = c.in_ok-names.ensures ∙ ap (λ i. new_names i 0) items in
     program_is _ _ _ _ _ _
-    (c.in_ok-lets.ensures ∙ erased_lets_are p c.as_slice.result.now (definitions c.as_slice-items.result.now) (c.as_slice.ensures.value ∙ names) items c.requires.names)
+    (c.in_ok-lets.ensures.lets ∙ erased_lets_are p c.as_slice.result.now (definitions c.as_slice-items.result.now) (c.as_slice.ensures.value ∙ names) items c.requires.names)
     c.in_ok-result.ensures
     (ap expression_of c.into_inner.ensures ∙ c.in_ok-body.ensures ∙ ap (λ e. inside_terms (naming_of c.as_slice-3.result.now) (definitions c.as_slice-items.result.now) e) c.in_ok-main.ensures ∙ erased_body_is p c.as_slice-3.result.now c.as_slice-2.result.now (definitions c.as_slice-items.result.now) (c.as_slice-3.ensures.value ∙ names) (c.as_slice-2.ensures.value ∙ names) items c.requires.names)
 

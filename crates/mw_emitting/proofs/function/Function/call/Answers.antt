@@ -10,7 +10,7 @@ want-requires c =
 
 pub returns-in-Ok-clause-means : goal.returns-in-Ok-clause-means
 returns-in-Ok-clause-means c = λ mode kept.
-    call_meant mode (expression_of c.args.self.now.source.code) (kernel_type_of c.args.self.now.source.kind) c.args.self.now.running kept (ground_value_of c.args.argument.now) c.args.fuel c.in-Ok.ran c.has_words.ensures
+    call_meant mode (expression_of c.args.self.now.source.code) (kernel_type_of c.args.self.now.source.kind) c.args.self.now.running kept (ground_value_of c.args.argument.now) c.args.fuel c.in-Ok.ran c.in-Ok.ensures.fits
     (c.in-Ok.ensures.means kept.function kept.words kept.keeps)
 
 pub returns-in-Ok-clause-keeps : goal.returns-in-Ok-clause-keeps
