@@ -106,23 +106,27 @@ fn nested(alloc: Global, frame: &[u8], inner: &mut Vec<u8>, times: u64) -> Resul
     Ok(())
 }
 
-/// A field's name, what is done with its text, and the text.
-fn parts(line: &str) -> Result<(&str, Times, &str), Fault> {
-    let Some((front, text)) = line.split_once(':') else {
-        return Err(Fault::Malformed("a line that is no row's and no field's"));
-    };
-    let text = match text.strip_prefix(" ") {
-        Some(rest) => rest,
-        None if text.is_empty() => text,
-        None => return Err(Fault::Malformed("no blank after the colon")),
-    };
+/// What stands before a field's colon, and its text.
+fn front_and_text(line: &str) -> Result<(&str, &str), Fault> {
+    match line.split_once(':') {
+        None => Err(Fault::Malformed("a line that is no row's and no field's")),
+        Some((front, "")) => Ok((front, "")),
+        Some((front, text)) => match text.strip_prefix(" ") {
+            Some(rest) => Ok((front, rest)),
+            None => Err(Fault::Malformed("no blank after the colon")),
+        },
+    }
+}
+
+/// A field's name, and what is done with its text.
+fn name_and_times(front: &str) -> Result<(&str, Times), Fault> {
     if let Some((name, times)) = front.split_once('*') {
-        return Ok((name, Times::Repeated(number_in(times)?), text));
+        return Ok((name, Times::Repeated(number_in(times)?)));
     }
     if let Some((name, times)) = front.split_once('^') {
-        return Ok((name, Times::Nested(number_in(times)?), text));
+        return Ok((name, Times::Nested(number_in(times)?)));
     }
-    Ok((front, Times::Repeated(1), text))
+    Ok((front, Times::Repeated(1)))
 }
 
 /// The row that begins on a line.
@@ -158,9 +162,17 @@ fn nest(
     }
 }
 
+/// A field with so many times these bytes.
+fn field(alloc: Global, name: &str, bytes: &[u8], times: u64) -> Result<Field, AllocError> {
+    let bytes = repeated(alloc, bytes, times)?;
+    let name = String::from_str(alloc, name)?;
+    Ok(Field { name, bytes })
+}
+
 /// Adds what a line says to a row's fields.
 fn add_to(alloc: Global, row: &mut Row, line: &str) -> Result<(), Fault> {
-    let (name, times, text) = parts(line)?;
+    let (front, text) = front_and_text(line)?;
+    let (name, times) = name_and_times(front)?;
     if !row.kind.fields().contains(&name) {
         return Err(Fault::Malformed("a field that rows of this kind don't have"));
     }
@@ -168,10 +180,7 @@ fn add_to(alloc: Global, row: &mut Row, line: &str) -> Result<(), Fault> {
     match times {
         Times::Nested(times) => nest(alloc, &mut row.fields, name, bytes.as_slice(), times),
         Times::Repeated(times) => {
-            row.fields.push(Field {
-                name: String::from_str(alloc, name)?,
-                bytes: repeated(alloc, bytes.as_slice(), times)?,
-            })?;
+            row.fields.push(field(alloc, name, bytes.as_slice(), times)?)?;
             Ok(())
         }
     }
