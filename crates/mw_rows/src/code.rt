@@ -90,7 +90,12 @@ impl Part {
         Ok(())
     }
 
-    fn begin(&mut self, alloc: Global, opener: Opener, gives: Option<ValType>) -> Result<(), Fault> {
+    fn begin(
+        &mut self,
+        alloc: Global,
+        opener: Opener,
+        gives: Option<ValType>,
+    ) -> Result<(), Fault> {
         let before = mem::replace(&mut self.code, Instrs::new(alloc));
         self.blocks.push(Open::Block(opener, gives, before))?;
         Ok(())

@@ -180,7 +180,8 @@ fn add_to(alloc: Global, row: &mut Row, line: &str) -> Result<(), Fault> {
     match times {
         Times::Nested(times) => nest(alloc, &mut row.fields, name, bytes.as_slice(), times),
         Times::Repeated(times) => {
-            row.fields.push(field(alloc, name, bytes.as_slice(), times)?)?;
+            row.fields
+                .push(field(alloc, name, bytes.as_slice(), times)?)?;
             Ok(())
         }
     }

@@ -166,5 +166,11 @@ pub fn carried_out<R: AllocGlobal + Threads + Sync>(
     let (status, written) = ran(rt, row)?;
     let are_the_same = is_beside && written.as_slice() == before.written.as_slice();
     before.written = written;
-    Ok(lines(alloc, &status, before.written.as_slice(), shows, are_the_same)?)
+    Ok(lines(
+        alloc,
+        &status,
+        before.written.as_slice(),
+        shows,
+        are_the_same,
+    )?)
 }
