@@ -133,8 +133,10 @@ fn push_calls(
 ) -> Result<(), Fault>
     requires { running.old.argument ≡ ground_of argument.now }
 {
-    for call in row.texts(alloc, "call")?.as_slice() {
-        text.push_str(called(alloc, running, argument, call)?.as_str())?;
+    for field in row.fields.as_slice() {
+        if field.name.as_str() == "call" {
+            text.push_str(called(alloc, running, argument, field.text()?)?.as_str())?;
+        }
     }
     Ok(())
 }
@@ -169,7 +171,9 @@ fn told(
         (Ok(Began::Bound(limit)), _) => Ok(line(alloc, limit)?),
         (Err(fault), _) => Ok(line(alloc, fault)?),
         (Ok(Began::Function(mut running, left)), KType::Fun(argument, _)) => {
-            function_lines(alloc, row, &mut running, argument, left)
+            let lines = function_lines(alloc, row, &mut running, argument, left);
+            drop(running);
+            lines
         }
         (Ok(Began::Function(_, _)), KType::Ground(_)) => unreachable!(),
     }
@@ -185,9 +189,10 @@ fn run_lines<L: Ledger>(
 ) -> Result<String, Fault>
     requires { IsKernel (expression_of code.now) (kernel_type_of kind.now) }
 {
-    let fuel = row.number(alloc, "fuel", 0)?;
+    let fuel = row.number("fuel", 0)?;
     let entry = emit(alloc, code, kind, steps)?;
     let began = Running::start(alloc, entry.module(), kind, fuel);
+    drop(entry);
     told(alloc, row, kind, began)
 }
 
@@ -207,7 +212,9 @@ fn bytes_line<L: Ledger>(
     requires { IsKernel (expression_of code.now) (kernel_type_of kind.now) }
 {
     let entry = emit(alloc, code, kind, steps)?;
-    hexadecimal_line(alloc, entry.bytes())
+    let line = hexadecimal_line(alloc, entry.bytes());
+    drop(entry);
+    line
 }
 
 /// The run of a row's kernel at the type that its text says, and its calls.
@@ -216,10 +223,14 @@ fn run<L: Ledger>(alloc: Global, row: &Row, blank: Blank) -> Result<String, Faul
     requires parts { blank.parts ≡ L.parts }
     requires some { 0 < L.parts }
 {
-    let text = row.bytes(alloc, "text")?;
     let mut steps = Steps::<L>::open(blank);
-    match read_text(alloc, text.as_slice()) {
-        Ok((_, code, kind)) => run_lines(alloc, row, &code, &kind, &mut steps),
+    match read_text(alloc, row.bytes("text")) {
+        Ok((_, code, kind)) => {
+            let lines = run_lines(alloc, row, &code, &kind, &mut steps);
+            drop(code);
+            drop(kind);
+            lines
+        }
         Err(TextFault::BadText) => Ok(String::from_str(alloc, "no text\n")?),
         Err(TextFault::Memory(error)) => Err(Fault::Memory(error)),
     }
@@ -231,10 +242,14 @@ fn module_line<L: Ledger>(alloc: Global, row: &Row, blank: Blank) -> Result<Stri
     requires parts { blank.parts ≡ L.parts }
     requires some { 0 < L.parts }
 {
-    let text = row.bytes(alloc, "text")?;
     let mut steps = Steps::<L>::open(blank);
-    match read_text(alloc, text.as_slice()) {
-        Ok((_, code, kind)) => bytes_line(alloc, &code, &kind, &mut steps),
+    match read_text(alloc, row.bytes("text")) {
+        Ok((_, code, kind)) => {
+            let line = bytes_line(alloc, &code, &kind, &mut steps);
+            drop(code);
+            drop(kind);
+            line
+        }
         Err(TextFault::BadText) => Ok(String::from_str(alloc, "no text\n")?),
         Err(TextFault::Memory(error)) => Err(Fault::Memory(error)),
     }

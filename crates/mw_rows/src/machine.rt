@@ -52,16 +52,18 @@ fn reply(text: &str) -> Result<Reply, Fault> {
 /// What the kernels answer in turn.
 fn replies(alloc: Global, row: &Row) -> Result<Vec<Reply>, Fault> {
     let mut replies = Vec::new(alloc);
-    for text in row.texts(alloc, "reply")?.as_slice() {
-        replies.push(reply(text)?)?;
+    for field in row.fields.as_slice() {
+        if field.name.as_str() == "reply" {
+            replies.push(reply(field.text()?)?)?;
+        }
     }
     Ok(replies)
 }
 
 /// The place of the row's kernel item, if it has one.
-fn item(alloc: Global, row: &Row) -> Result<Option<usize>, Fault> {
+fn item(row: &Row) -> Result<Option<usize>, Fault> {
     if row.has("item") {
-        Ok(Some(row.number(alloc, "item", 0)? as usize))
+        Ok(Some(row.number("item", 0)? as usize))
     } else {
         Ok(None)
     }
@@ -69,11 +71,11 @@ fn item(alloc: Global, row: &Row) -> Result<Option<usize>, Fault> {
 
 /// What the machine asks of the kernels, and how the evaluation ends.
 pub fn carried_out(alloc: Global, row: &Row) -> Result<String, Fault> {
-    let fuel = row.number(alloc, "fuel", 0)?;
-    let item = item(alloc, row)?;
-    let source = row.text(alloc, "source")?;
+    let fuel = row.number("fuel", 0)?;
+    let item = item(row)?;
+    let source = row.text("source")?;
     let replies = replies(alloc, row)?;
-    let mut answer = answer(alloc, source.as_str(), item, fuel, replies.as_slice())?;
+    let mut answer = answer(alloc, source, item, fuel, replies.as_slice())?;
     answer.push_str("\n")?;
     Ok(answer)
 }

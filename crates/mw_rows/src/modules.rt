@@ -145,9 +145,20 @@ fn element(alloc: Global, text: &str) -> Result<Element, Fault> {
     Ok(Element { offset, funcs })
 }
 
-fn add_elements(alloc: Global, elements: &mut Elements, texts: &[&str]) -> Result<(), Fault> {
-    for text in texts {
+/// The element segments of a row that names none.
+fn add_usual_elements(alloc: Global, elements: &mut Elements) -> Result<(), Fault> {
+    for text in ELEMENTS {
         elements.push(element(alloc, text)?)?;
+    }
+    Ok(())
+}
+
+/// The row's element segments.
+fn add_elements(alloc: Global, elements: &mut Elements, row: &Row) -> Result<(), Fault> {
+    for field in row.fields.as_slice() {
+        if field.name.as_str() == "element" {
+            elements.push(element(alloc, field.text()?)?)?;
+        }
     }
     Ok(())
 }
@@ -169,9 +180,12 @@ fn segment(alloc: Global, text: &str) -> Result<Segment, Fault> {
     Ok(Segment { offset, bytes })
 }
 
-fn add_segments(alloc: Global, segments: &mut Segments, texts: &[&str]) -> Result<(), Fault> {
-    for text in texts {
-        segments.push(segment(alloc, text)?)?;
+/// The row's data segments.
+fn add_segments(alloc: Global, segments: &mut Segments, row: &Row) -> Result<(), Fault> {
+    for field in row.fields.as_slice() {
+        if field.name.as_str() == "data" {
+            segments.push(segment(alloc, field.text()?)?)?;
+        }
     }
     Ok(())
 }
@@ -198,17 +212,14 @@ fn bare(alloc: Global, places: u32) -> Module {
 
 /// Adds what the row says.
 fn add_row(alloc: Global, module: &mut Module, row: &Row) -> Result<(), Fault> {
-    let kind = small(row.number(alloc, "type", 1)?)?;
-    let text = row.text(alloc, "code")?;
-    add_functions(alloc, &mut module.funcs, kind, text.as_str())?;
+    let kind = small(row.number("type", 1)?)?;
+    add_functions(alloc, &mut module.funcs, kind, row.text("code")?)?;
     if row.has("element") {
-        let texts = row.texts(alloc, "element")?;
-        add_elements(alloc, &mut module.elements, texts.as_slice())?;
+        add_elements(alloc, &mut module.elements, row)?;
     } else {
-        add_elements(alloc, &mut module.elements, ELEMENTS)?;
+        add_usual_elements(alloc, &mut module.elements)?;
     }
-    let texts = row.texts(alloc, "data")?;
-    add_segments(alloc, &mut module.segments, texts.as_slice())
+    add_segments(alloc, &mut module.segments, row)
 }
 
 /// Adds what every row's module has.
@@ -227,7 +238,7 @@ fn fill(alloc: Global, module: &mut Module, row: &Row) -> Result<(), Fault> {
 
 /// The module of a row.
 pub fn module_of(alloc: Global, row: &Row) -> Result<Module, Fault> {
-    let places = small(row.number(alloc, "table", 4)?)?;
+    let places = small(row.number("table", 4)?)?;
     let mut module = bare(alloc, places);
     fill(alloc, &mut module, row)?;
     Ok(module)

@@ -12,7 +12,9 @@ use std::alloc::Global;
 fn program(alloc: Global, bytes: &[u8]) -> Result<Program, Stop> {
     let tokens = lex(alloc, bytes)?;
     let surface = parse(alloc, &tokens, bytes.len() as u32)?;
-    resolve(alloc, &surface)
+    let program = resolve(alloc, &surface);
+    drop(surface);
+    program
 }
 
 /// A line for each item, and one for main.
@@ -27,9 +29,12 @@ fn lines(alloc: Global, program: &Program) -> Result<String, Fault> {
 
 /// The program of a row's source, or the refusal.
 pub fn carried_out(alloc: Global, row: &Row) -> Result<String, Fault> {
-    let source = row.bytes(alloc, "source")?;
-    match program(alloc, source.as_slice()) {
-        Ok(program) => lines(alloc, &program),
+    match program(alloc, row.bytes("source")) {
+        Ok(program) => {
+            let lines = lines(alloc, &program);
+            drop(program);
+            lines
+        }
         Err(Stop::Refused(refusal)) => Ok(line(alloc, refusal)?),
         Err(Stop::Memory(error)) => Err(Fault::Memory(error)),
     }

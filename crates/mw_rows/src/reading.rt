@@ -142,6 +142,7 @@ fn row(alloc: Global, head: &str, line: usize) -> Result<Row, Fault> {
         name: String::from_str(alloc, name)?,
         line,
         fields: Vec::new(alloc),
+        joined: Vec::new(alloc),
     })
 }
 
@@ -195,30 +196,58 @@ fn add(alloc: Global, rows: &mut Vec<Row>, line: &str) -> Result<(), Fault> {
     }
 }
 
+/// Ends the last row.
+fn end_last(alloc: Global, rows: &mut Vec<Row>) -> Result<(), Fault> {
+    if let Some(last) = rows.last_mut() {
+        last.join(alloc)?;
+    }
+    Ok(())
+}
+
+/// Begins a row after the last one.
+fn begin(alloc: Global, rows: &mut Vec<Row>, head: &str, number: usize) -> Result<(), Fault> {
+    end_last(alloc, rows)?;
+    rows.push(row(alloc, head, number)?)?;
+    Ok(())
+}
+
 /// What a line adds to the rows.
 fn read_line(alloc: Global, rows: &mut Vec<Row>, line: &str, number: usize) -> Result<(), Fault> {
     if line.is_empty() || line.starts_with('#') {
         return Ok(());
     }
     match line.strip_prefix("[") {
-        Some(head) => rows.push(row(alloc, head, number)?)?,
-        None => add(alloc, rows, line)?,
+        Some(head) => begin(alloc, rows, head, number),
+        None => add(alloc, rows, line),
     }
-    Ok(())
+}
+
+/// Why a row can't be read, with the number of a line.
+fn misread_at(line: usize, fault: &Fault) -> Misread {
+    Misread {
+        line,
+        why: fault.why(),
+    }
+}
+
+/// Reads the rows of a text.
+fn read(alloc: Global, rows: &mut Vec<Row>, text: &str) -> Result<(), Misread> {
+    let mut number = 0usize;
+    for line in text.lines() {
+        number = number.saturating_add(1);
+        if let Err(fault) = read_line(alloc, rows, line, number) {
+            return Err(misread_at(number, &fault));
+        }
+    }
+    match end_last(alloc, rows) {
+        Ok(()) => Ok(()),
+        Err(fault) => Err(misread_at(number, &fault)),
+    }
 }
 
 /// The rows of a file's text.
 pub fn rows_of(alloc: Global, text: &str) -> Result<Vec<Row>, Misread> {
     let mut rows = Vec::new(alloc);
-    let mut number = 0usize;
-    for line in text.lines() {
-        number = number.saturating_add(1);
-        if let Err(fault) = read_line(alloc, &mut rows, line, number) {
-            return Err(Misread {
-                line: number,
-                why: fault.why(),
-            });
-        }
-    }
+    read(alloc, &mut rows, text)?;
     Ok(rows)
 }

@@ -5,7 +5,7 @@
 // that fail, from 0 on. The sink takes `step` bytes at once, 10 where the field isn't there. `shows` says which lines are
 // printed. `beside` names the row before: where the same bytes were written, that is said in place of the lines.
 
-use crate::fields::{Fault, Row};
+use crate::fields::{Fault, Row, number_in};
 use crate::shown::{Shows, push_lines, shows_of};
 use mw_console::Status;
 use mw_drive::run;
@@ -35,8 +35,7 @@ impl Before {
 
 /// The one file, with the row's source in it.
 fn file_of(alloc: Global, row: &Row) -> Result<NamedFile, Fault> {
-    let source = row.bytes(alloc, "source")?;
-    let bytes = Bytes::copied(alloc, source.as_slice())?;
+    let bytes = Bytes::copied(alloc, row.bytes("source"))?;
     let name = Bytes::copied(alloc, NAME.as_bytes())?;
     Ok(NamedFile { name, bytes })
 }
@@ -54,7 +53,7 @@ fn source_of(alloc: Global, row: &Row) -> Result<MemSource, Fault> {
 
 /// The sink, which takes so many bytes at once.
 fn sink_of(alloc: Global, row: &Row) -> Result<MemSink, Fault> {
-    let step = row.number(alloc, "step", 10)?;
+    let step = row.number("step", 10)?;
     if step == 0 {
         return Err(Fault::Malformed("a sink that takes nothing"));
     }
@@ -65,8 +64,8 @@ fn sink_of(alloc: Global, row: &Row) -> Result<MemSink, Fault> {
 /// The numbers of the calls that fail.
 fn calls(alloc: Global, row: &Row, name: &str) -> Result<Calls, Fault> {
     let mut calls = Calls::new(alloc);
-    for number in row.numbers(alloc, name)?.as_slice() {
-        calls.push(*number)?;
+    for word in row.text(name)?.split_whitespace() {
+        calls.push(number_in(word)?)?;
     }
     Ok(calls)
 }
@@ -83,22 +82,22 @@ fn spelled(alloc: Global, text: &str) -> Result<String, AllocError> {
 /// The words of the command.
 fn words(alloc: Global, row: &Row) -> Result<Vec<String>, Fault> {
     let text = if row.has("words") {
-        row.text(alloc, "words")?
+        row.text("words")?
     } else {
-        String::from_str(alloc, "run source.metaml")?
+        "run source.metaml"
     };
     let mut words = Vec::new(alloc);
-    for word in text.as_str().split_whitespace() {
+    for word in text.split_whitespace() {
         words.push(spelled(alloc, word)?)?;
     }
     Ok(words)
 }
 
-fn shows(alloc: Global, row: &Row) -> Result<Shows, Fault> {
+fn shows(row: &Row) -> Result<Shows, Fault> {
     if !row.has("shows") {
         return Ok(Shows::All);
     }
-    match shows_of(row.text(alloc, "shows")?.as_str()) {
+    match shows_of(row.text("shows")?) {
         Some(shows) => Ok(shows),
         None => Err(Fault::Malformed("no such lines are shown")),
     }
@@ -126,11 +125,11 @@ fn ran<R: AllocGlobal + Threads + Sync>(rt: &R, row: &Row) -> Result<(Status, Ve
 }
 
 /// Whether a row stands beside the row before.
-fn is_beside(alloc: Global, row: &Row, before: &Before) -> Result<bool, Fault> {
+fn is_beside(row: &Row, before: &Before) -> Result<bool, Fault> {
     if !row.has("beside") {
         return Ok(false);
     }
-    if row.text(alloc, "beside")?.as_str() != before.name.as_str() {
+    if row.text("beside")? != before.name.as_str() {
         return Err(Fault::Malformed("not the name of the row before"));
     }
     Ok(true)
@@ -160,8 +159,8 @@ pub fn carried_out<R: AllocGlobal + Threads + Sync>(
     before: &mut Before,
 ) -> Result<String, Fault> {
     let alloc = rt.alloc();
-    let shows = shows(alloc, row)?;
-    let is_beside = is_beside(alloc, row, before)?;
+    let shows = shows(row)?;
+    let is_beside = is_beside(row, before)?;
     before.name = row.name.clone()?;
     let (status, written) = ran(rt, row)?;
     let are_the_same = is_beside && written.as_slice() == before.written.as_slice();

@@ -21,7 +21,10 @@ fn surface(alloc: Global, bytes: &[u8]) -> Result<Surface, Stop> {
 /// The refusal of bytes that have no tree.
 fn refusal(alloc: Global, bytes: &[u8]) -> Result<Option<Refusal>, AllocError> {
     match surface(alloc, bytes) {
-        Ok(_) => Ok(None),
+        Ok(tree) => {
+            drop(tree);
+            Ok(None)
+        }
         Err(Stop::Refused(refusal)) => Ok(Some(refusal)),
         Err(Stop::Memory(error)) => Err(error),
     }
@@ -37,8 +40,7 @@ fn verdict(alloc: Global, bytes: &[u8]) -> Result<String, AllocError> {
 
 /// The tree of a row's source, or the refusal.
 pub fn tree(alloc: Global, row: &Row) -> Result<String, Fault> {
-    let source = row.bytes(alloc, "source")?;
-    match surface(alloc, source.as_slice()) {
+    match surface(alloc, row.bytes("source")) {
         Ok(tree) => Ok(line(alloc, tree)?),
         Err(Stop::Refused(refusal)) => Ok(line(alloc, refusal)?),
         Err(Stop::Memory(error)) => Err(Fault::Memory(error)),
@@ -60,11 +62,11 @@ fn push_verdict(
 
 /// A verdict for each of a row's texts.
 pub fn verdicts(alloc: Global, row: &Row) -> Result<String, Fault> {
-    let front = row.bytes(alloc, "source")?;
+    let front = row.bytes("source");
     let mut text = String::new(alloc);
     for field in row.fields.as_slice() {
         if field.name.as_str() == "next" {
-            push_verdict(alloc, &mut text, front.as_slice(), field.bytes.as_slice())?;
+            push_verdict(alloc, &mut text, front, field.bytes.as_slice())?;
         }
     }
     Ok(text)
@@ -128,11 +130,10 @@ impl Sorted {
 
 /// Which tokens may follow a row's front, and which may not.
 pub fn followers(alloc: Global, row: &Row) -> Result<String, Fault> {
-    let front = row.bytes(alloc, "front")?;
-    let tokens = row.text(alloc, "tokens")?;
+    let front = row.bytes("front");
     let mut sorted = Sorted::none(alloc);
-    for token in tokens.as_str().split_whitespace() {
-        sorted.add(alloc, front.as_slice(), token)?;
+    for token in row.text("tokens")?.split_whitespace() {
+        sorted.add(alloc, front, token)?;
     }
     Ok(sorted.lines(alloc)?)
 }
@@ -151,10 +152,10 @@ fn push_front(
 
 /// The verdict of each front of a row's source, with its length.
 pub fn fronts(alloc: Global, row: &Row) -> Result<String, Fault> {
-    let source = row.bytes(alloc, "source")?;
+    let source = row.bytes("source");
     let mut text = String::new(alloc);
     for length in 0..source.len().saturating_add(1) {
-        push_front(alloc, &mut text, source.as_slice(), length)?;
+        push_front(alloc, &mut text, source, length)?;
     }
     Ok(text)
 }

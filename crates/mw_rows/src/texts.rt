@@ -44,9 +44,14 @@ fn spelled(
 
 /// What a row's text spells, or that it is none.
 pub fn text(alloc: Global, row: &Row) -> Result<String, Fault> {
-    let bytes = row.bytes(alloc, "text")?;
-    match read_text(alloc, bytes.as_slice()) {
-        Ok((version, code, kind)) => spelled(alloc, bytes.len(), version, &code, &kind),
+    let bytes = row.bytes("text");
+    match read_text(alloc, bytes) {
+        Ok((version, code, kind)) => {
+            let lines = spelled(alloc, bytes.len(), version, &code, &kind);
+            drop(code);
+            drop(kind);
+            lines
+        }
         Err(TextFault::BadText) => Ok(String::from_str(alloc, "no text\n")?),
         Err(TextFault::Memory(error)) => Err(Fault::Memory(error)),
     }
@@ -54,8 +59,8 @@ pub fn text(alloc: Global, row: &Row) -> Result<String, Fault> {
 
 /// The digest of a row's bytes.
 pub fn digest_lines(alloc: Global, row: &Row) -> Result<String, Fault> {
-    let bytes = row.bytes(alloc, "text")?;
-    let digest = hex::encode(alloc, digest(bytes.as_slice()))?;
-    let start = start_of(bytes.as_slice());
+    let bytes = row.bytes("text");
+    let start = start_of(bytes);
+    let digest = hex::encode(alloc, digest(bytes))?;
     Ok(format!(in alloc; "{digest}\n{start}\n")?)
 }
