@@ -30,7 +30,7 @@ fn integer(word: &str) -> Result<i64, Fault> {
 fn both(words: &str) -> Result<Reply, Fault> {
     match words.split_once(' ') {
         Some((first, second)) => Ok(Reply::Both(integer(first)?, integer(second)?)),
-        None => Err(Fault::Malformed("no two integers")),
+        None => Err(Fault::Malformed("no reply")),
     }
 }
 
