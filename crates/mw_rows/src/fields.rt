@@ -122,74 +122,77 @@ pub struct Field {
 impl Field {
     /// Its text.
     pub fn text(&self) -> Result<&str, Fault> {
-        match std::str::from_utf8(self.bytes.as_slice()) {
-            Ok(text) => Ok(text),
-            Err(_) => Err(Fault::Malformed("a text isn't UTF-8")),
-        }
+        text_in(self.bytes.as_slice())
     }
 }
 
-/// A row, with the number of the line on which it begins.
+/// The text that bytes are.
+fn text_in(bytes: &[u8]) -> Result<&str, Fault> {
+    match std::str::from_utf8(bytes) {
+        Ok(text) => Ok(text),
+        Err(_) => Err(Fault::Malformed("a text isn't UTF-8")),
+    }
+}
+
+/// The fields of this name as one.
+fn joined(alloc: Global, fields: &[Field], name: &str) -> Result<Field, AllocError> {
+    let mut bytes = Vec::new(alloc);
+    for field in fields {
+        if field.name.as_str() == name {
+            bytes.extend_from_slice(field.bytes.as_slice())?;
+        }
+    }
+    let name = String::from_str(alloc, name)?;
+    Ok(Field { name, bytes })
+}
+
+/// A row, with the number of the line on which it begins, and the fields of each name as one.
 #[derive(Drop)]
 pub struct Row {
     pub kind: Kind,
     pub name: String,
     pub line: usize,
     pub fields: Vec<Field>,
+    pub joined: Vec<Field>,
 }
 
 impl Row {
+    /// Joins the fields of each name, once all are read.
+    pub fn join(&mut self, alloc: Global) -> Result<(), AllocError> {
+        for name in self.kind.fields() {
+            let field = joined(alloc, self.fields.as_slice(), name)?;
+            self.joined.push(field)?;
+        }
+        Ok(())
+    }
+
     /// Whether it has a field of this name.
     pub fn has(&self, name: &str) -> bool {
         self.fields.iter().any(|field| field.name.as_str() == name)
     }
 
     /// The bytes of all fields of this name, one after the other.
-    pub fn bytes(&self, alloc: Global, name: &str) -> Result<Vec<u8>, AllocError> {
-        let mut all = Vec::new(alloc);
-        for field in self.fields.as_slice() {
+    pub fn bytes(&self, name: &str) -> &[u8] {
+        for field in self.joined.as_slice() {
             if field.name.as_str() == name {
-                all.extend_from_slice(field.bytes.as_slice())?;
+                return field.bytes.as_slice();
             }
         }
-        Ok(all)
+        &[]
     }
 
     /// The same as a text.
-    pub fn text(&self, alloc: Global, name: &str) -> Result<String, Fault> {
-        match String::from_utf8(self.bytes(alloc, name)?) {
-            Ok(text) => Ok(text),
-            Err(_) => Err(Fault::Malformed("a text isn't UTF-8")),
-        }
-    }
-
-    /// The texts of the fields of this name.
-    pub fn texts<'a>(&'a self, alloc: Global, name: &str) -> Result<Vec<&'a str>, Fault> {
-        let mut texts = Vec::new(alloc);
-        for field in self.fields.as_slice() {
-            if field.name.as_str() == name {
-                texts.push(field.text()?)?;
-            }
-        }
-        Ok(texts)
+    pub fn text(&self, name: &str) -> Result<&str, Fault> {
+        text_in(self.bytes(name))
     }
 
     /// The number that stands in the field of this name, or this one where there is no such field.
-    pub fn number(&self, alloc: Global, name: &str, otherwise: u64) -> Result<u64, Fault> {
-        if !self.has(name) {
-            return Ok(otherwise);
+    pub fn number(&self, name: &str, otherwise: u64) -> Result<u64, Fault> {
+        if self.has(name) {
+            number_in(self.text(name)?)
+        } else {
+            Ok(otherwise)
         }
-        number_in(self.text(alloc, name)?.as_str())
-    }
-
-    /// The numbers that stand in the fields of this name, with blanks between them.
-    pub fn numbers(&self, alloc: Global, name: &str) -> Result<Vec<u64>, Fault> {
-        let text = self.text(alloc, name)?;
-        let mut numbers = Vec::new(alloc);
-        for word in text.as_str().split_whitespace() {
-            numbers.push(number_in(word)?)?;
-        }
-        Ok(numbers)
     }
 }
 

@@ -7,10 +7,11 @@
 ghost use Rattle.std.specs.Prelude.{◌≡◌, true, map};
 ghost use Rattle.mw_wasm.specs.NumericTypes.{type_of_value};
 
-use crate::fields::{Fault, Row, number_in};
+use crate::fields::{Fault, Field, Row, number_in};
 use crate::modules::module_of;
+use crate::shown::{line, push_value};
 use mw_exec::{Instance, InstanceFault};
-use mw_validate::{ValidFault, validate};
+use mw_validate::{Valid, ValidFault, validate};
 use mw_wasm::{ValType, Value};
 use std::alloc::Global;
 use std::sync::Arc;
@@ -71,41 +72,57 @@ fn invoked(alloc: Global, instance: &mut Instance, text: &str) -> Result<String,
         return Err(Fault::Malformed("too few arguments"));
     }
     let end = instance.invoke(alloc, name, args, fuel)?;
-    Ok(format!(in alloc; "{end:?}\n")?)
+    Ok(line(alloc, end)?)
+}
+
+/// Adds what the instance does that a field asks for.
+fn push_step(
+    alloc: Global,
+    text: &mut String,
+    instance: &mut Instance,
+    field: &Field,
+) -> Result<(), Fault> {
+    match field.name.as_str() {
+        "invoke" => {
+            text.push_str(invoked(alloc, instance, field.text()?)?.as_str())?;
+        }
+        "word" => {
+            let word = instance.word(number_in(field.text()?)?);
+            push_value(alloc, text, &word)?;
+        }
+        _ => {}
+    }
+    Ok(())
 }
 
 /// What the instance does, in turn.
 fn told(alloc: Global, row: &Row, instance: &mut Instance) -> Result<String, Fault> {
     let mut text = String::new(alloc);
     for field in row.fields.as_slice() {
-        match field.name.as_str() {
-            "invoke" => {
-                text.push_str(invoked(alloc, instance, field.text()?)?.as_str())?;
-            }
-            "word" => {
-                let word = instance.word(number_in(field.text()?)?);
-                text.push_str(format!(in alloc; "{word:?}\n")?.as_str())?;
-            }
-            _ => {}
-        }
+        push_step(alloc, &mut text, instance, field)?;
     }
     Ok(text)
+}
+
+/// Why a valid module has no instance, or what its instance does.
+fn told_of(alloc: Global, row: &Row, valid: Valid) -> Result<String, Fault> {
+    match Instance::new(alloc, Arc::new(alloc, valid)?) {
+        Ok(mut instance) => told(alloc, row, &mut instance),
+        Err(InstanceFault::Memory(error)) => Err(Fault::Memory(error)),
+        Err(fault) => Ok(line(alloc, fault)?),
+    }
 }
 
 /// Whether the module is valid, why it has no instance, or what the instance does.
 pub fn carried_out(alloc: Global, row: &Row) -> Result<String, Fault> {
     let wasm = module_of(alloc, row)?;
     if wasm.elements.len() >= 4_294_967_296 || wasm.segments.len() >= 4_294_967_296 {
+        drop(wasm);
         return Err(Fault::Malformed("too many segments"));
     }
-    let valid = match validate(alloc, wasm) {
-        Ok(valid) => Arc::new(alloc, valid)?,
-        Err(ValidFault::Bad(_)) => return Ok(String::from_str(alloc, "invalid\n")?),
-        Err(ValidFault::Memory(error)) => return Err(Fault::Memory(error)),
-    };
-    match Instance::new(alloc, valid) {
-        Ok(mut instance) => told(alloc, row, &mut instance),
-        Err(InstanceFault::Memory(error)) => Err(Fault::Memory(error)),
-        Err(fault) => Ok(format!(in alloc; "{fault:?}\n")?),
+    match validate(alloc, wasm) {
+        Ok(valid) => told_of(alloc, row, valid),
+        Err(ValidFault::Bad(_)) => Ok(String::from_str(alloc, "invalid\n")?),
+        Err(ValidFault::Memory(error)) => Err(Fault::Memory(error)),
     }
 }

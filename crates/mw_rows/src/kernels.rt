@@ -5,15 +5,17 @@
 // that its kernel's module has, in hexadecimal.
 
 ghost use Rattle.std.specs.Prelude.{◌≡◌, ◌<◌, IfOk, IfSome};
-ghost use Rattle.mw_term.specs.Terms.{base as base_of, ground_of, ground_value_of, kernel_type_of};
+ghost use Rattle.mw_term.specs.Terms.{base as base_of, expression_of, ground_of, ground_value_of, kernel_type_of};
 ghost use Rattle.mw_meaning.specs.OutcomeLaws.{HasGroundType};
+ghost use Rattle.mw_key.specs.CanonicalText.{IsKernel};
 ghost use Rattle.mw_kernel.specs.KernelAnswers.{HasStartType};
 
 use crate::fields::{Fault, Row, number_in};
+use crate::shown::{line, line_with_units};
 use mw_compile::{Steps, emit};
 use mw_kernel::{Began, RunFault, Running};
 use mw_key::{TextFault, read_text};
-use mw_term::{Base, BaseValue, Ground, GroundValue, KType};
+use mw_term::{Base, BaseValue, Ground, GroundValue, KType, Term};
 use std::alloc::{AllocError, Global};
 use std::marker::Brand;
 use std::sync::ledger::{Blank, Ledger};
@@ -35,26 +37,39 @@ fn base_value(base: &Base, word: &str) -> Option<GroundValue>
     }
 }
 
+/// The same in a box.
+fn boxed_base_value(
+    alloc: Global,
+    base: &Base,
+    word: &str,
+) -> Result<Option<Box<GroundValue>>, AllocError>
+    ensures { IfOk result (λ o. IfSome o (λ v. HasGroundType (base_of base.now) (ground_value_of v.value))) }
+{
+    match base_value(base, word) {
+        Some(value) => Ok(Some(Box::new(alloc, value)?)),
+        None => Ok(None),
+    }
+}
+
 /// The value of a ground type whose leaves the last words spell, the first leaf last.
 fn value(
     alloc: Global,
     ground: &Ground,
     words: &mut Vec<&str>,
-) -> Result<Option<GroundValue>, AllocError>
-    ensures { IfOk result (λ o. IfSome o (λ v. HasGroundType (ground_of ground.now) (ground_value_of v))) }
+) -> Result<Option<Box<GroundValue>>, AllocError>
+    ensures { IfOk result (λ o. IfSome o (λ v. HasGroundType (ground_of ground.now) (ground_value_of v.value))) }
 {
     match ground {
         Ground::Base(base) => match words.pop() {
-            Some(word) => Ok(base_value(base, word)),
+            Some(word) => boxed_base_value(alloc, base, word),
             None => Ok(None),
         },
         Ground::Pair(left, right) => {
             let Some(first) = value(alloc, left, words)? else {
                 return Ok(None);
             };
-            let first = Box::new(alloc, first)?;
             match value(alloc, right, words)? {
-                Some(second) => Ok(Some(GroundValue::Pair(first, Box::new(alloc, second)?))),
+                Some(second) => Ok(Some(Box::new(alloc, GroundValue::Pair(first, second))?)),
                 None => Ok(None),
             }
         }
@@ -68,6 +83,29 @@ fn words_backwards<'a>(alloc: Global, text: &'a str) -> Result<Vec<&'a str>, All
     Ok(words)
 }
 
+/// The number that the one word spells.
+fn only_number(words: &[&str]) -> Result<u64, Fault> {
+    match words {
+        [units] => number_in(units),
+        _ => Err(Fault::Malformed("not an argument and units")),
+    }
+}
+
+/// The argument of a call and its units, which a text spells.
+fn argument_and_units(
+    alloc: Global,
+    argument: &Ground,
+    text: &str,
+) -> Result<(Box<GroundValue>, u64), Fault>
+    ensures { IfOk result (λ r. HasGroundType (ground_of argument.now) (ground_value_of r.0.value)) }
+{
+    let mut words = words_backwards(alloc, text)?;
+    let Some(value) = value(alloc, argument, &mut words)? else {
+        return Err(Fault::Malformed("not an argument of the kernel's type"));
+    };
+    Ok((value, only_number(words.as_slice())?))
+}
+
 /// How a call ends, whose argument and units a text spells.
 fn called(
     alloc: Global,
@@ -78,34 +116,44 @@ fn called(
     requires { running.old.argument ≡ ground_of argument.now }
     ensures { running.new.argument ≡ running.old.argument }
 {
-    let mut words = words_backwards(alloc, text)?;
-    let Some(value) = value(alloc, argument, &mut words)? else {
-        return Err(Fault::Malformed("not an argument of the kernel's type"));
-    };
-    let [units] = words.as_slice() else {
-        return Err(Fault::Malformed("not an argument and units"));
-    };
-    let fuel = number_in(units)?;
+    let (value, fuel) = argument_and_units(alloc, argument, text)?;
     match running.call(alloc, &value, fuel) {
-        Ok(ran) => Ok(format!(in alloc; "{ran:?}\n")?),
-        Err(fault) => Ok(format!(in alloc; "{fault:?}\n")?),
+        Ok(ran) => Ok(line(alloc, ran)?),
+        Err(fault) => Ok(line(alloc, fault)?),
     }
 }
 
-/// How the calls of a row end, one after the other.
-fn called_in_turn(
+/// Adds how the calls of a row end, one after the other.
+fn push_calls(
     alloc: Global,
-    row: &Row,
-    mut running: Running,
-    argument: &Ground,
     text: &mut String,
+    row: &Row,
+    running: &mut Running,
+    argument: &Ground,
 ) -> Result<(), Fault>
-    requires { running.argument ≡ ground_of argument.now }
+    requires { running.old.argument ≡ ground_of argument.now }
 {
-    for call in row.texts(alloc, "call")?.as_slice() {
-        text.push_str(called(alloc, &mut running, argument, call)?.as_str())?;
+    for field in row.fields.as_slice() {
+        if field.name.as_str() == "call" {
+            text.push_str(called(alloc, running, argument, field.text()?)?.as_str())?;
+        }
     }
     Ok(())
+}
+
+/// The units left of a run that gave a function, and its calls.
+fn function_lines(
+    alloc: Global,
+    row: &Row,
+    running: &mut Running,
+    argument: &Ground,
+    left: u64,
+) -> Result<String, Fault>
+    requires { running.old.argument ≡ ground_of argument.now }
+{
+    let mut text = format!(in alloc; "Function {left}\n")?;
+    push_calls(alloc, &mut text, row, running, argument)?;
+    Ok(text)
 }
 
 /// How a run ended, and the calls after it.
@@ -118,17 +166,55 @@ fn told(
     requires { HasStartType began (kernel_type_of kind.now) }
 {
     match (began, kind) {
-        (Ok(Began::Value(value, left)), _) => Ok(format!(in alloc; "{value:?} {left}\n")?),
-        (Ok(Began::Trap(trap)), _) => Ok(format!(in alloc; "{trap:?}\n")?),
-        (Ok(Began::Bound(limit)), _) => Ok(format!(in alloc; "{limit:?}\n")?),
-        (Err(fault), _) => Ok(format!(in alloc; "{fault:?}\n")?),
-        (Ok(Began::Function(running, left)), KType::Fun(argument, _)) => {
-            let mut text = format!(in alloc; "Function {left}\n")?;
-            called_in_turn(alloc, row, running, argument, &mut text)?;
-            Ok(text)
+        (Ok(Began::Value(value, left)), _) => Ok(line_with_units(alloc, value, left)?),
+        (Ok(Began::Trap(trap)), _) => Ok(line(alloc, trap)?),
+        (Ok(Began::Bound(limit)), _) => Ok(line(alloc, limit)?),
+        (Err(fault), _) => Ok(line(alloc, fault)?),
+        (Ok(Began::Function(mut running, left)), KType::Fun(argument, _)) => {
+            let lines = function_lines(alloc, row, &mut running, argument, left);
+            drop(running);
+            lines
         }
         (Ok(Began::Function(_, _)), KType::Ground(_)) => unreachable!(),
     }
+}
+
+/// The run of a kernel, and its calls.
+fn run_lines<L: Ledger>(
+    alloc: Global,
+    row: &Row,
+    code: &Term,
+    kind: &KType,
+    steps: &mut Steps<L>,
+) -> Result<String, Fault>
+    requires { IsKernel (expression_of code.now) (kernel_type_of kind.now) }
+{
+    let fuel = row.number("fuel", 0)?;
+    let entry = emit(alloc, code, kind, steps)?;
+    let began = Running::start(alloc, entry.module(), kind, fuel);
+    drop(entry);
+    told(alloc, row, kind, began)
+}
+
+/// Bytes in hexadecimal.
+fn hexadecimal_line(alloc: Global, bytes: &[u8]) -> Result<String, Fault> {
+    let digits = hex::encode(alloc, bytes)?;
+    Ok(format!(in alloc; "{digits}\n")?)
+}
+
+/// The bytes of a kernel's module.
+fn bytes_line<L: Ledger>(
+    alloc: Global,
+    code: &Term,
+    kind: &KType,
+    steps: &mut Steps<L>,
+) -> Result<String, Fault>
+    requires { IsKernel (expression_of code.now) (kernel_type_of kind.now) }
+{
+    let entry = emit(alloc, code, kind, steps)?;
+    let line = hexadecimal_line(alloc, entry.bytes());
+    drop(entry);
+    line
 }
 
 /// The run of a row's kernel at the type that its text says, and its calls.
@@ -137,14 +223,13 @@ fn run<L: Ledger>(alloc: Global, row: &Row, blank: Blank) -> Result<String, Faul
     requires parts { blank.parts ≡ L.parts }
     requires some { 0 < L.parts }
 {
-    let text = row.bytes(alloc, "text")?;
-    let fuel = row.number(alloc, "fuel", 0)?;
     let mut steps = Steps::<L>::open(blank);
-    match read_text(alloc, text.as_slice()) {
+    match read_text(alloc, row.bytes("text")) {
         Ok((_, code, kind)) => {
-            let entry = emit(alloc, &code, &kind, &mut steps)?;
-            let began = Running::start(alloc, entry.module(), &kind, fuel);
-            told(alloc, row, &kind, began)
+            let lines = run_lines(alloc, row, &code, &kind, &mut steps);
+            drop(code);
+            drop(kind);
+            lines
         }
         Err(TextFault::BadText) => Ok(String::from_str(alloc, "no text\n")?),
         Err(TextFault::Memory(error)) => Err(Fault::Memory(error)),
@@ -157,13 +242,13 @@ fn module_line<L: Ledger>(alloc: Global, row: &Row, blank: Blank) -> Result<Stri
     requires parts { blank.parts ≡ L.parts }
     requires some { 0 < L.parts }
 {
-    let text = row.bytes(alloc, "text")?;
     let mut steps = Steps::<L>::open(blank);
-    match read_text(alloc, text.as_slice()) {
+    match read_text(alloc, row.bytes("text")) {
         Ok((_, code, kind)) => {
-            let entry = emit(alloc, &code, &kind, &mut steps)?;
-            let bytes = hex::encode(alloc, entry.bytes())?;
-            Ok(format!(in alloc; "{bytes}\n")?)
+            let line = bytes_line(alloc, &code, &kind, &mut steps);
+            drop(code);
+            drop(kind);
+            line
         }
         Err(TextFault::BadText) => Ok(String::from_str(alloc, "no text\n")?),
         Err(TextFault::Memory(error)) => Err(Fault::Memory(error)),

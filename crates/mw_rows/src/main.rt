@@ -24,11 +24,11 @@ mod texts;
 
 use crate::count::Counts;
 use crate::fields::{Fault, Kind, Row};
-use crate::reading::{Misread, rows_of};
+use crate::reading::rows_of;
 use std::process::ExitCode;
 use std::rt::Files;
 use std::thread::Threads;
-use std::{env, fs};
+use std::{env, fs, io};
 
 /// What came of a row, as lines of text.
 fn carried_out<R: AllocGlobal + Threads + Sync>(
@@ -54,8 +54,49 @@ fn carried_out<R: AllocGlobal + Threads + Sync>(
 }
 
 /// Says on standard error where a row is malformed, and why.
-fn complain<R: Eprint>(rt: &R, file: &str, misread: &Misread) -> std::io::Result<()> {
-    eprintln!(rt; "mw_rows: {file}:{}: {}", misread.line, misread.why)
+fn complain<R: Eprint>(rt: &R, file: &str, line: usize, why: &str) -> io::Result<()> {
+    eprintln!(rt; "mw_rows: {file}:{line}: {why}")
+}
+
+/// Prints what came of a row.
+fn show<R: Print>(rt: &R, row: &Row, lines: &str) -> io::Result<()> {
+    print!(rt; "[{}] {}\n{}", row.kind.word(), row.name, lines)
+}
+
+/// Carries out a row. Says whether it could be read.
+fn carry_out_row<R: AllocGlobal + Print + Eprint + Threads + Sync>(
+    rt: &R,
+    file: &str,
+    row: &Row,
+    before: &mut runs::Before,
+) -> io::Result<bool> {
+    match carried_out(rt, row, before) {
+        Ok(lines) => {
+            show(rt, row, lines.as_str())?;
+            Ok(true)
+        }
+        Err(fault) => {
+            complain(rt, file, row.line, fault.why())?;
+            Ok(false)
+        }
+    }
+}
+
+/// Carries out rows, and counts them. Says whether all could be read.
+fn carry_out_rows<R: AllocGlobal + Print + Eprint + Threads + Sync>(
+    rt: &R,
+    file: &str,
+    rows: &[Row],
+    counts: &mut Counts,
+) -> io::Result<bool> {
+    let mut before = runs::Before::none(rt.alloc());
+    for row in rows {
+        if !carry_out_row(rt, file, row, &mut before)? {
+            return Ok(false);
+        }
+        counts.add(row.kind);
+    }
+    Ok(true)
 }
 
 /// Carries out the rows of a file, and counts them. Says whether all could be read.
@@ -65,38 +106,34 @@ fn carry_out_file<R: AllocGlobal + Files + Print + Eprint + Threads + Sync>(
     counts: &mut Counts,
 ) -> anyhow::Result<bool> {
     let text = fs::read_to_string(rt, file)?;
-    let rows = match rows_of(rt.alloc(), text.as_str()) {
-        Ok(rows) => rows,
+    match rows_of(rt.alloc(), text.as_str()) {
+        Ok(rows) => Ok(carry_out_rows(rt, file, rows.as_slice(), counts)?),
         Err(misread) => {
-            complain(rt, file, &misread)?;
+            complain(rt, file, misread.line, misread.why)?;
+            Ok(false)
+        }
+    }
+}
+
+/// Carries out the rows of files, and counts them. Says whether all could be read.
+fn carry_out_files<R: AllocGlobal + Files + Print + Eprint + Threads + Sync>(
+    rt: &R,
+    files: &[String],
+    counts: &mut Counts,
+) -> anyhow::Result<bool> {
+    for file in files {
+        if !carry_out_file(rt, file.as_str(), counts)? {
             return Ok(false);
         }
-    };
-    let mut before = runs::Before::none(rt.alloc());
-    for row in rows.as_slice() {
-        match carried_out(rt, row, &mut before) {
-            Ok(lines) => print!(rt; "[{}] {}\n{}", row.kind.word(), row.name, lines)?,
-            Err(fault) => {
-                let misread = Misread {
-                    line: row.line,
-                    why: fault.why(),
-                };
-                complain(rt, file, &misread)?;
-                return Ok(false);
-            }
-        }
-        counts.add(row.kind);
     }
     Ok(true)
 }
 
 fn main(rt: HostRuntime) -> anyhow::Result<ExitCode> {
-    let words: Vec<String> = env::args(&rt)?.collect(rt.alloc())?;
+    let files: Vec<String> = env::args(&rt)?.skip(1).collect(rt.alloc())?;
     let mut counts = Counts::none();
-    for file in words.iter().skip(1) {
-        if !carry_out_file(&rt, file.as_str(), &mut counts)? {
-            return Ok(ExitCode::from(1));
-        }
+    if !carry_out_files(&rt, files.as_slice(), &mut counts)? {
+        return Ok(ExitCode::from(1));
     }
     print!(rt; "{}", counts.lines(rt.alloc())?)?;
     Ok(ExitCode::from(0))

@@ -1,37 +1,41 @@
 // Sources and their nameless programs: what the items are, and main.
 
 use crate::fields::{Fault, Row};
+use crate::shown::{line, push_value};
 use mw_lex::lex;
 use mw_parse::parse;
 use mw_scope::resolve;
 use mw_term::{Program, Stop};
-use std::alloc::{AllocError, Global};
+use std::alloc::Global;
 
 /// The program of bytes.
 fn program(alloc: Global, bytes: &[u8]) -> Result<Program, Stop> {
     let tokens = lex(alloc, bytes)?;
     let surface = parse(alloc, &tokens, bytes.len() as u32)?;
-    resolve(alloc, &surface)
+    let program = resolve(alloc, &surface);
+    drop(surface);
+    program
 }
 
 /// A line for each item, and one for main.
-fn lines(alloc: Global, program: &Program) -> Result<String, AllocError> {
+fn lines(alloc: Global, program: &Program) -> Result<String, Fault> {
     let mut text = String::new(alloc);
     for item in program.items.as_slice() {
-        let kind = &item.kind;
-        text.push_str(format!(in alloc; "{kind:?}\n")?.as_str())?;
+        push_value(alloc, &mut text, &item.kind)?;
     }
-    let body = &program.body;
-    text.push_str(format!(in alloc; "{body:?}\n")?.as_str())?;
+    push_value(alloc, &mut text, &program.body)?;
     Ok(text)
 }
 
 /// The program of a row's source, or the refusal.
 pub fn carried_out(alloc: Global, row: &Row) -> Result<String, Fault> {
-    let source = row.bytes(alloc, "source")?;
-    match program(alloc, source.as_slice()) {
-        Ok(program) => Ok(lines(alloc, &program)?),
-        Err(Stop::Refused(refusal)) => Ok(format!(in alloc; "{refusal:?}\n")?),
+    match program(alloc, row.bytes("source")) {
+        Ok(program) => {
+            let lines = lines(alloc, &program);
+            drop(program);
+            lines
+        }
+        Err(Stop::Refused(refusal)) => Ok(line(alloc, refusal)?),
         Err(Stop::Memory(error)) => Err(Fault::Memory(error)),
     }
 }

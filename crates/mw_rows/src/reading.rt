@@ -106,23 +106,27 @@ fn nested(alloc: Global, frame: &[u8], inner: &mut Vec<u8>, times: u64) -> Resul
     Ok(())
 }
 
-/// A field's name, what is done with its text, and the text.
-fn parts(line: &str) -> Result<(&str, Times, &str), Fault> {
-    let Some((front, text)) = line.split_once(':') else {
-        return Err(Fault::Malformed("a line that is no row's and no field's"));
-    };
-    let text = match text.strip_prefix(" ") {
-        Some(rest) => rest,
-        None if text.is_empty() => text,
-        None => return Err(Fault::Malformed("no blank after the colon")),
-    };
+/// What stands before a field's colon, and its text.
+fn front_and_text(line: &str) -> Result<(&str, &str), Fault> {
+    match line.split_once(':') {
+        None => Err(Fault::Malformed("a line that is no row's and no field's")),
+        Some((front, "")) => Ok((front, "")),
+        Some((front, text)) => match text.strip_prefix(" ") {
+            Some(rest) => Ok((front, rest)),
+            None => Err(Fault::Malformed("no blank after the colon")),
+        },
+    }
+}
+
+/// A field's name, and what is done with its text.
+fn name_and_times(front: &str) -> Result<(&str, Times), Fault> {
     if let Some((name, times)) = front.split_once('*') {
-        return Ok((name, Times::Repeated(number_in(times)?), text));
+        return Ok((name, Times::Repeated(number_in(times)?)));
     }
     if let Some((name, times)) = front.split_once('^') {
-        return Ok((name, Times::Nested(number_in(times)?), text));
+        return Ok((name, Times::Nested(number_in(times)?)));
     }
-    Ok((front, Times::Repeated(1), text))
+    Ok((front, Times::Repeated(1)))
 }
 
 /// The row that begins on a line.
@@ -138,6 +142,7 @@ fn row(alloc: Global, head: &str, line: usize) -> Result<Row, Fault> {
         name: String::from_str(alloc, name)?,
         line,
         fields: Vec::new(alloc),
+        joined: Vec::new(alloc),
     })
 }
 
@@ -158,9 +163,17 @@ fn nest(
     }
 }
 
+/// A field with so many times these bytes.
+fn field(alloc: Global, name: &str, bytes: &[u8], times: u64) -> Result<Field, AllocError> {
+    let bytes = repeated(alloc, bytes, times)?;
+    let name = String::from_str(alloc, name)?;
+    Ok(Field { name, bytes })
+}
+
 /// Adds what a line says to a row's fields.
 fn add_to(alloc: Global, row: &mut Row, line: &str) -> Result<(), Fault> {
-    let (name, times, text) = parts(line)?;
+    let (front, text) = front_and_text(line)?;
+    let (name, times) = name_and_times(front)?;
     if !row.kind.fields().contains(&name) {
         return Err(Fault::Malformed("a field that rows of this kind don't have"));
     }
@@ -168,10 +181,8 @@ fn add_to(alloc: Global, row: &mut Row, line: &str) -> Result<(), Fault> {
     match times {
         Times::Nested(times) => nest(alloc, &mut row.fields, name, bytes.as_slice(), times),
         Times::Repeated(times) => {
-            row.fields.push(Field {
-                name: String::from_str(alloc, name)?,
-                bytes: repeated(alloc, bytes.as_slice(), times)?,
-            })?;
+            row.fields
+                .push(field(alloc, name, bytes.as_slice(), times)?)?;
             Ok(())
         }
     }
@@ -185,30 +196,58 @@ fn add(alloc: Global, rows: &mut Vec<Row>, line: &str) -> Result<(), Fault> {
     }
 }
 
+/// Ends the last row.
+fn end_last(alloc: Global, rows: &mut Vec<Row>) -> Result<(), Fault> {
+    if let Some(last) = rows.last_mut() {
+        last.join(alloc)?;
+    }
+    Ok(())
+}
+
+/// Begins a row after the last one.
+fn begin(alloc: Global, rows: &mut Vec<Row>, head: &str, number: usize) -> Result<(), Fault> {
+    end_last(alloc, rows)?;
+    rows.push(row(alloc, head, number)?)?;
+    Ok(())
+}
+
 /// What a line adds to the rows.
 fn read_line(alloc: Global, rows: &mut Vec<Row>, line: &str, number: usize) -> Result<(), Fault> {
     if line.is_empty() || line.starts_with('#') {
         return Ok(());
     }
     match line.strip_prefix("[") {
-        Some(head) => rows.push(row(alloc, head, number)?)?,
-        None => add(alloc, rows, line)?,
+        Some(head) => begin(alloc, rows, head, number),
+        None => add(alloc, rows, line),
     }
-    Ok(())
+}
+
+/// Why a row can't be read, with the number of a line.
+fn misread_at(line: usize, fault: &Fault) -> Misread {
+    Misread {
+        line,
+        why: fault.why(),
+    }
+}
+
+/// Reads the rows of a text.
+fn read(alloc: Global, rows: &mut Vec<Row>, text: &str) -> Result<(), Misread> {
+    let mut number = 0usize;
+    for line in text.lines() {
+        number = number.saturating_add(1);
+        if let Err(fault) = read_line(alloc, rows, line, number) {
+            return Err(misread_at(number, &fault));
+        }
+    }
+    match end_last(alloc, rows) {
+        Ok(()) => Ok(()),
+        Err(fault) => Err(misread_at(number, &fault)),
+    }
 }
 
 /// The rows of a file's text.
 pub fn rows_of(alloc: Global, text: &str) -> Result<Vec<Row>, Misread> {
     let mut rows = Vec::new(alloc);
-    let mut number = 0usize;
-    for line in text.lines() {
-        number = number.saturating_add(1);
-        if let Err(fault) = read_line(alloc, &mut rows, line, number) {
-            return Err(Misread {
-                line: number,
-                why: fault.why(),
-            });
-        }
-    }
+    read(alloc, &mut rows, text)?;
     Ok(rows)
 }

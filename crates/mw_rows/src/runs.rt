@@ -5,7 +5,7 @@
 // that fail, from 0 on. The sink takes `step` bytes at once, 10 where the field isn't there. `shows` says which lines are
 // printed. `beside` names the row before: where the same bytes were written, that is said in place of the lines.
 
-use crate::fields::{Fault, Row};
+use crate::fields::{Fault, Row, number_in};
 use crate::shown::{Shows, push_lines, shows_of};
 use mw_console::Status;
 use mw_drive::run;
@@ -33,25 +33,39 @@ impl Before {
     }
 }
 
+/// The one file, with the row's source in it.
+fn file_of(alloc: Global, row: &Row) -> Result<NamedFile, Fault> {
+    let bytes = Bytes::copied(alloc, row.bytes("source"))?;
+    let name = Bytes::copied(alloc, NAME.as_bytes())?;
+    Ok(NamedFile { name, bytes })
+}
+
 /// The source with its one file.
 fn source_of(alloc: Global, row: &Row) -> Result<MemSource, Fault> {
-    let file = row.bytes(alloc, "source")?;
+    let failing = calls(alloc, row, "reads")?;
     let mut files = Files::new(alloc);
-    files.push(NamedFile {
-        name: Bytes::copied(alloc, NAME.as_bytes())?,
-        bytes: Bytes::copied(alloc, file.as_slice())?,
-    })?;
+    files.push(file_of(alloc, row)?)?;
     if !files.names_differ() {
         return Err(Fault::Malformed("two files of one name"));
     }
-    Ok(MemSource::new(files, calls(alloc, row, "reads")?, 7))
+    Ok(MemSource::new(files, failing, 7))
+}
+
+/// The sink, which takes so many bytes at once.
+fn sink_of(alloc: Global, row: &Row) -> Result<MemSink, Fault> {
+    let step = row.number("step", 10)?;
+    if step == 0 {
+        return Err(Fault::Malformed("a sink that takes nothing"));
+    }
+    let failing = calls(alloc, row, "writes")?;
+    Ok(MemSink::new(alloc, failing, step as usize))
 }
 
 /// The numbers of the calls that fail.
 fn calls(alloc: Global, row: &Row, name: &str) -> Result<Calls, Fault> {
     let mut calls = Calls::new(alloc);
-    for number in row.numbers(alloc, name)?.as_slice() {
-        calls.push(*number)?;
+    for word in row.text(name)?.split_whitespace() {
+        calls.push(number_in(word)?)?;
     }
     Ok(calls)
 }
@@ -68,48 +82,74 @@ fn spelled(alloc: Global, text: &str) -> Result<String, AllocError> {
 /// The words of the command.
 fn words(alloc: Global, row: &Row) -> Result<Vec<String>, Fault> {
     let text = if row.has("words") {
-        row.text(alloc, "words")?
+        row.text("words")?
     } else {
-        String::from_str(alloc, "run source.metaml")?
+        "run source.metaml"
     };
     let mut words = Vec::new(alloc);
-    for word in text.as_str().split_whitespace() {
+    for word in text.split_whitespace() {
         words.push(spelled(alloc, word)?)?;
     }
     Ok(words)
 }
 
-fn shows(alloc: Global, row: &Row) -> Result<Shows, Fault> {
+fn shows(row: &Row) -> Result<Shows, Fault> {
     if !row.has("shows") {
         return Ok(Shows::All);
     }
-    match shows_of(row.text(alloc, "shows")?.as_str()) {
+    match shows_of(row.text("shows")?) {
         Some(shows) => Ok(shows),
         None => Err(Fault::Malformed("no such lines are shown")),
     }
 }
 
+/// The status of the command, which writes into this sink.
+fn status_of<R: AllocGlobal + Threads + Sync>(
+    rt: &R,
+    row: &Row,
+    sink: &mut MemSink,
+) -> Result<Status, Fault> {
+    let alloc = rt.alloc();
+    let words = words(alloc, row)?;
+    let mut source = source_of(alloc, row)?;
+    let mut keeper = SureKeeper::new(Bytes::new(alloc));
+    let words = words.as_slice();
+    Ok(run(rt, alloc, words, &mut source, sink, &mut keeper, &Pass))
+}
+
 /// The status, and what is written.
 fn ran<R: AllocGlobal + Threads + Sync>(rt: &R, row: &Row) -> Result<(Status, Vec<u8>), Fault> {
-    let alloc = rt.alloc();
-    let step = row.number(alloc, "step", 10)?;
-    if step == 0 {
-        return Err(Fault::Malformed("a sink that takes nothing"));
+    let mut sink = sink_of(rt.alloc(), row)?;
+    let status = status_of(rt, row, &mut sink)?;
+    Ok((status, Vec::from_slice(rt.alloc(), sink.written())?))
+}
+
+/// Whether a row stands beside the row before.
+fn is_beside(row: &Row, before: &Before) -> Result<bool, Fault> {
+    if !row.has("beside") {
+        return Ok(false);
     }
-    let mut source = source_of(alloc, row)?;
-    let mut sink = MemSink::new(alloc, calls(alloc, row, "writes")?, step as usize);
-    let mut keeper = SureKeeper::new(Bytes::new(alloc));
-    let words = words(alloc, row)?;
-    let status = run(
-        rt,
-        alloc,
-        words.as_slice(),
-        &mut source,
-        &mut sink,
-        &mut keeper,
-        &Pass,
-    );
-    Ok((status, Vec::from_slice(alloc, sink.written())?))
+    if row.text("beside")? != before.name.as_str() {
+        return Err(Fault::Malformed("not the name of the row before"));
+    }
+    Ok(true)
+}
+
+/// The exit code, and the lines that were written, which may be those of the row before.
+fn lines(
+    alloc: Global,
+    status: &Status,
+    written: &[u8],
+    shows: Shows,
+    are_the_same: bool,
+) -> Result<String, AllocError> {
+    let mut text = format!(in alloc; "status {}\n", status.code())?;
+    if are_the_same {
+        text.push_str("the same lines\n")?;
+    } else {
+        push_lines(alloc, &mut text, written, shows)?;
+    }
+    Ok(text)
 }
 
 /// The exit code, and the lines that were written.
@@ -119,19 +159,17 @@ pub fn carried_out<R: AllocGlobal + Threads + Sync>(
     before: &mut Before,
 ) -> Result<String, Fault> {
     let alloc = rt.alloc();
-    let shows = shows(alloc, row)?;
-    let beside = row.text(alloc, "beside")?;
-    if row.has("beside") && beside.as_str() != before.name.as_str() {
-        return Err(Fault::Malformed("not the name of the row before"));
-    }
-    let (status, written) = ran(rt, row)?;
-    let mut text = format!(in alloc; "status {}\n", status.code())?;
-    if row.has("beside") && written.as_slice() == before.written.as_slice() {
-        text.push_str("the same lines\n")?;
-    } else {
-        push_lines(alloc, &mut text, written.as_slice(), shows)?;
-    }
+    let shows = shows(row)?;
+    let is_beside = is_beside(row, before)?;
     before.name = row.name.clone()?;
+    let (status, written) = ran(rt, row)?;
+    let are_the_same = is_beside && written.as_slice() == before.written.as_slice();
     before.written = written;
-    Ok(text)
+    Ok(lines(
+        alloc,
+        &status,
+        before.written.as_slice(),
+        shows,
+        are_the_same,
+    )?)
 }

@@ -1,6 +1,27 @@
 // What is printed of bytes that were written.
 
 use std::alloc::{AllocError, Global};
+use std::fmt::Debug;
+
+/// A value as a line. The value is let go here, so that no caller does.
+pub fn line<T: Debug + Drop>(alloc: Global, value: T) -> Result<String, AllocError> {
+    format!(in alloc; "{value:?}\n")
+}
+
+/// The same with the units left.
+pub fn line_with_units<T: Debug + Drop>(
+    alloc: Global,
+    value: T,
+    left: u64,
+) -> Result<String, AllocError> {
+    format!(in alloc; "{value:?} {left}\n")
+}
+
+/// Adds a value as a line.
+pub fn push_value<T: Debug>(alloc: Global, text: &mut String, value: &T) -> Result<(), AllocError> {
+    let line = format!(in alloc; "{value:?}\n")?;
+    text.push_str(line.as_str())
+}
 
 /// Which lines are printed.
 #[derive(Clone, Copy, Drop)]

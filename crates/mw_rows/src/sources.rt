@@ -6,6 +6,7 @@
 // refused at themselves, and all others. A `fronts` row prints the verdict of each front of its source, the shortest first.
 
 use crate::fields::{Fault, Row};
+use crate::shown::line;
 use mw_lex::lex;
 use mw_parse::{Surface, parse};
 use mw_term::{Refusal, Stop};
@@ -20,7 +21,10 @@ fn surface(alloc: Global, bytes: &[u8]) -> Result<Surface, Stop> {
 /// The refusal of bytes that have no tree.
 fn refusal(alloc: Global, bytes: &[u8]) -> Result<Option<Refusal>, AllocError> {
     match surface(alloc, bytes) {
-        Ok(_) => Ok(None),
+        Ok(tree) => {
+            drop(tree);
+            Ok(None)
+        }
         Err(Stop::Refused(refusal)) => Ok(Some(refusal)),
         Err(Stop::Memory(error)) => Err(error),
     }
@@ -36,24 +40,33 @@ fn verdict(alloc: Global, bytes: &[u8]) -> Result<String, AllocError> {
 
 /// The tree of a row's source, or the refusal.
 pub fn tree(alloc: Global, row: &Row) -> Result<String, Fault> {
-    let source = row.bytes(alloc, "source")?;
-    match surface(alloc, source.as_slice()) {
-        Ok(tree) => Ok(format!(in alloc; "{tree:?}\n")?),
-        Err(Stop::Refused(refusal)) => Ok(format!(in alloc; "{refusal:?}\n")?),
+    match surface(alloc, row.bytes("source")) {
+        Ok(tree) => Ok(line(alloc, tree)?),
+        Err(Stop::Refused(refusal)) => Ok(line(alloc, refusal)?),
         Err(Stop::Memory(error)) => Err(Fault::Memory(error)),
     }
 }
 
+/// Adds the verdict of a front with what comes next, as a line.
+fn push_verdict(
+    alloc: Global,
+    text: &mut String,
+    front: &[u8],
+    next: &[u8],
+) -> Result<(), AllocError> {
+    let mut source = Vec::from_slice(alloc, front)?;
+    source.extend_from_slice(next)?;
+    text.push_str(verdict(alloc, source.as_slice())?.as_str())?;
+    text.push_str("\n")
+}
+
 /// A verdict for each of a row's texts.
 pub fn verdicts(alloc: Global, row: &Row) -> Result<String, Fault> {
-    let front = row.bytes(alloc, "source")?;
+    let front = row.bytes("source");
     let mut text = String::new(alloc);
     for field in row.fields.as_slice() {
         if field.name.as_str() == "next" {
-            let mut source = Vec::from_slice(alloc, front.as_slice())?;
-            source.extend_from_slice(field.bytes.as_slice())?;
-            let verdict = verdict(alloc, source.as_slice())?;
-            text.push_str(format!(in alloc; "{verdict}\n")?.as_str())?;
+            push_verdict(alloc, &mut text, front, field.bytes.as_slice())?;
         }
     }
     Ok(text)
@@ -81,37 +94,68 @@ fn follows(alloc: Global, front: &[u8], token: &str) -> Result<Behind, AllocErro
     })
 }
 
-/// Adds a token after a blank.
-fn push_token(list: &mut String, token: &str) -> Result<(), AllocError> {
-    list.push_str(" ")?;
-    list.push_str(token)
+/// Tokens behind a front: those that the reader takes, those that it refuses at themselves, and the others.
+#[derive(Drop)]
+struct Sorted {
+    taken: String,
+    refused: String,
+    others: String,
+}
+
+impl Sorted {
+    fn none(alloc: Global) -> Sorted {
+        Sorted {
+            taken: String::new(alloc),
+            refused: String::new(alloc),
+            others: String::new(alloc),
+        }
+    }
+
+    /// Adds a token after a blank.
+    fn add(&mut self, alloc: Global, front: &[u8], token: &str) -> Result<(), AllocError> {
+        let list = match follows(alloc, front, token)? {
+            Behind::Taken => &mut self.taken,
+            Behind::Refused => &mut self.refused,
+            Behind::Other => &mut self.others,
+        };
+        list.push_str(" ")?;
+        list.push_str(token)
+    }
+
+    fn lines(&self, alloc: Global) -> Result<String, AllocError> {
+        let (taken, refused, others) = (&self.taken, &self.refused, &self.others);
+        format!(in alloc; "taken:{taken}\nrefused:{refused}\nothers:{others}\n")
+    }
 }
 
 /// Which tokens may follow a row's front, and which may not.
 pub fn followers(alloc: Global, row: &Row) -> Result<String, Fault> {
-    let front = row.bytes(alloc, "front")?;
-    let tokens = row.text(alloc, "tokens")?;
-    let mut taken = String::new(alloc);
-    let mut refused = String::new(alloc);
-    let mut others = String::new(alloc);
-    for token in tokens.as_str().split_whitespace() {
-        match follows(alloc, front.as_slice(), token)? {
-            Behind::Taken => push_token(&mut taken, token)?,
-            Behind::Refused => push_token(&mut refused, token)?,
-            Behind::Other => push_token(&mut others, token)?,
-        }
+    let front = row.bytes("front");
+    let mut sorted = Sorted::none(alloc);
+    for token in row.text("tokens")?.split_whitespace() {
+        sorted.add(alloc, front, token)?;
     }
-    Ok(format!(in alloc; "taken:{taken}\nrefused:{refused}\nothers:{others}\n")?)
+    Ok(sorted.lines(alloc)?)
+}
+
+/// Adds a length and the verdict of the front that has it.
+fn push_front(
+    alloc: Global,
+    text: &mut String,
+    source: &[u8],
+    length: usize,
+) -> Result<(), AllocError> {
+    let front = source.get(..length).unwrap_or(&[]);
+    text.push_str(format!(in alloc; "{length} ")?.as_str())?;
+    push_verdict(alloc, text, front, &[])
 }
 
 /// The verdict of each front of a row's source, with its length.
 pub fn fronts(alloc: Global, row: &Row) -> Result<String, Fault> {
-    let source = row.bytes(alloc, "source")?;
+    let source = row.bytes("source");
     let mut text = String::new(alloc);
-    for cut in 0..source.len().saturating_add(1) {
-        let front = source.as_slice().get(..cut).unwrap_or(&[]);
-        let verdict = verdict(alloc, front)?;
-        text.push_str(format!(in alloc; "{cut} {verdict}\n")?.as_str())?;
+    for length in 0..source.len().saturating_add(1) {
+        push_front(alloc, &mut text, source, length)?;
     }
     Ok(text)
 }
