@@ -1,5 +1,6 @@
 -- Reading modules.
-use Rattle.std.specs.Prelude.{ℕ, zero, suc, ◌+◌, Bool, true, false, ◌&&◌, nat_eq, nat_le, nat_lt, if◌then◌else◌, List, [], ◌∷◌, ◌++◌, length, replicate, drop, Option, Some, None, Result, Ok, Err}
+use Rattle.std.specs.Prelude.{ℕ, zero, suc, ◌+◌, Bool, true, false, ◌&&◌, nat_eq, nat_le, nat_lt, if◌then◌else◌}
+use Rattle.std.specs.Prelude.{List, [], ◌∷◌, ◌++◌, length, replicate, drop, Option, Some, None, Result, Ok, Err}
 use Rattle.mw_wasm.specs.declared.values.ValType.{ValType}
 use Rattle.mw_wasm.specs.declared.modules.Limits.{Limits}
 use Rattle.mw_wasm.specs.declared.modules.FuncType.{FuncType}
@@ -8,7 +9,8 @@ use Rattle.mw_wasm.specs.declared.modules.Exported.TheVariants as exported
 use Rattle.mw_wasm.specs.Syntax.{Code, Function, Global, Exporting, ElementSegment, DataSegment, PureModule}
 use Rattle.mw_decode.specs.declared.fault.BadModule.{BadModule}
 use Rattle.mw_decode.specs.declared.fault.BadModule.TheVariants as bad
-use Rattle.mw_decode.specs.Reading.{Read, got, ended, faulty, Reader, place, and_then, ◌>>=◌, gives, Meaning, is, wrong, outside, byte_of, fixed, u32, at_most, times, vector, optional, sized}
+use Rattle.mw_decode.specs.Reading.{Read, got, ended, faulty, Reader, place, and_then, ◌>>=◌, gives, Meaning, is, wrong}
+use Rattle.mw_decode.specs.Reading.{outside, byte_of, fixed, u32, at_most, times, vector, optional, sized}
 use Rattle.mw_decode.specs.Instructions.{value_type, expression}
 
 abbrev pub function_type : Reader FuncType
@@ -54,7 +56,9 @@ abbrev pub printable : ℕ → Meaning ℕ
 printable b = if nat_le 0x20 b && nat_le b 0x7E then is b else outside
 
 abbrev pub export_kind : ℕ → Meaning (ℕ → Exported)
-export_kind b = if nat_eq b 0x00 then is exported.Func else if nat_eq b 0x01 then is exported.Table else if nat_eq b 0x02 then is exported.Memory else if nat_eq b 0x03 then is exported.Global else wrong
+export_kind b =
+    if nat_eq b 0x00 then is exported.Func else if nat_eq b 0x01 then is exported.Table
+    else if nat_eq b 0x02 then is exported.Memory else if nat_eq b 0x03 then is exported.Global else wrong
 
 abbrev pub export : Reader Exporting
 export = do
@@ -79,7 +83,9 @@ data_segment = do
 
 -- further locals, of which there are some already: a count that passes 50,000 in sum is outside the profile
 abbrev pub run_count : (before : ℕ) → Reader ℕ
-run_count before end bytes = and_then (u32 end bytes) λ n rest. if nat_le (before + n) 50_000 then got n rest else faulty (bad.OutsideProfile (place end bytes))
+run_count before end bytes =
+    and_then (u32 end bytes) λ n rest.
+    if nat_le (before + n) 50_000 then got n rest else faulty (bad.OutsideProfile (place end bytes))
 
 abbrev pub runs : ℕ → (before : ℕ) → Reader (List ValType)
 runs zero before = gives []
@@ -107,7 +113,9 @@ function_code = sized (λ at. faulty (bad.Size at)) body
 
 -- there are as many bodies as functions
 abbrev pub bodies : (functions : ℕ) → Reader (List Body)
-bodies functions end bytes = and_then (u32 end bytes) λ n rest. if nat_eq n functions then times n function_code end rest else faulty (bad.Section (place end bytes))
+bodies functions end bytes =
+    and_then (u32 end bytes) λ n rest.
+    if nat_eq n functions then times n function_code end rest else faulty (bad.Section (place end bytes))
 
 abbrev pub no_imports : Reader ℕ
 no_imports = at_most 0
@@ -117,7 +125,10 @@ abbrev pub customs_within : ℕ → Reader (Unit {0})
 customs_within zero end bytes = got tt bytes
 customs_within (suc k) end [] = got tt []
 customs_within (suc k) end (b ∷ rest) =
-    if nat_eq b 0x00 then and_then (u32 end rest) (λ size content. if nat_le size (length content) then customs_within k end (drop size content) else ended) else got tt (b ∷ rest)
+    if nat_eq b 0x00
+    then and_then (u32 end rest) (λ size content.
+    if nat_le size (length content) then customs_within k end (drop size content) else ended)
+    else got tt (b ∷ rest)
 
 abbrev pub customs : Reader (Unit {0})
 customs end bytes = customs_within (length bytes) end bytes
@@ -174,7 +185,8 @@ pub record Parts : Type 0 where
   pub bodies : Option (List Body)
   pub segments : List DataSegment
 
--- The eleven sections, each behind custom sections (standard: Binary Format, Modules). The section of bodies may be missing.
+-- The eleven sections, each behind custom sections (standard: Binary Format, Modules).
+-- The section of bodies may be missing.
 abbrev pub type_section : Reader (List FuncType)
 type_section = after_customs (section 1 [] (vector function_type))
 
@@ -226,7 +238,17 @@ sections = do
   bodies ← code_section (length kinds)
   segments ← data_section
   _ ← end_of_file (is_missing (length kinds) bodies)
-  gives (record { types = types; kinds = kinds; table = table; memory = memory; globals = globals; exports = exports; elements = elements; bodies = bodies; segments = segments })
+  gives (record {
+    types = types;
+    kinds = kinds;
+    table = table;
+    memory = memory;
+    globals = globals;
+    exports = exports;
+    elements = elements;
+    bodies = bodies;
+    segments = segments;
+  })
 
 -- functions are their types in order and their bodies in order
 abbrev pub functions : List ℕ → List Body → List Function
@@ -256,13 +278,16 @@ answer len ended = Err (bad.Short len)
 answer len (faulty f) = Err f
 
 abbrev pub starts : List ℕ → Bool
-starts (b0 ∷ b1 ∷ b2 ∷ b3 ∷ b4 ∷ b5 ∷ b6 ∷ b7 ∷ rest) = nat_eq b0 0x00 && nat_eq b1 0x61 && nat_eq b2 0x73 && nat_eq b3 0x6D && nat_eq b4 0x01 && nat_eq b5 0x00 && nat_eq b6 0x00 && nat_eq b7 0x00
+starts (b0 ∷ b1 ∷ b2 ∷ b3 ∷ b4 ∷ b5 ∷ b6 ∷ b7 ∷ rest) =
+    nat_eq b0 0x00 && nat_eq b1 0x61 && nat_eq b2 0x73 && nat_eq b3 0x6D && nat_eq b4 0x01 && nat_eq b5 0x00
+    && nat_eq b6 0x00 && nat_eq b7 0x00
 starts _ = false
 
 -- the module that bytes spell, or their first fault, however many bytes they are
 abbrev pub module_in : List ℕ → Result PureModule BadModule
 module_in bytes = if starts bytes then answer (length bytes) (sections (length bytes) (drop 8 bytes)) else Err bad.Magic
 
--- the module that a file's bytes spell, or their first fault: a file longer than the limit is outside the profile before it is read
+-- the module that a file's bytes spell, or their first fault:
+-- a file longer than the limit is outside the profile before it is read
 abbrev pub module_read : List ℕ → Result PureModule BadModule
 module_read bytes = if nat_lt 67_108_864 (length bytes) then Err (bad.OutsideProfile 67_108_864) else module_in bytes

@@ -4,7 +4,9 @@ ghost use Rattle.std.specs.Prelude.{◌≡◌, ◌<◌, ◌≤◌, ◌≢◌, �
 ghost use Rattle.mw_wasm.specs.Views.{instruction_of, code_of};
 ghost use Rattle.mw_decode.specs.Reading.{got, place};
 ghost use Rattle.mw_decode.specs.Opcodes.{opcode, alone_of};
-ghost use Rattle.mw_decode.specs.Instructions.{value_type as type_here, block_type as block_type_here, instructions, opened as opened_here, inside as inside_here, closed as closed_here, expression as expression_here};
+ghost use Rattle.mw_decode.specs.Instructions.{value_type as type_here, block_type as block_type_here, instructions};
+ghost use Rattle.mw_decode.specs.Instructions.{opened as opened_here, inside as inside_here, closed as closed_here};
+ghost use Rattle.mw_decode.specs.Instructions.{expression as expression_here};
 ghost use Rattle.mw_decode.specs.Listing.{mark_of, opener_of, opcode_of, listed_of};
 ghost use Rattle.mw_decode.specs.Gives.{Gives};
 
@@ -98,11 +100,12 @@ fn block_type(bytes: &[u8], end: u32) -> Read<Option<ValType>>
 
 /// Instructions up to their mark; 05 is one only in the first list of an `if`.
 #[cycle(code)]
-#[tactic(auto, using(crate::proofs::Steps::front_none, crate::proofs::Steps::ends_closing, crate::proofs::Steps::ends_otherwise, crate::proofs::Steps::no_otherwise, crate::proofs::Steps::ends_short, crate::proofs::Steps::opens_more, crate::proofs::Steps::opens_none, crate::proofs::Steps::alone_more, crate::proofs::Steps::alone_none))]
+#[tactic(auto, using(crate::proofs::Steps::step_laws))]
 fn listed(alloc: Global, bytes: &[u8], end: u32, room: u32, first: bool) -> Read<(Instrs, Mark)>
     requires place { length bytes.now ≤ end }
     requires shallow { room ≤ 500 }
-    ensures gives { Gives (λ x. got (listed_of x.0.0 x.0.1) x.1.now) result (instructions room first end bytes.now) }
+    ensures gives { Gives (λ x. got (listed_of x.0.0 x.0.1) x.1.now) result
+        (instructions room first end bytes.now) }
     ensures rest { IfOk result (λ x. length x.1.now ≤ length bytes.now) }
 {
     let mut list = Instrs::new(alloc);
@@ -144,7 +147,8 @@ fn opened<'a>(
 ) -> Read<'a, Instr>
     requires place { length bytes.now ≤ end }
     requires shallow { room ≤ 500 }
-    ensures gives { Gives (λ x. got (instruction_of x.0) x.1.now) result (opened_here instructions room (opener_of opener) at end bytes.now) }
+    ensures gives { Gives (λ x. got (instruction_of x.0) x.1.now) result
+        (opened_here instructions room (opener_of opener) at end bytes.now) }
     ensures rest { IfOk result (λ x. length x.1.now ≤ length bytes.now) }
 {
     if room == 0 {
@@ -166,7 +170,8 @@ fn inside<'a>(
 ) -> Read<'a, Instr>
     requires place { length bytes.now ≤ end }
     requires shallow { room ≤ 500 }
-    ensures gives { Gives (λ x. got (instruction_of x.0) x.1.now) result (inside_here instructions room (opener_of opener) kind end bytes.now) }
+    ensures gives { Gives (λ x. got (instruction_of x.0) x.1.now) result
+        (inside_here instructions room (opener_of opener) kind end bytes.now) }
     ensures rest { IfOk result (λ x. length x.1.now ≤ length bytes.now) }
 {
     match opener {
@@ -196,7 +201,8 @@ fn inside<'a>(
 fn closed(alloc: Global, bytes: &[u8], end: u32, room: u32) -> Read<Instrs>
     requires place { length bytes.now ≤ end }
     requires shallow { room ≤ 500 }
-    ensures gives { Gives (λ x. got (code_of x.0) x.1.now) result (closed_here instructions room end bytes.now) }
+    ensures gives { Gives (λ x. got (code_of x.0) x.1.now) result
+        (closed_here instructions room end bytes.now) }
     ensures rest { IfOk result (λ x. length x.1.now ≤ length bytes.now) }
 {
     let ((list, _), rest) = listed(alloc, bytes, end, room, false)?;

@@ -31,10 +31,11 @@ fn printable(bytes: &[u8], end: u32) -> Read<u8>
 }
 
 /// So many bytes of printable ASCII.
-#[tactic(auto, using(crate::proofs::Loops::goes_on, crate::proofs::Loops::stops_at, crate::proofs::Loops::is_done))]
+#[tactic(auto, using(crate::proofs::Loops::loop_laws))]
 fn so_many_printable(alloc: Global, count: u32, bytes: &[u8], end: u32) -> Read<Octets>
     requires { length bytes.now ≤ end }
-    ensures gives { Gives (λ x. got x.0 x.1.now) result (times count (byte_of printable_here) end bytes.now) }
+    ensures gives { Gives (λ x. got x.0 x.1.now) result
+        (times count (byte_of printable_here) end bytes.now) }
     ensures rest { IfOk result (λ x. length x.1.now ≤ length bytes.now) }
 {
     let mut list = Octets::new(alloc);
@@ -94,10 +95,11 @@ fn export(alloc: Global, bytes: &[u8], end: u32) -> Read<Export>
 }
 
 /// So many exports.
-#[tactic(auto, using(crate::proofs::Loops::goes_on_seen, crate::proofs::Loops::stops_at, crate::proofs::Loops::is_done))]
+#[tactic(auto, using(crate::proofs::Loops::seen_laws))]
 fn so_many_exports(alloc: Global, count: u32, bytes: &[u8], end: u32) -> Read<Exports>
     requires { length bytes.now ≤ end }
-    ensures gives { Gives (λ x. got (map export_of x.0) x.1.now) result (times count export_here end bytes.now) }
+    ensures gives { Gives (λ x. got (map export_of x.0) x.1.now) result
+        (times count export_here end bytes.now) }
     ensures rest { IfOk result (λ x. length x.1.now ≤ length bytes.now) }
 {
     let mut list = Exports::new(alloc);
@@ -117,7 +119,8 @@ fn so_many_exports(alloc: Global, count: u32, bytes: &[u8], end: u32) -> Read<Ex
 /// A vector of exports.
 pub fn exports(alloc: Global, bytes: &[u8], end: u32) -> Read<Exports>
     requires { length bytes.now ≤ end }
-    ensures gives { Gives (λ x. got (map export_of x.0) x.1.now) result (vector export_here end bytes.now) }
+    ensures gives { Gives (λ x. got (map export_of x.0) x.1.now) result
+        (vector export_here end bytes.now) }
     ensures rest { IfOk result (λ x. length x.1.now ≤ length bytes.now) }
 {
     let (count, rest) = u32_at(bytes, end)?;

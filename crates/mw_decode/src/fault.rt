@@ -10,8 +10,8 @@ use std::alloc::AllocError;
 pub enum BadModule {
     /// The first eight bytes aren't those of each module, or there are fewer.
     Magic,
-    /// At a section's identity that may not stand there; at the count of bodies where as many functions aren't declared;
-    /// or at the file's end where functions are declared and there are no bodies.
+    /// At a section's identity that may not stand there; at the count of bodies where as many functions aren't
+    /// declared; or at the file's end where functions are declared and there are no bodies.
     Section(u32),
     /// At a size whose stated end isn't where its content ends, or lies behind the section that holds it.
     Size(u32),

@@ -77,7 +77,8 @@ fn sections(alloc: Global, bytes: &[u8], end: u32) -> Read<Module>
 
 /// The bytes behind the header, which is the first eight.
 fn behind_header(bytes: &[u8]) -> Option<&[u8]>
-    ensures some { IfSome result (λ rest. (starts bytes.now ≡ true) × (rest.now ≡ drop 8 bytes.now)) }
+    ensures some { IfSome result
+        (λ rest. (starts bytes.now ≡ true) × (rest.now ≡ drop 8 bytes.now)) }
     ensures none { IfNone result (starts bytes.now ≡ false) }
 {
     match bytes {
@@ -86,12 +87,13 @@ fn behind_header(bytes: &[u8]) -> Option<&[u8]>
     }
 }
 
-/// The module that a file's bytes spell within the profile, or their first fault. A file of more than 67,108,864 bytes is outside
-/// the profile at that length, before anything is read. `Memory` comes where memory runs out.
+/// The module that a file's bytes spell within the profile, or their first fault. A file of more than 67,108,864 bytes
+/// is outside the profile at that length, before anything is read. `Memory` comes where memory runs out.
 pub fn decode(alloc: Global, bytes: &[u8]) -> Result<Module, DecodeFault>
     ensures fault { Decodes result (module_read bytes.now) }
     ensures limit { IfOk result (λ m. IsWithinFileLimit bytes.now) }
-    ensures spelled { IfOk result (λ m. Spells bytes.now (module_of m) × IsWithinProfile (module_of m)) }
+    ensures spelled { IfOk result
+        (λ m. Spells bytes.now (module_of m) × IsWithinProfile (module_of m)) }
     ensures few { IfOk result (λ m. (length m.elements < 2 ^ 32) × (length m.segments < 2 ^ 32)) }
     ensures read { (m : PureModule) → IsWithinFileLimit bytes.now → Spells bytes.now m → IsWithinProfile m
         → Decodes result (Ok m) }

@@ -3,7 +3,9 @@
 ghost use Rattle.std.specs.Prelude.{◌≡◌, ◌≤◌, ℕ, length, IfOk, slice_get};
 ghost use Rattle.mw_wasm.specs.Views.{instruction_of};
 ghost use Rattle.mw_decode.specs.Reading.{got};
-ghost use Rattle.mw_decode.specs.Opcodes.{tests, others, row, conversion_of, number_of as number_here, load_of as load_here, store_of as store_here, is_left_out as left_out_here, jump_of, variable_of, constant_of, alone_of, accessing_of};
+ghost use Rattle.mw_decode.specs.Opcodes.{tests, others, row, conversion_of, number_of as number_here};
+ghost use Rattle.mw_decode.specs.Opcodes.{load_of as load_here, store_of as store_here, is_left_out as left_out_here};
+ghost use Rattle.mw_decode.specs.Opcodes.{jump_of, variable_of, constant_of, alone_of, accessing_of};
 ghost use Rattle.mw_decode.specs.Instructions.{immediates};
 ghost use Rattle.mw_decode.specs.Gives.{Gives};
 
@@ -164,7 +166,8 @@ pub fn is_left_out(byte: u8) -> bool
 #[tactic(auto, unfolding(crate::specs::Opcodes::alone_of, crate::specs::Opcodes::jump_of, crate::specs::Opcodes::variable_of, crate::specs::Opcodes::constant_of))]
 pub fn alone<'a>(alloc: Global, opcode: u8, at: u32, bytes: &'a [u8], end: u32) -> Read<'a, Instr>
     requires { length bytes.now ≤ end }
-    ensures gives { Gives (λ x. got (instruction_of x.0) x.1.now) result (immediates at (alone_of opcode) end bytes.now) }
+    ensures gives { Gives (λ x. got (instruction_of x.0) x.1.now) result
+        (immediates at (alone_of opcode) end bytes.now) }
     ensures rest { IfOk result (λ x. length x.1.now ≤ length bytes.now) }
 {
     match opcode {
@@ -239,7 +242,8 @@ pub fn alone<'a>(alloc: Global, opcode: u8, at: u32, bytes: &'a [u8], end: u32) 
 #[tactic(auto, unfolding(crate::specs::Opcodes::accessing_of))]
 fn accessing<'a>(opcode: u8, at: u32, bytes: &'a [u8], end: u32) -> Read<'a, Instr>
     requires { length bytes.now ≤ end }
-    ensures gives { Gives (λ x. got (instruction_of x.0) x.1.now) result (immediates at (accessing_of opcode) end bytes.now) }
+    ensures gives { Gives (λ x. got (instruction_of x.0) x.1.now) result
+        (immediates at (accessing_of opcode) end bytes.now) }
     ensures rest { IfOk result (λ x. length x.1.now ≤ length bytes.now) }
 {
     if let Some(op) = load_of(opcode) {

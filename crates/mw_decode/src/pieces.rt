@@ -1,8 +1,9 @@
-// Bytes, numbers and vectors. Each reader is given the bytes from its place on, up to the end of the region that they stand in,
-// and `end`, the place of that end.
+// Bytes, numbers and vectors. Each reader is given the bytes from its place on, up to the end of the region that they
+// stand in, and `end`, the place of that end.
 
 ghost use Rattle.std.specs.Prelude.{◌≡◌, ◌≤◌, ℕ, [], ◌∷◌, length, IfOk, IfSome, IfNone};
-ghost use Rattle.mw_decode.specs.Reading.{got, place, u32 as number, i32 as constant, i64 as long_constant, at_most as limited, fixed as this_byte, times, vector};
+ghost use Rattle.mw_decode.specs.Reading.{got, place, u32 as number, i32 as constant, i64 as long_constant};
+ghost use Rattle.mw_decode.specs.Reading.{at_most as limited, fixed as this_byte, times, vector};
 ghost use Rattle.mw_decode.specs.Gives.{Gives};
 
 use crate::fault::{BadModule, Fault, Read};
@@ -107,7 +108,7 @@ pub fn fixed(bytes: &[u8], end: u32, byte: u8) -> Read<()>
 }
 
 /// So many indices.
-#[tactic(auto, using(crate::proofs::Loops::goes_on, crate::proofs::Loops::stops_at, crate::proofs::Loops::is_done))]
+#[tactic(auto, using(crate::proofs::Loops::loop_laws))]
 fn so_many_indices(alloc: Global, count: u32, bytes: &[u8], end: u32) -> Read<Indices>
     requires { length bytes.now ≤ end }
     ensures gives { Gives (λ x. got x.0 x.1.now) result (times count number end bytes.now) }

@@ -29,7 +29,8 @@ pub fn next_region(bytes: &[u8], end: u32) -> Result<Option<Region>, Fault>
     ensures past { IfOk result (λ found. IfNone found (IsPast end bytes.now)) }
     ensures fails { IfErr result (λ e. Fails e (number end bytes.now)) }
     ensures inside { IfOk result (λ found. IfSome found (λ r. length r.content.now ≤ r.end)) }
-    ensures behind { IfOk result (λ found. IfSome found (λ r. length r.behind.now ≤ length bytes.now)) }
+    ensures behind { IfOk result
+        (λ found. IfSome found (λ r. length r.behind.now ≤ length bytes.now)) }
 {
     let (size, rest) = u32_at(bytes, end)?;
     if size as usize > rest.len() {
@@ -45,7 +46,7 @@ pub fn next_region(bytes: &[u8], end: u32) -> Result<Option<Region>, Fault>
 }
 
 /// The bytes behind all custom sections that stand here.
-#[tactic(auto, using(crate::proofs::SectionLaws::customs_end, crate::proofs::SectionLaws::customs_other, crate::proofs::SectionLaws::customs_more, crate::proofs::SectionLaws::customs_past, crate::proofs::SectionLaws::customs_fails))]
+#[tactic(auto, using(crate::proofs::SectionLaws::customs_laws))]
 pub fn customs(bytes: &[u8], end: u32) -> Result<&[u8], Fault>
     requires { length bytes.now ≤ end }
     ensures gives { Gives (λ x. got tt x.now) result (customs_here end bytes.now) }

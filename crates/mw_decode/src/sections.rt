@@ -1,5 +1,5 @@
-// The sections, each behind custom sections: the content of each is read up to its stated end. A section that is missing has an
-// empty vector, as far as a reader of the module can tell; that of bodies is told apart.
+// The sections, each behind custom sections: the content of each is read up to its stated end. A section that is
+// missing has an empty vector, as far as a reader of the module can tell; that of bodies is told apart.
 
 ghost use Rattle.std.specs.Prelude.{◌≡◌, ◌≤◌, length, map, IfOk, IfSome};
 ghost use Rattle.mw_wasm.specs.Views.{global_of, export_of, element_of, segment_of};
@@ -25,7 +25,8 @@ use std::alloc::Global;
 /// The content of the section of bodies: as many as functions are declared.
 fn present<'a>(alloc: Global, kinds: &Indices, bytes: &'a [u8], end: u32) -> Read<'a, Option<Funcs>>
     requires { length bytes.now ≤ end }
-    ensures gives { Gives (λ x. got (mapped (map body_of) x.0) x.1.now) result (present_here (bodies_here (length kinds.now)) end bytes.now) }
+    ensures gives { Gives (λ x. got (mapped (map body_of) x.0) x.1.now) result
+        (present_here (bodies_here (length kinds.now)) end bytes.now) }
     ensures kinds { IfOk result (λ x. IfSome x.0 (λ list. map kind_of list ≡ kinds.now)) }
     ensures rest { IfOk result (λ x. length x.1.now ≤ length bytes.now) }
 {
@@ -34,7 +35,7 @@ fn present<'a>(alloc: Global, kinds: &Indices, bytes: &'a [u8], end: u32) -> Rea
 }
 
 /// The section of function types.
-#[tactic(auto, using(crate::proofs::UnreadLaws::section_fails, crate::proofs::UnreadLaws::section_missing, crate::proofs::UnreadLaws::section_whole))]
+#[tactic(auto, using(crate::proofs::UnreadLaws::section_laws))]
 pub fn type_section(alloc: Global, bytes: &[u8], end: u32) -> Read<FuncTypes>
     requires { length bytes.now ≤ end }
     ensures gives { Gives (λ x. got x.0 x.1.now) result (reading.type_section end bytes.now) }
@@ -48,7 +49,7 @@ pub fn type_section(alloc: Global, bytes: &[u8], end: u32) -> Read<FuncTypes>
 }
 
 /// The section of imports, whose count is 0.
-#[tactic(auto, using(crate::proofs::UnreadLaws::section_fails, crate::proofs::UnreadLaws::section_missing, crate::proofs::UnreadLaws::section_whole))]
+#[tactic(auto, using(crate::proofs::UnreadLaws::section_laws))]
 pub fn import_section(bytes: &[u8], end: u32) -> Read<u32>
     requires { length bytes.now ≤ end }
     ensures gives { Gives (λ x. got x.0 x.1.now) result (reading.import_section end bytes.now) }
@@ -62,7 +63,7 @@ pub fn import_section(bytes: &[u8], end: u32) -> Read<u32>
 }
 
 /// The section of the types of functions.
-#[tactic(auto, using(crate::proofs::UnreadLaws::section_fails, crate::proofs::UnreadLaws::section_missing, crate::proofs::UnreadLaws::section_whole))]
+#[tactic(auto, using(crate::proofs::UnreadLaws::section_laws))]
 pub fn function_section(alloc: Global, bytes: &[u8], end: u32) -> Read<Indices>
     requires { length bytes.now ≤ end }
     ensures gives { Gives (λ x. got x.0 x.1.now) result (reading.function_section end bytes.now) }
@@ -76,7 +77,7 @@ pub fn function_section(alloc: Global, bytes: &[u8], end: u32) -> Read<Indices>
 }
 
 /// The section of tables: none or one.
-#[tactic(auto, using(crate::proofs::UnreadLaws::section_fails, crate::proofs::UnreadLaws::section_missing, crate::proofs::UnreadLaws::section_whole))]
+#[tactic(auto, using(crate::proofs::UnreadLaws::section_laws))]
 pub fn table_section(bytes: &[u8], end: u32) -> Read<Option<Limits>>
     requires { length bytes.now ≤ end }
     ensures gives { Gives (λ x. got x.0 x.1.now) result (reading.table_section end bytes.now) }
@@ -90,7 +91,7 @@ pub fn table_section(bytes: &[u8], end: u32) -> Read<Option<Limits>>
 }
 
 /// The section of memories: none or one.
-#[tactic(auto, using(crate::proofs::UnreadLaws::section_fails, crate::proofs::UnreadLaws::section_missing, crate::proofs::UnreadLaws::section_whole))]
+#[tactic(auto, using(crate::proofs::UnreadLaws::section_laws))]
 pub fn memory_section(bytes: &[u8], end: u32) -> Read<Option<Limits>>
     requires { length bytes.now ≤ end }
     ensures gives { Gives (λ x. got x.0 x.1.now) result (reading.memory_section end bytes.now) }
@@ -104,10 +105,11 @@ pub fn memory_section(bytes: &[u8], end: u32) -> Read<Option<Limits>>
 }
 
 /// The section of globals.
-#[tactic(auto, using(crate::proofs::UnreadLaws::section_fails, crate::proofs::UnreadLaws::section_missing, crate::proofs::UnreadLaws::section_whole))]
+#[tactic(auto, using(crate::proofs::UnreadLaws::section_laws))]
 pub fn global_section(alloc: Global, bytes: &[u8], end: u32) -> Read<Globals>
     requires { length bytes.now ≤ end }
-    ensures gives { Gives (λ x. got (map global_of x.0) x.1.now) result (reading.global_section end bytes.now) }
+    ensures gives { Gives (λ x. got (map global_of x.0) x.1.now) result
+        (reading.global_section end bytes.now) }
     ensures rest { IfOk result (λ x. length x.1.now ≤ length bytes.now) }
 {
     let (found, rest) = section(6, bytes, end)?;
@@ -118,10 +120,11 @@ pub fn global_section(alloc: Global, bytes: &[u8], end: u32) -> Read<Globals>
 }
 
 /// The section of exports.
-#[tactic(auto, using(crate::proofs::UnreadLaws::section_fails, crate::proofs::UnreadLaws::section_missing, crate::proofs::UnreadLaws::section_whole))]
+#[tactic(auto, using(crate::proofs::UnreadLaws::section_laws))]
 pub fn export_section(alloc: Global, bytes: &[u8], end: u32) -> Read<Exports>
     requires { length bytes.now ≤ end }
-    ensures gives { Gives (λ x. got (map export_of x.0) x.1.now) result (reading.export_section end bytes.now) }
+    ensures gives { Gives (λ x. got (map export_of x.0) x.1.now) result
+        (reading.export_section end bytes.now) }
     ensures rest { IfOk result (λ x. length x.1.now ≤ length bytes.now) }
 {
     let (found, rest) = section(7, bytes, end)?;
@@ -132,10 +135,11 @@ pub fn export_section(alloc: Global, bytes: &[u8], end: u32) -> Read<Exports>
 }
 
 /// The section of element segments.
-#[tactic(auto, using(crate::proofs::UnreadLaws::section_fails, crate::proofs::UnreadLaws::section_missing, crate::proofs::UnreadLaws::section_whole))]
+#[tactic(auto, using(crate::proofs::UnreadLaws::section_laws))]
 pub fn element_section(alloc: Global, bytes: &[u8], end: u32) -> Read<Elements>
     requires { length bytes.now ≤ end }
-    ensures gives { Gives (λ x. got (map element_of x.0) x.1.now) result (reading.element_section end bytes.now) }
+    ensures gives { Gives (λ x. got (map element_of x.0) x.1.now) result
+        (reading.element_section end bytes.now) }
     ensures rest { IfOk result (λ x. length x.1.now ≤ length bytes.now) }
 {
     let (found, rest) = section(9, bytes, end)?;
@@ -146,7 +150,7 @@ pub fn element_section(alloc: Global, bytes: &[u8], end: u32) -> Read<Elements>
 }
 
 /// The section of bodies; none where it is missing.
-#[tactic(auto, using(crate::proofs::UnreadLaws::section_fails, crate::proofs::UnreadLaws::section_missing, crate::proofs::UnreadLaws::section_whole))]
+#[tactic(auto, using(crate::proofs::UnreadLaws::section_laws))]
 pub fn code_section<'a>(
     alloc: Global,
     kinds: &Indices,
@@ -154,7 +158,8 @@ pub fn code_section<'a>(
     end: u32,
 ) -> Read<'a, Option<Funcs>>
     requires { length bytes.now ≤ end }
-    ensures gives { Gives (λ x. got (mapped (map body_of) x.0) x.1.now) result (reading.code_section (length kinds.now) end bytes.now) }
+    ensures gives { Gives (λ x. got (mapped (map body_of) x.0) x.1.now) result
+        (reading.code_section (length kinds.now) end bytes.now) }
     ensures kinds { IfOk result (λ x. IfSome x.0 (λ list. map kind_of list ≡ kinds.now)) }
     ensures rest { IfOk result (λ x. length x.1.now ≤ length bytes.now) }
 {
@@ -166,10 +171,11 @@ pub fn code_section<'a>(
 }
 
 /// The section of data segments.
-#[tactic(auto, using(crate::proofs::UnreadLaws::section_fails, crate::proofs::UnreadLaws::section_missing, crate::proofs::UnreadLaws::section_whole))]
+#[tactic(auto, using(crate::proofs::UnreadLaws::section_laws))]
 pub fn data_section(alloc: Global, bytes: &[u8], end: u32) -> Read<Segments>
     requires { length bytes.now ≤ end }
-    ensures gives { Gives (λ x. got (map segment_of x.0) x.1.now) result (reading.data_section end bytes.now) }
+    ensures gives { Gives (λ x. got (map segment_of x.0) x.1.now) result
+        (reading.data_section end bytes.now) }
     ensures rest { IfOk result (λ x. length x.1.now ≤ length bytes.now) }
 {
     let (found, rest) = section(11, bytes, end)?;
@@ -180,7 +186,7 @@ pub fn data_section(alloc: Global, bytes: &[u8], end: u32) -> Read<Segments>
 }
 
 /// No start section, which is outside the profile.
-#[tactic(auto, using(crate::proofs::EndLaws::start_end, crate::proofs::EndLaws::start_here, crate::proofs::EndLaws::start_later, crate::proofs::EndLaws::start_wrong, crate::proofs::EndLaws::customs_stop))]
+#[tactic(auto, using(crate::proofs::EndLaws::start_laws))]
 pub fn no_start(bytes: &[u8], end: u32) -> Read<()>
     requires { length bytes.now ≤ end }
     ensures gives { Gives (λ x. got tt x.1.now) result (reading.start_section end bytes.now) }
@@ -202,7 +208,7 @@ pub fn no_start(bytes: &[u8], end: u32) -> Read<()>
 }
 
 /// Nothing more, and no bodies that are missing.
-#[tactic(auto, using(crate::proofs::EndLaws::more_end, crate::proofs::EndLaws::more_missing, crate::proofs::EndLaws::more_wrong, crate::proofs::EndLaws::customs_stop))]
+#[tactic(auto, using(crate::proofs::EndLaws::more_laws))]
 pub fn no_more(missing: bool, bytes: &[u8], end: u32) -> Read<()>
     requires { length bytes.now ≤ end }
     ensures gives { Gives (λ x. got tt x.1.now) result (reading.end_of_file missing end bytes.now) }

@@ -25,10 +25,11 @@ fn element(alloc: Global, bytes: &[u8], end: u32) -> Read<Element>
 }
 
 /// So many element segments.
-#[tactic(auto, using(crate::proofs::Loops::goes_on_seen, crate::proofs::Loops::stops_at, crate::proofs::Loops::is_done))]
+#[tactic(auto, using(crate::proofs::Loops::seen_laws))]
 fn so_many_elements(alloc: Global, count: u32, bytes: &[u8], end: u32) -> Read<Elements>
     requires { length bytes.now ≤ end }
-    ensures gives { Gives (λ x. got (map element_of x.0) x.1.now) result (times count element_here end bytes.now) }
+    ensures gives { Gives (λ x. got (map element_of x.0) x.1.now) result
+        (times count element_here end bytes.now) }
     ensures rest { IfOk result (λ x. length x.1.now ≤ length bytes.now) }
 {
     let mut list = Elements::new(alloc);
@@ -48,7 +49,8 @@ fn so_many_elements(alloc: Global, count: u32, bytes: &[u8], end: u32) -> Read<E
 /// A vector of element segments.
 pub fn elements(alloc: Global, bytes: &[u8], end: u32) -> Read<Elements>
     requires { length bytes.now ≤ end }
-    ensures gives { Gives (λ x. got (map element_of x.0) x.1.now) result (vector element_here end bytes.now) }
+    ensures gives { Gives (λ x. got (map element_of x.0) x.1.now) result
+        (vector element_here end bytes.now) }
     ensures rest { IfOk result (λ x. length x.1.now ≤ length bytes.now) }
 {
     let (count, rest) = u32_at(bytes, end)?;
@@ -68,7 +70,7 @@ fn octet(bytes: &[u8], end: u32) -> Read<u8>
 }
 
 /// So many bytes.
-#[tactic(auto, using(crate::proofs::Loops::goes_on, crate::proofs::Loops::stops_at, crate::proofs::Loops::is_done))]
+#[tactic(auto, using(crate::proofs::Loops::loop_laws))]
 fn so_many_octets(alloc: Global, count: u32, bytes: &[u8], end: u32) -> Read<Octets>
     requires { length bytes.now ≤ end }
     ensures gives { Gives (λ x. got x.0 x.1.now) result (times count (byte_of is) end bytes.now) }
@@ -102,10 +104,11 @@ fn segment(alloc: Global, bytes: &[u8], end: u32) -> Read<Segment>
 }
 
 /// So many data segments.
-#[tactic(auto, using(crate::proofs::Loops::goes_on_seen, crate::proofs::Loops::stops_at, crate::proofs::Loops::is_done))]
+#[tactic(auto, using(crate::proofs::Loops::seen_laws))]
 fn so_many_segments(alloc: Global, count: u32, bytes: &[u8], end: u32) -> Read<Segments>
     requires { length bytes.now ≤ end }
-    ensures gives { Gives (λ x. got (map segment_of x.0) x.1.now) result (times count data_segment end bytes.now) }
+    ensures gives { Gives (λ x. got (map segment_of x.0) x.1.now) result
+        (times count data_segment end bytes.now) }
     ensures rest { IfOk result (λ x. length x.1.now ≤ length bytes.now) }
 {
     let mut list = Segments::new(alloc);
@@ -125,7 +128,8 @@ fn so_many_segments(alloc: Global, count: u32, bytes: &[u8], end: u32) -> Read<S
 /// A vector of data segments.
 pub fn segments(alloc: Global, bytes: &[u8], end: u32) -> Read<Segments>
     requires { length bytes.now ≤ end }
-    ensures gives { Gives (λ x. got (map segment_of x.0) x.1.now) result (vector data_segment end bytes.now) }
+    ensures gives { Gives (λ x. got (map segment_of x.0) x.1.now) result
+        (vector data_segment end bytes.now) }
     ensures rest { IfOk result (λ x. length x.1.now ≤ length bytes.now) }
 {
     let (count, rest) = u32_at(bytes, end)?;

@@ -3,7 +3,8 @@
 ghost use Rattle.std.specs.Prelude.{◌≡◌, ◌≤◌, length, map, IfOk};
 ghost use Rattle.mw_wasm.specs.Views.{global_of};
 ghost use Rattle.mw_decode.specs.Reading.{got, byte_of, times, vector};
-ghost use Rattle.mw_decode.specs.Sections.{has_max, maximum as maximum_here, limits as limits_here, table as table_here, memory as memory_here, single, global as global_here};
+ghost use Rattle.mw_decode.specs.Sections.{has_max, maximum as maximum_here, limits as limits_here};
+ghost use Rattle.mw_decode.specs.Sections.{table as table_here, memory as memory_here, single, global as global_here};
 ghost use Rattle.mw_decode.specs.Gives.{Gives};
 
 use crate::code::{expression, value_type};
@@ -65,7 +66,7 @@ fn one_table(bytes: &[u8], end: u32) -> Read<Limits>
 }
 
 /// No table or one.
-#[tactic(auto, using(crate::proofs::Singles::single_none, crate::proofs::Singles::single_some, crate::proofs::Singles::single_fails))]
+#[tactic(auto, using(crate::proofs::Singles::single_laws))]
 pub fn table(bytes: &[u8], end: u32) -> Read<Option<Limits>>
     requires { length bytes.now ≤ end }
     ensures gives { Gives (λ x. got x.0 x.1.now) result (single table_here end bytes.now) }
@@ -80,7 +81,7 @@ pub fn table(bytes: &[u8], end: u32) -> Read<Option<Limits>>
 }
 
 /// No memory or one.
-#[tactic(auto, using(crate::proofs::Singles::single_none, crate::proofs::Singles::single_some, crate::proofs::Singles::single_fails))]
+#[tactic(auto, using(crate::proofs::Singles::single_laws))]
 pub fn memory(bytes: &[u8], end: u32) -> Read<Option<Limits>>
     requires { length bytes.now ≤ end }
     ensures gives { Gives (λ x. got x.0 x.1.now) result (single memory_here end bytes.now) }
@@ -114,10 +115,11 @@ fn global(alloc: Global, bytes: &[u8], end: u32) -> Read<GlobalVar>
 }
 
 /// So many globals.
-#[tactic(auto, using(crate::proofs::Loops::goes_on_seen, crate::proofs::Loops::stops_at, crate::proofs::Loops::is_done))]
+#[tactic(auto, using(crate::proofs::Loops::seen_laws))]
 fn so_many_globals(alloc: Global, count: u32, bytes: &[u8], end: u32) -> Read<Globals>
     requires { length bytes.now ≤ end }
-    ensures gives { Gives (λ x. got (map global_of x.0) x.1.now) result (times count global_here end bytes.now) }
+    ensures gives { Gives (λ x. got (map global_of x.0) x.1.now) result
+        (times count global_here end bytes.now) }
     ensures rest { IfOk result (λ x. length x.1.now ≤ length bytes.now) }
 {
     let mut list = Globals::new(alloc);
@@ -137,7 +139,8 @@ fn so_many_globals(alloc: Global, count: u32, bytes: &[u8], end: u32) -> Read<Gl
 /// A vector of globals.
 pub fn globals(alloc: Global, bytes: &[u8], end: u32) -> Read<Globals>
     requires { length bytes.now ≤ end }
-    ensures gives { Gives (λ x. got (map global_of x.0) x.1.now) result (vector global_here end bytes.now) }
+    ensures gives { Gives (λ x. got (map global_of x.0) x.1.now) result
+        (vector global_here end bytes.now) }
     ensures rest { IfOk result (λ x. length x.1.now ≤ length bytes.now) }
 {
     let (count, rest) = u32_at(bytes, end)?;

@@ -13,10 +13,11 @@ use mw_wasm::{FuncType, FuncTypes, ValTypes};
 use std::alloc::Global;
 
 /// So many value types.
-#[tactic(auto, using(crate::proofs::Loops::goes_on, crate::proofs::Loops::stops_at, crate::proofs::Loops::is_done))]
+#[tactic(auto, using(crate::proofs::Loops::loop_laws))]
 fn value_types(alloc: Global, count: u32, bytes: &[u8], end: u32) -> Read<ValTypes>
     requires { length bytes.now ≤ end }
-    ensures gives { Gives (λ x. got x.0 x.1.now) result (times count value_type_here end bytes.now) }
+    ensures gives { Gives (λ x. got x.0 x.1.now) result
+        (times count value_type_here end bytes.now) }
     ensures rest { IfOk result (λ x. length x.1.now ≤ length bytes.now) }
 {
     let mut list = ValTypes::new(alloc);
@@ -48,10 +49,11 @@ fn function_type(alloc: Global, bytes: &[u8], end: u32) -> Read<FuncType>
 }
 
 /// So many function types.
-#[tactic(auto, using(crate::proofs::Loops::goes_on, crate::proofs::Loops::stops_at, crate::proofs::Loops::is_done))]
+#[tactic(auto, using(crate::proofs::Loops::loop_laws))]
 fn so_many_types(alloc: Global, count: u32, bytes: &[u8], end: u32) -> Read<FuncTypes>
     requires { length bytes.now ≤ end }
-    ensures gives { Gives (λ x. got x.0 x.1.now) result (times count function_type_here end bytes.now) }
+    ensures gives { Gives (λ x. got x.0 x.1.now) result
+        (times count function_type_here end bytes.now) }
     ensures rest { IfOk result (λ x. length x.1.now ≤ length bytes.now) }
 {
     let mut list = FuncTypes::new(alloc);

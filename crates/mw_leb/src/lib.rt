@@ -14,30 +14,38 @@ pub use crate::reading::{Leb, read_s32, read_s64, read_u32};
 
 /// Appends an unsigned number; a refusal of memory changes nothing, and comes only where the bytes have no room.
 pub fn put_u32(out: &mut Vec<u8>, value: u32) -> Result<(), AllocError>
-    ensures shortest { OnOk result (AppendsShortest (λ bytes. IsUnsigned 32 bytes value) out.old.items out.new.items) }
+    ensures shortest { OnOk result
+        (AppendsShortest (λ bytes. IsUnsigned 32 bytes value) out.old.items out.new.items) }
     ensures exact { OnOk result (out.new.items ≡ out.old.items ++ shortest_unsigned value) }
     ensures err { OnErr result (out.new.items ≡ out.old.items) }
-    ensures full { OnErr result (vec_capacity out.old < vec_len out.old + length (shortest_unsigned value)) }
+    ensures full { OnErr result
+        (vec_capacity out.old < vec_len out.old + length (shortest_unsigned value)) }
 {
     put_groups(out, u64::from(value), 128, false)
 }
 
-/// Appends a signed number of 32 bits; a refusal of memory changes nothing, and comes only where the bytes have no room.
+/// Appends a signed number of 32 bits; a refusal of memory changes nothing, and comes only where the bytes have
+/// no room.
 pub fn put_s32(out: &mut Vec<u8>, value: i32) -> Result<(), AllocError>
-    ensures shortest { OnOk result (AppendsShortest (λ bytes. IsSigned 32 bytes value) out.old.items out.new.items) }
+    ensures shortest { OnOk result
+        (AppendsShortest (λ bytes. IsSigned 32 bytes value) out.old.items out.new.items) }
     ensures exact { OnOk result (out.new.items ≡ out.old.items ++ shortest_signed value) }
     ensures err { OnErr result (out.new.items ≡ out.old.items) }
-    ensures full { OnErr result (vec_capacity out.old < vec_len out.old + length (shortest_signed value)) }
+    ensures full { OnErr result
+        (vec_capacity out.old < vec_len out.old + length (shortest_signed value)) }
 {
     put_signed(out, i64::from(value))
 }
 
-/// Appends a signed number of 64 bits; a refusal of memory changes nothing, and comes only where the bytes have no room.
+/// Appends a signed number of 64 bits; a refusal of memory changes nothing, and comes only where the bytes have
+/// no room.
 pub fn put_s64(out: &mut Vec<u8>, value: i64) -> Result<(), AllocError>
-    ensures shortest { OnOk result (AppendsShortest (λ bytes. IsSigned 64 bytes value) out.old.items out.new.items) }
+    ensures shortest { OnOk result
+        (AppendsShortest (λ bytes. IsSigned 64 bytes value) out.old.items out.new.items) }
     ensures exact { OnOk result (out.new.items ≡ out.old.items ++ shortest_signed value) }
     ensures err { OnErr result (out.new.items ≡ out.old.items) }
-    ensures full { OnErr result (vec_capacity out.old < vec_len out.old + length (shortest_signed value)) }
+    ensures full { OnErr result
+        (vec_capacity out.old < vec_len out.old + length (shortest_signed value)) }
 {
     put_signed(out, value)
 }
@@ -45,7 +53,8 @@ pub fn put_s64(out: &mut Vec<u8>, value: i64) -> Result<(), AllocError>
 fn put_signed(out: &mut Vec<u8>, value: i64) -> Result<(), AllocError>
     ensures exact { OnOk result (out.new.items ≡ out.old.items ++ shortest_signed value) }
     ensures err { OnErr result (out.new.items ≡ out.old.items) }
-    ensures full { OnErr result (vec_capacity out.old < vec_len out.old + length (shortest_signed value)) }
+    ensures full { OnErr result
+        (vec_capacity out.old < vec_len out.old + length (shortest_signed value)) }
 {
     if value < 0 {
         put_groups(out, (-(value + 1)) as u64, 64, true)
@@ -57,7 +66,8 @@ fn put_signed(out: &mut Vec<u8>, value: i64) -> Result<(), AllocError>
 fn put_groups(out: &mut Vec<u8>, value: u64, limit: u64, negative: bool) -> Result<(), AllocError>
     ensures exact { OnOk result (out.new.items ≡ out.old.items ++ groups limit negative 9 value) }
     ensures err { OnErr result (out.new.items ≡ out.old.items) }
-    ensures full { OnErr result (vec_capacity out.old < vec_len out.old + length (groups limit negative 9 value)) }
+    ensures full { OnErr result
+        (vec_capacity out.old < vec_len out.old + length (groups limit negative 9 value)) }
 {
     let mut bytes = [0u8; 10];
     let mut len = 0usize;

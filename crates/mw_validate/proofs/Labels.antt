@@ -39,9 +39,6 @@ last_label c fs l e = ap (λ l. slice_get (labels_of c (waitings_of fs)) l) (e �
 pub no_label : (c : Context) (fs : List Frame) (l : ℕ) → length fs ≤ l → l ≢ length fs → slice_get (labels_of c (waitings_of fs)) l ≡ None
 no_label c fs l h n = past c (waitings_of fs) l (omega (arith, so_many fs, n))
 
-pub inner_label_at : (c : Context) (fs : List Frame) (depth l : ℕ) (d f : Frame) (ts : List ValType) → depth ≡ length fs → l < depth → f ≡ get_or fs (depth - 1 - l) d → ts ≡ label_of (waiting_of f) → slice_get (labels_of c (waitings_of fs)) l ≡ Some ts
-inner_label_at c fs depth l d f ts n h e t = inner_label c fs l d f ts (omega arith) (e ∙ ap (λ k. get_or fs (k - 1 - l) d) n) t
-
 nothing_there : {X : Type 0} (xs : List X) (i : ℕ) → length xs ≤ i → slice_get xs i ≡ None
 nothing_there [] zero h = refl
 nothing_there [] (suc i) h = refl
