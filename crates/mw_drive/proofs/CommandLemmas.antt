@@ -2,7 +2,6 @@
 use Rattle.std.proofs.Common.{◌≡◌, ◌≤◌, ◌⊎◌, inl, inr, ℕ, List, [], ◌∷◌, Bool, true, IsTrue, refl, sym, ap, subst, ◌∙◌}
 use Rattle.mw_term.specs.Terms.{PureGroundValue}
 use Rattle.mw_console.specs.Texts.{Ending, answered, trapped, bounded, ending_status}
-use Rattle.mw_meaning.specs.declared.mode.Mode.{Mode}
 use Rattle.mw_meaning.specs.declared.mode.Mode.TheVariants.{Plain, Simple}
 use Rattle.mw_words.specs.Words.{PureCommand, PurePart, run, erased, sample, IsNumber, Makes, Means, parts_command, sample_command}
 use Rattle.mw_words.proofs.LawLemmas.{one_command}
@@ -11,9 +10,9 @@ use Rattle.mw_console.specs.declared.status.Status.TheVariants.{Answer, Trap, Re
 use Rattle.mw_drive.specs.Works.{Work, running, erasing, sampling, Meaning, ran, IsMeaning, of_refusal, of_types, of_program, status_of}
 use Rattle.mw_drive.specs.ProgramMeaning.{Kernel}
 use Rattle.mw_drive.specs.SimplifiedPrograms.{IsUnbounded}
-use Rattle.mw_drive.specs.declared.source.Evaluation.TheVariants.{Run}
+use Rattle.mw_drive.specs.declared.shown.Shown.{Shown}
 use Rattle.mw_drive.specs.declared.shown.Shown.TheVariants.{Lines}
-use Rattle.mw_drive.specs.ProgramRuns.{Carries}
+use Rattle.mw_drive.specs.Works as meant
 use Rattle.mw_drive.proofs.ErasedAnswers.{answers_are_erased}
 use Rattle.mw_drive.proofs.OneMeaning.{one_meaning}
 use Rattle.mw_drive.proofs.SimplifiedWorks.{simplified_run}
@@ -25,16 +24,17 @@ use Rattle.mw_drive.proofs.RunLemmas.{all_or_first, some_output, whole_else}
 pub carried_memory : (kind : Kind) (work : Work) (e : _) (tells : Bool) (before : List ℕ) → IsCarriedOut kind work (Memory e) tells before before
 carried_memory kind work e tells before = record { faithful = λ t. some_output work before; meaning = λ c. absurd (cc) }
 
+-- parts make no sample
+makes_no_sample : {word : List ℕ} {parts : List PurePart} {n : ℕ} → Makes word parts (sample n) → ⊥
+makes_no_sample m = elim m [ ]
+
 -- the number of a sample's words is in its range
 pub sample_range : {words : List (List ℕ)} (command : PureCommand) (n : ℕ) → Means words command → command ≡ sample n → (1 ≤ n) × (n ≤ 100)
 sample_range command n (sample_command h) e = same_number h e
   where
     same_number : {word : List ℕ} {k : ℕ} → IsNumber 100 word k → sample k ≡ sample n → (1 ≤ n) × (n ≤ 100)
     same_number {k = k} h e = let same : k ≡ n = cc in rw (← same) (h.low, h.high)
-sample_range command n (parts_command {word = word} {parts = parts} h m) e = absurd (makes_none (subst (Makes word parts) e m))
-  where
-    makes_none : Makes word parts (sample n) → ⊥
-    makes_none m = elim m [ ]
+sample_range command n (parts_command {word = word} {parts = parts} h m) e = absurd (makes_no_sample (subst (Makes word parts) e m))
 
 no_refusal : {r : _} → Answer ≡ Refused r → ⊥
 no_refusal e = cc
@@ -46,8 +46,8 @@ no_bound : {l : _} → Answer ≡ Bound l → ⊥
 no_bound e = cc
 
 -- a run with an answer's status answered
-answer_of : {bytes : List ℕ} {fuel : ℕ} {mode : Mode} {n : Meaning} → IsMeaning (running bytes fuel mode) n → Answer ≡ status_of n
-    → (kernels : List Kernel) × (v : PureGroundValue) × IsMeaning (running bytes fuel mode) (ran mode kernels (answered v))
+answer_of : {bytes : List ℕ} {fuel : ℕ} {shown : Shown} {n : Meaning} → IsMeaning (running bytes fuel shown) n → Answer ≡ status_of n
+    → (kernels : List Kernel) × (v : PureGroundValue) × IsMeaning (running bytes fuel shown) (ran shown kernels (answered v))
 answer_of (of_refusal r) e = absurd (no_refusal e)
 answer_of (of_types p read fault) e = absurd (no_refusal e)
 answer_of (of_program {kernels = kernels} {e = answered v} p read accepted is) e = (kernels, v, of_program p read accepted is)
@@ -55,13 +55,13 @@ answer_of (of_program {e = trapped t name} p read accepted is) e = absurd (no_tr
 answer_of (of_program {e = bounded l name} p read accepted is) e = absurd (no_bound e)
 
 -- where the status is an answer, and the erased program answers too, the answer is the erased program's
-erased_answer : (kind : Kind) (mode : Mode) (s : Status) (sink_tells : Bool) (before after : List ℕ) (fuel m : ℕ) (bytes : List ℕ) (w : PureGroundValue)
-    → IsCarriedOut kind (running bytes fuel mode) s sink_tells before after → IsMeaning (erasing bytes m) (ran Plain [] (answered w)) → s ≡ Answer
-    → (kernels : List Kernel) × IsMeaning (running bytes fuel mode) (ran mode kernels (answered w))
-erased_answer kind mode s sink_tells before after fuel m bytes w carried other is =
+erased_answer : (kind : Kind) (shown : Shown) (s : Status) (sink_tells : Bool) (before after : List ℕ) (fuel m : ℕ) (bytes : List ℕ) (w : PureGroundValue)
+    → IsCarriedOut kind (running bytes fuel shown) s sink_tells before after → IsMeaning (erasing bytes m) (meant.erased (answered w)) → s ≡ Answer
+    → (kernels : List Kernel) × IsMeaning (running bytes fuel shown) (ran shown kernels (answered w))
+erased_answer kind shown s sink_tells before after fuel m bytes w carried other is =
     let c = carried.meaning (subst (λ s. extent kind s ≡ whole) (sym is) refl) in
     let a = answer_of c.1 (sym is ∙ c.2) in
-    (a.0, subst (λ v. IsMeaning (running bytes fuel mode) (ran mode a.0 (answered v))) (answers_are_erased bytes fuel m mode a.0 a.1 w a.2 other) a.2)
+    (a.0, subst (λ v. IsMeaning (running bytes fuel shown) (ran shown a.0 (answered v))) (answers_are_erased bytes fuel m shown a.0 a.1 w a.2 other) a.2)
 
 -- What words ask for that mean a command, where what its call answers is known.
 module _ {words : List (List ℕ)} {o : Outside} (command : PureCommand) (means : Means words command) (s : Status) (sink_tells : Bool) (before after : List ℕ)
@@ -133,38 +133,34 @@ module _ {words : List (List ℕ)} {o : Outside} (command : PureCommand) (means 
 
   -- a run that is asked for was carried out
   asked_run : (workers fuel : ℕ) (simplify : Bool) (f bytes : List ℕ) → AsksOn words o (run workers fuel simplify f) (bytes ∷ [])
-      → IsCarriedOut on_a_file (running bytes fuel (mode_when simplify)) s sink_tells before after
+      → IsCarriedOut on_a_file (running bytes fuel (Lines (mode_when simplify))) s sink_tells before after
   asked_run workers fuel simplify f bytes on =
       let is = same (run workers fuel simplify f) on.means in
-      subst (λ c. IsCarriedOut (kind_of c) (running bytes fuel (mode_when simplify)) s sink_tells before after) (sym is)
-      (carried (bytes ∷ []) (running bytes fuel (mode_when simplify)) (has_on (run workers fuel simplify f) (bytes ∷ []) on)
-      (subst (λ c. IsWork c (bytes ∷ []) (running bytes fuel (mode_when simplify))) is run_works))
+      subst (λ c. IsCarriedOut (kind_of c) (running bytes fuel (Lines (mode_when simplify))) s sink_tells before after) (sym is)
+      (carried (bytes ∷ []) (running bytes fuel (Lines (mode_when simplify))) (has_on (run workers fuel simplify f) (bytes ∷ []) on)
+      (subst (λ c. IsWork c (bytes ∷ []) (running bytes fuel (Lines (mode_when simplify)))) is run_works))
 
   pub asked_erased : (workers fuel m : ℕ) (simplify : Bool) (f bytes : List ℕ) (w : PureGroundValue)
-      → AsksOn words o (run workers fuel simplify f) (bytes ∷ []) → IsMeaning (erasing bytes m) (ran Plain [] (answered w)) → s ≡ Answer
-      → (kernels : List Kernel) × IsMeaning (running bytes fuel (mode_when simplify)) (ran (mode_when simplify) kernels (answered w))
+      → AsksOn words o (run workers fuel simplify f) (bytes ∷ []) → IsMeaning (erasing bytes m) (meant.erased (answered w)) → s ≡ Answer
+      → (kernels : List Kernel) × IsMeaning (running bytes fuel (Lines (mode_when simplify))) (ran (Lines (mode_when simplify)) kernels (answered w))
   asked_erased workers fuel m simplify f bytes w on other is =
-      erased_answer on_a_file (mode_when simplify) s sink_tells before after fuel m bytes w (asked_run workers fuel simplify f bytes on) other is
+      erased_answer on_a_file (Lines (mode_when simplify)) s sink_tells before after fuel m bytes w (asked_run workers fuel simplify f bytes on) other is
 
   pub asked_simplified : (workers fuel : ℕ) (f bytes : List ℕ) (kernels : List Kernel) (e : Ending) → AsksOn words o (run workers fuel true f) (bytes ∷ [])
-      → IsMeaning (running bytes fuel Plain) (ran Plain kernels e) → IsUnbounded e
-      → IsMeaning (running bytes fuel Simple) (ran Simple kernels e) × (extent on_a_file s ≡ whole → s ≡ ending_status e)
+      → IsMeaning (running bytes fuel (Lines Plain)) (ran (Lines Plain) kernels e) → IsUnbounded e
+      → IsMeaning (running bytes fuel (Lines Simple)) (ran (Lines Simple) kernels e) × (extent on_a_file s ≡ whole → s ≡ ending_status e)
   asked_simplified workers fuel f bytes kernels e on is unbounded =
       let other = simplified_run bytes fuel kernels e is unbounded in (
         other,
         λ c.
             let m = (asked_run workers fuel true f bytes on).meaning c in
-            m.2 ∙ ap status_of (one_meaning (running bytes fuel Simple) m.0 (ran Simple kernels e) m.1 other),
+            m.2 ∙ ap status_of (one_meaning (running bytes fuel (Lines Simple)) m.0 (ran (Lines Simple) kernels e) m.1 other),
       )
-
--- what is written of a run whose kernels' code is run so is what the run means
-pub carries_run : {mode : Mode} (simplify : Bool) (bytes : List ℕ) (fuel : ℕ) → mode ≡ mode_when simplify → Carries (Run (Lines mode)) bytes fuel (running bytes fuel (mode_when simplify))
-carries_run {mode = mode} simplify bytes fuel e m h = subst (λ (k : Mode). IsMeaning (running bytes fuel k) m) e h
 
 -- A command's work is that on what its file holds.
 pub run_on : {o : Outside} {workers fuel : ℕ} {simplify : Bool} {file : List ℕ} (contents : List (List ℕ)) (work : Work)
     → HasAll o (files_of (run workers fuel simplify file)) contents → IsWork (run workers fuel simplify file) contents work
-    → (bytes : List ℕ) × Has o (source_file file) bytes × (work ≡ running bytes fuel (mode_when simplify))
+    → (bytes : List ℕ) × Has o (source_file file) bytes × (work ≡ running bytes fuel (Lines (mode_when simplify)))
 run_on contents work (has_more {bytes = bytes} has has_none) run_works = (bytes, has, refl)
 
 pub erased_on : {o : Outside} {fuel : ℕ} {file : List ℕ} (contents : List (List ℕ)) (work : Work) → HasAll o (files_of (erased fuel file)) contents

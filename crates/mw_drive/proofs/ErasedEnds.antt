@@ -14,7 +14,7 @@ use Rattle.mw_infer.proofs.Progressing.{resolved-written}
 use Rattle.mw_console.specs.Texts.{Ending}
 use Rattle.mw_drive.specs.NamedPrograms.{NamedProgram, unnamed}
 use Rattle.mw_drive.specs.SourceReading.{IsRead}
-use Rattle.mw_drive.specs.ProgramMeaning.{ended, main_run, erased_run}
+use Rattle.mw_drive.specs.ProgramMeaning.{main_ending, erased_ending}
 use Rattle.mw_drive.proofs.ScopedTerms.{is_resolved}
 
 source_items : (items : List Definition) → ((i : ℕ) (e : Expression) → slice_get items i ≡ Some (defines e) → IsSource e) → ((i : ℕ) (k : KernelType) (e : Expression) → slice_get items i ≡ Some (kernel k e) → IsSource e) → AreSourceItems items
@@ -32,11 +32,11 @@ source_program bytes p read = record {
     written : IsWritten (unnamed p)
     written = resolved-written (unnamed p) (is_resolved bytes p read)
 
-plain_ending : (t : GroundType) (o : Outcome PureGroundValue) → EndsPlainly t o → (e : Ending) × (main_run o ≡ ended [] e)
+plain_ending : (t : GroundType) (o : Outcome PureGroundValue) → EndsPlainly t o → (e : Ending) × (main_ending o ≡ Some e)
 plain_ending t (came_to v) h = (_, refl)
 plain_ending t (trapped x) h = (_, refl)
 plain_ending t (bounded l) h = (_, refl)
 plain_ending t stuck h = absurd h
 
-pub erased_ends : (fuel : ℕ) (p : PureProgram) → IsSourceProgram p → Typable p → (e : Ending) × (erased_run fuel p ≡ ended [] e)
+pub erased_ends : (fuel : ℕ) (p : PureProgram) → IsSourceProgram p → Typable p → (e : Ending) × (erased_ending fuel p ≡ Some e)
 erased_ends fuel p s h = plain_ending p.result (erased_outcome fuel p) (erased_main_ends_plainly p fuel s h)

@@ -15,7 +15,7 @@ use Rattle.mw_meaning.specs.OutcomeLaws.{AreCodesOf}
 use Rattle.mw_meaning.specs.ErasedPrograms.{erased_program, AreSourceItems, IsSourceProgram, HasNoStaging}
 use Rattle.mw_meaning.specs.ErasureLaws.{AreWithoutStaging, IsWithoutStaging}
 use Rattle.mw_console.specs.Texts.{Ending}
-use Rattle.mw_drive.specs.ProgramMeaning.{ended, main_run, main_after, erased_run}
+use Rattle.mw_drive.specs.ProgramMeaning.{main_ending, main_after, erased_ending}
 
 source_definition : (k : ItemKind) (items : List Definition) → AreSourceItems items → AreSourceItems (definition_of k ∷ items)
 source_definition (ValueItem t) items h = (sources t, h)
@@ -67,7 +67,8 @@ names_without_codes (defines e ∷ items) h = rw (names_without_codes items h.1)
 names_without_codes (kernel k e ∷ items) h = absurd h
 
 -- how main of the erased program ends after no codes is how it ends
-pub erased_is : (p q : PureProgram) (fuel : ℕ) (e : Ending) → q ≡ erased_program p → IsWithoutStaging q → main_after Plain fuel q.items q.body [] ≡ ended [] e → erased_run fuel p ≡ ended [] e
+pub erased_is : (p q : PureProgram) (fuel : ℕ) (e : Ending) → q ≡ erased_program p → IsWithoutStaging q → main_after Plain fuel q.items q.body [] ≡ Some e
+    → erased_ending fuel p ≡ Some e
 erased_is p q fuel e same h is =
-    ap (λ (q : PureProgram). main_run (main_outcome Plain (names_of_items q.items) fuel q.body)) (sym same)
-    ∙ (ap (λ names. main_run (main_outcome Plain names fuel q.body)) (sym (names_without_codes q.items h.0)) ∙ is)
+    ap (λ (q : PureProgram). main_ending (main_outcome Plain (names_of_items q.items) fuel q.body)) (sym same)
+    ∙ (ap (λ names. main_ending (main_outcome Plain names fuel q.body)) (sym (names_without_codes q.items h.0)) ∙ is)

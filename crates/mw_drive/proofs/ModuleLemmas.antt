@@ -1,5 +1,5 @@
 -- Each kernel of a program has its module.
-use Rattle.std.proofs.Common.{◌≡◌, ◌≤◌, ℕ, List, true, Some, refl, sym, ◌∙◌, subst}
+use Rattle.std.proofs.Common.{◌≡◌, ◌≤◌, ℕ, List, true, Some, sym, ◌∙◌, subst}
 use Rattle.std.specs.Prelude.{slice_get}
 use Rattle.std.specs.List.{AllByRecursion}
 use Rattle.mw_term.specs.Terms.{Expression, KernelType}
@@ -7,7 +7,6 @@ use Rattle.mw_term.specs.Programs.{kernel, PureProgram}
 use Rattle.mw_term.specs.Typable.{Typable, HasKernelType}
 use Rattle.mw_term.specs.Limits.{within_limits, kernel_nodes, LiteralsFit}
 use Rattle.mw_meaning.specs.declared.mode.Mode.{Mode}
-use Rattle.mw_meaning.specs.declared.mode.Mode.TheVariants.{Plain}
 use Rattle.mw_meaning.specs.Simplification.{in_mode}
 use Rattle.mw_meaning.specs.Outcomes.{Outcome, came_to, item_outcome, names_of_items}
 use Rattle.mw_meaning.specs.OutcomeLaws.{ComesTo}
@@ -28,7 +27,7 @@ use Rattle.mw_console.specs.Texts.{Ending}
 use Rattle.mw_drive.specs.NamedPrograms.{NamedProgram, unnamed}
 use Rattle.mw_drive.specs.SourceReading.{IsRead}
 use Rattle.mw_drive.specs.ProgramMeaning.{Kernel, ProgramRun, ended, program_run}
-use Rattle.mw_drive.specs.Works.{Work, running, Meaning, as_sample, IsAccepted, IsMeaning, of_refusal, of_types, of_program, of_erased_refusal, of_erased, of_sample, HasModule, HaveModules}
+use Rattle.mw_drive.specs.Works.{Work, mode_of, Meaning, IsAccepted, IsMeaning, of_refusal, of_types, of_program, of_erased_refusal, of_erased, HasModule, HaveModules}
 use Rattle.mw_drive.proofs.ProgramEnds.{Ends, all_end}
 use Rattle.mw_drive.proofs.ScopedTerms.{is_resolved}
 
@@ -63,18 +62,12 @@ program_modules mode fuel bytes p ks e read accepted is =
     let faultless = typable_faultless q (resolved-written q (is_resolved bytes p read)) accepted.typable accepted.small in
     let short = source_literals read.tokens read.surface q read.is_surface read.is_nameless in
     kernels_have (HasModule mode) (program_run mode fuel p) ks e
-    (all_end (HasModule mode) mode fuel q accepted.typable (item_module mode fuel q accepted.typable short (faultless-small_kernels q faultless)) p.items refl) is
-
--- the modules of a sample are those of its run, which is of the code as it was built
-sample_modules : {bytes : List ℕ} {fuel : ℕ} (m : Meaning) → IsMeaning (running bytes fuel Plain) m → HaveModules m → HaveModules (as_sample m)
-sample_modules m (of_refusal r) h = tt
-sample_modules m (of_types p r fault) h = tt
-sample_modules m (of_program p read accepted is) h = h
+    (all_end (HasModule mode) mode fuel p accepted.typable (item_module mode fuel q accepted.typable short (faultless-small_kernels q faultless))) is
 
 pub meaning_modules : (work : Work) (m : Meaning) → IsMeaning work m → HaveModules m
 meaning_modules work m (of_refusal r) = tt
 meaning_modules work m (of_types p r fault) = tt
-meaning_modules work m (of_program {bytes = bytes} {fuel = fuel} {mode = mode} {kernels = kernels} {e = e} p read accepted is) = program_modules mode fuel bytes p kernels e read accepted is
+meaning_modules work m (of_program {bytes = bytes} {fuel = fuel} {shown = shown} {kernels = kernels} {e = e} p read accepted is) =
+    program_modules (mode_of shown) fuel bytes p kernels e read accepted is
 meaning_modules work m (of_erased_refusal h) = meaning_modules _ _ h
 meaning_modules work m (of_erased p read accepted is) = tt
-meaning_modules work m (of_sample k h) = sample_modules k h (meaning_modules _ k h)

@@ -1,5 +1,5 @@
 -- A work has one meaning at most.
-use Rattle.std.proofs.Common.{◌≡◌, ◌≤◌, ◌<◌, ℕ, List, [], map, Err, length, refl, sym, ap, ◌∙◌, subst, arith}
+use Rattle.std.proofs.Common.{◌≡◌, ◌≤◌, ◌<◌, ℕ, List, [], map, Some, Err, length, refl, sym, ap, ◌∙◌, subst, arith}
 use Rattle.mw_term.specs.declared.refusal.Refusal.{Refusal}
 use Rattle.mw_term.specs.declared.refusal.Stop.TheVariants.{Refused}
 use Rattle.mw_lex.specs.Tokens.{PureToken}
@@ -20,10 +20,11 @@ use Rattle.mw_infer.proofs.Progressing.{resolved-written}
 use Rattle.mw_infer.proofs.Refusals.{refusal-one, typable-refused}
 use Rattle.mw_console.specs.Texts.{Ending}
 use Rattle.mw_meaning.specs.declared.mode.Mode.TheVariants.{Plain}
+use Rattle.mw_drive.specs.declared.shown.Shown.TheVariants.{Lines}
 use Rattle.mw_drive.specs.NamedPrograms.{NamedProgram, unnamed, names_of}
 use Rattle.mw_drive.specs.SourceReading.{IsRead, IsRefused, too_large, at_bytes, at_tokens, at_names}
-use Rattle.mw_drive.specs.ProgramMeaning.{Kernel, ended, program_run, erased_run}
-use Rattle.mw_drive.specs.Works.{running, refused, ran, IsAccepted, IsMeaning, of_refusal, of_types, of_program, of_erased_refusal, of_erased, of_sample, as_sample}
+use Rattle.mw_drive.specs.ProgramMeaning.{Kernel, ended, program_run, erased_ending}
+use Rattle.mw_drive.specs.Works.{running, mode_of, refused, ran, erased, IsAccepted, IsMeaning, of_refusal, of_types, of_program, of_erased_refusal, of_erased}
 use Rattle.mw_drive.specs.WorkLaws.{OneMeaning}
 use Rattle.mw_drive.proofs.SourceReadings.{same_program}
 use Rattle.mw_drive.proofs.ScopedTerms.{is_resolved}
@@ -105,7 +106,7 @@ one_ending : {k l : List Kernel} {d e : Ending} → ended k d ≡ ended l e → 
 one_ending is = cc
 
 -- a source that is refused isn't accepted
-erased_or_refused : {bytes : List ℕ} {fuel : ℕ} {r : Refusal} {names : List (List ℕ)} → IsMeaning (running bytes fuel Plain) (refused r names) → (p : NamedProgram) → IsRead bytes p → IsAccepted (unnamed p) → ⊥
+erased_or_refused : {bytes : List ℕ} {fuel : ℕ} {r : Refusal} {names : List (List ℕ)} → IsMeaning (running bytes fuel (Lines Plain)) (refused r names) → (p : NamedProgram) → IsRead bytes p → IsAccepted (unnamed p) → ⊥
 erased_or_refused {bytes} (of_refusal {r = r} a) p b g = read_or_refused bytes p r b a
 erased_or_refused {bytes} (of_types {r = r} q a f) p b g = accepted_or_refused bytes q p r a b f g
 
@@ -118,13 +119,12 @@ one_meaning work m n (of_types {bytes = bytes} {r = r} p a f) (of_types {r = k} 
 one_meaning work m n (of_types {bytes = bytes} {r = r} p a f) (of_program q b g is) = absurd (accepted_or_refused bytes p q r a b f g)
 one_meaning work m n (of_program {bytes = bytes} p a f is) (of_refusal {r = q} b) = absurd (read_or_refused bytes p q a b)
 one_meaning work m n (of_program {bytes = bytes} p a f is) (of_types {r = r} q b g) = absurd (accepted_or_refused bytes q p r b a g f)
-one_meaning work m n (of_program {bytes = bytes} {fuel = fuel} {mode = mode} {kernels = ks} {e = d} p a f is) (of_program {kernels = ls} {e = e} q b g end) =
-    let runs : ended ks d ≡ ended ls e = sym is ∙ (ap (program_run mode fuel) (one_program bytes p q a b) ∙ end) in
-    ap (λ ks. ran mode ks d) (one_run runs) ∙ ap (λ e. ran mode ls e) (one_ending runs)
-one_meaning work m n (of_sample k a) (of_sample l b) = ap as_sample (one_meaning _ k l a b)
+one_meaning work m n (of_program {bytes = bytes} {fuel = fuel} {shown = shown} {kernels = ks} {e = d} p a f is) (of_program {kernels = ls} {e = e} q b g end) =
+    let runs : ended ks d ≡ ended ls e = sym is ∙ (ap (program_run (mode_of shown) fuel) (one_program bytes p q a b) ∙ end) in
+    ap (λ ks. ran shown ks d) (one_run runs) ∙ ap (λ e. ran shown ls e) (one_ending runs)
 one_meaning work m n (of_erased_refusal {r = r} {names = names} a) (of_erased_refusal {r = q} {names = others} b) = one_meaning _ (refused r names) (refused q others) a b
 one_meaning work m n (of_erased_refusal a) (of_erased q b g is) = absurd (erased_or_refused a q b g)
 one_meaning work m n (of_erased p a f is) (of_erased_refusal b) = absurd (erased_or_refused b p a f)
 one_meaning work m n (of_erased {bytes = bytes} {fuel = fuel} {e = d} p a f is) (of_erased {e = e} q b g end) =
-    let runs : ended [] d ≡ ended [] e = sym is ∙ (ap (λ (p : NamedProgram). erased_run fuel (unnamed p)) (one_program bytes p q a b) ∙ end) in
-    ap (λ e. ran Plain [] e) (one_ending runs)
+    let runs : Some d ≡ Some e = sym is ∙ (ap (λ (p : NamedProgram). erased_ending fuel (unnamed p)) (one_program bytes p q a b) ∙ end) in
+    let same : d ≡ e = cc in ap erased same

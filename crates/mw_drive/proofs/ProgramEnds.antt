@@ -2,9 +2,9 @@
 use Rattle.std.proofs.Common.{◌≡◌, ℕ, List, [], ◌∷◌, ◌++◌, map, length, true, Some, refl, sym, ap, ◌∙◌, subst}
 use Rattle.std.specs.Prelude.{slice_get}
 use Rattle.std.specs.List.{AllByRecursion}
-use Rattle.std.proofs.lemmas.List.{append_assoc, append-nil}
+use Rattle.std.proofs.lemmas.List.{append_assoc}
 use Rattle.mw_term.specs.Terms.{Expression, KernelType, PureGroundValue}
-use Rattle.mw_term.specs.Programs.{Definition, value as defines, kernel, PureProgram}
+use Rattle.mw_term.specs.Programs.{Definition, value as defines, kernel}
 use Rattle.mw_term.specs.Typable.{Typable, HasKernelType}
 use Rattle.mw_term.specs.Limits.{within_limits}
 use Rattle.mw_meaning.specs.declared.mode.Mode.{Mode}
@@ -13,7 +13,8 @@ use Rattle.mw_meaning.specs.OutcomeLaws.{ComesTo, AreCodesOf, HasGroundType}
 use Rattle.mw_meaning.proofs.ComingTo.{items_come_to_their_code, main_comes_to_its_value_after_items}
 use Rattle.mw_console.specs.Texts.{Ending}
 use Rattle.mw_drive.specs.NamedPrograms.{NamedItem, NamedProgram, unnamed}
-use Rattle.mw_drive.specs.ProgramMeaning.{Kernel, ProgramRun, ended, main_run, main_after, with_kernel, after_item, run_item, run_items, program_run}
+use Rattle.mw_drive.specs.ProgramMeaning.{Kernel, ItemsRun, all_gave, one_ended, with_kernel, before_others, run_item, run_items, items_run}
+use Rattle.mw_drive.specs.ProgramMeaning.{main_ending, main_after, ProgramRun, ended, codes_of, ended_after, with_main, program_run}
 
 -- the run ends, and each of its kernels has a property
 pub record Ends (P : Kernel → Type 0) (r : ProgramRun) : Type 0 where
@@ -22,24 +23,36 @@ pub record Ends (P : Kernel → Type 0) (r : ProgramRun) : Type 0 where
   pub is : r ≡ ended kernels ending
   pub each : AllByRecursion P kernels
 
+-- The items end, and each of their kernels has a property; where all gave code, these are codes of theirs.
+data ItemsEnd (P : Kernel → Type 0) (items : List Definition) : ItemsRun → Type 0 where
+  as_all : {kernels : List Kernel} → AllByRecursion P kernels → AreCodesOf items (codes_of kernels) → ItemsEnd P items (all_gave kernels)
+  as_one : {kernels : List Kernel} {e : Ending} → AllByRecursion P kernels → ItemsEnd P items (one_ended kernels e)
+
 abbrev kernel_at : List ℕ → KernelType → Expression → Kernel
 kernel_at x k c = record { name = x; kind = k; code = c }
 
-kernel_ends : (P : Kernel → Type 0) (x : List ℕ) (k : KernelType) (c : Expression) (r : ProgramRun) → P (kernel_at x k c) → Ends P r → Ends P (with_kernel x k c r)
-kernel_ends P x k c r here e = record { kernels = kernel_at x k c ∷ e.kernels; ending = e.ending; is = ap (with_kernel x k c) e.is; each = (here, e.each) }
+let_ends : (P : Kernel → Type 0) (e : Expression) (items : List Definition) {r : ItemsRun} → ItemsEnd P items r → ItemsEnd P (defines e ∷ items) r
+let_ends P e items (as_all each codes) = as_all each codes
+let_ends P e items (as_one each) = as_one each
 
-pub main_ends : (P : Kernel → Type 0) (Q : PureGroundValue → Type 0) (o : Outcome PureGroundValue) → ComesTo Q o → Ends P (main_run o)
-main_ends P Q (came_to v) h = record { kernels = []; ending = _; is = refl; each = tt }
-main_ends P Q (trapped t) h = record { kernels = []; ending = _; is = refl; each = tt }
-main_ends P Q (bounded l) h = record { kernels = []; ending = _; is = refl; each = tt }
-main_ends P Q no_outcome h = absurd (h)
+kernel_ends : (P : Kernel → Type 0) (x : List ℕ) (k : KernelType) (e c : Expression) (items : List Definition) {r : ItemsRun} → P (kernel_at x k c) → HasKernelType c k
+    → ItemsEnd P items r → ItemsEnd P (kernel k e ∷ items) (with_kernel x k c r)
+kernel_ends P x k e c items here typed (as_all each codes) = as_all (here, each) (typed, codes)
+kernel_ends P x k e c items here typed (as_one each) = as_one (here, each)
 
-item_ends : (P : Kernel → Type 0) (x : List ℕ) (k : KernelType) (o : Outcome Expression) (go : Expression → ProgramRun) → ComesTo (λ c. HasKernelType c k × (within_limits c ≡ true)) o
-    → ((c : Expression) → o ≡ came_to c → P (kernel_at x k c)) → ((c : Expression) → HasKernelType c k → Ends P (go c)) → Ends P (after_item x k o go)
-item_ends P x k (came_to c) go h here ends = kernel_ends P x k c (go c) (here c refl) (ends c h.0)
-item_ends P x k (trapped t) go h here ends = record { kernels = []; ending = _; is = refl; each = tt }
-item_ends P x k (bounded l) go h here ends = record { kernels = []; ending = _; is = refl; each = tt }
-item_ends P x k no_outcome go h here ends = absurd (h)
+pub main_ends : (Q : PureGroundValue → Type 0) (o : Outcome PureGroundValue) → ComesTo Q o → (e : Ending) × (main_ending o ≡ Some e)
+main_ends Q (came_to v) h = (_, refl)
+main_ends Q (trapped t) h = (_, refl)
+main_ends Q (bounded l) h = (_, refl)
+main_ends Q no_outcome h = absurd (h)
+
+item_ends : (P : Kernel → Type 0) (x : List ℕ) (k : KernelType) (e : Expression) (items : List Definition) (o : Outcome Expression) (others : ItemsRun)
+    → ComesTo (λ c. HasKernelType c k × (within_limits c ≡ true)) o → ((c : Expression) → o ≡ came_to c → P (kernel_at x k c)) → ItemsEnd P items others
+    → ItemsEnd P (kernel k e ∷ items) (before_others x k o others)
+item_ends P x k e items (came_to c) others h here ends = kernel_ends P x k e c items (here c refl) h.0 ends
+item_ends P x k e items (trapped t) others h here ends = as_one tt
+item_ends P x k e items (bounded l) others h here ends = as_one tt
+item_ends P x k e items no_outcome others h here ends = absurd (h)
 
 -- the codes of the items so far, with those of one item more
 pub codes_let : (before : List Definition) (codes : List Expression) (e : Expression) → AreCodesOf before codes → AreCodesOf (before ++ defines e ∷ []) codes
@@ -62,52 +75,55 @@ item_there [] after x = refl
 item_there (y ∷ before) after x = item_there before after x
 
 -- A property that each kernel has whose item came to its code.
-module _ (P : Kernel → Type 0) (mode : Mode) (fuel : ℕ) (p : PureProgram) (typable : Typable p)
-    (holds : (i : ℕ) (x : List ℕ) (k : KernelType) (e c : Expression) → slice_get p.items i ≡ Some (kernel k e) → item_outcome mode (names_of_items p.items) fuel e ≡ came_to c → P (kernel_at x k c)) where
-  abbrev to_main : List Expression → ProgramRun
-  to_main codes = main_after mode fuel p.items p.body codes
-
-  abbrev run_rest : List NamedItem → List Expression → ProgramRun
-  run_rest items codes = run_items mode fuel (names_of_items p.items) to_main items codes
-
-  abbrev run_one : List ℕ → Definition → List NamedItem → List Expression → ProgramRun
-  run_one x d items codes = run_item mode fuel (names_of_items p.items) to_main x d codes λ codes. run_rest items codes
+module _ (P : Kernel → Type 0) (mode : Mode) (fuel : ℕ) (p : NamedProgram) (typable : Typable (unnamed p))
+    (holds : (i : ℕ) (x : List ℕ) (k : KernelType) (e c : Expression) → slice_get (unnamed p).items i ≡ Some (kernel k e)
+    → item_outcome mode (names_of_items (unnamed p).items) fuel e ≡ came_to c → P (kernel_at x k c)) where
+  abbrev run_rest : List NamedItem → ItemsRun
+  run_rest items = run_items mode fuel (names_of_items (unnamed p).items) items
 
   abbrev definitions : List NamedItem → List Definition
   definitions items = map (λ (i : NamedItem). i.is) items
 
-  kernel_item_ends : (before : List Definition) (x : List ℕ) (k : KernelType) (e : Expression) (items : List NamedItem) (codes : List Expression) → p.items ≡ before ++ kernel k e ∷ definitions items
-      → ((c : Expression) → HasKernelType c k → Ends P (run_rest items (codes ++ c ∷ []))) → Ends P (run_one x (kernel k e) items codes)
-  kernel_item_ends before x k e items codes same rest =
-      let there : slice_get p.items (length before) ≡ Some (kernel k e) = ap (λ ds. slice_get ds (length before)) same ∙ item_there before (definitions items) (kernel k e) in
-      item_ends P x k (item_outcome mode (names_of_items p.items) fuel e) (λ c. run_rest items (codes ++ c ∷ []))
-      (items_come_to_their_code mode p (length before) k e fuel typable there) (λ c came. holds (length before) x k e c there came) rest
-
   abbrev Continues : List NamedItem → Type 0
-  Continues items = (before : List Definition) (codes : List Expression) → p.items ≡ before ++ definitions items → AreCodesOf before codes → Ends P (run_rest items codes)
+  Continues items = (before : List Definition) → (unnamed p).items ≡ before ++ definitions items → ItemsEnd P (definitions items) (run_rest items)
+
+  -- an item with others behind it
+  abbrev With : NamedItem → List NamedItem → Definition → Type 0
+  With item items d = ItemsEnd P (d ∷ definitions items) (run_item mode fuel (names_of_items (unnamed p).items) item.name d (run_rest items))
 
   -- an item, after which the others end
   one_ends : (item : NamedItem) (items : List NamedItem) → Continues items → Continues (item ∷ items)
-  one_ends item items rest before codes same are = by_kind item.is refl
+  one_ends item items rest before same = by_kind item.is refl
     where
-      more : (d : Definition) → item.is ≡ d → p.items ≡ (before ++ d ∷ []) ++ definitions items
-      more d e = same ∙ (ap (λ d. before ++ d ∷ definitions items) e ∙ sym (append_assoc before (d ∷ []) (definitions items)))
+      others : ItemsEnd P (definitions items) (run_rest items)
+      others = rest (before ++ item.is ∷ []) (same ∙ sym (append_assoc before (item.is ∷ []) (definitions items)))
 
-      by_kind : (d : Definition) → item.is ≡ d → Ends P (run_rest (item ∷ items) codes)
-      by_kind (defines e) is = subst (λ d. Ends P (run_one item.name d items codes)) (sym is) (rest (before ++ defines e ∷ []) codes (more (defines e) is) (codes_let before codes e are))
-      by_kind (kernel k e) is = subst (λ d. Ends P (run_one item.name d items codes)) (sym is)
-          (kernel_item_ends before item.name k e items codes (same ∙ ap (λ d. before ++ d ∷ definitions items) is)
-          (λ c t. rest (before ++ kernel k e ∷ []) (codes ++ c ∷ []) (more (kernel k e) is) (codes_kernel before codes k e c are t)))
+      there : (d : Definition) → item.is ≡ d → slice_get (unnamed p).items (length before) ≡ Some d
+      there d is = ap (λ ds. slice_get ds (length before)) same ∙ (item_there before (definitions items) item.is ∙ ap Some is)
+
+      by_kind : (d : Definition) → item.is ≡ d → With item items item.is
+      by_kind (defines e) is = subst (With item items) (sym is) (let_ends P e (definitions items) others)
+      by_kind (kernel k e) is =
+          subst (With item items) (sym is)
+          (item_ends P item.name k e (definitions items) (item_outcome mode (names_of_items (unnamed p).items) fuel e) (run_rest items)
+          (items_come_to_their_code mode (unnamed p) (length before) k e fuel typable (there (kernel k e) is))
+          (λ c came. holds (length before) item.name k e c (there (kernel k e) is) came) others)
 
   items_end : (items : List NamedItem) → Continues items
-  items_end [] before codes same are =
-      let all : AreCodesOf p.items codes = subst (λ ds. AreCodesOf ds codes) (sym (same ∙ append-nil before)) are in
-      main_ends P (HasGroundType p.result) (main_outcome mode (names_of_main p.items codes) fuel p.body) (main_comes_to_its_value_after_items mode p codes fuel typable all)
-  items_end (item ∷ items) before codes same are = one_ends item items (items_end items) before codes same are
+  items_end [] before same = as_all tt tt
+  items_end (item ∷ items) before same = one_ends item items (items_end items) before same
 
-  pub all_end : (items : List NamedItem) → p.items ≡ definitions items → Ends P (run_rest items [])
-  all_end items same = items_end items [] [] same tt
+  -- and main after them
+  main_after_ends : (r : ItemsRun) → ItemsEnd P (unnamed p).items r → Ends P (with_main (λ codes. main_after mode fuel (unnamed p).items p.body codes) r)
+  main_after_ends _ (as_all {kernels = ks} each codes) =
+      let e = main_ends (HasGroundType p.result) (main_outcome mode (names_of_main (unnamed p).items (codes_of ks)) fuel p.body)
+      (main_comes_to_its_value_after_items mode (unnamed p) (codes_of ks) fuel typable codes) in
+      record { kernels = ks; ending = e.0; is = ap (ended_after ks) e.1; each = each }
+  main_after_ends _ (as_one {kernels = ks} {e = e} each) = record { kernels = ks; ending = e; is = refl; each = each }
+
+  pub all_end : Ends P (program_run mode fuel p)
+  all_end = main_after_ends (items_run mode fuel p) (items_end p.items [] refl)
 
 -- the run of a typable program ends
 pub program_ends : (mode : Mode) (fuel : ℕ) (p : NamedProgram) → Typable (unnamed p) → Ends (λ _. Unit {0}) (program_run mode fuel p)
-program_ends mode fuel p typable = all_end (λ _. Unit {0}) mode fuel (unnamed p) typable (λ i x k e c there came. tt) p.items refl
+program_ends mode fuel p typable = all_end (λ _. Unit {0}) mode fuel p typable (λ i x k e c there came. tt)

@@ -8,17 +8,18 @@ use Rattle.mw_outside.specs.Count.{GrowsByFront}
 use Rattle.mw_outside.specs.Lookup.{file_of}
 use Rattle.mw_term.specs.declared.refusal.Refusal.{Refusal}
 use Rattle.mw_term.specs.declared.refusal.Refusal.TheVariants.{TooLarge}
-use Rattle.mw_meaning.specs.declared.mode.Mode.{Mode}
 use Rattle.mw_meaning.specs.declared.mode.Mode.TheVariants.{Plain}
+use Rattle.mw_drive.specs.declared.shown.Shown.{Shown}
+use Rattle.mw_drive.specs.declared.shown.Shown.TheVariants.{Lines}
+use Rattle.mw_drive.specs.ProgramMeaning.{erased_ending}
 use Rattle.mw_console.specs.Reading.{most_read, IsFront, IsRest}
 use Rattle.mw_console.specs.Texts.{Ending, answered, trapped, bounded}
 use Rattle.mw_drive.specs.NamedPrograms.{NamedProgram, unnamed}
-use Rattle.mw_drive.specs.ProgramMeaning.{ended, erased_run}
 use Rattle.mw_console.specs.declared.status.Status.{Status}
 use Rattle.mw_console.specs.declared.status.Status.TheVariants.{Answer, Trap, Usage, Refused, Bound, Read, Write, Cache, Memory, BadCache}
 use Rattle.mw_drive.specs.SourceReading.{IsRead, IsSmall, too_large, at_bytes, at_tokens, at_names}
-use Rattle.mw_drive.specs.Works.{Work, running, erasing, IsAccepted, Meaning, refused, ran, sampled, IsMeaning, of_refusal, of_types, of_program, of_erased_refusal, of_erased, IsOutput, Reports, text_of, status_of}
-use Rattle.mw_drive.specs.ProgramRuns.{IsWrittenMeaning, evaluated, written_meaning, Carries}
+use Rattle.mw_drive.specs.Works.{Work, running, erasing, Meaning, refused, ran, erased, IsMeaning, of_refusal, of_types, of_program, of_erased_refusal, of_erased, IsAccepted, IsOutput, Reports, text_of, status_of}
+use Rattle.mw_drive.specs.ProgramRuns.{IsWrittenMeaning, evaluated}
 use Rattle.mw_drive.specs.declared.source.Evaluation.{Evaluation}
 use Rattle.mw_drive.specs.declared.source.Evaluation.TheVariants.{Run, Erased}
 use Rattle.mw_drive.specs.Extents.{Extent, a_front, whole, never, Kind, extent}
@@ -27,7 +28,7 @@ use Rattle.mw_drive.specs.Running.{Outside, Wanted, source_file, Has, Lacks, Has
 use Rattle.mw_drive.proofs.SomeMeaning.{some_meaning}
 
 -- a source with a meaning is too large, and refused for it, or small
-large_or_small : {bytes : List ℕ} {fuel : ℕ} {mode : Mode} {m : Meaning} → IsMeaning (running bytes fuel mode) m → ((m ≡ refused TooLarge []) × (1048576 < length bytes)) ⊎ IsSmall bytes
+large_or_small : {bytes : List ℕ} {fuel : ℕ} {shown : Shown} {m : Meaning} → IsMeaning (running bytes fuel shown) m → ((m ≡ refused TooLarge []) × (1048576 < length bytes)) ⊎ IsSmall bytes
 large_or_small (of_refusal (too_large large)) = inl (refl, large)
 large_or_small (of_refusal (at_bytes small f)) = inr small
 large_or_small (of_refusal (at_tokens tokens small are r)) = inr small
@@ -42,26 +43,31 @@ small_front bytes small = let short = rw length-take at small in take_all most_r
 large_whole : (bytes : List ℕ) → 1048576 < length (take most_read bytes) → 1048576 < length bytes
 large_whole bytes large = let long = rw length-take at large in omega arith
 
-pub means_whole : {bytes : List ℕ} {fuel : ℕ} {mode : Mode} {m : Meaning} → IsMeaning (running (take most_read bytes) fuel mode) m → IsMeaning (running bytes fuel mode) m
-means_whole {bytes} {fuel} {mode} {m} d = by_size (large_or_small d)
+pub means_whole : {bytes : List ℕ} {fuel : ℕ} {shown : Shown} {m : Meaning} → IsMeaning (running (take most_read bytes) fuel shown) m → IsMeaning (running bytes fuel shown) m
+means_whole {bytes} {fuel} {shown} {m} d = by_size (large_or_small d)
   where
-    by_size : ((m ≡ refused TooLarge []) × (1048576 < length (take most_read bytes))) ⊎ IsSmall (take most_read bytes) → IsMeaning (running bytes fuel mode) m
-    by_size (inl x) = subst (IsMeaning (running bytes fuel mode)) (sym x.0) (of_refusal (too_large (large_whole bytes x.1)))
-    by_size (inr small) = subst (λ b. IsMeaning (running b fuel mode) m) (small_front bytes small) d
+    by_size : ((m ≡ refused TooLarge []) × (1048576 < length (take most_read bytes))) ⊎ IsSmall (take most_read bytes) → IsMeaning (running bytes fuel shown) m
+    by_size (inl x) = subst (IsMeaning (running bytes fuel shown)) (sym x.0) (of_refusal (too_large (large_whole bytes x.1)))
+    by_size (inr small) = subst (λ b. IsMeaning (running b fuel shown) m) (small_front bytes small) d
 
 -- an erased program's meaning is a refusal of its run, or how its main ends
-erased_cases : {bytes : List ℕ} {fuel : ℕ} {m : Meaning} → IsMeaning (erasing bytes fuel) m
-    → ((r : Refusal) × (names : List (List ℕ)) × (m ≡ refused r names) × IsMeaning (running bytes fuel Plain) (refused r names)) ⊎ ((p : NamedProgram) × IsRead bytes p × IsAccepted (unnamed p) × (e : Ending) × (erased_run fuel (unnamed p) ≡ ended [] e) × (m ≡ ran Plain [] e))
-erased_cases (of_erased_refusal h) = inl (_, _, refl, h)
-erased_cases (of_erased p read accepted is) = inr (p, read, accepted, _, is, refl)
+data ErasedCase (bytes : List ℕ) (fuel : ℕ) (m : Meaning) : Type 0 where
+  as_refused : (r : Refusal) (names : List (List ℕ)) → m ≡ refused r names → IsMeaning (running bytes fuel (Lines Plain)) (refused r names)
+      → ErasedCase bytes fuel m
+  as_ended : (p : NamedProgram) (e : Ending) → m ≡ erased e → IsRead bytes p → IsAccepted (unnamed p) → erased_ending fuel (unnamed p) ≡ Some e
+      → ErasedCase bytes fuel m
+
+erased_case : {bytes : List ℕ} {fuel : ℕ} {m : Meaning} → IsMeaning (erasing bytes fuel) m → ErasedCase bytes fuel m
+erased_case (of_erased_refusal h) = as_refused _ _ refl h
+erased_case (of_erased p read accepted is) = as_ended p _ refl read accepted is
 
 means_erased : (bytes : List ℕ) (fuel : ℕ) (m : Meaning) → IsMeaning (erasing (take most_read bytes) fuel) m → IsMeaning (erasing bytes fuel) m
-means_erased bytes fuel m h = by_case (erased_cases h)
+means_erased bytes fuel m h = by_case (erased_case h)
   where
-    by_case : ((r : Refusal) × (names : List (List ℕ)) × (m ≡ refused r names) × IsMeaning (running (take most_read bytes) fuel Plain) (refused r names)) ⊎ ((p : NamedProgram) × IsRead (take most_read bytes) p × IsAccepted (unnamed p) × (e : Ending) × (erased_run fuel (unnamed p) ≡ ended [] e) × (m ≡ ran Plain [] e))
-        → IsMeaning (erasing bytes fuel) m
-    by_case (inl c) = subst (IsMeaning (erasing bytes fuel)) (sym c.2) (of_erased_refusal (means_whole c.3))
-    by_case (inr c) = subst (IsMeaning (erasing bytes fuel)) (sym c.5) (of_erased c.0 (subst (λ b. IsRead b c.0) (small_front bytes c.1.small) c.1) c.2 c.4)
+    by_case : ErasedCase (take most_read bytes) fuel m → IsMeaning (erasing bytes fuel) m
+    by_case (as_refused r names is h) = subst (IsMeaning (erasing bytes fuel)) (sym is) (of_erased_refusal (means_whole h))
+    by_case (as_ended p e is read accepted ends) =
+        subst (IsMeaning (erasing bytes fuel)) (sym is) (of_erased p (subst (λ b. IsRead b p) (small_front bytes read.small) read) accepted ends)
 
 pub means_evaluated : (evaluation : Evaluation) (bytes : List ℕ) (fuel : ℕ) (m : Meaning) → IsMeaning (evaluated evaluation (take most_read bytes) fuel) m → IsMeaning (evaluated evaluation bytes fuel) m
 means_evaluated (Run shown) bytes fuel m h = means_whole h
@@ -103,12 +109,12 @@ output_of_report r = record { meaning = r.meaning; is_meaning = r.is_meaning; is
 -- each meaning's status is that of a whole text
 whole_status : (kind : Kind) (m : Meaning) → extent kind (status_of m) ≡ whole
 whole_status kind (refused r names) = refl
-whole_status kind (ran mode kernels (answered v)) = refl
-whole_status kind (ran mode kernels (trapped t name)) = refl
-whole_status kind (ran mode kernels (bounded l name)) = refl
-whole_status kind (sampled kernels (answered v)) = refl
-whole_status kind (sampled kernels (trapped t name)) = refl
-whole_status kind (sampled kernels (bounded l name)) = refl
+whole_status kind (ran shown kernels (answered v)) = refl
+whole_status kind (ran shown kernels (trapped t name)) = refl
+whole_status kind (ran shown kernels (bounded l name)) = refl
+whole_status kind (erased (answered v)) = refl
+whole_status kind (erased (trapped t name)) = refl
+whole_status kind (erased (bounded l name)) = refl
 
 -- so a text that was written whole is faithful
 faithful_at : {work : Work} (kind : Kind) (before after : List ℕ) (m : Meaning) → IsMeaning work m → after ≡ before ++ text_of m
@@ -128,31 +134,31 @@ front_not_whole : a_front ≡ whole → ⊥
 front_not_whole e = cc
 
 -- a work whose meaning was written, or a front of it, was carried out
-pub carried : {evaluation : Evaluation} {bytes : List ℕ} {fuel : ℕ} (kind : Kind) (r : Result Status WriteFault) (s : Status) {tells : Bool} (before after : List ℕ)
-    (work : Work) → IsWrittenMeaning evaluation bytes fuel r tells before after → Carries evaluation bytes fuel work → IsStatusOf r s
-    → IsCarriedOut kind work s tells before after
-carried {evaluation} kind (Ok status) s before after work w means is =
-    let m = written_meaning evaluation w.meaning in
-    let is_meaning = means w.meaning w.is_meaning in
-    let same : s ≡ status_of m = is ∙ w.is_status in
+pub carried : (kind : Kind) (r : Result Status WriteFault) (s : Status) {tells : Bool} (before after : List ℕ) (work : Work)
+    → IsWrittenMeaning work r tells before after → IsStatusOf r s → IsCarriedOut kind work s tells before after
+carried kind (Ok status) s before after work w is =
+    let same : s ≡ status_of w.meaning = is ∙ w.is_status in
     record {
-      faithful = λ t. subst (λ s. IsFaithful (extent kind s) work s before after) (sym same) (faithful_at kind before after m is_meaning (w.writes t));
-      meaning = λ c. (m, is_meaning, same);
+      faithful = λ t. subst (λ s. IsFaithful (extent kind s) work s before after) (sym same) (faithful_at kind before after w.meaning w.is_meaning (w.writes t));
+      meaning = λ c. (w.meaning, w.is_meaning, same);
     }
-carried {evaluation} kind (Err fault.Failed) s before after work w means is =
-    let m = written_meaning evaluation w.meaning in
-    let o : IsOutput work (text_of m) = record { meaning = m; is_meaning = means w.meaning w.is_meaning; is_text = refl } in
+carried kind (Err fault.Failed) s before after work w is =
+    let o : IsOutput work (text_of w.meaning) = record { meaning = w.meaning; is_meaning = w.is_meaning; is_text = refl } in
     record {
-      faithful = λ t. subst (λ s. IsFaithful (extent kind s) work s before after) (sym is) (text_of m, o, w.writes t);
+      faithful = λ t. subst (λ s. IsFaithful (extent kind s) work s before after) (sym is) (text_of w.meaning, o, w.writes t);
       meaning = λ c. absurd (front_not_whole (subst (λ s. extent kind s ≡ whole) is c));
     }
-carried {evaluation} kind (Err (fault.Memory error)) s before after work w means is =
-    let m = written_meaning evaluation w.meaning in
-    let o : IsOutput work (text_of m) = record { meaning = m; is_meaning = means w.meaning w.is_meaning; is_text = refl } in
+carried kind (Err (fault.Memory error)) s before after work w is =
+    let o : IsOutput work (text_of w.meaning) = record { meaning = w.meaning; is_meaning = w.is_meaning; is_text = refl } in
     record {
-      faithful = λ t. subst (λ s. IsFaithful (extent kind s) work s before after) (sym is) (text_of m, o, w.writes t);
+      faithful = λ t. subst (λ s. IsFaithful (extent kind s) work s before after) (sym is) (text_of w.meaning, o, w.writes t);
       meaning = λ c. absurd (front_not_whole (subst (λ s. extent kind s ≡ whole) is c));
     }
+
+-- where a work means whatever another does, what was written of that was written of it
+pub written_as : {work : Work} (other : Work) {r : Result Status WriteFault} {tells : Bool} {before after : List ℕ}
+    → ((m : Meaning) → IsMeaning work m → IsMeaning other m) → IsWrittenMeaning work r tells before after → IsWrittenMeaning other r tells before after
+written_as other means w = record { meaning = w.meaning; is_meaning = means w.meaning w.is_meaning; is_status = w.is_status; writes = w.writes }
 
 -- a status that is written isn't one that never comes
 not_never : {x : Extent} → x ≡ whole → x ≡ never → ⊥
@@ -163,10 +169,10 @@ front_not_never : a_front ≡ never → ⊥
 front_not_never e = cc
 
 -- the status of what was written may come
-pub written_possible : {evaluation : Evaluation} {bytes : List ℕ} {fuel : ℕ} {tells : Bool} {before after : List ℕ} (kind : Kind) (s : Status)
-    (r : Result Status WriteFault) → IsWrittenMeaning evaluation bytes fuel r tells before after → IsStatusOf r s → extent kind s ≡ never → ⊥
-written_possible {evaluation} kind s (Ok status) w is n =
-    not_never (subst (λ s. extent kind s ≡ whole) (sym (is ∙ w.is_status)) (whole_status kind (written_meaning evaluation w.meaning))) n
+pub written_possible : {work : Work} {tells : Bool} {before after : List ℕ} (kind : Kind) (s : Status)
+    (r : Result Status WriteFault) → IsWrittenMeaning work r tells before after → IsStatusOf r s → extent kind s ≡ never → ⊥
+written_possible kind s (Ok status) w is n =
+    not_never (subst (λ s. extent kind s ≡ whole) (sym (is ∙ w.is_status)) (whole_status kind w.meaning)) n
 written_possible kind s (Err fault.Failed) w is n = front_not_never (subst (λ s. extent kind s ≡ never) is n)
 written_possible kind s (Err (fault.Memory error)) w is n = front_not_never (subst (λ s. extent kind s ≡ never) is n)
 

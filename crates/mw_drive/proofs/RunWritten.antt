@@ -1,17 +1,17 @@
 -- From the parts of a program's run to what was written of it.
-use Rattle.std.proofs.Common.{◌≡◌, ℕ, List, [], ◌++◌, map, Option, None, Some, Bool, IsTrue, Result, Ok, Err, refl, sym, ap, ◌∙◌, subst}
+use Rattle.std.proofs.Common.{◌≡◌, ℕ, List, ◌++◌, map, Option, None, Some, Bool, IsTrue, Result, Ok, Err, sym, ap, ◌∙◌, subst}
 use Rattle.std.specs.Result.{IsErrAnd}
 use Rattle.std.proofs.lemmas.List.{append_assoc}
 use Rattle.mw_outside.specs.Count.{GrowsByFront}
 use Rattle.mw_outside.specs.declared.errors.WriteFault.{WriteFault}
-use Rattle.mw_term.specs.Terms.{PureGroundValue, expression_of}
+use Rattle.mw_term.specs.Terms.{Expression, expression_of}
 use Rattle.mw_term.specs.Programs.{PureProgram, program_of}
 use Rattle.mw_term.specs.Typable.{Typable}
 use Rattle.mw_term.specs.declared.program.Program.{Program}
 use Rattle.mw_term.specs.declared.term.Term.{Term}
 use Rattle.mw_meaning.specs.declared.mode.Mode.{Mode}
-use Rattle.mw_meaning.specs.Outcomes.{Outcome, came_to, trapped, bounded, stuck, main_outcome, names_of_main}
-use Rattle.mw_meaning.specs.OutcomeLaws.{ComesTo, HasGroundType, AreCodesOf}
+use Rattle.mw_meaning.specs.Outcomes.{main_outcome, names_of_main}
+use Rattle.mw_meaning.specs.OutcomeLaws.{HasGroundType, AreCodesOf}
 use Rattle.mw_meaning.proofs.ComingTo.{main_comes_to_its_value_after_items}
 use Rattle.mw_console.specs.Texts.{Ending, ending_line}
 use Rattle.std.specs.Global.{Vec}
@@ -19,20 +19,14 @@ use Rattle.mw_drive.specs.declared.program.AfterItems.{AfterItems}
 use Rattle.mw_drive.specs.declared.program.AfterItems.TheVariants.{Main}
 use Rattle.mw_drive.specs.declared.shown.Shown.{Shown}
 use Rattle.mw_drive.specs.NamedPrograms.{NamedProgram, unnamed, named_program_of}
-use Rattle.mw_drive.specs.ProgramMeaning.{Kernel, ended, main_run, main_after, program_run}
-use Rattle.mw_drive.specs.ProgramRuns.{codes_of, mode_of, with_kernels, IsItemsRun, shown_text}
+use Rattle.mw_drive.specs.ProgramMeaning.{Kernel, main_after, ended, codes_of, ended_after, with_main, program_run}
+use Rattle.mw_drive.specs.Works.{mode_of, shown_text}
+use Rattle.mw_drive.specs.ProgramRuns.{IsItemsRun}
 use Rattle.mw_drive.specs.WrittenItems.{AreWrittenItems}
 use Rattle.mw_drive.specs.Written.{Writes}
 use Rattle.mw_drive.proofs.Fronts.{grows_after}
-use Rattle.mw_drive.proofs.ItemsRun.{all_before}
-use Rattle.mw_drive.proofs.ProgramEnds.{program_ends}
+use Rattle.mw_drive.proofs.ProgramEnds.{main_ends, program_ends}
 use Rattle.mw_drive.proofs.SourceReadings.{unnamed_program}
-
-main_ending : (Q : PureGroundValue → Type 0) (o : Outcome PureGroundValue) → ComesTo Q o → (e : Ending) × (main_run o ≡ ended [] e)
-main_ending Q (came_to v) h = (_, refl)
-main_ending Q (trapped t) h = (_, refl)
-main_ending Q (bounded l) h = (_, refl)
-main_ending Q stuck h = absurd (h)
 
 -- a text after another that was written whole
 pub writes_after : {A : Type 0} (r : Result A WriteFault) (tells : Bool) (old mid new a x : List ℕ) → (IsTrue tells → mid ≡ old ++ a) → Writes r tells mid new x → Writes r tells old new (a ++ x)
@@ -46,20 +40,28 @@ module _ (mode : Mode) (fuel : ℕ) (program : Program) (typable : Typable (prog
   typable_p : Typable (unnamed p)
   typable_p = subst Typable (sym (unnamed_program program)) typable
 
+  abbrev main : List Expression → Option Ending
+  main codes = main_after mode fuel (unnamed p).items p.body codes
+
   -- the program's run ends
   pub some_ending : (ks : List Kernel) × (e : Ending) × (program_run mode fuel p ≡ ended ks e)
   some_ending = let h = program_ends mode fuel p typable_p in (h.kernels, h.ending, h.is)
 
   -- the ending of main after its items
-  pub run_of_main : (ks : List Kernel) (e : Ending) → IsItemsRun mode fuel p ks None → main_after mode fuel (unnamed p).items p.body (codes_of ks) ≡ ended [] e → program_run mode fuel p ≡ ended ks e
-  run_of_main ks e h is = h.0 ∙ (ap (with_kernels ks) is ∙ all_before ks e)
+  pub run_of_main : (ks : List Kernel) (e : Ending) → IsItemsRun mode fuel p ks None → main_after mode fuel (unnamed p).items p.body (codes_of ks) ≡ Some e
+      → program_run mode fuel p ≡ ended ks e
+  run_of_main ks e h is = ap (with_main main) h.0 ∙ ap (ended_after ks) is
+
+  -- the ending of an item
+  pub ended_run : (ks : List Kernel) (e : Ending) → IsItemsRun mode fuel p ks (Some e) → program_run mode fuel p ≡ ended ks e
+  ended_run ks e h = ap (with_main main) h
 
   -- after its items the run ends, with these kernels
   pub items_ending : (ks : List Kernel) (o : Option Ending) → IsItemsRun mode fuel p ks o → (e : Ending) × (program_run mode fuel p ≡ ended ks e)
   items_ending ks None h =
-      let m = main_ending (HasGroundType (unnamed p).result) (main_outcome mode (names_of_main (unnamed p).items (codes_of ks)) fuel p.body) (main_comes_to_its_value_after_items mode (unnamed p) (codes_of ks) fuel typable_p h.1) in
+      let m = main_ends (HasGroundType (unnamed p).result) (main_outcome mode (names_of_main (unnamed p).items (codes_of ks)) fuel p.body) (main_comes_to_its_value_after_items mode (unnamed p) (codes_of ks) fuel typable_p h.1) in
       (m.0, run_of_main ks m.0 h m.1)
-  items_ending ks (Some e) h = (e, h)
+  items_ending ks (Some e) h = (e, ended_run ks e h)
 
   -- the codes that main takes
   pub codes_of_items : (ks : List Kernel) (codes : List Term) → IsItemsRun mode fuel p ks None → map expression_of codes ≡ codes_of ks → AreCodesOf (program_of program).items (map expression_of codes)
@@ -69,7 +71,7 @@ module _ (mode : Mode) (fuel : ℕ) (program : Program) (typable : Typable (prog
 
   -- main's end, in the words of the named program
   pub main_is : (ks : List Kernel) (codes : List Term) (e : Ending) → IsItemsRun mode fuel p ks None → map expression_of codes ≡ codes_of ks
-      → main_after mode fuel (program_of program).items (program_of program).body (map expression_of codes) ≡ ended [] e → program_run mode fuel p ≡ ended ks e
+      → main_after mode fuel (program_of program).items (program_of program).body (map expression_of codes) ≡ Some e → program_run mode fuel p ≡ ended ks e
   main_is ks codes e h same is =
       run_of_main ks e h (ap (λ (q : PureProgram). main_after mode fuel q.items q.body (codes_of ks)) (unnamed_program program)
       ∙ (ap (main_after mode fuel (program_of program).items (program_of program).body) (sym same) ∙ is))

@@ -8,8 +8,8 @@ use Rattle.mw_meaning.specs.declared.mode.Mode.{Mode}
 use Rattle.mw_meaning.specs.declared.mode.Mode.TheVariants.{Plain}
 use Rattle.mw_outside.specs.Count.{GrowsByFront}
 use Rattle.mw_drive.specs.declared.items.Built.{Built}
-use Rattle.mw_drive.specs.ProgramMeaning.{Kernel}
-use Rattle.mw_drive.specs.ProgramRuns.{kernel_of, kernels_of, codes_of, IsBuilt}
+use Rattle.mw_drive.specs.ProgramMeaning.{Kernel, codes_of}
+use Rattle.mw_drive.specs.ProgramRuns.{kernel_of, kernels_of, IsBuilt}
 use Rattle.mw_term.specs.Terms.{expression_of}
 use Rattle.mw_term.specs.Limits.{within_limits}
 use Rattle.mw_term.specs.declared.term.Term.{Term}

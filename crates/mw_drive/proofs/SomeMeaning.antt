@@ -4,9 +4,7 @@ use Rattle.mw_term.specs.Programs.{Definition}
 use Rattle.mw_term.specs.Typable.{Typable}
 use Rattle.mw_term.specs.declared.refusal.Refusal.{Refusal}
 use Rattle.mw_term.specs.declared.refusal.Refusal.TheVariants.{Syntax, TooDeep, TooMany}
-use Rattle.mw_meaning.specs.declared.mode.Mode.{Mode}
-use Rattle.mw_meaning.specs.declared.mode.Mode.TheVariants.{Plain}
-use Rattle.mw_sample.specs.Sample.{sample_text}
+use Rattle.mw_drive.specs.declared.shown.Shown.{Shown}
 use Rattle.mw_lex.specs.Tokens.{PureToken}
 use Rattle.mw_lex.specs.Reading.{AreTokens, IsFirstFault}
 use Rattle.mw_lex.proofs.StepsOn.{either}
@@ -26,7 +24,7 @@ use Rattle.mw_infer.proofs.Progressing.{resolved-written}
 use Rattle.mw_infer.proofs.Deciding.{checked_or_refused}
 use Rattle.mw_drive.specs.NamedPrograms.{NamedItem, NamedProgram, unnamed, names_of}
 use Rattle.mw_drive.specs.SourceReading.{IsSmall, IsRead, IsRefused, too_large, at_bytes, at_tokens, at_names}
-use Rattle.mw_drive.specs.Works.{running, erasing, sampling, Meaning, refused, ran, as_sample, sample_fuel, IsAccepted, IsMeaning, of_refusal, of_types, of_program, of_erased_refusal, of_erased, of_sample}
+use Rattle.mw_drive.specs.Works.{running, erasing, mode_of, Meaning, refused, ran, erased, IsAccepted, IsMeaning, of_refusal, of_types, of_program, of_erased_refusal, of_erased}
 use Rattle.mw_drive.specs.WorkLaws.{SomeMeaning}
 use Rattle.mw_drive.proofs.ScopedTerms.{is_resolved}
 use Rattle.mw_drive.proofs.ErasedEnds.{erased_ends, source_program}
@@ -109,19 +107,19 @@ reading_answers bytes = by_size (at_most_or_above (length bytes) 1048576)
 
 -- So each work has a meaning.
 
-accepted_means : (bytes : List ℕ) (fuel : ℕ) (mode : Mode) (p : NamedProgram) → IsRead bytes p → IsAccepted (unnamed p) → (m : Meaning) × IsMeaning (running bytes fuel mode) m
-accepted_means bytes fuel mode p read fine = let e = program_ends mode fuel p fine.typable in (ran mode e.kernels e.ending, of_program p read fine e.is)
+accepted_means : (bytes : List ℕ) (fuel : ℕ) (shown : Shown) (p : NamedProgram) → IsRead bytes p → IsAccepted (unnamed p) → (m : Meaning) × IsMeaning (running bytes fuel shown) m
+accepted_means bytes fuel shown p read fine = let e = program_ends (mode_of shown) fuel p fine.typable in (ran shown e.kernels e.ending, of_program p read fine e.is)
 
-program_means : (bytes : List ℕ) (fuel : ℕ) (mode : Mode) (p : NamedProgram) → IsRead bytes p → (Typable (unnamed p) × NoneTooBig (unnamed p)) ⊎ ((r : Refusal) × IsFirstRefusal (unnamed p) r) → (m : Meaning) × IsMeaning (running bytes fuel mode) m
-program_means bytes fuel mode p read (inl fine) = accepted_means bytes fuel mode p read (record { typable = fine.0; small = fine.1 })
-program_means bytes fuel mode p read (inr fault) = (refused fault.0 (names_of p), of_types p read fault.1)
+program_means : (bytes : List ℕ) (fuel : ℕ) (shown : Shown) (p : NamedProgram) → IsRead bytes p → (Typable (unnamed p) × NoneTooBig (unnamed p)) ⊎ ((r : Refusal) × IsFirstRefusal (unnamed p) r) → (m : Meaning) × IsMeaning (running bytes fuel shown) m
+program_means bytes fuel shown p read (inl fine) = accepted_means bytes fuel shown p read (record { typable = fine.0; small = fine.1 })
+program_means bytes fuel shown p read (inr fault) = (refused fault.0 (names_of p), of_types p read fault.1)
 
-answer_means : (bytes : List ℕ) (fuel : ℕ) (mode : Mode) → IsAnswered bytes → (m : Meaning) × IsMeaning (running bytes fuel mode) m
-answer_means bytes fuel mode (as_program p read) = program_means bytes fuel mode p read (checked_or_refused (unnamed p) (resolved-written (unnamed p) (is_resolved bytes p read)))
-answer_means bytes fuel mode (as_refusal r refusal) = (refused r [], of_refusal refusal)
+answer_means : (bytes : List ℕ) (fuel : ℕ) (shown : Shown) → IsAnswered bytes → (m : Meaning) × IsMeaning (running bytes fuel shown) m
+answer_means bytes fuel shown (as_program p read) = program_means bytes fuel shown p read (checked_or_refused (unnamed p) (resolved-written (unnamed p) (is_resolved bytes p read)))
+answer_means bytes fuel shown (as_refusal r refusal) = (refused r [], of_refusal refusal)
 
 accepted_erased : (bytes : List ℕ) (fuel : ℕ) (p : NamedProgram) → IsRead bytes p → IsAccepted (unnamed p) → (m : Meaning) × IsMeaning (erasing bytes fuel) m
-accepted_erased bytes fuel p read fine = let e = erased_ends fuel (unnamed p) (source_program bytes p read) fine.typable in (ran Plain [] e.0, of_erased p read fine e.1)
+accepted_erased bytes fuel p read fine = let e = erased_ends fuel (unnamed p) (source_program bytes p read) fine.typable in (erased e.0, of_erased p read fine e.1)
 
 erased_means : (bytes : List ℕ) (fuel : ℕ) → IsAnswered bytes → (m : Meaning) × IsMeaning (erasing bytes fuel) m
 erased_means bytes fuel (as_refusal r refusal) = (refused r [], of_erased_refusal (of_refusal refusal))
@@ -132,8 +130,5 @@ erased_means bytes fuel (as_program p read) = by_types (checked_or_refused (unna
     by_types (inr fault) = (refused fault.0 (names_of p), of_erased_refusal (of_types p read fault.1))
 
 pub some_meaning : SomeMeaning
-some_meaning (running bytes fuel mode) = answer_means bytes fuel mode (reading_answers bytes)
+some_meaning (running bytes fuel shown) = answer_means bytes fuel shown (reading_answers bytes)
 some_meaning (erasing bytes fuel) = erased_means bytes fuel (reading_answers bytes)
-some_meaning (sampling number) =
-    let bytes = sample_text number in
-    let m = answer_means bytes sample_fuel Plain (reading_answers bytes) in (as_sample m.0, of_sample m.0 m.1)

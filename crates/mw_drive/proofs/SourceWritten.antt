@@ -1,5 +1,5 @@
 -- What was written of a source is what it means.
-use Rattle.std.proofs.Common.{◌≡◌, ◌<◌, ℕ, ◌^◌, List, [], map, length, Bool, Result, Err, IfOk, sym, subst, arith}
+use Rattle.std.proofs.Common.{◌≡◌, ◌<◌, ℕ, ◌^◌, List, [], map, length, Some, Bool, Result, Err, IfOk, sym, subst, arith}
 use Rattle.std.proofs.lemmas.List.{length-map}
 use Rattle.mw_outside.specs.declared.errors.WriteFault.{WriteFault}
 use Rattle.mw_outside.specs.declared.errors.WriteFault.TheVariants.{Memory}
@@ -12,7 +12,6 @@ use Rattle.mw_term.specs.declared.refusal.Refusal.{Refusal}
 use Rattle.mw_term.specs.declared.refusal.Stop.{Stop}
 use Rattle.mw_term.specs.declared.refusal.Stop.TheVariants.{Refused as StopRefused}
 use Rattle.mw_infer.specs.Checking.{IsFirstRefusal, IsResolved, NoneTooBig}
-use Rattle.mw_meaning.specs.declared.mode.Mode.{Mode}
 use Rattle.mw_meaning.specs.declared.mode.Mode.TheVariants.{Plain}
 use Rattle.mw_console.specs.Texts.{refusal_line}
 use Rattle.mw_console.specs.declared.status.Status.{Status}
@@ -20,12 +19,12 @@ use Rattle.mw_console.specs.declared.status.Status.TheVariants.{Refused}
 use Rattle.mw_drive.specs.declared.source.Evaluation.{Evaluation}
 use Rattle.mw_drive.specs.declared.source.Evaluation.TheVariants.{Run, Erased}
 use Rattle.mw_drive.specs.declared.shown.Shown.{Shown}
-use Rattle.mw_drive.specs.declared.shown.Shown.TheVariants.{Lines, Totals}
+use Rattle.mw_drive.specs.declared.shown.Shown.TheVariants.{Lines}
 use Rattle.mw_drive.specs.NamedPrograms.{unnamed, names_of, named_program_of}
 use Rattle.mw_drive.specs.SourceReading.{IsRead, IsRefused}
-use Rattle.mw_drive.specs.ProgramMeaning.{ended, erased_run}
+use Rattle.mw_drive.specs.ProgramMeaning.{erased_ending}
 use Rattle.mw_drive.specs.ProgramRuns.{evaluated, IsWrittenRun, IsWrittenErased, IsWrittenMeaning}
-use Rattle.mw_drive.specs.Works.{IsAccepted, running, refused, ran, IsMeaning, of_refusal, of_types, of_program, of_erased_refusal, of_erased}
+use Rattle.mw_drive.specs.Works.{IsAccepted, running, refused, ran, erased, IsMeaning, of_refusal, of_types, of_program, of_erased_refusal, of_erased}
 use Rattle.mw_drive.specs.Written.{Writes}
 use Rattle.mw_drive.proofs.Fronts.{grows_nothing}
 use Rattle.mw_drive.proofs.SomeMeaning.{some_meaning}
@@ -33,22 +32,27 @@ use Rattle.mw_drive.proofs.SourceReadings.{unnamed_program, names_of_program}
 use Rattle.mw_drive.proofs.ScopedTerms.{is_resolved, small_program}
 
 module _ (bytes : List ℕ) (fuel : ℕ) (tells : Bool) where
-  written_refusal : (evaluation : Evaluation) (result : Result Status WriteFault) (before after : List ℕ) (r : Refusal) (names : List (List ℕ)) → ((mode : Mode) → IsMeaning (running bytes fuel mode) (refused r names))
-      → IfOk result (λ s. s ≡ Refused r) → Writes result tells before after (refusal_line names r) → IsWrittenMeaning evaluation bytes fuel result tells before after
-  written_refusal (Run (Lines mode)) result before after r names is status writes = record { meaning = refused r names; is_meaning = is mode; is_status = status; writes = writes }
-  written_refusal (Run Totals) result before after r names is status writes = record { meaning = refused r names; is_meaning = is Plain; is_status = status; writes = writes }
-  written_refusal Erased result before after r names is status writes = record { meaning = refused r names; is_meaning = of_erased_refusal (is Plain); is_status = status; writes = writes }
+  abbrev IsWritten : Evaluation → Result Status WriteFault → (before after : List ℕ) → Type 0
+  IsWritten evaluation result before after = IsWrittenMeaning (evaluated evaluation bytes fuel) result tells before after
+
+  written_refusal : (evaluation : Evaluation) (result : Result Status WriteFault) (before after : List ℕ) (r : Refusal) (names : List (List ℕ))
+      → ((shown : Shown) → IsMeaning (running bytes fuel shown) (refused r names)) → IfOk result (λ s. s ≡ Refused r)
+      → Writes result tells before after (refusal_line names r) → IsWritten evaluation result before after
+  written_refusal (Run shown) result before after r names is status writes =
+      record { meaning = refused r names; is_meaning = is shown; is_status = status; writes = writes }
+  written_refusal Erased result before after r names is status writes =
+      record { meaning = refused r names; is_meaning = of_erased_refusal (is (Lines Plain)); is_status = status; writes = writes }
 
   -- want of memory before anything was written
-  pub written_nothing : (evaluation : Evaluation) (before : List ℕ) (e : _) → IsWrittenMeaning evaluation bytes fuel (Err (Memory e)) tells before before
+  pub written_nothing : (evaluation : Evaluation) (before : List ℕ) (e : _) → IsWritten evaluation (Err (Memory e)) before before
   written_nothing evaluation before e =
       let m = some_meaning (evaluated evaluation bytes fuel) in
       record { meaning = m.0; is_meaning = m.1; is_status = tt; writes = λ t. grows_nothing before _ }
 
   -- the refusal of its reading
   pub refusal_written : (evaluation : Evaluation) (result : Result Status WriteFault) (before after : List ℕ) (r : Refusal) (stop : Stop) → stop ≡ StopRefused r → IfRefused (IsRefused bytes) stop
-      → IfOk result (λ s. s ≡ Refused r) → Writes result tells before after (refusal_line [] r) → IsWrittenMeaning evaluation bytes fuel result tells before after
-  refusal_written evaluation result before after r stop is says = written_refusal evaluation result before after r [] (λ mode. of_refusal (subst (IfRefused (IsRefused bytes)) is says))
+      → IfOk result (λ s. s ≡ Refused r) → Writes result tells before after (refusal_line [] r) → IsWritten evaluation result before after
+  refusal_written evaluation result before after r stop is says = written_refusal evaluation result before after r [] (λ shown. of_refusal (subst (IfRefused (IsRefused bytes)) is says))
 
   module _ (p : Program) (found : IsRead bytes (named_program_of p)) where
     pub resolved : IsResolved (program_of p)
@@ -59,10 +63,10 @@ module _ (bytes : List ℕ) (fuel : ℕ) (tells : Bool) where
 
     -- the refusal of its types
     pub types_written : (evaluation : Evaluation) (result : Result Status WriteFault) (before after : List ℕ) (r : Refusal) (stop : Stop) → stop ≡ StopRefused r → IfRefused (IsFirstRefusal (program_of p)) stop
-        → IfOk result (λ s. s ≡ Refused r) → Writes result tells before after (refusal_line (map (λ (i : Item). i.name) p.items) r) → IsWrittenMeaning evaluation bytes fuel result tells before after
+        → IfOk result (λ s. s ≡ Refused r) → Writes result tells before after (refusal_line (map (λ (i : Item). i.name) p.items) r) → IsWritten evaluation result before after
     types_written evaluation result before after r stop is says status writes =
         let first : IsFirstRefusal (unnamed (named_program_of p)) r = subst (λ q. IsFirstRefusal q r) (sym (unnamed_program p)) (subst (IfRefused (IsFirstRefusal (program_of p))) is says) in
-        written_refusal evaluation result before after r (names_of (named_program_of p)) (λ mode. of_types (named_program_of p) found first) status
+        written_refusal evaluation result before after r (names_of (named_program_of p)) (λ shown. of_types (named_program_of p) found first) status
         (subst (λ names. Writes result tells before after (refusal_line names r)) (sym (names_of_program p)) writes)
 
     accepted : Typable (program_of p) → NoneTooBig (program_of p) → IsAccepted (unnamed (named_program_of p))
@@ -70,22 +74,20 @@ module _ (bytes : List ℕ) (fuel : ℕ) (tells : Bool) where
 
     -- the run of its program
     pub run_written : (shown : Shown) (result : Result Status WriteFault) (before after : List ℕ) → Typable (program_of p) → NoneTooBig (program_of p)
-        → IsWrittenRun shown fuel (named_program_of p) result tells before after → IsWrittenMeaning (Run shown) bytes fuel result tells before after
-    run_written shown result before after typable small h = by_shown shown h
-      where
-        fine : IsAccepted (unnamed (named_program_of p))
-        fine = accepted typable small
-
-        by_shown : (shown : Shown) → IsWrittenRun shown fuel (named_program_of p) result tells before after → IsWrittenMeaning (Run shown) bytes fuel result tells before after
-        by_shown (Lines mode) h = record { meaning = ran mode h.kernels h.ending; is_meaning = of_program (named_program_of p) found fine h.is_run; is_status = h.is_status; writes = h.writes }
-        by_shown Totals h = record { meaning = ran Plain h.kernels h.ending; is_meaning = of_program (named_program_of p) found fine h.is_run; is_status = h.is_status; writes = h.writes }
+        → IsWrittenRun shown fuel (named_program_of p) result tells before after → IsWritten (Run shown) result before after
+    run_written shown result before after typable small h = record {
+      meaning = ran shown h.kernels h.ending;
+      is_meaning = of_program (named_program_of p) found (accepted typable small) h.is_run;
+      is_status = h.is_status;
+      writes = h.writes;
+    }
 
     -- its erased program's main
     pub erased_written : (result : Result Status WriteFault) (before after : List ℕ) → Typable (program_of p) → NoneTooBig (program_of p)
-        → IsWrittenErased fuel (program_of p) result tells before after → IsWrittenMeaning Erased bytes fuel result tells before after
+        → IsWrittenErased fuel (program_of p) result tells before after → IsWritten Erased result before after
     erased_written result before after typable small h = record {
-      meaning = ran Plain [] h.ending;
-      is_meaning = of_erased (named_program_of p) found (accepted typable small) (subst (λ q. erased_run fuel q ≡ ended [] h.ending) (sym (unnamed_program p)) h.is_run);
+      meaning = erased h.ending;
+      is_meaning = of_erased (named_program_of p) found (accepted typable small) (subst (λ q. erased_ending fuel q ≡ Some h.ending) (sym (unnamed_program p)) h.is_run);
       is_status = h.is_status;
       writes = h.writes;
     }

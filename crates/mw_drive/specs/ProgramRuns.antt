@@ -1,18 +1,16 @@
 -- What the running of a program gives, in the words of its meaning.
-use Rattle.std.specs.Prelude.{ℕ, ◌≡◌, true, List, [], ◌∷◌, ◌++◌, map, length, Bool, Option, Some, None, Result, IfOk}
-use Rattle.std.specs.List.{flat_map}
+use Rattle.std.specs.Prelude.{ℕ, ◌≡◌, true, List, ◌++◌, map, Bool, Option, Some, None, Result, IfOk}
 use Rattle.mw_outside.specs.declared.errors.WriteFault.{WriteFault}
 use Rattle.mw_term.specs.Terms.{Expression, KernelType, expression_of, kernel_type_of, ground_value_of}
 use Rattle.mw_term.specs.Programs.{Definition, value as defines, kernel, PureProgram}
 use Rattle.mw_term.specs.Typable.{HasKernelType}
 use Rattle.mw_term.specs.Limits.{within_limits}
 use Rattle.mw_meaning.specs.declared.mode.Mode.{Mode}
-use Rattle.mw_meaning.specs.declared.mode.Mode.TheVariants.{Plain}
 use Rattle.mw_meaning.specs.Simplification.{in_mode}
 use Rattle.mw_meaning.specs.Outcomes.{came_to, trapped as traps, bounded as bounds, item_outcome, names_of_items}
 use Rattle.mw_meaning.specs.OutcomeLaws.{AreCodesOf}
 use Rattle.mw_compile.specs.Entries.{IsEntryOf}
-use Rattle.mw_console.specs.Texts.{Ending, answered, trapped, bounded, totals_text, ending_line, ending_status}
+use Rattle.mw_console.specs.Texts.{Ending, answered, trapped, bounded, ending_line, ending_status}
 use Rattle.mw_console.specs.declared.status.Status.{Status}
 use Rattle.mw_drive.specs.declared.ending.End.{End}
 use Rattle.mw_drive.specs.declared.ending.End.TheVariants as end
@@ -22,10 +20,9 @@ use Rattle.mw_drive.specs.declared.items.ItemEnd.TheVariants as item
 use Rattle.mw_drive.specs.declared.source.Evaluation.{Evaluation}
 use Rattle.mw_drive.specs.declared.source.Evaluation.TheVariants.{Run, Erased}
 use Rattle.mw_drive.specs.declared.shown.Shown.{Shown}
-use Rattle.mw_drive.specs.declared.shown.Shown.TheVariants.{Lines, Totals}
 use Rattle.mw_drive.specs.NamedPrograms.{NamedItem, NamedProgram, unnamed}
-use Rattle.mw_drive.specs.ProgramMeaning.{Kernel, ProgramRun, ended, with_kernel, main_after, program_run, erased_run}
-use Rattle.mw_drive.specs.Works.{Work, Meaning, IsMeaning, running, erasing, as_sample, kernel_lines, module_bytes, text_of, status_of}
+use Rattle.mw_drive.specs.ProgramMeaning.{Kernel, all_gave, one_ended, items_run, codes_of, ended, program_run, erased_ending}
+use Rattle.mw_drive.specs.Works.{Work, Meaning, IsMeaning, running, erasing, mode_of, shown_text, text_of, status_of}
 use Rattle.mw_drive.specs.Written.{Writes}
 
 abbrev pub ending_of : End → Ending
@@ -39,9 +36,6 @@ kernel_of b = record { name = b.name.now; kind = kernel_type_of b.kind.now; code
 
 abbrev pub kernels_of : List Built → List Kernel
 kernels_of built = map kernel_of built
-
-abbrev pub codes_of : List Kernel → List Expression
-codes_of kernels = map (λ (k : Kernel). k.code) kernels
 
 -- its code is closed code of its type, within the limits of kernels, and the entry is that of what is run of the code at the type
 pub record IsBuilt (mode : Mode) (b : Built) : Type 0 where
@@ -61,26 +55,10 @@ IsEndOf mode items fuel i (item.Ended (end.Trapped t name)) =
 IsEndOf mode items fuel i (item.Ended (end.Bounded l name)) =
     (k : KernelType) × (e : Expression) × (i.is ≡ kernel k e) × (name.now ≡ i.name) × (item_outcome mode (names_of_items items) fuel e ≡ bounds l)
 
--- kernels before the others of a run
-abbrev pub with_kernels : List Kernel → ProgramRun → ProgramRun
-with_kernels [] r = r
-with_kernels (k ∷ kernels) r = with_kernel k.name k.kind k.code (with_kernels kernels r)
-
--- The kernel items of a program gave these kernels, and one that gave none ended the program, or main is to come.
+-- The kernel items of a program gave these kernels, and all of them did, or one that gave none ended the program.
 abbrev pub IsItemsRun : Mode → ℕ → NamedProgram → List Kernel → Option Ending → Type 0
-IsItemsRun mode fuel p kernels None =
-    (program_run mode fuel p ≡ with_kernels kernels (main_after mode fuel (unnamed p).items p.body (codes_of kernels))) × AreCodesOf (unnamed p).items (codes_of kernels)
-IsItemsRun mode fuel p kernels (Some e) = program_run mode fuel p ≡ ended kernels e
-
--- how code is run whose kernels are shown so
-abbrev pub mode_of : Shown → Mode
-mode_of (Lines mode) = mode
-mode_of Totals = Plain
-
--- what is written of the kernels
-abbrev pub shown_text : Shown → List Kernel → List ℕ
-shown_text (Lines mode) kernels = flat_map (kernel_lines mode) kernels
-shown_text Totals kernels = totals_text (length kernels) (module_bytes kernels)
+IsItemsRun mode fuel p kernels None = (items_run mode fuel p ≡ all_gave kernels) × AreCodesOf (unnamed p).items (codes_of kernels)
+IsItemsRun mode fuel p kernels (Some e) = items_run mode fuel p ≡ one_ended kernels e
 
 -- the run of a program was written, and the status is what its ending says
 pub record IsWrittenRun (shown : Shown) (fuel : ℕ) (p : NamedProgram) (result : Result Status WriteFault) (tells : Bool) (before after : List ℕ) : Type 0 where
@@ -90,33 +68,21 @@ pub record IsWrittenRun (shown : Shown) (fuel : ℕ) (p : NamedProgram) (result 
   pub is_status : IfOk result (λ s. s ≡ ending_status ending)
   pub writes : Writes result tells before after (shown_text shown kernels ++ ending_line ending)
 
-abbrev pub shown_meaning : Shown → Meaning → Meaning
-shown_meaning (Lines mode) m = m
-shown_meaning Totals m = as_sample m
-
 -- how the erased program's main ends was written, and the status says the same
 pub record IsWrittenErased (fuel : ℕ) (p : PureProgram) (result : Result Status WriteFault) (tells : Bool) (before after : List ℕ) : Type 0 where
   pub ending : Ending
-  pub is_run : erased_run fuel p ≡ ended [] ending
+  pub is_run : erased_ending fuel p ≡ Some ending
   pub is_status : IfOk result (λ s. s ≡ ending_status ending)
   pub writes : Writes result tells before after (ending_line ending)
 
--- the work that an evaluation of a source is, and what of its meaning is written
+-- the work that an evaluation of a source is
 abbrev pub evaluated : Evaluation → List ℕ → ℕ → Work
-evaluated (Run shown) bytes fuel = running bytes fuel (mode_of shown)
+evaluated (Run shown) bytes fuel = running bytes fuel shown
 evaluated Erased bytes fuel = erasing bytes fuel
 
-abbrev pub written_meaning : Evaluation → Meaning → Meaning
-written_meaning (Run shown) m = shown_meaning shown m
-written_meaning Erased m = m
-
--- what is written of the evaluation is what the work means
-abbrev pub Carries : Evaluation → List ℕ → ℕ → Work → Type 0
-Carries evaluation bytes fuel work = (m : Meaning) → IsMeaning (evaluated evaluation bytes fuel) m → IsMeaning work (written_meaning evaluation m)
-
--- what an evaluation of a source means was written, and the status is what it says
-pub record IsWrittenMeaning (evaluation : Evaluation) (bytes : List ℕ) (fuel : ℕ) (result : Result Status WriteFault) (tells : Bool) (before after : List ℕ) : Type 0 where
+-- what a work means was written, and the status is what it says
+pub record IsWrittenMeaning (work : Work) (result : Result Status WriteFault) (tells : Bool) (before after : List ℕ) : Type 0 where
   pub meaning : Meaning
-  pub is_meaning : IsMeaning (evaluated evaluation bytes fuel) meaning
-  pub is_status : IfOk result (λ s. s ≡ status_of (written_meaning evaluation meaning))
-  pub writes : Writes result tells before after (text_of (written_meaning evaluation meaning))
+  pub is_meaning : IsMeaning work meaning
+  pub is_status : IfOk result (λ s. s ≡ status_of meaning)
+  pub writes : Writes result tells before after (text_of meaning)

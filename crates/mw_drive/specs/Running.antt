@@ -11,6 +11,7 @@ use Rattle.mw_words.specs.Words.{PureCommand, run, erased, sample, Means}
 use Rattle.mw_console.specs.Reading.{most_read}
 use Rattle.mw_console.specs.declared.status.Status.{Status}
 use Rattle.mw_console.specs.declared.status.Status.TheVariants.{Write, Memory}
+use Rattle.mw_drive.specs.declared.shown.Shown.TheVariants.{Lines}
 use Rattle.mw_drive.specs.Extents.{Extent, nothing, a_front, whole, never, Kind, on_a_file, on_a_number, extent}
 use Rattle.mw_drive.specs.Works.{Work, running, erasing, sampling, Meaning, IsMeaning, status_of, IsOutput, Reports}
 
@@ -65,7 +66,7 @@ mode_when false = Plain
 -- a command's work on what its files hold
 pub data IsWork : PureCommand → List (List ℕ) → Work → Type 0 where
   run_works : {workers fuel : ℕ} {simplify : Bool} {file bytes : List ℕ}
-      → IsWork (run workers fuel simplify file) (bytes ∷ []) (running bytes fuel (mode_when simplify))
+      → IsWork (run workers fuel simplify file) (bytes ∷ []) (running bytes fuel (Lines (mode_when simplify)))
   erased_works : {fuel : ℕ} {file bytes : List ℕ} → IsWork (erased fuel file) (bytes ∷ []) (erasing bytes fuel)
   sample_works : {number : ℕ} → IsWork (sample number) [] (sampling number)
 

@@ -1,11 +1,10 @@
 -- A work has exactly one meaning, and an answer is any answer of the erased program.
-use Rattle.std.specs.Prelude.{◌≡◌, ℕ, List, []}
+use Rattle.std.specs.Prelude.{◌≡◌, ℕ, List}
 use Rattle.mw_term.specs.Terms.{PureGroundValue}
-use Rattle.mw_meaning.specs.declared.mode.Mode.{Mode}
-use Rattle.mw_meaning.specs.declared.mode.Mode.TheVariants.{Plain}
+use Rattle.mw_drive.specs.declared.shown.Shown.{Shown}
 use Rattle.mw_console.specs.Texts.{answered}
 use Rattle.mw_drive.specs.ProgramMeaning.{Kernel}
-use Rattle.mw_drive.specs.Works.{Work, running, erasing, Meaning, ran, IsMeaning}
+use Rattle.mw_drive.specs.Works.{Work, running, erasing, Meaning, ran, erased, IsMeaning}
 
 -- a work has one meaning at most
 abbrev pub OneMeaning : Type 0
@@ -17,5 +16,5 @@ SomeMeaning = (work : Work) → (m : Meaning) × IsMeaning work m
 
 -- where a source's run and its erased program both answer, whatever their units, the answers are equal
 abbrev pub AnswersAreErased : Type 0
-AnswersAreErased = (bytes : List ℕ) (fuel m : ℕ) (mode : Mode) (kernels : List Kernel) (v w : PureGroundValue) → IsMeaning (running bytes fuel mode) (ran mode kernels (answered v))
-    → IsMeaning (erasing bytes m) (ran Plain [] (answered w)) → v ≡ w
+AnswersAreErased = (bytes : List ℕ) (fuel m : ℕ) (shown : Shown) (kernels : List Kernel) (v w : PureGroundValue)
+    → IsMeaning (running bytes fuel shown) (ran shown kernels (answered v)) → IsMeaning (erasing bytes m) (erased (answered w)) → v ≡ w

@@ -1,5 +1,5 @@
 -- A command, with the bytes of the file that it reads, is a work. A work has meanings, and a meaning has a text and a status.
-use Rattle.std.specs.Prelude.{ℕ, ◌≡◌, ◌+◌, List, [], ◌∷◌, ◌++◌, length}
+use Rattle.std.specs.Prelude.{ℕ, ◌≡◌, ◌+◌, List, [], ◌∷◌, ◌++◌, length, Some}
 use Rattle.std.specs.List.{AllByRecursion, flat_map}
 use Rattle.mw_term.specs.declared.refusal.Refusal.{Refusal}
 use Rattle.sha2.specs.Sha256.{sha256}
@@ -24,30 +24,31 @@ use Rattle.mw_console.specs.Texts.{Ending, kernel_text, totals_text, refusal_lin
 use Rattle.mw_sample.specs.Sample.{sample_text}
 use Rattle.mw_drive.specs.NamedPrograms.{NamedProgram, unnamed, names_of}
 use Rattle.mw_drive.specs.SourceReading.{IsRead, IsRefused}
-use Rattle.mw_drive.specs.ProgramMeaning.{Kernel, ended, program_run, erased_run}
+use Rattle.mw_drive.specs.declared.shown.Shown.{Shown}
+use Rattle.mw_drive.specs.declared.shown.Shown.TheVariants.{Lines, Totals}
+use Rattle.mw_drive.specs.ProgramMeaning.{Kernel, ended, program_run, erased_ending}
 
--- the run of a source's bytes, with so many units of fuel for each evaluation, under a mode; that of its erased program's main; or
--- the run of the source that is made from a number, of which only totals are written
+-- how code is run whose kernels are shown so: by their lines, of a mode, or by totals
+abbrev pub mode_of : Shown → Mode
+mode_of (Lines mode) = mode
+mode_of Totals = Plain
+
+-- the run of a source's bytes, with so many units of fuel for each evaluation, whose kernels are shown so; or the evaluation of
+-- its erased program's main
 pub data Work : Type 0 where
-  running : (bytes : List ℕ) (fuel : ℕ) (mode : Mode) → Work
+  running : (bytes : List ℕ) (fuel : ℕ) (shown : Shown) → Work
   erasing : (bytes : List ℕ) (fuel : ℕ) → Work
-  sampling : (number : ℕ) → Work
 
--- a refusal, with the names of the items where it speaks of one; or the kernels that gave code, under a mode, and an ending;
--- or the same of a sample
+-- a sample is the run of the source that is made from a number, which shows totals
+abbrev pub sampling : ℕ → Work
+sampling number = running (sample_text number) 1000000 Totals
+
+-- a refusal, with the names of the items where it speaks of one; the kernels that gave code, shown so, and an ending; or the
+-- ending of an erased program
 pub data Meaning : Type 0 where
   refused : (r : Refusal) (names : List (List ℕ)) → Meaning
-  ran : (mode : Mode) (kernels : List Kernel) (e : Ending) → Meaning
-  sampled : (kernels : List Kernel) (e : Ending) → Meaning
-
--- what the run of a sample's source means for the sample
-abbrev pub as_sample : Meaning → Meaning
-as_sample (ran mode kernels e) = sampled kernels e
-as_sample m = m
-
--- the units of fuel of a sample
-abbrev pub sample_fuel : ℕ
-sample_fuel = 1000000
+  ran : (shown : Shown) (kernels : List Kernel) (e : Ending) → Meaning
+  erased : (e : Ending) → Meaning
 
 -- a program has types, and no front of an item's equations is too big
 pub record IsAccepted (p : PureProgram) : Type 0 where
@@ -55,18 +56,17 @@ pub record IsAccepted (p : PureProgram) : Type 0 where
   pub small : NoneTooBig p
 
 -- The run of a source means the first refusal of its reading; else the first refusal of its types; else the run of its program.
--- What is refused is refused with its erased program too, which else means how its main ends; it has no kernels. A sample means
--- what the run of its source does.
+-- What is refused is refused with its erased program too, which else means how its main ends.
 pub data IsMeaning : Work → Meaning → Type 0 where
-  of_refusal : {bytes : List ℕ} {fuel : ℕ} {mode : Mode} {r : Refusal} → IsRefused bytes r → IsMeaning (running bytes fuel mode) (refused r [])
-  of_types : {bytes : List ℕ} {fuel : ℕ} {mode : Mode} {r : Refusal} (p : NamedProgram) → IsRead bytes p → IsFirstRefusal (unnamed p) r → IsMeaning (running bytes fuel mode) (refused r (names_of p))
-  of_program : {bytes : List ℕ} {fuel : ℕ} {mode : Mode} {kernels : List Kernel} {e : Ending} (p : NamedProgram) → IsRead bytes p → IsAccepted (unnamed p) → program_run mode fuel p ≡ ended kernels e
-      → IsMeaning (running bytes fuel mode) (ran mode kernels e)
-  of_erased_refusal : {bytes : List ℕ} {fuel : ℕ} {r : Refusal} {names : List (List ℕ)} → IsMeaning (running bytes fuel Plain) (refused r names)
+  of_refusal : {bytes : List ℕ} {fuel : ℕ} {shown : Shown} {r : Refusal} → IsRefused bytes r → IsMeaning (running bytes fuel shown) (refused r [])
+  of_types : {bytes : List ℕ} {fuel : ℕ} {shown : Shown} {r : Refusal} (p : NamedProgram) → IsRead bytes p → IsFirstRefusal (unnamed p) r
+      → IsMeaning (running bytes fuel shown) (refused r (names_of p))
+  of_program : {bytes : List ℕ} {fuel : ℕ} {shown : Shown} {kernels : List Kernel} {e : Ending} (p : NamedProgram) → IsRead bytes p
+      → IsAccepted (unnamed p) → program_run (mode_of shown) fuel p ≡ ended kernels e → IsMeaning (running bytes fuel shown) (ran shown kernels e)
+  of_erased_refusal : {bytes : List ℕ} {fuel : ℕ} {r : Refusal} {names : List (List ℕ)} → IsMeaning (running bytes fuel (Lines Plain)) (refused r names)
       → IsMeaning (erasing bytes fuel) (refused r names)
-  of_erased : {bytes : List ℕ} {fuel : ℕ} {e : Ending} (p : NamedProgram) → IsRead bytes p → IsAccepted (unnamed p) → erased_run fuel (unnamed p) ≡ ended [] e
-      → IsMeaning (erasing bytes fuel) (ran Plain [] e)
-  of_sample : {number : ℕ} (m : Meaning) → IsMeaning (running (sample_text number) sample_fuel Plain) m → IsMeaning (sampling number) (as_sample m)
+  of_erased : {bytes : List ℕ} {fuel : ℕ} {e : Ending} (p : NamedProgram) → IsRead bytes p → IsAccepted (unnamed p)
+      → erased_ending fuel (unnamed p) ≡ Some e → IsMeaning (erasing bytes fuel) (erased e)
 
 -- the key of code at a type: the digest of their text
 abbrev pub key_of : Expression → KernelType → List ℕ
@@ -81,16 +81,21 @@ abbrev pub module_bytes : List Kernel → ℕ
 module_bytes [] = 0
 module_bytes (k ∷ kernels) = length (emission two k.code k.kind) + module_bytes kernels
 
--- a refusal's line, or the lines of the kernels that gave code, in order, or their totals, and the line of the ending
+-- what is written of the kernels that gave code, in order: their lines, or their totals
+abbrev pub shown_text : Shown → List Kernel → List ℕ
+shown_text (Lines mode) kernels = flat_map (kernel_lines mode) kernels
+shown_text Totals kernels = totals_text (length kernels) (module_bytes kernels)
+
+-- a refusal's line, or what is shown of kernels and the line of the ending
 abbrev pub text_of : Meaning → List ℕ
 text_of (refused r names) = refusal_line names r
-text_of (ran mode kernels e) = flat_map (kernel_lines mode) kernels ++ ending_line e
-text_of (sampled kernels e) = totals_text (length kernels) (module_bytes kernels) ++ ending_line e
+text_of (ran shown kernels e) = shown_text shown kernels ++ ending_line e
+text_of (erased e) = ending_line e
 
 abbrev pub status_of : Meaning → Status
 status_of (refused r names) = Refused r
-status_of (ran mode kernels e) = ending_status e
-status_of (sampled kernels e) = ending_status e
+status_of (ran shown kernels e) = ending_status e
+status_of (erased e) = ending_status e
 
 -- the text that belongs to a work
 pub record IsOutput (work : Work) (text : List ℕ) : Type 0 where
@@ -114,5 +119,5 @@ pub record HasModule (mode : Mode) (k : Kernel) : Type 0 where
 
 abbrev pub HaveModules : Meaning → Type 0
 HaveModules (refused r names) = Unit {0}
-HaveModules (ran mode kernels e) = AllByRecursion (HasModule mode) kernels
-HaveModules (sampled kernels e) = AllByRecursion (HasModule Plain) kernels
+HaveModules (ran shown kernels e) = AllByRecursion (HasModule (mode_of shown)) kernels
+HaveModules (erased e) = Unit {0}

@@ -9,8 +9,9 @@ use Rattle.mw_drive.specs.declared.program.AfterItems.{AfterItems}
 use Rattle.mw_drive.specs.declared.program.AfterItems.TheVariants as after
 use Rattle.mw_drive.specs.declared.shown.Shown.{Shown}
 use Rattle.mw_drive.specs.NamedPrograms.{NamedProgram}
-use Rattle.mw_drive.specs.ProgramMeaning.{Kernel, ended, program_run}
-use Rattle.mw_drive.specs.ProgramRuns.{codes_of, mode_of, IsItemsRun, shown_text}
+use Rattle.mw_drive.specs.ProgramMeaning.{Kernel, codes_of, ended, program_run}
+use Rattle.mw_drive.specs.Works.{mode_of, shown_text}
+use Rattle.mw_drive.specs.ProgramRuns.{IsItemsRun}
 
 -- The kernels were written, and with an ending the last line; or main is to come, after these codes; or a front was written.
 abbrev pub AreWrittenItems : Shown → ℕ → NamedProgram → Result AfterItems WriteFault → Bool → (before after : List ℕ) → Type 0

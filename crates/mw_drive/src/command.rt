@@ -10,9 +10,10 @@ ghost use Rattle.mw_console.specs.declared.status.Status.TheVariants.{Answer, Us
 ghost use Rattle.mw_console.specs.Texts.{Ending, answered, ending_status};
 ghost use Rattle.mw_meaning.specs.declared.mode.Mode.TheVariants.{Plain, Simple};
 ghost use Rattle.mw_drive.specs.Extents.{whole, never, Kind, on_a_file, on_a_number, extent};
-ghost use Rattle.mw_drive.specs.Works.{Work, running, erasing, sampling, Meaning, ran, IsMeaning, HaveModules, status_of};
+ghost use Rattle.mw_drive.specs.Works.{Work, running, erasing, sampling, Meaning, ran, erased, IsMeaning, HaveModules, status_of};
 ghost use Rattle.mw_drive.specs.ProgramMeaning.{Kernel};
-ghost use Rattle.mw_drive.specs.ProgramRuns.{Carries};
+ghost use Rattle.mw_drive.specs.ProgramRuns.{evaluated};
+ghost use Rattle.mw_drive.specs.declared.shown.Shown.TheVariants.{Lines};
 ghost use Rattle.mw_drive.specs.SimplifiedPrograms.{IsUnbounded};
 ghost use Rattle.mw_drive.specs.Running.{outside, files_of, source_file, Has, Lacks, HasAll, LacksFirst, IsWork, kind_of};
 ghost use Rattle.mw_drive.specs.Running.{AsksOn, Asks, AsksMissing, AsksNoFile, IsCarriedOut, IsFaithful, IsStatusOf, IsMemory, mode_when};
@@ -63,13 +64,13 @@ pub fn run<R: Threads + Sync, S: Source, K: Sink, C: Keeper, G: Gate>(
     // An answer of a run is any answer of the erased program, whatever the units of either.
     ensures erasure { (workers fuel m : ℕ) (simplify : Bool) (file bytes : List ℕ) (w : PureGroundValue)
         → AsksOn (map string_bytes words.now) (outside S.tells (S.told source.old)) (run workers fuel simplify file) (bytes ∷ [])
-        → IsMeaning (erasing bytes m) (ran Plain [] (answered w)) → result ≡ Answer
-        → (kernels : List Kernel) × IsMeaning (running bytes fuel (mode_when simplify)) (ran (mode_when simplify) kernels (answered w)) }
+        → IsMeaning (erasing bytes m) (erased (answered w)) → result ≡ Answer → (kernels : List Kernel)
+        × IsMeaning (running bytes fuel (Lines (mode_when simplify))) (ran (Lines (mode_when simplify)) kernels (answered w)) }
     // Where the run with the kernels' code as it was built ends with an answer or a trap, the run with simplified code ends so too.
     ensures simplified { (workers fuel : ℕ) (file bytes : List ℕ) (kernels : List Kernel) (e : Ending)
         → AsksOn (map string_bytes words.now) (outside S.tells (S.told source.old)) (run workers fuel true file) (bytes ∷ [])
-        → IsMeaning (running bytes fuel Plain) (ran Plain kernels e) → IsUnbounded e
-        → IsMeaning (running bytes fuel Simple) (ran Simple kernels e) × (extent on_a_file result ≡ whole → result ≡ ending_status e) }
+        → IsMeaning (running bytes fuel (Lines Plain)) (ran (Lines Plain) kernels e) → IsUnbounded e
+        → IsMeaning (running bytes fuel (Lines Simple)) (ran (Lines Simple) kernels e) × (extent on_a_file result ≡ whole → result ≡ ending_status e) }
     // Whatever failed, the status says what was written.
     ensures faults { (work : Work) → (asked : Asks (map string_bytes words.now) (outside S.tells (S.told source.old)) work)
         → IsTrue K.tells → IsFaithful (extent (kind_of asked.command) result) work result (K.written sink.old) (K.written sink.new) }
@@ -162,8 +163,8 @@ fn evaluate_file<S: Source, K: Sink>(
     fuel: u64,
     evaluation: Evaluation,
 ) -> Status
-    ensures work { (bytes : List ℕ) (work : Work) → Has (outside S.tells (S.told source.old)) (source_file file.now) bytes
-        → Carries evaluation bytes fuel work → IsCarriedOut on_a_file work result K.tells (K.written sink.old) (K.written sink.new) }
+    ensures work { (bytes : List ℕ) → Has (outside S.tells (S.told source.old)) (source_file file.now) bytes
+        → IsCarriedOut on_a_file (evaluated evaluation bytes fuel) result K.tells (K.written sink.old) (K.written sink.new) }
     ensures left { (bytes : List ℕ) → Has (outside S.tells (S.told source.old)) (source_file file.now) bytes
         → ¬ IsMemory result → ¬ (result ≡ Read) → S.left source.new ≡ drop most_read bytes }
     ensures read { result ≡ Read

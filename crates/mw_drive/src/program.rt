@@ -7,7 +7,9 @@ ghost use Rattle.mw_term.specs.SmallTypes.{HasSmallTypes};
 ghost use Rattle.mw_term.specs.Typable.{Typable};
 ghost use Rattle.mw_infer.specs.Checking.{HasSmallKernels};
 ghost use Rattle.mw_drive.specs.NamedPrograms.{named_program_of};
-ghost use Rattle.mw_drive.specs.ProgramRuns.{kernels_of, codes_of, mode_of, IsWrittenRun};
+ghost use Rattle.mw_drive.specs.ProgramMeaning.{codes_of};
+ghost use Rattle.mw_drive.specs.Works.{mode_of};
+ghost use Rattle.mw_drive.specs.ProgramRuns.{kernels_of, IsWrittenRun};
 ghost use Rattle.mw_drive.specs.WrittenItems.{AreWrittenItems};
 ghost use Rattle.mw_drive.specs.Written.{Blames};
 

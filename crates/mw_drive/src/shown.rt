@@ -4,8 +4,8 @@ ghost use Rattle.std.specs.Prelude.{◌≡◌, ◌≤◌, ◌<◌, ◌^◌, leng
 ghost use Rattle.std.specs.List.{AllByRecursion, flat_map};
 ghost use Rattle.mw_meaning.specs.declared.mode.Mode.{Mode};
 ghost use Rattle.mw_meaning.specs.declared.mode.Mode.TheVariants.{Plain};
-ghost use Rattle.mw_drive.specs.Works.{kernel_lines, module_bytes};
-ghost use Rattle.mw_drive.specs.ProgramRuns.{kernel_of, kernels_of, mode_of, IsBuilt, shown_text};
+ghost use Rattle.mw_drive.specs.Works.{kernel_lines, module_bytes, mode_of, shown_text};
+ghost use Rattle.mw_drive.specs.ProgramRuns.{kernel_of, kernels_of, IsBuilt};
 ghost use Rattle.mw_drive.specs.declared.shown.Shown.TheVariants.{Totals};
 ghost use Rattle.mw_drive.specs.Written.{Writes, Blames};
 

@@ -4,7 +4,7 @@ ghost use Rattle.std.specs.Prelude.{◌≡◌, ◌≤◌, ◌<◌, map, IfOk};
 ghost use Rattle.mw_term.specs.declared.program.Item.{Item as PureItem};
 ghost use Rattle.mw_console.specs.Texts.{refusal_line};
 ghost use Rattle.mw_console.specs.declared.status.Status.TheVariants.{Refused};
-ghost use Rattle.mw_drive.specs.ProgramRuns.{IsWrittenMeaning};
+ghost use Rattle.mw_drive.specs.ProgramRuns.{evaluated, IsWrittenMeaning};
 ghost use Rattle.mw_drive.specs.Written.{Writes, Blames};
 
 use crate::erased::write_erased;
@@ -37,7 +37,7 @@ pub fn write_source<K: Sink, L: Ledger>(
     requires name { blank.name ≡ L.name }
     requires parts { blank.parts ≡ L.parts }
     requires some { 0 < L.parts }
-    ensures meaning { IsWrittenMeaning evaluation bytes.now fuel result K.tells (K.written sink.old) (K.written sink.new) }
+    ensures meaning { IsWrittenMeaning (evaluated evaluation bytes.now fuel) result K.tells (K.written sink.old) (K.written sink.new) }
     ensures blames { Blames result (K.faults sink.old) (K.faults sink.new) }
     ensures count { K.faults sink.old ≤ K.faults sink.new }
 {

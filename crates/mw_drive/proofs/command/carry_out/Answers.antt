@@ -1,16 +1,18 @@
-use Rattle.std.proofs.Common.{refl, sym, subst}
-use Rattle.mw_drive.specs.Works.{running, erasing}
+use Rattle.std.proofs.Common.{◌≡◌, ◌∙◌, refl, sym, ap, subst}
+use Rattle.mw_drive.specs.declared.shown.Shown.TheVariants.{Lines}
+use Rattle.mw_drive.specs.Works.{running}
 use Rattle.mw_drive.specs.Extents.{on_a_file, on_a_number}
-use Rattle.mw_drive.specs.Running.{IsCarriedOut, mode_when}
-use Rattle.mw_drive.proofs.CommandLemmas.{carries_run, run_on, erased_on, sample_on, has_one, first_lacks}
+use Rattle.mw_drive.specs.Running.{IsCarriedOut}
+use Rattle.mw_drive.proofs.CommandLemmas.{run_on, erased_on, sample_on, has_one, first_lacks}
 use Rattle.mw_drive.proofs.command.carry_out.Goals as goal
 
 pub returns-in-Run-clause-work : goal.returns-in-Run-clause-work
 returns-in-Run-clause-work g c = λ contents work has works.
     let on = run_on contents work (rw c.in-Run.is at has) (rw c.in-Run.is at works) in
+    let is : work ≡ running on.0 c.in-Run.fuel (Lines c.mode_when.result) = on.2 ∙ ap (λ mode. running on.0 c.in-Run.fuel (Lines mode)) (sym c.mode_when.ensures) in
     rw c.in-Run.is
     (subst (λ w. IsCarriedOut on_a_file w c.evaluate_file.result g.K.Sink.tells (g.K.Sink.written c.args.sink.now) (g.K.Sink.written c.evaluate_file.new.sink))
-    (sym on.2) (c.evaluate_file.ensures.work on.0 (running on.0 c.in-Run.fuel (mode_when c.in-Run.simplify)) on.1 (carries_run c.in-Run.simplify on.0 c.in-Run.fuel c.mode_when.ensures)))
+    (sym is) (c.evaluate_file.ensures.work on.0 on.1))
 
 pub returns-in-Run-clause-left : goal.returns-in-Run-clause-left
 returns-in-Run-clause-left g c = λ bytes has memory read. c.evaluate_file.ensures.left bytes (has_one (rw c.in-Run.is at has)) memory read
@@ -23,7 +25,7 @@ returns-in-Erased-clause-work g c = λ contents work has works.
     let on = erased_on contents work (rw c.in-Erased.is at has) (rw c.in-Erased.is at works) in
     rw c.in-Erased.is
     (subst (λ w. IsCarriedOut on_a_file w c.evaluate_file-in-Erased.result g.K.Sink.tells (g.K.Sink.written c.args.sink.now) (g.K.Sink.written c.evaluate_file-in-Erased.new.sink))
-    (sym on.2) (c.evaluate_file-in-Erased.ensures.work on.0 (erasing on.0 c.in-Erased.fuel) on.1 (λ m h. h)))
+    (sym on.2) (c.evaluate_file-in-Erased.ensures.work on.0 on.1))
 
 pub returns-in-Erased-clause-left : goal.returns-in-Erased-clause-left
 returns-in-Erased-clause-left g c = λ bytes has memory read. c.evaluate_file-in-Erased.ensures.left bytes (has_one (rw c.in-Erased.is at has)) memory read

@@ -1,6 +1,7 @@
 use Rattle.std.proofs.Common.{◌≡◌, map}
 use Rattle.mw_term.specs.Terms.{expression_of}
-use Rattle.mw_drive.specs.ProgramRuns.{kernels_of, codes_of}
+use Rattle.mw_drive.specs.ProgramRuns.{kernels_of}
+use Rattle.mw_drive.specs.ProgramMeaning.{codes_of}
 use Rattle.mw_drive.proofs.program.codes.Given as goal
 
 abbrev pub invariant-loop-kernel : goal.invariant-loop-kernel

@@ -5,9 +5,10 @@ use Rattle.mw_term.specs.Terms.{expression_of}
 use Rattle.mw_term.specs.Limits.{within_limits}
 use Rattle.mw_console.specs.Texts.{ending_line}
 use Rattle.mw_drive.specs.NamedPrograms.{named_program_of}
-use Rattle.mw_drive.specs.ProgramRuns.{ending_of, kernels_of, mode_of, shown_text, IsItemsRun}
+use Rattle.mw_drive.specs.ProgramRuns.{ending_of, kernels_of, IsItemsRun}
+use Rattle.mw_drive.specs.Works.{mode_of, shown_text}
 use Rattle.mw_drive.proofs.Fronts.{grows_front, grows_after, grows_whole, grows_nothing}
-use Rattle.mw_drive.proofs.RunWritten.{some_ending, items_ending, items_failed}
+use Rattle.mw_drive.proofs.RunWritten.{some_ending, ended_run, items_ending, items_failed}
 use Rattle.mw_drive.proofs.Showing.{codes_small}
 use Rattle.mw_drive.proofs.Taking.{all_of}
 use Rattle.mw_drive.proofs.program.write_items.Goals as goal
@@ -35,7 +36,7 @@ pub returns-in_err-write_end-in-Some-clause-items : goal.returns-in_err-write_en
 returns-in_err-write_end-in-Some-clause-items g c =
     let ks = kernels_of c.as_slice.result.now in
     let run : IsItemsRun (mode_of c.args.shown) c.args.fuel (named_program_of c.args.program.now) ks (option_map ending_of c.in_ok-built.field-0.end) = rw (c.as_slice.ensures.value) (rw c.requires.mode at c.in_ok-built.ensures.run) in
-    let e = rw c.in-Some.is at run in
+    let e = ended_run (mode_of c.args.shown) c.args.fuel c.args.program.now c.requires.typable ks (ending_of c.in-Some.end) (rw c.in-Some.is at run) in
     items_failed c.args.fuel c.args.program.now c.args.shown _ c.from_residual-in_err-write_end-in-Some.result g.K.Sink.tells _ _ ks (ending_of c.in-Some.end) c.from_residual-in_err-write_end-in-Some.ensures.1 e
     (λ t. grows_after _ _ _ (shown_text c.args.shown ks) (ending_line (ending_of c.in-Some.end)) (c.in_ok-write_kernels.ensures.writes t) (c.in_err-write_end-in-Some.ensures.writes t))
 
@@ -43,7 +44,7 @@ pub returns-in_ok-write_end-in-Some-clause-items : goal.returns-in_ok-write_end-
 returns-in_ok-write_end-in-Some-clause-items g c =
     let ks = kernels_of c.as_slice.result.now in
     let run : IsItemsRun (mode_of c.args.shown) c.args.fuel (named_program_of c.args.program.now) ks (option_map ending_of c.in_ok-built.field-0.end) = rw (c.as_slice.ensures.value) (rw c.requires.mode at c.in_ok-built.ensures.run) in
-    let e = rw c.in-Some.is at run in (
+    let e = ended_run (mode_of c.args.shown) c.args.fuel c.args.program.now c.requires.typable ks (ending_of c.in-Some.end) (rw c.in-Some.is at run) in (
       ks,
       ending_of c.in-Some.end,
       e,

@@ -1,7 +1,8 @@
 use Rattle.std.proofs.Common.{◌≡◌, None, ap, ◌∙◌}
 use Rattle.mw_emitting.specs.EmittingStates.{EmittingState}
 use Rattle.mw_console.specs.Texts.{ending_line, ending_status}
-use Rattle.mw_drive.specs.ProgramRuns.{ending_of, mode_of, shown_text}
+use Rattle.mw_drive.specs.ProgramRuns.{ending_of}
+use Rattle.mw_drive.specs.Works.{mode_of, shown_text}
 use Rattle.mw_drive.proofs.Faults.{front_written, no_answer}
 use Rattle.mw_drive.proofs.Fronts.{grows_whole}
 use Rattle.mw_drive.proofs.RunWritten.{codes_of_items, items_ending, main_is, main_items, writes_after}
