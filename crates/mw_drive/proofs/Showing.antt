@@ -65,9 +65,3 @@ codes_next codes more built b push so_far =
     ∙ (map-append expression_of codes (b.code ∷ [])
     ∙ (ap (λ cs. cs ++ expression_of b.code ∷ []) so_far
     ∙ (sym (map-append (λ (k : Kernel). k.code) (kernels_of built) (kernel_of b ∷ [])) ∙ ap codes_of (sym (map-append kernel_of built (b ∷ []))))))
-
--- the codes are within the limits of kernels
-pub codes_small : (mode : Mode) (codes : List Term) (built : List Built) → map expression_of codes ≡ codes_of (kernels_of built) → AllByRecursion (IsBuilt mode) built → AllByRecursion (λ t. within_limits (expression_of t) ≡ true) codes
-codes_small mode [] built e h = tt
-codes_small mode (t ∷ codes) [] e h = absurd (cc)
-codes_small mode (t ∷ codes) (b ∷ built) e h = let first : expression_of t ≡ expression_of b.code = cc in let rest : map expression_of codes ≡ codes_of (kernels_of built) = cc in (rw first h.0.limits, codes_small mode codes built rest h.1)

@@ -39,9 +39,3 @@ pub got : {A : Type 0} (xs : List A) (i : ℕ) (x : A) → i < length xs → x �
 got [] i x lt e = absurd (omega arith)
 got (y ∷ xs) zero x lt e = cc
 got (y ∷ xs) (suc i) x lt e = got xs i x (omega arith) e
-
--- what holds of each element holds at each place
-pub all_of : {A : Type 0} (P : A → Type 0) (xs : List A) → AllByRecursion P xs → All P xs
-all_of P [] h k d lt = absurd (omega arith)
-all_of P (x ∷ xs) h zero d lt = h.0
-all_of P (x ∷ xs) h (suc k) d lt = all_of P xs h.1 k d (omega arith)

@@ -1,9 +1,8 @@
 -- What was written of a program's kernel items.
-use Rattle.std.specs.Prelude.{ℕ, ◌≡◌, ◌++◌, true, List, map, Bool, IsTrue, None, All, Result, Ok, Err}
+use Rattle.std.specs.Prelude.{ℕ, ◌≡◌, ◌++◌, List, map, Bool, IsTrue, None, Result, Ok, Err}
 use Rattle.mw_outside.specs.Count.{GrowsByFront}
 use Rattle.mw_outside.specs.declared.errors.WriteFault.{WriteFault}
 use Rattle.mw_term.specs.Terms.{expression_of}
-use Rattle.mw_term.specs.Limits.{within_limits}
 use Rattle.mw_console.specs.Texts.{Ending, ending_line, ending_status}
 use Rattle.mw_drive.specs.declared.program.AfterItems.{AfterItems}
 use Rattle.mw_drive.specs.declared.program.AfterItems.TheVariants as after
@@ -20,7 +19,7 @@ AreWrittenItems shown fuel p (Ok (after.Ended s)) tells b a =
     × (IsTrue tells → a ≡ b ++ (shown_text shown kernels ++ ending_line e))
 AreWrittenItems shown fuel p (Ok (after.Main codes)) tells b a =
     (kernels : List Kernel) × IsItemsRun (mode_of shown) fuel p kernels None × (map expression_of codes.items ≡ codes_of kernels)
-    × All (λ t. within_limits (expression_of t) ≡ true) codes.items × (IsTrue tells → a ≡ b ++ shown_text shown kernels)
+    × (IsTrue tells → a ≡ b ++ shown_text shown kernels)
 AreWrittenItems shown fuel p (Err fault) tells b a =
     (kernels : List Kernel) × (e : Ending) × (program_run (mode_of shown) fuel p ≡ ended kernels e)
     × (IsTrue tells → GrowsByFront b a (shown_text shown kernels ++ ending_line e))

@@ -1,8 +1,7 @@
 // Main, where all kernel items gave code.
 
-ghost use Rattle.std.specs.Prelude.{◌≡◌, true, Some, map, All, IfOk};
+ghost use Rattle.std.specs.Prelude.{◌≡◌, Some, map, IfOk};
 ghost use Rattle.mw_term.specs.Terms.{expression_of};
-ghost use Rattle.mw_term.specs.Limits.{within_limits};
 ghost use Rattle.mw_term.specs.Programs.{program_of};
 ghost use Rattle.mw_term.specs.SmallTypes.{HasSmallTypes};
 ghost use Rattle.mw_term.specs.Typable.{Typable};
@@ -29,7 +28,6 @@ pub fn main_end<L: Ledger>(
     requires typable { Typable (program_of program) }
     requires small { HasSmallTypes (program_of program) }
     requires codes { AreCodesOf (program_of program).items (map expression_of codes.items) }
-    requires limits { All (λ t. within_limits (expression_of t) ≡ true) codes.items }
     ensures { IfOk result (λ end. main_after kernels.old.mode fuel (program_of program).items (program_of program).body (map expression_of codes.items)
         ≡ Some (ending_of end)) }
 {

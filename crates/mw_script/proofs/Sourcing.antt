@@ -45,7 +45,7 @@ are_resolved tokens s (Err e) program h names nodes = tt
 
 built_more : (d : Definition) (ds : List Definition) → IsBuilt d → AreAllBuilt ds → AreAllBuilt (d ∷ ds)
 built_more (value e) ds h t = t
-built_more (kernel k e) ds h t = (h.1 ∷ t.0, (h.0, h.2, h.3, h.4, t.1))
+built_more (kernel k e) ds h t = (h.1 ∷ t.0, (h.0, h.2, h.3, t.1))
 
 pub all_built : (items : List Item) → AllByRecursion (λ i. IsBuilt (definition_of i.kind)) items → AreAllBuilt (definitions_of items)
 all_built [] h = ([], tt)

@@ -1,6 +1,6 @@
 -- Where the machine can start, and what it ended with.
-use Rattle.std.specs.Prelude.{ℕ, ◌≡◌, ◌≤◌, false, List, Result, Ok}
-use Rattle.mw_term.specs.Terms.{Expression, close, bracket, depth_of}
+use Rattle.std.specs.Prelude.{ℕ, ◌≡◌, false, List, Result, Ok}
+use Rattle.mw_term.specs.Terms.{Expression, close, bracket}
 use Rattle.mw_term.specs.Closed.{IsCode}
 use Rattle.mw_term.specs.Programs.{Definition, value as defines, kernel, PureProgram}
 use Rattle.mw_meaning.specs.StagedMeaning.{Runs}
@@ -11,14 +11,14 @@ use Rattle.mw_machine.specs.declared.outcome.Outcome.TheVariants as o
 use Rattle.mw_machine.specs.Starting.{AreBuilt}
 use Rattle.mw_machine.specs.TurnAnswers.{EndedWithCode, IsReady}
 
--- a bracket of the code, which is not too deep
+-- a bracket of the code
 abbrev pub IsBracketOf : Expression → Expression → Type 0
-IsBracketOf e c = (e ≡ bracket c) × IsCode c × (depth_of c ≤ 400)
+IsBracketOf e c = (e ≡ bracket c) × IsCode c
 
 -- a kernel's definition is `close` of a bracket of its code
 abbrev pub IsBuilt : Definition → Type 0
 IsBuilt (defines e) = Unit {0}
-IsBuilt (kernel k e) = (at : ℕ) × (c : Expression) × (e ≡ close at (bracket c)) × IsCode c × (depth_of c ≤ 400)
+IsBuilt (kernel k e) = (at : ℕ) × (c : Expression) × (e ≡ close at (bracket c)) × IsCode c
 
 -- likewise each of them
 abbrev pub AreAllBuilt : List Definition → Type 0

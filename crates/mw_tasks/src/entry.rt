@@ -1,12 +1,10 @@
 // What main comes to.
 
-ghost use Rattle.std.specs.Prelude.{◌≡◌, ◌≤◌, ◌+◌, false, true, List, map, IfOk, IfErr};
-ghost use Rattle.std.specs.List.{All};
+ghost use Rattle.std.specs.Prelude.{◌≡◌, ◌≤◌, ◌+◌, false, List, map, IfOk, IfErr};
 ghost use Rattle.mw_term.specs.Terms.{Expression, expression_of};
 ghost use Rattle.mw_term.specs.Programs.{program_of};
 ghost use Rattle.mw_term.specs.Typable.{Typable};
 ghost use Rattle.mw_term.specs.SmallTypes.{HasSmallTypes};
-ghost use Rattle.mw_term.specs.Limits.{within_limits};
 ghost use Rattle.mw_meaning.specs.StagedMeaning.{runs};
 ghost use Rattle.mw_meaning.specs.Outcomes.{main_outcome, names_of_main};
 ghost use Rattle.mw_meaning.specs.OutcomeLaws.{AreCodesOf, HasGroundType};
@@ -65,7 +63,6 @@ pub fn evaluate_main<K: Kernels>(
     requires typable { Typable (program_of program) }
     requires small { HasSmallTypes (program_of program) }
     requires codes { AreCodesOf (program_of program).items (map expression_of codes.items) }
-    requires limits { All (λ t. within_limits (expression_of t) ≡ true) codes.items }
     requires open { K.stopped kernels.old ≡ false }
     ensures means { let names = names_of_main (program_of program).items (map expression_of codes.items) in
         AreSound (K.sound kernels.old) (runs (K.mode kernels.old) names fuel (program_of program).body)

@@ -9,8 +9,6 @@ use Rattle.mw_drive.specs.ProgramRuns.{ending_of, kernels_of, IsItemsRun}
 use Rattle.mw_drive.specs.Works.{mode_of, shown_text}
 use Rattle.mw_drive.proofs.Fronts.{grows_front, grows_after, grows_whole, grows_nothing}
 use Rattle.mw_drive.proofs.RunWritten.{some_ending, ended_run, items_ending, items_failed}
-use Rattle.mw_drive.proofs.Showing.{codes_small}
-use Rattle.mw_drive.proofs.Taking.{all_of}
 use Rattle.mw_drive.proofs.program.write_items.Goals as goal
 
 pub returns-in_err-built-clause-items : goal.returns-in_err-built-clause-items
@@ -69,6 +67,5 @@ returns-in_ok-codes-in-None-clause-items g c =
       ks,
       e,
       rw (c.as_slice.ensures.value) same,
-      all_of (λ t. within_limits (expression_of t) ≡ true) _ (codes_small _ _ _ same c.in_ok-built.ensures.built),
       c.in_ok-write_kernels.ensures.writes,
     )

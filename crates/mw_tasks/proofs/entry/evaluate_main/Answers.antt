@@ -21,8 +21,8 @@ evaluate_built-requires-clause-small g c =
 pub evaluate_built-requires-clause-built : goal.evaluate_built-requires-clause-built
 evaluate_built-requires-clause-built g c = (
   map expression_of c.args.codes.items,
-  built_with_codes (program_of c.args.program) (program_of c.in_ok-program.program) c.args.codes.items c.in_ok-program.ensures c.requires.codes
-      c.requires.limits,
+  built_with_codes (program_of c.args.program) (program_of c.in_ok-program.program) (map expression_of c.args.codes.items)
+      c.in_ok-program.ensures c.requires.codes,
 )
 
 pub returns-clause-means : goal.returns-clause-means
@@ -32,8 +32,8 @@ returns-clause-means g c =
     AreSound (g.K.Kernels.sound c.args.kernels.now) (runs (g.K.Kernels.mode c.args.kernels.now) names c.args.fuel e)
     → IsMainOutcome c.evaluate_built.result (main_outcome (g.K.Kernels.mode c.args.kernels.now) names c.args.fuel e))
     (c.evaluate_built.ensures.means (map expression_of c.args.codes.items)
-    (built_with_codes (program_of c.args.program) (program_of c.in_ok-program.program) c.args.codes.items c.in_ok-program.ensures c.requires.codes
-    c.requires.limits))
+    (built_with_codes (program_of c.args.program) (program_of c.in_ok-program.program) (map expression_of c.args.codes.items)
+    c.in_ok-program.ensures c.requires.codes))
 
 pub returns-clause-cost : goal.returns-clause-cost
 returns-clause-cost g c =
@@ -44,5 +44,5 @@ returns-clause-cost g c =
     (λ _. g.K.Kernels.cost c.evaluate_built.new.kernels ≤ g.K.Kernels.cost c.args.kernels.now
     + prices (g.K.Kernels.price c.args.kernels.now) (runs (g.K.Kernels.mode c.args.kernels.now) names c.args.fuel e)))
     (c.evaluate_built.ensures.cost (map expression_of c.args.codes.items)
-    (built_with_codes (program_of c.args.program) (program_of c.in_ok-program.program) c.args.codes.items c.in_ok-program.ensures c.requires.codes
-    c.requires.limits))
+    (built_with_codes (program_of c.args.program) (program_of c.in_ok-program.program) (map expression_of c.args.codes.items)
+    c.in_ok-program.ensures c.requires.codes))
