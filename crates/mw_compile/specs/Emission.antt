@@ -1,4 +1,5 @@
--- The bytes of a kernel: those of its code's module at its type, each number in its shortest spelling. They are the emission
+-- The bytes of a kernel: those of its code's module at its type, each number in its shortest spelling. They are the
+-- emission
 -- of the text that says code, type and version.
 use Rattle.std.specs.Prelude.{ℕ, ◌≡◌, List}
 use Rattle.mw_term.specs.Terms.{Expression, KernelType}

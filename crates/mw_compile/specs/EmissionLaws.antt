@@ -12,7 +12,8 @@ use Rattle.mw_key.specs.CanonicalText.{IsTextOf}
 use Rattle.mw_gen.specs.Emission.{emitted}
 use Rattle.mw_compile.specs.Emission.{emission, version_of, IsEmissionOf}
 
--- The bytes, fewer than 2^32, spell the module, which is within the profile's limits and valid, has the shape that a run of
+-- The bytes, fewer than 2^32, spell the module, which is within the profile's limits and valid, has the shape that a
+-- run of
 -- the kernel type needs, and stands for the code.
 pub record IsEmission (bytes : List ℕ) (m : PureModule) (c : Expression) (k : KernelType) : Type 0 where
   pub short : length bytes < 2 ^ 32

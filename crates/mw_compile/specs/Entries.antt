@@ -16,7 +16,8 @@ pub record Emitted : Type 0 where
   pub bytes : List ℕ
   pub wasm : Module
 
--- It is the entry of this code and type: its text is their text of the second version, its module is emitted of them, and its
+-- It is the entry of this code and type: its text is their text of the second version, its module is emitted of them,
+-- and its
 -- bytes are their emission, which spells the module. Text and bytes are shorter than 2^32.
 pub record IsEntryOf (e : Emitted) (c : Expression) (k : KernelType) : Type 0 where
   pub is_text : IsTextOf e.text Two c k

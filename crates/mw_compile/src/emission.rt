@@ -4,6 +4,8 @@ ghost use Rattle.std.specs.Prelude.{◌≡◌, ◌+◌, ◌≤◌, true, IfOk};
 ghost use Rattle.mw_term.specs.Terms.{expression_of, kernel_type_of};
 ghost use Rattle.mw_term.specs.Closed.{IsClosed, IsCode};
 ghost use Rattle.mw_term.specs.Limits.{within_limits, kernel_nodes};
+ghost use Rattle.mw_key.specs.CanonicalText.{IsTextOf};
+ghost use Rattle.mw_key.specs.declared.version.Version.TheVariants.{Two};
 ghost use Rattle.mw_compile.specs.Entries.{IsEntryOf};
 
 use crate::entry::Entry;
@@ -18,8 +20,8 @@ use std::alloc::{AllocError, Global};
 use std::sync::Arc;
 use std::sync::ledger::Ledger;
 
-/// The entry of a kernel's closed code, within the limits of kernels, at a type of at most 10,000 nodes: its text of the second
-/// version, its module and the module's bytes. One emission is counted.
+/// The entry of a kernel's closed code, within the limits of kernels, at a type of at most 10,000 nodes: its text of
+/// the second version, its module and the module's bytes. One emission is counted.
 pub fn emit<L: Ledger>(
     alloc: Global,
     code: &Term,
@@ -35,6 +37,32 @@ pub fn emit<L: Ledger>(
 {
     steps.tick();
     let text = text_of(alloc, code, kind)?;
+    entry_of(alloc, text, code, kind)
+}
+
+/// The same entry, where its text was written before: the text is copied. One emission is counted.
+pub fn emit_named<L: Ledger>(
+    alloc: Global,
+    text: &[u8],
+    code: &Term,
+    kind: &KType,
+    steps: &mut Steps<L>,
+) -> Result<Entry, AllocError>
+    requires text { IsTextOf text.now Two (expression_of code.now) (kernel_type_of kind.now) }
+    ensures entry { IfOk result (λ entry. IsEntryOf entry (expression_of code.now) (kernel_type_of kind.now)) }
+    ensures step { steps.new ≡ steps.old + 1 }
+{
+    steps.tick();
+    let mut copy = Vec::with_capacity(alloc, text.len())?;
+    copy.extend_from_slice(text)?;
+    entry_of(alloc, copy, code, kind)
+}
+
+/// The entry of code whose text this is.
+fn entry_of(alloc: Global, text: Vec<u8>, code: &Term, kind: &KType) -> Result<Entry, AllocError>
+    requires { IsTextOf text.items Two (expression_of code.now) (kernel_type_of kind.now) }
+    ensures { IfOk result (λ entry. IsEntryOf entry (expression_of code.now) (kernel_type_of kind.now)) }
+{
     let converted = convert(alloc, code)?;
     let wasm = generate(alloc, &converted, kind)?;
     let bytes = encode(alloc, &wasm)?;

@@ -2,8 +2,10 @@
 
 ghost use Rattle.std.specs.Prelude.{◌≡◌};
 ghost use Rattle.std.specs.Arc.{arc_value};
+ghost use Rattle.mw_key.specs.CanonicalText.{home};
 ghost use Rattle.mw_compile.specs.Entries.{IsEntry};
 
+use mw_slots::Named;
 use mw_validate::Valid;
 use std::marker::Model;
 use std::sync::Arc;
@@ -54,5 +56,15 @@ impl Entry {
         ensures kept { IsEntry self.now }
     {
         &self.module
+    }
+}
+
+impl Named for Entry {
+    ghost name_of = { λ e. e.text };
+
+    ghost home = { home };
+
+    fn name(&self) -> &[u8] {
+        self.text()
     }
 }

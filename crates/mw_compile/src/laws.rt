@@ -6,8 +6,8 @@ ghost use Rattle.mw_compile.specs.EmissionLaws.{EmissionHolds, OneEmission};
 
 use crate::entry::Entry;
 
-/// The emission of each text, of either version, spells its module, which is within the profile's limits, valid, of the shape of
-/// its kernel type, and stands for the code.
+/// The emission of each text, of either version, spells its module, which is within the profile's limits, valid, of the
+/// shape of its kernel type, and stands for the code.
 pub fn emission()
     ensures { EmissionHolds }
 {}

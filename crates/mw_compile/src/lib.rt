@@ -6,6 +6,6 @@ mod entry;
 pub mod laws;
 mod steps;
 
-pub use crate::emission::emit;
+pub use crate::emission::{emit, emit_named};
 pub use crate::entry::Entry;
 pub use crate::steps::Steps;

@@ -4,6 +4,7 @@ ghost use Rattle.std.specs.Prelude.{◌≡◌, ◌++◌, IfOk};
 ghost use Rattle.std.specs.Fmt.{decimal, signed_decimal};
 ghost use Rattle.mw_term.specs.Terms.{expression_of, ground_of, kernel_type_of};
 ghost use Rattle.mw_term.specs.Closed.{IsCode};
+ghost use Rattle.mw_term.specs.Limits.{LiteralsFit};
 ghost use Rattle.mw_key.specs.CanonicalText.{canonical_text, kernel_words, ground_words, code_words, words_of_two, primitive_word};
 ghost use Rattle.mw_key.specs.declared.version.Version.TheVariants.{Two};
 
@@ -13,7 +14,8 @@ use std::alloc::{AllocError, Global};
 /// The text of the second version for the code at the kernel type. The one error is want of memory.
 pub fn text_of(alloc: Global, code: &Term, kind: &KType) -> Result<Vec<u8>, AllocError>
     requires code { IsCode (expression_of code.now) }
-    ensures { IfOk result (λ text. text.items ≡ canonical_text Two (expression_of code.now) (kernel_type_of kind.now)) }
+    ensures text { IfOk result (λ text. text.items ≡ canonical_text Two (expression_of code.now) (kernel_type_of kind.now)) }
+    ensures literals { IfOk result (λ _. LiteralsFit (expression_of code.now)) }
 {
     let mut text = Vec::new(alloc);
     put(&mut text, b"emit2")?;
@@ -62,7 +64,8 @@ fn put_ground(text: &mut Vec<u8>, ground: &Ground) -> Result<(), AllocError>
 /// The words of code; what is no code has none.
 #[cycle(code)]
 fn put_code(text: &mut Vec<u8>, code: &Term) -> Result<(), AllocError>
-    ensures { IfOk result (λ _. text.new.items ≡ text.old.items ++ code_words (expression_of code.now)) }
+    ensures text { IfOk result (λ _. text.new.items ≡ text.old.items ++ code_words (expression_of code.now)) }
+    ensures literals { IfOk result (λ _. LiteralsFit (expression_of code.now)) }
 {
     match code {
         Term::Int(n) => {
@@ -95,7 +98,8 @@ fn put_code(text: &mut Vec<u8>, code: &Term) -> Result<(), AllocError>
 /// A word and the words of code.
 #[cycle(code)]
 fn put_one(text: &mut Vec<u8>, word: &[u8], code: &Term) -> Result<(), AllocError>
-    ensures { IfOk result (λ _. text.new.items ≡ text.old.items ++ (word.now ++ code_words (expression_of code.now))) }
+    ensures text { IfOk result (λ _. text.new.items ≡ text.old.items ++ (word.now ++ code_words (expression_of code.now))) }
+    ensures literals { IfOk result (λ _. LiteralsFit (expression_of code.now)) }
 {
     put(text, word)?;
     put_code(text, code)
@@ -104,7 +108,8 @@ fn put_one(text: &mut Vec<u8>, word: &[u8], code: &Term) -> Result<(), AllocErro
 /// A word and the words of code and of more code.
 #[cycle(code)]
 fn put_two(text: &mut Vec<u8>, word: &[u8], first: &Term, second: &Term) -> Result<(), AllocError>
-    ensures { IfOk result (λ _. text.new.items ≡ text.old.items ++ words_of_two word.now (expression_of first.now) (expression_of second.now)) }
+    ensures text { IfOk result (λ _. text.new.items ≡ text.old.items ++ words_of_two word.now (expression_of first.now) (expression_of second.now)) }
+    ensures literals { IfOk result (λ _. LiteralsFit (expression_of first.now) × LiteralsFit (expression_of second.now)) }
 {
     put(text, word)?;
     put_code(text, first)?;
