@@ -1,8 +1,9 @@
-//! The program `metaml`: it makes the real source, sink, keeper and gate, calls `mw_drive::run` with the words after its
-//! own name, and exits with the status' code. For the codes 2 and 5 to 9 it prints one line on standard error.
+//! The program `metaml`: it makes the real source, sink, keeper and gate, and a table of 1,024 slots for modules, calls
+//! `mw_drive::run` with the words after its own name, and exits with the status' code. Where there is no memory for the table it
+//! ends as with the status of want of memory. For the codes 2 and 5 to 9 it prints one line on standard error.
 #![tactic(auto)]
 
-use mw_drive::{Status, run};
+use mw_drive::{Status, run, table};
 use mw_outside::{Bytes, FileSource, OutSink, Pass, SureKeeper};
 use std::alloc::AllocError;
 use std::env;
@@ -10,6 +11,9 @@ use std::io::ErrorKind;
 use std::process::ExitCode;
 use std::rt::{Env, Files};
 use std::thread::Threads;
+
+/// How many slots the table of modules has.
+const SLOTS: u32 = 1_024;
 
 fn main(rt: HostRuntime) -> ExitCode {
     let status = match words(&rt) {
@@ -32,10 +36,23 @@ fn words(rt: &(impl Env + AllocGlobal)) -> Result<Vec<String>, Status> {
 /// Runs the command over the real files and standard output. The keeper holds nothing.
 fn carry_out(rt: &(impl Files + Print + AllocGlobal + Threads + Sync), words: &[String]) -> Status {
     let alloc = rt.alloc();
+    let table = match table(alloc, SLOTS) {
+        Ok(table) => table,
+        Err(error) => return Status::Memory(error),
+    };
     let mut source = FileSource::new(rt);
     let mut sink = OutSink::new(rt);
     let mut keeper = SureKeeper::new(Bytes::new(alloc));
-    run(rt, alloc, words, &mut source, &mut sink, &mut keeper, &Pass)
+    run(
+        rt,
+        alloc,
+        words,
+        &mut source,
+        &mut sink,
+        &mut keeper,
+        &Pass,
+        &table,
+    )
 }
 
 /// Says on standard error why there is no output, or why the cache isn't kept.

@@ -1,9 +1,10 @@
 -- From what a command's run gives to the clauses of the top call.
-use Rattle.std.proofs.Common.{◌≡◌, ◌≤◌, ◌⊎◌, inl, inr, ℕ, List, [], ◌∷◌, Bool, true, IsTrue, refl, sym, ap, subst, ◌∙◌}
+use Rattle.std.proofs.Common.{◌≡◌, ◌≤◌, ◌⊎◌, inl, inr, ℕ, List, [], ◌∷◌, Bool, true, IsTrue, refl, sym, ap, subst, ◌∙◌, arith}
+use Rattle.std.specs.Prelude.{codes}
 use Rattle.mw_term.specs.Terms.{PureGroundValue}
 use Rattle.mw_console.specs.Texts.{Ending, answered, trapped, bounded, ending_status}
 use Rattle.mw_meaning.specs.declared.mode.Mode.TheVariants.{Plain, Simple}
-use Rattle.mw_words.specs.Words.{PureCommand, PurePart, run, erased, sample, IsNumber, Makes, Means, parts_command, sample_command}
+use Rattle.mw_words.specs.Words.{PureCommand, PurePart, run, erased, sample, IsNumber, IsNumberOf, not_named, named_once, Makes, run_of, erased_of, Means, parts_command, sample_command}
 use Rattle.mw_words.proofs.LawLemmas.{one_command}
 use Rattle.mw_console.specs.declared.status.Status.{Status}
 use Rattle.mw_console.specs.declared.status.Status.TheVariants.{Answer, Trap, Refused, Bound, Read, Write, Memory}
@@ -21,7 +22,8 @@ use Rattle.mw_drive.specs.Running.{Outside, Wanted, source_file, files_of, Has, 
 use Rattle.mw_drive.proofs.RunLemmas.{all_or_first, some_output, whole_else}
 
 -- want of memory before anything was written
-pub carried_memory : (kind : Kind) (work : Work) (e : _) (tells : Bool) (before : List ℕ) → IsCarriedOut kind work (Memory e) tells before before
+pub carried_memory : (kind : Kind) (work : Work) (e : _) (tells : Bool) (before : List ℕ)
+    → IsCarriedOut kind work (Memory e) tells before before
 carried_memory kind work e tells before = record { faithful = λ t. some_output work before; meaning = λ c. absurd (cc) }
 
 -- parts make no sample
@@ -29,12 +31,31 @@ makes_no_sample : {word : List ℕ} {parts : List PurePart} {n : ℕ} → Makes 
 makes_no_sample m = elim m [ ]
 
 -- the number of a sample's words is in its range
-pub sample_range : {words : List (List ℕ)} (command : PureCommand) (n : ℕ) → Means words command → command ≡ sample n → (1 ≤ n) × (n ≤ 100)
+pub sample_range : {words : List (List ℕ)} (command : PureCommand) (n : ℕ) → Means words command → command ≡ sample n
+    → (1 ≤ n) × (n ≤ 100)
 sample_range command n (sample_command h) e = same_number h e
   where
     same_number : {word : List ℕ} {k : ℕ} → IsNumber 100 word k → sample k ≡ sample n → (1 ≤ n) × (n ≤ 100)
     same_number {k = k} h e = let same : k ≡ n = cc in rw (← same) (h.low, h.high)
-sample_range command n (parts_command {word = word} {parts = parts} h m) e = absurd (makes_no_sample (subst (Makes word parts) e m))
+sample_range command n (parts_command {word = word} {parts = parts} h m) e =
+    absurd (makes_no_sample (subst (Makes word parts) e m))
+
+-- a run's words give it workers
+some_workers : {parts : List PurePart} {n : ℕ} → IsNumberOf (codes "--workers") 64 4 parts n → 1 ≤ n
+some_workers (not_named none) = omega arith
+some_workers (named_once named is) = is.low
+
+pub run_workers : {words : List (List ℕ)} (command : PureCommand) (workers fuel : ℕ) (simplify : Bool) (file : List ℕ)
+    → Means words command
+    → command ≡ run workers fuel simplify file → 1 ≤ workers
+run_workers command workers fuel simplify file (sample_command h) e = absurd (cc)
+run_workers command workers fuel simplify file (parts_command are m) e = of_run m e
+  where
+    of_run : {word : List ℕ} {parts : List PurePart} {c : PureCommand} → Makes word parts c
+        → c ≡ run workers fuel simplify file → 1 ≤ workers
+    of_run (run_of {workers = n} only are units switch is) e =
+        let same : n ≡ workers = cc in rw (← same) (some_workers are)
+    of_run (erased_of only units is) e = absurd (cc)
 
 no_refusal : {r : _} → Answer ≡ Refused r → ⊥
 no_refusal e = cc
@@ -46,34 +67,45 @@ no_bound : {l : _} → Answer ≡ Bound l → ⊥
 no_bound e = cc
 
 -- a run with an answer's status answered
-answer_of : {bytes : List ℕ} {fuel : ℕ} {shown : Shown} {n : Meaning} → IsMeaning (running bytes fuel shown) n → Answer ≡ status_of n
-    → (kernels : List Kernel) × (v : PureGroundValue) × IsMeaning (running bytes fuel shown) (ran shown kernels (answered v))
+answer_of : {bytes : List ℕ} {fuel : ℕ} {shown : Shown} {n : Meaning} → IsMeaning (running bytes fuel shown) n
+    → Answer ≡ status_of n
+    → (kernels : List Kernel) × (v : PureGroundValue) × IsMeaning (running bytes fuel shown)
+    (ran shown kernels (answered v))
 answer_of (of_refusal r) e = absurd (no_refusal e)
 answer_of (of_types p read fault) e = absurd (no_refusal e)
-answer_of (of_program {kernels = kernels} {e = answered v} p read accepted is) e = (kernels, v, of_program p read accepted is)
+answer_of (of_program {kernels = kernels} {e = answered v} p read accepted is) e =
+    (kernels, v, of_program p read accepted is)
 answer_of (of_program {e = trapped t name} p read accepted is) e = absurd (no_trap e)
 answer_of (of_program {e = bounded l name} p read accepted is) e = absurd (no_bound e)
 
 -- where the status is an answer, and the erased program answers too, the answer is the erased program's
-erased_answer : (kind : Kind) (shown : Shown) (s : Status) (sink_tells : Bool) (before after : List ℕ) (fuel m : ℕ) (bytes : List ℕ) (w : PureGroundValue)
-    → IsCarriedOut kind (running bytes fuel shown) s sink_tells before after → IsMeaning (erasing bytes m) (meant.erased (answered w)) → s ≡ Answer
+erased_answer : (kind : Kind) (shown : Shown) (s : Status) (sink_tells : Bool) (before after : List ℕ) (fuel m : ℕ)
+    (bytes : List ℕ) (w : PureGroundValue)
+    → IsCarriedOut kind (running bytes fuel shown) s sink_tells before after
+    → IsMeaning (erasing bytes m) (meant.erased (answered w)) → s ≡ Answer
     → (kernels : List Kernel) × IsMeaning (running bytes fuel shown) (ran shown kernels (answered w))
 erased_answer kind shown s sink_tells before after fuel m bytes w carried other is =
     let c = carried.meaning (subst (λ s. extent kind s ≡ whole) (sym is) refl) in
-    let a = answer_of c.1 (sym is ∙ c.2) in
-    (a.0, subst (λ v. IsMeaning (running bytes fuel shown) (ran shown a.0 (answered v))) (answers_are_erased bytes fuel m shown a.0 a.1 w a.2 other) a.2)
+    let a = answer_of c.1 (sym is ∙ c.2) in (
+      a.0,
+      subst (λ v. IsMeaning (running bytes fuel shown) (ran shown a.0 (answered v)))
+          (answers_are_erased bytes fuel m shown a.0 a.1 w a.2 other) a.2,
+    )
 
 -- What words ask for that mean a command, where what its call answers is known.
-module _ {words : List (List ℕ)} {o : Outside} (command : PureCommand) (means : Means words command) (s : Status) (sink_tells : Bool) (before after : List ℕ)
+module _ {words : List (List ℕ)} {o : Outside} (command : PureCommand) (means : Means words command) (s : Status)
+    (sink_tells : Bool) (before after : List ℕ)
     (Rose_source Rose_sink : Type 0)
-    (carried : (contents : List (List ℕ)) (work : Work) → HasAll o (files_of command) contents → IsWork command contents work
+    (carried : (contents : List (List ℕ)) (work : Work) → HasAll o (files_of command) contents → IsWork command
+    contents work
     → IsCarriedOut (kind_of command) work s sink_tells before after)
     (reads : s ≡ Read → Rose_source ⊎ LacksFirst o (files_of command)) (writes : s ≡ Write → Rose_sink)
     (possible : extent (kind_of command) s ≡ never → ⊥) where
   same : (other : PureCommand) → Means words other → other ≡ command
   same other also = one_command words other command also means
 
-  has_on : (other : PureCommand) (contents : List (List ℕ)) → AsksOn words o other contents → HasAll o (files_of command) contents
+  has_on : (other : PureCommand) (contents : List (List ℕ)) → AsksOn words o other contents
+      → HasAll o (files_of command) contents
   has_on other contents on = subst (λ c. HasAll o (files_of c) contents) (same other on.means) on.has
 
   -- the work that is asked for was carried out
@@ -83,35 +115,44 @@ module _ {words : List (List ℕ)} {o : Outside} (command : PureCommand) (means 
       (subst (λ c. IsWork c asked.contents work) (same asked.command asked.on.means) asked.works)
 
   -- where nothing failed, whole
-  asked_whole : (work : Work) → Asks words o work → (Rose_source → ⊥) → (Rose_sink → ⊥) → (IsMemory s → ⊥) → extent (kind_of command) s ≡ whole
-  asked_whole work asked source sink memory = whole_else (kind_of command) s possible memory (λ r. not_read (reads r)) (λ w. sink (writes w))
+  asked_whole : (work : Work) → Asks words o work → (Rose_source → ⊥) → (Rose_sink → ⊥) → (IsMemory s → ⊥)
+      → extent (kind_of command) s ≡ whole
+  asked_whole work asked source sink memory =
+      whole_else (kind_of command) s possible memory (λ r. not_read (reads r)) (λ w. sink (writes w))
     where
       not_read : Rose_source ⊎ LacksFirst o (files_of command) → ⊥
       not_read (inl rose) = source rose
       not_read (inr lacks) = all_or_first (has_on asked.command asked.contents asked.on) lacks
 
-  pub asked_text : (work : Work) → Asks words o work → (Rose_source → ⊥) → (Rose_sink → ⊥) → (IsMemory s → ⊥) → IsTrue sink_tells
+  pub asked_text : (work : Work) → Asks words o work → (Rose_source → ⊥) → (Rose_sink → ⊥) → (IsMemory s → ⊥)
+      → IsTrue sink_tells
       → IsFaithful whole work s before after
   asked_text work asked source sink memory t =
-      subst (λ x. IsFaithful x work s before after) (asked_whole work asked source sink memory) ((asked_carried work asked).faithful t)
+      subst (λ x. IsFaithful x work s before after) (asked_whole work asked source sink memory)
+      ((asked_carried work asked).faithful t)
 
   pub asked_status : (work : Work) → Asks words o work → (Rose_source → ⊥) → (Rose_sink → ⊥) → (IsMemory s → ⊥)
       → (m : Meaning) × IsMeaning work m × (s ≡ status_of m)
-  asked_status work asked source sink memory = (asked_carried work asked).meaning (asked_whole work asked source sink memory)
+  asked_status work asked source sink memory =
+      (asked_carried work asked).meaning (asked_whole work asked source sink memory)
 
   pub asked_complete : (work : Work) (asked : Asks words o work) → extent (kind_of asked.command) s ≡ whole
       → (m : Meaning) × IsMeaning work m × (s ≡ status_of m)
   asked_complete work asked is =
-      (asked_carried work asked).meaning (subst (λ c. extent (kind_of c) s ≡ whole) (same asked.command asked.on.means) is)
+      (asked_carried work asked).meaning
+      (subst (λ c. extent (kind_of c) s ≡ whole) (same asked.command asked.on.means) is)
 
-  pub asked_faults : (work : Work) (asked : Asks words o work) → IsTrue sink_tells → IsFaithful (extent (kind_of asked.command) s) work s before after
+  pub asked_faults : (work : Work) (asked : Asks words o work) → IsTrue sink_tells
+      → IsFaithful (extent (kind_of asked.command) s) work s before after
   asked_faults work asked t =
-      subst (λ c. IsFaithful (extent (kind_of c) s) work s before after) (sym (same asked.command asked.on.means)) ((asked_carried work asked).faithful t)
+      subst (λ c. IsFaithful (extent (kind_of c) s) work s before after) (sym (same asked.command asked.on.means))
+      ((asked_carried work asked).faithful t)
 
   pub asked_possible : (other : PureCommand) → Means words other → extent (kind_of other) s ≡ never → ⊥
   asked_possible other also n = possible (subst (λ c. extent (kind_of c) s ≡ never) (same other also) n)
 
-  pub asked_unfailed : {P : Type 0} → (extent (kind_of command) s ≡ whole → P) → (other : PureCommand) → Means words other
+  pub asked_unfailed : {P : Type 0} → (extent (kind_of command) s ≡ whole → P) → (other : PureCommand)
+      → Means words other
       → extent (kind_of other) s ≡ whole → P
   asked_unfailed unfailed other also w = unfailed (subst (λ c. extent (kind_of c) s ≡ whole) (same other also) w)
 
@@ -128,53 +169,68 @@ module _ {words : List (List ℕ)} {o : Outside} (command : PureCommand) (means 
       by_case (inl rose) = inl rose
       by_case (inr lacks) = inr (record { command = command; means = means; lacks = lacks })
 
-  pub asked_has : (other : PureCommand) (bytes : List ℕ) → AsksOn words o other (bytes ∷ []) → HasAll o (files_of command) (bytes ∷ [])
+  pub asked_has : (other : PureCommand) (bytes : List ℕ) → AsksOn words o other (bytes ∷ [])
+      → HasAll o (files_of command) (bytes ∷ [])
   asked_has other bytes on = has_on other (bytes ∷ []) on
 
   -- a run that is asked for was carried out
-  asked_run : (workers fuel : ℕ) (simplify : Bool) (f bytes : List ℕ) → AsksOn words o (run workers fuel simplify f) (bytes ∷ [])
+  asked_run : (workers fuel : ℕ) (simplify : Bool) (f bytes : List ℕ)
+      → AsksOn words o (run workers fuel simplify f) (bytes ∷ [])
       → IsCarriedOut on_a_file (running bytes fuel (Lines (mode_when simplify))) s sink_tells before after
   asked_run workers fuel simplify f bytes on =
       let is = same (run workers fuel simplify f) on.means in
-      subst (λ c. IsCarriedOut (kind_of c) (running bytes fuel (Lines (mode_when simplify))) s sink_tells before after) (sym is)
-      (carried (bytes ∷ []) (running bytes fuel (Lines (mode_when simplify))) (has_on (run workers fuel simplify f) (bytes ∷ []) on)
+      subst (λ c. IsCarriedOut (kind_of c) (running bytes fuel (Lines (mode_when simplify))) s sink_tells before
+      after) (sym is)
+      (carried (bytes ∷ []) (running bytes fuel (Lines (mode_when simplify)))
+      (has_on (run workers fuel simplify f) (bytes ∷ []) on)
       (subst (λ c. IsWork c (bytes ∷ []) (running bytes fuel (Lines (mode_when simplify)))) is run_works))
 
   pub asked_erased : (workers fuel m : ℕ) (simplify : Bool) (f bytes : List ℕ) (w : PureGroundValue)
-      → AsksOn words o (run workers fuel simplify f) (bytes ∷ []) → IsMeaning (erasing bytes m) (meant.erased (answered w)) → s ≡ Answer
-      → (kernels : List Kernel) × IsMeaning (running bytes fuel (Lines (mode_when simplify))) (ran (Lines (mode_when simplify)) kernels (answered w))
+      → AsksOn words o (run workers fuel simplify f) (bytes ∷ [])
+      → IsMeaning (erasing bytes m) (meant.erased (answered w)) → s ≡ Answer
+      → (kernels : List Kernel) × IsMeaning (running bytes fuel (Lines (mode_when simplify)))
+      (ran (Lines (mode_when simplify)) kernels (answered w))
   asked_erased workers fuel m simplify f bytes w on other is =
-      erased_answer on_a_file (Lines (mode_when simplify)) s sink_tells before after fuel m bytes w (asked_run workers fuel simplify f bytes on) other is
+      erased_answer on_a_file (Lines (mode_when simplify)) s sink_tells before after fuel m bytes w
+      (asked_run workers fuel simplify f bytes on) other is
 
-  pub asked_simplified : (workers fuel : ℕ) (f bytes : List ℕ) (kernels : List Kernel) (e : Ending) → AsksOn words o (run workers fuel true f) (bytes ∷ [])
+  pub asked_simplified : (workers fuel : ℕ) (f bytes : List ℕ) (kernels : List Kernel) (e : Ending)
+      → AsksOn words o (run workers fuel true f) (bytes ∷ [])
       → IsMeaning (running bytes fuel (Lines Plain)) (ran (Lines Plain) kernels e) → IsUnbounded e
-      → IsMeaning (running bytes fuel (Lines Simple)) (ran (Lines Simple) kernels e) × (extent on_a_file s ≡ whole → s ≡ ending_status e)
+      → IsMeaning (running bytes fuel (Lines Simple))
+      (ran (Lines Simple) kernels e) × (extent on_a_file s ≡ whole → s ≡ ending_status e)
   asked_simplified workers fuel f bytes kernels e on is unbounded =
       let other = simplified_run bytes fuel kernels e is unbounded in (
         other,
         λ c.
             let m = (asked_run workers fuel true f bytes on).meaning c in
-            m.2 ∙ ap status_of (one_meaning (running bytes fuel (Lines Simple)) m.0 (ran (Lines Simple) kernels e) m.1 other),
+            m.2 ∙ ap status_of (one_meaning (running bytes fuel (Lines Simple)) m.0 (ran (Lines Simple) kernels e) m.1
+            other),
       )
 
 -- A command's work is that on what its file holds.
 pub run_on : {o : Outside} {workers fuel : ℕ} {simplify : Bool} {file : List ℕ} (contents : List (List ℕ)) (work : Work)
-    → HasAll o (files_of (run workers fuel simplify file)) contents → IsWork (run workers fuel simplify file) contents work
+    → HasAll o (files_of (run workers fuel simplify file)) contents
+    → IsWork (run workers fuel simplify file) contents work
     → (bytes : List ℕ) × Has o (source_file file) bytes × (work ≡ running bytes fuel (Lines (mode_when simplify)))
 run_on contents work (has_more {bytes = bytes} has has_none) run_works = (bytes, has, refl)
 
-pub erased_on : {o : Outside} {fuel : ℕ} {file : List ℕ} (contents : List (List ℕ)) (work : Work) → HasAll o (files_of (erased fuel file)) contents
-    → IsWork (erased fuel file) contents work → (bytes : List ℕ) × Has o (source_file file) bytes × (work ≡ erasing bytes fuel)
+pub erased_on : {o : Outside} {fuel : ℕ} {file : List ℕ} (contents : List (List ℕ)) (work : Work)
+    → HasAll o (files_of (erased fuel file)) contents
+    → IsWork (erased fuel file) contents work
+    → (bytes : List ℕ) × Has o (source_file file) bytes × (work ≡ erasing bytes fuel)
 erased_on contents work (has_more {bytes = bytes} has has_none) erased_works = (bytes, has, refl)
 
-pub sample_on : {number : ℕ} (contents : List (List ℕ)) (work : Work) → IsWork (sample number) contents work → work ≡ sampling number
+pub sample_on : {number : ℕ} (contents : List (List ℕ)) (work : Work) → IsWork (sample number) contents work
+    → work ≡ sampling number
 sample_on contents work sample_works = refl
 
 -- of one file
 pub has_one : {o : Outside} {file : Wanted} {bytes : List ℕ} → HasAll o (file ∷ []) (bytes ∷ []) → Has o file bytes
 has_one (has_more has rest) = has
 
-pub first_lacks : {o : Outside} {file : Wanted} {Rose_source : Type 0} → Rose_source ⊎ Lacks o file → Rose_source ⊎ LacksFirst o (file ∷ [])
+pub first_lacks : {o : Outside} {file : Wanted} {Rose_source : Type 0} → Rose_source ⊎ Lacks o file
+    → Rose_source ⊎ LacksFirst o (file ∷ [])
 first_lacks (inl rose) = inl rose
 first_lacks (inr lacks) = inr (lacks_first lacks)
 

@@ -11,19 +11,22 @@ use Rattle.mw_term.specs.declared.program.ItemKind.TheVariants.{Value as ValueIt
 use Rattle.mw_term.proofs.Sources.{sources}
 use Rattle.mw_meaning.specs.declared.mode.Mode.TheVariants.{Plain}
 use Rattle.mw_meaning.specs.Outcomes.{main_outcome, names_of_items, names_of_main}
-use Rattle.mw_meaning.specs.OutcomeLaws.{AreCodesOf}
 use Rattle.mw_meaning.specs.ErasedPrograms.{erased_program, AreSourceItems, IsSourceProgram, HasNoStaging}
 use Rattle.mw_meaning.specs.ErasureLaws.{AreWithoutStaging, IsWithoutStaging}
+use Rattle.mw_cache.specs.Gots.{CacheState}
+use Rattle.mw_tasks.specs.Phases.{EachKernel, IsOutcomeOf, AreOutcomesOf}
 use Rattle.mw_console.specs.Texts.{Ending}
 use Rattle.mw_drive.specs.ProgramMeaning.{main_ending, main_after, erased_ending}
 
-source_definition : (k : ItemKind) (items : List Definition) → AreSourceItems items → AreSourceItems (definition_of k ∷ items)
+source_definition : (k : ItemKind) (items : List Definition) → AreSourceItems items
+    → AreSourceItems (definition_of k ∷ items)
 source_definition (ValueItem t) items h = (sources t, h)
 source_definition (KernelItem k t) items h = (sources t, h)
 
 source_definitions : (items : List Item) → AreSourceItems (map (λ (i : Item). definition_of i.kind) items)
 source_definitions [] = tt
-source_definitions (i ∷ items) = source_definition i.kind (map (λ (i : Item). definition_of i.kind) items) (source_definitions items)
+source_definitions (i ∷ items) =
+    source_definition i.kind (map (λ (i : Item). definition_of i.kind) items) (source_definitions items)
 
 -- no term of a program has a value that was put for a variable
 pub program_source : (p : Program) → IsSourceProgram (program_of p)
@@ -46,7 +49,8 @@ small_term (snd e) h = small_term e h
 small_term (prim p a b) h = (small_term a h.0, small_term b h.1)
 small_term _ h = absurd h
 
-small_items : (items : List Definition) → AreWithoutStaging items → (i : ℕ) (d : Definition) → slice_get items i ≡ Some d → HasSmallDefinition d
+small_items : (items : List Definition) → AreWithoutStaging items → (i : ℕ) (d : Definition)
+    → slice_get items i ≡ Some d → HasSmallDefinition d
 small_items [] h i d q = absurd (cc)
 small_items (defines e ∷ items) h zero d q = let p : defines e ≡ d = cc in subst HasSmallDefinition p (small_term e h.0)
 small_items (defines e ∷ items) h (suc i) d q = small_items items h.1 i d q
@@ -55,19 +59,26 @@ small_items (kernel k e ∷ items) h i d q = absurd h
 pub small_types : (p : PureProgram) → IsWithoutStaging p → HasSmallTypes p
 small_types p h = record { items = small_items p.items h.0; body = small_term p.body h.1 }
 
--- lets alone take no codes
-pub no_codes : (items : List Definition) → AreWithoutStaging items → AreCodesOf items []
-no_codes [] h = tt
-no_codes (defines e ∷ items) h = no_codes items h.1
-no_codes (kernel k e ∷ items) h = absurd h
+-- lets alone have no outcomes
+pub no_outcomes : (fuel : ℕ) (cache : CacheState) (p : PureProgram) → IsWithoutStaging p
+    → AreOutcomesOf Plain p fuel cache []
+no_outcomes fuel cache p h = none p.items h.0
+  where
+    none : (items : List Definition) → AreWithoutStaging items
+        → EachKernel (IsOutcomeOf Plain (names_of_items p.items) fuel cache) items []
+    none [] h = tt
+    none (defines e ∷ items) h = none items h.1
+    none (kernel k e ∷ items) h = absurd h
 
-names_without_codes : (items : List Definition) → AreWithoutStaging items → names_of_main items [] ≡ names_of_items items
+names_without_codes : (items : List Definition) → AreWithoutStaging items
+    → names_of_main items [] ≡ names_of_items items
 names_without_codes [] h = refl
 names_without_codes (defines e ∷ items) h = rw (names_without_codes items h.1) refl
 names_without_codes (kernel k e ∷ items) h = absurd h
 
 -- how main of the erased program ends after no codes is how it ends
-pub erased_is : (p q : PureProgram) (fuel : ℕ) (e : Ending) → q ≡ erased_program p → IsWithoutStaging q → main_after Plain fuel q.items q.body [] ≡ Some e
+pub erased_is : (p q : PureProgram) (fuel : ℕ) (e : Ending) → q ≡ erased_program p → IsWithoutStaging q
+    → main_after Plain fuel q.items q.body [] ≡ Some e
     → erased_ending fuel p ≡ Some e
 erased_is p q fuel e same h is =
     ap (λ (q : PureProgram). main_ending (main_outcome Plain (names_of_items q.items) fuel q.body)) (sym same)

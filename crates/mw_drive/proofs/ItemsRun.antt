@@ -1,17 +1,22 @@
--- The run of a program's items, one after the other.
-use Rattle.std.proofs.Common.{◌≡◌, ℕ, List, [], ◌∷◌, ◌++◌, None, Some, refl, sym, ap, ◌∙◌, subst}
-use Rattle.std.proofs.lemmas.List.{map-append}
-use Rattle.mw_term.specs.Terms.{Expression, KernelType}
-use Rattle.mw_term.specs.Programs.{Definition, value as defines, kernel}
-use Rattle.mw_term.specs.Typable.{HasKernelType}
+-- The run of a program's items, from their outcomes.
+use Rattle.std.proofs.Common.{◌≡◌, ℕ, List, [], ◌∷◌, ◌++◌, map, refl, sym, ap, subst}
+use Rattle.mw_term.specs.Terms.{Expression, KernelType, Value, expression_of}
+use Rattle.mw_term.specs.Programs.{Definition, value as defines, kernel, PureProgram, program_of}
+use Rattle.mw_term.specs.declared.program.Program.{Program}
 use Rattle.mw_meaning.specs.declared.mode.Mode.{Mode}
-use Rattle.mw_meaning.specs.Outcomes.{Outcome, came_to, trapped, bounded, item_outcome, names_of_items}
-use Rattle.mw_meaning.specs.OutcomeLaws.{AreCodesOf}
-use Rattle.mw_console.specs.Texts.{Ending, trapped as traps, bounded as bounds}
-use Rattle.mw_drive.specs.NamedPrograms.{NamedItem, NamedProgram, unnamed}
-use Rattle.mw_drive.specs.ProgramMeaning.{Kernel, ItemsRun, all_gave, one_ended, with_kernel, before_others, run_item, run_items, items_run, codes_of}
-use Rattle.mw_drive.specs.ProgramRuns.{IsItemsRun}
-use Rattle.mw_drive.proofs.ProgramEnds.{codes_let, codes_kernel}
+use Rattle.mw_meaning.specs.Outcomes.{Outcome, came_to, trapped, bounded, stuck, names_of_items}
+use Rattle.mw_cache.specs.Gots.{CacheState}
+use Rattle.mw_tasks.specs.declared.outcome.ItemOutcome.{ItemOutcome}
+use Rattle.mw_tasks.specs.declared.outcome.ItemOutcome.TheVariants.{Code, Trap, Bound}
+use Rattle.mw_tasks.specs.Phases.{Answers, EachKernel, IsOutcomeOf, AreOutcomesOf, AreBuiltAll, codes_in}
+use Rattle.mw_console.specs.Texts.{Ending}
+use Rattle.mw_drive.specs.NamedPrograms.{NamedItem, unnamed, named_program_of}
+use Rattle.mw_drive.specs.ProgramMeaning.{Kernel, ItemsRun, all_gave, one_ended, one_stuck, with_kernel, run_item, run_items, items_run, codes_of}
+use Rattle.mw_drive.specs.ItemOutcomes.{outcome_in, item_run, outcomes_run, HasOneForEach, ArePlaced}
+use Rattle.mw_drive.proofs.SourceReadings.{unnamed_program}
+
+abbrev pub definitions : List NamedItem → List Definition
+definitions items = map (λ (i : NamedItem). i.is) items
 
 -- kernels before the items that are to come
 abbrev pub with_kernels : List Kernel → ItemsRun → ItemsRun
@@ -19,77 +24,127 @@ with_kernels [] r = r
 with_kernels (k ∷ kernels) r = with_kernel k.name k.kind k.code (with_kernels kernels r)
 
 -- a kernel after the others
-one_more : (kernels : List Kernel) (k : Kernel) (r : ItemsRun) → with_kernels (kernels ++ k ∷ []) r ≡ with_kernels kernels (with_kernel k.name k.kind k.code r)
+pub one_more : (kernels : List Kernel) (k : Kernel) (r : ItemsRun)
+    → with_kernels (kernels ++ k ∷ []) r ≡ with_kernels kernels (with_kernel k.name k.kind k.code r)
 one_more [] k r = refl
 one_more (j ∷ kernels) k r = ap (with_kernel j.name j.kind j.code) (one_more kernels k r)
 
 -- kernels before an ending, and all kernels
-all_before : (kernels : List Kernel) (e : Ending) → with_kernels kernels (one_ended [] e) ≡ one_ended kernels e
+pub all_before : (kernels : List Kernel) (e : Ending) → with_kernels kernels (one_ended [] e) ≡ one_ended kernels e
 all_before [] e = refl
 all_before (k ∷ kernels) e = ap (with_kernel k.name k.kind k.code) (all_before kernels e)
 
-all_kernels : (kernels : List Kernel) → with_kernels kernels (all_gave []) ≡ all_gave kernels
+pub all_kernels : (kernels : List Kernel) → with_kernels kernels (all_gave []) ≡ all_gave kernels
 all_kernels [] = refl
 all_kernels (k ∷ kernels) = ap (with_kernel k.name k.kind k.code) (all_kernels kernels)
 
-module _ (mode : Mode) (fuel : ℕ) (p : NamedProgram) where
-  abbrev run_rest : List NamedItem → ItemsRun
-  run_rest items = run_items mode fuel (names_of_items (unnamed p).items) items
+-- an outcome that is the meaning's
+outcome_is : (o : ItemOutcome) (a : Outcome Expression) → Answers o a → outcome_in o ≡ a
+outcome_is (Code t got) (came_to c) h = ap came_to h
+outcome_is (Code t got) (trapped u) h = absurd h
+outcome_is (Code t got) (bounded b) h = absurd h
+outcome_is (Code t got) stuck h = absurd h
+outcome_is (Trap t) (came_to c) h = absurd h
+outcome_is (Trap t) (trapped u) h = ap trapped h
+outcome_is (Trap t) (bounded b) h = absurd h
+outcome_is (Trap t) stuck h = absurd h
+outcome_is (Bound l) (came_to c) h = absurd h
+outcome_is (Bound l) (trapped u) h = absurd h
+outcome_is (Bound l) (bounded b) h = ap bounded h
+outcome_is (Bound l) stuck h = absurd h
 
-  abbrev outcome : Expression → Outcome Expression
-  outcome e = item_outcome mode (names_of_items (unnamed p).items) fuel e
+module _ (mode : Mode) (names : List Value) (fuel : ℕ) (cache : CacheState) where
+  abbrev AreOf : List Definition → List ItemOutcome → Type 0
+  AreOf items outcomes = EachKernel (IsOutcomeOf mode names fuel cache) items outcomes
 
-  -- After these items, which gave these kernels, the others are to come.
-  pub record IsRunTo (before : List Definition) (rest : List NamedItem) (kernels : List Kernel) : Type 0 where
-    pub is : items_run mode fuel p ≡ with_kernels kernels (run_rest rest)
-    pub codes : AreCodesOf before (codes_of kernels)
+  item_is : (x : List ℕ) (d : Definition) (items : List Definition) (others : List ItemOutcome → ItemsRun)
+      (rest : ItemsRun)
+      → ((outcomes : List ItemOutcome) → AreOf items outcomes → others outcomes ≡ rest)
+      → (outcomes : List ItemOutcome) → AreOf (d ∷ items) outcomes
+      → item_run x d others outcomes ≡ run_item mode fuel names x d rest
+  item_is x (defines e) items others rest same outcomes h = same outcomes h
+  item_is x (kernel k e) items others rest same [] h = absurd h
+  item_is x (kernel k e) items others rest same (o ∷ outcomes) h = rw (outcome_is o _ h.0.means, same outcomes h.1) refl
 
-  pub run_first : IsRunTo [] p.items []
-  run_first = record { is = refl; codes = tt }
+  -- items go as their outcomes say
+  items_are : (items : List NamedItem) (outcomes : List ItemOutcome) → AreOf (definitions items) outcomes
+      → outcomes_run items outcomes ≡ run_items mode fuel names items
+  items_are [] [] h = refl
+  items_are [] (o ∷ outcomes) h = absurd h
+  items_are (i ∷ items) outcomes h =
+      item_is i.name i.is (definitions items) (outcomes_run items) (run_items mode fuel names items) (items_are items)
+      outcomes h
 
-  module _ (before : List Definition) (i : NamedItem) (rest : List NamedItem) (kernels : List Kernel) (h : IsRunTo before (i ∷ rest) kernels) where
-    -- the item as what it defines
-    as_defined : (d : Definition) → i.is ≡ d
-        → items_run mode fuel p ≡ with_kernels kernels (run_item mode fuel (names_of_items (unnamed p).items) i.name d (run_rest rest))
-    as_defined d is =
-        h.is ∙ ap (λ d. with_kernels kernels (run_item mode fuel (names_of_items (unnamed p).items) i.name d (run_rest rest))) is
+-- what holds for each kernel item
+each_kernel : {R S : KernelType → Expression → ItemOutcome → Type 0}
+    → ((k : KernelType) (e : Expression) (o : ItemOutcome) → R k e o → S k e o)
+    → (items : List Definition) (outcomes : List ItemOutcome) → EachKernel R items outcomes
+    → EachKernel S items outcomes
+each_kernel f [] [] h = tt
+each_kernel f [] (o ∷ outcomes) h = absurd h
+each_kernel f (defines e ∷ items) outcomes h = each_kernel f items outcomes h
+each_kernel f (kernel k e ∷ items) [] h = absurd h
+each_kernel f (kernel k e ∷ items) (o ∷ outcomes) h = (f k e o h.0, each_kernel f items outcomes h.1)
 
-    pub run_let : (e : Expression) → i.is ≡ defines e → IsRunTo (before ++ i.is ∷ []) rest kernels
-    run_let e is = record {
-      is = as_defined (defines e) is;
-      codes = subst (λ d. AreCodesOf (before ++ d ∷ []) (codes_of kernels)) (sym is) (codes_let before (codes_of kernels) e h.codes);
-    }
+-- one kernel and others
+with_others : (k : Kernel) (r : ItemsRun) (kernels : List Kernel)
+    → with_kernel k.name k.kind k.code r ≡ all_gave kernels
+    → (others : List Kernel) × (r ≡ all_gave others) × (kernels ≡ k ∷ others)
+with_others k (all_gave others) kernels is = (others, refl, cc)
+with_others k (one_ended others e) kernels is = absurd (cc)
+with_others k one_stuck kernels is = absurd (cc)
 
-    -- a kernel item with its outcome
-    kernel_item : (k : KernelType) (e : Expression) → i.is ≡ kernel k e → (o : Outcome Expression) → outcome e ≡ o
-        → items_run mode fuel p ≡ with_kernels kernels (before_others i.name k o (run_rest rest))
-    kernel_item k e is o came = as_defined (kernel k e) is ∙ ap (λ o. with_kernels kernels (before_others i.name k o (run_rest rest))) came
+no_kernels : (kernels : List Kernel) → all_gave [] ≡ all_gave kernels → [] ≡ codes_of kernels
+no_kernels [] is = refl
+no_kernels (k ∷ kernels) is = absurd (cc)
 
-    pub run_code : (k : Kernel) (e : Expression) → i.is ≡ kernel k.kind e → k.name ≡ i.name → outcome e ≡ came_to k.code → HasKernelType k.code k.kind
-        → IsRunTo (before ++ i.is ∷ []) rest (kernels ++ k ∷ [])
-    run_code k e is name came typed =
-        let codes : codes_of (kernels ++ k ∷ []) ≡ codes_of kernels ++ k.code ∷ [] = map-append (λ (k : Kernel). k.code) kernels (k ∷ []) in
-        record {
-          is =
-              kernel_item k.kind e is (came_to k.code) came
-              ∙ (ap (λ x. with_kernels kernels (with_kernel x k.kind k.code (run_rest rest))) (sym name) ∙ sym (one_more kernels k (run_rest rest)));
-          codes = subst (AreCodesOf (before ++ i.is ∷ [])) (sym codes)
-              (subst (λ d. AreCodesOf (before ++ d ∷ []) (codes_of kernels ++ k.code ∷ [])) (sym is)
-              (codes_kernel before (codes_of kernels) k.kind e k.code h.codes typed));
-        }
+-- where all items gave code, their outcomes are codes, those of the kernels
+abbrev IsAll : List ItemOutcome → List Kernel → Type 0
+IsAll outcomes kernels = AreBuiltAll outcomes × (codes_in outcomes ≡ codes_of kernels)
 
-    pub run_trap : (k : KernelType) (e : Expression) (x : List ℕ) (t : _) → i.is ≡ kernel k e → x ≡ i.name → outcome e ≡ trapped t
-        → IsItemsRun mode fuel p kernels (Some (traps t x))
-    run_trap k e x t is name came =
-        kernel_item k e is (trapped t) came
-        ∙ (ap (λ x. with_kernels kernels (one_ended [] (traps t x))) (sym name) ∙ all_before kernels (traps t x))
+item_built : (x : List ℕ) (d : Definition) (items : List Definition) (others : List ItemOutcome → ItemsRun)
+    → ((outcomes : List ItemOutcome) (kernels : List Kernel) → HasOneForEach items outcomes
+    → others outcomes ≡ all_gave kernels → IsAll outcomes kernels)
+    → (outcomes : List ItemOutcome) (kernels : List Kernel) → HasOneForEach (d ∷ items) outcomes
+    → item_run x d others outcomes ≡ all_gave kernels → IsAll outcomes kernels
+item_built x (defines e) items others rest outcomes kernels h is = rest outcomes kernels h is
+item_built x (kernel k e) items others rest [] kernels h is = absurd h
+item_built x (kernel k e) items others rest (Code t got ∷ outcomes) kernels h is =
+    let more = with_others record { name = x; kind = k; code = expression_of t } (others outcomes) kernels is in
+    let all = rest outcomes more.0 h.1 more.1 in
+    (all.0, rw more.2 (ap (λ codes. expression_of t ∷ codes) all.1))
+item_built x (kernel k e) items others rest (Trap t ∷ outcomes) kernels h is = absurd (cc)
+item_built x (kernel k e) items others rest (Bound l ∷ outcomes) kernels h is = absurd (cc)
 
-    pub run_bound : (k : KernelType) (e : Expression) (x : List ℕ) (l : _) → i.is ≡ kernel k e → x ≡ i.name → outcome e ≡ bounded l
-        → IsItemsRun mode fuel p kernels (Some (bounds l x))
-    run_bound k e x l is name came =
-        kernel_item k e is (bounded l) came
-        ∙ (ap (λ x. with_kernels kernels (one_ended [] (bounds l x))) (sym name) ∙ all_before kernels (bounds l x))
+all_built : (items : List NamedItem) (outcomes : List ItemOutcome) (kernels : List Kernel)
+    → HasOneForEach (definitions items) outcomes
+    → outcomes_run items outcomes ≡ all_gave kernels → IsAll outcomes kernels
+all_built [] [] kernels h is = (tt, no_kernels kernels is)
+all_built [] (o ∷ outcomes) kernels h is = absurd h
+all_built (i ∷ items) outcomes kernels h is =
+    item_built i.name i.is (definitions items) (outcomes_run items) (all_built items) outcomes kernels h is
 
-  -- after all items main is to come
-  pub run_all : (kernels : List Kernel) → IsRunTo (unnamed p).items [] kernels → IsItemsRun mode fuel p kernels None
-  run_all kernels h = (h.is ∙ all_kernels kernels, h.codes)
+module _ (mode : Mode) (fuel : ℕ) (cache : CacheState) (program : Program) (outcomes : List ItemOutcome)
+    (are : AreOutcomesOf mode (program_of program) fuel cache outcomes) where
+  pub one_for_each : HasOneForEach (program_of program).items outcomes
+  one_for_each = each_kernel (λ k e o h. tt) (program_of program).items outcomes are
+
+  pub all_placed : ArePlaced mode cache (program_of program).items outcomes
+  all_placed = each_kernel (λ k e o h. h.placed) (program_of program).items outcomes are
+
+  -- the items' part of the run is what the outcomes say
+  pub run_is : items_run mode fuel (named_program_of program) ≡ outcomes_run (named_program_of program).items outcomes
+  run_is =
+      let p = named_program_of program in
+      let named : AreOutcomesOf mode (unnamed p) fuel cache outcomes =
+      subst (λ (q : PureProgram). AreOutcomesOf mode q fuel cache outcomes) (sym (unnamed_program program)) are in
+      sym (items_are mode (names_of_items (unnamed p).items) fuel cache p.items outcomes named)
+
+  -- where all items gave code, these are the kernels' codes
+  pub all_codes : (kernels : List Kernel) → outcomes_run (named_program_of program).items outcomes ≡ all_gave kernels
+      → IsAll outcomes kernels
+  all_codes kernels is =
+      let p = named_program_of program in
+      let each : HasOneForEach (definitions p.items) outcomes =
+      subst (λ (q : PureProgram). HasOneForEach q.items outcomes) (sym (unnamed_program program)) one_for_each in
+      all_built p.items outcomes kernels each is

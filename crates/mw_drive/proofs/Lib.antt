@@ -2,7 +2,6 @@ pub mod CommandLemmas
 pub mod Counts
 pub mod Faults
 pub mod Fronts
-pub mod ItemEnds
 pub mod ItemsRun
 pub mod Loops
 pub mod ModuleLemmas

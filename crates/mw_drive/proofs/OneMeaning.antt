@@ -33,7 +33,8 @@ use Rattle.mw_drive.proofs.ScopedTerms.{is_resolved}
 one_refusal : (tokens : List PureToken) (n : ℕ) (r q : Refusal) → Refuses tokens n r → Refuses tokens n q → r ≡ q
 one_refusal tokens n r q a b = parsed.first tokens n (Err (Refused r)) a q b
 
-program_or_refusal : (tokens : List PureToken) (n : ℕ) (r : Refusal) (s : PureSurface) → Refuses tokens n r → IsProgram tokens s → ⊥
+program_or_refusal : (tokens : List PureToken) (n : ℕ) (r : Refusal) (s : PureSurface) → Refuses tokens n r
+    → IsProgram tokens s → ⊥
 program_or_refusal tokens n r s a p = parsed.only tokens n (Err (Refused r)) a s p
 
 one_surface : (tokens : List PureToken) (s t : PureSurface) → IsProgram tokens s → IsProgram tokens t → s ≡ t
@@ -44,21 +45,27 @@ not_both small large = absurd (omega arith)
 
 module _ (bytes : List ℕ) where
   -- the tokens and the tree of a source are one
-  same_surface : (ts us : List PureToken) (s t : PureSurface) → AreTokens bytes ts → AreTokens bytes us → IsProgram ts s → IsProgram us t → s ≡ t
+  same_surface : (ts us : List PureToken) (s t : PureSurface) → AreTokens bytes ts → AreTokens bytes us
+      → IsProgram ts s → IsProgram us t → s ≡ t
   same_surface ts us s t a b p q = one_surface ts s t p (subst (λ x. IsProgram x t) (one_list bytes us ts b a) q)
 
   -- it is read as one program at most
   pub one_program : (p q : NamedProgram) → IsRead bytes p → IsRead bytes q → p ≡ q
   one_program p q a b =
-      let s : a.surface ≡ b.surface = same_surface a.tokens b.tokens a.surface b.surface a.are_tokens b.are_tokens a.is_surface b.is_surface in
+      let s : a.surface ≡ b.surface =
+      same_surface a.tokens b.tokens a.surface b.surface a.are_tokens b.are_tokens a.is_surface b.is_surface in
       let names : names_of p ≡ names_of q = a.names ∙ (ap (λ (x : PureSurface). map name_of x.items) s ∙ sym b.names) in
-      same_program p q names (one_nameless b.surface (unnamed p) (unnamed q) (subst (λ x. IsNameless x (unnamed p)) s a.is_nameless) b.is_nameless)
+      same_program p q names
+      (one_nameless b.surface (unnamed p) (unnamed q) (subst (λ x. IsNameless x (unnamed p)) s a.is_nameless)
+      b.is_nameless)
 
   -- and not both read and refused
   pub read_or_refused : (p : NamedProgram) (r : Refusal) → IsRead bytes p → IsRefused bytes r → ⊥
   read_or_refused p r a (too_large large) = not_both a.small large
   read_or_refused p r a (at_bytes small f) = tokens_or_fault bytes a.tokens r a.are_tokens f
-  read_or_refused p r a (at_tokens tokens small are q) = program_or_refusal a.tokens (length bytes) r a.surface (subst (λ x. Refuses x (length bytes) r) (one_list bytes tokens a.tokens are a.are_tokens) q) a.is_surface
+  read_or_refused p r a (at_tokens tokens small are q) =
+      program_or_refusal a.tokens (length bytes) r a.surface
+      (subst (λ x. Refuses x (length bytes) r) (one_list bytes tokens a.tokens are a.are_tokens) q) a.is_surface
   read_or_refused p r a (at_names tokens surface f small are is first e) =
       let s : surface ≡ a.surface = same_surface tokens a.tokens surface a.surface are a.are_tokens is a.is_surface in
       first_is_none a.surface f (unnamed p) (subst (λ x. IsFirstOf (faults_of x) f) s first) a.is_nameless
@@ -68,19 +75,32 @@ module _ (bytes : List ℕ) where
   one_source_refusal r q (too_large large) (too_large also) = refl
   one_source_refusal r q (too_large large) (at_bytes small f) = absurd (not_both small large)
   one_source_refusal r q (too_large large) (at_tokens tokens small are k) = absurd (not_both small large)
-  one_source_refusal r q (too_large large) (at_names tokens surface f small are is first e) = absurd (not_both small large)
+  one_source_refusal r q (too_large large) (at_names tokens surface f small are is first e) =
+      absurd (not_both small large)
   one_source_refusal r q (at_bytes small f) (too_large large) = absurd (not_both small large)
   one_source_refusal r q (at_bytes small f) (at_bytes also g) = one_first_fault bytes r q f g
-  one_source_refusal r q (at_bytes small f) (at_tokens tokens also are k) = absurd (tokens_or_fault bytes tokens r are f)
-  one_source_refusal r q (at_bytes small f) (at_names tokens surface g also are is first e) = absurd (tokens_or_fault bytes tokens r are f)
+  one_source_refusal r q (at_bytes small f) (at_tokens tokens also are k) =
+      absurd (tokens_or_fault bytes tokens r are f)
+  one_source_refusal r q (at_bytes small f) (at_names tokens surface g also are is first e) =
+      absurd (tokens_or_fault bytes tokens r are f)
   one_source_refusal r q (at_tokens tokens small are k) (too_large large) = absurd (not_both small large)
-  one_source_refusal r q (at_tokens tokens small are k) (at_bytes also g) = absurd (tokens_or_fault bytes tokens q are g)
-  one_source_refusal r q (at_tokens tokens small are k) (at_tokens others also them l) = one_refusal tokens (length bytes) r q k (subst (λ x. Refuses x (length bytes) q) (one_list bytes others tokens them are) l)
-  one_source_refusal r q (at_tokens tokens small are k) (at_names others surface g also them is first e) = absurd (program_or_refusal tokens (length bytes) r surface k (subst (λ x. IsProgram x surface) (one_list bytes others tokens them are) is))
-  one_source_refusal r q (at_names tokens surface f small are is first e) (too_large large) = absurd (not_both small large)
-  one_source_refusal r q (at_names tokens surface f small are is first e) (at_bytes also g) = absurd (tokens_or_fault bytes tokens q are g)
-  one_source_refusal r q (at_names tokens surface f small are is first e) (at_tokens others also them l) = absurd (program_or_refusal others (length bytes) q surface l (subst (λ x. IsProgram x surface) (one_list bytes tokens others are them) is))
-  one_source_refusal r q (at_names tokens surface f small are is first e) (at_names others other g also them it second d) =
+  one_source_refusal r q (at_tokens tokens small are k) (at_bytes also g) =
+      absurd (tokens_or_fault bytes tokens q are g)
+  one_source_refusal r q (at_tokens tokens small are k) (at_tokens others also them l) =
+      one_refusal tokens (length bytes) r q k
+      (subst (λ x. Refuses x (length bytes) q) (one_list bytes others tokens them are) l)
+  one_source_refusal r q (at_tokens tokens small are k) (at_names others surface g also them is first e) =
+      absurd (program_or_refusal tokens (length bytes) r surface k
+      (subst (λ x. IsProgram x surface) (one_list bytes others tokens them are) is))
+  one_source_refusal r q (at_names tokens surface f small are is first e) (too_large large) =
+      absurd (not_both small large)
+  one_source_refusal r q (at_names tokens surface f small are is first e) (at_bytes also g) =
+      absurd (tokens_or_fault bytes tokens q are g)
+  one_source_refusal r q (at_names tokens surface f small are is first e) (at_tokens others also them l) =
+      absurd (program_or_refusal others (length bytes) q surface l
+      (subst (λ x. IsProgram x surface) (one_list bytes tokens others are them) is))
+  one_source_refusal r q (at_names tokens surface f small are is first e)
+      (at_names others other g also them it second d) =
       let s : other ≡ surface = same_surface others tokens other surface them are it is in
       e ∙ (same_refusal surface f g first (subst (λ x. IsFirstOf (faults_of x) g) s second) ∙ sym d)
 
@@ -88,15 +108,19 @@ module _ (bytes : List ℕ) where
   written p a = resolved-written (unnamed p) (is_resolved bytes p a)
 
   -- the types of the program that is read are accepted or refused, and not both, and refused once
-  types_once : (p q : NamedProgram) (r k : Refusal) → IsRead bytes p → IsRead bytes q → IsFirstRefusal (unnamed p) r → IsFirstRefusal (unnamed q) k → refused r (names_of p) ≡ refused k (names_of q)
+  types_once : (p q : NamedProgram) (r k : Refusal) → IsRead bytes p → IsRead bytes q → IsFirstRefusal (unnamed p) r
+      → IsFirstRefusal (unnamed q) k → refused r (names_of p) ≡ refused k (names_of q)
   types_once p q r k a b f g =
       let same = one_program p q a b in
-      let one : r ≡ k = refusal-one (unnamed q) (written q b) r k (subst (λ (x : NamedProgram). IsFirstRefusal (unnamed x) r) same f) g in
+      let one : r ≡ k =
+      refusal-one (unnamed q) (written q b) r k (subst (λ (x : NamedProgram). IsFirstRefusal (unnamed x) r) same f) g in
       ap (λ x. refused x (names_of p)) one ∙ ap (λ (x : NamedProgram). refused k (names_of x)) same
 
-  accepted_or_refused : (p q : NamedProgram) (r : Refusal) → IsRead bytes p → IsRead bytes q → IsFirstRefusal (unnamed p) r → IsAccepted (unnamed q) → ⊥
+  accepted_or_refused : (p q : NamedProgram) (r : Refusal) → IsRead bytes p → IsRead bytes q
+      → IsFirstRefusal (unnamed p) r → IsAccepted (unnamed q) → ⊥
   accepted_or_refused p q r a b f g =
-      typable-refused (unnamed q) (written q b) r g.typable g.small (subst (λ (x : NamedProgram). IsFirstRefusal (unnamed x) r) (one_program p q a b) f)
+      typable-refused (unnamed q) (written q b) r g.typable g.small
+      (subst (λ (x : NamedProgram). IsFirstRefusal (unnamed x) r) (one_program p q a b) f)
 
 -- what ended one way ended no other way
 one_run : {k l : List Kernel} {d e : Ending} → ended k d ≡ ended l e → (k ≡ l)
@@ -106,25 +130,37 @@ one_ending : {k l : List Kernel} {d e : Ending} → ended k d ≡ ended l e → 
 one_ending is = cc
 
 -- a source that is refused isn't accepted
-erased_or_refused : {bytes : List ℕ} {fuel : ℕ} {r : Refusal} {names : List (List ℕ)} → IsMeaning (running bytes fuel (Lines Plain)) (refused r names) → (p : NamedProgram) → IsRead bytes p → IsAccepted (unnamed p) → ⊥
+erased_or_refused : {bytes : List ℕ} {fuel : ℕ} {r : Refusal} {names : List (List ℕ)}
+    → IsMeaning (running bytes fuel (Lines Plain)) (refused r names) → (p : NamedProgram) → IsRead bytes p
+    → IsAccepted (unnamed p) → ⊥
 erased_or_refused {bytes} (of_refusal {r = r} a) p b g = read_or_refused bytes p r b a
 erased_or_refused {bytes} (of_types {r = r} q a f) p b g = accepted_or_refused bytes q p r a b f g
 
 pub one_meaning : OneMeaning
-one_meaning work m n (of_refusal {bytes = bytes} {r = r} a) (of_refusal {r = q} b) = ap (λ x. refused x []) (one_source_refusal bytes r q a b)
+one_meaning work m n (of_refusal {bytes = bytes} {r = r} a) (of_refusal {r = q} b) =
+    ap (λ x. refused x []) (one_source_refusal bytes r q a b)
 one_meaning work m n (of_refusal {bytes = bytes} {r = r} a) (of_types p b f) = absurd (read_or_refused bytes p r b a)
-one_meaning work m n (of_refusal {bytes = bytes} {r = r} a) (of_program p b g is) = absurd (read_or_refused bytes p r b a)
+one_meaning work m n (of_refusal {bytes = bytes} {r = r} a) (of_program p b g is) =
+    absurd (read_or_refused bytes p r b a)
 one_meaning work m n (of_types {bytes = bytes} p a f) (of_refusal {r = q} b) = absurd (read_or_refused bytes p q a b)
-one_meaning work m n (of_types {bytes = bytes} {r = r} p a f) (of_types {r = k} q b g) = types_once bytes p q r k a b f g
-one_meaning work m n (of_types {bytes = bytes} {r = r} p a f) (of_program q b g is) = absurd (accepted_or_refused bytes p q r a b f g)
-one_meaning work m n (of_program {bytes = bytes} p a f is) (of_refusal {r = q} b) = absurd (read_or_refused bytes p q a b)
-one_meaning work m n (of_program {bytes = bytes} p a f is) (of_types {r = r} q b g) = absurd (accepted_or_refused bytes q p r b a g f)
-one_meaning work m n (of_program {bytes = bytes} {fuel = fuel} {shown = shown} {kernels = ks} {e = d} p a f is) (of_program {kernels = ls} {e = e} q b g end) =
-    let runs : ended ks d ≡ ended ls e = sym is ∙ (ap (program_run (mode_of shown) fuel) (one_program bytes p q a b) ∙ end) in
+one_meaning work m n (of_types {bytes = bytes} {r = r} p a f) (of_types {r = k} q b g) =
+    types_once bytes p q r k a b f g
+one_meaning work m n (of_types {bytes = bytes} {r = r} p a f) (of_program q b g is) =
+    absurd (accepted_or_refused bytes p q r a b f g)
+one_meaning work m n (of_program {bytes = bytes} p a f is) (of_refusal {r = q} b) =
+    absurd (read_or_refused bytes p q a b)
+one_meaning work m n (of_program {bytes = bytes} p a f is) (of_types {r = r} q b g) =
+    absurd (accepted_or_refused bytes q p r b a g f)
+one_meaning work m n (of_program {bytes = bytes} {fuel = fuel} {shown = shown} {kernels = ks} {e = d} p a f is)
+    (of_program {kernels = ls} {e = e} q b g end) =
+    let runs : ended ks d ≡ ended ls e =
+    sym is ∙ (ap (program_run (mode_of shown) fuel) (one_program bytes p q a b) ∙ end) in
     ap (λ ks. ran shown ks d) (one_run runs) ∙ ap (λ e. ran shown ls e) (one_ending runs)
-one_meaning work m n (of_erased_refusal {r = r} {names = names} a) (of_erased_refusal {r = q} {names = others} b) = one_meaning _ (refused r names) (refused q others) a b
+one_meaning work m n (of_erased_refusal {r = r} {names = names} a) (of_erased_refusal {r = q} {names = others} b) =
+    one_meaning _ (refused r names) (refused q others) a b
 one_meaning work m n (of_erased_refusal a) (of_erased q b g is) = absurd (erased_or_refused a q b g)
 one_meaning work m n (of_erased p a f is) (of_erased_refusal b) = absurd (erased_or_refused b p a f)
 one_meaning work m n (of_erased {bytes = bytes} {fuel = fuel} {e = d} p a f is) (of_erased {e = e} q b g end) =
-    let runs : Some d ≡ Some e = sym is ∙ (ap (λ (p : NamedProgram). erased_ending fuel (unnamed p)) (one_program bytes p q a b) ∙ end) in
+    let runs : Some d ≡ Some e =
+    sym is ∙ (ap (λ (p : NamedProgram). erased_ending fuel (unnamed p)) (one_program bytes p q a b) ∙ end) in
     let same : d ≡ e = cc in ap erased same

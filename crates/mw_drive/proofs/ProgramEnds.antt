@@ -25,50 +25,40 @@ pub record Ends (P : Kernel → Type 0) (r : ProgramRun) : Type 0 where
 
 -- The items end, and each of their kernels has a property; where all gave code, these are codes of theirs.
 data ItemsEnd (P : Kernel → Type 0) (items : List Definition) : ItemsRun → Type 0 where
-  as_all : {kernels : List Kernel} → AllByRecursion P kernels → AreCodesOf items (codes_of kernels) → ItemsEnd P items (all_gave kernels)
+  as_all : {kernels : List Kernel} → AllByRecursion P kernels → AreCodesOf items (codes_of kernels)
+      → ItemsEnd P items (all_gave kernels)
   as_one : {kernels : List Kernel} {e : Ending} → AllByRecursion P kernels → ItemsEnd P items (one_ended kernels e)
 
 abbrev kernel_at : List ℕ → KernelType → Expression → Kernel
 kernel_at x k c = record { name = x; kind = k; code = c }
 
-let_ends : (P : Kernel → Type 0) (e : Expression) (items : List Definition) {r : ItemsRun} → ItemsEnd P items r → ItemsEnd P (defines e ∷ items) r
+let_ends : (P : Kernel → Type 0) (e : Expression) (items : List Definition) {r : ItemsRun} → ItemsEnd P items r
+    → ItemsEnd P (defines e ∷ items) r
 let_ends P e items (as_all each codes) = as_all each codes
 let_ends P e items (as_one each) = as_one each
 
-kernel_ends : (P : Kernel → Type 0) (x : List ℕ) (k : KernelType) (e c : Expression) (items : List Definition) {r : ItemsRun} → P (kernel_at x k c) → HasKernelType c k
+kernel_ends : (P : Kernel → Type 0) (x : List ℕ) (k : KernelType) (e c : Expression) (items : List Definition)
+    {r : ItemsRun} → P (kernel_at x k c) → HasKernelType c k
     → ItemsEnd P items r → ItemsEnd P (kernel k e ∷ items) (with_kernel x k c r)
 kernel_ends P x k e c items here typed (as_all each codes) = as_all (here, each) (typed, codes)
 kernel_ends P x k e c items here typed (as_one each) = as_one (here, each)
 
-pub main_ends : (Q : PureGroundValue → Type 0) (o : Outcome PureGroundValue) → ComesTo Q o → (e : Ending) × (main_ending o ≡ Some e)
+main_ends : (Q : PureGroundValue → Type 0) (o : Outcome PureGroundValue) → ComesTo Q o
+    → (e : Ending) × (main_ending o ≡ Some e)
 main_ends Q (came_to v) h = (_, refl)
 main_ends Q (trapped t) h = (_, refl)
 main_ends Q (bounded l) h = (_, refl)
 main_ends Q no_outcome h = absurd (h)
 
-item_ends : (P : Kernel → Type 0) (x : List ℕ) (k : KernelType) (e : Expression) (items : List Definition) (o : Outcome Expression) (others : ItemsRun)
-    → ComesTo (λ c. HasKernelType c k × (within_limits c ≡ true)) o → ((c : Expression) → o ≡ came_to c → P (kernel_at x k c)) → ItemsEnd P items others
+item_ends : (P : Kernel → Type 0) (x : List ℕ) (k : KernelType) (e : Expression) (items : List Definition)
+    (o : Outcome Expression) (others : ItemsRun)
+    → ComesTo (λ c. HasKernelType c k × (within_limits c ≡ true)) o
+    → ((c : Expression) → o ≡ came_to c → P (kernel_at x k c)) → ItemsEnd P items others
     → ItemsEnd P (kernel k e ∷ items) (before_others x k o others)
 item_ends P x k e items (came_to c) others h here ends = kernel_ends P x k e c items (here c refl) h.0 ends
 item_ends P x k e items (trapped t) others h here ends = as_one tt
 item_ends P x k e items (bounded l) others h here ends = as_one tt
 item_ends P x k e items no_outcome others h here ends = absurd (h)
-
--- the codes of the items so far, with those of one item more
-pub codes_let : (before : List Definition) (codes : List Expression) (e : Expression) → AreCodesOf before codes → AreCodesOf (before ++ defines e ∷ []) codes
-codes_let [] [] e h = tt
-codes_let [] (c ∷ codes) e h = absurd (h)
-codes_let (defines d ∷ before) codes e h = codes_let before codes e h
-codes_let (kernel k d ∷ before) [] e h = absurd (h)
-codes_let (kernel k d ∷ before) (c ∷ codes) e h = (h.0, codes_let before codes e h.1)
-
-pub codes_kernel : (before : List Definition) (codes : List Expression) (k : KernelType) (e c : Expression) → AreCodesOf before codes → HasKernelType c k
-    → AreCodesOf (before ++ kernel k e ∷ []) (codes ++ c ∷ [])
-codes_kernel [] [] k e c h t = (t, tt)
-codes_kernel [] (d ∷ codes) k e c h t = absurd (h)
-codes_kernel (defines d ∷ before) codes k e c h t = codes_kernel before codes k e c h t
-codes_kernel (kernel j d ∷ before) [] k e c h t = absurd (h)
-codes_kernel (kernel j d ∷ before) (b ∷ codes) k e c h t = (h.0, codes_kernel before codes k e c h.1 t)
 
 item_there : {A : Type 0} (before after : List A) (x : A) → slice_get (before ++ x ∷ after) (length before) ≡ Some x
 item_there [] after x = refl
@@ -76,7 +66,8 @@ item_there (y ∷ before) after x = item_there before after x
 
 -- A property that each kernel has whose item came to its code.
 module _ (P : Kernel → Type 0) (mode : Mode) (fuel : ℕ) (p : NamedProgram) (typable : Typable (unnamed p))
-    (holds : (i : ℕ) (x : List ℕ) (k : KernelType) (e c : Expression) → slice_get (unnamed p).items i ≡ Some (kernel k e)
+    (holds : (i : ℕ) (x : List ℕ) (k : KernelType) (e c : Expression) → slice_get (unnamed p).items i ≡ Some
+    (kernel k e)
     → item_outcome mode (names_of_items (unnamed p).items) fuel e ≡ came_to c → P (kernel_at x k c)) where
   abbrev run_rest : List NamedItem → ItemsRun
   run_rest items = run_items mode fuel (names_of_items (unnamed p).items) items
@@ -85,11 +76,15 @@ module _ (P : Kernel → Type 0) (mode : Mode) (fuel : ℕ) (p : NamedProgram) (
   definitions items = map (λ (i : NamedItem). i.is) items
 
   abbrev Continues : List NamedItem → Type 0
-  Continues items = (before : List Definition) → (unnamed p).items ≡ before ++ definitions items → ItemsEnd P (definitions items) (run_rest items)
+  Continues items =
+      (before : List Definition) → (unnamed p).items ≡ before ++ definitions items → ItemsEnd P (definitions items)
+      (run_rest items)
 
   -- an item with others behind it
   abbrev With : NamedItem → List NamedItem → Definition → Type 0
-  With item items d = ItemsEnd P (d ∷ definitions items) (run_item mode fuel (names_of_items (unnamed p).items) item.name d (run_rest items))
+  With item items d =
+      ItemsEnd P (d ∷ definitions items)
+      (run_item mode fuel (names_of_items (unnamed p).items) item.name d (run_rest items))
 
   -- an item, after which the others end
   one_ends : (item : NamedItem) (items : List NamedItem) → Continues items → Continues (item ∷ items)
@@ -99,13 +94,15 @@ module _ (P : Kernel → Type 0) (mode : Mode) (fuel : ℕ) (p : NamedProgram) (
       others = rest (before ++ item.is ∷ []) (same ∙ sym (append_assoc before (item.is ∷ []) (definitions items)))
 
       there : (d : Definition) → item.is ≡ d → slice_get (unnamed p).items (length before) ≡ Some d
-      there d is = ap (λ ds. slice_get ds (length before)) same ∙ (item_there before (definitions items) item.is ∙ ap Some is)
+      there d is =
+          ap (λ ds. slice_get ds (length before)) same ∙ (item_there before (definitions items) item.is ∙ ap Some is)
 
       by_kind : (d : Definition) → item.is ≡ d → With item items item.is
       by_kind (defines e) is = subst (With item items) (sym is) (let_ends P e (definitions items) others)
       by_kind (kernel k e) is =
           subst (With item items) (sym is)
-          (item_ends P item.name k e (definitions items) (item_outcome mode (names_of_items (unnamed p).items) fuel e) (run_rest items)
+          (item_ends P item.name k e (definitions items) (item_outcome mode (names_of_items (unnamed p).items) fuel e)
+          (run_rest items)
           (items_come_to_their_code mode (unnamed p) (length before) k e fuel typable (there (kernel k e) is))
           (λ c came. holds (length before) item.name k e c (there (kernel k e) is) came) others)
 
@@ -114,9 +111,11 @@ module _ (P : Kernel → Type 0) (mode : Mode) (fuel : ℕ) (p : NamedProgram) (
   items_end (item ∷ items) before same = one_ends item items (items_end items) before same
 
   -- and main after them
-  main_after_ends : (r : ItemsRun) → ItemsEnd P (unnamed p).items r → Ends P (with_main (λ codes. main_after mode fuel (unnamed p).items p.body codes) r)
+  main_after_ends : (r : ItemsRun) → ItemsEnd P (unnamed p).items r
+      → Ends P (with_main (λ codes. main_after mode fuel (unnamed p).items p.body codes) r)
   main_after_ends _ (as_all {kernels = ks} each codes) =
-      let e = main_ends (HasGroundType p.result) (main_outcome mode (names_of_main (unnamed p).items (codes_of ks)) fuel p.body)
+      let e =
+      main_ends (HasGroundType p.result) (main_outcome mode (names_of_main (unnamed p).items (codes_of ks)) fuel p.body)
       (main_comes_to_its_value_after_items mode (unnamed p) (codes_of ks) fuel typable codes) in
       record { kernels = ks; ending = e.0; is = ap (ended_after ks) e.1; each = each }
   main_after_ends _ (as_one {kernels = ks} {e = e} each) = record { kernels = ks; ending = e; is = refl; each = each }
@@ -125,5 +124,6 @@ module _ (P : Kernel → Type 0) (mode : Mode) (fuel : ℕ) (p : NamedProgram) (
   all_end = main_after_ends (items_run mode fuel p) (items_end p.items [] refl)
 
 -- the run of a typable program ends
-pub program_ends : (mode : Mode) (fuel : ℕ) (p : NamedProgram) → Typable (unnamed p) → Ends (λ _. Unit {0}) (program_run mode fuel p)
+pub program_ends : (mode : Mode) (fuel : ℕ) (p : NamedProgram) → Typable (unnamed p)
+    → Ends (λ _. Unit {0}) (program_run mode fuel p)
 program_ends mode fuel p typable = all_end (λ _. Unit {0}) mode fuel p typable (λ i x k e c there came. tt)

@@ -38,11 +38,13 @@ abbrev with_names : List PureItem → List Definition → List NamedItem
 with_names (i ∷ is) (d ∷ ds) = record { name = name_of i; is = d } ∷ with_names is ds
 with_names _ _ = []
 
-named_definitions : {before is : List PureItem} {ds : List Definition} → NamelessItems before is ds → map (λ (i : NamedItem). i.is) (with_names is ds) ≡ ds
+named_definitions : {before is : List PureItem} {ds : List Definition} → NamelessItems before is ds
+    → map (λ (i : NamedItem). i.is) (with_names is ds) ≡ ds
 named_definitions no_item = refl
 named_definitions (an_item {d = d} fresh h rest) = ap (λ ds. d ∷ ds) (named_definitions rest)
 
-named_names : {before is : List PureItem} {ds : List Definition} → NamelessItems before is ds → map (λ (i : NamedItem). i.name) (with_names is ds) ≡ map name_of is
+named_names : {before is : List PureItem} {ds : List Definition} → NamelessItems before is ds
+    → map (λ (i : NamedItem). i.name) (with_names is ds) ≡ map name_of is
 named_names no_item = refl
 named_names (an_item {item = item} fresh h rest) = ap (λ xs. name_of item ∷ xs) (named_names rest)
 
@@ -66,8 +68,15 @@ module _ (bytes : List ℕ) (small : IsSmall bytes) (tokens : List PureToken) (a
   module _ (s : PureSurface) (is : IsProgram tokens s) where
     nameless_answer : IsNameless s (named_program s) → IsAnswered bytes
     nameless_answer n =
-        let q : NamedProgram = record { items = with_names s.items (named_program s).items; result = (named_program s).result; body = (named_program s).body } in
-        let same : unnamed q ≡ named_program s = ap (λ ds. record { items = ds; result = (named_program s).result; body = (named_program s).body }) (named_definitions n.items) in
+        let q : NamedProgram =
+        record {
+          items = with_names s.items (named_program s).items;
+          result = (named_program s).result;
+          body = (named_program s).body;
+        } in
+        let same : unnamed q ≡ named_program s =
+        ap (λ ds. record { items = ds; result = (named_program s).result; body = (named_program s).body })
+        (named_definitions n.items) in
         as_program q record {
           small = small;
           tokens = tokens;
@@ -80,7 +89,8 @@ module _ (bytes : List ℕ) (small : IsSmall bytes) (tokens : List PureToken) (a
 
     by_fault : (o : Option Fault) → kept None (faults_of s) ≡ o → IsAnswered bytes
     by_fault None e = nameless_answer (faultless_program s (none_kept (faults_of s) e))
-    by_fault (Some f) e = as_refusal (refusal_of f) (at_names tokens s f small are is (kept_is_first (faults_of s) f e) refl)
+    by_fault (Some f) e =
+        as_refusal (refusal_of f) (at_names tokens s f small are is (kept_is_first (faults_of s) f e) refl)
 
     surface_answer : IsAnswered bytes
     surface_answer = by_fault (kept None (faults_of s)) refl
@@ -91,10 +101,15 @@ module _ (bytes : List ℕ) (small : IsSmall bytes) (tokens : List PureToken) (a
       by_count : AreFew s.items ⊎ AreTooMany s.items → IsAnswered bytes
       by_count (inl few) = surface_answer s record { is = t; few = few }
       by_count (inr many) = as_refusal TooMany (at_tokens tokens small are record { tree = s; is = t; many = many })
-  tokens_answer (a_syntax rest f) = as_refusal (Syntax (place_of rest (length bytes))) (at_tokens tokens small are record { rest = rest; fault = f; place = refl })
-  tokens_answer (a_deep rest f) = as_refusal (TooDeep (place_of rest 0)) (at_tokens tokens small are record { rest = rest; fault = f; place = refl })
+  tokens_answer (a_syntax rest f) =
+      as_refusal (Syntax (place_of rest (length bytes)))
+      (at_tokens tokens small are record { rest = rest; fault = f; place = refl })
+  tokens_answer (a_deep rest f) =
+      as_refusal (TooDeep (place_of rest 0))
+      (at_tokens tokens small are record { rest = rest; fault = f; place = refl })
 
-bytes_answer : (bytes : List ℕ) → IsSmall bytes → ((tokens : List PureToken) × AreTokens bytes tokens) ⊎ ((r : Refusal) × IsFirstFault bytes r) → IsAnswered bytes
+bytes_answer : (bytes : List ℕ) → IsSmall bytes
+    → ((tokens : List PureToken) × AreTokens bytes tokens) ⊎ ((r : Refusal) × IsFirstFault bytes r) → IsAnswered bytes
 bytes_answer bytes small (inl t) = tokens_answer bytes small t.0 t.1 (answer 200 t.0)
 bytes_answer bytes small (inr f) = as_refusal f.0 (at_bytes small f.1)
 
@@ -107,25 +122,39 @@ reading_answers bytes = by_size (at_most_or_above (length bytes) 1048576)
 
 -- So each work has a meaning.
 
-accepted_means : (bytes : List ℕ) (fuel : ℕ) (shown : Shown) (p : NamedProgram) → IsRead bytes p → IsAccepted (unnamed p) → (m : Meaning) × IsMeaning (running bytes fuel shown) m
-accepted_means bytes fuel shown p read fine = let e = program_ends (mode_of shown) fuel p fine.typable in (ran shown e.kernels e.ending, of_program p read fine e.is)
+accepted_means : (bytes : List ℕ) (fuel : ℕ) (shown : Shown) (p : NamedProgram) → IsRead bytes p
+    → IsAccepted (unnamed p) → (m : Meaning) × IsMeaning (running bytes fuel shown) m
+accepted_means bytes fuel shown p read fine =
+    let e = program_ends (mode_of shown) fuel p fine.typable in
+    (ran shown e.kernels e.ending, of_program p read fine e.is)
 
-program_means : (bytes : List ℕ) (fuel : ℕ) (shown : Shown) (p : NamedProgram) → IsRead bytes p → (Typable (unnamed p) × NoneTooBig (unnamed p)) ⊎ ((r : Refusal) × IsFirstRefusal (unnamed p) r) → (m : Meaning) × IsMeaning (running bytes fuel shown) m
-program_means bytes fuel shown p read (inl fine) = accepted_means bytes fuel shown p read (record { typable = fine.0; small = fine.1 })
+program_means : (bytes : List ℕ) (fuel : ℕ) (shown : Shown) (p : NamedProgram) → IsRead bytes p
+    → (Typable (unnamed p) × NoneTooBig (unnamed p)) ⊎ ((r : Refusal) × IsFirstRefusal (unnamed p) r)
+    → (m : Meaning) × IsMeaning (running bytes fuel shown) m
+program_means bytes fuel shown p read (inl fine) =
+    accepted_means bytes fuel shown p read (record { typable = fine.0; small = fine.1 })
 program_means bytes fuel shown p read (inr fault) = (refused fault.0 (names_of p), of_types p read fault.1)
 
-answer_means : (bytes : List ℕ) (fuel : ℕ) (shown : Shown) → IsAnswered bytes → (m : Meaning) × IsMeaning (running bytes fuel shown) m
-answer_means bytes fuel shown (as_program p read) = program_means bytes fuel shown p read (checked_or_refused (unnamed p) (resolved-written (unnamed p) (is_resolved bytes p read)))
+answer_means : (bytes : List ℕ) (fuel : ℕ) (shown : Shown) → IsAnswered bytes
+    → (m : Meaning) × IsMeaning (running bytes fuel shown) m
+answer_means bytes fuel shown (as_program p read) =
+    program_means bytes fuel shown p read
+    (checked_or_refused (unnamed p) (resolved-written (unnamed p) (is_resolved bytes p read)))
 answer_means bytes fuel shown (as_refusal r refusal) = (refused r [], of_refusal refusal)
 
-accepted_erased : (bytes : List ℕ) (fuel : ℕ) (p : NamedProgram) → IsRead bytes p → IsAccepted (unnamed p) → (m : Meaning) × IsMeaning (erasing bytes fuel) m
-accepted_erased bytes fuel p read fine = let e = erased_ends fuel (unnamed p) (source_program bytes p read) fine.typable in (erased e.0, of_erased p read fine e.1)
+accepted_erased : (bytes : List ℕ) (fuel : ℕ) (p : NamedProgram) → IsRead bytes p → IsAccepted (unnamed p)
+    → (m : Meaning) × IsMeaning (erasing bytes fuel) m
+accepted_erased bytes fuel p read fine =
+    let e = erased_ends fuel (unnamed p) (source_program bytes p read) fine.typable in
+    (erased e.0, of_erased p read fine e.1)
 
 erased_means : (bytes : List ℕ) (fuel : ℕ) → IsAnswered bytes → (m : Meaning) × IsMeaning (erasing bytes fuel) m
 erased_means bytes fuel (as_refusal r refusal) = (refused r [], of_erased_refusal (of_refusal refusal))
-erased_means bytes fuel (as_program p read) = by_types (checked_or_refused (unnamed p) (resolved-written (unnamed p) (is_resolved bytes p read)))
+erased_means bytes fuel (as_program p read) =
+    by_types (checked_or_refused (unnamed p) (resolved-written (unnamed p) (is_resolved bytes p read)))
   where
-    by_types : (Typable (unnamed p) × NoneTooBig (unnamed p)) ⊎ ((r : Refusal) × IsFirstRefusal (unnamed p) r) → (m : Meaning) × IsMeaning (erasing bytes fuel) m
+    by_types : (Typable (unnamed p) × NoneTooBig (unnamed p)) ⊎ ((r : Refusal) × IsFirstRefusal (unnamed p) r)
+        → (m : Meaning) × IsMeaning (erasing bytes fuel) m
     by_types (inl fine) = accepted_erased bytes fuel p read (record { typable = fine.0; small = fine.1 })
     by_types (inr fault) = (refused fault.0 (names_of p), of_erased_refusal (of_types p read fault.1))
 

@@ -33,26 +33,38 @@ use Rattle.mw_drive.proofs.ScopedTerms.{is_resolved, small_program}
 
 module _ (bytes : List ℕ) (fuel : ℕ) (tells : Bool) where
   abbrev IsWritten : Evaluation → Result Status WriteFault → (before after : List ℕ) → Type 0
-  IsWritten evaluation result before after = IsWrittenMeaning (evaluated evaluation bytes fuel) result tells before after
+  IsWritten evaluation result before after =
+      IsWrittenMeaning (evaluated evaluation bytes fuel) result tells before after
 
-  written_refusal : (evaluation : Evaluation) (result : Result Status WriteFault) (before after : List ℕ) (r : Refusal) (names : List (List ℕ))
+  written_refusal : (evaluation : Evaluation) (result : Result Status WriteFault) (before after : List ℕ)
+      (r : Refusal) (names : List (List ℕ))
       → ((shown : Shown) → IsMeaning (running bytes fuel shown) (refused r names)) → IfOk result (λ s. s ≡ Refused r)
       → Writes result tells before after (refusal_line names r) → IsWritten evaluation result before after
-  written_refusal (Run shown) result before after r names is status writes =
+  written_refusal (Run workers shown) result before after r names is status writes =
       record { meaning = refused r names; is_meaning = is shown; is_status = status; writes = writes }
   written_refusal Erased result before after r names is status writes =
-      record { meaning = refused r names; is_meaning = of_erased_refusal (is (Lines Plain)); is_status = status; writes = writes }
+      record {
+        meaning = refused r names;
+        is_meaning = of_erased_refusal (is (Lines Plain));
+        is_status = status;
+        writes = writes;
+      }
 
   -- want of memory before anything was written
-  pub written_nothing : (evaluation : Evaluation) (before : List ℕ) (e : _) → IsWritten evaluation (Err (Memory e)) before before
+  pub written_nothing : (evaluation : Evaluation) (before : List ℕ) (e : _)
+      → IsWritten evaluation (Err (Memory e)) before before
   written_nothing evaluation before e =
       let m = some_meaning (evaluated evaluation bytes fuel) in
       record { meaning = m.0; is_meaning = m.1; is_status = tt; writes = λ t. grows_nothing before _ }
 
   -- the refusal of its reading
-  pub refusal_written : (evaluation : Evaluation) (result : Result Status WriteFault) (before after : List ℕ) (r : Refusal) (stop : Stop) → stop ≡ StopRefused r → IfRefused (IsRefused bytes) stop
-      → IfOk result (λ s. s ≡ Refused r) → Writes result tells before after (refusal_line [] r) → IsWritten evaluation result before after
-  refusal_written evaluation result before after r stop is says = written_refusal evaluation result before after r [] (λ shown. of_refusal (subst (IfRefused (IsRefused bytes)) is says))
+  pub refusal_written : (evaluation : Evaluation) (result : Result Status WriteFault) (before after : List ℕ)
+      (r : Refusal) (stop : Stop) → stop ≡ StopRefused r → IfRefused (IsRefused bytes) stop
+      → IfOk result (λ s. s ≡ Refused r) → Writes result tells before after (refusal_line [] r)
+      → IsWritten evaluation result before after
+  refusal_written evaluation result before after r stop is says =
+      written_refusal evaluation result before after r []
+      (λ shown. of_refusal (subst (IfRefused (IsRefused bytes)) is says))
 
   module _ (p : Program) (found : IsRead bytes (named_program_of p)) where
     pub resolved : IsResolved (program_of p)
@@ -62,20 +74,28 @@ module _ (bytes : List ℕ) (fuel : ℕ) (tells : Bool) where
     few_items = let n = length-map p.items (λ (i : Item). definition_of i.kind) in omega (arith, n, resolved.count)
 
     -- the refusal of its types
-    pub types_written : (evaluation : Evaluation) (result : Result Status WriteFault) (before after : List ℕ) (r : Refusal) (stop : Stop) → stop ≡ StopRefused r → IfRefused (IsFirstRefusal (program_of p)) stop
-        → IfOk result (λ s. s ≡ Refused r) → Writes result tells before after (refusal_line (map (λ (i : Item). i.name) p.items) r) → IsWritten evaluation result before after
+    pub types_written : (evaluation : Evaluation) (result : Result Status WriteFault) (before after : List ℕ)
+        (r : Refusal) (stop : Stop) → stop ≡ StopRefused r → IfRefused (IsFirstRefusal (program_of p)) stop
+        → IfOk result (λ s. s ≡ Refused r)
+        → Writes result tells before after (refusal_line (map (λ (i : Item). i.name) p.items) r)
+        → IsWritten evaluation result before after
     types_written evaluation result before after r stop is says status writes =
-        let first : IsFirstRefusal (unnamed (named_program_of p)) r = subst (λ q. IsFirstRefusal q r) (sym (unnamed_program p)) (subst (IfRefused (IsFirstRefusal (program_of p))) is says) in
-        written_refusal evaluation result before after r (names_of (named_program_of p)) (λ shown. of_types (named_program_of p) found first) status
+        let first : IsFirstRefusal (unnamed (named_program_of p)) r =
+        subst (λ q. IsFirstRefusal q r) (sym (unnamed_program p))
+        (subst (IfRefused (IsFirstRefusal (program_of p))) is says) in
+        written_refusal evaluation result before after r (names_of (named_program_of p))
+        (λ shown. of_types (named_program_of p) found first) status
         (subst (λ names. Writes result tells before after (refusal_line names r)) (sym (names_of_program p)) writes)
 
     accepted : Typable (program_of p) → NoneTooBig (program_of p) → IsAccepted (unnamed (named_program_of p))
     accepted typable small = subst IsAccepted (sym (unnamed_program p)) record { typable = typable; small = small }
 
     -- the run of its program
-    pub run_written : (shown : Shown) (result : Result Status WriteFault) (before after : List ℕ) → Typable (program_of p) → NoneTooBig (program_of p)
-        → IsWrittenRun shown fuel (named_program_of p) result tells before after → IsWritten (Run shown) result before after
-    run_written shown result before after typable small h = record {
+    pub run_written : (workers : ℕ) (shown : Shown) (result : Result Status WriteFault) (before after : List ℕ)
+        → Typable (program_of p)
+        → NoneTooBig (program_of p) → IsWrittenRun shown fuel (named_program_of p) result tells before after
+        → IsWritten (Run workers shown) result before after
+    run_written workers shown result before after typable small h = record {
       meaning = ran shown h.kernels h.ending;
       is_meaning = of_program (named_program_of p) found (accepted typable small) h.is_run;
       is_status = h.is_status;
@@ -83,14 +103,18 @@ module _ (bytes : List ℕ) (fuel : ℕ) (tells : Bool) where
     }
 
     -- its erased program's main
-    pub erased_written : (result : Result Status WriteFault) (before after : List ℕ) → Typable (program_of p) → NoneTooBig (program_of p)
+    pub erased_written : (result : Result Status WriteFault) (before after : List ℕ) → Typable (program_of p)
+        → NoneTooBig (program_of p)
         → IsWrittenErased fuel (program_of p) result tells before after → IsWritten Erased result before after
     erased_written result before after typable small h = record {
       meaning = erased h.ending;
-      is_meaning = of_erased (named_program_of p) found (accepted typable small) (subst (λ q. erased_ending fuel q ≡ Some h.ending) (sym (unnamed_program p)) h.is_run);
+      is_meaning =
+          of_erased (named_program_of p) found (accepted typable small)
+          (subst (λ q. erased_ending fuel q ≡ Some h.ending) (sym (unnamed_program p)) h.is_run);
       is_status = h.is_status;
       writes = h.writes;
     }
 
     pub few_nodes : program_size (program_of p) < 2 ^ 31
-    few_nodes = subst (λ q. program_size q < 2 ^ 31) (unnamed_program p) (small_program bytes (named_program_of p) found)
+    few_nodes =
+        subst (λ q. program_size q < 2 ^ 31) (unnamed_program p) (small_program bytes (named_program_of p) found)

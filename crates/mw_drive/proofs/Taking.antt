@@ -1,7 +1,7 @@
 -- Fronts and rests of lists, one element on.
 use Rattle.std.proofs.Common.{◌≡◌, ◌+◌, ◌<◌, length, ℕ, zero, suc, List, [], ◌∷◌, ◌++◌, take, drop, Some, ap, arith}
 use Rattle.std.specs.Prelude.{slice_get, get_or}
-use Rattle.std.specs.List.{AllByRecursion, All}
+use Rattle.std.specs.List.{AllByRecursion}
 
 one_more : (n : ℕ) → n + 1 ≡ suc n
 one_more n = omega arith

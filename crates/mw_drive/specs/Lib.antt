@@ -5,7 +5,7 @@ pub mod Works
 pub mod WorkLaws
 pub mod Written
 pub mod ProgramRuns
-pub mod WrittenItems
+pub mod ItemOutcomes
 pub mod Extents
 pub mod Running
 pub mod SimplifiedPrograms

@@ -12,7 +12,7 @@ ghost use Rattle.mw_meaning.specs.declared.mode.Mode.TheVariants.{Plain, Simple}
 ghost use Rattle.mw_drive.specs.Extents.{whole, never, Kind, on_a_file, on_a_number, extent};
 ghost use Rattle.mw_drive.specs.Works.{Work, running, erasing, sampling, Meaning, ran, erased, IsMeaning, HaveModules, status_of};
 ghost use Rattle.mw_drive.specs.ProgramMeaning.{Kernel};
-ghost use Rattle.mw_drive.specs.ProgramRuns.{evaluated};
+ghost use Rattle.mw_drive.specs.ProgramRuns.{evaluated, HasWorkers};
 ghost use Rattle.mw_drive.specs.declared.shown.Shown.TheVariants.{Lines};
 ghost use Rattle.mw_drive.specs.SimplifiedPrograms.{IsUnbounded};
 ghost use Rattle.mw_drive.specs.Running.{outside, files_of, source_file, Has, Lacks, HasAll, LacksFirst, IsWork, kind_of};
@@ -20,32 +20,40 @@ ghost use Rattle.mw_drive.specs.Running.{AsksOn, Asks, AsksMissing, AsksNoFile, 
 
 use crate::shown::Shown;
 use crate::source::{Evaluation, write_source};
+use crate::workplace::Workplace;
+use mw_compile::Entry;
 use mw_console::{SourceFault, Status, file_bytes};
 use mw_meaning::Mode;
 use mw_outside::{Gate, Keeper, Sink, Source, WriteFault};
 use mw_sample::sample;
+use mw_slots::Table;
 use mw_words::{Command, read_words};
 use std::alloc::Global;
 use std::marker::Brand;
 use std::sync::ledger::Blank;
 use std::thread::Threads;
 
-/// The units of fuel of a sample.
+/// The units of fuel of a sample, and how many workers it has.
 const SAMPLE_FUEL: u64 = 1_000_000;
 
-/// Carries out the command that the words mean. `run FILE` reads the file from the source, checks it, evaluates its kernel items
-/// and writes what they came to, and then evaluates main and writes the last line; with `--simplify` the kernels' code is
-/// simplified before it is compiled. `erased FILE` evaluates main of the erased program and writes the last line alone.
-/// `sample N` runs as `run` does, with a source that is made from the number, and writes totals in place of the kernels. The
+const SAMPLE_WORKERS: u32 = 4;
+
+/// Carries out the command that the words mean. `run FILE` reads the file from the source, checks it, evaluates its
+/// kernel items and writes what they came to, and then evaluates main and writes the last line; with `--simplify` the
+/// kernels' code is simplified before it is compiled. `erased FILE` evaluates main of the erased program and writes
+/// the last line alone. `sample N` runs as `run` does, with a source that is made from the number, and writes totals
+/// in place of the kernels. The kernel items are evaluated by as many workers as the words say, or as a sample has,
+/// over the table of modules; what is written depends neither on their number nor on what stands in the table. The
 /// keeper isn't touched.
 pub fn run<R: Threads + Sync, S: Source, K: Sink, C: Keeper, G: Gate>(
-    _rt: &R,
+    rt: &R,
     alloc: Global,
     words: &[String],
     source: &mut S,
     sink: &mut K,
     _keeper: &mut C,
-    _gate: &G,
+    gate: &G,
+    table: &Table<Entry>,
 ) -> Status
     // Where nothing failed and memory was there, exactly the work's output was written, and the status is what it says.
     ensures text { (work : Work) → Asks (map string_bytes words.now) (outside S.tells (S.told source.old)) work
@@ -96,20 +104,24 @@ pub fn run<R: Threads + Sync, S: Source, K: Sink, C: Keeper, G: Gate>(
     ensures source_count { S.faults source.old ≤ S.faults source.new }
     ensures sink_count { K.faults sink.old ≤ K.faults sink.new }
 {
+    let place = Workplace { rt, gate, table };
     match read_words(words) {
-        Ok(command) => carry_out(alloc, command, source, sink),
+        Ok(command) => carry_out(alloc, &place, command, source, sink),
         Err(_) => Status::Usage,
     }
 }
 
 /// Carries out a command.
-fn carry_out<S: Source, K: Sink>(
+fn carry_out<R: Threads + Sync, S: Source, K: Sink, G: Gate>(
     alloc: Global,
+    place: &Workplace<'_, R, G>,
     command: Command<'_>,
     source: &mut S,
     sink: &mut K,
 ) -> Status
     requires range { (number : ℕ) → command_in command ≡ sample number → (1 ≤ number) × (number ≤ 100) }
+    requires workers { (workers fuel : ℕ) (simplify : Bool) (file : List ℕ)
+        → command_in command ≡ run workers fuel simplify file → 1 ≤ workers }
     ensures work { (contents : List (List ℕ)) (work : Work)
         → HasAll (outside S.tells (S.told source.old)) (files_of (command_in command.entry)) contents
         → IsWork (command_in command.entry) contents work
@@ -132,18 +144,19 @@ fn carry_out<S: Source, K: Sink>(
 {
     match command {
         Command::Run {
+            workers,
             fuel,
             simplify,
             file,
-            ..
         } => {
-            let evaluation = Evaluation::Run(Shown::Lines(mode_when(simplify)));
-            evaluate_file(alloc, source, sink, file, fuel, evaluation)
+            let shown = Shown::Lines(mode_when(simplify));
+            let evaluation = Evaluation::Run { workers, shown };
+            evaluate_file(alloc, place, source, sink, file, fuel, evaluation)
         }
         Command::Erased { fuel, file } => {
-            evaluate_file(alloc, source, sink, file, fuel, Evaluation::Erased)
+            evaluate_file(alloc, place, source, sink, file, fuel, Evaluation::Erased)
         }
-        Command::Sample { number } => run_sample(alloc, sink, number),
+        Command::Sample { number } => run_sample(alloc, place, sink, number),
     }
 }
 
@@ -155,14 +168,16 @@ fn mode_when(simplify: bool) -> Mode
 }
 
 /// Evaluates the source of a file, with so many units for each evaluation.
-fn evaluate_file<S: Source, K: Sink>(
+fn evaluate_file<R: Threads + Sync, S: Source, K: Sink, G: Gate>(
     alloc: Global,
+    place: &Workplace<'_, R, G>,
     source: &mut S,
     sink: &mut K,
     file: &str,
     fuel: u64,
     evaluation: Evaluation,
 ) -> Status
+    requires workers { HasWorkers evaluation }
     ensures work { (bytes : List ℕ) → Has (outside S.tells (S.told source.old)) (source_file file.now) bytes
         → IsCarriedOut on_a_file (evaluated evaluation bytes fuel) result K.tells (K.written sink.old) (K.written sink.new) }
     ensures left { (bytes : List ℕ) → Has (outside S.tells (S.told source.old)) (source_file file.now) bytes
@@ -185,8 +200,9 @@ fn evaluate_file<S: Source, K: Sink>(
         Err(SourceFault::Failed) => return Status::Read,
         Err(SourceFault::Memory(error)) => return Status::Memory(error),
     };
-    status_of(write_source::<K, Brand>(
+    status_of(write_source::<R, K, G, Brand>(
         alloc,
+        place,
         bytes.as_slice(),
         fuel,
         evaluation,
@@ -196,7 +212,12 @@ fn evaluate_file<S: Source, K: Sink>(
 }
 
 /// Runs the source that is made from a number, and writes its totals.
-fn run_sample<K: Sink>(alloc: Global, sink: &mut K, number: u32) -> Status
+fn run_sample<R: Threads + Sync, K: Sink, G: Gate>(
+    alloc: Global,
+    place: &Workplace<'_, R, G>,
+    sink: &mut K,
+    number: u32,
+) -> Status
     requires some { 1 ≤ number }
     requires within_limit { number ≤ 100 }
     ensures work { IsCarriedOut on_a_number (sampling number) result K.tells (K.written sink.old) (K.written sink.new) }
@@ -210,11 +231,16 @@ fn run_sample<K: Sink>(alloc: Global, sink: &mut K, number: u32) -> Status
         Ok(bytes) => bytes,
         Err(error) => return Status::Memory(error),
     };
-    status_of(write_source::<K, Brand>(
+    let evaluation = Evaluation::Run {
+        workers: SAMPLE_WORKERS,
+        shown: Shown::Totals,
+    };
+    status_of(write_source::<R, K, G, Brand>(
         alloc,
+        place,
         bytes.as_slice(),
         SAMPLE_FUEL,
-        Evaluation::Run(Shown::Totals),
+        evaluation,
         sink,
         Blank::new(1),
     ))

@@ -1,6 +1,6 @@
 // The erased program of a program.
 
-ghost use Rattle.std.specs.Prelude.{◌≡◌, ◌≤◌, ◌<◌, ◌^◌};
+ghost use Rattle.std.specs.Prelude.{◌≡◌, ◌≤◌, ◌<◌, ◌^◌, []};
 ghost use Rattle.mw_term.specs.Programs.{program_of, program_size};
 ghost use Rattle.mw_term.specs.Typable.{Typable};
 ghost use Rattle.mw_drive.specs.ProgramRuns.{IsWrittenErased};
@@ -8,18 +8,22 @@ ghost use Rattle.mw_drive.specs.Written.{Blames};
 
 use crate::ending::write_end;
 use crate::main_end::main_end;
+use mw_cache::Cache;
+use mw_compile::{Entry, Steps};
 use mw_console::Status;
-use mw_emitting::EmittingKernels;
 use mw_meaning::{Mode, erase_program};
 use mw_outside::{Sink, WriteFault};
+use mw_slots::{Receipts, Table};
+use mw_tasks::{Outcomes, Phase};
 use mw_term::Program;
 use std::alloc::Global;
 use std::sync::ledger::{Blank, Ledger};
 
-/// Evaluates main of an accepted program's erased program with so many units, and writes the last line. The kernels are never
-/// asked.
+/// Evaluates main of an accepted program's erased program, which has no kernel items, with so many units, and writes
+/// the last line.
 pub fn write_erased<K: Sink, L: Ledger>(
     alloc: Global,
+    table: &Table<Entry>,
     program: &Program,
     fuel: u64,
     sink: &mut K,
@@ -30,12 +34,34 @@ pub fn write_erased<K: Sink, L: Ledger>(
     requires some { 0 < L.parts }
     requires typable { Typable (program_of program.now) }
     requires nodes { program_size (program_of program.now) < 2 ^ 31 }
-    ensures run { IsWrittenErased fuel (program_of program.now) result K.tells (K.written sink.old) (K.written sink.new) }
+    ensures run { let p = program_of program.now in
+        IsWrittenErased fuel p result K.tells (K.written sink.old) (K.written sink.new) }
     ensures blames { Blames result (K.faults sink.old) (K.faults sink.new) }
     ensures count { K.faults sink.old ≤ K.faults sink.new }
 {
     let erased = erase_program(alloc, program)?;
-    let mut kernels = EmittingKernels::<L>::new(alloc, blank, Mode::Plain);
-    let end = main_end(alloc, erased, Vec::new(alloc), fuel, &mut kernels)?;
+    let cache = Cache::new(table);
+    let phase = no_kernels(alloc);
+    let mut steps = Steps::<L>::open(blank);
+    let end = main_end(
+        alloc,
+        &erased,
+        &phase,
+        fuel,
+        Mode::Plain,
+        &cache,
+        &mut steps,
+    )?;
     write_end(alloc, sink, &end)
+}
+
+/// The phase of no kernel items.
+fn no_kernels(alloc: Global) -> Phase
+    ensures { result.outcomes ≡ [] }
+{
+    Phase {
+        outcomes: Outcomes::new(alloc),
+        stored: Receipts::new(alloc),
+        emitted: 0,
+    }
 }

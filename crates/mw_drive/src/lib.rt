@@ -11,6 +11,10 @@ mod program;
 mod reading;
 mod shown;
 mod source;
+#[cfg(test)]
+mod tests;
+mod workplace;
 
 pub use crate::command::run;
+pub use crate::workplace::table;
 pub use mw_console::Status;

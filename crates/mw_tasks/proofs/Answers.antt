@@ -21,8 +21,8 @@ use Rattle.mw_machine.specs.declared.outcome.Outcome.{Outcome}
 use Rattle.mw_machine.specs.declared.outcome.Outcome.TheVariants as o
 use Rattle.mw_machine.specs.Evaluations.{item, main}
 use Rattle.mw_machine.specs.TurnAnswers.{HasCode, IsOutcome, IsTypedOutcome}
-use Rattle.mw_tasks.specs.declared.outcome.ItemOutcome.{ItemOutcome}
-use Rattle.mw_tasks.specs.declared.outcome.ItemOutcome.TheVariants as x
+use Rattle.mw_tasks.specs.declared.outcome.Evaluated.{Evaluated}
+use Rattle.mw_tasks.specs.declared.outcome.Evaluated.TheVariants as x
 use Rattle.mw_tasks.specs.declared.outcome.MainOutcome.{MainOutcome}
 use Rattle.mw_tasks.specs.declared.outcome.MainOutcome.TheVariants as m
 use Rattle.mw_tasks.specs.declared.evaluation.Ended.{Ended}
@@ -31,7 +31,7 @@ use Rattle.mw_tasks.specs.TaskOutcomes.{IsItemAnswer, IsItemOutcome, IsMainAnswe
 use Rattle.mw_tasks.proofs.Evaluating.{err_is}
 
 -- the outcome of a kernel item, and of main
-code_as : (a : Answer Runs Value) (n : Machine) (id : Id) (x : ItemOutcome) → IsOutcome (o.Code id) n a
+code_as : (a : Answer Runs Value) (n : Machine) (id : Id) (x : Evaluated) → IsOutcome (o.Code id) n a
     → ((c : Expression) → HasCode n id c → IsMeasured x c) → IsItemAnswer x (code_outcome a)
 code_as (gives (code c) left s) n id x h f = f c h.0
 code_as (gives _ left s) n id x h f = absurd h
@@ -53,13 +53,15 @@ ground_in_value (int n) = refl
 ground_in_value (bool b) = refl
 ground_in_value (both v w) = rw (ground_in_value v, ground_in_value w) refl
 
-value_as : (a : Answer Runs Value) (n : Machine) (v : GroundValue) → IsOutcome (o.Value v) n a → IsMainAnswer (m.Value v) (value_outcome a)
+value_as : (a : Answer Runs Value) (n : Machine) (v : GroundValue) → IsOutcome (o.Value v) n a
+    → IsMainAnswer (m.Value v) (value_outcome a)
 value_as (gives w left s) n v h = rw (h.0, ground_in_value (ground_value_of v)) refl
 value_as (stops why s) n v h = absurd h
 
 -- an evaluation ended with this outcome
 module _ (a : Answer Runs Value) (n : Machine) (y : Outcome) (h : IsOutcome y n a) where
-  pub item_code : (id : Id) (x : ItemOutcome) → y ≡ o.Code id → ((c : Expression) → HasCode n id c → IsMeasured x c) → IsItemAnswer x (code_outcome a)
+  pub item_code : (id : Id) (x : Evaluated) → y ≡ o.Code id → ((c : Expression) → HasCode n id c → IsMeasured x c)
+      → IsItemAnswer x (code_outcome a)
   item_code id x q f = code_as a n id x (subst (λ y. IsOutcome y n a) q h) f
 
   pub item_trap : (t : TrapKind) → y ≡ o.Trap t → IsItemAnswer (x.Trap t) (code_outcome a)
@@ -83,15 +85,19 @@ fault_as : (f : KernelFault) (a : Answer Runs Value) → EndsAs (Err f) a
 fault_as (fault.Memory x) a h = (tt, tt)
 fault_as (fault.Bad d) a h = absurd h
 
-pub item_fails : (result : Result ItemOutcome KernelFault) (r : Result Ended KernelFault) (a : Answer Runs Value) (f : KernelFault)
+pub item_fails : (result : Result Evaluated KernelFault) (r : Result Ended KernelFault) (a : Answer Runs Value)
+    (f : KernelFault)
     → IsErrAnd result (λ g. g ≡ f) → r ≡ Err f → EndsAs r a → IsItemOutcome result (code_outcome a)
 item_fails result r a f is q h =
-    subst (λ r. IsItemOutcome r (code_outcome a)) (sym (err_is result f is)) (fault_as f a (subst (λ r. EndsAs r a) q h)).0
+    subst (λ r. IsItemOutcome r (code_outcome a)) (sym (err_is result f is))
+    (fault_as f a (subst (λ r. EndsAs r a) q h)).0
 
-pub main_fails : (result : Result MainOutcome KernelFault) (r : Result Ended KernelFault) (a : Answer Runs Value) (f : KernelFault)
+pub main_fails : (result : Result MainOutcome KernelFault) (r : Result Ended KernelFault) (a : Answer Runs Value)
+    (f : KernelFault)
     → IsErrAnd result (λ g. g ≡ f) → r ≡ Err f → EndsAs r a → IsMainOutcome result (value_outcome a)
 main_fails result r a f is q h =
-    subst (λ r. IsMainOutcome r (value_outcome a)) (sym (err_is result f is)) (fault_as f a (subst (λ r. EndsAs r a) q h)).1
+    subst (λ r. IsMainOutcome r (value_outcome a)) (sym (err_is result f is))
+    (fault_as f a (subst (λ r. EndsAs r a) q h)).1
 
 -- what is measured is the code, within the limits
 code_within : (t : Term) (c : Expression) (b : Bool) → within_limits c ≡ b → IsItemAnswer (x.Code t) (measured_code b c)
@@ -99,7 +105,7 @@ code_within : (t : Term) (c : Expression) (b : Bool) → within_limits c ≡ b �
 code_within t c true w h = (h, w)
 code_within t c false w h = absurd h
 
-typed_as : (p : PureProgram) (i : ℕ) (n : Machine) (id : Id) (x : ItemOutcome) → IsTypedOutcome p (item i) (o.Code id) n
+typed_as : (p : PureProgram) (i : ℕ) (n : Machine) (id : Id) (x : Evaluated) → IsTypedOutcome p (item i) (o.Code id) n
     → ((c : Expression) → HasCode n id c → IsMeasured x c) → IfCode (Ok x) (IsCodeOf p i)
 typed_as p i n id (x.Code t) h f =
     let w = code_within t h.built (within_limits h.built) refl (f h.built h.has) in
@@ -112,17 +118,21 @@ typed_as p i n id (x.Code t) h f =
 typed_as p i n id (x.Trap t) h f = tt
 typed_as p i n id (x.Bound l) h f = tt
 
-pub item_typed : (p : PureProgram) (i : ℕ) (n : Machine) (y : Outcome) (id : Id) (x : ItemOutcome) → IsTypedOutcome p (item i) y n → y ≡ o.Code id
+pub item_typed : (p : PureProgram) (i : ℕ) (n : Machine) (y : Outcome) (id : Id) (x : Evaluated)
+    → IsTypedOutcome p (item i) y n → y ≡ o.Code id
     → ((c : Expression) → HasCode n id c → IsMeasured x c) → IfCode (Ok x) (IsCodeOf p i)
 item_typed p i n y id x h q f = typed_as p i n id x (subst (λ y. IsTypedOutcome p (item i) y n) q h) f
 
 -- an item never ends with a value, and main never with code
-pub item_no_value : (p : PureProgram) (i : ℕ) (n : Machine) (y : Outcome) (v : GroundValue) → IsTypedOutcome p (item i) y n → y ≡ o.Value v → ⊥
+pub item_no_value : (p : PureProgram) (i : ℕ) (n : Machine) (y : Outcome) (v : GroundValue)
+    → IsTypedOutcome p (item i) y n → y ≡ o.Value v → ⊥
 item_no_value p i n y v h q = subst (λ y. IsTypedOutcome p (item i) y n) q h
 
-pub main_no_code : (p : PureProgram) (n : Machine) (y : Outcome) (id : Id) → IsTypedOutcome p main y n → y ≡ o.Code id → ⊥
+pub main_no_code : (p : PureProgram) (n : Machine) (y : Outcome) (id : Id) → IsTypedOutcome p main y n → y ≡ o.Code id
+    → ⊥
 main_no_code p n y id h q = subst (λ y. IsTypedOutcome p main y n) q h
 
-pub main_typed : (p : PureProgram) (n : Machine) (y : Outcome) (v : GroundValue) → IsTypedOutcome p main y n → y ≡ o.Value v
+pub main_typed : (p : PureProgram) (n : Machine) (y : Outcome) (v : GroundValue) → IsTypedOutcome p main y n
+    → y ≡ o.Value v
     → HasGroundType p.result (ground_value_of v)
 main_typed p n y v h q = subst (λ y. IsTypedOutcome p main y n) q h

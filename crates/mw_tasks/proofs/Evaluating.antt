@@ -25,7 +25,8 @@ pub item_has_names : (p : PureProgram) (i : ℕ) → IsKernelItem p i → HasNam
 item_has_names p i h = item_names i h.0 h.1 h.2 (names_of_items_are_values p.items i)
 
 -- the names of each part of a program have values
-named : (p : PureProgram) (part : Part) (e : Expression) → IsPart p part e → (names : List Value) × HasNames p part names
+named : (p : PureProgram) (part : Part) (e : Expression) → IsPart p part e → (names : List Value)
+    × HasNames p part names
 named p _ e (item_part i k q) = (names_of_items p.items, item_names i k e q (names_of_items_are_values p.items i))
 named p _ _ (main_part codes b) = (names_of_main p.items codes, main_names codes b)
 
@@ -34,12 +35,14 @@ pub err_is : {A E : Type 0} (result : Result A E) (f : E) → IsErrAnd result (�
 err_is result f is = let x = err_from_is_err_and result is in x.1 ∙ ap (λ g. Err g) x.2
 
 -- what holds of a drive's fault where the machine had none
-pub fault_is : {A B N : Type 0} (P : KernelFault → Type 0) (result : Result A KernelFault) (r : Result B KernelFault) (f : KernelFault)
+pub fault_is : {A B N : Type 0} (P : KernelFault → Type 0) (result : Result A KernelFault) (r : Result B KernelFault)
+    (f : KernelFault)
     → IsErrAnd result (λ g. g ≡ f) → r ≡ Err f → IfErr r (λ g. N → P g) → N → IfErr result P
 fault_is {N = N} P result r f is q h none =
     subst (λ r. IfErr r P) (sym (err_is result f is)) ((subst (λ r. IfErr r (λ g. N → P g)) q h) none)
 
-module _ (p : PureProgram) (body : Expression) (fuel : ℕ) (m : Machine) (begins : (part : Part) → IsPart p part body → Begins m p part fuel)
+module _ (p : PureProgram) (body : Expression) (fuel : ℕ) (m : Machine)
+    (begins : (part : Part) → IsPart p part body → Begins m p part fuel)
     (part : Part) (is : IsPart p part body) where
   -- the evaluation of the part with these values of the names
   abbrev of : List Value → Evaluation
@@ -69,22 +72,26 @@ module _ (p : PureProgram) (body : Expression) (fuel : ℕ) (m : Machine) (begin
         → ((part : Part) → IsUnderway p part kept_runs m → DriveKeeps r p part n) → IsTypedOutcome p part x n
     typed r x n q keeps = subst (λ r. DriveKeeps r p part n) q (keeps part underway)
 
-  module _ (mode : Mode) (kept_runs : Runs) (Sound : Expression → KernelType → Type 0) (price : Expression → KernelType → ℕ) (old new : ℕ)
+  module _ (mode : Mode) (kept_runs : Runs) (Sound : Expression → KernelType → Type 0)
+      (price : Expression → KernelType → ℕ) (old new : ℕ)
       (r : Result Outcome KernelFault) (n : Machine)
-      (means : (x : Evaluation) (begun : Runs) → x.program ≡ p → IsMeant mode kept_runs x begun m → AreSound Sound (runs_of mode x)
+      (means : (x : Evaluation) (begun : Runs) → x.program ≡ p → IsMeant mode kept_runs x begun m
+      → AreSound Sound (runs_of mode x)
       → DriveMeans r mode x begun n price old new)
       (names : List Value) (has : HasNames p part names) (sound : AreSound Sound (runs mode names fuel e)) where
     whole : DriveMeans r mode (of names) [] n price old new
     whole = means (of names) [] refl (b.meant mode kept_runs names has) sound
 
-    pub ends_as : (x : Outcome) → r ≡ Ok x → EndsAs (Ok (record { machine = n; outcome = x })) (staged mode names fuel e)
+    pub ends_as : (x : Outcome) → r ≡ Ok x
+        → EndsAs (Ok (record { machine = n; outcome = x })) (staged mode names fuel e)
     ends_as x q = (subst (λ r. DriveMeans r mode (of names) [] n price old new) q whole).0
 
     pub costs : (x : Outcome) → r ≡ Ok x → new ≤ old + prices price (runs mode names fuel e)
     costs x q = let y = (subst (λ r. DriveMeans r mode (of names) [] n price old new) q whole).1 in omega (arith, y)
 
     -- a fault is want of memory
-    faults_as : (f : KernelFault) → DriveMeans (Err f) mode (of names) [] n price old new → EndsAs (Err f) (staged mode names fuel e)
+    faults_as : (f : KernelFault) → DriveMeans (Err f) mode (of names) [] n price old new
+        → EndsAs (Err f) (staged mode names fuel e)
     faults_as (fault.Memory x) h = tt
     faults_as (fault.Bad d) h = absurd h
 

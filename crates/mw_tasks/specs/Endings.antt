@@ -12,8 +12,8 @@ use Rattle.mw_machine.specs.declared.kernels.KernelFault.{KernelFault}
 use Rattle.mw_machine.specs.declared.kernels.KernelFault.TheVariants as fault
 use Rattle.mw_machine.specs.TurnAnswers.{IsOutcome}
 use Rattle.mw_tasks.specs.declared.evaluation.Ended.{Ended}
-use Rattle.mw_tasks.specs.declared.outcome.ItemOutcome.{ItemOutcome}
-use Rattle.mw_tasks.specs.declared.outcome.ItemOutcome.TheVariants as outcome
+use Rattle.mw_tasks.specs.declared.outcome.Evaluated.{Evaluated}
+use Rattle.mw_tasks.specs.declared.outcome.Evaluated.TheVariants as outcome
 use Rattle.mw_tasks.specs.TaskOutcomes.{IsItemAnswer}
 
 -- the evaluation ended as the answer says; want of memory says nothing, and a bad answer never comes
@@ -23,11 +23,12 @@ EndsAs (Err (fault.Memory e)) a = Unit {0}
 EndsAs (Err (fault.Bad d)) a = ⊥
 
 -- the outcome is the code, where it is within the limits
-abbrev pub IsMeasured : ItemOutcome → Expression → Type 0
+abbrev pub IsMeasured : Evaluated → Expression → Type 0
 IsMeasured outcome c = IsItemAnswer outcome (measured_code (within_limits c) c)
 
--- Code that was read back is itself the outcome, and code that is too large or too deep is the bound; want of memory stays that.
-abbrev pub IsMeasurementOf : {E : Type 0} → Result Term CodeFault → Result ItemOutcome E → Type 0
+-- Code that was read back is itself the outcome, and code that is too large or too deep is the bound; want of memory
+-- stays that.
+abbrev pub IsMeasurementOf : {E : Type 0} → Result Term CodeFault → Result Evaluated E → Type 0
 IsMeasurementOf (Ok t) (Ok (outcome.Code u)) = u ≡ t
 IsMeasurementOf (Err code.TooManyNodes) (Ok (outcome.Bound l)) = l ≡ KernelSize
 IsMeasurementOf (Err code.TooDeepCode) (Ok (outcome.Bound l)) = l ≡ KernelSize

@@ -31,15 +31,23 @@ fn evaluate_built<K: Kernels>(
     requires built { (codes : List Expression) × AreBuilt (program_of program.now).items codes }
     requires open { K.stopped kernels.old ≡ false }
     ensures means { (codes : List Expression) → AreBuilt (program_of program.now).items codes
-        → AreSound (K.sound kernels.old) (runs (K.mode kernels.old) (names_of_main (program_of program.now).items codes) fuel (program_of program.now).body)
-        → IsMainOutcome result (main_outcome (K.mode kernels.old) (names_of_main (program_of program.now).items codes) fuel (program_of program.now).body) }
+        → AreSound (K.sound kernels.old)
+        (runs (K.mode kernels.old) (names_of_main (program_of program.now).items codes) fuel
+        (program_of program.now).body)
+        → IsMainOutcome result (main_outcome (K.mode kernels.old)
+        (names_of_main (program_of program.now).items codes) fuel (program_of program.now).body) }
     ensures cost { (codes : List Expression) → AreBuilt (program_of program.now).items codes
-        → AreSound (K.sound kernels.old) (runs (K.mode kernels.old) (names_of_main (program_of program.now).items codes) fuel (program_of program.now).body)
+        → AreSound (K.sound kernels.old)
+        (runs (K.mode kernels.old) (names_of_main (program_of program.now).items codes) fuel
+        (program_of program.now).body)
         → IfOk result (λ _. K.cost kernels.new ≤ K.cost kernels.old
-        + prices (K.price kernels.old) (runs (K.mode kernels.old) (names_of_main (program_of program.now).items codes) fuel (program_of program.now).body)) }
+        + prices (K.price kernels.old)
+        (runs (K.mode kernels.old) (names_of_main (program_of program.now).items codes) fuel
+        (program_of program.now).body)) }
     ensures typed { IfValue result (HasGroundType (program_of program.now).result) }
     ensures open { IfValue result (λ _. K.stopped kernels.new ≡ false) }
-    ensures bad { IfErr result (λ fault. IsNewlyBad fault (K.bad kernels.old) (K.bad kernels.new) (K.digest kernels.new)) }
+    ensures bad { IfErr result (λ fault. IsNewlyBad fault (K.bad kernels.old) (K.bad kernels.new)
+        (K.digest kernels.new)) }
     ensures count { K.bad kernels.old ≤ K.bad kernels.new }
     ensures hands { K.keeps kernels.old kernels.new }
 {
@@ -55,25 +63,26 @@ fn evaluate_built<K: Kernels>(
 /// What main of a program comes to, with so many units, where its kernel items came to these codes, in order.
 pub fn evaluate_main<K: Kernels>(
     alloc: Global,
-    program: Program,
+    program: &Program,
     codes: Vec<Term>,
     fuel: u64,
     kernels: &mut K,
 ) -> Result<MainOutcome, KernelFault>
-    requires typable { Typable (program_of program) }
-    requires small { HasSmallTypes (program_of program) }
-    requires codes { AreCodesOf (program_of program).items (map expression_of codes.items) }
+    requires typable { Typable (program_of program.now) }
+    requires small { HasSmallTypes (program_of program.now) }
+    requires codes { AreCodesOf (program_of program.now).items (map expression_of codes.items) }
     requires open { K.stopped kernels.old ≡ false }
-    ensures means { let names = names_of_main (program_of program).items (map expression_of codes.items) in
-        AreSound (K.sound kernels.old) (runs (K.mode kernels.old) names fuel (program_of program).body)
-        → IsMainOutcome result (main_outcome (K.mode kernels.old) names fuel (program_of program).body) }
-    ensures cost { let names = names_of_main (program_of program).items (map expression_of codes.items) in
-        AreSound (K.sound kernels.old) (runs (K.mode kernels.old) names fuel (program_of program).body)
+    ensures means { let names = names_of_main (program_of program.now).items (map expression_of codes.items) in
+        AreSound (K.sound kernels.old) (runs (K.mode kernels.old) names fuel (program_of program.now).body)
+        → IsMainOutcome result (main_outcome (K.mode kernels.old) names fuel (program_of program.now).body) }
+    ensures cost { let names = names_of_main (program_of program.now).items (map expression_of codes.items) in
+        AreSound (K.sound kernels.old) (runs (K.mode kernels.old) names fuel (program_of program.now).body)
         → IfOk result (λ _. K.cost kernels.new ≤ K.cost kernels.old
-        + prices (K.price kernels.old) (runs (K.mode kernels.old) names fuel (program_of program).body)) }
-    ensures typed { IfValue result (HasGroundType (program_of program).result) }
+        + prices (K.price kernels.old) (runs (K.mode kernels.old) names fuel (program_of program.now).body)) }
+    ensures typed { IfValue result (HasGroundType (program_of program.now).result) }
     ensures open { IfValue result (λ _. K.stopped kernels.new ≡ false) }
-    ensures bad { IfErr result (λ fault. IsNewlyBad fault (K.bad kernels.old) (K.bad kernels.new) (K.digest kernels.new)) }
+    ensures bad { IfErr result (λ fault. IsNewlyBad fault (K.bad kernels.old) (K.bad kernels.new)
+        (K.digest kernels.new)) }
     ensures count { K.bad kernels.old ≤ K.bad kernels.new }
     ensures hands { K.keeps kernels.old kernels.new }
 {

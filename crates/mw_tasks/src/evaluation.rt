@@ -46,7 +46,8 @@ pub(crate) fn evaluate<K: Kernels>(
     ensures typed { IfOk result (λ ended. (part : Part) → IsPart (program_of program.now) part (expression_of body.now)
         → IsTypedOutcome (program_of program.now) part ended.outcome ended.machine) }
     ensures open { IfOk result (λ ended. IfOpenEnd (Ok ended.outcome) (K.stopped kernels.new ≡ false)) }
-    ensures bad { IfErr result (λ fault. IsNewlyBad fault (K.bad kernels.old) (K.bad kernels.new) (K.digest kernels.new)) }
+    ensures bad { IfErr result (λ fault. IsNewlyBad fault (K.bad kernels.old) (K.bad kernels.new)
+        (K.digest kernels.new)) }
     ensures count { K.bad kernels.old ≤ K.bad kernels.new }
     ensures hands { K.keeps kernels.old kernels.new }
 {

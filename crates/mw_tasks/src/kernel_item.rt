@@ -14,29 +14,29 @@ ghost use Rattle.mw_machine.specs.Evaluations.{item, IsPart, term_of};
 ghost use Rattle.mw_tasks.specs.TaskOutcomes.{IsKernelItem, IsItemOutcome, IfCode, IsCodeOf};
 
 use crate::evaluation::{Ended, evaluate};
-use crate::outcome::ItemOutcome;
+use crate::outcome::Evaluated;
 use mw_code::CodeFault;
 use mw_machine::{KernelFault, Kernels, Machine, Outcome};
 use mw_region::Id;
 use mw_term::{ItemKind, Limit, Program, Term};
 use std::alloc::{AllocError, Global};
 
-/// What code that was read back is as an outcome: the code, or the bound where it is too large or too deep. Want of memory comes
-/// only from the reading.
-fn measured(read: Result<Term, CodeFault>) -> Result<ItemOutcome, AllocError>
+/// What code that was read back is as an outcome: the code, or the bound where it is too large or too deep. Want of
+/// memory comes only from the reading.
+fn measured(read: Result<Term, CodeFault>) -> Result<Evaluated, AllocError>
     ensures { IsMeasurementOf read result }
 {
     match read {
-        Ok(term) => Ok(ItemOutcome::Code(term)),
+        Ok(term) => Ok(Evaluated::Code(term)),
         Err(CodeFault::TooManyNodes | CodeFault::TooDeepCode) => {
-            Ok(ItemOutcome::Bound(Limit::KernelSize))
+            Ok(Evaluated::Bound(Limit::KernelSize))
         }
         Err(CodeFault::Memory(error)) => Err(error),
     }
 }
 
 /// The code that an evaluation ended with, measured.
-fn measured_code(alloc: Global, machine: &Machine, id: Id) -> Result<ItemOutcome, AllocError>
+fn measured_code(alloc: Global, machine: &Machine, id: Id) -> Result<Evaluated, AllocError>
     requires code { EndedWithCode machine.now id }
     ensures { IfOk result (λ outcome. (c : Expression) → HasCode machine.now id c → IsMeasured outcome c) }
 {
@@ -61,7 +61,7 @@ pub fn evaluate_item<K: Kernels>(
     number: usize,
     fuel: u64,
     kernels: &mut K,
-) -> Result<ItemOutcome, KernelFault>
+) -> Result<Evaluated, KernelFault>
     requires typable { Typable (program_of program.now) }
     requires small { HasSmallTypes (program_of program.now) }
     requires item { IsKernelItem (program_of program.now) number }
@@ -75,7 +75,8 @@ pub fn evaluate_item<K: Kernels>(
         + prices (K.price kernels.old) (runs (K.mode kernels.old) (names_of_items p.items) fuel term)) }
     ensures typed { IfCode result (IsCodeOf (program_of program.now) number) }
     ensures open { IfCode result (λ _. K.stopped kernels.new ≡ false) }
-    ensures bad { IfErr result (λ fault. IsNewlyBad fault (K.bad kernels.old) (K.bad kernels.new) (K.digest kernels.new)) }
+    ensures bad { IfErr result (λ fault. IsNewlyBad fault (K.bad kernels.old) (K.bad kernels.new)
+        (K.digest kernels.new)) }
     ensures count { K.bad kernels.old ≤ K.bad kernels.new }
     ensures hands { K.keeps kernels.old kernels.new }
 {
@@ -83,8 +84,8 @@ pub fn evaluate_item<K: Kernels>(
     let Ended { machine, outcome } = evaluate(alloc, program, term, fuel, kernels)?;
     match outcome {
         Outcome::Code(id) => Ok(measured_code(alloc, &machine, id)?),
-        Outcome::Trap(trap) => Ok(ItemOutcome::Trap(trap)),
-        Outcome::Bound(limit) => Ok(ItemOutcome::Bound(limit)),
+        Outcome::Trap(trap) => Ok(Evaluated::Trap(trap)),
+        Outcome::Bound(limit) => Ok(Evaluated::Bound(limit)),
         Outcome::Value(_) => unreachable!(),
     }
 }

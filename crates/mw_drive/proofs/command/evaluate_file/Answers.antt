@@ -7,7 +7,8 @@ use Rattle.mw_drive.proofs.RunLemmas.{carried, written_as, front_told, means_eva
 use Rattle.mw_drive.proofs.command.evaluate_file.Goals as goal
 
 pub returns-in-Err-Memory-clause-work : goal.returns-in-Err-Memory-clause-work
-returns-in-Err-Memory-clause-work g c = λ bytes has. carried_memory on_a_file (evaluated c.args.evaluation bytes c.args.fuel) _ g.K.Sink.tells _
+returns-in-Err-Memory-clause-work g c =
+    λ bytes has. carried_memory on_a_file (evaluated c.args.evaluation bytes c.args.fuel) _ g.K.Sink.tells _
 
 pub returns-clause-work : goal.returns-clause-work
 returns-clause-work g c = λ bytes has.
@@ -15,5 +16,6 @@ returns-clause-work g c = λ bytes has.
     let work = evaluated c.args.evaluation bytes c.args.fuel in
     carried on_a_file c.write_source.result c.status_of.result _ _ work
     (written_as work
-    (λ m h. means_evaluated c.args.evaluation bytes c.args.fuel m (subst (λ (b : List ℕ). IsMeaning (evaluated c.args.evaluation b c.args.fuel) m) read h))
+    (λ m h. means_evaluated c.args.evaluation bytes c.args.fuel m
+    (subst (λ (b : List ℕ). IsMeaning (evaluated c.args.evaluation b c.args.fuel) m) read h))
     c.write_source.ensures.meaning) c.status_of.ensures

@@ -13,5 +13,6 @@ pub returns-clause-work : goal.returns-clause-work
 returns-clause-work g c =
     carried on_a_number c.write_source.result c.status_of.result _ _ (sampling c.args.number)
     (written_as (sampling c.args.number)
-    (λ m h. subst (λ (b : List ℕ). IsMeaning (running b 1000000 Totals) m) (c.as_slice.ensures.value ∙ c.in-Ok.ensures) h)
+    (λ m h. subst (λ (b : List ℕ). IsMeaning (running b 1000000 Totals) m)
+    (c.as_slice.ensures.value ∙ c.in-Ok.ensures) h)
     c.write_source.ensures.meaning) c.status_of.ensures

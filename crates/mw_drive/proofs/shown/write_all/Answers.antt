@@ -1,20 +1,43 @@
 use Rattle.std.proofs.Common.{◌∙◌, arith}
-use Rattle.mw_drive.specs.ProgramRuns.{IsBuilt}
+use Rattle.mw_drive.specs.ProgramRuns.{IsBuilt, HasModuleHere}
 use Rattle.mw_drive.proofs.Faults.{front_written}
 use Rattle.mw_drive.proofs.Showing.{lines_written, lines_front}
 use Rattle.mw_drive.proofs.Taking.{all_at, got}
 use Rattle.mw_drive.proofs.shown.write_all.Goals as goal
 
+pub write_kernel-requires : goal.write_kernel-requires
+write_kernel-requires g c =
+    let here =
+    got c.args.kernels.now c.loop-at.at c.index-kernels-at.result (omega (arith, c.loop-at-test.true))
+    c.index-kernels-at.is in
+    record {
+      here = all_at (HasModuleHere c.args.cache.now) c.args.kernels.now c.loop-at.at c.index-kernels-at.result
+          c.requires.here here;
+    }
+
 pub returns-in_err-write_kernel-clause-writes : goal.returns-in_err-write_kernel-clause-writes
 returns-in_err-write_kernel-clause-writes g c mode built =
-    let here = got c.args.kernels.now c.loop-at.at c.index-kernels-at.result (omega (arith, c.loop-at-test.true)) c.index-kernels-at.is in
+    let here =
+    got c.args.kernels.now c.loop-at.at c.index-kernels-at.result (omega (arith, c.loop-at-test.true))
+    c.index-kernels-at.is in
+    let kernel =
+    all_at (IsBuilt mode c.args.cache.now) c.args.kernels.now c.loop-at.at c.index-kernels-at.result built here in
     front_written _ c.from_residual.result g.K.Sink.tells _ _ _ c.from_residual.ensures.1
-    (λ tells. lines_front mode c.args.kernels.now c.loop-at.at c.index-kernels-at.result _ _ _ here (c.loop-at.invariant.written mode built tells) (c.in_err-write_kernel.ensures.writes mode (all_at (IsBuilt mode) c.args.kernels.now c.loop-at.at c.index-kernels-at.result built here) tells))
+    (λ tells. lines_front mode c.args.kernels.now c.loop-at.at c.index-kernels-at.result _ _ _ here
+    (c.loop-at.invariant.written mode built tells)
+    (c.in_err-write_kernel.ensures.writes mode kernel tells))
 
 pub loop-at-preserved : goal.loop-at-preserved
 loop-at-preserved g c =
-    let here = got c.args.kernels.now c.loop-at.at c.index-kernels-at.result (omega (arith, c.loop-at-test.true)) c.index-kernels-at.is in
+    let here =
+    got c.args.kernels.now c.loop-at.at c.index-kernels-at.result (omega (arith, c.loop-at-test.true))
+    c.index-kernels-at.is in
     record {
-      written = λ mode built tells. lines_written mode c.args.kernels.now c.loop-at.at c.index-kernels-at.result _ _ _ here (c.loop-at.invariant.written mode built tells) (c.in_ok-write_kernel.ensures.writes mode (all_at (IsBuilt mode) c.args.kernels.now c.loop-at.at c.index-kernels-at.result built here) tells);
+      written = λ mode built tells.
+          let kernel =
+          all_at (IsBuilt mode c.args.cache.now) c.args.kernels.now c.loop-at.at c.index-kernels-at.result built here in
+          lines_written mode c.args.kernels.now c.loop-at.at c.index-kernels-at.result _ _ _ here
+          (c.loop-at.invariant.written mode built tells)
+          (c.in_ok-write_kernel.ensures.writes mode kernel tells);
       count = c.in_ok-write_kernel.ensures.blames ∙ c.loop-at.invariant.count;
     }

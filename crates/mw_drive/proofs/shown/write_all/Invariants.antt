@@ -7,6 +7,8 @@ use Rattle.mw_drive.proofs.shown.write_all.Given as goal
 
 abbrev pub invariant-loop-at : goal.invariant-loop-at
 invariant-loop-at g l = record {
-  written : (mode : Mode) → AllByRecursion (IsBuilt mode) l.kernels → IsTrue g.K.Sink.tells → g.K.Sink.written l.sink ≡ g.K.Sink.written l.fn.sink ++ flat_map (kernel_lines mode) (kernels_of (take l.at l.kernels));
+  written : (mode : Mode) → AllByRecursion (IsBuilt mode l.cache) l.kernels → IsTrue g.K.Sink.tells
+      → g.K.Sink.written l.sink ≡ g.K.Sink.written l.fn.sink ++ flat_map (kernel_lines mode)
+      (kernels_of (take l.at l.kernels));
   count : g.K.Sink.faults l.sink ≡ g.K.Sink.faults l.fn.sink;
 }

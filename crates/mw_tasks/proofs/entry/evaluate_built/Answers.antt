@@ -18,27 +18,33 @@ unreachable-requires g c =
 
 pub returns-in-Value-clause-means : goal.returns-in-Value-clause-means
 returns-in-Value-clause-means g c = λ codes built sound.
-    main_value _ c.in_ok-outcome.field-0.machine c.in_ok-outcome.field-0.outcome (c.in_ok-outcome.ensures.means main _ (main_part codes built) (main_names codes built) sound)
+    main_value _ c.in_ok-outcome.field-0.machine c.in_ok-outcome.field-0.outcome
+    (c.in_ok-outcome.ensures.means main _ (main_part codes built) (main_names codes built) sound)
     c.in-Value.value c.in-Value.is
 
 pub returns-in-Value-clause-cost : goal.returns-in-Value-clause-cost
-returns-in-Value-clause-cost g c = λ codes built sound. c.in_ok-outcome.ensures.cost main _ (main_part codes built) (main_names codes built) sound
+returns-in-Value-clause-cost g c = λ codes built sound. c.in_ok-outcome.ensures.cost main _ (main_part codes built)
+    (main_names codes built) sound
 
 pub returns-in-Trap-clause-means : goal.returns-in-Trap-clause-means
 returns-in-Trap-clause-means g c = λ codes built sound.
-    main_trap _ c.in_ok-outcome.field-0.machine c.in_ok-outcome.field-0.outcome (c.in_ok-outcome.ensures.means main _ (main_part codes built) (main_names codes built) sound)
+    main_trap _ c.in_ok-outcome.field-0.machine c.in_ok-outcome.field-0.outcome
+    (c.in_ok-outcome.ensures.means main _ (main_part codes built) (main_names codes built) sound)
     c.in-Trap.trap c.in-Trap.is
 
 pub returns-in-Trap-clause-cost : goal.returns-in-Trap-clause-cost
-returns-in-Trap-clause-cost g c = λ codes built sound. c.in_ok-outcome.ensures.cost main _ (main_part codes built) (main_names codes built) sound
+returns-in-Trap-clause-cost g c = λ codes built sound. c.in_ok-outcome.ensures.cost main _ (main_part codes built)
+    (main_names codes built) sound
 
 pub returns-in-Bound-clause-means : goal.returns-in-Bound-clause-means
 returns-in-Bound-clause-means g c = λ codes built sound.
-    main_bound _ c.in_ok-outcome.field-0.machine c.in_ok-outcome.field-0.outcome (c.in_ok-outcome.ensures.means main _ (main_part codes built) (main_names codes built) sound)
+    main_bound _ c.in_ok-outcome.field-0.machine c.in_ok-outcome.field-0.outcome
+    (c.in_ok-outcome.ensures.means main _ (main_part codes built) (main_names codes built) sound)
     c.in-Bound.limit c.in-Bound.is
 
 pub returns-in-Bound-clause-cost : goal.returns-in-Bound-clause-cost
-returns-in-Bound-clause-cost g c = λ codes built sound. c.in_ok-outcome.ensures.cost main _ (main_part codes built) (main_names codes built) sound
+returns-in-Bound-clause-cost g c = λ codes built sound. c.in_ok-outcome.ensures.cost main _ (main_part codes built)
+    (main_names codes built) sound
 
 pub returns-in-Value-clause-typed : goal.returns-in-Value-clause-typed
 returns-in-Value-clause-typed g c =

@@ -6,40 +6,53 @@ use Rattle.mw_tasks.proofs.evaluation.evaluate.Goals as goal
 pub drive-requires : goal.drive-requires
 drive-requires g c = record {
   ready =
-      ready (program_of c.args.program.now) (expression_of c.args.body.now) c.args.fuel c.in_ok-machine.machine c.in_ok-machine.ensures.begins
-      c.requires.body.0 c.requires.body.1 (g.K.Kernels.kept c.args.kernels.now) (g.K.Kernels.stopped c.args.kernels.now) c.requires.«open»;
+      ready (program_of c.args.program.now)
+      (expression_of c.args.body.now) c.args.fuel c.in_ok-machine.machine c.in_ok-machine.ensures.begins
+      c.requires.body.0 c.requires.body.1 (g.K.Kernels.kept c.args.kernels.now)
+      (g.K.Kernels.stopped c.args.kernels.now) c.requires.«open»;
 }
 
 pub returns-in_err-outcome-clause-means : goal.returns-in_err-outcome-clause-means
 returns-in_err-outcome-clause-means g c = λ part names is has sound.
-    fails_as (program_of c.args.program.now) (expression_of c.args.body.now) c.args.fuel c.in_ok-machine.machine c.in_ok-machine.ensures.begins part is
-    (g.K.Kernels.mode c.args.kernels.now) (g.K.Kernels.kept c.args.kernels.now) (g.K.Kernels.sound c.args.kernels.now) (g.K.Kernels.price c.args.kernels.now)
-    (g.K.Kernels.cost c.args.kernels.now) (g.K.Kernels.cost c.drive.new.kernels) c.drive.result c.drive.new.self c.drive.ensures.means names has sound
+    fails_as (program_of c.args.program.now)
+    (expression_of c.args.body.now) c.args.fuel c.in_ok-machine.machine c.in_ok-machine.ensures.begins part is
+    (g.K.Kernels.mode c.args.kernels.now) (g.K.Kernels.kept c.args.kernels.now) (g.K.Kernels.sound c.args.kernels.now)
+    (g.K.Kernels.price c.args.kernels.now)
+    (g.K.Kernels.cost c.args.kernels.now)
+    (g.K.Kernels.cost c.drive.new.kernels) c.drive.result c.drive.new.self c.drive.ensures.means names has sound
     c.from_residual-in_err-outcome.result c.in_err-outcome.field-0.0 c.from_residual-in_err-outcome.ensures.1 c.in_err-outcome.was
 
 pub returns-in_err-outcome-clause-bad : goal.returns-in_err-outcome-clause-bad
 returns-in_err-outcome-clause-bad g c =
     fault_is _ c.from_residual-in_err-outcome.result c.drive.result c.in_err-outcome.field-0.0 c.from_residual-in_err-outcome.ensures.1
     c.in_err-outcome.was c.drive.ensures.bad
-    (no_fault (program_of c.args.program.now) (expression_of c.args.body.now) c.args.fuel c.in_ok-machine.machine c.in_ok-machine.ensures.begins
+    (no_fault (program_of c.args.program.now)
+    (expression_of c.args.body.now) c.args.fuel c.in_ok-machine.machine c.in_ok-machine.ensures.begins
     c.requires.body.0 c.requires.body.1 (g.K.Kernels.kept c.args.kernels.now))
 
 pub returns-clause-means : goal.returns-clause-means
 returns-clause-means g c = λ part names is has sound.
-    ends_as (program_of c.args.program.now) (expression_of c.args.body.now) c.args.fuel c.in_ok-machine.machine c.in_ok-machine.ensures.begins part is
-    (g.K.Kernels.mode c.args.kernels.now) (g.K.Kernels.kept c.args.kernels.now) (g.K.Kernels.sound c.args.kernels.now) (g.K.Kernels.price c.args.kernels.now)
-    (g.K.Kernels.cost c.args.kernels.now) (g.K.Kernels.cost c.drive.new.kernels) c.drive.result c.drive.new.self c.drive.ensures.means names has sound
+    ends_as (program_of c.args.program.now)
+    (expression_of c.args.body.now) c.args.fuel c.in_ok-machine.machine c.in_ok-machine.ensures.begins part is
+    (g.K.Kernels.mode c.args.kernels.now) (g.K.Kernels.kept c.args.kernels.now) (g.K.Kernels.sound c.args.kernels.now)
+    (g.K.Kernels.price c.args.kernels.now)
+    (g.K.Kernels.cost c.args.kernels.now)
+    (g.K.Kernels.cost c.drive.new.kernels) c.drive.result c.drive.new.self c.drive.ensures.means names has sound
     c.in_ok-outcome.outcome c.in_ok-outcome.was
 
 pub returns-clause-cost : goal.returns-clause-cost
 returns-clause-cost g c = λ part names is has sound.
-    costs (program_of c.args.program.now) (expression_of c.args.body.now) c.args.fuel c.in_ok-machine.machine c.in_ok-machine.ensures.begins part is
-    (g.K.Kernels.mode c.args.kernels.now) (g.K.Kernels.kept c.args.kernels.now) (g.K.Kernels.sound c.args.kernels.now) (g.K.Kernels.price c.args.kernels.now)
-    (g.K.Kernels.cost c.args.kernels.now) (g.K.Kernels.cost c.drive.new.kernels) c.drive.result c.drive.new.self c.drive.ensures.means names has sound
+    costs (program_of c.args.program.now)
+    (expression_of c.args.body.now) c.args.fuel c.in_ok-machine.machine c.in_ok-machine.ensures.begins part is
+    (g.K.Kernels.mode c.args.kernels.now) (g.K.Kernels.kept c.args.kernels.now) (g.K.Kernels.sound c.args.kernels.now)
+    (g.K.Kernels.price c.args.kernels.now)
+    (g.K.Kernels.cost c.args.kernels.now)
+    (g.K.Kernels.cost c.drive.new.kernels) c.drive.result c.drive.new.self c.drive.ensures.means names has sound
     c.in_ok-outcome.outcome c.in_ok-outcome.was
 
 pub returns-clause-typed : goal.returns-clause-typed
 returns-clause-typed g c = λ part is.
-    typed (program_of c.args.program.now) (expression_of c.args.body.now) c.args.fuel c.in_ok-machine.machine c.in_ok-machine.ensures.begins
+    typed (program_of c.args.program.now)
+    (expression_of c.args.body.now) c.args.fuel c.in_ok-machine.machine c.in_ok-machine.ensures.begins
     part is (g.K.Kernels.kept c.args.kernels.now) c.drive.result c.in_ok-outcome.outcome c.drive.new.self c.in_ok-outcome.was
     c.drive.ensures.keeps

@@ -1,0 +1,4 @@
+pub mod Crossing
+pub mod Hinting
+pub mod Keeping
+pub mod Modules

@@ -1,0 +1,3 @@
+pub mod Gots
+pub mod Hints
+pub mod Received

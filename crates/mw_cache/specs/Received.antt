@@ -1,0 +1,19 @@
+-- Lists of receipts.
+use Rattle.std.specs.Prelude.{◌≡◌, ℕ, List, Some, slice_get}
+use Rattle.mw_slots.specs.Receipts.{Known}
+use Rattle.mw_compile.specs.Entries.{Emitted}
+use Rattle.mw_cache.specs.declared.got.Got.{Got}
+use Rattle.mw_cache.specs.declared.got.Got.TheVariants.{Stored, Own}
+
+-- one of the receipts is of the slot
+abbrev pub HasSlot : List (Known Emitted) → ℕ → Type 0
+HasSlot receipts slot = (k : ℕ) × (r : Known Emitted) × (slice_get receipts k ≡ Some r) × (r.slot ≡ slot)
+
+-- there is one of the slot of each of these
+abbrev pub AreReceived : List (Known Emitted) → List (Known Emitted) → Type 0
+AreReceived receipts these = (k : ℕ) (r : Known Emitted) → slice_get these k ≡ Some r → HasSlot receipts r.slot
+
+-- there is one of the slot of the module, or of each slot of the window that had no room
+abbrev pub IsReceived : List (Known Emitted) → Got → Type 0
+IsReceived receipts (Stored r) = HasSlot receipts r.slot
+IsReceived receipts (Own n) = AreReceived receipts n.seen

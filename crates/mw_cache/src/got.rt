@@ -1,0 +1,11 @@
+// Where the module of a text is.
+
+use mw_compile::Entry;
+use mw_slots::{NoRoom, Receipt};
+
+/// Where the module of a text is: in a slot of the cache's table, or beside the table, which had no room.
+#[derive(Drop)]
+pub enum Got {
+    Stored(Receipt<Entry>),
+    Own(NoRoom<Entry>),
+}

@@ -1,0 +1,14 @@
+//! Modules by their code, through a table that threads share.
+#![tactic(auto)]
+
+mod cache;
+mod emitter;
+mod got;
+mod hinted;
+mod kept;
+pub mod laws;
+
+pub use crate::cache::Cache;
+pub use crate::got::Got;
+pub use crate::hinted::HintedCache;
+pub use crate::kept::KeptReceipts;

@@ -1,0 +1,9 @@
+//! Kernels that run code by the modules of a cache, and keep the functions that runs give.
+#![tactic(auto)]
+
+mod function;
+mod functions;
+mod kernels;
+mod obtaining;
+
+pub use crate::kernels::{CachedKernels, KernelState};

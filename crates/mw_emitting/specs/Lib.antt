@@ -1,4 +1,0 @@
-pub mod Answers
-pub mod EmittingStates
-pub mod KeptFunctions
-pub mod TestRuns

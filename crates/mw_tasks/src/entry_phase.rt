@@ -1,0 +1,188 @@
+// The phase of main.
+
+ghost use Rattle.std.specs.Prelude.{◌≡◌, ◌≤◌, ◌+◌, false, [], ◌∷◌, ◌++◌, All, IfOk, IfErr, map};
+ghost use Rattle.mw_term.specs.Terms.{expression_of};
+ghost use Rattle.mw_term.specs.Programs.{program_of};
+ghost use Rattle.mw_term.specs.SmallTypes.{HasSmallTypes};
+ghost use Rattle.mw_term.specs.Typable.{Typable};
+ghost use Rattle.mw_meaning.specs.Outcomes.{main_outcome, names_of_main};
+ghost use Rattle.mw_meaning.specs.OutcomeLaws.{AreCodesOf, HasGroundType};
+ghost use Rattle.mw_meaning.specs.StagedMeaning.{runs};
+ghost use Rattle.mw_machine.specs.KernelCalls.{prices};
+ghost use Rattle.mw_slots.specs.Receipts.{IsOf, IsFetched};
+ghost use Rattle.mw_key.specs.CanonicalText.{home};
+ghost use Rattle.mw_spread.specs.Outputs.{IfBad};
+ghost use Rattle.mw_cache.specs.Gots.{IsAnswered, entry_text, texts_of};
+ghost use Rattle.mw_cached.specs.Following.{Follows, standing, price_in};
+ghost use Rattle.mw_tasks.specs.TaskOutcomes.{IsMainAnswer, IfGiven};
+ghost use Rattle.mw_tasks.specs.Phases.{AreOutcomesOf, AreBuiltAll, IfBuilt, codes_in, stored_text, stored_texts, main_price};
+
+use crate::entry::evaluate_main;
+use crate::items_phase::Phase;
+use crate::outcome::{ItemOutcome, MainOutcome};
+use mw_cache::{Cache, Got, HintedCache};
+use mw_cached::{CachedKernels, KernelState};
+use mw_compile::{Entry, Steps};
+use mw_machine::KernelFault;
+use mw_meaning::Mode;
+use mw_slots::Receipts;
+use mw_spread::JobFault;
+use mw_term::{Program, Term, copied_term};
+use std::alloc::{AllocError, Global};
+use std::sync::ledger::Ledger;
+
+/// What main came to, with receipts of the modules that it asked for, one for each slot.
+#[derive(Drop)]
+pub struct MainEnd {
+    pub outcome: MainOutcome,
+    pub stored: Receipts<Entry>,
+}
+
+/// Evaluates main of a program, with so many units, after the phase of its kernel items, all of which gave code. The
+/// codes stand in place of the items' terms. A run of code whose text a kernel item has in the table spends no step,
+/// and another run at most one.
+pub fn main_phase<L: Ledger>(
+    alloc: Global,
+    program: &Program,
+    phase: &Phase,
+    fuel: u64,
+    mode: Mode,
+    cache: &Cache<'_>,
+    steps: &mut Steps<L>,
+) -> Result<MainEnd, JobFault>
+    requires typable { Typable (program_of program.now) }
+    requires small { HasSmallTypes (program_of program.now) }
+    requires phase { AreOutcomesOf mode (program_of program.now) fuel cache.now phase.now.outcomes }
+    requires built { AreBuiltAll phase.now.outcomes }
+    ensures means { let p = program_of program.now in let names = names_of_main p.items (codes_in phase.now.outcomes) in
+        IfOk result (λ end. IsMainAnswer end.outcome (main_outcome mode names fuel p.body)) }
+    ensures typed { IfOk result (λ end. IfGiven end.outcome (HasGroundType (program_of program.now).result)) }
+    ensures spent { let p = program_of program.now in let names = names_of_main p.items (codes_in phase.now.outcomes) in
+        IfOk result (λ _. steps.new ≤ steps.old + prices (main_price mode phase.now.outcomes) (runs mode names fuel p.body)) }
+    ensures rises { IfOk result (λ _. steps.old ≤ steps.new) }
+    ensures table { IfOk result (λ end. All (IsOf cache.now.cells) end.stored) }
+    ensures bad { IfErr result (λ fault. IfBad fault (λ _. ⊥)) }
+{
+    let codes = copied_codes(alloc, phase.outcomes.as_slice())?;
+    let hints = stored_receipts(alloc, cache, phase.outcomes.as_slice())?;
+    let cache = HintedCache::new(cache, &hints);
+    let mut state = KernelState::new(alloc, mode);
+    let outcome = evaluated_in(
+        alloc,
+        program,
+        codes,
+        fuel,
+        &mut CachedKernels {
+            alloc,
+            cache: &cache,
+            steps,
+            state: &mut state,
+        },
+    )?;
+    let KernelState { stored, .. } = state;
+    Ok(MainEnd {
+        outcome,
+        stored: stored.into_receipts(),
+    })
+}
+
+/// What main comes to over kernels of a cache, which never answer a fault but want of memory.
+fn evaluated_in<L: Ledger>(
+    alloc: Global,
+    program: &Program,
+    codes: Vec<Term>,
+    fuel: u64,
+    kernels: &mut CachedKernels<'_, '_, '_, L>,
+) -> Result<MainOutcome, AllocError>
+    requires typable { Typable (program_of program.now) }
+    requires small { HasSmallTypes (program_of program.now) }
+    requires codes { AreCodesOf (program_of program.now).items (map expression_of codes.items) }
+    requires open { kernels.old.state.now.functions.stopped ≡ false }
+    ensures outcome { let p = program_of program.now in let names = names_of_main p.items
+        (map expression_of codes.items) in
+        IfOk result (λ o. IsMainAnswer o (main_outcome kernels.old.state.now.functions.mode names fuel p.body)) }
+    ensures typed { IfOk result (λ o. IfGiven o (HasGroundType (program_of program.now).result)) }
+    ensures cost { let p = program_of program.now in let names = names_of_main p.items
+        (map expression_of codes.items) in
+        let mode = kernels.old.state.now.functions.mode in IfOk result (λ _. kernels.new.steps.now ≤ kernels.old.steps.now
+        + prices (price_in kernels.old.cache.now mode) (runs mode names fuel p.body)) }
+    ensures lent { (kernels.new.steps.ghost_name ≡ kernels.old.steps.ghost_name)
+        × (kernels.new.state.ghost_name ≡ kernels.old.state.ghost_name) }
+    ensures follows { Follows
+        (standing kernels.old.state.now.functions.mode kernels.old.cache.now kernels.old.state.now.stored kernels.old.state.now.emitted kernels.old.steps.now)
+        (standing kernels.new.state.now.functions.mode kernels.new.cache.now kernels.new.state.now.stored kernels.new.state.now.emitted kernels.new.steps.now) }
+{
+    match evaluate_main(alloc, program, codes, fuel, kernels) {
+        Ok(outcome) => Ok(outcome),
+        Err(KernelFault::Memory(error)) => Err(error),
+        Err(KernelFault::Bad(_)) => unreachable!(),
+    }
+}
+
+/// Copies of the codes.
+fn copied_codes(alloc: Global, outcomes: &[ItemOutcome]) -> Result<Vec<Term>, AllocError>
+    ensures { IfOk result (λ codes. map expression_of codes.items ≡ codes_in outcomes.now) }
+{
+    let mut codes = Vec::new(alloc);
+    for outcome in outcomes {
+        if let ItemOutcome::Code(code, _) = outcome {
+            codes.push(copied_term(alloc, code)?)?;
+        }
+    }
+    Ok(codes)
+}
+
+/// Receipts of the modules that stand in the table.
+fn stored_receipts(
+    alloc: Global,
+    cache: &Cache<'_>,
+    outcomes: &[ItemOutcome],
+) -> Result<Receipts<Entry>, AllocError>
+    requires { All (λ o. IfBuilt o (λ c got. IsAnswered cache.now got)) outcomes.now }
+    ensures texts { IfOk result (λ stored. texts_of stored ≡ stored_texts outcomes.now) }
+    ensures fetched { IfOk result (All (IsFetched entry_text home cache.now.cells)) }
+{
+    let mut stored = Receipts::new(alloc);
+    for at in 0..outcomes.len() {
+        add_stored(alloc, cache, &outcomes[at], &mut stored)?;
+    }
+    Ok(stored)
+}
+
+/// Adds a receipt of an outcome's module, where that stands in the table.
+fn add_stored(
+    alloc: Global,
+    cache: &Cache<'_>,
+    outcome: &ItemOutcome,
+    stored: &mut Receipts<Entry>,
+) -> Result<(), AllocError>
+    requires { IfBuilt outcome.now (λ c got. IsAnswered cache.now got) }
+    ensures texts { IfOk result (λ _. texts_of stored.new ≡ texts_of stored.old ++ stored_texts (outcome.now ∷ [])) }
+    ensures fetched { All (IsFetched entry_text home cache.now.cells) stored.old
+        → IfOk result (λ _. All (IsFetched entry_text home cache.now.cells) stored.new) }
+{
+    match outcome {
+        ItemOutcome::Code(_, got) => add_receipt(alloc, cache, got, stored),
+        ItemOutcome::Trap(_) => Ok(()),
+        ItemOutcome::Bound(_) => Ok(()),
+    }
+}
+
+/// Adds a receipt of a module, where that stands in the table.
+fn add_receipt(
+    alloc: Global,
+    cache: &Cache<'_>,
+    got: &Got,
+    stored: &mut Receipts<Entry>,
+) -> Result<(), AllocError>
+    requires { IsAnswered cache.now got.now }
+    ensures texts { IfOk result (λ _. texts_of stored.new ≡ texts_of stored.old ++ stored_text got.now) }
+    ensures fetched { All (IsFetched entry_text home cache.now.cells) stored.old
+        → IfOk result (λ _. All (IsFetched entry_text home cache.now.cells) stored.new) }
+{
+    let _ = cache;
+    match got {
+        Got::Stored(receipt) => stored.push(receipt.again(alloc)?),
+        Got::Own(_) => Ok(()),
+    }
+}
