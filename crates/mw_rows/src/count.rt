@@ -6,7 +6,7 @@ use std::alloc::{AllocError, Global};
 /// The numbers of rows, by the place of their kind.
 #[derive(Drop)]
 pub struct Counts {
-    by_kind: [u64; 12],
+    by_kind: [u64; 13],
 }
 
 fn place(kind: Kind) -> usize {
@@ -23,12 +23,13 @@ fn place(kind: Kind) -> usize {
         Kind::Module => 9,
         Kind::Text => 10,
         Kind::Digest => 11,
+        Kind::Phases => 12,
     }
 }
 
 impl Counts {
     pub fn none() -> Counts {
-        Counts { by_kind: [0; 12] }
+        Counts { by_kind: [0; 13] }
     }
 
     /// Counts a row.

@@ -29,6 +29,8 @@ pub enum Kind {
     Text,
     /// The digest of bytes, and where a table looks for their name.
     Digest,
+    /// What the kernel items of a source come to, where their modules are, and main after them.
+    Phases,
 }
 
 /// All kinds, in the order in which they are counted.
@@ -45,6 +47,7 @@ pub const KINDS: &[Kind] = &[
     Kind::Module,
     Kind::Text,
     Kind::Digest,
+    Kind::Phases,
 ];
 
 impl Kind {
@@ -63,6 +66,7 @@ impl Kind {
             Kind::Module => "module",
             Kind::Text => "text",
             Kind::Digest => "digest",
+            Kind::Phases => "phases",
         }
     }
 
@@ -79,6 +83,7 @@ impl Kind {
             Kind::Code => &["code", "type", "table", "element", "data", "invoke", "word"],
             Kind::Kernel => &["text", "fuel", "call"],
             Kind::Module | Kind::Text | Kind::Digest => &["text"],
+            Kind::Phases => &["source", "workers", "slots", "mode", "fuel"],
         }
     }
 }

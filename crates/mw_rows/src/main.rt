@@ -15,6 +15,7 @@ mod invocations;
 mod kernels;
 mod machine;
 mod modules;
+mod phases;
 mod programs;
 mod reading;
 mod runs;
@@ -50,6 +51,7 @@ fn carried_out<R: AllocGlobal + Threads + Sync>(
         Kind::Module => kernels::module_bytes(alloc, row),
         Kind::Text => texts::text(alloc, row),
         Kind::Digest => texts::digest_lines(alloc, row),
+        Kind::Phases => phases::carried_out(rt, row),
     }
 }
 

@@ -1,5 +1,9 @@
 // Sources and their nameless programs: what the items are, and main.
 
+ghost use Rattle.std.specs.Prelude.{IfOk};
+ghost use Rattle.mw_term.specs.Programs.{program_of};
+ghost use Rattle.mw_infer.specs.Checking.{IsResolved};
+
 use crate::fields::{Fault, Row};
 use crate::shown::{line, push_value};
 use mw_lex::lex;
@@ -9,12 +13,12 @@ use mw_term::{Program, Stop};
 use std::alloc::Global;
 
 /// The program of bytes.
-fn program(alloc: Global, bytes: &[u8]) -> Result<Program, Stop> {
+pub fn program(alloc: Global, bytes: &[u8]) -> Result<Program, Stop>
+    ensures { IfOk result (λ p. IsResolved (program_of p)) }
+{
     let tokens = lex(alloc, bytes)?;
     let surface = parse(alloc, &tokens, bytes.len() as u32)?;
-    let program = resolve(alloc, &surface);
-    drop(surface);
-    program
+    resolve(alloc, &surface)
 }
 
 /// A line for each item, and one for main.

@@ -8,10 +8,13 @@
 use crate::fields::{Fault, Row, number_in};
 use crate::shown::{Shows, push_lines, shows_of};
 use mw_console::Status;
-use mw_drive::run;
+use mw_drive::{run, table};
 use mw_outside::{Bytes, Calls, Files, MemSink, MemSource, NamedFile, Pass, SureKeeper};
 use std::alloc::{AllocError, Global};
 use std::thread::Threads;
+
+/// How many slots the table of modules has, which each run has anew.
+const SLOTS: u32 = 1_024;
 
 /// The name of the one file.
 const NAME: &str = "source.metaml";
@@ -113,8 +116,17 @@ fn status_of<R: AllocGlobal + Threads + Sync>(
     let words = words(alloc, row)?;
     let mut source = source_of(alloc, row)?;
     let mut keeper = SureKeeper::new(Bytes::new(alloc));
-    let words = words.as_slice();
-    Ok(run(rt, alloc, words, &mut source, sink, &mut keeper, &Pass))
+    let table = table(alloc, SLOTS)?;
+    Ok(run(
+        rt,
+        alloc,
+        words.as_slice(),
+        &mut source,
+        sink,
+        &mut keeper,
+        &Pass,
+        &table,
+    ))
 }
 
 /// The status, and what is written.
