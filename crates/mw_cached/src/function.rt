@@ -3,26 +3,21 @@
 ghost use Rattle.std.specs.Prelude.{◌≡◌, false, IfOk, Err};
 ghost use Rattle.mw_term.specs.Terms.{expression_of, kernel_type_of, ground_value_of};
 ghost use Rattle.mw_meaning.specs.declared.mode.Mode.{Mode};
-ghost use Rattle.mw_machine.specs.KernelCalls.{IsArgumentOf, IsCallAt, LeavesAtMost, AnswersCall, ends_all};
+ghost use Rattle.mw_machine.specs.KernelCalls.{IsRunnable, IsArgumentOf, IsCallAt, LeavesAtMost, AnswersCall, ends_all};
 ghost use Rattle.mw_cached.specs.Answers.{IsWant, IsOnlyWant};
+ghost use Rattle.mw_cached.specs.FunctionStates.{run_at};
 ghost use Rattle.mw_cached.specs.KeptFunctions.{IsKept};
 
 use mw_kernel::{RunFault, Running};
+use mw_key::text_of;
 use mw_machine::{KernelFault, Ran};
-use mw_term::{GroundValue, KType, Term, copied_kernel_type, copied_term};
+use mw_term::{GroundValue, KType, Term};
 use std::alloc::{AllocError, Global};
 
-/// The code of a run, as it was built, and its type.
-#[derive(Drop)]
-pub struct Source {
-    pub code: Term,
-    pub kind: KType,
-}
-
-/// A function that a run gave in some mode, with the run's code and type.
+/// A function that a run gave in some mode, with the text of the run's code, as it was built, and of its type.
 #[derive(Drop)]
 pub struct Function {
-    pub source: Source,
+    pub text: Vec<u8>,
     pub running: Running,
 }
 
@@ -34,14 +29,13 @@ impl Function {
         kind: &KType,
         running: Running,
     ) -> Result<Function, AllocError>
-        ensures code { IfOk result (λ function. expression_of function.source.code ≡ expression_of code.now) }
-        ensures kind { IfOk result (λ function. kernel_type_of function.source.kind ≡ kernel_type_of kind.now) }
+        requires runnable { IsRunnable (expression_of code.now) (kernel_type_of kind.now) }
+        ensures run { IfOk result (λ function. run_at function.text.items
+            ≡ (expression_of code.now, kernel_type_of kind.now)) }
         ensures running { IfOk result (λ function. function.running ≡ running) }
     {
-        let kind = copied_kernel_type(alloc, kind)?;
-        let code = copied_term(alloc, code)?;
-        let source = Source { code, kind };
-        Ok(Function { source, running })
+        let text = text_of(alloc, code, kind)?;
+        Ok(Function { text, running })
     }
 
     /// Calls the function, in the mode in which it is kept. After a value it is kept as it was.
@@ -52,14 +46,14 @@ impl Function {
         fuel: u64,
     ) -> Result<Ran, KernelFault>
         requires kept { (mode : Mode) × IsKept mode self.old }
-        requires argument { IsArgumentOf (kernel_type_of self.old.source.kind) (ground_value_of argument.now) }
-        ensures types { IsCallAt result (kernel_type_of self.old.source.kind) }
+        requires argument { IsArgumentOf (run_at self.old.text.items).1 (ground_value_of argument.now) }
+        ensures types { IsCallAt result (run_at self.old.text.items).1 }
         ensures left { LeavesAtMost result fuel }
         ensures means { (mode : Mode) → IsKept mode self.old
-            → AnswersCall mode result (expression_of self.old.source.code) (kernel_type_of self.old.source.kind)
+            → AnswersCall mode result (run_at self.old.text.items).0 (run_at self.old.text.items).1
             (ground_value_of argument.now) fuel }
         ensures want { IsOnlyWant result }
-        ensures source { self.new.source ≡ self.old.source }
+        ensures text { self.new.text ≡ self.old.text }
         ensures keeps { ends_all result ≡ false → (mode : Mode) → IsKept mode self.old → IsKept mode self.new }
     {
         match self.running.call(alloc, argument, fuel) {

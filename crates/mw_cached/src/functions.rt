@@ -19,8 +19,8 @@ use std::alloc::{AllocError, Global};
 use std::marker::Model;
 use std::sync::Arc;
 
-/// A running instance for each function that a run gave. Contracts see how code is run, the code as it was built and
-/// the type of each kept function, and whether they are stopped.
+/// A running instance for each function that a run gave. Contracts see how code is run, the text of the code as it
+/// was built and the type of each kept function, and whether they are stopped.
 #[derive(Drop)]
 pub struct Functions {
     mode: Mode,
@@ -44,7 +44,7 @@ impl Model for Functions {
     ghost view = { λ s. record {
       mode = s.mode;
       functions = map
-          (λ f. f.source) s.functions.items;
+          (λ f. f.text.items) s.functions.items;
       stopped = s.stopped;
     } };
 

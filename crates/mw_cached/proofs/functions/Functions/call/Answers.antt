@@ -41,5 +41,5 @@ returns-clause-means c = λ code kind here.
 pub returns-clause-functions : goal.returns-clause-functions
 returns-clause-functions c =
     ap (map run_at)
-    (map-set_same (λ f. f.source) c.self.inside.functions.items c.args.which c.call-answer.new.self c.index_mut.result.now (c.call-answer.ensures.source ∙ ap (λ f. f.source) c.index_mut.ensures.value))
+    (map-set_same (λ f. f.text.items) c.self.inside.functions.items c.args.which c.call-answer.new.self c.index_mut.result.now (ap (λ t. t.items) c.call-answer.ensures.text ∙ ap (λ f. f.text.items) c.index_mut.ensures.value))
     ∙ ap functions_of c.self.view_is

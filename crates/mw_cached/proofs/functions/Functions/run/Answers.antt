@@ -10,7 +10,8 @@ use Rattle.mw_kernel.specs.declared.running.Began.TheVariants as began
 use Rattle.mw_kernel.specs.KernelAnswers.{HasStartType}
 use Rattle.mw_kernel.specs.KernelMeanings.{IsBeganFrom}
 use Rattle.mw_cached.specs.KeptFunctions.{IsKept}
-use Rattle.mw_cached.proofs.EmittingLemmas.{run_answers, run_at, run_keeps, run_wants}
+use Rattle.mw_cached.specs.FunctionStates.{run_at}
+use Rattle.mw_cached.proofs.EmittingLemmas.{run_answers, run_at as run_typed, run_keeps, run_wants}
 use Rattle.mw_cached.proofs.KeptLemmas.{all_pushed, function_of_same}
 use Rattle.mw_cached.proofs.functions.Functions.run.Goals as goal
 
@@ -32,9 +33,9 @@ invariant_of-self-in-Ok-Function c = λ open'.
     let is = c.in_ok-function-in-Ok-Function.ensures in
     all_pushed (IsKept mode) (is_ok c.push.result) c.self.inside.functions.items c.push.new.self.items function c.push.ensures.items (c.self.invariant open')
     (subst (λ m. IsKept m function) (sym same)
-    (function_of_same (in_mode own code) (in_mode own (expression_of function.source.code)) kind
-    (kernel_type_of function.source.kind) c.in-Ok-Function.running function.running
-    (ap (in_mode own) is.code) is.kind is.running
+    (function_of_same (in_mode own code) (in_mode own (run_at function.text.items).0) kind
+    (run_at function.text.items).1 c.in-Ok-Function.running function.running
+    (ap (λ r. in_mode own r.0) is.run) (ap (λ r. r.1) is.run) is.running
     (run_keeps c.in-Ok-Function.running c.in-Ok-Function.left
     (in_mode own code) kind c.args.fuel typed.is_code c.requires.made.literals
     (subst (λ b. HasStartType (Ok b) kind) c.in-Ok-Function.field-0-is c.in-Ok-Function.ensures.types)
@@ -53,9 +54,9 @@ returns-in_ok-map_err-in-Ok-Function-clause-types c =
     let kind = kernel_type_of c.args.kind.now in
     subst (λ next. IsRunAt (Ok (ran.Function c.len-which.result c.in-Ok-Function.left)) kind next)
     (c.len-which.ensures ∙ c.self.inside.functions.ok.0
-    ∙ sym (length-map c.self.inside.functions.items (λ f. f.source))
+    ∙ sym (length-map c.self.inside.functions.items (λ f. f.text.items))
     ∙ ap (λ s. length s.functions) c.self.view_is)
-    (run_at c.len-which.result (began.Function c.in-Ok-Function.running c.in-Ok-Function.left) kind
+    (run_typed c.len-which.result (began.Function c.in-Ok-Function.running c.in-Ok-Function.left) kind
     (subst (λ b. HasStartType (Ok b) kind) c.in-Ok-Function.field-0-is c.in-Ok-Function.ensures.types))
 
 pub returns-in-Ok-Trap-clause-means : goal.returns-in-Ok-Trap-clause-means
