@@ -14,6 +14,7 @@ pub mod Replacing
 pub mod SimplifyingKept
 pub mod ComingTo
 pub mod Straying
+pub mod Playing
 pub mod ShapeExamples
 pub mod OtherPlaces
 pub mod WrongModule

@@ -1,6 +1,7 @@
 // Modules that stand for kernels.
 
 ghost use Rattle.mw_meaning.specs.ShapeLaws.{StandingIsNotStray, LeavesAreCounted};
+ghost use Rattle.mw_meaning.specs.ShapeLaws.{PlaysBegin, PlaysGoOn, PlaysEndStray};
 ghost use Rattle.mw_meaning.specs.ShapeExamples.{ExamplesHaveTheirShapes, AnswersHaveTheirShape, NoIntegerIsStray, TwoIsStrayForTruth, MinusOneIsStrayForPairs};
 ghost use Rattle.mw_meaning.specs.WrongModule.{TwoParametersStandForNothing};
 
@@ -12,6 +13,21 @@ pub fn standing_is_not_stray()
 /// An argument has as many leaves as its type.
 pub fn leaves_are_counted()
     ensures { LeavesAreCounted }
+{}
+
+/// An `init` that ended with a word begins a play, where the module has a `call`.
+pub fn plays_begin()
+    ensures { PlaysBegin }
+{}
+
+/// A play in which one call more ends with a word goes on.
+pub fn plays_go_on()
+    ensures { PlaysGoOn }
+{}
+
+/// A play in which one call more ends as no kernel of the type does makes the module stray.
+pub fn plays_end_stray()
+    ensures { PlaysEndStray }
 {}
 
 /// A module whose `init` has parameters doesn't stand for the code of 7, though with two arguments it answers 7.

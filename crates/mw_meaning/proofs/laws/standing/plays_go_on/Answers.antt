@@ -1,0 +1,5 @@
+use Rattle.mw_meaning.proofs.Playing.{plays_on}
+use Rattle.mw_meaning.proofs.laws.standing.plays_go_on.Goals as goal
+
+pub returns : goal.returns
+returns c = plays_on
