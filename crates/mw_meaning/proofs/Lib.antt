@@ -15,6 +15,7 @@ pub mod SimplifyingKept
 pub mod ComingTo
 pub mod Straying
 pub mod Playing
+pub mod Shaping
 pub mod ShapeExamples
 pub mod OtherPlaces
 pub mod WrongModule

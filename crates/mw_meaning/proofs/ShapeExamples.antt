@@ -2,12 +2,15 @@
 use Rattle.std.proofs.Common.{◌≡◌, ℕ, ◌-◌, ◌^◌, inl, inr, true, false, [], Some, Result, Ok, Err, refl, subst, arith}
 use Rattle.std.specs.Prelude.{codes}
 use Rattle.mw_term.specs.Terms.{KernelType, of_ground, GroundType}
+use Rattle.mw_wasm.specs.Syntax.{Code}
 use Rattle.mw_wasm.specs.Store.{Store}
 use Rattle.mw_wasm.specs.Execution.{execution}
-use Rattle.mw_wasm.specs.Instances.{Unfit, exported, instantiated, invoked}
+use Rattle.mw_wasm.specs.Instances.{Unfit, segment, exported, instantiated, invoked}
 use Rattle.mw_wasm.specs.ExampleModules.{example_a, example_b}
-use Rattle.mw_meaning.specs.Shapes.{IsWordOf, IsWordOfKernel, IsStray, IsStrayEnd, in_init}
+use Rattle.mw_meaning.specs.Shapes.{HasShape, IsWordOf, IsWordOfKernel, IsStray, IsStrayEnd, in_init}
 use Rattle.mw_meaning.specs.ShapeExamples.{truth_kernel, pair_kernel, init_answers, ExamplesHaveTheirShapes, AnswersHaveTheirShape, NoIntegerIsStray, TwoIsStrayForTruth, MinusOneIsStrayForPairs}
+use Rattle.mw_meaning.specs.ShapeExamples.{writes_byte, ByteFitsUpToTheEnd}
+use Rattle.mw_meaning.specs.Examples.{int_kernel}
 
 empty : Store
 empty = record { globals = []; table = []; memory = record { pages = 0; byte_at = λ address. 0 } }
@@ -60,3 +63,21 @@ past_the_end h = let e : false ≡ true = h.0 in cc
 
 pub minus_one_is_stray_for_pairs : MinusOneIsStrayForPairs
 minus_one_is_stray_for_pairs = (answers_no_stray 0 _ (refl, tt, tt), answers_stray (2 ^ 64 - 1) _ past_the_end)
+
+-- a module that writes one byte has the shape for int where the byte fits
+byte_fits : (offset : Code) → instantiated (writes_byte offset) ≡ Ok (instance_of (instantiated (writes_byte offset)))
+    → HasShape (writes_byte offset) int_kernel
+byte_fits offset fits = record {
+  init = record { index = 0; is_exported = refl; function = _; is_function = refl; has_type = refl };
+  call = tt;
+  memory = refl;
+  store = _;
+  has_instance = fits;
+}
+
+past_the_last : (offset : Code) → instantiated (writes_byte offset) ≡ Err (segment 0) → HasShape (writes_byte offset) int_kernel → ⊥
+past_the_last offset e s = let h = s.has_instance in cc (e, h)
+
+pub byte_fits_up_to_the_end : ByteFitsUpToTheEnd
+byte_fits_up_to_the_end =
+    (byte_fits _ refl, past_the_last _ refl, past_the_last _ refl, byte_fits _ refl, byte_fits _ refl)

@@ -16,6 +16,7 @@ pub mod CodeEquations
 pub mod KernelEquations
 pub mod StandingFor
 pub mod Shapes
+pub mod Fitting
 pub mod Plays
 pub mod ShapeLaws
 pub mod ShapeExamples

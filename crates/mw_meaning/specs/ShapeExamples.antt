@@ -2,7 +2,7 @@
 use Rattle.std.specs.Prelude.{ℕ, ◌-◌, ◌^◌, [], ◌∷◌, Some, None}
 use Rattle.mw_term.specs.Terms.{KernelType, GroundType, base, product, of_ground}
 use Rattle.mw_term.specs.declared.term.Base.TheVariants.{Int, Bool as Truth}
-use Rattle.mw_wasm.specs.Syntax.{end, next, const_i64, PureModule}
+use Rattle.mw_wasm.specs.Syntax.{Code, end, next, const_i32, const_i64, PureModule}
 use Rattle.mw_wasm.specs.ExampleModules.{example_memory, init_name, example_a, example_b}
 use Rattle.mw_wasm.specs.declared.modules.Exported.TheVariants.{Func}
 use Rattle.mw_meaning.specs.Shapes.{init_type, HasShape, IsStray}
@@ -46,3 +46,16 @@ TwoIsStrayForTruth = (IsStray (init_answers 0) truth_kernel → ⊥) × (IsStray
 -- 0 may be a pair's address, and the word of -1 is the address of no pair: its 16 bytes lie past the memory's end
 abbrev pub MinusOneIsStrayForPairs : Type 0
 MinusOneIsStrayForPairs = (IsStray (init_answers 0) pair_kernel → ⊥) × IsStray (init_answers (2 ^ 64 - 1)) pair_kernel
+
+-- a module with one byte to write into its memory of 64 pages, where an expression says
+abbrev pub writes_byte : Code → PureModule
+writes_byte offset = record (init_answers 7) { segments = record { offset = offset; bytes = 1 ∷ [] } ∷ [] }
+
+-- The byte fits at the last address and not past it, whatever the constant's type. An expression that isn't one constant
+-- counts as 0.
+abbrev pub ByteFitsUpToTheEnd : Type 0
+ByteFitsUpToTheEnd = HasShape (writes_byte (next (const_i32 (2 ^ 22 - 1)) end)) int_kernel
+    × (HasShape (writes_byte (next (const_i32 (2 ^ 22)) end)) int_kernel → ⊥)
+    × (HasShape (writes_byte (next (const_i64 (2 ^ 63)) end)) int_kernel → ⊥)
+    × HasShape (writes_byte (next (const_i64 (2 ^ 63)) (next (const_i64 (2 ^ 63)) end))) int_kernel
+    × HasShape (writes_byte end) int_kernel

@@ -5,7 +5,9 @@ pub mod erasing;
 pub mod laws;
 pub mod mode;
 pub mod program;
+pub mod shape;
 
 pub use crate::erasing::erase;
 pub use crate::mode::Mode;
 pub use crate::program::erase_program;
+pub use crate::shape::has_shape;

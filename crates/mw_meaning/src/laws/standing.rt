@@ -3,6 +3,7 @@
 ghost use Rattle.mw_meaning.specs.ShapeLaws.{StandingIsNotStray, LeavesAreCounted};
 ghost use Rattle.mw_meaning.specs.ShapeLaws.{PlaysBegin, PlaysGoOn, PlaysEndStray};
 ghost use Rattle.mw_meaning.specs.ShapeExamples.{ExamplesHaveTheirShapes, AnswersHaveTheirShape, NoIntegerIsStray, TwoIsStrayForTruth, MinusOneIsStrayForPairs};
+ghost use Rattle.mw_meaning.specs.ShapeExamples.{ByteFitsUpToTheEnd};
 ghost use Rattle.mw_meaning.specs.WrongModule.{TwoParametersStandForNothing};
 
 /// A module that stands for code of its kernel type is not stray.
@@ -42,4 +43,9 @@ pub fn shape_examples()
     ensures integers { NoIntegerIsStray }
     ensures truth { TwoIsStrayForTruth }
     ensures pairs { MinusOneIsStrayForPairs }
+{}
+
+/// A byte to write fits at the memory's last address and not past it, whatever the type of the constant that says where.
+pub fn segment_examples()
+    ensures { ByteFitsUpToTheEnd }
 {}
