@@ -75,7 +75,8 @@ byte_fits offset fits = record {
   has_instance = fits;
 }
 
-past_the_last : (offset : Code) → instantiated (writes_byte offset) ≡ Err (segment 0) → HasShape (writes_byte offset) int_kernel → ⊥
+past_the_last : (offset : Code) → instantiated (writes_byte offset) ≡ Err (segment 0)
+    → HasShape (writes_byte offset) int_kernel → ⊥
 past_the_last offset e s = let h = s.has_instance in cc (e, h)
 
 pub byte_fits_up_to_the_end : ByteFitsUpToTheEnd

@@ -1,5 +1,6 @@
 -- Whether a module has a shape: its exports, the types of its functions, and its segments.
-use Rattle.std.proofs.Common.{◌≡◌, ℕ, ◌+◌, ◌*◌, Bool, true, false, ◌&&◌, List, [], ◌∷◌, map, drop, take, length, replicate, Option, Some, None, Ok, refl, sym, ◌∙◌, ap, arith}
+use Rattle.std.proofs.Common.{◌≡◌, ℕ, ◌+◌, ◌*◌, Bool, true, false, ◌&&◌, List, [], ◌∷◌, Option, Some, None, Ok}
+use Rattle.std.proofs.Common.{map, drop, take, length, replicate, refl, sym, ◌∙◌, ap, arith}
 use Rattle.std.specs.Prelude.{cond, not, position, slice_get, is_none, is_ok, MatchOption}
 use Rattle.std.specs.List.{position_from, list_all}
 use Rattle.std.proofs.lemmas.Iterator.Adapters.{position_from-zero}
@@ -19,7 +20,8 @@ use Rattle.mw_wasm.specs.declared.values.ValType.{ValType}
 use Rattle.mw_wasm.specs.declared.values.ValType.TheVariants.{I64}
 use Rattle.mw_wasm.specs.Syntax.{end, next}
 use Rattle.mw_wasm.specs.Store.{Store}
-use Rattle.mw_wasm.specs.Instances.{exported, exported_among, offset_of, first_table, first_memory, element_fits, segment_fits, element, segment, unless, instantiated}
+use Rattle.mw_wasm.specs.Instances.{exported, exported_among, offset_of, instantiated}
+use Rattle.mw_wasm.specs.Instances.{first_table, first_memory, element_fits, segment_fits, element, segment, unless}
 use Rattle.mw_wasm.specs.Views.{function_of, export_of, instruction_of, list_code, element_of, segment_of, module_of}
 use Rattle.mw_meaning.specs.Shapes.{Exports}
 use Rattle.mw_meaning.specs.Fitting.{element_ends_in, segment_ends_in}
@@ -78,7 +80,8 @@ offset-i32 e = sym (ap single e)
 pub offset-i64 : {x : Instr} {n : ℕ} → x ≡ instr.ConstI64 n → n ≡ single x
 offset-i64 e = sym (ap single e)
 
-pub offset-none : (x : Instr) → ((n : ℕ) → x ≡ instr.ConstI32 n → ⊥) → ((n : ℕ) → x ≡ instr.ConstI64 n → ⊥) → 0 ≡ single x
+pub offset-none : (x : Instr) → ((n : ℕ) → x ≡ instr.ConstI32 n → ⊥) → ((n : ℕ) → x ≡ instr.ConstI64 n → ⊥)
+    → 0 ≡ single x
 offset-none (instr.ConstI32 n) h k = absurd (h n refl)
 offset-none (instr.ConstI64 n) h k = absurd (k n refl)
 offset-none _ h k = refl
@@ -102,7 +105,8 @@ all_or_first p f xs =
     ap is_none (position_from-zero (λ y. not (p y)) (map f xs)) ∙ (all_or_some p 0 (map f xs) ∙ list_all-map p f xs)
 
 -- a module has an instance where no segment is found that doesn't fit
-instance_unless : (o p : Option ℕ) (st : Store) → is_ok (unless o element (unless p segment (Ok st))) ≡ (is_none o && is_none p)
+instance_unless : (o p : Option ℕ) (st : Store)
+    → is_ok (unless o element (unless p segment (Ok st))) ≡ (is_none o && is_none p)
 instance_unless None None st = refl
 instance_unless None (Some k) st = refl
 instance_unless (Some k) p st = refl

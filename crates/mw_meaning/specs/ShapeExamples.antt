@@ -51,8 +51,8 @@ MinusOneIsStrayForPairs = (IsStray (init_answers 0) pair_kernel → ⊥) × IsSt
 abbrev pub writes_byte : Code → PureModule
 writes_byte offset = record (init_answers 7) { segments = record { offset = offset; bytes = 1 ∷ [] } ∷ [] }
 
--- The byte fits at the last address and not past it, whatever the constant's type. An expression that isn't one constant
--- counts as 0.
+-- The byte fits at the last address and not past it, whatever the constant's type. An expression that isn't one
+-- constant counts as 0.
 abbrev pub ByteFitsUpToTheEnd : Type 0
 ByteFitsUpToTheEnd = HasShape (writes_byte (next (const_i32 (2 ^ 22 - 1)) end)) int_kernel
     × (HasShape (writes_byte (next (const_i32 (2 ^ 22)) end)) int_kernel → ⊥)

@@ -20,9 +20,9 @@ use mw_wasm::{Element, Export, Exported, FuncType, Instr, Instrs, Module, Segmen
 /// The bytes of a page of memory.
 const PAGE: u64 = 65_536;
 
-/// Whether a module has the shape that a run at a kernel type needs. It exports `init`, without parameters, and for a
-/// function type `call`, whose parameters are an i64 for the function and one for each leaf of an argument. The result of
-/// each is an i64. The module has a memory, and its segments fit. It need not be valid.
+/// Whether a module has the shape that a run at a kernel type needs: the exports `init`, without parameters, and for a
+/// function type `call`, whose parameters are an i64 for the function and one for each leaf of an argument, with one
+/// i64 as the result of each; a memory; and segments that fit. The module need not be valid. Takes no memory.
 pub fn has_shape(wasm: &Module, kind: &KType) -> bool
     ensures { let shaped = HasShape (module_of wasm.now) (kernel_type_of kind.now) in
         MatchBool result shaped (shaped → ⊥) }

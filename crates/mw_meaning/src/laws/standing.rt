@@ -45,7 +45,7 @@ pub fn shape_examples()
     ensures pairs { MinusOneIsStrayForPairs }
 {}
 
-/// A byte to write fits at the memory's last address and not past it, whatever the type of the constant that says where.
+/// A byte to write fits at the memory's last address and not past it, whatever the type of the constant that says so.
 pub fn segment_examples()
     ensures { ByteFitsUpToTheEnd }
 {}
