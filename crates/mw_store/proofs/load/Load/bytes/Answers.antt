@@ -1,0 +1,15 @@
+use Rattle.std.proofs.Common.{◌≡◌, ℕ, Vec, Global, subst, Some}
+use Rattle.std.specs.Prelude.{slice_get}
+use Rattle.mw_store.specs.declared.load.LoadedModule.{LoadedModule}
+use Rattle.mw_store.specs.Entries.{record_in}
+use Rattle.mw_store.proofs.Entries.{at_place}
+use Rattle.mw_store.proofs.load.Load.bytes.Goals as goal
+
+pub returns : goal.returns
+returns c =
+    let e : Vec ℕ Global × LoadedModule = (c.in-Some.field-0-0.now, c.in-Some.loaded.now) in (
+      record_in e,
+      subst (λ s. slice_get s.records c.args.at ≡ Some (record_in e)) c.self.view_is
+          (at_place c.self.inside.records.entries c.args.at e c.in-Some.ensures.entry),
+      c.as_slice.ensures.value,
+    )

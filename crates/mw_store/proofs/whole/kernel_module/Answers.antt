@@ -1,0 +1,15 @@
+use Rattle.std.proofs.Common.{subst}
+use Rattle.std.specs.Prelude.{MatchOption}
+use Rattle.mw_term.specs.Terms.{kernel_type_of}
+use Rattle.mw_store.specs.Whole.{IsTyped, NoText}
+use Rattle.mw_store.proofs.Shaped.{typed_in}
+use Rattle.mw_store.proofs.whole.kernel_module.Goals as goal
+
+pub returns-in-Some : goal.returns-in-Some
+returns-in-Some c =
+    let text = c.args.text.now in
+    let typed = subst
+    (λ o. MatchOption o (NoText text) (λ kind. IsTyped text (kernel_type_of kind))) c.in-Some.is
+    c.in_ok-kind.ensures in
+    typed_in text c.args.bytes.now
+    (kernel_type_of c.in-Some.kind) c.shaped_module.result typed c.shaped_module.ensures

@@ -1,0 +1,55 @@
+-- What the tests of a record find.
+use Rattle.std.specs.Prelude.{◌≡◌, ℕ, ◌≤◌, ◌<◌, List, ◌++◌, length, Option, Some, None}
+use Rattle.mw_term.specs.Terms.{Expression, KernelType}
+use Rattle.mw_key.specs.CanonicalText.{IsTextOf}
+use Rattle.mw_key.specs.declared.version.Version.{Version}
+use Rattle.mw_wasm.specs.declared.modules.Module.{Module}
+use Rattle.mw_wasm.specs.BinaryModules.{Spells}
+use Rattle.mw_wasm.specs.Profile.{IsWithinProfile}
+use Rattle.mw_wasm.specs.Syntax.{PureModule}
+use Rattle.mw_wasm.specs.Validity.{IsValid}
+use Rattle.mw_wasm.specs.Views.{module_of}
+use Rattle.mw_store.specs.Records.{Kept, record_bytes, HasModule}
+use Rattle.mw_store.specs.Loads.{Begins}
+use Rattle.mw_store.specs.declared.whole.Found.{Found}
+
+-- the text of some code at the type
+abbrev pub IsTyped : List ℕ → KernelType → Type 0
+IsTyped text k = (v : Version) × (c : Expression) × IsTextOf text v c k
+
+-- the text of no code
+abbrev pub NoText : List ℕ → Type 0
+NoText text = (v : Version) (c : Expression) (k : KernelType) → IsTextOf text v c k → ⊥
+
+-- a valid module within the profile, which the bytes spell
+pub record IsSound (bytes : List ℕ) (m : PureModule) : Type 0 where
+  pub spelled : Spells bytes m
+  pub profile : IsWithinProfile m
+  pub valid : IsValid m
+
+abbrev pub NoModule : List ℕ → Type 0
+NoModule bytes = (m : PureModule) → IsSound bytes m → ⊥
+
+-- a module that a kernel of the type may have, which the bytes spell
+abbrev pub HasModuleOf : List ℕ → KernelType → Module → Type 0
+HasModuleOf bytes k wasm = HasModule bytes k (module_of wasm)
+
+abbrev pub NoModuleOf : List ℕ → KernelType → Type 0
+NoModuleOf bytes k = (m : PureModule) → HasModule bytes k m → ⊥
+
+-- the module that a kernel of this text may have
+abbrev pub HasKernelModule : List ℕ → List ℕ → Module → Type 0
+HasKernelModule text bytes wasm = (k : KernelType) × IsTyped text k × HasModule bytes k (module_of wasm)
+
+abbrev pub NoKernelModule : List ℕ → List ℕ → Type 0
+NoKernelModule text bytes = (k : KernelType) (m : PureModule) → IsTyped text k → HasModule bytes k m → ⊥
+
+-- what was found is kept of this
+abbrev pub kept_in : Found → Kept
+kept_in f = record { text = f.text.now; bytes = f.bytes.now }
+
+-- the whole record that begins the bytes, and isn't longer than the room; or each one that begins them is longer
+abbrev pub IsFoundIn : Option Found → List ℕ → ℕ → Type 0
+IsFoundIn None bytes room = (r : Kept) → Begins bytes r → room < length (record_bytes r)
+IsFoundIn (Some f) bytes room = Begins bytes (kept_in f) × (length (record_bytes (kept_in f)) ≤ room)
+    × HasKernelModule f.text.now f.bytes.now f.module

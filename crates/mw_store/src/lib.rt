@@ -1,0 +1,13 @@
+//! The records of a cache file: a kernel's text, and the bytes of its module.
+#![tactic(auto)]
+
+pub mod laws;
+mod load;
+mod parts;
+mod record;
+#[cfg(test)]
+mod tests;
+mod whole;
+
+pub use crate::load::{Load, load_of};
+pub use crate::record::record_of;

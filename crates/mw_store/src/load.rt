@@ -1,0 +1,187 @@
+// What is loaded from a cache file.
+
+ghost use Rattle.std.specs.Prelude.{◌≡◌, ◌≤◌, ◌<◌, ◌++◌, ◌∷◌, ℕ, [], length, map, position, slice_get, Some, None, IfOk, OnOk, false, true};
+ghost use Rattle.std.specs.Arc.{arc_value};
+ghost use Rattle.std.specs.Str.{bytes_eq};
+ghost use Rattle.mw_store.specs.Loads.{Loaded, IsLoaded, IsLoadOf, kept_of, file_limit};
+ghost use Rattle.mw_store.specs.Loading.{IsLoadedTo, NoneBegins, TakesFound, LoadsUpTo};
+ghost use Rattle.mw_store.specs.Whole.{kept_in, HasKernelModule};
+
+use crate::whole::{Found, whole_record};
+use indexmap::IndexMap;
+use mw_validate::Valid;
+use std::alloc::{AllocError, Global};
+use std::marker::Model;
+use std::sync::Arc;
+
+/// A cache file has at most so many bytes that are read.
+pub const FILE_LIMIT: usize = 67_108_864;
+
+/// A module that was loaded, with its bytes.
+#[derive(Drop)]
+pub struct LoadedModule {
+    bytes: Vec<u8>,
+    module: Arc<Valid>,
+}
+
+/// The records of a cache file that count, the first of each text, in file order.
+#[derive(Drop)]
+pub struct Load {
+    records: IndexMap<Vec<u8>, LoadedModule>,
+    good: usize,
+}
+
+impl Model for Load {
+    ghost use Rattle.std.specs.Prelude.{◌≤◌, length, All, map};
+    ghost use Rattle.std.specs.Coded.{codes};
+    ghost use Rattle.mw_wasm.specs.contracts.instructions.Instr as instr;
+    ghost use Rattle.mw_store.specs.Entries.{record_in};
+    ghost use Rattle.mw_store.specs.Loads.{LoadState, IsLoaded, file_limit};
+
+    ghost Value = { LoadState };
+
+    ghost coded = { Prim.hlevel (codes, instr.the_row.coded) };
+
+    ghost view = { λ l. record {
+      records = map record_in l.records.entries;
+      good = l.good;
+    } };
+
+    ghost invariant = { λ l. All (λ e. IsLoaded (record_in e)) l.records.entries
+        × (length l.records.entries ≤ l.good) × (l.good ≤ file_limit) };
+}
+
+impl Load {
+    /// Nothing. Takes no memory.
+    pub fn new(alloc: Global) -> Load
+        ensures { result ≡ record { records = []; good = 0 } }
+    {
+        Load {
+            records: IndexMap::new(alloc),
+            good: 0,
+        }
+    }
+
+    /// How many bytes the records that count take. Takes no memory.
+    pub fn good(&self) -> usize
+        ensures good { result ≡ self.now.good }
+        ensures limit { result ≤ file_limit }
+    {
+        self.good
+    }
+
+    /// How many different texts there are. Takes no memory.
+    pub fn count(&self) -> u32
+        ensures { result ≡ length self.now.records }
+    {
+        self.records.len() as u32
+    }
+
+    /// The place of a text, if it was loaded. Takes no memory.
+    pub fn find(&self, text: &[u8]) -> Option<u32>
+        ensures { result ≡ position (λ l. bytes_eq text.now l.text) self.now.records }
+    {
+        let at = self.records.get_index_of(text)?;
+        Some(at as u32)
+    }
+
+    /// The text at a place, in file order. Takes no memory.
+    pub fn text(&self, at: u32) -> &[u8]
+        requires { at < length self.now.records }
+        ensures { (l : Loaded) × (slice_get self.now.records at ≡ Some l) × (result.now ≡ l.text) }
+    {
+        match self.records.get_index(at as usize) {
+            Some((text, _)) => text.as_slice(),
+            None => unreachable!(),
+        }
+    }
+
+    /// The bytes of the module of the text at a place: of the first record that has the text. Takes no memory.
+    pub fn bytes(&self, at: u32) -> &[u8]
+        requires { at < length self.now.records }
+        ensures { (l : Loaded) × (slice_get self.now.records at ≡ Some l) × (result.now ≡ l.bytes) }
+    {
+        match self.records.get_index(at as usize) {
+            Some((_, loaded)) => loaded.bytes.as_slice(),
+            None => unreachable!(),
+        }
+    }
+
+    /// The module of the text at a place, which its bytes spell. It is valid, and has the shape that a run at the
+    /// text's type needs. Takes no memory.
+    pub fn module(&self, at: u32) -> &Arc<Valid>
+        requires { at < length self.now.records }
+        ensures { (l : Loaded) × (slice_get self.now.records at ≡ Some l)
+            × (arc_value result.now ≡ l.wasm) × IsLoaded l }
+    {
+        match self.records.get_index(at as usize) {
+            Some((_, loaded)) => &loaded.module,
+            None => unreachable!(),
+        }
+    }
+
+    /// Takes the next record of the file, after those that were taken, if it counts.
+    fn take_next(&mut self, alloc: Global, bytes: &[u8]) -> Result<bool, AllocError>
+        requires { IsLoadedTo bytes.now self.old }
+        ensures more { IfOk result (λ more. IsLoadedTo bytes.now self.new) }
+        ensures longer { IfOk result (λ more. more ≡ true
+            → (self.old.good < self.new.good) × (self.new.good ≤ length bytes.now)) }
+        ensures last { IfOk result (λ more. more ≡ false
+            → (self.new ≡ self.old) × NoneBegins bytes.now self.old.good) }
+    {
+        match whole_record(alloc, &bytes[self.good..], FILE_LIMIT - self.good)? {
+            None => Ok(false),
+            Some(found) => {
+                self.keep(alloc, found)?;
+                Ok(true)
+            }
+        }
+    }
+
+    /// Counts a whole record, and keeps it where its text is new.
+    fn keep(&mut self, alloc: Global, found: Found<'_>) -> Result<(), AllocError>
+        requires { LoadsUpTo found self.old.good }
+        ensures { OnOk result (TakesFound (kept_in found.entry) self.old self.new) }
+    {
+        self.good += found.len();
+        match self.find(found.text) {
+            Some(_) => Ok(()),
+            None => self.insert(alloc, found),
+        }
+    }
+
+    /// Keeps a record of a new text.
+    fn insert(&mut self, alloc: Global, found: Found<'_>) -> Result<(), AllocError>
+        requires more { length self.old.records < self.old.good }
+        requires other { position (λ l. bytes_eq found.text.now l.text) self.old.records ≡ None }
+        requires has_module { HasKernelModule found.text.now found.bytes.now found.module }
+        ensures records { OnOk result (map kept_of self.new.records
+            ≡ map kept_of self.old.records ++ kept_in found.entry ∷ []) }
+        ensures good { self.new.good ≡ self.old.good }
+    {
+        let Found {
+            text,
+            bytes,
+            module,
+        } = found;
+        let key = Vec::from_slice(alloc, text)?;
+        let loaded = LoadedModule {
+            bytes: Vec::from_slice(alloc, bytes)?,
+            module: Arc::new(alloc, module)?,
+        };
+        self.records.insert(key, loaded)?;
+        Ok(())
+    }
+}
+
+/// What is loaded from a cache file of these bytes. The error is want of memory.
+pub fn load_of(alloc: Global, bytes: &[u8]) -> Result<Load, AllocError>
+    ensures { IfOk result (λ load. IsLoadOf bytes.now load) }
+{
+    let mut load = Load::new(alloc);
+    let mut more = true;
+    while more {
+        more = load.take_next(alloc, bytes)?;
+    }
+    Ok(load)
+}
