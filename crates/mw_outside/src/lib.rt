@@ -23,11 +23,11 @@ pub use keepers::Keeper;
 pub use lists::{Bytes, Calls};
 pub use named::{Files, NamedFile};
 pub use reading::read_up_to;
-pub use real::{FileSource, OutSink};
-pub use scripted::{MemSink, MemSource};
+pub use real::{FileKeeper, FileSource, OutSink};
+pub use scripted::{MemKeeper, MemSink, MemSource};
 pub use sinks::Sink;
 pub use sources::Source;
-pub use sure::SureKeeper;
+pub use sure::{SureKeeper, SureSink, SureSource};
 pub use writing::write_whole;
 
 #[cfg(test)]

@@ -42,3 +42,13 @@ impl Plan {
         fails
     }
 }
+
+#[cfg(test)]
+impl Plan {
+    /// How many calls have failed.
+    pub fn faults(&self) -> u64
+        ensures { result ≡ fault_count self.now }
+    {
+        self.faults
+    }
+}

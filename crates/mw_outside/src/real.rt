@@ -1,12 +1,16 @@
 // The real outside: files and standard output. They tell nothing of content.
 
-ghost use Rattle.std.specs.Prelude.{◌≡◌, [], false, IsSome};
+ghost use Rattle.std.specs.Prelude.{◌≡◌, ◌≤◌, [], false, vec_len, IsSome, IsOkUnless, IfOk, OnOk, OnErr};
 
-use crate::errors::{ReadFault, StartFault, WriteFault};
+use crate::errors::{KeepFault, ReadFault, ReadStop, StartFault, WriteFault};
+use crate::keepers::Keeper;
+use crate::reading::read_up_to;
 use crate::sinks::Sink;
 use crate::sources::Source;
-use std::fs::File;
-use std::io::{ErrorKind, Read};
+use std::alloc::Global;
+use std::fs::{File, OpenFile, OpenOptions};
+use std::io;
+use std::io::{ErrorKind, Read, Write};
 use std::rt::Files;
 
 /// The files of the system, opened by the runtime `R`.
@@ -108,3 +112,121 @@ impl<R: Print> Sink for OutSink<R> {
         Ok(count)
     }
 }
+
+/// A file of the system, opened anew for each call by the runtime `R`. Symbolic links are followed.
+#[derive(Drop)]
+pub struct FileKeeper<R: Files> {
+    runtime: R,
+    name: String,
+    faults: u64,
+}
+
+impl<R: Files> FileKeeper<R> {
+    ghost use Rattle.mw_outside.specs.Count.{Rose};
+
+    /// A keeper of a file that `rt` opens. No file is named. Takes no memory; the name is kept by `alloc`.
+    pub fn new(alloc: Global, rt: R) -> FileKeeper<R>
+        ensures { ⟦<FileKeeper<R> as Keeper>⟧.faults result ≡ 0 }
+    {
+        FileKeeper {
+            runtime: rt,
+            name: String::new(alloc),
+            faults: 0,
+        }
+    }
+
+    /// Counts a fault where the system gave an error, and is `Failed` then.
+    fn counted(&mut self, outcome: io::Result<()>) -> Result<(), KeepFault>
+        ensures sure { IsOkUnless result KeepFault.Failed }
+        ensures same_count { OnOk result (self.new.faults ≡ self.old.faults) }
+        ensures failed { OnErr result (Rose self.old.faults self.new.faults) }
+        ensures count { self.old.faults ≤ self.new.faults }
+    {
+        if outcome.is_err() {
+            self.faults = self.faults.saturating_add(1);
+            return Err(KeepFault::Failed);
+        }
+        Ok(())
+    }
+}
+
+impl<R: Files> Keeper for FileKeeper<R> {
+    ghost tells = { false };
+
+    ghost held = { λ _. [] };
+
+    ghost faults = { λ keeper. keeper.faults };
+
+    /// Remembers the name, and looks whether the file can be read. A missing one isn't made.
+    fn start(&mut self, name: &str) -> Result<(), KeepFault> {
+        self.name.clear();
+        self.name.push_str(name)?;
+        let outcome = look_at(&self.runtime, name);
+        self.counted(outcome)
+    }
+
+    /// Reads in growing pieces. A missing file gives nothing.
+    fn read_all(&mut self, alloc: Global, most: usize) -> Result<Vec<u8>, KeepFault> {
+        match read_front(&self.runtime, self.name.as_str(), alloc, most) {
+            Ok(bytes) => Ok(bytes),
+            Err(ReadStop::Memory(error)) => Err(KeepFault::Memory(error)),
+            Err(ReadStop::Failed) => {
+                self.faults = self.faults.saturating_add(1);
+                Err(KeepFault::Failed)
+            }
+        }
+    }
+
+    /// Needs a file that can be written. A missing one isn't made, and has no front but the empty one.
+    fn cut(&mut self, length: usize) -> Result<(), KeepFault> {
+        let outcome = cut_file(&self.runtime, self.name.as_str(), length as u64);
+        self.counted(outcome)
+    }
+
+    /// Makes the file where it is missing.
+    fn append(&mut self, bytes: &[u8]) -> Result<(), KeepFault> {
+        let outcome = append_to(&self.runtime, self.name.as_str(), bytes);
+        self.counted(outcome)
+    }
+}
+
+/// Is Ok where the file is missing, or is no folder and can be opened to be read.
+fn look_at<R: Files>(rt: &R, name: &str) -> io::Result<()> {
+    match File::open(rt, name) {
+        Ok(file) if file.metadata()?.is_dir() => Err(ErrorKind::IsADirectory.into()),
+        Ok(_) => Ok(()),
+        Err(error) if error.kind() == ErrorKind::NotFound => Ok(()),
+        Err(error) => Err(error),
+    }
+}
+
+/// The first `most` bytes of a file, and none of a missing one.
+fn read_front<R: Files>(rt: &R, name: &str, alloc: Global, most: usize) -> Result<Vec<u8>, ReadStop>
+    ensures bound { IfOk result (λ bytes. vec_len bytes ≤ most) }
+{
+    let mut source = FileSource::new(rt);
+    match source.start(name) {
+        Ok(()) if most > 0 => read_up_to(alloc, &mut source, most),
+        Ok(()) | Err(StartFault::Missing) => Ok(Vec::new(alloc)),
+        Err(StartFault::Failed) => Err(ReadStop::Failed),
+    }
+}
+
+/// Shortens a file to this length; a shorter one stays. A missing file is an error unless the length is 0.
+fn cut_file<R: Files>(rt: &R, name: &str, length: u64) -> io::Result<()> {
+    match OpenOptions::new().write(true).open(rt, name) {
+        Ok(file) if length < file.metadata()?.len() => file.set_len(length),
+        Ok(_) => Ok(()),
+        Err(error) if error.kind() == ErrorKind::NotFound && length == 0 => Ok(()),
+        Err(error) => Err(error),
+    }
+}
+
+/// Writes the whole piece at the file's end. A write that takes nothing is an error.
+fn append_to<R: Files>(rt: &R, name: &str, bytes: &[u8]) -> io::Result<()> {
+    let mut file = OpenOptions::new().append(true).create(true).open(rt, name)?;
+    file.write_all(bytes)
+}
+
+#[cfg(test)]
+mod tests;

@@ -1,39 +1,33 @@
-// A source and a sink in memory, with calls that fail by plan.
+// A source, a sink and a keeper in memory, with calls that fail by plan.
 
 ghost use Rattle.std.specs.Prelude.{◌≡◌, ◌<◌, ◌≤◌, ◌↔◌, ◌++◌, [], ℕ, length, min, take, true, IsTrue, Some};
-ghost use Rattle.std.specs.Prelude.{IsNone, IsErr, IsErrOf, IfOk, OnOk, OnErr, alloc_error};
-ghost use Rattle.mw_outside.specs.Lookup.{bytes_at};
+ghost use Rattle.std.specs.Prelude.{IsNone, IsErr, IsErrOf, IsOkUnless, IfOk, OnOk, OnErr, alloc_error};
 
-use crate::errors::{ReadFault, StartFault, WriteFault};
+use crate::errors::{KeepFault, ReadFault, StartFault, WriteFault};
+use crate::keepers::Keeper;
 use crate::lists::{Bytes, Calls};
-use crate::named::{Files, find_file};
+use crate::named::Files;
 use crate::plan::Plan;
 use crate::sinks::Sink;
 use crate::sources::Source;
+use crate::sure::{SureKeeper, SureSink, SureSource};
 use std::alloc::Global;
 
 /// Files in memory. The calls on it whose numbers were given fail; `start` and `read` are numbered in one
 /// count, from 0.
 #[derive(Debug, Drop)]
 pub struct MemSource {
-    files: Files,
+    source: SureSource,
     plan: Plan,
-    step: usize,
-    started: bool,
-    index: usize,
-    place: usize,
-    ghost moves: { 0 < step },
-    ghost is_file: { IsTrue started → index < length files },
-    ghost in_file: { place ≤ length (bytes_at files index) },
 }
 
 impl MemSource {
     ghost use Rattle.mw_outside.specs.Lookup.{names_differ};
     ghost use Rattle.mw_outside.specs.Plan.{fresh_plan, fault_count};
-    ghost use Rattle.mw_outside.specs.Scripted.{files_of, source_plan, source_step};
+    ghost use Rattle.mw_outside.specs.Scripted.{files_of, source_plan, source_step, IsUnderWay};
 
     /// A source of these files, whose names differ. The calls whose numbers stand in `failing` fail, and
-    /// one call moves at most `step` bytes, at least 1. Takes no memory.
+    /// one call moves at most `step` bytes, at least 1. No file is started. Takes no memory.
     pub fn new(files: Files, failing: Calls, step: usize) -> MemSource
         requires step { 0 < step }
         requires names { IsTrue (names_differ files) }
@@ -41,14 +35,11 @@ impl MemSource {
         ensures plan { source_plan result ≡ fresh_plan failing }
         ensures count { fault_count (source_plan result) ≡ 0 }
         ensures step { source_step result ≡ step }
+        ensures none { ¬ IsUnderWay result }
     {
         MemSource {
-            files,
+            source: SureSource::new(files, step),
             plan: Plan::new(failing),
-            step,
-            started: false,
-            index: 0,
-            place: 0,
         }
     }
 }
@@ -87,15 +78,7 @@ impl Source for MemSource {
         if self.plan.fails_call() {
             return Err(StartFault::Failed);
         }
-        match find_file(self.files.as_slice(), name.as_bytes()) {
-            None => Err(StartFault::Missing),
-            Some(index) => {
-                self.index = index;
-                self.place = 0;
-                self.started = true;
-                Ok(())
-            }
-        }
+        self.source.start(name)
     }
 
     /// Moves the next bytes: as many as are left, fit and make a step. The call fails exactly by plan.
@@ -119,20 +102,15 @@ impl Source for MemSource {
         if self.plan.fails_call() {
             return Err(ReadFault::Failed);
         }
-        let rest = &self.files.bytes_at(self.index)[self.place..];
-        let count = move_front(rest, into, self.step);
-        self.place += count;
-        Ok(count)
+        self.source.read(into)
     }
 }
 
 /// Bytes in memory. The calls on it whose numbers were given, from 0, fail.
 #[derive(Debug, Drop)]
 pub struct MemSink {
-    content: Bytes,
+    sink: SureSink,
     plan: Plan,
-    step: usize,
-    ghost moves: { 0 < step },
 }
 
 impl MemSink {
@@ -149,9 +127,8 @@ impl MemSink {
         ensures step { sink_step result ≡ step }
     {
         MemSink {
-            content: Bytes::new(alloc),
+            sink: SureSink::new(alloc, step),
             plan: Plan::new(failing),
-            step,
         }
     }
 
@@ -159,7 +136,7 @@ impl MemSink {
     pub fn written(&self) -> &[u8]
         ensures { result.now ≡ written_of self.now }
     {
-        self.content.as_slice()
+        self.sink.written()
     }
 }
 
@@ -193,20 +170,125 @@ impl Sink for MemSink {
         if self.plan.fails_call() {
             return Err(WriteFault::Failed);
         }
-        let count = self.step.min(bytes.len());
-        self.content.append(&bytes[..count])?;
-        Ok(count)
+        self.sink.write(bytes)
     }
 }
 
-/// Moves the next bytes of a file into the front of a slice: as many as there are and fit, but at most
-/// `step`. Answers how many.
-fn move_front(from: &[u8], into: &mut [u8], step: usize) -> usize
-    ensures count { result ≡ min step (min (length from.now) (length into.old)) }
-    ensures moved { take result into.new ≡ take result from.now }
-{
-    let count = step.min(from.len().min(into.len()));
-    let front = &mut into[..count];
-    front.copy_from_slice(&from[..count]);
-    count
+/// One file in memory, whatever its name. The calls on it whose numbers were given fail; `start`,
+/// `read_all`, `cut` and `append` are numbered in one count, from 0.
+#[derive(Debug, Drop)]
+pub struct MemKeeper {
+    keeper: SureKeeper,
+    plan: Plan,
 }
+
+impl MemKeeper {
+    ghost use Rattle.mw_outside.specs.Plan.{fresh_plan, fault_count};
+    ghost use Rattle.mw_outside.specs.Scripted.{held_of, keeper_plan};
+
+    /// A keeper that holds these bytes. The calls whose numbers stand in `failing` fail. Takes no memory.
+    pub fn new(held: Bytes, failing: Calls) -> MemKeeper
+        ensures held { held_of result ≡ held }
+        ensures plan { keeper_plan result ≡ fresh_plan failing }
+        ensures count { fault_count (keeper_plan result) ≡ 0 }
+    {
+        MemKeeper {
+            keeper: SureKeeper::new(held),
+            plan: Plan::new(failing),
+        }
+    }
+
+    /// The bytes held.
+    pub fn held(&self) -> &[u8]
+        ensures { result.now ≡ held_of self.now }
+    {
+        self.keeper.held()
+    }
+}
+
+impl Keeper for MemKeeper {
+    ghost use Rattle.mw_outside.specs.Count.{Rose};
+    ghost use Rattle.mw_outside.specs.Plan.{fails_next, after_call, fault_count};
+    ghost use Rattle.mw_outside.specs.Scripted.{held_of, keeper_plan};
+
+    ghost tells = { true };
+
+    ghost held = { held_of };
+
+    ghost faults = { λ keeper. fault_count (keeper_plan keeper) };
+
+    /// Takes any name. The call fails exactly by plan.
+    fn start(&mut self, name: &str) -> Result<(), KeepFault>
+        ensures by_plan { IsErrOf result KeepFault.Failed ↔ IsTrue (fails_next (keeper_plan self.old)) }
+        ensures plan { keeper_plan self.new ≡ after_call (keeper_plan self.old) }
+        ensures sure { IsOkUnless result KeepFault.Failed }
+        ensures kept { held_of self.new ≡ held_of self.old }
+        ensures same_count { OnOk result (fault_count (keeper_plan self.new) ≡ fault_count (keeper_plan self.old)) }
+        ensures failed { IsErrOf result KeepFault.Failed → Rose (fault_count (keeper_plan self.old)) (fault_count (keeper_plan self.new)) }
+        ensures count { fault_count (keeper_plan self.old) ≤ fault_count (keeper_plan self.new) }
+    {
+        if self.plan.fails_call() {
+            return Err(KeepFault::Failed);
+        }
+        self.keeper.start(name)
+    }
+
+    /// The first `most` bytes held. The call is `Failed` exactly by plan, and else fails only for want of
+    /// memory.
+    fn read_all(&mut self, alloc: Global, most: usize) -> Result<Vec<u8>, KeepFault>
+        ensures by_plan { IsErrOf result KeepFault.Failed ↔ IsTrue (fails_next (keeper_plan self.old)) }
+        ensures plan { keeper_plan self.new ≡ after_call (keeper_plan self.old) }
+        ensures ok { IfOk result (λ bytes. bytes.items ≡ take most (held_of self.old)) }
+        ensures kept { held_of self.new ≡ held_of self.old }
+        ensures same_count { OnOk result (fault_count (keeper_plan self.new) ≡ fault_count (keeper_plan self.old)) }
+        ensures memory_count { IsErrOf result (KeepFault.Memory alloc_error)
+            → fault_count (keeper_plan self.new) ≡ fault_count (keeper_plan self.old) }
+        ensures failed { IsErrOf result KeepFault.Failed → Rose (fault_count (keeper_plan self.old)) (fault_count (keeper_plan self.new)) }
+        ensures count { fault_count (keeper_plan self.old) ≤ fault_count (keeper_plan self.new) }
+    {
+        if self.plan.fails_call() {
+            return Err(KeepFault::Failed);
+        }
+        self.keeper.read_all(alloc, most)
+    }
+
+    /// Keeps the front of this length. The call fails exactly by plan, and changes nothing then.
+    fn cut(&mut self, length: usize) -> Result<(), KeepFault>
+        ensures by_plan { IsErrOf result KeepFault.Failed ↔ IsTrue (fails_next (keeper_plan self.old)) }
+        ensures plan { keeper_plan self.new ≡ after_call (keeper_plan self.old) }
+        ensures sure { IsOkUnless result KeepFault.Failed }
+        ensures ok { OnOk result (held_of self.new ≡ take length (held_of self.old)) }
+        ensures err { OnErr result (held_of self.new ≡ held_of self.old) }
+        ensures same_count { OnOk result (fault_count (keeper_plan self.new) ≡ fault_count (keeper_plan self.old)) }
+        ensures failed { IsErrOf result KeepFault.Failed → Rose (fault_count (keeper_plan self.old)) (fault_count (keeper_plan self.new)) }
+        ensures count { fault_count (keeper_plan self.old) ≤ fault_count (keeper_plan self.new) }
+    {
+        if self.plan.fails_call() {
+            return Err(KeepFault::Failed);
+        }
+        self.keeper.cut(length)
+    }
+
+    /// Adds the bytes. The call is `Failed` exactly by plan, and else fails only for want of memory;
+    /// nothing is added then.
+    fn append(&mut self, bytes: &[u8]) -> Result<(), KeepFault>
+        ensures by_plan { IsErrOf result KeepFault.Failed ↔ IsTrue (fails_next (keeper_plan self.old)) }
+        ensures plan { keeper_plan self.new ≡ after_call (keeper_plan self.old) }
+        ensures ok { OnOk result (held_of self.new ≡ held_of self.old ++ bytes.now) }
+        ensures err { OnErr result (held_of self.new ≡ held_of self.old) }
+        ensures same_count { OnOk result (fault_count (keeper_plan self.new) ≡ fault_count (keeper_plan self.old)) }
+        ensures memory_count { IsErrOf result (KeepFault.Memory alloc_error)
+            → fault_count (keeper_plan self.new) ≡ fault_count (keeper_plan self.old) }
+        ensures failed { IsErrOf result KeepFault.Failed → Rose (fault_count (keeper_plan self.old)) (fault_count (keeper_plan self.new)) }
+        ensures count { fault_count (keeper_plan self.old) ≤ fault_count (keeper_plan self.new) }
+    {
+        // A failing call adds no front of the piece either.
+        if self.plan.fails_call() {
+            return Err(KeepFault::Failed);
+        }
+        self.keeper.append(bytes)
+    }
+}
+
+#[cfg(test)]
+mod tests;

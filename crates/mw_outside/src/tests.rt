@@ -3,8 +3,9 @@
 ghost use Rattle.std.specs.Prelude.{◌<◌};
 
 use crate::{
-    Bytes, Calls, FileSource, Files, Keeper, MemSink, MemSource, NamedFile, OutSink, ReadStop,
-    Sink, Source, StartFault, SureKeeper, WriteFault, read_up_to, write_whole,
+    Bytes, Calls, FileSource, Files, Keeper, MemSink, MemSource, NamedFile, OutSink, ReadFault,
+    ReadStop, Sink, Source, StartFault, SureKeeper, SureSink, SureSource, WriteFault, read_up_to,
+    write_whole,
 };
 use std::alloc::{AllocError, Global};
 use std::process::Abort;
@@ -233,6 +234,73 @@ fn writes_row(rt: &impl Abort, alloc: Global, row: &WriteRow) -> Result<(), Fail
     assert_eq!(rt; write_both(&mut sink), row.outcome);
     assert_eq!(rt; sink.written(), row.written);
     Ok(())
+}
+
+#[derive(Drop)]
+struct StepRow {
+    step: usize,
+    counts: [Result<usize, ReadFault>; 3],
+    first: usize,
+    written: &'static [u8],
+}
+
+#[test]
+fn moves_by_steps(rt: HostRuntime) -> Result<(), Fail> {
+    let rows = [
+        StepRow {
+            step: 1,
+            counts: [Ok(1), Ok(1), Ok(1)],
+            first: 1,
+            written: b"oone twothree",
+        },
+        StepRow {
+            step: 3,
+            counts: [Ok(3), Ok(3), Ok(1)],
+            first: 3,
+            written: b"oneone twothree",
+        },
+        StepRow {
+            step: 100,
+            counts: [Ok(4), Ok(3), Ok(0)],
+            first: 7,
+            written: b"one twoone twothree",
+        },
+    ];
+    for row in &rows {
+        steps_row(&rt, rt.alloc(), row)?;
+    }
+    Ok(())
+}
+
+fn steps_row(rt: &impl Abort, alloc: Global, row: &StepRow) -> Result<(), Fail> {
+    let files = three_files(alloc)?;
+    assert!(rt; files.names_differ());
+    assert!(rt; 0 < row.step);
+    let mut source = SureSource::new(files, row.step);
+    assert_eq!(rt; source.start("third"), Err(StartFault::Missing));
+    let (ending, bytes) = read_file(alloc, &mut source, "second", 4)?;
+    assert_eq!(rt; ending, Ending::Read);
+    assert_eq!(rt; bytes.as_slice(), b"thre".as_slice());
+    assert_eq!(rt; three_counts(&mut source), Some(row.counts));
+    let mut sink = SureSink::new(alloc, row.step);
+    assert_eq!(rt; sink.write(b"one two"), Ok(row.first));
+    assert_eq!(rt; write_both(&mut sink), Ok(()));
+    assert_eq!(rt; sink.written(), row.written);
+    Ok(())
+}
+
+/// How many bytes each of three reads into four bytes moves.
+fn three_counts(source: &mut SureSource) -> Option<[Result<usize, ReadFault>; 3]> {
+    if source.start("first").is_err() {
+        return None;
+    }
+    let mut piece = [0u8; 4];
+    let counts = [
+        source.read(&mut piece),
+        source.read(&mut piece),
+        source.read(&mut piece),
+    ];
+    Some(counts)
 }
 
 #[test]
