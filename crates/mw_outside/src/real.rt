@@ -157,7 +157,8 @@ impl<R: Files> Keeper for FileKeeper<R> {
 
     ghost faults = { λ keeper. keeper.faults };
 
-    /// Remembers the name, and looks whether the file can be read. A missing one isn't made.
+    /// Remembers the name, and looks: a folder, or a file that can't be opened to be read, is `Failed`. A
+    /// missing file isn't made.
     fn start(&mut self, name: &str) -> Result<(), KeepFault> {
         self.name.clear();
         self.name.push_str(name)?;
@@ -177,13 +178,14 @@ impl<R: Files> Keeper for FileKeeper<R> {
         }
     }
 
-    /// Needs a file that can be written. A missing one isn't made, and has no front but the empty one.
+    /// Needs a file that can be written, and never lengthens it. A missing one isn't made, and has no front
+    /// but the empty one.
     fn cut(&mut self, length: usize) -> Result<(), KeepFault> {
         let outcome = cut_file(&self.runtime, self.name.as_str(), length as u64);
         self.counted(outcome)
     }
 
-    /// Makes the file where it is missing.
+    /// Makes the file where it is missing. Where the system takes the piece whole, it is one write.
     fn append(&mut self, bytes: &[u8]) -> Result<(), KeepFault> {
         let outcome = append_to(&self.runtime, self.name.as_str(), bytes);
         self.counted(outcome)

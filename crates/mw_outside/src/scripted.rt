@@ -282,8 +282,8 @@ impl Keeper for MemKeeper {
         ensures failed { IsErrOf result KeepFault.Failed → Rose (fault_count (keeper_plan self.old)) (fault_count (keeper_plan self.new)) }
         ensures count { fault_count (keeper_plan self.old) ≤ fault_count (keeper_plan self.new) }
     {
-        // A failing call adds no front of the piece either.
         if self.plan.fails_call() {
+            // No front of the piece is added either.
             return Err(KeepFault::Failed);
         }
         self.keeper.append(bytes)
