@@ -5,7 +5,8 @@ use Rattle.mw_outside.specs.declared.plan.Plan.{Plan}
 use Rattle.mw_outside.specs.declared.scripted.MemSource.{MemSource}
 use Rattle.mw_outside.specs.declared.scripted.MemSink.{MemSink}
 use Rattle.mw_outside.specs.declared.scripted.MemKeeper.{MemKeeper}
-use Rattle.mw_outside.specs.Sure.{sure_files, sure_source_step, IsSureUnderWay, sure_left, sure_written, sure_sink_step, sure_held}
+use Rattle.mw_outside.specs.Sure.{sure_files, sure_source_step, IsSureUnderWay, sure_left}
+use Rattle.mw_outside.specs.Sure.{sure_written, sure_sink_step, sure_held}
 
 -- the files of a source
 abbrev pub files_of : MemSource → List NamedFile

@@ -67,9 +67,12 @@ impl Source for MemSource {
         ensures step { source_step self.new ≡ source_step self.old }
         ensures found { OnOk result (file_of (files_of self.old) name.now ≡ Some (left_of self.new)) }
         ensures ready { OnOk result (IsUnderWay self.new) }
-        ensures same_count { OnOk result (fault_count (source_plan self.new) ≡ fault_count (source_plan self.old)) }
-        ensures missing { IsErrOf result StartFault.Missing → IsNone (file_of (files_of self.old) name.now) }
-        ensures failed { IsErrOf result StartFault.Failed → Rose (fault_count (source_plan self.old)) (fault_count (source_plan self.new)) }
+        ensures same_count { OnOk result (fault_count (source_plan self.new)
+            ≡ fault_count (source_plan self.old)) }
+        ensures missing { IsErrOf result StartFault.Missing
+            → IsNone (file_of (files_of self.old) name.now) }
+        ensures failed { IsErrOf result StartFault.Failed
+            → Rose (fault_count (source_plan self.old)) (fault_count (source_plan self.new)) }
         ensures still_ready { OnErr result (IsUnderWay self.old → IsUnderWay self.new) }
         ensures still_left { OnErr result (left_of self.new ≡ left_of self.old) }
         ensures same_files { files_of self.new ≡ files_of self.old }
@@ -88,12 +91,15 @@ impl Source for MemSource {
         ensures by_plan { IsErr result ↔ IsTrue (fails_next (source_plan self.old)) }
         ensures plan { source_plan self.new ≡ after_call (source_plan self.old) }
         ensures step { source_step self.new ≡ source_step self.old }
-        ensures size { IfOk result (λ count. count ≡ min (source_step self.old) (min (length (left_of self.old)) (length into.old))) }
+        ensures size { IfOk result (λ count. count
+            ≡ min (source_step self.old) (min (length (left_of self.old)) (length into.old))) }
         ensures bound { IfOk result (λ count. count ≤ length into.new) }
         ensures moved { IfOk result (λ count. left_of self.old ≡ take count into.new ++ left_of self.new) }
         ensures end { IfOk result (λ count. count ≡ 0 → left_of self.old ≡ []) }
-        ensures same_count { OnOk result (fault_count (source_plan self.new) ≡ fault_count (source_plan self.old)) }
-        ensures failed { OnErr result (Rose (fault_count (source_plan self.old)) (fault_count (source_plan self.new))) }
+        ensures same_count { OnOk result (fault_count (source_plan self.new)
+            ≡ fault_count (source_plan self.old)) }
+        ensures failed { OnErr result
+            (Rose (fault_count (source_plan self.old)) (fault_count (source_plan self.new))) }
         ensures still_left { OnErr result (left_of self.new ≡ left_of self.old) }
         ensures still_ready { IsUnderWay self.new }
         ensures same_files { files_of self.new ≡ files_of self.old }
@@ -159,12 +165,15 @@ impl Sink for MemSink {
         ensures step { sink_step self.new ≡ sink_step self.old }
         ensures size { IfOk result (λ count. count ≡ min (sink_step self.old) (length bytes.now)) }
         ensures some { IfOk result (λ count. 0 < count) }
-        ensures ok { IfOk result (λ count. written_of self.new ≡ written_of self.old ++ take count bytes.now) }
+        ensures ok { IfOk result (λ count. written_of self.new
+            ≡ written_of self.old ++ take count bytes.now) }
         ensures err { OnErr result (written_of self.new ≡ written_of self.old) }
-        ensures same_count { OnOk result (fault_count (sink_plan self.new) ≡ fault_count (sink_plan self.old)) }
+        ensures same_count { OnOk result (fault_count (sink_plan self.new)
+            ≡ fault_count (sink_plan self.old)) }
         ensures memory { IsErrOf result (WriteFault.Memory alloc_error)
             → fault_count (sink_plan self.new) ≡ fault_count (sink_plan self.old) }
-        ensures failed { IsErrOf result WriteFault.Failed → Rose (fault_count (sink_plan self.old)) (fault_count (sink_plan self.new)) }
+        ensures failed { IsErrOf result WriteFault.Failed
+            → Rose (fault_count (sink_plan self.old)) (fault_count (sink_plan self.new)) }
         ensures count { fault_count (sink_plan self.old) ≤ fault_count (sink_plan self.new) }
     {
         if self.plan.fails_call() {
@@ -223,8 +232,10 @@ impl Keeper for MemKeeper {
         ensures plan { keeper_plan self.new ≡ after_call (keeper_plan self.old) }
         ensures sure { IsOkUnless result KeepFault.Failed }
         ensures kept { held_of self.new ≡ held_of self.old }
-        ensures same_count { OnOk result (fault_count (keeper_plan self.new) ≡ fault_count (keeper_plan self.old)) }
-        ensures failed { IsErrOf result KeepFault.Failed → Rose (fault_count (keeper_plan self.old)) (fault_count (keeper_plan self.new)) }
+        ensures same_count { OnOk result (fault_count (keeper_plan self.new)
+            ≡ fault_count (keeper_plan self.old)) }
+        ensures failed { IsErrOf result KeepFault.Failed
+            → Rose (fault_count (keeper_plan self.old)) (fault_count (keeper_plan self.new)) }
         ensures count { fault_count (keeper_plan self.old) ≤ fault_count (keeper_plan self.new) }
     {
         if self.plan.fails_call() {
@@ -240,10 +251,12 @@ impl Keeper for MemKeeper {
         ensures plan { keeper_plan self.new ≡ after_call (keeper_plan self.old) }
         ensures ok { IfOk result (λ bytes. bytes.items ≡ take most (held_of self.old)) }
         ensures kept { held_of self.new ≡ held_of self.old }
-        ensures same_count { OnOk result (fault_count (keeper_plan self.new) ≡ fault_count (keeper_plan self.old)) }
+        ensures same_count { OnOk result (fault_count (keeper_plan self.new)
+            ≡ fault_count (keeper_plan self.old)) }
         ensures memory_count { IsErrOf result (KeepFault.Memory alloc_error)
             → fault_count (keeper_plan self.new) ≡ fault_count (keeper_plan self.old) }
-        ensures failed { IsErrOf result KeepFault.Failed → Rose (fault_count (keeper_plan self.old)) (fault_count (keeper_plan self.new)) }
+        ensures failed { IsErrOf result KeepFault.Failed
+            → Rose (fault_count (keeper_plan self.old)) (fault_count (keeper_plan self.new)) }
         ensures count { fault_count (keeper_plan self.old) ≤ fault_count (keeper_plan self.new) }
     {
         if self.plan.fails_call() {
@@ -259,8 +272,10 @@ impl Keeper for MemKeeper {
         ensures sure { IsOkUnless result KeepFault.Failed }
         ensures ok { OnOk result (held_of self.new ≡ take length (held_of self.old)) }
         ensures err { OnErr result (held_of self.new ≡ held_of self.old) }
-        ensures same_count { OnOk result (fault_count (keeper_plan self.new) ≡ fault_count (keeper_plan self.old)) }
-        ensures failed { IsErrOf result KeepFault.Failed → Rose (fault_count (keeper_plan self.old)) (fault_count (keeper_plan self.new)) }
+        ensures same_count { OnOk result (fault_count (keeper_plan self.new)
+            ≡ fault_count (keeper_plan self.old)) }
+        ensures failed { IsErrOf result KeepFault.Failed
+            → Rose (fault_count (keeper_plan self.old)) (fault_count (keeper_plan self.new)) }
         ensures count { fault_count (keeper_plan self.old) ≤ fault_count (keeper_plan self.new) }
     {
         if self.plan.fails_call() {
@@ -276,10 +291,12 @@ impl Keeper for MemKeeper {
         ensures plan { keeper_plan self.new ≡ after_call (keeper_plan self.old) }
         ensures ok { OnOk result (held_of self.new ≡ held_of self.old ++ bytes.now) }
         ensures err { OnErr result (held_of self.new ≡ held_of self.old) }
-        ensures same_count { OnOk result (fault_count (keeper_plan self.new) ≡ fault_count (keeper_plan self.old)) }
+        ensures same_count { OnOk result (fault_count (keeper_plan self.new)
+            ≡ fault_count (keeper_plan self.old)) }
         ensures memory_count { IsErrOf result (KeepFault.Memory alloc_error)
             → fault_count (keeper_plan self.new) ≡ fault_count (keeper_plan self.old) }
-        ensures failed { IsErrOf result KeepFault.Failed → Rose (fault_count (keeper_plan self.old)) (fault_count (keeper_plan self.new)) }
+        ensures failed { IsErrOf result KeepFault.Failed
+            → Rose (fault_count (keeper_plan self.old)) (fault_count (keeper_plan self.new)) }
         ensures count { fault_count (keeper_plan self.old) ≤ fault_count (keeper_plan self.new) }
     {
         if self.plan.fails_call() {

@@ -90,9 +90,11 @@ impl Source for SureSource {
         requires room { 0 < length into.old }
         ensures ok { IsOk result }
         ensures step { sure_source_step self.new ≡ sure_source_step self.old }
-        ensures size { IfOk result (λ count. count ≡ min (sure_source_step self.old) (min (length (sure_left self.old)) (length into.old))) }
+        ensures size { IfOk result (λ count. count
+            ≡ min (sure_source_step self.old) (min (length (sure_left self.old)) (length into.old))) }
         ensures bound { IfOk result (λ count. count ≤ length into.new) }
-        ensures moved { IfOk result (λ count. sure_left self.old ≡ take count into.new ++ sure_left self.new) }
+        ensures moved { IfOk result (λ count. sure_left self.old
+            ≡ take count into.new ++ sure_left self.new) }
         ensures end { IfOk result (λ count. count ≡ 0 → sure_left self.old ≡ []) }
         ensures still_ready { IsSureUnderWay self.new }
         ensures same_files { sure_files self.new ≡ sure_files self.old }
@@ -152,7 +154,8 @@ impl Sink for SureSink {
         ensures step { sure_sink_step self.new ≡ sure_sink_step self.old }
         ensures size { IfOk result (λ count. count ≡ min (sure_sink_step self.old) (length bytes.now)) }
         ensures some { IfOk result (λ count. 0 < count) }
-        ensures ok { IfOk result (λ count. sure_written self.new ≡ sure_written self.old ++ take count bytes.now) }
+        ensures ok { IfOk result (λ count. sure_written self.new
+            ≡ sure_written self.old ++ take count bytes.now) }
         ensures err { OnErr result (sure_written self.new ≡ sure_written self.old) }
     {
         let count = self.step.min(bytes.len());
