@@ -3,3 +3,4 @@ pub mod WordEnds
 pub mod AnswerLemmas
 pub mod MeaningLemmas
 pub mod RunningLemmas
+pub mod StrayLemmas

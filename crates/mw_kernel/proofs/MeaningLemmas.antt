@@ -3,7 +3,7 @@ use Rattle.std.proofs.Common.{◌≡◌, ℕ, true, false, List, [], ◌∷◌, 
 use Rattle.std.specs.Prelude.{codes}
 use Rattle.std.specs.Int.{w64, cast_signed}
 use Rattle.std.proofs.lemmas.Int.{to_z-of_z}
-use Rattle.mw_term.specs.Terms.{Expression, Value, KernelValue, GroundType, KernelType, PureGroundValue, base, product, of_ground, to, int, bool, both, function, recursive, ground_value, ground_value_of}
+use Rattle.mw_term.specs.Terms.{Expression, KernelValue, GroundType, KernelType, PureGroundValue, base, product, of_ground, to, int, bool, both, function, recursive, ground_value, ground_value_of}
 use Rattle.mw_term.specs.declared.term.Base.TheVariants.{Int, Bool as Truth}
 use Rattle.mw_term.specs.declared.value.TrapKind.TheVariants as kind
 use Rattle.mw_term.specs.declared.value.Limit.TheVariants.{Fuel, Heap, KernelSize}

@@ -11,6 +11,7 @@ ghost use Rattle.mw_exec.specs.InstanceStates.{store_in};
 ghost use Rattle.mw_kernel.specs.RunningStates.{IsRunnable};
 ghost use Rattle.mw_kernel.specs.KernelAnswers.{AnswersStart, AnswersCall, StoreAfterCall, IsSameFunction, HasStartType, HasCallType, StartLeavesAtMost, CallLeavesAtMost, FitsUnlessMemory};
 ghost use Rattle.mw_kernel.specs.KernelMeanings.{MeansStart, MeansCall, KeepsOn};
+ghost use Rattle.mw_kernel.specs.Straying.{BadStartIsStray, IsStartOver, StartsPlay, BadCallIsStray, PlaysOn};
 ghost use Rattle.mw_kernel.specs.Answering.{HasFewPages, IsAnswerOf, IsNoFunction, IsBegunAnswer, IsHeldAfter};
 
 use crate::arguments::arguments_of;
@@ -79,6 +80,9 @@ impl Running {
         ensures types { HasStartType result (kernel_type_of kind.now) }
         ensures left { StartLeavesAtMost result fuel }
         ensures means { MeansStart result (arc_value «module».now) (kernel_type_of kind.now) fuel }
+        ensures stray { BadStartIsStray result (arc_value «module».now) (kernel_type_of kind.now) }
+        ensures over { IsStartOver result (arc_value «module».now) }
+        ensures plays { StartsPlay result }
     {
         begin(alloc, module, kind, fuel)
     }
@@ -98,6 +102,8 @@ impl Running {
         ensures means { MeansCall result self.old (ground_value_of argument.now) fuel }
         ensures store { StoreAfterCall result self.old self.new (ground_value_of argument.now) fuel }
         ensures keeps { KeepsOn result self.old self.new }
+        ensures stray { BadCallIsStray result self.old }
+        ensures plays { PlaysOn result self.old self.new }
         ensures same { IsSameFunction self.old self.new }
         ensures fits { FitsUnlessMemory result (ground_value_of argument.now) }
         ensures runnable { IsRunnable self.old }
