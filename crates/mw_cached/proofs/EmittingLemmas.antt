@@ -1,5 +1,5 @@
 -- Answers to runs and calls are what they mean.
-use Rattle.std.proofs.Common.{◌≡◌, ℕ, false, [], ◌∷◌, Some, Result, Ok, Err, IfErr, refl, sym, ap, ◌∙◌, subst}
+use Rattle.std.proofs.Common.{◌≡◌, ℕ, false, [], ◌∷◌, Option, Some, None, Ok, refl, sym, ap, ◌∙◌, subst}
 use Rattle.mw_term.specs.Terms.{Expression, KernelValue, KernelType, GroundType, PureGroundValue, of_ground, to, int, bool, both, function, recursive, kept, ground_value, ground_value_of}
 use Rattle.mw_term.specs.Closed.{IsCode}
 use Rattle.mw_term.specs.Limits.{LiteralsFit}
@@ -18,19 +18,15 @@ use Rattle.mw_wasm.specs.declared.modules.Module.{Module}
 use Rattle.mw_wasm.specs.Views.{module_of}
 use Rattle.mw_machine.specs.declared.kernels.Ran.{Ran}
 use Rattle.mw_machine.specs.declared.kernels.Ran.TheVariants as ran
-use Rattle.mw_machine.specs.declared.kernels.KernelFault.{KernelFault}
-use Rattle.mw_machine.specs.declared.kernels.KernelFault.TheVariants as kernel
-use Rattle.mw_machine.specs.KernelCalls.{IsMeantBy, AnswersRun, AnswersCall, IsRunAt, IsNewlyBad, ends_all}
-use Rattle.mw_kernel.specs.declared.fault.RunFault.{RunFault}
-use Rattle.mw_kernel.specs.declared.fault.RunFault.TheVariants as fault
+use Rattle.mw_machine.specs.KernelCalls.{IsMeantBy, AnswersRun, AnswersCall, IsRunAt, ends_all}
 use Rattle.mw_kernel.specs.declared.running.Began.{Began}
 use Rattle.mw_kernel.specs.declared.running.Began.TheVariants as began
 use Rattle.mw_kernel.specs.KernelAnswers.{FitsWords, kernel_value, HasStartType, HasCallType, IsSameFunction}
-use Rattle.mw_kernel.specs.KernelMeanings.{IsSameValue, HasShortIntegers, IsBeganFrom, IsRanFrom, IsStartMeant, IsCallMeant, MeansStart, KeepsOn}
+use Rattle.mw_kernel.specs.KernelMeanings.{IsSameValue, HasShortIntegers, IsBeganFrom, IsRanFrom, IsCallMeant, MeansStart, Keeps, KeepsOn}
 use Rattle.mw_kernel.specs.RunningStates.{RunningState}
+use Rattle.mw_kernel.specs.Straying.{IsStartOver, StartsPlay, PlaysOn}
 use Rattle.mw_kernel.proofs.MeaningLemmas.{short_integers_are_kept}
-use Rattle.mw_cached.specs.Answers.{IsWant, IsOnlyWant}
-use Rattle.mw_cached.specs.KeptFunctions.{IsFunctionOf}
+use Rattle.mw_cached.specs.KeptFunctions.{IsFunctionOf, IsKeptFor}
 use Rattle.mw_cached.proofs.OtherUnits.{one_value}
 use Rattle.mw_cached.proofs.ShortIntegers.{code_gives_short, call_gives_short, short_integers, argument_of, argument_is_short}
 
@@ -116,7 +112,8 @@ function_of_run s t (gives (recursive e) n h) k f words left runs after p = cc
 function_of_run s t _ k f words left runs after p = absurd (cc)
 
 -- A call of a kept function.
-module _ (mode : Mode) (c : Expression) (k : KernelType) (r : RunningState) (is : IsFunctionOf (in_mode mode c) k r)
+module _ (mode : Mode) (c : Expression) (k : KernelType) (r : RunningState) (code : IsCode (in_mode mode c))
+    (literals : LiteralsFit (in_mode mode c)) (type : k ≡ to r.argument r.result) (is : IsFunctionOf (in_mode mode c) r)
     (v : PureGroundValue) (units : ℕ) where
   abbrev d : Expression
   d = in_mode mode c
@@ -128,7 +125,7 @@ module _ (mode : Mode) (c : Expression) (k : KernelType) (r : RunningState) (is 
   gives_short fits = λ w left words e.
       short_integers w
       (call_gives_short is.function (kernel_value v) w is.words (argument_words (ground_value v)) units left words
-      (code_gives_short d is.units 0 is.function is.left is.words is.code is.literals is.is)
+      (code_gives_short d is.units 0 is.function is.left is.words code literals is.is)
       (argument_is_short v fits (kernel_value v) (argument_of v))
       (ap (λ o. call_of is.function is.words o (argument_words (ground_value v)) units) (sym (argument_of v)) ∙ e))
 
@@ -139,7 +136,7 @@ module _ (mode : Mode) (c : Expression) (k : KernelType) (r : RunningState) (is 
       one_value d is.units given is.function f is.left left is.words words is.is
       (function_of_run r.argument r.result (kernel_meaning given 0 d) k f words left ((c, k) ∷ []) after
       (subst (λ j. run_ended j (kernel_meaning given 0 d) ((c, k) ∷ [])
-      ≡ answers (kept k f words) left after) is.type p))
+      ≡ answers (kept k f words) left after) type p))
 
   pub call_meant : (answer : Ran) → FitsWords v → IsCallMeant (Ok answer) a → AnswersCall mode (Ok answer) c k v units
   call_meant answer fits h f words given left after p =
@@ -152,14 +149,9 @@ module _ (mode : Mode) (c : Expression) (k : KernelType) (r : RunningState) (is 
       (ran_meant answer a [] (gives_short fits) h))
 
 -- after a value the function is kept
-pub call_keeps : (answer : Ran) (c : Expression) (k : KernelType) (old new : RunningState) → IsFunctionOf c k old
-    → IsSameFunction old new → HasCallType (Ok answer) old.result → KeepsOn (Ok answer) old new
-    → ends_all (Ok answer) ≡ false
-    → IsFunctionOf c k new
-call_keeps (ran.Value v left) c k old new is same type keeps open' = record {
-  code = is.code;
-  literals = is.literals;
-  type = is.type ∙ sym (ap (λ s. to s new.result) same.argument_is ∙ ap (λ t. to old.argument t) same.result_is);
+function_stays : (c : Expression) (old new : RunningState) → ((f : KernelValue) (words : ℕ) → Keeps old f words → Keeps new f words)
+    → IsFunctionOf c old → IsFunctionOf c new
+function_stays c old new keeps is = record {
   function = is.function;
   units = is.units;
   left = is.left;
@@ -167,13 +159,23 @@ call_keeps (ran.Value v left) c k old new is same type keeps open' = record {
   is = is.is;
   keeps = keeps is.function is.words is.keeps;
 }
-call_keeps (ran.Function which left) c k old new is same type keeps open' = absurd type
-call_keeps (ran.Trap t) c k old new is same type keeps open' = absurd (cc)
-call_keeps (ran.Bound l) c k old new is same type keeps open' = absurd (cc)
 
-pub call_wants : (f : RunFault) (a : Ended) → IsCallMeant (Err f) a → IsWant f
-call_wants fault.Bad a h = h
-call_wants (fault.Memory e) a h = tt
+pub call_keeps : (answer : Ran) (c : Expression) (k : KernelType) (old new : RunningState) (loaded : Option ℕ)
+    → IsKeptFor c k old loaded → IsSameFunction old new → HasCallType (Ok answer) old.result
+    → KeepsOn (Ok answer) old new → PlaysOn (Ok answer) old new → ends_all (Ok answer) ≡ false
+    → IsKeptFor c k new loaded
+call_keeps (ran.Value v left) c k old new loaded is same type keeps plays open' = record {
+  code = is.code;
+  literals = is.literals;
+  type = is.type ∙ sym (ap (λ s. to s new.result) same.argument_is ∙ ap (λ t. to old.argument t) same.result_is);
+  plays = plays is.plays;
+  emitted = λ none. subst (λ w. StandsFor (module_of w) c k) (sym same.wasm_is) (is.emitted none);
+  means = λ stands. function_stays c old new keeps
+      (is.means (subst (λ w. StandsFor (module_of w) c k) same.wasm_is stands));
+}
+call_keeps (ran.Function which left) c k old new loaded is same type keeps plays open' = absurd type
+call_keeps (ran.Trap t) c k old new loaded is same type keeps plays open' = absurd (cc)
+call_keeps (ran.Bound l) c k old new loaded is same type keeps plays open' = absurd (cc)
 
 -- the same of the other clauses of a run
 pub run_at : (which : ℕ) (b : Began) (k : KernelType) → HasStartType (Ok b) k → IsRunAt (Ok (ran_of which b)) k which
@@ -184,18 +186,15 @@ run_at which (began.Function r left) (to s t) h = refl
 run_at which (began.Trap u) k h = tt
 run_at which (began.Bound l) k h = tt
 
--- the function that a run gives is kept
-pub run_keeps : (r : RunningState) (rest : ℕ) (c : Expression) (k : KernelType) (units : ℕ) → IsCode c → LiteralsFit c
+-- the function that a run gives is the code's
+function_of_start : (r : RunningState) (rest : ℕ) (c : Expression) (k : KernelType) (units : ℕ)
     → HasStartType (Ok (began.Function r rest)) k → IsBeganFrom k (began.Function r rest) (kernel_meaning units 0 c)
-    → IsFunctionOf c k r
-run_keeps r rest c k units code fit type h = at k (kernel_meaning units 0 c) refl type h
+    → IsFunctionOf c r
+function_of_start r rest c k units type h = at k (kernel_meaning units 0 c) refl type h
   where
     at : (k : KernelType) (a : Ended) → kernel_meaning units 0 c ≡ a → HasStartType (Ok (began.Function r rest)) k
-        → IsBeganFrom k (began.Function r rest) a → IsFunctionOf c k r
+        → IsBeganFrom k (began.Function r rest) a → IsFunctionOf c r
     at (to s t) (gives f left words) e type h = record {
-      code = code;
-      literals = fit;
-      type = sym (ap (λ s. to s r.result) type.0 ∙ ap (λ t. to s t) type.1);
       function = f;
       units = units;
       left = left;
@@ -206,12 +205,26 @@ run_keeps r rest c k units code fit type h = at k (kernel_meaning units 0 c) ref
     at (to s t) (stops why) e type h = absurd h
     at (of_ground t) a e type h = absurd type
 
-pub run_wants : (f : RunFault) (k : KernelType) (a : Ended) → IsStartMeant (Err f) k a → IsWant f
-run_wants fault.Bad k a h = h
-run_wants (fault.Memory e) k a h = tt
+start_type : (r : RunningState) (rest : ℕ) (k : KernelType) → HasStartType (Ok (began.Function r rest)) k
+    → k ≡ to r.argument r.result
+start_type r rest (to s t) type = sym (ap (λ s. to s r.result) type.0 ∙ ap (λ t. to s t) type.1)
+start_type r rest (of_ground t) type = absurd type
 
--- a fault is never bad
-pub never_bad : (answer : Result Ran KernelFault) → IsOnlyWant answer → IfErr answer (λ f. IsNewlyBad f 0 0 [])
-never_bad (Ok r) h = tt
-never_bad (Err (kernel.Memory e)) h = tt
-never_bad (Err (kernel.Bad d)) h = absurd h
+-- and is kept
+pub run_keeps : (b : Began) (r : RunningState) (rest : ℕ) (wasm : Module) (c : Expression) (k : KernelType) (units : ℕ)
+    (loaded : Option ℕ) → b ≡ began.Function r rest → HasKernelType c k → LiteralsFit c → HasStartType (Ok b) k
+    → IsStartOver (Ok b) wasm → StartsPlay (Ok b) → MeansStart (Ok b) wasm k units
+    → (loaded ≡ None → StandsFor (module_of wasm) c k) → IsKeptFor c k r loaded
+run_keeps b r rest wasm c k units loaded is typed fit type over plays means stands =
+    let type' = subst (λ b. HasStartType (Ok b) k) is type in
+    let over' = subst (λ b. IsStartOver (Ok b) wasm) is over in
+    let means' = subst (λ b. MeansStart (Ok b) wasm k units) is means in
+    record {
+      code = typed.is_code;
+      literals = fit;
+      type = start_type r rest k type';
+      plays = subst (λ b. StartsPlay (Ok b)) is plays;
+      emitted = λ none. subst (λ w. StandsFor (module_of w) c k) (sym over') (stands none);
+      means = λ here. function_of_start r rest c k units type'
+          (means' c typed (subst (λ w. StandsFor (module_of w) c k) over' here));
+    }

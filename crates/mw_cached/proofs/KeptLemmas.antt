@@ -1,17 +1,25 @@
 -- The list of kept functions.
-use Rattle.std.proofs.Common.{◌≡◌, ℕ, zero, suc, Bool, true, false, if◌then◌else◌, List, [], ◌∷◌, ◌++◌, Some, map, sym, subst, ap, slice_get, slice_index_or}
+use Rattle.std.proofs.Common.{◌≡◌, ℕ, zero, suc, Bool, true, false, if◌then◌else◌, List, [], ◌∷◌, ◌++◌, Option, Some, None, Result, Ok, Err, map, refl, sym, subst, ap, ◌∙◌, slice_get, slice_index_or}
+use Rattle.std.specs.Prelude.{IsSome}
 use Rattle.std.specs.List.{All}
 use Rattle.std.proofs.lemmas.List.Elements.{All-push, All-head, All-tail}
 use Rattle.mw_term.specs.Terms.{Expression, KernelType}
-use Rattle.mw_kernel.specs.RunningStates.{RunningState}
-use Rattle.mw_cached.specs.declared.function.Function.{Function}
+use Rattle.mw_term.specs.Limits.{LiteralsFit}
 use Rattle.mw_key.specs.CanonicalText.{canonical_text}
 use Rattle.mw_key.specs.declared.version.Version.TheVariants.{Two}
 use Rattle.mw_key.proofs.FoundTexts.{text_from}
-use Rattle.mw_term.specs.Limits.{LiteralsFit}
+use Rattle.mw_meaning.specs.declared.mode.Mode.{Mode}
+use Rattle.mw_meaning.specs.Simplification.{in_mode}
+use Rattle.mw_meaning.specs.StandingFor.{StandsFor}
+use Rattle.mw_wasm.specs.Views.{module_of}
+use Rattle.mw_machine.specs.declared.kernels.Ran.{Ran}
+use Rattle.mw_machine.specs.declared.kernels.Ran.TheVariants as ran
+use Rattle.mw_machine.specs.declared.kernels.KernelFault.{KernelFault}
 use Rattle.mw_machine.specs.KernelCalls.{IsRunnable}
-use Rattle.mw_cached.specs.FunctionStates.{run_at, run_read}
-use Rattle.mw_cached.specs.KeptFunctions.{IsFunctionOf}
+use Rattle.mw_kernel.specs.RunningStates.{RunningState}
+use Rattle.mw_cached.specs.declared.function.Function.{Function}
+use Rattle.mw_cached.specs.FunctionStates.{Kept, run_at, run_read, run_of_kept, MeansItsCode, with_function, with_record, records_of}
+use Rattle.mw_cached.specs.KeptFunctions.{IsKeptFor, IsKept, kept_of}
 
 -- what holds of each item and of one that may be added holds of each after it
 pub all_pushed : {X : Type 0} (P : X → Type 0) (b : Bool) (xs ys : List X) (x : X)
@@ -19,25 +27,93 @@ pub all_pushed : {X : Type 0} (P : X → Type 0) (b : Bool) (xs ys : List X) (x 
 all_pushed P true xs ys x e all one = subst (All P) (sym e) (All-push P xs x all one)
 all_pushed P false xs ys x e all one = subst (All P) (sym e) all
 
--- the run of the function at a place
-pub run_of_item : (fs : List Function) (i : ℕ) (f : Function) (r : Expression × KernelType)
-    → slice_get (map run_at (map (λ f. f.text.items) fs)) i ≡ Some r → f ≡ slice_index_or fs i f → run_at f.text.items ≡ r
-run_of_item [] i f r here is = absurd (cc)
-run_of_item (x ∷ fs) zero f r here is = cc
-run_of_item (x ∷ fs) (suc i) f r here is = run_of_item fs i f r here is
+-- what contracts see of the function at a place
+pub kept_of_item : (fs : List Function) (i : ℕ) (f : Function) (g : Kept)
+    → slice_get (map (λ f. kept_of f) fs) i ≡ Some g → f ≡ slice_index_or fs i f → kept_of f ≡ g
+kept_of_item [] i f g here is = absurd (cc)
+kept_of_item (x ∷ fs) zero f g here is = cc
+kept_of_item (x ∷ fs) (suc i) f g here is = kept_of_item fs i f g here is
 
 -- what holds of each function holds of the one at a place
-pub all_at : (P : Function → Type 0) (fs : List Function) (i : ℕ) (f : Function) (r : Expression × KernelType)
-    → slice_get (map run_at (map (λ f. f.text.items) fs)) i ≡ Some r → f ≡ slice_index_or fs i f → All P fs → P f
-all_at P [] i f r here is all = absurd (cc)
-all_at P (x ∷ fs) zero f r here is all = subst P (sym is) (All-head P x fs all)
-all_at P (x ∷ fs) (suc i) f r here is all = all_at P fs i f r here is (All-tail P x fs all)
+pub all_at : (P : Function → Type 0) (fs : List Function) (i : ℕ) (f : Function) (g : Kept)
+    → slice_get (map (λ f. kept_of f) fs) i ≡ Some g → f ≡ slice_index_or fs i f → All P fs → P f
+all_at P [] i f g here is all = absurd (cc)
+all_at P (x ∷ fs) zero f g here is all = subst P (sym is) (All-head P x fs all)
+all_at P (x ∷ fs) (suc i) f g here is all = all_at P fs i f g here is (All-tail P x fs all)
 
--- the same of equal code, type and function
-pub function_of_same : (c d : Expression) (k j : KernelType) (r s : RunningState) → d ≡ c → j ≡ k → s ≡ r
-    → IsFunctionOf c k r → IsFunctionOf d j s
-function_of_same c d k j r s p q e h = subst (λ d. IsFunctionOf d j s) (sym p)
-    (subst (λ j. IsFunctionOf c j s) (sym q) (subst (λ s. IsFunctionOf c k s) (sym e) h))
+-- the kept function of a run
+pub record IsKeptRun (fs : List Kept) (i : ℕ) (r : Expression × KernelType) : Type 0 where
+  pub function : Kept
+  pub here : slice_get fs i ≡ Some function
+  pub is : run_of_kept function ≡ r
+
+pub kept_run : (fs : List Kept) (i : ℕ) (r : Expression × KernelType)
+    → slice_get (map run_of_kept fs) i ≡ Some r → IsKeptRun fs i r
+kept_run [] i r here = absurd (cc)
+kept_run (f ∷ fs) zero r here = record { function = f; here = refl; is = cc }
+kept_run (f ∷ fs) (suc i) r here =
+    let rest = kept_run fs i r here in
+    record { function = rest.function; here = rest.here; is = rest.is }
+
+-- the same of the run at a place
+pub run_of_item : (fs : List Function) (i : ℕ) (f : Function) (r : Expression × KernelType)
+    → slice_get (map run_of_kept (map (λ f. kept_of f) fs)) i ≡ Some r → f ≡ slice_index_or fs i f
+    → run_at f.text.items ≡ r
+run_of_item fs i f r here is =
+    let run = kept_run (map (λ f. kept_of f) fs) i r here in
+    ap run_of_kept (kept_of_item fs i f run.function run.here is) ∙ run.is
+
+pub all_at_run : (P : Function → Type 0) (fs : List Function) (i : ℕ) (f : Function) (r : Expression × KernelType)
+    → slice_get (map run_of_kept (map (λ f. kept_of f) fs)) i ≡ Some r → f ≡ slice_index_or fs i f → All P fs → P f
+all_at_run P fs i f r here is all =
+    let run = kept_run (map (λ f. kept_of f) fs) i r here in
+    all_at P fs i f run.function run.here is all
+
+-- where no kept function's module was loaded
+no_record : (loaded : Option ℕ) (records : List ℕ) → with_record loaded records ≡ [] → (loaded ≡ None) × (records ≡ [])
+no_record None records e = (refl, e)
+no_record (Some n) records e = absurd (cc)
+
+pub none_loaded : (fs : List Kept) (i : ℕ) (f : Kept) → records_of fs ≡ [] → slice_get fs i ≡ Some f → f.loaded ≡ None
+none_loaded [] i f none here = absurd (cc)
+none_loaded (g ∷ fs) zero f none here = same g f here (no_record g.loaded (records_of fs) none).0
+  where
+    same : (g f : Kept) → Some g ≡ Some f → g.loaded ≡ None → f.loaded ≡ None
+    same g f e h = cc
+none_loaded (g ∷ fs) (suc i) f none here = none_loaded fs i f (no_record g.loaded (records_of fs) none).1 here
+
+records_pushed : (f : Kept) (fs : List Kept) → f.loaded ≡ None → records_of fs ≡ [] → records_of (fs ++ f ∷ []) ≡ []
+records_pushed f [] none e = ap (λ loaded. with_record loaded []) none
+records_pushed f (g ∷ fs) none e =
+    let rest = no_record g.loaded (records_of fs) e in
+    ap (λ loaded. with_record loaded (records_of (fs ++ f ∷ []))) rest.0 ∙ records_pushed f fs none rest.1
+
+pub records_with : (answer : Result Ran KernelFault) (f : Kept) (fs : List Kept) → f.loaded ≡ None → records_of fs ≡ []
+    → records_of (with_function answer f fs) ≡ []
+records_with (Ok (ran.Function which left)) f fs none e = records_pushed f fs none e
+records_with (Ok (ran.Value v left)) f fs none e = e
+records_with (Ok (ran.Trap t)) f fs none e = e
+records_with (Ok (ran.Bound l)) f fs none e = e
+records_with (Err fault) f fs none e = e
+
+-- a fact that holds of emissions, and of what was loaded
+pub of_either : (P : Type 0) (loaded : Option ℕ) → (loaded ≡ None → P) → (IsSome loaded → P) → P
+of_either P None made read = made refl
+of_either P (Some n) made read = read refl
+
+pub kept_stands : (mode : Mode) (f : Function) → IsKept mode f → MeansItsCode mode (kept_of f)
+    → StandsFor (module_of f.running.wasm) (in_mode mode (run_at f.text.items).0) (run_at f.text.items).1
+kept_stands mode f kept sound = of_either _ f.loaded kept.emitted sound
+
+pub emission_means : (mode : Mode) (f : Kept) → f.loaded ≡ None → MeansItsCode mode f
+emission_means mode f none = λ some. absurd (cc)
+
+-- the same of equal code, type, function and record
+pub kept_of_same : (c d : Expression) (k j : KernelType) (r s : RunningState) (n m : Option ℕ) → d ≡ c → j ≡ k → s ≡ r
+    → m ≡ n → IsKeptFor c k r n → IsKeptFor d j s m
+kept_of_same c d k j r s n m p q e i h = subst (λ d. IsKeptFor d j s m) (sym p)
+    (subst (λ j. IsKeptFor c j s m) (sym q) (subst (λ s. IsKeptFor c k s m) (sym e)
+    (subst (λ m. IsKeptFor c k r m) (sym i) h)))
 
 -- the text of what may be run spells it
 pub run_of_text : (bytes : List ℕ) (c : Expression) (k : KernelType) → IsRunnable c k → LiteralsFit c

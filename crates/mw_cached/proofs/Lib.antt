@@ -1,4 +1,5 @@
 pub mod EmittingLemmas
+pub mod FaultLemmas
 pub mod KeptLemmas
 pub mod Modules
 pub mod OtherUnits

@@ -8,4 +8,7 @@ use Rattle.mw_cached.specs.Modules.{IsModuleOf}
 pub module_is : (wasm : Module) (e : Emitted) (c : Expression) (k : KernelType) → wasm ≡ e.wasm → IsEntryOf e c k
     → IsModuleOf wasm c k
 module_is wasm e c k is entry =
-    subst (λ w. IsModuleOf w c k) (sym is) record { shape = entry.is.shape; stands = entry.is.stands; literals = entry.is_text.kernel.literals }
+    subst (λ w. IsModuleOf w c k) (sym is) record {
+      shape = record { shape = entry.is.shape; literals = entry.is_text.kernel.literals };
+      stands = entry.is.stands;
+    }

@@ -1,15 +1,20 @@
 // The functions that runs gave.
 
-ghost use Rattle.std.specs.Prelude.{◌≡◌, ◌||◌, [], true, false, length, Some, slice_get};
+ghost use Rattle.std.specs.Prelude.{◌≡◌, ◌||◌, ℕ, [], true, false, length, None, Some, IsSome, slice_get};
 ghost use Rattle.std.specs.Arc.{arc_value};
 ghost use Rattle.mw_term.specs.Terms.{Expression, KernelType, expression_of, kernel_type_of, ground_value_of};
 ghost use Rattle.mw_meaning.specs.Simplification.{in_mode};
+ghost use Rattle.mw_meaning.specs.StandingFor.{StandsFor};
+ghost use Rattle.mw_wasm.specs.Views.{module_of};
+ghost use Rattle.mw_key.specs.CanonicalText.{canonical_text};
+ghost use Rattle.mw_key.specs.declared.version.Version.TheVariants.{Two};
 ghost use Rattle.mw_machine.specs.KernelCalls.{IsRunnable, IsCallable, IsRunAt, IsCallAt, LeavesAtMost, AnswersRun, AnswersCall, kept_after, ends_all};
-ghost use Rattle.mw_cached.specs.Answers.{IsOnlyWant};
-ghost use Rattle.mw_cached.specs.FunctionStates.{functions_of};
-ghost use Rattle.mw_cached.specs.Modules.{IsModuleOf};
+ghost use Rattle.mw_cached.specs.Answers.{told, BadIsStray};
+ghost use Rattle.mw_cached.specs.FunctionStates.{Kept, kept_as, run_of_kept, functions_of, with_function, MeansItsCode};
+ghost use Rattle.mw_cached.specs.Modules.{IsOfShape};
 
-use crate::function::{Function, want};
+use crate::fault::{FunctionFault, fault_of};
+use crate::function::Function;
 use mw_kernel::{Began, Running};
 use mw_machine::{KernelFault, Ran};
 use mw_meaning::Mode;
@@ -19,8 +24,8 @@ use std::alloc::{AllocError, Global};
 use std::marker::Model;
 use std::sync::Arc;
 
-/// A running instance for each function that a run gave. Contracts see how code is run, the text of the code as it
-/// was built and the type of each kept function, and whether they are stopped.
+/// A running instance for each function that a run gave. Contracts see how code is run, whether the functions are stopped,
+/// and of each the text of its code and type, its module, and the record that this was loaded from.
 #[derive(Drop)]
 pub struct Functions {
     mode: Mode,
@@ -31,20 +36,18 @@ pub struct Functions {
 impl Model for Functions {
     ghost use Rattle.std.specs.Prelude.{◌≡◌, false, map, All};
     ghost use Rattle.std.specs.Coded.{codes};
-    ghost use Rattle.mw_term.specs.contracts.term.Ground as ground;
-    ghost use Rattle.mw_term.specs.contracts.term.KType as kind;
-    ghost use Rattle.mw_term.specs.contracts.term.Term as term;
+    ghost use Rattle.mw_wasm.specs.contracts.instructions.Instr as instr;
     ghost use Rattle.mw_cached.specs.FunctionStates.{FunctionState};
-    ghost use Rattle.mw_cached.specs.KeptFunctions.{IsKept};
+    ghost use Rattle.mw_cached.specs.KeptFunctions.{IsKept, kept_of};
 
     ghost Value = { FunctionState };
 
-    ghost coded = { Prim.hlevel (codes, term.the_row.coded, kind.the_row.coded, ground.the_row.coded) };
+    ghost coded = { Prim.hlevel (codes, instr.the_row.coded) };
 
     ghost view = { λ s. record {
       mode = s.mode;
       functions = map
-          (λ f. f.text.items) s.functions.items;
+          (λ f. kept_of f) s.functions.items;
       stopped = s.stopped;
     } };
 
@@ -70,38 +73,47 @@ impl Functions {
         self.mode
     }
 
-    /// The answer to a run of code by its module, whose function is kept.
+    /// The answer to a run of code by a module, whose function is kept. The module was loaded from the record of a number,
+    /// or is the emission of what is run. Bad where one that was loaded gives what no kernel of the type gives.
     pub fn run(
         &mut self,
         alloc: Global,
         module: &Arc<Valid>,
+        loaded: Option<u32>,
         code: &Term,
         kind: &KType,
         fuel: u64,
-    ) -> Result<Ran, KernelFault>
+    ) -> Result<Ran, FunctionFault>
         requires runnable { IsRunnable (expression_of code.now) (kernel_type_of kind.now) }
-        requires made { IsModuleOf (arc_value «module».now) (in_mode self.old.mode (expression_of code.now))
+        requires shape { IsOfShape (arc_value «module».now) (in_mode self.old.mode (expression_of code.now))
             (kernel_type_of kind.now) }
-        ensures types { IsRunAt result (kernel_type_of kind.now) (length self.old.functions) }
-        ensures left { LeavesAtMost result fuel }
-        ensures means { AnswersRun self.old.mode result (expression_of code.now) (kernel_type_of kind.now) fuel }
+        requires emitted { loaded ≡ None → StandsFor (module_of (arc_value «module».now))
+            (in_mode self.old.mode (expression_of code.now)) (kernel_type_of kind.now) }
+        ensures types { IsRunAt (told result) (kernel_type_of kind.now) (length self.old.functions) }
+        ensures left { LeavesAtMost (told result) fuel }
+        ensures means { (IsSome loaded → StandsFor (module_of (arc_value «module».now))
+            (in_mode self.old.mode (expression_of code.now)) (kernel_type_of kind.now))
+            → AnswersRun self.old.mode (told result) (expression_of code.now) (kernel_type_of kind.now) fuel }
+        ensures stray { BadIsStray result (arc_value «module».now) loaded (kernel_type_of kind.now) }
         ensures functions { functions_of self.new
-            ≡ kept_after result (expression_of code.now) (kernel_type_of kind.now) (functions_of self.old) }
+            ≡ kept_after (told result) (expression_of code.now) (kernel_type_of kind.now) (functions_of self.old) }
+        ensures kept { self.new.functions ≡ with_function (told result)
+            (kept_as (canonical_text Two (expression_of code.now) (kernel_type_of kind.now)) (arc_value «module».now) loaded)
+            self.old.functions }
         ensures stopped { self.new.stopped ≡ self.old.stopped }
         ensures mode { self.new.mode ≡ self.old.mode }
-        ensures want { IsOnlyWant result }
     {
         match Running::start(alloc, module, kind, fuel) {
             Ok(Began::Value(value, left)) => Ok(Ran::Value(value, left)),
             Ok(Began::Function(running, left)) => {
                 let which = self.functions.len();
-                let function = Function::of(alloc, code, kind, running)?;
+                let function = Function::of(alloc, code, kind, running, loaded)?;
                 self.functions.push(function).map_err(AllocError::from)?;
                 Ok(Ran::Function(which, left))
             }
             Ok(Began::Trap(trap)) => Ok(Ran::Trap(trap)),
             Ok(Began::Bound(limit)) => Ok(Ran::Bound(limit)),
-            Err(fault) => Err(want(fault)),
+            Err(fault) => Err(fault_of(fault, loaded)),
         }
     }
 
@@ -114,28 +126,30 @@ impl Functions {
         self.stopped |= is_last(answer);
     }
 
-    /// Calls the kept function of a number.
+    /// Calls the kept function of a number. Bad where its module was loaded and gives what no kernel of its type gives.
     pub fn call(
         &mut self,
         alloc: Global,
         which: usize,
         argument: &GroundValue,
         fuel: u64,
-    ) -> Result<Ran, KernelFault>
+    ) -> Result<Ran, FunctionFault>
         requires function { IsCallable (functions_of self.old) which (ground_value_of argument.now) }
         requires open { self.old.stopped ≡ false }
         ensures types { (c : Expression) (k : KernelType) → slice_get (functions_of self.old) which ≡ Some (c, k)
-            → IsCallAt result k }
-        ensures left { LeavesAtMost result fuel }
-        ensures means { (c : Expression) (k : KernelType) → slice_get (functions_of self.old) which ≡ Some (c, k)
-            → AnswersCall self.old.mode result c k (ground_value_of argument.now) fuel }
-        ensures functions { functions_of self.new ≡ functions_of self.old }
-        ensures stopped { self.new.stopped ≡ ends_all result }
+            → IsCallAt (told result) k }
+        ensures left { LeavesAtMost (told result) fuel }
+        ensures means { (f : Kept) → slice_get self.old.functions which ≡ Some f → MeansItsCode self.old.mode f
+            → AnswersCall self.old.mode (told result) (run_of_kept f).0 (run_of_kept f).1
+            (ground_value_of argument.now) fuel }
+        ensures stray { (f : Kept) → slice_get self.old.functions which ≡ Some f
+            → BadIsStray result f.wasm f.loaded (run_of_kept f).1 }
+        ensures functions { self.new.functions ≡ self.old.functions }
+        ensures stopped { self.new.stopped ≡ ends_all (told result) }
         ensures mode { self.new.mode ≡ self.old.mode }
-        ensures want { IsOnlyWant result }
     {
         let answer = self.functions[which].call(alloc, argument, fuel);
-        self.stopped = is_last(&answer);
+        self.stopped = is_last_call(&answer);
         answer
     }
 }
@@ -143,6 +157,13 @@ impl Functions {
 /// Whether the answer is no value and no function.
 fn is_last(answer: &Result<Ran, KernelFault>) -> bool
     ensures { result ≡ ends_all answer.now }
+{
+    !matches!(answer, Ok(Ran::Value(_, _) | Ran::Function(_, _)))
+}
+
+/// The same of what a call answers.
+fn is_last_call(answer: &Result<Ran, FunctionFault>) -> bool
+    ensures { result ≡ ends_all (told answer.now) }
 {
     !matches!(answer, Ok(Ran::Value(_, _) | Ran::Function(_, _)))
 }

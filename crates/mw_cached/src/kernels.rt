@@ -12,7 +12,7 @@ ghost use Rattle.mw_cached.specs.Answers.{IsOnlyWant};
 ghost use Rattle.mw_cached.specs.Following.{Follows, standing, price_in};
 ghost use Rattle.mw_cached.specs.FunctionStates.{functions_of};
 
-use crate::functions::Functions;
+use crate::emitted::EmittedFunctions;
 use crate::obtaining::obtain_in;
 use mw_cache::{Got, HintedCache, KeptReceipts};
 use mw_compile::Steps;
@@ -36,7 +36,7 @@ pub struct CachedKernels<'a, 's, 't, L: Ledger> {
 /// asked for.
 #[derive(Drop)]
 pub struct KernelState {
-    pub functions: Functions,
+    pub functions: EmittedFunctions,
     pub stored: KeptReceipts,
     /// How many emissions there were, or the greatest number where they are more.
     pub emitted: u64,
@@ -50,7 +50,7 @@ impl KernelState {
         ensures emitted { result.emitted ≡ 0 }
     {
         KernelState {
-            functions: Functions::new(alloc, mode),
+            functions: EmittedFunctions::new(alloc, mode),
             stored: KeptReceipts::new(alloc),
             emitted: 0,
         }

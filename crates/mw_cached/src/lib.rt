@@ -1,6 +1,8 @@
 //! Kernels that run code by the modules of a cache, and keep the functions that runs give.
 #![tactic(auto)]
 
+mod emitted;
+mod fault;
 mod function;
 mod functions;
 mod kernels;

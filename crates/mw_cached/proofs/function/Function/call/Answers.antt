@@ -1,22 +1,40 @@
 use Rattle.mw_term.specs.Terms.{ground_value_of}
 use Rattle.mw_meaning.specs.Simplification.{in_mode}
 use Rattle.mw_cached.specs.FunctionStates.{run_at}
-use Rattle.mw_cached.proofs.EmittingLemmas.{call_meant, call_keeps, call_wants}
+use Rattle.mw_cached.proofs.EmittingLemmas.{call_meant, call_keeps}
+use Rattle.mw_cached.proofs.FaultLemmas.{may_fault, call_is_not_bad, fault_answers, call_is_stray}
+use Rattle.mw_cached.proofs.KeptLemmas.{kept_stands}
 use Rattle.mw_cached.proofs.function.Function.call.Goals as goal
 
-pub want-requires : goal.want-requires
-want-requires c =
+pub fault_of-requires : goal.fault_of-requires
+fault_of-requires c =
     let kept = c.requires.kept.1 in
-    call_wants c.in-Err.fault _ (c.in-Err.ensures.means kept.function kept.words kept.keeps)
+    may_fault c.in-Err.fault c.args.self.now.loaded (λ none.
+    let is = kept.means (kept.emitted none) in
+    call_is_not_bad c.in-Err.fault _ (c.in-Err.ensures.means is.function is.words is.keeps))
 
 pub returns-in-Ok-clause-means : goal.returns-in-Ok-clause-means
-returns-in-Ok-clause-means c = λ mode kept.
-    call_meant mode (run_at c.args.self.now.text.items).0
-    (run_at c.args.self.now.text.items).1 c.args.self.now.running kept
+returns-in-Ok-clause-means c = λ mode kept sound.
+    let run = run_at c.args.self.now.text.items in
+    let is = kept.means (kept_stands mode c.args.self.now kept sound) in
+    call_meant mode run.0 run.1 c.args.self.now.running kept.code kept.literals kept.type is
     (ground_value_of c.args.argument.now) c.args.fuel c.in-Ok.ran c.in-Ok.ensures.fits
-    (c.in-Ok.ensures.means kept.function kept.words kept.keeps)
+    (c.in-Ok.ensures.means is.function is.words is.keeps)
 
 pub returns-in-Ok-clause-keeps : goal.returns-in-Ok-clause-keeps
 returns-in-Ok-clause-keeps c = λ open' mode kept.
-    call_keeps c.in-Ok.ran (in_mode mode (run_at c.args.self.now.text.items).0)
-    (run_at c.args.self.now.text.items).1 c.args.self.now.running c.call.new.self kept c.in-Ok.ensures.same c.in-Ok.ensures.types c.in-Ok.ensures.keeps open'
+    let run = run_at c.args.self.now.text.items in
+    call_keeps c.in-Ok.ran (in_mode mode run.0) run.1 c.args.self.now.running c.call.new.self c.args.self.now.loaded kept
+    c.in-Ok.ensures.same c.in-Ok.ensures.types c.in-Ok.ensures.keeps c.in-Ok.ensures.plays open'
+
+pub returns-in-Err-clause-means : goal.returns-in-Err-clause-means
+returns-in-Err-clause-means c = λ mode kept sound f words given left s e.
+    let is = kept.means (kept_stands mode c.args.self.now kept sound) in
+    fault_answers c.fault_of.result c.in-Err.fault c.args.self.now.loaded _ c.fault_of.ensures
+    (call_is_not_bad c.in-Err.fault _ (c.in-Err.ensures.means is.function is.words is.keeps))
+
+pub returns-in-Err-clause-stray : goal.returns-in-Err-clause-stray
+returns-in-Err-clause-stray c =
+    let kept = c.requires.kept.1 in
+    call_is_stray c.fault_of.result c.in-Err.fault c.args.self.now.loaded c.args.self.now.running
+    (run_at c.args.self.now.text.items).1 kept.type kept.plays c.fault_of.ensures c.in-Err.ensures.stray
