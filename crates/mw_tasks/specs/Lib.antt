@@ -1,5 +1,4 @@
 pub mod Agreeing
-pub mod CodesInPlace
 pub mod Endings
 pub mod Gathering
 pub mod Phases

@@ -1,13 +1,13 @@
 // The phase of main.
 
-ghost use Rattle.std.specs.Prelude.{◌≡◌, ◌≤◌, ◌+◌, false, [], ◌∷◌, ◌++◌, All, IfOk, IfErr, map};
-ghost use Rattle.mw_term.specs.Terms.{expression_of};
+ghost use Rattle.std.specs.Prelude.{◌≡◌, ◌≤◌, ◌+◌, false, [], ◌∷◌, ◌++◌, All, IfOk, IfErr};
 ghost use Rattle.mw_term.specs.Programs.{program_of};
 ghost use Rattle.mw_term.specs.SmallTypes.{HasSmallTypes};
 ghost use Rattle.mw_term.specs.Typable.{Typable};
 ghost use Rattle.mw_meaning.specs.Outcomes.{main_outcome, names_of_main};
 ghost use Rattle.mw_meaning.specs.OutcomeLaws.{AreCodesOf, HasGroundType};
 ghost use Rattle.mw_meaning.specs.StagedMeaning.{runs};
+ghost use Rattle.mw_machine.specs.CodesInPlace.{expressions_of};
 ghost use Rattle.mw_machine.specs.KernelCalls.{prices};
 ghost use Rattle.mw_slots.specs.Receipts.{IsOf, IsFetched};
 ghost use Rattle.mw_key.specs.CanonicalText.{home};
@@ -27,7 +27,7 @@ use mw_machine::KernelFault;
 use mw_meaning::Mode;
 use mw_slots::Receipts;
 use mw_spread::JobFault;
-use mw_term::{Program, Term, copied_term};
+use mw_term::{Program, Term};
 use std::alloc::{AllocError, Global};
 use std::sync::ledger::Ledger;
 
@@ -63,14 +63,14 @@ pub fn main_phase<L: Ledger>(
     ensures table { IfOk result (λ end. All (IsOf cache.now.cells) end.stored) }
     ensures bad { IfErr result (λ fault. IfBad fault (λ _. ⊥)) }
 {
-    let codes = copied_codes(alloc, phase.outcomes.as_slice())?;
+    let codes = codes_in(alloc, phase.outcomes.as_slice())?;
     let hints = stored_receipts(alloc, cache, phase.outcomes.as_slice())?;
     let cache = HintedCache::new(cache, &hints);
     let mut state = KernelState::new(alloc, mode);
     let outcome = evaluated_in(
         alloc,
         program,
-        codes,
+        codes.as_slice(),
         fuel,
         &mut CachedKernels {
             alloc,
@@ -90,20 +90,20 @@ pub fn main_phase<L: Ledger>(
 fn evaluated_in<L: Ledger>(
     alloc: Global,
     program: &Program,
-    codes: Vec<Term>,
+    codes: &[&Term],
     fuel: u64,
     kernels: &mut CachedKernels<'_, '_, '_, L>,
 ) -> Result<MainOutcome, AllocError>
     requires typable { Typable (program_of program.now) }
     requires small { HasSmallTypes (program_of program.now) }
-    requires codes { AreCodesOf (program_of program.now).items (map expression_of codes.items) }
+    requires codes { AreCodesOf (program_of program.now).items (expressions_of codes.now) }
     requires open { kernels.old.state.now.functions.stopped ≡ false }
     ensures outcome { let p = program_of program.now in let names = names_of_main p.items
-        (map expression_of codes.items) in
+        (expressions_of codes.now) in
         IfOk result (λ o. IsMainAnswer o (main_outcome kernels.old.state.now.functions.mode names fuel p.body)) }
     ensures typed { IfOk result (λ o. IfGiven o (HasGroundType (program_of program.now).result)) }
     ensures cost { let p = program_of program.now in let names = names_of_main p.items
-        (map expression_of codes.items) in
+        (expressions_of codes.now) in
         let mode = kernels.old.state.now.functions.mode in IfOk result (λ _. kernels.new.steps.now ≤ kernels.old.steps.now
         + prices (price_in kernels.old.cache.now mode) (runs mode names fuel p.body)) }
     ensures lent { (kernels.new.steps.ghost_name ≡ kernels.old.steps.ghost_name)
@@ -119,14 +119,14 @@ fn evaluated_in<L: Ledger>(
     }
 }
 
-/// Copies of the codes.
-fn copied_codes(alloc: Global, outcomes: &[ItemOutcome]) -> Result<Vec<Term>, AllocError>
-    ensures { IfOk result (λ codes. map expression_of codes.items ≡ codes_in outcomes.now) }
+/// The codes, where they are.
+fn codes_in<'a>(alloc: Global, outcomes: &'a [ItemOutcome]) -> Result<Vec<&'a Term>, AllocError>
+    ensures { IfOk result (λ codes. expressions_of codes.items ≡ codes_in outcomes.now) }
 {
     let mut codes = Vec::new(alloc);
     for outcome in outcomes {
         if let ItemOutcome::Code(code, _) = outcome {
-            codes.push(copied_term(alloc, code)?)?;
+            codes.push(code)?;
         }
     }
     Ok(codes)

@@ -5,9 +5,12 @@ ghost use Rattle.mw_term.specs.Terms.{Value, expression_of};
 ghost use Rattle.mw_term.specs.Programs.{program_of};
 ghost use Rattle.mw_term.specs.Typable.{Typable};
 ghost use Rattle.mw_term.specs.SmallTypes.{HasSmallTypes};
+ghost use Rattle.mw_meaning.specs.Outcomes.{names_of_main};
+ghost use Rattle.mw_meaning.specs.OutcomeLaws.{AreCodesOf};
 ghost use Rattle.mw_meaning.specs.StagedMeaning.{staged, runs};
 ghost use Rattle.mw_machine.specs.KernelCalls.{AreSound, IsNewlyBad, prices};
-ghost use Rattle.mw_machine.specs.Evaluations.{Part, IsPart, HasNames, term_of};
+ghost use Rattle.mw_machine.specs.Evaluations.{Part, main, IsPart, HasNames, term_of};
+ghost use Rattle.mw_machine.specs.CodesInPlace.{expressions_of};
 ghost use Rattle.mw_machine.specs.TurnAnswers.{IsTypedOutcome, IfOpenEnd};
 ghost use Rattle.mw_tasks.specs.Endings.{EndsAs};
 
@@ -52,6 +55,38 @@ pub(crate) fn evaluate<K: Kernels>(
     ensures hands { K.keeps kernels.old kernels.new }
 {
     let mut machine = Machine::start(alloc, program, body, fuel)?;
+    let outcome = machine.drive(alloc, program, kernels)?;
+    Ok(Ended { machine, outcome })
+}
+
+/// Evaluates main of a program to its end, with so many units, where its kernel items came to these codes, in order.
+pub(crate) fn evaluate_with_codes<K: Kernels>(
+    alloc: Global,
+    program: &Program,
+    codes: &[&Term],
+    fuel: u64,
+    kernels: &mut K,
+) -> Result<Ended, KernelFault>
+    requires typable { Typable (program_of program.now) }
+    requires small { HasSmallTypes (program_of program.now) }
+    requires codes { AreCodesOf (program_of program.now).items (expressions_of codes.now) }
+    requires open { K.stopped kernels.old ≡ false }
+    ensures means { let names = names_of_main (program_of program.now).items (expressions_of codes.now) in
+        AreSound (K.sound kernels.old) (runs (K.mode kernels.old) names fuel (program_of program.now).body)
+        → EndsAs result (staged (K.mode kernels.old) names fuel (program_of program.now).body) }
+    ensures cost { let names = names_of_main (program_of program.now).items (expressions_of codes.now) in
+        AreSound (K.sound kernels.old) (runs (K.mode kernels.old) names fuel (program_of program.now).body)
+        → IfOk result (λ _. K.cost kernels.new ≤ K.cost kernels.old
+        + prices (K.price kernels.old) (runs (K.mode kernels.old) names fuel (program_of program.now).body)) }
+    ensures typed { IfOk result (λ ended.
+        IsTypedOutcome (program_of program.now) main ended.outcome ended.machine) }
+    ensures open { IfOk result (λ ended. IfOpenEnd (Ok ended.outcome) (K.stopped kernels.new ≡ false)) }
+    ensures bad { IfErr result (λ fault. IsNewlyBad fault (K.bad kernels.old) (K.bad kernels.new)
+        (K.digest kernels.new)) }
+    ensures count { K.bad kernels.old ≤ K.bad kernels.new }
+    ensures hands { K.keeps kernels.old kernels.new }
+{
+    let mut machine = Machine::start_main(alloc, program, codes, fuel)?;
     let outcome = machine.drive(alloc, program, kernels)?;
     Ok(Ended { machine, outcome })
 }

@@ -3,7 +3,6 @@
 #![tactic(auto)]
 
 mod agreeing;
-mod codes;
 mod entry;
 mod entry_phase;
 mod evaluation;

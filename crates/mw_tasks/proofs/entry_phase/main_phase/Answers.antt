@@ -2,6 +2,7 @@ use Rattle.std.proofs.Common.{sym, ap, ◌∙◌, subst}
 use Rattle.mw_term.specs.Programs.{program_of}
 use Rattle.mw_meaning.specs.Outcomes.{names_of_items}
 use Rattle.mw_meaning.specs.OutcomeLaws.{AreCodesOf}
+use Rattle.mw_machine.specs.CodesInPlace.{expressions_of}
 use Rattle.mw_tasks.specs.Phases.{codes_in}
 use Rattle.mw_tasks.proofs.AllItems.{all_answered}
 use Rattle.mw_tasks.proofs.Stored.{codes_are}
@@ -17,5 +18,5 @@ stored_receipts-requires g c =
 pub evaluated_in-requires-clause-codes : goal.evaluated_in-requires-clause-codes
 evaluated_in-requires-clause-codes g c =
     let p = program_of c.args.program.now in
-    subst (AreCodesOf p.items) (sym (c.in_ok-codes.ensures ∙ ap codes_in c.as_slice.ensures))
+    subst (AreCodesOf p.items) (sym (ap expressions_of c.as_slice-3.ensures.value ∙ c.in_ok-codes.ensures ∙ ap codes_in c.as_slice.ensures))
     (codes_are c.args.mode (names_of_items p.items) c.args.fuel c.args.cache.now p.items c.args.phase.now.outcomes c.requires.phase c.requires.built)
