@@ -25,5 +25,11 @@ pub evaluation_sync : IsSync Program.the_row → ((a : NamedLft) → IsSync (Cac
 evaluation_sync p s a b =
     declared_sync (Evaluation.the_type a b) (
       search (p, shr_sync, sendable) depth 20,
-      (search sendable depth 40, (search sendable depth 40, (search (s, shr_sync, sendable) depth 20, tt))),
+      (
+        search sendable depth 40,
+        (
+          search sendable depth 40,
+          (search sendable depth 40, (search sendable depth 40, (search (s, shr_sync, sendable) depth 20, tt))),
+        ),
+      ),
     )

@@ -1,4 +1,5 @@
 pub mod Agreeing
+pub mod Dealing
 pub mod Endings
 pub mod Gathering
 pub mod Phases

@@ -15,6 +15,7 @@ use crate::gathering::gathered;
 use crate::job::Evaluation;
 use crate::laws::{done_crosses, evaluations_cross};
 use crate::outcome::Outcomes;
+use crate::turns::{numbers_below, share_count, taken_in_turn};
 use mw_cache::Cache;
 use mw_compile::Entry;
 use mw_meaning::Mode;
@@ -34,7 +35,8 @@ pub struct Phase {
     pub emitted: u64,
 }
 
-/// Evaluates each kernel item of a program, with so many units, by so many workers at most, over a cache.
+/// Evaluates each kernel item of a program, with so many units, by so many workers at most, over a cache. The items are
+/// dealt out to the workers in turn.
 pub fn kernels_phase<R: Threads + Sync, G: Gate>(
     rt: &R,
     alloc: Global,
@@ -62,13 +64,18 @@ pub fn kernels_phase<R: Threads + Sync, G: Gate>(
     done_crosses();
     evaluations_cross();
     let numbers = kernel_numbers(alloc, program)?;
+    let shares = share_count(numbers.len(), workers);
+    let below = numbers_below(alloc, shares)?;
     let job = Evaluation {
         program,
+        numbers: numbers.as_slice(),
+        shares,
         fuel,
         mode,
         cache,
     };
-    let all = spread(rt, alloc, workers, numbers.as_slice(), &job, gate)?;
+    let queues = spread(rt, alloc, workers, below.as_slice(), &job, gate)?;
+    let all = taken_in_turn(alloc, queues)?;
     let phase = gathered(alloc, all)?;
     agree_all(cache, phase.outcomes.as_slice());
     Ok(phase)

@@ -1,6 +1,7 @@
 // One kernel item's work.
 
-ghost use Rattle.std.specs.Prelude.{◌≡◌, ◌+◌, ◌≤◌, ◌<◌, [], false, length, IfOk};
+ghost use Rattle.std.specs.Prelude.{◌≡◌, ◌+◌, ◌≤◌, ◌<◌, [], false, length, All, IfOk};
+ghost use Rattle.std.specs.List.{AllZip};
 ghost use Rattle.mw_term.specs.Terms.{kernel_type_of};
 ghost use Rattle.mw_term.specs.Programs.{program_of};
 ghost use Rattle.mw_term.specs.SmallTypes.{HasSmallTypes};
@@ -11,6 +12,7 @@ ghost use Rattle.mw_machine.specs.Evaluations.{item, term_of};
 ghost use Rattle.mw_cached.specs.Following.{Follows, standing};
 ghost use Rattle.mw_tasks.specs.TaskOutcomes.{IsKernelItem, IsItemAnswer, IfItsCode, IsCodeOf, HasKind};
 ghost use Rattle.mw_tasks.specs.Phases.{IsTask, IsDoneAt};
+ghost use Rattle.mw_tasks.specs.Dealing.{every};
 
 use crate::kernel_item::evaluate_item;
 use crate::outcome::{Evaluated, ItemOutcome};
@@ -23,13 +25,17 @@ use mw_slots::Receipts;
 use mw_spread::{Job, JobFault};
 use mw_term::{ItemKind, KType, Program};
 use std::alloc::{AllocError, Global};
+use std::collections::VecDeque;
 use std::marker::Brand;
 use std::sync::ledger::{Blank, Ledger};
 
-/// The evaluation of a program's kernel items over a cache, each item by its number among all items.
+/// The evaluation of a program's kernel items over a cache, in so many shares. The kernel items, whose numbers among all
+/// items these are, are dealt out to the shares in turn.
 #[derive(Drop)]
 pub struct Evaluation<'a, 't> {
     pub program: &'a Program,
+    pub numbers: &'a [usize],
+    pub shares: usize,
     pub fuel: u64,
     pub mode: Mode,
     pub cache: &'a Cache<'t>,
@@ -44,18 +50,57 @@ pub struct Done {
 }
 
 impl<'a, 't> Job<usize> for Evaluation<'a, 't> {
-    type Out = Done;
+    type Out = VecDeque<Done>;
 
-    ghost takes = { λ job number. IsTask (program_of job.program.now) number };
+    ghost takes = { λ job _. (1 ≤ job.shares) × All (IsTask (program_of job.program.now)) job.numbers.now };
 
-    ghost gives = { λ job number done. IsDoneAt job.mode
-        (program_of job.program.now) job.fuel job.cache.now number done };
+    ghost gives = { λ job share dones. AllZip
+        (IsDoneAt job.mode (program_of job.program.now) job.fuel job.cache.now)
+        (every share job.shares job.numbers.now) dones.items };
 
     ghost bad = { λ _ _ _. ⊥ };
 
-    fn work(&self, alloc: Global, item: &usize) -> Result<Done, JobFault> {
-        Ok(evaluated::<Brand>(alloc, self, *item, Blank::new(1))?)
+    fn work(&self, alloc: Global, item: &usize) -> Result<VecDeque<Done>, JobFault> {
+        Ok(evaluated_each(alloc, self, *item)?)
     }
+}
+
+/// Evaluates each kernel item of a share, the shares being counted from 0.
+fn evaluated_each(
+    alloc: Global,
+    job: &Evaluation<'_, '_>,
+    share: usize,
+) -> Result<VecDeque<Done>, AllocError>
+    requires shares { 1 ≤ job.now.shares }
+    requires tasks { All (IsTask (program_of job.now.program.now)) job.now.numbers.now }
+    ensures { IfOk result (λ dones. AllZip
+        (IsDoneAt job.now.mode (program_of job.now.program.now) job.now.fuel job.now.cache.now)
+        (every share job.now.shares job.now.numbers.now) dones.items) }
+{
+    let mut dones = VecDeque::new(alloc);
+    let mut before = share;
+    for number in job.numbers {
+        if before > 0 {
+            before -= 1;
+            continue;
+        }
+        dones.push_back(evaluated_alone(alloc, job, *number)?)?;
+        before = job.shares - 1;
+    }
+    Ok(dones)
+}
+
+/// Evaluates a kernel item, where nobody else counts its emissions.
+fn evaluated_alone(
+    alloc: Global,
+    job: &Evaluation<'_, '_>,
+    number: usize,
+) -> Result<Done, AllocError>
+    requires task { IsTask (program_of job.now.program.now) number }
+    ensures { IfOk result (IsDoneAt job.now.mode
+        (program_of job.now.program.now) job.now.fuel job.now.cache.now number) }
+{
+    evaluated::<Brand>(alloc, job, number, Blank::new(1))
 }
 
 /// Evaluates a kernel item, asks for the module of its code, and counts the emissions. Its machine is its own, and is
