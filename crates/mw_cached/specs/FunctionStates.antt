@@ -57,11 +57,12 @@ abbrev pub with_function : Result Ran KernelFault → Kept → List Kept → Lis
 with_function (Ok (ran.Function which left)) f functions = functions ++ f ∷ []
 with_function _ f functions = functions
 
--- the records that the modules of kept functions were loaded from
+-- one record more, where there is one
 abbrev pub with_record : Option ℕ → List ℕ → List ℕ
 with_record None records = records
 with_record (Some n) records = n ∷ records
 
+-- the records that the modules of kept functions were loaded from
 abbrev pub records_of : List Kept → List ℕ
 records_of [] = []
 records_of (f ∷ fs) = with_record f.loaded (records_of fs)
