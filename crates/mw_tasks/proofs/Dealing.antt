@@ -27,7 +27,8 @@ some_below numbers n k are less =
     omega (arith, less, long)
 
 -- there is no share only where there is nothing to be dealt out
-pub no_share : {X : Type 0} (xs : List X) (items workers shares : ℕ) → items ≡ length xs → shares ≡ min items workers → 1 ≤ workers
+pub no_share : {X : Type 0} (xs : List X) (items workers shares : ℕ) → items ≡ length xs → shares ≡ min items workers
+    → 1 ≤ workers
     → shares ≡ 0 → xs ≡ []
 no_share [] items workers shares long are some none = refl
 no_share (x ∷ xs) items workers shares long are some none = absurd (omega (arith, long, are, some, none))
@@ -64,8 +65,10 @@ module _ {X : Type 0} where
       let one : suc v - 1 ≡ v = omega arith in
       let same : 0 + v ≡ v = omega arith in
       let end : lists_from 0 v (suc v) xs ++ every v (suc v) xs ∷ [] ≡ lists_from 0 (suc v) (suc v) xs =
-      subst (λ i. lists_from 0 v (suc v) xs ++ every i (suc v) xs ∷ [] ≡ lists_from 0 (suc v) (suc v) xs) same (last 0 v (suc v) xs) in
-      let whole : lists_from 1 v (suc v) (x ∷ xs) ++ every (suc v - 1) (suc v) xs ∷ [] ≡ lists_from 0 (suc v) (suc v) xs =
+      subst (λ i. lists_from 0 v (suc v) xs ++ every i (suc v) xs ∷ [] ≡ lists_from 0 (suc v) (suc v) xs) same
+      (last 0 v (suc v) xs) in
+      let whole : lists_from 1 v (suc v) (x ∷ xs) ++ every (suc v - 1) (suc v) xs ∷ []
+      ≡ lists_from 0 (suc v) (suc v) xs =
       rw one (ap (λ lists. lists ++ every v (suc v) xs ∷ []) (later 0 v (suc v) x xs) ∙ end) in
       (refl, subst (AreDealt xs) (sym whole) (some_dealt v xs))
 
@@ -106,7 +109,8 @@ module _ {X Y : Type 0} (R : X → Y → Type 0) where
   pushed (l ∷ lists) [] xs ys h k = absurd h
   pushed (l ∷ lists) (o ∷ others) xs ys h k = (h.0, pushed lists others xs ys h.1 k)
 
-  empty_too : (lists : List (List X)) (others : List (List Y)) → AllZip (AllZip R) lists others → AreEmpty lists → AreEmpty others
+  empty_too : (lists : List (List X)) (others : List (List Y)) → AllZip (AllZip R) lists others → AreEmpty lists
+      → AreEmpty others
   empty_too [] [] h e = tt
   empty_too [] (o ∷ others) h e = absurd h
   empty_too (l ∷ lists) [] h e = absurd h
@@ -115,7 +119,8 @@ module _ {X Y : Type 0} (R : X → Y → Type 0) where
   empty_too ((x ∷ xs) ∷ lists) (o ∷ others) h e = absurd e
 
   -- What holds between the lists, place by place, holds between what was dealt out to them.
-  pub dealt_too : (xs : List X) (lists : List (List X)) (others : List (List Y)) → AreDealt xs lists → AllZip (AllZip R) lists others
+  pub dealt_too : (xs : List X) (lists : List (List X)) (others : List (List Y)) → AreDealt xs lists
+      → AllZip (AllZip R) lists others
       → (ys : List Y) × AreDealt ys others × AllZip R xs ys
   dealt_too [] lists others d h = ([], empty_too lists others h d, tt)
   dealt_too (x ∷ xs) [] others d h = absurd d
@@ -134,33 +139,41 @@ module _ {X Y : Type 0} (R : X → Y → Type 0) where
   numbered of i zero w xs (q ∷ queues) h = absurd h
   numbered of i (suc n) w xs [] h = absurd h
   numbered of i (suc n) w xs (q ∷ queues) h =
-      let next : i + 1 ≡ suc i = omega arith in
-      (h.0, numbered of (suc i) n w xs queues (subst (λ j. AllZip (λ i q. AllZip R (every i w xs) (of q)) (range_with_len j n) queues) next h.1))
+      let next : i + 1 ≡ suc i = omega arith in (
+        h.0,
+        numbered of (suc i) n w xs queues (subst (λ j. AllZip (λ i q. AllZip R (every i w xs) (of q))
+            (range_with_len j n) queues) next h.1),
+      )
 
   -- The outputs that are taken in turn are those of the items, where each list has the outputs of each w-th item.
-  pub turned_zip : {Q : Type 0} (of : Q → List Y) (w : ℕ) (xs : List X) (numbers : List ℕ) (queues : List Q) (ys : List Y)
+  pub turned_zip : {Q : Type 0} (of : Q → List Y) (w : ℕ) (xs : List X) (numbers : List ℕ) (queues : List Q)
+      (ys : List Y)
       → (w ≡ 0 → xs ≡ []) → numbers ≡ range_with_len 0 w
       → AllZip (λ i q. AllZip R (every i w xs) (of q)) numbers queues
       → ((all : List Y) → AreDealt all (map of queues) → ys ≡ all) → AllZip R xs ys
   turned_zip of w xs numbers queues ys some are each turned =
       let zip = subst (λ ns. AllZip (λ i q. AllZip R (every i w xs) (of q)) ns queues) are each in
-      let dealt = dealt_too xs (lists_from 0 w w xs) (map of queues) (lists_dealt w xs some) (numbered of 0 w w xs queues zip) in
+      let dealt = dealt_too xs (lists_from 0 w w xs) (map of queues) (lists_dealt w xs some)
+      (numbered of 0 w w xs queues zip) in
       rw (turned dealt.0 dealt.1) dealt.2
 
 -- the first of a queue, if there is one
-pub front_is : {Q : Type 0} (queue rest : List Q) (o : Option Q) (q : Q) → queue ≡ option_to_list o ++ rest → o ≡ Some q → queue ≡ q ∷ rest
+pub front_is : {Q : Type 0} (queue rest : List Q) (o : Option Q) (q : Q) → queue ≡ option_to_list o ++ rest
+    → o ≡ Some q → queue ≡ q ∷ rest
 front_is queue rest o q h is = h ∙ ap (λ o. option_to_list o ++ rest) is
 
 no_end : {Q : Type 0} (queue : List Q) → queue ≡ drop 1 queue → queue ≡ []
 no_end [] h = refl
 no_end (q ∷ queue) h = let long : length (q ∷ queue) ≡ length queue = ap length h in absurd (omega (arith, long))
 
-pub none_there : {Q : Type 0} (queue rest : List Q) (o : Option Q) → queue ≡ option_to_list o ++ rest → rest ≡ drop 1 queue → o ≡ None
+pub none_there : {Q : Type 0} (queue rest : List Q) (o : Option Q) → queue ≡ option_to_list o ++ rest
+    → rest ≡ drop 1 queue → o ≡ None
     → queue ≡ []
 none_there queue rest o h more is = no_end queue (h ∙ (ap (λ o. option_to_list o ++ rest) is ∙ more))
 
 -- The first element of the first queue is taken, and the queue goes to the end.
-module _ {Q Y : Type 0} (of : Q → List Y) (olds rest news : List Q) (q p : Q) (y : Y) (front : olds ≡ q ∷ rest) (first : of q ≡ y ∷ of p)
+module _ {Q Y : Type 0} (of : Q → List Y) (olds rest news : List Q) (q p : Q) (y : Y) (front : olds ≡ q ∷ rest)
+    (first : of q ≡ y ∷ of p)
     (back : news ≡ rest ++ p ∷ []) where
   lists_were : map of olds ≡ (y ∷ of p) ∷ map of rest
   lists_were = ap (λ qs. map of qs) front ∙ ap (λ l. l ∷ map of rest) first
@@ -192,7 +205,8 @@ module _ {Q Y : Type 0} (of : Q → List Y) (olds : List Q) (all taken : List Y)
 
   pub ends_empty : (q : Q) (rest : List Q) → olds ≡ q ∷ rest → of q ≡ [] → taken ≡ all
   ends_empty q rest front none =
-      ended (first_missing h.0 (map of rest) (subst (λ l. AreDealt h.0 (l ∷ map of rest)) none (subst (λ qs. AreDealt h.0 (map of qs)) front h.2)))
+      let dealt = subst (λ qs. AreDealt h.0 (map of qs)) front h.2 in
+      ended (first_missing h.0 (map of rest) (subst (λ l. AreDealt h.0 (l ∷ map of rest)) none dealt))
 
 -- Of the whole list these are served, so that R holds between them and what was made of them, and the others are left.
 pub record IsServed {X Y : Type 0} (R : X → Y → Type 0) (whole left : List X) (made : List Y) : Type 0 where
@@ -201,7 +215,8 @@ pub record IsServed {X Y : Type 0} (R : X → Y → Type 0) (whole left : List X
   pub is : whole ≡ served ++ left
 
 module _ {X Y : Type 0} (R : X → Y → Type 0) where
-  zip_push : (xs : List X) (ys : List Y) (x : X) (y : Y) → AllZip R xs ys → R x y → AllZip R (xs ++ x ∷ []) (ys ++ y ∷ [])
+  zip_push : (xs : List X) (ys : List Y) (x : X) (y : Y) → AllZip R xs ys → R x y
+      → AllZip R (xs ++ x ∷ []) (ys ++ y ∷ [])
   zip_push [] [] x y h k = (k, tt)
   zip_push [] (z ∷ ys) x y h k = absurd h
   zip_push (z ∷ xs) [] x y h k = absurd h
@@ -211,7 +226,8 @@ module _ {X Y : Type 0} (R : X → Y → Type 0) where
   first_served whole = record { served = []; zip = tt; is = refl }
 
   -- one more is served
-  pub next_served : (whole left : List X) (made more : List Y) (x : X) (y : Y) → IsServed R whole (x ∷ left) made → R x y
+  pub next_served : (whole left : List X) (made more : List Y) (x : X) (y : Y) → IsServed R whole (x ∷ left) made
+      → R x y
       → more ≡ made ++ y ∷ [] → IsServed R whole left more
   next_served whole left made more x y h one pushed = record {
     served = h.served ++ x ∷ [];

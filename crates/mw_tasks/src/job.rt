@@ -29,8 +29,8 @@ use std::collections::VecDeque;
 use std::marker::Brand;
 use std::sync::ledger::{Blank, Ledger};
 
-/// The evaluation of a program's kernel items over a cache, in so many shares. The kernel items, whose numbers among all
-/// items these are, are dealt out to the shares in turn.
+/// The evaluation of a program's kernel items over a cache, in so many shares. The kernel items, whose numbers among
+/// all items these are, are dealt out to the shares in turn.
 #[derive(Drop)]
 pub struct Evaluation<'a, 't> {
     pub program: &'a Program,

@@ -18,5 +18,7 @@ stored_receipts-requires g c =
 pub evaluated_in-requires-clause-codes : goal.evaluated_in-requires-clause-codes
 evaluated_in-requires-clause-codes g c =
     let p = program_of c.args.program.now in
-    subst (AreCodesOf p.items) (sym (ap expressions_of c.as_slice-3.ensures.value ∙ c.in_ok-codes.ensures ∙ ap codes_in c.as_slice.ensures))
-    (codes_are c.args.mode (names_of_items p.items) c.args.fuel c.args.cache.now p.items c.args.phase.now.outcomes c.requires.phase c.requires.built)
+    subst (AreCodesOf p.items) (sym (ap expressions_of c.as_slice-3.ensures.value ∙ c.in_ok-codes.ensures ∙ ap
+    codes_in c.as_slice.ensures))
+    (codes_are c.args.mode (names_of_items p.items) c.args.fuel c.args.cache.now p.items c.args.phase.now.outcomes
+    c.requires.phase c.requires.built)
