@@ -22,7 +22,7 @@ use Rattle.mw_script.specs.Starts.{AreAllBuilt, IsStarted, HasItsCode}
 started : (p : PureProgram) (part : Part) (m : Machine) (fuel : ℕ) (names : List Value) → HasNames p part names → Begins m p part fuel → IsStarted p m
 started p part m fuel names h b = λ functions none.
     let meant = b.meant Plain functions names h in
-    ((part, (meant.0, meant.1)), refl)
+    ((p, refl, part, (meant.0, meant.1)), refl)
 
 pub main_started : (p : PureProgram) (m : Machine) (fuel : ℕ) → AreAllBuilt p.items
     → ((part : Part) → IsPart p part p.body → Begins m p part fuel) → IsStarted p m
@@ -37,7 +37,7 @@ item_started p m fuel i k e at b =
 -- a fault that the machine had is answered; where it had none, the evaluation was underway
 has_code : (p : PureProgram) (functions : Runs) (stopped : Bool) (old new : Machine) (r : Result Outcome KernelFault) (fault : Option KernelFault)
     → old.fault ≡ fault → IsReady p functions stopped old → ((f : KernelFault) → old.fault ≡ Some f → r ≡ Err f)
-    → ((part : Part) → IsUnderway p part functions old → DriveKeeps r p part new) → HasItsCode new r
+    → ((q : PureProgram) (part : Part) → q.result ≡ p.result → IsUnderway q part functions old → DriveKeeps r q part new) → HasItsCode new r
 has_code p functions stopped old new (Err g) fault e ready again keeps = tt
 has_code p functions stopped old new (Ok (o.Value v)) fault e ready again keeps = tt
 has_code p functions stopped old new (Ok (o.Trap t)) fault e ready again keeps = tt
@@ -45,15 +45,15 @@ has_code p functions stopped old new (Ok (o.Bound l)) fault e ready again keeps 
 has_code p functions stopped old new (Ok (o.Code id)) (Some f) e ready again keeps = let never = again f e in absurd (cc)
 has_code p functions stopped old new (Ok (o.Code id)) None e ready again keeps =
     let on = ready e in
-    by_part on.0.0 (keeps on.0.0 on.0.1)
+    by_part on.0.0 on.0.2 (keeps on.0.0 on.0.2 on.0.1 on.0.3)
   where
-    by_part : (part : Part) → IsTypedOutcome p part (o.Code id) new → EndedWithCode new id
-    by_part (item i) h = (h.built, h.has)
-    by_part main h = absurd h
+    by_part : (q : PureProgram) (part : Part) → IsTypedOutcome q part (o.Code id) new → EndedWithCode new id
+    by_part q (item i) h = (h.built, h.has)
+    by_part q main h = absurd h
 
 pub code_of_drive : (p : PureProgram) (functions : Runs) (stopped : Bool) (old new : Machine) (r : Result Outcome KernelFault)
     → IsReady p functions stopped old → ((f : KernelFault) → old.fault ≡ Some f → r ≡ Err f)
-    → ((part : Part) → IsUnderway p part functions old → DriveKeeps r p part new) → HasItsCode new r
+    → ((q : PureProgram) (part : Part) → q.result ≡ p.result → IsUnderway q part functions old → DriveKeeps r q part new) → HasItsCode new r
 code_of_drive p functions stopped old new r ready again keeps = has_code p functions stopped old new r old.fault refl ready again keeps
 
 -- a machine that was started may turn over kernels that have answered no trap, bound or fault
