@@ -1,6 +1,6 @@
 // The cache.
 
-ghost use Rattle.std.specs.Prelude.{◌≡◌, ◌+◌, ◌≤◌, true, false, IfSome, IfOk, MatchBool, ◌≢◌, if◌then◌else◌};
+ghost use Rattle.std.specs.Prelude.{◌≡◌, ◌+◌, ◌≤◌, true, false, IfSome, IfOk, MatchBool, ◌≢◌, ◌↔◌, if◌then◌else◌};
 ghost use Rattle.std.specs.Arc.{arc_value};
 ghost use Rattle.mw_term.specs.Terms.{Expression, KernelType, expression_of, kernel_type_of};
 ghost use Rattle.mw_term.specs.Closed.{IsClosed, IsCode};
@@ -9,8 +9,11 @@ ghost use Rattle.mw_slots.specs.Receipts.{IsOf, IsFetched};
 ghost use Rattle.mw_key.specs.CanonicalText.{IsTextOf, canonical_text, home};
 ghost use Rattle.mw_key.specs.declared.version.Version.TheVariants.{Two};
 ghost use Rattle.mw_compile.specs.Emission.{IsEmissionOf};
-ghost use Rattle.mw_compile.specs.Entries.{IsEntryOf};
-ghost use Rattle.mw_cache.specs.Gots.{entry_in, text_in, entry_text, IsHere, IsAnswered, HaveOneSlot};
+ghost use Rattle.mw_cache.specs.Gots.{text_in, entry_text, IsHere, IsAnswered, HaveOneSlot, IsLoadedGot, IsLoadedText, IsRight, HasBytes, HasWasm};
+ghost use Rattle.mw_meaning.specs.Shapes.{HasShape};
+ghost use Rattle.mw_meaning.specs.StandingFor.{StandsFor};
+ghost use Rattle.mw_key.specs.declared.version.Version.{Version};
+ghost use Rattle.mw_wasm.specs.Views.{module_of};
 
 use crate::emitter::Emitter;
 use crate::got::Got;
@@ -18,6 +21,7 @@ use mw_compile::{Entry, Steps};
 use mw_key::{start_of, text_of};
 use mw_slots::laws::one_slot;
 use mw_slots::{Named, Receipt, Refused, Table};
+use mw_store::Load;
 use mw_term::{KType, Term};
 use mw_validate::Valid;
 use std::alloc::{AllocError, Global};
@@ -25,32 +29,44 @@ use std::marker::Model;
 use std::sync::Arc;
 use std::sync::ledger::Ledger;
 
-/// Modules by their text, in a table that threads share. What a call answers depends neither on what stands in the
-/// table nor on who put it there.
+/// Modules by their text: those that were loaded, and others in a table that threads share. What a call answers depends
+/// neither on what stands in the table nor on who put it there.
 #[derive(Drop)]
 pub struct Cache<'t> {
     table: &'t Table<Entry>,
+    load: Load,
 }
 
 impl<'t> Model for Cache<'t> {
+    ghost use Rattle.std.specs.Coded.{codes};
+    ghost use Rattle.mw_wasm.specs.contracts.instructions.Instr as instr;
     ghost use Rattle.mw_cache.specs.Gots.{CacheState};
 
     ghost Value = { CacheState };
 
-    ghost view = { λ c. record { cells = c.table.now } };
+    ghost coded = { Prim.hlevel (codes, instr.the_row.coded) };
+
+    ghost view = { λ c. record { cells = c.table.now; load = c.load } };
 }
 
 impl<'t> Cache<'t> {
-    /// A cache that stores in a table. Takes no memory.
-    pub fn new(table: &'t Table<Entry>) -> Cache<'t>
-        ensures { result ≡ record { cells = table.now } }
+    /// A cache that stores in a table, beside what was loaded. Takes no memory.
+    pub fn new(table: &'t Table<Entry>, load: Load) -> Cache<'t>
+        ensures { result ≡ record { cells = table.now; load = load } }
     {
-        Cache { table }
+        Cache { table, load }
     }
 
-    /// Where the module is of closed code at a type: it is emitted, where the table has none of this text. The hint is
-    /// a receipt that may be of this text. At most one step is spent, and the truth value says whether it was; for a
-    /// hint of the same text it wasn't.
+    /// What was loaded.
+    pub fn load(&self) -> &Load
+        ensures { result.now ≡ self.now.load }
+    {
+        &self.load
+    }
+
+    /// Where the module is of closed code at a type: a loaded record of its text serves, and else the module is emitted,
+    /// where the table has none of this text. The hint is a receipt that may be of this text. At most one step is spent, and
+    /// the truth value says whether it was; for a loaded text, and for a hint of the same text, it wasn't.
     pub fn obtain<L: Ledger>(
         &self,
         alloc: Global,
@@ -64,12 +80,15 @@ impl<'t> Cache<'t> {
         requires limits { within_limits (expression_of code.now) ≡ true }
         requires nodes { kernel_nodes (kernel_type_of kind.now) ≤ 10000 }
         requires hint { IfSome hint (λ h. IsOf self.now.cells h.now) }
-        ensures text { IfOk result (λ r. IsTextOf (text_in r.0) Two (expression_of code.now)
+        ensures text { IfOk result (λ r. IsTextOf (text_in self.now r.0) Two (expression_of code.now)
             (kernel_type_of kind.now)) }
         ensures here { IfOk result (λ r. IsHere self.now r.0) }
+        ensures loaded { let text = canonical_text Two (expression_of code.now) (kernel_type_of kind.now) in
+            IfOk result (λ r. IsLoadedGot r.0 ↔ IsLoadedText self.now.load text) }
         ensures answered { IfSome hint.entry (λ h. IsFetched entry_text home self.now.cells h.now)
             → IfOk result (λ r. IsAnswered self.now r.0) }
         ensures spent { IfOk result (λ r. steps.new ≡ steps.old + (if r.1 then 1 else 0)) }
+        ensures free { IfOk result (λ r. IsLoadedGot r.0 → r.1 ≡ false) }
         ensures hinted { IfSome hint.entry
             (λ h. h.now.entry.text ≡ canonical_text Two (expression_of code.now) (kernel_type_of kind.now)
             → IfOk result (λ r. r.1 ≡ false)) }
@@ -91,15 +110,20 @@ impl<'t> Cache<'t> {
     ) -> Result<(Got, bool), AllocError>
         requires written { IsTextOf text.now Two (expression_of code.now) (kernel_type_of kind.now) }
         requires hint { IfSome hint (λ h. IsOf self.now.cells h.now) }
-        ensures text { IfOk result (λ r. text_in r.0 ≡ text.now) }
+        ensures text { IfOk result (λ r. text_in self.now r.0 ≡ text.now) }
         ensures here { IfOk result (λ r. IsHere self.now r.0) }
+        ensures loaded { IfOk result (λ r. IsLoadedGot r.0 ↔ IsLoadedText self.now.load text.now) }
         ensures answered { IfSome hint.entry (λ h. IsFetched entry_text home self.now.cells h.now)
             → IfOk result (λ r. IsAnswered self.now r.0) }
         ensures spent { IfOk result (λ r. steps.new ≡ steps.old + (if r.1 then 1 else 0)) }
+        ensures free { IsLoadedText self.now.load text.now → (steps.new ≡ steps.old) × IfOk result (λ r. r.1 ≡ false) }
         ensures hinted { IfSome hint.entry
             (λ h. h.now.entry.text ≡ text.now → (steps.new ≡ steps.old) × IfOk result (λ r. r.1 ≡ false)) }
         ensures most { (steps.old ≤ steps.new) × (steps.new ≤ steps.old + 1) }
     {
+        if let Some(at) = self.load.find(text) {
+            return Ok((Got::Loaded(at), false));
+        }
         if let Some(receipt) = hint {
             if self.table.read(receipt).name() == text {
                 return Ok((Got::Stored(receipt.again(alloc)?), false));
@@ -118,7 +142,8 @@ impl<'t> Cache<'t> {
         steps: &mut Steps<L>,
     ) -> Result<(Got, bool), AllocError>
         requires { IsTextOf text.now Two (expression_of code.now) (kernel_type_of kind.now) }
-        ensures text { IfOk result (λ r. text_in r.0 ≡ text.now) }
+        ensures text { IfOk result (λ r. text_in self.now r.0 ≡ text.now) }
+        ensures unloaded { IfOk result (λ r. IsLoadedGot r.0 → ⊥) }
         ensures here { IfOk result (λ r. IsHere self.now r.0) }
         ensures answered { IfOk result (λ r. IsAnswered self.now r.0) }
         ensures spent { IfOk result (λ r. steps.new ≡ steps.old + (if r.1 then 1 else 0)) }
@@ -164,6 +189,14 @@ impl<'t> Cache<'t> {
         }
     }
 
+    /// The entry that a receipt knows.
+    pub(crate) fn entry_of<'a>(&'a self, receipt: &Receipt<Entry>) -> &'a Entry
+        requires { IsOf self.now.cells receipt.now }
+        ensures { result.now ≡ receipt.now.entry }
+    {
+        self.table.read(receipt)
+    }
+
     /// Whether a receipt is of a text. Takes no memory.
     pub fn is_of_text(&self, receipt: &Receipt<Entry>, text: &[u8]) -> bool
         requires { IsOf self.now.cells receipt.now }
@@ -172,41 +205,47 @@ impl<'t> Cache<'t> {
         self.table.read(receipt).name() == text
     }
 
-    /// The entry.
-    fn entry<'a>(&'a self, got: &'a Got) -> &'a Entry
-        requires { IsHere self.now got.now }
-        ensures { result.now ≡ entry_in got.now }
-    {
-        match got {
-            Got::Stored(receipt) => self.table.read(receipt),
-            Got::Own(none) => &*none.own,
-        }
-    }
-
     /// The text. Takes no memory.
     pub fn text<'a>(&'a self, got: &'a Got) -> &'a [u8]
         requires { IsHere self.now got.now }
-        ensures { result.now ≡ text_in got.now }
+        ensures { result.now ≡ text_in self.now got.now }
     {
-        self.entry(got).text()
+        match got {
+            Got::Loaded(at) => self.load.text(*at),
+            Got::Stored(receipt) => self.table.read(receipt).text(),
+            Got::Own(none) => (*none.own).text(),
+        }
     }
 
-    /// The module's bytes: the emission of its text. Takes no memory.
+    /// The module's bytes: the emission of the text, unless a record was loaded that has other ones. Takes no memory.
     pub fn bytes<'a>(&'a self, got: &'a Got) -> &'a [u8]
         requires { IsHere self.now got.now }
-        ensures bytes { result.now ≡ (entry_in got.now).bytes }
-        ensures emission { IsEmissionOf result.now (text_in got.now) }
+        ensures bytes { HasBytes self.now got.now result.now }
+        ensures emission { IsRight self.now.load (text_in self.now got.now)
+            → IsEmissionOf result.now (text_in self.now got.now) }
     {
-        self.entry(got).bytes()
+        match got {
+            Got::Loaded(at) => self.load.bytes(*at),
+            Got::Stored(receipt) => self.table.read(receipt).bytes(),
+            Got::Own(none) => (*none.own).bytes(),
+        }
     }
 
-    /// The module, which is that of each code and type that have the text. Takes no memory.
+    /// The module. It is valid and has the shape that a run at the text's type needs, and stands for the text's code, unless
+    /// a record was loaded that has another module. Takes no memory.
     pub fn module<'a>(&'a self, got: &'a Got) -> &'a Arc<Valid>
         requires { IsHere self.now got.now }
-        ensures wasm { arc_value result.now ≡ (entry_in got.now).wasm }
-        ensures of { (c : Expression) (k : KernelType) → IsTextOf (text_in got.now) Two c k
-            → IsEntryOf (entry_in got.now) c k }
+        ensures wasm { HasWasm self.now got.now (arc_value result.now) }
+        ensures shape { (v : Version) (c : Expression) (k : KernelType) → IsTextOf (text_in self.now got.now) v c k
+            → HasShape (module_of (arc_value result.now)) k }
+        ensures stands { (c : Expression) (k : KernelType) → IsTextOf (text_in self.now got.now) Two c k
+            → IsRight self.now.load (text_in self.now got.now)
+            → StandsFor (module_of (arc_value result.now)) c k }
     {
-        self.entry(got).module()
+        match got {
+            Got::Loaded(at) => self.load.module(*at),
+            Got::Stored(receipt) => self.table.read(receipt).module(),
+            Got::Own(none) => (*none.own).module(),
+        }
     }
 }

@@ -1,13 +1,13 @@
 // A cache with receipts that it answered before.
 
-ghost use Rattle.std.specs.Prelude.{◌≡◌, ◌+◌, ◌≤◌, true, All, IfSome, IfOk, IsNone, if◌then◌else◌};
+ghost use Rattle.std.specs.Prelude.{◌≡◌, ◌+◌, ◌≤◌, ◌++◌, ◌↔◌, true, All, IfSome, IfOk, IsNone, if◌then◌else◌};
 ghost use Rattle.mw_term.specs.Terms.{expression_of, kernel_type_of};
 ghost use Rattle.mw_term.specs.Closed.{IsClosed, IsCode};
 ghost use Rattle.mw_term.specs.Limits.{within_limits, kernel_nodes};
 ghost use Rattle.mw_slots.specs.Receipts.{IsFetched};
 ghost use Rattle.mw_key.specs.CanonicalText.{IsTextOf, canonical_text, home};
 ghost use Rattle.mw_key.specs.declared.version.Version.TheVariants.{Two};
-ghost use Rattle.mw_cache.specs.Gots.{text_in, entry_text, texts_of, IsHere, IsAnswered};
+ghost use Rattle.mw_cache.specs.Gots.{text_in, entry_text, texts_of, loaded_texts, IsHere, IsAnswered, IsLoadedGot, IsLoadedText};
 ghost use Rattle.mw_cache.specs.Hints.{price_beside};
 
 use crate::cache::Cache;
@@ -28,15 +28,22 @@ pub struct HintedCache<'a, 't> {
 }
 
 impl<'a, 't> Model for HintedCache<'a, 't> {
-    ghost use Rattle.std.specs.Prelude.{All};
+    ghost use Rattle.std.specs.Prelude.{All, ◌++◌};
+    ghost use Rattle.std.specs.Coded.{codes};
+    ghost use Rattle.mw_wasm.specs.contracts.instructions.Instr as instr;
     ghost use Rattle.mw_slots.specs.Receipts.{IsFetched};
     ghost use Rattle.mw_key.specs.CanonicalText.{home};
-    ghost use Rattle.mw_cache.specs.Gots.{entry_text, texts_of};
+    ghost use Rattle.mw_cache.specs.Gots.{entry_text, texts_of, loaded_texts};
     ghost use Rattle.mw_cache.specs.Hints.{HintedState};
 
     ghost Value = { HintedState };
 
-    ghost view = { λ c. record { cache = c.cache.now; hinted = texts_of c.hints.now } };
+    ghost coded = { Prim.hlevel (codes, instr.the_row.coded) };
+
+    ghost view = { λ c. record {
+      cache = c.cache.now;
+      hinted = texts_of c.hints.now ++ loaded_texts c.cache.now.load;
+    } };
 
     ghost invariant = { λ c. All (IsFetched entry_text home c.cache.now.cells) c.hints.now };
 }
@@ -45,7 +52,7 @@ impl<'a, 't> HintedCache<'a, 't> {
     /// A cache with receipts that it answered. Takes no memory.
     pub fn new(cache: &'a Cache<'t>, hints: &'a Receipts<Entry>) -> HintedCache<'a, 't>
         requires { All (IsFetched entry_text home cache.now.cells) hints.now }
-        ensures { result ≡ record { cache = cache.now; hinted = texts_of hints.now } }
+        ensures { result ≡ record { cache = cache.now; hinted = texts_of hints.now ++ loaded_texts cache.now.load } }
     {
         HintedCache { cache, hints }
     }
@@ -57,8 +64,8 @@ impl<'a, 't> HintedCache<'a, 't> {
         self.cache
     }
 
-    /// Where the module is of closed code at a type. A text of a hint spends no step, and another one at most one; the
-    /// truth value says whether it was spent.
+    /// Where the module is of closed code at a type. A loaded text and one of a hint spend no step, and another one at most
+    /// one; the truth value says whether it was spent.
     pub fn obtain<L: Ledger>(
         &self,
         alloc: Global,
@@ -70,9 +77,11 @@ impl<'a, 't> HintedCache<'a, 't> {
         requires closed { IsClosed (expression_of code.now) }
         requires limits { within_limits (expression_of code.now) ≡ true }
         requires nodes { kernel_nodes (kernel_type_of kind.now) ≤ 10000 }
-        ensures text { IfOk result (λ r. IsTextOf (text_in r.0) Two (expression_of code.now)
+        ensures text { IfOk result (λ r. IsTextOf (text_in self.now.cache r.0) Two (expression_of code.now)
             (kernel_type_of kind.now)) }
         ensures here { IfOk result (λ r. IsHere self.now.cache r.0) }
+        ensures loaded { let text = canonical_text Two (expression_of code.now) (kernel_type_of kind.now) in
+            IfOk result (λ r. IsLoadedGot r.0 ↔ IsLoadedText self.now.cache.load text) }
         ensures answered { IfOk result (λ r. IsAnswered self.now.cache r.0) }
         ensures spent { IfOk result (λ r. steps.new ≡ steps.old + (if r.1 then 1 else 0)) }
         ensures price { steps.new ≤ steps.old + price_beside self.now.hinted

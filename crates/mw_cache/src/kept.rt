@@ -53,13 +53,15 @@ impl KeptReceipts {
         receipts
     }
 
-    /// Keeps the receipts of where a module is: that of its slot, or those of the window that had no room.
+    /// Keeps the receipts of where a module is: that of its slot, or those of the window that had no room. A loaded record
+    /// has none.
     pub fn keep_got(&mut self, alloc: Global, got: &Got) -> Result<(), AllocError>
         ensures kept { IfOk result (λ _. IsReceived self.new got.now) }
         ensures table { (cache : CacheState) → IsHere cache got.now → All (IsOf cache.cells) self.old
             → All (IsOf cache.cells) self.new }
     {
         match got {
+            Got::Loaded(_) => Ok(()),
             Got::Stored(receipt) => self.keep(alloc, receipt),
             Got::Own(none) => self.keep_each(alloc, &none.seen),
         }

@@ -1,4 +1,4 @@
-//! Modules by their code, through a table that threads share.
+//! Modules by their code, through what was loaded and a table that threads share.
 #![tactic(auto)]
 
 mod cache;
@@ -7,8 +7,10 @@ mod got;
 mod hinted;
 mod kept;
 pub mod laws;
+mod records;
 
 pub use crate::cache::Cache;
 pub use crate::got::Got;
 pub use crate::hinted::HintedCache;
 pub use crate::kept::KeptReceipts;
+pub use crate::records::{RecordBytes, Records};
