@@ -1,4 +1,6 @@
 pub mod Crossing
+pub mod Finding
+pub mod Gathering
 pub mod Hinting
 pub mod Keeping
 pub mod Modules

@@ -98,7 +98,8 @@ impl<'a, 't> HintedCache<'a, 't> {
     fn hint(&self, text: &[u8]) -> Option<&Receipt<Entry>>
         ensures some { IfSome result (λ h. IsFetched entry_text home self.now.cache.cells h.now
             × (h.now.entry.text ≡ text.now)) }
-        ensures none { IsNone result → price_beside self.now.hinted text.now ≡ 1 }
+        ensures none { IsNone result → price_beside self.now.hinted text.now
+            ≡ price_beside (loaded_texts self.now.cache.load) text.now }
     {
         for at in 0..self.hints.len() {
             let receipt = self.hints.get(at);

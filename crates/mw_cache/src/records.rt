@@ -2,8 +2,9 @@
 
 ghost use Rattle.std.specs.Prelude.{◌≡◌, ◌<◌, ◌++◌, ℕ, List, [], ◌∷◌, All, length, map, slice_get, Some, IfOk, OnOk, OnErr};
 ghost use Rattle.std.specs.Arc.{arc_value};
+ghost use Rattle.std.specs.List.{AllByRecursion};
 ghost use Rattle.mw_slots.specs.Receipts.{IsOf};
-ghost use Rattle.mw_cache.specs.Gots.{texts_of};
+ghost use Rattle.mw_cache.specs.Gots.{texts_of, entry_text};
 ghost use Rattle.mw_cache.specs.Keeping.{AreRecordsOf};
 ghost use Rattle.mw_cache.specs.Gathering.{kept_at, IsShort, IsGathered};
 ghost use Rattle.mw_store.specs.Records.{record_bytes};
@@ -117,7 +118,7 @@ impl Cache<'_> {
     ) -> Result<Records, AllocError>
         requires { All (IsOf self.now.cells) receipts.now }
         ensures { IfOk result (λ records. AreRecordsOf self.now.load
-            (texts_of receipts.now ++ map (λ e. (arc_value e).text) own.now) records) }
+            (texts_of receipts.now ++ map (λ e. entry_text (arc_value e)) own.now) records) }
     {
         let mut modules = BTreeMap::new(alloc);
         for receipt in receipts {
@@ -135,8 +136,8 @@ impl Cache<'_> {
         modules: &mut BTreeMap<&'e [u8], &'e [u8]>,
         entry: &'e Entry,
     ) -> Result<(), AllocError>
-        ensures { OnOk result ((texts : List (List ℕ)) → IsGathered self.now.load texts modules.old.entries
-            → IsGathered self.now.load (texts ++ entry.now.text ∷ []) modules.new.entries) }
+        ensures { OnOk result ((texts : List (List ℕ)) → IsGathered self.now.load texts (map kept_at modules.old.entries)
+            → IsGathered self.now.load (texts ++ entry.now.text ∷ []) (map kept_at modules.new.entries)) }
     {
         if self.load().find(entry.text()).is_none() {
             modules.insert(entry.text(), entry.bytes())?;
@@ -150,9 +151,9 @@ fn records_of(
     alloc: Global,
     modules: &BTreeMap<&[u8], &[u8]>,
 ) -> Result<Records, AllocError>
-    requires { All IsShort modules.now.entries }
+    requires { AllByRecursion IsShort (map kept_at modules.now.entries) }
     ensures written { IfOk result (λ records. records ≡ map record_bytes (map kept_at modules.now.entries)) }
-    ensures rise { IfOk result (λ _. IsStrictlySortedBy (slice_cmp nat_cmp) (map (λ e. e.0.now) modules.now.entries)) }
+    ensures rise { IfOk result (λ _. IsStrictlySortedBy (slice_cmp nat_cmp) (map (λ k. k.text) (map kept_at modules.now.entries))) }
 {
     let mut records = Records::new(alloc);
     for (text, bytes) in modules {
