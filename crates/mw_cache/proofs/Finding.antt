@@ -20,17 +20,17 @@ found_from : (i at : ℕ) (t : List ℕ) (ls : List Loaded) → position_from (�
     → (k : ℕ) × (at ≡ i + k) × IsFound ls t k
 found_from i at t [] h = absurd (none-some at h)
 found_from i at t (l ∷ ls) h = elim (cases_Bool (bytes_eq t l.text)) [
-    | inl same ↦
-        let here : Some i ≡ Some at = sym (ap (λ b. if b then Some i else position_from (λ x. bytes_eq t x.text) (i + 1) ls) same) ∙ h in
-        let at_is : i ≡ at = same_Some i at here in
-        (0, omega (arith, at_is), (l, refl, sym ((bytes_eq-Decides t l.text).0 same)))
-    | inr other ↦
-        let later : position_from (λ x. bytes_eq t x.text) (i + 1) ls ≡ Some at =
-            sym (ap (λ b. if b then Some i else position_from (λ x. bytes_eq t x.text) (i + 1) ls) other) ∙ h in
-        let r = found_from (i + 1) at t ls later in
-        let at_is = r.1 in
-        (suc r.0, omega (arith, at_is), r.2)
-  ]
+  | inl same ↦
+      let here : Some i ≡ Some at = sym (ap (λ b. if b then Some i else position_from (λ x. bytes_eq t x.text) (i + 1) ls) same) ∙ h in
+      let at_is : i ≡ at = same_Some i at here in
+      (0, omega (arith, at_is), (l, refl, sym ((bytes_eq-Decides t l.text).0 same)))
+  | inr other ↦
+      let later : position_from (λ x. bytes_eq t x.text) (i + 1) ls ≡ Some at =
+      sym (ap (λ b. if b then Some i else position_from (λ x. bytes_eq t x.text) (i + 1) ls) other) ∙ h in
+      let r = found_from (i + 1) at t ls later in
+      let at_is = r.1 in
+      (suc r.0, omega (arith, at_is), r.2)
+]
 
 not_first : (t : List ℕ) (l : Loaded) (ls : List Loaded) (k : ℕ) → bytes_eq t l.text ≡ false → ((k : ℕ) → IsFound ls t k → ⊥)
     → IsFound (l ∷ ls) t k → ⊥
@@ -43,12 +43,12 @@ not_first t l ls (suc k) other later f = later k f
 nowhere_from : (i : ℕ) (t : List ℕ) (ls : List Loaded) → position_from (λ l. bytes_eq t l.text) i ls ≡ None → (k : ℕ) → IsFound ls t k → ⊥
 nowhere_from i t [] h k f = none-some f.0 f.1
 nowhere_from i t (l ∷ ls) h k f = elim (cases_Bool (bytes_eq t l.text)) [
-    | inl same ↦ none-some i (sym h ∙ ap (λ b. if b then Some i else position_from (λ x. bytes_eq t x.text) (i + 1) ls) same)
-    | inr other ↦
-        let later : position_from (λ x. bytes_eq t x.text) (i + 1) ls ≡ None =
-            sym (ap (λ b. if b then Some i else position_from (λ x. bytes_eq t x.text) (i + 1) ls) other) ∙ h in
-        not_first t l ls k other (nowhere_from (i + 1) t ls later) f
-  ]
+  | inl same ↦ none-some i (sym h ∙ ap (λ b. if b then Some i else position_from (λ x. bytes_eq t x.text) (i + 1) ls) same)
+  | inr other ↦
+      let later : position_from (λ x. bytes_eq t x.text) (i + 1) ls ≡ None =
+      sym (ap (λ b. if b then Some i else position_from (λ x. bytes_eq t x.text) (i + 1) ls) other) ∙ h in
+      not_first t l ls k other (nowhere_from (i + 1) t ls later) f
+]
 
 pub found : (load : LoadState) (t : List ℕ) (at : ℕ) → Some at ≡ position (λ l. bytes_eq t l.text) load.records → IsFound load.records t at
 found load t at h =

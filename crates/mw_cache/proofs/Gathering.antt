@@ -116,15 +116,16 @@ gathered_with load texts t bytes k v es kt vb none emission g = record {
   each = each_with k v (IsToKeep load (texts ++ t ∷ [])) one es (more_texts load texts t (map kept_at es) g.each);
   all = λ text c. elim (Contains-push_cases texts t text c) [
     | inl old ↦ elim (g.all text old) [
-        | inl l ↦ inl l
-        | inr h ↦ inr (contains_from _ text (stays k v es text (among_from _ text h)))
-      ]
+      | inl l ↦ inl l
+      | inr h ↦ inr (contains_from _ text (stays k v es text (among_from _ text h)))
+    ]
     | inr is ↦ inr (subst (λ x. Contains (texts_in (insert_entry by_text es k v)) x) (kt ∙ is) (contains_from _ k.now (here k v es)))
   ];
 }
   where
     keep : IsToKeep load (texts ++ t ∷ []) record { text = t; bytes = v.now }
     keep = record { among = Contains-push texts t; unloaded = none; emission = subst (λ bs. IsEmissionOf bs t) (sym vb) emission }
+
     one : (s : List ℕ) → s ≡ k.now → IsToKeep load (texts ++ t ∷ []) record { text = s; bytes = v.now }
     one s is = subst (λ x. IsToKeep load (texts ++ t ∷ []) record { text = x; bytes = v.now }) (sym (is ∙ kt)) keep
 
@@ -132,9 +133,13 @@ gathered_with load texts t bytes k v es kt vb none emission g = record {
 pub all_short : (load : LoadState) (texts : List (List ℕ)) (ks : List Kept) → AllByRecursion (IsToKeep load texts) ks → AllByRecursion IsShort ks
 all_short load texts [] all = tt
 all_short load texts (k ∷ ks) all =
-    let e = all.0.emission in
-    ((short_text k.text e.version e.code e.kind e.is_text,
-      subst (λ bs. length bs < 2 ^ 32) (sym e.is_emission) (each_emission k.text e.version e.code e.kind e.is_text).short), all_short load texts ks all.1)
+    let e = all.0.emission in (
+      (
+        short_text k.text e.version e.code e.kind e.is_text,
+        subst (λ bs. length bs < 2 ^ 32) (sym e.is_emission) (each_emission k.text e.version e.code e.kind e.is_text).short,
+      ),
+      all_short load texts ks all.1,
+    )
 
 -- what is gathered in the order of the texts is what is to be kept
 pub to_keep : (load : LoadState) (texts : List (List ℕ)) (ks : List Kept) → IsGathered load texts ks

@@ -51,19 +51,19 @@ loaded_price : (ls : List Loaded) (text : List ℕ)
     → (price_beside (map (λ l. l.text) ls) text ≡ 1) ⊎ ((at : ℕ) × (l : Loaded) × (slice_get ls at ≡ Some l) × (l.text ≡ text))
 loaded_price [] text = inl refl
 loaded_price (l ∷ ls) text = elim (cases_Bool (bytes_eq l.text text)) [
-    | inl same ↦ inr (0, l, refl, (bytes_eq-Decides l.text text).0 same)
-    | inr other ↦ elim (loaded_price ls text) [
-        | inl one ↦ inl (ap (λ b. if b then 0 else price_beside (map (λ x. x.text) ls) text) other ∙ one)
-        | inr found ↦ inr (suc found.0, found.1, found.2, found.3)
-      ]
+  | inl same ↦ inr (0, l, refl, (bytes_eq-Decides l.text text).0 same)
+  | inr other ↦ elim (loaded_price ls text) [
+    | inl one ↦ inl (ap (λ b. if b then 0 else price_beside (map (λ x. x.text) ls) text) other ∙ one)
+    | inr found ↦ inr (suc found.0, found.1, found.2, found.3)
   ]
+]
 
 pub price_holds : (load : LoadState) (text : List ℕ) (old new : ℕ) → (IsLoadedText load text → new ≡ old) → new ≤ old + 1
     → new ≤ old + price_beside (loaded_texts load) text
 price_holds load text old new free most = elim (loaded_price load.records text) [
-    | inl one ↦ subst (λ n. new ≤ old + n) (sym one) most
-    | inr loaded ↦ let same = free loaded in omega (arith, same)
-  ]
+  | inl one ↦ subst (λ n. new ≤ old + n) (sym one) most
+  | inr loaded ↦ let same = free loaded in omega (arith, same)
+]
 
 -- the price of a text, with a hint of it or without one
 pub price_is : (hint : Option (Bor (Known Emitted))) (load : LoadState) (text : List ℕ) (price old new : ℕ)

@@ -32,10 +32,10 @@ loaded_stands : (l : Loaded) → IsLoaded l → (c : Expression) (k : KernelType
     → StandsFor (module_of l.wasm) c k
 loaded_stands l is c k text right =
     let bytes : l.bytes ≡ emission (version_of Two) c k = one_emission l.text l.bytes (emission (version_of Two) c k) right
-        record { version = Two; code = c; kind = k; is_text = text; is_emission = refl } in
+    record { version = Two; code = c; kind = k; is_text = text; is_emission = refl } in
     let e = each_emission l.text Two c k text in
     let same = one_module (emission (version_of Two) c k) (module_of l.wasm) _
-        (subst (λ bs. Spells bs (module_of l.wasm)) bytes is.has_module.spelled) e.spelled in
+    (subst (λ bs. Spells bs (module_of l.wasm)) bytes is.has_module.spelled) e.spelled in
     subst (λ m. StandsFor m c k) (sym same) e.stands
 
 pub shape_at : (load : LoadState) (at : ℕ) (t : List ℕ) (wasm : Module) → t ≡ text_at load at → IsAt load at wasm

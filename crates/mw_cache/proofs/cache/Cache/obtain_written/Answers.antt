@@ -9,14 +9,19 @@ returns-in-Some-clause-text g c =
     (c.in-Some.ensures ∙ ap (λ s. position (λ l. bytes_eq c.args.text.now l.text) s.load.records) c.self.view_is)
 
 pub returns-in-Some-clause-loaded : goal.returns-in-Some-clause-loaded
-returns-in-Some-clause-loaded g c = ((λ _.
-    is_loaded c.args.self.now.load c.args.text.now c.in-Some.at
-    (c.in-Some.ensures ∙ ap (λ s. position (λ l. bytes_eq c.args.text.now l.text) s.load.records) c.self.view_is)), λ _. tt)
+returns-in-Some-clause-loaded g c = (
+  (λ _.
+      is_loaded c.args.self.now.load c.args.text.now c.in-Some.at
+      (c.in-Some.ensures ∙ ap (λ s. position (λ l. bytes_eq c.args.text.now l.text) s.load.records) c.self.view_is)),
+  λ _. tt,
+)
 
 pub returns-then-eq-clause-loaded : goal.returns-then-eq-clause-loaded
-returns-then-eq-clause-loaded g c = ((λ h. absurd h),
-    nowhere c.args.self.now.load c.args.text.now
-    (c.in_default.ensures ∙ ap (λ s. position (λ l. bytes_eq c.args.text.now l.text) s.load.records) c.self.view_is))
+returns-then-eq-clause-loaded g c = (
+  (λ h. absurd h),
+  nowhere c.args.self.now.load c.args.text.now
+      (c.in_default.ensures ∙ ap (λ s. position (λ l. bytes_eq c.args.text.now l.text) s.load.records) c.self.view_is),
+)
 
 pub returns-clause-loaded : goal.returns-clause-loaded
 returns-clause-loaded g c =

@@ -10,7 +10,7 @@ pub loop-receipt-preserved : goal.loop-receipt-preserved
 loop-receipt-preserved c =
     let n = c.loop-receipt.receipt-index in let before = texts_of (take n c.args.receipts.now) in
     let more = map_more (λ r. r.entry.text) c.args.receipts.now n c.receipt-item.result c.loop-receipt-test.true c.receipt-item.is
-        ∙ ap (λ e. before ++ entry_text e ∷ []) (sym c.entry_of.ensures) in
+    ∙ ap (λ e. before ++ entry_text e ∷ []) (sym c.entry_of.ensures) in
     subst (λ ts. IsGathered c.args.self.now.load ts (map kept_at c.gather.new.modules.entries)) (sym more)
     (c.in_ok-gather.ensures before c.loop-receipt.invariant)
 
@@ -19,7 +19,7 @@ loop-entry-preserved c =
     let n = c.loop-entry.entry-index in let first = texts_of c.args.receipts.now in
     let before = map (λ e. entry_text (arc_value e)) (take n c.args.own.now) in
     let more = map_more (λ e. entry_text (arc_value e)) c.args.own.now n c.entry-item.result c.loop-entry-test.true c.entry-item.is
-        ∙ ap (λ e. before ++ entry_text e ∷ []) (sym c.deref.ensures) in
+    ∙ ap (λ e. before ++ entry_text e ∷ []) (sym c.deref.ensures) in
     let all = ap (λ ts. first ++ ts) more ∙ sym (append_assoc first before (entry_text c.deref.result.now ∷ [])) in
     subst (λ ts. IsGathered c.args.self.now.load ts (map kept_at c.gather-in-loop-entry.new.modules.entries)) (sym all)
     (c.in_ok-gather-2.ensures (first ++ before) c.loop-entry.invariant)

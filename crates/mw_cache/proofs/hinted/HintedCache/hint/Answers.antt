@@ -18,10 +18,12 @@ is_of_text-requires c =
     c.get-receipt.ensures c.self.invariant).table
 
 pub returns-then-is_of_text-clause-some : goal.returns-then-is_of_text-clause-some
-returns-then-is_of_text-clause-some c =
-    (subst (λ s. IsFetched entry_text home s.cache.cells c.get-receipt.result.now) c.self.view_is
-    (one_of (IsFetched entry_text home c.self.inside.cache.now.cells) c.self.inside.hints.now c.loop-at.at c.get-receipt.result.now
-    c.get-receipt.ensures c.self.invariant), c.if-is_of_text.ensures)
+returns-then-is_of_text-clause-some c = (
+  subst (λ s. IsFetched entry_text home s.cache.cells c.get-receipt.result.now) c.self.view_is
+      (one_of (IsFetched entry_text home c.self.inside.cache.now.cells) c.self.inside.hints.now c.loop-at.at c.get-receipt.result.now
+      c.get-receipt.ensures c.self.invariant),
+  c.if-is_of_text.ensures,
+)
 
 pub loop-at-preserved : goal.loop-at-preserved
 loop-at-preserved c =
