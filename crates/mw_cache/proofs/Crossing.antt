@@ -29,12 +29,25 @@ use Rattle.mw_store.specs.contracts.load.Load as Load
 use Rattle.mw_store.specs.contracts.load.LoadedModule as LoadedModule
 
 pub got_send : IsSend Entry.the_row → IsSync Entry.the_row → IsSend Got.the_row
-got_send a b = variants_send Got.enum ((search (sendable) depth 10, tt), ((receipt_send Entry.the_row, tt), ((no_room_send Entry.the_row a b, tt), tt)))
+got_send a b = variants_send Got.enum (
+  (search (sendable) depth 10, tt),
+  (
+    (receipt_send Entry.the_row, tt),
+    ((no_room_send Entry.the_row a b, tt), tt),
+  ),
+)
 
 pub got_sync : IsSend Entry.the_row → IsSync Entry.the_row → IsSync Got.the_row
-got_sync a b = variants_sync Got.enum ((search (sendable) depth 10, tt), ((receipt_sync Entry.the_row, tt), ((no_room_sync Entry.the_row a b, tt), tt)))
+got_sync a b = variants_sync Got.enum (
+  (search (sendable) depth 10, tt),
+  (
+    (receipt_sync Entry.the_row, tt),
+    ((no_room_sync Entry.the_row a b, tt), tt),
+  ),
+)
 
-pub cache_sync : IsSend Entry.the_row → IsSync Entry.the_row → IsSync Load.the_row → (a : NamedLft) → IsSync (Cache.the_row a)
+pub cache_sync : IsSend Entry.the_row → IsSync Entry.the_row → IsSync Load.the_row → (a : NamedLft)
+    → IsSync (Cache.the_row a)
 cache_sync s y l a =
     let t = table_sync Entry.the_row s y in
     let inside : IsSync (Cache.TheInside.the_row a) = declared_sync (Cache.TheInside.the_type a)
@@ -42,7 +55,10 @@ cache_sync s y l a =
     search (inside, view_sync) depth 20
 
 loaded_sync : IsSend Valid.the_row → IsSync Valid.the_row → IsSync LoadedModule.the_row
-loaded_sync s y = declared_sync LoadedModule.the_type (search (sendable, crosses) depth 20, (Arc-sync Valid.the_row s y, tt))
+loaded_sync s y = declared_sync LoadedModule.the_type (
+  search (sendable, crosses) depth 20,
+  (Arc-sync Valid.the_row s y, tt),
+)
 
 group_sync : IsSync Group.the_row
 group_sync = declared_sync Group.the_type (search sendable, (search sendable, tt))
@@ -52,18 +68,25 @@ bucket_sync = declared_sync Bucket.the_type (search sendable, (search sendable, 
 
 columns_sync : (K V : RattleType) → IsSync K → IsSync V → IsSync (Columns.the_row K V Heap.the_row ghosts)
 columns_sync K V k v =
-    let inside : IsSync (Columns.TheInside.the_row K V Heap.the_row ghosts) = declared_sync (Columns.TheInside.the_type K V Heap.the_row ghosts) (Vec-sync K k, (Vec-sync V v, tt)) in
+    let inside : IsSync (Columns.TheInside.the_row K V Heap.the_row ghosts) = declared_sync
+    (Columns.TheInside.the_type K V Heap.the_row ghosts) (Vec-sync K k, (Vec-sync V v, tt)) in
     search (inside, view_sync) depth 20
 
 places_sync : IsSync (IndexTable.the_row Heap.the_row ghosts)
 places_sync =
-    let inside : IsSync (IndexTable.TheInside.the_row Heap.the_row ghosts) = declared_sync (IndexTable.TheInside.the_type Heap.the_row ghosts) (Vec-sync Group.the_row group_sync, (Vec-sync Bucket.the_row bucket_sync, (search sendable, tt))) in
+    let inside : IsSync (IndexTable.TheInside.the_row Heap.the_row ghosts) = declared_sync
+    (IndexTable.TheInside.the_type Heap.the_row ghosts) (
+      Vec-sync Group.the_row group_sync,
+      (Vec-sync Bucket.the_row bucket_sync, (search sendable, tt)),
+    ) in
     search (inside, view_sync) depth 20
 
-map_sync : (K V S H : RattleType) (e : PartialEq.Ghosts K.Denot) (h : Hash.Ghosts K.Denot) (b : BuildHasher.Ghosts S.Denot H.Denot) (r : Hasher.Ghosts H.Denot)
+map_sync : (K V S H : RattleType) (e : PartialEq.Ghosts K.Denot) (h : Hash.Ghosts K.Denot)
+    (b : BuildHasher.Ghosts S.Denot H.Denot) (r : Hasher.Ghosts H.Denot)
     → IsSync K → IsSync V → IsSync S → IsSync (IndexMap.the_row K V S Heap.the_row H e h b r ghosts)
 map_sync K V S H e h b r k v s =
-    let inside : IsSync (IndexMap.TheInside.the_row K V S Heap.the_row H e h b r ghosts) = declared_sync (IndexMap.TheInside.the_type K V S Heap.the_row H e h b r ghosts)
+    let inside : IsSync (IndexMap.TheInside.the_row K V S Heap.the_row H e h b r ghosts) = declared_sync
+    (IndexMap.TheInside.the_type K V S Heap.the_row H e h b r ghosts)
     (columns_sync K V k v, (places_sync, (as_row_sync (row_field S) s, tt))) in
     search (inside, view_sync) depth 20
 
@@ -75,6 +98,9 @@ hasher_sync =
 pub load_sync : IsSend Valid.the_row → IsSync Valid.the_row → IsSync Load.the_row
 load_sync s y =
     let text : IsSync (Vec.the_row u8 Heap.the_row ghosts) = Vec-sync u8 (search sendable) in
-    let inside : IsSync Load.TheInside.the_row = declared_sync Load.TheInside.the_type
-    (map_sync (Vec.the_row u8 Heap.the_row ghosts) LoadedModule.the_row (Build.the_row Fold.the_row) Fold.the_row _ _ _ _ text (loaded_sync s y) hasher_sync, (search sendable, tt)) in
+    let inside : IsSync Load.TheInside.the_row = declared_sync Load.TheInside.the_type (
+      map_sync (Vec.the_row u8 Heap.the_row ghosts) LoadedModule.the_row
+          (Build.the_row Fold.the_row) Fold.the_row _ _ _ _ text (loaded_sync s y) hasher_sync,
+      (search sendable, tt),
+    ) in
     search (inside, view_sync) depth 20

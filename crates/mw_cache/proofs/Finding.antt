@@ -21,7 +21,8 @@ found_from : (i at : ℕ) (t : List ℕ) (ls : List Loaded) → position_from (�
 found_from i at t [] h = absurd (none-some at h)
 found_from i at t (l ∷ ls) h = elim (cases_Bool (bytes_eq t l.text)) [
   | inl same ↦
-      let here : Some i ≡ Some at = sym (ap (λ b. if b then Some i else position_from (λ x. bytes_eq t x.text) (i + 1) ls) same) ∙ h in
+      let here : Some i ≡ Some at = sym (ap (λ b. if b then Some i else position_from (λ x. bytes_eq t x.text)
+      (i + 1) ls) same) ∙ h in
       let at_is : i ≡ at = same_Some i at here in
       (0, omega (arith, at_is), (l, refl, sym ((bytes_eq-Decides t l.text).0 same)))
   | inr other ↦
@@ -32,7 +33,8 @@ found_from i at t (l ∷ ls) h = elim (cases_Bool (bytes_eq t l.text)) [
       (suc r.0, omega (arith, at_is), r.2)
 ]
 
-not_first : (t : List ℕ) (l : Loaded) (ls : List Loaded) (k : ℕ) → bytes_eq t l.text ≡ false → ((k : ℕ) → IsFound ls t k → ⊥)
+not_first : (t : List ℕ) (l : Loaded) (ls : List Loaded) (k : ℕ) → bytes_eq t l.text ≡ false → ((k : ℕ)
+    → IsFound ls t k → ⊥)
     → IsFound (l ∷ ls) t k → ⊥
 not_first t l ls zero other later f =
     let same : l ≡ f.0 = same_Some l f.0 f.1 in
@@ -40,51 +42,61 @@ not_first t l ls zero other later f =
     true≢false (sym ((bytes_eq-Decides t l.text).1 is) ∙ other)
 not_first t l ls (suc k) other later f = later k f
 
-nowhere_from : (i : ℕ) (t : List ℕ) (ls : List Loaded) → position_from (λ l. bytes_eq t l.text) i ls ≡ None → (k : ℕ) → IsFound ls t k → ⊥
+nowhere_from : (i : ℕ) (t : List ℕ) (ls : List Loaded) → position_from (λ l. bytes_eq t l.text) i ls ≡ None
+    → (k : ℕ) → IsFound ls t k → ⊥
 nowhere_from i t [] h k f = none-some f.0 f.1
 nowhere_from i t (l ∷ ls) h k f = elim (cases_Bool (bytes_eq t l.text)) [
-  | inl same ↦ none-some i (sym h ∙ ap (λ b. if b then Some i else position_from (λ x. bytes_eq t x.text) (i + 1) ls) same)
+  | inl same ↦ none-some i (sym h
+      ∙ ap (λ b. if b then Some i else position_from (λ x. bytes_eq t x.text) (i + 1) ls) same)
   | inr other ↦
       let later : position_from (λ x. bytes_eq t x.text) (i + 1) ls ≡ None =
       sym (ap (λ b. if b then Some i else position_from (λ x. bytes_eq t x.text) (i + 1) ls) other) ∙ h in
       not_first t l ls k other (nowhere_from (i + 1) t ls later) f
 ]
 
-pub found : (load : LoadState) (t : List ℕ) (at : ℕ) → Some at ≡ position (λ l. bytes_eq t l.text) load.records → IsFound load.records t at
+pub found : (load : LoadState) (t : List ℕ) (at : ℕ) → Some at ≡ position (λ l. bytes_eq t l.text) load.records
+    → IsFound load.records t at
 found load t at h =
     let r = found_from 0 at t load.records (sym (position_from-zero (λ l. bytes_eq t l.text) load.records) ∙ sym h) in
     let is = r.1 in
     let same : r.0 ≡ at = omega (arith, is) in
     subst (λ k. IsFound load.records t k) same r.2
 
-pub nowhere : (load : LoadState) (t : List ℕ) → None ≡ position (λ l. bytes_eq t l.text) load.records → IsLoadedText load t → ⊥
+pub nowhere : (load : LoadState) (t : List ℕ) → None ≡ position (λ l. bytes_eq t l.text) load.records
+    → IsLoadedText load t → ⊥
 nowhere load t h loaded =
-    nowhere_from 0 t load.records (sym (position_from-zero (λ l. bytes_eq t l.text) load.records) ∙ sym h) loaded.0 (loaded.1, loaded.2, loaded.3)
+    nowhere_from 0 t load.records (sym (position_from-zero (λ l. bytes_eq t l.text) load.records)
+    ∙ sym h) loaded.0 (loaded.1, loaded.2, loaded.3)
 
 -- the text at the place of a record is its text
 pub text_is : (load : LoadState) (at : ℕ) (l : Loaded) → slice_get load.records at ≡ Some l → text_at load at ≡ l.text
 text_is load at l here = get_or_from_slice_get (loaded_texts load) at l.text []
     (slice_get-map (λ x. x.text) load.records at ∙ ap (λ o. option_map (λ x. x.text) o) here)
 
-pub text_found : (load : LoadState) (t : List ℕ) (at : ℕ) → Some at ≡ position (λ l. bytes_eq t l.text) load.records → text_at load at ≡ t
+pub text_found : (load : LoadState) (t : List ℕ) (at : ℕ)
+    → Some at ≡ position (λ l. bytes_eq t l.text) load.records → text_at load at ≡ t
 text_found load t at h = let f = found load t at h in text_is load at f.0 f.1 ∙ f.2
 
-pub is_loaded : (load : LoadState) (t : List ℕ) (at : ℕ) → Some at ≡ position (λ l. bytes_eq t l.text) load.records → IsLoadedText load t
+pub is_loaded : (load : LoadState) (t : List ℕ) (at : ℕ)
+    → Some at ≡ position (λ l. bytes_eq t l.text) load.records → IsLoadedText load t
 is_loaded load t at h = let f = found load t at h in (at, f.0, f.1, f.2)
 
 -- what the test of an answer says
-pub unloaded : (load : LoadState) (t : List ℕ) (o : Option ℕ) (b : Bool) → o ≡ position (λ l. bytes_eq t l.text) load.records → is_some o ≡ not b
+pub unloaded : (load : LoadState) (t : List ℕ) (o : Option ℕ) (b : Bool)
+    → o ≡ position (λ l. bytes_eq t l.text) load.records → is_some o ≡ not b
     → b ≡ true → IsLoadedText load t → ⊥
 unloaded load t None b h test is = nowhere load t h
 unloaded load t (Some at) b h test is = absurd (true≢false (test ∙ ap not is))
 
-pub loaded : (load : LoadState) (t : List ℕ) (o : Option ℕ) (b : Bool) → o ≡ position (λ l. bytes_eq t l.text) load.records → is_some o ≡ not b
+pub loaded : (load : LoadState) (t : List ℕ) (o : Option ℕ) (b : Bool)
+    → o ≡ position (λ l. bytes_eq t l.text) load.records → is_some o ≡ not b
     → b ≡ false → IsLoadedText load t
 loaded load t None b h test is = absurd (true≢false (sym (test ∙ ap not is)))
 loaded load t (Some at) b h test is = is_loaded load t at h
 
 -- where no record was loaded, none is answered
-pub unloaded_got : {E : Type 0} (cache : CacheState) (t : List ℕ) (result : Result (Got × Bool) E) → IfOk result (λ r. IsLoadedGot r.0 → ⊥)
+pub unloaded_got : {E : Type 0} (cache : CacheState) (t : List ℕ) (result : Result (Got × Bool) E)
+    → IfOk result (λ r. IsLoadedGot r.0 → ⊥)
     → (IsLoadedText cache.load t → ⊥) → IfOk result (λ r. IsLoadedGot r.0 ↔ IsLoadedText cache.load t)
 unloaded_got cache t (Ok r) h none = ((λ l. absurd (h l)), λ l. absurd (none l))
 unloaded_got cache t (Err e) h none = tt

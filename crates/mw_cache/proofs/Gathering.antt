@@ -58,7 +58,8 @@ module _ (k v : Bor (List ℕ)) where
   placed o e es = match_ordering o ((k, v) ∷ e ∷ es) ((e.0, v) ∷ es) (e ∷ with_pair es)
 
   module _ (P : Kept → Type 0) (same : (t : List ℕ) → t ≡ k.now → P record { text = t; bytes = v.now }) where
-    each_placed : (o : Ordering) (e : Pair) (es : List Pair) → by_text k e.0 ≡ o → P (kept_at e) → AllByRecursion P (map kept_at es)
+    each_placed : (o : Ordering) (e : Pair) (es : List Pair) → by_text k e.0 ≡ o → P (kept_at e)
+        → AllByRecursion P (map kept_at es)
         → AllByRecursion P (map kept_at (with_pair es)) → AllByRecursion P (map kept_at (placed o e es))
     each_placed Less e es is one all rest = (same k.now refl, (one, all))
     each_placed Equal e es is one all rest = (same e.0.now (sym (exact_bytes k.now e.0.now is)), all)
@@ -91,11 +92,20 @@ module _ (k v : Bor (List ℕ)) where
   here (e ∷ es) = here_placed (by_text k e.0) e es refl (here es)
 
 -- a text more
-more_texts : (load : LoadState) (texts : List (List ℕ)) (t : List ℕ) (ks : List Kept) → AllByRecursion (IsToKeep load texts) ks
+more_texts : (load : LoadState) (texts : List (List ℕ)) (t : List ℕ) (ks : List Kept)
+    → AllByRecursion (IsToKeep load texts) ks
     → AllByRecursion (IsToKeep load (texts ++ t ∷ [])) ks
 more_texts load texts t [] all = tt
-more_texts load texts t (k ∷ ks) all =
-    (record { among = Contains-append_left texts (t ∷ []) k.text all.0.among; unloaded = all.0.unloaded; emission = all.0.emission }, more_texts load texts t ks all.1)
+more_texts load texts t (k ∷ ks) all = (
+  record {
+    among = Contains-append_left texts
+        (t ∷ []) k.text all.0.among;
+    unloaded = all.0.unloaded;
+    emission = all.0.emission;
+  },
+  more_texts load texts
+      t ks all.1,
+)
 
 -- a loaded text more
 pub gathered_loaded : (load : LoadState) (texts : List (List ℕ)) (t : List ℕ) (ks : List Kept) → IsLoadedText load t
@@ -109,9 +119,11 @@ gathered_loaded load texts t ks loaded g = record {
 }
 
 -- and one that wasn't loaded, with its emission
-pub gathered_with : (load : LoadState) (texts : List (List ℕ)) (t bytes : List ℕ) (k v : Bor (List ℕ)) (es : List Pair) → k.now ≡ t → v.now ≡ bytes
+pub gathered_with : (load : LoadState) (texts : List (List ℕ)) (t bytes : List ℕ) (k v : Bor (List ℕ))
+    (es : List Pair) → k.now ≡ t → v.now ≡ bytes
     → (IsLoadedText load t → ⊥) → IsEmissionOf bytes t
-    → IsGathered load texts (map kept_at es) → IsGathered load (texts ++ t ∷ []) (map kept_at (insert_entry by_text es k v))
+    → IsGathered load texts (map kept_at es)
+    → IsGathered load (texts ++ t ∷ []) (map kept_at (insert_entry by_text es k v))
 gathered_with load texts t bytes k v es kt vb none emission g = record {
   each = each_with k v (IsToKeep load (texts ++ t ∷ [])) one es (more_texts load texts t (map kept_at es) g.each);
   all = λ text c. elim (Contains-push_cases texts t text c) [
@@ -119,24 +131,32 @@ gathered_with load texts t bytes k v es kt vb none emission g = record {
       | inl l ↦ inl l
       | inr h ↦ inr (contains_from _ text (stays k v es text (among_from _ text h)))
     ]
-    | inr is ↦ inr (subst (λ x. Contains (texts_in (insert_entry by_text es k v)) x) (kt ∙ is) (contains_from _ k.now (here k v es)))
+    | inr is ↦ inr (subst (λ x. Contains (texts_in (insert_entry by_text es k v)) x) (kt
+        ∙ is) (contains_from _ k.now (here k v es)))
   ];
 }
   where
     keep : IsToKeep load (texts ++ t ∷ []) record { text = t; bytes = v.now }
-    keep = record { among = Contains-push texts t; unloaded = none; emission = subst (λ bs. IsEmissionOf bs t) (sym vb) emission }
+    keep = record {
+      among = Contains-push texts t;
+      unloaded = none;
+      emission = subst (λ bs. IsEmissionOf bs t)
+          (sym vb) emission;
+    }
 
     one : (s : List ℕ) → s ≡ k.now → IsToKeep load (texts ++ t ∷ []) record { text = s; bytes = v.now }
     one s is = subst (λ x. IsToKeep load (texts ++ t ∷ []) record { text = x; bytes = v.now }) (sym (is ∙ kt)) keep
 
 -- texts and emissions are short
-pub all_short : (load : LoadState) (texts : List (List ℕ)) (ks : List Kept) → AllByRecursion (IsToKeep load texts) ks → AllByRecursion IsShort ks
+pub all_short : (load : LoadState) (texts : List (List ℕ)) (ks : List Kept)
+    → AllByRecursion (IsToKeep load texts) ks → AllByRecursion IsShort ks
 all_short load texts [] all = tt
 all_short load texts (k ∷ ks) all =
     let e = all.0.emission in (
       (
         short_text k.text e.version e.code e.kind e.is_text,
-        subst (λ bs. length bs < 2 ^ 32) (sym e.is_emission) (each_emission k.text e.version e.code e.kind e.is_text).short,
+        subst (λ bs. length bs < 2 ^ 32) (sym e.is_emission)
+            (each_emission k.text e.version e.code e.kind e.is_text).short,
       ),
       all_short load texts ks all.1,
     )
@@ -161,7 +181,8 @@ below k [] all = tt
 below k (e ∷ es) all = (all.0, below k es all.1)
 
 -- the keys ascend
-pub rising : (es : List Pair) → IsStrictlySortedBy by_text (keys_of es) → IsStrictlySortedBy (slice_cmp nat_cmp) (map (λ k. k.text) (map kept_at es))
+pub rising : (es : List Pair) → IsStrictlySortedBy by_text (keys_of es)
+    → IsStrictlySortedBy (slice_cmp nat_cmp) (map (λ k. k.text) (map kept_at es))
 unfolding IsStrictlySortedBy
 rising [] s = tt
 rising (e ∷ es) s = (below e.0 es s.0, rising es s.1)
@@ -170,9 +191,11 @@ rising (e ∷ es) s = (below e.0 es s.0, rising es s.1)
 pub map_more : {X Y : Type 0} (f : X → Y) (xs : List X) (n : ℕ) (x : X) → n < length xs → x ≡ get_or xs n x
     → map f (take (n + 1) xs) ≡ map f (take n xs) ++ f x ∷ []
 map_more f xs n x less is =
-    ap (λ ys. map f ys) (take_more xs n x less) ∙ map-append f (take n xs) (get_or xs n x ∷ []) ∙ ap (λ y. map f (take n xs) ++ f y ∷ []) (sym is)
+    ap (λ ys. map f ys) (take_more xs n x less) ∙ map-append f (take n xs) (get_or xs n x ∷ [])
+    ∙ ap (λ y. map f (take n xs) ++ f y ∷ []) (sym is)
 
-pub records_are : {E : Type 0} (load : LoadState) (texts : List (List ℕ)) (ks : List Kept) (result : Result (List (List ℕ)) E)
+pub records_are : {E : Type 0} (load : LoadState) (texts : List (List ℕ)) (ks : List Kept) (result : Result (List
+    (List ℕ)) E)
     → IfOk result (λ records. records ≡ map record_bytes ks)
     → IfOk result (λ _. IsStrictlySortedBy (slice_cmp nat_cmp) (map (λ k. k.text) ks))
     → IsGathered load texts ks → IfOk result (λ records. AreRecordsOf load texts records)

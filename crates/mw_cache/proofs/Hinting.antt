@@ -18,7 +18,8 @@ tells true P d n = absurd (n (d.0 refl))
 tells false P d n = refl
 
 -- a hint of another text is passed over
-skips : (hints : List (Known Emitted)) (at : ℕ) (r : Known Emitted) (more : List (List ℕ)) (text : List ℕ) → slice_get hints at ≡ Some r
+skips : (hints : List (Known Emitted)) (at : ℕ) (r : Known Emitted) (more : List (List ℕ)) (text : List ℕ)
+    → slice_get hints at ≡ Some r
     → r.entry.text ≢ text → price_beside (texts_of (drop at hints) ++ more) text
     ≡ price_beside (texts_of (drop (suc at) hints) ++ more) text
 skips [] at r more text here ne = absurd (cc)
@@ -48,7 +49,8 @@ price_of_others (x ∷ hints) (suc at) more text h = price_of_others hints at mo
 
 -- beside the loaded texts an emission is the price, unless the text was loaded
 loaded_price : (ls : List Loaded) (text : List ℕ)
-    → (price_beside (map (λ l. l.text) ls) text ≡ 1) ⊎ ((at : ℕ) × (l : Loaded) × (slice_get ls at ≡ Some l) × (l.text ≡ text))
+    → (price_beside (map (λ l. l.text) ls) text ≡ 1) ⊎ ((at : ℕ) × (l : Loaded) × (slice_get ls at
+    ≡ Some l) × (l.text ≡ text))
 loaded_price [] text = inl refl
 loaded_price (l ∷ ls) text = elim (cases_Bool (bytes_eq l.text text)) [
   | inl same ↦ inr (0, l, refl, (bytes_eq-Decides l.text text).0 same)
@@ -58,7 +60,8 @@ loaded_price (l ∷ ls) text = elim (cases_Bool (bytes_eq l.text text)) [
   ]
 ]
 
-pub price_holds : (load : LoadState) (text : List ℕ) (old new : ℕ) → (IsLoadedText load text → new ≡ old) → new ≤ old + 1
+pub price_holds : (load : LoadState) (text : List ℕ) (old new : ℕ) → (IsLoadedText load text → new ≡ old)
+    → new ≤ old + 1
     → new ≤ old + price_beside (loaded_texts load) text
 price_holds load text old new free most = elim (loaded_price load.records text) [
   | inl one ↦ subst (λ n. new ≤ old + n) (sym one) most

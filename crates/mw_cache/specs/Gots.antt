@@ -36,8 +36,8 @@ text_in cache (Loaded at) = text_at cache.load at
 text_in cache (Stored r) = r.entry.text
 text_in cache (Own n) = (arc_value n.own).text
 
--- It is of this cache: a number is that of a loaded record, and a receipt is of its table; beside the table, all slots of the
--- text's window have other texts.
+-- It is of this cache: a number is that of a loaded record, and a receipt is of its table; beside the table, all slots
+-- of the text's window have other texts.
 abbrev pub IsHere : CacheState → Got → Type 0
 IsHere cache (Loaded at) = at < length cache.load.records
 IsHere cache (Stored r) = IsOf cache.cells r
@@ -65,7 +65,8 @@ IsLoadedText load text = (at : ℕ) × (l : LoadedRecord) × (slice_get load.rec
 
 -- no record of the text was loaded, or the bytes of its module are the emission of the text
 abbrev pub IsRight : LoadState → List ℕ → Type 0
-IsRight load text = (at : ℕ) (l : LoadedRecord) → slice_get load.records at ≡ Some l → l.text ≡ text → IsEmissionOf l.bytes text
+IsRight load text = (at : ℕ) (l : LoadedRecord) → slice_get load.records at ≡ Some l → l.text ≡ text
+    → IsEmissionOf l.bytes text
 
 -- the bytes of the module
 abbrev pub HasBytes : CacheState → Got → List ℕ → Type 0

@@ -3,7 +3,8 @@ use Rattle.std.specs.Prelude.{ℕ, List, [], ◌∷◌, if◌then◌else◌}
 use Rattle.std.specs.Str.{bytes_eq}
 use Rattle.mw_cache.specs.Gots.{CacheState}
 
--- what contracts see of it: the cache, and the texts that cost nothing, those of the receipts and those that were loaded
+-- what contracts see of it: the cache, and the texts that cost nothing, those of the receipts and those that were
+-- loaded
 pub record HintedState : Type 0 where
   pub cache : CacheState
   pub hinted : List (List ℕ)

@@ -8,8 +8,8 @@ use Rattle.mw_store.specs.Loads.{LoadState}
 use Rattle.mw_compile.specs.Emission.{IsEmissionOf}
 use Rattle.mw_cache.specs.Gots.{IsLoadedText}
 
--- Their texts rise in the order of bytes, so that none stands twice. Each is one of these texts, none of them was loaded, and
--- the module's bytes are the emission. All of these texts that weren't loaded are there.
+-- Their texts rise in the order of bytes, so that none stands twice. Each is one of these texts, none of them was
+-- loaded, and the module's bytes are the emission. All of these texts that weren't loaded are there.
 pub record AreToKeep (load : LoadState) (texts : List (List ℕ)) (ks : List Kept) : Type 0 where
   pub rise : IsStrictlySortedBy (slice_cmp nat_cmp) (map (λ k. k.text) ks)
   pub among : (k : Kept) → Contains ks k → Contains texts k.text

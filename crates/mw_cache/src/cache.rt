@@ -64,9 +64,9 @@ impl<'t> Cache<'t> {
         &self.load
     }
 
-    /// Where the module is of closed code at a type: a loaded record of its text serves, and else the module is emitted,
-    /// where the table has none of this text. The hint is a receipt that may be of this text. At most one step is spent, and
-    /// the truth value says whether it was; for a loaded text, and for a hint of the same text, it wasn't.
+    /// Where the module is of closed code at a type: a loaded record of its text serves, and else the module is
+    /// emitted, where the table has none of this text. The hint is a receipt that may be of this text. At most one step
+    /// is spent, and the truth value says whether it was; for a loaded text, and for a hint of the same text, it wasn't.
     pub fn obtain<L: Ledger>(
         &self,
         alloc: Global,
@@ -116,7 +116,8 @@ impl<'t> Cache<'t> {
         ensures answered { IfSome hint.entry (λ h. IsFetched entry_text home self.now.cells h.now)
             → IfOk result (λ r. IsAnswered self.now r.0) }
         ensures spent { IfOk result (λ r. steps.new ≡ steps.old + (if r.1 then 1 else 0)) }
-        ensures free { IsLoadedText self.now.load text.now → (steps.new ≡ steps.old) × IfOk result (λ r. r.1 ≡ false) }
+        ensures free { IsLoadedText self.now.load text.now
+            → (steps.new ≡ steps.old) × IfOk result (λ r. r.1 ≡ false) }
         ensures hinted { IfSome hint.entry
             (λ h. h.now.entry.text ≡ text.now → (steps.new ≡ steps.old) × IfOk result (λ r. r.1 ≡ false)) }
         ensures most { (steps.old ≤ steps.new) × (steps.new ≤ steps.old + 1) }
@@ -231,12 +232,13 @@ impl<'t> Cache<'t> {
         }
     }
 
-    /// The module. It is valid and has the shape that a run at the text's type needs, and stands for the text's code, unless
-    /// a record was loaded that has another module. Takes no memory.
+    /// The module. It is valid and has the shape that a run at the text's type needs, and stands for the text's code,
+    /// unless a record was loaded that has another module. Takes no memory.
     pub fn module<'a>(&'a self, got: &'a Got) -> &'a Arc<Valid>
         requires { IsHere self.now got.now }
         ensures wasm { HasWasm self.now got.now (arc_value result.now) }
-        ensures shape { (v : Version) (c : Expression) (k : KernelType) → IsTextOf (text_in self.now got.now) v c k
+        ensures shape { (v : Version) (c : Expression) (k : KernelType)
+            → IsTextOf (text_in self.now got.now) v c k
             → HasShape (module_of (arc_value result.now)) k }
         ensures stands { (c : Expression) (k : KernelType) → IsTextOf (text_in self.now got.now) Two c k
             → IsRight self.now.load (text_in self.now got.now)

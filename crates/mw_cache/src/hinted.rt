@@ -52,7 +52,10 @@ impl<'a, 't> HintedCache<'a, 't> {
     /// A cache with receipts that it answered. Takes no memory.
     pub fn new(cache: &'a Cache<'t>, hints: &'a Receipts<Entry>) -> HintedCache<'a, 't>
         requires { All (IsFetched entry_text home cache.now.cells) hints.now }
-        ensures { result ≡ record { cache = cache.now; hinted = texts_of hints.now ++ loaded_texts cache.now.load } }
+        ensures { result ≡ record {
+          cache = cache.now;
+          hinted = texts_of hints.now ++ loaded_texts cache.now.load;
+        } }
     {
         HintedCache { cache, hints }
     }
@@ -64,8 +67,8 @@ impl<'a, 't> HintedCache<'a, 't> {
         self.cache
     }
 
-    /// Where the module is of closed code at a type. A loaded text and one of a hint spend no step, and another one at most
-    /// one; the truth value says whether it was spent.
+    /// Where the module is of closed code at a type. A loaded text and one of a hint spend no step, and another one at
+    /// most one; the truth value says whether it was spent.
     pub fn obtain<L: Ledger>(
         &self,
         alloc: Global,

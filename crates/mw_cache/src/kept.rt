@@ -53,8 +53,8 @@ impl KeptReceipts {
         receipts
     }
 
-    /// Keeps the receipts of where a module is: that of its slot, or those of the window that had no room. A loaded record
-    /// has none.
+    /// Keeps the receipts of where a module is: that of its slot, or those of the window that had no room. A loaded
+    /// record has none.
     pub fn keep_got(&mut self, alloc: Global, got: &Got) -> Result<(), AllocError>
         ensures kept { IfOk result (λ _. IsReceived self.new got.now) }
         ensures table { (cache : CacheState) → IsHere cache got.now → All (IsOf cache.cells) self.old

@@ -108,8 +108,8 @@ impl Records {
 }
 
 impl Cache<'_> {
-    /// The records of those of the receipts' entries, and of these others, whose texts weren't loaded: of each text once, in
-    /// the order of the texts' bytes. The error is want of memory.
+    /// The records of those of the receipts' entries, and of these others, whose texts weren't loaded: of each text once,
+    /// in the order of the texts' bytes. The error is want of memory.
     pub fn records(
         &self,
         alloc: Global,
@@ -136,7 +136,8 @@ impl Cache<'_> {
         modules: &mut BTreeMap<&'e [u8], &'e [u8]>,
         entry: &'e Entry,
     ) -> Result<(), AllocError>
-        ensures { OnOk result ((texts : List (List ℕ)) → IsGathered self.now.load texts (map kept_at modules.old.entries)
+        ensures { OnOk result ((texts : List (List ℕ))
+            → IsGathered self.now.load texts (map kept_at modules.old.entries)
             → IsGathered self.now.load (texts ++ entry.now.text ∷ []) (map kept_at modules.new.entries)) }
     {
         if self.load().find(entry.text()).is_none() {
@@ -150,7 +151,8 @@ impl Cache<'_> {
 fn records_of(alloc: Global, modules: &BTreeMap<&[u8], &[u8]>) -> Result<Records, AllocError>
     requires { AllByRecursion IsShort (map kept_at modules.now.entries) }
     ensures written { IfOk result (λ records. records ≡ map record_bytes (map kept_at modules.now.entries)) }
-    ensures rise { IfOk result (λ _. IsStrictlySortedBy (slice_cmp nat_cmp) (map (λ k. k.text) (map kept_at modules.now.entries))) }
+    ensures rise { IfOk result (λ _. IsStrictlySortedBy (slice_cmp nat_cmp)
+        (map (λ k. k.text) (map kept_at modules.now.entries))) }
 {
     let mut records = Records::new(alloc);
     for (text, bytes) in modules {

@@ -12,7 +12,8 @@ returns-in_ok-insert c = λ texts g.
     (c.find.ensures ∙ ap (λ t. position (λ l. bytes_eq t l.text) c.load.result.now.records) c.text.ensures.text
     ∙ ap (λ s. position (λ l. bytes_eq text l.text) s.records) c.load.ensures) c.is_none.ensures c.if-is_none.true in
     subst (λ es. IsGathered load (texts ++ text ∷ []) (map kept_at es)) (sym c.in_ok-insert.ensures.entries)
-    (gathered_with load texts text c.args.entry.now.bytes c.text-then-is_none.result c.bytes.result c.args.modules.now.entries
+    (gathered_with load texts text c.args.entry.now.bytes c.text-then-is_none.result c.bytes.result
+    c.args.modules.now.entries
     c.text-then-is_none.ensures.text c.bytes.ensures.bytes none c.text.ensures.kept.is_emission g)
 
 pub returns-else-is_none : goal.returns-else-is_none

@@ -16,20 +16,24 @@ returns-in-Loaded-clause-stands c =
 
 pub returns-in-Stored-clause-shape : goal.returns-in-Stored-clause-shape
 returns-in-Stored-clause-shape c =
-    entry_shape c.read.result.now _ _ (ap (λ g. text_in c.args.self.now g) c.in-Stored.is ∙ sym (ap (λ e. e.text) c.read.ensures))
+    entry_shape c.read.result.now _ _ (ap (λ g. text_in c.args.self.now g) c.in-Stored.is
+    ∙ sym (ap (λ e. e.text) c.read.ensures))
     c.module-in-Stored.ensures.wasm c.module-in-Stored.ensures.kept
 
 pub returns-in-Stored-clause-stands : goal.returns-in-Stored-clause-stands
 returns-in-Stored-clause-stands c = λ code kind text right.
-    entry_stands c.read.result.now _ _ (ap (λ g. text_in c.args.self.now g) c.in-Stored.is ∙ sym (ap (λ e. e.text) c.read.ensures))
+    entry_stands c.read.result.now _ _ (ap (λ g. text_in c.args.self.now g) c.in-Stored.is
+    ∙ sym (ap (λ e. e.text) c.read.ensures))
     c.module-in-Stored.ensures.wasm c.module-in-Stored.ensures.kept code kind text
 
 pub returns-in-Own-clause-shape : goal.returns-in-Own-clause-shape
 returns-in-Own-clause-shape c =
-    entry_shape c.deref.result.now _ _ (ap (λ g. text_in c.args.self.now g) c.in-Own.is ∙ sym (ap (λ e. e.text) c.deref.ensures))
+    entry_shape c.deref.result.now _ _ (ap (λ g. text_in c.args.self.now g) c.in-Own.is
+    ∙ sym (ap (λ e. e.text) c.deref.ensures))
     c.module-in-Own.ensures.wasm c.module-in-Own.ensures.kept
 
 pub returns-in-Own-clause-stands : goal.returns-in-Own-clause-stands
 returns-in-Own-clause-stands c = λ code kind text right.
-    entry_stands c.deref.result.now _ _ (ap (λ g. text_in c.args.self.now g) c.in-Own.is ∙ sym (ap (λ e. e.text) c.deref.ensures))
+    entry_stands c.deref.result.now _ _ (ap (λ g. text_in c.args.self.now g) c.in-Own.is
+    ∙ sym (ap (λ e. e.text) c.deref.ensures))
     c.module-in-Own.ensures.wasm c.module-in-Own.ensures.kept code kind text
