@@ -149,8 +149,8 @@ module _ (mode : Mode) (c : Expression) (k : KernelType) (r : RunningState) (cod
       (ran_meant answer a [] (gives_short fits) h))
 
 -- after a value the function is kept
-function_stays : (c : Expression) (old new : RunningState) → ((f : KernelValue) (words : ℕ) → Keeps old f words → Keeps new f words)
-    → IsFunctionOf c old → IsFunctionOf c new
+function_stays : (c : Expression) (old new : RunningState)
+    → ((f : KernelValue) (words : ℕ) → Keeps old f words → Keeps new f words) → IsFunctionOf c old → IsFunctionOf c new
 function_stays c old new keeps is = record {
   function = is.function;
   units = is.units;

@@ -1,15 +1,12 @@
 -- Faults of runs and calls.
-use Rattle.std.proofs.Common.{◌≡◌, ℕ, [], Option, Some, None, Result, Ok, Err, IfErr, refl, sym, subst}
+use Rattle.std.proofs.Common.{◌≡◌, ℕ, Option, Some, None, Err, refl, sym, subst}
 use Rattle.mw_term.specs.Terms.{Value, KernelType, to}
 use Rattle.mw_meaning.specs.KernelMeaning.{Ended}
 use Rattle.mw_meaning.specs.Shapes.{IsStray}
 use Rattle.mw_meaning.specs.StagedMeaning.{Answer, Runs}
 use Rattle.mw_wasm.specs.declared.modules.Module.{Module}
 use Rattle.mw_wasm.specs.Views.{module_of}
-use Rattle.mw_machine.specs.declared.kernels.Ran.{Ran}
-use Rattle.mw_machine.specs.declared.kernels.KernelFault.{KernelFault}
-use Rattle.mw_machine.specs.declared.kernels.KernelFault.TheVariants as kernel
-use Rattle.mw_machine.specs.KernelCalls.{AnswersAs, IsNewlyBad}
+use Rattle.mw_machine.specs.KernelCalls.{AnswersAs}
 use Rattle.mw_kernel.specs.declared.fault.RunFault.{RunFault}
 use Rattle.mw_kernel.specs.declared.fault.RunFault.TheVariants as fault
 use Rattle.mw_kernel.specs.KernelMeanings.{IsStartMeant, IsCallMeant}
@@ -17,7 +14,7 @@ use Rattle.mw_kernel.specs.RunningStates.{RunningState}
 use Rattle.mw_kernel.specs.Straying.{IsInPlay, BadStartIsStray, BadCallIsStray}
 use Rattle.mw_cached.specs.declared.fault.FunctionFault.{FunctionFault}
 use Rattle.mw_cached.specs.declared.fault.FunctionFault.TheVariants as faults
-use Rattle.mw_cached.specs.Answers.{told, BadIsStray, MayFault, IsFaultOf, IsOnlyWant}
+use Rattle.mw_cached.specs.Answers.{told, BadIsStray, MayFault, IsFaultOf}
 
 -- a fault over an emission is not Bad
 pub may_fault : (f : RunFault) (loaded : Option ℕ) → (loaded ≡ None → f ≡ fault.Bad → ⊥) → MayFault f loaded
@@ -34,8 +31,8 @@ start_is_not_bad fault.Bad k a h e = h
 start_is_not_bad (fault.Memory d) k a h e = absurd (cc)
 
 -- a fault that is not Bad answers as anything
-pub fault_answers : (own : FunctionFault) (f : RunFault) (loaded : Option ℕ) (a : Answer Runs Value) → IsFaultOf own f loaded
-    → (f ≡ fault.Bad → ⊥) → AnswersAs (told (Err own)) a
+pub fault_answers : (own : FunctionFault) (f : RunFault) (loaded : Option ℕ) (a : Answer Runs Value)
+    → IsFaultOf own f loaded → (f ≡ fault.Bad → ⊥) → AnswersAs (told (Err own)) a
 fault_answers (faults.Memory e) f loaded a is h = tt
 fault_answers (faults.Bad n) fault.Bad loaded a is h = absurd (h refl)
 fault_answers (faults.Bad n) (fault.Memory e) loaded a is h = absurd is
@@ -54,15 +51,3 @@ call_is_stray (faults.Memory e) f loaded r k type plays is stray = tt
 call_is_stray (faults.Bad n) fault.Bad loaded r k type plays is stray =
     (is, subst (λ k. IsStray (module_of r.wasm) k) (sym type) (stray plays))
 call_is_stray (faults.Bad n) (fault.Memory e) loaded r k type plays is stray = absurd is
-
--- over emissions no answer is Bad
-pub only_want : (answer : Result Ran FunctionFault) (wasm : Module) (loaded : Option ℕ) (k : KernelType) → loaded ≡ None
-    → BadIsStray answer wasm loaded k → IsOnlyWant (told answer)
-only_want (Ok r) wasm loaded k none h = tt
-only_want (Err (faults.Memory e)) wasm loaded k none h = tt
-only_want (Err (faults.Bad n)) wasm loaded k none h = absurd (cc)
-
-pub never_bad : (answer : Result Ran KernelFault) → IsOnlyWant answer → IfErr answer (λ f. IsNewlyBad f 0 0 [])
-never_bad (Ok r) h = tt
-never_bad (Err (kernel.Memory e)) h = tt
-never_bad (Err (kernel.Bad d)) h = absurd h

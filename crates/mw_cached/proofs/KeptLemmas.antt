@@ -1,5 +1,5 @@
 -- The list of kept functions.
-use Rattle.std.proofs.Common.{◌≡◌, ℕ, zero, suc, Bool, true, false, if◌then◌else◌, List, [], ◌∷◌, ◌++◌, Option, Some, None, Result, Ok, Err, map, refl, sym, subst, ap, ◌∙◌, slice_get, slice_index_or}
+use Rattle.std.proofs.Common.{◌≡◌, ℕ, zero, suc, Bool, true, false, if◌then◌else◌, List, [], ◌∷◌, ◌++◌, Option, Some, None, map, refl, sym, subst, ap, ◌∙◌, slice_get, slice_index_or}
 use Rattle.std.specs.Prelude.{IsSome}
 use Rattle.std.specs.List.{All}
 use Rattle.std.proofs.lemmas.List.Elements.{All-push, All-head, All-tail}
@@ -12,13 +12,10 @@ use Rattle.mw_meaning.specs.declared.mode.Mode.{Mode}
 use Rattle.mw_meaning.specs.Simplification.{in_mode}
 use Rattle.mw_meaning.specs.StandingFor.{StandsFor}
 use Rattle.mw_wasm.specs.Views.{module_of}
-use Rattle.mw_machine.specs.declared.kernels.Ran.{Ran}
-use Rattle.mw_machine.specs.declared.kernels.Ran.TheVariants as ran
-use Rattle.mw_machine.specs.declared.kernels.KernelFault.{KernelFault}
 use Rattle.mw_machine.specs.KernelCalls.{IsRunnable}
 use Rattle.mw_kernel.specs.RunningStates.{RunningState}
 use Rattle.mw_cached.specs.declared.function.Function.{Function}
-use Rattle.mw_cached.specs.FunctionStates.{Kept, run_at, run_read, run_of_kept, MeansItsCode, with_function, with_record, records_of}
+use Rattle.mw_cached.specs.FunctionStates.{Kept, run_at, run_read, run_of_kept, MeansItsCode}
 use Rattle.mw_cached.specs.KeptFunctions.{IsKeptFor, IsKept, kept_of}
 
 -- what holds of each item and of one that may be added holds of each after it
@@ -69,33 +66,6 @@ all_at_run P fs i f r here is all =
     let run = kept_run (map (λ f. kept_of f) fs) i r here in
     all_at P fs i f run.function run.here is all
 
--- where no kept function's module was loaded
-no_record : (loaded : Option ℕ) (records : List ℕ) → with_record loaded records ≡ [] → (loaded ≡ None) × (records ≡ [])
-no_record None records e = (refl, e)
-no_record (Some n) records e = absurd (cc)
-
-pub none_loaded : (fs : List Kept) (i : ℕ) (f : Kept) → records_of fs ≡ [] → slice_get fs i ≡ Some f → f.loaded ≡ None
-none_loaded [] i f none here = absurd (cc)
-none_loaded (g ∷ fs) zero f none here = same g f here (no_record g.loaded (records_of fs) none).0
-  where
-    same : (g f : Kept) → Some g ≡ Some f → g.loaded ≡ None → f.loaded ≡ None
-    same g f e h = cc
-none_loaded (g ∷ fs) (suc i) f none here = none_loaded fs i f (no_record g.loaded (records_of fs) none).1 here
-
-records_pushed : (f : Kept) (fs : List Kept) → f.loaded ≡ None → records_of fs ≡ [] → records_of (fs ++ f ∷ []) ≡ []
-records_pushed f [] none e = ap (λ loaded. with_record loaded []) none
-records_pushed f (g ∷ fs) none e =
-    let rest = no_record g.loaded (records_of fs) e in
-    ap (λ loaded. with_record loaded (records_of (fs ++ f ∷ []))) rest.0 ∙ records_pushed f fs none rest.1
-
-pub records_with : (answer : Result Ran KernelFault) (f : Kept) (fs : List Kept) → f.loaded ≡ None → records_of fs ≡ []
-    → records_of (with_function answer f fs) ≡ []
-records_with (Ok (ran.Function which left)) f fs none e = records_pushed f fs none e
-records_with (Ok (ran.Value v left)) f fs none e = e
-records_with (Ok (ran.Trap t)) f fs none e = e
-records_with (Ok (ran.Bound l)) f fs none e = e
-records_with (Err fault) f fs none e = e
-
 -- a fact that holds of emissions, and of what was loaded
 pub of_either : (P : Type 0) (loaded : Option ℕ) → (loaded ≡ None → P) → (IsSome loaded → P) → P
 of_either P None made read = made refl
@@ -104,9 +74,6 @@ of_either P (Some n) made read = read refl
 pub kept_stands : (mode : Mode) (f : Function) → IsKept mode f → MeansItsCode mode (kept_of f)
     → StandsFor (module_of f.running.wasm) (in_mode mode (run_at f.text.items).0) (run_at f.text.items).1
 kept_stands mode f kept sound = of_either _ f.loaded kept.emitted sound
-
-pub emission_means : (mode : Mode) (f : Kept) → f.loaded ≡ None → MeansItsCode mode f
-emission_means mode f none = λ some. absurd (cc)
 
 -- the same of equal code, type, function and record
 pub kept_of_same : (c d : Expression) (k j : KernelType) (r s : RunningState) (n m : Option ℕ) → d ≡ c → j ≡ k → s ≡ r

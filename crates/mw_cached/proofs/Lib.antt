@@ -1,7 +1,8 @@
 pub mod EmittingLemmas
 pub mod FaultLemmas
 pub mod KeptLemmas
-pub mod Modules
+pub mod LinkLemmas
 pub mod OtherUnits
 pub mod ShortIntegers
 pub mod SimplifiedLemmas
+pub mod TellingLemmas

@@ -14,8 +14,8 @@ use Rattle.mw_machine.specs.declared.kernels.Ran.{Ran}
 use Rattle.mw_machine.specs.declared.kernels.Ran.TheVariants as ran
 use Rattle.mw_machine.specs.declared.kernels.KernelFault.{KernelFault}
 
--- A kept function: the text of the code as it was built and of its type, its module, and the record that this was loaded
--- from, or none where it is the emission of what was run.
+-- A kept function: the text of the code as it was built and of its type, its module, and the record that this was
+-- loaded from, or none where it is the emission of what was run.
 pub record Kept : Type 0 where
   pub text : List ℕ
   pub wasm : Module
@@ -56,13 +56,3 @@ MeansItsCode mode f =
 abbrev pub with_function : Result Ran KernelFault → Kept → List Kept → List Kept
 with_function (Ok (ran.Function which left)) f functions = functions ++ f ∷ []
 with_function _ f functions = functions
-
--- one record more, where there is one
-abbrev pub with_record : Option ℕ → List ℕ → List ℕ
-with_record None records = records
-with_record (Some n) records = n ∷ records
-
--- the records that the modules of kept functions were loaded from
-abbrev pub records_of : List Kept → List ℕ
-records_of [] = []
-records_of (f ∷ fs) = with_record f.loaded (records_of fs)

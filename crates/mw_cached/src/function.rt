@@ -17,8 +17,8 @@ use mw_machine::Ran;
 use mw_term::{GroundValue, KType, Term};
 use std::alloc::{AllocError, Global};
 
-/// A function that a run gave in some mode, with the text of the run's code, as it was built, and of its type. Its module was
-/// loaded from the record of a number, or is the emission of what was run.
+/// A function that a run gave in some mode, with the text of the run's code, as it was built, and of its type. Its
+/// module was loaded from the record of a number, or is the emission of what was run.
 #[derive(Drop)]
 pub struct Function {
     pub text: Vec<u8>,
@@ -40,7 +40,8 @@ impl Function {
             ≡ (expression_of code.now, kernel_type_of kind.now)) }
         ensures running { IfOk result (λ function. function.running ≡ running) }
         ensures kept { IfOk result (λ function. kept_of function
-            ≡ kept_as (canonical_text Two (expression_of code.now) (kernel_type_of kind.now)) running.wasm loaded) }
+            ≡ kept_as (canonical_text Two (expression_of code.now) (kernel_type_of kind.now))
+            running.wasm loaded) }
     {
         let text = text_of(alloc, code, kind)?;
         Ok(Function {
@@ -58,15 +59,18 @@ impl Function {
         fuel: u64,
     ) -> Result<Ran, FunctionFault>
         requires kept { (mode : Mode) × IsKept mode self.old }
-        requires argument { IsArgumentOf (run_at self.old.text.items).1 (ground_value_of argument.now) }
+        requires argument { IsArgumentOf (run_at self.old.text.items).1
+            (ground_value_of argument.now) }
         ensures types { IsCallAt (told result) (run_at self.old.text.items).1 }
         ensures left { LeavesAtMost (told result) fuel }
         ensures means { (mode : Mode) → IsKept mode self.old → MeansItsCode mode (kept_of self.old)
-            → AnswersCall mode (told result) (run_at self.old.text.items).0 (run_at self.old.text.items).1
-            (ground_value_of argument.now) fuel }
-        ensures stray { BadIsStray result self.old.running.wasm self.old.loaded (run_at self.old.text.items).1 }
+            → AnswersCall mode (told result) (run_at self.old.text.items).0
+            (run_at self.old.text.items).1 (ground_value_of argument.now) fuel }
+        ensures stray { BadIsStray result self.old.running.wasm self.old.loaded
+            (run_at self.old.text.items).1 }
         ensures kept { kept_of self.new ≡ kept_of self.old }
-        ensures keeps { ends_all (told result) ≡ false → (mode : Mode) → IsKept mode self.old → IsKept mode self.new }
+        ensures keeps { ends_all (told result) ≡ false
+            → (mode : Mode) → IsKept mode self.old → IsKept mode self.new }
     {
         match self.running.call(alloc, argument, fuel) {
             Ok(ran) => Ok(ran),

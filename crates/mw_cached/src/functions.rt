@@ -24,8 +24,8 @@ use std::alloc::{AllocError, Global};
 use std::marker::Model;
 use std::sync::Arc;
 
-/// A running instance for each function that a run gave. Contracts see how code is run, whether the functions are stopped,
-/// and of each the text of its code and type, its module, and the record that this was loaded from.
+/// A running instance for each function that a run gave. Contracts see how code is run, whether the functions are
+/// stopped, and of each the text of its code and type, its module, and the record that this was loaded from.
 #[derive(Drop)]
 pub struct Functions {
     mode: Mode,
@@ -73,8 +73,8 @@ impl Functions {
         self.mode
     }
 
-    /// The answer to a run of code by a module, whose function is kept. The module was loaded from the record of a number,
-    /// or is the emission of what is run. Bad where one that was loaded gives what no kernel of the type gives.
+    /// The answer to a run of code by a module, whose function is kept. The module was loaded from the record of a
+    /// number, or is the emission of what is run. Bad where one that was loaded gives what no kernel of the type gives.
     pub fn run(
         &mut self,
         alloc: Global,
@@ -85,20 +85,25 @@ impl Functions {
         fuel: u64,
     ) -> Result<Ran, FunctionFault>
         requires runnable { IsRunnable (expression_of code.now) (kernel_type_of kind.now) }
-        requires shape { IsOfShape (arc_value «module».now) (in_mode self.old.mode (expression_of code.now))
-            (kernel_type_of kind.now) }
+        requires shape { IsOfShape (arc_value «module».now)
+            (in_mode self.old.mode (expression_of code.now)) (kernel_type_of kind.now) }
         requires emitted { loaded ≡ None → StandsFor (module_of (arc_value «module».now))
             (in_mode self.old.mode (expression_of code.now)) (kernel_type_of kind.now) }
-        ensures types { IsRunAt (told result) (kernel_type_of kind.now) (length self.old.functions) }
+        ensures types { IsRunAt (told result) (kernel_type_of kind.now)
+            (length self.old.functions) }
         ensures left { LeavesAtMost (told result) fuel }
         ensures means { (IsSome loaded → StandsFor (module_of (arc_value «module».now))
             (in_mode self.old.mode (expression_of code.now)) (kernel_type_of kind.now))
-            → AnswersRun self.old.mode (told result) (expression_of code.now) (kernel_type_of kind.now) fuel }
-        ensures stray { BadIsStray result (arc_value «module».now) loaded (kernel_type_of kind.now) }
+            → AnswersRun self.old.mode (told result) (expression_of code.now)
+            (kernel_type_of kind.now) fuel }
+        ensures stray { BadIsStray result (arc_value «module».now) loaded
+            (kernel_type_of kind.now) }
         ensures functions { functions_of self.new
-            ≡ kept_after (told result) (expression_of code.now) (kernel_type_of kind.now) (functions_of self.old) }
+            ≡ kept_after (told result) (expression_of code.now) (kernel_type_of kind.now)
+            (functions_of self.old) }
         ensures kept { self.new.functions ≡ with_function (told result)
-            (kept_as (canonical_text Two (expression_of code.now) (kernel_type_of kind.now)) (arc_value «module».now) loaded)
+            (kept_as (canonical_text Two (expression_of code.now) (kernel_type_of kind.now))
+            (arc_value «module».now) loaded)
             self.old.functions }
         ensures stopped { self.new.stopped ≡ self.old.stopped }
         ensures mode { self.new.mode ≡ self.old.mode }
@@ -134,12 +139,14 @@ impl Functions {
         argument: &GroundValue,
         fuel: u64,
     ) -> Result<Ran, FunctionFault>
-        requires function { IsCallable (functions_of self.old) which (ground_value_of argument.now) }
+        requires function { IsCallable (functions_of self.old) which
+            (ground_value_of argument.now) }
         requires open { self.old.stopped ≡ false }
-        ensures types { (c : Expression) (k : KernelType) → slice_get (functions_of self.old) which ≡ Some (c, k)
-            → IsCallAt (told result) k }
+        ensures types { (c : Expression) (k : KernelType)
+            → slice_get (functions_of self.old) which ≡ Some (c, k) → IsCallAt (told result) k }
         ensures left { LeavesAtMost (told result) fuel }
-        ensures means { (f : Kept) → slice_get self.old.functions which ≡ Some f → MeansItsCode self.old.mode f
+        ensures means { (f : Kept) → slice_get self.old.functions which ≡ Some f
+            → MeansItsCode self.old.mode f
             → AnswersCall self.old.mode (told result) (run_of_kept f).0 (run_of_kept f).1
             (ground_value_of argument.now) fuel }
         ensures stray { (f : Kept) → slice_get self.old.functions which ≡ Some f

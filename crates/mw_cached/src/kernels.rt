@@ -1,18 +1,19 @@
 // Kernels over a cache.
 
-ghost use Rattle.std.specs.Prelude.{◌≡◌, ◌≤◌, ◌+◌, false, [], length, IfOk};
+ghost use Rattle.std.specs.Prelude.{◌≡◌, ◌≤◌, ◌+◌, ◌↔◌, false, [], length, replicate, IfOk};
 ghost use Rattle.mw_term.specs.Terms.{expression_of, kernel_type_of};
 ghost use Rattle.mw_meaning.specs.Simplification.{in_mode};
-ghost use Rattle.mw_key.specs.CanonicalText.{IsTextOf};
+ghost use Rattle.mw_key.specs.CanonicalText.{IsTextOf, canonical_text};
 ghost use Rattle.mw_key.specs.declared.version.Version.TheVariants.{Two};
-ghost use Rattle.mw_cache.specs.Gots.{IsHere, IsAnswered, text_in};
+ghost use Rattle.mw_cache.specs.Gots.{IsHere, IsAnswered, IsLoadedGot, IsLoadedText, text_in};
 ghost use Rattle.mw_cache.specs.Received.{IsReceived};
 ghost use Rattle.mw_machine.specs.KernelCalls.{IsRunnable, IsRunAt, LeavesAtMost, AnswersRun, kept_after};
-ghost use Rattle.mw_cached.specs.Answers.{IsOnlyWant};
-ghost use Rattle.mw_cached.specs.Following.{Follows, standing, price_in};
+ghost use Rattle.mw_cached.specs.Following.{Follows, IsNoted, standing, price_in};
 ghost use Rattle.mw_cached.specs.FunctionStates.{functions_of};
+ghost use Rattle.mw_cached.specs.Links.{IsRightIn};
+ghost use Rattle.mw_cached.specs.StrayRecords.{BadIsStrayRecord};
 
-use crate::emitted::EmittedFunctions;
+use crate::linked::CachedFunctions;
 use crate::obtaining::obtain_in;
 use mw_cache::{Got, HintedCache, KeptReceipts};
 use mw_compile::Steps;
@@ -22,62 +23,94 @@ use mw_term::{GroundValue, KType, Term};
 use std::alloc::{AllocError, Global};
 use std::sync::ledger::Ledger;
 
-/// Kernels that run code by the modules of a cache. They count emissions on the steps that they are lent, and keep
-/// receipts of the modules that they asked for.
+/// Kernels that run code by the modules of a cache. They count emissions on the steps that they are lent, and what they
+/// have of their own is lent to them too.
 #[derive(Drop)]
-pub struct CachedKernels<'a, 's, 't, L: Ledger> {
+pub struct CachedKernels<'s, 'a, 't, L: Ledger> {
     pub alloc: Global,
-    pub cache: &'a HintedCache<'a, 't>,
     pub steps: &'s mut Steps<L>,
-    pub state: &'s mut KernelState,
+    pub state: &'s mut KernelState<'a, 't>,
 }
 
-/// What kernels over a cache have of their own: the functions that runs gave, and receipts of the modules that were
-/// asked for.
+/// What kernels over a cache have of their own: the functions that runs gave, with the cache; receipts of the modules
+/// that were asked for; and what bad answers there were.
 #[derive(Drop)]
-pub struct KernelState {
-    pub functions: EmittedFunctions,
+pub struct KernelState<'a, 't> {
+    pub functions: CachedFunctions<'a, 't>,
     pub stored: KeptReceipts,
     /// How many emissions there were, or the greatest number where they are more.
     pub emitted: u64,
+    /// How often an answer was bad, or the greatest number where that is more.
+    pub bad: u64,
+    /// The digest of the last bad answer, and zeros before any.
+    pub digest: [u8; 32],
 }
 
-impl KernelState {
-    /// That of kernels that run code in the mode, before any run. Takes no memory.
-    pub fn new(alloc: Global, mode: Mode) -> KernelState
-        ensures functions { result.functions ≡ record { mode = mode; functions = []; stopped = false } }
+impl<'a, 't> KernelState<'a, 't> {
+    /// That of kernels that run code in the mode over the cache, before any run. Takes no memory.
+    pub fn new(alloc: Global, mode: Mode, cache: &'a HintedCache<'a, 't>) -> KernelState<'a, 't>
+        ensures cache { result.functions.cache ≡ cache.now }
+        ensures functions { result.functions.functions
+            ≡ record { mode = mode; functions = []; stopped = false } }
         ensures stored { result.stored ≡ [] }
         ensures emitted { result.emitted ≡ 0 }
+        ensures bad { result.bad ≡ 0 }
+        ensures digest { result.digest ≡ replicate 32 0 }
     {
         KernelState {
-            functions: EmittedFunctions::new(alloc, mode),
+            functions: CachedFunctions::new(alloc, mode, cache),
             stored: KeptReceipts::new(alloc),
             emitted: 0,
+            bad: 0,
+            digest: [0; 32],
+        }
+    }
+
+    /// Counts a bad answer, and keeps its digest.
+    fn note(&mut self, answer: &Result<Ran, KernelFault>)
+        ensures noted { IsNoted answer.now self.old.bad self.new.bad self.old.digest
+            self.new.digest }
+        ensures functions { self.new.functions ≡ self.old.functions }
+        ensures stored { self.new.stored ≡ self.old.stored }
+        ensures emitted { self.new.emitted ≡ self.old.emitted }
+    {
+        if let Err(KernelFault::Bad(digest)) = answer {
+            self.bad = self.bad.saturating_add(1);
+            self.digest = *digest;
         }
     }
 }
 
-impl<'a, 's, 't, L: Ledger> CachedKernels<'a, 's, 't, L> {
+impl<'s, 'a, 't, L: Ledger> CachedKernels<'s, 'a, 't, L> {
     /// Where the module is of what is run of code. It is counted whether it was emitted, and its receipts are kept.
     pub fn obtain(&mut self, code: &Term, kind: &KType) -> Result<Got, AllocError>
         requires { IsRunnable (expression_of code.now) (kernel_type_of kind.now) }
-        ensures text { IfOk result (λ got. IsTextOf (text_in got) Two
-            (in_mode self.old.state.now.functions.mode (expression_of code.now)) (kernel_type_of kind.now)) }
-        ensures here { IfOk result (λ got. IsHere self.old.cache.now.cache got) }
-        ensures answered { IfOk result (λ got. IsAnswered self.old.cache.now.cache got) }
+        ensures text { let state = self.old.state.now.functions in
+            IfOk result (λ got. IsTextOf (text_in state.cache.cache got) Two
+            (in_mode state.functions.mode (expression_of code.now)) (kernel_type_of kind.now)) }
+        ensures here { IfOk result (λ got. IsHere self.old.state.now.functions.cache.cache got) }
+        ensures loaded { let state = self.old.state.now.functions in
+            let code = in_mode state.functions.mode (expression_of code.now) in
+            let text = canonical_text Two code (kernel_type_of kind.now) in
+            IfOk result (λ got. IsLoadedGot got ↔ IsLoadedText state.cache.cache.load text) }
+        ensures answered { IfOk result
+            (λ got. IsAnswered self.old.state.now.functions.cache.cache got) }
         ensures kept { IfOk result (λ got. IsReceived self.new.state.now.stored got) }
         ensures functions { self.new.state.now.functions ≡ self.old.state.now.functions }
-        ensures price { self.new.steps.now ≤ self.old.steps.now
-            + price_in self.old.cache.now self.old.state.now.functions.mode (expression_of code.now)
+        ensures unnoted { (self.new.state.now.bad ≡ self.old.state.now.bad)
+            × (self.new.state.now.digest ≡ self.old.state.now.digest) }
+        ensures price { let state = self.old.state.now.functions in
+            self.new.steps.now ≤ self.old.steps.now
+            + price_in state.cache state.functions.mode (expression_of code.now)
             (kernel_type_of kind.now) }
         ensures lent { (self.new.steps.ghost_name ≡ self.old.steps.ghost_name)
             × (self.new.state.ghost_name ≡ self.old.state.ghost_name) }
-        ensures follows { Follows
-            (standing self.old.state.now.functions.mode self.old.cache.now self.old.state.now.stored self.old.state.now.emitted self.old.steps.now)
-            (standing self.new.state.now.functions.mode self.new.cache.now self.new.state.now.stored self.new.state.now.emitted self.new.steps.now) }
+        ensures follows { Follows (standing self.old.state.now self.old.steps.now)
+            (standing self.new.state.now self.new.steps.now) }
     {
         let mode = self.state.functions.mode();
-        let (got, spent) = obtain_in(self.alloc, mode, self.cache, code, kind, self.steps)?;
+        let cache = self.state.functions.cache();
+        let (got, spent) = obtain_in(self.alloc, mode, cache, code, kind, self.steps)?;
         self.state.emitted = self.state.emitted.saturating_add(u64::from(spent));
         self.state.stored.keep_got(self.alloc, &got)?;
         Ok(got)
@@ -86,61 +119,68 @@ impl<'a, 's, 't, L: Ledger> CachedKernels<'a, 's, 't, L> {
     /// The answer to a run, whose function is kept.
     fn answer(&mut self, code: &Term, kind: &KType, fuel: u64) -> Result<Ran, KernelFault>
         requires { IsRunnable (expression_of code.now) (kernel_type_of kind.now) }
-        ensures types { IsRunAt result (kernel_type_of kind.now) (length self.old.state.now.functions.functions) }
+        ensures types { IsRunAt result (kernel_type_of kind.now)
+            (length self.old.state.now.functions.functions.functions) }
         ensures left { LeavesAtMost result fuel }
-        ensures means { AnswersRun self.old.state.now.functions.mode result (expression_of code.now)
-            (kernel_type_of kind.now) fuel }
-        ensures functions { functions_of self.new.state.now.functions
-            ≡ kept_after result (expression_of code.now) (kernel_type_of kind.now) (functions_of self.old.state.now.functions) }
-        ensures stopped { self.new.state.now.functions.stopped ≡ self.old.state.now.functions.stopped }
-        ensures price { self.new.steps.now ≤ self.old.steps.now
-            + price_in self.old.cache.now self.old.state.now.functions.mode (expression_of code.now)
+        ensures means { let state = self.old.state.now.functions in
+            let mode = state.functions.mode in
+            let code = expression_of code.now in
+            let kind = kernel_type_of kind.now in
+            IsRightIn state.cache.cache.load mode code kind
+            → AnswersRun mode result code kind fuel }
+        ensures stray { BadIsStrayRecord self.old.state.now.functions.cache.cache.load result }
+        ensures functions { functions_of self.new.state.now.functions.functions
+            ≡ kept_after result (expression_of code.now) (kernel_type_of kind.now)
+            (functions_of self.old.state.now.functions.functions) }
+        ensures stopped { self.new.state.now.functions.functions.stopped
+            ≡ self.old.state.now.functions.functions.stopped }
+        ensures unnoted { (self.new.state.now.bad ≡ self.old.state.now.bad)
+            × (self.new.state.now.digest ≡ self.old.state.now.digest) }
+        ensures price { let state = self.old.state.now.functions in
+            self.new.steps.now ≤ self.old.steps.now
+            + price_in state.cache state.functions.mode (expression_of code.now)
             (kernel_type_of kind.now) }
         ensures lent { (self.new.steps.ghost_name ≡ self.old.steps.ghost_name)
             × (self.new.state.ghost_name ≡ self.old.state.ghost_name) }
-        ensures follows { Follows
-            (standing self.old.state.now.functions.mode self.old.cache.now self.old.state.now.stored self.old.state.now.emitted self.old.steps.now)
-            (standing self.new.state.now.functions.mode self.new.cache.now self.new.state.now.stored self.new.state.now.emitted self.new.steps.now) }
-        ensures want { IsOnlyWant result }
+        ensures follows { Follows (standing self.old.state.now self.old.steps.now)
+            (standing self.new.state.now self.new.steps.now) }
     {
         let got = self.obtain(code, kind)?;
-        let module = self.cache.cache().module(&got);
-        self.state
-            .functions
-            .run(self.alloc, module, code, kind, fuel)
+        self.state.functions.run(self.alloc, &got, code, kind, fuel)
     }
 }
 
-impl<'a, 's, 't, L: Ledger> Kernels for CachedKernels<'a, 's, 't, L> {
+impl<'s, 'a, 't, L: Ledger> Kernels for CachedKernels<'s, 'a, 't, L> {
     ghost use Rattle.std.specs.Prelude.{◌≡◌, [], refl};
     ghost use Rattle.std.proofs.Common.{◌∙◌};
     ghost use Rattle.mw_cached.specs.FunctionStates.{functions_of};
-    ghost use Rattle.mw_cached.specs.Following.{Follows, standing, price_in, follows_itself, follows_through, price_stays};
+    ghost use Rattle.mw_cached.specs.Links.{IsRightIn};
+    ghost use Rattle.mw_cached.specs.Following.{Follows, standing, price_in, follows_itself, follows_through, price_stays, right_stays, right_stayed};
 
-    ghost mode = { λ k. k.state.now.functions.mode };
+    ghost mode = { λ k. k.state.now.functions.functions.mode };
 
-    ghost kept = { λ k. functions_of k.state.now.functions };
+    ghost kept = { λ k. functions_of k.state.now.functions.functions };
 
-    ghost stopped = { λ k. k.state.now.functions.stopped };
+    ghost stopped = { λ k. k.state.now.functions.functions.stopped };
 
-    ghost bad = { λ _. 0 };
+    ghost bad = { λ k. k.state.now.bad };
 
-    ghost digest = { λ _. [] };
+    ghost digest = { λ k. k.state.now.digest };
 
-    ghost sound = { λ _ _ _. Unit {0} };
+    ghost sound = { λ k c t. IsRightIn k.state.now.functions.cache.cache.load
+        k.state.now.functions.functions.mode c t };
 
-    ghost price = { λ k c t. price_in k.cache.now k.state.now.functions.mode c t };
+    ghost price = { λ k c t. price_in k.state.now.functions.cache k.state.now.functions.functions.mode c t };
 
     ghost cost = { λ k. k.steps.now };
 
     ghost keeps = { λ a b. (b.steps.ghost_name ≡ a.steps.ghost_name) × (b.state.ghost_name ≡ a.state.ghost_name)
-        × Follows
-        (standing a.state.now.functions.mode a.cache.now a.state.now.stored a.state.now.emitted a.steps.now)
-        (standing b.state.now.functions.mode b.cache.now b.state.now.stored b.state.now.emitted b.steps.now) };
+        × Follows (standing a.state.now a.steps.now) (standing b.state.now b.steps.now) };
 
     fn run(&mut self, code: &Term, kind: &KType, fuel: u64) -> Result<Ran, KernelFault> {
         let answer = self.answer(code, kind, fuel);
         self.state.functions.stop_after(&answer);
+        self.state.note(&answer);
         answer
     }
 
@@ -150,7 +190,9 @@ impl<'a, 's, 't, L: Ledger> Kernels for CachedKernels<'a, 's, 't, L> {
         argument: &GroundValue,
         fuel: u64,
     ) -> Result<Ran, KernelFault> {
-        self.state.functions.call(self.alloc, which, argument, fuel)
+        let answer = self.state.functions.call(self.alloc, which, argument, fuel);
+        self.state.note(&answer);
+        answer
     }
 
     ghost keeps_itself = { λ _. (refl, refl, follows_itself _) };
@@ -159,7 +201,7 @@ impl<'a, 's, 't, L: Ledger> Kernels for CachedKernels<'a, 's, 't, L> {
 
     ghost keeps_mode = { λ _ _ p. p.2.mode_is };
 
-    ghost keeps_sound = { λ _ _ _ _ _. (λ h. h, λ h. h) };
+    ghost keeps_sound = { λ _ _ p c t. (right_stays _ _ p.2 c t, right_stayed _ _ p.2 c t) };
 
     ghost keeps_price = { λ _ _ p c t. price_stays _ _ p.2 c t };
 }

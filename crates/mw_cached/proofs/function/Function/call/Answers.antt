@@ -24,7 +24,8 @@ returns-in-Ok-clause-means c = λ mode kept sound.
 pub returns-in-Ok-clause-keeps : goal.returns-in-Ok-clause-keeps
 returns-in-Ok-clause-keeps c = λ open' mode kept.
     let run = run_at c.args.self.now.text.items in
-    call_keeps c.in-Ok.ran (in_mode mode run.0) run.1 c.args.self.now.running c.call.new.self c.args.self.now.loaded kept
+    call_keeps c.in-Ok.ran (in_mode mode run.0) run.1 c.args.self.now.running c.call.new.self c.args.self.now.loaded
+    kept
     c.in-Ok.ensures.same c.in-Ok.ensures.types c.in-Ok.ensures.keeps c.in-Ok.ensures.plays open'
 
 pub returns-in-Err-clause-means : goal.returns-in-Err-clause-means

@@ -32,7 +32,8 @@ invariant_of-self-in-Ok-Function c = λ open'.
     let function = c.in_ok-function-in-Ok-Function.function in
     let is = c.in_ok-function-in-Ok-Function.ensures in
     let start = c.in-Ok-Function.ensures in
-    all_pushed (IsKept mode) (is_ok c.push.result) c.self.inside.functions.items c.push.new.self.items function c.push.ensures.items (c.self.invariant open')
+    all_pushed (IsKept mode) (is_ok c.push.result) c.self.inside.functions.items c.push.new.self.items function
+    c.push.ensures.items (c.self.invariant open')
     (subst (λ m. IsKept m function) (sym same)
     (kept_of_same (in_mode own code) (in_mode own (run_at function.text.items).0) kind
     (run_at function.text.items).1 c.in-Ok-Function.running function.running c.args.loaded function.loaded

@@ -1,0 +1,52 @@
+use Rattle.std.proofs.Common.{sym, subst}
+use Rattle.std.specs.List.{All}
+use Rattle.std.specs.Arc.{arc_value}
+use Rattle.mw_term.specs.Terms.{expression_of, kernel_type_of}
+use Rattle.mw_meaning.specs.Simplification.{in_mode}
+use Rattle.mw_key.specs.CanonicalText.{IsTextOf, canonical_text}
+use Rattle.mw_key.specs.declared.version.Version.TheVariants.{Two}
+use Rattle.mw_cache.specs.Gots.{text_in}
+use Rattle.mw_cached.specs.Answers.{told}
+use Rattle.mw_cached.specs.FunctionStates.{kept_as}
+use Rattle.mw_cached.specs.Links.{CachedState, IsLinked}
+use Rattle.mw_cached.specs.StrayRecords.{BadIsStrayRecord}
+use Rattle.mw_cached.proofs.LinkLemmas.{run_linked, all_linked}
+use Rattle.mw_cached.proofs.TellingLemmas.{stray_is_told}
+use Rattle.mw_cached.proofs.linked.CachedFunctions.run.Goals as goal
+
+pub run-answer-requires-clause-shape : goal.run-answer-requires-clause-shape
+run-answer-requires-clause-shape c =
+    let code = in_mode c.self.inside.functions.mode (expression_of c.args.code.now) in
+    let kind = kernel_type_of c.args.kind.now in
+    let text = subst (λ (s : CachedState). IsTextOf (text_in s.cache.cache c.args.got.now) Two
+    (in_mode s.functions.mode (expression_of c.args.code.now)) kind) (sym c.self.view_is) c.requires.text in
+    record {
+      shape = c.module-module.ensures.shape Two code kind
+          (subst (λ x. IsTextOf (text_in x c.args.got.now) Two code kind) (sym c.cache.ensures) text);
+      literals = text.kernel.literals;
+    }
+
+pub invariant_of-self : goal.invariant_of-self
+invariant_of-self c =
+    let load = c.self.inside.cache.now.cache.load in
+    let code = expression_of c.args.code.now in
+    let kind = kernel_type_of c.args.kind.now in
+    let wasm = arc_value c.module-module.result.now in
+    let linked = all_linked load c.self.inside.functions.mode (told c.run-answer.result) code kind
+    (kept_as (canonical_text Two code kind) wasm c.record_of.result) c.self.inside.functions.functions
+    c.run-answer.new.self.functions c.run-answer.ensures.kept c.run-answer.ensures.functions
+    (run_linked _ _ c.cache.result.now c.args.got.now code kind wasm c.record_of.result c.self.view_is c.cache.ensures
+    c.record_of.ensures c.requires.runnable.typed c.requires.text c.module-module.ensures.wasm
+    c.module-module.ensures.stands) c.self.invariant in
+    subst (λ m. All (IsLinked load m) c.run-answer.new.self.functions) (sym c.run-answer.ensures.mode) linked
+
+pub returns-clause-stray : goal.returns-clause-stray
+returns-clause-stray c =
+    let kind = kernel_type_of c.args.kind.now in
+    let wasm = arc_value c.module-module.result.now in
+    subst (λ (s : CachedState). BadIsStrayRecord s.cache.cache.load c.tell.result) c.self.view_is
+    (stray_is_told c.self.inside.cache.now.cache.load c.run-answer.result c.tell.result
+    (in_mode c.self.inside.functions.mode (expression_of c.args.code.now)) kind wasm c.record_of.result c.tell.ensures
+    (run_linked _ _ c.cache.result.now c.args.got.now (expression_of c.args.code.now) kind wasm c.record_of.result
+    c.self.view_is c.cache.ensures c.record_of.ensures c.requires.runnable.typed c.requires.text
+    c.module-module.ensures.wasm c.module-module.ensures.stands) c.run-answer.ensures.stray)
