@@ -130,7 +130,7 @@ linked_run own old which r same all there =
     }
 
 -- a kept function means its code where the record is right
-linked_stands : (load : LoadState) (c : Expression) (k : KernelType) (wasm : Module) (loaded : Option ℕ)
+pub linked_stands : (load : LoadState) (c : Expression) (k : KernelType) (wasm : Module) (loaded : Option ℕ)
     → IsLinkedFrom load c k wasm loaded → IsRight load (canonical_text Two c k) → IsSome loaded
     → StandsFor (module_of wasm) c k
 linked_stands load c k wasm None link right some = absurd (cc)

@@ -1,5 +1,5 @@
 -- Answers as the machine is told them.
-use Rattle.std.proofs.Common.{◌≡◌, ◌≤◌, ◌+◌, ℕ, List, [], inl, inr, Option, Result, Ok, Err, sym, ap, ◌∙◌, subst}
+use Rattle.std.proofs.Common.{◌≡◌, ◌≤◌, ◌+◌, ℕ, List, [], inl, inr, Option, Result, Ok, Err, IfErr, sym, ap, ◌∙◌, subst}
 use Rattle.std.specs.List.{All}
 use Rattle.std.proofs.lemmas.Option.{slice_get_within}
 use Rattle.sha2.specs.Sha256.{sha256}
@@ -13,6 +13,7 @@ use Rattle.mw_cache.specs.Gots.{text_at}
 use Rattle.mw_machine.specs.declared.kernels.Ran.{Ran}
 use Rattle.mw_machine.specs.declared.kernels.KernelFault.{KernelFault}
 use Rattle.mw_machine.specs.declared.kernels.KernelFault.TheVariants as kernel
+use Rattle.mw_machine.specs.KernelCalls.{IsNewlyBad}
 use Rattle.mw_cached.specs.declared.fault.FunctionFault.{FunctionFault}
 use Rattle.mw_cached.specs.declared.fault.FunctionFault.TheVariants as faults
 use Rattle.mw_cached.specs.Answers.{told, BadIsStray}
@@ -61,6 +62,13 @@ stray_is_told load (Err (faults.Memory e)) answer c k wasm loaded is link stray 
     subst (BadIsStrayRecord load) (sym is) tt
 stray_is_told load (Err (faults.Bad n)) answer c k wasm loaded is link stray =
     subst (BadIsStrayRecord load) (sym is) (stray_record load c k wasm n (link n stray.0) stray.1)
+
+-- what was noted of an answer
+pub noted_bad : (answer : Result Ran KernelFault) (old new : ℕ) (before after : List ℕ)
+    → IsNoted answer old new before after → IfErr answer (λ fault. IsNewlyBad fault old new after)
+noted_bad (Ok r) old new before after h = tt
+noted_bad (Err (kernel.Memory e)) old new before after h = tt
+noted_bad (Err (kernel.Bad d)) old new before after h = (h.0, h.2)
 
 -- what calls keep is kept as an answer is noted
 pub follows_noted : (a b c : Standing) (answer : Result Ran KernelFault) → Follows a b

@@ -1,4 +1,4 @@
-use Rattle.std.proofs.Common.{sym, subst}
+use Rattle.std.proofs.Common.{◌≡◌, ap, sym, ◌∙◌, subst}
 use Rattle.std.specs.List.{All}
 use Rattle.std.specs.Arc.{arc_value}
 use Rattle.mw_term.specs.Terms.{expression_of, kernel_type_of}
@@ -6,12 +6,13 @@ use Rattle.mw_meaning.specs.Simplification.{in_mode}
 use Rattle.mw_key.specs.CanonicalText.{IsTextOf, canonical_text}
 use Rattle.mw_key.specs.declared.version.Version.TheVariants.{Two}
 use Rattle.mw_cache.specs.Gots.{text_in}
+use Rattle.mw_machine.specs.KernelCalls.{AnswersRun, kept_after}
 use Rattle.mw_cached.specs.Answers.{told}
-use Rattle.mw_cached.specs.FunctionStates.{kept_as}
-use Rattle.mw_cached.specs.Links.{CachedState, IsLinked}
+use Rattle.mw_cached.specs.FunctionStates.{kept_as, functions_of}
+use Rattle.mw_cached.specs.Links.{CachedState, IsLinked, IsRightIn}
 use Rattle.mw_cached.specs.StrayRecords.{BadIsStrayRecord}
-use Rattle.mw_cached.proofs.LinkLemmas.{run_linked, all_linked}
-use Rattle.mw_cached.proofs.TellingLemmas.{stray_is_told}
+use Rattle.mw_cached.proofs.LinkLemmas.{run_linked, all_linked, linked_stands}
+use Rattle.mw_cached.proofs.TellingLemmas.{as_told, stray_is_told}
 use Rattle.mw_cached.proofs.linked.CachedFunctions.run.Goals as goal
 
 pub run-answer-requires-clause-shape : goal.run-answer-requires-clause-shape
@@ -50,3 +51,32 @@ returns-clause-stray c =
     (run_linked _ _ c.cache.result.now c.args.got.now (expression_of c.args.code.now) kind wasm c.record_of.result
     c.self.view_is c.cache.ensures c.record_of.ensures c.requires.runnable.typed c.requires.text
     c.module-module.ensures.wasm c.module-module.ensures.stands) c.run-answer.ensures.stray)
+
+pub returns-clause-means : goal.returns-clause-means
+returns-clause-means c = λ right.
+    let load = c.self.inside.cache.now.cache.load in
+    let mode = c.self.inside.functions.mode in
+    let code = expression_of c.args.code.now in
+    let kind = kernel_type_of c.args.kind.now in
+    let wasm = arc_value c.module-module.result.now in
+    let answer = told c.run-answer.result in
+    let right' = subst (λ (s : CachedState). IsRightIn s.cache.cache.load s.functions.mode code kind)
+    (sym c.self.view_is) right in
+    let link = run_linked _ _ c.cache.result.now c.args.got.now code kind wasm c.record_of.result c.self.view_is
+    c.cache.ensures c.record_of.ensures c.requires.runnable.typed c.requires.text c.module-module.ensures.wasm
+    c.module-module.ensures.stands in
+    as_told (λ a. AnswersRun c.args.self.now.functions.mode a code kind c.args.fuel) load c.run-answer.result
+    c.tell.result c.tell.ensures (λ d h. h)
+    (subst (λ (s : CachedState). AnswersRun s.functions.mode answer code kind c.args.fuel) c.self.view_is
+    (c.run-answer.ensures.means (linked_stands load (in_mode mode code) kind wasm c.record_of.result link right')))
+
+pub returns-clause-functions : goal.returns-clause-functions
+returns-clause-functions c =
+    let code = expression_of c.args.code.now in
+    let kind = kernel_type_of c.args.kind.now in
+    let answer = told c.run-answer.result in
+    as_told (λ a. functions_of c.run-answer.new.self
+    ≡ kept_after a code kind (functions_of c.args.self.now.functions)) c.self.inside.cache.now.cache.load
+    c.run-answer.result c.tell.result c.tell.ensures (λ d h. h)
+    (c.run-answer.ensures.functions
+    ∙ ap (λ (s : CachedState). kept_after answer code kind (functions_of s.functions)) c.self.view_is)
