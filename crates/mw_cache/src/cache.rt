@@ -66,7 +66,8 @@ impl<'t> Cache<'t> {
 
     /// Where the module is of closed code at a type: a loaded record of its text serves, and else the module is
     /// emitted, where the table has none of this text. The hint is a receipt that may be of this text. At most one step
-    /// is spent, and the truth value says whether it was; for a loaded text, and for a hint of the same text, it wasn't.
+    /// is spent, and the truth value says whether it was; for a loaded text, and for a hint of the same text, it
+    /// wasn't.
     pub fn obtain<L: Ledger>(
         &self,
         alloc: Global,

@@ -108,8 +108,8 @@ impl Records {
 }
 
 impl Cache<'_> {
-    /// The records of those of the receipts' entries, and of these others, whose texts weren't loaded: of each text once,
-    /// in the order of the texts' bytes. The error is want of memory.
+    /// The records of those of the receipts' entries, and of these others, whose texts weren't loaded: of each text
+    /// once, in the order of the texts' bytes. The error is want of memory.
     pub fn records(
         &self,
         alloc: Global,

@@ -1,19 +1,20 @@
 -- The works on all kernel items make up their phase.
-use Rattle.std.proofs.Common.{◌≡◌, ◌≤◌, ◌+◌, ℕ, List, [], ◌∷◌, refl, sym, ap, subst, arith}
-use Rattle.std.specs.Prelude.{get_or}
+use Rattle.std.proofs.Common.{◌≡◌, ◌≤◌, ◌+◌, ℕ, zero, suc, List, [], ◌∷◌, Some, refl, sym, ap, subst, arith}
+use Rattle.std.specs.Prelude.{get_or, slice_get}
 use Rattle.std.specs.List.{All, AllZip}
 use Rattle.std.proofs.Math.ListN.{drop}
 use Rattle.std.proofs.lemmas.List.Elements.{All-cons, All-map}
-use Rattle.mw_term.specs.Terms.{KernelType, Value}
+use Rattle.mw_term.specs.Terms.{Expression, KernelType, Value}
 use Rattle.mw_term.specs.Programs.{Definition, value as defines, kernel, PureProgram}
 use Rattle.mw_term.specs.SmallTypes.{HasSmallTypes}
 use Rattle.mw_term.specs.Typable.{Typable}
 use Rattle.mw_meaning.specs.declared.mode.Mode.{Mode}
 use Rattle.mw_meaning.specs.Outcomes.{names_of_items}
+use Rattle.mw_meaning.specs.StagedMeaning.{runs}
 use Rattle.mw_slots.specs.Receipts.{Known, IsOf}
 use Rattle.mw_compile.specs.Entries.{Emitted}
 use Rattle.mw_cache.specs.declared.got.Got.{Got}
-use Rattle.mw_cache.specs.declared.got.Got.TheVariants.{Stored, Own}
+use Rattle.mw_cache.specs.declared.got.Got.TheVariants.{Loaded, Stored, Own}
 use Rattle.mw_cache.specs.Gots.{CacheState, IsAnswered}
 use Rattle.mw_cache.specs.Received.{HasSlot, IsReceived}
 use Rattle.mw_tasks.specs.declared.job.Done.{Done}
@@ -22,7 +23,8 @@ use Rattle.mw_tasks.specs.declared.outcome.ItemOutcome.TheVariants.{Code, Trap, 
 use Rattle.mw_tasks.specs.TaskOutcomes.{IsKernelItem}
 use Rattle.mw_tasks.specs.Gathering.{outcomes_of, emitted_by, HasAllSlots}
 use Rattle.mw_tasks.specs.Phases.{IfBuilt, IsPlaced, IsOutcomeOf, EachKernel, AreOutcomesOf, IsTask, IsDone, IsDoneAt, HasSmallKernels}
-use Rattle.mw_tasks.specs.Phases.{kernel_numbers, built_among, runs_of_items}
+use Rattle.mw_tasks.specs.Phases.{kernel_numbers, unloaded_among}
+use Rattle.mw_tasks.specs.RightRuns.{AreRightRuns, AreRightItems, price_of_items}
 use Rattle.mw_tasks.proofs.Walks.{head_there, rest_after, each_kernel, each_gives, each_mapped}
 
 -- each number is that of a kernel item
@@ -59,6 +61,7 @@ all_answered mode names fuel cache items outcomes each =
 -- more receipts are of the same modules
 receives_more : (some more : List (Known Emitted)) → ((slot : ℕ) → HasSlot some slot → HasSlot more slot)
     → (got : Got) → IsReceived some got → IsReceived more got
+receives_more some more f (Loaded at) h = tt
 receives_more some more f (Stored r) h = f r.slot h
 receives_more some more f (Own n) h = λ k r here. f r.slot (h k r here)
 
@@ -69,17 +72,24 @@ received_more some more f (Code t got) h = receives_more some more f got h
 received_more some more f (Trap t) h = tt
 received_more some more f (Bound l) h = tt
 
+-- the runs of all kernel items among these are right
+abbrev AreRight : Mode → List Value → ℕ → CacheState → List Definition → Type 0
+AreRight mode names fuel cache items =
+    (i : ℕ) (k : KernelType) (e : Expression) → slice_get items i ≡ Some (kernel k e)
+    → AreRightRuns mode cache.load (runs mode names fuel e)
+
 emitted_most : (mode : Mode) (names : List Value) (fuel : ℕ) (cache : CacheState) (items : List Definition)
     (all : List Done)
-    → EachKernel (IsDone mode names fuel cache) items all
-    → emitted_by all ≤ runs_of_items mode names fuel items + built_among (outcomes_of all)
-emitted_most mode names fuel cache [] [] each = omega arith
-emitted_most mode names fuel cache [] (done ∷ all) each = absurd each
-emitted_most mode names fuel cache (defines e ∷ items) all each = emitted_most mode names fuel cache items all each
-emitted_most mode names fuel cache (kernel k e ∷ items) [] each = absurd each
-emitted_most mode names fuel cache (kernel k e ∷ items) (done ∷ all) each =
-    let one = each.0.emitted in
-    let rest = emitted_most mode names fuel cache items all each.1 in
+    → AreRight mode names fuel cache items → EachKernel (IsDone mode names fuel cache) items all
+    → emitted_by all ≤ price_of_items mode names fuel cache.load items + unloaded_among (outcomes_of all)
+emitted_most mode names fuel cache [] [] right each = omega arith
+emitted_most mode names fuel cache [] (done ∷ all) right each = absurd each
+emitted_most mode names fuel cache (defines e ∷ items) all right each =
+    emitted_most mode names fuel cache items all (λ i k e here. right (suc i) k e here) each
+emitted_most mode names fuel cache (kernel k e ∷ items) [] right each = absurd each
+emitted_most mode names fuel cache (kernel k e ∷ items) (done ∷ all) right each =
+    let one = each.0.emitted (right zero k e refl) in
+    let rest = emitted_most mode names fuel cache items all (λ i k e here. right (suc i) k e here) each.1 in
     omega (arith, one, rest)
 
 -- of the works on the kernel items with these numbers
@@ -116,9 +126,11 @@ module _ (mode : Mode) (p : PureProgram) (fuel : ℕ) (cache : CacheState) (numb
   all_of_table = each_gives (IsDone mode names fuel cache) (λ (d : Done). All (IsOf cache.cells) d.stored)
       (λ k e d h. h.stored) p.items all each_done
 
-  pub all_emitted : (outcomes : List ItemOutcome) (emitted : ℕ) → outcomes ≡ outcomes_of all → emitted ≤ emitted_by all
-      → emitted ≤ runs_of_items mode names fuel p.items + built_among outcomes
-  all_emitted outcomes emitted are count =
-      let most = emitted_most mode names fuel cache p.items all each_done in
-      let same : built_among outcomes ≡ built_among (outcomes_of all) = ap built_among are in
+  pub all_emitted : (outcomes : List ItemOutcome) (emitted : ℕ) → outcomes ≡ outcomes_of all
+      → emitted ≤ emitted_by all
+      → AreRightItems mode p fuel cache.load
+      → emitted ≤ price_of_items mode names fuel cache.load p.items + unloaded_among outcomes
+  all_emitted outcomes emitted are count right =
+      let most = emitted_most mode names fuel cache p.items all right each_done in
+      let same : unloaded_among outcomes ≡ unloaded_among (outcomes_of all) = ap unloaded_among are in
       omega (arith, most, same, count)

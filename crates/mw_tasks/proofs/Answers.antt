@@ -100,7 +100,8 @@ main_fails result r a f is q h =
     (fault_as f a (subst (λ r. EndsAs r a) q h)).1
 
 -- what is measured is the code, within the limits
-code_within : (t : Term) (c : Expression) (b : Bool) → within_limits c ≡ b → IsItemAnswer (x.Code t) (measured_code b c)
+code_within : (t : Term) (c : Expression) (b : Bool) → within_limits c ≡ b → IsItemAnswer (x.Code t)
+    (measured_code b c)
     → (expression_of t ≡ c) × (within_limits c ≡ true)
 code_within t c true w h = (h, w)
 code_within t c false w h = absurd h

@@ -66,9 +66,9 @@ module _ {X : Type 0} where
       let same : 0 + v ≡ v = omega arith in
       let end : lists_from 0 v (suc v) xs ++ every v (suc v) xs ∷ [] ≡ lists_from 0 (suc v) (suc v) xs =
       subst (λ i. lists_from 0 v (suc v) xs ++ every i (suc v) xs ∷ [] ≡ lists_from 0 (suc v) (suc v) xs) same
-      (last 0 v (suc v) xs) in
-      let whole : lists_from 1 v (suc v) (x ∷ xs) ++ every (suc v - 1) (suc v) xs ∷ []
-      ≡ lists_from 0 (suc v) (suc v) xs =
+          (last 0 v (suc v) xs) in
+      let whole : lists_from 1 v (suc v) (x ∷ xs) ++ every (suc v - 1) (suc v) xs ∷ [] ≡ lists_from 0 (suc v)
+          (suc v) xs =
       rw one (ap (λ lists. lists ++ every v (suc v) xs ∷ []) (later 0 v (suc v) x xs) ∙ end) in
       (refl, subst (AreDealt xs) (sym whole) (some_dealt v xs))
 
@@ -119,8 +119,8 @@ module _ {X Y : Type 0} (R : X → Y → Type 0) where
   empty_too ((x ∷ xs) ∷ lists) (o ∷ others) h e = absurd e
 
   -- What holds between the lists, place by place, holds between what was dealt out to them.
-  pub dealt_too : (xs : List X) (lists : List (List X)) (others : List (List Y)) → AreDealt xs lists
-      → AllZip (AllZip R) lists others
+  pub dealt_too : (xs : List X) (lists : List (List X)) (others : List (List Y)) → AreDealt xs lists → AllZip
+      (AllZip R) lists others
       → (ys : List Y) × AreDealt ys others × AllZip R xs ys
   dealt_too [] lists others d h = ([], empty_too lists others h d, tt)
   dealt_too (x ∷ xs) [] others d h = absurd d
@@ -139,11 +139,9 @@ module _ {X Y : Type 0} (R : X → Y → Type 0) where
   numbered of i zero w xs (q ∷ queues) h = absurd h
   numbered of i (suc n) w xs [] h = absurd h
   numbered of i (suc n) w xs (q ∷ queues) h =
-      let next : i + 1 ≡ suc i = omega arith in (
-        h.0,
-        numbered of (suc i) n w xs queues (subst (λ j. AllZip (λ i q. AllZip R (every i w xs) (of q))
-            (range_with_len j n) queues) next h.1),
-      )
+      let next : i + 1 ≡ suc i = omega arith in
+      (h.0, numbered of (suc i) n w xs queues
+          (subst (λ j. AllZip (λ i q. AllZip R (every i w xs) (of q)) (range_with_len j n) queues) next h.1))
 
   -- The outputs that are taken in turn are those of the items, where each list has the outputs of each w-th item.
   pub turned_zip : {Q : Type 0} (of : Q → List Y) (w : ℕ) (xs : List X) (numbers : List ℕ) (queues : List Q)
@@ -154,7 +152,7 @@ module _ {X Y : Type 0} (R : X → Y → Type 0) where
   turned_zip of w xs numbers queues ys some are each turned =
       let zip = subst (λ ns. AllZip (λ i q. AllZip R (every i w xs) (of q)) ns queues) are each in
       let dealt = dealt_too xs (lists_from 0 w w xs) (map of queues) (lists_dealt w xs some)
-      (numbered of 0 w w xs queues zip) in
+          (numbered of 0 w w xs queues zip) in
       rw (turned dealt.0 dealt.1) dealt.2
 
 -- the first of a queue, if there is one
@@ -205,8 +203,8 @@ module _ {Q Y : Type 0} (of : Q → List Y) (olds : List Q) (all taken : List Y)
 
   pub ends_empty : (q : Q) (rest : List Q) → olds ≡ q ∷ rest → of q ≡ [] → taken ≡ all
   ends_empty q rest front none =
-      let dealt = subst (λ qs. AreDealt h.0 (map of qs)) front h.2 in
-      ended (first_missing h.0 (map of rest) (subst (λ l. AreDealt h.0 (l ∷ map of rest)) none dealt))
+      ended (first_missing h.0 (map of rest)
+          (subst (λ l. AreDealt h.0 (l ∷ map of rest)) none (subst (λ qs. AreDealt h.0 (map of qs)) front h.2)))
 
 -- Of the whole list these are served, so that R holds between them and what was made of them, and the others are left.
 pub record IsServed {X Y : Type 0} (R : X → Y → Type 0) (whole left : List X) (made : List Y) : Type 0 where
@@ -215,8 +213,8 @@ pub record IsServed {X Y : Type 0} (R : X → Y → Type 0) (whole left : List X
   pub is : whole ≡ served ++ left
 
 module _ {X Y : Type 0} (R : X → Y → Type 0) where
-  zip_push : (xs : List X) (ys : List Y) (x : X) (y : Y) → AllZip R xs ys → R x y
-      → AllZip R (xs ++ x ∷ []) (ys ++ y ∷ [])
+  zip_push : (xs : List X) (ys : List Y) (x : X) (y : Y) → AllZip R xs ys → R x y → AllZip R (xs ++ x ∷ [])
+      (ys ++ y ∷ [])
   zip_push [] [] x y h k = (k, tt)
   zip_push [] (z ∷ ys) x y h k = absurd h
   zip_push (z ∷ xs) [] x y h k = absurd h

@@ -1,8 +1,11 @@
 -- What the work on a kernel item gave is what was asked of it.
-use Rattle.std.proofs.Common.{◌≡◌, ◌≤◌, ◌+◌, ℕ, Bool, true, false, if◌then◌else◌, List, [], ◌∷◌, length, Some, sym, ap, ◌∙◌, subst, arith}
-use Rattle.std.specs.Prelude.{slice_get}
+use Rattle.std.proofs.Common.{◌≡◌, ◌≤◌, ◌+◌, inl, inr, ℕ, zero, suc, Bool, true, false, if◌then◌else◌, List, [], ◌∷◌, map, Some, refl, sym, ap, ◌∙◌, subst, arith}
+use Rattle.std.specs.Prelude.{slice_get, ◌↔◌}
 use Rattle.std.specs.Str.{bytes_eq}
 use Rattle.std.specs.List.{All}
+use Rattle.std.proofs.lemmas.Bool.{cases_Bool}
+use Rattle.std.proofs.lemmas.Option.{none-some, same_Some}
+use Rattle.std.proofs.lemmas.Slice.Eq.{bytes_eq-Decides}
 use Rattle.mw_term.specs.Terms.{Expression, KernelType, Value, expression_of}
 use Rattle.mw_term.specs.Programs.{kernel, PureProgram}
 use Rattle.mw_term.specs.declared.term.Term.{Term}
@@ -12,14 +15,16 @@ use Rattle.mw_meaning.specs.declared.mode.Mode.{Mode}
 use Rattle.mw_meaning.specs.Simplification.{in_mode}
 use Rattle.mw_meaning.specs.StagedMeaning.{runs}
 use Rattle.mw_meaning.specs.Outcomes.{Outcome, came_to, trapped, bounded, stuck, item_outcome, names_of_items}
-use Rattle.mw_machine.specs.KernelCalls.{IsRunnable}
+use Rattle.mw_machine.specs.KernelCalls.{IsRunnable, prices}
 use Rattle.mw_machine.specs.Evaluations.{item, term_of, defined}
 use Rattle.mw_slots.specs.Receipts.{Known, IsOf}
 use Rattle.mw_key.specs.CanonicalText.{IsTextOf, canonical_text}
 use Rattle.mw_key.specs.declared.version.Version.TheVariants.{Two}
 use Rattle.mw_compile.specs.Entries.{Emitted}
+use Rattle.mw_store.specs.Loads.{Loaded as LoadedRecord, LoadState}
 use Rattle.mw_cache.specs.declared.got.Got.{Got}
-use Rattle.mw_cache.specs.Gots.{CacheState, text_in, IsHere, IsAnswered}
+use Rattle.mw_cache.specs.declared.got.Got.TheVariants.{Loaded, Stored, Own}
+use Rattle.mw_cache.specs.Gots.{CacheState, text_in, loaded_texts, IsHere, IsAnswered, IsLoadedGot, IsLoadedText}
 use Rattle.mw_cache.specs.Hints.{HintedState, price_beside}
 use Rattle.mw_cache.specs.Received.{IsReceived}
 use Rattle.mw_cached.specs.Following.{Standing, Follows, follows_through, price_in}
@@ -29,7 +34,8 @@ use Rattle.mw_tasks.specs.declared.outcome.Evaluated.TheVariants as evaluated
 use Rattle.mw_tasks.specs.declared.outcome.ItemOutcome.{ItemOutcome}
 use Rattle.mw_tasks.specs.declared.outcome.ItemOutcome.TheVariants.{Code, Trap, Bound}
 use Rattle.mw_tasks.specs.TaskOutcomes.{IsItemAnswer, IfItsCode, IsCodeOf, HasKind}
-use Rattle.mw_tasks.specs.Phases.{Answers, IfBuilt, IsOutcomeOf, IsDone, IsDoneAt, IsTask}
+use Rattle.mw_tasks.specs.RightRuns.{AreRightRuns, unloaded_price}
+use Rattle.mw_tasks.specs.Phases.{Answers, IfBuilt, IsOutcomeOf, IsDone, IsDoneAt, IsTask, is_unloaded}
 
 -- the code of a kernel item may be run at the item's type
 pub code_runs : (p : PureProgram) (number : ℕ) (k : KernelType) (o : Evaluated) (c : Term) → IsTask p number
@@ -59,65 +65,169 @@ bound_answers l (trapped u) h = absurd h
 bound_answers l (bounded b) h = h
 bound_answers l stuck h = absurd h
 
-module _ (mode : Mode) (p : PureProgram) (fuel : ℕ) (cache : CacheState) (number : ℕ) (o : Evaluated)
-    (answer : IsItemAnswer o (item_outcome mode (names_of_items p.items) fuel (term_of p (item number)))) where
-  -- the item's term, where it is of this type and term
-  answer_at : (k : KernelType) (e : Expression) → slice_get p.items number ≡ Some (kernel k e)
-      → IsItemAnswer o (item_outcome mode (names_of_items p.items) fuel e)
-  answer_at k e here = subst (λ e. IsItemAnswer o (item_outcome mode (names_of_items p.items) fuel e))
-      (ap defined here) answer
+-- a text costs at most one emission
+chosen_most : (b : Bool) (n : ℕ) → n ≤ 1 → (if b then 0 else n) ≤ 1
+chosen_most true n h = omega arith
+chosen_most false n h = h
 
-  module _ (stored : List (Known Emitted)) (emitted : ℕ) (all : All (IsOf cache.cells) stored) where
-    pub code_done : (c : Term) (got : Got) → o ≡ evaluated.Code c → IfItsCode o (IsCodeOf p number)
-        → ((k : KernelType) (e : Expression) → slice_get p.items number ≡ Some (kernel k e)
-        → IsTextOf (text_in got) Two (in_mode mode (expression_of c)) k)
-        → IsHere cache got → IsAnswered cache got → IsReceived stored got
-        → emitted ≤ length (runs mode (names_of_items p.items) fuel (term_of p (item number))) + 1
-        → IsDoneAt mode p fuel cache number record { outcome = Code c got; stored = stored; emitted = emitted }
-    code_done c got is typed text here' answered received count k e here =
-        let own = subst (λ o. IfItsCode o (IsCodeOf p number)) is typed k e here in
-        record {
-          outcome = record {
-            means = code_answers c got (item_outcome mode (names_of_items p.items) fuel e)
-                (subst (λ o. IsItemAnswer o (item_outcome mode (names_of_items p.items) fuel e)) is
-                (answer_at k e here));
-            placed = record { typed = own.0; limits = own.1; text = text k e here; here = here'; answered = answered };
-          };
-          stored = all;
-          received = received;
-          emitted = subst (λ e. emitted ≤ length (runs mode (names_of_items p.items) fuel e) + 1)
-              (ap defined here) count;
-        }
+price_most : (hinted : List (List ℕ)) (text : List ℕ) → price_beside hinted text ≤ 1
+price_most [] text = omega arith
+price_most (x ∷ hinted) text = chosen_most (bytes_eq x text) (price_beside hinted text) (price_most hinted text)
 
-    pub trap_done : (t : TrapKind) → o ≡ evaluated.Trap t
-        → emitted ≤ length (runs mode (names_of_items p.items) fuel (term_of p (item number)))
-        → IsDoneAt mode p fuel cache number record { outcome = Trap t; stored = stored; emitted = emitted }
-    trap_done t is count k e here = record {
+-- where it was loaded, none
+loaded_free : (ls : List LoadedRecord) (text : List ℕ) (at : ℕ) (l : LoadedRecord) → slice_get ls at ≡ Some l
+    → l.text ≡ text
+    → price_beside (map (λ (l : LoadedRecord). l.text) ls) text ≡ 0
+loaded_free [] text at l here is = absurd (none-some l here)
+loaded_free (x ∷ ls) text zero l here is =
+    let same : bytes_eq x.text text ≡ true =
+    (bytes_eq-Decides x.text text).1 (ap (λ (l : LoadedRecord). l.text) (same_Some x l here) ∙ is) in
+    rw same refl
+loaded_free (x ∷ ls) text (suc at) l here is = elim (cases_Bool (bytes_eq x.text text)) [
+  | inl same ↦ rw same refl
+  | inr other ↦ rw other (loaded_free ls text at l here is)
+]
+
+got_price : (load : LoadState) (text : List ℕ) (c : Term) (got : Got) → (IsLoadedGot got → IsLoadedText load text)
+    → price_beside (loaded_texts load) text ≤ is_unloaded (Code c got)
+got_price load text c (Loaded at) f =
+    let l = f tt in
+    let free = loaded_free load.records text l.0 l.1 l.2 l.3 in
+    omega (arith, free)
+got_price load text c (Stored r) f = price_most (loaded_texts load) text
+got_price load text c (Own n) f = price_most (loaded_texts load) text
+
+-- At first nothing is kept, nothing was counted and no answer was bad, and there are no hints but the loaded texts.
+pub record IsFirst (first : Standing) : Type 0 where
+  pub unhinted : first.cache.hinted ≡ loaded_texts first.cache.cache.load
+  pub none : first.stored ≡ []
+  pub uncounted : first.emitted ≡ 0
+  pub unspent : first.steps ≡ 0
+
+-- After the evaluation all receipts are of the table, and no more emissions are counted than steps were spent.
+module _ {first next : Standing} (f : IsFirst first) (follows : Follows first next) where
+  all_of_table : All (IsOf first.cache.cache.cells) next.stored
+  all_of_table = follows.stored (subst (All (IsOf first.cache.cache.cells)) (sym f.none)
+      (λ k d less. absurd (omega arith)))
+
+  counted_by : (n : ℕ) → next.steps ≤ first.steps + n → next.emitted ≤ n
+  counted_by n spent =
+      let start = f.unspent in
+      let none = f.uncounted in
+      let count : next.emitted ≤ 0 + next.steps = follows.counted 0 (omega (arith, none)) in
+      omega (arith, start, spent, count)
+
+-- where the module is of what is run of code in the mode, and what it cost to ask for it
+pub record IsObtained (mode : Mode) (cache : HintedState) (c : Expression) (k : KernelType) (got : Got)
+    (before after : ℕ) : Type 0 where
+  pub price : after ≤ before + price_in cache mode c k
+  pub text : IsTextOf (text_in cache.cache got) Two (in_mode mode c) k
+  pub loaded : IsLoadedGot got ↔ IsLoadedText cache.cache.load (canonical_text Two (in_mode mode c) k)
+  pub here : IsHere cache.cache got
+  pub answered : IsAnswered cache.cache got
+
+module _ (p : PureProgram) (fuel number : ℕ) (first : Standing) where
+  abbrev names : List Value
+  names = names_of_items p.items
+
+  abbrev term : Expression
+  term = term_of p (item number)
+
+  abbrev AreRight : Type 0
+  AreRight = AreRightRuns first.mode first.cache.cache.load (runs first.mode names fuel term)
+
+  abbrev most : ℕ
+  most = prices (unloaded_price first.mode first.cache.cache.load) (runs first.mode names fuel term)
+
+  abbrev Done_at : Done → Type 0
+  Done_at done = IsDoneAt first.mode p fuel first.cache.cache number done
+
+  -- what is so for the item's term
+  of_term : (done : Done)
+      → ((k : KernelType) (e : Expression) → slice_get p.items number ≡ Some (kernel k e)
+      → IsDone first.mode names fuel first.cache.cache k term done)
+      → Done_at done
+  of_term done h k e here =
+      subst (λ e. IsDone first.mode names fuel first.cache.cache k e done) (ap defined here) (h k e here)
+
+  module _ {next : Standing} (f : IsFirst first) (follows : Follows first next) (o : Evaluated)
+      (answer : AreRight → IsItemAnswer o (item_outcome first.mode names fuel term))
+      (spent : AreRight → next.steps ≤ first.steps + most) where
+    pub trap_finished : (t : TrapKind) → o ≡ evaluated.Trap t
+        → Done_at record { outcome = Trap t; stored = next.stored; emitted = next.emitted }
+    trap_finished t is = of_term _ (λ k e here. record {
       outcome = record {
-        means = trap_answers t (item_outcome mode (names_of_items p.items) fuel e)
-            (subst (λ o. IsItemAnswer o (item_outcome mode (names_of_items p.items) fuel e)) is (answer_at k e here));
+        means = λ right. trap_answers t (item_outcome first.mode names fuel term)
+            (subst (λ o. IsItemAnswer o (item_outcome first.mode names fuel term)) is (answer right));
         placed = tt;
       };
-      stored = all;
+      stored = all_of_table f follows;
       received = tt;
-      emitted = let less = subst (λ e. emitted ≤ length (runs mode (names_of_items p.items) fuel e))
-          (ap defined here) count in omega (arith, less);
-    }
+      emitted = λ right. let less = counted_by f follows most (spent right) in omega (arith, less);
+    })
 
-    pub bound_done : (l : Limit) → o ≡ evaluated.Bound l
-        → emitted ≤ length (runs mode (names_of_items p.items) fuel (term_of p (item number)))
-        → IsDoneAt mode p fuel cache number record { outcome = Bound l; stored = stored; emitted = emitted }
-    bound_done l is count k e here = record {
+    pub bound_finished : (l : Limit) → o ≡ evaluated.Bound l
+        → Done_at record { outcome = Bound l; stored = next.stored; emitted = next.emitted }
+    bound_finished l is = of_term _ (λ k e here. record {
       outcome = record {
-        means = bound_answers l (item_outcome mode (names_of_items p.items) fuel e)
-            (subst (λ o. IsItemAnswer o (item_outcome mode (names_of_items p.items) fuel e)) is (answer_at k e here));
+        means = λ right. bound_answers l (item_outcome first.mode names fuel term)
+            (subst (λ o. IsItemAnswer o (item_outcome first.mode names fuel term)) is (answer right));
         placed = tt;
       };
-      stored = all;
+      stored = all_of_table f follows;
       received = tt;
-      emitted = let less = subst (λ e. emitted ≤ length (runs mode (names_of_items p.items) fuel e))
-          (ap defined here) count in omega (arith, less);
-    }
+      emitted = λ right. let less = counted_by f follows most (spent right) in omega (arith, less);
+    })
+
+    -- with code its module is asked for
+    module _ {last : Standing} (after : Follows next last) (c : Term) (got : Got) (kind : KernelType)
+        (of_kind : HasKind p number kind) (is : o ≡ evaluated.Code c) (typed : IfItsCode o (IsCodeOf p number))
+        (obtained : IsObtained next.mode next.cache (expression_of c) kind got next.steps last.steps)
+        (received : IsReceived last.stored got) where
+      own : (k : KernelType) (e : Expression) → slice_get p.items number ≡ Some (kernel k e)
+          → IsObtained first.mode first.cache (expression_of c) k got next.steps last.steps
+      own k e here =
+          let one : Some (kernel kind of_kind.0) ≡ Some (kernel k e) = sym of_kind.1 ∙ here in
+          let same : kind ≡ k = cc in
+          subst (λ k. IsObtained first.mode first.cache (expression_of c) k got next.steps last.steps) same
+          (subst (λ x. IsObtained first.mode x (expression_of c) kind got next.steps last.steps) follows.cache_is
+          (subst (λ m. IsObtained m next.cache (expression_of c) kind got next.steps last.steps) follows.mode_is
+          obtained))
+
+      whole_follows : Follows first last
+      whole_follows = follows_through first next last follows after
+
+      counted : (k : KernelType) → IsObtained first.mode first.cache (expression_of c) k got next.steps last.steps
+          → AreRight → last.emitted ≤ most + is_unloaded (Code c got)
+      counted k x right =
+          let text = canonical_text Two (in_mode first.mode (expression_of c)) k in
+          let before = spent right in
+          let one = subst (λ texts. last.steps ≤ next.steps + price_beside texts text) f.unhinted x.price in
+          let price = got_price first.cache.cache.load text c got x.loaded.0 in
+          counted_by f whole_follows (most + is_unloaded (Code c got)) (omega (arith, before, one, price))
+
+      pub code_finished : Done_at record { outcome = Code c got; stored = last.stored; emitted = last.emitted }
+      code_finished = of_term _ (λ k e here.
+          let code = subst (λ o. IfItsCode o (IsCodeOf p number)) is typed k e here in
+          let x = own k e here in
+          record {
+            outcome = record {
+              means = λ right. code_answers c got (item_outcome first.mode names fuel term)
+                  (subst (λ o. IsItemAnswer o (item_outcome first.mode names fuel term)) is (answer right));
+              placed = record {
+                typed = code.0;
+                limits = code.1;
+                text = x.text;
+                loaded = subst (λ t. IsLoadedGot got ↔ IsLoadedText first.cache.cache.load t)
+                    (sym x.text.text) x.loaded;
+                here = x.here;
+                answered = x.answered;
+              };
+            };
+            stored = all_of_table f whole_follows;
+            received = received;
+            emitted = λ right. counted k x right;
+          })
 
 -- what is of the same parts
 done_same : (mode : Mode) (names : List Value) (fuel : ℕ) (cache : CacheState) (k : KernelType) (e : Expression)
@@ -131,114 +241,6 @@ done_same mode names fuel cache k e done same p q r h = record {
       (subst (λ (rs : List (Known Emitted)). IfBuilt same.outcome (λ c got. IsReceived rs got)) (sym q) h.received);
   emitted = rw (r, p) h.emitted;
 }
-
--- a text costs at most one emission
-chosen_most : (b : Bool) (n : ℕ) → n ≤ 1 → (if b then 0 else n) ≤ 1
-chosen_most true n h = omega arith
-chosen_most false n h = h
-
-price_most : (hinted : List (List ℕ)) (text : List ℕ) → price_beside hinted text ≤ 1
-price_most [] text = omega arith
-price_most (x ∷ hinted) text = chosen_most (bytes_eq x text) (price_beside hinted text) (price_most hinted text)
-
--- at first nothing is kept and nothing was counted
-pub record IsFirst (mode : Mode) (cache : CacheState) (first : Standing) : Type 0 where
-  pub mode_is : first.mode ≡ mode
-  pub cache_is : first.cache.cache ≡ cache
-  pub none : first.stored ≡ []
-  pub uncounted : first.emitted ≡ 0
-  pub unspent : first.steps ≡ 0
-
--- After the evaluation all receipts are of the table, and no more emissions are counted than steps were spent.
-module _ (mode : Mode) (p : PureProgram) (fuel : ℕ) (cache : CacheState) (number : ℕ) {first next : Standing}
-    (f : IsFirst mode cache first) (follows : Follows first next) where
-  all_of_table : All (IsOf cache.cells) next.stored
-  all_of_table =
-      subst (λ (x : CacheState). All (IsOf x.cells) next.stored) f.cache_is
-      (follows.stored (subst (All (IsOf first.cache.cache.cells)) (sym f.none) (λ k d less. absurd (omega arith))))
-
-  counted_by : (n : ℕ) → next.steps ≤ first.steps + n → next.emitted ≤ n
-  counted_by n spent =
-      let start = f.unspent in
-      let none = f.uncounted in
-      let count : next.emitted ≤ 0 + next.steps = follows.counted 0 (omega (arith, none)) in
-      omega (arith, start, spent, count)
-
-module _ (mode : Mode) (p : PureProgram) (fuel : ℕ) (cache : CacheState) (number : ℕ) {first next : Standing}
-    (f : IsFirst mode cache first) (follows : Follows first next)
-    (o : Evaluated) (answer : IsItemAnswer o
-    (item_outcome first.mode (names_of_items p.items) fuel (term_of p (item number))))
-    (spent : next.steps ≤ first.steps + length
-    (runs first.mode (names_of_items p.items) fuel (term_of p (item number)))) where
-  own_answer : IsItemAnswer o (item_outcome mode (names_of_items p.items) fuel (term_of p (item number)))
-  own_answer = subst (λ m. IsItemAnswer o
-      (item_outcome m (names_of_items p.items) fuel (term_of p (item number)))) f.mode_is answer
-
-  own_spent : next.steps ≤ first.steps + length (runs mode (names_of_items p.items) fuel (term_of p (item number)))
-  own_spent = subst (λ m. next.steps
-      ≤ first.steps + length (runs m (names_of_items p.items) fuel (term_of p (item number)))) f.mode_is spent
-
-  module _ (done : Done) (stored_is : done.stored ≡ next.stored) (emitted_is : done.emitted ≡ next.emitted) where
-    pub trap_finished : (t : TrapKind) → o ≡ evaluated.Trap t → done.outcome ≡ Trap t
-        → IsDoneAt mode p fuel cache number done
-    trap_finished t is out k e here =
-        let end = trap_done mode p fuel cache number o own_answer next.stored next.emitted
-        (all_of_table mode p fuel cache number f follows) t is
-        (counted_by mode p fuel cache number f follows
-        (length (runs mode (names_of_items p.items) fuel (term_of p (item number)))) own_spent) k e here in
-        done_same mode (names_of_items p.items) fuel cache k e done _ out stored_is emitted_is end
-
-    pub bound_finished : (l : Limit) → o ≡ evaluated.Bound l → done.outcome ≡ Bound l
-        → IsDoneAt mode p fuel cache number done
-    bound_finished l is out k e here =
-        let end = bound_done mode p fuel cache number o own_answer next.stored next.emitted
-        (all_of_table mode p fuel cache number f follows) l is
-        (counted_by mode p fuel cache number f follows
-        (length (runs mode (names_of_items p.items) fuel (term_of p (item number)))) own_spent) k e here in
-        done_same mode (names_of_items p.items) fuel cache k e done _ out stored_is emitted_is end
-
-  -- with code its module is asked for, at one emission at most
-  module _ {last : Standing} (after : Follows next last) (c : Term) (got : Got) (k' : KernelType)
-      (kind : HasKind p number k') (is : o ≡ evaluated.Code c)
-      (typed : IfItsCode o (IsCodeOf p number))
-      (price : last.steps ≤ next.steps + price_in next.cache next.mode (expression_of c) k')
-      (text : IsTextOf (text_in got) Two (in_mode next.mode (expression_of c)) k')
-      (is_here : IsHere next.cache.cache got)
-      (answered : IsAnswered next.cache.cache got) (received : IsReceived last.stored got) where
-    mode_is : next.mode ≡ mode
-    mode_is = follows.mode_is ∙ f.mode_is
-
-    cache_is : next.cache.cache ≡ cache
-    cache_is = ap (λ (x : HintedState). x.cache) follows.cache_is ∙ f.cache_is
-
-    own_text : (k : KernelType) (e : Expression) → slice_get p.items number ≡ Some (kernel k e)
-        → IsTextOf (text_in got) Two (in_mode mode (expression_of c)) k
-    own_text k e here =
-        let one : Some (kernel k' kind.0) ≡ Some (kernel k e) = sym kind.1 ∙ here in
-        let same : k' ≡ k = cc in
-        subst (λ m. IsTextOf (text_in got) Two (in_mode m (expression_of c)) k) mode_is
-        (subst (λ k. IsTextOf (text_in got) Two (in_mode next.mode (expression_of c)) k) same text)
-
-    whole_follows : Follows first last
-    whole_follows = follows_through first next last follows after
-
-    spent_whole : last.steps ≤ first.steps +
-        (length (runs mode (names_of_items p.items) fuel (term_of p (item number))) + 1)
-    spent_whole =
-        let most = price_most next.cache.hinted (canonical_text Two (in_mode next.mode (expression_of c)) k') in
-        let before = own_spent in
-        omega (arith, price, most, before)
-
-    pub code_finished : (done : Done) → done.outcome ≡ Code c got → done.stored ≡ last.stored
-        → done.emitted ≡ last.emitted
-        → IsDoneAt mode p fuel cache number done
-    code_finished done out stored_is emitted_is k e here =
-        let end = code_done mode p fuel cache number o own_answer last.stored last.emitted
-        (all_of_table mode p fuel cache number f whole_follows) c got is typed own_text
-        (subst (λ x. IsHere x got) cache_is is_here) (subst (λ x. IsAnswered x got) cache_is answered) received
-        (counted_by mode p fuel cache number f whole_follows
-        (length (runs mode (names_of_items p.items) fuel (term_of p (item number))) + 1) spent_whole) k e here in
-        done_same mode (names_of_items p.items) fuel cache k e done _ out stored_is emitted_is end
 
 -- what was left is the work's output
 pub left_done : (p : PureProgram) (fuel number : ℕ) (own mode : Mode) (seen cache : CacheState) (done same : Done)

@@ -10,10 +10,12 @@ use Rattle.mw_term.specs.Programs.{Definition, value as defines, kernel}
 use Rattle.mw_tasks.specs.Phases.{EachKernel, kernel_numbers}
 
 -- the rest of a list begins with the element at its place
-pub rest_is : {X : Type 0} (xs : List X) (at : ℕ) (x : X) → slice_get xs at ≡ Some x → drop at xs ≡ x ∷ drop (at + 1) xs
+pub rest_is : {X : Type 0} (xs : List X) (at : ℕ) (x : X) → slice_get xs at ≡ Some x → drop at xs ≡ x ∷ drop
+    (at + 1) xs
 rest_is [] at x here = absurd (cc)
 rest_is (y ∷ xs) zero x here = let same : y ≡ x = cc in rw same refl
-rest_is (y ∷ xs) (suc at) x here = let next : suc at + 1 ≡ suc (at + 1) = omega arith in rw next (rest_is xs at x here)
+rest_is (y ∷ xs) (suc at) x here = let next : suc at + 1 ≡ suc (at + 1) = omega arith in rw next
+    (rest_is xs at x here)
 
 pub drop_all : {X : Type 0} (xs : List X) (n : ℕ) → length xs ≤ n → drop n xs ≡ []
 drop_all [] zero h = refl
@@ -39,7 +41,8 @@ module _ (items : List Definition) (at : ℕ) (so_far after : List ℕ)
 
   pub let_noted : (e : Expression) → slice_get items at ≡ Some (defines e) → after ≡ so_far
       → kernel_numbers 0 items ≡ after ++ kernel_numbers (at + 1) (drop (at + 1) items)
-  let_noted e here same = rw same (noted ∙ ap (λ d. so_far ++ kernel_numbers at d) (rest_is items at (defines e) here))
+  let_noted e here same = rw same
+      (noted ∙ ap (λ d. so_far ++ kernel_numbers at d) (rest_is items at (defines e) here))
 
 pub head_there : {X : Type 0} (xs : List X) (n : ℕ) (x : X) (rest : List X) → x ∷ rest ≡ drop n xs
     → slice_get xs n ≡ Some x
@@ -61,7 +64,8 @@ each_from : {X : Type 0} (R : KernelType → Expression → X → Type 0) (all r
     → EachKernel R rest xs
 each_from R all [] n [] is h = tt
 each_from R all [] n (x ∷ xs) is h = absurd h
-each_from R all (defines e ∷ rest) n xs is h = each_from R all rest (n + 1) xs (rest_after all n (defines e) rest is) h
+each_from R all (defines e ∷ rest) n xs is h = each_from R all rest (n + 1) xs
+    (rest_after all n (defines e) rest is) h
 each_from R all (kernel k e ∷ rest) n [] is h = absurd h
 each_from R all (kernel k e ∷ rest) n (x ∷ xs) is h = (
   h.0 k e (head_there all n (kernel k e) rest is),

@@ -1,5 +1,5 @@
 -- What the phase of the kernel items gives, and main after it.
-use Rattle.std.specs.Prelude.{ℕ, ◌≡◌, ◌≤◌, ◌+◌, List, [], ◌∷◌, ◌++◌, length, true, Some, slice_get}
+use Rattle.std.specs.Prelude.{ℕ, ◌≡◌, ◌≤◌, ◌+◌, ◌↔◌, List, [], ◌∷◌, ◌++◌, true, Some, slice_get}
 use Rattle.std.specs.List.{All}
 use Rattle.mw_term.specs.Terms.{Expression, KernelType, Value, expression_of}
 use Rattle.mw_term.specs.Limits.{within_limits, kernel_nodes}
@@ -10,17 +10,21 @@ use Rattle.mw_meaning.specs.declared.mode.Mode.{Mode}
 use Rattle.mw_meaning.specs.Simplification.{in_mode}
 use Rattle.mw_meaning.specs.StagedMeaning.{runs}
 use Rattle.mw_meaning.specs.Outcomes.{Outcome, came_to, trapped, bounded, item_outcome, names_of_items}
+use Rattle.mw_machine.specs.KernelCalls.{prices}
 use Rattle.mw_slots.specs.Receipts.{IsOf}
 use Rattle.mw_key.specs.CanonicalText.{IsTextOf, canonical_text}
 use Rattle.mw_key.specs.declared.version.Version.TheVariants.{Two}
-use Rattle.mw_cache.specs.Gots.{CacheState, text_in, IsHere, IsAnswered, HaveOneSlot}
+use Rattle.mw_store.specs.Loads.{LoadState}
+use Rattle.mw_cache.specs.Gots.{CacheState, text_in, loaded_texts, IsHere, IsAnswered, IsLoadedGot, IsLoadedText}
+use Rattle.mw_cache.specs.Gots.{HaveOneSlot}
 use Rattle.mw_cache.specs.Hints.{price_beside}
 use Rattle.mw_cache.specs.Received.{IsReceived}
 use Rattle.mw_cache.specs.declared.got.Got.{Got}
-use Rattle.mw_cache.specs.declared.got.Got.TheVariants.{Stored, Own}
+use Rattle.mw_cache.specs.declared.got.Got.TheVariants.{Loaded, Stored, Own}
 use Rattle.mw_tasks.specs.declared.job.Done.{Done}
 use Rattle.mw_tasks.specs.declared.outcome.ItemOutcome.{ItemOutcome}
 use Rattle.mw_tasks.specs.declared.outcome.ItemOutcome.TheVariants.{Code, Trap, Bound}
+use Rattle.mw_tasks.specs.RightRuns.{AreRightRuns, unloaded_price}
 use Rattle.mw_tasks.specs.TaskOutcomes.{IsKernelItem}
 
 -- each written kernel type has at most 10,000 nodes
@@ -41,19 +45,20 @@ IfBuilt (Code t got) P = P (expression_of t) got
 IfBuilt _ P = Unit {0}
 
 -- Closed code of the kernel type, within the limits. The module is that of what is run of it in the mode, and is of
--- this cache.
+-- this cache: a loaded record just where one of the text was loaded.
 pub record IsPlaced (mode : Mode) (cache : CacheState) (k : KernelType) (c : Expression) (got : Got) : Type 0 where
   pub typed : HasKernelType c k
   pub limits : within_limits c ≡ true
-  pub text : IsTextOf (text_in got) Two (in_mode mode c) k
+  pub text : IsTextOf (text_in cache got) Two (in_mode mode c) k
+  pub loaded : IsLoadedGot got ↔ IsLoadedText cache.load (text_in cache got)
   pub here : IsHere cache got
   pub answered : IsAnswered cache got
 
--- What a kernel item of this type and term came to. What stands in the cache's table, and who put it there, doesn't
--- matter.
+-- What a kernel item of this type and term came to: what it means, where all runs are right that it begins. What stands
+-- in the cache's table, and who put it there, doesn't matter.
 pub record IsOutcomeOf (mode : Mode) (names : List Value) (fuel : ℕ) (cache : CacheState) (k : KernelType)
     (e : Expression) (o : ItemOutcome) : Type 0 where
-  pub means : Answers o (item_outcome mode names fuel e)
+  pub means : AreRightRuns mode cache.load (runs mode names fuel e) → Answers o (item_outcome mode names fuel e)
   pub placed : IfBuilt o (IsPlaced mode cache k)
 
 -- R holds of each kernel item's type and term and of what stands for it in the list, in order
@@ -78,21 +83,17 @@ abbrev pub AllHaveOneModule : List ItemOutcome → Type 0
 AllHaveOneModule outcomes =
     (i j : ℕ) (a b : ItemOutcome) → slice_get outcomes i ≡ Some a → slice_get outcomes j ≡ Some b → HaveOneModule a b
 
--- how many of them are code
-abbrev pub is_built : ItemOutcome → ℕ
-is_built (Code t got) = 1
-is_built _ = 0
+-- how many of them are code whose module isn't a loaded record
+abbrev pub is_unloaded : ItemOutcome → ℕ
+is_unloaded (Code t (Loaded at)) = 0
+is_unloaded (Code t (Stored r)) = 1
+is_unloaded (Code t (Own n)) = 1
+is_unloaded (Trap t) = 0
+is_unloaded (Bound l) = 0
 
-abbrev pub built_among : List ItemOutcome → ℕ
-built_among [] = 0
-built_among (o ∷ outcomes) = is_built o + built_among outcomes
-
--- how many runs the kernel items begin, together
-abbrev pub runs_of_items : Mode → List Value → ℕ → List Definition → ℕ
-runs_of_items mode names fuel [] = 0
-runs_of_items mode names fuel (defines e ∷ items) = runs_of_items mode names fuel items
-runs_of_items mode names fuel (kernel k e ∷ items) = length
-    (runs mode names fuel e) + runs_of_items mode names fuel items
+abbrev pub unloaded_among : List ItemOutcome → ℕ
+unloaded_among [] = 0
+unloaded_among (o ∷ outcomes) = is_unloaded o + unloaded_among outcomes
 
 -- all gave code
 abbrev pub AreBuiltAll : List ItemOutcome → Type 0
@@ -108,6 +109,7 @@ codes_in (_ ∷ outcomes) = codes_in outcomes
 
 -- the texts whose modules stand in the table
 abbrev pub stored_text : Got → List (List ℕ)
+stored_text (Loaded at) = []
 stored_text (Stored r) = r.entry.text ∷ []
 stored_text (Own n) = []
 
@@ -116,9 +118,11 @@ stored_texts [] = []
 stored_texts (Code t got ∷ outcomes) = stored_text got ++ stored_texts outcomes
 stored_texts (_ ∷ outcomes) = stored_texts outcomes
 
--- how many emissions a run of code costs main at most: none where it is of a text that a kernel item has in the table
-abbrev pub main_price : Mode → List ItemOutcome → Expression → KernelType → ℕ
-main_price mode outcomes c k = price_beside (stored_texts outcomes) (canonical_text Two (in_mode mode c) k)
+-- How many emissions a run of code costs main at most: none where it is of a text that was loaded, or that a kernel
+-- item has in the table.
+abbrev pub main_price : Mode → LoadState → List ItemOutcome → Expression → KernelType → ℕ
+main_price mode load outcomes c k =
+    price_beside (stored_texts outcomes ++ loaded_texts load) (canonical_text Two (in_mode mode c) k)
 
 -- a typable program with small types has a kernel item of this number
 pub record IsTask (p : PureProgram) (number : ℕ) : Type 0 where
@@ -134,7 +138,8 @@ pub record IsDone (mode : Mode) (names : List Value) (fuel : ℕ) (cache : Cache
   pub outcome : IsOutcomeOf mode names fuel cache k e done.outcome
   pub stored : All (IsOf cache.cells) done.stored
   pub received : IfBuilt done.outcome (λ c got. IsReceived done.stored got)
-  pub emitted : done.emitted ≤ length (runs mode names fuel e) + is_built done.outcome
+  pub emitted : AreRightRuns mode cache.load (runs mode names fuel e)
+      → done.emitted ≤ prices (unloaded_price mode cache.load) (runs mode names fuel e) + is_unloaded done.outcome
 
 -- that on the item of this number
 abbrev pub IsDoneAt : Mode → PureProgram → ℕ → CacheState → ℕ → Done → Type 0

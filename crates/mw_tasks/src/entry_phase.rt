@@ -15,7 +15,10 @@ ghost use Rattle.mw_spread.specs.Outputs.{IfBad};
 ghost use Rattle.mw_cache.specs.Gots.{IsAnswered, entry_text, texts_of};
 ghost use Rattle.mw_cached.specs.Following.{Follows, standing, price_in};
 ghost use Rattle.mw_tasks.specs.TaskOutcomes.{IsMainAnswer, IfGiven};
-ghost use Rattle.mw_tasks.specs.Phases.{AreOutcomesOf, AreBuiltAll, IfBuilt, codes_in, stored_text, stored_texts, main_price};
+ghost use Rattle.mw_tasks.specs.BadItems.{IsBadOfRuns};
+ghost use Rattle.mw_tasks.specs.RightRuns.{AreRightRuns};
+ghost use Rattle.mw_tasks.specs.Phases.{AreOutcomesOf, AreBuiltAll, IfBuilt, codes_in};
+ghost use Rattle.mw_tasks.specs.Phases.{stored_text, stored_texts, main_price};
 
 use crate::entry::evaluate_main;
 use crate::items_phase::Phase;
@@ -39,8 +42,9 @@ pub struct MainEnd {
 }
 
 /// Evaluates main of a program, with so many units, after the phase of its kernel items, all of which gave code. The
-/// codes stand in place of the items' terms. A run of code whose text a kernel item has in the table spends no step,
-/// and another run at most one.
+/// codes stand in place of the items' terms. A run of code whose text was loaded, or that a kernel item has in the
+/// table, spends no step, and another run at most one. The error is want of memory, or the digest of a loaded record
+/// whose module is stray.
 pub fn main_phase<L: Ledger>(
     alloc: Global,
     program: &Program,
@@ -54,31 +58,28 @@ pub fn main_phase<L: Ledger>(
     requires small { HasSmallTypes (program_of program.now) }
     requires phase { AreOutcomesOf mode (program_of program.now) fuel cache.now phase.now.outcomes }
     requires built { AreBuiltAll phase.now.outcomes }
-    ensures means { let p = program_of program.now in let names = names_of_main p.items (codes_in phase.now.outcomes) in
-        IfOk result (λ end. IsMainAnswer end.outcome (main_outcome mode names fuel p.body)) }
+    ensures means { let p = program_of program.now in
+        let names = names_of_main p.items (codes_in phase.now.outcomes) in
+        AreRightRuns mode cache.now.load (runs mode names fuel p.body)
+        → IfOk result (λ end. IsMainAnswer end.outcome (main_outcome mode names fuel p.body)) }
     ensures typed { IfOk result (λ end. IfGiven end.outcome (HasGroundType (program_of program.now).result)) }
-    ensures spent { let p = program_of program.now in let names = names_of_main p.items (codes_in phase.now.outcomes) in
-        IfOk result (λ _. steps.new ≤ steps.old + prices (main_price mode phase.now.outcomes) (runs mode names fuel p.body)) }
+    ensures spent { let p = program_of program.now in
+        let names = names_of_main p.items (codes_in phase.now.outcomes) in
+        AreRightRuns mode cache.now.load (runs mode names fuel p.body)
+        → IfOk result (λ _. steps.new ≤ steps.old
+        + prices (main_price mode cache.now.load phase.now.outcomes) (runs mode names fuel p.body)) }
     ensures rises { IfOk result (λ _. steps.old ≤ steps.new) }
     ensures table { IfOk result (λ end. All (IsOf cache.now.cells) end.stored) }
-    ensures bad { IfErr result (λ fault. IfBad fault (λ _. ⊥)) }
+    ensures bad { let p = program_of program.now in
+        let names = names_of_main p.items (codes_in phase.now.outcomes) in
+        IfErr result
+        (λ fault. IfBad fault (IsBadOfRuns mode cache.now.load (runs mode names fuel p.body))) }
 {
     let codes = codes_in(alloc, phase.outcomes.as_slice())?;
     let hints = stored_receipts(alloc, cache, phase.outcomes.as_slice())?;
     let cache = HintedCache::new(cache, &hints);
-    let mut state = KernelState::new(alloc, mode);
-    let outcome = evaluated_in(
-        alloc,
-        program,
-        codes.as_slice(),
-        fuel,
-        &mut CachedKernels {
-            alloc,
-            cache: &cache,
-            steps,
-            state: &mut state,
-        },
-    )?;
+    let mut state = KernelState::new(alloc, mode, &cache);
+    let outcome = evaluated_over(alloc, program, codes.as_slice(), fuel, steps, &mut state)?;
     let KernelState { stored, .. } = state;
     Ok(MainEnd {
         outcome,
@@ -86,36 +87,48 @@ pub fn main_phase<L: Ledger>(
     })
 }
 
-/// What main comes to over kernels of a cache, which never answer a fault but want of memory.
-fn evaluated_in<L: Ledger>(
+/// What main comes to over kernels of a cache that count on these steps.
+fn evaluated_over<L: Ledger>(
     alloc: Global,
     program: &Program,
     codes: &[&Term],
     fuel: u64,
-    kernels: &mut CachedKernels<'_, '_, '_, L>,
-) -> Result<MainOutcome, AllocError>
+    steps: &mut Steps<L>,
+    state: &mut KernelState<'_, '_>,
+) -> Result<MainOutcome, JobFault>
     requires typable { Typable (program_of program.now) }
     requires small { HasSmallTypes (program_of program.now) }
     requires codes { AreCodesOf (program_of program.now).items (expressions_of codes.now) }
-    requires open { kernels.old.state.now.functions.stopped ≡ false }
-    ensures outcome { let p = program_of program.now in let names = names_of_main p.items
-        (expressions_of codes.now) in
-        IfOk result (λ o. IsMainAnswer o (main_outcome kernels.old.state.now.functions.mode names fuel p.body)) }
+    requires open { state.old.functions.functions.stopped ≡ false }
+    requires unnoted { state.old.bad ≡ 0 }
+    ensures outcome { let p = program_of program.now in
+        let names = names_of_main p.items (expressions_of codes.now) in
+        let own = state.old.functions in let mode = own.functions.mode in
+        AreRightRuns mode own.cache.cache.load (runs mode names fuel p.body)
+        → IfOk result (λ o. IsMainAnswer o (main_outcome mode names fuel p.body)) }
     ensures typed { IfOk result (λ o. IfGiven o (HasGroundType (program_of program.now).result)) }
-    ensures cost { let p = program_of program.now in let names = names_of_main p.items
-        (expressions_of codes.now) in
-        let mode = kernels.old.state.now.functions.mode in IfOk result (λ _. kernels.new.steps.now ≤ kernels.old.steps.now
-        + prices (price_in kernels.old.cache.now mode) (runs mode names fuel p.body)) }
-    ensures lent { (kernels.new.steps.ghost_name ≡ kernels.old.steps.ghost_name)
-        × (kernels.new.state.ghost_name ≡ kernels.old.state.ghost_name) }
-    ensures follows { Follows
-        (standing kernels.old.state.now.functions.mode kernels.old.cache.now kernels.old.state.now.stored kernels.old.state.now.emitted kernels.old.steps.now)
-        (standing kernels.new.state.now.functions.mode kernels.new.cache.now kernels.new.state.now.stored kernels.new.state.now.emitted kernels.new.steps.now) }
+    ensures cost { let p = program_of program.now in
+        let names = names_of_main p.items (expressions_of codes.now) in
+        let own = state.old.functions in let mode = own.functions.mode in
+        AreRightRuns mode own.cache.cache.load (runs mode names fuel p.body)
+        → IfOk result (λ _. steps.new ≤ steps.old
+        + prices (price_in own.cache mode) (runs mode names fuel p.body)) }
+    ensures bad { let p = program_of program.now in
+        let names = names_of_main p.items (expressions_of codes.now) in
+        let own = state.old.functions in let mode = own.functions.mode in
+        IfErr result (λ fault. IfBad fault
+        (IsBadOfRuns mode own.cache.cache.load (runs mode names fuel p.body))) }
+    ensures follows { Follows (standing state.old steps.old) (standing state.new steps.new) }
 {
+    let kernels = &mut CachedKernels {
+        alloc,
+        steps,
+        state,
+    };
     match evaluate_main(alloc, program, codes, fuel, kernels) {
         Ok(outcome) => Ok(outcome),
-        Err(KernelFault::Memory(error)) => Err(error),
-        Err(KernelFault::Bad(_)) => unreachable!(),
+        Err(KernelFault::Memory(error)) => Err(JobFault::Memory(error)),
+        Err(KernelFault::Bad(digest)) => Err(JobFault::Bad(digest)),
     }
 }
 
@@ -183,6 +196,6 @@ fn add_receipt(
     let _ = cache;
     match got {
         Got::Stored(receipt) => stored.push(receipt.again(alloc)?),
-        Got::Own(_) => Ok(()),
+        Got::Loaded(_) | Got::Own(_) => Ok(()),
     }
 }

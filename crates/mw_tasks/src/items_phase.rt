@@ -8,7 +8,10 @@ ghost use Rattle.mw_meaning.specs.Outcomes.{names_of_items};
 ghost use Rattle.mw_slots.specs.Receipts.{IsOf};
 ghost use Rattle.mw_spread.specs.Outputs.{IfBad};
 ghost use Rattle.mw_cache.specs.Received.{IsReceived};
-ghost use Rattle.mw_tasks.specs.Phases.{HasSmallKernels, AreOutcomesOf, IfBuilt, AllHaveOneModule, built_among, runs_of_items, kernel_numbers};
+ghost use Rattle.mw_tasks.specs.Phases.{HasSmallKernels, AreOutcomesOf, IfBuilt, AllHaveOneModule};
+ghost use Rattle.mw_tasks.specs.Phases.{unloaded_among, kernel_numbers};
+ghost use Rattle.mw_tasks.specs.BadItems.{IsBadOfItems};
+ghost use Rattle.mw_tasks.specs.RightRuns.{AreRightItems, price_of_items};
 
 use crate::agreeing::agree_all;
 use crate::gathering::gathered;
@@ -36,7 +39,8 @@ pub struct Phase {
 }
 
 /// Evaluates each kernel item of a program, with so many units, by so many workers at most, over a cache. The items are
-/// dealt out to the workers in turn.
+/// dealt out to the workers in turn. The error is want of memory, or the digest of a loaded record whose module is
+/// stray.
 pub fn kernels_phase<R: Threads + Sync, G: Gate>(
     rt: &R,
     alloc: Global,
@@ -57,9 +61,12 @@ pub fn kernels_phase<R: Threads + Sync, G: Gate>(
     ensures slots { IfOk result (λ phase. AllHaveOneModule phase.outcomes) }
     ensures stored { IfOk result (λ phase. All (λ o. IfBuilt o (λ c got. IsReceived phase.stored got)) phase.outcomes) }
     ensures table { IfOk result (λ phase. All (IsOf cache.now.cells) phase.stored) }
-    ensures emitted { let items = (program_of program.now).items in IfOk result
-        (λ phase. phase.emitted ≤ runs_of_items mode (names_of_items items) fuel items + built_among phase.outcomes) }
-    ensures bad { IfErr result (λ fault. IfBad fault (λ _. ⊥)) }
+    ensures emitted { let items = (program_of program.now).items in
+        AreRightItems mode (program_of program.now) fuel cache.now.load
+        → IfOk result (λ phase. phase.emitted
+        ≤ price_of_items mode (names_of_items items) fuel cache.now.load items + unloaded_among phase.outcomes) }
+    ensures bad { IfErr result
+        (λ fault. IfBad fault (IsBadOfItems mode (program_of program.now) fuel cache.now.load)) }
 {
     done_crosses();
     evaluations_cross();

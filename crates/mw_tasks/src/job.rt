@@ -1,6 +1,6 @@
 // One kernel item's work.
 
-ghost use Rattle.std.specs.Prelude.{◌≡◌, ◌+◌, ◌≤◌, ◌<◌, [], false, length, All, IfOk};
+ghost use Rattle.std.specs.Prelude.{◌≡◌, ◌+◌, ◌≤◌, ◌<◌, [], ◌∷◌, ◌++◌, false, All, IfOk, IfErr, OnOk};
 ghost use Rattle.std.specs.List.{AllZip};
 ghost use Rattle.mw_term.specs.Terms.{kernel_type_of};
 ghost use Rattle.mw_term.specs.Programs.{program_of};
@@ -9,9 +9,14 @@ ghost use Rattle.mw_term.specs.Typable.{Typable};
 ghost use Rattle.mw_meaning.specs.StagedMeaning.{runs};
 ghost use Rattle.mw_meaning.specs.Outcomes.{item_outcome, names_of_items};
 ghost use Rattle.mw_machine.specs.Evaluations.{item, term_of};
+ghost use Rattle.mw_machine.specs.KernelCalls.{prices};
+ghost use Rattle.mw_spread.specs.Outputs.{IfBad};
+ghost use Rattle.mw_cache.specs.Gots.{loaded_texts};
 ghost use Rattle.mw_cached.specs.Following.{Follows, standing};
 ghost use Rattle.mw_tasks.specs.TaskOutcomes.{IsKernelItem, IsItemAnswer, IfItsCode, IsCodeOf, HasKind};
 ghost use Rattle.mw_tasks.specs.Phases.{IsTask, IsDoneAt};
+ghost use Rattle.mw_tasks.specs.BadItems.{IsBadOfItems};
+ghost use Rattle.mw_tasks.specs.RightRuns.{AreRightRuns, unloaded_price};
 ghost use Rattle.mw_tasks.specs.Dealing.{every};
 
 use crate::kernel_item::evaluate_item;
@@ -58,10 +63,11 @@ impl<'a, 't> Job<usize> for Evaluation<'a, 't> {
         (IsDoneAt job.mode (program_of job.program.now) job.fuel job.cache.now)
         (every share job.shares job.numbers.now) dones.items };
 
-    ghost bad = { λ _ _ _. ⊥ };
+    ghost bad = { λ job _.
+        IsBadOfItems job.mode (program_of job.program.now) job.fuel job.cache.now.load };
 
     fn work(&self, alloc: Global, item: &usize) -> Result<VecDeque<Done>, JobFault> {
-        Ok(evaluated_each(alloc, self, *item)?)
+        evaluated_each(alloc, self, *item)
     }
 }
 
@@ -70,12 +76,14 @@ fn evaluated_each(
     alloc: Global,
     job: &Evaluation<'_, '_>,
     share: usize,
-) -> Result<VecDeque<Done>, AllocError>
+) -> Result<VecDeque<Done>, JobFault>
     requires shares { 1 ≤ job.now.shares }
     requires tasks { All (IsTask (program_of job.now.program.now)) job.now.numbers.now }
-    ensures { IfOk result (λ dones. AllZip
+    ensures gives { IfOk result (λ dones. AllZip
         (IsDoneAt job.now.mode (program_of job.now.program.now) job.now.fuel job.now.cache.now)
         (every share job.now.shares job.now.numbers.now) dones.items) }
+    ensures bad { IfErr result (λ fault. IfBad fault
+        (IsBadOfItems job.now.mode (program_of job.now.program.now) job.now.fuel job.now.cache.now.load)) }
 {
     let mut dones = VecDeque::new(alloc);
     let mut before = share;
@@ -84,21 +92,28 @@ fn evaluated_each(
             before -= 1;
             continue;
         }
-        dones.push_back(evaluated_alone(alloc, job, *number)?)?;
+        let done = evaluated_alone(alloc, job, *number)?;
+        add_done(&mut dones, done)?;
         before = job.shares - 1;
     }
     Ok(dones)
 }
 
+/// Adds what an item came to.
+fn add_done(dones: &mut VecDeque<Done>, done: Done) -> Result<(), AllocError>
+    ensures { OnOk result (dones.new.items ≡ dones.old.items ++ done ∷ []) }
+{
+    dones.push_back(done)?;
+    Ok(())
+}
+
 /// Evaluates a kernel item, where nobody else counts its emissions.
-fn evaluated_alone(
-    alloc: Global,
-    job: &Evaluation<'_, '_>,
-    number: usize,
-) -> Result<Done, AllocError>
+fn evaluated_alone(alloc: Global, job: &Evaluation<'_, '_>, number: usize) -> Result<Done, JobFault>
     requires task { IsTask (program_of job.now.program.now) number }
-    ensures { IfOk result (IsDoneAt job.now.mode
+    ensures done { IfOk result (IsDoneAt job.now.mode
         (program_of job.now.program.now) job.now.fuel job.now.cache.now number) }
+    ensures bad { IfErr result (λ fault. IfBad fault
+        (IsBadOfItems job.now.mode (program_of job.now.program.now) job.now.fuel job.now.cache.now.load)) }
 {
     evaluated::<Brand>(alloc, job, number, Blank::new(1))
 }
@@ -110,31 +125,59 @@ fn evaluated<L: Ledger>(
     job: &Evaluation<'_, '_>,
     number: usize,
     blank: Blank,
-) -> Result<Done, AllocError>
+) -> Result<Done, JobFault>
     requires name { blank.name ≡ L.name }
     requires parts { blank.parts ≡ L.parts }
     requires some { 0 < L.parts }
     requires task { IsTask (program_of job.now.program.now) number }
-    ensures { IfOk result (IsDoneAt job.now.mode
+    ensures done { IfOk result (IsDoneAt job.now.mode
         (program_of job.now.program.now) job.now.fuel job.now.cache.now number) }
+    ensures bad { IfErr result (λ fault. IfBad fault
+        (IsBadOfItems job.now.mode (program_of job.now.program.now) job.now.fuel job.now.cache.now.load)) }
 {
     let hints = Receipts::new(alloc);
     let cache = HintedCache::new(job.cache, &hints);
     let mut steps: Steps<L> = Steps::open(blank);
-    let mut state = KernelState::new(alloc, job.mode);
-    let outcome = placed_outcome(
+    let mut state = KernelState::new(alloc, job.mode, &cache);
+    let outcome = outcome_over(alloc, job.program, number, job.fuel, &mut steps, &mut state)?;
+    Ok(finished(state, outcome))
+}
+
+/// What a kernel item comes to over new kernels of a cache that count on these steps, and where the module of its code
+/// is.
+fn outcome_over<L: Ledger>(
+    alloc: Global,
+    program: &Program,
+    number: usize,
+    fuel: u64,
+    steps: &mut Steps<L>,
+    state: &mut KernelState<'_, '_>,
+) -> Result<ItemOutcome, JobFault>
+    requires task { IsTask (program_of program.now) number }
+    requires open { state.old.functions.functions.stopped ≡ false }
+    requires unhinted { let cache = state.old.functions.cache in
+        cache.hinted ≡ loaded_texts cache.cache.load }
+    requires none { state.old.stored ≡ [] }
+    requires uncounted { state.old.emitted ≡ 0 }
+    requires unspent { steps.old ≡ 0 }
+    requires unnoted { state.old.bad ≡ 0 }
+    ensures done { let own = state.old.functions in IfOk result (λ o.
+        IsDoneAt own.functions.mode (program_of program.now) fuel own.cache.cache number
+        record { outcome = o; stored = state.new.stored; emitted = state.new.emitted }) }
+    ensures bad { let own = state.old.functions in IfErr result (λ fault. IfBad fault
+        (IsBadOfItems own.functions.mode (program_of program.now) fuel own.cache.cache.load)) }
+{
+    placed_outcome(
         alloc,
-        job.program,
+        program,
         number,
-        job.fuel,
+        fuel,
         &mut CachedKernels {
             alloc,
-            cache: &cache,
-            steps: &mut steps,
-            state: &mut state,
+            steps,
+            state,
         },
-    )?;
-    Ok(finished(state, outcome))
+    )
 }
 
 /// What a kernel item comes to over new kernels of a cache, and where the module of its code is.
@@ -144,16 +187,20 @@ fn placed_outcome<L: Ledger>(
     number: usize,
     fuel: u64,
     kernels: &mut CachedKernels<'_, '_, '_, L>,
-) -> Result<ItemOutcome, AllocError>
+) -> Result<ItemOutcome, JobFault>
     requires task { IsTask (program_of program.now) number }
-    requires open { kernels.old.state.now.functions.stopped ≡ false }
-    requires unhinted { kernels.old.cache.now.hinted ≡ [] }
+    requires open { kernels.old.state.now.functions.functions.stopped ≡ false }
+    requires unhinted { let cache = kernels.old.state.now.functions.cache in
+        cache.hinted ≡ loaded_texts cache.cache.load }
     requires none { kernels.old.state.now.stored ≡ [] }
     requires uncounted { kernels.old.state.now.emitted ≡ 0 }
     requires unspent { kernels.old.steps.now ≡ 0 }
-    ensures done { IfOk result (λ o.
-        IsDoneAt kernels.old.state.now.functions.mode (program_of program.now) fuel kernels.old.cache.now.cache number
+    requires unnoted { kernels.old.state.now.bad ≡ 0 }
+    ensures done { let own = kernels.old.state.now.functions in IfOk result (λ o.
+        IsDoneAt own.functions.mode (program_of program.now) fuel own.cache.cache number
         record { outcome = o; stored = kernels.new.state.now.stored; emitted = kernels.new.state.now.emitted }) }
+    ensures bad { let own = kernels.old.state.now.functions in IfErr result (λ fault. IfBad fault
+        (IsBadOfItems own.functions.mode (program_of program.now) fuel own.cache.cache.load)) }
     ensures lent { (kernels.new.steps.ghost_name ≡ kernels.old.steps.ghost_name)
         × (kernels.new.state.ghost_name ≡ kernels.old.state.ghost_name) }
 {
@@ -178,42 +225,52 @@ fn kernel_kind(program: &Program, number: usize) -> &KType
     }
 }
 
-/// What a kernel item comes to over kernels of a cache, which never answer a fault but want of memory.
+/// What a kernel item comes to over kernels of a cache.
 fn evaluated_in<L: Ledger>(
     alloc: Global,
     program: &Program,
     number: usize,
     fuel: u64,
     kernels: &mut CachedKernels<'_, '_, '_, L>,
-) -> Result<Evaluated, AllocError>
+) -> Result<Evaluated, JobFault>
     requires typable { Typable (program_of program.now) }
     requires small { HasSmallTypes (program_of program.now) }
     requires item { IsKernelItem (program_of program.now) number }
-    requires open { kernels.old.state.now.functions.stopped ≡ false }
-    requires unhinted { kernels.old.cache.now.hinted ≡ [] }
-    ensures outcome { let p = program_of program.now in IfOk result (λ o. IsItemAnswer o
-        (item_outcome kernels.old.state.now.functions.mode (names_of_items p.items) fuel (term_of p (item number)))) }
+    requires open { kernels.old.state.now.functions.functions.stopped ≡ false }
+    requires unhinted { let cache = kernels.old.state.now.functions.cache in
+        cache.hinted ≡ loaded_texts cache.cache.load }
+    requires unnoted { kernels.old.state.now.bad ≡ 0 }
+    ensures outcome { let p = program_of program.now in let own = kernels.old.state.now.functions in
+        let mode = own.functions.mode in
+        let names = names_of_items p.items in let e = term_of p (item number) in
+        AreRightRuns mode own.cache.cache.load (runs mode names fuel e)
+        → IfOk result (λ o. IsItemAnswer o (item_outcome mode names fuel e)) }
     ensures typed { IfOk result (λ o. IfItsCode o (IsCodeOf (program_of program.now) number)) }
-    ensures cost { let p = program_of program.now in IfOk result (λ _. kernels.new.steps.now ≤ kernels.old.steps.now
-        + length (runs kernels.old.state.now.functions.mode (names_of_items p.items) fuel (term_of p (item number)))) }
+    ensures cost { let p = program_of program.now in let own = kernels.old.state.now.functions in
+        let mode = own.functions.mode in
+        let names = names_of_items p.items in let e = term_of p (item number) in
+        AreRightRuns mode own.cache.cache.load (runs mode names fuel e)
+        → IfOk result (λ _. kernels.new.steps.now ≤ kernels.old.steps.now
+        + prices (unloaded_price mode own.cache.cache.load) (runs mode names fuel e)) }
+    ensures bad { let own = kernels.old.state.now.functions in IfErr result (λ fault. IfBad fault
+        (IsBadOfItems own.functions.mode (program_of program.now) fuel own.cache.cache.load)) }
     ensures lent { (kernels.new.steps.ghost_name ≡ kernels.old.steps.ghost_name)
         × (kernels.new.state.ghost_name ≡ kernels.old.state.ghost_name) }
-    ensures follows { Follows
-        (standing kernels.old.state.now.functions.mode kernels.old.cache.now kernels.old.state.now.stored kernels.old.state.now.emitted kernels.old.steps.now)
-        (standing kernels.new.state.now.functions.mode kernels.new.cache.now kernels.new.state.now.stored kernels.new.state.now.emitted kernels.new.steps.now) }
+    ensures follows { Follows (standing kernels.old.state.now kernels.old.steps.now)
+        (standing kernels.new.state.now kernels.new.steps.now) }
 {
     match evaluate_item(alloc, program, number, fuel, kernels) {
         Ok(outcome) => Ok(outcome),
-        Err(KernelFault::Memory(error)) => Err(error),
-        Err(KernelFault::Bad(_)) => unreachable!(),
+        Err(KernelFault::Memory(error)) => Err(JobFault::Memory(error)),
+        Err(KernelFault::Bad(digest)) => Err(JobFault::Bad(digest)),
     }
 }
 
 /// What an item came to, with what its kernels kept and counted.
-fn finished(state: KernelState, outcome: ItemOutcome) -> Done
+fn finished(state: KernelState<'_, '_>, outcome: ItemOutcome) -> Done
     ensures outcome { result.outcome ≡ outcome }
-    ensures stored { result.stored ≡ state.stored }
-    ensures emitted { result.emitted ≡ state.emitted }
+    ensures stored { result.stored ≡ state.entry.stored }
+    ensures emitted { result.emitted ≡ state.entry.emitted }
 {
     let KernelState {
         stored,

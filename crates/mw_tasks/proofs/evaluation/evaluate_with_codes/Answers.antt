@@ -12,8 +12,8 @@ drive-requires g c = record {
       let p = program_of c.args.program.now in
       let codes = expressions_of c.args.codes.now in
       ready (built_program p codes) main c.args.fuel c.in_ok-machine.machine c.in_ok-machine.ensures.begins
-      (names_of_main p.items codes, built_has_names p codes c.requires.codes) p refl (g.K.Kernels.kept
-      c.args.kernels.now)
+      (names_of_main p.items codes, built_has_names p codes c.requires.codes) p refl
+          (g.K.Kernels.kept c.args.kernels.now)
       (g.K.Kernels.stopped c.args.kernels.now) c.requires.«open»;
 }
 
@@ -23,27 +23,25 @@ returns-in_err-outcome-clause-means g c = λ sound.
     let codes = expressions_of c.args.codes.now in
     let names = names_of_main p.items codes in
     let has = built_has_names p codes c.requires.codes in
-    fails_as (built_program p codes) main c.args.fuel c.in_ok-machine.machine c.in_ok-machine.ensures.begins (
-      names,
-      has,
-    ) p refl
+    fails_as (built_program p codes) main c.args.fuel c.in_ok-machine.machine c.in_ok-machine.ensures.begins
+        (names, has) p refl
     (g.K.Kernels.mode c.args.kernels.now) (g.K.Kernels.kept c.args.kernels.now) (g.K.Kernels.sound c.args.kernels.now)
     (g.K.Kernels.price c.args.kernels.now)
     (g.K.Kernels.cost c.args.kernels.now)
     (g.K.Kernels.cost c.drive.new.kernels) c.drive.result c.drive.new.self c.drive.ensures.means names has sound
     c.from_residual-in_err-outcome.result c.in_err-outcome.field-0.0 c.from_residual-in_err-outcome.ensures.1
-    c.in_err-outcome.was
+        c.in_err-outcome.was
 
 pub returns-in_err-outcome-clause-bad : goal.returns-in_err-outcome-clause-bad
 returns-in_err-outcome-clause-bad g c =
     let p = program_of c.args.program.now in
     let codes = expressions_of c.args.codes.now in
     fault_is _ c.from_residual-in_err-outcome.result c.drive.result c.in_err-outcome.field-0.0
-    c.from_residual-in_err-outcome.ensures.1
+        c.from_residual-in_err-outcome.ensures.1
     c.in_err-outcome.was c.drive.ensures.bad
     (no_fault (built_program p codes) main c.args.fuel c.in_ok-machine.machine c.in_ok-machine.ensures.begins
-    (names_of_main p.items codes, built_has_names p codes c.requires.codes) p refl (g.K.Kernels.kept
-    c.args.kernels.now))
+    (names_of_main p.items codes, built_has_names p codes c.requires.codes) p refl
+        (g.K.Kernels.kept c.args.kernels.now))
 
 pub returns-clause-means : goal.returns-clause-means
 returns-clause-means g c = λ sound.
@@ -51,10 +49,8 @@ returns-clause-means g c = λ sound.
     let codes = expressions_of c.args.codes.now in
     let names = names_of_main p.items codes in
     let has = built_has_names p codes c.requires.codes in
-    ends_as (built_program p codes) main c.args.fuel c.in_ok-machine.machine c.in_ok-machine.ensures.begins (
-      names,
-      has,
-    ) p refl
+    ends_as (built_program p codes) main c.args.fuel c.in_ok-machine.machine c.in_ok-machine.ensures.begins
+        (names, has) p refl
     (g.K.Kernels.mode c.args.kernels.now) (g.K.Kernels.kept c.args.kernels.now) (g.K.Kernels.sound c.args.kernels.now)
     (g.K.Kernels.price c.args.kernels.now)
     (g.K.Kernels.cost c.args.kernels.now)
@@ -67,8 +63,8 @@ returns-clause-cost g c = λ sound.
     let codes = expressions_of c.args.codes.now in
     let names = names_of_main p.items codes in
     let has = built_has_names p codes c.requires.codes in
-    costs (built_program p codes) main c.args.fuel c.in_ok-machine.machine c.in_ok-machine.ensures.begins (names, has)
-    p refl
+    costs (built_program p codes) main c.args.fuel c.in_ok-machine.machine c.in_ok-machine.ensures.begins
+        (names, has) p refl
     (g.K.Kernels.mode c.args.kernels.now) (g.K.Kernels.kept c.args.kernels.now) (g.K.Kernels.sound c.args.kernels.now)
     (g.K.Kernels.price c.args.kernels.now)
     (g.K.Kernels.cost c.args.kernels.now)
@@ -81,6 +77,6 @@ returns-clause-typed g c =
     let codes = expressions_of c.args.codes.now in
     main_outcome_typed (built_program p codes) p c.in_ok-outcome.outcome c.drive.new.self refl
     (typed (built_program p codes) main c.args.fuel c.in_ok-machine.machine c.in_ok-machine.ensures.begins
-    (names_of_main p.items codes, built_has_names p codes c.requires.codes) p refl (g.K.Kernels.kept
-    c.args.kernels.now) c.drive.result
+    (names_of_main p.items codes, built_has_names p codes c.requires.codes) p refl
+        (g.K.Kernels.kept c.args.kernels.now) c.drive.result
     c.in_ok-outcome.outcome c.drive.new.self c.in_ok-outcome.was c.drive.ensures.keeps)
