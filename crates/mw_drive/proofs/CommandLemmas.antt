@@ -24,7 +24,8 @@ use Rattle.mw_drive.proofs.RunLemmas.{all_or_first, some_output, whole_else}
 -- want of memory before anything was written
 pub carried_memory : (kind : Kind) (work : Work) (e : _) (tells : Bool) (before : List ℕ)
     → IsCarriedOut kind work (Memory e) tells before before
-carried_memory kind work e tells before = record { faithful = λ t. some_output work before; meaning = λ c. absurd (cc) }
+carried_memory kind work e tells before =
+    record { faithful = λ t. some_output work before; meaning = λ c. absurd (cc) }
 
 -- parts make no sample
 makes_no_sample : {word : List ℕ} {parts : List PurePart} {n : ℕ} → Makes word parts (sample n) → ⊥
@@ -209,7 +210,8 @@ module _ {words : List (List ℕ)} {o : Outside} (command : PureCommand) (means 
       )
 
 -- A command's work is that on what its file holds.
-pub run_on : {o : Outside} {workers fuel : ℕ} {simplify : Bool} {file : List ℕ} (contents : List (List ℕ)) (work : Work)
+pub run_on : {o : Outside} {workers fuel : ℕ} {simplify : Bool} {file : List ℕ} (contents : List (List ℕ))
+    (work : Work)
     → HasAll o (files_of (run workers fuel simplify file)) contents
     → IsWork (run workers fuel simplify file) contents work
     → (bytes : List ℕ) × Has o (source_file file) bytes × (work ≡ running bytes fuel (Lines (mode_when simplify)))

@@ -14,7 +14,8 @@ use Rattle.mw_meaning.specs.Outcomes.{main_outcome, names_of_items, names_of_mai
 use Rattle.mw_meaning.specs.ErasedPrograms.{erased_program, AreSourceItems, IsSourceProgram, HasNoStaging}
 use Rattle.mw_meaning.specs.ErasureLaws.{AreWithoutStaging, IsWithoutStaging}
 use Rattle.mw_cache.specs.Gots.{CacheState}
-use Rattle.mw_tasks.specs.Phases.{EachKernel, IsOutcomeOf, AreOutcomesOf}
+use Rattle.mw_tasks.specs.Phases.{EachKernel}
+use Rattle.mw_drive.specs.Honest.{IsMeant, AreMeant}
 use Rattle.mw_console.specs.Texts.{Ending}
 use Rattle.mw_drive.specs.ProgramMeaning.{main_ending, main_after, erased_ending}
 
@@ -52,7 +53,8 @@ small_term _ h = absurd h
 small_items : (items : List Definition) → AreWithoutStaging items → (i : ℕ) (d : Definition)
     → slice_get items i ≡ Some d → HasSmallDefinition d
 small_items [] h i d q = absurd (cc)
-small_items (defines e ∷ items) h zero d q = let p : defines e ≡ d = cc in subst HasSmallDefinition p (small_term e h.0)
+small_items (defines e ∷ items) h zero d q = let p : defines e ≡ d = cc in subst HasSmallDefinition p
+    (small_term e h.0)
 small_items (defines e ∷ items) h (suc i) d q = small_items items h.1 i d q
 small_items (kernel k e ∷ items) h i d q = absurd h
 
@@ -61,11 +63,11 @@ small_types p h = record { items = small_items p.items h.0; body = small_term p.
 
 -- lets alone have no outcomes
 pub no_outcomes : (fuel : ℕ) (cache : CacheState) (p : PureProgram) → IsWithoutStaging p
-    → AreOutcomesOf Plain p fuel cache []
+    → AreMeant Plain p fuel cache []
 no_outcomes fuel cache p h = none p.items h.0
   where
     none : (items : List Definition) → AreWithoutStaging items
-        → EachKernel (IsOutcomeOf Plain (names_of_items p.items) fuel cache) items []
+        → EachKernel (IsMeant Plain (names_of_items p.items) fuel cache) items []
     none [] h = tt
     none (defines e ∷ items) h = none items h.1
     none (kernel k e ∷ items) h = absurd h

@@ -8,7 +8,8 @@ use Rattle.mw_meaning.specs.Outcomes.{Outcome, came_to, trapped, bounded, stuck,
 use Rattle.mw_cache.specs.Gots.{CacheState}
 use Rattle.mw_tasks.specs.declared.outcome.ItemOutcome.{ItemOutcome}
 use Rattle.mw_tasks.specs.declared.outcome.ItemOutcome.TheVariants.{Code, Trap, Bound}
-use Rattle.mw_tasks.specs.Phases.{Answers, EachKernel, IsOutcomeOf, AreOutcomesOf, AreBuiltAll, codes_in}
+use Rattle.mw_tasks.specs.Phases.{Answers, EachKernel, AreBuiltAll, codes_in}
+use Rattle.mw_drive.specs.Honest.{IsMeant, AreMeant}
 use Rattle.mw_console.specs.Texts.{Ending}
 use Rattle.mw_drive.specs.NamedPrograms.{NamedItem, unnamed, named_program_of}
 use Rattle.mw_drive.specs.ProgramMeaning.{Kernel, ItemsRun, all_gave, one_ended, one_stuck, with_kernel, run_item, run_items, items_run, codes_of}
@@ -55,7 +56,7 @@ outcome_is (Bound l) stuck h = absurd h
 
 module _ (mode : Mode) (names : List Value) (fuel : ℕ) (cache : CacheState) where
   abbrev AreOf : List Definition → List ItemOutcome → Type 0
-  AreOf items outcomes = EachKernel (IsOutcomeOf mode names fuel cache) items outcomes
+  AreOf items outcomes = EachKernel (IsMeant mode names fuel cache) items outcomes
 
   item_is : (x : List ℕ) (d : Definition) (items : List Definition) (others : List ItemOutcome → ItemsRun)
       (rest : ItemsRun)
@@ -64,7 +65,8 @@ module _ (mode : Mode) (names : List Value) (fuel : ℕ) (cache : CacheState) wh
       → item_run x d others outcomes ≡ run_item mode fuel names x d rest
   item_is x (defines e) items others rest same outcomes h = same outcomes h
   item_is x (kernel k e) items others rest same [] h = absurd h
-  item_is x (kernel k e) items others rest same (o ∷ outcomes) h = rw (outcome_is o _ h.0.means, same outcomes h.1) refl
+  item_is x (kernel k e) items others rest same (o ∷ outcomes) h =
+      rw (outcome_is o _ h.0.means, same outcomes h.1) refl
 
   -- items go as their outcomes say
   items_are : (items : List NamedItem) (outcomes : List ItemOutcome) → AreOf (definitions items) outcomes
@@ -125,7 +127,7 @@ all_built (i ∷ items) outcomes kernels h is =
     item_built i.name i.is (definitions items) (outcomes_run items) (all_built items) outcomes kernels h is
 
 module _ (mode : Mode) (fuel : ℕ) (cache : CacheState) (program : Program) (outcomes : List ItemOutcome)
-    (are : AreOutcomesOf mode (program_of program) fuel cache outcomes) where
+    (are : AreMeant mode (program_of program) fuel cache outcomes) where
   pub one_for_each : HasOneForEach (program_of program).items outcomes
   one_for_each = each_kernel (λ k e o h. tt) (program_of program).items outcomes are
 
@@ -136,8 +138,8 @@ module _ (mode : Mode) (fuel : ℕ) (cache : CacheState) (program : Program) (ou
   pub run_is : items_run mode fuel (named_program_of program) ≡ outcomes_run (named_program_of program).items outcomes
   run_is =
       let p = named_program_of program in
-      let named : AreOutcomesOf mode (unnamed p) fuel cache outcomes =
-      subst (λ (q : PureProgram). AreOutcomesOf mode q fuel cache outcomes) (sym (unnamed_program program)) are in
+      let named : AreMeant mode (unnamed p) fuel cache outcomes =
+      subst (λ (q : PureProgram). AreMeant mode q fuel cache outcomes) (sym (unnamed_program program)) are in
       sym (items_are mode (names_of_items (unnamed p).items) fuel cache p.items outcomes named)
 
   -- where all items gave code, these are the kernels' codes

@@ -20,3 +20,4 @@ pub mod ErasedAnswers
 pub mod ErasedWritten
 pub mod SimplifiedPrograms
 pub mod SimplifiedWorks
+pub mod Honest

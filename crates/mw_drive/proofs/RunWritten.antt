@@ -13,7 +13,7 @@ use Rattle.mw_console.specs.Texts.{Ending, ending_line, ending_status}
 use Rattle.mw_console.specs.declared.status.Status.{Status}
 use Rattle.mw_cache.specs.Gots.{CacheState}
 use Rattle.mw_tasks.specs.declared.outcome.ItemOutcome.{ItemOutcome}
-use Rattle.mw_tasks.specs.Phases.{AreOutcomesOf}
+use Rattle.mw_drive.specs.Honest.{AreMeant}
 use Rattle.mw_drive.specs.declared.items.Built.{Built}
 use Rattle.mw_drive.specs.declared.shown.Shown.{Shown}
 use Rattle.mw_drive.specs.NamedPrograms.{NamedProgram, unnamed, named_program_of}
@@ -82,11 +82,11 @@ module _ (mode : Mode) (fuel : ℕ) (program : Program) (typable : Typable (prog
 -- the items' part of the run, where what was found of them is lent as a slice
 pub items_were : (shown : Shown) (fuel : ℕ) (program : Program) (cache : CacheState) (outcomes : List ItemOutcome)
     (mode : Mode) (built lent : List Built) (o : Option Ending)
-    → mode ≡ mode_of shown → AreOutcomesOf mode (program_of program) fuel cache outcomes
+    → mode ≡ mode_of shown → AreMeant mode (program_of program) fuel cache outcomes
     → outcomes_run (named_program_of program).items outcomes ≡ run_with (kernels_of built) o → lent ≡ built
     → items_run (mode_of shown) fuel (named_program_of program) ≡ run_with (kernels_of lent) o
 items_were shown fuel program cache outcomes mode built lent o same are run is =
-    let meant = subst (λ mode. AreOutcomesOf mode (program_of program) fuel cache outcomes) same are in
+    let meant = subst (λ mode. AreMeant mode (program_of program) fuel cache outcomes) same are in
     run_is (mode_of shown) fuel cache program outcomes meant ∙ (run ∙ ap (λ bs. run_with (kernels_of bs) o) (sym is))
 
 -- a fault, after which a front of the whole text was written
@@ -107,7 +107,8 @@ run_failed shown fuel program P r tells before after kernels e err is front = re
 -- the last line after the kernels
 pub run_ended : (shown : Shown) (fuel : ℕ) (program : Program) (r : Result Status WriteFault) (tells : Bool)
     (before mid after : List ℕ)
-    (kernels : List Kernel) (e : Ending) → program_run (mode_of shown) fuel (named_program_of program) ≡ ended kernels e
+    (kernels : List Kernel) (e : Ending) → program_run (mode_of shown) fuel
+        (named_program_of program) ≡ ended kernels e
     → IfOk r (λ s. s ≡ ending_status e) → (IsTrue tells → mid ≡ before ++ shown_text shown kernels)
     → Writes r tells mid after (ending_line e)
     → IsWrittenRun shown fuel (named_program_of program) r tells before after

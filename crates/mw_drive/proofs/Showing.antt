@@ -25,7 +25,8 @@ use Rattle.mw_drive.proofs.Taking.{take_next}
 
 kernels_next : (built : List Built) (at : ℕ) (b : Built) → slice_get built at ≡ Some b
     → kernels_of (take (at + 1) built) ≡ kernels_of (take at built) ++ kernel_of b ∷ []
-kernels_next built at b here = ap kernels_of (take_next built at b here) ∙ map-append kernel_of (take at built) (b ∷ [])
+kernels_next built at b here = ap kernels_of (take_next built at b here) ∙ map-append kernel_of (take at built)
+    (b ∷ [])
 
 -- the modules of kernels that gave code are of the cache
 pub modules_here : (mode : Mode) (cache : CacheState) (built : List Built) → AllByRecursion (IsBuilt mode cache) built
@@ -35,19 +36,20 @@ modules_here mode cache (b ∷ built) h = (h.0.here, modules_here mode cache bui
 
 module _ (mode : Mode) (cache : CacheState) (b : Built) (h : IsBuilt mode cache b) where
   -- the bytes of its module are the emission of what is run of its code
-  emitted_bytes : (bytes : List ℕ) → IsEmissionOf bytes (text_in b.got.now)
+  emitted_bytes : (bytes : List ℕ) → IsEmissionOf bytes (text_in cache b.got.now)
       → bytes ≡ emission two (in_mode mode (expression_of b.code.now)) (kernel_type_of b.kind.now)
   emitted_bytes bytes is =
-      one_emission (text_in b.got.now) bytes _ is record
+      one_emission (text_in cache b.got.now) bytes _ is record
       { version = Two; code = _; kind = _; is_text = h.text; is_emission = refl }
 
-  pub its_lines : (key bytes : List ℕ) → key ≡ sha256 (text_in b.got.now) → IsEmissionOf bytes (text_in b.got.now)
+  pub its_lines : (key bytes : List ℕ) → key ≡ sha256 (text_in cache b.got.now) → IsEmissionOf bytes
+      (text_in cache b.got.now)
       → kernel_text b.name.now (kernel_type_of b.kind.now) key bytes ≡ kernel_lines mode (kernel_of b)
   its_lines key bytes digest is = rw (digest, h.text.text, emitted_bytes bytes is) refl
 
 -- how many bytes its module has, as it was built
 module _ (cache : CacheState) (b : Built) (h : IsBuilt Plain cache b) (bytes : List ℕ)
-    (is : IsEmissionOf bytes (text_in b.got.now)) where
+    (is : IsEmissionOf bytes (text_in cache b.got.now)) where
   pub its_size : length bytes ≡ module_bytes (kernel_of b ∷ [])
   its_size = let same = ap length (emitted_bytes Plain cache b h bytes is) in omega (arith, same)
 
@@ -76,7 +78,8 @@ module _ (mode : Mode) where
 
   -- the lines of one kernel more
   lines_next : (built : List Built) (at : ℕ) (b : Built) → slice_get built at ≡ Some b
-      → lines (kernels_of (take (at + 1) built)) ≡ lines (kernels_of (take at built)) ++ kernel_lines mode (kernel_of b)
+      → lines (kernels_of (take (at + 1) built)) ≡ lines (kernels_of (take at built)) ++ kernel_lines mode
+          (kernel_of b)
   lines_next built at b here =
       ap lines (kernels_next built at b here)
       ∙ (flat_map-append (kernel_lines mode) (kernels_of (take at built)) (kernel_of b ∷ [])

@@ -8,15 +8,18 @@ use Rattle.mw_drive.specs.Works.{running, Meaning, ran, IsMeaning, of_refusal, o
 use Rattle.mw_drive.specs.SimplifiedPrograms.{IsUnbounded}
 use Rattle.mw_drive.proofs.SimplifiedPrograms.{programs_end_alike}
 
-of_run : {bytes : List ℕ} {fuel : ℕ} {m : Meaning} (kernels : List Kernel) (e : Ending) → IsMeaning (running bytes fuel (Lines Plain)) m → m ≡ ran (Lines Plain) kernels e → IsUnbounded e
+of_run : {bytes : List ℕ} {fuel : ℕ} {m : Meaning} (kernels : List Kernel) (e : Ending) → IsMeaning
+    (running bytes fuel (Lines Plain)) m → m ≡ ran (Lines Plain) kernels e → IsUnbounded e
     → IsMeaning (running bytes fuel (Lines Simple)) (ran (Lines Simple) kernels e)
 of_run kernels e (of_refusal r) q h = absurd (cc)
 of_run kernels e (of_types p read fault) q h = absurd (cc)
 of_run {fuel = fuel} kernels e (of_program {kernels = ks} {e = d} p read accepted is) q h =
     let same : ks ≡ kernels = cc in
     let ending : d ≡ e = cc in
-    of_program p read accepted (programs_end_alike p fuel fuel kernels e accepted.typable (omega arith) (rw (same, ending) at is) h)
+    of_program p read accepted
+        (programs_end_alike p fuel fuel kernels e accepted.typable (omega arith) (rw (same, ending) at is) h)
 
-pub simplified_run : (bytes : List ℕ) (fuel : ℕ) (kernels : List Kernel) (e : Ending) → IsMeaning (running bytes fuel (Lines Plain)) (ran (Lines Plain) kernels e) → IsUnbounded e
+pub simplified_run : (bytes : List ℕ) (fuel : ℕ) (kernels : List Kernel) (e : Ending) → IsMeaning
+    (running bytes fuel (Lines Plain)) (ran (Lines Plain) kernels e) → IsUnbounded e
     → IsMeaning (running bytes fuel (Lines Simple)) (ran (Lines Simple) kernels e)
 simplified_run bytes fuel kernels e is h = of_run kernels e is refl h

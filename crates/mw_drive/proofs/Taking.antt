@@ -6,7 +6,8 @@ use Rattle.std.specs.List.{AllByRecursion}
 one_more : (n : ℕ) → n + 1 ≡ suc n
 one_more n = omega arith
 
-pub take_next : {A : Type 0} (xs : List A) (i : ℕ) (x : A) → slice_get xs i ≡ Some x → take (i + 1) xs ≡ take i xs ++ x ∷ []
+pub take_next : {A : Type 0} (xs : List A) (i : ℕ) (x : A) → slice_get xs i ≡ Some x → take (i + 1) xs ≡ take i xs
+    ++ x ∷ []
 take_next xs i x h = rw (one_more i) (go xs i x h)
   where
     go : {A : Type 0} (xs : List A) (i : ℕ) (x : A) → slice_get xs i ≡ Some x → take (suc i) xs ≡ take i xs ++ x ∷ []
@@ -22,7 +23,8 @@ drop_next xs i x h = rw (one_more i) (go xs i x h)
     go (y ∷ xs) zero x h = cc
     go (y ∷ xs) (suc i) x h = go xs i x h
 
-pub all_at : {A : Type 0} (P : A → Type 0) (xs : List A) (i : ℕ) (x : A) → AllByRecursion P xs → slice_get xs i ≡ Some x → P x
+pub all_at : {A : Type 0} (P : A → Type 0) (xs : List A) (i : ℕ) (x : A) → AllByRecursion P xs
+    → slice_get xs i ≡ Some x → P x
 all_at P [] i x h e = absurd (cc)
 all_at P (y ∷ xs) zero x h e = let s : Some y ≡ Some x = e in at_first P y x h.0 s
   where
@@ -30,7 +32,8 @@ all_at P (y ∷ xs) zero x h e = let s : Some y ≡ Some x = e in at_first P y x
     at_first P y x h e = let s : y ≡ x = cc in rw (← s) h
 all_at P (y ∷ xs) (suc i) x h e = all_at P xs i x h.1 e
 
-pub all_with : {A : Type 0} (P : A → Type 0) (xs : List A) (x : A) → AllByRecursion P xs → P x → AllByRecursion P (xs ++ x ∷ [])
+pub all_with : {A : Type 0} (P : A → Type 0) (xs : List A) (x : A) → AllByRecursion P xs → P x → AllByRecursion P
+    (xs ++ x ∷ [])
 all_with P [] x h p = (p, tt)
 all_with P (y ∷ xs) x h p = (h.0, all_with P xs x h.1 p)
 

@@ -6,6 +6,7 @@ pub mod WorkLaws
 pub mod Written
 pub mod ProgramRuns
 pub mod ItemOutcomes
+pub mod Honest
 pub mod Extents
 pub mod Running
 pub mod SimplifiedPrograms

@@ -43,7 +43,8 @@ run_item mode fuel names name (kernel k e) others = before_others name k (item_o
 -- items in order, each with the same fuel
 abbrev pub run_items : Mode → ℕ → List Value → List NamedItem → ItemsRun
 run_items mode fuel names [] = all_gave []
-run_items mode fuel names (item ∷ items) = run_item mode fuel names item.name item.is (run_items mode fuel names items)
+run_items mode fuel names (item ∷ items) = run_item mode fuel names item.name item.is
+    (run_items mode fuel names items)
 
 -- the items' part of a program's run
 abbrev pub items_run : Mode → ℕ → NamedProgram → ItemsRun
@@ -80,7 +81,8 @@ with_main main (one_ended kernels e) = ended kernels e
 with_main main one_stuck = stuck
 
 abbrev pub program_run : Mode → ℕ → NamedProgram → ProgramRun
-program_run mode fuel p = with_main (λ codes. main_after mode fuel (unnamed p).items p.body codes) (items_run mode fuel p)
+program_run mode fuel p = with_main (λ codes. main_after mode fuel (unnamed p).items p.body codes)
+    (items_run mode fuel p)
 
 -- how the erased program's main ends, with a fuel; its name is main's, whatever traps or meets a bound
 abbrev pub erased_ending : ℕ → PureProgram → Option Ending

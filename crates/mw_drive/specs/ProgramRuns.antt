@@ -41,7 +41,8 @@ abbrev pub HasModuleHere : CacheState → Built → Type 0
 HasModuleHere cache b = IsHere cache b.got.now
 
 -- the run of a program was written, and the status is what its ending says
-pub record IsWrittenRun (shown : Shown) (fuel : ℕ) (p : NamedProgram) (result : Result Status WriteFault) (tells : Bool)
+pub record IsWrittenRun (shown : Shown) (fuel : ℕ) (p : NamedProgram) (result : Result Status WriteFault)
+    (tells : Bool)
     (before after : List ℕ) : Type 0 where
   pub kernels : List Kernel
   pub ending : Ending

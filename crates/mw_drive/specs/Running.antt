@@ -51,7 +51,8 @@ pub record Lacks (outside : Outside) (file : Wanted) : Type 0 where
 -- it has each of the files, of these bytes
 pub data HasAll (outside : Outside) : List Wanted → List (List ℕ) → Type 0 where
   has_none : HasAll outside [] []
-  has_more : {file : Wanted} {bytes : List ℕ} {files : List Wanted} {contents : List (List ℕ)} → Has outside file bytes → HasAll outside files contents
+  has_more : {file : Wanted} {bytes : List ℕ} {files : List Wanted} {contents : List (List ℕ)}
+      → Has outside file bytes → HasAll outside files contents
       → HasAll outside (file ∷ files) (bytes ∷ contents)
 
 -- it lacks the first of the files
@@ -71,7 +72,8 @@ pub data IsWork : PureCommand → List (List ℕ) → Work → Type 0 where
   sample_works : {number : ℕ} → IsWork (sample number) [] (sampling number)
 
 -- the words mean this command, and the outside has its files, which hold these bytes
-pub record AsksOn (words : List (List ℕ)) (outside : Outside) (command : PureCommand) (contents : List (List ℕ)) : Type 0 where
+pub record AsksOn (words : List (List ℕ)) (outside : Outside) (command : PureCommand)
+    (contents : List (List ℕ)) : Type 0 where
   pub means : Means words command
   pub has : HasAll outside (files_of command) contents
 

@@ -14,5 +14,6 @@ IsUnbounded (bounded l name) = ⊥
 
 -- with at least as much fuel
 abbrev pub ProgramsEndAlike : Type 0
-ProgramsEndAlike = (p : NamedProgram) (n m : ℕ) (kernels : List Kernel) (e : Ending) → Typable (unnamed p) → n ≤ m → program_run Plain n p ≡ ended kernels e → IsUnbounded e
+ProgramsEndAlike = (p : NamedProgram) (n m : ℕ) (kernels : List Kernel) (e : Ending) → Typable (unnamed p) → n ≤ m
+    → program_run Plain n p ≡ ended kernels e → IsUnbounded e
     → program_run Simple m p ≡ ended kernels e

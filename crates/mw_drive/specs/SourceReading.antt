@@ -31,6 +31,8 @@ pub record IsRead (bytes : List ℕ) (p : NamedProgram) : Type 0 where
 pub data IsRefused (bytes : List ℕ) : Refusal → Type 0 where
   too_large : 1048576 < length bytes → IsRefused bytes TooLarge
   at_bytes : {r : Refusal} → IsSmall bytes → IsFirstFault bytes r → IsRefused bytes r
-  at_tokens : {r : Refusal} (tokens : List PureToken) → IsSmall bytes → AreTokens bytes tokens → Refuses tokens (length bytes) r → IsRefused bytes r
-  at_names : {r : Refusal} (tokens : List PureToken) (surface : PureSurface) (f : Fault) → IsSmall bytes → AreTokens bytes tokens → IsProgram tokens surface → IsFirstOf (faults_of surface) f → r ≡ refusal_of f
+  at_tokens : {r : Refusal} (tokens : List PureToken) → IsSmall bytes → AreTokens bytes tokens → Refuses tokens
+      (length bytes) r → IsRefused bytes r
+  at_names : {r : Refusal} (tokens : List PureToken) (surface : PureSurface) (f : Fault) → IsSmall bytes
+      → AreTokens bytes tokens → IsProgram tokens surface → IsFirstOf (faults_of surface) f → r ≡ refusal_of f
       → IsRefused bytes r

@@ -17,4 +17,5 @@ SomeMeaning = (work : Work) → (m : Meaning) × IsMeaning work m
 -- where a source's run and its erased program both answer, whatever their units, the answers are equal
 abbrev pub AnswersAreErased : Type 0
 AnswersAreErased = (bytes : List ℕ) (fuel m : ℕ) (shown : Shown) (kernels : List Kernel) (v w : PureGroundValue)
-    → IsMeaning (running bytes fuel shown) (ran shown kernels (answered v)) → IsMeaning (erasing bytes m) (erased (answered w)) → v ≡ w
+    → IsMeaning (running bytes fuel shown) (ran shown kernels (answered v)) → IsMeaning (erasing bytes m)
+        (erased (answered w)) → v ≡ w

@@ -58,12 +58,17 @@ pub record IsAccepted (p : PureProgram) : Type 0 where
 -- The run of a source means the first refusal of its reading; else the first refusal of its types; else the run of its program.
 -- What is refused is refused with its erased program too, which else means how its main ends.
 pub data IsMeaning : Work → Meaning → Type 0 where
-  of_refusal : {bytes : List ℕ} {fuel : ℕ} {shown : Shown} {r : Refusal} → IsRefused bytes r → IsMeaning (running bytes fuel shown) (refused r [])
-  of_types : {bytes : List ℕ} {fuel : ℕ} {shown : Shown} {r : Refusal} (p : NamedProgram) → IsRead bytes p → IsFirstRefusal (unnamed p) r
+  of_refusal : {bytes : List ℕ} {fuel : ℕ} {shown : Shown} {r : Refusal} → IsRefused bytes r → IsMeaning
+      (running bytes fuel shown) (refused r [])
+  of_types : {bytes : List ℕ} {fuel : ℕ} {shown : Shown} {r : Refusal} (p : NamedProgram) → IsRead bytes p
+      → IsFirstRefusal (unnamed p) r
       → IsMeaning (running bytes fuel shown) (refused r (names_of p))
-  of_program : {bytes : List ℕ} {fuel : ℕ} {shown : Shown} {kernels : List Kernel} {e : Ending} (p : NamedProgram) → IsRead bytes p
-      → IsAccepted (unnamed p) → program_run (mode_of shown) fuel p ≡ ended kernels e → IsMeaning (running bytes fuel shown) (ran shown kernels e)
-  of_erased_refusal : {bytes : List ℕ} {fuel : ℕ} {r : Refusal} {names : List (List ℕ)} → IsMeaning (running bytes fuel (Lines Plain)) (refused r names)
+  of_program : {bytes : List ℕ} {fuel : ℕ} {shown : Shown} {kernels : List Kernel} {e : Ending} (p : NamedProgram)
+      → IsRead bytes p
+      → IsAccepted (unnamed p) → program_run (mode_of shown) fuel p ≡ ended kernels e → IsMeaning
+          (running bytes fuel shown) (ran shown kernels e)
+  of_erased_refusal : {bytes : List ℕ} {fuel : ℕ} {r : Refusal} {names : List (List ℕ)} → IsMeaning
+      (running bytes fuel (Lines Plain)) (refused r names)
       → IsMeaning (erasing bytes fuel) (refused r names)
   of_erased : {bytes : List ℕ} {fuel : ℕ} {e : Ending} (p : NamedProgram) → IsRead bytes p → IsAccepted (unnamed p)
       → erased_ending fuel (unnamed p) ≡ Some e → IsMeaning (erasing bytes fuel) (erased e)
@@ -74,7 +79,8 @@ key_of c k = sha256 (canonical_text Two c k)
 
 -- the lines of a kernel: what is printed is the key and the module of the code that is run under the mode
 abbrev pub kernel_lines : Mode → Kernel → List ℕ
-kernel_lines mode k = kernel_text k.name k.kind (key_of (in_mode mode k.code) k.kind) (emission two (in_mode mode k.code) k.kind)
+kernel_lines mode k = kernel_text k.name k.kind (key_of (in_mode mode k.code) k.kind)
+    (emission two (in_mode mode k.code) k.kind)
 
 -- the bytes of the modules together
 abbrev pub module_bytes : List Kernel → ℕ

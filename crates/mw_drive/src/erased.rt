@@ -14,6 +14,7 @@ use mw_console::Status;
 use mw_meaning::{Mode, erase_program};
 use mw_outside::{Sink, WriteFault};
 use mw_slots::{Receipts, Table};
+use mw_store::Load;
 use mw_tasks::{Outcomes, Phase};
 use mw_term::Program;
 use std::alloc::Global;
@@ -40,7 +41,7 @@ pub fn write_erased<K: Sink, L: Ledger>(
     ensures count { K.faults sink.old ≤ K.faults sink.new }
 {
     let erased = erase_program(alloc, program)?;
-    let cache = Cache::new(table);
+    let cache = Cache::new(table, Load::new(alloc));
     let phase = no_kernels(alloc);
     let mut steps = Steps::<L>::open(blank);
     let end = main_end(

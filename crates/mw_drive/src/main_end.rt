@@ -4,7 +4,8 @@ ghost use Rattle.std.specs.Prelude.{◌≡◌, Some, IfOk};
 ghost use Rattle.mw_term.specs.Programs.{program_of};
 ghost use Rattle.mw_term.specs.SmallTypes.{HasSmallTypes};
 ghost use Rattle.mw_term.specs.Typable.{Typable};
-ghost use Rattle.mw_tasks.specs.Phases.{AreBuiltAll, AreOutcomesOf, codes_in};
+ghost use Rattle.mw_tasks.specs.Phases.{AreBuiltAll, codes_in};
+ghost use Rattle.mw_drive.specs.Honest.{IsHonest, AreMeant};
 ghost use Rattle.mw_drive.specs.ProgramMeaning.{main_after};
 ghost use Rattle.mw_drive.specs.ProgramRuns.{ending_of};
 ghost use Rattle.mw_drive.specs.ItemOutcomes.{ending_in};
@@ -31,7 +32,8 @@ pub fn main_end<L: Ledger>(
 ) -> Result<End<'static>, AllocError>
     requires typable { Typable (program_of program.now) }
     requires small { HasSmallTypes (program_of program.now) }
-    requires phase { AreOutcomesOf mode (program_of program.now) fuel cache.now phase.now.outcomes }
+    requires honest { IsHonest cache.now.load }
+    requires phase { AreMeant mode (program_of program.now) fuel cache.now phase.now.outcomes }
     requires built { AreBuiltAll phase.now.outcomes }
     ensures { let p = program_of program.now in let codes = codes_in phase.now.outcomes in
         IfOk result (λ end. main_after mode fuel p.items p.body codes ≡ Some (ending_of end)) }

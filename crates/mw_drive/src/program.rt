@@ -18,6 +18,7 @@ use mw_cache::Cache;
 use mw_compile::Steps;
 use mw_console::Status;
 use mw_outside::{Gate, Sink, WriteFault};
+use mw_store::Load;
 use mw_term::Program;
 use std::alloc::Global;
 use std::sync::ledger::{Blank, Ledger};
@@ -48,7 +49,7 @@ pub fn write_run<R: Threads + Sync, K: Sink, G: Gate, L: Ledger>(
     ensures blames { Blames result (K.faults sink.old) (K.faults sink.new) }
     ensures count { K.faults sink.old ≤ K.faults sink.new }
 {
-    let cache = Cache::new(place.table);
+    let cache = Cache::new(place.table, Load::new(alloc));
     let mode = shown.mode();
     let phase = kernel_items(alloc, place, program, fuel, mode, workers, &cache)?;
     let ItemsEnd { built, end } = items_end(alloc, program, &phase.outcomes)?;

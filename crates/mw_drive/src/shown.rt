@@ -7,6 +7,7 @@ ghost use Rattle.mw_meaning.specs.declared.mode.Mode.TheVariants.{Plain};
 ghost use Rattle.mw_drive.specs.Works.{kernel_lines, module_bytes, mode_of, shown_text};
 ghost use Rattle.mw_drive.specs.ProgramRuns.{kernel_of, kernels_of, IsBuilt, HasModuleHere};
 ghost use Rattle.mw_drive.specs.declared.shown.Shown.TheVariants.{Totals};
+ghost use Rattle.mw_drive.specs.Honest.{IsHonest};
 ghost use Rattle.mw_drive.specs.Written.{Writes, Blames};
 
 use crate::items::Built;
@@ -45,6 +46,7 @@ pub fn write_kernels<K: Sink>(
     shown: Shown,
     kernels: &[Built<'_>],
 ) -> Result<(), WriteFault>
+    requires honest { IsHonest cache.now.load }
     requires built { AllByRecursion (IsBuilt (mode_of shown) cache.now) kernels.now }
     requires few { length kernels.now < 2 ^ 32 }
     ensures writes { let text = shown_text shown (kernels_of kernels.now) in
@@ -65,6 +67,7 @@ fn write_all<K: Sink>(
     cache: &Cache<'_>,
     kernels: &[Built<'_>],
 ) -> Result<(), WriteFault>
+    requires honest { IsHonest cache.now.load }
     requires here { AllByRecursion (HasModuleHere cache.now) kernels.now }
     ensures writes { (mode : Mode) → AllByRecursion (IsBuilt mode cache.now) kernels.now
         → let text = flat_map (kernel_lines mode) (kernels_of kernels.now) in
@@ -85,6 +88,7 @@ fn write_kernel<K: Sink>(
     cache: &Cache<'_>,
     kernel: &Built<'_>,
 ) -> Result<(), WriteFault>
+    requires honest { IsHonest cache.now.load }
     requires here { HasModuleHere cache.now kernel.now }
     ensures writes { (mode : Mode) → IsBuilt mode cache.now kernel.now
         → let text = kernel_lines mode (kernel_of kernel.now) in
@@ -107,6 +111,7 @@ fn write_totals<K: Sink>(
     cache: &Cache<'_>,
     kernels: &[Built<'_>],
 ) -> Result<(), WriteFault>
+    requires honest { IsHonest cache.now.load }
     requires built { AllByRecursion (IsBuilt Plain cache.now) kernels.now }
     requires few { length kernels.now < 2 ^ 32 }
     ensures writes { let text = shown_text Totals (kernels_of kernels.now) in
@@ -122,6 +127,7 @@ fn write_totals<K: Sink>(
 
 /// The bytes of the kernels' modules together.
 fn total_bytes(cache: &Cache<'_>, kernels: &[Built<'_>]) -> u64
+    requires honest { IsHonest cache.now.load }
     requires built { AllByRecursion (IsBuilt Plain cache.now) kernels.now }
     requires few { length kernels.now < 2 ^ 32 }
     ensures { result ≡ module_bytes (kernels_of kernels.now) }
@@ -135,6 +141,7 @@ fn total_bytes(cache: &Cache<'_>, kernels: &[Built<'_>]) -> u64
 
 /// How many bytes a kernel's module has.
 fn module_size(cache: &Cache<'_>, kernel: &Built<'_>) -> u64
+    requires honest { IsHonest cache.now.load }
     requires built { IsBuilt Plain cache.now kernel.now }
     ensures size { result ≡ module_bytes (kernel_of kernel.now ∷ []) }
     ensures small { result < 2 ^ 32 }

@@ -5,7 +5,7 @@ ghost use Rattle.mw_term.specs.Programs.{program_of};
 ghost use Rattle.mw_term.specs.SmallTypes.{HasSmallTypes};
 ghost use Rattle.mw_term.specs.Typable.{Typable};
 ghost use Rattle.mw_infer.specs.Checking.{HasSmallKernels};
-ghost use Rattle.mw_tasks.specs.Phases.{AreOutcomesOf};
+ghost use Rattle.mw_drive.specs.Honest.{IsHonest, AreMeant};
 
 use mw_cache::Cache;
 use mw_compile::Entry;
@@ -41,8 +41,9 @@ pub fn kernel_items<R: Threads + Sync, G: Gate>(
     requires typable { Typable (program_of program.now) }
     requires small { HasSmallTypes (program_of program.now) }
     requires kernels { HasSmallKernels (program_of program.now) }
+    requires honest { IsHonest cache.now.load }
     ensures { let p = program_of program.now in
-        IfOk result (λ phase. AreOutcomesOf mode p fuel cache.now phase.outcomes) }
+        IfOk result (λ phase. AreMeant mode p fuel cache.now phase.outcomes) }
 {
     match kernels_phase(
         place.rt, alloc, program, fuel, mode, workers, cache, place.gate,

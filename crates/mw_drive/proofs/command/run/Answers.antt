@@ -7,7 +7,8 @@ use Rattle.mw_drive.proofs.ModuleLemmas.{meaning_modules}
 use Rattle.mw_drive.proofs.command.run.Goals as goal
 
 pub carry_out-requires-clause-range : goal.carry_out-requires-clause-range
-carry_out-requires-clause-range g c = λ κs live n e. sample_range (command_in c.in-Ok.command) n c.in-Ok.ensures.some e
+carry_out-requires-clause-range g c = λ κs live n e. sample_range
+    (command_in c.in-Ok.command) n c.in-Ok.ensures.some e
 
 pub carry_out-requires-clause-workers : goal.carry_out-requires-clause-workers
 carry_out-requires-clause-workers g c = λ κs live w fuel simplify file e.

@@ -2,7 +2,8 @@ use Rattle.std.proofs.Common.{◌≡◌, ap, sym, subst}
 use Rattle.mw_term.specs.Programs.{program_of}
 use Rattle.mw_meaning.specs.declared.mode.Mode.TheVariants.{Plain}
 use Rattle.mw_meaning.proofs.ErasedMain.{typable_names_are_bound}
-use Rattle.mw_tasks.specs.Phases.{AreOutcomesOf, codes_in}
+use Rattle.mw_tasks.specs.Phases.{codes_in}
+use Rattle.mw_drive.specs.Honest.{AreMeant}
 use Rattle.mw_console.specs.Texts.{ending_line, ending_status}
 use Rattle.mw_drive.specs.ProgramRuns.{ending_of}
 use Rattle.mw_drive.proofs.Faults.{front_written, no_answer}
@@ -24,7 +25,8 @@ returns-in_err-erased-clause-run g c =
       ending = e.0;
       is_run = e.1;
       is_status = no_answer _ c.from_residual.result (λ s. s ≡ ending_status e.0) err;
-      writes = front_written _ c.from_residual.result g.K.Sink.tells _ _ (ending_line e.0) err (λ t. grows_nothing _ _);
+      writes = front_written _ c.from_residual.result g.K.Sink.tells _ _ (ending_line e.0) err
+          (λ t. grows_nothing _ _);
     }
 
 pub main_end-requires-clause-typable : goal.main_end-requires-clause-typable
@@ -36,7 +38,7 @@ main_end-requires-clause-small g c = small_types (program_of c.in_ok-erased.eras
 
 pub main_end-requires-clause-phase : goal.main_end-requires-clause-phase
 main_end-requires-clause-phase g c =
-    subst (AreOutcomesOf Plain (program_of c.in_ok-erased.erased) c.args.fuel c.new-cache.result)
+    subst (AreMeant Plain (program_of c.in_ok-erased.erased) c.args.fuel c.new-cache.result)
     (sym c.no_kernels-phase.ensures)
     (no_outcomes c.args.fuel c.new-cache.result (program_of c.in_ok-erased.erased) c.in_ok-erased.ensures.unstaged)
 

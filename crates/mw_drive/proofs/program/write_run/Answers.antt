@@ -54,7 +54,8 @@ returns-in_err-write_kernels-clause-run g c =
     run_failed c.args.shown c.args.fuel c.args.program.now _ c.from_residual-in_err-write_kernels.result
     g.K.Sink.tells _ _ kernels e.0
     c.from_residual-in_err-write_kernels.ensures.1 e.1
-    (λ t. grows_front _ _ (shown_text c.args.shown kernels) (ending_line e.0) (c.in_err-write_kernels.ensures.writes t))
+    (λ t. grows_front _ _ (shown_text c.args.shown kernels) (ending_line e.0)
+        (c.in_err-write_kernels.ensures.writes t))
 
 pub returns-in-Some-clause-run : goal.returns-in-Some-clause-run
 returns-in-Some-clause-run g c =
@@ -91,7 +92,8 @@ returns-in_err-end-clause-run g c =
     run_failed c.args.shown c.args.fuel c.args.program.now _ c.from_residual-in_err-end.result g.K.Sink.tells _ _
     kernels e.0
     c.from_residual-in_err-end.ensures.1 e.1
-    (λ t. grows_whole _ _ (shown_text c.args.shown kernels) (ending_line e.0) (c.in_ok-write_kernels.ensures.writes t))
+    (λ t. grows_whole _ _ (shown_text c.args.shown kernels) (ending_line e.0)
+        (c.in_ok-write_kernels.ensures.writes t))
 
 pub returns-clause-run : goal.returns-clause-run
 returns-clause-run g c =

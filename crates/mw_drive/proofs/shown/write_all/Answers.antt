@@ -11,6 +11,7 @@ write_kernel-requires g c =
     got c.args.kernels.now c.loop-at.at c.index-kernels-at.result (omega (arith, c.loop-at-test.true))
     c.index-kernels-at.is in
     record {
+      honest = c.requires.honest;
       here = all_at (HasModuleHere c.args.cache.now) c.args.kernels.now c.loop-at.at c.index-kernels-at.result
           c.requires.here here;
     }
@@ -35,7 +36,8 @@ loop-at-preserved g c =
     record {
       written = λ mode built tells.
           let kernel =
-          all_at (IsBuilt mode c.args.cache.now) c.args.kernels.now c.loop-at.at c.index-kernels-at.result built here in
+          all_at (IsBuilt mode c.args.cache.now) c.args.kernels.now c.loop-at.at c.index-kernels-at.result built here
+              in
           lines_written mode c.args.kernels.now c.loop-at.at c.index-kernels-at.result _ _ _ here
           (c.loop-at.invariant.written mode built tells)
           (c.in_ok-write_kernel.ensures.writes mode kernel tells);

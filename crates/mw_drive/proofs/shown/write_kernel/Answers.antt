@@ -6,6 +6,7 @@ use Rattle.mw_drive.specs.Works.{kernel_lines}
 use Rattle.mw_drive.specs.ProgramRuns.{kernel_of}
 use Rattle.mw_drive.specs.Written.{Writes}
 use Rattle.mw_drive.proofs.Faults.{text_written}
+use Rattle.mw_drive.proofs.Honest.{honest_text}
 use Rattle.mw_drive.proofs.Showing.{its_lines}
 use Rattle.mw_drive.proofs.shown.write_kernel.Goals as goal
 
@@ -14,11 +15,13 @@ returns-clause-writes g c mode built =
     let kernel = c.args.kernel.now in
     let lines =
     its_lines mode c.args.cache.now kernel built _ c.bytes-bytes.result.now
-    (c.digest-key.ensures ∙ ap sha256 c.text-text.ensures) c.bytes-bytes.ensures.emission in
+    (c.digest-key.ensures ∙ ap sha256 c.text-text.ensures)
+        (c.bytes-bytes.ensures.emission (honest_text c.args.cache.now.load c.requires.honest _)) in
     let told =
     kernel_text kernel.name.now (kernel_type_of kernel.kind.now) c.digest-key.result c.bytes-bytes.result.now in
     let text : c.as_slice.result.now ≡ kernel_lines mode (kernel_of kernel) =
-    c.as_slice.ensures.value ∙ (c.in_ok-put_kernel.ensures ∙ (ap (λ t. t ++ told) c.new-lines.ensures.items ∙ lines)) in
+    c.as_slice.ensures.value
+        ∙ (c.in_ok-put_kernel.ensures ∙ (ap (λ t. t ++ told) c.new-lines.ensures.items ∙ lines)) in
     subst (Writes c.write_lines.result g.K.Sink.tells _ _) text
     (text_written c.write_lines.result g.K.Sink.tells _ _ c.as_slice.result.now c.write_lines.ensures.ok
     c.write_lines.ensures.front)

@@ -1,0 +1,26 @@
+-- Loaded records that have the emissions of their texts, and what kernel items then came to.
+use Rattle.std.specs.Prelude.{ℕ, ◌≡◌, List, Some, slice_get}
+use Rattle.mw_term.specs.Terms.{Expression, KernelType, Value}
+use Rattle.mw_term.specs.Programs.{PureProgram}
+use Rattle.mw_meaning.specs.declared.mode.Mode.{Mode}
+use Rattle.mw_meaning.specs.Outcomes.{item_outcome, names_of_items}
+use Rattle.mw_store.specs.Loads.{Loaded, LoadState}
+use Rattle.mw_compile.specs.Emission.{IsEmissionOf}
+use Rattle.mw_cache.specs.Gots.{CacheState}
+use Rattle.mw_tasks.specs.declared.outcome.ItemOutcome.{ItemOutcome}
+use Rattle.mw_tasks.specs.Phases.{Answers, EachKernel, IfBuilt, IsPlaced}
+
+-- each record that was loaded has the emission of its text
+abbrev pub IsHonest : LoadState → Type 0
+IsHonest load = (at : ℕ) (l : Loaded) → slice_get load.records at ≡ Some l → IsEmissionOf l.bytes l.text
+
+-- what a kernel item of this type and term came to: what it means, with the module of its code
+pub record IsMeant (mode : Mode) (names : List Value) (fuel : ℕ) (cache : CacheState) (k : KernelType)
+    (e : Expression)
+    (o : ItemOutcome) : Type 0 where
+  pub means : Answers o (item_outcome mode names fuel e)
+  pub placed : IfBuilt o (IsPlaced mode cache k)
+
+-- what the kernel items of a program came to, all of them, in order
+abbrev pub AreMeant : Mode → PureProgram → ℕ → CacheState → List ItemOutcome → Type 0
+AreMeant mode p fuel cache outcomes = EachKernel (IsMeant mode (names_of_items p.items) fuel cache) p.items outcomes
