@@ -24,6 +24,7 @@ use mw_infer::check;
 use mw_meaning::Mode;
 use mw_outside::Pass;
 use mw_spread::JobFault;
+use mw_store::Load;
 use mw_tasks::{ItemOutcome, MainEnd, MainOutcome, Phase, kernels_phase, main_phase};
 use mw_term::{GroundValue, Limit, Program, Stop, TrapKind};
 use std::alloc::{AllocError, Global};
@@ -150,6 +151,7 @@ fn code_text(alloc: Global, outcomes: &[ItemOutcome], got: &Got) -> Result<Strin
             let first = first_in(outcomes, receipt.slot());
             format!(in alloc; "code, stored, slot of item {first}")
         }
+        Got::Loaded(_) => String::from_str(alloc, "code, loaded"),
         Got::Own(_) => String::from_str(alloc, "code, no room"),
     }
 }
@@ -208,6 +210,17 @@ fn main_line(alloc: Global, outcome: &MainOutcome) -> Result<String, AllocError>
     format!(in alloc; "main: {comes}\n")
 }
 
+/// The digest of the loaded record whose module is bad, as a line; want of memory has none.
+fn fault_line(alloc: Global, fault: JobFault) -> Result<String, AllocError> {
+    match fault {
+        JobFault::Memory(error) => Err(error),
+        JobFault::Bad(digest) => {
+            let digits = hex::encode(alloc, digest)?;
+            format!(in alloc; "bad {digits}\n")
+        }
+    }
+}
+
 /// What main comes to after items that all gave code.
 fn main_after<L: Ledger>(
     alloc: Global,
@@ -230,31 +243,7 @@ fn main_after<L: Ledger>(
         alloc, program, phase, plan.fuel, plan.mode, cache, &mut steps,
     ) {
         Ok(MainEnd { outcome, .. }) => main_line(alloc, &outcome),
-        Err(JobFault::Memory(error)) => Err(error),
-        Err(JobFault::Bad(_)) => unreachable!(),
-    }
-}
-
-/// What the kernel items come to.
-fn items_phase<R: Threads + Sync>(
-    rt: &R,
-    alloc: Global,
-    program: &Program,
-    plan: &Plan,
-    cache: &Cache<'_>,
-) -> Result<Phase, AllocError>
-    requires workers { 1 ≤ plan.now.workers }
-    requires typable { Typable (program_of program.now) }
-    requires small { HasSmallTypes (program_of program.now) }
-    requires kernels { HasSmallKernels (program_of program.now) }
-    ensures { IfOk result (λ phase.
-        AreOutcomesOf plan.now.mode (program_of program.now) plan.now.fuel cache.now phase.outcomes) }
-{
-    let (fuel, mode, workers) = (plan.fuel, plan.mode, plan.workers);
-    match kernels_phase(rt, alloc, program, fuel, mode, workers, cache, &Pass) {
-        Ok(phase) => Ok(phase),
-        Err(JobFault::Memory(error)) => Err(error),
-        Err(JobFault::Bad(_)) => unreachable!(),
+        Err(fault) => fault_line(alloc, fault),
     }
 }
 
@@ -275,7 +264,16 @@ fn phases<R: Threads + Sync, L: Ledger>(
     requires small { HasSmallTypes (program_of program.now) }
     requires kernels { HasSmallKernels (program_of program.now) }
 {
-    let phase = items_phase(rt, alloc, program, plan, cache)?;
+    let Plan {
+        workers,
+        mode,
+        fuel,
+        ..
+    } = *plan;
+    let phase = match kernels_phase(rt, alloc, program, fuel, mode, workers, cache, &Pass) {
+        Ok(phase) => phase,
+        Err(fault) => return fault_line(alloc, fault),
+    };
     let mut text = item_lines(alloc, phase.outcomes.as_slice())?;
     let emitted = phase.emitted;
     text.push_str(format!(in alloc; "emitted {emitted}\n")?.as_str())?;
@@ -300,7 +298,7 @@ fn lines<R: Threads + Sync>(
     requires kernels { HasSmallKernels (program_of program.now) }
 {
     let table = table(alloc, plan.slots)?;
-    let cache = Cache::new(&table);
+    let cache = Cache::new(&table, Load::new(alloc));
     phases::<R, Brand>(rt, alloc, program, plan, &cache, Blank::new(1))
 }
 
