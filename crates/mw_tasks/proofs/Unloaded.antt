@@ -2,7 +2,6 @@
 use Rattle.std.proofs.Common.{◌≡◌, ◌<◌, ℕ, List, [], ◌∷◌, Some, length, map, refl, ap, subst, arith}
 use Rattle.std.specs.Prelude.{slice_get}
 use Rattle.std.proofs.lemmas.Option.{none-some}
-use Rattle.mw_term.specs.Terms.{Expression, KernelType}
 use Rattle.mw_term.specs.Programs.{PureProgram}
 use Rattle.mw_meaning.specs.declared.mode.Mode.{Mode}
 use Rattle.mw_meaning.specs.Simplification.{in_mode}
@@ -14,43 +13,44 @@ use Rattle.mw_key.specs.declared.version.Version.TheVariants.{Two}
 use Rattle.mw_store.specs.Loads.{Loaded as LoadedRecord, LoadState}
 use Rattle.mw_cache.specs.declared.got.Got.{Got}
 use Rattle.mw_cache.specs.declared.got.Got.TheVariants.{Loaded, Stored, Own}
-use Rattle.mw_cache.specs.Gots.{CacheState, IsHere, IsLoadedGot}
+use Rattle.mw_cache.specs.Gots.{CacheState, IsHere, IsLoadedGot, IsRight}
 use Rattle.mw_cache.specs.Hints.{price_beside}
 use Rattle.mw_cached.specs.StrayRecords.{IsStrayRecord}
 use Rattle.mw_tasks.specs.BadItems.{IsBadOfRuns, IsBadOfItems}
-use Rattle.mw_tasks.specs.RightRuns.{IsRightRun, AreRightRuns, AreRightItems, unloaded_price}
+use Rattle.mw_tasks.specs.RightRuns.{AreRightRuns, AreRightItems, unloaded_price}
 
-module _ (mode : Mode) (load : LoadState) (none : load.records ≡ []) where
+module _ (load : LoadState) (none : load.records ≡ []) where
   nowhere : (at : ℕ) (l : LoadedRecord) → slice_get load.records at ≡ Some l → ⊥
   nowhere at l here = none-some l (subst (λ ls. slice_get ls at ≡ Some l) none here)
 
-  each_right : (c : Expression) (k : KernelType) → IsRightRun mode load c k
-  each_right c k at l here is = absurd (nowhere at l here)
+  pub text_right : (text : List ℕ) → IsRight load text
+  text_right text at l here is = absurd (nowhere at l here)
 
-  pub all_right : (rs : Runs) → AreRightRuns mode load rs
-  all_right rs = λ k d less. each_right _ _
-
-  pub items_right : (p : PureProgram) (fuel : ℕ) → AreRightItems mode p fuel load
-  items_right p fuel i k e here = all_right (runs mode (names_of_items p.items) fuel e)
-
-  none_stray : (digest : List ℕ) → IsStrayRecord load digest → ⊥
+  pub none_stray : (digest : List ℕ) → IsStrayRecord load digest → ⊥
   none_stray digest stray = nowhere stray.at stray.loaded stray.here
 
-  pub none_bad_of_runs : (rs : Runs) (digest : List ℕ) → IsBadOfRuns mode load rs digest → ⊥
-  none_bad_of_runs rs digest bad = none_stray digest bad.0
+  module _ (mode : Mode) where
+    pub all_right : (rs : Runs) → AreRightRuns mode load rs
+    all_right rs = λ k d less. text_right _
 
-  pub none_bad_of_items : (p : PureProgram) (fuel : ℕ) (digest : List ℕ) → IsBadOfItems mode p fuel load digest → ⊥
-  none_bad_of_items p fuel digest bad = none_stray digest bad.0
+    pub items_right : (p : PureProgram) (fuel : ℕ) → AreRightItems mode p fuel load
+    items_right p fuel i k e here = all_right (runs mode (names_of_items p.items) fuel e)
 
-  -- each run costs an emission
-  pub prices_are_one : (rs : Runs) → prices (unloaded_price mode load) rs ≡ length rs
-  prices_are_one [] = refl
-  prices_are_one (r ∷ rs) =
-      let rest = prices_are_one rs in
-      let one : unloaded_price mode load r.0 r.1 ≡ 1 =
-      ap (λ ls. price_beside (map (λ (l : LoadedRecord). l.text) ls) (canonical_text Two (in_mode mode r.0) r.1)) none
-          in
-      omega (arith, rest, one)
+    pub none_bad_of_runs : (rs : Runs) (digest : List ℕ) → IsBadOfRuns mode load rs digest → ⊥
+    none_bad_of_runs rs digest bad = none_stray digest bad.0
+
+    pub none_bad_of_items : (p : PureProgram) (fuel : ℕ) (digest : List ℕ) → IsBadOfItems mode p fuel load digest → ⊥
+    none_bad_of_items p fuel digest bad = none_stray digest bad.0
+
+    -- each run costs an emission
+    pub prices_are_one : (rs : Runs) → prices (unloaded_price mode load) rs ≡ length rs
+    prices_are_one [] = refl
+    prices_are_one (r ∷ rs) =
+        let rest = prices_are_one rs in
+        let text = canonical_text Two (in_mode mode r.0) r.1 in
+        let one : unloaded_price mode load r.0 r.1 ≡ 1 =
+        ap (λ ls. price_beside (map (λ (l : LoadedRecord). l.text) ls) text) none in
+        omega (arith, rest, one)
 
 -- no module is that of a loaded record
 pub none_loaded : (cache : CacheState) → cache.load.records ≡ [] → (got : Got) → IsHere cache got → IsLoadedGot got

@@ -1,0 +1,316 @@
+-- The words of the grammar are words.
+use Rattle.std.proofs.Common.{◌≡◌, ℕ, List, [], ◌∷◌, ◌++◌, map, refl, Bool, true, false, Option}
+use Rattle.std.specs.Prelude.{codes, ◌&&◌}
+use Rattle.std.specs.List.{AllByRecursion}
+use Rattle.mw_wasm.specs.declared.values.ValType.{ValType}
+use Rattle.mw_wasm.specs.declared.values.ValType.TheVariants.{I32, I64}
+use Rattle.mw_wasm.specs.declared.numbers.IntOp.{IntOp}
+use Rattle.mw_wasm.specs.declared.numbers.IntOp.TheVariants as op
+use Rattle.mw_wasm.specs.declared.numbers.NumOp.{NumOp}
+use Rattle.mw_wasm.specs.declared.numbers.NumOp.TheVariants as num
+use Rattle.mw_wasm.specs.declared.numbers.LoadOp.{LoadOp}
+use Rattle.mw_wasm.specs.declared.numbers.LoadOp.TheVariants as load_op
+use Rattle.mw_wasm.specs.declared.numbers.StoreOp.{StoreOp}
+use Rattle.mw_wasm.specs.declared.numbers.StoreOp.TheVariants as store_op
+use Rattle.mw_wasm.specs.declared.modules.Limits.{Limits}
+use Rattle.mw_wasm.specs.declared.modules.FuncType.{FuncType}
+use Rattle.mw_wasm.specs.declared.modules.Exported.{Exported}
+use Rattle.mw_wasm.specs.declared.modules.Exported.TheVariants as what
+use Rattle.mw_wasm.specs.Syntax.{Instruction, Code, unreachable, nop, block, loop, cond, br, br_if, br_table, give_back, call, call_indirect, drop_value, select, local_get, local_set, local_tee, global_get, global_set, load, store, memory_size, memory_grow, const_i32, const_i64, numeric, end, next, Function, Global, Exporting, ElementSegment, DataSegment, PureModule}
+use Rattle.mw_wasm.specs.BinaryModules.{at_most_one}
+use Rattle.mw_wat.specs.Lexing.{is_word_byte}
+use Rattle.mw_wat.specs.Names.{type_name, operation_name, number_name, load_name, store_name}
+use Rattle.mw_wat.specs.Lexemes.{Lexeme, right, word, number, keyed, octets, within, types_behind, instruction, code, otherwise, function_type, function, limits, table, memory, global_type, global, exported, export, offset, element, data_segment, fields, lines}
+
+abbrev pub are_word_bytes : List ℕ → Bool
+are_word_bytes [] = true
+are_word_bytes (b ∷ bytes) = is_word_byte b && are_word_bytes bytes
+
+abbrev pub is_word : List ℕ → Bool
+is_word [] = false
+is_word w = are_word_bytes w
+
+-- a word of the grammar is one
+abbrev pub IsWordLexeme : Lexeme → Type 0
+IsWordLexeme (word w) = is_word w ≡ true
+IsWordLexeme (keyed key n) = is_word key ≡ true
+IsWordLexeme _ = Unit {0}
+
+abbrev pub AreWords : List Lexeme → Type 0
+AreWords is = AllByRecursion IsWordLexeme is
+
+pub both : (xs ys : List Lexeme) → AreWords xs → AreWords ys → AreWords (xs ++ ys)
+both [] ys a b = b
+both (x ∷ xs) ys a b = (a.0, both xs ys a.1 b)
+
+each : {A : Type 0} (f : A → Lexeme) → ((x : A) → IsWordLexeme (f x)) → (xs : List A) → AreWords (map f xs)
+each f g [] = tt
+each f g (x ∷ xs) = (g x, each f g xs)
+
+inside : (xs : List Lexeme) → AreWords xs → AreWords (within xs)
+inside xs a = (tt, both xs _ a (tt, tt))
+
+type_is_word : (t : ValType) → is_word (type_name t) ≡ true
+type_is_word I32 = refl
+type_is_word I64 = refl
+
+operation_is_word : (o : IntOp) → are_word_bytes (operation_name o) ≡ true
+operation_is_word op.Eqz = refl
+operation_is_word op.Eq = refl
+operation_is_word op.Ne = refl
+operation_is_word op.LtS = refl
+operation_is_word op.LtU = refl
+operation_is_word op.GtS = refl
+operation_is_word op.GtU = refl
+operation_is_word op.LeS = refl
+operation_is_word op.LeU = refl
+operation_is_word op.GeS = refl
+operation_is_word op.GeU = refl
+operation_is_word op.Clz = refl
+operation_is_word op.Ctz = refl
+operation_is_word op.Popcnt = refl
+operation_is_word op.Add = refl
+operation_is_word op.Sub = refl
+operation_is_word op.Mul = refl
+operation_is_word op.DivS = refl
+operation_is_word op.DivU = refl
+operation_is_word op.RemS = refl
+operation_is_word op.RemU = refl
+operation_is_word op.And = refl
+operation_is_word op.Or = refl
+operation_is_word op.Xor = refl
+operation_is_word op.Shl = refl
+operation_is_word op.ShrS = refl
+operation_is_word op.ShrU = refl
+operation_is_word op.Rotl = refl
+operation_is_word op.Rotr = refl
+
+number_is_word : (o : NumOp) → is_word (number_name o) ≡ true
+number_is_word (num.I32 o) = operation_is_word o
+number_is_word (num.I64 o) = operation_is_word o
+number_is_word num.Wrap = refl
+number_is_word num.ExtendS = refl
+number_is_word num.ExtendU = refl
+
+load_is_word : (o : LoadOp) → is_word (load_name o) ≡ true
+load_is_word load_op.I32 = refl
+load_is_word load_op.I64 = refl
+load_is_word load_op.I32S8 = refl
+load_is_word load_op.I32U8 = refl
+load_is_word load_op.I32S16 = refl
+load_is_word load_op.I32U16 = refl
+load_is_word load_op.I64S8 = refl
+load_is_word load_op.I64U8 = refl
+load_is_word load_op.I64S16 = refl
+load_is_word load_op.I64U16 = refl
+load_is_word load_op.I64S32 = refl
+load_is_word load_op.I64U32 = refl
+
+store_is_word : (o : StoreOp) → is_word (store_name o) ≡ true
+store_is_word store_op.I32 = refl
+store_is_word store_op.I64 = refl
+store_is_word store_op.I32To8 = refl
+store_is_word store_op.I32To16 = refl
+store_is_word store_op.I64To8 = refl
+store_is_word store_op.I64To16 = refl
+store_is_word store_op.I64To32 = refl
+
+types_are_words : (w : List ℕ) → is_word w ≡ true → (ts : List ValType) → AreWords (types_behind w ts)
+types_are_words w e [] = tt
+types_are_words w e (t ∷ ts) = inside (word w ∷ map (λ t. word (type_name t)) (t ∷ ts))
+    (e, each (λ t. word (type_name t)) type_is_word (t ∷ ts))
+
+numbers_are_words : (ns : List ℕ) → AreWords (map number ns)
+numbers_are_words ns = each number (λ n. tt) ns
+
+result_words : (t : Option ValType) → AreWords (types_behind (codes "result") (at_most_one t))
+result_words t = types_are_words (codes "result") refl (at_most_one t)
+
+mutual
+  instruction_words : (i : Instruction) → AreWords (instruction i)
+  instruction_words unreachable = (refl, tt)
+  instruction_words nop = (refl, tt)
+  instruction_words give_back = (refl, tt)
+  instruction_words drop_value = (refl, tt)
+  instruction_words select = (refl, tt)
+  instruction_words memory_size = (refl, tt)
+  instruction_words memory_grow = (refl, tt)
+  instruction_words (br x) = (refl, (tt, tt))
+  instruction_words (br_if x) = (refl, (tt, tt))
+  instruction_words (call x) = (refl, (tt, tt))
+  instruction_words (local_get x) = (refl, (tt, tt))
+  instruction_words (local_set x) = (refl, (tt, tt))
+  instruction_words (local_tee x) = (refl, (tt, tt))
+  instruction_words (global_get x) = (refl, (tt, tt))
+  instruction_words (global_set x) = (refl, (tt, tt))
+  instruction_words (const_i32 x) = (refl, (tt, tt))
+  instruction_words (const_i64 x) = (refl, (tt, tt))
+  instruction_words (br_table ls l) = (refl, both (map number ls) _ (numbers_are_words ls) (tt, tt))
+  instruction_words (call_indirect t) = (refl, (tt, (refl, (tt, (tt, tt)))))
+  instruction_words (load o align offset) = (load_is_word o, (refl, (refl, tt)))
+  instruction_words (store o align offset) = (store_is_word o, (refl, (refl, tt)))
+  instruction_words (numeric o) = (number_is_word o, tt)
+  instruction_words (block t body) = (
+    refl,
+    both (types_behind (codes "result") (at_most_one t) ++ code body) _
+        (both (types_behind (codes "result") (at_most_one t)) _ (result_words t) (code_words body)) (refl, tt),
+  )
+  instruction_words (loop t body) = (
+    refl,
+    both (types_behind (codes "result") (at_most_one t) ++ code body) _
+        (both (types_behind (codes "result") (at_most_one t)) _ (result_words t) (code_words body)) (refl, tt),
+  )
+  instruction_words (cond t a b) = (
+    refl,
+    both (types_behind (codes "result") (at_most_one t) ++ code a ++ otherwise b) _
+        (both (types_behind (codes "result") (at_most_one t) ++ code a) _
+        (both (types_behind (codes "result") (at_most_one t)) _ (result_words t) (code_words a))
+        (otherwise_words b)) (refl, tt),
+  )
+
+  code_words : (c : Code) → AreWords (code c)
+  code_words end = tt
+  code_words (next i c) = both (instruction i) _ (instruction_words i) (code_words c)
+
+  otherwise_words : (c : Code) → AreWords (otherwise c)
+  otherwise_words end = tt
+  otherwise_words (next i c) = (refl, both (instruction i) _ (instruction_words i) (code_words c))
+
+type_words : (t : FuncType) → AreWords (function_type t)
+type_words t =
+    let lists = both (types_behind (codes "param") t.params) _ (types_are_words (codes "param") refl t.params)
+    (types_are_words (codes "result") refl t.results) in
+    inside (word (codes "type") ∷ within
+    (word (codes "func") ∷ types_behind (codes "param") t.params ++ types_behind (codes "result") t.results)) (
+      refl,
+      inside
+          (word (codes "func") ∷ types_behind (codes "param") t.params ++ types_behind
+          (codes "result") t.results) (refl, lists),
+    )
+
+function_words : (f : Function) → AreWords (function f)
+function_words f = (
+  tt,
+  (
+    refl,
+    (
+      tt,
+      (
+        refl,
+        (
+          tt,
+          (
+            tt,
+            both (types_behind (codes "local") f.locals ++ code f.body) _
+                (both (types_behind (codes "local") f.locals) _ (types_are_words (codes "local") refl f.locals)
+                (code_words f.body)) (tt, tt),
+          ),
+        ),
+      ),
+    ),
+  ),
+)
+
+limits_words : (l : Limits) → AreWords (limits l)
+limits_words l = (tt, numbers_are_words (at_most_one l.max))
+
+table_words : (l : Limits) → AreWords (table l)
+table_words l = (
+  tt,
+  (
+    refl,
+    both (limits l ++ word (codes "funcref") ∷ []) _ (both (limits l) _ (limits_words l) (refl, tt))
+        (tt, tt),
+  ),
+)
+
+memory_words : (l : Limits) → AreWords (memory l)
+memory_words l = (tt, (refl, both (limits l) _ (limits_words l) (tt, tt)))
+
+global_type_words : (v : Bool) (t : ValType) → AreWords (global_type v t)
+global_type_words false t = (type_is_word t, tt)
+global_type_words true t = (tt, (refl, (type_is_word t, (tt, tt))))
+
+global_words : (g : Global) → AreWords (global g)
+global_words g = (
+  tt,
+  (
+    refl,
+    both (global_type g.variable g.kind ++ code g.init) _
+        (both (global_type g.variable g.kind) _ (global_type_words g.variable g.kind) (code_words g.init)) (tt, tt),
+  ),
+)
+
+exported_words : (w : Exported) → AreWords (exported w)
+exported_words (what.Func x) = (refl, (tt, tt))
+exported_words (what.Table x) = (refl, (tt, tt))
+exported_words (what.Memory x) = (refl, (tt, tt))
+exported_words (what.Global x) = (refl, (tt, tt))
+
+export_words : (e : Exporting) → AreWords (export e)
+export_words e =
+    (tt, (refl, (tt, both (within (exported e.what)) _ (inside (exported e.what) (exported_words e.what)) (tt, tt))))
+
+offset_words : (c : Code) → AreWords (offset c)
+offset_words c = (tt, (refl, both (code c) _ (code_words c) (tt, tt)))
+
+element_words : (e : ElementSegment) → AreWords (element e)
+element_words e = (
+  tt,
+  (
+    refl,
+    both (offset e.offset ++ map number e.funcs) _
+        (both (offset e.offset) _ (offset_words e.offset) (numbers_are_words e.funcs)) (tt, tt),
+  ),
+)
+
+data_words : (d : DataSegment) → AreWords (data_segment d)
+data_words d = (
+  tt,
+  (
+    refl,
+    both (offset d.offset ++ octets d.bytes ∷ []) _
+        (both (offset d.offset) _ (offset_words d.offset) (tt, tt)) (tt, tt),
+  ),
+)
+
+-- of each line
+abbrev pub LinesAreWords : List (List Lexeme) → Type 0
+LinesAreWords ls = AllByRecursion AreWords ls
+
+field_lines : {A : Type 0} (f : A → List Lexeme) → ((x : A) → AreWords (f x)) → (xs : List A) → LinesAreWords
+    (map f xs)
+field_lines f g [] = tt
+field_lines f g (x ∷ xs) = (g x, field_lines f g xs)
+
+more_lines : (xs ys : List (List Lexeme)) → LinesAreWords xs → LinesAreWords ys → LinesAreWords (xs ++ ys)
+more_lines [] ys a b = b
+more_lines (x ∷ xs) ys a b = (a.0, more_lines xs ys a.1 b)
+
+fields_are_words : (m : PureModule) → LinesAreWords (fields m)
+fields_are_words m =
+    let a1 = more_lines (map function_type m.types) (map function m.funcs)
+    (field_lines function_type type_words m.types) (field_lines function function_words m.funcs) in
+    let a2 = more_lines (map function_type m.types ++ map function m.funcs) (map table (at_most_one m.table)) (a1)
+    (field_lines table table_words (at_most_one m.table)) in
+    let a3 = more_lines (map function_type m.types ++ map function m.funcs ++ map table (at_most_one m.table))
+    (map memory (at_most_one m.memory)) (a2) (field_lines memory memory_words (at_most_one m.memory)) in
+    let a4 = more_lines
+    (map function_type m.types ++ map function m.funcs ++ map table (at_most_one m.table) ++ map memory
+    (at_most_one m.memory)) (map global m.globals) (a3) (field_lines global global_words m.globals) in
+    let a5 = more_lines
+    (map function_type m.types ++ map function m.funcs ++ map table (at_most_one m.table) ++ map memory
+    (at_most_one m.memory) ++ map global m.globals) (map export m.exports) (a4)
+    (field_lines export export_words m.exports) in
+    let a6 = more_lines
+    (map function_type m.types ++ map function m.funcs ++ map table (at_most_one m.table) ++ map memory
+    (at_most_one m.memory) ++ map global m.globals ++ map export m.exports) (map element m.elements) (a5)
+    (field_lines element element_words m.elements) in
+    let a7 = more_lines
+    (map function_type m.types ++ map function m.funcs ++ map table (at_most_one m.table) ++ map memory
+    (at_most_one m.memory) ++ map global m.globals ++ map export m.exports ++ map element m.elements)
+    (map data_segment m.segments) (a6) (field_lines data_segment data_words m.segments) in
+    a7
+
+pub lines_are_words : (m : PureModule) → LinesAreWords (lines m)
+lines_are_words m = ((tt, (refl, tt)), more_lines (fields m) ((right ∷ []) ∷ []) (fields_are_words m) ((tt, tt), tt))

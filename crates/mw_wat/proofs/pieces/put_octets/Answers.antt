@@ -1,0 +1,23 @@
+use Rattle.std.proofs.Common.{refl, ap, ◌∙◌, ◌++◌}
+use Rattle.std.specs.Prelude.{codes}
+use Rattle.std.specs.List.{flat_map}
+use Rattle.mw_wat.specs.CanonicalTexts.{escaped}
+use Rattle.mw_wat.proofs.Appending.{left_step, left_end, string_end}
+use Rattle.mw_wat.proofs.pieces.put_octets.Goals as goal
+
+pub loop-byte-init : goal.loop-byte-init
+loop-byte-init c = ap (λ text. text ++ flat_map escaped c.as_slice-list.result.now) c.in_ok-put.ensures
+
+pub loop-byte-preserved : goal.loop-byte-preserved
+loop-byte-preserved c =
+    left_step escaped c.as_slice-list.result.now c.loop-byte.byte-index _ _ c.loop-byte.out.items
+    c.put_escaped.new.out.items _
+    c.loop-byte-test.true refl c.in_ok-put_escaped.ensures c.loop-byte.invariant
+
+pub returns : goal.returns
+returns c = string_end c.put-2.result c.args.out.now.items c.loop-byte.out.items c.put-2.new.out.items
+    (flat_map escaped c.args.bytes.now)
+    (left_end escaped c.as_slice-list.result.now c.loop-byte.byte-index c.loop-byte.out.items _ c.loop-byte-test.false
+    c.loop-byte.invariant
+    ∙ ap (λ list. (c.args.out.now.items ++ codes " \"") ++ flat_map escaped list) c.as_slice-list.ensures)
+    c.put-2.ensures

@@ -1,0 +1,12 @@
+pub mod Tokens
+pub mod Names
+pub mod Lexemes
+pub mod ModuleTexts
+pub mod CanonicalTexts
+pub mod Spacing
+pub mod Lexing
+pub mod Reading
+pub mod Instructions
+pub mod Modules
+pub mod TextLaws
+pub mod WorkedTexts
