@@ -37,7 +37,7 @@ with_kernel_gave x k c one_stuck ks q = absurd (cc)
 item_gave : (x : List ℕ) (k : KernelType) (o : Outcome Expression) (others : ItemsRun) (ks : List Kernel)
     → before_others x k o others ≡ all_gave ks
     → (c : Expression) × (o ≡ came_to c) × (js : List Kernel) × (others ≡ all_gave js)
-        × (codes_of ks ≡ c ∷ codes_of js)
+    × (codes_of ks ≡ c ∷ codes_of js)
 item_gave x k (came_to c) others ks q = let w = with_kernel_gave x k c others ks q in (c, refl, w.0, w.1, w.2)
 item_gave x k (traps t) others ks q = absurd (cc)
 item_gave x k (bounds l) others ks q = absurd (cc)
@@ -50,9 +50,9 @@ module _ (mode : Mode) (fuel : ℕ) (names : List Value) where
   -- an item before others that came to their codes
   item_came : (x : List ℕ) (d : Definition) (items : List NamedItem) (ks : List Kernel)
       → ((js : List Kernel) → run_items mode fuel names items ≡ all_gave js → ItemsCameTo mode fuel names
-          (definitions items) (codes_of js))
+      (definitions items) (codes_of js))
       → run_item mode fuel names x d (run_items mode fuel names items) ≡ all_gave ks → ItemsCameTo mode fuel names
-          (d ∷ definitions items) (codes_of ks)
+      (d ∷ definitions items) (codes_of ks)
   item_came x (defines e) items ks rest q = rest ks q
   item_came x (kernel k e) items ks rest q =
       let c = item_gave x k (item_outcome mode names fuel e) (run_items mode fuel names items) ks q in
@@ -75,7 +75,7 @@ module _ (mode : Mode) (fuel : ℕ) (names : List Value) where
   outcome_no_answer : (x : List ℕ) (k : KernelType) (o : Outcome Expression) (r : ItemsRun) (ks : List Kernel)
       (v : PureGroundValue)
       → ((js : List Kernel) → r ≡ one_ended js (answered v) → ⊥) → before_others x k o r ≡ one_ended ks (answered v)
-          → ⊥
+      → ⊥
   outcome_no_answer x k (came_to c) r ks v never q = kernel_no_answer x k c r ks v never q
   outcome_no_answer x k (traps t) r ks v never q = absurd (cc)
   outcome_no_answer x k (bounds l) r ks v never q = absurd (cc)
@@ -83,7 +83,7 @@ module _ (mode : Mode) (fuel : ℕ) (names : List Value) where
 
   item_no_answer : (x : List ℕ) (d : Definition) (r : ItemsRun) (ks : List Kernel) (v : PureGroundValue)
       → ((js : List Kernel) → r ≡ one_ended js (answered v) → ⊥) → run_item mode fuel names x d r ≡ one_ended ks
-          (answered v) → ⊥
+      (answered v) → ⊥
   item_no_answer x (defines e) r ks v never q = never ks q
   item_no_answer x (kernel k e) r ks v never q = outcome_no_answer x k (item_outcome mode names fuel e) r ks v never q
 
@@ -97,7 +97,7 @@ module _ (mode : Mode) (fuel : ℕ) (names : List Value) where
 main_answered : (main : List Expression → Option Ending) (r : ItemsRun) (ks : List Kernel) (v : PureGroundValue)
     → ((js : List Kernel) → r ≡ one_ended js (answered v) → ⊥)
     → with_main main r ≡ ended ks (answered v) → (js : List Kernel) × (r ≡ all_gave js)
-        × (main (codes_of js) ≡ Some (answered v))
+    × (main (codes_of js) ≡ Some (answered v))
 main_answered main (all_gave js) ks v never q = (js, refl, ending_is (main (codes_of js)) q)
   where
     ending_is : (o : Option Ending) → ended_after js o ≡ ended ks (answered v) → o ≡ Some (answered v)
@@ -112,7 +112,7 @@ run_answers : (mode : Mode) (fuel : ℕ) (p : NamedProgram) (ks : List Kernel) (
 run_answers mode fuel p ks v q =
     let names = names_of_items (unnamed p).items in
     let h = main_answered (λ codes. main_after mode fuel (unnamed p).items p.body codes) (items_run mode fuel p) ks v
-        (λ js q. no_answer mode fuel names p.items js v q) q in
+    (λ js q. no_answer mode fuel names p.items js v q) q in
     record {
       codes = codes_of h.0;
       items = items_came mode fuel names p.items h.0 h.1;
@@ -129,7 +129,7 @@ record OfProgram (bytes : List ℕ) (P : NamedProgram → Type 0) : Type 0 where
 run_of_answer : {bytes : List ℕ} {fuel : ℕ} {shown : Shown} {m : Meaning} (other : Shown) (ks : List Kernel)
     (v : PureGroundValue) → IsMeaning (running bytes fuel shown) m
     → m ≡ ran other ks (answered v) → OfProgram bytes
-        (λ p. program_run (mode_of shown) fuel p ≡ ended ks (answered v))
+    (λ p. program_run (mode_of shown) fuel p ≡ ended ks (answered v))
 run_of_answer other ks v (of_refusal r) q = absurd (cc)
 run_of_answer other ks v (of_types p read f) q = absurd (cc)
 run_of_answer other ks v (of_program {kernels = js} {e = e} p read accepted is) q =
@@ -149,7 +149,7 @@ answers_are_erased bytes fuel m shown ks v w h k =
     let b = erased_of_answer w k refl in
     let p = a.program in
     let same : erased_ending m (unnamed p) ≡ Some (answered w) =
-        ap (λ (p : NamedProgram). erased_ending m (unnamed p)) (one_program bytes p b.program a.read b.read) ∙ b.is in
+    ap (λ (p : NamedProgram). erased_ending m (unnamed p)) (one_program bytes p b.program a.read b.read) ∙ b.is in
     answers_agree (mode_of shown) (unnamed p) fuel m v w (source_program bytes p a.read) a.accepted.typable
-        (run_answers (mode_of shown) fuel p ks v a.is)
+    (run_answers (mode_of shown) fuel p ks v a.is)
     (main_came (erased_outcome m (unnamed p)) w same)

@@ -33,18 +33,20 @@ no_wrong_item mode p fuel load honest h = none_wrong mode load honest _ h.4
 module _ (mode : Mode) (names : List Value) (fuel : ℕ) (cache : CacheState) where
   meant : IsHonest cache.load → (items : List Definition) (outcomes : List ItemOutcome)
       → EachKernel (IsOutcomeOf mode names fuel cache) items outcomes → EachKernel
-          (IsMeant mode names fuel cache) items outcomes
+      (IsMeant mode names fuel cache) items outcomes
   meant honest [] [] h = tt
   meant honest [] (o ∷ outcomes) h = absurd h
   meant honest (defines e ∷ items) outcomes h = meant honest items outcomes h
   meant honest (kernel k e ∷ items) [] h = absurd h
-  meant honest (kernel k e ∷ items) (o ∷ outcomes) h =
-      (record { means = h.0.means (honest_runs mode cache.load honest _); placed = h.0.placed }, meant honest items
-          outcomes h.1)
+  meant honest (kernel k e ∷ items) (o ∷ outcomes) h = (
+    record { means = h.0.means (honest_runs mode cache.load honest _); placed = h.0.placed },
+    meant honest items
+        outcomes h.1,
+  )
 
   given : (items : List Definition) (outcomes : List ItemOutcome)
       → EachKernel (IsMeant mode names fuel cache) items outcomes → EachKernel
-          (IsOutcomeOf mode names fuel cache) items outcomes
+      (IsOutcomeOf mode names fuel cache) items outcomes
   given [] [] h = tt
   given [] (o ∷ outcomes) h = absurd h
   given (defines e ∷ items) outcomes h = given items outcomes h

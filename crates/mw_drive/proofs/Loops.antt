@@ -112,7 +112,7 @@ module _ (p : NamedProgram) (outcomes : List ItemOutcome) (at next : ℕ) (built
       run_here =
           run_at (kernel k e) (o ∷ drop (next + 1) outcomes) is (drop_next outcomes next o there)
           ∙ ap (with_kernels (kernels_of built))
-              (run (outcomes_run (drop (at + 1) p.items) (drop (next + 1) outcomes)))
+          (run (outcomes_run (drop (at + 1) p.items) (drop (next + 1) outcomes)))
 
       pub reaches_end : (n : End) → end ≡ item.Ended n
           → outcomes_run p.items outcomes ≡ one_ended (kernels_of built) (ending_of n)
@@ -124,7 +124,7 @@ module _ (p : NamedProgram) (outcomes : List ItemOutcome) (at next : ℕ) (built
 
       pub reaches_code : (b : Built) (more : List Built) → end ≡ item.Code b → more ≡ built ++ b ∷ []
           → ((mode : Mode) (cache : CacheState) → IfBuilt o (IsPlaced mode cache k) → IfKernel
-              (IsBuilt mode cache) end)
+          (IsBuilt mode cache) end)
           → Reaches p outcomes (at + 1) (next + 1) more
       reaches_code b more code push placed =
           let rest = drop_next outcomes next o there in

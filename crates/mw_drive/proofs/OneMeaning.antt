@@ -55,7 +55,7 @@ module _ (bytes : List ℕ) where
       let s : a.surface ≡ b.surface =
       same_surface a.tokens b.tokens a.surface b.surface a.are_tokens b.are_tokens a.is_surface b.is_surface in
       let names : names_of p ≡ names_of q = a.names
-          ∙ (ap (λ (x : PureSurface). map name_of x.items) s ∙ sym b.names) in
+      ∙ (ap (λ (x : PureSurface). map name_of x.items) s ∙ sym b.names) in
       same_program p q names
       (one_nameless b.surface (unnamed p) (unnamed q) (subst (λ x. IsNameless x (unnamed p)) s a.is_nameless)
       b.is_nameless)
@@ -115,7 +115,7 @@ module _ (bytes : List ℕ) where
       let same = one_program p q a b in
       let one : r ≡ k =
       refusal-one (unnamed q) (written q b) r k
-          (subst (λ (x : NamedProgram). IsFirstRefusal (unnamed x) r) same f) g in
+      (subst (λ (x : NamedProgram). IsFirstRefusal (unnamed x) r) same f) g in
       ap (λ x. refused x (names_of p)) one ∙ ap (λ (x : NamedProgram). refused k (names_of x)) same
 
   accepted_or_refused : (p q : NamedProgram) (r : Refusal) → IsRead bytes p → IsRead bytes q

@@ -116,7 +116,7 @@ module _ (P : Kernel → Type 0) (mode : Mode) (fuel : ℕ) (p : NamedProgram) (
   main_after_ends _ (as_all {kernels = ks} each codes) =
       let e =
       main_ends (HasGroundType p.result)
-          (main_outcome mode (names_of_main (unnamed p).items (codes_of ks)) fuel p.body)
+      (main_outcome mode (names_of_main (unnamed p).items (codes_of ks)) fuel p.body)
       (main_comes_to_its_value_after_items mode (unnamed p) (codes_of ks) fuel typable codes) in
       record { kernels = ks; ending = e.0; is = ap (ended_after ks) e.1; each = each }
   main_after_ends _ (as_one {kernels = ks} {e = e} each) = record { kernels = ks; ending = e; is = refl; each = each }

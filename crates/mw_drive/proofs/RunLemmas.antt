@@ -140,9 +140,11 @@ faithful_at {work} kind before after m h e =
 pub some_output : (work : Work) (before : List ℕ)
     → (text : List ℕ) × IsOutput work text × GrowsByFront before before text
 some_output work before =
-    let m = some_meaning work in
-    (text_of m.0, record { meaning = m.0; is_meaning = m.1; is_text = refl },
-        (0, omega arith, sym (append-nil before)))
+    let m = some_meaning work in (
+      text_of m.0,
+      record { meaning = m.0; is_meaning = m.1; is_text = refl },
+      (0, omega arith, sym (append-nil before)),
+    )
 
 -- a front is not the whole
 front_not_whole : a_front ≡ whole → ⊥
@@ -166,7 +168,7 @@ carried kind (Err fault.Failed) s before after work w is =
     record {
       faithful =
           λ t. subst (λ s. IsFaithful (extent kind s) work s before after) (sym is)
-              (text_of w.meaning, o, w.writes t);
+          (text_of w.meaning, o, w.writes t);
       meaning = λ c. absurd (front_not_whole (subst (λ s. extent kind s ≡ whole) is c));
     }
 carried kind (Err (fault.Memory error)) s before after work w is =
@@ -175,7 +177,7 @@ carried kind (Err (fault.Memory error)) s before after work w is =
     record {
       faithful =
           λ t. subst (λ s. IsFaithful (extent kind s) work s before after) (sym is)
-              (text_of w.meaning, o, w.writes t);
+          (text_of w.meaning, o, w.writes t);
       meaning = λ c. absurd (front_not_whole (subst (λ s. extent kind s ≡ whole) is c));
     }
 

@@ -108,7 +108,7 @@ run_failed shown fuel program P r tells before after kernels e err is front = re
 pub run_ended : (shown : Shown) (fuel : ℕ) (program : Program) (r : Result Status WriteFault) (tells : Bool)
     (before mid after : List ℕ)
     (kernels : List Kernel) (e : Ending) → program_run (mode_of shown) fuel
-        (named_program_of program) ≡ ended kernels e
+    (named_program_of program) ≡ ended kernels e
     → IfOk r (λ s. s ≡ ending_status e) → (IsTrue tells → mid ≡ before ++ shown_text shown kernels)
     → Writes r tells mid after (ending_line e)
     → IsWrittenRun shown fuel (named_program_of program) r tells before after

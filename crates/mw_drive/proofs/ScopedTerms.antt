@@ -17,8 +17,8 @@ pub small_program : (bytes : List ℕ) (p : NamedProgram) → IsRead bytes p →
 small_program bytes p read =
     let same = same_program read.surface (unnamed p) read.is_nameless in
     let few = few_nodes read.tokens (length bytes) read.surface
-        (in_order bytes read.tokens read.are_tokens) read.small
-        (sparse_program read.tokens read.surface read.is_surface) in omega arith
+    (in_order bytes read.tokens read.are_tokens) read.small
+    (sparse_program read.tokens read.surface read.is_surface) in omega arith
 
 few_items : (p : NamedProgram) (items : List PureItem) → names_of p ≡ map name_of items → length items ≤ 1000 → length
     (unnamed p).items ≤ 1000
@@ -33,5 +33,5 @@ pub is_resolved : (bytes : List ℕ) (p : NamedProgram) → IsRead bytes p → I
 is_resolved bytes p read =
     let scoped = nameless_is_scoped read.surface (unnamed p) read.is_nameless in
     resolved.is_resolved (unnamed p) (small_program bytes p read) (λ i e at. scoped.items i (value e) at)
-        (λ i k e at. scoped.items i (kernel k e) at) scoped.body
-        (few_items p read.surface.items read.names read.is_surface.few.items)
+    (λ i k e at. scoped.items i (kernel k e) at) scoped.body
+    (few_items p read.surface.items read.names read.is_surface.few.items)

@@ -79,7 +79,7 @@ module _ (mode : Mode) where
   -- the lines of one kernel more
   lines_next : (built : List Built) (at : ℕ) (b : Built) → slice_get built at ≡ Some b
       → lines (kernels_of (take (at + 1) built)) ≡ lines (kernels_of (take at built)) ++ kernel_lines mode
-          (kernel_of b)
+      (kernel_of b)
   lines_next built at b here =
       ap lines (kernels_next built at b here)
       ∙ (flat_map-append (kernel_lines mode) (kernels_of (take at built)) (kernel_of b ∷ [])

@@ -59,7 +59,7 @@ item_alike name k no_outcome b others others' h f = tt
 module _ (n m : ℕ) (names : List Value) where
   first_alike : (name : List ℕ) (d : Definition) (others others' : ItemsRun)
       → ((k : KernelType) (e : Expression) → d ≡ kernel k e → Stays (item_outcome Plain names n e)
-          (item_outcome Simple names m e)) → ItemsAlike others others'
+      (item_outcome Simple names m e)) → ItemsAlike others others'
       → ItemsAlike (run_item Plain n names name d others) (run_item Simple m names name d others')
   first_alike name (defines e) others others' h f = f
   first_alike name (kernel k e) others others' h f =
@@ -67,12 +67,12 @@ module _ (n m : ℕ) (names : List Value) where
 
   items_alike : (items : List NamedItem)
       → ((i : ℕ) (k : KernelType) (e : Expression) → slice_get (map (λ i. i.is) items) i ≡ Some (kernel k e) → Stays
-          (item_outcome Plain names n e) (item_outcome Simple names m e))
+      (item_outcome Plain names n e) (item_outcome Simple names m e))
       → ItemsAlike (run_items Plain n names items) (run_items Simple m names items)
   items_alike [] h = refl
   items_alike (item ∷ items) h =
       first_alike item.name item.is _ _ (λ k e q. h zero k e (rw q refl))
-          (items_alike items (λ i k e q. h (suc i) k e q))
+      (items_alike items (λ i k e q. h (suc i) k e q))
 
 ended_alike : (ks : List Kernel) (a b : Option Ending) → MainAlike a b → EndsAlike (ended_after ks a)
     (ended_after ks b)
@@ -95,13 +95,13 @@ runs_end_alike : (p : NamedProgram) (n m : ℕ) → Typable (unnamed p) → n �
     (program_run Simple m p)
 runs_end_alike p n m typable le =
     with_main_alike (λ codes. main_after Plain n (unnamed p).items p.body codes)
-        (λ codes. main_after Simple m (unnamed p).items p.body codes)
+    (λ codes. main_after Simple m (unnamed p).items p.body codes)
     (items_run Plain n p) (items_run Simple m p)
     (λ codes. main_alike (main_outcome Plain (names_of_main (unnamed p).items codes) n p.body)
-        (main_outcome Simple (names_of_main (unnamed p).items codes) m p.body)
+    (main_outcome Simple (names_of_main (unnamed p).items codes) m p.body)
     (main_stays (names_of_main (unnamed p).items codes) p.body n m le))
     (items_alike n m (names_of_items (unnamed p).items) p.items
-        (λ i k e q. items_stay (unnamed p) i k e n m typable q le))
+    (λ i k e q. items_stay (unnamed p) i k e n m typable q le))
 
 -- no bound, so it ends the same
 unbounded : (kernels : List Kernel) (e : Ending) (b : ProgramRun) → IsUnbounded e → EndsAlike (ended kernels e) b
@@ -113,4 +113,4 @@ unbounded kernels (bounded l name) b h alike = absurd (h)
 pub programs_end_alike : ProgramsEndAlike
 programs_end_alike p n m kernels e typable le is h =
     unbounded kernels e (program_run Simple m p) h
-        (subst (λ (r : ProgramRun). EndsAlike r (program_run Simple m p)) is (runs_end_alike p n m typable le))
+    (subst (λ (r : ProgramRun). EndsAlike r (program_run Simple m p)) is (runs_end_alike p n m typable le))

@@ -17,7 +17,7 @@ of_run {fuel = fuel} kernels e (of_program {kernels = ks} {e = d} p read accepte
     let same : ks ≡ kernels = cc in
     let ending : d ≡ e = cc in
     of_program p read accepted
-        (programs_end_alike p fuel fuel kernels e accepted.typable (omega arith) (rw (same, ending) at is) h)
+    (programs_end_alike p fuel fuel kernels e accepted.typable (omega arith) (rw (same, ending) at is) h)
 
 pub simplified_run : (bytes : List ℕ) (fuel : ℕ) (kernels : List Kernel) (e : Ending) → IsMeaning
     (running bytes fuel (Lines Plain)) (ran (Lines Plain) kernels e) → IsUnbounded e

@@ -99,7 +99,7 @@ same_program p q h k =
     let results : p.result ≡ q.result = ap (λ r. r.result) k in
     let bodies : p.body ≡ q.body = ap (λ r. r.body) k in
     ap (λ xs. made_program xs p.result p.body) items ∙ ap (λ b. made_program q.items b p.body) results ∙ ap
-        (made_program q.items q.result) bodies
+    (made_program q.items q.result) bodies
 
 map_map : {A B C : Type 0} (f : B → C) (g : A → B) (xs : List A) → map f (map g xs) ≡ map (λ x. f (g x)) xs
 map_map f g [] = refl
@@ -275,7 +275,7 @@ module _ (bytes : List ℕ) (tokens : List PureToken) (t : HasTokens bytes token
       (s.none r (refuses_same bytes tokens t r others are q))
   read_first resolved h r (at_names others other f small are is k e) =
       let first : IsFirst (faults_of surface) f = subst (λ v. IsFirst (faults_of v) f)
-          (sym (one_surface others other are is)) k in
+      (sym (one_surface others other are is)) k in
       subst (IsRefusalOrMemory resolved) (sym e) (h.first f first)
 
 -- The clauses of `read`, by the three calls' answers.
@@ -341,6 +341,6 @@ pub few_nodes_read : (bytes : List ℕ) (lexed : Result (List Token) Stop) → L
     → surface_size (surface_of s) ≤ 3145728
 few_nodes_read bytes lexed l v found parsed p s e =
     few_nodes (tokens_of v) (length bytes) (surface_of s)
-        (IfOk-at_ok (λ w. AreInOrder (tokens_of w) (length bytes)) found l.in_order)
-        (has_tokens bytes lexed l v found).small
-        (IfOk-at_ok (λ w. IsSparse (tokens_of v) (surface_of w)) e p.sparse)
+    (IfOk-at_ok (λ w. AreInOrder (tokens_of w) (length bytes)) found l.in_order)
+    (has_tokens bytes lexed l v found).small
+    (IfOk-at_ok (λ w. IsSparse (tokens_of v) (surface_of w)) e p.sparse)

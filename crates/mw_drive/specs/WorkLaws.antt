@@ -18,4 +18,4 @@ SomeMeaning = (work : Work) → (m : Meaning) × IsMeaning work m
 abbrev pub AnswersAreErased : Type 0
 AnswersAreErased = (bytes : List ℕ) (fuel m : ℕ) (shown : Shown) (kernels : List Kernel) (v w : PureGroundValue)
     → IsMeaning (running bytes fuel shown) (ran shown kernels (answered v)) → IsMeaning (erasing bytes m)
-        (erased (answered w)) → v ≡ w
+    (erased (answered w)) → v ≡ w

@@ -66,7 +66,7 @@ pub data IsMeaning : Work → Meaning → Type 0 where
   of_program : {bytes : List ℕ} {fuel : ℕ} {shown : Shown} {kernels : List Kernel} {e : Ending} (p : NamedProgram)
       → IsRead bytes p
       → IsAccepted (unnamed p) → program_run (mode_of shown) fuel p ≡ ended kernels e → IsMeaning
-          (running bytes fuel shown) (ran shown kernels e)
+      (running bytes fuel shown) (ran shown kernels e)
   of_erased_refusal : {bytes : List ℕ} {fuel : ℕ} {r : Refusal} {names : List (List ℕ)} → IsMeaning
       (running bytes fuel (Lines Plain)) (refused r names)
       → IsMeaning (erasing bytes fuel) (refused r names)

@@ -66,9 +66,9 @@ module _ {X : Type 0} where
       let same : 0 + v ≡ v = omega arith in
       let end : lists_from 0 v (suc v) xs ++ every v (suc v) xs ∷ [] ≡ lists_from 0 (suc v) (suc v) xs =
       subst (λ i. lists_from 0 v (suc v) xs ++ every i (suc v) xs ∷ [] ≡ lists_from 0 (suc v) (suc v) xs) same
-          (last 0 v (suc v) xs) in
+      (last 0 v (suc v) xs) in
       let whole : lists_from 1 v (suc v) (x ∷ xs) ++ every (suc v - 1) (suc v) xs ∷ [] ≡ lists_from 0 (suc v)
-          (suc v) xs =
+      (suc v) xs =
       rw one (ap (λ lists. lists ++ every v (suc v) xs ∷ []) (later 0 v (suc v) x xs) ∙ end) in
       (refl, subst (AreDealt xs) (sym whole) (some_dealt v xs))
 
@@ -139,9 +139,11 @@ module _ {X Y : Type 0} (R : X → Y → Type 0) where
   numbered of i zero w xs (q ∷ queues) h = absurd h
   numbered of i (suc n) w xs [] h = absurd h
   numbered of i (suc n) w xs (q ∷ queues) h =
-      let next : i + 1 ≡ suc i = omega arith in
-      (h.0, numbered of (suc i) n w xs queues
-          (subst (λ j. AllZip (λ i q. AllZip R (every i w xs) (of q)) (range_with_len j n) queues) next h.1))
+      let next : i + 1 ≡ suc i = omega arith in (
+        h.0,
+        numbered of (suc i) n w xs queues
+            (subst (λ j. AllZip (λ i q. AllZip R (every i w xs) (of q)) (range_with_len j n) queues) next h.1),
+      )
 
   -- The outputs that are taken in turn are those of the items, where each list has the outputs of each w-th item.
   pub turned_zip : {Q : Type 0} (of : Q → List Y) (w : ℕ) (xs : List X) (numbers : List ℕ) (queues : List Q)
@@ -152,7 +154,7 @@ module _ {X Y : Type 0} (R : X → Y → Type 0) where
   turned_zip of w xs numbers queues ys some are each turned =
       let zip = subst (λ ns. AllZip (λ i q. AllZip R (every i w xs) (of q)) ns queues) are each in
       let dealt = dealt_too xs (lists_from 0 w w xs) (map of queues) (lists_dealt w xs some)
-          (numbered of 0 w w xs queues zip) in
+      (numbered of 0 w w xs queues zip) in
       rw (turned dealt.0 dealt.1) dealt.2
 
 -- the first of a queue, if there is one
@@ -204,7 +206,7 @@ module _ {Q Y : Type 0} (of : Q → List Y) (olds : List Q) (all taken : List Y)
   pub ends_empty : (q : Q) (rest : List Q) → olds ≡ q ∷ rest → of q ≡ [] → taken ≡ all
   ends_empty q rest front none =
       ended (first_missing h.0 (map of rest)
-          (subst (λ l. AreDealt h.0 (l ∷ map of rest)) none (subst (λ qs. AreDealt h.0 (map of qs)) front h.2)))
+      (subst (λ l. AreDealt h.0 (l ∷ map of rest)) none (subst (λ qs. AreDealt h.0 (map of qs)) front h.2)))
 
 -- Of the whole list these are served, so that R holds between them and what was made of them, and the others are left.
 pub record IsServed {X Y : Type 0} (R : X → Y → Type 0) (whole left : List X) (made : List Y) : Type 0 where

@@ -71,7 +71,7 @@ module _ (p : PureProgram) (part : Part) (fuel : ℕ) (m : Machine) (b : Begins 
     -- what a drive answers is typed
     pub typed : (r : Result Outcome KernelFault) (x : Outcome) (n : Machine) → r ≡ Ok x
         → ((q : PureProgram) (part : Part) → q.result ≡ given.result → IsUnderway q part kept_runs m
-            → DriveKeeps r q part n)
+        → DriveKeeps r q part n)
         → IsTypedOutcome p part x n
     typed r x n q keeps = subst (λ r. DriveKeeps r p part n) q (keeps p part same underway)
 

@@ -55,7 +55,7 @@ returns-in_err-write_kernels-clause-run g c =
     g.K.Sink.tells _ _ kernels e.0
     c.from_residual-in_err-write_kernels.ensures.1 e.1
     (λ t. grows_front _ _ (shown_text c.args.shown kernels) (ending_line e.0)
-        (c.in_err-write_kernels.ensures.writes t))
+    (c.in_err-write_kernels.ensures.writes t))
 
 pub returns-in-Some-clause-run : goal.returns-in-Some-clause-run
 returns-in-Some-clause-run g c =
@@ -93,7 +93,7 @@ returns-in_err-end-clause-run g c =
     kernels e.0
     c.from_residual-in_err-end.ensures.1 e.1
     (λ t. grows_whole _ _ (shown_text c.args.shown kernels) (ending_line e.0)
-        (c.in_ok-write_kernels.ensures.writes t))
+    (c.in_ok-write_kernels.ensures.writes t))
 
 pub returns-clause-run : goal.returns-clause-run
 returns-clause-run g c =

@@ -37,7 +37,7 @@ loop-at-preserved g c =
       written = λ mode built tells.
           let kernel =
           all_at (IsBuilt mode c.args.cache.now) c.args.kernels.now c.loop-at.at c.index-kernels-at.result built here
-              in
+          in
           lines_written mode c.args.kernels.now c.loop-at.at c.index-kernels-at.result _ _ _ here
           (c.loop-at.invariant.written mode built tells)
           (c.in_ok-write_kernel.ensures.writes mode kernel tells);

@@ -16,12 +16,12 @@ returns-clause-writes g c mode built =
     let lines =
     its_lines mode c.args.cache.now kernel built _ c.bytes-bytes.result.now
     (c.digest-key.ensures ∙ ap sha256 c.text-text.ensures)
-        (c.bytes-bytes.ensures.emission (honest_text c.args.cache.now.load c.requires.honest _)) in
+    (c.bytes-bytes.ensures.emission (honest_text c.args.cache.now.load c.requires.honest _)) in
     let told =
     kernel_text kernel.name.now (kernel_type_of kernel.kind.now) c.digest-key.result c.bytes-bytes.result.now in
     let text : c.as_slice.result.now ≡ kernel_lines mode (kernel_of kernel) =
     c.as_slice.ensures.value
-        ∙ (c.in_ok-put_kernel.ensures ∙ (ap (λ t. t ++ told) c.new-lines.ensures.items ∙ lines)) in
+    ∙ (c.in_ok-put_kernel.ensures ∙ (ap (λ t. t ++ told) c.new-lines.ensures.items ∙ lines)) in
     subst (Writes c.write_lines.result g.K.Sink.tells _ _) text
     (text_written c.write_lines.result g.K.Sink.tells _ _ c.as_slice.result.now c.write_lines.ensures.ok
     c.write_lines.ensures.front)

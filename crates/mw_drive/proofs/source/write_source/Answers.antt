@@ -22,7 +22,7 @@ returns-in-Err-Refused-check-clause-meaning g c =
     c.in-Err-Refused-check.field-0 c.in-Err-Refused-check.field-0-is c.in-Err-Refused-check.ensures.refused
     (rw c.in-Err-Refused-check.field-0-is at c.write_refusal-in-Err-Refused-check.ensures.status)
     (rw (c.in-Err-Refused-check.field-0-is, c.as_slice.ensures) at
-        c.write_refusal-in-Err-Refused-check.ensures.writes)
+    c.write_refusal-in-Err-Refused-check.ensures.writes)
 
 pub returns-in-Err-Memory-check-clause-meaning : goal.returns-in-Err-Memory-check-clause-meaning
 returns-in-Err-Memory-check-clause-meaning g c =

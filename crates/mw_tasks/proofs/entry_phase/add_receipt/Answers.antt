@@ -9,6 +9,6 @@ pub returns-in_ok-again-in-Stored-clause-fetched : goal.returns-in_ok-again-in-S
 returns-in_ok-again-in-Stored-clause-fetched c = λ old.
     let cells = c.args.cache.now.cells in
     all_pushed (IsFetched entry_text home cells) c.push.result c.args.stored.now c.push.new.self
-        c.in_ok-again-in-Stored.field-0 c.push.ensures.ok
+    c.in_ok-again-in-Stored.field-0 c.push.ensures.ok
     (subst (IsFetched entry_text home cells) (sym c.in_ok-again-in-Stored.ensures)
     (subst (IsAnswered c.args.cache.now) c.in-Stored.is c.requires)) old

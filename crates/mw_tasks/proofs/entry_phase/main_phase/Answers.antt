@@ -25,10 +25,10 @@ pub evaluated_over-requires-clause-codes : goal.evaluated_over-requires-clause-c
 evaluated_over-requires-clause-codes g c =
     let p = program_of c.args.program.now in
     subst (AreCodesOf p.items)
-        (sym (ap expressions_of c.as_slice-3.ensures.value ∙ c.in_ok-codes.ensures ∙ ap codes_in c.as_slice.ensures))
+    (sym (ap expressions_of c.as_slice-3.ensures.value ∙ c.in_ok-codes.ensures ∙ ap codes_in c.as_slice.ensures))
     (codes_are c.args.mode
-        (names_of_items p.items) c.args.fuel c.args.cache.now p.items c.args.phase.now.outcomes c.requires.phase
-        c.requires.built)
+    (names_of_items p.items) c.args.fuel c.args.cache.now p.items c.args.phase.now.outcomes c.requires.phase
+    c.requires.built)
 
 pub returns-clause-means : goal.returns-clause-means
 returns-clause-means g c =
@@ -37,14 +37,14 @@ returns-clause-means g c =
     let codes = codes_in c.args.phase.now.outcomes in
     of_same
     (λ mode hinted codes. AreRightRuns mode hinted.cache.load
-        (runs mode (names_of_main p.items codes) c.args.fuel p.body)
+    (runs mode (names_of_main p.items codes) c.args.fuel p.body)
     → IsMainAnswer c.in_ok-outcome.outcome (main_outcome mode (names_of_main p.items codes) c.args.fuel p.body))
     own.functions.mode c.args.mode own.cache (hinted_by c.args.phase.now.outcomes c.args.cache.now)
     (expressions_of c.as_slice-3.result.now) codes
     (ap (λ (f : FunctionState). f.mode) c.new-state.ensures.functions)
     (c.new-state.ensures.cache
     ∙ (c.new-cache.ensures ∙ hinted_as c.args.cache.now c.args.phase.now.outcomes _
-        (c.in_ok-hints.ensures.texts ∙ ap stored_texts c.as_slice-2.ensures)))
+    (c.in_ok-hints.ensures.texts ∙ ap stored_texts c.as_slice-2.ensures)))
     (ap expressions_of c.as_slice-3.ensures.value ∙ c.in_ok-codes.ensures ∙ ap codes_in c.as_slice.ensures)
     c.in_ok-outcome.ensures.outcome
 
@@ -55,7 +55,7 @@ returns-clause-spent g c =
     let codes = codes_in c.args.phase.now.outcomes in
     of_same
     (λ mode hinted codes. AreRightRuns mode hinted.cache.load
-        (runs mode (names_of_main p.items codes) c.args.fuel p.body)
+    (runs mode (names_of_main p.items codes) c.args.fuel p.body)
     → c.evaluated_over.new.steps ≤ c.args.steps.now
     + prices (λ c k. price_in hinted mode c k) (runs mode (names_of_main p.items codes) c.args.fuel p.body))
     own.functions.mode c.args.mode own.cache (hinted_by c.args.phase.now.outcomes c.args.cache.now)
@@ -63,6 +63,6 @@ returns-clause-spent g c =
     (ap (λ (f : FunctionState). f.mode) c.new-state.ensures.functions)
     (c.new-state.ensures.cache
     ∙ (c.new-cache.ensures ∙ hinted_as c.args.cache.now c.args.phase.now.outcomes _
-        (c.in_ok-hints.ensures.texts ∙ ap stored_texts c.as_slice-2.ensures)))
+    (c.in_ok-hints.ensures.texts ∙ ap stored_texts c.as_slice-2.ensures)))
     (ap expressions_of c.as_slice-3.ensures.value ∙ c.in_ok-codes.ensures ∙ ap codes_in c.as_slice.ensures)
     c.in_ok-outcome.ensures.cost

@@ -9,9 +9,9 @@ drive-requires g c = record {
   ready =
       let p = program_of c.args.program.now in
       ready p c.requires.body.0 c.args.fuel c.in_ok-machine.machine
-          (c.in_ok-machine.ensures.begins c.requires.body.0 c.requires.body.1)
+      (c.in_ok-machine.ensures.begins c.requires.body.0 c.requires.body.1)
       (named p c.requires.body.0 (expression_of c.args.body.now) c.requires.body.1) p refl
-          (g.K.Kernels.kept c.args.kernels.now)
+      (g.K.Kernels.kept c.args.kernels.now)
       (g.K.Kernels.stopped c.args.kernels.now) c.requires.«open»;
 }
 
@@ -24,18 +24,18 @@ returns-in_err-outcome-clause-means g c = λ part names is has sound.
     (g.K.Kernels.cost c.args.kernels.now)
     (g.K.Kernels.cost c.drive.new.kernels) c.drive.result c.drive.new.self c.drive.ensures.means names has sound
     c.from_residual-in_err-outcome.result c.in_err-outcome.field-0.0 c.from_residual-in_err-outcome.ensures.1
-        c.in_err-outcome.was
+    c.in_err-outcome.was
 
 pub returns-in_err-outcome-clause-bad : goal.returns-in_err-outcome-clause-bad
 returns-in_err-outcome-clause-bad g c =
     let p = program_of c.args.program.now in
     fault_is _ c.from_residual-in_err-outcome.result c.drive.result c.in_err-outcome.field-0.0
-        c.from_residual-in_err-outcome.ensures.1
+    c.from_residual-in_err-outcome.ensures.1
     c.in_err-outcome.was c.drive.ensures.bad
     (no_fault p c.requires.body.0 c.args.fuel c.in_ok-machine.machine
-        (c.in_ok-machine.ensures.begins c.requires.body.0 c.requires.body.1)
+    (c.in_ok-machine.ensures.begins c.requires.body.0 c.requires.body.1)
     (named p c.requires.body.0 (expression_of c.args.body.now) c.requires.body.1) p refl
-        (g.K.Kernels.kept c.args.kernels.now))
+    (g.K.Kernels.kept c.args.kernels.now))
 
 pub returns-clause-means : goal.returns-clause-means
 returns-clause-means g c = λ part names is has sound.
@@ -62,6 +62,6 @@ returns-clause-typed g c = λ part is.
     let p = program_of c.args.program.now in
     typed p part c.args.fuel c.in_ok-machine.machine (c.in_ok-machine.ensures.begins part is)
     (named p part (expression_of c.args.body.now) is) p refl
-        (g.K.Kernels.kept c.args.kernels.now) c.drive.result c.in_ok-outcome.outcome c.drive.new.self
-        c.in_ok-outcome.was
+    (g.K.Kernels.kept c.args.kernels.now) c.drive.result c.in_ok-outcome.outcome c.drive.new.self
+    c.in_ok-outcome.was
     c.drive.ensures.keeps

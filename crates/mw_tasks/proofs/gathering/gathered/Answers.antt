@@ -16,13 +16,13 @@ loop-done-preserved c =
     record {
       gathered =
           next_gathered c.args.all.items rest c.loop-done.outcomes c.push.new.self c.loop-done.kept
-              c.keep_each.new.self
+          c.keep_each.new.self
           c.loop-done.emitted c.saturating_add-emitted.result c.in-Some.done
           (subst (λ left. IsGathered c.args.all.items left c.loop-done.outcomes c.loop-done.kept c.loop-done.emitted)
-              step.0
+          step.0
           c.loop-done.invariant.gathered)
           c.in_ok-push.ensures.ok c.in_ok-keep_each.ensures.table c.in_ok-keep_each.ensures.stay
-              c.in_ok-keep_each.ensures.kept
+          c.in_ok-keep_each.ensures.kept
           (let sum = c.saturating_add-emitted.ensures in omega (arith, sum));
       left = omega (arith, longer, old, count);
     }
@@ -32,7 +32,7 @@ returns-clause-stored c =
     let none = none_left (into_iter_items c.loop-done.done-iterator)
     (sym c.loop-done.invariant.left ∙ c.in-None.ensures.steps.0) in
     let end = subst
-        (λ left. IsGathered c.args.all.items left c.loop-done.outcomes c.loop-done.kept c.loop-done.emitted) none
+    (λ left. IsGathered c.args.all.items left c.loop-done.outcomes c.loop-done.kept c.loop-done.emitted) none
     c.loop-done.invariant.gathered in
     subst (λ receipts. All (HasAllSlots receipts) c.args.all.items) (sym c.into_receipts.ensures)
     (whole_slots c.args.all.items c.loop-done.outcomes c.loop-done.kept c.loop-done.emitted end)

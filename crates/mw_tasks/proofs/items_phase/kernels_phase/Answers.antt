@@ -18,13 +18,13 @@ numbers_are g c = c.as_slice.ensures.value ∙ c.in_ok-numbers.ensures
 -- what is taken in turn is what the work on each of them gave
 done : (g : Over) (c : After-gathered g)
     → AllZip (IsDoneAt c.args.mode (program_of c.args.program.now) c.args.fuel c.args.cache.now) c.as_slice.result.now
-        c.in_ok-all.all.items
+    c.in_ok-all.all.items
 done g c =
     turned_zip (IsDoneAt c.args.mode (program_of c.args.program.now) c.args.fuel c.args.cache.now)
-        (λ queue. queue.items) c.share_count-shares.result
+    (λ queue. queue.items) c.share_count-shares.result
     c.as_slice.result.now c.as_slice-2.result.now c.in_ok-queues.queues.items c.in_ok-all.all.items
     (no_share c.as_slice.result.now _ _ _
-        (c.len.ensures ∙ sym c.as_slice.ensures.len) c.share_count-shares.ensures c.requires.workers)
+    (c.len.ensures ∙ sym c.as_slice.ensures.len) c.share_count-shares.ensures c.requires.workers)
     (c.as_slice-2.ensures.value ∙ c.in_ok-below.ensures) c.in_ok-queues.ensures.outputs c.in_ok-all.ensures
 
 pub spread-requires-sync-J : goal.spread-requires-sync-J
@@ -44,25 +44,25 @@ agree_all-requires g c =
     let p = program_of c.args.program.now in
     let after = (goal.at.agree_all-requires g c).After-gathered in
     let outcomes = all_outcomes c.args.mode p c.args.fuel c.args.cache.now c.as_slice.result.now
-        (numbers_are g after) c.in_ok-all.all.items
+    (numbers_are g after) c.in_ok-all.all.items
     (done g after) c.as_slice-3.result.now (c.as_slice-3.ensures ∙ c.in_ok-phase.ensures.outcomes) in
     all_answered c.args.mode
-        (names_of_items p.items) c.args.fuel c.args.cache.now p.items c.as_slice-3.result.now outcomes
+    (names_of_items p.items) c.args.fuel c.args.cache.now p.items c.as_slice-3.result.now outcomes
 
 pub returns-clause-outcomes : goal.returns-clause-outcomes
 returns-clause-outcomes g c =
     let after = (goal.at.returns-clause-outcomes g c).After-gathered in
     all_outcomes c.args.mode (program_of c.args.program.now) c.args.fuel c.args.cache.now c.as_slice.result.now
-        (numbers_are g after)
+    (numbers_are g after)
     c.in_ok-all.all.items (done g after) c.in_ok-phase.phase.outcomes c.in_ok-phase.ensures.outcomes
 
 pub returns-clause-stored : goal.returns-clause-stored
 returns-clause-stored g c =
     let after = (goal.at.returns-clause-stored g c).After-gathered in
     all_received c.args.mode (program_of c.args.program.now) c.args.fuel c.args.cache.now c.as_slice.result.now
-        (numbers_are g after)
+    (numbers_are g after)
     c.in_ok-all.all.items
-        (done g after) c.in_ok-phase.phase.outcomes c.in_ok-phase.phase.stored c.in_ok-phase.ensures.outcomes
+    (done g after) c.in_ok-phase.phase.outcomes c.in_ok-phase.phase.stored c.in_ok-phase.ensures.outcomes
     c.in_ok-phase.ensures.stored
 
 pub returns-clause-table : goal.returns-clause-table
@@ -70,14 +70,14 @@ returns-clause-table g c =
     let after = (goal.at.returns-clause-table g c).After-gathered in
     c.in_ok-phase.ensures.table c.args.cache.now.cells
     (all_of_table c.args.mode (program_of c.args.program.now) c.args.fuel c.args.cache.now c.as_slice.result.now
-        (numbers_are g after)
+    (numbers_are g after)
     c.in_ok-all.all.items (done g after))
 
 pub returns-clause-emitted : goal.returns-clause-emitted
 returns-clause-emitted g c =
     let after = (goal.at.returns-clause-emitted g c).After-gathered in
     all_emitted c.args.mode (program_of c.args.program.now) c.args.fuel c.args.cache.now c.as_slice.result.now
-        (numbers_are g after)
+    (numbers_are g after)
     c.in_ok-all.all.items
-        (done g after) c.in_ok-phase.phase.outcomes c.in_ok-phase.phase.emitted c.in_ok-phase.ensures.outcomes
+    (done g after) c.in_ok-phase.phase.outcomes c.in_ok-phase.phase.emitted c.in_ok-phase.ensures.outcomes
     c.in_ok-phase.ensures.emitted

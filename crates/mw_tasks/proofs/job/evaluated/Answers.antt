@@ -10,7 +10,7 @@ returns-clause-done g c =
     let own = c.new-state.result.functions in
     let end = c.outcome_over.new.state in
     left_done (program_of c.args.job.now.program.now) c.args.job.now.fuel c.args.number own.functions.mode
-        c.args.job.now.mode
+    c.args.job.now.mode
     own.cache.cache c.args.job.now.cache.now c.finished.result
     (record { outcome = c.in_ok-outcome.outcome; stored = end.stored; emitted = end.emitted })
     (ap (λ (f : FunctionState). f.mode) c.new-state.ensures.functions)

@@ -9,4 +9,4 @@ abbrev pub invariant-loop-number : goal.invariant-loop-number
 invariant-loop-number l =
     IsServed (IsDoneAt l.job.mode (program_of l.job.program.now) l.job.fuel l.job.cache.now)
     (every l.share l.job.shares l.job.numbers.now)
-        (every l.before l.job.shares (drop l.number-index l.job.numbers.now)) l.dones.items
+    (every l.before l.job.shares (drop l.number-index l.job.numbers.now)) l.dones.items

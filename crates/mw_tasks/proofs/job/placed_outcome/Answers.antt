@@ -15,8 +15,13 @@ returns-in_ok-got-in-Code-clause-done g c =
     let e = c.in_ok-got-in-Code.ensures in
     code_finished (program_of c.args.program.now) c.args.fuel c.args.number
     (standing c.args.kernels.now.state.now c.args.kernels.now.steps.now)
-    (record { unhinted = c.requires.unhinted; none = c.requires.none; uncounted = c.requires.uncounted; unspent =
-        c.requires.unspent })
+    (record {
+      unhinted = c.requires.unhinted;
+      none = c.requires.none;
+      uncounted = c.requires.uncounted;
+      unspent =
+          c.requires.unspent;
+    })
     c.in_ok-code.ensures.follows c.in_ok-code.field-0 c.in_ok-code.ensures.outcome c.in_ok-code.ensures.cost
     e.follows c.in-Code.code c.in_ok-got-in-Code.got
     (kernel_type_of c.kernel_kind.result.now) c.kernel_kind.ensures c.in-Code.is
@@ -27,8 +32,13 @@ pub returns-in-Trap-clause-done : goal.returns-in-Trap-clause-done
 returns-in-Trap-clause-done g c =
     trap_finished (program_of c.args.program.now) c.args.fuel c.args.number
     (standing c.args.kernels.now.state.now c.args.kernels.now.steps.now)
-    (record { unhinted = c.requires.unhinted; none = c.requires.none; uncounted = c.requires.uncounted; unspent =
-        c.requires.unspent })
+    (record {
+      unhinted = c.requires.unhinted;
+      none = c.requires.none;
+      uncounted = c.requires.uncounted;
+      unspent =
+          c.requires.unspent;
+    })
     c.in_ok-code.ensures.follows c.in_ok-code.field-0 c.in_ok-code.ensures.outcome c.in_ok-code.ensures.cost
     c.in-Trap.trap c.in-Trap.is
 
@@ -36,7 +46,12 @@ pub returns-in-Bound-clause-done : goal.returns-in-Bound-clause-done
 returns-in-Bound-clause-done g c =
     bound_finished (program_of c.args.program.now) c.args.fuel c.args.number
     (standing c.args.kernels.now.state.now c.args.kernels.now.steps.now)
-    (record { unhinted = c.requires.unhinted; none = c.requires.none; uncounted = c.requires.uncounted; unspent =
-        c.requires.unspent })
+    (record {
+      unhinted = c.requires.unhinted;
+      none = c.requires.none;
+      uncounted = c.requires.uncounted;
+      unspent =
+          c.requires.unspent;
+    })
     c.in_ok-code.ensures.follows c.in_ok-code.field-0 c.in_ok-code.ensures.outcome c.in_ok-code.ensures.cost
     c.in-Bound.limit c.in-Bound.is

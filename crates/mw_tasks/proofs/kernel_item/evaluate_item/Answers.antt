@@ -10,7 +10,7 @@ evaluate-requires-clause-body g c = (item c.args.number, c.kernel_term-term.ensu
 pub returns-in_err-machine-clause-means : goal.returns-in_err-machine-clause-means
 returns-in_err-machine-clause-means g c = λ sound.
     item_fails c.from_residual.result c.evaluate.result _ c.in_err-machine.field-0.0 c.from_residual.ensures.1
-        c.in_err-machine.was
+    c.in_err-machine.was
     (c.evaluate.ensures.means (item c.args.number) _ c.kernel_term-term.ensures
     (item_has_names (program_of c.args.program.now) c.args.number c.requires.item) sound)
 
@@ -29,7 +29,7 @@ returns-in-Code-clause-cost g c = λ sound.
 pub returns-in-Code-clause-typed : goal.returns-in-Code-clause-typed
 returns-in-Code-clause-typed g c =
     item_typed (program_of c.args.program.now) c.args.number c.in_ok-machine.field-0.machine
-        c.in_ok-machine.field-0.outcome c.in-Code.id
+    c.in_ok-machine.field-0.outcome c.in-Code.id
     c.in_ok-measured_code-in-Code.field-0
     (c.in_ok-machine.ensures.typed
     (item c.args.number) c.kernel_term-term.ensures) c.in-Code.is c.in_ok-measured_code-in-Code.ensures
@@ -61,6 +61,6 @@ returns-in-Bound-clause-cost g c = λ sound.
 pub unreachable-requires : goal.unreachable-requires
 unreachable-requires g c =
     item_no_value
-        (program_of c.args.program.now) c.args.number c.in_ok-machine.field-0.machine c.in_ok-machine.field-0.outcome
-        c.in-Value.field-0
+    (program_of c.args.program.now) c.args.number c.in_ok-machine.field-0.machine c.in_ok-machine.field-0.outcome
+    c.in-Value.field-0
     (c.in_ok-machine.ensures.typed (item c.args.number) c.kernel_term-term.ensures) c.in-Value.is
