@@ -11,7 +11,7 @@ use Rattle.mw_wasm.specs.BinaryModules.{function_type, limits, table, global, fu
 use Rattle.mw_wasm.specs.Syntax.{const_i64, end, next}
 use Rattle.mw_wasm.specs.ExampleModules.{example_a, example_b, cube_body, closure_body, call_body}
 use Rattle.mw_wasm.specs.Profile.{depth}
-use Rattle.mw_wasm.specs.FormatExamples.{ExampleAIsSpelled, ExampleBIsSpelled, LongerIndexIsSpelled, PaddedModuleIsSpelled, EmptyElseIsSpelled, ExamplesAreWithinProfile, two_results, TwoResultsAreOutside, nested, DepthEndsAt500, SixBytesAreNoIndex, UnusedBitsAreZero, MinusOneIsSpelled, UnusedBitsAreTheSign}
+use Rattle.mw_wasm.specs.FormatExamples.{ExampleAIsSpelled, ExampleBIsSpelled, LongerIndexIsSpelled, PaddedModuleIsSpelled, EmptyElseIsSpelled, ExamplesAreWithinProfile, TwoResultsAreOutside, nested, DepthEndsAt500, SixBytesAreNoIndex, UnusedBitsAreZero, MinusOneIsSpelled, UnusedBitsAreTheSign}
 
 -- one piece of n bytes, and another
 pub cut : (n : ℕ) {P Q : List ℕ → Type 0} {bytes : List ℕ} → P (take n bytes) → Q (drop n bytes) → Joined P Q bytes

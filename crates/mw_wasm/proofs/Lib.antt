@@ -16,6 +16,7 @@ mod InvalidExamples
 pub mod OneRule
 pub mod RunIsExecution
 pub mod RunLaw
+pub mod StoreShape
 mod OperandTypes
 mod TypedActs
 pub mod ActTypes

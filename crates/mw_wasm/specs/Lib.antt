@@ -12,6 +12,7 @@ pub mod Validity
 pub mod ExampleModules
 pub mod ValidityExamples
 pub mod Invocations
+pub mod StoreShape
 pub mod StateTypes
 pub mod ActTypes
 pub mod Soundness
