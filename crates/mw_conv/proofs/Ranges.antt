@@ -29,7 +29,8 @@ total_append [] gs = omega arith
 total_append (f ∷ fs) gs = omega (arith, total_append fs gs)
 
 -- no more nodes than the code had
-code_size : (e : Expression) (k d s : ℕ) (ctx : ℕ → Place) → ir_size (code e k d s ctx) + total_size (functions e k d) ≤ size e
+pub code_size : (e : Expression) (k d s : ℕ) (ctx : ℕ → Place)
+    → ir_size (code e k d s ctx) + total_size (functions e k d) ≤ size e
 code_size (x.fun e) k d s ctx = omega (arith, code_size e (suc k) (suc d) 0 (fun_places e d))
 code_size (x.fix e) k d s ctx = omega (arith, code_size e (suc k) (suc (suc d)) 0 (fix_places e d))
 code_size (x.app f a) k d s ctx = omega (arith, code_size f k d s ctx, code_size a (k + funs f) d s ctx, total_append (functions f k d) (functions a (k + funs f) d))
@@ -41,7 +42,7 @@ code_size (x.snd e) k d s ctx = omega (arith, code_size e k d s ctx)
 code_size (x.prim p f a) k d s ctx = omega (arith, code_size f k d s ctx, code_size a (k + funs f) d s ctx, total_append (functions f k d) (functions a (k + funs f) d))
 code_size _ k d s ctx = omega arith
 
-code_depth : (e : Expression) (k d s : ℕ) (ctx : ℕ → Place) → ir_depth (code e k d s ctx) ≤ depth_of e
+pub code_depth : (e : Expression) (k d s : ℕ) (ctx : ℕ → Place) → ir_depth (code e k d s ctx) ≤ depth_of e
 code_depth (x.app f a) k d s ctx = omega (arith, code_depth f k d s ctx, code_depth a (k + funs f) d s ctx)
 code_depth (x.bind a e) k d s ctx = omega (arith, code_depth a k d s ctx, code_depth e (k + funs a) (suc d) (suc s) (here (Slot s) ctx))
 code_depth (x.cond c a b) k d s ctx = omega (arith, code_depth c k d s ctx, code_depth a (k + funs c) d s ctx, code_depth b (k + funs c + funs a) d s ctx)
@@ -51,7 +52,7 @@ code_depth (x.snd e) k d s ctx = omega (arith, code_depth e k d s ctx)
 code_depth (x.prim p f a) k d s ctx = omega (arith, code_depth f k d s ctx, code_depth a (k + funs f) d s ctx)
 code_depth _ k d s ctx = omega arith
 
-lets_depth : (e : Expression) → lets e < depth_of e
+pub lets_depth : (e : Expression) → lets e < depth_of e
 lets_depth (x.app f a) = omega (arith, lets_depth f, lets_depth a)
 lets_depth (x.bind a e) = omega (arith, lets_depth a, lets_depth e)
 lets_depth (x.cond c a b) = omega (arith, lets_depth c, lets_depth a, lets_depth b)
@@ -98,7 +99,9 @@ module _ (t : List IrFunc) where
     closure_range : (ctx : ℕ → Place) (k d : ℕ) (p : ℕ → Bool) (f : IrFunc) → slice_get t k ≡ Some f → f.free ≡ length (free_list d p) → ((i : ℕ) → p i ≡ true → P (ctx i)) → HasFree (length (map ctx (free_list d p))) (slice_get t k) × AllByRecursion P (map ctx (free_list d p))
     closure_range ctx k d p f e g h = (subst (λ o. HasFree (length (map ctx (free_list d p))) o) (sym e) (g ∙ sym (length-map (free_list d p) ctx)), places_all ctx (free_list d p) (λ j i e. h i (free_list_each d p j i e).1))
 
-    code_range : (e : Expression) (k d s : ℕ) (ctx : ℕ → Place) → LiteralsFit e → ((i : ℕ) → occurs e i ≡ true → P (ctx i)) → s + lets e ≤ slots → Has t k (functions e k d) → IsInRange t P slots (code e k d s ctx)
+    pub code_range : (e : Expression) (k d s : ℕ) (ctx : ℕ → Place) → LiteralsFit e
+        → ((i : ℕ) → occurs e i ≡ true → P (ctx i)) → s + lets e ≤ slots → Has t k (functions e k d)
+        → IsInRange t P slots (code e k d s ctx)
     code_range (x.num z) k d s ctx l h le has = l
     code_range (x.truth z) k d s ctx l h le has = tt
     code_range (x.var j) k d s ctx l h le has = h j (eq-eqb j j refl)
@@ -135,7 +138,8 @@ module _ (t : List IrFunc) where
   fix_place e d n (suc zero) c o = tt
   fix_place e d n (suc (suc i)) c o = let lt = occurs_below e (suc (suc d)) (suc (suc i)) c o in ranked d i (fix_free e) (omega arith) o
 
-  functions_proper : (e : Expression) (k d : ℕ) → ClosedBelow d e → LiteralsFit e → d + 2 * depth_of e ≤ 800 → Has t k (functions e k d) → AllByRecursion (IsProper t) (functions e k d)
+  pub functions_proper : (e : Expression) (k d : ℕ) → ClosedBelow d e → LiteralsFit e → d + 2 * depth_of e ≤ 800
+      → Has t k (functions e k d) → AllByRecursion (IsProper t) (functions e k d)
   functions_proper (x.fun e) k d c l le has = (
     record {
       free = omega (arith, free_short d (fun_free e));

@@ -1,12 +1,13 @@
 -- `init`, and then any list of calls, answer as the kernel meaning does.
 use Rattle.std.proofs.Common.{◌≡◌, ℕ, zero, suc, ◌+◌, ◌≤◌, ◌<◌, Bool, true, false, List, [], ◌∷◌, ◌++◌, length, Some, refl, ap, ◌∙◌, subst, arith}
-use Rattle.std.specs.Prelude.{ℤ, slice_get, nat_le, ◌*◌}
-use Rattle.mw_term.specs.Terms.{Expression, KernelValue, Value as Given, GroundType, KernelType, to}
+use Rattle.std.specs.Prelude.{ℤ, slice_get, nat_le, ◌*◌, map}
+use Rattle.mw_term.specs.Terms.{Expression, KernelValue, Value as Given, GroundType}
 use Rattle.mw_meaning.specs.Arithmetic.{trap, bound, stuck}
 use Rattle.mw_meaning.specs.KernelMeaning as k
 use Rattle.mw_meaning.specs.KernelMeaning.{kernel_evaluation, kernel_meaning, labelled}
 use Rattle.mw_meaning.specs.StagedMeaning.{kernel_argument, argument_words, call_of as kept_call}
 use Rattle.mw_meaning.specs.StandingFor.{IsArgument, leaves}
+use Rattle.mw_wasm.specs.Syntax.{PureModule}
 use Rattle.mw_wasm.specs.Store.{Memory}
 use Rattle.mw_wasm.specs.Execution.{End, ended}
 use Rattle.mw_wasm.specs.Instances.{invoked}
@@ -14,23 +15,20 @@ use Rattle.mw_wasm.specs.declared.values.Value.TheVariants.{I64}
 use Rattle.mw_ir.specs.Ir as i
 use Rattle.mw_ir.specs.declared.place.Place.TheVariants.{Argument}
 use Rattle.mw_ir.specs.Ir.{Ir, IrFunc}
-use Rattle.mw_conv.specs.Convert.{lets, converted_functions, converted_body, converted_outside}
-use Rattle.mw_conv.specs.Represents.{Grows, Stands}
+use Rattle.mw_conv.specs.Convert.{functions, code}
+use Rattle.mw_conv.specs.Represents.{Grows, Has, Stands}
 use Rattle.mw_conv.proofs.Heaps.{stands_grows}
 use Rattle.mw_conv.specs.Agreement.{Agrees}
 use Rattle.mw_conv.proofs.Agrees.{then_agrees}
-use Rattle.mw_conv.proofs.Correct.{Value, Body, correct, closed, has_self, enters}
-use Rattle.mw_gen.specs.Generate.{Version, call_of}
-use Rattle.mw_gen.specs.Emission.{emitted}
+use Rattle.mw_conv.proofs.Correct.{Value, Body, correct, closed, enters}
+use Rattle.mw_meaning.specs.Shapes.{leaf_count}
+use Rattle.mw_gen.specs.Generate.{call_of}
 use Rattle.mw_gen.proofs.Words.{bits, Small, Keeps, keeps_front}
 use Rattle.mw_gen.proofs.Locals.{word}
 use Rattle.mw_gen.proofs.Says.{Says, Ends}
 use Rattle.mw_gen.proofs.Stores.{store_at}
 use Rattle.mw_gen.proofs.Correct.{table_of}
 use Rattle.mw_gen.specs.Generation.{call_frame}
-use Rattle.mw_gen.proofs.Invoke.{init_says, call_says}
-use Rattle.mw_ir.specs.Ranges.{IsConverted}
-use Rattle.mw_gen.proofs.Ranges.{sound, body_fine, body_needs}
 use Rattle.mw_gen.proofs.Arguments.{leaf_words, made, argument_made, leaves_are, term_taken, leaves_length, leaves_small, argument_right}
 
 -- a heap that grew begins with what it was
@@ -88,30 +86,52 @@ pub record Left (t : List IrFunc) (h0 top : List ℤ) (x : KernelValue) (l : ℕ
   pub keeps : Keeps h mem
   pub before : Keeps h0 mem
 
-module _ (v : Version) (c : Expression) (is : IsConverted (converted_functions c) (converted_outside c)) where
-  abbrev pub table : List IrFunc
-  table = converted_functions c
+module _ (t : List IrFunc) where
+  -- the store after an end with a value, where the memory kept the words top
+  abbrev pub Ended : List ℤ → ℤ → ℕ → List ℤ → End → Type 0
+  Ended top w l h E =
+      (mem : Memory) × (E ≡ ended (store_at (table_of t) (8 * length top) mem) (word w ∷ []) l) × Keeps h mem × Small w
 
-  -- `init` on the instance as it begins
-  pub started : (kt : KernelType) (n : ℕ) (mem : Memory) → Keeps [] mem → Answers (kernel_meaning n 0 c) (λ x l words E. (y : ℤ) × (h : List ℤ) × (mem : Memory) × (length h ≡ words) × Left table [] h x l h y mem E) (invoked (emitted v c kt) (store_at (table_of table) 0 mem) (length table) [] n)
-  started kt n mem me =
+  -- what an invocation of `init` leaves, where it ends with a value
+  abbrev pub Started : KernelValue → ℕ → ℕ → End → Type 0
+  Started x l words E = (y : ℤ) × (h : List ℤ) × (mem : Memory) × (length h ≡ words) × Left t [] h x l h y mem E
+
+  -- and one of `call`, where the memory kept the words h0
+  abbrev pub Called : List ℤ → KernelValue → ℕ → ℕ → End → Type 0
+  Called h0 x l words E = (y : ℤ) × (g : List ℤ) × (after : Memory) × Left t h0 h0 x l g y after E
+
+  -- `init` of the code whose functions stand in t from number o on
+  pub started : (c : Expression) (o n : ℕ) (E : End) → Has t o (functions c o 0)
+      → Says (Value t n (code c o 0 0 (λ i. Argument)) n [] i.outside) (λ w l h E. Ended h w l h E) E
+      → Answers (kernel_meaning n 0 c) Started E
+  started c o n E has says =
       answers_map (kernel_meaning n 0 c) _ _ _ (λ x l words p. (p.0, p.1, p.5.0, p.2, record { end = p.5.1; stands = p.4; small = p.5.3; keeps = p.5.2; before = keeps_front [] p.1 p.5.0 p.5.2 }))
-      (joined table n [] (kernel_meaning n 0 c) (Value table n (converted_body c) n [] i.outside) _ _
-      (rw (closed (labelled c 0)) at (correct table n c n 0 0 (λ i. Argument) [] [] i.outside (omega arith) refl (has_self [] table) (λ i v o g. absurd (cc))))
-      (init_says v table (lets c) (converted_body c) (sound table (converted_outside c) is) kt n n mem (body_fine table (converted_outside c) is) (body_needs table (converted_outside c) is) me))
+      (joined t n [] (kernel_meaning n 0 c) (Value t n (code c o 0 0 (λ i. Argument)) n [] i.outside) _ _
+      (rw (closed (labelled c 0)) at (correct t n c n o 0 (λ i. Argument) [] [] i.outside (omega arith) refl has
+      (λ i v o g. absurd (cc))))
+      says)
 
   all_small : (r : ℤ) (ws : List ℤ) → Small r → ((j : ℕ) (z : ℤ) → slice_get ws j ≡ Some z → Small z) → (j : ℕ) (z : ℤ) → slice_get (r ∷ ws) j ≡ Some z → Small z
   all_small r ws p f zero z e = let q : r ≡ z = (cc) in subst (λ z. Small z) q p
   all_small r ws p f (suc j) z e = f j z e
 
-  -- a call where the memory keeps the heap h0 that stands for the function: afterwards it keeps it still
-  pub called : (s : GroundType) (b : GroundType) (f : KernelValue) (r : ℤ) (h0 : List ℤ) (w : Given) (n : ℕ) (mem : Memory) → Small r → Stands table h0 f r → IsArgument s w → Keeps h0 mem → Answers (kept_call f (length h0) (kernel_argument w) (argument_words w) n) (λ x l words E. (y : ℤ) × (g : List ℤ) × (after : Memory) × Left table h0 h0 x l g y after E) (invoked (emitted v c (to s b)) (store_at (table_of table) (8 * length h0) mem) (suc (length table)) (I64 (bits r) ∷ leaves w) n)
-  called s b f r h0 w n mem sr st a me =
+  -- a call that does what an application means, where the memory keeps the heap h0 that stands for the function: afterwards it
+  -- keeps it still
+  pub called : (m : PureModule) (s : GroundType) (g : ℕ)
+      → ((n : ℕ) (h : List ℤ) (mem : Memory) (r : ℤ) (ws : List ℤ) → length ws ≡ leaf_count s
+      → ((j : ℕ) (w : ℤ) → slice_get (r ∷ ws) j ≡ Some w → Small w) → Keeps h mem
+      → Says (Value t n (call_of s) n h (call_frame r ws)) (λ w l g E. Ended h w l g E)
+      (invoked m (store_at (table_of t) (8 * length h) mem) g (map word (r ∷ ws)) n))
+      → (f : KernelValue) (r : ℤ) (h0 : List ℤ) (w : Given) (n : ℕ) (mem : Memory) → Small r → Stands t h0 f r
+      → IsArgument s w → Keeps h0 mem → Answers (kept_call f (length h0) (kernel_argument w) (argument_words w) n)
+      (Called h0) (invoked m (store_at (table_of t) (8 * length h0) mem) g (I64 (bits r) ∷ leaves w) n)
+  called m s g says f r h0 w n mem sr st a me =
       rw (leaves_are s w a)
       (answers_map (kept_call f (length h0) (kernel_argument w) (argument_words w) n) _ _ _
       (λ x l words p.
       let front = grows_front h0 p.1 p.3 in
       (p.0, p.1, p.5.0, record { end = p.5.1; stands = p.4; small = p.5.3; keeps = p.5.2; before = keeps_front h0 front.0 p.5.0 (subst (λ g. Keeps g p.5.0) front.1 p.5.2) }))
-      (joined table n h0 (kept_call f (length h0) (kernel_argument w) (argument_words w) n) (Value table n (call_of s) n h0 (call_frame r (leaf_words w))) _ _
-      (call_agrees table s f w r n h0 me.few st a)
-      (call_says v table (lets c) (converted_body c) (sound table (converted_outside c) is) s b n n h0 mem r (leaf_words w) (leaves_length s w a) (all_small r (leaf_words w) sr (leaves_small s w a)) me)))
+      (joined t n h0 (kept_call f (length h0) (kernel_argument w) (argument_words w) n)
+      (Value t n (call_of s) n h0 (call_frame r (leaf_words w))) _ _
+      (call_agrees t s f w r n h0 me.few st a)
+      (says n h0 mem r (leaf_words w) (leaves_length s w a) (all_small r (leaf_words w) sr (leaves_small s w a)) me)))

@@ -24,7 +24,7 @@ use Rattle.mw_ir.specs.Ir as i
 use Rattle.mw_ir.specs.Ir.{also, Ir, IrFunc, Frame, inside, with_slot, read, read_all, load, value, calls, applied, function_at}
 use Rattle.mw_conv.specs.Represents.{Grows}
 use Rattle.mw_conv.proofs.Heaps.{grows_same, grows_on, grows_append, load_grows}
-use Rattle.mw_gen.specs.Generate.{Version, wants_spare, tail_wants_spare, spare_count, address_code, expression_code, tail_code, is_own, application_code, body_wants_spare, body_code, is_loop, function_for, counting, module_with}
+use Rattle.mw_gen.specs.Generate.{Version, wants_spare, tail_wants_spare, spare_count, address_code, expression_code, tail_code, is_own, application_code, body_wants_spare, body_code, is_loop, function_for, counting, closure_type, module_with}
 use Rattle.mw_gen.proofs.Slots.{slots_needed}
 use Rattle.mw_gen.proofs.Words.{Small, Keeps, get_append, get_within}
 use Rattle.mw_gen.proofs.Locals.{word, Room, room_set, Fits, fits_past, fits_slot, fits_front, set_length, set_same, set_above, set_other}
@@ -114,10 +114,17 @@ own_is (i.fst f) e = absurd (cc)
 own_is (i.snd f) e = absurd (cc)
 own_is (i.prim p x y) e = absurd (cc)
 
-module _ (v : Version) (t : List IrFunc) (slots0 : ℕ) (body0 : Ir) (k0 : KernelType) (sound : Sound t) where
-  abbrev pub M : PureModule
-  M = module_with v t slots0 body0 k0
+-- The module has the functions of the code, each under its number, and their type first. Nothing else is said of it.
+pub record Carries (v : Version) (t : List IrFunc) (m : PureModule) : Type 0 where
+  pub funcs : (j : ℕ) (f : IrFunc) → slice_get t j ≡ Some f → slice_get m.funcs j ≡ Some (function_for v f)
+  pub type0 : slice_get m.types 0 ≡ Some closure_type
 
+-- a kernel's own module does
+pub carries_alone : (v : Version) (t : List IrFunc) (slots : ℕ) (body : Ir) (k : KernelType)
+    → Carries v t (module_with v t slots body k)
+carries_alone v t slots body k = record { funcs = λ j f e. func_at v t _ j f e; type0 = refl }
+
+module _ (v : Version) (t : List IrFunc) (M : PureModule) (carries : Carries v t M) (sound : Sound t) where
   abbrev pub Run : ℕ → List ℤ → Memory → List WasmValue → List WasmValue → Code → List Around → End
   Run n h mem ls vs c around = RunIn M (table_of t) n h mem ls vs c around
 
@@ -162,7 +169,7 @@ module _ (v : Version) (t : List IrFunc) (slots0 : ℕ) (body0 : Ir) (k0 : Kerne
   entered_is : (j : ℕ) (fn : IrFunc) (u w : ℤ) (vs : List WasmValue) → slice_get t j ≡ Some fn → called_at M 0 (Some (Some j)) (word w ∷ word u ∷ vs) ≡ calls_act 1 (entry (is_loop v fn.body) fn u w) (body_code (is_loop v fn.body) fn.body (2 + fn.slots)) vs
   entered_is j fn u w vs g =
       let e : nat_le 2 (suc (suc (length vs))) ≡ true = le-leb _ _ (omega arith) in
-      rw (func_at v t _ j fn g) (rw e refl)
+      rw (carries.funcs j fn g) (rw carries.type0 (rw e refl))
 
   -- a call through the table
   applies : (c q : ℕ) (h : List ℤ) (mem : Memory) (ls : List WasmValue) (u w : ℤ) (vs : List WasmValue) (rest : Code) (around : List Around) (Q : ℤ → ℕ → List ℤ → End → Type 0) (r : ℕ) → Entered c → suc r < length ls → Keeps h mem → Small u → Small w → After h (slice_set (slice_set ls (suc r) (word w)) r (word u)) vs rest around Q → Says (applied t u w (λ n h fr e. calls t c n h fr e) q h) Q (Run q h mem ls (word w ∷ word u ∷ vs) (application_code r rest) around)

@@ -3,27 +3,27 @@ use Rattle.std.proofs.Common.{◌≡◌, ℕ, zero, suc, ◌+◌, ◌≤◌, ◌
 use Rattle.std.specs.Prelude.{ℤ, slice_get, slice_set, ◌*◌}
 use Rattle.std.proofs.lemmas.List.{length-map}
 use Rattle.std.proofs.lemmas.Option.{slice_get-map}
-use Rattle.mw_term.specs.Terms.{GroundType, KernelType, base, product, to}
+use Rattle.mw_term.specs.Terms.{GroundType, base, product}
 use Rattle.mw_wasm.specs.declared.values.Value.{Value as WasmValue}
 use Rattle.mw_wasm.specs.declared.values.Value.TheVariants.{I32, I64}
 use Rattle.mw_wasm.specs.declared.values.ValType.TheVariants as type
-use Rattle.mw_wasm.specs.Syntax.{Function, end}
+use Rattle.mw_wasm.specs.Syntax.{Function, PureModule, end}
 use Rattle.mw_wasm.specs.NumericTypes.{type_of_value}
 use Rattle.mw_wasm.specs.Store.{Memory}
-use Rattle.mw_wasm.specs.Redex.{in_label, in_frame}
+use Rattle.mw_wasm.specs.Redex.{in_label, in_frame, at, run}
 use Rattle.mw_wasm.specs.Execution.{End, ended}
 use Rattle.mw_wasm.specs.Instances.{invoked}
 use Rattle.mw_wasm.proofs.RunIsExecution.{invoked_is_run, leaves_all}
 use Rattle.mw_ir.specs.Ir as i
 use Rattle.mw_ir.specs.Ir.{Ir, IrFunc, Frame}
 use Rattle.mw_meaning.specs.Shapes.{leaf_count, init_type, call_type}
-use Rattle.mw_gen.specs.Generate.{Version, wants_spare, spare_count, argument_of, call_of, init_function, call_function, function_for, more_functions}
+use Rattle.mw_gen.specs.Generate.{Version, wants_spare, spare_count, argument_of, call_of, init_function, function_for, expression_code, restarting, call_numbered}
 use Rattle.mw_gen.proofs.Slots.{slots_needed}
 use Rattle.mw_gen.proofs.Words.{Small, Keeps, get_append, get_within}
 use Rattle.mw_gen.proofs.Locals.{word, Fits, Room, set_other, set_same, set_length}
 use Rattle.mw_gen.proofs.Says.{Says, along}
 use Rattle.mw_gen.proofs.Stores.{store_at, law as rule, get_local as got_local, set_local as put_local}
-use Rattle.mw_gen.proofs.Correct.{Fine, Sound, M, Value, right, table_of, zeros, zeros_length}
+use Rattle.mw_gen.proofs.Correct.{Fine, Sound, Carries, Value, right, table_of, zeros, zeros_length}
 use Rattle.mw_gen.specs.Generation.{call_frame}
 
 pub argument_need : (s : GroundType) (k : ℕ) → slots_needed (argument_of s k) ≡ 0
@@ -49,7 +49,7 @@ words_typed [] (suc n) e = absurd (omega arith)
 words_typed (w ∷ ws) zero e = absurd (omega arith)
 words_typed (w ∷ ws) (suc n) e = ap (λ ts. type.I64 ∷ ts) (words_typed ws n (omega arith))
 
-module _ (v : Version) (t : List IrFunc) (slots : ℕ) (body : Ir) (sound : Sound t) where
+module _ (v : Version) (t : List IrFunc) (m : PureModule) (carries : Carries v t m) (sound : Sound t) where
   -- the store after an end with a value
   abbrev pub Done : List ℤ → ℤ → ℕ → List ℤ → End → Type 0
   Done top w l h E = (mem : Memory) × (E ≡ ended (store_at (table_of t) (8 * length top) mem) (word w ∷ []) l) × Keeps h mem × Small w
@@ -58,11 +58,43 @@ module _ (v : Version) (t : List IrFunc) (slots : ℕ) (body : Ir) (sound : Soun
   start_room s true = record { enough = omega (arith, zeros_length (s + 2)); long = λ q. omega (arith, zeros_length (s + 2)); past = refl }
   start_room s false = record { enough = omega (arith, zeros_length (s + 0)); long = λ q. absurd (cc); past = refl }
 
-  pub init_says : (k : KernelType) (c n : ℕ) (mem : Memory) → Fine body → slots_needed body ≤ slots → Keeps [] mem → Says (Value v t slots body k sound c body n [] i.outside) (λ w l h E. Done h w l h E) (invoked (M v t slots body k sound) (store_at (table_of t) 0 mem) (length t) [] n)
-  init_says k c n mem fine nd me =
-      along (invoked_is_run (M v t slots body k sound) (store_at (table_of t) 0 mem) (length t) [] n (init_function slots body) init_type (init_at v t (init_function slots body) (more_functions k)) refl refl)
-      (right v t slots body k sound c body n 0 slots (wants_spare body) (slice_get (zeros (slots + spare_count (wants_spare body))) (suc (suc (0 + slots)))) i.outside [] mem (zeros (slots + spare_count (wants_spare body))) [] end (in_label 1 end [] end ∷ in_frame 1 [] [] end ∷ []) (λ w l h E. Done h w l h E) fine nd (λ q. q) (omega arith) (start_room slots (wants_spare body)) (record { argument = λ w e. absurd (cc); own = λ w e. absurd (cc); slots = λ j w e. absurd (cc) }) me
-      λ w l h mem ls g sm f room me. (mem, leaves_all (M v t slots body k sound) l 1 _ ls (word w ∷ []), me, sm))
+  -- the code outside all functions, begun on an empty heap
+  abbrev pub begun : ℕ → Ir → ℕ → Memory → End
+  begun slots body n mem =
+      run m n (at (store_at (table_of t) 0 mem) (zeros (slots + spare_count (wants_spare body))) []
+      (expression_code body 0 (0 + slots) end) (in_label 1 end [] end ∷ in_frame 1 [] [] end ∷ []))
+
+  pub begun_says : (slots : ℕ) (body : Ir) (c n : ℕ) (mem : Memory) → Fine body → slots_needed body ≤ slots
+      → Keeps [] mem → Says (Value v t m carries sound c body n [] i.outside) (λ w l h E. Done h w l h E)
+      (begun slots body n mem)
+  begun_says slots body c n mem fine nd me =
+      right v t m carries sound c body n 0 slots (wants_spare body)
+      (slice_get (zeros (slots + spare_count (wants_spare body))) (suc (suc (0 + slots)))) i.outside [] mem
+      (zeros (slots + spare_count (wants_spare body))) [] end (in_label 1 end [] end ∷ in_frame 1 [] [] end ∷ [])
+      (λ w l h E. Done h w l h E) fine nd (λ q. q) (omega arith) (start_room slots (wants_spare body))
+      (record { argument = λ w e. absurd (cc); own = λ w e. absurd (cc); slots = λ j w e. absurd (cc) }) me
+      λ w l h mem ls g sm f room me. (mem, leaves_all m l 1 _ ls (word w ∷ []), me, sm)
+
+  -- `init` on the instance as it begins
+  pub init_says : (q slots : ℕ) (body : Ir) → slice_get m.funcs q ≡ Some (init_function slots body)
+      → slice_get m.types 1 ≡ Some init_type → (c n : ℕ) (mem : Memory) → Fine body → slots_needed body ≤ slots
+      → Keeps [] mem → Says (Value v t m carries sound c body n [] i.outside) (λ w l h E. Done h w l h E)
+      (invoked m (store_at (table_of t) 0 mem) q [] n)
+  init_says q slots body is_init is_type c n mem fine nd me =
+      along (invoked_is_run m (store_at (table_of t) 0 mem) q [] n (init_function slots body) init_type is_init is_type
+      refl)
+      (begun_says slots body c n mem fine nd me)
+
+  -- one that gives the heap back, on any instance whose memory has the size
+  pub restart_says : (q slots : ℕ) (body : Ir) → slice_get m.funcs q ≡ Some (restarting (init_function slots body))
+      → slice_get m.types 1 ≡ Some init_type → (c n top : ℕ) (mem : Memory) → Fine body → slots_needed body ≤ slots
+      → Keeps [] mem → Says (Value v t m carries sound c body n [] i.outside) (λ w l h E. Done h w l h E)
+      (invoked m (store_at (table_of t) top mem) q [] n)
+  restart_says q slots body is_init is_type c n top mem fine nd me =
+      along (invoked_is_run m (store_at (table_of t) top mem) q [] n (restarting (init_function slots body)) init_type
+      is_init is_type refl
+      ∙ (rule m (table_of t) n _ ∙ rule m (table_of t) n _))
+      (begun_says slots body c n mem fine nd me)
 
   abbrev call_locals : ℤ → List ℤ → List WasmValue
   call_locals r ws = map word (r ∷ ws) ++ I64 0 ∷ I64 0 ∷ I32 0 ∷ []
@@ -77,17 +109,23 @@ module _ (v : Version) (t : List IrFunc) (slots : ℕ) (body : Ir) (sound : Soun
         (rw z (set_other (call_locals r ws) i j x (word w) (omega (arith, get_within (r ∷ ws) j w e)) g), sm j w e);
   }
 
-  pub call_says : (s : GroundType) (b : GroundType) (c n : ℕ) (h : List ℤ) (mem : Memory) (r : ℤ) (ws : List ℤ) → length ws ≡ leaf_count s → ((j : ℕ) (w : ℤ) → slice_get (r ∷ ws) j ≡ Some w → Small w) → Keeps h mem → Says (Value v t slots body (to s b) sound c (call_of s) n h (call_frame r ws)) (λ w l g E. Done h w l g E) (invoked (M v t slots body (to s b) sound) (store_at (table_of t) (8 * length h) mem) (suc (length t)) (map word (r ∷ ws)) n)
-  call_says s b c n h mem r ws len sm me =
-      let m = M v t slots body (to s b) sound in
+  pub call_says : (s : GroundType) (x g : ℕ) → slice_get m.funcs g ≡ Some (call_numbered x s)
+      → slice_get m.types x ≡ Some (call_type s) → (c n : ℕ) (h : List ℤ) (mem : Memory) (r : ℤ) (ws : List ℤ)
+      → length ws ≡ leaf_count s → ((j : ℕ) (w : ℤ) → slice_get (r ∷ ws) j ≡ Some w → Small w) → Keeps h mem
+      → Says (Value v t m carries sound c (call_of s) n h (call_frame r ws)) (λ w l g E. Done h w l g E)
+      (invoked m (store_at (table_of t) (8 * length h) mem) g (map word (r ∷ ws)) n)
+  call_says s x g is_call is_type c n h mem r ws len sm me =
       let keep = suc (suc (suc (leaf_count s))) in
       let ls = slice_set (call_locals r ws) keep (I32 (8 * length h)) in
       let at_keep : suc (suc (0 + suc (leaf_count s))) ≡ keep = omega arith in
       let long : length (call_locals r ws) ≡ suc (length ws) + 3 = length-append (map word (r ∷ ws)) (I64 0 ∷ I64 0 ∷ I32 0 ∷ []) ∙ ap (λ x. x + 3) (length-map (r ∷ ws) word) in
       let below : keep < length (call_locals r ws) = omega (arith, len, long) in
-      along (invoked_is_run m (store_at (table_of t) (8 * length h) mem) (suc (length t)) (map word (r ∷ ws)) n (call_function s) (call_type s) (call_at v t (init_function slots body) (call_function s) []) refl (words_typed (r ∷ ws) (suc (leaf_count s)) (ap suc len))
+      along (invoked_is_run m (store_at (table_of t) (8 * length h) mem) g (map word (r ∷ ws)) n (call_numbered x s)
+      (call_type s) is_call is_type (words_typed (r ∷ ws) (suc (leaf_count s)) (ap suc len))
       ∙ (rule m (table_of t) n _ ∙ put_local m (table_of t) n keep (I32 (8 * length h)) _ (call_locals r ws) [] _ _ below))
-      (right v t slots body (to s b) sound c (call_of s) n 0 (suc (leaf_count s)) true (Some (I32 (8 * length h))) (call_frame r ws) h mem ls [] _ (in_label 1 end [] end ∷ in_frame 1 [] [] end ∷ []) (λ w l g E. Done h w l g E)
+      (right v t m carries sound c (call_of s) n 0 (suc (leaf_count s)) true (Some (I32 (8 * length h)))
+      (call_frame r ws) h mem ls [] _ (in_label 1 end [] end ∷ in_frame 1 [] [] end ∷ [])
+      (λ w l g E. Done h w l g E)
       (tt, argument_fine s 1) (omega (arith, argument_need s 1)) (λ q. refl) (omega (arith, len))
       (record { enough = omega (arith, len, long, set_length (call_locals r ws) keep (I32 (8 * length h))); long = λ q. omega (arith, len, long, set_length (call_locals r ws) keep (I32 (8 * length h))); past = rw at_keep (set_same (call_locals r ws) keep (I32 (8 * length h)) below) })
       (slots_fit r ws keep (I32 (8 * length h)) (omega (arith, len)) sm) me

@@ -24,3 +24,4 @@ pub mod Spelling
 pub mod Ranges
 pub mod Meaning
 pub mod Listed
+pub mod Moves

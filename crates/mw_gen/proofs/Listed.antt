@@ -100,6 +100,13 @@ code_is c e b t h = code_listed c (code_list e b t) h ∙ sym (expression_listed
 pub tail_is : (c : Instrs) (e : Ir) (b t d : ℕ) → map instruction_of c.inner.items ≡ tail_list e b t d → code_of c ≡ tail_code e b t d
 tail_is c e b t d h = code_listed c (tail_list e b t d) h ∙ sym (tail_listed e b t d)
 
+pub restarting_is : (c : Instrs) (e : Ir) (t : ℕ) → map instruction_of c.inner.items
+    ≡ const_i32 0 ∷ global_set 0 ∷ code_list e 0 t → code_of c
+    ≡ next (const_i32 0) (next (global_set 0) (expression_code e 0 t end))
+restarting_is c e t h =
+    code_listed c (const_i32 0 ∷ global_set 0 ∷ code_list e 0 t) h
+    ∙ ap (λ d. next (const_i32 0) (next (global_set 0) d)) (sym (expression_listed e 0 t end))
+
 -- one more of the same, or of a count, at the end
 pub replicate_more : (k : ℕ) (x : ValType) → replicate (k + 1) x ≡ replicate k x ++ x ∷ []
 replicate_more k x = sym (replicate-append-replicate k 1 x)

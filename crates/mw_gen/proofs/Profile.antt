@@ -98,15 +98,17 @@ argument_ifs : (s : GroundType) (k : ℕ) → ifs (argument_of s k) ≡ 0
 argument_ifs (base b) k = refl
 argument_ifs (product s t) k = rw (argument_ifs s k, argument_ifs t (k + leaf_count s)) refl
 
-call_depth : (s : GroundType) → depth (call_function s).body ≤ 500
+pub call_depth : (s : GroundType) → depth (call_function s).body ≤ 500
 call_depth s = let r = expression_depth (call_of s) 0 (0 + suc (leaf_count s)) (next (Rattle.mw_wasm.specs.Syntax.local_get (suc (suc (suc (leaf_count s))))) (next (Rattle.mw_wasm.specs.Syntax.global_set 0) end)) 0 (omega arith) (omega (arith, argument_ifs s 1)) in omega arith
 
 module _ (v : Version) where
-  locals_few : (fs : List IrFunc) → AllByRecursion (IsModest 400 20000) fs → AllByRecursion (λ (f : Function). length f.locals ≤ 50_000) (map (function_for v) fs)
+  pub locals_few : (fs : List IrFunc) → AllByRecursion (IsModest 400 20000) fs
+      → AllByRecursion (λ (f : Function). length f.locals ≤ 50_000) (map (function_for v) fs)
   locals_few [] h = tt
   locals_few (f ∷ fs) h = (let a = h.0.lets in omega (arith, a, length-replicate (f.slots + spare_count (body_wants_spare (is_loop v f.body) f.body)) I64, temps_two (body_wants_spare (is_loop v f.body) f.body)), locals_few fs h.1)
 
-  all_shallow : (fs : List IrFunc) → AllByRecursion (IsModest 400 20000) fs → AllByRecursion (λ (f : Function). IsShallow f.body) (map (function_for v) fs)
+  pub all_shallow : (fs : List IrFunc) → AllByRecursion (IsModest 400 20000) fs
+      → AllByRecursion (λ (f : Function). IsShallow f.body) (map (function_for v) fs)
   all_shallow [] h = tt
   all_shallow (f ∷ fs) h = (let a = h.0.choices in omega (arith, body_depth (is_loop v f.body) f.body (2 + f.slots) 400 a), all_shallow fs h.1)
 

@@ -48,7 +48,7 @@ module _ (t : List IrFunc) (P : Place → Type 0) (slots : ℕ) where
   needs (i.snd e) r = needs e r
   needs (i.prim p a b) r = omega (arith, needs a r.0, needs b r.1)
 
-  pub fine : length t ≤ 20000 → (e : Ir) → IsInRange t P slots e → Fine e
+  pub fine : length t ≤ 100000 → (e : Ir) → IsInRange t P slots e → Fine e
   fine few (i.num n) r = r
   fine few (i.truth b) r = tt
   fine few (i.get p) r = tt
@@ -182,28 +182,28 @@ inner_near free slots le Own r = tt
 inner_near free slots le (Slot s) r = tt
 inner_near free slots le (Free j) r = omega (arith, r)
 
-outer_below : (slots n : ℕ) → slots ≤ n → (p : Place) → IsOuterPlace slots p → place_local p 0 < n
+pub outer_below : (slots n : ℕ) → slots ≤ n → (p : Place) → IsOuterPlace slots p → place_local p 0 < n
 outer_below slots n le (Slot s) r = omega (arith, r)
 outer_below slots n le Argument r = absurd r
 outer_below slots n le Own r = absurd r
 outer_below slots n le (Free j) r = absurd r
 
-outer_near : (slots : ℕ) (p : Place) → IsOuterPlace slots p → IsNear p
+pub outer_near : (slots : ℕ) (p : Place) → IsOuterPlace slots p → IsNear p
 outer_near slots (Slot s) r = tt
 outer_near slots Argument r = absurd r
 outer_near slots Own r = absurd r
 outer_near slots (Free j) r = absurd r
 
-module _ (t : List IrFunc) (few : length t ≤ 20000) (proper : AllByRecursion (IsProper t) t) where
-  all_proper : (fs : List IrFunc) → AllByRecursion (IsProper t) fs → AllProper fs
+module _ (t : List IrFunc) (few : length t ≤ 100000) (proper : AllByRecursion (IsProper t) t) where
+  pub all_proper : (fs : List IrFunc) → AllByRecursion (IsProper t) fs → AllProper fs
   all_proper [] a = tt
   all_proper (f ∷ fs) a = (record { sees = λ n le. seen t (IsPlace f.free f.slots) f.slots 2 n (inner_below f.free f.slots n le) f.body a.0.body; needs = needs t (IsPlace f.free f.slots) f.slots f.body a.0.body }, all_proper fs a.1)
 
-  all_modest : (fs : List IrFunc) → AllByRecursion (IsProper t) fs → AllByRecursion (IsModest 400 20000) fs
+  pub all_modest : (fs : List IrFunc) → AllByRecursion (IsProper t) fs → AllByRecursion (IsModest 400 20000) fs
   all_modest [] a = tt
   all_modest (f ∷ fs) a = (record { choices = (let d = a.0.depth in omega (arith, shallow f.body)); lets = (let s = a.0.slots in omega arith) }, all_modest fs a.1)
 
-  all_spelled : (fs : List IrFunc) → AllByRecursion (IsProper t) fs → AllByRecursion CanSpell fs
+  pub all_spelled : (fs : List IrFunc) → AllByRecursion (IsProper t) fs → AllByRecursion CanSpell fs
   all_spelled [] a = tt
   all_spelled (f ∷ fs) a = (
     record {
@@ -216,24 +216,33 @@ module _ (t : List IrFunc) (few : length t ≤ 20000) (proper : AllByRecursion (
     all_spelled fs a.1,
   )
 
-  all_narrow : (fs : List IrFunc) → AllByRecursion (IsProper t) fs → total fs ≤ 55200 * total_size fs + 60 * length fs
+  pub all_narrow : (fs : List IrFunc) → AllByRecursion (IsProper t) fs
+      → total fs ≤ 55200 * total_size fs + 60 * length fs
   all_narrow [] a = omega arith
   all_narrow (f ∷ fs) a = omega (arith, narrow f.body (near t (IsPlace f.free f.slots) f.slots proper (inner_near f.free f.slots a.0.free) f.body a.0.body), all_narrow fs a.1)
 
-  one_sound : (fs : List IrFunc) → AllByRecursion (IsProper t) fs → (k : ℕ) (f : IrFunc) → slice_get fs k ≡ Some f → Fine f.body × (slots_needed f.body ≤ f.slots)
+  pub one_sound : (fs : List IrFunc) → AllByRecursion (IsProper t) fs → (k : ℕ) (f : IrFunc) → slice_get fs k ≡ Some f
+      → Fine f.body × (slots_needed f.body ≤ f.slots)
   one_sound [] a k f e = absurd (cc)
   one_sound (g ∷ fs) a zero f e = let q : g ≡ f = (cc) in Rattle.std.proofs.Common.subst (λ f. Fine f.body × (slots_needed f.body ≤ f.slots)) q (fine t (IsPlace g.free g.slots) g.slots few g.body a.0.body, needs t (IsPlace g.free g.slots) g.slots g.body a.0.body)
   one_sound (g ∷ fs) a (suc k) f e = one_sound fs a.1 k f e
 
+  -- functions that are all in range
+  pub all_sound : Sound t
+  all_sound k f e = let s = one_sound t proper k f e in (omega (arith, get_within t k f e), s.0, s.1)
+
 module _ (t : List IrFunc) (o : IrFunc) (is : IsConverted t o) where
+  many : length t ≤ 100000
+  many = let n = is.few in omega arith
+
   abbrev Q : Place → Type 0
   Q = IsOuterPlace o.slots
 
   pub sound : Sound t
-  sound k f e = let s = one_sound t is.few is.functions t is.functions k f e in (omega (arith, get_within t k f e, is.few), s.0, s.1)
+  sound = all_sound t many is.functions
 
   pub body_fine : Fine o.body
-  body_fine = fine t Q o.slots is.few o.body is.body
+  body_fine = fine t Q o.slots many o.body is.body
 
   pub body_needs : slots_needed o.body ≤ o.slots
   body_needs = needs t Q o.slots o.body is.body
@@ -245,16 +254,21 @@ module _ (t : List IrFunc) (o : IrFunc) (is : IsConverted t o) where
   body_sees n le = seen t Q o.slots 0 n (outer_below o.slots n le) o.body is.body
 
   pub converted_valid : (v : Version) (k : KernelType) → IsValid (module_with v t o.slots o.body k)
-  converted_valid v k = module_valid v t o.slots o.body k (all_proper t is.few is.functions t is.functions) body_sees body_needs (let n = is.few in omega arith)
+  converted_valid v k =
+      module_valid v t o.slots o.body k (all_proper t many is.functions t is.functions) body_sees body_needs
+      (let n = is.few in omega arith)
 
   pub converted_profile : (v : Version) (k : KernelType) → IsWithinProfile (module_with v t o.slots o.body k)
-  converted_profile v k = module_within_profile v t o.slots o.body k is.few (all_modest t is.few is.functions t is.functions) (let s = is.slots in omega arith) (let d = is.depth in omega (arith, shallow o.body))
+  converted_profile v k =
+      module_within_profile v t o.slots o.body k is.few (all_modest t many is.functions t is.functions)
+      (let s = is.slots in omega arith) (let d = is.depth in omega (arith, shallow o.body))
 
   pub converted_spelled : (v : Version) (k : KernelType) → kernel_nodes k ≤ 10000 → SpelledWithin 2_000_000_000 (wasm_module (module_with v t o.slots o.body k))
   converted_spelled v k nodes =
       let w = narrow o.body body_near in
-      let ws = all_narrow t is.few is.functions t is.functions in
+      let ws = all_narrow t many is.functions t is.functions in
       let n = is.few in
       let z = is.size in
       let s = is.slots in
-      module_spelled v t o.slots o.body k n (all_spelled t is.few is.functions t is.functions) (omega arith) body_fine body_near body_sees body_needs (omega arith) nodes
+      module_spelled v t o.slots o.body k n (all_spelled t many is.functions t is.functions) (omega arith) body_fine
+      body_near body_sees body_needs (omega arith) nodes

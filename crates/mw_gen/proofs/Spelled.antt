@@ -28,6 +28,14 @@ abbrev mutual
   pub instruction_width : Instruction → ℕ
   instruction_width (loop t body) = 3 + width body
   instruction_width (cond t a b) = 4 + width a + width b
+  instruction_width (br l) = 6
+  instruction_width (call_indirect t) = 7
+  instruction_width (local_get x) = 6
+  instruction_width (local_set x) = 6
+  instruction_width (local_tee x) = 6
+  instruction_width (global_get x) = 6
+  instruction_width (global_set x) = 6
+  instruction_width (numeric o) = 1
   instruction_width _ = 11
 
   pub width : Code → ℕ
@@ -66,8 +74,8 @@ i32_within n h =
     let s = signed_shortest 32 (pos n) (omega arith) (omega arith) (omega (arith, lt→ltb)) in
     record { bytes = shortest_signed (pos n); spell = (pos n, s.spells, refl); short = let p = signed_length (shortest_signed (pos n)) 32 (pos n) s.spells in omega arith }
 
-index_within : (b n : ℕ) → n < 2 ^ 32 → SpelledWithin 11 (byte b then u32 n)
-index_within b n h = within_more 11 (omega arith) (within_then {j = 1} {k = 5} (within_byte b) (within_u32 n h))
+index_within : (b n : ℕ) → n < 2 ^ 32 → SpelledWithin 6 (byte b then u32 n)
+index_within b n h = within_then {j = 1} {k = 5} (within_byte b) (within_u32 n h)
 
 mutual
   pub instruction_within : (x : Instruction) → IsFit x → SpelledWithin (instruction_width x) (instruction x)
@@ -76,7 +84,8 @@ mutual
       let rest = within_then {j = 1} (within_byte 0x05) (within_then (code_within b f.1) (within_byte 0x0B)) in
       within_more (4 + width a + width b) (omega arith) (within_then {j = 1} (within_byte 0x04) (within_then {j = 1} (type_within t) (within_then (code_within a f.0) record { bytes = rest.bytes; spell = inr rest.spell; short = rest.short })))
   instruction_within (br l) f = index_within 0x0C l f
-  instruction_within (call_indirect t) f = within_more 11 (omega arith) (within_then {j = 1} (within_byte 0x11) (within_then {j = 5} {k = 1} (within_u32 t f) (within_byte 0x00)))
+  instruction_within (call_indirect t) f =
+      within_then {j = 1} {k = 6} (within_byte 0x11) (within_then {j = 5} {k = 1} (within_u32 t f) (within_byte 0x00))
   instruction_within (local_get x) f = index_within 0x20 x f
   instruction_within (local_set x) f = index_within 0x21 x f
   instruction_within (local_tee x) f = index_within 0x22 x f
@@ -86,7 +95,7 @@ mutual
   instruction_within (store o align offset) f = within_then {j = 1} {k = 10} (within_byte _) (within_then {j = 5} {k = 5} (within_u32 align f.0) (within_u32 offset f.1))
   instruction_within (const_i32 n) f = within_then {j = 1} {k = 10} (within_byte 0x41) (i32_within n f)
   instruction_within (const_i64 n) f = subst (λ n. SpelledWithin 11 (instruction (const_i64 n))) (sym f.2) (constant_spelled f.0 f.1)
-  instruction_within (numeric o) f = within_more 11 (omega arith) (within_byte _)
+  instruction_within (numeric o) f = within_byte _
   instruction_within _ f = absurd (f)
 
   pub code_within : (c : Code) → AreFit c → SpelledWithin (width c) (coded c)
@@ -100,27 +109,27 @@ expression_within c f = within_then (code_within c f) (within_byte 0x0B)
 abbrev pub breadth : Ir → ℕ
 breadth (i.num z) = 11
 breadth (i.truth z) = 11
-breadth (i.get p) = 33
-breadth (i.closure k ps) = 99 + 55 * length ps
-breadth (i.app f a) = breadth f + breadth a + 77
-breadth (i.bind s d e) = breadth d + breadth e + 11
-breadth (i.cond c y z) = breadth c + breadth y + breadth z + 15
-breadth (i.pair y z) = breadth y + breadth z + 154
-breadth (i.fst e) = breadth e + 22
-breadth (i.snd e) = breadth e + 22
-breadth (i.prim p y z) = breadth y + breadth z + 22
+breadth (i.get p) = 18
+breadth (i.closure k ps) = 59 + 35 * length ps
+breadth (i.app f a) = breadth f + breadth a + 43
+breadth (i.bind s d e) = breadth d + breadth e + 6
+breadth (i.cond c y z) = breadth c + breadth y + breadth z + 5
+breadth (i.pair y z) = breadth y + breadth z + 89
+breadth (i.fst e) = breadth e + 12
+breadth (i.snd e) = breadth e + 12
+breadth (i.prim p y z) = breadth y + breadth z + 2
 
-place_width : (p : Place) (b : ℕ) (rest : Code) → width (place_code p b rest) ≤ 33 + width rest
+place_width : (p : Place) (b : ℕ) (rest : Code) → width (place_code p b rest) ≤ 18 + width rest
 place_width Argument b rest = omega arith
 place_width Own b rest = omega arith
 place_width (Slot s) b rest = omega arith
 place_width (Free j) b rest = omega arith
 
-stores_width : (ps : List Place) (j b : ℕ) (rest : Code) → width (stores_code ps j b rest) ≤ 55 * length ps + width rest
+stores_width : (ps : List Place) (j b : ℕ) (rest : Code) → width (stores_code ps j b rest) ≤ 35 * length ps + width rest
 stores_width [] j b rest = omega arith
 stores_width (p ∷ ps) j b rest = omega (arith, place_width p b (Rattle.mw_gen.specs.Generate.store_word (8 * j) (stores_code ps (suc j) b rest)), stores_width ps (suc j) b rest)
 
-prim_width : (p : Prim) (rest : Code) → width (prim_code p rest) ≤ 22 + width rest
+prim_width : (p : Prim) (rest : Code) → width (prim_code p rest) ≤ 2 + width rest
 prim_width Add rest = omega arith
 prim_width Sub rest = omega arith
 prim_width Mul rest = omega arith

@@ -39,7 +39,7 @@ total [] = 0
 total (f ∷ fs) = breadth f.body + 60 + total fs
 
 -- further locals of one type
-locals_within : (n : ℕ) → n < 2 ^ 32 → SpelledWithin 11 (locals (replicate n I64))
+pub locals_within : (n : ℕ) → n < 2 ^ 32 → SpelledWithin 11 (locals (replicate n I64))
 locals_within n h =
     let s = within_one {k = 6} run record { count = n; kind = I64 } (within_then {j = 5} {k = 1} (within_u32 n h) (within_byte 0x7E)) in
     record { bytes = s.bytes; spell = record { runs = record { count = n; kind = I64 } ∷ []; spelled = s.spell; types_are = sym (append_none (replicate n I64)); few = omega (arith, length-replicate n I64) }; short = s.short }
@@ -55,7 +55,8 @@ call_locals_within =
     let s = within_vector {k = 12} run (words_run ∷ top_run ∷ []) (omega arith) (within_cons {j = 6} {k = 6} run words_run (top_run ∷ []) (within_then {j = 5} {k = 1} (within_u32 2 (omega arith)) (within_byte 0x7E)) (within_cons {j = 6} {k = 0} run top_run [] (within_then {j = 5} {k = 1} (within_u32 1 (omega arith)) (within_byte 0x7F)) (within_nil run))) in
     record { bytes = s.bytes; spell = record { runs = words_run ∷ top_run ∷ []; spelled = s.spell; types_are = refl; few = omega arith }; short = s.short }
 
-func_within : (v : Version) (f : IrFunc) → CanSpell f → breadth f.body < 2 ^ 31 → SpelledWithin (breadth f.body + 60) (function_code (function_for v f))
+pub func_within : (v : Version) (f : IrFunc) → CanSpell f → breadth f.body < 2 ^ 31
+    → SpelledWithin (breadth f.body + 60) (function_code (function_for v f))
 func_within v f c small =
     let z = is_loop v f.body in
     let n = f.slots + spare_count (body_wants_spare z f.body) in
@@ -85,7 +86,7 @@ argument_near : (s : GroundType) (k : ℕ) → Near (argument_of s k)
 argument_near (base b) k = tt
 argument_near (product s t) k = (argument_near s k, argument_near t (k + leaf_count s))
 
-call_within : (s : GroundType) → leaf_count s ≤ 10000 → SpelledWithin 2000000 (function_code (call_function s))
+pub call_within : (s : GroundType) → leaf_count s ≤ 10000 → SpelledWithin 2000000 (function_code (call_function s))
 call_within s few =
     let m = leaf_count s in
     let rest = next (Rattle.mw_wasm.specs.Syntax.local_get (suc (suc (suc m)))) (next (Rattle.mw_wasm.specs.Syntax.global_set 0) end) in
@@ -106,7 +107,7 @@ leaves_within : (n : ℕ) → SpelledWithin n (items value_type (replicate n I64
 leaves_within zero = within_nil value_type
 leaves_within (suc n) = within_more (suc n) (omega arith) (within_then {j = 1} {k = n} (within_byte 0x7E) (leaves_within n))
 
-call_type_within : (s : GroundType) → leaf_count s ≤ 10000 → SpelledWithin 10013 (function_type (call_type s))
+pub call_type_within : (s : GroundType) → leaf_count s ≤ 10000 → SpelledWithin 10013 (function_type (call_type s))
 call_type_within s few = within_then {j = 1} {k = 10012} (within_byte 0x60) (within_then {j = 10006} {k = 6} (within_more 10006 (omega arith) (within_vector value_type (I64 ∷ replicate (leaf_count s) I64) (omega (arith, length-replicate (leaf_count s) I64)) (leaves_within (suc (leaf_count s))))) one_result)
 
 types_within : (k : KernelType) → kernel_nodes k ≤ 10000 → SpelledWithin 10050 (section 1 function_type (closure_type ∷ init_type ∷ more_types k))
@@ -139,17 +140,21 @@ exports_within (of_ground g) n h = within_more 41 (omega arith) (within_section 
 exports_within (to s b) n h = within_section {k = 35} 7 export (init_named n ∷ call_named (suc n) ∷ []) (omega arith)
     (within_vector {k = 30} export (init_named n ∷ call_named (suc n) ∷ []) (omega arith) (within_cons {j = 15} {k = 15} export (init_named n) (call_named (suc n) ∷ []) (init_export n (omega arith)) (within_cons {j = 15} {k = 0} export (call_named (suc n)) [] (call_export (suc n) h) (within_nil export))))
 
-counting_within : (k n : ℕ) → k + n < 2 ^ 32 → SpelledWithin (5 * n) (items u32 (counting k n))
+pub counting_within : (k n : ℕ) → k + n < 2 ^ 32 → SpelledWithin (5 * n) (items u32 (counting k n))
 counting_within k zero h = within_nil u32
 counting_within k (suc n) h = within_more (5 * suc n) (omega arith) (within_then {j = 5} (within_u32 k (omega arith)) (counting_within (suc k) n (omega arith)))
 
 abbrev segment_of : ℕ → ElementSegment
 segment_of n = record { offset = next (const_i32 0) end; funcs = counting 0 n }
 
-elements_within : (n : ℕ) → n ≤ 20000 → SpelledWithin 100030 (section 9 element (elements_of n))
-elements_within zero h = within_more 100030 (omega arith) (within_absent 9 element)
-elements_within (suc n) h = within_section {k = 100024} 9 element (segment_of (suc n) ∷ []) (omega arith)
-    (within_more 100024 (omega arith) (within_one {k = 100013} element (segment_of (suc n)) (within_then {j = 5} {k = 100008} (within_u32 0 (omega arith)) (within_then {j = 3} {k = 100005} zero_code_within (within_more 100005 (omega arith) (within_vector u32 (counting 0 (suc n)) (omega (arith, counting_length 0 (suc n))) (counting_within 0 (suc n) (omega arith))))))))
+pub elements_within : (n : ℕ) → n ≤ 100000 → SpelledWithin 500030 (section 9 element (elements_of n))
+elements_within zero h = within_more 500030 (omega arith) (within_absent 9 element)
+elements_within (suc n) h = within_section {k = 500024} 9 element (segment_of (suc n) ∷ []) (omega arith)
+    (within_more 500024 (omega arith) (within_one {k = 500013} element (segment_of (suc n))
+    (within_then {j = 5} {k = 500008} (within_u32 0 (omega arith))
+    (within_then {j = 3} {k = 500005} zero_code_within (within_more 500005 (omega arith)
+    (within_vector u32 (counting 0 (suc n)) (omega (arith, counting_length 0 (suc n)))
+    (counting_within 0 (suc n) (omega arith))))))))
 
 pub module_spelled : (v : Version) (t : List IrFunc) (slots : ℕ) (body : Ir) (k : KernelType) → length t ≤ 20000 → AllByRecursion CanSpell t → slots ≤ 20000 → Fine body → Near body → ((n : ℕ) → slots ≤ n → Sees body 0 n) → slots_needed body ≤ slots → breadth body + total t ≤ 1_200_000_000 → kernel_nodes k ≤ 10000 → SpelledWithin 2_000_000_000 (wasm_module (module_with v t slots body k))
 module_spelled v t slots body k n can few fine near sees nd small leaves =
@@ -168,7 +173,7 @@ module_spelled v t slots body k n can few fine near sees nd small leaves =
     (within_then gap (within_then ((memory_within record { min = 64; max = Some 64 } 64 refl (omega arith) (omega arith)))
     (within_then gap (within_then (globals_within)
     (within_then gap (within_then ((exports_within k (length t) (omega arith)))
-    (within_then gap (within_then ((elements_within (length t) n))
+    (within_then gap (within_then ((elements_within (length t) (omega arith)))
     (within_then gap (within_then ((within_section 10 function_code m.funcs (omega arith) (within_vector function_code m.funcs (omega arith) (funcs_within v t _ (breadth body + 60 + 2000000) can (omega arith) (within_then init_code (more_within k leaves))))))
     (within_then gap (within_then (within_absent 11 data_segment) gap)))))))))))))))))))))
   where

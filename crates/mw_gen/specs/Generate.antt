@@ -187,6 +187,14 @@ call_function s = record {
       (next (local_get (suc (suc (suc (leaf_count s))))) (next (global_set 0) end))));
 }
 
+-- `init` of a kernel among others: before its code it gives the heap back
+abbrev pub restarting : Function → Function
+restarting f = record f { body = next (const_i32 0) (next (global_set 0) f.body) }
+
+-- `call`, whose type has this number
+abbrev pub call_numbered : ℕ → GroundType → Function
+call_numbered x s = record (call_function s) { kind = x }
+
 -- the type of the code's functions: from a closure and an argument to a word
 abbrev pub closure_type : FuncType
 closure_type = record { params = I64 ∷ I64 ∷ []; results = I64 ∷ [] }

@@ -1,4 +1,5 @@
 pub mod Generate
+pub mod Parts
 pub mod Keeping
 pub mod Generation
 pub mod Generated

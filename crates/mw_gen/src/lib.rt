@@ -10,8 +10,10 @@ ghost use Rattle.mw_term.specs.Limits.{kernel_nodes};
 ghost use Rattle.mw_wasm.specs.BinaryModules.{wasm_module};
 ghost use Rattle.mw_wasm.specs.Profile.{IsWithinProfile};
 ghost use Rattle.mw_wasm.specs.Validity.{IsValid};
-ghost use Rattle.mw_wasm.specs.Views.{function_of, module_of};
-ghost use Rattle.mw_gen.specs.Generate.{two};
+ghost use Rattle.mw_wasm.specs.Views.{export_of, function_of, module_of};
+ghost use Rattle.std.specs.Option.{option_map};
+ghost use Rattle.mw_gen.specs.Generate.{function_for, init_function as init_with, restarting, two};
+ghost use Rattle.mw_gen.specs.Parts.{call_for, module_in, moved, moved_function};
 ghost use Rattle.mw_gen.specs.Generated.{DoesConverted, functions_in, generated, outer_in};
 
 mod call;
@@ -25,11 +27,12 @@ mod tails;
 mod tests;
 
 use crate::call::call_function;
-use crate::functions::{init_function, put_functions};
+use crate::functions::{init_alone, put_all, put_functions, restarting_init};
 use crate::module::{elements, exports, globals, types};
+pub use crate::module::{first_types, put_call_type};
 use mw_ir::Converted;
 use mw_term::KType;
-use mw_wasm::{Funcs, Limits, Module, Segments};
+use mw_wasm::{Exports, Func, FuncTypes, Funcs, Limits, Module, Segments};
 use std::alloc::{AllocError, Global};
 
 /// The pages of a kernel's memory.
@@ -49,16 +52,21 @@ pub fn generate(alloc: Global, converted: &Converted, kind: &KType) -> Result<Mo
     whole_module(alloc, converted, kind)
 }
 
-/// The same module, of which only its parts are said.
-fn whole_module(alloc: Global, converted: &Converted, kind: &KType) -> Result<Module, AllocError>
-    requires converted { IsConverted (functions_in converted.now) (outer_in converted.now) }
-    requires nodes { kernel_nodes (kernel_type_of kind.now) ≤ 10000 }
-    ensures { IfOk result (λ wasm. module_of wasm ≡ generated two converted.now (kernel_type_of kind.now)) }
+/// The module of types, functions and exports, in which the table has the first `count` functions, in order. Its one
+/// error is want of memory.
+pub fn module_with(
+    alloc: Global,
+    types: FuncTypes,
+    funcs: Funcs,
+    exports: Exports,
+    count: u32,
+) -> Result<Module, AllocError>
+    ensures { IfOk result (λ wasm. module_of wasm
+        ≡ module_in types (map function_of funcs) (map export_of exports) count) }
 {
-    let count = converted.funcs.len() as u32;
     Ok(Module {
-        types: types(alloc, kind)?,
-        funcs: all_functions(alloc, converted, kind)?,
+        types,
+        funcs,
         table: Some(Limits {
             min: count,
             max: Some(count),
@@ -68,10 +76,71 @@ fn whole_module(alloc: Global, converted: &Converted, kind: &KType) -> Result<Mo
             max: Some(PAGES),
         }),
         globals: globals(alloc)?,
-        exports: exports(alloc, kind, count)?,
+        exports,
         elements: elements(alloc, count)?,
         segments: Segments::new(alloc),
     })
+}
+
+/// The same module, of which only its parts are said.
+fn whole_module(alloc: Global, converted: &Converted, kind: &KType) -> Result<Module, AllocError>
+    requires converted { IsConverted (functions_in converted.now) (outer_in converted.now) }
+    requires nodes { kernel_nodes (kernel_type_of kind.now) ≤ 10000 }
+    ensures { IfOk result (λ wasm. module_of wasm ≡ generated two converted.now (kernel_type_of kind.now)) }
+{
+    let count = converted.funcs.len() as u32;
+    let types = types(alloc, kind)?;
+    let funcs = all_functions(alloc, converted, kind)?;
+    let exports = exports(alloc, kind, count)?;
+    module_with(alloc, types, funcs, exports, count)
+}
+
+/// The functions of a kernel among others: those of its code in order, `init`, which first gives the heap back, and,
+/// where the kernel is a function, `call`, whose type is number 2 until another one is put in.
+#[derive(Drop)]
+pub struct Part {
+    pub funcs: Funcs,
+    pub init: Func,
+    pub call: Option<Func>,
+}
+
+/// The functions of converted code at a kernel type, as they stand in a module behind `base` others: its functions have
+/// the numbers from `base` on, in their closures too. Its one error is want of memory.
+pub fn generate_part(
+    alloc: Global,
+    converted: &Converted,
+    kind: &KType,
+    base: u32,
+) -> Result<Part, AllocError>
+    requires converted { IsConverted (functions_in converted.now) (outer_in converted.now) }
+    requires nodes { kernel_nodes (kernel_type_of kind.now) ≤ 10000 }
+    requires base { base ≤ 100000 }
+    ensures funcs { IfOk result (λ part. map function_of part.funcs
+        ≡ map (function_for two) (map (moved_function base) (functions_in converted.now))) }
+    ensures init { IfOk result (λ part. function_of part.init
+        ≡ restarting (init_with (outer_in converted.now).slots
+        (moved base (outer_in converted.now).body))) }
+    ensures call { IfOk result (λ part. option_map function_of part.call
+        ≡ call_for (kernel_type_of kind.now)) }
+{
+    let mut funcs = Funcs::new(alloc);
+    put_functions(alloc, &mut funcs, &converted.funcs, base)?;
+    Ok(Part {
+        funcs,
+        init: restarting_init(alloc, &converted.body, base)?,
+        call: call_part(alloc, kind)?,
+    })
+}
+
+/// The function `call`, where the type is a function's.
+fn call_part(alloc: Global, kind: &KType) -> Result<Option<Func>, AllocError>
+    requires nodes { kernel_nodes (kernel_type_of kind.now) ≤ 10000 }
+    ensures { IfOk result (λ call. option_map function_of call ≡ call_for (kernel_type_of kind.now)) }
+{
+    match kind {
+        KType::Ground(_) => Ok(None),
+        KType::Fun(argument, _) => Ok(Some(call_function(alloc, argument)?)),
+    }
 }
 
 /// The functions of the code, `init` and, for a function, `call`.
@@ -81,8 +150,8 @@ fn all_functions(alloc: Global, converted: &Converted, kind: &KType) -> Result<F
     ensures { IfOk result (λ funcs. map function_of funcs ≡ (generated two converted.now (kernel_type_of kind.now)).funcs) }
 {
     let mut funcs = Funcs::new(alloc);
-    put_functions(alloc, &mut funcs, &converted.funcs)?;
-    funcs.push(init_function(alloc, &converted.body)?)?;
+    put_all(alloc, &mut funcs, &converted.funcs)?;
+    funcs.push(init_alone(alloc, &converted.body)?)?;
     if let KType::Fun(argument, _) = kind {
         funcs.push(call_function(alloc, argument)?)?;
     }

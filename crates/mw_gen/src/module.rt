@@ -1,6 +1,6 @@
 // The parts of a module beside its functions.
 
-ghost use Rattle.std.specs.Prelude.{◌≡◌, ◌+◌, ◌<◌, ◌≤◌, [], ◌∷◌, map, replicate, IfOk};
+ghost use Rattle.std.specs.Prelude.{◌≡◌, ◌+◌, ◌<◌, ◌≤◌, [], ◌∷◌, ◌++◌, map, replicate, IfOk};
 ghost use Rattle.mw_term.specs.Terms.{kernel_type_of};
 ghost use Rattle.mw_term.specs.Limits.{kernel_nodes};
 ghost use Rattle.mw_meaning.specs.Shapes.{init_type};
@@ -34,18 +34,36 @@ fn to_word(alloc: Global, params: ValTypes) -> Result<FuncType, AllocError>
     Ok(FuncType { params, results })
 }
 
-/// The types of closures' functions, of `init` and, for a function, of `call`.
+/// The types of closures' functions and of `init`.
 #[tactic(auto, using(crate::proofs::Listed::replicate_first))]
-pub fn types(alloc: Global, kind: &KType) -> Result<FuncTypes, AllocError>
-    requires { kernel_nodes (kernel_type_of kind.now) ≤ 10000 }
-    ensures { IfOk result (λ types. types ≡ closure_type ∷ init_type ∷ more_types (kernel_type_of kind.now)) }
+pub fn first_types(alloc: Global) -> Result<FuncTypes, AllocError>
+    ensures { IfOk result (λ types. types ≡ closure_type ∷ init_type ∷ []) }
 {
     let mut types = FuncTypes::new(alloc);
     types.push(to_word(alloc, words(alloc, 2)?)?)?;
     types.push(to_word(alloc, ValTypes::new(alloc))?)?;
+    Ok(types)
+}
+
+/// Appends the type of `call`, for a function.
+#[tactic(auto, using(crate::proofs::Listed::replicate_first))]
+pub fn put_call_type(alloc: Global, types: &mut FuncTypes, kind: &KType) -> Result<(), AllocError>
+    requires { kernel_nodes (kernel_type_of kind.now) ≤ 10000 }
+    ensures { IfOk result (λ _. types.new ≡ types.old ++ more_types (kernel_type_of kind.now)) }
+{
     if let KType::Fun(argument, _) = kind {
         types.push(to_word(alloc, words(alloc, 1 + leaves(argument))?)?)?;
     }
+    Ok(())
+}
+
+/// The types of closures' functions, of `init` and, for a function, of `call`.
+pub fn types(alloc: Global, kind: &KType) -> Result<FuncTypes, AllocError>
+    requires { kernel_nodes (kernel_type_of kind.now) ≤ 10000 }
+    ensures { IfOk result (λ types. types ≡ closure_type ∷ init_type ∷ more_types (kernel_type_of kind.now)) }
+{
+    let mut types = first_types(alloc)?;
+    put_call_type(alloc, &mut types, kind)?;
     Ok(types)
 }
 

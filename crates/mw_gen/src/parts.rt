@@ -83,7 +83,7 @@ pub fn put_address(out: &mut Instrs, bytes: u32) -> Result<(), AllocError>
 /// Appends the making of a closure of function `number`.
 pub fn put_closure(
     out: &mut Instrs,
-    number: u32,
+    number: u64,
     places: &Places,
     base: u32,
 ) -> Result<(), AllocError>
@@ -93,7 +93,7 @@ pub fn put_closure(
     ensures { IfOk result (λ _. Appends out.old out.new (closure_list number places.now base)) }
 {
     out.push(Instr::GlobalGet(0))?;
-    out.push(Instr::ConstI64(number as u64))?;
+    out.push(Instr::ConstI64(number))?;
     out.push(Instr::Store(StoreOp::I64, 3, 0))?;
     put_stores(out, places, base)?;
     put_address(out, 8 * (places.len() as u32 + 1))

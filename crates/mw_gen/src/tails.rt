@@ -11,6 +11,7 @@ ghost use Rattle.mw_gen.specs.Generate.{
   wants_spare,
 };
 ghost use Rattle.mw_gen.specs.Listing.{Appends, IsShort, tail_list};
+ghost use Rattle.mw_gen.specs.Parts.{moved};
 
 use crate::code::{put_choice, put_code};
 use crate::parts::put_application;
@@ -104,50 +105,53 @@ pub fn tail_uses(code: &Ir) -> bool
 }
 
 /// Appends the code of a loop's body at a tail place, where the loop's label has number `label`.
+#[tactic(auto, using(crate::proofs::Moves::own_moved))]
 pub fn put_tail(
     alloc: Global,
     out: &mut Instrs,
     code: &Ir,
+    from: u32,
     spare: u32,
     label: u32,
 ) -> Result<(), AllocError>
     requires short { IsShort (ir_of code.now) }
     requires spare { spare < 1000000000 }
     requires label { label + ir_depth (ir_of code.now) < 2 ^ 32 }
-    ensures { IfOk result (λ _. Appends out.old out.new (tail_list (ir_of code.now) 2 spare label)) }
+    ensures { IfOk result (λ _. Appends out.old out.new
+        (tail_list (moved from (ir_of code.now)) 2 spare label)) }
 {
     match code {
         Ir::App(function, argument) => {
             if is_own(function) {
-                put_code(alloc, out, argument, 2, spare)?;
+                put_code(alloc, out, argument, from, 2, spare)?;
                 put_branch(out, label)
             } else {
-                put_code(alloc, out, function, 2, spare)?;
-                put_code(alloc, out, argument, 2, spare)?;
+                put_code(alloc, out, function, from, 2, spare)?;
+                put_code(alloc, out, argument, from, 2, spare)?;
                 put_application(out, spare)
             }
         }
         Ir::Let(slot, definition, rest) => {
-            put_code(alloc, out, definition, 2, spare)?;
+            put_code(alloc, out, definition, from, 2, spare)?;
             out.push(Instr::LocalSet(2 + *slot))?;
-            put_tail(alloc, out, rest, spare, label)
+            put_tail(alloc, out, rest, from, spare, label)
         }
         Ir::If(condition, then, otherwise) => {
-            put_code(alloc, out, condition, 2, spare)?;
+            put_code(alloc, out, condition, from, 2, spare)?;
             let mut first = Instrs::new(alloc);
-            put_tail(alloc, &mut first, then, spare, label + 1)?;
+            put_tail(alloc, &mut first, then, from, spare, label + 1)?;
             let mut second = Instrs::new(alloc);
-            put_tail(alloc, &mut second, otherwise, spare, label + 1)?;
+            put_tail(alloc, &mut second, otherwise, from, spare, label + 1)?;
             put_choice(out, first, second)
         }
-        Ir::Int(_) => put_code(alloc, out, code, 2, spare),
-        Ir::Bool(_) => put_code(alloc, out, code, 2, spare),
-        Ir::Get(_) => put_code(alloc, out, code, 2, spare),
-        Ir::Closure(_, _) => put_code(alloc, out, code, 2, spare),
-        Ir::Pair(_, _) => put_code(alloc, out, code, 2, spare),
-        Ir::Fst(_) => put_code(alloc, out, code, 2, spare),
-        Ir::Snd(_) => put_code(alloc, out, code, 2, spare),
-        Ir::Prim(_, _, _) => put_code(alloc, out, code, 2, spare),
+        Ir::Int(_) => put_code(alloc, out, code, from, 2, spare),
+        Ir::Bool(_) => put_code(alloc, out, code, from, 2, spare),
+        Ir::Get(_) => put_code(alloc, out, code, from, 2, spare),
+        Ir::Closure(_, _) => put_code(alloc, out, code, from, 2, spare),
+        Ir::Pair(_, _) => put_code(alloc, out, code, from, 2, spare),
+        Ir::Fst(_) => put_code(alloc, out, code, from, 2, spare),
+        Ir::Snd(_) => put_code(alloc, out, code, from, 2, spare),
+        Ir::Prim(_, _, _) => put_code(alloc, out, code, from, 2, spare),
     }
 }
 

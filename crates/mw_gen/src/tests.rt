@@ -1,29 +1,38 @@
 // Generated modules whose bytes are known.
 
-ghost use Rattle.std.specs.Prelude.{◌≡◌, [], IfOk};
+ghost use Rattle.std.specs.Prelude.{◌≡◌, ◌≤◌, [], IfOk};
 ghost use Rattle.mw_ir.specs.declared.place.Place.TheVariants.{Slot};
 ghost use Rattle.mw_ir.specs.Ir.{bind, closure, get};
 ghost use Rattle.mw_ir.specs.Ranges.{IsConverted};
 ghost use Rattle.mw_ir.specs.Views.{ir_of};
+ghost use Rattle.mw_term.specs.Limits.{kernel_nodes};
+ghost use Rattle.mw_term.specs.Terms.{kernel_type_of};
 ghost use Rattle.mw_gen.specs.Examples.{down_code, next_step};
 ghost use Rattle.mw_gen.specs.Generated.{functions_in, outer_in};
 
-use crate::generate;
+use crate::{Part, generate, generate_part};
 use mw_encode::encode;
 use mw_ir::{Converted, Ir, IrFunc, IrFuncs, Place, Places};
 use mw_term::{Base, Ground, KType, Prim};
 use std::alloc::{AllocError, Global};
 
-/// The bytes of 7 at `int`.
-fn seven(alloc: Global) -> Result<Vec<u8>, AllocError> {
-    let converted = Converted {
+/// `7`, converted.
+fn seven(alloc: Global) -> Converted
+    ensures { IsConverted (functions_in result) (outer_in result) }
+{
+    Converted {
         funcs: IrFuncs::new(alloc),
         body: IrFunc {
             free: 0,
             slots: 0,
             body: Ir::Int(7),
         },
-    };
+    }
+}
+
+/// The bytes of 7 at `int`.
+fn bytes_of_seven(alloc: Global) -> Result<Vec<u8>, AllocError> {
+    let converted = seven(alloc);
     let module = generate(alloc, &converted, &KType::Ground(Ground::Base(Base::Int)))?;
     encode(alloc, &module)
 }
@@ -114,7 +123,100 @@ fn module_of_down(rt: HostRuntime) -> Result<(), AllocError> {
 
 #[test]
 fn module_of_seven(rt: HostRuntime) -> Result<(), AllocError> {
-    let bytes = seven(rt.alloc())?;
+    let bytes = bytes_of_seven(rt.alloc())?;
     assert_eq!(rt; bytes.as_slice(), SEVEN);
+    Ok(())
+}
+
+/// `fun x -> fun y -> x`, converted.
+fn first_of_two(alloc: Global) -> Result<Converted, AllocError>
+    ensures { IfOk result (λ converted. IsConverted (functions_in converted) (outer_in converted)) }
+{
+    let mut places = Places::new(alloc);
+    places.push(Place::Argument)?;
+    let mut funcs = IrFuncs::new(alloc);
+    funcs.push(IrFunc {
+        free: 0,
+        slots: 0,
+        body: Ir::Closure(1, places),
+    })?;
+    funcs.push(IrFunc {
+        free: 1,
+        slots: 0,
+        body: Ir::Get(Place::Free(0)),
+    })?;
+    let body = IrFunc {
+        free: 0,
+        slots: 0,
+        body: Ir::Closure(0, Places::new(alloc)),
+    };
+    Ok(Converted { funcs, body })
+}
+
+/// A part as it is printed for debugging.
+fn printed_part(
+    alloc: Global,
+    converted: &Converted,
+    kind: &KType,
+    base: u32,
+) -> Result<String, AllocError>
+    requires converted { IsConverted (functions_in converted.now) (outer_in converted.now) }
+    requires nodes { kernel_nodes (kernel_type_of kind.now) ≤ 10000 }
+    requires base { base ≤ 100000 }
+{
+    let Part { funcs, init, call } = generate_part(alloc, converted, kind, base)?;
+    format!(in alloc; "{funcs:?}\n{init:?}\n{call:?}")
+}
+
+/// No functions, `init` alone.
+const PART_OF_SEVEN: &str = "Sequence { items: [] }\n\
+    Func { kind: 1, locals: Sequence { items: [] }, \
+    body: Instrs { inner: [ConstI32(0), GlobalSet(0), ConstI64(7)] } }\n\
+    None";
+
+/// The first function makes a closure of the second, which has the next number.
+const PART_OF_FIRST: &str = "Sequence { items: [\
+    Func { kind: 0, locals: Sequence { items: [] }, body: Instrs { inner: [\
+    GlobalGet(0), ConstI64(100000), Store(I64, 3, 0), GlobalGet(0), LocalGet(1), Store(I64, 3, 8), \
+    GlobalGet(0), Num(ExtendU), GlobalGet(0), ConstI32(16), Num(I32(Add)), GlobalSet(0)] } }, \
+    Func { kind: 0, locals: Sequence { items: [] }, body: Instrs { inner: [\
+    LocalGet(0), Num(Wrap), Load(I64, 3, 8)] } }] }\n\
+    Func { kind: 1, locals: Sequence { items: [] }, body: Instrs { inner: [ConstI32(0), GlobalSet(0), \
+    GlobalGet(0), ConstI64(99999), Store(I64, 3, 0), \
+    GlobalGet(0), Num(ExtendU), GlobalGet(0), ConstI32(8), Num(I32(Add)), GlobalSet(0)] } }\n\
+    Some(Func { kind: 2, locals: Sequence { items: [I64, I64, I32] }, body: Instrs { inner: [\
+    GlobalGet(0), LocalSet(4), LocalGet(0), LocalGet(1), LocalSet(3), LocalTee(2), LocalGet(3), LocalGet(2), \
+    Num(Wrap), Load(I32, 2, 0), CallIndirect(0), LocalGet(4), GlobalSet(0)] } })";
+
+/// The function's loop has no number in it, and `init` has the function's.
+const PART_OF_DOWN: &str = "Sequence { items: [\
+    Func { kind: 0, locals: Sequence { items: [] }, body: Instrs { inner: [Loop(Some(I64), Instrs { inner: [\
+    LocalGet(1), ConstI64(0), Num(I64(Eq)), Num(ExtendU), Num(Wrap), If(Some(I64), \
+    Instrs { inner: [ConstI64(0)] }, \
+    Instrs { inner: [LocalGet(1), ConstI64(1), Num(I64(Sub)), LocalSet(1), Br(1)] })] })] } }] }\n\
+    Func { kind: 1, locals: Sequence { items: [I64] }, body: Instrs { inner: [ConstI32(0), GlobalSet(0), \
+    GlobalGet(0), ConstI64(2), Store(I64, 3, 0), GlobalGet(0), Num(ExtendU), GlobalGet(0), ConstI32(8), \
+    Num(I32(Add)), GlobalSet(0), LocalSet(0), LocalGet(0)] } }\n\
+    None";
+
+/// Parts whose functions were worked out by hand.
+fn parts(alloc: Global) -> Result<[(String, &'static str); 3], AllocError> {
+    let int = KType::Ground(Ground::Base(Base::Int));
+    let int_to_int = KType::Fun(Ground::Base(Base::Int), Ground::Base(Base::Int));
+    let seven = printed_part(alloc, &seven(alloc), &int, 3)?;
+    let first = printed_part(alloc, &first_of_two(alloc)?, &int_to_int, 99_999)?;
+    let down = printed_part(alloc, &down(alloc)?, &int, 2)?;
+    Ok([
+        (seven, PART_OF_SEVEN),
+        (first, PART_OF_FIRST),
+        (down, PART_OF_DOWN),
+    ])
+}
+
+#[test]
+fn parts_behind_other_functions(rt: HostRuntime) -> Result<(), AllocError> {
+    for (got, want) in parts(rt.alloc())? {
+        assert_eq!(rt; got.as_str(), want);
+    }
     Ok(())
 }
