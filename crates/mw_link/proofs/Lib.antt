@@ -1,0 +1,14 @@
+pub mod Positions
+pub mod Whole
+pub mod Names
+pub mod Placed
+pub mod Valid
+pub mod Standing
+pub mod Profile
+pub mod Spelling
+pub mod Examples
+pub mod Moved
+pub mod Generated
+pub mod Going
+pub mod Ending
+pub mod TestKernels

@@ -1,0 +1,6 @@
+pub mod Linked
+pub mod LinkLaw
+pub mod Moved
+pub mod Views
+pub mod Examples
+pub mod TestKernels

@@ -1,0 +1,53 @@
+// Linking.
+
+ghost use Rattle.std.specs.Prelude.{◌≡◌, map, IfOk};
+ghost use Rattle.mw_encode.specs.Encoding.{encoding};
+ghost use Rattle.mw_wasm.specs.BinaryModules.{Spells};
+ghost use Rattle.mw_wasm.specs.Profile.{IsWithinProfile};
+ghost use Rattle.mw_wasm.specs.Validity.{IsValid};
+ghost use Rattle.mw_wasm.specs.Views.{module_of};
+ghost use Rattle.mw_link.specs.Linked.{linked};
+ghost use Rattle.mw_link.specs.LinkLaw.{AreLinkable, LiteralsOfAllFit, MeansAll};
+ghost use Rattle.mw_link.specs.Views.{kernels_of};
+
+use crate::exports::exports_of;
+use crate::parts::{Linkable, Linking, append, put_kernels};
+use mw_encode::encode;
+use mw_gen::module_with;
+use mw_wasm::Module;
+use std::alloc::{AllocError, Global};
+
+/// The bytes of the module of all these kernels, in order. Each has the export of its `init` as NAME.init and, where it
+/// is a function, that of its `call` as NAME.call. It takes closed code within the limits of kernels, types of at most
+/// 10,000 nodes and names of at most 64 printable bytes that differ, of at most 100 kernels with at most 100,000
+/// functions together. The one error is want of memory.
+pub fn link(alloc: Global, parts: &[Linkable]) -> Result<Vec<u8>, AllocError>
+    requires linkable { AreLinkable (kernels_of parts.now) }
+    ensures exact { IfOk result (λ bytes. bytes.items ≡ encoding (linked (kernels_of parts.now))) }
+    ensures spelled { IfOk result (λ bytes. Spells bytes.items (linked (kernels_of parts.now))) }
+    ensures valid { IfOk result (λ _. IsValid (linked (kernels_of parts.now))) }
+    ensures profile { IfOk result (λ _. IsWithinProfile (linked (kernels_of parts.now))) }
+    ensures means { IfOk result (λ _.
+        MeansAll (linked (kernels_of parts.now)) (kernels_of parts.now)) }
+{
+    let wasm = linked_module(alloc, parts)?;
+    encode(alloc, &wasm)
+}
+
+/// The module of all these kernels.
+fn linked_module(alloc: Global, parts: &[Linkable]) -> Result<Module, AllocError>
+    requires linkable { AreLinkable (kernels_of parts.now) }
+    ensures made { IfOk result (λ wasm. module_of wasm ≡ linked (kernels_of parts.now)) }
+    ensures literals { IfOk result (λ _. LiteralsOfAllFit (kernels_of parts.now)) }
+{
+    let Linking {
+        types,
+        inner,
+        outer,
+    } = put_kernels(alloc, parts)?;
+    let count = inner.len() as u32;
+    let exports = exports_of(alloc, parts, count)?;
+    let mut funcs = inner;
+    append(&mut funcs, outer)?;
+    module_with(alloc, types, funcs, exports, count)
+}
