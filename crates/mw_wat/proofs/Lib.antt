@@ -17,6 +17,17 @@ pub mod LookaheadOfCode
 pub mod LookaheadOfModules
 pub mod DeadTokens
 pub mod TextOfTokens
+pub mod CursorTokens
+pub mod WordTables
+pub mod CursorReaders
+pub mod CursorLoops
+pub mod CursorParts
+pub mod CodeSteps
+pub mod FieldLoops
+pub mod PartReaders
+pub mod Chains
+pub mod FewSegments
+pub mod TextAnswers
 pub mod BadPlaces
 pub mod LexemesTaken
 pub mod CodeTaken

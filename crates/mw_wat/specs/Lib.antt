@@ -8,5 +8,12 @@ pub mod Lexing
 pub mod Reading
 pub mod Instructions
 pub mod Modules
+pub mod Cursors
+pub mod Words
+pub mod Parts
+pub mod Steps
+pub mod Exports
+pub mod Chain
+pub mod Answers
 pub mod TextLaws
 pub mod WorkedTexts

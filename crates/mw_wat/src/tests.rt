@@ -19,6 +19,8 @@ ghost use Rattle.mw_wasm.specs.ExampleModules.{
 ghost use Rattle.mw_wasm.specs.Syntax.{const_i64, end, next};
 ghost use Rattle.mw_wasm.specs.Views.{code_of, element_of, export_of, function_of, global_of, module_of};
 
+mod texts;
+
 use crate::write_wat;
 use mw_wasm::{
     Element, Elements, Export, Exported, Exports, Func, FuncType, FuncTypes, Funcs, GlobalVar,

@@ -1,0 +1,225 @@
+-- Code read one instruction after the other, as a loop reads it.
+use Rattle.std.proofs.Common.{◌≡◌, ◌≢◌, ℕ, zero, suc, ◌-◌, ◌<◌, ◌≤◌, List, [], ◌∷◌, ◌++◌, refl, ap, sym, ◌∙◌, arith, Option, Some, None}
+use Rattle.mw_wasm.specs.declared.instructions.Instr.{Instr}
+use Rattle.mw_wasm.specs.Syntax as pure
+use Rattle.mw_wasm.specs.Syntax.{Instruction, Code}
+use Rattle.mw_wasm.specs.Views.{instruction_of, list_code}
+use Rattle.mw_wat.specs.declared.reading.cursor.Fault.{Fault}
+use Rattle.mw_wat.specs.declared.reading.cursor.Fault.TheVariants.{Bad, Memory}
+use Rattle.mw_wat.specs.Tokens.{PureToken, left, right, word, string}
+use Rattle.mw_wat.specs.Lexing.{Tokens, stop, token}
+use Rattle.mw_wat.specs.Reading.{Read, got, bad, Reader, count, and_then, skip}
+use Rattle.mw_wat.specs.Instructions.{Opener, Meaning, ends, turns, opens, alone, meaning, Place, whole, inner, first, fresh, onward, Mark, Listed, Lists, ahead, block_type, inside, opened, more, meant, listed, within, instructions}
+use Rattle.mw_wat.specs.Cursors.{next, Fails}
+use Rattle.mw_wat.specs.Parts.{behind_opener}
+use Rattle.mw_wat.specs.Steps.{marked, one, closing_mark, end_mark, else_mark, marks_or_bad, marks, step_meant, step, go_on, before, with_front}
+use Rattle.mw_wat.proofs.CursorReaders.{next_is}
+use Rattle.mw_wat.proofs.Lookahead.{no_longer, local_then, got_parts}
+use Rattle.mw_wat.proofs.LookaheadOfCode.{local_within, local_inside, local_block_type, local_instructions, meaning_local, same_listed, same_within}
+
+-- the law of reading code
+pub instructions_are : (room : ℕ) (p : Place) (ts : Tokens) → instructions room p ts ≡ listed instructions room p ts
+unfolding instructions
+instructions_are room p (stop at) = refl
+instructions_are room p (token at t us) =
+    same_listed (within (suc (count us))) instructions (local_within (suc (count us))) (suc (count us))
+    (λ room p ts q. same_within (suc (count us)) (suc (count ts)) room p ts q (omega arith)) room p
+    (token at t us) (omega arith)
+
+-- a list is a step, and then its end or more
+regroup : (lists : Lists) (room : ℕ) (p : Place) (r : Read Instruction)
+    → and_then r (more lists room p) ≡ and_then (and_then r λ i rest. got (one i) rest) (go_on lists room p)
+regroup lists room p (got i rest) = refl
+regroup lists room p (bad rest) = refl
+
+module _ (L : Lists) (room : ℕ) where
+  meant_steps : (p : Place) (m : Option Meaning) (at : ℕ) (t : PureToken) (us : Tokens) → meant L room p m (token at t us)
+      ≡ and_then (step_meant L room p m (token at t us)) (go_on L room p)
+  meant_steps p None at t us = refl
+  meant_steps whole (Some ends) at t us = refl
+  meant_steps inner (Some ends) at t us = refl
+  meant_steps first (Some ends) at t us = refl
+  meant_steps fresh (Some ends) at t us = refl
+  meant_steps whole (Some turns) at t us = refl
+  meant_steps inner (Some turns) at t us = refl
+  meant_steps first (Some turns) at t us = refl
+  meant_steps fresh (Some turns) at t us = refl
+  meant_steps whole (Some (opens o)) at t us = regroup L room whole (opened L room o (token at t us))
+  meant_steps inner (Some (opens o)) at t us = regroup L room inner (opened L room o (token at t us))
+  meant_steps first (Some (opens o)) at t us = regroup L room first (opened L room o (token at t us))
+  meant_steps fresh (Some (opens o)) at t us = regroup L room fresh (opened L room o (token at t us))
+  meant_steps whole (Some (alone r)) at t us = regroup L room whole (r us)
+  meant_steps inner (Some (alone r)) at t us = regroup L room inner (r us)
+  meant_steps first (Some (alone r)) at t us = regroup L room first (r us)
+  meant_steps fresh (Some (alone r)) at t us = regroup L room fresh (r us)
+
+  listed_steps : (p : Place) (ts : Tokens) → listed L room p ts ≡ and_then (step L room p ts) (go_on L room p)
+  listed_steps p (stop at) = refl
+  listed_steps whole (token at left us) = refl
+  listed_steps inner (token at left us) = refl
+  listed_steps first (token at left us) = refl
+  listed_steps fresh (token at left us) = refl
+  listed_steps whole (token at right us) = refl
+  listed_steps inner (token at right us) = refl
+  listed_steps first (token at right us) = refl
+  listed_steps fresh (token at right us) = refl
+  listed_steps whole (token at (string w) us) = refl
+  listed_steps inner (token at (string w) us) = refl
+  listed_steps first (token at (string w) us) = refl
+  listed_steps fresh (token at (string w) us) = refl
+  listed_steps whole (token at (word w) us) = meant_steps whole (meaning w) at (word w) us
+  listed_steps inner (token at (word w) us) = meant_steps inner (meaning w) at (word w) us
+  listed_steps first (token at (word w) us) = meant_steps first (meaning w) at (word w) us
+  listed_steps fresh (token at (word w) us) = meant_steps fresh (meaning w) at (word w) us
+
+pub stepped : (room : ℕ) (p : Place) (ts : Tokens) → instructions room p ts
+    ≡ and_then (step instructions room p ts) (go_on instructions room p)
+stepped room p ts = instructions_are room p ts ∙ listed_steps instructions room p ts
+
+-- the loop
+pub front_none : (r : Read Listed) → with_front [] r ≡ r
+front_none (got l rest) = refl
+front_none (bad rest) = refl
+
+before_end : (is : List Instr) → before is pure.end ≡ list_code is
+before_end [] = refl
+before_end (i ∷ is) = ap (λ c. pure.next (instruction_of i) c) (before_end is)
+
+before_one : (is : List Instr) (i : Instr) (c : Code) → before (is ++ i ∷ []) c ≡ before is
+    (pure.next (instruction_of i) c)
+before_one [] i c = refl
+before_one (j ∷ is) i c = ap (λ d. pure.next (instruction_of j) d) (before_one is i c)
+
+front_more : (list : List Instr) (i : Instr) (r : Read Listed)
+    → with_front list (and_then r λ l rest. got (ahead (instruction_of i) l) rest) ≡ with_front (list ++ i ∷ []) r
+front_more list i (got l rest) =
+    ap (λ c. got (record { code = c; mark = l.mark }) rest) (sym (before_one list i l.code))
+front_more list i (bad rest) = refl
+
+module _ (list : List Instr) (room : ℕ) (p : Place) (ts : Tokens) (total : Read Listed) where
+  pub list_ends : (m : Mark) (rest : Tokens) → step instructions room p ts ≡ got (marked m) rest
+      → with_front list (instructions room p ts) ≡ total
+      → total ≡ got (record { code = list_code list; mark = m }) rest
+  list_ends m rest e so_far =
+      sym so_far
+      ∙ (ap (with_front list)
+      (stepped room p ts ∙ ap (λ r. and_then r (go_on instructions room p)) e)
+      ∙ ap (λ c. got (record { code = c; mark = m }) rest) (before_end list))
+
+  pub list_more : (i : Instr) (rest : Tokens) → step instructions room p ts ≡ got (one (instruction_of i)) rest
+      → with_front list (instructions room p ts) ≡ total
+      → with_front (list ++ i ∷ []) (instructions room (onward p) rest) ≡ total
+  list_more i rest e so_far =
+      sym (front_more list i (instructions room (onward p) rest))
+      ∙ (sym
+      (ap (with_front list)
+      (stepped room p ts ∙ ap (λ r. and_then r (go_on instructions room p)) e))
+      ∙ so_far)
+
+  pub list_fails : (f : Fault) → Fails f (step instructions room p ts)
+      → with_front list (instructions room p ts) ≡ total → Fails f total
+  list_fails (Memory m) e so_far = tt
+  list_fails (Bad c) e so_far =
+      sym so_far
+      ∙ ap (with_front list) (stepped room p ts ∙ ap (λ r. and_then r (go_on instructions room p)) e)
+
+-- each instruction takes a token
+one_is : (r : Read Instruction) (i : Instruction) (rest : Tokens) → and_then r (λ i rest. got (one i) rest)
+    ≡ got (one i) rest → r ≡ got i rest
+one_is (got j us) i rest e =
+    let p = got_parts (one j) (one i) us rest e in
+    let s : j ≡ i = cc in
+    ap (λ k. got k us) s ∙ ap (got i) p.1
+one_is (bad us) i rest e = absurd (cc)
+
+marks_none : (o : Option Mark) (at : ℕ) (t : PureToken) (us : Tokens) (i : Instruction) (rest : Tokens)
+    → marks o (token at t us) ≡ got (one i) rest → ⊥
+marks_none None at t us i rest e = cc
+marks_none (Some m) at t us i rest e =
+    let p = got_parts (marked m) (one i) us rest e in
+    let q : marked m ≡ one i = p.0 in cc
+
+behind_word : (room : ℕ) (p : Place) (m : Option Meaning) (w : List ℕ) → meaning w ≡ m → (at : ℕ) (us : Tokens)
+    (i : Instruction) (rest : Tokens) → step_meant instructions room p m (token at (word w) us) ≡ got (one i) rest
+    → count rest ≤ count us
+behind_word room p None w k at us i rest e = absurd (cc)
+behind_word room p (Some ends) w k at us i rest e = absurd (marks_none (end_mark p) at (word w) us i rest e)
+behind_word room p (Some turns) w k at us i rest e = absurd (marks_none (else_mark p) at (word w) us i rest e)
+behind_word zero p (Some (opens o)) w k at us i rest e = absurd (cc)
+behind_word (suc room) p (Some (opens o)) w k at us i rest e =
+    no_longer (behind_opener room o)
+    (local_then block_type (inside instructions room o) local_block_type
+    (λ t. local_inside instructions local_instructions room o t)) us i rest
+    (one_is (behind_opener room o us) i rest e)
+behind_word room p (Some (alone r)) w k at us i rest e =
+    no_longer r (meaning_local w (alone r) k) us i rest (one_is (r us) i rest e)
+
+pub list_shorter : (room : ℕ) (p : Place) (ts : Tokens) (i : Instruction) (rest : Tokens)
+    → step instructions room p ts ≡ got (one i) rest → count rest < count ts
+list_shorter room p (stop at) i rest e = absurd (cc)
+list_shorter room p (token at left us) i rest e = absurd (cc)
+list_shorter room p (token at right us) i rest e = absurd (marks_none (closing_mark p) at right us i rest e)
+list_shorter room p (token at (string w) us) i rest e = absurd (cc)
+list_shorter room p (token at (word w) us) i rest e =
+    let h : count rest ≤ count us = behind_word room p (meaning w) w refl at us i rest e in omega arith
+
+pub ruleset list_laws = (front_none, list_ends, list_more, list_fails, list_shorter)
+
+-- one step
+module _ (room : ℕ) (p : Place) (ts rest : Tokens) where
+  pub step_left : next ts ≡ got left rest → step instructions room p ts ≡ bad ts
+  step_left e = let n = next_is ts left rest e in rw n.1 refl
+
+  pub step_string : (w : List ℕ) → next ts ≡ got (string w) rest → step instructions room p ts ≡ bad ts
+  step_string w e = let n = next_is ts (string w) rest e in rw n.1 refl
+
+  marks_are : (o : Option Mark) (t : PureToken) → next ts ≡ got t rest → marks o ts ≡ marks_or_bad o ts rest
+  marks_are None t e = refl
+  marks_are (Some m) t e = let n = next_is ts t rest e in rw n.1 refl
+
+  pub step_right : next ts ≡ got right rest → step instructions room p ts ≡ marks_or_bad (closing_mark p) ts rest
+  step_right e =
+      let n = next_is ts right rest e in
+      let s : step instructions room p ts ≡ marks (closing_mark p) ts = rw n.1 refl in
+      s ∙ marks_are (closing_mark p) right e
+
+  step_word : (w : List ℕ) (m : Option Meaning) → next ts ≡ got (word w) rest → m ≡ meaning w
+      → step instructions room p ts ≡ step_meant instructions room p m ts
+  step_word w m e k =
+      let n = next_is ts (word w) rest e in
+      let s : step instructions room p ts ≡ step_meant instructions room p (meaning w) ts = rw n.1 refl in
+      s ∙ ap (λ m. step_meant instructions room p m ts) (sym k)
+
+  pub step_none : (w : List ℕ) → next ts ≡ got (word w) rest → None ≡ meaning w → step instructions room p ts ≡ bad ts
+  step_none w e k = step_word w None e k
+
+  pub step_end : (w : List ℕ) → next ts ≡ got (word w) rest → Some ends ≡ meaning w
+      → step instructions room p ts ≡ marks_or_bad (end_mark p) ts rest
+  step_end w e k = step_word w (Some ends) e k ∙ marks_are (end_mark p) (word w) e
+
+  pub step_else : (w : List ℕ) → next ts ≡ got (word w) rest → Some turns ≡ meaning w
+      → step instructions room p ts ≡ marks_or_bad (else_mark p) ts rest
+  step_else w e k = step_word w (Some turns) e k ∙ marks_are (else_mark p) (word w) e
+
+  pub step_alone : (w : List ℕ) (r : Reader Instruction) → next ts ≡ got (word w) rest → Some (alone r) ≡ meaning w
+      → step instructions room p ts ≡ and_then (r rest) λ i us. got (one i) us
+  step_alone w r e k =
+      let n = next_is ts (word w) rest e in
+      step_word w (Some (alone r)) e k
+      ∙ ap (λ v. and_then (skip r v) λ i us. got (one i) us) n.1
+
+pub step_full : (room : ℕ) (p : Place) (ts rest : Tokens) (w : List ℕ) (o : Opener) → next ts ≡ got (word w) rest
+    → Some (opens o) ≡ meaning w → room ≡ 0 → step instructions room p ts ≡ bad ts
+step_full zero p ts rest w o e k z = step_word zero p ts rest w (Some (opens o)) e k
+step_full (suc room) p ts rest w o e k z = absurd (omega arith)
+
+pub step_opens : (room : ℕ) (p : Place) (ts rest : Tokens) (w : List ℕ) (o : Opener) → next ts ≡ got (word w) rest
+    → Some (opens o) ≡ meaning w → room ≢ 0
+    → step instructions room p ts ≡ and_then (behind_opener (room - 1) o rest) λ i us. got (one i) us
+step_opens zero p ts rest w o e k z = absurd (z refl)
+step_opens (suc room) p ts rest w o e k z =
+    let n = next_is ts (word w) rest e in
+    let less : suc room - 1 ≡ room = omega arith in
+    step_word (suc room) p ts rest w (Some (opens o)) e k
+    ∙ (ap (λ v. and_then (skip (behind_opener room o) v) λ i us. got (one i) us) n.1
+    ∙ ap (λ n. and_then (behind_opener n o rest) λ i us. got (one i) us) (sym less))
