@@ -1,5 +1,5 @@
 -- Texts are looked for among those that were loaded.
-use Rattle.std.proofs.Common.{◌≡◌, inl, inr, ℕ, zero, suc, ◌+◌, List, [], ◌∷◌, position, Option, Some, None, Bool, true, false, true≢false, refl, sym, ap, ◌∙◌, subst, arith}
+use Rattle.std.proofs.Common.{◌≡◌, inl, inr, ℕ, zero, suc, ◌+◌, ◌<◌, List, [], ◌∷◌, length, position, Option, Some, None, Bool, true, false, true≢false, refl, sym, ap, ◌∙◌, subst, arith}
 use Rattle.std.specs.Prelude.{slice_get, is_some, not, if◌then◌else◌, Result, Ok, Err, IfOk, ◌↔◌}
 use Rattle.std.specs.Option.{option_map}
 use Rattle.std.specs.List.{position_from}
@@ -100,3 +100,13 @@ pub unloaded_got : {E : Type 0} (cache : CacheState) (t : List ℕ) (result : Re
     → (IsLoadedText cache.load t → ⊥) → IfOk result (λ r. IsLoadedGot r.0 ↔ IsLoadedText cache.load t)
 unloaded_got cache t (Ok r) h none = ((λ l. absurd (h l)), λ l. absurd (none l))
 unloaded_got cache t (Err e) h none = tt
+
+some_at : (ls : List Loaded) (at : ℕ) → at < length ls → (l : Loaded) × (slice_get ls at ≡ Some l)
+some_at [] at less = absurd (omega (arith, less))
+some_at (l ∷ ls) zero less = (l, refl)
+some_at (l ∷ ls) (suc at) less = some_at ls at (omega (arith, less))
+
+-- the text at the place of a record was loaded
+pub loaded_at : (load : LoadState) (at : ℕ) → at < length load.records → IsLoadedText load (text_at load at)
+loaded_at load at less =
+    let h = some_at load.records at less in (at, h.0, h.1, sym (text_is load at h.0 h.1))

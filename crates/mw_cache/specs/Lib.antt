@@ -3,3 +3,7 @@ pub mod Hints
 pub mod Received
 pub mod Keeping
 pub mod Gathering
+pub mod HonestFiles
+pub mod HonestLaws
+pub mod Migrating
+pub mod MigrationLaws

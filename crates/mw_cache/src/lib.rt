@@ -7,10 +7,14 @@ mod got;
 mod hinted;
 mod kept;
 pub mod laws;
+mod migration;
 mod records;
+#[cfg(test)]
+mod tests;
 
 pub use crate::cache::Cache;
 pub use crate::got::Got;
 pub use crate::hinted::HintedCache;
 pub use crate::kept::KeptReceipts;
+pub use crate::migration::{Migration, migration_of};
 pub use crate::records::{RecordBytes, Records};

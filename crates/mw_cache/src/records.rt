@@ -1,10 +1,9 @@
 // The records of what is to be kept.
 
 ghost use Rattle.std.specs.Prelude.{◌≡◌, ◌<◌, ◌++◌, ℕ, List, [], ◌∷◌, All, length, map, slice_get, Some, IfOk, OnOk, OnErr};
-ghost use Rattle.std.specs.Arc.{arc_value};
 ghost use Rattle.std.specs.List.{AllByRecursion};
 ghost use Rattle.mw_slots.specs.Receipts.{IsOf};
-ghost use Rattle.mw_cache.specs.Gots.{texts_of, entry_text};
+ghost use Rattle.mw_cache.specs.Gots.{texts_of, text_in, IsHere};
 ghost use Rattle.mw_cache.specs.Keeping.{AreRecordsOf};
 ghost use Rattle.mw_cache.specs.Gathering.{kept_at, IsShort, IsGathered};
 ghost use Rattle.mw_store.specs.Records.{record_bytes};
@@ -13,18 +12,18 @@ ghost use Rattle.std.specs.Ordering.{nat_cmp};
 ghost use Rattle.std.specs.List.Sorted.{IsStrictlySortedBy};
 
 use crate::cache::Cache;
+use crate::got::Got;
 use mw_compile::Entry;
 use mw_slots::Receipt;
 use mw_store::record_of;
 use std::alloc::{AllocError, Global};
 use std::collections::BTreeMap;
 use std::marker::Model;
-use std::sync::Arc;
 
 /// The bytes of a record.
 #[derive(Drop)]
 pub struct RecordBytes {
-    items: Vec<u8>,
+    pub(crate) items: Vec<u8>,
 }
 
 impl Model for RecordBytes {
@@ -108,26 +107,45 @@ impl Records {
 }
 
 impl Cache<'_> {
-    /// The records of those of the receipts' entries, and of these others, whose texts weren't loaded: of each text
+    /// The records of those of the receipts' entries, and of these modules, whose texts weren't loaded: of each text
     /// once, in the order of the texts' bytes. The error is want of memory.
-    pub fn records(
-        &self,
+    pub fn records<'e>(
+        &'e self,
         alloc: Global,
-        receipts: &[Receipt<Entry>],
-        own: &[Arc<Entry>],
+        receipts: &'e [Receipt<Entry>],
+        gots: &'e [&'e Got],
     ) -> Result<Records, AllocError>
-        requires { All (IsOf self.now.cells) receipts.now }
+        requires table { All (IsOf self.now.cells) receipts.now }
+        requires here { All (λ g. IsHere self.now g.now) gots.now }
         ensures { IfOk result (λ records. AreRecordsOf self.now.load
-            (texts_of receipts.now ++ map (λ e. entry_text (arc_value e)) own.now) records) }
+            (texts_of receipts.now ++ map (λ g. text_in self.now g.now) gots.now) records) }
     {
         let mut modules = BTreeMap::new(alloc);
         for receipt in receipts {
             self.gather(&mut modules, self.entry_of(receipt))?;
         }
-        for entry in own {
-            self.gather(&mut modules, &**entry)?;
+        for got in gots {
+            self.gather_got(&mut modules, got)?;
         }
         records_of(alloc, &modules)
+    }
+
+    /// Adds a module, unless it was loaded.
+    fn gather_got<'e>(
+        &'e self,
+        modules: &mut BTreeMap<&'e [u8], &'e [u8]>,
+        got: &'e Got,
+    ) -> Result<(), AllocError>
+        requires { IsHere self.now got.now }
+        ensures { OnOk result ((texts : List (List ℕ))
+            → IsGathered self.now.load texts (map kept_at modules.old.entries)
+            → IsGathered self.now.load (texts ++ text_in self.now got.now ∷ []) (map kept_at modules.new.entries)) }
+    {
+        match got {
+            Got::Loaded(_) => Ok(()),
+            Got::Stored(receipt) => self.gather(modules, self.entry_of(receipt)),
+            Got::Own(none) => self.gather(modules, &*none.own),
+        }
     }
 
     /// Adds the module of an entry, unless its text was loaded.

@@ -1,6 +1,7 @@
 -- Bytes have one load; a file of whole records is loaded whole; and what lies past the limit doesn't count.
-use Rattle.std.proofs.Common.{◌≡◌, ℕ, ◌+◌, ◌-◌, ◌^◌, ◌<◌, ◌≤◌, List, [], ◌∷◌, ◌++◌, length, take, drop, refl, sym, ap, ◌∙◌, subst, append_assoc, arith}
+use Rattle.std.proofs.Common.{◌≡◌, inl, inr, ℕ, ◌+◌, ◌-◌, ◌^◌, ◌<◌, ◌≤◌, List, [], ◌∷◌, ◌++◌, length, take, drop, refl, sym, ap, ◌∙◌, subst, append_assoc, arith}
 use Rattle.std.proofs.lemmas.Nat.{from_le_bytes-to_le_bytes_4}
+use Rattle.std.proofs.lemmas.Bool.{cases_lt}
 use Rattle.std.proofs.lemmas.List.{append-nil, length-append, take-append-drop}
 use Rattle.std.proofs.Math.Seq.{take-append-add}
 use Rattle.std.specs.Int.{from_le_bytes, w32}
@@ -10,7 +11,7 @@ use Rattle.sha2.proofs.Facts256.{length-sha256}
 use Rattle.mw_key.proofs.Lengths.{short_text}
 use Rattle.mw_store.specs.Records.{Kept, four, body_of, record_bytes, file_of, IsWhole}
 use Rattle.mw_store.specs.Loads.{Begins, Counts, IsLoad, file_limit}
-use Rattle.mw_store.specs.LoadLaws.{OneLoad, WholeFilesAreLoaded, FrontIsLoaded}
+use Rattle.mw_store.specs.LoadLaws.{OneLoad, WholeFilesAreLoaded, FrontIsLoaded, OnlyTheFrontIsRead}
 
 -- fronts of one length are one
 pub front_same : (xs ys us vs : List ℕ) → length xs ≡ length ys → xs ++ us ≡ ys ++ vs → (xs ≡ ys) × (us ≡ vs)
@@ -145,3 +146,53 @@ front_counts past n bytes (r ∷ rs) e h =
 pub front_loaded : FrontIsLoaded
 front_loaded bytes rs good h =
     record { counts = front_counts 0 file_limit bytes rs refl h.counts; good_is = h.good_is }
+
+-- a record that ends within the first bytes begins these too
+begins_front : (n : ℕ) (r : Kept) (bytes rest : List ℕ) → length (record_bytes r) ≤ n → bytes ≡ record_bytes r ++ rest
+    → take n bytes ≡ record_bytes r ++ take (n - length (record_bytes r)) rest
+begins_front n r bytes rest within h =
+    let size = length (record_bytes r) in let sum : size + (n - size) ≡ n = omega arith in
+    ap (λ xs. take n xs) h ∙ sym (ap (λ k. take k (record_bytes r ++ rest)) sum) ∙ take-append-add (record_bytes r) rest
+    (n - size)
+
+-- what counts in the first bytes counts in all of them
+all_counts : (past n : ℕ) (bytes : List ℕ) (rs : List Kept) → past + n ≡ file_limit → Counts past (take n bytes) rs
+    → Counts past bytes rs
+all_counts past n bytes [] e h = λ r begun.
+    let size = length (record_bytes r) in
+    elim (cases_lt file_limit (past + size)) [
+      | inl l ↦ l
+      | inr g ↦
+          let within : size ≤ n = omega (arith, g, e) in
+          h r (begun.0, (take (n - size) begun.1.0, begins_front n r bytes begun.1.0 within begun.1.1))
+    ]
+all_counts past n bytes (r ∷ rs) e h =
+    let size = length (record_bytes r) in let ends = h.1 in
+    let within : size ≤ n = omega (arith, ends, e) in
+    let later = h.2.0 ++ drop n bytes in
+    let whole : bytes ≡ record_bytes r ++ later =
+    sym (take-append-drop n bytes) ∙ ap (λ xs. xs ++ drop n bytes) h.2.1
+    ∙ append_assoc (record_bytes r) h.2.0 (drop n bytes) in
+    let same = front_same (record_bytes r) (record_bytes r) h.2.0 (take (n - size) later) refl
+    (sym h.2.1 ∙ begins_front n r bytes later within whole) in
+    let left : past + size + (n - size) ≡ file_limit = omega (arith, within, e) in (
+      h.0,
+      ends,
+      (
+        later,
+        whole,
+        all_counts (past + size) (n - size) later rs left
+            (subst (λ xs. Counts (past + size) xs rs) same.1 h.2.2),
+      ),
+    )
+
+pub all_loaded : (bytes : List ℕ) (rs : List Kept) (good : ℕ) → IsLoad (take file_limit bytes) rs good
+    → IsLoad bytes rs good
+all_loaded bytes rs good h =
+    record { counts = all_counts 0 file_limit bytes rs refl h.counts; good_is = h.good_is }
+
+pub only_the_front : OnlyTheFrontIsRead
+only_the_front bytes load = (
+  (λ h. (h.0, all_loaded bytes h.0 load.good h.1, h.2)),
+  (λ h. (h.0, front_loaded bytes h.0 load.good h.1, h.2)),
+)

@@ -1,15 +1,15 @@
 -- Records that are taken one after another.
-use Rattle.std.proofs.Common.{◌≡◌, ℕ, ◌+◌, ◌-◌, ◌<◌, ◌≤◌, List, [], ◌∷◌, ◌++◌, length, map, drop, refl, sym, ap, ◌∙◌, subst, append_assoc, arith}
+use Rattle.std.proofs.Common.{◌≡◌, ℕ, ◌+◌, ◌-◌, ◌≤◌, List, [], ◌∷◌, ◌++◌, length, drop, refl, sym, ap, ◌∙◌, subst, append_assoc, arith}
 use Rattle.std.proofs.lemmas.List.{append-nil, length-append}
 use Rattle.std.proofs.lemmas.List.Sums.{fold-append}
 use Rattle.std.proofs.Math.Seq.{drop-append_seam}
 use Rattle.std.specs.List.{AllByRecursion}
 use Rattle.mw_store.specs.Records.{Kept, record_bytes, file_of, IsWhole}
-use Rattle.mw_store.specs.Loads.{Begins, Counts, IsLoad, IsLoadOf, LoadState, kept_of, with_record, firsts, file_limit}
+use Rattle.mw_store.specs.Loads.{Begins, Counts, IsLoadOf, LoadState, with_record, file_limit}
 use Rattle.mw_store.specs.Loading.{IsLoadedTo, NoneBegins, TakesFound}
 use Rattle.mw_store.proofs.Files.{counts_after}
 
-file_of-append : (rs ss : List Kept) → file_of (rs ++ ss) ≡ file_of rs ++ file_of ss
+pub file_of-append : (rs ss : List Kept) → file_of (rs ++ ss) ≡ file_of rs ++ file_of ss
 file_of-append [] ss = refl
 file_of-append (r ∷ rs) ss = ap (λ xs. record_bytes r ++ xs) (file_of-append rs ss) ∙ sym
     (append_assoc (record_bytes r) (file_of rs) (file_of ss))

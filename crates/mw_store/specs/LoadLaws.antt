@@ -1,8 +1,8 @@
 -- Laws of cache files.
-use Rattle.std.specs.Prelude.{◌≡◌, ℕ, ◌≤◌, List, length, take}
+use Rattle.std.specs.Prelude.{◌≡◌, ◌↔◌, ℕ, ◌≤◌, List, length, take}
 use Rattle.std.specs.List.{AllByRecursion}
 use Rattle.mw_store.specs.Records.{Kept, file_of, IsWhole}
-use Rattle.mw_store.specs.Loads.{IsLoad, file_limit}
+use Rattle.mw_store.specs.Loads.{LoadState, IsLoad, IsLoadOf, file_limit}
 
 abbrev pub OneLoad : Type 0
 OneLoad = (bytes : List ℕ) (rs ss : List Kept) (m n : ℕ) → IsLoad bytes rs m → IsLoad bytes ss n → (rs ≡ ss) × (m ≡ n)
@@ -15,3 +15,6 @@ WholeFilesAreLoaded = (rs : List Kept) → AllByRecursion IsWhole rs → length 
 abbrev pub FrontIsLoaded : Type 0
 FrontIsLoaded = (bytes : List ℕ) (rs : List Kept) (good : ℕ) → IsLoad bytes rs good → IsLoad
     (take file_limit bytes) rs good
+
+abbrev pub OnlyTheFrontIsRead : Type 0
+OnlyTheFrontIsRead = (bytes : List ℕ) (load : LoadState) → IsLoadOf (take file_limit bytes) load ↔ IsLoadOf bytes load

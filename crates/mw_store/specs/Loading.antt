@@ -1,5 +1,5 @@
 -- What is loaded while a file is read.
-use Rattle.std.specs.Prelude.{◌≡◌, ℕ, ◌+◌, ◌<◌, ◌≤◌, List, [], ◌∷◌, ◌++◌, length, map, drop}
+use Rattle.std.specs.Prelude.{◌≡◌, ℕ, ◌+◌, ◌<◌, ◌≤◌, List, ◌++◌, length, map, drop}
 use Rattle.std.specs.List.{AllByRecursion}
 use Rattle.mw_store.specs.Records.{Kept, record_bytes, file_of, IsWhole}
 use Rattle.mw_store.specs.Loads.{Begins, LoadState, kept_of, with_record, firsts, file_limit}

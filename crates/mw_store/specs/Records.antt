@@ -1,5 +1,5 @@
 -- The records of a cache file, one behind the other.
-use Rattle.std.specs.Prelude.{ℕ, ◌<◌, ◌≤◌, ◌^◌, List, [], ◌∷◌, ◌++◌, length}
+use Rattle.std.specs.Prelude.{ℕ, ◌<◌, ◌^◌, List, [], ◌∷◌, ◌++◌, length}
 use Rattle.std.specs.Int.{to_le_bytes, w32}
 use Rattle.sha2.specs.Sha256.{sha256}
 use Rattle.mw_term.specs.Terms.{Expression, KernelType}

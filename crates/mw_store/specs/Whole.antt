@@ -1,5 +1,5 @@
 -- What the tests of a record find.
-use Rattle.std.specs.Prelude.{◌≡◌, ℕ, ◌≤◌, ◌<◌, List, ◌++◌, length, Option, Some, None}
+use Rattle.std.specs.Prelude.{ℕ, ◌≤◌, ◌<◌, List, length, Option, Some, None}
 use Rattle.mw_term.specs.Terms.{Expression, KernelType}
 use Rattle.mw_key.specs.CanonicalText.{IsTextOf}
 use Rattle.mw_key.specs.declared.version.Version.{Version}

@@ -9,5 +9,5 @@ mod record;
 mod tests;
 mod whole;
 
-pub use crate::load::{Load, load_of};
+pub use crate::load::{FILE_LIMIT, Load, load_of};
 pub use crate::record::record_of;

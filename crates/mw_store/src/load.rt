@@ -3,12 +3,16 @@
 ghost use Rattle.std.specs.Prelude.{◌≡◌, ◌≤◌, ◌<◌, ◌++◌, ◌∷◌, ℕ, [], length, map, position, slice_get, Some, None, IfOk, OnOk, false, true};
 ghost use Rattle.std.specs.Arc.{arc_value};
 ghost use Rattle.std.specs.Str.{bytes_eq};
+ghost use Rattle.mw_term.specs.Terms.{expression_of, kernel_type_of};
+ghost use Rattle.mw_key.specs.CanonicalText.{IsTextOf};
 ghost use Rattle.mw_store.specs.Loads.{Loaded, IsLoaded, IsLoadOf, kept_of, file_limit};
 ghost use Rattle.mw_store.specs.Loading.{IsLoadedTo, NoneBegins, TakesFound, LoadsUpTo};
 ghost use Rattle.mw_store.specs.Whole.{kept_in, HasKernelModule};
 
 use crate::whole::{Found, whole_record};
 use indexmap::IndexMap;
+use mw_key::{TextFault, Version, read_text};
+use mw_term::{KType, Term};
 use mw_validate::Valid;
 use std::alloc::{AllocError, Global};
 use std::marker::Model;
@@ -117,6 +121,22 @@ impl Load {
         match self.records.get_index(at as usize) {
             Some((_, loaded)) => &loaded.module,
             None => unreachable!(),
+        }
+    }
+
+    /// The version, code and type that the text at a place says. The error is want of memory.
+    pub fn kernel(&self, alloc: Global, at: u32) -> Result<(Version, Term, KType), AllocError>
+        requires { at < length self.now.records }
+        ensures { (l : Loaded) × (slice_get self.now.records at ≡ Some l)
+            × IfOk result (λ k. IsTextOf l.text k.0 (expression_of k.1) (kernel_type_of k.2)) }
+    {
+        let Some((text, _)) = self.records.get_index(at as usize) else {
+            unreachable!()
+        };
+        match read_text(alloc, text.as_slice()) {
+            Ok(kernel) => Ok(kernel),
+            Err(TextFault::Memory(error)) => Err(error),
+            Err(TextFault::BadText) => unreachable!(),
         }
     }
 

@@ -1,4 +1,4 @@
-use Rattle.std.proofs.Common.{◌≡◌, ◌-◌, ◌+◌, ◌≤◌, ◌⊎◌, true, false, length, if◌then◌else◌}
+use Rattle.std.proofs.Common.{◌≡◌, ◌-◌, ◌+◌, ◌≤◌, false, length, if◌then◌else◌}
 use Rattle.mw_store.specs.Loading.{IsLoadedTo, NoneBegins}
 use Rattle.mw_store.proofs.load.load_of.Given as goal
 

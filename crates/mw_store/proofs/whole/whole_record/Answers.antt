@@ -1,6 +1,5 @@
-use Rattle.std.proofs.Common.{◌≡◌, ◌<◌, ◌≤◌, subst, sym, arith}
-use Rattle.std.specs.Prelude.{MatchBool, MatchOption}
-use Rattle.sha2.specs.Sha256.{sha256}
+use Rattle.std.proofs.Common.{subst, arith}
+use Rattle.std.specs.Prelude.{MatchOption}
 use Rattle.mw_store.specs.Whole.{HasKernelModule, NoKernelModule}
 use Rattle.mw_store.proofs.Wholes.{too_long, damaged, no_module, whole_begins, parts_length}
 use Rattle.mw_store.proofs.whole.whole_record.Goals as goal

@@ -1,9 +1,9 @@
-use Rattle.std.proofs.Common.{◌≡◌, ◌≤◌, ◌+◌, ℕ, Vec, Global, ◌++◌, ◌∷◌, [], List, ◌∙◌, ap, sym, subst, map, length, arith}
+use Rattle.std.proofs.Common.{◌≡◌, ◌≤◌, ◌+◌, ℕ, Vec, Global, ◌++◌, ◌∷◌, [], ◌∙◌, ap, sym, subst, map, length, arith}
 use Rattle.std.specs.List.{All}
 use Rattle.std.proofs.lemmas.List.{length-append, length-map}
 use Rattle.std.proofs.lemmas.List.Elements.{All-push}
 use Rattle.mw_store.specs.declared.load.LoadedModule.{LoadedModule}
-use Rattle.mw_store.specs.Loads.{kept_of, IsLoaded, file_limit}
+use Rattle.mw_store.specs.Loads.{kept_of, IsLoaded}
 use Rattle.mw_store.specs.Entries.{record_in}
 use Rattle.mw_store.proofs.Entries.{inserted_as, one_more, loaded_is}
 use Rattle.mw_store.proofs.load.Load.insert.Goals as goal

@@ -1,4 +1,4 @@
-use Rattle.std.proofs.Common.{◌≡◌, ◌∙◌, ◌+◌, ap, length}
+use Rattle.std.proofs.Common.{◌∙◌, ◌+◌, ap, length}
 use Rattle.mw_store.specs.Records.{record_bytes}
 use Rattle.mw_store.specs.Whole.{kept_in}
 use Rattle.mw_store.proofs.Entries.{takes_old, takes_new}

@@ -1,0 +1,5 @@
+use Rattle.mw_cache.proofs.Honest.{honest_load}
+use Rattle.mw_cache.proofs.laws.honest_bytes_load_honestly.Goals as goal
+
+pub returns : goal.returns
+returns c = honest_load

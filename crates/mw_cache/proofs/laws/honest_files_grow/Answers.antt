@@ -1,0 +1,5 @@
+use Rattle.mw_cache.proofs.Honest.{files_grow}
+use Rattle.mw_cache.proofs.laws.honest_files_grow.Goals as goal
+
+pub returns : goal.returns
+returns c = files_grow

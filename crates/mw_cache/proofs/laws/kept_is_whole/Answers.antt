@@ -1,0 +1,5 @@
+use Rattle.mw_cache.proofs.Honest.{kept_whole}
+use Rattle.mw_cache.proofs.laws.kept_is_whole.Goals as goal
+
+pub returns : goal.returns
+returns c = kept_whole

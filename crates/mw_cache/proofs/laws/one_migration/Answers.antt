@@ -1,0 +1,5 @@
+use Rattle.mw_cache.proofs.Migrating.{one_migration}
+use Rattle.mw_cache.proofs.laws.one_migration.Goals as goal
+
+pub returns : goal.returns
+returns c = one_migration
