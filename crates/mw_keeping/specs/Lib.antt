@@ -1,0 +1,2 @@
+pub mod CacheFiles
+pub mod KeptFiles

@@ -1,0 +1,71 @@
+// The cache file of a run, as it is before the run.
+
+ghost use Rattle.std.specs.Prelude.{◌≡◌, ◌≤◌, take, IsTrue, IfOk, IsNone};
+ghost use Rattle.mw_keeping.specs.CacheFiles.{IsOpened, BlamesOpening, BlamesKeeper};
+ghost use Rattle.mw_store.specs.Loads.{file_limit};
+
+use mw_outside::{KeepFault, Keeper};
+use mw_store::{FILE_LIMIT, Load, load_of};
+use std::alloc::{AllocError, Global};
+
+/// What a run has of a cache file: none, as no words name one; one that couldn't be read; or one of which so many bytes
+/// were read.
+#[derive(Clone, Copy, Debug)]
+pub enum CacheFile {
+    Absent,
+    Unread,
+    Read(usize),
+}
+
+/// What was loaded before a run, and what it has of a cache file.
+#[derive(Drop)]
+pub struct Opened {
+    pub load: Load,
+    pub file: CacheFile,
+}
+
+/// Starts the keeper of the file of this name, if there is one, and loads the file's records. Where the keeper fails,
+/// nothing is loaded. The error is want of memory.
+pub fn open_cache<C: Keeper>(
+    alloc: Global,
+    keeper: &mut C,
+    path: Option<&str>,
+) -> Result<Opened, AllocError>
+    ensures opened { IfOk result (λ o. IsOpened C.tells (C.held keeper.old) path.entry o.file o.load) }
+    ensures same { IsTrue C.tells → C.held keeper.new ≡ C.held keeper.old }
+    ensures untouched { IsNone path.entry → keeper.new ≡ keeper.old }
+    ensures blames { IfOk result (λ o. BlamesOpening o.file (C.faults keeper.old) (C.faults keeper.new)) }
+    ensures count { C.faults keeper.old ≤ C.faults keeper.new }
+{
+    let Some(path) = path else {
+        return Ok(Opened {
+            load: Load::new(alloc),
+            file: CacheFile::Absent,
+        });
+    };
+    match read_cache(alloc, keeper, path) {
+        Ok(bytes) => {
+            let front = bytes.as_slice();
+            Ok(Opened {
+                load: load_of(alloc, front)?,
+                file: CacheFile::Read(front.len()),
+            })
+        }
+        Err(KeepFault::Failed) => Ok(Opened {
+            load: Load::new(alloc),
+            file: CacheFile::Unread,
+        }),
+        Err(KeepFault::Memory(error)) => Err(error),
+    }
+}
+
+/// The bytes of the file of this name, up to the limit.
+fn read_cache<C: Keeper>(alloc: Global, keeper: &mut C, path: &str) -> Result<Vec<u8>, KeepFault>
+    ensures ok { IfOk result (λ bytes. IsTrue C.tells → bytes.items ≡ take file_limit (C.held keeper.old)) }
+    ensures same { IsTrue C.tells → C.held keeper.new ≡ C.held keeper.old }
+    ensures blames { BlamesKeeper result (C.faults keeper.old) (C.faults keeper.new) }
+    ensures count { C.faults keeper.old ≤ C.faults keeper.new }
+{
+    keeper.start(path)?;
+    keeper.read_all(alloc, FILE_LIMIT)
+}
