@@ -111,6 +111,11 @@ total_line word number = word ++ (decimal number ++ codes "\n")
 abbrev pub totals_text : (kernels bytes : ℕ) → List ℕ
 totals_text kernels bytes = total_line (codes "kernels ") kernels ++ total_line (codes "modules ") bytes
 
+-- the two lines of a migration: how many texts of the old version there are, and how many records are
+-- added for them
+abbrev pub migrated_text : (old added : ℕ) → List ℕ
+migrated_text old added = total_line (codes "old ") old ++ total_line (codes "added ") added
+
 -- the last line of the output
 abbrev pub ending_line : Ending → List ℕ
 ending_line (answered v) = codes "answer " ++ value_text v ++ codes "\n"

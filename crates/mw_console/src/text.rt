@@ -5,7 +5,7 @@ ghost use Rattle.std.specs.String.{string_bytes};
 ghost use Rattle.hex.specs.Hex.{encode_lower};
 ghost use Rattle.mw_term.specs.Terms.{ground_of, kernel_type_of, ground_value_of, base_value_of};
 ghost use Rattle.mw_term.specs.declared.program.Item.{Item as PureItem};
-ghost use Rattle.mw_console.specs.Texts.{answered, trapped, bounded, base_text, ground_text, left_text, kind_text, kernel_text, kernel_line, digits_line, limit_words, trap_words, ending_line, total_line, totals_text, name_at, in_line, at_line, named_line, refusal_line, value_text};
+ghost use Rattle.mw_console.specs.Texts.{answered, trapped, bounded, base_text, ground_text, left_text, kind_text, kernel_text, kernel_line, digits_line, limit_words, trap_words, ending_line, total_line, totals_text, migrated_text, name_at, in_line, at_line, named_line, refusal_line, value_text};
 
 use mw_term::{Base, BaseValue, Ground, GroundValue, Item, KType, Limit, Refusal, TrapKind};
 use std::alloc::{AllocError, Global};
@@ -268,6 +268,20 @@ pub fn put_totals(
 {
     put_total(alloc, text, b"kernels ", kernels)?;
     put_total(alloc, text, b"modules ", bytes)
+}
+
+/// The two lines of a migration: how many texts of the old version there are, and how many records are
+/// added for them.
+pub fn put_migrated(
+    alloc: Global,
+    text: &mut Vec<u8>,
+    old: u32,
+    added: u32,
+) -> Result<(), AllocError>
+    ensures { IfOk result (λ _. text.new.items ≡ text.old.items ++ migrated_text old added) }
+{
+    put_total(alloc, text, b"old ", u64::from(old))?;
+    put_total(alloc, text, b"added ", u64::from(added))
 }
 
 /// The line of a word and a number.

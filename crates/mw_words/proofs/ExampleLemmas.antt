@@ -3,8 +3,8 @@ use Rattle.std.proofs.Common.{◌≡◌, ℕ, List, [], ◌∷◌, Some, None, c
 use Rattle.std.proofs.Common.{rules}
 use Rattle.mw_words.specs.Words.{IsFileWord, IsNumber, PurePart, option, file, Begins, AreParts}
 use Rattle.mw_words.specs.Words.{apart, joined, valued, alone, filed}
-use Rattle.mw_words.specs.Words.{no_part, one_more, not_named, named_once, off, on, run_of, erased_of, parts_command}
-use Rattle.mw_words.specs.Words.{sample_command}
+use Rattle.mw_words.specs.Words.{no_part, one_more, not_named, named_once, off, on, without_word, run_of, erased_of}
+use Rattle.mw_words.specs.Words.{parts_command, sample_command}
 use Rattle.mw_words.specs.Examples.{FileAlone, FuelApart, FuelJoined, BothOptions, SimplifyFirst, SimplifyLast}
 use Rattle.mw_words.specs.Examples.{ErasedAlone, ErasedApart, ErasedJoined, ErasedBehind, SampleOfHundred}
 use Rattle.mw_words.specs.Examples.{NoWord, OptionFirst, TwoFiles, TwoDashes, FuelTwice, SimplifyTwice, SimplifyValued}
@@ -15,13 +15,13 @@ use Rattle.mw_words.proofs.Passing.{here, stuck_is_none}
 use Rattle.mw_words.proofs.Usage.{run_is_other, erased_is_other, no_command, these_make_none, fuel_once, simplify_once}
 use Rattle.mw_words.proofs.Usage.{one_file_only, no_file_none, only_fuel}
 
-f_named : IsFileWord (codes "f")
+pub f_named : IsFileWord (codes "f")
 f_named = omega arith
 
 g_named : IsFileWord (codes "g")
 g_named = omega arith
 
-eight : IsNumber 10000000 (codes "8") 8
+pub eight : IsNumber 10000000 (codes "8") 8
 eight = record { digits = search rules; few = omega arith; value = refl; low = omega arith; high = omega arith }
 
 most_fuel : IsNumber 10000000 (codes "10000000") 10000000
@@ -34,7 +34,7 @@ hundred : IsNumber 100 (codes "100") 100
 hundred = record { digits = search rules; few = omega arith; value = refl; low = omega arith; high = omega arith }
 
 -- the parts of the words, one by one
-then_file : {name : List ℕ} {rest : List (List ℕ)} {parts : List PurePart} → IsFileWord name → AreParts rest parts
+pub then_file : {name : List ℕ} {rest : List (List ℕ)} {parts : List PurePart} → IsFileWord name → AreParts rest parts
     → AreParts (name ∷ rest) (file name ∷ parts)
 then_file h more = one_more (filed h) more
 
@@ -42,39 +42,39 @@ fuel_apart_first : (value : List ℕ) {rest : List (List ℕ)} {parts : List Pur
     → AreParts (codes "--fuel" ∷ value ∷ rest) (option (codes "--fuel") (Some value) ∷ parts)
 fuel_apart_first value more = one_more (valued refl (apart refl)) more
 
-simplify_first_of : {rest : List (List ℕ)} {parts : List PurePart} → AreParts rest parts
+pub simplify_first_of : {rest : List (List ℕ)} {parts : List PurePart} → AreParts rest parts
     → AreParts (codes "--simplify" ∷ rest) (option (codes "--simplify") None ∷ parts)
 simplify_first_of more = one_more (alone refl) more
 
 pub file_alone : FileAlone
-file_alone = parts_command (then_file f_named no_part) (run_of refl (not_named refl) (not_named refl) (off refl) refl)
+file_alone = parts_command (then_file f_named no_part) (run_of refl (not_named refl) (not_named refl) (off refl) (without_word refl) refl)
 
 pub fuel_apart : FuelApart
 fuel_apart = parts_command (fuel_apart_first (codes "8") (then_file f_named no_part)) (run_of refl (not_named refl)
-    (named_once refl eight) (off refl) refl)
+    (named_once refl eight) (off refl) (without_word refl) refl)
 
 pub fuel_joined : FuelJoined
 fuel_joined = parts_command (one_more (valued {name = codes "--fuel"} refl (joined {value = codes "8"} refl))
     (then_file f_named no_part))
-    (run_of refl (not_named refl) (named_once refl eight) (off refl) refl)
+    (run_of refl (not_named refl) (named_once refl eight) (off refl) (without_word refl) refl)
 
 pub both_options : BothOptions
 both_options =
     parts_command
     (one_more (valued {name = codes "--fuel"} refl (joined {value = codes "10000000"} refl))
     (then_file f_named (one_more (valued {name = codes "--workers"} refl (apart refl)) no_part)))
-    (run_of refl (named_once refl most_workers) (named_once refl most_fuel) (off refl) refl)
+    (run_of refl (named_once refl most_workers) (named_once refl most_fuel) (off refl) (without_word refl) refl)
 
 pub simplify_first : SimplifyFirst
 simplify_first = parts_command (simplify_first_of (then_file f_named no_part)) (run_of refl (not_named refl)
-    (not_named refl) (on refl) refl)
+    (not_named refl) (on refl) (without_word refl) refl)
 
 pub simplify_last : SimplifyLast
 simplify_last =
     parts_command
     (then_file f_named (one_more (valued {name = codes "--fuel"} refl (joined {value = codes "8"} refl))
     (simplify_first_of no_part)))
-    (run_of refl (not_named refl) (named_once refl eight) (on refl) refl)
+    (run_of refl (not_named refl) (named_once refl eight) (on refl) (without_word refl) refl)
 
 pub erased_alone : ErasedAlone
 erased_alone = parts_command (then_file f_named no_part) (erased_of refl (not_named refl) refl)
@@ -106,7 +106,7 @@ two_files = no_command run_is_other (these_make_none (codes "run") (then_file f_
     (λ c makes. one_file_only makes (omega arith)))
 
 -- a word that is no option's, and names no file
-stuck : {words : List (List ℕ)} {parts : List PurePart} → (words ≡ [] → ⊥)
+pub stuck : {words : List (List ℕ)} {parts : List PurePart} → (words ≡ [] → ⊥)
     → ((part : PurePart) (rest : List (List ℕ)) → Begins words part rest → ⊥) → AreParts words parts → ⊥
 stuck some none whole = stuck_is_none here some none _ whole
 

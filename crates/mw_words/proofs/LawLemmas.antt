@@ -1,8 +1,8 @@
 -- Words mean one command at most, and options and files may stand in any order.
-use Rattle.std.proofs.Common.{◌≡◌, ℕ, ◌≤◌, Bool, not, List, [], ◌∷◌, ◌++◌, Some, None, codes, length, refl, sym, ◌∙◌}
+use Rattle.std.proofs.Common.{◌≡◌, ℕ, ◌≤◌, Bool, not, List, [], ◌∷◌, ◌++◌, Option, Some, None, codes, length, refl, sym, ◌∙◌}
 use Rattle.std.proofs.Common.{ap, subst, arith}
 use Rattle.mw_words.specs.Words.{apart, joined, PurePart, is_named, is_taken, parts_named, HaveOnly, IsNumberOf}
-use Rattle.mw_words.specs.Words.{not_named, named_once, IsSwitchOf, off, on, IsFileOf}
+use Rattle.mw_words.specs.Words.{not_named, named_once, IsSwitchOf, off, on, IsWordOf, without_word, with_word, IsFileOf}
 use Rattle.mw_words.specs.Words.{PureCommand, sample, Makes, run_of, erased_of, parts_command, sample_command}
 use Rattle.mw_words.specs.WordLaws.{OneCommand, EitherForm, AnyOrder}
 use Rattle.mw_words.proofs.OptionLemmas.{one_value}
@@ -25,15 +25,23 @@ one_switch (off e) (on f) = let no = sym e ∙ f in cc
 one_switch (on e) (off f) = let no = sym f ∙ e in cc
 one_switch (on e) (on f) = refl
 
+one_word : {name : List ℕ} {parts : List PurePart} {a b : Option (List ℕ)} → IsWordOf name parts a
+    → IsWordOf name parts b → a ≡ b
+one_word (without_word e) (without_word f) = refl
+one_word (without_word e) (with_word f k) = let no = sym e ∙ f in cc
+one_word (with_word e h) (without_word f) = let no = sym f ∙ e in cc
+one_word (with_word e h) (with_word f k) = let same = sym e ∙ f in cc
+
 one_file : (parts : List PurePart) (a b : List ℕ) → IsFileOf parts a → IsFileOf parts b → a ≡ b
 one_file parts a b e f = let same = sym e ∙ f in cc
 
 same_made : {word : List ℕ} {parts : List PurePart} {a b : PureCommand} → Makes word parts a → Makes word parts b
     → a ≡ b
-same_made {parts = parts} (run_of {name = a} o w u s f) (run_of {name = b} o' w' u' s' f') =
+same_made {parts = parts} (run_of {name = a} o w u s d f) (run_of {name = b} o' w' u' s' d' f') =
     let workers_same = one_number w w' in
     let fuels_same = one_number u u' in
     let switches_same = one_switch s s' in
+    let caches_same = one_word d d' in
     let files_same = one_file parts a b f f' in
     cc
 same_made {parts = parts} (erased_of {name = a} o u f) (erased_of {name = b} o' u' f') = let fuels_same =
@@ -56,7 +64,7 @@ either_form name value v rest r = (
   (λ h. let same = one_value h (joined refl) in rw (same.0, same.1) (apart refl)),
 )
 
--- lists of which the same parts have a name make the same number, switch and file
+-- lists of which the same parts have a name make the same number, switch, word and file
 number_too : {name : List ℕ} {most default n : ℕ} {ps qs : List PurePart}
     → parts_named (Some name) ps ≡ parts_named (Some name) qs
     → IsNumberOf name most default ps n → IsNumberOf name most default qs n
@@ -69,7 +77,13 @@ switch_too : {name : List ℕ} {b : Bool} {ps qs : List PurePart}
 switch_too e (off f) = off (sym e ∙ f)
 switch_too e (on f) = on (sym e ∙ f)
 
--- a number, a switch and a file are of one part at most
+word_too : {name : List ℕ} {word : Option (List ℕ)} {ps qs : List PurePart}
+    → parts_named (Some name) ps ≡ parts_named (Some name) qs
+    → IsWordOf name ps word → IsWordOf name qs word
+word_too e (without_word f) = without_word (sym e ∙ f)
+word_too e (with_word f h) = with_word (sym e ∙ f) h
+
+-- a number, a switch, a word and a file are of one part at most
 pub few_number : {name : List ℕ} {most default n : ℕ} {parts : List PurePart} → IsNumberOf name most default parts n
     → length (parts_named (Some name) parts) ≤ 1
 few_number (not_named e) = rw e (omega arith)
@@ -79,6 +93,11 @@ pub few_switch : {name : List ℕ} {b : Bool} {parts : List PurePart} → IsSwit
     → length (parts_named (Some name) parts) ≤ 1
 few_switch (off e) = rw e (omega arith)
 few_switch (on e) = rw e (omega arith)
+
+pub few_word : {name : List ℕ} {word : Option (List ℕ)} {parts : List PurePart} → IsWordOf name parts word
+    → length (parts_named (Some name) parts) ≤ 1
+few_word (without_word e) = rw e (omega arith)
+few_word (with_word e h) = rw e (omega arith)
 
 few_file : (parts : List PurePart) (name : List ℕ) → IsFileOf parts name → length (parts_named None parts) ≤ 1
 few_file parts name e = rw e (omega arith)
@@ -92,6 +111,10 @@ module _ (before after : List PurePart) (p q : PurePart) where
       → IsSwitchOf name (before ++ q ∷ p ∷ after) b
   switch_swapped {name = name} h = switch_too (swapped (is_named (Some name)) before after p q (few_switch h)) h
 
+  word_swapped : {name : List ℕ} {word : Option (List ℕ)} → IsWordOf name (before ++ p ∷ q ∷ after) word
+      → IsWordOf name (before ++ q ∷ p ∷ after) word
+  word_swapped {name = name} h = word_too (swapped (is_named (Some name)) before after p q (few_word h)) h
+
   file_swapped : (name : List ℕ) → IsFileOf (before ++ p ∷ q ∷ after) name → IsFileOf (before ++ q ∷ p ∷ after) name
   file_swapped name h = sym (swapped (is_named None) before after p q (few_file (before ++ p ∷ q ∷ after) name h)) ∙ h
 
@@ -101,9 +124,9 @@ module _ (before after : List PurePart) (p q : PurePart) where
 
   in_other_order : {word : List ℕ} {c : PureCommand} → Makes word (before ++ p ∷ q ∷ after) c
       → Makes word (before ++ q ∷ p ∷ after) c
-  in_other_order (run_of {name = name} o w u s f) = run_of (only_swapped
-      (codes "--workers" ∷ codes "--fuel" ∷ codes "--simplify" ∷ []) o) (number_swapped w) (number_swapped u)
-      (switch_swapped s) (file_swapped name f)
+  in_other_order (run_of {name = name} o w u s d f) = run_of (only_swapped
+      (codes "--workers" ∷ codes "--fuel" ∷ codes "--simplify" ∷ codes "--cache" ∷ []) o)
+      (number_swapped w) (number_swapped u) (switch_swapped s) (word_swapped d) (file_swapped name f)
   in_other_order (erased_of {name = name} o u f) = erased_of (only_swapped (codes "--fuel" ∷ []) o) (number_swapped u)
       (file_swapped name f)
 

@@ -1,3 +1,4 @@
+pub mod CacheExamples
 pub mod ExampleLemmas
 pub mod Items
 pub mod LawLemmas

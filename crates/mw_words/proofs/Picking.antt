@@ -8,9 +8,8 @@ use Rattle.std.specs.Cmp.Lexicographic.{pointwise}
 use Rattle.std.specs.Str.{bytes_eq}
 use Rattle.std.proofs.lemmas.List.Elements.{filter-append}
 use Rattle.std.proofs.lemmas.Slice.Eq.{bytes_eq-Decides}
-use Rattle.mw_words.specs.Words.{PurePart, option, is_named, parts_named, IsNumber, IsNumberOf, named_once}
-use Rattle.mw_words.specs.Words.{IsSwitchOf, on}
-use Rattle.mw_words.specs.Gathered.{word_in}
+use Rattle.mw_words.specs.Words.{PurePart, option, is_named, parts_named, IsNumber, IsNumberOf, named_once, word_in}
+use Rattle.mw_words.specs.Words.{IsSwitchOf, on, IsFileWord, IsWordOf, with_word}
 
 pub any_mapped : (options : List (Bor (List ℕ))) (name : List ℕ)
     → list_any (λ (own : Bor (List ℕ)). pointwise nat_eq own.now name) options
@@ -91,3 +90,9 @@ once_named parts name own word most default n e h =
 pub once_on : (parts : List PurePart) (name own : List ℕ) → parts_named (Some name) parts ≡ option own None ∷ []
     → IsSwitchOf name parts true
 once_on parts name own e = on (e ∙ ap (λ o. option o None ∷ []) (own_name parts [] name own None e))
+
+pub once_worded : (parts : List PurePart) (name own word : List ℕ)
+    → parts_named (Some name) parts ≡ option own (Some word) ∷ [] → IsFileWord word
+    → IsWordOf name parts (Some word)
+once_worded parts name own word e h =
+    with_word (e ∙ ap (λ o. option o (Some word) ∷ []) (own_name parts [] name own (Some word) e)) h

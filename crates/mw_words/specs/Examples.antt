@@ -1,29 +1,52 @@
 -- Worked examples of words, as theorems.
-use Rattle.std.specs.Prelude.{[], ◌∷◌, true, false, codes}
+use Rattle.std.specs.Prelude.{[], ◌∷◌, true, false, Some, None, codes}
 use Rattle.mw_words.specs.Words.{run, erased, sample, Means, IsUsage}
 
 -- a file alone
 abbrev pub FileAlone : Type 0
-FileAlone = Means (codes "run" ∷ codes "f" ∷ []) (run 4 1000000 false (codes "f"))
+FileAlone = Means (codes "run" ∷ codes "f" ∷ []) (run 4 1000000 false None (codes "f"))
 
 -- an option's value as the next word
 abbrev pub FuelApart : Type 0
-FuelApart = Means (codes "run" ∷ codes "--fuel" ∷ codes "8" ∷ codes "f" ∷ []) (run 4 8 false (codes "f"))
+FuelApart = Means (codes "run" ∷ codes "--fuel" ∷ codes "8" ∷ codes "f" ∷ []) (run 4 8 false None (codes "f"))
 
 -- and after `=`
 abbrev pub FuelJoined : Type 0
-FuelJoined = Means (codes "run" ∷ codes "--fuel=8" ∷ codes "f" ∷ []) (run 4 8 false (codes "f"))
+FuelJoined = Means (codes "run" ∷ codes "--fuel=8" ∷ codes "f" ∷ []) (run 4 8 false None (codes "f"))
 
 -- an option before the file, and one behind it, whose number has leading zeros
 abbrev pub BothOptions : Type 0
-BothOptions = Means (codes "run" ∷ codes "--fuel=10000000" ∷ codes "f" ∷ codes "--workers" ∷ codes "000000064" ∷ []) (run 64 10000000 false (codes "f"))
+BothOptions = Means
+    (codes "run" ∷ codes "--fuel=10000000" ∷ codes "f" ∷ codes "--workers" ∷ codes "000000064" ∷ [])
+    (run 64 10000000 false None (codes "f"))
 
 -- simplification, before the file or behind it
 abbrev pub SimplifyFirst : Type 0
-SimplifyFirst = Means (codes "run" ∷ codes "--simplify" ∷ codes "f" ∷ []) (run 4 1000000 true (codes "f"))
+SimplifyFirst = Means (codes "run" ∷ codes "--simplify" ∷ codes "f" ∷ []) (run 4 1000000 true None (codes "f"))
 
 abbrev pub SimplifyLast : Type 0
-SimplifyLast = Means (codes "run" ∷ codes "f" ∷ codes "--fuel=8" ∷ codes "--simplify" ∷ []) (run 4 8 true (codes "f"))
+SimplifyLast = Means (codes "run" ∷ codes "f" ∷ codes "--fuel=8" ∷ codes "--simplify" ∷ []) (run 4 8 true None (codes "f"))
+
+-- a cache's path as the next word
+abbrev pub CacheApart : Type 0
+CacheApart = Means (codes "run" ∷ codes "--cache" ∷ codes "c" ∷ codes "f" ∷ [])
+    (run 4 1000000 false (Some (codes "c")) (codes "f"))
+
+-- and after `=`
+abbrev pub CacheJoined : Type 0
+CacheJoined = Means (codes "run" ∷ codes "--cache=c" ∷ codes "f" ∷ [])
+    (run 4 1000000 false (Some (codes "c")) (codes "f"))
+
+-- a cache behind the file, with simplification between them
+abbrev pub CacheSimplified : Type 0
+CacheSimplified = Means (codes "run" ∷ codes "f" ∷ codes "--simplify" ∷ codes "--cache" ∷ codes "c" ∷ [])
+    (run 4 1000000 true (Some (codes "c")) (codes "f"))
+
+-- a cache among the other options, each before the file
+abbrev pub CacheAmongOptions : Type 0
+CacheAmongOptions = Means
+    (codes "run" ∷ codes "--fuel=8" ∷ codes "--cache=c" ∷ codes "--simplify" ∷ codes "f" ∷ [])
+    (run 4 8 true (Some (codes "c")) (codes "f"))
 
 -- the erased program of a file
 abbrev pub ErasedAlone : Type 0
@@ -71,6 +94,33 @@ SimplifyTwice = IsUsage (codes "run" ∷ codes "--simplify" ∷ codes "f" ∷ co
 -- simplification with a value
 abbrev pub SimplifyValued : Type 0
 SimplifyValued = IsUsage (codes "run" ∷ codes "--simplify=1" ∷ codes "f" ∷ [])
+
+-- a cache twice, in each form once
+abbrev pub CacheTwice : Type 0
+CacheTwice = IsUsage (codes "run" ∷ codes "--cache=c" ∷ codes "f" ∷ codes "--cache" ∷ codes "d" ∷ [])
+
+-- a cache without its path, at the end
+abbrev pub CacheWithoutPath : Type 0
+CacheWithoutPath = IsUsage (codes "run" ∷ codes "f" ∷ codes "--cache" ∷ [])
+
+-- a cache of an empty path
+abbrev pub CacheEmpty : Type 0
+CacheEmpty = IsUsage (codes "run" ∷ codes "--cache=" ∷ codes "f" ∷ [])
+
+-- a path that begins with `-`, as an option in its place does
+abbrev pub CacheDashed : Type 0
+CacheDashed = IsUsage (codes "run" ∷ codes "--cache=-c" ∷ codes "f" ∷ [])
+
+abbrev pub CacheOptionAsPath : Type 0
+CacheOptionAsPath = IsUsage (codes "run" ∷ codes "--cache" ∷ codes "--simplify" ∷ codes "f" ∷ [])
+
+-- an erased program with a cache
+abbrev pub ErasedCached : Type 0
+ErasedCached = IsUsage (codes "erased" ∷ codes "--cache=c" ∷ codes "f" ∷ [])
+
+-- a sample with a cache
+abbrev pub SampleCached : Type 0
+SampleCached = IsUsage (codes "sample" ∷ codes "--cache=c" ∷ codes "5" ∷ [])
 
 -- an erased program of no file
 abbrev pub ErasedNoFile : Type 0

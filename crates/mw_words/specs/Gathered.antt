@@ -1,14 +1,9 @@
 -- Parts as pure data, and how a word of an option is read.
 use Rattle.std.specs.Prelude.{◌≡◌, ◌≢◌, ◌<◌, ℕ, List, ◌∷◌, ◌++◌, length, get_or, Bool, true, false}
 use Rattle.std.specs.Prelude.{Option, Some, None, option_map}
-use denote.Ref.{Bor}
 use Rattle.mw_words.specs.declared.part.Part.{Part}
 use Rattle.mw_words.specs.declared.part.Part.TheVariants.{Named, File}
-use Rattle.mw_words.specs.Words.{PurePart, option, file, takes_value}
-
--- the bytes of a word
-abbrev pub word_in : Bor (List ℕ) → List ℕ
-word_in word = word.now
+use Rattle.mw_words.specs.Words.{PurePart, option, file, takes_value, word_in}
 
 abbrev pub part_in : Part → PurePart
 part_in (Named name value) = option name.now (option_map word_in value)

@@ -1,6 +1,7 @@
 -- What the words of the command line mean: a command, or none.
 use Rattle.std.specs.Prelude.{◌≡◌, ℕ, ◌≤◌, ◌≢◌, Bool, true, false, not, List, [], ◌∷◌, ◌++◌, length, filter, codes}
-use Rattle.std.specs.Prelude.{bytes_eq, Option, Some, None}
+use Rattle.std.specs.Prelude.{bytes_eq, Option, Some, None, option_map}
+use denote.Ref.{Bor}
 use Rattle.std.specs.List.{list_any}
 use Rattle.std.specs.Map.{lookup}
 use Rattle.std.specs.Str.Parse.{IsNumeral, digits_value}
@@ -8,19 +9,23 @@ use Rattle.mw_words.specs.declared.Command.{Command}
 use Rattle.mw_words.specs.declared.Command.TheVariants.{Run, Erased, Sample}
 
 -- a command as pure data: the run of a file by so many workers with so many units of fuel, with the
--- kernels' code simplified or as it was built; the run of a file's erased program with so many units;
--- or a source made from a number
+-- kernels' code simplified or as it was built, and with the path of a cache or none; the run of a file's
+-- erased program with so many units; or a source made from a number
 pub data PureCommand : Type 0 where
-  run : (workers fuel : ℕ) (simplify : Bool) (file : List ℕ) → PureCommand
+  run : (workers fuel : ℕ) (simplify : Bool) (cache : Option (List ℕ)) (file : List ℕ) → PureCommand
   erased : (fuel : ℕ) (file : List ℕ) → PureCommand
   sample : (number : ℕ) → PureCommand
 
+-- the bytes of a word
+abbrev pub word_in : Bor (List ℕ) → List ℕ
+word_in word = word.now
+
 abbrev pub command_in : Command → PureCommand
-command_in (Run workers fuel simplify file) = run workers fuel simplify file.now
+command_in (Run workers fuel simplify cache file) = run workers fuel simplify (option_map word_in cache) file.now
 command_in (Erased fuel file) = erased fuel file.now
 command_in (Sample number) = sample number
 
--- a word that may name a file: not empty, and not beginning with `-`
+-- a word that may name a file or a cache: not empty, and not beginning with `-`
 abbrev pub IsFileWord : List ℕ → Type 0
 IsFileWord [] = ⊥
 IsFileWord (byte ∷ bytes) = byte ≢ 45
@@ -35,7 +40,8 @@ pub record IsNumber (most : ℕ) (word : List ℕ) (n : ℕ) : Type 0 where
 
 -- the options' names, each with whether the option takes a value
 abbrev pub options : List (List ℕ × Bool)
-options = (codes "--workers", true) ∷ (codes "--fuel", true) ∷ (codes "--simplify", false) ∷ []
+options = (codes "--workers", true) ∷ (codes "--fuel", true) ∷ (codes "--simplify", false)
+    ∷ (codes "--cache", true) ∷ []
 
 -- whether the option of this name takes a value, where there is one of this name
 abbrev pub takes_value : List ℕ → Option Bool
@@ -102,6 +108,12 @@ pub data IsSwitchOf (name : List ℕ) (parts : List PurePart) : Bool → Type 0 
   off : parts_named (Some name) parts ≡ [] → IsSwitchOf name parts false
   on : parts_named (Some name) parts ≡ option name None ∷ [] → IsSwitchOf name parts true
 
+-- an option that is named at most once gives a word that may name a file, and none where it isn't named
+pub data IsWordOf (name : List ℕ) (parts : List PurePart) : Option (List ℕ) → Type 0 where
+  without_word : parts_named (Some name) parts ≡ [] → IsWordOf name parts None
+  with_word : {word : List ℕ} → parts_named (Some name) parts ≡ option name (Some word) ∷ []
+      → IsFileWord word → IsWordOf name parts (Some word)
+
 -- the one file among the parts
 abbrev pub IsFileOf : List PurePart → List ℕ → Type 0
 IsFileOf parts name = parts_named None parts ≡ file name ∷ []
@@ -115,12 +127,13 @@ AreUnitsOf parts n = IsNumberOf (codes "--fuel") 10000000 1000000 parts n
 
 -- behind the command's word the parts, in whatever order, make the command
 pub data Makes : List ℕ → List PurePart → PureCommand → Type 0 where
-  -- run [--workers N] [--fuel N] [--simplify] FILE
-  run_of : {parts : List PurePart} {workers fuel : ℕ} {simplify : Bool} {name : List ℕ}
-      → HaveOnly (codes "--workers" ∷ codes "--fuel" ∷ codes "--simplify" ∷ []) parts
+  -- run [--workers N] [--fuel N] [--simplify] [--cache PATH] FILE
+  run_of : {parts : List PurePart} {workers fuel : ℕ} {simplify : Bool} {cache : Option (List ℕ)}
+      {name : List ℕ}
+      → HaveOnly (codes "--workers" ∷ codes "--fuel" ∷ codes "--simplify" ∷ codes "--cache" ∷ []) parts
       → AreWorkersOf parts workers → AreUnitsOf parts fuel
-      → IsSwitchOf (codes "--simplify") parts simplify → IsFileOf parts name
-      → Makes (codes "run") parts (run workers fuel simplify name)
+      → IsSwitchOf (codes "--simplify") parts simplify → IsWordOf (codes "--cache") parts cache
+      → IsFileOf parts name → Makes (codes "run") parts (run workers fuel simplify cache name)
   -- erased [--fuel N] FILE
   erased_of : {parts : List PurePart} {fuel : ℕ} {name : List ℕ}
       → HaveOnly (codes "--fuel" ∷ []) parts → AreUnitsOf parts fuel → IsFileOf parts name

@@ -1,15 +1,15 @@
 // What the words give of the options and the file of a command.
 
-ghost use Rattle.std.specs.Prelude.{◌≡◌, ◌≤◌, List, ℕ, Bool, length, map, option_map, option_to_list};
+ghost use Rattle.std.specs.Prelude.{◌≡◌, ◌≤◌, List, ℕ, Bool, Option, length, map, option_map, option_to_list};
 ghost use Rattle.std.specs.Prelude.{IfOk, OnOk, OnErr};
 ghost use Rattle.std.specs.String.{string_bytes};
-ghost use Rattle.mw_words.specs.Words.{AreParts, HaveOnly, IsFileOf, IsNumberOf, IsSwitchOf, PurePart};
+ghost use Rattle.mw_words.specs.Words.{AreParts, HaveOnly, IsFileOf, IsNumberOf, IsSwitchOf, IsWordOf, PurePart, word_in};
 ghost use Rattle.mw_words.specs.Words.{is_named, is_taken, parts_named};
-ghost use Rattle.mw_words.specs.Gathered.{part_in, word_in};
+ghost use Rattle.mw_words.specs.Gathered.{part_in};
 
 use crate::WordsFault;
 use crate::number::number_up_to;
-use crate::part::{Part, first_part};
+use crate::part::{Part, first_part, names_file};
 
 /// Finds that the words are parts, and that each option among them is one of these.
 pub fn have_only(words: &[String], options: &[&str]) -> Result<(), WordsFault>
@@ -64,6 +64,20 @@ pub fn switch_of(words: &[String], name: &str) -> Result<bool, WordsFault>
     match only_part(words, Some(name))? {
         None => Ok(false),
         Some(Part::Named(_, None)) => Ok(true),
+        Some(_) => Err(WordsFault::Usage),
+    }
+}
+
+/// The word that an option gives, which may name a file, or none where it isn't named.
+pub fn word_of<'w>(words: &'w [String], name: &str) -> Result<Option<&'w str>, WordsFault>
+    ensures ok { IfOk result (λ found. (parts : List PurePart)
+        → AreParts (map string_bytes words.now) parts → IsWordOf name.now parts (option_map word_in found)) }
+    ensures usage { OnErr result ((parts : List PurePart)
+        → AreParts (map string_bytes words.now) parts → (word : Option (List ℕ)) → ¬ IsWordOf name.now parts word) }
+{
+    match only_part(words, Some(name))? {
+        None => Ok(None),
+        Some(Part::Named(_, Some(word))) if names_file(word) => Ok(Some(word)),
         Some(_) => Err(WordsFault::Usage),
     }
 }

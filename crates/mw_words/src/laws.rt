@@ -1,8 +1,13 @@
 // Laws of the words, which no program calls, and worked examples.
 
 ghost use Rattle.mw_words.specs.WordLaws.{OneCommand, EitherForm, AnyOrder};
-ghost use Rattle.mw_words.specs.Examples.{FileAlone, FuelApart, FuelJoined, BothOptions, SimplifyFirst, SimplifyLast, ErasedAlone, ErasedApart, ErasedJoined, ErasedBehind, SampleOfHundred};
-ghost use Rattle.mw_words.specs.Examples.{NoWord, OptionFirst, TwoFiles, TwoDashes, FuelTwice, SimplifyTwice, SimplifyValued, ErasedNoFile, ErasedWorkers, ErasedTwoFiles, ErasedSimplified, ErasedFuelTwice};
+ghost use Rattle.mw_words.specs.Examples.{FileAlone, FuelApart, FuelJoined, BothOptions, SimplifyFirst, SimplifyLast};
+ghost use Rattle.mw_words.specs.Examples.{CacheApart, CacheJoined, CacheSimplified, CacheAmongOptions};
+ghost use Rattle.mw_words.specs.Examples.{ErasedAlone, ErasedApart, ErasedJoined, ErasedBehind, SampleOfHundred};
+ghost use Rattle.mw_words.specs.Examples.{NoWord, OptionFirst, TwoFiles, TwoDashes, FuelTwice, SimplifyTwice};
+ghost use Rattle.mw_words.specs.Examples.{SimplifyValued, CacheTwice, CacheWithoutPath, CacheEmpty, CacheDashed};
+ghost use Rattle.mw_words.specs.Examples.{CacheOptionAsPath, ErasedCached, SampleCached, ErasedNoFile, ErasedWorkers};
+ghost use Rattle.mw_words.specs.Examples.{ErasedTwoFiles, ErasedSimplified, ErasedFuelTwice};
 
 /// Words mean one command at most.
 pub fn one_command()
@@ -27,6 +32,10 @@ pub fn commands()
     ensures both_options { BothOptions }
     ensures simplify_first { SimplifyFirst }
     ensures simplify_last { SimplifyLast }
+    ensures cache_apart { CacheApart }
+    ensures cache_joined { CacheJoined }
+    ensures cache_simplified { CacheSimplified }
+    ensures cache_among_options { CacheAmongOptions }
     ensures erased_alone { ErasedAlone }
     ensures erased_apart { ErasedApart }
     ensures erased_joined { ErasedJoined }
@@ -43,6 +52,13 @@ pub fn usage()
     ensures fuel_twice { FuelTwice }
     ensures simplify_twice { SimplifyTwice }
     ensures simplify_valued { SimplifyValued }
+    ensures cache_twice { CacheTwice }
+    ensures cache_without_path { CacheWithoutPath }
+    ensures cache_empty { CacheEmpty }
+    ensures cache_dashed { CacheDashed }
+    ensures cache_option_as_path { CacheOptionAsPath }
+    ensures erased_cached { ErasedCached }
+    ensures sample_cached { SampleCached }
     ensures erased_no_file { ErasedNoFile }
     ensures erased_workers { ErasedWorkers }
     ensures erased_two_files { ErasedTwoFiles }

@@ -12,7 +12,7 @@ mod part;
 #[cfg(test)]
 mod tests;
 
-use crate::given::{file_of, have_only, number_of, switch_of};
+use crate::given::{file_of, have_only, number_of, switch_of, word_of};
 use crate::number::number_up_to;
 
 /// The most workers of a run, and how many there are where the words name none.
@@ -31,12 +31,13 @@ const MOST_KERNELS: u32 = 100;
 /// What the words ask for.
 #[derive(Clone, Copy, Debug)]
 pub enum Command<'w> {
-    /// The run of a file by so many workers, with so many units of fuel for each evaluation, and with
-    /// the kernels' code simplified or as it was built.
+    /// The run of a file by so many workers, with so many units of fuel for each evaluation, with the
+    /// kernels' code simplified or as it was built, and with the cache at a path or none.
     Run {
         workers: u32,
         fuel: u64,
         simplify: bool,
+        cache: Option<&'w str>,
         file: &'w str,
     },
     /// The run of a file's erased program, with so many units of fuel.
@@ -76,11 +77,12 @@ fn read_run(words: &[String]) -> Result<Command<'_>, WordsFault>
     ensures some { IfOk result (λ c. Means (codes "run" ∷ map string_bytes words.now) (command_in c)) }
     ensures usage { IfErr result (λ _. IsUsage (codes "run" ∷ map string_bytes words.now)) }
 {
-    have_only(words, &["--workers", "--fuel", "--simplify"])?;
+    have_only(words, &["--workers", "--fuel", "--simplify", "--cache"])?;
     Ok(Command::Run {
         workers: number_of(words, "--workers", MOST_WORKERS, DEFAULT_WORKERS)?,
         fuel: fuel_of(words)?,
         simplify: switch_of(words, "--simplify")?,
+        cache: word_of(words, "--cache")?,
         file: file_of(words)?,
     })
 }

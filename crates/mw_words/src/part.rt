@@ -2,8 +2,8 @@
 
 ghost use Rattle.std.specs.Prelude.{◌≡◌, ◌↔◌, List, ℕ, Some, None, map, option_map, IsTrue, IfOk, IfErr};
 ghost use Rattle.std.specs.String.{string_bytes};
-ghost use Rattle.mw_words.specs.Words.{Begins, IsFileWord, PurePart, takes_value};
-ghost use Rattle.mw_words.specs.Gathered.{IsSplit, option_part, part_in, word_in};
+ghost use Rattle.mw_words.specs.Words.{Begins, IsFileWord, PurePart, takes_value, word_in};
+ghost use Rattle.mw_words.specs.Gathered.{IsSplit, option_part, part_in};
 
 use crate::WordsFault;
 
@@ -22,6 +22,7 @@ fn takes_value(name: &str) -> Option<bool>
         "--workers" => Some(true),
         "--fuel" => Some(true),
         "--simplify" => Some(false),
+        "--cache" => Some(true),
         _ => None,
     }
 }
@@ -42,7 +43,7 @@ pub fn first_part(words: &[String]) -> Result<(Part<'_>, &[String]), WordsFault>
 }
 
 /// Whether a word may name a file.
-fn names_file(word: &str) -> bool
+pub fn names_file(word: &str) -> bool
     ensures { IsTrue result ↔ IsFileWord word.now }
 {
     match word.as_bytes() {

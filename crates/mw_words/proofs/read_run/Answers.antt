@@ -1,6 +1,6 @@
 use Rattle.mw_words.specs.Words.{parts_command, run_of}
 use Rattle.mw_words.proofs.Items.{on_err}
-use Rattle.mw_words.proofs.Usage.{run_is_other, no_command, options_of_run, workers_of_run, switch_of_run, units_of}
+use Rattle.mw_words.proofs.Usage.{run_is_other, no_command, options_of_run, workers_of_run, switch_of_run, cache_of_run, units_of}
 use Rattle.mw_words.proofs.Usage.{file_of_parts}
 use Rattle.mw_words.proofs.read_run.Goals as goal
 
@@ -24,6 +24,11 @@ returns-in_err-switch_of-clause-usage c =
     on_err c.from_residual-in_err-switch_of.result _ (no_command run_is_other (λ parts whole command makes. let has =
     switch_of_run makes in c.in_err-switch_of.ensures.usage parts whole has.0 has.1))
 
+pub returns-in_err-word_of-clause-usage : goal.returns-in_err-word_of-clause-usage
+returns-in_err-word_of-clause-usage c =
+    on_err c.from_residual-in_err-word_of.result _ (no_command run_is_other (λ parts whole command makes. let has =
+    cache_of_run makes in c.in_err-word_of.ensures.usage parts whole has.0 has.1))
+
 pub returns-in_err-file_of-clause-usage : goal.returns-in_err-file_of-clause-usage
 returns-in_err-file_of-clause-usage c =
     on_err c.from_residual-in_err-file_of.result _ (no_command run_is_other (λ parts whole command makes. let has =
@@ -36,4 +41,5 @@ returns-clause-some c =
     let whole = all.1.0 in
     parts_command whole (run_of all.1.1 (c.in_ok-number_of.ensures.ok parts whole)
     (c.in_ok-fuel_of.ensures.ok parts whole)
-    (c.in_ok-switch_of.ensures.ok parts whole) (c.in_ok-file_of.ensures.ok parts whole))
+    (c.in_ok-switch_of.ensures.ok parts whole)
+    (c.in_ok-word_of.ensures.ok parts whole) (c.in_ok-file_of.ensures.ok parts whole))

@@ -1,7 +1,7 @@
 use Rattle.std.proofs.Common.{rules, ◌≤◌, ◌<◌, ◌++◌, ◌∷◌, [], not, map, length, refl, sym, ◌∙◌, ap}
 use Rattle.std.specs.String.{string_bytes}
-use Rattle.mw_words.specs.Words.{is_taken}
-use Rattle.mw_words.specs.Gathered.{part_in, word_in}
+use Rattle.mw_words.specs.Words.{is_taken, word_in}
+use Rattle.mw_words.specs.Gathered.{part_in}
 use Rattle.mw_words.proofs.Items.{no_item, some_text, on_err}
 use Rattle.mw_words.proofs.PartLemmas.{fewer_items}
 use Rattle.mw_words.proofs.Passing.{here, passes_more, passes_all, stuck_is_none, next_is}

@@ -1,8 +1,8 @@
 use Rattle.std.proofs.Common.{rules, ◌≤◌, ◌<◌, ◌++◌, ◌∷◌, [], List, option_map, length, refl, sym, ◌∙◌, ap}
 use Rattle.std.proofs.Common.{subst}
 use Rattle.std.specs.String.{string_bytes}
-use Rattle.mw_words.specs.Words.{PurePart, is_named, parts_named}
-use Rattle.mw_words.specs.Gathered.{part_in, word_in}
+use Rattle.mw_words.specs.Words.{PurePart, is_named, parts_named, word_in}
+use Rattle.mw_words.specs.Gathered.{part_in}
 use Rattle.mw_words.proofs.Items.{no_item, some_text, none_listed, some_listed, on_err}
 use Rattle.mw_words.proofs.PartLemmas.{fewer_items}
 use Rattle.mw_words.proofs.Passing.{here, passes_more, passes_all, stuck_is_none, next_is, same_parts}

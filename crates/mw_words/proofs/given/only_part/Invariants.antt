@@ -1,7 +1,7 @@
 use Rattle.std.proofs.Common.{◌≡◌, map, option_map, option_to_list, List, length}
 use Rattle.std.specs.String.{string_bytes}
-use Rattle.mw_words.specs.Words.{PurePart, parts_named}
-use Rattle.mw_words.specs.Gathered.{part_in, word_in}
+use Rattle.mw_words.specs.Words.{PurePart, parts_named, word_in}
+use Rattle.mw_words.specs.Gathered.{part_in}
 use Rattle.mw_words.proofs.Passing.{Passes}
 use Rattle.mw_words.proofs.given.only_part.Given as goal
 

@@ -1,6 +1,6 @@
 use Rattle.std.proofs.Common.{◌∙◌, ap, option_map, option_to_list, Some}
-use Rattle.mw_words.specs.Words.{option, off}
-use Rattle.mw_words.specs.Gathered.{part_in, word_in}
+use Rattle.mw_words.specs.Words.{option, off, word_in}
+use Rattle.mw_words.specs.Gathered.{part_in}
 use Rattle.mw_words.proofs.Picking.{once_on}
 use Rattle.mw_words.proofs.given.switch_of.Goals as goal
 

@@ -1,4 +1,7 @@
-use Rattle.mw_words.proofs.ExampleLemmas.{file_alone, fuel_apart, fuel_joined, both_options, simplify_first, simplify_last, erased_alone, erased_apart, erased_joined, erased_behind, sample_of_hundred}
+use Rattle.mw_words.proofs.ExampleLemmas.{file_alone, fuel_apart, fuel_joined, both_options, simplify_first}
+use Rattle.mw_words.proofs.ExampleLemmas.{simplify_last, erased_alone, erased_apart, erased_joined, erased_behind}
+use Rattle.mw_words.proofs.ExampleLemmas.{sample_of_hundred}
+use Rattle.mw_words.proofs.CacheExamples.{cache_apart, cache_joined, cache_simplified, cache_among_options}
 use Rattle.mw_words.proofs.laws.commands.Goals as goal
 
 pub returns : goal.returns
@@ -9,6 +12,10 @@ returns c = record {
   both_options = both_options;
   simplify_first = simplify_first;
   simplify_last = simplify_last;
+  cache_apart = cache_apart;
+  cache_joined = cache_joined;
+  cache_simplified = cache_simplified;
+  cache_among_options = cache_among_options;
   erased_alone = erased_alone;
   erased_apart = erased_apart;
   erased_joined = erased_joined;

@@ -1,5 +1,8 @@
-use Rattle.mw_words.proofs.ExampleLemmas.{no_word, option_first, two_files, two_dashes, fuel_twice, simplify_twice, simplify_valued}
+use Rattle.mw_words.proofs.ExampleLemmas.{no_word, option_first, two_files, two_dashes, fuel_twice, simplify_twice}
+use Rattle.mw_words.proofs.ExampleLemmas.{simplify_valued}
 use Rattle.mw_words.proofs.ExampleLemmas.{erased_no_file, erased_workers, erased_two_files, erased_simplified, erased_fuel_twice}
+use Rattle.mw_words.proofs.CacheExamples.{cache_twice, cache_without_path, cache_empty, cache_dashed}
+use Rattle.mw_words.proofs.CacheExamples.{cache_option_as_path, erased_cached, sample_cached}
 use Rattle.mw_words.proofs.laws.usage.Goals as goal
 
 pub returns : goal.returns
@@ -11,6 +14,13 @@ returns c = record {
   fuel_twice = fuel_twice;
   simplify_twice = simplify_twice;
   simplify_valued = simplify_valued;
+  cache_twice = cache_twice;
+  cache_without_path = cache_without_path;
+  cache_empty = cache_empty;
+  cache_dashed = cache_dashed;
+  cache_option_as_path = cache_option_as_path;
+  erased_cached = erased_cached;
+  sample_cached = sample_cached;
   erased_no_file = erased_no_file;
   erased_workers = erased_workers;
   erased_two_files = erased_two_files;
