@@ -4,7 +4,7 @@
 #![tactic(auto)]
 
 use mw_drive::{Status, run, table};
-use mw_outside::{Bytes, FileSource, OutSink, Pass, SureKeeper};
+use mw_outside::{FileKeeper, FileSource, OutSink, Pass};
 use std::alloc::AllocError;
 use std::env;
 use std::io::ErrorKind;
@@ -33,7 +33,7 @@ fn words(rt: &(impl Env + AllocGlobal)) -> Result<Vec<String>, Status> {
     }
 }
 
-/// Runs the command over the real files and standard output. The keeper holds nothing.
+/// Runs the command over the real files and standard output.
 fn carry_out(rt: &(impl Files + Print + AllocGlobal + Threads + Sync), words: &[String]) -> Status {
     let alloc = rt.alloc();
     let table = match table(alloc, SLOTS) {
@@ -42,7 +42,7 @@ fn carry_out(rt: &(impl Files + Print + AllocGlobal + Threads + Sync), words: &[
     };
     let mut source = FileSource::new(rt);
     let mut sink = OutSink::new(rt);
-    let mut keeper = SureKeeper::new(Bytes::new(alloc));
+    let mut keeper = FileKeeper::new(alloc, rt);
     run(
         rt,
         alloc,
@@ -59,7 +59,7 @@ fn carry_out(rt: &(impl Files + Print + AllocGlobal + Threads + Sync), words: &[
 fn explain(rt: &(impl Eprint + AllocGlobal), status: &Status) -> std::io::Result<()> {
     match status {
         Status::Usage => eprintln!(rt;
-            "metaml: usage: metaml run [--workers N] [--fuel N] [--simplify] FILE, metaml erased [--fuel N] FILE, or metaml sample N"
+            "metaml: usage: metaml run [--workers N] [--fuel N] [--cache PATH] FILE"
         ),
         Status::Read => eprintln!(rt; "metaml: cannot read the source"),
         Status::Write => eprintln!(rt; "metaml: cannot write"),

@@ -1,5 +1,5 @@
 -- From what a command's run gives to the clauses of the top call.
-use Rattle.std.proofs.Common.{◌≡◌, ◌≤◌, ◌⊎◌, inl, inr, ℕ, List, [], ◌∷◌, Bool, true, IsTrue, refl, sym, ap, subst, ◌∙◌, arith}
+use Rattle.std.proofs.Common.{◌≡◌, ◌≤◌, ◌⊎◌, inl, inr, ℕ, List, [], ◌∷◌, map, Bool, true, IsTrue, Option, Some, None, IsSome, IsNone, option_map, refl, sym, ap, subst, ◌∙◌, arith}
 use Rattle.std.specs.Prelude.{codes}
 use Rattle.mw_term.specs.Terms.{PureGroundValue}
 use Rattle.mw_console.specs.Texts.{Ending, answered, trapped, bounded, ending_status}
@@ -7,8 +7,8 @@ use Rattle.mw_meaning.specs.declared.mode.Mode.TheVariants.{Plain, Simple}
 use Rattle.mw_words.specs.Words.{PureCommand, PurePart, run, erased, sample, IsNumber, IsNumberOf, not_named, named_once, Makes, run_of, erased_of, Means, parts_command, sample_command}
 use Rattle.mw_words.proofs.LawLemmas.{one_command}
 use Rattle.mw_console.specs.declared.status.Status.{Status}
-use Rattle.mw_console.specs.declared.status.Status.TheVariants.{Answer, Trap, Refused, Bound, Read, Write, Memory}
-use Rattle.mw_drive.specs.Works.{Work, running, erasing, sampling, Meaning, ran, IsMeaning, of_refusal, of_types, of_program, status_of}
+use Rattle.mw_console.specs.declared.status.Status.TheVariants.{Answer, Trap, Refused, Bound, Read, Write, Cache, Memory}
+use Rattle.mw_drive.specs.Works.{Work, running, erasing, sampling, Meaning, ran, mode_of, run_text, IsMeaning, of_refusal, of_types, of_program, status_of}
 use Rattle.mw_drive.specs.ProgramMeaning.{Kernel}
 use Rattle.mw_drive.specs.SimplifiedPrograms.{IsUnbounded}
 use Rattle.mw_drive.specs.declared.shown.Shown.{Shown}
@@ -17,15 +17,17 @@ use Rattle.mw_drive.specs.Works as meant
 use Rattle.mw_drive.proofs.ErasedAnswers.{answers_are_erased}
 use Rattle.mw_drive.proofs.OneMeaning.{one_meaning}
 use Rattle.mw_drive.proofs.SimplifiedWorks.{simplified_run}
-use Rattle.mw_drive.specs.Extents.{whole, never, Kind, on_a_file, extent}
-use Rattle.mw_drive.specs.Running.{Outside, Wanted, source_file, files_of, Has, Lacks, HasAll, has_none, has_more, LacksFirst, lacks_first, IsWork, run_works, erased_works, sample_works, AsksOn, Asks, AsksMissing, AsksNoFile, kind_of, IsFaithful, IsMemory, IsCarriedOut, mode_when}
+use Rattle.mw_drive.specs.Honest.{IsHonestCache}
+use Rattle.mw_drive.specs.Extents.{whole, never, Kind, extent}
+use Rattle.mw_drive.specs.Running.{Outside, Wanted, source_file, files_of, path_of, kind_with, Has, Lacks, HasAll, has_none, has_more, LacksFirst, lacks_first, IsWork, run_works, erased_works, sample_works, AsksOn, Asks, AsksOver, AsksMissing, AsksNoFile, AsksCache, AsksNoCache, HasHonestCache, kind_of, IsFaithful, IsMemory, IsCarriedOut, mode_when}
+use Rattle.mw_drive.proofs.Options.{some_is_none}
 use Rattle.mw_drive.proofs.RunLemmas.{all_or_first, some_output, whole_else}
 
 -- want of memory before anything was written
 pub carried_memory : (kind : Kind) (work : Work) (e : _) (tells : Bool) (before : List ℕ)
     → IsCarriedOut kind work (Memory e) tells before before
 carried_memory kind work e tells before =
-    record { faithful = λ t. some_output work before; meaning = λ c. absurd (cc) }
+    record { faithful = λ t. some_output work before; meaning = λ c. absurd (cc); said = λ c. absurd (cc) }
 
 -- parts make no sample
 makes_no_sample : {word : List ℕ} {parts : List PurePart} {n : ℕ} → Makes word parts (sample n) → ⊥
@@ -46,15 +48,15 @@ some_workers : {parts : List PurePart} {n : ℕ} → IsNumberOf (codes "--worker
 some_workers (not_named none) = omega arith
 some_workers (named_once named is) = is.low
 
-pub run_workers : {words : List (List ℕ)} (command : PureCommand) (workers fuel : ℕ) (simplify : Bool) (file : List ℕ)
-    → Means words command
-    → command ≡ run workers fuel simplify file → 1 ≤ workers
-run_workers command workers fuel simplify file (sample_command h) e = absurd (cc)
-run_workers command workers fuel simplify file (parts_command are m) e = of_run m e
+pub run_workers : {words : List (List ℕ)} (command : PureCommand) (workers fuel : ℕ) (simplify : Bool)
+    (cache : Option (List ℕ)) (file : List ℕ) → Means words command
+    → command ≡ run workers fuel simplify cache file → 1 ≤ workers
+run_workers command workers fuel simplify cache file (sample_command h) e = absurd (cc)
+run_workers command workers fuel simplify cache file (parts_command are m) e = of_run m e
   where
     of_run : {word : List ℕ} {parts : List PurePart} {c : PureCommand} → Makes word parts c
-        → c ≡ run workers fuel simplify file → 1 ≤ workers
-    of_run (run_of {workers = n} only are units switch is) e =
+        → c ≡ run workers fuel simplify cache file → 1 ≤ workers
+    of_run (run_of {workers = n} only are units switch path is) e =
         let same : n ≡ workers = cc in rw (← same) (some_workers are)
     of_run (erased_of only units is) e = absurd (cc)
 
@@ -97,8 +99,8 @@ erased_answer kind shown s sink_tells before after fuel m bytes w carried other 
 module _ {words : List (List ℕ)} {o : Outside} (command : PureCommand) (means : Means words command) (s : Status)
     (sink_tells : Bool) (before after : List ℕ)
     (Rose_source Rose_sink : Type 0)
-    (carried : (contents : List (List ℕ)) (work : Work) → HasAll o (files_of command) contents → IsWork command
-    contents work
+    (carried : (contents : List (List ℕ)) (work : Work) → HasAll o (files_of command) contents
+    → IsWork command contents work → HasHonestCache o command
     → IsCarriedOut (kind_of command) work s sink_tells before after)
     (reads : s ≡ Read → Rose_source ⊎ LacksFirst o (files_of command)) (writes : s ≡ Write → Rose_sink)
     (possible : extent (kind_of command) s ≡ never → ⊥) where
@@ -109,33 +111,42 @@ module _ {words : List (List ℕ)} {o : Outside} (command : PureCommand) (means 
       → HasAll o (files_of command) contents
   has_on other contents on = subst (λ c. HasAll o (files_of c) contents) (same other on.means) on.has
 
+  works_on : (other : PureCommand) (contents : List (List ℕ)) (work : Work) → Means words other
+      → IsWork other contents work → IsWork command contents work
+  works_on other contents work also works = subst (λ c. IsWork c contents work) (same other also) works
+
   -- the work that is asked for was carried out
   asked_carried : (work : Work) → Asks words o work → IsCarriedOut (kind_of command) work s sink_tells before after
   asked_carried work asked =
       carried asked.contents work (has_on asked.command asked.contents asked.on)
-      (subst (λ c. IsWork c asked.contents work) (same asked.command asked.on.means) asked.works)
+      (works_on asked.command asked.contents work asked.on.means asked.works)
+      (subst (HasHonestCache o) (same asked.command asked.on.means) asked.honest)
 
   -- where nothing failed, whole
-  asked_whole : (work : Work) → Asks words o work → (Rose_source → ⊥) → (Rose_sink → ⊥) → (IsMemory s → ⊥)
+  asked_whole : (work : Work) → Asks words o work → (Rose_source → ⊥) → (Rose_sink → ⊥) → (s ≡ Cache → ⊥)
+      → (IsMemory s → ⊥)
       → extent (kind_of command) s ≡ whole
-  asked_whole work asked source sink memory =
-      whole_else (kind_of command) s possible memory (λ r. not_read (reads r)) (λ w. sink (writes w))
+  asked_whole work asked source sink kept memory =
+      whole_else (kind_of command) s possible (asked_carried work asked).said kept memory (λ r. not_read (reads r))
+      (λ w. sink (writes w))
     where
       not_read : Rose_source ⊎ LacksFirst o (files_of command) → ⊥
       not_read (inl rose) = source rose
       not_read (inr lacks) = all_or_first (has_on asked.command asked.contents asked.on) lacks
 
-  pub asked_text : (work : Work) → Asks words o work → (Rose_source → ⊥) → (Rose_sink → ⊥) → (IsMemory s → ⊥)
+  pub asked_text : (work : Work) → Asks words o work → (Rose_source → ⊥) → (Rose_sink → ⊥) → (s ≡ Cache → ⊥)
+      → (IsMemory s → ⊥)
       → IsTrue sink_tells
       → IsFaithful whole work s before after
-  asked_text work asked source sink memory t =
-      subst (λ x. IsFaithful x work s before after) (asked_whole work asked source sink memory)
+  asked_text work asked source sink kept memory t =
+      subst (λ x. IsFaithful x work s before after) (asked_whole work asked source sink kept memory)
       ((asked_carried work asked).faithful t)
 
-  pub asked_status : (work : Work) → Asks words o work → (Rose_source → ⊥) → (Rose_sink → ⊥) → (IsMemory s → ⊥)
+  pub asked_status : (work : Work) → Asks words o work → (Rose_source → ⊥) → (Rose_sink → ⊥) → (s ≡ Cache → ⊥)
+      → (IsMemory s → ⊥)
       → (m : Meaning) × IsMeaning work m × (s ≡ status_of m)
-  asked_status work asked source sink memory =
-      (asked_carried work asked).meaning (asked_whole work asked source sink memory)
+  asked_status work asked source sink kept memory =
+      (asked_carried work asked).meaning (asked_whole work asked source sink kept memory)
 
   pub asked_complete : (work : Work) (asked : Asks words o work) → extent (kind_of asked.command) s ≡ whole
       → (m : Meaning) × IsMeaning work m × (s ≡ status_of m)
@@ -152,16 +163,21 @@ module _ {words : List (List ℕ)} {o : Outside} (command : PureCommand) (means 
   pub asked_possible : (other : PureCommand) → Means words other → extent (kind_of other) s ≡ never → ⊥
   asked_possible other also n = possible (subst (λ c. extent (kind_of c) s ≡ never) (same other also) n)
 
-  pub asked_unfailed : {P : Type 0} → (extent (kind_of command) s ≡ whole → P) → (other : PureCommand)
-      → Means words other
-      → extent (kind_of other) s ≡ whole → P
-  asked_unfailed unfailed other also w = unfailed (subst (λ c. extent (kind_of c) s ≡ whole) (same other also) w)
+  -- what holds of the command that the words mean
+  pub asked_of : (P : PureCommand → Type 0) → P command → (other : PureCommand) → Means words other → P other
+  asked_of P h other also = subst P (sym (same other also)) h
 
   pub asked_missing : AsksMissing words o → LacksFirst o (files_of command)
   asked_missing asked = subst (λ c. LacksFirst o (files_of c)) (same asked.command asked.means) asked.lacks
 
   pub asked_no_file : AsksNoFile words → files_of command ≡ []
   asked_no_file asked = ap files_of (sym (same asked.command asked.means)) ∙ asked.none
+
+  pub asked_no_cache : AsksNoCache words → IsNone (path_of command)
+  asked_no_cache asked = subst (λ c. IsNone (path_of c)) (same asked.command asked.means) asked.none
+
+  pub asked_cache : AsksCache words → IsSome (path_of command)
+  asked_cache asked = subst (λ c. IsSome (path_of c)) (same asked.command asked.means) asked.some
 
   pub asked_read : s ≡ Read → Rose_source ⊎ AsksMissing words o
   asked_read is = by_case (reads is)
@@ -174,46 +190,74 @@ module _ {words : List (List ℕ)} {o : Outside} (command : PureCommand) (means 
       → HasAll o (files_of command) (bytes ∷ [])
   asked_has other bytes on = has_on other (bytes ∷ []) on
 
+  -- what is kept of a work that is asked for
+  pub asked_kept : (P : List (List ℕ) → Status → Type 0)
+      → ((contents : List (List ℕ)) (work : Work) → HasAll o (files_of command) contents
+      → IsWork command contents work → HasHonestCache o command → IsSome (path_of command)
+      → (shown : Shown) (kernels : List Kernel) (e : Ending) → IsMeaning work (ran shown kernels e)
+      → P (map (run_text (mode_of shown)) kernels) s)
+      → (work : Work) (asked : Asks words o work) → IsSome (path_of asked.command)
+      → (shown : Shown) (kernels : List Kernel) (e : Ending) → IsMeaning work (ran shown kernels e)
+      → P (map (run_text (mode_of shown)) kernels) s
+  asked_kept P kept work asked some =
+      kept asked.contents work (has_on asked.command asked.contents asked.on)
+      (works_on asked.command asked.contents work asked.on.means asked.works)
+      (subst (HasHonestCache o) (same asked.command asked.on.means) asked.honest)
+      (subst (λ c. IsSome (path_of c)) (same asked.command asked.on.means) some)
+
+  -- a bad record is one of a work that is asked for
+  pub asked_bad : (P : Work → Type 0)
+      → ((contents : List (List ℕ)) (work : Work) → HasAll o (files_of command) contents
+      → IsWork command contents work → P work)
+      → (work : Work) → AsksOver words o work → P work
+  asked_bad P bad work asked =
+      bad asked.contents work (has_on asked.command asked.contents asked.on)
+      (works_on asked.command asked.contents work asked.on.means asked.works)
+
   -- a run that is asked for was carried out
-  asked_run : (workers fuel : ℕ) (simplify : Bool) (f bytes : List ℕ)
-      → AsksOn words o (run workers fuel simplify f) (bytes ∷ [])
-      → IsCarriedOut on_a_file (running bytes fuel (Lines (mode_when simplify))) s sink_tells before after
-  asked_run workers fuel simplify f bytes on =
-      let is = same (run workers fuel simplify f) on.means in
+  asked_run : (workers fuel : ℕ) (simplify : Bool) (cache : Option (List ℕ)) (f bytes : List ℕ)
+      → AsksOn words o (run workers fuel simplify cache f) (bytes ∷ []) → IsHonestCache o.keeps o.held cache
+      → IsCarriedOut (kind_with cache) (running bytes fuel (Lines (mode_when simplify))) s sink_tells before after
+  asked_run workers fuel simplify cache f bytes on honest =
+      let is = same (run workers fuel simplify cache f) on.means in
       subst (λ c. IsCarriedOut (kind_of c) (running bytes fuel (Lines (mode_when simplify))) s sink_tells before
       after) (sym is)
       (carried (bytes ∷ []) (running bytes fuel (Lines (mode_when simplify)))
-      (has_on (run workers fuel simplify f) (bytes ∷ []) on)
-      (subst (λ c. IsWork c (bytes ∷ []) (running bytes fuel (Lines (mode_when simplify)))) is run_works))
+      (has_on (run workers fuel simplify cache f) (bytes ∷ []) on)
+      (subst (λ c. IsWork c (bytes ∷ []) (running bytes fuel (Lines (mode_when simplify)))) is run_works)
+      (subst (HasHonestCache o) is honest))
 
-  pub asked_erased : (workers fuel m : ℕ) (simplify : Bool) (f bytes : List ℕ) (w : PureGroundValue)
-      → AsksOn words o (run workers fuel simplify f) (bytes ∷ [])
+  pub asked_erased : (workers fuel m : ℕ) (simplify : Bool) (cache : Option (List ℕ)) (f bytes : List ℕ)
+      (w : PureGroundValue)
+      → AsksOn words o (run workers fuel simplify cache f) (bytes ∷ []) → IsHonestCache o.keeps o.held cache
       → IsMeaning (erasing bytes m) (meant.erased (answered w)) → s ≡ Answer
       → (kernels : List Kernel) × IsMeaning (running bytes fuel (Lines (mode_when simplify)))
       (ran (Lines (mode_when simplify)) kernels (answered w))
-  asked_erased workers fuel m simplify f bytes w on other is =
-      erased_answer on_a_file (Lines (mode_when simplify)) s sink_tells before after fuel m bytes w
-      (asked_run workers fuel simplify f bytes on) other is
+  asked_erased workers fuel m simplify cache f bytes w on honest other is =
+      erased_answer (kind_with cache) (Lines (mode_when simplify)) s sink_tells before after fuel m bytes w
+      (asked_run workers fuel simplify cache f bytes on honest) other is
 
-  pub asked_simplified : (workers fuel : ℕ) (f bytes : List ℕ) (kernels : List Kernel) (e : Ending)
-      → AsksOn words o (run workers fuel true f) (bytes ∷ [])
+  pub asked_simplified : (workers fuel : ℕ) (cache : Option (List ℕ)) (f bytes : List ℕ) (kernels : List Kernel)
+      (e : Ending)
+      → AsksOn words o (run workers fuel true cache f) (bytes ∷ []) → IsHonestCache o.keeps o.held cache
       → IsMeaning (running bytes fuel (Lines Plain)) (ran (Lines Plain) kernels e) → IsUnbounded e
       → IsMeaning (running bytes fuel (Lines Simple))
-      (ran (Lines Simple) kernels e) × (extent on_a_file s ≡ whole → s ≡ ending_status e)
-  asked_simplified workers fuel f bytes kernels e on is unbounded =
+      (ran (Lines Simple) kernels e) × (extent (kind_with cache) s ≡ whole → s ≡ ending_status e)
+  asked_simplified workers fuel cache f bytes kernels e on honest is unbounded =
       let other = simplified_run bytes fuel kernels e is unbounded in (
         other,
         λ c.
-            let m = (asked_run workers fuel true f bytes on).meaning c in
+            let m = (asked_run workers fuel true cache f bytes on honest).meaning c in
             m.2 ∙ ap status_of (one_meaning (running bytes fuel (Lines Simple)) m.0 (ran (Lines Simple) kernels e) m.1
             other),
       )
 
 -- A command's work is that on what its file holds.
-pub run_on : {o : Outside} {workers fuel : ℕ} {simplify : Bool} {file : List ℕ} (contents : List (List ℕ))
+pub run_on : {o : Outside} {workers fuel : ℕ} {simplify : Bool} {cache : Option (List ℕ)} {file : List ℕ}
+    (contents : List (List ℕ))
     (work : Work)
-    → HasAll o (files_of (run workers fuel simplify file)) contents
-    → IsWork (run workers fuel simplify file) contents work
+    → HasAll o (files_of (run workers fuel simplify cache file)) contents
+    → IsWork (run workers fuel simplify cache file) contents work
     → (bytes : List ℕ) × Has o (source_file file) bytes × (work ≡ running bytes fuel (Lines (mode_when simplify)))
 run_on contents work (has_more {bytes = bytes} has has_none) run_works = (bytes, has, refl)
 
@@ -245,3 +289,22 @@ lacks_no h = elim h [ ]
 
 pub has_no : {o : Outside} {bytes : List ℕ} → HasAll o [] (bytes ∷ []) → ⊥
 has_no h = elim h [ ]
+
+-- a cache file's name, and what is seen of it
+module _ {X Y : Type 0} (f : X → Y) where
+  pub kind_mapped : (o : Option X) → kind_with (option_map f o) ≡ kind_with o
+  kind_mapped None = refl
+  kind_mapped (Some x) = refl
+
+  pub some_mapped : (o : Option X) → IsSome (option_map f o) → IsSome o
+  some_mapped None some = some
+  some_mapped (Some x) some = refl
+
+  pub none_mapped : (o : Option X) → IsNone (option_map f o) → IsNone o
+  none_mapped None none = none
+  none_mapped (Some x) none = absurd (some_is_none (f x) none)
+
+  pub honest_mapped : {tells : Bool} {held : List ℕ} (o : Option X) → IsHonestCache tells held (option_map f o)
+      → IsHonestCache tells held o
+  honest_mapped None honest = honest
+  honest_mapped (Some x) honest = honest

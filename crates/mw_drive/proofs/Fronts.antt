@@ -32,3 +32,7 @@ grows_whole old new a x whole =
 -- nothing is a front of every text
 pub grows_nothing : (old a : List ℕ) → GrowsByFront old old a
 grows_nothing old a = (0, omega arith, sym (append-nil old))
+
+pub whole_grows : (old new a : List ℕ) → new ≡ old ++ a → GrowsByFront old new a
+whole_grows old new a whole =
+    (length a, omega arith, whole ∙ ap (λ t. old ++ t) (sym (take_all (length a) a (omega arith))))

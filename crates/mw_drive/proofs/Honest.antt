@@ -1,5 +1,6 @@
 -- Over honest records outcomes are what the items mean, and no answer is Bad.
-use Rattle.std.proofs.Common.{◌≡◌, ℕ, List, [], ◌∷◌, subst}
+use Rattle.std.proofs.Common.{◌≡◌, ℕ, List, [], ◌∷◌, Bool, Option, Some, None, refl, ap, subst}
+use denote.Ref.{Bor}
 use Rattle.mw_term.specs.Terms.{Value}
 use Rattle.mw_term.specs.Programs.{Definition, value as defines, kernel, PureProgram}
 use Rattle.mw_meaning.specs.declared.mode.Mode.{Mode}
@@ -11,7 +12,12 @@ use Rattle.mw_cache.specs.Gots.{CacheState, IsRight}
 use Rattle.mw_tasks.specs.declared.outcome.ItemOutcome.{ItemOutcome}
 use Rattle.mw_tasks.specs.Phases.{EachKernel, IsOutcomeOf, AreOutcomesOf}
 use Rattle.mw_tasks.specs.RightRuns.{AreRightRuns, HasWrongRun, HasWrongItem}
-use Rattle.mw_drive.specs.Honest.{IsHonest, IsMeant, AreMeant}
+use Rattle.mw_cache.specs.HonestFiles.{IsHonest}
+use Rattle.mw_cache.proofs.Honest.{honest_load}
+use Rattle.mw_keeping.specs.CacheFiles.{IsOpened}
+use Rattle.mw_keeping.specs.declared.opening.CacheFile.{CacheFile}
+use Rattle.mw_keeping.specs.declared.opening.CacheFile.TheVariants.{Absent, Unread, Read}
+use Rattle.mw_drive.specs.Honest.{IsHonestCache, IsMeant, AreMeant}
 
 pub honest_text : (load : LoadState) → IsHonest load → (text : List ℕ) → IsRight load text
 honest_text load honest text at l here is = subst (IsEmissionOf l.bytes) is (honest at l here)
@@ -64,3 +70,14 @@ module _ (mode : Mode) (p : PureProgram) (fuel : ℕ) (cache : CacheState) (outc
 -- where nothing was loaded, all is honest
 pub nothing_honest : (load : LoadState) → load.records ≡ [] → IsHonest load
 nothing_honest load none at l here = let none_here = rw none at here in absurd (cc)
+
+-- what was loaded of an honest cache file is honest
+pub opened_honest : {tells : Bool} {held : List ℕ} (path : Option (Bor (List ℕ))) (file : CacheFile) (load : LoadState)
+    → IsOpened tells held path file load → IsHonestCache tells held path → IsHonest load
+opened_honest None Absent load is honest = nothing_honest load (ap (λ (l : LoadState). l.records) is)
+opened_honest None Unread load is honest = absurd is
+opened_honest None (Read count) load is honest = absurd is
+opened_honest (Some path) Absent load is honest = absurd is
+opened_honest (Some path) Unread load is honest = nothing_honest load (ap (λ (l : LoadState). l.records) is)
+opened_honest {held = held} (Some path) (Read count) load is honest =
+    let h = honest refl in honest_load held load h.1 (is h.0).is_load

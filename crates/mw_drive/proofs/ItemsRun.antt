@@ -8,7 +8,7 @@ use Rattle.mw_meaning.specs.Outcomes.{Outcome, came_to, trapped, bounded, stuck,
 use Rattle.mw_cache.specs.Gots.{CacheState}
 use Rattle.mw_tasks.specs.declared.outcome.ItemOutcome.{ItemOutcome}
 use Rattle.mw_tasks.specs.declared.outcome.ItemOutcome.TheVariants.{Code, Trap, Bound}
-use Rattle.mw_tasks.specs.Phases.{Answers, EachKernel, AreBuiltAll, codes_in}
+use Rattle.mw_tasks.specs.Phases.{Answers, EachKernel, AreOutcomesOf, AreBuiltAll, codes_in}
 use Rattle.mw_drive.specs.Honest.{IsMeant, AreMeant}
 use Rattle.mw_console.specs.Texts.{Ending}
 use Rattle.mw_drive.specs.NamedPrograms.{NamedItem, unnamed, named_program_of}
@@ -78,7 +78,7 @@ module _ (mode : Mode) (names : List Value) (fuel : ℕ) (cache : CacheState) wh
       outcomes h
 
 -- what holds for each kernel item
-each_kernel : {R S : KernelType → Expression → ItemOutcome → Type 0}
+pub each_kernel : {R S : KernelType → Expression → ItemOutcome → Type 0}
     → ((k : KernelType) (e : Expression) (o : ItemOutcome) → R k e o → S k e o)
     → (items : List Definition) (outcomes : List ItemOutcome) → EachKernel R items outcomes
     → EachKernel S items outcomes
@@ -126,27 +126,28 @@ all_built [] (o ∷ outcomes) kernels h is = absurd h
 all_built (i ∷ items) outcomes kernels h is =
     item_built i.name i.is (definitions items) (outcomes_run items) (all_built items) outcomes kernels h is
 
-module _ (mode : Mode) (fuel : ℕ) (cache : CacheState) (program : Program) (outcomes : List ItemOutcome)
-    (are : AreMeant mode (program_of program) fuel cache outcomes) where
-  pub one_for_each : HasOneForEach (program_of program).items outcomes
-  one_for_each = each_kernel (λ k e o h. tt) (program_of program).items outcomes are
-
-  pub all_placed : ArePlaced mode cache (program_of program).items outcomes
-  all_placed = each_kernel (λ k e o h. h.placed) (program_of program).items outcomes are
-
+module _ (mode : Mode) (fuel : ℕ) (cache : CacheState) (program : Program) (outcomes : List ItemOutcome) where
   -- the items' part of the run is what the outcomes say
-  pub run_is : items_run mode fuel (named_program_of program) ≡ outcomes_run (named_program_of program).items outcomes
-  run_is =
+  pub run_is : AreMeant mode (program_of program) fuel cache outcomes
+      → items_run mode fuel (named_program_of program) ≡ outcomes_run (named_program_of program).items outcomes
+  run_is are =
       let p = named_program_of program in
       let named : AreMeant mode (unnamed p) fuel cache outcomes =
       subst (λ (q : PureProgram). AreMeant mode q fuel cache outcomes) (sym (unnamed_program program)) are in
       sym (items_are mode (names_of_items (unnamed p).items) fuel cache p.items outcomes named)
 
-  -- where all items gave code, these are the kernels' codes
-  pub all_codes : (kernels : List Kernel) → outcomes_run (named_program_of program).items outcomes ≡ all_gave kernels
-      → IsAll outcomes kernels
-  all_codes kernels is =
-      let p = named_program_of program in
-      let each : HasOneForEach (definitions p.items) outcomes =
-      subst (λ (q : PureProgram). HasOneForEach q.items outcomes) (sym (unnamed_program program)) one_for_each in
-      all_built p.items outcomes kernels each is
+  module _ (are : AreOutcomesOf mode (program_of program) fuel cache outcomes) where
+    pub one_for_each : HasOneForEach (program_of program).items outcomes
+    one_for_each = each_kernel (λ k e o h. tt) (program_of program).items outcomes are
+
+    pub all_placed : ArePlaced mode cache (program_of program).items outcomes
+    all_placed = each_kernel (λ k e o h. h.placed) (program_of program).items outcomes are
+
+    -- where all items gave code, these are the kernels' codes
+    pub all_codes : (kernels : List Kernel) → outcomes_run (named_program_of program).items outcomes ≡ all_gave kernels
+        → IsAll outcomes kernels
+    all_codes kernels is =
+        let p = named_program_of program in
+        let each : HasOneForEach (definitions p.items) outcomes =
+        subst (λ (q : PureProgram). HasOneForEach q.items outcomes) (sym (unnamed_program program)) one_for_each in
+        all_built p.items outcomes kernels each is

@@ -8,6 +8,10 @@ pub mod ModuleLemmas
 pub mod OneMeaning
 pub mod ProgramEnds
 pub mod RunLemmas
+pub mod RunFaults
+pub mod BadRecords
+pub mod HeldFiles
+pub mod Statuses
 pub mod RunWritten
 pub mod ScopedTerms
 pub mod Showing
@@ -21,3 +25,4 @@ pub mod ErasedWritten
 pub mod SimplifiedPrograms
 pub mod SimplifiedWorks
 pub mod Honest
+pub mod Options

@@ -1,8 +1,10 @@
 -- From the parts of a run to the whole.
-use Rattle.std.proofs.Common.{◌≡◌, ◌⊎◌, inl, inr, ℕ, ◌<◌, List, [], ◌++◌, Option, None, Some, Bool, IsTrue, IsNone, ◌∙◌, take, drop, length, Result, Ok, Err, refl, sym, subst, arith}
+use Rattle.std.proofs.Common.{◌≡◌, ◌⊎◌, inl, inr, ℕ, ◌<◌, List, [], ◌++◌, Option, None, Some, Bool, IsTrue, IsNone, IsSome, ◌∙◌, take, drop, length, Result, Ok, Err, IfOk, IfErr, refl, sym, ap, subst, arith}
+use denote.Ref.{Bor}
 use Rattle.std.specs.Prelude.{alloc_error}
 use Rattle.std.proofs.lemmas.List.{append-nil, take_all, length-take}
-use Rattle.mw_outside.specs.declared.errors.WriteFault.{WriteFault}
+use Rattle.mw_drive.specs.declared.fault.RunFault.{RunFault}
+use Rattle.mw_drive.specs.declared.fault.RunFault.TheVariants.{Unwritten, Bad}
 use Rattle.mw_outside.specs.declared.errors.WriteFault.TheVariants as fault
 use Rattle.mw_outside.specs.Count.{GrowsByFront}
 use Rattle.mw_outside.specs.Lookup.{file_of}
@@ -11,20 +13,23 @@ use Rattle.mw_term.specs.declared.refusal.Refusal.TheVariants.{TooLarge}
 use Rattle.mw_meaning.specs.declared.mode.Mode.TheVariants.{Plain}
 use Rattle.mw_drive.specs.declared.shown.Shown.{Shown}
 use Rattle.mw_drive.specs.declared.shown.Shown.TheVariants.{Lines}
-use Rattle.mw_drive.specs.ProgramMeaning.{erased_ending}
+use Rattle.mw_drive.specs.ProgramMeaning.{Kernel, erased_ending}
 use Rattle.mw_console.specs.Reading.{most_read, IsFront, IsRest}
-use Rattle.mw_console.specs.Texts.{Ending, answered, trapped, bounded}
+use Rattle.mw_console.specs.Texts.{Ending, answered, trapped, bounded, ending_status}
 use Rattle.mw_drive.specs.NamedPrograms.{NamedProgram, unnamed}
 use Rattle.mw_console.specs.declared.status.Status.{Status}
 use Rattle.mw_console.specs.declared.status.Status.TheVariants.{Answer, Trap, Usage, Refused, Bound, Read, Write, Cache, Memory, BadCache}
 use Rattle.mw_drive.specs.SourceReading.{IsRead, IsSmall, too_large, at_bytes, at_tokens, at_names}
-use Rattle.mw_drive.specs.Works.{Work, running, erasing, Meaning, refused, ran, erased, IsMeaning, of_refusal, of_types, of_program, of_erased_refusal, of_erased, IsAccepted, IsOutput, Reports, text_of, status_of}
-use Rattle.mw_drive.specs.ProgramRuns.{IsWrittenMeaning, evaluated}
+use Rattle.mw_drive.specs.Works.{Work, running, erasing, Meaning, refused, ran, erased, IsMeaning, of_refusal, of_types, of_program, of_erased_refusal, of_erased, IsAccepted, mode_of, IsOutput, Reports, text_of, status_of}
+use Rattle.mw_drive.specs.BadRecords.{IsBadRecord, IsBadOf, of_run}
+use Rattle.mw_drive.specs.Honest.{IsHonestCache}
+use Rattle.mw_drive.specs.ProgramRuns.{IsWrittenMeaning, IsEndMeaning, IsEndedSource, IsUsual, evaluated}
 use Rattle.mw_drive.specs.declared.source.Evaluation.{Evaluation}
 use Rattle.mw_drive.specs.declared.source.Evaluation.TheVariants.{Run, Erased}
-use Rattle.mw_drive.specs.Extents.{Extent, a_front, whole, never, Kind, extent}
-use Rattle.mw_drive.specs.Written.{Blames}
-use Rattle.mw_drive.specs.Running.{Outside, Wanted, source_file, Has, Lacks, HasAll, has_none, has_more, LacksFirst, lacks_first, IsFaithful, IsMemory, IsCarriedOut, IsStatusOf}
+use Rattle.mw_drive.specs.Extents.{Extent, a_front, whole, unkept, unsaid, never, Kind, on_a_file, over_a_cache, on_a_number, extent}
+use Rattle.mw_drive.specs.RunFaults.{BlamesSink}
+use Rattle.mw_drive.specs.Running.{Outside, Wanted, source_file, Has, Lacks, HasAll, has_none, has_more, LacksFirst, lacks_first, IsFaithful, IsMemory, IsCarriedOut, IsStatusOf, IsWritten, kind_with}
+use Rattle.mw_drive.proofs.Options.{none_is_some, some_is_none}
 use Rattle.mw_drive.proofs.SomeMeaning.{some_meaning}
 
 -- a source with a meaning is too large, and refused for it, or small
@@ -80,7 +85,7 @@ means_erased bytes fuel m h = by_case (erased_case h)
 
 pub means_evaluated : (evaluation : Evaluation) (bytes : List ℕ) (fuel : ℕ) (m : Meaning)
     → IsMeaning (evaluated evaluation (take most_read bytes) fuel) m → IsMeaning (evaluated evaluation bytes fuel) m
-means_evaluated (Run workers shown) bytes fuel m h = means_whole h
+means_evaluated (Run options) bytes fuel m h = means_whole h
 means_evaluated Erased bytes fuel m h = means_erased bytes fuel m h
 
 -- what was read is the front of the bytes that the source tells, and what is left is the rest
@@ -150,92 +155,236 @@ some_output work before =
 front_not_whole : a_front ≡ whole → ⊥
 front_not_whole e = cc
 
--- a work whose meaning was written, or a front of it, was carried out
-pub carried : (kind : Kind) (r : Result Status WriteFault) (s : Status) {tells : Bool} (before after : List ℕ)
-    (work : Work)
-    → IsWrittenMeaning work r tells before after → IsStatusOf r s → IsCarriedOut kind work s tells before after
-carried kind (Ok status) s before after work w is =
-    let same : s ≡ status_of w.meaning = is ∙ w.is_status in
-    record {
-      faithful =
-          λ t. subst (λ s. IsFaithful (extent kind s) work s before after) (sym same)
-          (faithful_at kind before after w.meaning w.is_meaning (w.writes t));
-      meaning = λ c. (w.meaning, w.is_meaning, same);
-    }
-carried kind (Err fault.Failed) s before after work w is =
-    let o : IsOutput work (text_of w.meaning) =
-    record { meaning = w.meaning; is_meaning = w.is_meaning; is_text = refl } in
-    record {
-      faithful =
-          λ t. subst (λ s. IsFaithful (extent kind s) work s before after) (sym is)
-          (text_of w.meaning, o, w.writes t);
-      meaning = λ c. absurd (front_not_whole (subst (λ s. extent kind s ≡ whole) is c));
-    }
-carried kind (Err (fault.Memory error)) s before after work w is =
-    let o : IsOutput work (text_of w.meaning) =
-    record { meaning = w.meaning; is_meaning = w.is_meaning; is_text = refl } in
-    record {
-      faithful =
-          λ t. subst (λ s. IsFaithful (extent kind s) work s before after) (sym is)
-          (text_of w.meaning, o, w.writes t);
-      meaning = λ c. absurd (front_not_whole (subst (λ s. extent kind s ≡ whole) is c));
-    }
+unkept_not_whole : unkept ≡ whole → ⊥
+unkept_not_whole e = cc
+
+-- what is said of a whole text, of a front or of a text that wasn't kept isn't unsaid
+whole_said : whole ≡ unsaid → ⊥
+whole_said e = cc
+
+front_said : a_front ≡ unsaid → ⊥
+front_said e = cc
+
+unkept_said : unkept ≡ unsaid → ⊥
+unkept_said e = cc
+
+-- a program that ran
+abbrev IsRanMeaning : Meaning → Type 0
+IsRanMeaning m = (shown : Shown) × (kernels : List Kernel) × (e : Ending) × (m ≡ ran shown kernels e)
+
+-- the status of a meaning is its own, or that the cache file wasn't kept
+own_or_unkept : (path : Option (Bor (List ℕ))) (m : Meaning) (s : Status) → IsEndMeaning path m s
+    → (s ≡ status_of m) ⊎ (IsSome path × (s ≡ Cache) × IsRanMeaning m)
+own_or_unkept path (refused r names) s is = inl is
+own_or_unkept path (ran shown kernels e) s (inl is) = inl is
+own_or_unkept path (ran shown kernels e) s (inr h) = inr (h.0, h.1, (shown, kernels, e, refl))
+own_or_unkept path (erased e) s is = inl is
+
+module _ (path : Option (Bor (List ℕ))) (kind : Kind) (over : IsSome path → kind ≡ over_a_cache) {tells : Bool}
+    (before after : List ℕ)
+    (work : Work) where
+  -- the status of a front
+  carried_front : (s t : Status) (m : Meaning) → IsMeaning work m → s ≡ t → extent kind t ≡ a_front
+      → (IsTrue tells → GrowsByFront before after (text_of m)) → IsCarriedOut kind work s tells before after
+  carried_front s t m h is front grows =
+      let e : extent kind s ≡ a_front = ap (extent kind) is ∙ front in
+      record {
+        faithful =
+            λ told. subst (λ x. IsFaithful x work s before after) (sym e)
+            (text_of m, record { meaning = m; is_meaning = h; is_text = refl }, grows told);
+        meaning = λ c. absurd (front_not_whole (sym e ∙ c));
+        said = λ c. absurd (front_said (sym e ∙ c));
+      }
+
+  -- a work whose meaning was written, or a front of it, was carried out
+  pub carried : (r : Result Status RunFault) (s : Status) → IsWrittenMeaning path work r tells before after
+      → IsStatusOf r s
+      → IsCarriedOut kind work s tells before after
+  carried (Ok status) s w is = elim (own_or_unkept path w.meaning status w.is_status) [
+    | inl own ↦
+        let same : s ≡ status_of w.meaning = is ∙ own in
+        let e : extent kind s ≡ whole = ap (extent kind) same ∙ whole_status kind w.meaning in
+        record {
+          faithful =
+              λ t. subst (λ s. IsFaithful (extent kind s) work s before after) (sym same)
+              (faithful_at kind before after w.meaning w.is_meaning (w.writes t));
+          meaning = λ c. (w.meaning, w.is_meaning, same);
+          said = λ c. absurd (whole_said (sym e ∙ c));
+        }
+    | inr h ↦
+        let ran_as = h.2 in
+        let e : extent kind s ≡ unkept = ap (extent kind) (is ∙ h.1) ∙ ap (λ k. extent k Cache) (over h.0) in
+        let meant : IsMeaning work (ran ran_as.0 ran_as.1 ran_as.2) = subst (IsMeaning work) ran_as.3 w.is_meaning in
+        record {
+          faithful =
+              λ t. subst (λ x. IsFaithful x work s before after) (sym e) (
+                text_of w.meaning,
+                record {
+                  shown = ran_as.0;
+                  kernels = ran_as.1;
+                  ending = ran_as.2;
+                  is_meaning = meant;
+                  is_text = ap text_of ran_as.3;
+                },
+                w.writes t,
+              );
+          meaning = λ c. absurd (unkept_not_whole (sym e ∙ c));
+          said = λ c. absurd (unkept_said (sym e ∙ c));
+        }
+  ]
+  carried (Err (Unwritten fault.Failed)) s w is =
+      carried_front s Write w.meaning w.is_meaning is refl w.writes
+  carried (Err (Unwritten (fault.Memory error))) s w is =
+      carried_front s (Memory error) w.meaning w.is_meaning is refl w.writes
+  carried (Err (Bad digest)) s w is = absurd w.usual
 
 -- where a work means whatever another does, what was written of that was written of it
-pub written_as : {work : Work} (other : Work) {r : Result Status WriteFault} {tells : Bool} {before after : List ℕ}
-    → ((m : Meaning) → IsMeaning work m → IsMeaning other m) → IsWrittenMeaning work r tells before after
-    → IsWrittenMeaning other r tells before after
+pub written_as : {path : Option (Bor (List ℕ))} {work : Work} (other : Work) {r : Result Status RunFault} {tells : Bool}
+    {before after : List ℕ}
+    → ((m : Meaning) → IsMeaning work m → IsMeaning other m) → IsWrittenMeaning path work r tells before after
+    → IsWrittenMeaning path other r tells before after
 written_as other means w =
     record {
       meaning = w.meaning;
       is_meaning = means w.meaning w.is_meaning;
       is_status = w.is_status;
+      usual = w.usual;
       writes = w.writes;
     }
 
 -- a status that is written isn't one that never comes
-not_never : {x : Extent} → x ≡ whole → x ≡ never → ⊥
-not_never e n = cc
+whole_not_never : whole ≡ never → ⊥
+whole_not_never e = cc
 
--- a front isn't what never comes
 front_not_never : a_front ≡ never → ⊥
 front_not_never e = cc
 
--- the status of what was written may come
-pub written_possible : {work : Work} {tells : Bool} {before after : List ℕ} (kind : Kind) (s : Status)
-    (r : Result Status WriteFault) → IsWrittenMeaning work r tells before after → IsStatusOf r s → extent kind
-    s ≡ never → ⊥
-written_possible kind s (Ok status) w is n =
-    not_never (subst (λ s. extent kind s ≡ whole) (sym (is ∙ w.is_status)) (whole_status kind w.meaning)) n
-written_possible kind s (Err fault.Failed) w is n = front_not_never (subst (λ s. extent kind s ≡ never) is n)
-written_possible kind s (Err (fault.Memory error)) w is n = front_not_never (subst (λ s. extent kind s ≡ never) is n)
+unkept_not_never : unkept ≡ never → ⊥
+unkept_not_never e = cc
 
--- with it, unless the sink failed, the count of faults stands
+unsaid_not_never : unsaid ≡ never → ⊥
+unsaid_not_never e = cc
+
+-- an ending's status is that of a whole text
+ending_whole : (kind : Kind) (e : Ending) → extent kind (ending_status e) ≡ whole
+ending_whole kind (answered v) = refl
+ending_whole kind (trapped t name) = refl
+ending_whole kind (bounded l name) = refl
+
+module _ (path : Option (Bor (List ℕ))) (kind : Kind) (over : IsSome path → kind ≡ over_a_cache) (s : Status) where
+  -- a source that was evaluated ends with a status of a whole text, or its cache file wasn't kept
+  ended_written : (status : Status) → s ≡ status → IsEndedSource path status → IsWritten (extent kind s)
+  ended_written status is (inl (r, refusal)) = inl (ap (extent kind) (is ∙ refusal))
+  ended_written status is (inr (inl (e, ending))) = inl (ap (extent kind) (is ∙ ending) ∙ ending_whole kind e)
+  ended_written status is (inr (inr (some, same))) =
+      inr (ap (extent kind) (is ∙ same) ∙ ap (λ k. extent k Cache) (over some))
+
+  -- so it may come; a bad record is told only with a cache file
+  pub written_possible : (r : Result Status RunFault) → IfOk r (IsEndedSource path) → (IsNone path → IfErr r IsUsual)
+      → IsStatusOf r s → extent kind s ≡ never → ⊥
+  written_possible (Ok status) ended usual is n = elim (ended_written status is ended) [
+    | inl w ↦ whole_not_never (sym w ∙ n)
+    | inr u ↦ unkept_not_never (sym u ∙ n)
+  ]
+  written_possible (Err (Unwritten fault.Failed)) ended usual is n =
+      front_not_never (subst (λ s. extent kind s ≡ never) is n)
+  written_possible (Err (Unwritten (fault.Memory error))) ended usual is n =
+      front_not_never (subst (λ s. extent kind s ≡ never) is n)
+  written_possible (Err (Bad digest)) ended usual is n = by_path path usual over
+    where
+      by_path : (p : Option (Bor (List ℕ))) → (IsNone p → ⊥) → (IsSome p → kind ≡ over_a_cache) → ⊥
+      by_path None usual over = usual refl
+      by_path (Some x) usual over =
+          unsaid_not_never
+          (sym (ap (extent kind) is ∙ ap (λ k. extent k (BadCache digest)) (over refl)) ∙ n)
+
+-- a front, or what isn't said, isn't a whole text
+front_not_written : IsWritten a_front → ⊥
+front_not_written (inl e) = absurd (cc)
+front_not_written (inr e) = absurd (cc)
+
+-- with the status of a whole text the count of faults stands
 module _ (kind : Kind) (old new : ℕ) (s : Status) where
-  pub written_unfailed : (r : Result Status WriteFault) → IsStatusOf r s → Blames r old new → extent kind s ≡ whole
+  pub written_unfailed : (r : Result Status RunFault) → IsStatusOf r s → BlamesSink r old new
+      → IsWritten (extent kind s)
       → new ≡ old
   written_unfailed (Ok status) is b w = b
-  written_unfailed (Err fault.Failed) is b w = absurd (front_not_whole (subst (λ s. extent kind s ≡ whole) is w))
-  written_unfailed (Err (fault.Memory error)) is b w = b
+  written_unfailed (Err (Unwritten fault.Failed)) is b w =
+      absurd (front_not_written (subst (λ s. IsWritten (extent kind s)) is w))
+  written_unfailed (Err (Unwritten (fault.Memory error))) is b w = b
+  written_unfailed (Err (Bad digest)) is b w = b
 
-  pub written_memory : (r : Result Status WriteFault) → IsStatusOf r s → Blames r old new → IsMemory s → new ≡ old
+  pub written_memory : (r : Result Status RunFault) → IsStatusOf r s → BlamesSink r old new → IsMemory s → new ≡ old
   written_memory (Ok status) is b m = b
-  written_memory (Err fault.Failed) is b m = absurd (not_both is m)
+  written_memory (Err (Unwritten fault.Failed)) is b m = absurd (not_both is m)
     where
       not_both : s ≡ Write → s ≡ Memory alloc_error → ⊥
       not_both e f = cc
-  written_memory (Err (fault.Memory error)) is b m = b
+  written_memory (Err (Unwritten (fault.Memory error))) is b m = b
+  written_memory (Err (Bad digest)) is b m = b
 
 -- a status that is none of the others is that of a whole text
-pub whole_else : (kind : Kind) (s : Status) → (extent kind s ≡ never → ⊥) → (IsMemory s → ⊥) → (s ≡ Read → ⊥)
-    → (s ≡ Write → ⊥) → extent kind s ≡ whole
-whole_else kind Answer possible memory read write = refl
-whole_else kind (Trap t) possible memory read write = refl
-whole_else kind (Refused r) possible memory read write = refl
-whole_else kind (Bound l) possible memory read write = refl
-whole_else kind Usage possible memory read write = absurd (possible refl)
-whole_else kind Cache possible memory read write = absurd (possible refl)
-whole_else kind (BadCache d) possible memory read write = absurd (possible refl)
-whole_else kind (Memory e) possible memory read write = absurd (memory refl)
-whole_else kind Read possible memory read write = absurd (read refl)
-whole_else kind Write possible memory read write = absurd (write refl)
+pub whole_else : (kind : Kind) (s : Status) → (extent kind s ≡ never → ⊥) → (extent kind s ≡ unsaid → ⊥)
+    → (s ≡ Cache → ⊥) → (IsMemory s → ⊥) → (s ≡ Read → ⊥) → (s ≡ Write → ⊥) → extent kind s ≡ whole
+whole_else kind Answer possible said kept memory read write = refl
+whole_else kind (Trap t) possible said kept memory read write = refl
+whole_else kind (Refused r) possible said kept memory read write = refl
+whole_else kind (Bound l) possible said kept memory read write = refl
+whole_else kind Usage possible said kept memory read write = absurd (possible refl)
+whole_else kind Cache possible said kept memory read write = absurd (kept refl)
+whole_else on_a_file (BadCache d) possible said kept memory read write = absurd (possible refl)
+whole_else over_a_cache (BadCache d) possible said kept memory read write = absurd (said refl)
+whole_else on_a_number (BadCache d) possible said kept memory read write = absurd (possible refl)
+whole_else kind (Memory e) possible said kept memory read write = absurd (memory refl)
+whole_else kind Read possible said kept memory read write = absurd (read refl)
+whole_else kind Write possible said kept memory read write = absurd (write refl)
+
+-- a file's kind, with a cache file
+pub kind_over : {X : Type 0} (path : Option X) → IsSome path → kind_with path ≡ over_a_cache
+kind_over {X} None some = absurd (none_is_some X some)
+kind_over {X} (Some x) some = refl
+
+pub no_path : {X : Type 0} (path : Option X) {tells : Bool} {held : List ℕ} → IsNone path
+    → IsHonestCache tells held path
+no_path {X} None none some = absurd (none_is_some X some)
+no_path {X} (Some x) none some = absurd (some_is_none x none)
+
+small_whole : (bytes : List ℕ) → IsSmall bytes → take most_read bytes ≡ bytes
+small_whole bytes small = take_all most_read bytes (omega (arith, small))
+
+of_run_meaning : {bytes : List ℕ} {fuel : ℕ} {shown other : Shown} {kernels : List Kernel} {e : Ending}
+    → IsMeaning (running bytes fuel shown) (ran other kernels e) → take most_read bytes ≡ bytes
+of_run_meaning {bytes} (of_program p read accepted is) = small_whole bytes read.small
+
+no_run : {bytes : List ℕ} {fuel : ℕ} {shown : Shown} {kernels : List Kernel} {e : Ending}
+    → IsMeaning (erasing bytes fuel) (ran shown kernels e) → ⊥
+no_run m = elim m [ ]
+
+no_bad : {bytes held digest : List ℕ} {fuel : ℕ} → IsBadOf (erasing bytes fuel) held digest → ⊥
+no_bad m = elim m [ ]
+
+-- a program that ran was read whole
+pub ran_whole : (evaluation : Evaluation) (bytes : List ℕ) (fuel : ℕ) (shown : Shown) (kernels : List Kernel) (e : Ending)
+    → IsMeaning (evaluated evaluation bytes fuel) (ran shown kernels e) → take most_read bytes ≡ bytes
+ran_whole (Run options) bytes fuel shown kernels e is = of_run_meaning is
+ran_whole Erased bytes fuel shown kernels e is = absurd (no_run is)
+
+-- a bad record of a run
+record HasBadRun (bytes : List ℕ) (fuel : ℕ) (shown : Shown) (held digest : List ℕ) : Type 0 where
+  program : NamedProgram
+  read : IsRead bytes program
+  accepted : IsAccepted (unnamed program)
+  bad : IsBadRecord (mode_of shown) (unnamed program) fuel held digest
+
+of_bad_run : {bytes : List ℕ} {fuel : ℕ} {shown : Shown} {held digest : List ℕ}
+    → IsBadOf (running bytes fuel shown) held digest → HasBadRun bytes fuel shown held digest
+of_bad_run (of_run p read accepted bad) = record { program = p; read = read; accepted = accepted; bad = bad }
+
+-- so was one with a bad record
+pub bad_whole : (evaluation : Evaluation) (bytes : List ℕ) (fuel : ℕ) (held digest : List ℕ)
+    → IsBadOf (evaluated evaluation (take most_read bytes) fuel) held digest
+    → IsBadOf (evaluated evaluation bytes fuel) held digest
+bad_whole (Run options) bytes fuel held digest h =
+    let r = of_bad_run h in
+    of_run r.program (subst (λ b. IsRead b r.program) (small_front bytes r.read.small) r.read) r.accepted r.bad
+bad_whole Erased bytes fuel held digest bad = absurd (no_bad bad)

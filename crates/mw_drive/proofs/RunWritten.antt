@@ -3,14 +3,13 @@ use Rattle.std.proofs.Common.{◌≡◌, ℕ, List, ◌++◌, Option, None, Some
 use Rattle.std.specs.Result.{IsErrAnd}
 use Rattle.std.proofs.lemmas.List.{append_assoc}
 use Rattle.mw_outside.specs.Count.{GrowsByFront}
-use Rattle.mw_outside.specs.declared.errors.WriteFault.{WriteFault}
+use Rattle.mw_drive.specs.declared.fault.RunFault.{RunFault}
 use Rattle.mw_term.specs.Terms.{Expression}
 use Rattle.mw_term.specs.Programs.{PureProgram, program_of}
 use Rattle.mw_term.specs.Typable.{Typable}
 use Rattle.mw_term.specs.declared.program.Program.{Program}
 use Rattle.mw_meaning.specs.declared.mode.Mode.{Mode}
-use Rattle.mw_console.specs.Texts.{Ending, ending_line, ending_status}
-use Rattle.mw_console.specs.declared.status.Status.{Status}
+use Rattle.mw_console.specs.Texts.{Ending, ending_line}
 use Rattle.mw_cache.specs.Gots.{CacheState}
 use Rattle.mw_tasks.specs.declared.outcome.ItemOutcome.{ItemOutcome}
 use Rattle.mw_drive.specs.Honest.{AreMeant}
@@ -20,21 +19,12 @@ use Rattle.mw_drive.specs.NamedPrograms.{NamedProgram, unnamed, named_program_of
 use Rattle.mw_drive.specs.ProgramMeaning.{Kernel, main_after, ended, codes_of, ended_after, with_main, items_run, program_run}
 use Rattle.mw_drive.specs.Works.{mode_of, shown_text}
 use Rattle.mw_drive.specs.ItemOutcomes.{outcomes_run, run_with}
-use Rattle.mw_drive.specs.ProgramRuns.{kernels_of, IsWrittenRun}
-use Rattle.mw_drive.specs.Written.{Writes}
-use Rattle.mw_drive.proofs.Faults.{front_written, no_answer}
-use Rattle.mw_drive.proofs.Fronts.{grows_after}
+use Rattle.mw_drive.specs.ProgramRuns.{kernels_of, IsUsual, IsWrittenRun}
+use Rattle.mw_drive.proofs.Faults.{front_written, no_answer, fault_is}
+use Rattle.mw_drive.proofs.Fronts.{grows_after, whole_grows}
 use Rattle.mw_drive.proofs.ItemsRun.{run_is}
 use Rattle.mw_drive.proofs.ProgramEnds.{program_ends}
 use Rattle.mw_drive.proofs.SourceReadings.{unnamed_program}
-
--- a text after another that was written whole
-writes_after : {A : Type 0} (r : Result A WriteFault) (tells : Bool) (old mid new a x : List ℕ)
-    → (IsTrue tells → mid ≡ old ++ a)
-    → Writes r tells mid new x → Writes r tells old new (a ++ x)
-writes_after (Ok y) tells old mid new a x first then_x =
-    λ t. then_x t ∙ (ap (λ s. s ++ x) (first t) ∙ append_assoc old a x)
-writes_after (Err f) tells old mid new a x first then_x = λ t. grows_after old mid new a x (first t) (then_x t)
 
 -- what comes after kernels is an ending, where the run has one
 ending_after : (kernels others : List Kernel) (o : Option Ending) (d : Ending)
@@ -89,33 +79,86 @@ items_were shown fuel program cache outcomes mode built lent o same are run is =
     let meant = subst (λ mode. AreMeant mode (program_of program) fuel cache outcomes) same are in
     run_is (mode_of shown) fuel cache program outcomes meant ∙ (run ∙ ap (λ bs. run_with (kernels_of bs) o) (sym is))
 
--- a fault, after which a front of the whole text was written
-pub run_failed : (shown : Shown) (fuel : ℕ) (program : Program) (P : WriteFault → Type 0)
-    (r : Result Status WriteFault) (tells : Bool) (before after : List ℕ)
-    (kernels : List Kernel) (e : Ending) → IsErrAnd r P
-    → program_run (mode_of shown) fuel (named_program_of program) ≡ ended kernels e
-    → (IsTrue tells → GrowsByFront before after (shown_text shown kernels ++ ending_line e))
-    → IsWrittenRun shown fuel (named_program_of program) r tells before after
-run_failed shown fuel program P r tells before after kernels e err is front = record {
-  kernels = kernels;
-  ending = e;
-  is_run = is;
-  is_status = no_answer P r (λ s. s ≡ ending_status e) err;
-  writes = front_written P r tells before after (shown_text shown kernels ++ ending_line e) err front;
-}
+module _ {A : Type 0} (Q : List Kernel → Ending → A → Type 0) (shown : Shown) (fuel : ℕ) (program : Program) where
+  abbrev IsRun : List Kernel → Ending → Type 0
+  IsRun kernels e = program_run (mode_of shown) fuel (named_program_of program) ≡ ended kernels e
 
--- the last line after the kernels
-pub run_ended : (shown : Shown) (fuel : ℕ) (program : Program) (r : Result Status WriteFault) (tells : Bool)
-    (before mid after : List ℕ)
-    (kernels : List Kernel) (e : Ending) → program_run (mode_of shown) fuel
-    (named_program_of program) ≡ ended kernels e
-    → IfOk r (λ s. s ≡ ending_status e) → (IsTrue tells → mid ≡ before ++ shown_text shown kernels)
-    → Writes r tells mid after (ending_line e)
-    → IsWrittenRun shown fuel (named_program_of program) r tells before after
-run_ended shown fuel program r tells before mid after kernels e is status first last = record {
-  kernels = kernels;
-  ending = e;
-  is_run = is;
-  is_status = status;
-  writes = writes_after r tells before mid after (shown_text shown kernels) (ending_line e) first last;
-}
+  -- a fault, after which a front of the whole text was written
+  pub run_failed : (P : RunFault → Type 0) (r : Result A RunFault) (tells : Bool) (before after : List ℕ)
+      (kernels : List Kernel) (e : Ending) → IsErrAnd r P → ((f : RunFault) → P f → IsUsual f) → IsRun kernels e
+      → (IsTrue tells → GrowsByFront before after (shown_text shown kernels ++ ending_line e))
+      → IsWrittenRun Q shown fuel (named_program_of program) r tells before after
+  run_failed P r tells before after kernels e err usual is front = record {
+    kernels = kernels;
+    ending = e;
+    is_run = is;
+    answers = no_answer P r (Q kernels e) err;
+    usual = fault_is P IsUsual r err usual;
+    writes = front_written P r tells before after (shown_text shown kernels ++ ending_line e) err front;
+  }
+
+  -- the last line after the kernels
+  pub run_ended : (answer : A) (tells : Bool) (before mid after : List ℕ) (kernels : List Kernel) (e : Ending)
+      → IsRun kernels e → Q kernels e answer → (IsTrue tells → mid ≡ before ++ shown_text shown kernels)
+      → (IsTrue tells → after ≡ mid ++ ending_line e)
+      → IsWrittenRun Q shown fuel (named_program_of program) (Ok answer) tells before after
+  run_ended answer tells before mid after kernels e is answers first last = record {
+    kernels = kernels;
+    ending = e;
+    is_run = is;
+    answers = answers;
+    usual = tt;
+    writes = λ t. last t ∙ (ap (λ s. s ++ ending_line e) (first t) ∙ append_assoc before (shown_text shown kernels)
+        (ending_line e));
+  }
+
+  -- a fault while the last line was written
+  pub line_failed : (P : RunFault → Type 0) (r : Result A RunFault) (tells : Bool) (before mid after : List ℕ)
+      (kernels : List Kernel) (e : Ending) → IsErrAnd r P → ((f : RunFault) → P f → IsUsual f) → IsRun kernels e
+      → (IsTrue tells → mid ≡ before ++ shown_text shown kernels) → (IsTrue tells → GrowsByFront mid after (ending_line e))
+      → IsWrittenRun Q shown fuel (named_program_of program) r tells before after
+  line_failed P r tells before mid after kernels e err usual is first last =
+      run_failed P r tells before after kernels e err usual is
+      (λ t. grows_after before mid after (shown_text shown kernels) (ending_line e) (first t) (last t))
+
+-- what was written of a run, whatever becomes of its answer
+module _ {A B : Type 0} (Q : List Kernel → Ending → A → Type 0) (R : List Kernel → Ending → B → Type 0) (shown : Shown)
+    (fuel : ℕ) (p : NamedProgram) (tells : Bool) (before after : List ℕ) where
+  pub run_passed : (e : RunFault) (r : Result B RunFault) → IsErrAnd r (λ f. f ≡ e)
+      → IsWrittenRun Q shown fuel p (Err e) tells before after → IsWrittenRun R shown fuel p r tells before after
+  run_passed e (Ok x) h w = absurd h
+  run_passed e (Err f) h w = record {
+    kernels = w.kernels;
+    ending = w.ending;
+    is_run = w.is_run;
+    answers = tt;
+    usual = subst IsUsual (sym h) w.usual;
+    writes = w.writes;
+  }
+
+  pub run_answered : (x : A) (y : B) → ((kernels : List Kernel) (e : Ending) → Q kernels e x → R kernels e y)
+      → IsWrittenRun Q shown fuel p (Ok x) tells before after → IsWrittenRun R shown fuel p (Ok y) tells before after
+  run_answered x y f w = record {
+    kernels = w.kernels;
+    ending = w.ending;
+    is_run = w.is_run;
+    answers = f w.kernels w.ending w.answers;
+    usual = tt;
+    writes = w.writes;
+  }
+
+  pub run_spoiled : (x : A) (P : RunFault → Type 0) (r : Result B RunFault) → IsErrAnd r P
+      → ((f : RunFault) → P f → IsUsual f) → IsWrittenRun Q shown fuel p (Ok x) tells before after
+      → IsWrittenRun R shown fuel p r tells before after
+  run_spoiled x P (Ok y) h usual w = absurd h
+  run_spoiled x P (Err f) h usual w = record {
+    kernels = w.kernels;
+    ending = w.ending;
+    is_run = w.is_run;
+    answers = tt;
+    usual = usual f h;
+    writes = λ t. whole_grows before after (shown_text shown w.kernels ++ ending_line w.ending) (w.writes t);
+  }
+
+pub same_kernels : {k j : List Kernel} {d e : Ending} → ended k d ≡ ended j e → k ≡ j
+same_kernels is = cc

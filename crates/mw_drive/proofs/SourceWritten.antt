@@ -1,7 +1,7 @@
 -- What was written of a source is what it means.
-use Rattle.std.proofs.Common.{◌≡◌, ◌<◌, ℕ, ◌^◌, List, [], map, length, Some, Bool, Result, Err, IfOk, sym, subst, arith}
+use denote.Ref.{Bor}
+use Rattle.std.proofs.Common.{◌≡◌, ◌<◌, ℕ, ◌^◌, List, [], map, length, Some, Bool, Option, ◌⊎◌, inl, inr, Result, Ok, Err, IfOk, IfErr, refl, sym, subst, arith}
 use Rattle.std.proofs.lemmas.List.{length-map}
-use Rattle.mw_outside.specs.declared.errors.WriteFault.{WriteFault}
 use Rattle.mw_outside.specs.declared.errors.WriteFault.TheVariants.{Memory}
 use Rattle.mw_term.specs.Programs.{program_of, program_size, definition_of}
 use Rattle.mw_term.specs.Typable.{Typable}
@@ -13,54 +13,82 @@ use Rattle.mw_term.specs.declared.refusal.Stop.{Stop}
 use Rattle.mw_term.specs.declared.refusal.Stop.TheVariants.{Refused as StopRefused}
 use Rattle.mw_infer.specs.Checking.{IsFirstRefusal, IsResolved, NoneTooBig}
 use Rattle.mw_meaning.specs.declared.mode.Mode.TheVariants.{Plain}
-use Rattle.mw_console.specs.Texts.{refusal_line}
+use Rattle.mw_meaning.specs.declared.mode.Mode.{Mode}
+use Rattle.mw_console.specs.Texts.{Ending, refusal_line}
 use Rattle.mw_console.specs.declared.status.Status.{Status}
 use Rattle.mw_console.specs.declared.status.Status.TheVariants.{Refused}
 use Rattle.mw_drive.specs.declared.source.Evaluation.{Evaluation}
 use Rattle.mw_drive.specs.declared.source.Evaluation.TheVariants.{Run, Erased}
 use Rattle.mw_drive.specs.declared.shown.Shown.{Shown}
 use Rattle.mw_drive.specs.declared.shown.Shown.TheVariants.{Lines}
-use Rattle.mw_drive.specs.NamedPrograms.{unnamed, names_of, named_program_of}
+use Rattle.mw_drive.specs.NamedPrograms.{NamedProgram, unnamed, names_of, named_program_of}
 use Rattle.mw_drive.specs.SourceReading.{IsRead, IsRefused}
-use Rattle.mw_drive.specs.ProgramMeaning.{erased_ending}
-use Rattle.mw_drive.specs.ProgramRuns.{evaluated, IsWrittenRun, IsWrittenErased, IsWrittenMeaning}
-use Rattle.mw_drive.specs.Works.{IsAccepted, running, refused, ran, erased, IsMeaning, of_refusal, of_types, of_program, of_erased_refusal, of_erased}
+use Rattle.mw_drive.specs.declared.fault.RunFault.{RunFault}
+use Rattle.mw_drive.specs.declared.fault.RunFault.TheVariants.{Unwritten}
+use Rattle.mw_drive.specs.declared.program.RunOptions.{RunOptions}
+use Rattle.mw_drive.specs.BadRecords.{IsBadRecord, IsBadOf, of_run}
+use Rattle.mw_drive.specs.ProgramMeaning.{Kernel, ended, program_run, erased_ending}
+use Rattle.mw_drive.specs.ProgramRuns.{evaluated, cache_of, IsEndOf, IsEnded, IsEndMeaning, IsUsual, IsWrittenRun, IsWrittenErased, IsWrittenMeaning}
+use Rattle.mw_drive.specs.Works.{Work, mode_of, IsAccepted, running, refused, ran, erased, IsMeaning, of_refusal, of_types, of_program, of_erased_refusal, of_erased}
 use Rattle.mw_drive.specs.Written.{Writes}
 use Rattle.mw_drive.proofs.Fronts.{grows_nothing}
+use Rattle.mw_drive.proofs.OneMeaning.{one_program, one_meaning}
+use Rattle.mw_drive.proofs.Statuses.{ran_not_refused}
+use Rattle.mw_drive.specs.HeldFiles.{IsKeptOf}
 use Rattle.mw_drive.proofs.SomeMeaning.{some_meaning}
 use Rattle.mw_drive.proofs.SourceReadings.{unnamed_program, names_of_program}
 use Rattle.mw_drive.proofs.ScopedTerms.{is_resolved, small_program}
 
-module _ (bytes : List ℕ) (fuel : ℕ) (tells : Bool) where
-  abbrev IsWritten : Evaluation → Result Status WriteFault → (before after : List ℕ) → Type 0
-  IsWritten evaluation result before after =
-      IsWrittenMeaning (evaluated evaluation bytes fuel) result tells before after
+-- what a run means that came to kernels
+record IsRunOf (bytes : List ℕ) (fuel : ℕ) (shown other : Shown) (kernels : List Kernel) (e : Ending) : Type 0 where
+  program : NamedProgram
+  read : IsRead bytes program
+  same : shown ≡ other
+  run : program_run (mode_of shown) fuel program ≡ ended kernels e
 
-  written_refusal : (evaluation : Evaluation) (result : Result Status WriteFault) (before after : List ℕ)
+run_of_meaning : {bytes : List ℕ} {fuel : ℕ} {shown other : Shown} {kernels : List Kernel} {e : Ending}
+    → IsMeaning (running bytes fuel shown) (ran other kernels e) → IsRunOf bytes fuel shown other kernels e
+run_of_meaning (of_program p read accepted is) = record { program = p; read = read; same = refl; run = is }
+
+module _ (bytes : List ℕ) (fuel : ℕ) (tells : Bool) where
+  abbrev IsWritten : Evaluation → Result Status RunFault → (before after : List ℕ) → Type 0
+  IsWritten evaluation result before after =
+      IsWrittenMeaning (cache_of evaluation) (evaluated evaluation bytes fuel) result tells before after
+
+  written_refusal : (evaluation : Evaluation) (result : Result Status RunFault) (before after : List ℕ)
       (r : Refusal) (names : List (List ℕ))
       → ((shown : Shown) → IsMeaning (running bytes fuel shown) (refused r names)) → IfOk result (λ s. s ≡ Refused r)
+      → IfErr result IsUsual
       → Writes result tells before after (refusal_line names r) → IsWritten evaluation result before after
-  written_refusal (Run workers shown) result before after r names is status writes =
-      record { meaning = refused r names; is_meaning = is shown; is_status = status; writes = writes }
-  written_refusal Erased result before after r names is status writes =
+  written_refusal (Run options) result before after r names is status usual writes =
+      record {
+        meaning = refused r names;
+        is_meaning = is options.shown;
+        is_status = status;
+        usual = usual;
+        writes = writes;
+      }
+  written_refusal Erased result before after r names is status usual writes =
       record {
         meaning = refused r names;
         is_meaning = of_erased_refusal (is (Lines Plain));
         is_status = status;
+        usual = usual;
         writes = writes;
       }
 
   -- want of memory before anything was written
   pub written_nothing : (evaluation : Evaluation) (before : List ℕ) (e : _)
-      → IsWritten evaluation (Err (Memory e)) before before
+      → IsWritten evaluation (Err (Unwritten (Memory e))) before before
   written_nothing evaluation before e =
       let m = some_meaning (evaluated evaluation bytes fuel) in
-      record { meaning = m.0; is_meaning = m.1; is_status = tt; writes = λ t. grows_nothing before _ }
+      record { meaning = m.0; is_meaning = m.1; is_status = tt; usual = tt; writes = λ t. grows_nothing before _ }
 
   -- the refusal of its reading
-  pub refusal_written : (evaluation : Evaluation) (result : Result Status WriteFault) (before after : List ℕ)
+  pub refusal_written : (evaluation : Evaluation) (result : Result Status RunFault) (before after : List ℕ)
       (r : Refusal) (stop : Stop) → stop ≡ StopRefused r → IfRefused (IsRefused bytes) stop
-      → IfOk result (λ s. s ≡ Refused r) → Writes result tells before after (refusal_line [] r)
+      → IfOk result (λ s. s ≡ Refused r) → IfErr result IsUsual
+      → Writes result tells before after (refusal_line [] r)
       → IsWritten evaluation result before after
   refusal_written evaluation result before after r stop is says =
       written_refusal evaluation result before after r []
@@ -74,36 +102,38 @@ module _ (bytes : List ℕ) (fuel : ℕ) (tells : Bool) where
     few_items = let n = length-map p.items (λ (i : Item). definition_of i.kind) in omega (arith, n, resolved.count)
 
     -- the refusal of its types
-    pub types_written : (evaluation : Evaluation) (result : Result Status WriteFault) (before after : List ℕ)
+    pub types_written : (evaluation : Evaluation) (result : Result Status RunFault) (before after : List ℕ)
         (r : Refusal) (stop : Stop) → stop ≡ StopRefused r → IfRefused (IsFirstRefusal (program_of p)) stop
-        → IfOk result (λ s. s ≡ Refused r)
+        → IfOk result (λ s. s ≡ Refused r) → IfErr result IsUsual
         → Writes result tells before after (refusal_line (map (λ (i : Item). i.name) p.items) r)
         → IsWritten evaluation result before after
-    types_written evaluation result before after r stop is says status writes =
+    types_written evaluation result before after r stop is says status usual writes =
         let first : IsFirstRefusal (unnamed (named_program_of p)) r =
         subst (λ q. IsFirstRefusal q r) (sym (unnamed_program p))
         (subst (IfRefused (IsFirstRefusal (program_of p))) is says) in
         written_refusal evaluation result before after r (names_of (named_program_of p))
-        (λ shown. of_types (named_program_of p) found first) status
+        (λ shown. of_types (named_program_of p) found first) status usual
         (subst (λ names. Writes result tells before after (refusal_line names r)) (sym (names_of_program p)) writes)
 
     accepted : Typable (program_of p) → NoneTooBig (program_of p) → IsAccepted (unnamed (named_program_of p))
     accepted typable small = subst IsAccepted (sym (unnamed_program p)) record { typable = typable; small = small }
 
     -- the run of its program
-    pub run_written : (workers : ℕ) (shown : Shown) (result : Result Status WriteFault) (before after : List ℕ)
+    pub run_written : (options : RunOptions) (result : Result Status RunFault) (before after : List ℕ)
         → Typable (program_of p)
-        → NoneTooBig (program_of p) → IsWrittenRun shown fuel (named_program_of p) result tells before after
-        → IsWritten (Run workers shown) result before after
-    run_written workers shown result before after typable small h = record {
-      meaning = ran shown h.kernels h.ending;
+        → NoneTooBig (program_of p)
+        → IsWrittenRun (IsEndOf options.cache) options.shown fuel (named_program_of p) result tells before after
+        → IsWritten (Run options) result before after
+    run_written options result before after typable small h = record {
+      meaning = ran options.shown h.kernels h.ending;
       is_meaning = of_program (named_program_of p) found (accepted typable small) h.is_run;
-      is_status = h.is_status;
+      is_status = h.answers;
+      usual = h.usual;
       writes = h.writes;
     }
 
     -- its erased program's main
-    pub erased_written : (result : Result Status WriteFault) (before after : List ℕ) → Typable (program_of p)
+    pub erased_written : (result : Result Status RunFault) (before after : List ℕ) → Typable (program_of p)
         → NoneTooBig (program_of p)
         → IsWrittenErased fuel (program_of p) result tells before after → IsWritten Erased result before after
     erased_written result before after typable small h = record {
@@ -112,9 +142,45 @@ module _ (bytes : List ℕ) (fuel : ℕ) (tells : Bool) where
           of_erased (named_program_of p) found (accepted typable small)
           (subst (λ q. erased_ending fuel q ≡ Some h.ending) (sym (unnamed_program p)) h.is_run);
       is_status = h.is_status;
+      usual = h.usual;
       writes = h.writes;
     }
+
+    -- the kernels that its run means are those of its program
+    pub run_kernels : (shown other : Shown) (kernels : List Kernel) (e : Ending)
+        → IsMeaning (running bytes fuel shown) (ran other kernels e)
+        → (shown ≡ other) × (program_run (mode_of shown) fuel (named_program_of p) ≡ ended kernels e)
+    run_kernels shown other kernels e is =
+        let r = run_of_meaning is in (
+          r.same,
+          subst (λ q. program_run (mode_of shown) fuel q ≡ ended kernels e)
+              (one_program bytes r.program (named_program_of p) r.read found) r.run,
+        )
+
+    -- a bad record of its run
+    pub bad_written : (mode : Mode) (shown : Shown) (held digest : List ℕ) → Typable (program_of p)
+        → NoneTooBig (program_of p) → mode_of shown ≡ mode → IsBadRecord mode (program_of p) fuel held digest
+        → IsBadOf (running bytes fuel shown) held digest
+    bad_written mode shown held digest typable small same bad =
+        of_run (named_program_of p) found (accepted typable small)
+        (subst (λ q. IsBadRecord (mode_of shown) q fuel held digest) (sym (unnamed_program p))
+        (subst (λ m. IsBadRecord m (program_of p) fuel held digest) (sym same) bad))
 
     pub few_nodes : program_size (program_of p) < 2 ^ 31
     few_nodes =
         subst (λ q. program_size q < 2 ^ 31) (unnamed_program p) (small_program bytes (named_program_of p) found)
+
+-- a refused source means no kernels
+pub refused_kept : (path : Option (Bor (List ℕ))) (work : Work) (r : Result Status RunFault) (q : Refusal) (tells : Bool)
+    (before after held now : List ℕ) (texts : List (List ℕ)) → IsWrittenMeaning path work r tells before after
+    → IfOk r (λ s. s ≡ Refused q) → (shown : Shown) (kernels : List Kernel) (e : Ending)
+    → IsMeaning work (ran shown kernels e) → IsKeptOf texts r held now
+refused_kept path work (Ok s) q tells before after held now texts w is shown kernels e means =
+    let same = one_meaning work w.meaning (ran shown kernels e) w.is_meaning means in
+    let ended : IsEndMeaning path (ran shown kernels e) s = subst (λ m. IsEndMeaning path m s) same w.is_status in
+    absurd (ran_not_refused path s q (of_end ended) is)
+  where
+    of_end : IsEndMeaning path (ran shown kernels e) s → IsEnded path s
+    of_end (inl own) = inl (e, own)
+    of_end (inr unkept) = inr unkept
+refused_kept path work (Err f) q tells before after held now texts w is shown kernels e means = tt

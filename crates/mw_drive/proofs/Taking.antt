@@ -1,7 +1,8 @@
 -- Fronts and rests of lists, one element on.
-use Rattle.std.proofs.Common.{◌≡◌, ◌+◌, ◌<◌, length, ℕ, zero, suc, List, [], ◌∷◌, ◌++◌, take, drop, Some, ap, arith}
+use Rattle.std.proofs.Common.{◌≡◌, ◌+◌, ◌<◌, length, ℕ, zero, suc, List, [], ◌∷◌, ◌++◌, take, drop, Some, All, ap, arith}
 use Rattle.std.specs.Prelude.{slice_get, get_or}
 use Rattle.std.specs.List.{AllByRecursion}
+use Rattle.std.proofs.lemmas.List.Elements.{All-from_recursion}
 
 one_more : (n : ℕ) → n + 1 ≡ suc n
 one_more n = omega arith
@@ -42,3 +43,7 @@ pub got : {A : Type 0} (xs : List A) (i : ℕ) (x : A) → i < length xs → x �
 got [] i x lt e = absurd (omega arith)
 got (y ∷ xs) zero x lt e = cc
 got (y ∷ xs) (suc i) x lt e = got xs i x (omega arith) e
+
+-- what holds of one element holds of a list of it alone
+pub one_all : {A : Type 0} (P : A → Type 0) (x : A) → P x → All P (x ∷ [])
+one_all P x h = All-from_recursion P (x ∷ []) (h, tt)

@@ -1,18 +1,17 @@
--- Loaded records that have the emissions of their texts, and what kernel items then came to.
-use Rattle.std.specs.Prelude.{ℕ, ◌≡◌, List, Some, slice_get}
+-- Cache files whose records have the emissions of their texts, and what kernel items then come to.
+use Rattle.std.specs.Prelude.{ℕ, List, Bool, IsTrue, Option, IsSome}
 use Rattle.mw_term.specs.Terms.{Expression, KernelType, Value}
 use Rattle.mw_term.specs.Programs.{PureProgram}
 use Rattle.mw_meaning.specs.declared.mode.Mode.{Mode}
 use Rattle.mw_meaning.specs.Outcomes.{item_outcome, names_of_items}
-use Rattle.mw_store.specs.Loads.{Loaded, LoadState}
-use Rattle.mw_compile.specs.Emission.{IsEmissionOf}
 use Rattle.mw_cache.specs.Gots.{CacheState}
+use Rattle.mw_cache.specs.HonestFiles.{AreHonestBytes}
 use Rattle.mw_tasks.specs.declared.outcome.ItemOutcome.{ItemOutcome}
 use Rattle.mw_tasks.specs.Phases.{Answers, EachKernel, IfBuilt, IsPlaced}
 
--- each record that was loaded has the emission of its text
-abbrev pub IsHonest : LoadState → Type 0
-IsHonest load = (at : ℕ) (l : Loaded) → slice_get load.records at ≡ Some l → IsEmissionOf l.bytes l.text
+-- Where there is a cache file, the keeper tells what it holds, and that is honest.
+abbrev pub IsHonestCache : {X : Type 0} → Bool → List ℕ → Option X → Type 0
+IsHonestCache tells held path = IsSome path → IsTrue tells × AreHonestBytes held
 
 -- what a kernel item of this type and term came to: what it means, with the module of its code
 pub record IsMeant (mode : Mode) (names : List Value) (fuel : ℕ) (cache : CacheState) (k : KernelType)

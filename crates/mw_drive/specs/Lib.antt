@@ -7,6 +7,9 @@ pub mod Written
 pub mod ProgramRuns
 pub mod ItemOutcomes
 pub mod Honest
+pub mod RunFaults
+pub mod HeldFiles
+pub mod BadRecords
 pub mod Extents
 pub mod Running
 pub mod SimplifiedPrograms

@@ -73,6 +73,10 @@ pub data IsMeaning : Work → Meaning → Type 0 where
   of_erased : {bytes : List ℕ} {fuel : ℕ} {e : Ending} (p : NamedProgram) → IsRead bytes p → IsAccepted (unnamed p)
       → erased_ending fuel (unnamed p) ≡ Some e → IsMeaning (erasing bytes fuel) (erased e)
 
+-- the text of what is run of a kernel's code under the mode
+abbrev pub run_text : Mode → Kernel → List ℕ
+run_text mode k = canonical_text Two (in_mode mode k.code) k.kind
+
 -- the key of code at a type: the digest of their text
 abbrev pub key_of : Expression → KernelType → List ℕ
 key_of c k = sha256 (canonical_text Two c k)

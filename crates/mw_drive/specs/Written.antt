@@ -5,7 +5,7 @@ use Rattle.mw_outside.specs.declared.errors.WriteFault.{WriteFault}
 use Rattle.mw_outside.specs.declared.errors.WriteFault.TheVariants.{Failed, Memory}
 
 -- where the sink tells: all of the text was written, or with a fault a front of it
-abbrev pub Writes : {A : Type 0} → Result A WriteFault → Bool → (before after : List ℕ) → List ℕ → Type 0
+abbrev pub Writes : {A E : Type 0} → Result A E → Bool → (before after : List ℕ) → List ℕ → Type 0
 Writes (Ok x) tells before after text = IsTrue tells → after ≡ before ++ text
 Writes (Err fault) tells before after text = IsTrue tells → GrowsByFront before after text
 

@@ -1,23 +1,31 @@
 // The top call.
 
-ghost use Rattle.std.specs.Prelude.{◌≡◌, ◌↔◌, ◌≤◌, ◌⊎◌, ◌∷◌, ℕ, Bool, true, List, [], IsTrue, map, drop};
+ghost use Rattle.std.specs.Prelude.{◌≡◌, ◌↔◌, ◌≤◌, ◌⊎◌, ◌∷◌, ℕ, Bool, true, List, [], Option, IsTrue, IsSome, IsNone, map, drop};
 ghost use Rattle.std.specs.String.{string_bytes};
 ghost use Rattle.mw_outside.specs.Count.{Rose};
 ghost use Rattle.mw_term.specs.Terms.{PureGroundValue};
+ghost use Rattle.mw_term.specs.declared.refusal.Refusal.{Refusal};
 ghost use Rattle.mw_words.specs.Words.{PureCommand, run, sample, IsUsage, Means, command_in};
 ghost use Rattle.mw_console.specs.Reading.{most_read};
-ghost use Rattle.mw_console.specs.declared.status.Status.TheVariants.{Answer, Usage, Read, Write};
+ghost use Rattle.mw_console.specs.declared.status.Status.TheVariants.{Answer, Usage, Refused, Read, Write, Cache, BadCache};
 ghost use Rattle.mw_console.specs.Texts.{Ending, answered, ending_status};
 ghost use Rattle.mw_meaning.specs.declared.mode.Mode.TheVariants.{Plain, Simple};
-ghost use Rattle.mw_drive.specs.Extents.{whole, never, Kind, on_a_file, on_a_number, extent};
-ghost use Rattle.mw_drive.specs.Works.{Work, running, erasing, sampling, Meaning, ran, erased, IsMeaning, HaveModules, status_of};
+ghost use Rattle.mw_keeping.specs.KeptFiles.{IsKeptFile, HasGoodFront};
+ghost use Rattle.mw_drive.specs.BadRecords.{IsBadOf, HasBadRecordOf};
+ghost use Rattle.mw_drive.specs.Extents.{whole, never, Kind, on_a_number, extent};
+ghost use Rattle.mw_drive.specs.HeldFiles.{IsHeldWith, IsKeptWith};
+ghost use Rattle.mw_drive.specs.Honest.{IsHonestCache};
+ghost use Rattle.mw_drive.specs.Works.{Work, running, erasing, sampling, Meaning, ran, erased, IsMeaning, HaveModules, status_of, mode_of, run_text};
 ghost use Rattle.mw_drive.specs.ProgramMeaning.{Kernel};
-ghost use Rattle.mw_drive.specs.ProgramRuns.{evaluated, HasWorkers};
+ghost use Rattle.mw_drive.specs.ProgramRuns.{evaluated, cache_of, IsPossible};
+ghost use Rattle.mw_drive.specs.declared.shown.Shown.{Shown};
 ghost use Rattle.mw_drive.specs.declared.shown.Shown.TheVariants.{Lines};
 ghost use Rattle.mw_drive.specs.SimplifiedPrograms.{IsUnbounded};
-ghost use Rattle.mw_drive.specs.Running.{outside, files_of, source_file, Has, Lacks, HasAll, LacksFirst, IsWork, kind_of};
-ghost use Rattle.mw_drive.specs.Running.{AsksOn, Asks, AsksMissing, AsksNoFile, IsCarriedOut, IsFaithful, IsStatusOf, IsMemory, mode_when};
+ghost use Rattle.mw_drive.specs.Running.{outside, files_of, path_of, source_file, Has, Lacks, HasAll, LacksFirst, IsWork, kind_of, kind_with, IsWritten};
+ghost use Rattle.mw_drive.specs.Running.{AsksOn, Asks, AsksOver, AsksMissing, AsksNoFile, AsksCache, AsksNoCache, HasHonestCache, IsCarriedOut, IsFaithful, IsStatusOf, IsMemory, mode_when};
 
+use crate::fault::RunFault;
+use crate::program::RunOptions;
 use crate::shown::Shown;
 use crate::source::{Evaluation, write_source};
 use crate::workplace::Workplace;
@@ -40,123 +48,186 @@ const SAMPLE_WORKERS: u32 = 4;
 
 /// Carries out the command that the words mean. `run FILE` reads the file from the source, checks it, evaluates its
 /// kernel items and writes what they came to, and then evaluates main and writes the last line; with `--simplify` the
-/// kernels' code is simplified before it is compiled. `erased FILE` evaluates main of the erased program and writes
-/// the last line alone. `sample N` runs as `run` does, with a source that is made from the number, and writes totals
-/// in place of the kernels. The kernel items are evaluated by as many workers as the words say, or as a sample has,
-/// over the table of modules; what is written depends neither on their number nor on what stands in the table. The
-/// keeper isn't touched.
+/// kernels' code is simplified before it is compiled; with `--cache PATH` the modules that the file of this name has are
+/// loaded before, and those that were emitted are kept in it afterwards. `erased FILE` evaluates main of the erased
+/// program and writes the last line alone. `sample N` runs as `run` does, with a source that is made from the number,
+/// and writes totals in place of the kernels. The kernel items are evaluated by as many workers as the words say, or as
+/// a sample has, over the table of modules; what is written depends neither on their number nor on what stands in the
+/// table.
 pub fn run<R: Threads + Sync, S: Source, K: Sink, C: Keeper, G: Gate>(
     rt: &R,
     alloc: Global,
     words: &[String],
     source: &mut S,
     sink: &mut K,
-    _keeper: &mut C,
+    keeper: &mut C,
     gate: &G,
     table: &Table<Entry>,
 ) -> Status
     // Where nothing failed and memory was there, exactly the work's output was written, and the status is what it says.
-    ensures text { (work : Work) → Asks (map string_bytes words.now) (outside S.tells (S.told source.old)) work
-        → ¬ Rose (S.faults source.old) (S.faults source.new) → ¬ Rose (K.faults sink.old) (K.faults sink.new) → ¬ IsMemory result
-        → IsTrue K.tells → IsFaithful whole work result (K.written sink.old) (K.written sink.new) }
+    ensures text { (work : Work) → Asks (map string_bytes words.now) (outside S.tells (S.told source.old) C.tells (C.held keeper.old)) work
+        → ¬ Rose (S.faults source.old) (S.faults source.new) → ¬ Rose (K.faults sink.old) (K.faults sink.new)
+        → ¬ (result ≡ Cache) → ¬ IsMemory result → IsTrue K.tells
+        → IsFaithful whole work result (K.written sink.old) (K.written sink.new) }
     // Then the status is that of the work's meaning, whether or not the sink tells.
-    ensures status { (work : Work) → Asks (map string_bytes words.now) (outside S.tells (S.told source.old)) work
-        → ¬ Rose (S.faults source.old) (S.faults source.new) → ¬ Rose (K.faults sink.old) (K.faults sink.new) → ¬ IsMemory result
+    ensures status { (work : Work) → Asks (map string_bytes words.now) (outside S.tells (S.told source.old) C.tells (C.held keeper.old)) work
+        → ¬ Rose (S.faults source.old) (S.faults source.new) → ¬ Rose (K.faults sink.old) (K.faults sink.new)
+        → ¬ (result ≡ Cache) → ¬ IsMemory result
         → (meaning : Meaning) × IsMeaning work meaning × (result ≡ status_of meaning) }
     // Whatever failed, a status of a whole text is that of the work's meaning.
-    ensures complete { (work : Work) → (asked : Asks (map string_bytes words.now) (outside S.tells (S.told source.old)) work)
-        → extent (kind_of asked.command) result ≡ whole → (meaning : Meaning) × IsMeaning work meaning × (result ≡ status_of meaning) }
+    ensures complete { (work : Work) → (asked : Asks (map string_bytes words.now)
+        (outside S.tells (S.told source.old) C.tells (C.held keeper.old)) work)
+        → extent (kind_of asked.command) result ≡ whole
+        → (meaning : Meaning) × IsMeaning work meaning × (result ≡ status_of meaning) }
     // For each kernel that is printed, the bytes spell a module that is valid and means the code that is run.
-    ensures modules { (work : Work) → Asks (map string_bytes words.now) (outside S.tells (S.told source.old)) work
+    ensures modules { (work : Work) → Asks (map string_bytes words.now) (outside S.tells (S.told source.old) C.tells (C.held keeper.old)) work
         → (meaning : Meaning) → IsMeaning work meaning → HaveModules meaning }
     // An answer of a run is any answer of the erased program, whatever the units of either.
-    ensures erasure { (workers fuel m : ℕ) (simplify : Bool) (file bytes : List ℕ) (w : PureGroundValue)
-        → AsksOn (map string_bytes words.now) (outside S.tells (S.told source.old)) (run workers fuel simplify file) (bytes ∷ [])
+    ensures erasure { (workers fuel m : ℕ) (simplify : Bool) (cache : Option (List ℕ)) (file bytes : List ℕ) (w : PureGroundValue)
+        → AsksOn (map string_bytes words.now) (outside S.tells (S.told source.old) C.tells (C.held keeper.old))
+        (run workers fuel simplify cache file) (bytes ∷ [])
+        → IsHonestCache C.tells (C.held keeper.old) cache
         → IsMeaning (erasing bytes m) (erased (answered w)) → result ≡ Answer → (kernels : List Kernel)
         × IsMeaning (running bytes fuel (Lines (mode_when simplify))) (ran (Lines (mode_when simplify)) kernels (answered w)) }
-    // Where the run with the kernels' code as it was built ends with an answer or a trap, the run with simplified code ends so too.
-    ensures simplified { (workers fuel : ℕ) (file bytes : List ℕ) (kernels : List Kernel) (e : Ending)
-        → AsksOn (map string_bytes words.now) (outside S.tells (S.told source.old)) (run workers fuel true file) (bytes ∷ [])
+    // Where the run with the kernels' code as it was built ends with an answer or a trap, the run with simplified code
+    // ends so too.
+    ensures simplified { (workers fuel : ℕ) (cache : Option (List ℕ)) (file bytes : List ℕ) (kernels : List Kernel) (e : Ending)
+        → AsksOn (map string_bytes words.now) (outside S.tells (S.told source.old) C.tells (C.held keeper.old))
+        (run workers fuel true cache file) (bytes ∷ [])
+        → IsHonestCache C.tells (C.held keeper.old) cache
         → IsMeaning (running bytes fuel (Lines Plain)) (ran (Lines Plain) kernels e) → IsUnbounded e
-        → IsMeaning (running bytes fuel (Lines Simple)) (ran (Lines Simple) kernels e) × (extent on_a_file result ≡ whole → result ≡ ending_status e) }
+        → IsMeaning (running bytes fuel (Lines Simple)) (ran (Lines Simple) kernels e)
+        × (extent (kind_with cache) result ≡ whole → result ≡ ending_status e) }
     // Whatever failed, the status says what was written.
-    ensures faults { (work : Work) → (asked : Asks (map string_bytes words.now) (outside S.tells (S.told source.old)) work)
-        → IsTrue K.tells → IsFaithful (extent (kind_of asked.command) result) work result (K.written sink.old) (K.written sink.new) }
+    ensures faults { (work : Work) → (asked : Asks (map string_bytes words.now)
+        (outside S.tells (S.told source.old) C.tells (C.held keeper.old)) work)
+        → IsTrue K.tells
+        → IsFaithful (extent (kind_of asked.command) result) work result (K.written sink.old) (K.written sink.new) }
     // No command ends with a status that its kind doesn't have.
-    ensures possible { (command : PureCommand) → Means (map string_bytes words.now) command → ¬ (extent (kind_of command) result ≡ never) }
-    // With a status of a whole text nothing failed, and want of memory is no failure of source or sink.
-    ensures unfailed { (command : PureCommand) → Means (map string_bytes words.now) command → extent (kind_of command) result ≡ whole
+    ensures possible { (command : PureCommand) → Means (map string_bytes words.now) command
+        → ¬ (extent (kind_of command) result ≡ never) }
+    // Where all of the output was written nothing failed, and want of memory is no failure of source or sink.
+    ensures unfailed { (command : PureCommand) → Means (map string_bytes words.now) command
+        → IsWritten (extent (kind_of command) result)
         → (S.faults source.new ≡ S.faults source.old) × (K.faults sink.new ≡ K.faults sink.old) }
-    ensures memory { IsMemory result → (S.faults source.new ≡ S.faults source.old) × (K.faults sink.new ≡ K.faults sink.old) }
+    ensures memory { IsMemory result
+        → (S.faults source.new ≡ S.faults source.old) × (K.faults sink.new ≡ K.faults sink.old) }
     // The source is read to its end, or to one byte more than the longest source has.
     ensures left { (command : PureCommand) (bytes : List ℕ)
-        → AsksOn (map string_bytes words.now) (outside S.tells (S.told source.old)) command (bytes ∷ [])
+        → AsksOn (map string_bytes words.now) (outside S.tells (S.told source.old) C.tells (C.held keeper.old)) command (bytes ∷ [])
         → ¬ IsMemory result → ¬ (result ≡ Read) → S.left source.new ≡ drop most_read bytes }
     ensures usage { (result ≡ Usage) ↔ IsUsage (map string_bytes words.now) }
     ensures read { result ≡ Read
-        → Rose (S.faults source.old) (S.faults source.new) ⊎ AsksMissing (map string_bytes words.now) (outside S.tells (S.told source.old)) }
+        → Rose (S.faults source.old) (S.faults source.new)
+        ⊎ AsksMissing (map string_bytes words.now) (outside S.tells (S.told source.old) C.tells (C.held keeper.old)) }
     ensures write { result ≡ Write → Rose (K.faults sink.old) (K.faults sink.new) }
-    ensures missing { AsksMissing (map string_bytes words.now) (outside S.tells (S.told source.old)) → result ≡ Read }
+    ensures missing { AsksMissing (map string_bytes words.now) (outside S.tells (S.told source.old) C.tells (C.held keeper.old)) → result ≡ Read }
     ensures nothing { (result ≡ Usage) ⊎ (result ≡ Read) → IsTrue K.tells → K.written sink.new ≡ K.written sink.old }
     ensures unread { (result ≡ Usage) ⊎ AsksNoFile (map string_bytes words.now) → source.new ≡ source.old }
     ensures files { S.told source.new ≡ S.told source.old }
-    ensures keeper { _keeper.new ≡ _keeper.old }
+    // Only a command with a cache file touches the keeper, and that only where the source was read and accepted.
+    ensures untouched { (result ≡ Usage) ⊎ (result ≡ Read) ⊎ AsksNoCache (map string_bytes words.now) → keeper.new ≡ keeper.old }
+    ensures unkept_refusal { (r : Refusal) → result ≡ Refused r → keeper.new ≡ keeper.old }
+    // What counted of the cache file is never lost, whatever the status, and whatever failed.
+    ensures front { IsTrue C.tells → HasGoodFront (C.held keeper.old) (C.held keeper.new) }
+    // The status says what the cache file holds: what it held, or what counted of that and records behind it.
+    ensures held { AsksCache (map string_bytes words.now) → IsTrue C.tells → IsHeldWith result (C.held keeper.old) (C.held keeper.new) }
+    // The text of each kernel that is printed was loaded, or its record is kept, unless there was no more room.
+    ensures kept { (work : Work) → (asked : Asks (map string_bytes words.now)
+        (outside S.tells (S.told source.old) C.tells (C.held keeper.old)) work)
+        → IsSome (path_of asked.command) → extent (kind_of asked.command) result ≡ whole
+        → (shown : Shown) (kernels : List Kernel) (e : Ending) → IsMeaning work (ran shown kernels e)
+        → IsKeptFile (C.held keeper.old) (C.held keeper.new) (map (run_text (mode_of shown)) kernels) }
+    // That the cache wasn't kept is said only where the keeper failed, and a whole text's own status only where it didn't.
+    ensures cache { result ≡ Cache → Rose (C.faults keeper.old) (C.faults keeper.new) }
+    ensures sound { (command : PureCommand) → Means (map string_bytes words.now) command → extent (kind_of command) result ≡ whole
+        → C.faults keeper.new ≡ C.faults keeper.old }
+    // A bad record is told only where there is one, and a record that isn't honest has the text of one of the runs.
+    ensures bad { (digest : List ℕ) (work : Work) → result ≡ BadCache digest → AsksOver (map string_bytes words.now)
+        (outside S.tells (S.told source.old) C.tells (C.held keeper.old)) work
+        → IsTrue C.tells → IsBadOf work (C.held keeper.old) digest }
     ensures source_count { S.faults source.old ≤ S.faults source.new }
     ensures sink_count { K.faults sink.old ≤ K.faults sink.new }
+    ensures keeper_count { C.faults keeper.old ≤ C.faults keeper.new }
 {
     let place = Workplace { rt, gate, table };
     match read_words(words) {
-        Ok(command) => carry_out(alloc, &place, command, source, sink),
+        Ok(command) => carry_out(alloc, &place, command, source, sink, keeper),
         Err(_) => Status::Usage,
     }
 }
 
 /// Carries out a command.
-fn carry_out<R: Threads + Sync, S: Source, K: Sink, G: Gate>(
+fn carry_out<R: Threads + Sync, S: Source, K: Sink, C: Keeper, G: Gate>(
     alloc: Global,
     place: &Workplace<'_, R, G>,
     command: Command<'_>,
     source: &mut S,
     sink: &mut K,
+    keeper: &mut C,
 ) -> Status
     requires range { (number : ℕ) → command_in command ≡ sample number → (1 ≤ number) × (number ≤ 100) }
-    requires workers { (workers fuel : ℕ) (simplify : Bool) (file : List ℕ)
-        → command_in command ≡ run workers fuel simplify file → 1 ≤ workers }
+    requires workers { (workers fuel : ℕ) (simplify : Bool) (cache : Option (List ℕ)) (file : List ℕ)
+        → command_in command ≡ run workers fuel simplify cache file → 1 ≤ workers }
     ensures work { (contents : List (List ℕ)) (work : Work)
-        → HasAll (outside S.tells (S.told source.old)) (files_of (command_in command.entry)) contents
-        → IsWork (command_in command.entry) contents work
+        → HasAll (outside S.tells (S.told source.old) C.tells (C.held keeper.old)) (files_of (command_in command.entry)) contents
+        → IsWork (command_in command.entry) contents work → HasHonestCache (outside S.tells (S.told source.old) C.tells (C.held keeper.old)) (command_in command.entry)
         → IsCarriedOut (kind_of (command_in command.entry)) work result K.tells (K.written sink.old) (K.written sink.new) }
-    ensures left { (bytes : List ℕ) → HasAll (outside S.tells (S.told source.old)) (files_of (command_in command.entry)) (bytes ∷ [])
+    ensures left { (bytes : List ℕ)
+        → HasAll (outside S.tells (S.told source.old) C.tells (C.held keeper.old)) (files_of (command_in command.entry)) (bytes ∷ [])
         → ¬ IsMemory result → ¬ (result ≡ Read) → S.left source.new ≡ drop most_read bytes }
     ensures read { result ≡ Read → Rose (S.faults source.old) (S.faults source.new)
-        ⊎ LacksFirst (outside S.tells (S.told source.old)) (files_of (command_in command.entry)) }
-    ensures missing { LacksFirst (outside S.tells (S.told source.old)) (files_of (command_in command.entry)) → result ≡ Read }
+        ⊎ LacksFirst (outside S.tells (S.told source.old) C.tells (C.held keeper.old)) (files_of (command_in command.entry)) }
+    ensures missing { LacksFirst (outside S.tells (S.told source.old) C.tells (C.held keeper.old)) (files_of (command_in command.entry)) → result ≡ Read }
     ensures nothing { result ≡ Read → IsTrue K.tells → K.written sink.new ≡ K.written sink.old }
     ensures write { result ≡ Write → Rose (K.faults sink.old) (K.faults sink.new) }
     ensures possible { ¬ (extent (kind_of (command_in command.entry)) result ≡ never) }
-    ensures unfailed { extent (kind_of (command_in command.entry)) result ≡ whole
+    ensures unfailed { IsWritten (extent (kind_of (command_in command.entry)) result)
         → (S.faults source.new ≡ S.faults source.old) × (K.faults sink.new ≡ K.faults sink.old) }
-    ensures memory { IsMemory result → (S.faults source.new ≡ S.faults source.old) × (K.faults sink.new ≡ K.faults sink.old) }
+    ensures memory { IsMemory result
+        → (S.faults source.new ≡ S.faults source.old) × (K.faults sink.new ≡ K.faults sink.old) }
     ensures unread { files_of (command_in command.entry) ≡ [] → source.new ≡ source.old }
     ensures files { S.told source.new ≡ S.told source.old }
+    ensures untouched { (result ≡ Read) ⊎ IsNone (path_of (command_in command.entry)) → keeper.new ≡ keeper.old }
+    ensures refused { (r : Refusal) → result ≡ Refused r → keeper.new ≡ keeper.old }
+    ensures held { IsSome (path_of (command_in command.entry)) → IsTrue C.tells → IsHeldWith result (C.held keeper.old) (C.held keeper.new) }
+    ensures kept { (contents : List (List ℕ)) (work : Work)
+        → HasAll (outside S.tells (S.told source.old) C.tells (C.held keeper.old)) (files_of (command_in command.entry)) contents
+        → IsWork (command_in command.entry) contents work → HasHonestCache (outside S.tells (S.told source.old) C.tells (C.held keeper.old)) (command_in command.entry)
+        → IsSome (path_of (command_in command.entry)) → (shown : Shown) (kernels : List Kernel) (e : Ending)
+        → IsMeaning work (ran shown kernels e)
+        → IsKeptWith (map (run_text (mode_of shown)) kernels) result (C.held keeper.old) (C.held keeper.new) }
+    ensures cache { result ≡ Cache → Rose (C.faults keeper.old) (C.faults keeper.new) }
+    ensures sound { extent (kind_of (command_in command.entry)) result ≡ whole → C.faults keeper.new ≡ C.faults keeper.old }
+    ensures bad { (digest : List ℕ) (contents : List (List ℕ)) (work : Work) → result ≡ BadCache digest
+        → HasAll (outside S.tells (S.told source.old) C.tells (C.held keeper.old)) (files_of (command_in command.entry)) contents
+        → IsWork (command_in command.entry) contents work → HasBadRecordOf work C.tells (C.held keeper.old) digest }
     ensures source_count { S.faults source.old ≤ S.faults source.new }
     ensures sink_count { K.faults sink.old ≤ K.faults sink.new }
+    ensures keeper_count { C.faults keeper.old ≤ C.faults keeper.new }
 {
     match command {
         Command::Run {
             workers,
             fuel,
             simplify,
+            cache,
             file,
         } => {
             let shown = Shown::Lines(mode_when(simplify));
-            let evaluation = Evaluation::Run { workers, shown };
-            evaluate_file(alloc, place, source, sink, file, fuel, evaluation)
+            let options = RunOptions {
+                workers,
+                shown,
+                cache,
+            };
+            let evaluation = Evaluation::Run(options);
+            evaluate_file(alloc, place, source, sink, keeper, file, fuel, evaluation)
         }
         Command::Erased { fuel, file } => {
-            evaluate_file(alloc, place, source, sink, file, fuel, Evaluation::Erased)
+            let evaluation = Evaluation::Erased;
+            evaluate_file(alloc, place, source, sink, keeper, file, fuel, evaluation)
         }
-        Command::Sample { number } => run_sample(alloc, place, sink, number),
+        Command::Sample { number } => run_sample(alloc, place, sink, keeper, number),
     }
 }
 
@@ -168,54 +239,78 @@ fn mode_when(simplify: bool) -> Mode
 }
 
 /// Evaluates the source of a file, with so many units for each evaluation.
-fn evaluate_file<R: Threads + Sync, S: Source, K: Sink, G: Gate>(
+fn evaluate_file<R: Threads + Sync, S: Source, K: Sink, C: Keeper, G: Gate>(
     alloc: Global,
     place: &Workplace<'_, R, G>,
     source: &mut S,
     sink: &mut K,
+    keeper: &mut C,
     file: &str,
     fuel: u64,
-    evaluation: Evaluation,
+    evaluation: Evaluation<'_>,
 ) -> Status
-    requires workers { HasWorkers evaluation }
-    ensures work { (bytes : List ℕ) → Has (outside S.tells (S.told source.old)) (source_file file.now) bytes
-        → IsCarriedOut on_a_file (evaluated evaluation bytes fuel) result K.tells (K.written sink.old) (K.written sink.new) }
-    ensures left { (bytes : List ℕ) → Has (outside S.tells (S.told source.old)) (source_file file.now) bytes
+    requires possible { IsPossible evaluation }
+    ensures work { (bytes : List ℕ)
+        → Has (outside S.tells (S.told source.old) C.tells (C.held keeper.old)) (source_file file.now) bytes
+        → IsHonestCache C.tells (C.held keeper.old) (cache_of evaluation.entry)
+        → IsCarriedOut (kind_with (cache_of evaluation.entry)) (evaluated evaluation.entry bytes fuel) result K.tells
+        (K.written sink.old) (K.written sink.new) }
+    ensures left { (bytes : List ℕ)
+        → Has (outside S.tells (S.told source.old) C.tells (C.held keeper.old)) (source_file file.now) bytes
         → ¬ IsMemory result → ¬ (result ≡ Read) → S.left source.new ≡ drop most_read bytes }
     ensures read { result ≡ Read
-        → Rose (S.faults source.old) (S.faults source.new) ⊎ Lacks (outside S.tells (S.told source.old)) (source_file file.now) }
-    ensures missing { Lacks (outside S.tells (S.told source.old)) (source_file file.now) → result ≡ Read }
+        → Rose (S.faults source.old) (S.faults source.new)
+        ⊎ Lacks (outside S.tells (S.told source.old) C.tells (C.held keeper.old)) (source_file file.now) }
+    ensures missing { Lacks (outside S.tells (S.told source.old) C.tells (C.held keeper.old)) (source_file file.now) → result ≡ Read }
     ensures nothing { result ≡ Read → IsTrue K.tells → K.written sink.new ≡ K.written sink.old }
     ensures write { result ≡ Write → Rose (K.faults sink.old) (K.faults sink.new) }
-    ensures possible { ¬ (extent on_a_file result ≡ never) }
-    ensures unfailed { extent on_a_file result ≡ whole
+    ensures possible { ¬ (extent (kind_with (cache_of evaluation.entry)) result ≡ never) }
+    ensures unfailed { IsWritten (extent (kind_with (cache_of evaluation.entry)) result)
         → (S.faults source.new ≡ S.faults source.old) × (K.faults sink.new ≡ K.faults sink.old) }
-    ensures memory { IsMemory result → (S.faults source.new ≡ S.faults source.old) × (K.faults sink.new ≡ K.faults sink.old) }
+    ensures memory { IsMemory result
+        → (S.faults source.new ≡ S.faults source.old) × (K.faults sink.new ≡ K.faults sink.old) }
     ensures files { S.told source.new ≡ S.told source.old }
+    ensures untouched { (result ≡ Read) ⊎ IsNone (cache_of evaluation.entry) → keeper.new ≡ keeper.old }
+    ensures refused { (r : Refusal) → result ≡ Refused r → keeper.new ≡ keeper.old }
+    ensures held { IsSome (cache_of evaluation.entry) → IsTrue C.tells → IsHeldWith result (C.held keeper.old) (C.held keeper.new) }
+    ensures kept { (bytes : List ℕ)
+        → Has (outside S.tells (S.told source.old) C.tells (C.held keeper.old)) (source_file file.now) bytes
+        → IsHonestCache C.tells (C.held keeper.old) (cache_of evaluation.entry)
+        → IsSome (cache_of evaluation.entry) → (shown : Shown) (kernels : List Kernel) (e : Ending)
+        → IsMeaning (evaluated evaluation.entry bytes fuel) (ran shown kernels e)
+        → IsKeptWith (map (run_text (mode_of shown)) kernels) result (C.held keeper.old) (C.held keeper.new) }
+    ensures cache { result ≡ Cache → Rose (C.faults keeper.old) (C.faults keeper.new) }
+    ensures sound { extent (kind_with (cache_of evaluation.entry)) result ≡ whole → C.faults keeper.new ≡ C.faults keeper.old }
+    ensures bad { (digest bytes : List ℕ) → result ≡ BadCache digest
+        → Has (outside S.tells (S.told source.old) C.tells (C.held keeper.old)) (source_file file.now) bytes
+        → HasBadRecordOf (evaluated evaluation.entry bytes fuel) C.tells (C.held keeper.old) digest }
     ensures source_count { S.faults source.old ≤ S.faults source.new }
     ensures sink_count { K.faults sink.old ≤ K.faults sink.new }
+    ensures keeper_count { C.faults keeper.old ≤ C.faults keeper.new }
 {
     let bytes = match file_bytes(alloc, source, file) {
         Ok(bytes) => bytes,
         Err(SourceFault::Failed) => return Status::Read,
         Err(SourceFault::Memory(error)) => return Status::Memory(error),
     };
-    status_of(write_source::<R, K, G, Brand>(
+    status_of(write_source::<R, K, C, G, Brand>(
         alloc,
         place,
         bytes.as_slice(),
         fuel,
         evaluation,
         sink,
+        keeper,
         Blank::new(1),
     ))
 }
 
 /// Runs the source that is made from a number, and writes its totals.
-fn run_sample<R: Threads + Sync, K: Sink, G: Gate>(
+fn run_sample<R: Threads + Sync, K: Sink, C: Keeper, G: Gate>(
     alloc: Global,
     place: &Workplace<'_, R, G>,
     sink: &mut K,
+    keeper: &mut C,
     number: u32,
 ) -> Status
     requires some { 1 ≤ number }
@@ -223,36 +318,40 @@ fn run_sample<R: Threads + Sync, K: Sink, G: Gate>(
     ensures work { IsCarriedOut on_a_number (sampling number) result K.tells (K.written sink.old) (K.written sink.new) }
     ensures write { result ≡ Write → Rose (K.faults sink.old) (K.faults sink.new) }
     ensures possible { ¬ (extent on_a_number result ≡ never) }
-    ensures unfailed { extent on_a_number result ≡ whole → K.faults sink.new ≡ K.faults sink.old }
+    ensures unfailed { IsWritten (extent on_a_number result) → K.faults sink.new ≡ K.faults sink.old }
     ensures memory { IsMemory result → K.faults sink.new ≡ K.faults sink.old }
+    ensures untouched { keeper.new ≡ keeper.old }
     ensures sink_count { K.faults sink.old ≤ K.faults sink.new }
 {
     let bytes = match sample(alloc, number) {
         Ok(bytes) => bytes,
         Err(error) => return Status::Memory(error),
     };
-    let evaluation = Evaluation::Run {
+    let options = RunOptions {
         workers: SAMPLE_WORKERS,
         shown: Shown::Totals,
+        cache: None,
     };
-    status_of(write_source::<R, K, G, Brand>(
+    status_of(write_source::<R, K, C, G, Brand>(
         alloc,
         place,
         bytes.as_slice(),
         SAMPLE_FUEL,
-        evaluation,
+        Evaluation::Run(options),
         sink,
+        keeper,
         Blank::new(1),
     ))
 }
 
 /// The status of a run that was written, or why it wasn't.
-fn status_of(written: Result<Status, WriteFault>) -> Status
+fn status_of(written: Result<Status, RunFault>) -> Status
     ensures { IsStatusOf written result }
 {
     match written {
         Ok(status) => status,
-        Err(WriteFault::Failed) => Status::Write,
-        Err(WriteFault::Memory(error)) => Status::Memory(error),
+        Err(RunFault::Unwritten(WriteFault::Failed)) => Status::Write,
+        Err(RunFault::Unwritten(WriteFault::Memory(error))) => Status::Memory(error),
+        Err(RunFault::Bad(digest)) => Status::BadCache(digest),
     }
 }

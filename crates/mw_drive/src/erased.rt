@@ -4,15 +4,16 @@ ghost use Rattle.std.specs.Prelude.{◌≡◌, ◌≤◌, ◌<◌, ◌^◌, []};
 ghost use Rattle.mw_term.specs.Programs.{program_of, program_size};
 ghost use Rattle.mw_term.specs.Typable.{Typable};
 ghost use Rattle.mw_drive.specs.ProgramRuns.{IsWrittenErased};
-ghost use Rattle.mw_drive.specs.Written.{Blames};
+ghost use Rattle.mw_drive.specs.RunFaults.{BlamesSink};
 
 use crate::ending::write_end;
+use crate::fault::RunFault;
 use crate::main_end::main_end;
 use mw_cache::Cache;
 use mw_compile::{Entry, Steps};
 use mw_console::Status;
 use mw_meaning::{Mode, erase_program};
-use mw_outside::{Sink, WriteFault};
+use mw_outside::Sink;
 use mw_slots::{Receipts, Table};
 use mw_store::Load;
 use mw_tasks::{Outcomes, Phase};
@@ -29,7 +30,7 @@ pub fn write_erased<K: Sink, L: Ledger>(
     fuel: u64,
     sink: &mut K,
     blank: Blank,
-) -> Result<Status, WriteFault>
+) -> Result<Status, RunFault>
     requires name { blank.name ≡ L.name }
     requires parts { blank.parts ≡ L.parts }
     requires some { 0 < L.parts }
@@ -37,14 +38,14 @@ pub fn write_erased<K: Sink, L: Ledger>(
     requires nodes { program_size (program_of program.now) < 2 ^ 31 }
     ensures run { let p = program_of program.now in
         IsWrittenErased fuel p result K.tells (K.written sink.old) (K.written sink.new) }
-    ensures blames { Blames result (K.faults sink.old) (K.faults sink.new) }
+    ensures blames { BlamesSink result (K.faults sink.old) (K.faults sink.new) }
     ensures count { K.faults sink.old ≤ K.faults sink.new }
 {
     let erased = erase_program(alloc, program)?;
     let cache = Cache::new(table, Load::new(alloc));
     let phase = no_kernels(alloc);
     let mut steps = Steps::<L>::open(blank);
-    let end = main_end(
+    let (end, _) = main_end(
         alloc,
         &erased,
         &phase,
@@ -53,7 +54,7 @@ pub fn write_erased<K: Sink, L: Ledger>(
         &cache,
         &mut steps,
     )?;
-    write_end(alloc, sink, &end)
+    Ok(write_end(alloc, sink, &end)?)
 }
 
 /// The phase of no kernel items.

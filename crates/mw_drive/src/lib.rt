@@ -4,10 +4,13 @@
 mod command;
 mod ending;
 mod erased;
+mod fault;
 mod items;
+mod kept;
 pub mod laws;
 mod main_end;
 mod program;
+mod ran;
 mod reading;
 mod shown;
 mod source;

@@ -7,7 +7,7 @@ ghost use Rattle.mw_meaning.specs.declared.mode.Mode.TheVariants.{Plain};
 ghost use Rattle.mw_drive.specs.Works.{kernel_lines, module_bytes, mode_of, shown_text};
 ghost use Rattle.mw_drive.specs.ProgramRuns.{kernel_of, kernels_of, IsBuilt, HasModuleHere};
 ghost use Rattle.mw_drive.specs.declared.shown.Shown.TheVariants.{Totals};
-ghost use Rattle.mw_drive.specs.Honest.{IsHonest};
+ghost use Rattle.mw_cache.specs.HonestFiles.{IsHonest};
 ghost use Rattle.mw_drive.specs.Written.{Writes, Blames};
 
 use crate::items::Built;
@@ -46,11 +46,11 @@ pub fn write_kernels<K: Sink>(
     shown: Shown,
     kernels: &[Built<'_>],
 ) -> Result<(), WriteFault>
-    requires honest { IsHonest cache.now.load }
+    requires totals { shown ≡ Totals → IsHonest cache.now.load }
     requires built { AllByRecursion (IsBuilt (mode_of shown) cache.now) kernels.now }
     requires few { length kernels.now < 2 ^ 32 }
     ensures writes { let text = shown_text shown (kernels_of kernels.now) in
-        Writes result K.tells (K.written sink.old) (K.written sink.new) text }
+        IsHonest cache.now.load → Writes result K.tells (K.written sink.old) (K.written sink.new) text }
     ensures blames { Blames result (K.faults sink.old) (K.faults sink.new) }
     ensures count { K.faults sink.old ≤ K.faults sink.new }
 {
@@ -67,9 +67,8 @@ fn write_all<K: Sink>(
     cache: &Cache<'_>,
     kernels: &[Built<'_>],
 ) -> Result<(), WriteFault>
-    requires honest { IsHonest cache.now.load }
     requires here { AllByRecursion (HasModuleHere cache.now) kernels.now }
-    ensures writes { (mode : Mode) → AllByRecursion (IsBuilt mode cache.now) kernels.now
+    ensures writes { IsHonest cache.now.load → (mode : Mode) → AllByRecursion (IsBuilt mode cache.now) kernels.now
         → let text = flat_map (kernel_lines mode) (kernels_of kernels.now) in
         Writes result K.tells (K.written sink.old) (K.written sink.new) text }
     ensures blames { Blames result (K.faults sink.old) (K.faults sink.new) }
@@ -88,9 +87,8 @@ fn write_kernel<K: Sink>(
     cache: &Cache<'_>,
     kernel: &Built<'_>,
 ) -> Result<(), WriteFault>
-    requires honest { IsHonest cache.now.load }
     requires here { HasModuleHere cache.now kernel.now }
-    ensures writes { (mode : Mode) → IsBuilt mode cache.now kernel.now
+    ensures writes { IsHonest cache.now.load → (mode : Mode) → IsBuilt mode cache.now kernel.now
         → let text = kernel_lines mode (kernel_of kernel.now) in
         Writes result K.tells (K.written sink.old) (K.written sink.new) text }
     ensures blames { Blames result (K.faults sink.old) (K.faults sink.new) }

@@ -1,67 +1,93 @@
 // The evaluation of a source.
 
-ghost use Rattle.std.specs.Prelude.{◌≡◌, ◌≤◌, ◌<◌, map, IfOk};
+ghost use Rattle.std.specs.Prelude.{◌≡◌, ◌≤◌, ◌<◌, List, map, IsTrue, IsSome, IsNone, IfOk, IfErr};
+ghost use Rattle.mw_outside.specs.Count.{Rose};
 ghost use Rattle.mw_term.specs.declared.program.Item.{Item as PureItem};
-ghost use Rattle.mw_console.specs.Texts.{refusal_line};
-ghost use Rattle.mw_console.specs.declared.status.Status.TheVariants.{Refused};
-ghost use Rattle.mw_drive.specs.ProgramRuns.{evaluated, HasWorkers, IsWrittenMeaning};
-ghost use Rattle.mw_drive.specs.Written.{Writes, Blames};
+ghost use Rattle.mw_term.specs.declared.refusal.Refusal.{Refusal};
+ghost use Rattle.mw_console.specs.Texts.{Ending, refusal_line};
+ghost use Rattle.mw_console.specs.declared.status.Status.TheVariants.{Refused, Cache as Unkept};
+ghost use Rattle.mw_drive.specs.declared.shown.Shown.{Shown};
+ghost use Rattle.mw_drive.specs.BadRecords.{HasBadRecordOf};
+ghost use Rattle.mw_drive.specs.HeldFiles.{IsHeldAfter, IsKeptOf};
+ghost use Rattle.mw_drive.specs.Honest.{IsHonestCache};
+ghost use Rattle.mw_drive.specs.ProgramMeaning.{Kernel};
+ghost use Rattle.mw_drive.specs.ProgramRuns.{evaluated, cache_of, IsPossible, IsUsual, IsWrittenMeaning, IsEndedSource};
+ghost use Rattle.mw_drive.specs.RunFaults.{BlamesSink, IfBadRecord};
+ghost use Rattle.mw_drive.specs.Works.{IsMeaning, ran, mode_of, run_text};
+ghost use Rattle.mw_drive.specs.Written.{Writes};
 
 use crate::erased::write_erased;
-use crate::program::write_run;
+use crate::fault::RunFault;
+use crate::program::{RunOptions, write_run};
 use crate::reading::read;
-use crate::shown::Shown;
 use crate::workplace::Workplace;
 use mw_console::{Status, put_refusal, write_lines};
 use mw_infer::check;
-use mw_outside::{Gate, Sink, WriteFault};
+use mw_outside::{Gate, Keeper, Sink};
 use mw_term::{Item, Refusal, Stop};
 use std::alloc::Global;
 use std::sync::ledger::{Blank, Ledger};
 use std::thread::Threads;
 
-/// What of a source is evaluated and written: the run of its program, whose kernel items so many workers evaluate, or
-/// its erased program's main.
+/// What of a source is evaluated and written: the run of its program, or its erased program's main.
 #[derive(Clone, Copy, Debug)]
-pub enum Evaluation {
-    Run { workers: u32, shown: Shown },
+pub enum Evaluation<'p> {
+    Run(RunOptions<'p>),
     Erased,
 }
 
-/// Reads and checks a source, evaluates it with so many units for each item and for main, and writes what it means.
-pub fn write_source<R: Threads + Sync, K: Sink, G: Gate, L: Ledger>(
+/// Reads and checks a source, evaluates it with so many units for each item and for main, and writes what it means. A
+/// refused source leaves the keeper alone.
+pub fn write_source<R: Threads + Sync, K: Sink, C: Keeper, G: Gate, L: Ledger>(
     alloc: Global,
     place: &Workplace<'_, R, G>,
     bytes: &[u8],
     fuel: u64,
-    evaluation: Evaluation,
+    evaluation: Evaluation<'_>,
     sink: &mut K,
+    keeper: &mut C,
     blank: Blank,
-) -> Result<Status, WriteFault>
+) -> Result<Status, RunFault>
     requires name { blank.name ≡ L.name }
     requires parts { blank.parts ≡ L.parts }
     requires some { 0 < L.parts }
-    requires workers { HasWorkers evaluation }
-    ensures meaning { let work = evaluated evaluation bytes.now fuel in
-        IsWrittenMeaning work result K.tells (K.written sink.old) (K.written sink.new) }
-    ensures blames { Blames result (K.faults sink.old) (K.faults sink.new) }
+    requires possible { IsPossible evaluation }
+    ensures meaning { let work = evaluated evaluation.entry bytes.now fuel in let path = cache_of evaluation.entry in
+        IsHonestCache C.tells (C.held keeper.old) path
+        → IsWrittenMeaning path work result K.tells (K.written sink.old) (K.written sink.new) }
+    ensures ended { IfOk result (IsEndedSource (cache_of evaluation.entry)) }
+    ensures blames { BlamesSink result (K.faults sink.old) (K.faults sink.new) }
     ensures count { K.faults sink.old ≤ K.faults sink.new }
+    ensures untouched { IsNone (cache_of evaluation.entry) → keeper.new ≡ keeper.old }
+    ensures refused { IfOk result (λ s. (r : Refusal) → s ≡ Refused r → keeper.new ≡ keeper.old) }
+    ensures held { IsSome (cache_of evaluation.entry) → IsTrue C.tells
+        → IsHeldAfter result (C.held keeper.old) (C.held keeper.new) }
+    ensures kept { let path = cache_of evaluation.entry in
+        IsSome path → IsHonestCache C.tells (C.held keeper.old) path
+        → (shown : Shown) (kernels : List Kernel) (e : Ending)
+        → IsMeaning (evaluated evaluation.entry bytes.now fuel) (ran shown kernels e)
+        → IsKeptOf (map (run_text (mode_of shown)) kernels) result (C.held keeper.old) (C.held keeper.new) }
+    ensures unkept { IfOk result (λ s. s ≡ Unkept → Rose (C.faults keeper.old) (C.faults keeper.new)) }
+    ensures unfailed { IfOk result (λ s. (s ≡ Unkept → ⊥) → C.faults keeper.new ≡ C.faults keeper.old) }
+    ensures rises { C.faults keeper.old ≤ C.faults keeper.new }
+    ensures bad { let work = evaluated evaluation.entry bytes.now fuel in
+        IfErr result (IfBadRecord (HasBadRecordOf work C.tells (C.held keeper.old))) }
 {
     let program = match read(alloc, bytes) {
         Ok(program) => program,
         Err(Stop::Refused(refusal)) => return write_refusal(alloc, sink, refusal, &[]),
-        Err(Stop::Memory(error)) => return Err(WriteFault::Memory(error)),
+        Err(Stop::Memory(error)) => return Err(RunFault::from(error)),
     };
     match check(alloc, &program) {
         Ok(_) => {}
         Err(Stop::Refused(refusal)) => {
             return write_refusal(alloc, sink, refusal, program.items.as_slice());
         }
-        Err(Stop::Memory(error)) => return Err(WriteFault::Memory(error)),
+        Err(Stop::Memory(error)) => return Err(RunFault::from(error)),
     }
     match evaluation {
-        Evaluation::Run { workers, shown } => write_run::<R, K, G, L>(
-            alloc, place, &program, fuel, workers, shown, sink, blank,
+        Evaluation::Run(options) => write_run::<R, K, C, G, L>(
+            alloc, place, &program, fuel, options, sink, keeper, blank,
         ),
         Evaluation::Erased => {
             write_erased::<K, L>(alloc, place.table, &program, fuel, sink, blank)
@@ -75,11 +101,12 @@ fn write_refusal<K: Sink>(
     sink: &mut K,
     refusal: Refusal,
     items: &[Item],
-) -> Result<Status, WriteFault>
+) -> Result<Status, RunFault>
     ensures status { IfOk result (λ status. status ≡ Refused refusal) }
+    ensures usual { IfErr result IsUsual }
     ensures writes { let text = refusal_line (map (λ (i : PureItem). i.name) items.now) refusal in
         Writes result K.tells (K.written sink.old) (K.written sink.new) text }
-    ensures blames { Blames result (K.faults sink.old) (K.faults sink.new) }
+    ensures blames { BlamesSink result (K.faults sink.old) (K.faults sink.new) }
     ensures count { K.faults sink.old ≤ K.faults sink.new }
 {
     let mut text = Vec::new(alloc);

@@ -1,8 +1,13 @@
-use Rattle.std.proofs.Common.{inl, inr, ap}
+use Rattle.std.proofs.Common.{inl, inr, map, ap, ◌∙◌, refl, subst}
+use Rattle.mw_drive.specs.HeldFiles.{IsKeptWith}
+use Rattle.mw_drive.specs.Works.{ran, mode_of, run_text, status_of}
+use Rattle.mw_drive.proofs.OneMeaning.{one_meaning}
 use Rattle.mw_drive.specs.Extents.{extent}
-use Rattle.mw_drive.specs.Running.{kind_of}
+use Rattle.mw_drive.specs.Running.{kind_of, path_of}
 use Rattle.mw_words.specs.Words.{command_in}
-use Rattle.mw_drive.proofs.CommandLemmas.{sample_range, run_workers, asked_text, asked_status, asked_complete, asked_faults, asked_possible, asked_unfailed, asked_missing, asked_no_file, asked_read, asked_has, asked_erased, asked_simplified}
+use Rattle.mw_keeping.proofs.KeptFiles.{front_stays}
+use Rattle.mw_drive.proofs.CommandLemmas.{sample_range, run_workers, asked_text, asked_status, asked_complete, asked_faults, asked_possible, asked_of, asked_missing, asked_no_file, asked_no_cache, asked_cache, asked_kept, asked_bad, asked_read, asked_has, asked_erased, asked_simplified}
+use Rattle.mw_drive.proofs.HeldFiles.{front_of, kept_ending}
 use Rattle.mw_drive.proofs.ModuleLemmas.{meaning_modules}
 use Rattle.mw_drive.proofs.command.run.Goals as goal
 
@@ -11,8 +16,8 @@ carry_out-requires-clause-range g c = λ κs live n e. sample_range
     (command_in c.in-Ok.command) n c.in-Ok.ensures.some e
 
 pub carry_out-requires-clause-workers : goal.carry_out-requires-clause-workers
-carry_out-requires-clause-workers g c = λ κs live w fuel simplify file e.
-    run_workers (command_in c.in-Ok.command) w fuel simplify file c.in-Ok.ensures.some e
+carry_out-requires-clause-workers g c = λ κs live w fuel simplify cache file e.
+    run_workers (command_in c.in-Ok.command) w fuel simplify cache file c.in-Ok.ensures.some e
 
 pub returns-in-Ok-clause-text : goal.returns-in-Ok-clause-text
 returns-in-Ok-clause-text g c =
@@ -67,10 +72,17 @@ returns-in-Ok-clause-modules g c = λ work asked meaning is. meaning_modules wor
 
 pub returns-in-Ok-clause-unfailed : goal.returns-in-Ok-clause-unfailed
 returns-in-Ok-clause-unfailed g c =
-    asked_unfailed (command_in c.in-Ok.command) c.in-Ok.ensures.some c.carry_out.result g.K.Sink.tells _ _ _ _
+    asked_of (command_in c.in-Ok.command) c.in-Ok.ensures.some c.carry_out.result g.K.Sink.tells _ _ _ _
     c.carry_out.ensures.work c.carry_out.ensures.read
     c.carry_out.ensures.write c.carry_out.ensures.possible
-    c.carry_out.ensures.unfailed
+    _ c.carry_out.ensures.unfailed
+
+pub returns-in-Ok-clause-sound : goal.returns-in-Ok-clause-sound
+returns-in-Ok-clause-sound g c =
+    asked_of (command_in c.in-Ok.command) c.in-Ok.ensures.some c.carry_out.result g.K.Sink.tells _ _ _ _
+    c.carry_out.ensures.work c.carry_out.ensures.read
+    c.carry_out.ensures.write c.carry_out.ensures.possible
+    _ c.carry_out.ensures.sound
 
 pub returns-in-Ok-clause-missing : goal.returns-in-Ok-clause-missing
 returns-in-Ok-clause-missing g c = λ asked. c.carry_out.ensures.missing
@@ -91,3 +103,51 @@ returns-in-Ok-clause-unread g c (inr asked) = c.carry_out.ensures.unread
     (asked_no_file (command_in c.in-Ok.command) c.in-Ok.ensures.some c.carry_out.result g.K.Sink.tells _ _ _ _
     c.carry_out.ensures.work c.carry_out.ensures.read
     c.carry_out.ensures.write c.carry_out.ensures.possible asked)
+
+pub returns-in-Ok-clause-untouched : goal.returns-in-Ok-clause-untouched
+returns-in-Ok-clause-untouched g c (inl usage) =
+    absurd (c.carry_out.ensures.possible (ap (extent (kind_of (command_in c.in-Ok.command))) usage))
+returns-in-Ok-clause-untouched g c (inr (inl read)) = c.carry_out.ensures.untouched (inl read)
+returns-in-Ok-clause-untouched g c (inr (inr asked)) = c.carry_out.ensures.untouched
+    (inr (asked_no_cache (command_in c.in-Ok.command) c.in-Ok.ensures.some c.carry_out.result g.K.Sink.tells _ _ _ _
+    c.carry_out.ensures.work c.carry_out.ensures.read
+    c.carry_out.ensures.write c.carry_out.ensures.possible asked))
+
+pub returns-in-Ok-clause-front : goal.returns-in-Ok-clause-front
+returns-in-Ok-clause-front g c = λ tells.
+    front_of (path_of (command_in c.in-Ok.command)) c.carry_out.result _ _
+    (λ none. ap g.C.Keeper.held (c.carry_out.ensures.untouched (inr none)))
+    (λ some. c.carry_out.ensures.held some tells)
+
+pub returns-in-Err-clause-front : goal.returns-in-Err-clause-front
+returns-in-Err-clause-front g c = λ tells. front_stays _ _ refl
+
+pub returns-in-Ok-clause-held : goal.returns-in-Ok-clause-held
+returns-in-Ok-clause-held g c = λ asked. c.carry_out.ensures.held
+    (asked_cache (command_in c.in-Ok.command) c.in-Ok.ensures.some c.carry_out.result g.K.Sink.tells _ _ _ _
+    c.carry_out.ensures.work c.carry_out.ensures.read
+    c.carry_out.ensures.write c.carry_out.ensures.possible asked)
+
+pub returns-in-Ok-clause-kept : goal.returns-in-Ok-clause-kept
+returns-in-Ok-clause-kept g c = λ work asked some written shown kernels e is.
+    let m =
+    asked_complete (command_in c.in-Ok.command) c.in-Ok.ensures.some c.carry_out.result g.K.Sink.tells _ _ _ _
+    c.carry_out.ensures.work c.carry_out.ensures.read
+    c.carry_out.ensures.write c.carry_out.ensures.possible work asked
+    written in
+    let own = m.2 ∙ ap status_of (one_meaning work m.0 (ran shown kernels e) m.1 is) in
+    let texts = map (run_text (mode_of shown)) kernels in
+    let held = g.C.Keeper.held c.args.keeper.now in
+    let after = g.C.Keeper.held c.carry_out.new.keeper in
+    kept_ending e texts held after (subst (λ s. IsKeptWith texts s held after) own
+    (asked_kept (command_in c.in-Ok.command) c.in-Ok.ensures.some c.carry_out.result g.K.Sink.tells _ _ _ _
+    c.carry_out.ensures.work c.carry_out.ensures.read
+    c.carry_out.ensures.write c.carry_out.ensures.possible
+    (λ texts s. IsKeptWith texts s held after) c.carry_out.ensures.kept work asked some shown kernels e is))
+
+pub returns-in-Ok-clause-bad : goal.returns-in-Ok-clause-bad
+returns-in-Ok-clause-bad g c = λ digest work told asked.
+    asked_bad (command_in c.in-Ok.command) c.in-Ok.ensures.some c.carry_out.result g.K.Sink.tells _ _ _ _
+    c.carry_out.ensures.work c.carry_out.ensures.read
+    c.carry_out.ensures.write c.carry_out.ensures.possible _
+    (λ contents work has works. c.carry_out.ensures.bad digest contents work told has works) work asked

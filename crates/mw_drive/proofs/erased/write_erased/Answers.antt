@@ -1,13 +1,17 @@
-use Rattle.std.proofs.Common.{◌≡◌, ap, sym, subst}
+use Rattle.std.proofs.Common.{◌≡◌, ◌∙◌, ap, sym, subst}
+use Rattle.mw_store.specs.Loads.{LoadState}
+use Rattle.mw_cache.specs.Gots.{CacheState}
 use Rattle.mw_term.specs.Programs.{program_of}
 use Rattle.mw_meaning.specs.declared.mode.Mode.TheVariants.{Plain}
 use Rattle.mw_meaning.proofs.ErasedMain.{typable_names_are_bound}
 use Rattle.mw_tasks.specs.Phases.{codes_in}
 use Rattle.mw_drive.specs.Honest.{AreMeant}
 use Rattle.mw_console.specs.Texts.{ending_line, ending_status}
-use Rattle.mw_drive.specs.ProgramRuns.{ending_of}
-use Rattle.mw_drive.proofs.Faults.{front_written, no_answer}
+use Rattle.mw_drive.specs.ProgramRuns.{ending_of, IsUsual}
+use Rattle.mw_drive.proofs.Faults.{front_written, no_answer, fault_is}
 use Rattle.mw_drive.proofs.Fronts.{grows_nothing}
+use Rattle.mw_drive.proofs.Honest.{are_outcomes, none_wrong, nothing_honest}
+use Rattle.mw_drive.proofs.RunFaults.{unwritten_usual, job_is_usual, if_bad}
 use Rattle.mw_drive.proofs.ErasedEnds.{erased_ends}
 use Rattle.mw_drive.proofs.ErasedWritten.{program_source, small_types, no_outcomes, erased_is}
 use Rattle.mw_drive.proofs.erased.write_erased.Goals as goal
@@ -25,6 +29,7 @@ returns-in_err-erased-clause-run g c =
       ending = e.0;
       is_run = e.1;
       is_status = no_answer _ c.from_residual.result (λ s. s ≡ ending_status e.0) err;
+      usual = fault_is _ IsUsual c.from_residual.result err (unwritten_usual _);
       writes = front_written _ c.from_residual.result g.K.Sink.tells _ _ (ending_line e.0) err
           (λ t. grows_nothing _ _);
     }
@@ -38,32 +43,66 @@ main_end-requires-clause-small g c = small_types (program_of c.in_ok-erased.eras
 
 pub main_end-requires-clause-phase : goal.main_end-requires-clause-phase
 main_end-requires-clause-phase g c =
-    subst (AreMeant Plain (program_of c.in_ok-erased.erased) c.args.fuel c.new-cache.result)
+    are_outcomes Plain (program_of c.in_ok-erased.erased) c.args.fuel c.new-cache.result _
+    (subst (AreMeant Plain (program_of c.in_ok-erased.erased) c.args.fuel c.new-cache.result)
     (sym c.no_kernels-phase.ensures)
-    (no_outcomes c.args.fuel c.new-cache.result (program_of c.in_ok-erased.erased) c.in_ok-erased.ensures.unstaged)
+    (no_outcomes c.args.fuel c.new-cache.result (program_of c.in_ok-erased.erased) c.in_ok-erased.ensures.unstaged))
 
 pub returns-in_err-end-clause-run : goal.returns-in_err-end-clause-run
 returns-in_err-end-clause-run g c =
     let e =
     erased_ends c.args.fuel (program_of c.args.program.now) (program_source c.args.program.now) c.requires.typable in
     let err = c.from_residual-in_err-end.ensures.1 in
+    let none =
+    ap (λ (s : CacheState). s.load.records) c.new-cache.ensures ∙ ap (λ (l : LoadState). l.records) c.new.ensures in
     record {
       ending = e.0;
       is_run = e.1;
       is_status = no_answer _ c.from_residual-in_err-end.result (λ s. s ≡ ending_status e.0) err;
+      usual =
+          fault_is _ IsUsual c.from_residual-in_err-end.result err
+          (job_is_usual c.in_err-end.field-0.0 (if_bad c.in_err-end.field-0.0 _ _
+          (λ d h. none_wrong Plain c.new-cache.result.load (nothing_honest c.new-cache.result.load none) _ h.bad.1)
+          c.in_err-end.ensures.bad));
       writes =
           front_written _ c.from_residual-in_err-end.result g.K.Sink.tells _ _ (ending_line e.0) err
           (λ t. grows_nothing _ _);
     }
 
+pub returns-in_err-write_end-clause-run : goal.returns-in_err-write_end-clause-run
+returns-in_err-write_end-clause-run g c =
+    let err = c.from_residual-in_err-write_end.ensures.1 in
+    let none =
+    ap (λ (s : CacheState). s.load.records) c.new-cache.ensures ∙ ap (λ (l : LoadState). l.records) c.new.ensures in
+    record {
+      ending = ending_of c.in_ok-end.end;
+      is_run =
+          erased_is (program_of c.args.program.now) (program_of c.in_ok-erased.erased) c.args.fuel
+          (ending_of c.in_ok-end.end)
+          c.in_ok-erased.ensures.erased c.in_ok-erased.ensures.unstaged
+          (rw (ap codes_in c.no_kernels-phase.ensures) at
+          c.in_ok-end.ensures.end (nothing_honest c.new-cache.result.load none));
+      is_status =
+          no_answer _ c.from_residual-in_err-write_end.result (λ s. s ≡ ending_status (ending_of c.in_ok-end.end)) err;
+      usual = fault_is _ IsUsual c.from_residual-in_err-write_end.result err (unwritten_usual _);
+      writes =
+          front_written _ c.from_residual-in_err-write_end.result g.K.Sink.tells _ _
+          (ending_line (ending_of c.in_ok-end.end)) err c.in_err-write_end.ensures.writes;
+    }
+
 pub returns-clause-run : goal.returns-clause-run
-returns-clause-run g c = record {
-  ending = ending_of c.in_ok-end.end;
-  is_run =
-      erased_is (program_of c.args.program.now) (program_of c.in_ok-erased.erased) c.args.fuel
-      (ending_of c.in_ok-end.end)
-      c.in_ok-erased.ensures.erased c.in_ok-erased.ensures.unstaged
-      (rw (ap codes_in c.no_kernels-phase.ensures) at c.in_ok-end.ensures);
-  is_status = c.write_end.ensures.status;
-  writes = c.write_end.ensures.writes;
-}
+returns-clause-run g c =
+    let none =
+    ap (λ (s : CacheState). s.load.records) c.new-cache.ensures ∙ ap (λ (l : LoadState). l.records) c.new.ensures in
+    record {
+      ending = ending_of c.in_ok-end.end;
+      is_run =
+          erased_is (program_of c.args.program.now) (program_of c.in_ok-erased.erased) c.args.fuel
+          (ending_of c.in_ok-end.end)
+          c.in_ok-erased.ensures.erased c.in_ok-erased.ensures.unstaged
+          (rw (ap codes_in c.no_kernels-phase.ensures) at
+          c.in_ok-end.ensures.end (nothing_honest c.new-cache.result.load none));
+      is_status = c.in_ok-write_end.ensures.status;
+      usual = tt;
+      writes = c.in_ok-write_end.ensures.writes;
+    }

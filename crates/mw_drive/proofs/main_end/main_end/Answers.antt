@@ -1,8 +1,7 @@
+use Rattle.std.proofs.Common.{◌≡◌, ap, ◌∙◌}
 use Rattle.mw_term.specs.Programs.{program_of}
-use Rattle.mw_drive.proofs.Honest.{are_outcomes}
+use Rattle.mw_meaning.specs.Outcomes.{names_of_main}
+use Rattle.mw_meaning.specs.StagedMeaning.{runs}
+use Rattle.mw_tasks.specs.Phases.{codes_in}
+use Rattle.mw_drive.proofs.Honest.{honest_runs}
 use Rattle.mw_drive.proofs.main_end.main_end.Goals as goal
-
-pub main_phase-requires-clause-phase : goal.main_phase-requires-clause-phase
-main_phase-requires-clause-phase g c =
-    are_outcomes c.args.mode (program_of c.args.program.now) c.args.fuel c.args.cache.now c.args.phase.now.outcomes
-    c.requires.phase

@@ -11,13 +11,12 @@ write_kernel-requires g c =
     got c.args.kernels.now c.loop-at.at c.index-kernels-at.result (omega (arith, c.loop-at-test.true))
     c.index-kernels-at.is in
     record {
-      honest = c.requires.honest;
       here = all_at (HasModuleHere c.args.cache.now) c.args.kernels.now c.loop-at.at c.index-kernels-at.result
           c.requires.here here;
     }
 
 pub returns-in_err-write_kernel-clause-writes : goal.returns-in_err-write_kernel-clause-writes
-returns-in_err-write_kernel-clause-writes g c mode built =
+returns-in_err-write_kernel-clause-writes g c honest mode built =
     let here =
     got c.args.kernels.now c.loop-at.at c.index-kernels-at.result (omega (arith, c.loop-at-test.true))
     c.index-kernels-at.is in
@@ -25,8 +24,8 @@ returns-in_err-write_kernel-clause-writes g c mode built =
     all_at (IsBuilt mode c.args.cache.now) c.args.kernels.now c.loop-at.at c.index-kernels-at.result built here in
     front_written _ c.from_residual.result g.K.Sink.tells _ _ _ c.from_residual.ensures.1
     (λ tells. lines_front mode c.args.kernels.now c.loop-at.at c.index-kernels-at.result _ _ _ here
-    (c.loop-at.invariant.written mode built tells)
-    (c.in_err-write_kernel.ensures.writes mode kernel tells))
+    (c.loop-at.invariant.written honest mode built tells)
+    (c.in_err-write_kernel.ensures.writes honest mode kernel tells))
 
 pub loop-at-preserved : goal.loop-at-preserved
 loop-at-preserved g c =
@@ -34,12 +33,12 @@ loop-at-preserved g c =
     got c.args.kernels.now c.loop-at.at c.index-kernels-at.result (omega (arith, c.loop-at-test.true))
     c.index-kernels-at.is in
     record {
-      written = λ mode built tells.
+      written = λ honest mode built tells.
           let kernel =
           all_at (IsBuilt mode c.args.cache.now) c.args.kernels.now c.loop-at.at c.index-kernels-at.result built here
           in
           lines_written mode c.args.kernels.now c.loop-at.at c.index-kernels-at.result _ _ _ here
-          (c.loop-at.invariant.written mode built tells)
-          (c.in_ok-write_kernel.ensures.writes mode kernel tells);
+          (c.loop-at.invariant.written honest mode built tells)
+          (c.in_ok-write_kernel.ensures.writes honest mode kernel tells);
       count = c.in_ok-write_kernel.ensures.blames ∙ c.loop-at.invariant.count;
     }

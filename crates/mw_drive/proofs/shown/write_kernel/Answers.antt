@@ -11,12 +11,12 @@ use Rattle.mw_drive.proofs.Showing.{its_lines}
 use Rattle.mw_drive.proofs.shown.write_kernel.Goals as goal
 
 pub returns-clause-writes : goal.returns-clause-writes
-returns-clause-writes g c mode built =
+returns-clause-writes g c honest mode built =
     let kernel = c.args.kernel.now in
     let lines =
     its_lines mode c.args.cache.now kernel built _ c.bytes-bytes.result.now
     (c.digest-key.ensures ∙ ap sha256 c.text-text.ensures)
-    (c.bytes-bytes.ensures.emission (honest_text c.args.cache.now.load c.requires.honest _)) in
+    (c.bytes-bytes.ensures.emission (honest_text c.args.cache.now.load honest _)) in
     let told =
     kernel_text kernel.name.now (kernel_type_of kernel.kind.now) c.digest-key.result c.bytes-bytes.result.now in
     let text : c.as_slice.result.now ≡ kernel_lines mode (kernel_of kernel) =

@@ -1,46 +1,55 @@
-use Rattle.mw_drive.proofs.SourceWritten.{written_nothing, refusal_written, resolved, few_items, types_written, run_written, erased_written, few_nodes}
+use Rattle.std.proofs.Common.{map, Err, refl, subst}
+use Rattle.mw_drive.specs.HeldFiles.{IsKeptOf}
+use Rattle.mw_drive.specs.ProgramRuns.{evaluated, cache_of}
+use Rattle.mw_drive.specs.Works.{mode_of, run_text}
+use Rattle.mw_drive.proofs.HeldFiles.{held_failed, held_refused}
+use Rattle.mw_drive.proofs.RunFaults.{bad_maps}
+use Rattle.mw_drive.proofs.SourceWritten.{written_nothing, refusal_written, resolved, few_items, types_written, run_written, erased_written, few_nodes, run_kernels, bad_written, refused_kept}
 use Rattle.mw_drive.proofs.source.write_source.Goals as goal
 
 pub returns-in-Err-Refused-clause-meaning : goal.returns-in-Err-Refused-clause-meaning
-returns-in-Err-Refused-clause-meaning g c =
+returns-in-Err-Refused-clause-meaning g c = λ honest.
     refusal_written c.args.bytes.now c.args.fuel g.K.Sink.tells c.args.evaluation c.write_refusal.result _ _
     c.in-Err-Refused.refusal c.in-Err-Refused.field-0 c.in-Err-Refused.field-0-is c.in-Err-Refused.ensures.refused
-    (rw c.in-Err-Refused.field-0-is at c.write_refusal.ensures.status)
-    (rw c.in-Err-Refused.field-0-is at c.write_refusal.ensures.writes)
+    c.write_refusal.ensures.status c.write_refusal.ensures.usual c.write_refusal.ensures.writes
 
 pub returns-in-Err-Memory-clause-meaning : goal.returns-in-Err-Memory-clause-meaning
-returns-in-Err-Memory-clause-meaning g c =
-    written_nothing c.args.bytes.now c.args.fuel g.K.Sink.tells c.args.evaluation _ _
+returns-in-Err-Memory-clause-meaning g c = λ honest.
+    rw c.from.ensures (written_nothing c.args.bytes.now c.args.fuel g.K.Sink.tells c.args.evaluation _ _)
 
 pub check-requires : goal.check-requires
 check-requires g c = resolved c.args.bytes.now c.args.fuel g.K.Sink.tells c.in-Ok.program c.in-Ok.ensures.found
 
 pub returns-in-Err-Refused-check-clause-meaning : goal.returns-in-Err-Refused-check-clause-meaning
-returns-in-Err-Refused-check-clause-meaning g c =
+returns-in-Err-Refused-check-clause-meaning g c = λ honest.
     types_written c.args.bytes.now c.args.fuel g.K.Sink.tells c.in-Ok.program c.in-Ok.ensures.found c.args.evaluation
     c.write_refusal-in-Err-Refused-check.result _ _ c.in-Err-Refused-check.refusal
     c.in-Err-Refused-check.field-0 c.in-Err-Refused-check.field-0-is c.in-Err-Refused-check.ensures.refused
-    (rw c.in-Err-Refused-check.field-0-is at c.write_refusal-in-Err-Refused-check.ensures.status)
-    (rw (c.in-Err-Refused-check.field-0-is, c.as_slice.ensures) at
-    c.write_refusal-in-Err-Refused-check.ensures.writes)
+    c.write_refusal-in-Err-Refused-check.ensures.status
+    c.write_refusal-in-Err-Refused-check.ensures.usual
+    (rw c.as_slice.ensures at c.write_refusal-in-Err-Refused-check.ensures.writes)
 
 pub returns-in-Err-Memory-check-clause-meaning : goal.returns-in-Err-Memory-check-clause-meaning
-returns-in-Err-Memory-check-clause-meaning g c =
-    written_nothing c.args.bytes.now c.args.fuel g.K.Sink.tells c.args.evaluation _ _
+returns-in-Err-Memory-check-clause-meaning g c = λ honest.
+    rw c.from-in-Err-Memory-check.ensures
+    (written_nothing c.args.bytes.now c.args.fuel g.K.Sink.tells c.args.evaluation _ _)
 
 pub write_run-requires-clause-few : goal.write_run-requires-clause-few
 write_run-requires-clause-few g c =
     λ κs live. few_items c.args.bytes.now c.args.fuel g.K.Sink.tells c.in-Ok.program c.in-Ok.ensures.found
 
 pub write_run-requires-clause-workers : goal.write_run-requires-clause-workers
-write_run-requires-clause-workers g c = λ κs live. rw c.in-Run.is at c.requires.workers
+write_run-requires-clause-workers g c = λ κs live. (rw c.in-Run.is at c.requires.possible).0
+
+pub write_run-requires-clause-totals : goal.write_run-requires-clause-totals
+write_run-requires-clause-totals g c = λ κs live. (rw c.in-Run.is at c.requires.possible).1
 
 pub returns-in-Run-clause-meaning : goal.returns-in-Run-clause-meaning
 returns-in-Run-clause-meaning g c =
-    rw c.in-Run.is
-    (run_written c.args.bytes.now c.args.fuel g.K.Sink.tells c.in-Ok.program c.in-Ok.ensures.found c.in-Run.workers
-    c.in-Run.shown c.write_run.result _ _
-    c.in-Ok-check.ensures.typable c.in-Ok-check.ensures.small c.write_run.ensures.run)
+    rw c.in-Run.is (λ honest.
+    run_written c.args.bytes.now c.args.fuel g.K.Sink.tells c.in-Ok.program c.in-Ok.ensures.found c.in-Run.options
+    c.write_run.result _ _
+    c.in-Ok-check.ensures.typable c.in-Ok-check.ensures.small (c.write_run.ensures.run honest))
 
 pub write_erased-requires-clause-nodes : goal.write_erased-requires-clause-nodes
 write_erased-requires-clause-nodes g c =
@@ -48,7 +57,54 @@ write_erased-requires-clause-nodes g c =
 
 pub returns-clause-meaning : goal.returns-clause-meaning
 returns-clause-meaning g c =
-    rw c.in-Erased.is
-    (erased_written c.args.bytes.now c.args.fuel g.K.Sink.tells c.in-Ok.program c.in-Ok.ensures.found
+    rw c.in-Erased.is (λ honest.
+    erased_written c.args.bytes.now c.args.fuel g.K.Sink.tells c.in-Ok.program c.in-Ok.ensures.found
     c.write_erased.result _ _
     c.in-Ok-check.ensures.typable c.in-Ok-check.ensures.small c.write_erased.ensures.run)
+
+pub returns-in-Err-Refused-clause-held : goal.returns-in-Err-Refused-clause-held
+returns-in-Err-Refused-clause-held g c = λ some tells.
+    held_refused c.write_refusal.result c.in-Err-Refused.refusal _ _ c.write_refusal.ensures.status refl
+
+pub returns-in-Err-Refused-clause-kept : goal.returns-in-Err-Refused-clause-kept
+returns-in-Err-Refused-clause-kept g c = λ some honest shown kernels e means.
+    refused_kept (cache_of c.args.evaluation) (evaluated c.args.evaluation c.args.bytes.now c.args.fuel)
+    c.write_refusal.result c.in-Err-Refused.refusal g.K.Sink.tells _ _ _ _ _
+    (returns-in-Err-Refused-clause-meaning g c honest) c.write_refusal.ensures.status shown kernels e means
+
+pub returns-in-Err-Memory-clause-held : goal.returns-in-Err-Memory-clause-held
+returns-in-Err-Memory-clause-held g c = λ some tells. held_failed (Err c.from.result) _ _ refl refl
+
+pub returns-in-Err-Refused-check-clause-held : goal.returns-in-Err-Refused-check-clause-held
+returns-in-Err-Refused-check-clause-held g c = λ some tells.
+    held_refused c.write_refusal-in-Err-Refused-check.result c.in-Err-Refused-check.refusal _ _
+    c.write_refusal-in-Err-Refused-check.ensures.status refl
+
+pub returns-in-Err-Refused-check-clause-kept : goal.returns-in-Err-Refused-check-clause-kept
+returns-in-Err-Refused-check-clause-kept g c = λ some honest shown kernels e means.
+    refused_kept (cache_of c.args.evaluation) (evaluated c.args.evaluation c.args.bytes.now c.args.fuel)
+    c.write_refusal-in-Err-Refused-check.result c.in-Err-Refused-check.refusal g.K.Sink.tells _ _ _ _ _
+    (returns-in-Err-Refused-check-clause-meaning g c honest) c.write_refusal-in-Err-Refused-check.ensures.status shown
+    kernels e means
+
+pub returns-in-Err-Memory-check-clause-held : goal.returns-in-Err-Memory-check-clause-held
+returns-in-Err-Memory-check-clause-held g c = λ some tells.
+    held_failed (Err c.from-in-Err-Memory-check.result) _ _ refl refl
+
+pub returns-in-Run-clause-kept : goal.returns-in-Run-clause-kept
+returns-in-Run-clause-kept g c =
+    rw c.in-Run.is (λ some honest shown kernels e means.
+    let r = run_kernels c.args.bytes.now c.args.fuel g.K.Sink.tells c.in-Ok.program c.in-Ok.ensures.found
+    c.in-Run.options.shown shown kernels e means in
+    subst (λ s. IsKeptOf (map (run_text (mode_of s)) kernels) c.write_run.result
+    (g.C.Keeper.held c.args.keeper.now) (g.C.Keeper.held c.write_run.new.keeper)) r.0
+    (c.write_run.ensures.kept some honest kernels e r.1))
+
+pub returns-in-Run-clause-bad : goal.returns-in-Run-clause-bad
+returns-in-Run-clause-bad g c =
+    rw c.in-Run.is (bad_maps c.write_run.result _ _
+    (λ d h tells.
+    bad_written c.args.bytes.now c.args.fuel g.K.Sink.tells c.in-Ok.program c.in-Ok.ensures.found
+    (mode_of c.in-Run.options.shown) c.in-Run.options.shown _ d c.in-Ok-check.ensures.typable
+    c.in-Ok-check.ensures.small refl (h tells))
+    c.write_run.ensures.bad)

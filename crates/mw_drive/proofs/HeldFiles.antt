@@ -1,0 +1,179 @@
+-- What the cache file of a run holds, from what was opened and kept.
+use Rattle.std.proofs.Common.{◌≡◌, ◌⊎◌, inl, inr, ℕ, List, [], ◌∷◌, map, Option, Some, None, IsSome, IsNone, Bool, IsTrue, Result, Ok, Err, IsErr, IfOk, refl, sym, ap, ◌∙◌, subst}
+use Rattle.std.specs.List.{AllByRecursion}
+use Rattle.std.specs.Result.{IsErrAnd}
+use Rattle.mw_term.specs.declared.refusal.Refusal.{Refusal}
+use denote.Ref.{Bor}
+use Rattle.mw_outside.specs.Count.{Rose, Rose-after, Rose-before}
+use Rattle.mw_outside.specs.declared.errors.WriteFault.TheVariants as fault
+use Rattle.mw_meaning.specs.declared.mode.Mode.{Mode}
+use Rattle.mw_store.specs.Loads.{LoadState}
+use Rattle.mw_cache.specs.Gots.{CacheState}
+use Rattle.mw_console.specs.Texts.{Ending, answered, trapped, bounded, ending_status}
+use Rattle.mw_console.specs.declared.status.Status.{Status}
+use Rattle.mw_console.specs.declared.status.Status.TheVariants.{Answer, Trap, Usage, Refused, Bound, Read as Unreadable, Write, Cache, Memory, BadCache}
+use Rattle.mw_keeping.specs.CacheFiles.{IsReadFile, IsOpened}
+use Rattle.mw_keeping.specs.KeptFiles.{IsKeptFile, HasGoodFront}
+use Rattle.mw_keeping.specs.declared.opening.CacheFile.{CacheFile}
+use Rattle.mw_keeping.specs.declared.opening.CacheFile.TheVariants.{Absent, Unread, Read}
+use Rattle.mw_keeping.proofs.KeptFiles.{front_stays, kept_none, kept_front}
+use Rattle.mw_drive.specs.declared.fault.RunFault.{RunFault}
+use Rattle.mw_drive.specs.declared.fault.RunFault.TheVariants.{Unwritten, Bad}
+use Rattle.mw_drive.specs.declared.items.Built.{Built}
+use Rattle.mw_drive.specs.HeldFiles.{IsHeldWith, IsHeldAfter, IsKeptOf, IsKeptWith, IsStatusAfter, texts_built}
+use Rattle.mw_drive.specs.ProgramRuns.{kernel_of, kernels_of, IsBuilt, HasEnding, IsEndOf, IsEnded}
+use Rattle.mw_drive.specs.ProgramMeaning.{Kernel}
+use Rattle.mw_drive.specs.Works.{run_text}
+use Rattle.mw_drive.proofs.Options.{none_is_some, some_is_none, answer_is_fault}
+
+-- the texts of the kernels' modules are those of what is run of their code
+pub texts_are : (mode : Mode) (cache : CacheState) (built : List Built) → AllByRecursion (IsBuilt mode cache) built
+    → texts_built cache built ≡ map (run_text mode) (kernels_of built)
+texts_are mode cache [] h = refl
+texts_are mode cache (b ∷ built) h =
+    ap (λ t. t ∷ texts_built cache built) h.0.text.text
+    ∙ ap (λ ts. run_text mode (kernel_of b) ∷ ts) (texts_are mode cache built h.1)
+
+-- no ending's status says that the file wasn't kept
+pub ending_kept : (e : Ending) → ending_status e ≡ Cache → ⊥
+ending_kept (answered v) is = absurd (cc)
+ending_kept (trapped t name) is = absurd (cc)
+ending_kept (bounded l name) is = absurd (cc)
+
+pub has_ending_kept : (s : Status) → HasEnding s → s ≡ Cache → ⊥
+has_ending_kept s (e, is) unkept = ending_kept e (sym is ∙ unkept)
+
+pub opened_read : {tells : Bool} {held : List ℕ} (path : Option (Bor (List ℕ))) (file : CacheFile) (load : LoadState)
+    → IsOpened tells held path file load → (count : ℕ) → file ≡ Read count → IsTrue tells → IsReadFile held count load
+opened_read None Absent load opened count is = absurd (cc)
+opened_read None Unread load opened count is = absurd (cc)
+opened_read None (Read n) load opened count is = absurd opened
+opened_read (Some x) Absent load opened count is = absurd opened
+opened_read (Some x) Unread load opened count is = absurd (cc)
+opened_read {tells} {held} (Some x) (Read n) load opened count is =
+    let same : n ≡ count = cc in λ t. subst (λ k. IsReadFile held k load) same (opened t)
+
+-- a fault before the file was touched
+pub held_failed : (r : Result Status RunFault) (held after : List ℕ) → IsErr r → after ≡ held → IsHeldAfter r held after
+held_failed (Ok s) held after failed same = absurd (answer_is_fault RunFault s failed)
+held_failed (Err (Unwritten fault.Failed)) held after failed same = same
+held_failed (Err (Unwritten (fault.Memory e))) held after failed same = front_stays held after same
+held_failed (Err (Bad d)) held after failed same = same
+
+held_ending : (e : Ending) (held after : List ℕ) → IsKeptFile held after [] → IsHeldWith (ending_status e) held after
+held_ending (answered v) held after h = h
+held_ending (trapped t name) held after h = h
+held_ending (bounded l name) held after h = h
+
+module _ (tells : Bool) (held : List ℕ) (path : Option (Bor (List ℕ))) (some : IsSome path) (file : CacheFile)
+    (load : LoadState)
+    (opened : IsOpened tells held path file load)
+    (after : List ℕ) (unread : file ≡ Unread → after ≡ held)
+    (front : (count : ℕ) → file ≡ Read count → HasGoodFront held after) where
+  -- whatever ended the keeping
+  pub front_kept : HasGoodFront held after
+  front_kept = by_file path file some opened unread front
+    where
+      by_file : (path : Option (Bor (List ℕ))) (file : CacheFile) → IsSome path → IsOpened tells held path file load
+          → (file ≡ Unread → after ≡ held) → ((count : ℕ) → file ≡ Read count → HasGoodFront held after)
+          → HasGoodFront held after
+      by_file None file some opened unread front = absurd (none_is_some (Bor (List ℕ)) some)
+      by_file (Some x) Absent some opened unread front = absurd opened
+      by_file (Some x) Unread some opened unread front = front_stays held after (unread refl)
+      by_file (Some x) (Read n) some opened unread front = front n refl
+
+  module _ (own s : Status) (ending : HasEnding own) (is : IsStatusAfter file own s) (texts : List (List ℕ))
+      (kept : (count : ℕ) → file ≡ Read count → (s ≡ Cache → ⊥) → IsKeptFile held after texts) where
+    kept_texts : (s ≡ Cache → ⊥) → IsKeptFile held after texts
+    kept_texts other = by_file path file some opened is kept
+      where
+        by_file : (path : Option (Bor (List ℕ))) (file : CacheFile) → IsSome path → IsOpened tells held path file load
+            → IsStatusAfter file own s
+            → ((count : ℕ) → file ≡ Read count → (s ≡ Cache → ⊥) → IsKeptFile held after texts)
+            → IsKeptFile held after texts
+        by_file None file some opened is kept = absurd (none_is_some (Bor (List ℕ)) some)
+        by_file (Some x) Absent some opened is kept = absurd opened
+        by_file (Some x) Unread some opened is kept = absurd (other is)
+        by_file (Some x) (Read n) some opened is kept = kept n refl other
+
+    pub texts_kept : IsKeptOf texts (Ok s) held after
+    texts_kept = kept_texts
+
+    pub status_is : (s ≡ own) ⊎ (s ≡ Cache)
+    status_is = by_file path file some opened is
+      where
+        by_file : (path : Option (Bor (List ℕ))) (file : CacheFile) → IsSome path → IsOpened tells held path file load
+            → IsStatusAfter file own s → (s ≡ own) ⊎ (s ≡ Cache)
+        by_file None file some opened is = absurd (none_is_some (Bor (List ℕ)) some)
+        by_file (Some x) Absent some opened is = absurd opened
+        by_file (Some x) Unread some opened is = inr is
+        by_file (Some x) (Read n) some opened is = is
+
+    pub held_kept : IsHeldWith s held after
+    held_kept = elim status_is [
+      | inl same ↦
+          let e = same ∙ ending.1 in
+          subst (λ x. IsHeldWith x held after) (sym e)
+          (held_ending ending.0 held after (kept_none (kept_texts (λ c. ending_kept ending.0 (sym e ∙ c)))))
+      | inr unkept ↦ subst (λ x. IsHeldWith x held after) (sym unkept) front_kept
+    ]
+
+-- the status of a run is its ending's, or with a cache file that this wasn't kept
+pub end_of : (tells : Bool) (held : List ℕ) (path : Option (Bor (List ℕ))) (file : CacheFile) (load : LoadState)
+    (own s : Status)
+    → IsOpened tells held path file load → IsStatusAfter file own s → (s ≡ own) ⊎ (IsSome path × (s ≡ Cache))
+end_of tells held None Absent load own s opened is = inl is
+end_of tells held None Unread load own s opened is = absurd opened
+end_of tells held None (Read n) load own s opened is = absurd opened
+end_of tells held (Some x) Absent load own s opened is = absurd opened
+end_of tells held (Some x) Unread load own s opened is = inr (refl, is)
+end_of tells held (Some x) (Read n) load own s opened (inl same) = inl same
+end_of tells held (Some x) (Read n) load own s opened (inr unkept) = inr (refl, unkept)
+
+-- where there is no file, none was opened
+pub absent : (tells : Bool) (held : List ℕ) (path : Option (Bor (List ℕ))) (file : CacheFile) (load : LoadState)
+    → IsOpened tells held path file load → IsNone path → file ≡ Absent
+absent tells held None Absent load opened none = refl
+absent tells held None Unread load opened none = absurd opened
+absent tells held None (Read n) load opened none = absurd opened
+absent tells held (Some x) file load opened none = absurd (some_is_none x none)
+
+-- whatever the status, the file begins with what counted
+pub held_front : (s : Status) (held after : List ℕ) → IsHeldWith s held after → HasGoodFront held after
+held_front Answer held after h = kept_front h
+held_front (Trap t) held after h = kept_front h
+held_front (Bound l) held after h = kept_front h
+held_front Cache held after h = h
+held_front (Memory e) held after h = h
+held_front Usage held after h = front_stays held after h
+held_front (Refused r) held after h = front_stays held after h
+held_front Unreadable held after h = front_stays held after h
+held_front Write held after h = front_stays held after h
+held_front (BadCache d) held after h = front_stays held after h
+
+pub front_of : {X : Type 0} (path : Option X) (s : Status) (held after : List ℕ) → (IsNone path → after ≡ held)
+    → (IsSome path → IsHeldWith s held after) → HasGoodFront held after
+front_of None s held after none some = front_stays held after (none refl)
+front_of (Some x) s held after none some = held_front s held after (some refl)
+
+-- what is kept with the status of an ending
+pub kept_ending : (e : Ending) (texts : List (List ℕ)) (held after : List ℕ)
+    → IsKeptWith texts (ending_status e) held after → IsKeptFile held after texts
+kept_ending (answered v) texts held after h = h
+kept_ending (trapped t name) texts held after h = h
+kept_ending (bounded l name) texts held after h = h
+
+-- want of memory while the file was kept
+pub held_memory : (r : Result Status RunFault) (e : _) (held after : List ℕ)
+    → IsErrAnd r (λ f. f ≡ Unwritten (fault.Memory e)) → HasGoodFront held after → IsHeldAfter r held after
+held_memory (Ok s) e held after h front = absurd h
+held_memory (Err f) e held after h front = subst (λ f. IsHeldAfter (Err f) held after) (sym h) front
+
+-- a refusal leaves the file alone
+pub held_refused : (r : Result Status RunFault) (q : Refusal) (held after : List ℕ) → IfOk r (λ s. s ≡ Refused q)
+    → after ≡ held
+    → IsHeldAfter r held after
+held_refused (Ok s) q held after is same = subst (λ t. IsHeldWith t held after) (sym is) same
+held_refused (Err (Unwritten fault.Failed)) q held after is same = same
+held_refused (Err (Unwritten (fault.Memory e))) q held after is same = front_stays held after same
+held_refused (Err (Bad d)) q held after is same = same

@@ -1,0 +1,75 @@
+-- Faults that end a run.
+use Rattle.std.proofs.Common.{◌≡◌, ℕ, List, Bool, IsTrue, Result, Ok, Err, IfErr, refl, sym, subst}
+use Rattle.std.specs.Result.{IsErrAnd}
+use Rattle.mw_outside.specs.Count.{Rose}
+use Rattle.mw_outside.specs.declared.errors.WriteFault.{WriteFault}
+use Rattle.mw_outside.specs.declared.errors.WriteFault.TheVariants.{Failed, Memory}
+use Rattle.mw_spread.specs.declared.job.JobFault.{JobFault}
+use Rattle.mw_spread.specs.declared.job.JobFault.TheVariants as job
+use Rattle.mw_spread.specs.Outputs.{IfBad}
+use Rattle.mw_drive.specs.declared.fault.RunFault.{RunFault}
+use Rattle.mw_drive.specs.declared.fault.RunFault.TheVariants.{Unwritten, Bad}
+use Rattle.mw_drive.specs.ProgramRuns.{IsUsual}
+use Rattle.mw_drive.specs.RunFaults.{fault_of_job, BlamesSink, IfBadRecord}
+use Rattle.mw_drive.specs.Written.{Blames}
+
+-- the sink's fault is no bad record
+pub unwritten_usual : (e : WriteFault) (f : RunFault) → f ≡ Unwritten e → IsUsual f
+unwritten_usual e f is = subst IsUsual (sym is) tt
+
+module _ {A : Type 0} (r : Result A RunFault) (e : WriteFault) where
+  pub fault_usual : IsErrAnd r (λ f. f ≡ Unwritten e) → IfErr r IsUsual
+  fault_usual h = of r h
+    where
+      of : (r : Result A RunFault) → IsErrAnd r (λ f. f ≡ Unwritten e) → IfErr r IsUsual
+      of (Ok x) h = tt
+      of (Err f) h = unwritten_usual e f h
+
+  pub fault_not_bad : (P : List ℕ → Type 0) → IsErrAnd r (λ f. f ≡ Unwritten e) → IfErr r (IfBadRecord P)
+  fault_not_bad P h = of r h
+    where
+      of : (r : Result A RunFault) → IsErrAnd r (λ f. f ≡ Unwritten e) → IfErr r (IfBadRecord P)
+      of (Ok x) h = tt
+      of (Err f) h = subst (IfBadRecord P) (sym h) tt
+
+-- a fault of the work on items or main
+module _ {A : Type 0} (r : Result A RunFault) (e : JobFault) (h : IsErrAnd r (λ f. f ≡ fault_of_job e)) where
+  pub job_bad : (P : List ℕ → Type 0) → IfBad e P → IfErr r (IfBadRecord P)
+  job_bad P bad = of r e h bad
+    where
+      of : (r : Result A RunFault) (e : JobFault) → IsErrAnd r (λ f. f ≡ fault_of_job e) → IfBad e P
+          → IfErr r (IfBadRecord P)
+      of (Ok x) e h bad = tt
+      of (Err f) (job.Memory error) h bad = subst (IfBadRecord P) (sym h) tt
+      of (Err f) (job.Bad digest) h bad = subst (IfBadRecord P) (sym h) bad
+
+  pub job_usual : IfBad e (λ digest. ⊥) → IfErr r IsUsual
+  job_usual none = of r e h none
+    where
+      of : (r : Result A RunFault) (e : JobFault) → IsErrAnd r (λ f. f ≡ fault_of_job e) → IfBad e (λ digest. ⊥)
+          → IfErr r IsUsual
+      of (Ok x) e h none = tt
+      of (Err f) (job.Memory error) h none = subst IsUsual (sym h) tt
+      of (Err f) (job.Bad digest) h none = absurd none
+
+-- what is true of bad records follows from more
+pub if_bad : (e : JobFault) (P Q : List ℕ → Type 0) → ((digest : List ℕ) → P digest → Q digest) → IfBad e P → IfBad e Q
+if_bad (job.Memory error) P Q f h = tt
+if_bad (job.Bad digest) P Q f h = f digest h
+
+pub job_is_usual : (e : JobFault) → IfBad e (λ digest. ⊥) → (f : RunFault) → f ≡ fault_of_job e → IsUsual f
+job_is_usual (job.Memory error) none f is = subst IsUsual (sym is) tt
+job_is_usual (job.Bad digest) none f is = absurd none
+
+-- a fault that is handed on
+pub passed_bad : {A : Type 0} (r : Result A RunFault) (e : RunFault) (P Q : List ℕ → Type 0) → IsErrAnd r (λ f. f ≡ e)
+    → ((digest : List ℕ) → P digest → Q digest) → IfBadRecord P e → IfErr r (IfBadRecord Q)
+passed_bad (Ok x) e P Q h f bad = tt
+passed_bad (Err g) (Unwritten error) P Q h f bad = subst (IfBadRecord Q) (sym h) tt
+passed_bad (Err g) (Bad digest) P Q h f bad = subst (IfBadRecord Q) (sym h) (f digest bad)
+
+pub bad_maps : {A : Type 0} (r : Result A RunFault) (P Q : List ℕ → Type 0)
+    → ((digest : List ℕ) → P digest → Q digest) → IfErr r (IfBadRecord P) → IfErr r (IfBadRecord Q)
+bad_maps (Ok x) P Q f bad = tt
+bad_maps (Err (Unwritten error)) P Q f bad = tt
+bad_maps (Err (Bad digest)) P Q f bad = f digest bad
