@@ -31,6 +31,8 @@ pub enum Kind {
     Digest,
     /// What the kernel items of a source come to, where their modules are, and main after them.
     Phases,
+    /// A command over the cache file that it leaves, whole and damaged at each place.
+    Cached,
 }
 
 /// All kinds, in the order in which they are counted.
@@ -48,6 +50,7 @@ pub const KINDS: &[Kind] = &[
     Kind::Text,
     Kind::Digest,
     Kind::Phases,
+    Kind::Cached,
 ];
 
 impl Kind {
@@ -67,6 +70,7 @@ impl Kind {
             Kind::Text => "text",
             Kind::Digest => "digest",
             Kind::Phases => "phases",
+            Kind::Cached => "cached",
         }
     }
 
@@ -74,7 +78,8 @@ impl Kind {
     pub fn fields(self) -> &'static [&'static str] {
         match self {
             Kind::Run => &[
-                "source", "words", "reads", "writes", "step", "shows", "beside",
+                "source", "words", "reads", "writes", "keeps", "step", "held", "holds", "shows",
+                "beside",
             ],
             Kind::Tree | Kind::Fronts | Kind::Program => &["source"],
             Kind::Verdicts => &["source", "next"],
@@ -84,6 +89,7 @@ impl Kind {
             Kind::Kernel => &["text", "fuel", "call"],
             Kind::Module | Kind::Text | Kind::Digest => &["text"],
             Kind::Phases => &["source", "workers", "slots", "mode", "fuel"],
+            Kind::Cached => &["source", "words", "workers", "shows"],
         }
     }
 }

@@ -8,6 +8,7 @@
 //! status is 1.
 #![tactic(auto)]
 
+mod cached;
 mod code;
 mod count;
 mod fields;
@@ -15,6 +16,7 @@ mod invocations;
 mod kernels;
 mod machine;
 mod modules;
+mod outside;
 mod phases;
 mod programs;
 mod reading;
@@ -52,6 +54,7 @@ fn carried_out<R: AllocGlobal + Threads + Sync>(
         Kind::Text => texts::text(alloc, row),
         Kind::Digest => texts::digest_lines(alloc, row),
         Kind::Phases => phases::carried_out(rt, row),
+        Kind::Cached => cached::carried_out(rt, row),
     }
 }
 

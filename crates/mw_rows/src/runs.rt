@@ -1,23 +1,18 @@
 // Commands over a source in memory.
 //
-// `source` is the one file that there is, `source.metaml`. `words` are the command's, with a blank between two; `''` is an empty
-// one, and `run source.metaml` stands there where the field doesn't. `reads` and `writes` number the calls of source and sink
-// that fail, from 0 on. The sink takes `step` bytes at once, 10 where the field isn't there. `shows` says which lines are
-// printed. `beside` names the row before: where the same bytes were written, that is said in place of the lines.
+// `source` is the one file, `source.metaml`. `words` are the command's, with a blank between two; `''` is an empty one, and
+// `run source.metaml` stands there where the field doesn't. `reads`, `writes` and `keeps` number the calls of source, sink and
+// keeper that fail, from 0 on. The sink takes `step` bytes at once, 10 where the field isn't there. The keeper holds the bytes
+// `held`. `shows` says which lines are printed. `beside` names the row before: where the same bytes were written, that is said
+// in place of the lines. Where the words name a cache file, what the keeper holds in the end stands after the lines, with all
+// its bytes where `holds` is `bytes`.
 
-use crate::fields::{Fault, Row, number_in};
-use crate::shown::{Shows, push_lines, shows_of};
+use crate::fields::{Fault, Row};
+use crate::outside::{Ended, end_of};
+use crate::shown::{Shows, push_held, push_lines, shows_of};
 use mw_console::Status;
-use mw_drive::{run, table};
-use mw_outside::{Bytes, Calls, Files, MemSink, MemSource, NamedFile, Pass, SureKeeper};
 use std::alloc::{AllocError, Global};
 use std::thread::Threads;
-
-/// How many slots the table of modules has, which each run has anew.
-const SLOTS: u32 = 1_024;
-
-/// The name of the one file.
-const NAME: &str = "source.metaml";
 
 /// The row before, and what was written.
 #[derive(Drop)]
@@ -36,43 +31,6 @@ impl Before {
     }
 }
 
-/// The one file, with the row's source in it.
-fn file_of(alloc: Global, row: &Row) -> Result<NamedFile, Fault> {
-    let bytes = Bytes::copied(alloc, row.bytes("source"))?;
-    let name = Bytes::copied(alloc, NAME.as_bytes())?;
-    Ok(NamedFile { name, bytes })
-}
-
-/// The source with its one file.
-fn source_of(alloc: Global, row: &Row) -> Result<MemSource, Fault> {
-    let failing = calls(alloc, row, "reads")?;
-    let mut files = Files::new(alloc);
-    files.push(file_of(alloc, row)?)?;
-    if !files.names_differ() {
-        return Err(Fault::Malformed("two files of one name"));
-    }
-    Ok(MemSource::new(files, failing, 7))
-}
-
-/// The sink, which takes so many bytes at once.
-fn sink_of(alloc: Global, row: &Row) -> Result<MemSink, Fault> {
-    let step = row.number("step", 10)?;
-    if step == 0 {
-        return Err(Fault::Malformed("a sink that takes nothing"));
-    }
-    let failing = calls(alloc, row, "writes")?;
-    Ok(MemSink::new(alloc, failing, step as usize))
-}
-
-/// The numbers of the calls that fail.
-fn calls(alloc: Global, row: &Row, name: &str) -> Result<Calls, Fault> {
-    let mut calls = Calls::new(alloc);
-    for word in row.text(name)?.split_whitespace() {
-        calls.push(number_in(word)?)?;
-    }
-    Ok(calls)
-}
-
 /// The word that a text spells: `''` is the empty one.
 fn spelled(alloc: Global, text: &str) -> Result<String, AllocError> {
     if text == "''" {
@@ -82,12 +40,12 @@ fn spelled(alloc: Global, text: &str) -> Result<String, AllocError> {
     }
 }
 
-/// The words of the command.
-fn words(alloc: Global, row: &Row) -> Result<Vec<String>, Fault> {
+/// The words of the command: those of the row, or these where it has none.
+pub fn words(alloc: Global, row: &Row, otherwise: &str) -> Result<Vec<String>, Fault> {
     let text = if row.has("words") {
         row.text("words")?
     } else {
-        "run source.metaml"
+        otherwise
     };
     let mut words = Vec::new(alloc);
     for word in text.split_whitespace() {
@@ -96,7 +54,8 @@ fn words(alloc: Global, row: &Row) -> Result<Vec<String>, Fault> {
     Ok(words)
 }
 
-fn shows(row: &Row) -> Result<Shows, Fault> {
+/// Which lines are printed.
+pub fn shows(row: &Row) -> Result<Shows, Fault> {
     if !row.has("shows") {
         return Ok(Shows::All);
     }
@@ -104,36 +63,6 @@ fn shows(row: &Row) -> Result<Shows, Fault> {
         Some(shows) => Ok(shows),
         None => Err(Fault::Malformed("no such lines are shown")),
     }
-}
-
-/// The status of the command, which writes into this sink.
-fn status_of<R: AllocGlobal + Threads + Sync>(
-    rt: &R,
-    row: &Row,
-    sink: &mut MemSink,
-) -> Result<Status, Fault> {
-    let alloc = rt.alloc();
-    let words = words(alloc, row)?;
-    let mut source = source_of(alloc, row)?;
-    let mut keeper = SureKeeper::new(Bytes::new(alloc));
-    let table = table(alloc, SLOTS)?;
-    Ok(run(
-        rt,
-        alloc,
-        words.as_slice(),
-        &mut source,
-        sink,
-        &mut keeper,
-        &Pass,
-        &table,
-    ))
-}
-
-/// The status, and what is written.
-fn ran<R: AllocGlobal + Threads + Sync>(rt: &R, row: &Row) -> Result<(Status, Vec<u8>), Fault> {
-    let mut sink = sink_of(rt.alloc(), row)?;
-    let status = status_of(rt, row, &mut sink)?;
-    Ok((status, Vec::from_slice(rt.alloc(), sink.written())?))
 }
 
 /// Whether a row stands beside the row before.
@@ -147,24 +76,63 @@ fn is_beside(row: &Row, before: &Before) -> Result<bool, Fault> {
     Ok(true)
 }
 
+/// The exit code, and the digest of a record that is told as bad.
+pub fn push_status(alloc: Global, text: &mut String, status: &Status) -> Result<(), AllocError> {
+    text.push_str(format!(in alloc; "status {}\n", status.code())?.as_str())?;
+    if let Status::BadCache(digest) = status {
+        let digest = hex::encode(alloc, digest)?;
+        text.push_str(format!(in alloc; "bad cache record {digest}\n")?.as_str())?;
+    }
+    Ok(())
+}
+
 /// The exit code, and the lines that were written, which may be those of the row before.
 fn lines(
     alloc: Global,
-    status: &Status,
-    written: &[u8],
+    ended: &Ended,
     shows: Shows,
     are_the_same: bool,
 ) -> Result<String, AllocError> {
-    let mut text = format!(in alloc; "status {}\n", status.code())?;
+    let mut text = String::new(alloc);
+    push_status(alloc, &mut text, &ended.status)?;
     if are_the_same {
         text.push_str("the same lines\n")?;
     } else {
-        push_lines(alloc, &mut text, written, shows)?;
+        push_lines(alloc, &mut text, ended.written.as_slice(), shows)?;
     }
     Ok(text)
 }
 
-/// The exit code, and the lines that were written.
+/// Whether the words name a cache file.
+fn name_a_cache(words: &[String]) -> bool {
+    words.iter().any(|word| word.as_str() == "--cache" || word.as_str().starts_with("--cache="))
+}
+
+/// Whether all bytes that the keeper holds are printed.
+fn shows_bytes(row: &Row) -> Result<bool, Fault> {
+    match row.text("holds")? {
+        "" => Ok(false),
+        "bytes" => Ok(true),
+        _ => Err(Fault::Malformed("nothing of this is shown")),
+    }
+}
+
+/// Adds what the keeper holds.
+fn push_keeper(alloc: Global, text: &mut String, row: &Row, ended: &Ended) -> Result<(), Fault> {
+    let held = ended.held.as_slice();
+    if held == row.bytes("held") {
+        text.push_str("held as before\n")?;
+        return Ok(());
+    }
+    push_held(alloc, text, held)?;
+    if shows_bytes(row)? {
+        let bytes = hex::encode(alloc, held)?;
+        text.push_str(format!(in alloc; "bytes {bytes}\n")?.as_str())?;
+    }
+    Ok(())
+}
+
+/// The exit code, and the lines that were written; what the keeper holds, where the words name a cache file.
 pub fn carried_out<R: AllocGlobal + Threads + Sync>(
     rt: &R,
     row: &Row,
@@ -174,14 +142,14 @@ pub fn carried_out<R: AllocGlobal + Threads + Sync>(
     let shows = shows(row)?;
     let is_beside = is_beside(row, before)?;
     before.name = row.name.clone()?;
-    let (status, written) = ran(rt, row)?;
-    let are_the_same = is_beside && written.as_slice() == before.written.as_slice();
+    let words = words(alloc, row, "run source.metaml")?;
+    let ended = end_of(rt, row, words.as_slice(), row.bytes("held"))?;
+    let are_the_same = is_beside && ended.written.as_slice() == before.written.as_slice();
+    let mut text = lines(alloc, &ended, shows, are_the_same)?;
+    if name_a_cache(words.as_slice()) {
+        push_keeper(alloc, &mut text, row, &ended)?;
+    }
+    let Ended { written, .. } = ended;
     before.written = written;
-    Ok(lines(
-        alloc,
-        &status,
-        before.written.as_slice(),
-        shows,
-        are_the_same,
-    )?)
+    Ok(text)
 }

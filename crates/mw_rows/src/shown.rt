@@ -1,5 +1,6 @@
 // What is printed of bytes that were written.
 
+use mw_key::digest;
 use std::alloc::{AllocError, Global};
 use std::fmt::Debug;
 
@@ -96,4 +97,10 @@ pub fn push_lines(
         push_line(alloc, text, ": ", left)?;
     }
     Ok(())
+}
+
+/// Adds how many bytes are held, and their digest.
+pub fn push_held(alloc: Global, text: &mut String, held: &[u8]) -> Result<(), AllocError> {
+    let digest = hex::encode(alloc, &digest(held))?;
+    text.push_str(format!(in alloc; "held {} bytes, {digest}\n", held.len())?.as_str())
 }
