@@ -13,12 +13,13 @@ use Rattle.mw_words.proofs.OptionLemmas.{no_equal}
 use Rattle.mw_words.proofs.PartLemmas.{no_file, no_option_begins}
 use Rattle.mw_words.proofs.Passing.{here, stuck_is_none}
 use Rattle.mw_words.proofs.Usage.{run_is_other, erased_is_other, no_command, these_make_none, fuel_once, simplify_once}
-use Rattle.mw_words.proofs.Usage.{one_file_only, no_file_none, only_fuel}
+use Rattle.mw_words.proofs.Usage.{units_of_run, switch_of_run, file_of_run, options_of_erased, units_of_erased}
+use Rattle.mw_words.proofs.Usage.{file_of_erased}
 
 pub f_named : IsFileWord (codes "f")
 f_named = omega arith
 
-g_named : IsFileWord (codes "g")
+pub g_named : IsFileWord (codes "g")
 g_named = omega arith
 
 pub eight : IsNumber 10000000 (codes "8") 8
@@ -103,7 +104,7 @@ option_first c (parts_command h m) = elim m [ ]
 
 pub two_files : TwoFiles
 two_files = no_command run_is_other (these_make_none (codes "run") (then_file f_named (then_file g_named no_part))
-    (λ c makes. one_file_only makes (omega arith)))
+    (λ c makes. let one = (file_of_run makes).1 in cc))
 
 -- a word that is no option's, and names no file
 pub stuck : {words : List (List ℕ)} {parts : List PurePart} → (words ≡ [] → ⊥)
@@ -121,13 +122,13 @@ fuel_file_fuel = one_more (valued {name = codes "--fuel"} refl (joined {value = 
     (fuel_apart_first (codes "7") no_part))
 
 pub fuel_twice : FuelTwice
-fuel_twice = no_command run_is_other (these_make_none (codes "run") fuel_file_fuel (λ c makes. fuel_once makes
-    (omega arith)))
+fuel_twice = no_command run_is_other (these_make_none (codes "run") fuel_file_fuel
+    (λ c makes. fuel_once (units_of_run makes).1 (omega arith)))
 
 pub simplify_twice : SimplifyTwice
 simplify_twice = no_command run_is_other
     (these_make_none (codes "run") (simplify_first_of (then_file f_named (simplify_first_of no_part)))
-    (λ c makes. simplify_once makes (omega arith)))
+    (λ c makes. simplify_once (switch_of_run makes).1 (omega arith)))
 
 pub simplify_valued : SimplifyValued
 simplify_valued = no_command run_is_other
@@ -136,22 +137,22 @@ simplify_valued = no_command run_is_other
     (no_file (codes "--simplify=1") (codes "-simplify=1") refl) (refl, no_equal (codes "--simplify") refl) refl) whole)
 
 pub erased_no_file : ErasedNoFile
-erased_no_file = no_command erased_is_other (these_make_none (codes "erased") no_part (λ c makes. no_file_none makes
-    (omega arith)))
+erased_no_file = no_command erased_is_other (these_make_none (codes "erased") no_part
+    (λ c makes. let one = (file_of_erased makes).1 in cc))
 
 pub erased_workers : ErasedWorkers
 erased_workers = no_command erased_is_other (these_make_none (codes "erased") (one_more (valued {name =
     codes "--workers"} refl (apart {value = codes "2"} refl)) (then_file f_named no_part))
-    (λ c makes. let none = only_fuel makes in cc))
+    (λ c makes. let none = options_of_erased makes in cc))
 
 pub erased_two_files : ErasedTwoFiles
 erased_two_files = no_command erased_is_other (these_make_none (codes "erased") (then_file f_named
-    (then_file g_named no_part)) (λ c makes. one_file_only makes (omega arith)))
+    (then_file g_named no_part)) (λ c makes. let one = (file_of_erased makes).1 in cc))
 
 pub erased_simplified : ErasedSimplified
 erased_simplified = no_command erased_is_other (these_make_none (codes "erased") (simplify_first_of
-    (then_file f_named no_part)) (λ c makes. let none = only_fuel makes in cc))
+    (then_file f_named no_part)) (λ c makes. let none = options_of_erased makes in cc))
 
 pub erased_fuel_twice : ErasedFuelTwice
 erased_fuel_twice = no_command erased_is_other (these_make_none (codes "erased") fuel_file_fuel
-    (λ c makes. fuel_once makes (omega arith)))
+    (λ c makes. fuel_once (units_of_erased makes).1 (omega arith)))

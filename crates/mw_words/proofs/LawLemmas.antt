@@ -3,7 +3,9 @@ use Rattle.std.proofs.Common.{◌≡◌, ℕ, ◌≤◌, Bool, not, List, [], �
 use Rattle.std.proofs.Common.{ap, subst, arith}
 use Rattle.mw_words.specs.Words.{apart, joined, PurePart, is_named, is_taken, parts_named, HaveOnly, IsNumberOf}
 use Rattle.mw_words.specs.Words.{not_named, named_once, IsSwitchOf, off, on, IsWordOf, without_word, with_word, IsFileOf}
-use Rattle.mw_words.specs.Words.{PureCommand, sample, Makes, run_of, erased_of, parts_command, sample_command}
+use Rattle.mw_words.specs.Words.{HasNoFile}
+use Rattle.mw_words.specs.Words.{PureCommand, sample, Makes, run_of, erased_of, migrate_of, parts_command}
+use Rattle.mw_words.specs.Words.{sample_command, wat_command, check_command}
 use Rattle.mw_words.specs.WordLaws.{OneCommand, EitherForm, AnyOrder}
 use Rattle.mw_words.proofs.OptionLemmas.{one_value}
 use Rattle.mw_words.proofs.PartLemmas.{same_number}
@@ -25,7 +27,7 @@ one_switch (off e) (on f) = let no = sym e ∙ f in cc
 one_switch (on e) (off f) = let no = sym f ∙ e in cc
 one_switch (on e) (on f) = refl
 
-one_word : {name : List ℕ} {parts : List PurePart} {a b : Option (List ℕ)} → IsWordOf name parts a
+pub one_word : {name : List ℕ} {parts : List PurePart} {a b : Option (List ℕ)} → IsWordOf name parts a
     → IsWordOf name parts b → a ≡ b
 one_word (without_word e) (without_word f) = refl
 one_word (without_word e) (with_word f k) = let no = sym e ∙ f in cc
@@ -46,17 +48,30 @@ same_made {parts = parts} (run_of {name = a} o w u s d f) (run_of {name = b} o' 
     cc
 same_made {parts = parts} (erased_of {name = a} o u f) (erased_of {name = b} o' u' f') = let fuels_same =
     one_number u u' in let files_same = one_file parts a b f f' in cc
+same_made (migrate_of o d n) (migrate_of o' d' n') = let caches_same = one_word d d' in cc
 
--- a sample has no parts
+-- a sample, a module's text and the verdict on it have no parts
 pub no_sample_parts : {parts : List PurePart} {c : PureCommand} → Makes (codes "sample") parts c → ⊥
 no_sample_parts m = elim m [ ]
+
+pub no_wat_parts : {parts : List PurePart} {c : PureCommand} → Makes (codes "wat") parts c → ⊥
+no_wat_parts m = elim m [ ]
+
+pub no_check_parts : {parts : List PurePart} {c : PureCommand} → Makes (codes "check") parts c → ⊥
+no_check_parts m = elim m [ ]
 
 pub one_command : OneCommand
 one_command words a b (parts_command {word = word} h m) (parts_command h' m') =
     same_made m (subst (λ (ps : List PurePart). Makes word ps b) (sym (same_parts h h')) m')
 one_command words a b (parts_command h m) (sample_command n) = absurd (no_sample_parts m)
+one_command words a b (parts_command h m) (wat_command f) = absurd (no_wat_parts m)
+one_command words a b (parts_command h m) (check_command f) = absurd (no_check_parts m)
 one_command words a b (sample_command n) (parts_command h m) = absurd (no_sample_parts m)
 one_command words a b (sample_command n) (sample_command n') = ap sample (same_number refl n n')
+one_command words a b (wat_command f) (parts_command h m) = absurd (no_wat_parts m)
+one_command words a b (wat_command f) (wat_command f') = refl
+one_command words a b (check_command f) (parts_command h m) = absurd (no_check_parts m)
+one_command words a b (check_command f) (check_command f') = refl
 
 pub either_form : EitherForm
 either_form name value v rest r = (
@@ -102,6 +117,9 @@ few_word (with_word e h) = rw e (omega arith)
 few_file : (parts : List PurePart) (name : List ℕ) → IsFileOf parts name → length (parts_named None parts) ≤ 1
 few_file parts name e = rw e (omega arith)
 
+few_none : (parts : List PurePart) → HasNoFile parts → length (parts_named None parts) ≤ 1
+few_none parts e = rw e (omega arith)
+
 module _ (before after : List PurePart) (p q : PurePart) where
   number_swapped : {name : List ℕ} {most default n : ℕ} → IsNumberOf name most default (before ++ p ∷ q ∷ after) n
       → IsNumberOf name most default (before ++ q ∷ p ∷ after) n
@@ -118,6 +136,9 @@ module _ (before after : List PurePart) (p q : PurePart) where
   file_swapped : (name : List ℕ) → IsFileOf (before ++ p ∷ q ∷ after) name → IsFileOf (before ++ q ∷ p ∷ after) name
   file_swapped name h = sym (swapped (is_named None) before after p q (few_file (before ++ p ∷ q ∷ after) name h)) ∙ h
 
+  none_swapped : HasNoFile (before ++ p ∷ q ∷ after) → HasNoFile (before ++ q ∷ p ∷ after)
+  none_swapped h = sym (swapped (is_named None) before after p q (few_none (before ++ p ∷ q ∷ after) h)) ∙ h
+
   only_swapped : (names : List (List ℕ)) → HaveOnly names (before ++ p ∷ q ∷ after)
       → HaveOnly names (before ++ q ∷ p ∷ after)
   only_swapped names h = sym (swapped (λ part. not (is_taken names part)) before after p q (rw h (omega arith))) ∙ h
@@ -129,6 +150,8 @@ module _ (before after : List PurePart) (p q : PurePart) where
       (number_swapped w) (number_swapped u) (switch_swapped s) (word_swapped d) (file_swapped name f)
   in_other_order (erased_of {name = name} o u f) = erased_of (only_swapped (codes "--fuel" ∷ []) o) (number_swapped u)
       (file_swapped name f)
+  in_other_order (migrate_of o d n) = migrate_of (only_swapped (codes "--cache" ∷ []) o) (word_swapped d)
+      (none_swapped n)
 
 pub any_order : AnyOrder
 any_order word before after p q c = (in_other_order before after p q, in_other_order before after q p)

@@ -2,6 +2,7 @@ pub mod CacheExamples
 pub mod ExampleLemmas
 pub mod Items
 pub mod LawLemmas
+pub mod ModuleExamples
 pub mod OptionLemmas
 pub mod PartLemmas
 pub mod Passing

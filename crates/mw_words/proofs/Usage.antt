@@ -1,24 +1,50 @@
 -- Words that mean no command.
-use Rattle.std.proofs.Common.{◌≡◌, ℕ, ◌≤◌, List, [], ◌∷◌, Option, Some, None, codes, length, get_or, Bool, refl, sym}
+use Rattle.std.proofs.Common.{◌≡◌, ℕ, ◌≤◌, List, [], ◌∷◌, Option, Some, codes, length, get_or, Bool, refl, sym}
 use Rattle.std.proofs.Common.{ap, subst, arith}
-use Rattle.mw_words.specs.Words.{PurePart, PureCommand, HaveOnly, AreWorkersOf, AreUnitsOf, IsSwitchOf, IsWordOf, IsFileOf}
-use Rattle.mw_words.specs.Words.{AreParts, Makes, run_of, erased_of}
-use Rattle.mw_words.specs.Words.{parts_command, sample_command, IsNumber, IsUsage, parts_named}
-use Rattle.mw_words.proofs.LawLemmas.{few_number, few_switch, few_word, no_sample_parts}
+use Rattle.mw_words.specs.Words.{PurePart, PureCommand, HaveOnly, AreWorkersOf, AreUnitsOf, IsSwitchOf, IsWordOf}
+use Rattle.mw_words.specs.Words.{IsFileOf, HasNoFile, IsFileWord, AreParts, Makes, run_of, erased_of, migrate_of}
+use Rattle.mw_words.specs.Words.{parts_command, sample_command, wat_command, check_command, IsNumber, IsUsage}
+use Rattle.mw_words.specs.Words.{parts_named}
+use Rattle.mw_words.proofs.LawLemmas.{few_number, few_switch, few_word, no_sample_parts, no_wat_parts, no_check_parts}
 use Rattle.mw_words.proofs.Passing.{same_parts}
 
-pub run_is_other : codes "run" ≡ codes "sample" → ⊥
-run_is_other e = omega (arith, ap (λ (t : List ℕ). get_or t 0 0) e)
+-- a word other than those of the commands that have no parts
+abbrev pub IsOther : List ℕ → Type 0
+IsOther word = (word ≡ codes "sample" → ⊥) × (word ≡ codes "wat" → ⊥) × (word ≡ codes "check" → ⊥)
 
-pub erased_is_other : codes "erased" ≡ codes "sample" → ⊥
-erased_is_other e = omega (arith, ap (λ (t : List ℕ). get_or t 0 0) e)
+-- words of which the first bytes differ
+first_differs : (v w : List ℕ) → (get_or v 0 0 ≡ get_or w 0 0 → ⊥) → v ≡ w → ⊥
+first_differs v w other e = other (ap (λ (t : List ℕ). get_or t 0 0) e)
+
+pub run_is_other : IsOther (codes "run")
+run_is_other = (
+  first_differs _ _ (λ e. omega arith),
+  first_differs _ _ (λ e. omega arith),
+  first_differs _ _ (λ e. omega arith),
+)
+
+pub erased_is_other : IsOther (codes "erased")
+erased_is_other = (
+  first_differs _ _ (λ e. omega arith),
+  first_differs _ _ (λ e. omega arith),
+  first_differs _ _ (λ e. omega arith),
+)
+
+pub migrate_is_other : IsOther (codes "migrate")
+migrate_is_other = (
+  first_differs _ _ (λ e. omega arith),
+  first_differs _ _ (λ e. omega arith),
+  first_differs _ _ (λ e. omega arith),
+)
 
 -- words whose parts make no command
-pub no_command : {word : List ℕ} {words : List (List ℕ)} → (word ≡ codes "sample" → ⊥) → ((parts : List PurePart)
+pub no_command : {word : List ℕ} {words : List (List ℕ)} → IsOther word → ((parts : List PurePart)
     → AreParts words parts → (c : PureCommand) → Makes word parts c → ⊥)
     → IsUsage (word ∷ words)
 no_command other none c (parts_command h m) = none _ h c m
-no_command other none c (sample_command n) = other refl
+no_command other none c (sample_command n) = other.0 refl
+no_command other none c (wat_command f) = other.1 refl
+no_command other none c (check_command f) = other.2 refl
 
 -- where one list of the words' parts makes none, each does
 pub these_make_none : {words : List (List ℕ)} {read : List PurePart} (word : List ℕ) → AreParts words read
@@ -33,42 +59,41 @@ pub no_sample : {words : List (List ℕ)} → ((word : List ℕ) (n : ℕ) → w
 no_sample none c (parts_command h m) = no_sample_parts m
 no_sample none c (sample_command n) = none _ _ refl n
 
+-- words after `wat` or `check` that aren't a file alone
+pub no_wat : {words : List (List ℕ)} → ((word : List ℕ) → words ≡ word ∷ [] → IsFileWord word → ⊥)
+    → IsUsage (codes "wat" ∷ words)
+no_wat none c (parts_command h m) = no_wat_parts m
+no_wat none c (wat_command f) = none _ refl f
+
+pub no_check : {words : List (List ℕ)} → ((word : List ℕ) → words ≡ word ∷ [] → IsFileWord word → ⊥)
+    → IsUsage (codes "check" ∷ words)
+no_check none c (parts_command h m) = no_check_parts m
+no_check none c (check_command f) = none _ refl f
+
 -- a word of no command
 pub unknown : {word : List ℕ} {words : List (List ℕ)} → (word ≡ codes "run" → ⊥) → (word ≡ codes "erased" → ⊥)
-    → (word ≡ codes "sample" → ⊥) → IsUsage (word ∷ words)
-unknown r e s c (parts_command h (run_of o w u b d f)) = r refl
-unknown r e s c (parts_command h (erased_of o u f)) = e refl
-unknown r e s c (sample_command n) = s refl
+    → (word ≡ codes "migrate" → ⊥) → IsOther word → IsUsage (word ∷ words)
+unknown r e m other c (parts_command h (run_of o w u b d f)) = r refl
+unknown r e m other c (parts_command h (erased_of o u f)) = e refl
+unknown r e m other c (parts_command h (migrate_of o d n)) = m refl
+unknown r e m other c (sample_command n) = other.0 refl
+unknown r e m other c (wat_command f) = other.1 refl
+unknown r e m other c (check_command f) = other.2 refl
 
--- of each option and of files there is one at most
-pub fuel_once : {word : List ℕ} {parts : List PurePart} {c : PureCommand} → Makes word parts c
+-- of each option there is one at most
+pub fuel_once : {parts : List PurePart} {n : ℕ} → AreUnitsOf parts n
     → 2 ≤ length (parts_named (Some (codes "--fuel")) parts) → ⊥
-fuel_once (run_of o w u b d f) two = omega (arith, two, few_number u)
-fuel_once (erased_of o u f) two = omega (arith, two, few_number u)
+fuel_once u two = omega (arith, two, few_number u)
 
-pub simplify_once : {parts : List PurePart} {c : PureCommand} → Makes (codes "run") parts c
+pub simplify_once : {parts : List PurePart} {on : Bool} → IsSwitchOf (codes "--simplify") parts on
     → 2 ≤ length (parts_named (Some (codes "--simplify")) parts) → ⊥
-simplify_once (run_of o w u b d f) two = omega (arith, two, few_switch b)
+simplify_once b two = omega (arith, two, few_switch b)
 
-pub cache_once : {parts : List PurePart} {c : PureCommand} → Makes (codes "run") parts c
+pub cache_once : {parts : List PurePart} {path : Option (List ℕ)} → IsWordOf (codes "--cache") parts path
     → 2 ≤ length (parts_named (Some (codes "--cache")) parts) → ⊥
-cache_once (run_of o w u b d f) two = omega (arith, two, few_word d)
+cache_once d two = omega (arith, two, few_word d)
 
-pub one_file_only : {word : List ℕ} {parts : List PurePart} {c : PureCommand} → Makes word parts c
-    → 2 ≤ length (parts_named None parts) → ⊥
-one_file_only (run_of o w u b d f) two = omega (arith, two, ap (λ (l : List PurePart). length l) f)
-one_file_only (erased_of o u f) two = omega (arith, two, ap (λ (l : List PurePart). length l) f)
-
-pub no_file_none : {word : List ℕ} {parts : List PurePart} {c : PureCommand} → Makes word parts c
-    → length (parts_named None parts) ≤ 0 → ⊥
-no_file_none (run_of o w u b d f) none = omega (arith, none, ap (λ (l : List PurePart). length l) f)
-no_file_none (erased_of o u f) none = omega (arith, none, ap (λ (l : List PurePart). length l) f)
-
-pub only_fuel : {parts : List PurePart} {c : PureCommand} → Makes (codes "erased") parts c
-    → HaveOnly (codes "--fuel" ∷ []) parts
-only_fuel (erased_of o u f) = o
-
--- what a run and the run of an erased program have
+-- what a run has
 pub options_of_run : {parts : List PurePart} {c : PureCommand} → Makes (codes "run") parts c
     → HaveOnly (codes "--workers" ∷ codes "--fuel" ∷ codes "--simplify" ∷ codes "--cache" ∷ []) parts
 options_of_run (run_of o w u b d f) = o
@@ -76,6 +101,10 @@ options_of_run (run_of o w u b d f) = o
 pub workers_of_run : {parts : List PurePart} {c : PureCommand} → Makes (codes "run") parts c
     → (n : ℕ) × AreWorkersOf parts n
 workers_of_run (run_of {workers = n} o w u b d f) = (n, w)
+
+pub units_of_run : {parts : List PurePart} {c : PureCommand} → Makes (codes "run") parts c
+    → (n : ℕ) × AreUnitsOf parts n
+units_of_run (run_of {fuel = n} o w u b d f) = (n, u)
 
 pub switch_of_run : {parts : List PurePart} {c : PureCommand} → Makes (codes "run") parts c
     → (on : Bool) × IsSwitchOf (codes "--simplify") parts on
@@ -85,12 +114,31 @@ pub cache_of_run : {parts : List PurePart} {c : PureCommand} → Makes (codes "r
     → (path : Option (List ℕ)) × IsWordOf (codes "--cache") parts path
 cache_of_run (run_of {cache = path} o w u b d f) = (path, d)
 
-pub units_of : {word : List ℕ} {parts : List PurePart} {c : PureCommand} → Makes word parts c
-    → (n : ℕ) × AreUnitsOf parts n
-units_of (run_of {fuel = n} o w u b d f) = (n, u)
-units_of (erased_of {fuel = n} o u f) = (n, u)
-
-pub file_of_parts : {word : List ℕ} {parts : List PurePart} {c : PureCommand} → Makes word parts c
+pub file_of_run : {parts : List PurePart} {c : PureCommand} → Makes (codes "run") parts c
     → (name : List ℕ) × IsFileOf parts name
-file_of_parts (run_of {name = name} o w u b d f) = (name, f)
-file_of_parts (erased_of {name = name} o u f) = (name, f)
+file_of_run (run_of {name = name} o w u b d f) = (name, f)
+
+-- what the run of an erased program has
+pub options_of_erased : {parts : List PurePart} {c : PureCommand} → Makes (codes "erased") parts c
+    → HaveOnly (codes "--fuel" ∷ []) parts
+options_of_erased (erased_of o u f) = o
+
+pub units_of_erased : {parts : List PurePart} {c : PureCommand} → Makes (codes "erased") parts c
+    → (n : ℕ) × AreUnitsOf parts n
+units_of_erased (erased_of {fuel = n} o u f) = (n, u)
+
+pub file_of_erased : {parts : List PurePart} {c : PureCommand} → Makes (codes "erased") parts c
+    → (name : List ℕ) × IsFileOf parts name
+file_of_erased (erased_of {name = name} o u f) = (name, f)
+
+-- what a migration has
+pub options_of_migrate : {parts : List PurePart} {c : PureCommand} → Makes (codes "migrate") parts c
+    → HaveOnly (codes "--cache" ∷ []) parts
+options_of_migrate (migrate_of o d n) = o
+
+pub cache_of_migrate : {parts : List PurePart} {c : PureCommand} → Makes (codes "migrate") parts c
+    → (path : List ℕ) × IsWordOf (codes "--cache") parts (Some path)
+cache_of_migrate (migrate_of {cache = path} o d n) = (path, d)
+
+pub no_file_of_migrate : {parts : List PurePart} {c : PureCommand} → Makes (codes "migrate") parts c → HasNoFile parts
+no_file_of_migrate (migrate_of o d n) = n

@@ -1,6 +1,6 @@
 -- Worked examples of words, as theorems.
 use Rattle.std.specs.Prelude.{[], ◌∷◌, true, false, Some, None, codes}
-use Rattle.mw_words.specs.Words.{run, erased, sample, Means, IsUsage}
+use Rattle.mw_words.specs.Words.{run, erased, sample, migrate, wat, check, Means, IsUsage}
 
 -- a file alone
 abbrev pub FileAlone : Type 0
@@ -66,6 +66,22 @@ ErasedBehind = Means (codes "erased" ∷ codes "f" ∷ codes "--fuel" ∷ codes 
 -- a sample
 abbrev pub SampleOfHundred : Type 0
 SampleOfHundred = Means (codes "sample" ∷ codes "100" ∷ []) (sample 100)
+
+-- the migration of a cache, whose path is the next word
+abbrev pub MigrateApart : Type 0
+MigrateApart = Means (codes "migrate" ∷ codes "--cache" ∷ codes "c" ∷ []) (migrate (codes "c"))
+
+-- or stands after `=`
+abbrev pub MigrateJoined : Type 0
+MigrateJoined = Means (codes "migrate" ∷ codes "--cache=c" ∷ []) (migrate (codes "c"))
+
+-- the text of a module
+abbrev pub WatFile : Type 0
+WatFile = Means (codes "wat" ∷ codes "f" ∷ []) (wat (codes "f"))
+
+-- and the verdict on it
+abbrev pub CheckFile : Type 0
+CheckFile = Means (codes "check" ∷ codes "f" ∷ []) (check (codes "f"))
 
 -- no word
 abbrev pub NoWord : Type 0
@@ -141,3 +157,59 @@ ErasedSimplified = IsUsage (codes "erased" ∷ codes "--simplify" ∷ codes "f" 
 -- its option twice
 abbrev pub ErasedFuelTwice : Type 0
 ErasedFuelTwice = IsUsage (codes "erased" ∷ codes "--fuel=7" ∷ codes "f" ∷ codes "--fuel" ∷ codes "7" ∷ [])
+
+-- a migration without its cache
+abbrev pub MigrateUncached : Type 0
+MigrateUncached = IsUsage (codes "migrate" ∷ [])
+
+-- with two, in each form one
+abbrev pub MigrateTwice : Type 0
+MigrateTwice = IsUsage (codes "migrate" ∷ codes "--cache=c" ∷ codes "--cache" ∷ codes "d" ∷ [])
+
+-- with a file
+abbrev pub MigrateFile : Type 0
+MigrateFile = IsUsage (codes "migrate" ∷ codes "--cache=c" ∷ codes "f" ∷ [])
+
+-- and with another option
+abbrev pub MigrateFuelled : Type 0
+MigrateFuelled = IsUsage (codes "migrate" ∷ codes "--cache=c" ∷ codes "--fuel=8" ∷ [])
+
+-- the text of no module
+abbrev pub WatNoFile : Type 0
+WatNoFile = IsUsage (codes "wat" ∷ [])
+
+-- of two
+abbrev pub WatTwoFiles : Type 0
+WatTwoFiles = IsUsage (codes "wat" ∷ codes "f" ∷ codes "g" ∷ [])
+
+-- by an option
+abbrev pub WatOption : Type 0
+WatOption = IsUsage (codes "wat" ∷ codes "--fuel=8" ∷ codes "f" ∷ [])
+
+-- of a file whose name is empty
+abbrev pub WatEmpty : Type 0
+WatEmpty = IsUsage (codes "wat" ∷ codes "" ∷ [])
+
+-- and of one that begins with `-`
+abbrev pub WatDashed : Type 0
+WatDashed = IsUsage (codes "wat" ∷ codes "-f" ∷ [])
+
+-- the verdict on no module
+abbrev pub CheckNoFile : Type 0
+CheckNoFile = IsUsage (codes "check" ∷ [])
+
+-- on two
+abbrev pub CheckTwoFiles : Type 0
+CheckTwoFiles = IsUsage (codes "check" ∷ codes "f" ∷ codes "g" ∷ [])
+
+-- by an option
+abbrev pub CheckOption : Type 0
+CheckOption = IsUsage (codes "check" ∷ codes "--fuel=8" ∷ codes "f" ∷ [])
+
+-- on a file whose name is empty
+abbrev pub CheckEmpty : Type 0
+CheckEmpty = IsUsage (codes "check" ∷ codes "" ∷ [])
+
+-- and on one that begins with `-`
+abbrev pub CheckDashed : Type 0
+CheckDashed = IsUsage (codes "check" ∷ codes "-f" ∷ [])

@@ -6,15 +6,19 @@ use Rattle.std.specs.List.{list_any}
 use Rattle.std.specs.Map.{lookup}
 use Rattle.std.specs.Str.Parse.{IsNumeral, digits_value}
 use Rattle.mw_words.specs.declared.Command.{Command}
-use Rattle.mw_words.specs.declared.Command.TheVariants.{Run, Erased, Sample}
+use Rattle.mw_words.specs.declared.Command.TheVariants.{Run, Erased, Sample, Migrate, Wat, Check}
 
 -- a command as pure data: the run of a file by so many workers with so many units of fuel, with the
 -- kernels' code simplified or as it was built, and with the path of a cache or none; the run of a file's
--- erased program with so many units; or a source made from a number
+-- erased program with so many units; a source made from a number; the migration of the cache at a path;
+-- the text of the module in a file; or the verdict on it
 pub data PureCommand : Type 0 where
   run : (workers fuel : ℕ) (simplify : Bool) (cache : Option (List ℕ)) (file : List ℕ) → PureCommand
   erased : (fuel : ℕ) (file : List ℕ) → PureCommand
   sample : (number : ℕ) → PureCommand
+  migrate : (cache : List ℕ) → PureCommand
+  wat : (file : List ℕ) → PureCommand
+  check : (file : List ℕ) → PureCommand
 
 -- the bytes of a word
 abbrev pub word_in : Bor (List ℕ) → List ℕ
@@ -24,6 +28,9 @@ abbrev pub command_in : Command → PureCommand
 command_in (Run workers fuel simplify cache file) = run workers fuel simplify (option_map word_in cache) file.now
 command_in (Erased fuel file) = erased fuel file.now
 command_in (Sample number) = sample number
+command_in (Migrate cache) = migrate cache.now
+command_in (Wat file) = wat file.now
+command_in (Check file) = check file.now
 
 -- a word that may name a file or a cache: not empty, and not beginning with `-`
 abbrev pub IsFileWord : List ℕ → Type 0
@@ -118,6 +125,10 @@ pub data IsWordOf (name : List ℕ) (parts : List PurePart) : Option (List ℕ) 
 abbrev pub IsFileOf : List PurePart → List ℕ → Type 0
 IsFileOf parts name = parts_named None parts ≡ file name ∷ []
 
+-- no part is a file
+abbrev pub HasNoFile : List PurePart → Type 0
+HasNoFile parts = parts_named None parts ≡ []
+
 -- the workers and the units of fuel that the parts give
 abbrev pub AreWorkersOf : List PurePart → ℕ → Type 0
 AreWorkersOf parts n = IsNumberOf (codes "--workers") 64 4 parts n
@@ -138,6 +149,10 @@ pub data Makes : List ℕ → List PurePart → PureCommand → Type 0 where
   erased_of : {parts : List PurePart} {fuel : ℕ} {name : List ℕ}
       → HaveOnly (codes "--fuel" ∷ []) parts → AreUnitsOf parts fuel → IsFileOf parts name
       → Makes (codes "erased") parts (erased fuel name)
+  -- migrate --cache PATH
+  migrate_of : {parts : List PurePart} {cache : List ℕ}
+      → HaveOnly (codes "--cache" ∷ []) parts → IsWordOf (codes "--cache") parts (Some cache)
+      → HasNoFile parts → Makes (codes "migrate") parts (migrate cache)
 
 -- the words mean the command
 pub data Means : List (List ℕ) → PureCommand → Type 0 where
@@ -147,6 +162,10 @@ pub data Means : List (List ℕ) → PureCommand → Type 0 where
   -- sample N
   sample_command : {word : List ℕ} {n : ℕ} → IsNumber 100 word n
       → Means (codes "sample" ∷ word ∷ []) (sample n)
+  -- wat FILE
+  wat_command : {word : List ℕ} → IsFileWord word → Means (codes "wat" ∷ word ∷ []) (wat word)
+  -- check FILE
+  check_command : {word : List ℕ} → IsFileWord word → Means (codes "check" ∷ word ∷ []) (check word)
 
 -- the words mean no command
 abbrev pub IsUsage : List (List ℕ) → Type 0

@@ -1,10 +1,10 @@
 // What the words give of the options and the file of a command.
 
-ghost use Rattle.std.specs.Prelude.{◌≡◌, ◌≤◌, List, ℕ, Bool, Option, length, map, option_map, option_to_list};
+ghost use Rattle.std.specs.Prelude.{◌≡◌, ◌≤◌, [], ◌∷◌, List, ℕ, Bool, Option, length, map, option_map, option_to_list};
 ghost use Rattle.std.specs.Prelude.{IfOk, OnOk, OnErr};
 ghost use Rattle.std.specs.String.{string_bytes};
 ghost use Rattle.mw_words.specs.Words.{AreParts, HaveOnly, IsFileOf, IsNumberOf, IsSwitchOf, IsWordOf, PurePart, word_in};
-ghost use Rattle.mw_words.specs.Words.{is_named, is_taken, parts_named};
+ghost use Rattle.mw_words.specs.Words.{HasNoFile, IsFileWord, is_named, is_taken, parts_named};
 ghost use Rattle.mw_words.specs.Gathered.{part_in};
 
 use crate::WordsFault;
@@ -91,6 +91,32 @@ pub fn file_of(words: &[String]) -> Result<&str, WordsFault>
 {
     match only_part(words, None)? {
         Some(Part::File(file)) => Ok(file),
+        _ => Err(WordsFault::Usage),
+    }
+}
+
+/// Finds that no part of the words is a file. One is refused.
+pub fn have_no_file(words: &[String]) -> Result<(), WordsFault>
+    ensures ok { OnOk result ((parts : List PurePart)
+        → AreParts (map string_bytes words.now) parts → HasNoFile parts) }
+    ensures usage { OnErr result ((parts : List PurePart)
+        → AreParts (map string_bytes words.now) parts → ¬ HasNoFile parts) }
+{
+    match only_part(words, None)? {
+        None => Ok(()),
+        Some(_) => Err(WordsFault::Usage),
+    }
+}
+
+/// The one word, where it may name a file. None, two, and one that names no file are refused.
+pub fn lone_file(words: &[String]) -> Result<&str, WordsFault>
+    ensures alone { IfOk result (λ file. map string_bytes words.now ≡ file.now ∷ []) }
+    ensures named { IfOk result (λ file. IsFileWord file.now) }
+    ensures usage { OnErr result ((word : List ℕ)
+        → map string_bytes words.now ≡ word ∷ [] → ¬ IsFileWord word) }
+{
+    match words {
+        [word] if names_file(word.as_str()) => Ok(word.as_str()),
         _ => Err(WordsFault::Usage),
     }
 }

@@ -8,6 +8,10 @@ ghost use Rattle.mw_words.specs.Examples.{NoWord, OptionFirst, TwoFiles, TwoDash
 ghost use Rattle.mw_words.specs.Examples.{SimplifyValued, CacheTwice, CacheWithoutPath, CacheEmpty, CacheDashed};
 ghost use Rattle.mw_words.specs.Examples.{CacheOptionAsPath, ErasedCached, SampleCached, ErasedNoFile, ErasedWorkers};
 ghost use Rattle.mw_words.specs.Examples.{ErasedTwoFiles, ErasedSimplified, ErasedFuelTwice};
+ghost use Rattle.mw_words.specs.Examples.{MigrateApart, MigrateJoined, MigrateUncached, MigrateTwice, MigrateFile};
+ghost use Rattle.mw_words.specs.Examples.{MigrateFuelled, WatFile, WatNoFile, WatTwoFiles, WatOption, WatEmpty};
+ghost use Rattle.mw_words.specs.Examples.{WatDashed, CheckFile, CheckNoFile, CheckTwoFiles, CheckOption, CheckEmpty};
+ghost use Rattle.mw_words.specs.Examples.{CheckDashed};
 
 /// Words mean one command at most.
 pub fn one_command()
@@ -41,6 +45,8 @@ pub fn commands()
     ensures erased_joined { ErasedJoined }
     ensures erased_behind { ErasedBehind }
     ensures sample_of_hundred { SampleOfHundred }
+    ensures migrate_apart { MigrateApart }
+    ensures migrate_joined { MigrateJoined }
 {}
 
 /// Words that mean none.
@@ -64,4 +70,28 @@ pub fn usage()
     ensures erased_two_files { ErasedTwoFiles }
     ensures erased_simplified { ErasedSimplified }
     ensures erased_fuel_twice { ErasedFuelTwice }
+    ensures migrate_uncached { MigrateUncached }
+    ensures migrate_twice { MigrateTwice }
+    ensures migrate_file { MigrateFile }
+    ensures migrate_fuelled { MigrateFuelled }
+{}
+
+/// Words that mean a module's text or the verdict on it.
+pub fn module_commands()
+    ensures wat_file { WatFile }
+    ensures check_file { CheckFile }
+{}
+
+/// Words that mean neither.
+pub fn module_usage()
+    ensures wat_no_file { WatNoFile }
+    ensures wat_two_files { WatTwoFiles }
+    ensures wat_option { WatOption }
+    ensures wat_empty { WatEmpty }
+    ensures wat_dashed { WatDashed }
+    ensures check_no_file { CheckNoFile }
+    ensures check_two_files { CheckTwoFiles }
+    ensures check_option { CheckOption }
+    ensures check_empty { CheckEmpty }
+    ensures check_dashed { CheckDashed }
 {}

@@ -12,7 +12,7 @@ mod part;
 #[cfg(test)]
 mod tests;
 
-use crate::given::{file_of, have_only, number_of, switch_of, word_of};
+use crate::given::{file_of, have_no_file, have_only, lone_file, number_of, switch_of, word_of};
 use crate::number::number_up_to;
 
 /// The most workers of a run, and how many there are where the words name none.
@@ -49,6 +49,18 @@ pub enum Command<'w> {
     Sample {
         number: u32,
     },
+    /// The migration of the cache file at a path.
+    Migrate {
+        cache: &'w str,
+    },
+    /// The text of the module in a file.
+    Wat {
+        file: &'w str,
+    },
+    /// The verdict on the module in a file.
+    Check {
+        file: &'w str,
+    },
 }
 
 /// Why words mean no command.
@@ -68,6 +80,9 @@ pub fn read_words(words: &[String]) -> Result<Command<'_>, WordsFault>
         "run" => read_run(rest),
         "erased" => read_erased(rest),
         "sample" => read_sample(rest),
+        "migrate" => read_migrate(rest),
+        "wat" => read_wat(rest),
+        "check" => read_check(rest),
         _ => Err(WordsFault::Usage),
     }
 }
@@ -119,4 +134,33 @@ fn read_sample(words: &[String]) -> Result<Command<'_>, WordsFault>
     };
     let number = number_up_to(word.as_str(), MOST_KERNELS)?;
     Ok(Command::Sample { number })
+}
+
+/// The command that the words after `migrate` mean.
+fn read_migrate(words: &[String]) -> Result<Command<'_>, WordsFault>
+    ensures some { IfOk result (λ c. Means (codes "migrate" ∷ map string_bytes words.now) (command_in c)) }
+    ensures usage { IfErr result (λ _. IsUsage (codes "migrate" ∷ map string_bytes words.now)) }
+{
+    have_only(words, &["--cache"])?;
+    let cache = word_of(words, "--cache")?.ok_or(WordsFault::Usage)?;
+    have_no_file(words)?;
+    Ok(Command::Migrate { cache })
+}
+
+/// The command that the words after `wat` mean.
+fn read_wat(words: &[String]) -> Result<Command<'_>, WordsFault>
+    ensures some { IfOk result (λ c. Means (codes "wat" ∷ map string_bytes words.now) (command_in c)) }
+    ensures usage { IfErr result (λ _. IsUsage (codes "wat" ∷ map string_bytes words.now)) }
+{
+    let file = lone_file(words)?;
+    Ok(Command::Wat { file })
+}
+
+/// The command that the words after `check` mean.
+fn read_check(words: &[String]) -> Result<Command<'_>, WordsFault>
+    ensures some { IfOk result (λ c. Means (codes "check" ∷ map string_bytes words.now) (command_in c)) }
+    ensures usage { IfErr result (λ _. IsUsage (codes "check" ∷ map string_bytes words.now)) }
+{
+    let file = lone_file(words)?;
+    Ok(Command::Check { file })
 }

@@ -29,6 +29,9 @@ fn meaning<R: Abort + AllocGlobal>(rt: &R, words: &[&str]) -> Result<String, Fai
         }
         Ok(Command::Erased { fuel, file }) => format!(in alloc; "erased {fuel} {file}")?,
         Ok(Command::Sample { number }) => format!(in alloc; "sample {number}")?,
+        Ok(Command::Migrate { cache }) => format!(in alloc; "migrate {cache}")?,
+        Ok(Command::Wat { file }) => format!(in alloc; "wat {file}")?,
+        Ok(Command::Check { file }) => format!(in alloc; "check {file}")?,
         Err(WordsFault::Usage) => String::from_str(alloc, "usage")?,
     };
     Ok(text)
@@ -134,6 +137,32 @@ const RUNS: &[(&[&str], &str)] = &[
     (&["sample", "07"], "sample 7"),
 ];
 
+/// The same, of a migration, of a module's text and of the verdict on a module.
+const MODULES: &[(&[&str], &str)] = &[
+    (&["migrate", "--cache", "c"], "migrate c"),
+    (&["migrate", "--cache=c"], "migrate c"),
+    (&["migrate", "--cache", "a b"], "migrate a b"),
+    (&["migrate", "--cache", "migrate"], "migrate migrate"),
+    (&["migrate", "--cache==c"], "migrate =c"),
+    (&["migrate", "--cache=a=b"], "migrate a=b"),
+    (&["migrate", "--cache=c-"], "migrate c-"),
+    (&["migrate", "--cache=\u{e9}"], "migrate \u{e9}"),
+    (&["wat", "f"], "wat f"),
+    (&["wat", "wat"], "wat wat"),
+    (&["wat", "a b"], "wat a b"),
+    (&["wat", "f-"], "wat f-"),
+    (&["wat", "f=g"], "wat f=g"),
+    (&["wat", "\u{e9}"], "wat \u{e9}"),
+    (&["check", "f"], "check f"),
+    (&["check", "check"], "check check"),
+    (&["check", "a b"], "check a b"),
+    (&["check", "f-"], "check f-"),
+    (&["check", "=f"], "check =f"),
+    (&["run", "wat"], "run 4 1000000 wat"),
+    (&["run", "check"], "run 4 1000000 check"),
+    (&["run", "migrate"], "run 4 1000000 migrate"),
+];
+
 /// Words that mean nothing, for what stands around the options.
 const NO_COMMANDS: &[&[&str]] = &[
     &[],
@@ -184,7 +213,6 @@ const NO_COMMANDS: &[&[&str]] = &[
     &["sample", "5", "6"],
     &["sample", "--fuel=5", "6"],
     &["sample", "f"],
-    &["check", "f"],
     &["link", "f"],
     &["erased"],
     &["erased", ""],
@@ -248,6 +276,73 @@ const OF_EACH_COMMAND: &[&[&str]] = &[
     &["sample", "--simplify", "5"],
     &["sample", "--workers"],
     &["sample", "--fuel="],
+];
+
+/// Words that mean nothing, of a migration, of a module's text and of the verdict on a module.
+const NO_MODULES: &[&[&str]] = &[
+    &["migrate"],
+    &["migrate", ""],
+    &["migrate", "c"],
+    &["migrate", "--cache"],
+    &["migrate", "--cache="],
+    &["migrate", "--cache", ""],
+    &["migrate", "--cache", "-c"],
+    &["migrate", "--cache=-c"],
+    &["migrate", "--cache", "--cache", "c"],
+    &["migrate", "--cache=c", "--cache=c"],
+    &["migrate", "--cache", "c", "--cache", "d"],
+    &["migrate", "--cache=c", "--cache", "d"],
+    &["migrate", "--cache=c", "f"],
+    &["migrate", "--cache", "c", "f"],
+    &["migrate", "f", "--cache=c"],
+    &["migrate", "--cache=c", ""],
+    &["migrate", "--cache=c", "--"],
+    &["migrate", "--cache=c", "--fuel=8"],
+    &["migrate", "--fuel", "8", "--cache", "c"],
+    &["migrate", "--workers=2", "--cache=c"],
+    &["migrate", "--simplify", "--cache=c"],
+    &["migrate", "--cache=c", "--simplify"],
+    &["migrate", "-cache=c"],
+    &["migrate", "--caches=c"],
+    &["--cache=c", "migrate"],
+    &["Migrate", "--cache=c"],
+    &["migrates", "--cache=c"],
+    &["wat"],
+    &["wat", ""],
+    &["wat", "-"],
+    &["wat", "-f"],
+    &["wat", "--"],
+    &["wat", "--", "f"],
+    &["wat", "f", "g"],
+    &["wat", "f", ""],
+    &["wat", "", "f"],
+    &["wat", "--fuel=8"],
+    &["wat", "--fuel=8", "f"],
+    &["wat", "f", "--fuel", "8"],
+    &["wat", "--simplify", "f"],
+    &["wat", "f", "--simplify"],
+    &["wat", "--cache=c", "f"],
+    &["wat", "--workers", "2", "f"],
+    &["Wat", "f"],
+    &["wats", "f"],
+    &["check"],
+    &["check", ""],
+    &["check", "-"],
+    &["check", "-f"],
+    &["check", "--"],
+    &["check", "--", "f"],
+    &["check", "f", "g"],
+    &["check", "f", ""],
+    &["check", "", "f"],
+    &["check", "--fuel=8"],
+    &["check", "--fuel=8", "f"],
+    &["check", "f", "--fuel", "8"],
+    &["check", "--simplify", "f"],
+    &["check", "f", "--simplify"],
+    &["check", "--cache=c", "f"],
+    &["check", "--workers", "2", "f"],
+    &["Check", "f"],
+    &["checks", "f"],
 ];
 
 /// Words that mean nothing, for an option that is named twice or amiss, or for its value.
@@ -333,6 +428,24 @@ fn usage(rt: HostRuntime) -> Result<(), Fail> {
         assert_eq!(rt; text.as_str(), "usage");
     }
     for &words in NO_VALUES {
+        let text = meaning(&rt, words)?;
+        assert_eq!(rt; text.as_str(), "usage");
+    }
+    Ok(())
+}
+
+#[test]
+fn module_commands(rt: HostRuntime) -> Result<(), Fail> {
+    for &(words, expected) in MODULES {
+        let text = meaning(&rt, words)?;
+        assert_eq!(rt; text.as_str(), expected);
+    }
+    Ok(())
+}
+
+#[test]
+fn module_usage(rt: HostRuntime) -> Result<(), Fail> {
+    for &words in NO_MODULES {
         let text = meaning(&rt, words)?;
         assert_eq!(rt; text.as_str(), "usage");
     }

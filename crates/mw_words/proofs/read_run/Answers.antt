@@ -1,7 +1,7 @@
 use Rattle.mw_words.specs.Words.{parts_command, run_of}
 use Rattle.mw_words.proofs.Items.{on_err}
-use Rattle.mw_words.proofs.Usage.{run_is_other, no_command, options_of_run, workers_of_run, switch_of_run, cache_of_run, units_of}
-use Rattle.mw_words.proofs.Usage.{file_of_parts}
+use Rattle.mw_words.proofs.Usage.{run_is_other, no_command, options_of_run, workers_of_run, switch_of_run}
+use Rattle.mw_words.proofs.Usage.{cache_of_run, units_of_run, file_of_run}
 use Rattle.mw_words.proofs.read_run.Goals as goal
 
 pub returns-in_err-have_only-clause-usage : goal.returns-in_err-have_only-clause-usage
@@ -17,7 +17,7 @@ returns-in_err-number_of-clause-usage c =
 pub returns-in_err-fuel_of-clause-usage : goal.returns-in_err-fuel_of-clause-usage
 returns-in_err-fuel_of-clause-usage c =
     on_err c.from_residual-in_err-fuel_of.result _ (no_command run_is_other (λ parts whole command makes. let has =
-    units_of makes in c.in_err-fuel_of.ensures.usage parts whole has.0 has.1))
+    units_of_run makes in c.in_err-fuel_of.ensures.usage parts whole has.0 has.1))
 
 pub returns-in_err-switch_of-clause-usage : goal.returns-in_err-switch_of-clause-usage
 returns-in_err-switch_of-clause-usage c =
@@ -32,7 +32,7 @@ returns-in_err-word_of-clause-usage c =
 pub returns-in_err-file_of-clause-usage : goal.returns-in_err-file_of-clause-usage
 returns-in_err-file_of-clause-usage c =
     on_err c.from_residual-in_err-file_of.result _ (no_command run_is_other (λ parts whole command makes. let has =
-    file_of_parts makes in c.in_err-file_of.ensures.usage parts whole has.0 has.1))
+    file_of_run makes in c.in_err-file_of.ensures.usage parts whole has.0 has.1))
 
 pub returns-clause-some : goal.returns-clause-some
 returns-clause-some c =

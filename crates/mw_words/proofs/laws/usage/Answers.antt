@@ -2,7 +2,8 @@ use Rattle.mw_words.proofs.ExampleLemmas.{no_word, option_first, two_files, two_
 use Rattle.mw_words.proofs.ExampleLemmas.{simplify_valued}
 use Rattle.mw_words.proofs.ExampleLemmas.{erased_no_file, erased_workers, erased_two_files, erased_simplified, erased_fuel_twice}
 use Rattle.mw_words.proofs.CacheExamples.{cache_twice, cache_without_path, cache_empty, cache_dashed}
-use Rattle.mw_words.proofs.CacheExamples.{cache_option_as_path, erased_cached, sample_cached}
+use Rattle.mw_words.proofs.CacheExamples.{cache_option_as_path, erased_cached, sample_cached, migrate_uncached}
+use Rattle.mw_words.proofs.CacheExamples.{migrate_twice, migrate_file, migrate_fuelled}
 use Rattle.mw_words.proofs.laws.usage.Goals as goal
 
 pub returns : goal.returns
@@ -26,4 +27,8 @@ returns c = record {
   erased_two_files = erased_two_files;
   erased_simplified = erased_simplified;
   erased_fuel_twice = erased_fuel_twice;
+  migrate_uncached = migrate_uncached;
+  migrate_twice = migrate_twice;
+  migrate_file = migrate_file;
+  migrate_fuelled = migrate_fuelled;
 }

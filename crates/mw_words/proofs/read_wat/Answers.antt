@@ -1,0 +1,10 @@
+use Rattle.mw_words.specs.Words.{wat_command}
+use Rattle.mw_words.proofs.Items.{on_err}
+use Rattle.mw_words.proofs.Usage.{no_wat}
+use Rattle.mw_words.proofs.read_wat.Goals as goal
+
+pub returns-in_err-file-clause-usage : goal.returns-in_err-file-clause-usage
+returns-in_err-file-clause-usage c = on_err c.from_residual.result _ (no_wat c.in_err-file.ensures.usage)
+
+pub returns-clause-some : goal.returns-clause-some
+returns-clause-some c = rw c.in_ok-file.ensures.alone (wat_command c.in_ok-file.ensures.named)
