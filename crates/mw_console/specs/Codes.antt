@@ -1,7 +1,8 @@
 -- The exit codes.
 use Rattle.std.specs.Prelude.{ℕ}
 use Rattle.mw_console.specs.declared.status.Status.{Status}
-use Rattle.mw_console.specs.declared.status.Status.TheVariants.{Answer, Trap, Usage, Refused, Bound, Read, Write, Cache, Memory, BadCache}
+use Rattle.mw_console.specs.declared.status.Status.TheVariants.{Answer, Trap, Usage, Refused, Bound, Read, Write, Cache, Memory}
+use Rattle.mw_console.specs.declared.status.Status.TheVariants.{BadCache, BadModule, Invalid}
 
 abbrev pub code_of : Status → ℕ
 code_of Answer = 0
@@ -14,3 +15,5 @@ code_of Write = 6
 code_of Cache = 7
 code_of (Memory error) = 8
 code_of (BadCache digest) = 9
+code_of BadModule = 10
+code_of Invalid = 11

@@ -5,19 +5,15 @@ use Rattle.mw_outside.specs.declared.errors.ReadStop.TheVariants.{Failed as read
 use Rattle.mw_console.specs.declared.source.SourceFault.{SourceFault}
 use Rattle.mw_console.specs.declared.source.SourceFault.TheVariants.{Failed, Memory}
 
--- one byte more than the longest source: reading ends with it
-abbrev pub most_read : ℕ
-most_read = 1048577
+-- the bytes are the first of the file that there is, so many at most
+abbrev pub IsFront : ℕ → Option (List ℕ) → List ℕ → Type 0
+IsFront most None bytes = ⊥
+IsFront most (Some file) bytes = bytes ≡ take most file
 
--- the bytes are the first of the file that there is
-abbrev pub IsFront : Option (List ℕ) → List ℕ → Type 0
-IsFront None bytes = ⊥
-IsFront (Some file) bytes = bytes ≡ take most_read file
-
--- what is left is the file that there is without these bytes
-abbrev pub IsRest : Option (List ℕ) → List ℕ → Type 0
-IsRest None left = ⊥
-IsRest (Some file) left = left ≡ drop most_read file
+-- what is left is the file that there is without so many of its first bytes
+abbrev pub IsRest : ℕ → Option (List ℕ) → List ℕ → Type 0
+IsRest most None left = ⊥
+IsRest most (Some file) left = left ≡ drop most file
 
 abbrev pub fault_of : ReadStop → SourceFault
 fault_of reading_failed = Failed

@@ -1,6 +1,6 @@
 // The source's file, whole.
 
-ghost use Rattle.std.specs.Prelude.{◌≡◌, ◌≤◌, ◌⊎◌, Some, IsTrue, IsErrOf, IfOk, OnOk, alloc_error};
+ghost use Rattle.std.specs.Prelude.{◌≡◌, ◌≤◌, ◌<◌, ◌⊎◌, Some, IsTrue, IsErrOf, IfOk, OnOk, alloc_error};
 ghost use Rattle.mw_outside.specs.Count.{Rose};
 ghost use Rattle.mw_outside.specs.Lookup.{file_of, LacksFile};
 ghost use Rattle.mw_console.specs.Reading.{IsFront, IsRest};
@@ -8,9 +8,6 @@ ghost use Rattle.mw_console.specs.declared.source.SourceFault.TheVariants.{Faile
 
 use mw_outside::{ReadStop, Source, StartFault, read_up_to};
 use std::alloc::{AllocError, Global};
-
-/// One byte more than the longest source: reading ends with it.
-const MOST: usize = 1_048_577;
 
 /// Why there are no bytes: the source failed or has no such file, or there was no memory.
 #[derive(Clone, Copy, Debug, PartialEq, Eq)]
@@ -40,15 +37,19 @@ impl From<ReadStop> for SourceFault {
     }
 }
 
-/// The bytes of the file of this name, or the first 1,048,577 of them where there are more. Where the source
-/// lacks the file or a call on it fails, the answer is `Failed`.
+/// The bytes of the file of this name, or as many of the first of them as are read at most, where there are more. Where
+/// the source lacks the file or a call on it fails, the answer is `Failed`.
 pub fn file_bytes<S: Source>(
     alloc: Global,
     source: &mut S,
     name: &str,
+    most: usize,
 ) -> Result<Vec<u8>, SourceFault>
-    ensures ok { IfOk result (λ bytes. IsTrue S.tells → IsFront (file_of (S.told source.old) name.now) bytes.items) }
-    ensures rest { IfOk result (λ _. IsTrue S.tells → IsRest (file_of (S.told source.old) name.now) (S.left source.new)) }
+    requires some { 0 < most }
+    ensures ok { IfOk result (λ bytes. IsTrue S.tells
+        → IsFront most (file_of (S.told source.old) name.now) bytes.items) }
+    ensures rest { IfOk result (λ _. IsTrue S.tells
+        → IsRest most (file_of (S.told source.old) name.now) (S.left source.new)) }
     ensures missing { LacksFile S.tells (S.told source.old) name.now → IsErrOf result SourceFault.Failed }
     ensures failed { IsErrOf result SourceFault.Failed
         → Rose (S.faults source.old) (S.faults source.new) ⊎ LacksFile S.tells (S.told source.old) name.now }
@@ -58,5 +59,5 @@ pub fn file_bytes<S: Source>(
     ensures count { S.faults source.old ≤ S.faults source.new }
 {
     source.start(name)?;
-    Ok(read_up_to(alloc, source, MOST)?)
+    Ok(read_up_to(alloc, source, most)?)
 }

@@ -29,10 +29,14 @@ pub enum Status {
     Memory(AllocError),
     /// A record of the cache, whose text has this digest, held no module of its kernel.
     BadCache([u8; 32]),
+    /// All of the output was written: the first fault of a file that is no module.
+    BadModule,
+    /// All of it was written, and it says that the module isn't valid.
+    Invalid,
 }
 
 impl Status {
-    /// The exit code, from 0 to 9.
+    /// The exit code, from 0 to 11.
     pub fn code(&self) -> u8
         ensures { result ≡ code_of self.now }
     {
@@ -47,6 +51,8 @@ impl Status {
             Status::Cache => 7,
             Status::Memory(_) => 8,
             Status::BadCache(_) => 9,
+            Status::BadModule => 10,
+            Status::Invalid => 11,
         }
     }
 }

@@ -5,7 +5,10 @@ ghost use Rattle.std.specs.String.{string_bytes};
 ghost use Rattle.hex.specs.Hex.{encode_lower};
 ghost use Rattle.mw_term.specs.Terms.{ground_of, kernel_type_of, ground_value_of, base_value_of};
 ghost use Rattle.mw_term.specs.declared.program.Item.{Item as PureItem};
-ghost use Rattle.mw_console.specs.Texts.{answered, trapped, bounded, base_text, ground_text, left_text, kind_text, kernel_text, kernel_line, digits_line, limit_words, trap_words, ending_line, total_line, totals_text, migrated_text, name_at, in_line, at_line, named_line, refusal_line, value_text};
+ghost use Rattle.mw_console.specs.Texts.{answered, trapped, bounded, base_text, ground_text, left_text, kind_text};
+ghost use Rattle.mw_console.specs.Texts.{kernel_text, kernel_line, digits_line, limit_words, trap_words, ending_line};
+ghost use Rattle.mw_console.specs.Texts.{total_line, totals_text, migrated_text, name_at, in_line, at_line, named_line};
+ghost use Rattle.mw_console.specs.Texts.{refusal_line, value_text};
 
 use mw_term::{Base, BaseValue, Ground, GroundValue, Item, KType, Limit, Refusal, TrapKind};
 use std::alloc::{AllocError, Global};

@@ -1,6 +1,5 @@
 use Rattle.std.proofs.Common.{rules, ◌≡◌, ◌∙◌, ap, ◌++◌, Some}
 use Rattle.mw_outside.specs.Lookup.{file_of}
-use Rattle.mw_console.specs.Reading.{most_read}
 use Rattle.mw_console.proofs.ReadLemmas.{rest_behind}
 use Rattle.mw_console.proofs.source.file_bytes.Goals as goal
 
@@ -13,4 +12,4 @@ returns-clause-rest g c =
     let found : file_of (source.told c.args.source.now) c.args.name.now ≡ Some left =
     search (rules, c.in_ok-start.ensures.found tells) in
     let read = c.in_ok-read_up_to.ensures in
-    rw found (rest_behind most_read left after (read.moved tells ∙ ap (λ bytes. bytes ++ after) (read.ok tells)))
+    rw found (rest_behind c.args.most left after (read.moved tells ∙ ap (λ bytes. bytes ++ after) (read.ok tells)))
