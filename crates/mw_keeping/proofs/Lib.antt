@@ -1,3 +1,4 @@
 pub mod Appending
 pub mod Fitting
 pub mod KeptFiles
+pub mod Migrations

@@ -1,2 +1,3 @@
 pub mod CacheFiles
 pub mod KeptFiles
+pub mod Migrations

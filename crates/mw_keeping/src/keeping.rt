@@ -42,7 +42,11 @@ pub fn keep<C: Keeper>(
 }
 
 /// Cuts the file, of which so many bytes were read, to the records that counted, if it may have more than these.
-fn cut_back<C: Keeper>(keeper: &mut C, good: usize, count: usize) -> Result<(), KeepFault>
+pub(crate) fn cut_back<C: Keeper>(
+    keeper: &mut C,
+    good: usize,
+    count: usize,
+) -> Result<(), KeepFault>
     requires { IsTrue C.tells → good ≤ length (C.held keeper.old) }
     ensures cut { OnOk result (IsTrue C.tells → (load : LoadState) → load.good ≡ good
         → IsReadFile (C.held keeper.old) count load → C.held keeper.new ≡ take good (C.held keeper.old)) }
@@ -57,7 +61,7 @@ fn cut_back<C: Keeper>(keeper: &mut C, good: usize, count: usize) -> Result<(), 
 }
 
 /// Adds the records in order, up to the first for whose bytes there is no room.
-fn append_fitting<C: Keeper>(
+pub(crate) fn append_fitting<C: Keeper>(
     keeper: &mut C,
     room: usize,
     records: &Records,

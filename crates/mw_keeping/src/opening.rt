@@ -60,7 +60,11 @@ pub fn open_cache<C: Keeper>(
 }
 
 /// The bytes of the file of this name, up to the limit.
-fn read_cache<C: Keeper>(alloc: Global, keeper: &mut C, path: &str) -> Result<Vec<u8>, KeepFault>
+pub(crate) fn read_cache<C: Keeper>(
+    alloc: Global,
+    keeper: &mut C,
+    path: &str,
+) -> Result<Vec<u8>, KeepFault>
     ensures ok { IfOk result (λ bytes. IsTrue C.tells → bytes.items ≡ take file_limit (C.held keeper.old)) }
     ensures same { IsTrue C.tells → C.held keeper.new ≡ C.held keeper.old }
     ensures blames { BlamesKeeper result (C.faults keeper.old) (C.faults keeper.new) }
