@@ -1,0 +1,4 @@
+pub mod Deciding
+pub mod FileAnswers
+pub mod FileLaws
+pub mod TextLemmas

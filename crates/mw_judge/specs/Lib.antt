@@ -1,0 +1,4 @@
+pub mod ModuleFiles
+pub mod FileAnswers
+pub mod FileLines
+pub mod FileLaws
