@@ -69,6 +69,11 @@ fn explain(rt: &(impl Eprint + AllocGlobal), status: &Status) -> std::io::Result
             let digest = hex::encode(rt.alloc(), digest)?;
             eprintln!(rt; "metaml: bad cache record {digest}")
         }
-        Status::Answer | Status::Trap(_) | Status::Refused(_) | Status::Bound(_) => Ok(()),
+        Status::Answer
+        | Status::Trap(_)
+        | Status::Refused(_)
+        | Status::Bound(_)
+        | Status::BadModule
+        | Status::Invalid => Ok(()),
     }
 }

@@ -1,14 +1,20 @@
 -- From what a command's run gives to the clauses of the top call.
-use Rattle.std.proofs.Common.{◌≡◌, ◌≤◌, ◌⊎◌, inl, inr, ℕ, List, [], ◌∷◌, map, Bool, true, IsTrue, Option, Some, None, IsSome, IsNone, option_map, refl, sym, ap, subst, ◌∙◌, arith}
+use Rattle.std.proofs.Common.{◌≡◌, ◌≤◌, ◌⊎◌, inl, inr, ℕ, List, [], ◌∷◌, map, Bool, true, IsTrue, Option, Some, None}
+use Rattle.std.proofs.Common.{IsSome, IsNone, option_map, take, refl, sym, ap, subst, ◌∙◌, arith}
 use Rattle.std.specs.Prelude.{codes}
 use Rattle.mw_term.specs.Terms.{PureGroundValue}
 use Rattle.mw_console.specs.Texts.{Ending, answered, trapped, bounded, ending_status}
 use Rattle.mw_meaning.specs.declared.mode.Mode.TheVariants.{Plain, Simple}
-use Rattle.mw_words.specs.Words.{PureCommand, PurePart, run, erased, sample, IsNumber, IsNumberOf, not_named, named_once, Makes, run_of, erased_of, Means, parts_command, sample_command}
+use Rattle.mw_words.specs.Words.{PureCommand, PurePart, run, erased, sample, migrate, wat, check, IsNumber, IsNumberOf}
+use Rattle.mw_words.specs.Words.{not_named, named_once, Makes, run_of, erased_of, migrate_of}
+use Rattle.mw_words.specs.Words.{Means, parts_command, sample_command, wat_command, check_command}
 use Rattle.mw_words.proofs.LawLemmas.{one_command}
 use Rattle.mw_console.specs.declared.status.Status.{Status}
-use Rattle.mw_console.specs.declared.status.Status.TheVariants.{Answer, Trap, Refused, Bound, Read, Write, Cache, Memory}
-use Rattle.mw_drive.specs.Works.{Work, running, erasing, sampling, Meaning, ran, mode_of, run_text, IsMeaning, of_refusal, of_types, of_program, status_of}
+use Rattle.mw_console.specs.declared.status.Status.TheVariants.{Answer, Trap, Refused, Bound, Read, Write, Cache}
+use Rattle.mw_console.specs.declared.status.Status.TheVariants.{Memory}
+use Rattle.mw_drive.specs.Works.{writing, judging, migrating}
+use Rattle.mw_drive.specs.Works.{Work, running, erasing, sampling, Meaning, ran, mode_of, run_text, IsMeaning}
+use Rattle.mw_drive.specs.Works.{of_refusal, of_types, of_program, status_of}
 use Rattle.mw_drive.specs.ProgramMeaning.{Kernel}
 use Rattle.mw_drive.specs.SimplifiedPrograms.{IsUnbounded}
 use Rattle.mw_drive.specs.declared.shown.Shown.{Shown}
@@ -19,15 +25,23 @@ use Rattle.mw_drive.proofs.OneMeaning.{one_meaning}
 use Rattle.mw_drive.proofs.SimplifiedWorks.{simplified_run}
 use Rattle.mw_drive.specs.Honest.{IsHonestCache}
 use Rattle.mw_drive.specs.Extents.{whole, never, Kind, extent}
-use Rattle.mw_drive.specs.Running.{Outside, Wanted, source_file, files_of, path_of, kind_with, Has, Lacks, HasAll, has_none, has_more, LacksFirst, lacks_first, IsWork, run_works, erased_works, sample_works, AsksOn, Asks, AsksOver, AsksMissing, AsksNoFile, AsksCache, AsksNoCache, HasHonestCache, kind_of, IsFaithful, IsMemory, IsCarriedOut, mode_when}
+use Rattle.mw_drive.specs.Running.{Outside, Sources, Wanted, source_file, module_file, most_of_module, files_of}
+use Rattle.mw_drive.specs.Running.{path_of}
+use Rattle.mw_drive.specs.Running.{kind_with, Has, Lacks, HasAll, has_none, has_more, LacksFirst, lacks_first}
+use Rattle.mw_drive.specs.Running.{IsWork, run_works, erased_works, sample_works, migrate_works, wat_works, check_works}
+use Rattle.mw_drive.specs.Running.{AsksOn, Asks, AsksOver, AsksMissing, AsksNoFile, AsksNoCache, HasHonestCache}
+use Rattle.mw_drive.specs.Running.{kind_of}
+use Rattle.mw_drive.specs.Running.{IsFaithful, IsMemory, IsCarriedOut, mode_when}
+use Rattle.mw_drive.specs.Verdicts.{IsVerdictOn}
+use Rattle.mw_drive.proofs.Verdicts.{verdict_on}
 use Rattle.mw_drive.proofs.Options.{some_is_none}
-use Rattle.mw_drive.proofs.RunLemmas.{all_or_first, some_output, whole_else}
+use Rattle.mw_drive.proofs.RunLemmas.{all_or_first, whole_else}
 
 -- want of memory before anything was written
 pub carried_memory : (kind : Kind) (work : Work) (e : _) (tells : Bool) (before : List ℕ)
     → IsCarriedOut kind work (Memory e) tells before before
 carried_memory kind work e tells before =
-    record { faithful = λ t. some_output work before; meaning = λ c. absurd (cc); said = λ c. absurd (cc) }
+    record { faithful = λ t. inl refl; meaning = λ c. absurd (cc); said = λ c. absurd (cc) }
 
 -- parts make no sample
 makes_no_sample : {word : List ℕ} {parts : List PurePart} {n : ℕ} → Makes word parts (sample n) → ⊥
@@ -40,6 +54,8 @@ sample_range command n (sample_command h) e = same_number h e
   where
     same_number : {word : List ℕ} {k : ℕ} → IsNumber 100 word k → sample k ≡ sample n → (1 ≤ n) × (n ≤ 100)
     same_number {k = k} h e = let same : k ≡ n = cc in rw (← same) (h.low, h.high)
+sample_range command n (wat_command file) e = absurd (cc)
+sample_range command n (check_command file) e = absurd (cc)
 sample_range command n (parts_command {word = word} {parts = parts} h m) e =
     absurd (makes_no_sample (subst (Makes word parts) e m))
 
@@ -52,6 +68,8 @@ pub run_workers : {words : List (List ℕ)} (command : PureCommand) (workers fue
     (cache : Option (List ℕ)) (file : List ℕ) → Means words command
     → command ≡ run workers fuel simplify cache file → 1 ≤ workers
 run_workers command workers fuel simplify cache file (sample_command h) e = absurd (cc)
+run_workers command workers fuel simplify cache file (wat_command is) e = absurd (cc)
+run_workers command workers fuel simplify cache file (check_command is) e = absurd (cc)
 run_workers command workers fuel simplify cache file (parts_command are m) e = of_run m e
   where
     of_run : {word : List ℕ} {parts : List PurePart} {c : PureCommand} → Makes word parts c
@@ -59,6 +77,7 @@ run_workers command workers fuel simplify cache file (parts_command are m) e = o
     of_run (run_of {workers = n} only are units switch path is) e =
         let same : n ≡ workers = cc in rw (← same) (some_workers are)
     of_run (erased_of only units is) e = absurd (cc)
+    of_run (migrate_of only path no_file) e = absurd (cc)
 
 no_refusal : {r : _} → Answer ≡ Refused r → ⊥
 no_refusal e = cc
@@ -99,21 +118,21 @@ erased_answer kind shown s sink_tells before after fuel m bytes w carried other 
 module _ {words : List (List ℕ)} {o : Outside} (command : PureCommand) (means : Means words command) (s : Status)
     (sink_tells : Bool) (before after : List ℕ)
     (Rose_source Rose_sink : Type 0)
-    (carried : (contents : List (List ℕ)) (work : Work) → HasAll o (files_of command) contents
-    → IsWork command contents work → HasHonestCache o command
+    (carried : (contents : List (List ℕ)) (work : Work) → HasAll o.source (files_of command) contents
+    → IsWork o command contents work → HasHonestCache o command
     → IsCarriedOut (kind_of command) work s sink_tells before after)
-    (reads : s ≡ Read → Rose_source ⊎ LacksFirst o (files_of command)) (writes : s ≡ Write → Rose_sink)
+    (reads : s ≡ Read → Rose_source ⊎ LacksFirst o.source (files_of command)) (writes : s ≡ Write → Rose_sink)
     (possible : extent (kind_of command) s ≡ never → ⊥) where
   same : (other : PureCommand) → Means words other → other ≡ command
   same other also = one_command words other command also means
 
   has_on : (other : PureCommand) (contents : List (List ℕ)) → AsksOn words o other contents
-      → HasAll o (files_of command) contents
-  has_on other contents on = subst (λ c. HasAll o (files_of c) contents) (same other on.means) on.has
+      → HasAll o.source (files_of command) contents
+  has_on other contents on = subst (λ c. HasAll o.source (files_of c) contents) (same other on.means) on.has
 
   works_on : (other : PureCommand) (contents : List (List ℕ)) (work : Work) → Means words other
-      → IsWork other contents work → IsWork command contents work
-  works_on other contents work also works = subst (λ c. IsWork c contents work) (same other also) works
+      → IsWork o other contents work → IsWork o command contents work
+  works_on other contents work also works = subst (λ c. IsWork o c contents work) (same other also) works
 
   -- the work that is asked for was carried out
   asked_carried : (work : Work) → Asks words o work → IsCarriedOut (kind_of command) work s sink_tells before after
@@ -130,7 +149,7 @@ module _ {words : List (List ℕ)} {o : Outside} (command : PureCommand) (means 
       whole_else (kind_of command) s possible (asked_carried work asked).said kept memory (λ r. not_read (reads r))
       (λ w. sink (writes w))
     where
-      not_read : Rose_source ⊎ LacksFirst o (files_of command) → ⊥
+      not_read : Rose_source ⊎ LacksFirst o.source (files_of command) → ⊥
       not_read (inl rose) = source rose
       not_read (inr lacks) = all_or_first (has_on asked.command asked.contents asked.on) lacks
 
@@ -167,8 +186,8 @@ module _ {words : List (List ℕ)} {o : Outside} (command : PureCommand) (means 
   pub asked_of : (P : PureCommand → Type 0) → P command → (other : PureCommand) → Means words other → P other
   asked_of P h other also = subst P (sym (same other also)) h
 
-  pub asked_missing : AsksMissing words o → LacksFirst o (files_of command)
-  asked_missing asked = subst (λ c. LacksFirst o (files_of c)) (same asked.command asked.means) asked.lacks
+  pub asked_missing : AsksMissing words o → LacksFirst o.source (files_of command)
+  asked_missing asked = subst (λ c. LacksFirst o.source (files_of c)) (same asked.command asked.means) asked.lacks
 
   pub asked_no_file : AsksNoFile words → files_of command ≡ []
   asked_no_file asked = ap files_of (sym (same asked.command asked.means)) ∙ asked.none
@@ -176,24 +195,25 @@ module _ {words : List (List ℕ)} {o : Outside} (command : PureCommand) (means 
   pub asked_no_cache : AsksNoCache words → IsNone (path_of command)
   asked_no_cache asked = subst (λ c. IsNone (path_of c)) (same asked.command asked.means) asked.none
 
-  pub asked_cache : AsksCache words → IsSome (path_of command)
-  asked_cache asked = subst (λ c. IsSome (path_of c)) (same asked.command asked.means) asked.some
-
   pub asked_read : s ≡ Read → Rose_source ⊎ AsksMissing words o
   asked_read is = by_case (reads is)
     where
-      by_case : Rose_source ⊎ LacksFirst o (files_of command) → Rose_source ⊎ AsksMissing words o
+      by_case : Rose_source ⊎ LacksFirst o.source (files_of command) → Rose_source ⊎ AsksMissing words o
       by_case (inl rose) = inl rose
       by_case (inr lacks) = inr (record { command = command; means = means; lacks = lacks })
 
   pub asked_has : (other : PureCommand) (bytes : List ℕ) → AsksOn words o other (bytes ∷ [])
-      → HasAll o (files_of command) (bytes ∷ [])
+      → HasAll o.source (files_of command) (bytes ∷ [])
   asked_has other bytes on = has_on other (bytes ∷ []) on
+
+  pub asked_file : (other : PureCommand) (file : Wanted) (bytes : List ℕ) → AsksOn words o other (bytes ∷ [])
+      → files_of other ≡ file ∷ [] → files_of command ≡ file ∷ []
+  asked_file other file bytes on is = ap files_of (sym (same other on.means)) ∙ is
 
   -- what is kept of a work that is asked for
   pub asked_kept : (P : List (List ℕ) → Status → Type 0)
-      → ((contents : List (List ℕ)) (work : Work) → HasAll o (files_of command) contents
-      → IsWork command contents work → HasHonestCache o command → IsSome (path_of command)
+      → ((contents : List (List ℕ)) (work : Work) → HasAll o.source (files_of command) contents
+      → IsWork o command contents work → HasHonestCache o command → IsSome (path_of command)
       → (shown : Shown) (kernels : List Kernel) (e : Ending) → IsMeaning work (ran shown kernels e)
       → P (map (run_text (mode_of shown)) kernels) s)
       → (work : Work) (asked : Asks words o work) → IsSome (path_of asked.command)
@@ -207,12 +227,23 @@ module _ {words : List (List ℕ)} {o : Outside} (command : PureCommand) (means 
 
   -- a bad record is one of a work that is asked for
   pub asked_bad : (P : Work → Type 0)
-      → ((contents : List (List ℕ)) (work : Work) → HasAll o (files_of command) contents
-      → IsWork command contents work → P work)
+      → ((contents : List (List ℕ)) (work : Work) → HasAll o.source (files_of command) contents
+      → IsWork o command contents work → P work)
       → (work : Work) → AsksOver words o work → P work
   asked_bad P bad work asked =
       bad asked.contents work (has_on asked.command asked.contents asked.on)
       (works_on asked.command asked.contents work asked.on.means asked.works)
+
+  -- what a verdict says of a module that is asked for
+  pub asked_verdict : (f bytes : List ℕ) → AsksOn words o (check f) (bytes ∷ [])
+      → IsVerdictOn s (take most_of_module bytes)
+  asked_verdict f bytes on =
+      let is = same (check f) on.means in
+      verdict_on (take most_of_module bytes) s
+      (subst (λ c. IsCarriedOut (kind_of c) (judging (take most_of_module bytes)) s sink_tells before after) (sym is)
+      (carried (bytes ∷ []) (judging (take most_of_module bytes)) (has_on (check f) (bytes ∷ []) on)
+      (subst (λ c. IsWork o c (bytes ∷ []) (judging (take most_of_module bytes))) is check_works)
+      (subst (HasHonestCache o) is tt))).meaning
 
   -- a run that is asked for was carried out
   asked_run : (workers fuel : ℕ) (simplify : Bool) (cache : Option (List ℕ)) (f bytes : List ℕ)
@@ -224,7 +255,7 @@ module _ {words : List (List ℕ)} {o : Outside} (command : PureCommand) (means 
       after) (sym is)
       (carried (bytes ∷ []) (running bytes fuel (Lines (mode_when simplify)))
       (has_on (run workers fuel simplify cache f) (bytes ∷ []) on)
-      (subst (λ c. IsWork c (bytes ∷ []) (running bytes fuel (Lines (mode_when simplify)))) is run_works)
+      (subst (λ c. IsWork o c (bytes ∷ []) (running bytes fuel (Lines (mode_when simplify)))) is run_works)
       (subst (HasHonestCache o) is honest))
 
   pub asked_erased : (workers fuel m : ℕ) (simplify : Bool) (cache : Option (List ℕ)) (f bytes : List ℕ)
@@ -256,38 +287,61 @@ module _ {words : List (List ℕ)} {o : Outside} (command : PureCommand) (means 
 pub run_on : {o : Outside} {workers fuel : ℕ} {simplify : Bool} {cache : Option (List ℕ)} {file : List ℕ}
     (contents : List (List ℕ))
     (work : Work)
-    → HasAll o (files_of (run workers fuel simplify cache file)) contents
-    → IsWork (run workers fuel simplify cache file) contents work
-    → (bytes : List ℕ) × Has o (source_file file) bytes × (work ≡ running bytes fuel (Lines (mode_when simplify)))
+    → HasAll o.source (files_of (run workers fuel simplify cache file)) contents
+    → IsWork o (run workers fuel simplify cache file) contents work
+    → (bytes : List ℕ) × Has o.source (source_file file) bytes
+    × (work ≡ running bytes fuel (Lines (mode_when simplify)))
 run_on contents work (has_more {bytes = bytes} has has_none) run_works = (bytes, has, refl)
 
 pub erased_on : {o : Outside} {fuel : ℕ} {file : List ℕ} (contents : List (List ℕ)) (work : Work)
-    → HasAll o (files_of (erased fuel file)) contents
-    → IsWork (erased fuel file) contents work
-    → (bytes : List ℕ) × Has o (source_file file) bytes × (work ≡ erasing bytes fuel)
+    → HasAll o.source (files_of (erased fuel file)) contents
+    → IsWork o (erased fuel file) contents work
+    → (bytes : List ℕ) × Has o.source (source_file file) bytes × (work ≡ erasing bytes fuel)
 erased_on contents work (has_more {bytes = bytes} has has_none) erased_works = (bytes, has, refl)
 
-pub sample_on : {number : ℕ} (contents : List (List ℕ)) (work : Work) → IsWork (sample number) contents work
-    → work ≡ sampling number
+pub sample_on : {o : Outside} {number : ℕ} (contents : List (List ℕ)) (work : Work)
+    → IsWork o (sample number) contents work → work ≡ sampling number
 sample_on contents work sample_works = refl
 
+pub migrate_on : {o : Outside} {cache : List ℕ} (contents : List (List ℕ)) (work : Work)
+    → IsWork o (migrate cache) contents work → IsTrue o.keeps × (work ≡ migrating o.held)
+migrate_on contents work (migrate_works keeps) = (keeps, refl)
+
+-- a migration runs no program
+pub no_migrated_run : {held : List ℕ} {shown : Shown} {kernels : List Kernel} {e : Ending}
+    → IsMeaning (migrating held) (ran shown kernels e) → ⊥
+no_migrated_run means = elim means [ ]
+
+pub wat_on : {o : Outside} {file : List ℕ} (contents : List (List ℕ)) (work : Work)
+    → HasAll o.source (files_of (wat file)) contents → IsWork o (wat file) contents work
+    → (bytes : List ℕ) × Has o.source (module_file file) bytes × (work ≡ writing (take most_of_module bytes))
+wat_on contents work (has_more {bytes = bytes} has has_none) wat_works = (bytes, has, refl)
+
+pub check_on : {o : Outside} {file : List ℕ} (contents : List (List ℕ)) (work : Work)
+    → HasAll o.source (files_of (check file)) contents → IsWork o (check file) contents work
+    → (bytes : List ℕ) × Has o.source (module_file file) bytes × (work ≡ judging (take most_of_module bytes))
+check_on contents work (has_more {bytes = bytes} has has_none) check_works = (bytes, has, refl)
+
 -- of one file
-pub has_one : {o : Outside} {file : Wanted} {bytes : List ℕ} → HasAll o (file ∷ []) (bytes ∷ []) → Has o file bytes
+pub has_one : {o : Sources} {file : Wanted} {bytes : List ℕ} → HasAll o (file ∷ []) (bytes ∷ []) → Has o file bytes
 has_one (has_more has rest) = has
 
-pub first_lacks : {o : Outside} {file : Wanted} {Rose_source : Type 0} → Rose_source ⊎ Lacks o file
+pub most_of_one : {file other : Wanted} → file ∷ [] ≡ other ∷ [] → file.most ≡ other.most
+most_of_one {file} {other} is = let same : file ≡ other = cc in ap (λ (f : Wanted). f.most) same
+
+pub first_lacks : {o : Sources} {file : Wanted} {Rose_source : Type 0} → Rose_source ⊎ Lacks o file
     → Rose_source ⊎ LacksFirst o (file ∷ [])
 first_lacks (inl rose) = inl rose
 first_lacks (inr lacks) = inr (lacks_first lacks)
 
-pub lacks_one : {o : Outside} {file : Wanted} → LacksFirst o (file ∷ []) → Lacks o file
+pub lacks_one : {o : Sources} {file : Wanted} → LacksFirst o (file ∷ []) → Lacks o file
 lacks_one (lacks_first lacks) = lacks
 
 -- and of none
-pub lacks_no : {o : Outside} → LacksFirst o [] → ⊥
+pub lacks_no : {o : Sources} → LacksFirst o [] → ⊥
 lacks_no h = elim h [ ]
 
-pub has_no : {o : Outside} {bytes : List ℕ} → HasAll o [] (bytes ∷ []) → ⊥
+pub has_no : {o : Sources} {bytes : List ℕ} → HasAll o [] (bytes ∷ []) → ⊥
 has_no h = elim h [ ]
 
 -- a cache file's name, and what is seen of it

@@ -10,9 +10,12 @@ use Rattle.mw_console.specs.Texts.{Ending, answered}
 use Rattle.mw_drive.specs.NamedPrograms.{NamedItem, NamedProgram, unnamed}
 use Rattle.mw_drive.specs.SourceReading.{IsRead}
 use Rattle.mw_drive.specs.declared.shown.Shown.{Shown}
-use Rattle.mw_drive.specs.ProgramMeaning.{Kernel, ItemsRun, all_gave, one_ended, one_stuck, with_kernel, before_others, run_item, run_items, items_run}
-use Rattle.mw_drive.specs.ProgramMeaning.{main_ending, main_after, ended, codes_of, ended_after, with_main, program_run, erased_ending}
-use Rattle.mw_drive.specs.Works.{running, erasing, mode_of, Meaning, ran, erased, IsAccepted, IsMeaning, of_refusal, of_types, of_program, of_erased_refusal, of_erased}
+use Rattle.mw_drive.specs.ProgramMeaning.{Kernel, ItemsRun, all_gave, one_ended, one_stuck, with_kernel, before_others}
+use Rattle.mw_drive.specs.ProgramMeaning.{run_item, run_items, items_run}
+use Rattle.mw_drive.specs.ProgramMeaning.{main_ending, main_after, ended, codes_of, ended_after, with_main, program_run}
+use Rattle.mw_drive.specs.ProgramMeaning.{erased_ending}
+use Rattle.mw_drive.specs.Works.{running, erasing, mode_of, Meaning, ran, erased, IsAccepted, IsMeaning, of_refusal}
+use Rattle.mw_drive.specs.Works.{of_types, of_program, of_erased_refusal, of_erased}
 use Rattle.mw_drive.specs.WorkLaws.{AnswersAreErased}
 use Rattle.mw_drive.proofs.OneMeaning.{one_program}
 use Rattle.mw_drive.proofs.ErasedEnds.{source_program}

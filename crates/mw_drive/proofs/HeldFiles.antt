@@ -1,5 +1,6 @@
 -- What the cache file of a run holds, from what was opened and kept.
-use Rattle.std.proofs.Common.{◌≡◌, ◌⊎◌, inl, inr, ℕ, List, [], ◌∷◌, map, Option, Some, None, IsSome, IsNone, Bool, IsTrue, Result, Ok, Err, IsErr, IfOk, refl, sym, ap, ◌∙◌, subst}
+use Rattle.std.proofs.Common.{◌≡◌, ◌⊎◌, inl, inr, ℕ, List, [], ◌∷◌, map, take, Option, Some, None, IsSome, IsNone, Bool}
+use Rattle.std.proofs.Common.{IsTrue, Result, Ok, Err, IsErr, IfOk, refl, sym, ap, ◌∙◌, subst}
 use Rattle.std.specs.List.{AllByRecursion}
 use Rattle.std.specs.Result.{IsErrAnd}
 use Rattle.mw_term.specs.declared.refusal.Refusal.{Refusal}
@@ -11,18 +12,25 @@ use Rattle.mw_store.specs.Loads.{LoadState}
 use Rattle.mw_cache.specs.Gots.{CacheState}
 use Rattle.mw_console.specs.Texts.{Ending, answered, trapped, bounded, ending_status}
 use Rattle.mw_console.specs.declared.status.Status.{Status}
-use Rattle.mw_console.specs.declared.status.Status.TheVariants.{Answer, Trap, Usage, Refused, Bound, Read as Unreadable, Write, Cache, Memory, BadCache}
+use Rattle.mw_console.specs.declared.status.Status.TheVariants.{Answer, Trap, Usage, Refused, Bound}
+use Rattle.mw_console.specs.declared.status.Status.TheVariants.{Read as Unreadable, Write, Cache, Memory, BadCache}
+use Rattle.mw_console.specs.declared.status.Status.TheVariants.{BadModule, Invalid}
 use Rattle.mw_keeping.specs.CacheFiles.{IsReadFile, IsOpened}
 use Rattle.mw_keeping.specs.KeptFiles.{IsKeptFile, HasGoodFront}
 use Rattle.mw_keeping.specs.declared.opening.CacheFile.{CacheFile}
 use Rattle.mw_keeping.specs.declared.opening.CacheFile.TheVariants.{Absent, Unread, Read}
-use Rattle.mw_keeping.proofs.KeptFiles.{front_stays, kept_none, kept_front}
+use Rattle.mw_keeping.proofs.KeptFiles.{front_stays, front_then, kept_none, kept_front}
+use Rattle.mw_keeping.specs.Migrations.{IsMigratedFile}
+use Rattle.mw_store.specs.Records.{file_of}
 use Rattle.mw_drive.specs.declared.fault.RunFault.{RunFault}
 use Rattle.mw_drive.specs.declared.fault.RunFault.TheVariants.{Unwritten, Bad}
 use Rattle.mw_drive.specs.declared.items.Built.{Built}
-use Rattle.mw_drive.specs.HeldFiles.{IsHeldWith, IsHeldAfter, IsKeptOf, IsKeptWith, IsStatusAfter, texts_built}
+use Rattle.mw_drive.specs.Extents.{Kind, on_a_file, over_a_cache, on_a_number, on_a_cache}
+use Rattle.mw_drive.specs.HeldFiles.{IsHeldBy, IsMigratedWith, IsHeldWith, IsHeldAfter, IsKeptOf, IsKeptWith}
+use Rattle.mw_drive.specs.HeldFiles.{IsStatusAfter, texts_built}
 use Rattle.mw_drive.specs.ProgramRuns.{kernel_of, kernels_of, IsBuilt, HasEnding, IsEndOf, IsEnded}
 use Rattle.mw_drive.specs.ProgramMeaning.{Kernel}
+use Rattle.mw_drive.specs.Running.{kind_with}
 use Rattle.mw_drive.specs.Works.{run_text}
 use Rattle.mw_drive.proofs.Options.{none_is_some, some_is_none, answer_is_fault}
 
@@ -150,11 +158,42 @@ held_front (Refused r) held after h = front_stays held after h
 held_front Unreadable held after h = front_stays held after h
 held_front Write held after h = front_stays held after h
 held_front (BadCache d) held after h = front_stays held after h
+held_front BadModule held after h = front_stays held after h
+held_front Invalid held after h = front_stays held after h
 
-pub front_of : {X : Type 0} (path : Option X) (s : Status) (held after : List ℕ) → (IsNone path → after ≡ held)
-    → (IsSome path → IsHeldWith s held after) → HasGoodFront held after
-front_of None s held after none some = front_stays held after (none refl)
-front_of (Some x) s held after none some = held_front s held after (some refl)
+migrated_file_front : (held after : List ℕ) → IsMigratedFile held after → HasGoodFront held after
+migrated_file_front held after h =
+    front_then held (take h.is.load.good held) after (file_of h.added) h.is.load h.is.is_load refl h.file
+
+migrated_front : (s : Status) (held after : List ℕ) → IsMigratedWith s held after → HasGoodFront held after
+migrated_front Answer held after h = migrated_file_front held after h
+migrated_front Write held after h = front_stays held after h
+migrated_front (Trap t) held after h = h
+migrated_front (Bound l) held after h = h
+migrated_front Cache held after h = h
+migrated_front (Memory e) held after h = h
+migrated_front Usage held after h = h
+migrated_front (Refused r) held after h = h
+migrated_front Unreadable held after h = h
+migrated_front (BadCache d) held after h = h
+migrated_front BadModule held after h = h
+migrated_front Invalid held after h = h
+
+pub held_of_run : {X : Type 0} (path : Option X) (s : Status) (held after : List ℕ) → IsHeldWith s held after
+    → IsHeldBy (kind_with path) s held after
+held_of_run None s held after h = h
+held_of_run (Some x) s held after h = h
+
+by_front : (kind : Kind) (s : Status) (held after : List ℕ) → IsHeldBy kind s held after → HasGoodFront held after
+by_front on_a_file s held after h = held_front s held after h
+by_front over_a_cache s held after h = held_front s held after h
+by_front on_a_number s held after h = held_front s held after h
+by_front on_a_cache s held after h = migrated_front s held after h
+
+pub front_of : {X : Type 0} (path : Option X) (kind : Kind) (s : Status) (held after : List ℕ)
+    → (IsNone path → after ≡ held) → (IsSome path → IsHeldBy kind s held after) → HasGoodFront held after
+front_of None kind s held after none some = front_stays held after (none refl)
+front_of (Some x) kind s held after none some = by_front kind s held after (some refl)
 
 -- what is kept with the status of an ending
 pub kept_ending : (e : Ending) (texts : List (List ℕ)) (held after : List ℕ)

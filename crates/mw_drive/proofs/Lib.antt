@@ -12,6 +12,8 @@ pub mod RunFaults
 pub mod BadRecords
 pub mod HeldFiles
 pub mod Statuses
+pub mod Verdicts
+pub mod Reported
 pub mod RunWritten
 pub mod ScopedTerms
 pub mod Showing

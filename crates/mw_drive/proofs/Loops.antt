@@ -1,5 +1,6 @@
 -- The loop over the items of a program.
-use Rattle.std.proofs.Common.{◌≡◌, ◌≤◌, ◌<◌, ◌+◌, ℕ, zero, suc, List, [], ◌∷◌, ◌++◌, drop, length, Some, refl, sym, ap, ◌∙◌, subst, arith}
+use Rattle.std.proofs.Common.{◌≡◌, ◌≤◌, ◌<◌, ◌+◌, ℕ, zero, suc, List, [], ◌∷◌, ◌++◌, drop, length, Some, refl, sym, ap}
+use Rattle.std.proofs.Common.{◌∙◌, subst, arith}
 use Rattle.std.specs.Prelude.{slice_get}
 use Rattle.std.specs.List.{AllByRecursion}
 use Rattle.std.proofs.lemmas.List.{map-append, length-append}
@@ -22,7 +23,8 @@ use Rattle.mw_drive.specs.declared.items.ItemEnd.TheVariants as item
 use Rattle.mw_drive.specs.NamedPrograms.{NamedItem, NamedProgram, item_of, named_program_of}
 use Rattle.mw_drive.specs.ProgramMeaning.{ItemsRun, all_gave, one_ended}
 use Rattle.mw_drive.specs.ProgramRuns.{ending_of, kernel_of, kernels_of, IsBuilt}
-use Rattle.mw_drive.specs.ItemOutcomes.{item_run, outcomes_run, came_before, end_before, HasOneForEach, ArePlaced, IfKernel}
+use Rattle.mw_drive.specs.ItemOutcomes.{item_run, outcomes_run, came_before, end_before, HasOneForEach, ArePlaced}
+use Rattle.mw_drive.specs.ItemOutcomes.{IfKernel}
 use Rattle.mw_drive.proofs.ItemsRun.{definitions, with_kernels, one_more, all_before, all_kernels}
 use Rattle.mw_drive.proofs.SourceReadings.{unnamed_program}
 use Rattle.mw_drive.proofs.Taking.{drop_next, all_with}

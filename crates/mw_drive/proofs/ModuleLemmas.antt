@@ -27,7 +27,9 @@ use Rattle.mw_console.specs.Texts.{Ending}
 use Rattle.mw_drive.specs.NamedPrograms.{NamedProgram, unnamed}
 use Rattle.mw_drive.specs.SourceReading.{IsRead}
 use Rattle.mw_drive.specs.ProgramMeaning.{Kernel, ProgramRun, ended, program_run}
-use Rattle.mw_drive.specs.Works.{Work, mode_of, Meaning, IsAccepted, IsMeaning, of_refusal, of_types, of_program, of_erased_refusal, of_erased, HasModule, HaveModules}
+use Rattle.mw_drive.specs.Works.{Work, mode_of, Meaning, IsAccepted, IsMeaning, of_refusal, of_types, of_program}
+use Rattle.mw_drive.specs.Works.{of_erased_refusal, of_erased, HasModule, HaveModules}
+use Rattle.mw_drive.specs.Works.{of_migration, of_binary, of_bad_binary, of_module, of_bad_file}
 use Rattle.mw_drive.proofs.ProgramEnds.{Ends, all_end}
 use Rattle.mw_drive.proofs.ScopedTerms.{is_resolved}
 
@@ -85,3 +87,8 @@ meaning_modules work m
     program_modules (mode_of shown) fuel bytes p kernels e read accepted is
 meaning_modules work m (of_erased_refusal h) = meaning_modules _ _ h
 meaning_modules work m (of_erased p read accepted is) = tt
+meaning_modules work m (of_migration is) = tt
+meaning_modules work m (of_binary is) = tt
+meaning_modules work m (of_bad_binary is) = tt
+meaning_modules work m (of_module wasm is judges) = tt
+meaning_modules work m (of_bad_file is) = tt

@@ -1,5 +1,6 @@
 -- A work has one meaning at most.
-use Rattle.std.proofs.Common.{◌≡◌, ◌≤◌, ◌<◌, ℕ, List, [], map, Some, Err, length, refl, sym, ap, ◌∙◌, subst, arith}
+use Rattle.std.proofs.Common.{◌≡◌, ◌≤◌, ◌<◌, ℕ, Bool, true, false, List, [], map, Some, Err, length, refl, sym, ap, ◌∙◌}
+use Rattle.std.proofs.Common.{subst, arith}
 use Rattle.mw_term.specs.declared.refusal.Refusal.{Refusal}
 use Rattle.mw_term.specs.declared.refusal.Stop.TheVariants.{Refused}
 use Rattle.mw_lex.specs.Tokens.{PureToken}
@@ -24,7 +25,17 @@ use Rattle.mw_drive.specs.declared.shown.Shown.TheVariants.{Lines}
 use Rattle.mw_drive.specs.NamedPrograms.{NamedProgram, unnamed, names_of}
 use Rattle.mw_drive.specs.SourceReading.{IsRead, IsRefused, too_large, at_bytes, at_tokens, at_names}
 use Rattle.mw_drive.specs.ProgramMeaning.{Kernel, ended, program_run, erased_ending}
-use Rattle.mw_drive.specs.Works.{running, mode_of, refused, ran, erased, IsAccepted, IsMeaning, of_refusal, of_types, of_program, of_erased_refusal, of_erased}
+use Rattle.mw_wasm.specs.Syntax.{PureModule}
+use Rattle.mw_drive.specs.Works.{Meaning, running, mode_of, refused, ran, erased, IsAccepted, IsMeaning, of_refusal}
+use Rattle.mw_drive.specs.Works.{of_types, of_program, of_erased_refusal, of_erased}
+use Rattle.mw_drive.specs.Works.{of_migration, of_binary, of_bad_binary, of_module, of_bad_file}
+use Rattle.mw_drive.specs.Works.{migrated, judged, faulty}
+use Rattle.mw_drive.specs.Works as meant
+use Rattle.mw_judge.specs.ModuleFiles.{Judges}
+use Rattle.mw_judge.proofs.FileLaws.{one_binary_module, never_bad_and_binary, one_binary_fault}
+use Rattle.mw_judge.proofs.FileLaws.{one_file_module, never_bad_and_file, one_file_fault}
+use Rattle.mw_keeping.proofs.Migrations.{one_migration}
+use Rattle.mw_store.specs.Records.{Kept}
 use Rattle.mw_drive.specs.WorkLaws.{OneMeaning}
 use Rattle.mw_drive.proofs.SourceReadings.{same_program}
 use Rattle.mw_drive.proofs.ScopedTerms.{is_resolved}
@@ -138,6 +149,16 @@ erased_or_refused : {bytes : List ℕ} {fuel : ℕ} {r : Refusal} {names : List 
 erased_or_refused {bytes} (of_refusal {r = r} a) p b g = read_or_refused bytes p r b a
 erased_or_refused {bytes} (of_types {r = r} q a f) p b g = accepted_or_refused bytes q p r a b f g
 
+-- a module is valid or not
+one_verdict : (v w : Bool) (wasm : PureModule) → Judges v wasm → Judges w wasm → v ≡ w
+one_verdict true true wasm a b = refl
+one_verdict true false wasm a b = absurd (b a)
+one_verdict false true wasm a b = absurd (a b)
+one_verdict false false wasm a b = refl
+
+abbrev written_module : PureModule → Meaning
+written_module wasm = meant.written wasm
+
 pub one_meaning : OneMeaning
 one_meaning work m n (of_refusal {bytes = bytes} {r = r} a) (of_refusal {r = q} b) =
     ap (λ x. refused x []) (one_source_refusal bytes r q a b)
@@ -166,3 +187,23 @@ one_meaning work m n (of_erased {bytes = bytes} {fuel = fuel} {e = d} p a f is) 
     let runs : Some d ≡ Some e =
     sym is ∙ (ap (λ (p : NamedProgram). erased_ending fuel (unnamed p)) (one_program bytes p q a b) ∙ end) in
     let same : d ≡ e = cc in ap erased same
+one_meaning work m n (of_migration {held = held} {old = old} {added = added} a)
+    (of_migration {old = other} {added = more} b) =
+    let same = one_migration held old other added more a b in
+    ap (λ o. migrated o (length added)) same.0 ∙ ap (λ (ks : List Kept). migrated other (length ks)) same.1
+one_meaning work m n (of_binary {bytes = bytes} {wasm = wasm} a) (of_binary {wasm = other} b) =
+    ap written_module (one_binary_module bytes wasm other a b)
+one_meaning work m n (of_binary {bytes = bytes} {wasm = wasm} a) (of_bad_binary {fault = f} bad) =
+    absurd (never_bad_and_binary bytes wasm f a bad)
+one_meaning work m n (of_bad_binary {bytes = bytes} {fault = f} bad) (of_binary {wasm = wasm} a) =
+    absurd (never_bad_and_binary bytes wasm f a bad)
+one_meaning work m n (of_bad_binary {bytes = bytes} {fault = f} a) (of_bad_binary {fault = g} b) =
+    ap faulty (one_binary_fault bytes f g a b)
+one_meaning work m n (of_module {bytes = bytes} {valid = v} wasm a here) (of_module {valid = w} other b there) =
+    ap judged (one_verdict v w wasm here (subst (Judges w) (one_file_module bytes other wasm b a) there))
+one_meaning work m n (of_module {bytes = bytes} wasm a here) (of_bad_file {fault = f} bad) =
+    absurd (never_bad_and_file bytes wasm f a bad)
+one_meaning work m n (of_bad_file {bytes = bytes} {fault = f} bad) (of_module wasm a here) =
+    absurd (never_bad_and_file bytes wasm f a bad)
+one_meaning work m n (of_bad_file {bytes = bytes} {fault = f} a) (of_bad_file {fault = g} b) =
+    ap faulty (one_file_fault bytes f g a b)

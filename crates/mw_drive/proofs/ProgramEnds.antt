@@ -13,8 +13,10 @@ use Rattle.mw_meaning.specs.OutcomeLaws.{ComesTo, AreCodesOf, HasGroundType}
 use Rattle.mw_meaning.proofs.ComingTo.{items_come_to_their_code, main_comes_to_its_value_after_items}
 use Rattle.mw_console.specs.Texts.{Ending}
 use Rattle.mw_drive.specs.NamedPrograms.{NamedItem, NamedProgram, unnamed}
-use Rattle.mw_drive.specs.ProgramMeaning.{Kernel, ItemsRun, all_gave, one_ended, with_kernel, before_others, run_item, run_items, items_run}
-use Rattle.mw_drive.specs.ProgramMeaning.{main_ending, main_after, ProgramRun, ended, codes_of, ended_after, with_main, program_run}
+use Rattle.mw_drive.specs.ProgramMeaning.{Kernel, ItemsRun, all_gave, one_ended, with_kernel, before_others, run_item}
+use Rattle.mw_drive.specs.ProgramMeaning.{run_items, items_run}
+use Rattle.mw_drive.specs.ProgramMeaning.{main_ending, main_after, ProgramRun, ended, codes_of, ended_after, with_main}
+use Rattle.mw_drive.specs.ProgramMeaning.{program_run}
 
 -- the run ends, and each of its kernels has a property
 pub record Ends (P : Kernel → Type 0) (r : ProgramRun) : Type 0 where

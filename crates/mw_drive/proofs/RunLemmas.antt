@@ -1,8 +1,10 @@
 -- From the parts of a run to the whole.
-use Rattle.std.proofs.Common.{◌≡◌, ◌⊎◌, inl, inr, ℕ, ◌<◌, List, [], ◌++◌, Option, None, Some, Bool, IsTrue, IsNone, IsSome, ◌∙◌, take, drop, length, Result, Ok, Err, IfOk, IfErr, refl, sym, ap, subst, arith}
+use Rattle.std.proofs.Common.{◌≡◌, ◌⊎◌, inl, inr, ℕ, ◌<◌, List, [], ◌++◌, Option, None, Some, Bool, true, false, IsTrue}
+use Rattle.std.proofs.Common.{IsNone, IsSome, ◌∙◌, take, drop, length, Result, Ok, Err, IfOk, IfErr, refl, sym, ap}
+use Rattle.std.proofs.Common.{subst, arith}
 use denote.Ref.{Bor}
 use Rattle.std.specs.Prelude.{alloc_error}
-use Rattle.std.proofs.lemmas.List.{append-nil, take_all, length-take}
+use Rattle.std.proofs.lemmas.List.{take_all, length-take}
 use Rattle.mw_drive.specs.declared.fault.RunFault.{RunFault}
 use Rattle.mw_drive.specs.declared.fault.RunFault.TheVariants.{Unwritten, Bad}
 use Rattle.mw_outside.specs.declared.errors.WriteFault.TheVariants as fault
@@ -14,23 +16,28 @@ use Rattle.mw_meaning.specs.declared.mode.Mode.TheVariants.{Plain}
 use Rattle.mw_drive.specs.declared.shown.Shown.{Shown}
 use Rattle.mw_drive.specs.declared.shown.Shown.TheVariants.{Lines}
 use Rattle.mw_drive.specs.ProgramMeaning.{Kernel, erased_ending}
-use Rattle.mw_console.specs.Reading.{most_read, IsFront, IsRest}
+use Rattle.mw_console.specs.Reading.{IsFront}
 use Rattle.mw_console.specs.Texts.{Ending, answered, trapped, bounded, ending_status}
 use Rattle.mw_drive.specs.NamedPrograms.{NamedProgram, unnamed}
 use Rattle.mw_console.specs.declared.status.Status.{Status}
-use Rattle.mw_console.specs.declared.status.Status.TheVariants.{Answer, Trap, Usage, Refused, Bound, Read, Write, Cache, Memory, BadCache}
+use Rattle.mw_console.specs.declared.status.Status.TheVariants.{Answer, Trap, Usage, Refused, Bound, Read, Write}
+use Rattle.mw_console.specs.declared.status.Status.TheVariants.{Cache, Memory, BadCache, BadModule, Invalid}
 use Rattle.mw_drive.specs.SourceReading.{IsRead, IsSmall, too_large, at_bytes, at_tokens, at_names}
-use Rattle.mw_drive.specs.Works.{Work, running, erasing, Meaning, refused, ran, erased, IsMeaning, of_refusal, of_types, of_program, of_erased_refusal, of_erased, IsAccepted, mode_of, IsOutput, Reports, text_of, status_of}
+use Rattle.mw_drive.specs.Works.{migrated, written, judged, faulty}
+use Rattle.mw_drive.specs.Works.{Work, running, erasing, Meaning, refused, ran, erased, IsMeaning, of_refusal, of_types}
+use Rattle.mw_drive.specs.Works.{of_program, of_erased_refusal, of_erased, IsAccepted, mode_of, IsOutput, Reports}
+use Rattle.mw_drive.specs.Works.{text_of, status_of}
 use Rattle.mw_drive.specs.BadRecords.{IsBadRecord, IsBadOf, of_run}
 use Rattle.mw_drive.specs.Honest.{IsHonestCache}
 use Rattle.mw_drive.specs.ProgramRuns.{IsWrittenMeaning, IsEndMeaning, IsEndedSource, IsUsual, evaluated}
 use Rattle.mw_drive.specs.declared.source.Evaluation.{Evaluation}
 use Rattle.mw_drive.specs.declared.source.Evaluation.TheVariants.{Run, Erased}
-use Rattle.mw_drive.specs.Extents.{Extent, a_front, whole, unkept, unsaid, never, Kind, on_a_file, over_a_cache, on_a_number, extent}
+use Rattle.mw_drive.specs.Extents.{Extent, a_front, whole, unkept, all_or_nothing, unsaid, never}
+use Rattle.mw_drive.specs.Extents.{Kind, on_a_file, over_a_cache, on_a_number, on_a_cache, extent}
 use Rattle.mw_drive.specs.RunFaults.{BlamesSink}
-use Rattle.mw_drive.specs.Running.{Outside, Wanted, source_file, Has, Lacks, HasAll, has_none, has_more, LacksFirst, lacks_first, IsFaithful, IsMemory, IsCarriedOut, IsStatusOf, IsWritten, kind_with}
+use Rattle.mw_drive.specs.Running.{most_of_source, Sources, Wanted, Has, Lacks, HasAll, has_none, has_more, LacksFirst}
+use Rattle.mw_drive.specs.Running.{lacks_first, IsFaithful, IsMemory, IsCarriedOut, IsStatusOf, IsWritten, kind_with}
 use Rattle.mw_drive.proofs.Options.{none_is_some, some_is_none}
-use Rattle.mw_drive.proofs.SomeMeaning.{some_meaning}
 
 -- a source with a meaning is too large, and refused for it, or small
 large_or_small : {bytes : List ℕ} {fuel : ℕ} {shown : Shown} {m : Meaning} → IsMeaning (running bytes fuel shown) m
@@ -43,17 +50,18 @@ large_or_small (of_types p read fault) = inr read.small
 large_or_small (of_program p read accepted is) = inr read.small
 
 -- a front that is longer than any source means what the whole does
-small_front : (bytes : List ℕ) → IsSmall (take most_read bytes) → take most_read bytes ≡ bytes
-small_front bytes small = let short = rw length-take at small in take_all most_read bytes (omega arith)
+small_front : (bytes : List ℕ) → IsSmall (take most_of_source bytes) → take most_of_source bytes ≡ bytes
+small_front bytes small = let short = rw length-take at small in take_all most_of_source bytes (omega arith)
 
-large_whole : (bytes : List ℕ) → 1048576 < length (take most_read bytes) → 1048576 < length bytes
+large_whole : (bytes : List ℕ) → 1048576 < length (take most_of_source bytes) → 1048576 < length bytes
 large_whole bytes large = let long = rw length-take at large in omega arith
 
 pub means_whole : {bytes : List ℕ} {fuel : ℕ} {shown : Shown} {m : Meaning}
-    → IsMeaning (running (take most_read bytes) fuel shown) m → IsMeaning (running bytes fuel shown) m
+    → IsMeaning (running (take most_of_source bytes) fuel shown) m → IsMeaning (running bytes fuel shown) m
 means_whole {bytes} {fuel} {shown} {m} d = by_size (large_or_small d)
   where
-    by_size : ((m ≡ refused TooLarge []) × (1048576 < length (take most_read bytes))) ⊎ IsSmall (take most_read bytes)
+    by_size : ((m ≡ refused TooLarge []) × (1048576 < length (take most_of_source bytes)))
+        ⊎ IsSmall (take most_of_source bytes)
         → IsMeaning (running bytes fuel shown) m
     by_size (inl x) =
         subst (IsMeaning (running bytes fuel shown)) (sym x.0) (of_refusal (too_large (large_whole bytes x.1)))
@@ -72,11 +80,11 @@ erased_case : {bytes : List ℕ} {fuel : ℕ} {m : Meaning} → IsMeaning (erasi
 erased_case (of_erased_refusal h) = as_refused _ _ refl h
 erased_case (of_erased p read accepted is) = as_ended p _ refl read accepted is
 
-means_erased : (bytes : List ℕ) (fuel : ℕ) (m : Meaning) → IsMeaning (erasing (take most_read bytes) fuel) m
+means_erased : (bytes : List ℕ) (fuel : ℕ) (m : Meaning) → IsMeaning (erasing (take most_of_source bytes) fuel) m
     → IsMeaning (erasing bytes fuel) m
 means_erased bytes fuel m h = by_case (erased_case h)
   where
-    by_case : ErasedCase (take most_read bytes) fuel m → IsMeaning (erasing bytes fuel) m
+    by_case : ErasedCase (take most_of_source bytes) fuel m → IsMeaning (erasing bytes fuel) m
     by_case (as_refused r names is h) =
         subst (IsMeaning (erasing bytes fuel)) (sym is) (of_erased_refusal (means_whole h))
     by_case (as_ended p e is read accepted ends) =
@@ -84,38 +92,25 @@ means_erased bytes fuel m h = by_case (erased_case h)
         (of_erased p (subst (λ b. IsRead b p) (small_front bytes read.small) read) accepted ends)
 
 pub means_evaluated : (evaluation : Evaluation) (bytes : List ℕ) (fuel : ℕ) (m : Meaning)
-    → IsMeaning (evaluated evaluation (take most_read bytes) fuel) m → IsMeaning (evaluated evaluation bytes fuel) m
+    → IsMeaning (evaluated evaluation (take most_of_source bytes) fuel) m
+    → IsMeaning (evaluated evaluation bytes fuel) m
 means_evaluated (Run options) bytes fuel m h = means_whole h
 means_evaluated Erased bytes fuel m h = means_erased bytes fuel m h
 
--- what was read is the front of the bytes that the source tells, and what is left is the rest
-pub front_told : {o : Outside} {name bytes : List ℕ} (taken : List ℕ) → Has o (source_file name) bytes
-    → (IsTrue o.tells → IsFront (file_of o.files name) taken) → taken ≡ take most_read bytes
+-- what was read is the front of the bytes that the source tells
+pub front_told : {o : Sources} {file : Wanted} {bytes : List ℕ} (taken : List ℕ) → Has o file bytes
+    → (IsTrue o.tells → IsFront file.most (file_of o.files file.name) taken) → taken ≡ take file.most bytes
 front_told taken has front = rw has.found at (front has.telling)
 
-pub rest_told : {o : Outside} {name bytes : List ℕ} (left : List ℕ) → Has o (source_file name) bytes
-    → (IsTrue o.tells → IsRest (file_of o.files name) left) → left ≡ drop most_read bytes
-rest_told left has rest = rw has.found at (rest has.telling)
-
--- a file that was read isn't lacking
-pub not_lacking : {o : Outside} {name : List ℕ} (taken : List ℕ)
-    → (IsTrue o.tells → IsFront (file_of o.files name) taken)
-    → Lacks o (source_file name) → ⊥
-not_lacking {o} {name} taken front lacks = no_front (file_of o.files name) lacks.missing (front lacks.telling)
-  where
-    no_front : (f : Option (List ℕ)) → IsNone f → IsFront f taken → ⊥
-    no_front None n f = f
-    no_front (Some bytes) n f = absurd (cc)
-
--- nor is one whose bytes the outside tells
-has_or_lacks : {o : Outside} {file : Wanted} {bytes : List ℕ} → Has o file bytes → Lacks o file → ⊥
+-- a file that the source tells isn't lacking
+has_or_lacks : {o : Sources} {file : Wanted} {bytes : List ℕ} → Has o file bytes → Lacks o file → ⊥
 has_or_lacks {o} {file} {bytes} has lacks = both (file_of o.files file.name) has.found lacks.missing
   where
     both : (f : Option (List ℕ)) → f ≡ Some bytes → IsNone f → ⊥
     both None e n = absurd (cc)
     both (Some x) e n = absurd (cc)
 
-pub all_or_first : {o : Outside} {files : List Wanted} {contents : List (List ℕ)} → HasAll o files contents
+pub all_or_first : {o : Sources} {files : List Wanted} {contents : List (List ℕ)} → HasAll o files contents
     → LacksFirst o files → ⊥
 all_or_first has_none lacks = elim lacks [ ]
 all_or_first (has_more has rest) (lacks_first lacks) = has_or_lacks has lacks
@@ -124,7 +119,7 @@ pub output_of_report : {work : Work} {text : List ℕ} {s : Status} → Reports 
 output_of_report r = record { meaning = r.meaning; is_meaning = r.is_meaning; is_text = r.is_text }
 
 -- each meaning's status is that of a whole text
-whole_status : (kind : Kind) (m : Meaning) → extent kind (status_of m) ≡ whole
+pub whole_status : (kind : Kind) (m : Meaning) → extent kind (status_of m) ≡ whole
 whole_status kind (refused r names) = refl
 whole_status kind (ran shown kernels (answered v)) = refl
 whole_status kind (ran shown kernels (trapped t name)) = refl
@@ -132,6 +127,11 @@ whole_status kind (ran shown kernels (bounded l name)) = refl
 whole_status kind (erased (answered v)) = refl
 whole_status kind (erased (trapped t name)) = refl
 whole_status kind (erased (bounded l name)) = refl
+whole_status kind (migrated old added) = refl
+whole_status kind (written wasm) = refl
+whole_status kind (judged true) = refl
+whole_status kind (judged false) = refl
+whole_status kind (faulty fault) = refl
 
 -- so a text that was written whole is faithful
 faithful_at : {work : Work} (kind : Kind) (before after : List ℕ) (m : Meaning) → IsMeaning work m
@@ -141,29 +141,25 @@ faithful_at {work} kind before after m h e =
     subst (λ x. IsFaithful x work (status_of m) before after) (sym (whole_status kind m))
     (text_of m, record { meaning = m; is_meaning = h; is_text = refl; is_status = refl }, e)
 
--- nothing is a front of some text that belongs to the work
-pub some_output : (work : Work) (before : List ℕ)
-    → (text : List ℕ) × IsOutput work text × GrowsByFront before before text
-some_output work before =
-    let m = some_meaning work in (
-      text_of m.0,
-      record { meaning = m.0; is_meaning = m.1; is_text = refl },
-      (0, omega arith, sym (append-nil before)),
-    )
-
 -- a front is not the whole
-front_not_whole : a_front ≡ whole → ⊥
+pub front_not_whole : a_front ≡ whole → ⊥
 front_not_whole e = cc
+
+pub either_not_whole : all_or_nothing ≡ whole → ⊥
+either_not_whole e = cc
 
 unkept_not_whole : unkept ≡ whole → ⊥
 unkept_not_whole e = cc
 
 -- what is said of a whole text, of a front or of a text that wasn't kept isn't unsaid
-whole_said : whole ≡ unsaid → ⊥
+pub whole_said : whole ≡ unsaid → ⊥
 whole_said e = cc
 
-front_said : a_front ≡ unsaid → ⊥
+pub front_said : a_front ≡ unsaid → ⊥
 front_said e = cc
+
+pub either_said : all_or_nothing ≡ unsaid → ⊥
+either_said e = cc
 
 unkept_said : unkept ≡ unsaid → ⊥
 unkept_said e = cc
@@ -179,6 +175,10 @@ own_or_unkept path (refused r names) s is = inl is
 own_or_unkept path (ran shown kernels e) s (inl is) = inl is
 own_or_unkept path (ran shown kernels e) s (inr h) = inr (h.0, h.1, (shown, kernels, e, refl))
 own_or_unkept path (erased e) s is = inl is
+own_or_unkept path (migrated old added) s is = inl is
+own_or_unkept path (written wasm) s is = inl is
+own_or_unkept path (judged valid) s is = inl is
+own_or_unkept path (faulty fault) s is = inl is
 
 module _ (path : Option (Bor (List ℕ))) (kind : Kind) (over : IsSome path → kind ≡ over_a_cache) {tells : Bool}
     (before after : List ℕ)
@@ -191,7 +191,7 @@ module _ (path : Option (Bor (List ℕ))) (kind : Kind) (over : IsSome path → 
       record {
         faithful =
             λ told. subst (λ x. IsFaithful x work s before after) (sym e)
-            (text_of m, record { meaning = m; is_meaning = h; is_text = refl }, grows told);
+            (inr (text_of m, record { meaning = m; is_meaning = h; is_text = refl }, grows told));
         meaning = λ c. absurd (front_not_whole (sym e ∙ c));
         said = λ c. absurd (front_said (sym e ∙ c));
       }
@@ -253,7 +253,7 @@ written_as other means w =
     }
 
 -- a status that is written isn't one that never comes
-whole_not_never : whole ≡ never → ⊥
+pub whole_not_never : whole ≡ never → ⊥
 whole_not_never e = cc
 
 front_not_never : a_front ≡ never → ⊥
@@ -261,6 +261,9 @@ front_not_never e = cc
 
 unkept_not_never : unkept ≡ never → ⊥
 unkept_not_never e = cc
+
+either_not_never : all_or_nothing ≡ never → ⊥
+either_not_never e = cc
 
 unsaid_not_never : unsaid ≡ never → ⊥
 unsaid_not_never e = cc
@@ -277,14 +280,15 @@ module _ (path : Option (Bor (List ℕ))) (kind : Kind) (over : IsSome path → 
   ended_written status is (inl (r, refusal)) = inl (ap (extent kind) (is ∙ refusal))
   ended_written status is (inr (inl (e, ending))) = inl (ap (extent kind) (is ∙ ending) ∙ ending_whole kind e)
   ended_written status is (inr (inr (some, same))) =
-      inr (ap (extent kind) (is ∙ same) ∙ ap (λ k. extent k Cache) (over some))
+      inr (inl (ap (extent kind) (is ∙ same) ∙ ap (λ k. extent k Cache) (over some)))
 
   -- so it may come; a bad record is told only with a cache file
   pub written_possible : (r : Result Status RunFault) → IfOk r (IsEndedSource path) → (IsNone path → IfErr r IsUsual)
       → IsStatusOf r s → extent kind s ≡ never → ⊥
   written_possible (Ok status) ended usual is n = elim (ended_written status is ended) [
     | inl w ↦ whole_not_never (sym w ∙ n)
-    | inr u ↦ unkept_not_never (sym u ∙ n)
+    | inr (inl u) ↦ unkept_not_never (sym u ∙ n)
+    | inr (inr u) ↦ either_not_never (sym u ∙ n)
   ]
   written_possible (Err (Unwritten fault.Failed)) ended usual is n =
       front_not_never (subst (λ s. extent kind s ≡ never) is n)
@@ -301,7 +305,8 @@ module _ (path : Option (Bor (List ℕ))) (kind : Kind) (over : IsSome path → 
 -- a front, or what isn't said, isn't a whole text
 front_not_written : IsWritten a_front → ⊥
 front_not_written (inl e) = absurd (cc)
-front_not_written (inr e) = absurd (cc)
+front_not_written (inr (inl e)) = absurd (cc)
+front_not_written (inr (inr e)) = absurd (cc)
 
 -- with the status of a whole text the count of faults stands
 module _ (kind : Kind) (old new : ℕ) (s : Status) where
@@ -330,11 +335,14 @@ whole_else kind Answer possible said kept memory read write = refl
 whole_else kind (Trap t) possible said kept memory read write = refl
 whole_else kind (Refused r) possible said kept memory read write = refl
 whole_else kind (Bound l) possible said kept memory read write = refl
+whole_else kind BadModule possible said kept memory read write = refl
+whole_else kind Invalid possible said kept memory read write = refl
 whole_else kind Usage possible said kept memory read write = absurd (possible refl)
 whole_else kind Cache possible said kept memory read write = absurd (kept refl)
 whole_else on_a_file (BadCache d) possible said kept memory read write = absurd (possible refl)
 whole_else over_a_cache (BadCache d) possible said kept memory read write = absurd (said refl)
 whole_else on_a_number (BadCache d) possible said kept memory read write = absurd (possible refl)
+whole_else on_a_cache (BadCache d) possible said kept memory read write = absurd (possible refl)
 whole_else kind (Memory e) possible said kept memory read write = absurd (memory refl)
 whole_else kind Read possible said kept memory read write = absurd (read refl)
 whole_else kind Write possible said kept memory read write = absurd (write refl)
@@ -349,11 +357,11 @@ pub no_path : {X : Type 0} (path : Option X) {tells : Bool} {held : List ℕ} �
 no_path {X} None none some = absurd (none_is_some X some)
 no_path {X} (Some x) none some = absurd (some_is_none x none)
 
-small_whole : (bytes : List ℕ) → IsSmall bytes → take most_read bytes ≡ bytes
-small_whole bytes small = take_all most_read bytes (omega (arith, small))
+small_whole : (bytes : List ℕ) → IsSmall bytes → take most_of_source bytes ≡ bytes
+small_whole bytes small = take_all most_of_source bytes (omega (arith, small))
 
 of_run_meaning : {bytes : List ℕ} {fuel : ℕ} {shown other : Shown} {kernels : List Kernel} {e : Ending}
-    → IsMeaning (running bytes fuel shown) (ran other kernels e) → take most_read bytes ≡ bytes
+    → IsMeaning (running bytes fuel shown) (ran other kernels e) → take most_of_source bytes ≡ bytes
 of_run_meaning {bytes} (of_program p read accepted is) = small_whole bytes read.small
 
 no_run : {bytes : List ℕ} {fuel : ℕ} {shown : Shown} {kernels : List Kernel} {e : Ending}
@@ -364,8 +372,9 @@ no_bad : {bytes held digest : List ℕ} {fuel : ℕ} → IsBadOf (erasing bytes 
 no_bad m = elim m [ ]
 
 -- a program that ran was read whole
-pub ran_whole : (evaluation : Evaluation) (bytes : List ℕ) (fuel : ℕ) (shown : Shown) (kernels : List Kernel) (e : Ending)
-    → IsMeaning (evaluated evaluation bytes fuel) (ran shown kernels e) → take most_read bytes ≡ bytes
+pub ran_whole : (evaluation : Evaluation) (bytes : List ℕ) (fuel : ℕ) (shown : Shown) (kernels : List Kernel)
+    (e : Ending)
+    → IsMeaning (evaluated evaluation bytes fuel) (ran shown kernels e) → take most_of_source bytes ≡ bytes
 ran_whole (Run options) bytes fuel shown kernels e is = of_run_meaning is
 ran_whole Erased bytes fuel shown kernels e is = absurd (no_run is)
 
@@ -382,7 +391,7 @@ of_bad_run (of_run p read accepted bad) = record { program = p; read = read; acc
 
 -- so was one with a bad record
 pub bad_whole : (evaluation : Evaluation) (bytes : List ℕ) (fuel : ℕ) (held digest : List ℕ)
-    → IsBadOf (evaluated evaluation (take most_read bytes) fuel) held digest
+    → IsBadOf (evaluated evaluation (take most_of_source bytes) fuel) held digest
     → IsBadOf (evaluated evaluation bytes fuel) held digest
 bad_whole (Run options) bytes fuel held digest h =
     let r = of_bad_run h in

@@ -1,5 +1,6 @@
 -- From the parts of a program's run to what was written of it.
-use Rattle.std.proofs.Common.{◌≡◌, ℕ, List, ◌++◌, Option, None, Some, Bool, IsTrue, Result, Ok, Err, IfOk, refl, sym, ap, ◌∙◌, subst}
+use Rattle.std.proofs.Common.{◌≡◌, ℕ, List, ◌++◌, Option, None, Some, Bool, IsTrue, Result, Ok, Err, IfOk, refl, sym}
+use Rattle.std.proofs.Common.{ap, ◌∙◌, subst}
 use Rattle.std.specs.Result.{IsErrAnd}
 use Rattle.std.proofs.lemmas.List.{append_assoc}
 use Rattle.mw_outside.specs.Count.{GrowsByFront}
@@ -16,7 +17,8 @@ use Rattle.mw_drive.specs.Honest.{AreMeant}
 use Rattle.mw_drive.specs.declared.items.Built.{Built}
 use Rattle.mw_drive.specs.declared.shown.Shown.{Shown}
 use Rattle.mw_drive.specs.NamedPrograms.{NamedProgram, unnamed, named_program_of}
-use Rattle.mw_drive.specs.ProgramMeaning.{Kernel, main_after, ended, codes_of, ended_after, with_main, items_run, program_run}
+use Rattle.mw_drive.specs.ProgramMeaning.{Kernel, main_after, ended, codes_of, ended_after, with_main, items_run}
+use Rattle.mw_drive.specs.ProgramMeaning.{program_run}
 use Rattle.mw_drive.specs.Works.{mode_of, shown_text}
 use Rattle.mw_drive.specs.ItemOutcomes.{outcomes_run, run_with}
 use Rattle.mw_drive.specs.ProgramRuns.{kernels_of, IsUsual, IsWrittenRun}
@@ -115,7 +117,8 @@ module _ {A : Type 0} (Q : List Kernel → Ending → A → Type 0) (shown : Sho
   -- a fault while the last line was written
   pub line_failed : (P : RunFault → Type 0) (r : Result A RunFault) (tells : Bool) (before mid after : List ℕ)
       (kernels : List Kernel) (e : Ending) → IsErrAnd r P → ((f : RunFault) → P f → IsUsual f) → IsRun kernels e
-      → (IsTrue tells → mid ≡ before ++ shown_text shown kernels) → (IsTrue tells → GrowsByFront mid after (ending_line e))
+      → (IsTrue tells → mid ≡ before ++ shown_text shown kernels)
+      → (IsTrue tells → GrowsByFront mid after (ending_line e))
       → IsWrittenRun Q shown fuel (named_program_of program) r tells before after
   line_failed P r tells before mid after kernels e err usual is first last =
       run_failed P r tells before after kernels e err usual is

@@ -8,8 +8,10 @@ use Rattle.mw_meaning.specs.Outcomes.{Outcome, came_to, trapped as traps, bounde
 use Rattle.mw_term.specs.Typable.{Typable}
 use Rattle.mw_console.specs.Texts.{Ending, answered, trapped, bounded}
 use Rattle.mw_drive.specs.NamedPrograms.{NamedItem, NamedProgram, unnamed}
-use Rattle.mw_drive.specs.ProgramMeaning.{Kernel, ItemsRun, all_gave, one_ended, one_stuck, with_kernel, before_others, run_item, run_items, items_run}
-use Rattle.mw_drive.specs.ProgramMeaning.{main_ending, main_after, ProgramRun, ended, stuck, codes_of, ended_after, with_main, program_run}
+use Rattle.mw_drive.specs.ProgramMeaning.{Kernel, ItemsRun, all_gave, one_ended, one_stuck, with_kernel, before_others}
+use Rattle.mw_drive.specs.ProgramMeaning.{run_item, run_items, items_run}
+use Rattle.mw_drive.specs.ProgramMeaning.{main_ending, main_after, ProgramRun, ended, stuck, codes_of, ended_after}
+use Rattle.mw_drive.specs.ProgramMeaning.{with_main, program_run}
 use Rattle.mw_simplify.specs.SimplifiedOutcomes.{Stays}
 use Rattle.mw_simplify.proofs.SimplifiedOutcomes.{items_stay, main_stays}
 use Rattle.mw_drive.specs.SimplifiedPrograms.{IsUnbounded, ProgramsEndAlike}

@@ -1,5 +1,6 @@
 -- Each work has a meaning.
-use Rattle.std.proofs.Common.{◌≡◌, ◌≤◌, ◌<◌, ◌⊎◌, inl, inr, ℕ, List, [], ◌∷◌, map, length, Option, Some, None, refl, sym, ap, subst}
+use Rattle.std.proofs.Common.{◌≡◌, ◌≤◌, ◌<◌, ◌⊎◌, inl, inr, ℕ, List, [], ◌∷◌, map, length, Option, Some, None, true}
+use Rattle.std.proofs.Common.{false, refl, sym, ap, subst}
 use Rattle.mw_term.specs.Programs.{Definition}
 use Rattle.mw_term.specs.Typable.{Typable}
 use Rattle.mw_term.specs.declared.refusal.Refusal.{Refusal}
@@ -24,7 +25,17 @@ use Rattle.mw_infer.proofs.Progressing.{resolved-written}
 use Rattle.mw_infer.proofs.Deciding.{checked_or_refused}
 use Rattle.mw_drive.specs.NamedPrograms.{NamedItem, NamedProgram, unnamed, names_of}
 use Rattle.mw_drive.specs.SourceReading.{IsSmall, IsRead, IsRefused, too_large, at_bytes, at_tokens, at_names}
-use Rattle.mw_drive.specs.Works.{running, erasing, mode_of, Meaning, refused, ran, erased, IsAccepted, IsMeaning, of_refusal, of_types, of_program, of_erased_refusal, of_erased}
+use Rattle.mw_drive.specs.Works.{running, erasing, mode_of, Meaning, refused, ran, erased, IsAccepted, IsMeaning}
+use Rattle.mw_drive.specs.Works.{of_refusal, of_types, of_program, of_erased_refusal, of_erased}
+use Rattle.mw_drive.specs.Works.{migrating, writing, judging, migrated, written, judged, faulty}
+use Rattle.mw_drive.specs.Works.{of_migration, of_binary, of_bad_binary, of_module, of_bad_file}
+use Rattle.mw_wasm.specs.Syntax.{PureModule}
+use Rattle.mw_wasm.specs.Validity.{IsValid}
+use Rattle.mw_judge.specs.declared.fault.BadFile.{BadFile}
+use Rattle.mw_judge.specs.ModuleFiles.{IsBinary, IsFileOf, IsBadBinary, IsBadFile}
+use Rattle.mw_judge.proofs.FileLaws.{binary_or_bad, file_or_bad}
+use Rattle.mw_judge.proofs.Deciding.{validity_is_decided}
+use Rattle.mw_keeping.proofs.Migrations.{some_migration}
 use Rattle.mw_drive.specs.WorkLaws.{SomeMeaning}
 use Rattle.mw_drive.proofs.ScopedTerms.{is_resolved}
 use Rattle.mw_drive.proofs.ErasedEnds.{erased_ends, source_program}
@@ -158,6 +169,24 @@ erased_means bytes fuel (as_program p read) =
     by_types (inl fine) = accepted_erased bytes fuel p read (record { typable = fine.0; small = fine.1 })
     by_types (inr fault) = (refused fault.0 (names_of p), of_erased_refusal (of_types p read fault.1))
 
+binary_means : (bytes : List ℕ) → ((m : PureModule) × IsBinary bytes m) ⊎ ((f : BadFile) × IsBadBinary bytes f)
+    → (m : Meaning) × IsMeaning (writing bytes) m
+binary_means bytes (inl is) = (written is.0, of_binary is.1)
+binary_means bytes (inr bad) = (faulty bad.0, of_bad_binary bad.1)
+
+module_means : (bytes : List ℕ) → ((m : PureModule) × IsFileOf bytes m) ⊎ ((f : BadFile) × IsBadFile bytes f)
+    → (m : Meaning) × IsMeaning (judging bytes) m
+module_means bytes (inl is) = by_validity (validity_is_decided is.0)
+  where
+    by_validity : IsValid is.0 ⊎ (IsValid is.0 → ⊥) → (m : Meaning) × IsMeaning (judging bytes) m
+    by_validity (inl valid) = (judged true, of_module is.0 is.1 valid)
+    by_validity (inr not) = (judged false, of_module is.0 is.1 not)
+module_means bytes (inr bad) = (faulty bad.0, of_bad_file bad.1)
+
 pub some_meaning : SomeMeaning
-some_meaning (running bytes fuel shown) = answer_means bytes fuel shown (reading_answers bytes)
-some_meaning (erasing bytes fuel) = erased_means bytes fuel (reading_answers bytes)
+some_meaning (running bytes fuel shown) on = answer_means bytes fuel shown (reading_answers bytes)
+some_meaning (erasing bytes fuel) on = erased_means bytes fuel (reading_answers bytes)
+some_meaning (migrating held) on = let m = some_migration held on.0 on.1 in
+    (migrated m.0 (length m.1), of_migration m.2)
+some_meaning (writing bytes) on = binary_means bytes (binary_or_bad bytes on)
+some_meaning (judging bytes) on = module_means bytes (file_or_bad bytes on)

@@ -1,6 +1,7 @@
 -- What was written of a source is what it means.
 use denote.Ref.{Bor}
-use Rattle.std.proofs.Common.{◌≡◌, ◌<◌, ℕ, ◌^◌, List, [], map, length, Some, Bool, Option, ◌⊎◌, inl, inr, Result, Ok, Err, IfOk, IfErr, refl, sym, subst, arith}
+use Rattle.std.proofs.Common.{◌≡◌, ◌<◌, ℕ, ◌^◌, List, [], map, length, Some, Bool, Option, ◌⊎◌, inl, inr, Result, Ok}
+use Rattle.std.proofs.Common.{Err, IfOk, IfErr, refl, sym, subst, arith}
 use Rattle.std.proofs.lemmas.List.{length-map}
 use Rattle.mw_outside.specs.declared.errors.WriteFault.TheVariants.{Memory}
 use Rattle.mw_term.specs.Programs.{program_of, program_size, definition_of}
@@ -28,8 +29,11 @@ use Rattle.mw_drive.specs.declared.fault.RunFault.TheVariants.{Unwritten}
 use Rattle.mw_drive.specs.declared.program.RunOptions.{RunOptions}
 use Rattle.mw_drive.specs.BadRecords.{IsBadRecord, IsBadOf, of_run}
 use Rattle.mw_drive.specs.ProgramMeaning.{Kernel, ended, program_run, erased_ending}
-use Rattle.mw_drive.specs.ProgramRuns.{evaluated, cache_of, IsEndOf, IsEnded, IsEndMeaning, IsUsual, IsWrittenRun, IsWrittenErased, IsWrittenMeaning}
-use Rattle.mw_drive.specs.Works.{Work, mode_of, IsAccepted, running, refused, ran, erased, IsMeaning, of_refusal, of_types, of_program, of_erased_refusal, of_erased}
+use Rattle.mw_drive.specs.ProgramRuns.{evaluated, cache_of, IsEndOf, IsEnded, IsEndMeaning, IsUsual, IsWrittenRun}
+use Rattle.mw_drive.specs.ProgramRuns.{IsWrittenErased, IsWrittenMeaning}
+use Rattle.mw_drive.specs.Works.{Work, mode_of, IsAccepted, running, refused, ran, erased, IsMeaning, of_refusal}
+use Rattle.mw_drive.specs.Works.{of_types, of_program, of_erased_refusal, of_erased}
+use Rattle.mw_drive.specs.WorkLaws.{IsOnFile}
 use Rattle.mw_drive.specs.Written.{Writes}
 use Rattle.mw_drive.proofs.Fronts.{grows_nothing}
 use Rattle.mw_drive.proofs.OneMeaning.{one_program, one_meaning}
@@ -77,11 +81,15 @@ module _ (bytes : List ℕ) (fuel : ℕ) (tells : Bool) where
         writes = writes;
       }
 
+  evaluated_on : (evaluation : Evaluation) → IsOnFile (evaluated evaluation bytes fuel)
+  evaluated_on (Run options) = tt
+  evaluated_on Erased = tt
+
   -- want of memory before anything was written
   pub written_nothing : (evaluation : Evaluation) (before : List ℕ) (e : _)
       → IsWritten evaluation (Err (Unwritten (Memory e))) before before
   written_nothing evaluation before e =
-      let m = some_meaning (evaluated evaluation bytes fuel) in
+      let m = some_meaning (evaluated evaluation bytes fuel) (evaluated_on evaluation) in
       record { meaning = m.0; is_meaning = m.1; is_status = tt; usual = tt; writes = λ t. grows_nothing before _ }
 
   -- the refusal of its reading
@@ -171,7 +179,8 @@ module _ (bytes : List ℕ) (fuel : ℕ) (tells : Bool) where
         subst (λ q. program_size q < 2 ^ 31) (unnamed_program p) (small_program bytes (named_program_of p) found)
 
 -- a refused source means no kernels
-pub refused_kept : (path : Option (Bor (List ℕ))) (work : Work) (r : Result Status RunFault) (q : Refusal) (tells : Bool)
+pub refused_kept : (path : Option (Bor (List ℕ))) (work : Work) (r : Result Status RunFault) (q : Refusal)
+    (tells : Bool)
     (before after held now : List ℕ) (texts : List (List ℕ)) → IsWrittenMeaning path work r tells before after
     → IfOk r (λ s. s ≡ Refused q) → (shown : Shown) (kernels : List Kernel) (e : Ending)
     → IsMeaning work (ran shown kernels e) → IsKeptOf texts r held now

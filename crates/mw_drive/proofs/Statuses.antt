@@ -1,15 +1,17 @@
 -- From how a source was evaluated to the status.
-use Rattle.std.proofs.Common.{◌≡◌, ◌⊎◌, inl, inr, ℕ, List, [], ◌∷◌, map, Option, Some, None, IsSome, IsNone, Bool, IsTrue, Result, Ok, Err, IfOk, IfErr, refl, sym, ap, ◌∙◌, subst}
+use Rattle.std.proofs.Common.{◌≡◌, ◌⊎◌, inl, inr, ℕ, List, [], ◌∷◌, map, Option, Some, None, IsSome, IsNone, Bool}
+use Rattle.std.proofs.Common.{IsTrue, Result, Ok, Err, IfOk, IfErr, refl, sym, ap, ◌∙◌, subst}
 use denote.Ref.{Bor}
 use Rattle.mw_outside.specs.Count.{Rose}
 use Rattle.mw_outside.specs.declared.errors.WriteFault.TheVariants as fault
 use Rattle.mw_term.specs.declared.refusal.Refusal.{Refusal}
 use Rattle.mw_console.specs.Texts.{Ending, answered, trapped, bounded, ending_status}
 use Rattle.mw_console.specs.declared.status.Status.{Status}
-use Rattle.mw_console.specs.declared.status.Status.TheVariants.{Answer, Trap, Usage, Refused, Bound, Read, Write, Cache, Memory, BadCache}
+use Rattle.mw_console.specs.declared.status.Status.TheVariants.{Answer, Trap, Usage, Refused, Bound, Read, Write}
+use Rattle.mw_console.specs.declared.status.Status.TheVariants.{Cache, Memory, BadCache, BadModule, Invalid}
 use Rattle.mw_drive.specs.declared.fault.RunFault.{RunFault}
 use Rattle.mw_drive.specs.declared.fault.RunFault.TheVariants.{Unwritten, Bad}
-use Rattle.mw_drive.specs.Extents.{whole, Kind, on_a_file, over_a_cache, on_a_number, extent}
+use Rattle.mw_drive.specs.Extents.{whole, Kind, on_a_file, over_a_cache, on_a_number, on_a_cache, extent}
 use Rattle.mw_drive.specs.HeldFiles.{IsHeldWith, IsHeldAfter, IsKeptOf, IsKeptWith}
 use Rattle.mw_drive.specs.ProgramRuns.{HasEnding, IsEnded, IsEndedSource}
 use Rattle.mw_drive.specs.RunFaults.{IfBadRecord}
@@ -139,6 +141,7 @@ module _ (s : Status) where
       not_whole on_a_file e = absurd (cc)
       not_whole over_a_cache e = absurd (cc)
       not_whole on_a_number e = absurd (cc)
+      not_whole on_a_cache e = absurd (cc)
   sound_status kind (Err (Unwritten fault.Failed)) is says w = absurd (other (subst (λ t. extent kind t ≡ whole) is w))
     where
       other : extent kind Write ≡ whole → ⊥
@@ -154,6 +157,7 @@ module _ (s : Status) where
       not_whole on_a_file e = absurd (cc)
       not_whole over_a_cache e = absurd (cc)
       not_whole on_a_number e = absurd (cc)
+      not_whole on_a_cache e = absurd (cc)
 
   module _ (held after : List ℕ) where
     pub held_status : (r : Result Status RunFault) → IsStatusOf r s → IsHeldAfter r held after → IsHeldWith s held after
@@ -183,6 +187,8 @@ module _ (s : Status) where
       kept_own Cache h = tt
       kept_own (Memory e) h = tt
       kept_own (BadCache d) h = tt
+      kept_own BadModule h = tt
+      kept_own Invalid h = tt
 
       pub kept_status : (r : Result Status RunFault) → IsStatusOf r s → IsKeptOf texts r held after
           → IsKeptWith texts s held after

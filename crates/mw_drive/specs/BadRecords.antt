@@ -16,8 +16,8 @@ use Rattle.mw_drive.specs.NamedPrograms.{NamedProgram, unnamed}
 use Rattle.mw_drive.specs.SourceReading.{IsRead}
 use Rattle.mw_drive.specs.Works.{Work, running, mode_of, IsAccepted}
 
--- All kernel items came to code, and main begins a wrong run after these codes. The digest is that of a record whose module
--- is stray.
+-- All kernel items came to code, and main begins a wrong run after these codes. The digest is that of a record whose
+-- module is stray.
 pub record IsBadMain (mode : Mode) (p : PureProgram) (fuel : ℕ) (load : LoadState) (outcomes : List ItemOutcome)
     (digest : List ℕ) : Type 0 where
   pub built : AreBuiltAll outcomes
@@ -34,8 +34,9 @@ pub record HasWrongMain (mode : Mode) (p : PureProgram) (fuel : ℕ) (load : Loa
   pub are_codes : AreCodesOf mode p fuel codes
   pub wrong : HasWrongRun mode load (runs mode (names_of_main p.items codes) fuel p.body)
 
--- Of a file with these bytes a record was loaded whose text has this digest, and whose module gives what no kernel gives;
--- and a record was loaded, of the text of a run that a kernel item or main begins, that hasn't the emission of that text.
+-- Of a file with these bytes a record was loaded whose text has this digest, and whose module gives what no kernel
+-- gives; and a record was loaded, of the text of a run that a kernel item or main begins, that hasn't the emission of
+-- that text.
 pub record IsBadRecord (mode : Mode) (p : PureProgram) (fuel : ℕ) (held : List ℕ) (digest : List ℕ) : Type 0 where
   pub load : LoadState
   pub is_load : IsLoadOf held load

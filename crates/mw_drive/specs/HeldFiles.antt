@@ -3,16 +3,19 @@ use Rattle.std.specs.Prelude.{◌≡◌, ◌⊎◌, ℕ, List, [], map, Result, 
 use Rattle.mw_outside.specs.declared.errors.WriteFault.TheVariants as fault
 use Rattle.mw_cache.specs.Gots.{CacheState, text_in}
 use Rattle.mw_keeping.specs.KeptFiles.{IsKeptFile, HasGoodFront}
+use Rattle.mw_keeping.specs.Migrations.{IsMigratedFile}
 use Rattle.mw_keeping.specs.declared.opening.CacheFile.{CacheFile}
 use Rattle.mw_keeping.specs.declared.opening.CacheFile.TheVariants as file
 use Rattle.mw_console.specs.declared.status.Status.{Status}
-use Rattle.mw_console.specs.declared.status.Status.TheVariants.{Answer, Trap, Usage, Refused, Bound, Read, Write, Cache, Memory, BadCache}
+use Rattle.mw_console.specs.declared.status.Status.TheVariants.{Answer, Trap, Usage, Refused, Bound, Read, Write}
+use Rattle.mw_console.specs.declared.status.Status.TheVariants.{Cache, Memory, BadCache, BadModule, Invalid}
 use Rattle.mw_drive.specs.declared.fault.RunFault.{RunFault}
 use Rattle.mw_drive.specs.declared.fault.RunFault.TheVariants.{Unwritten, Bad}
 use Rattle.mw_drive.specs.declared.items.Built.{Built}
+use Rattle.mw_drive.specs.Extents.{Kind, on_a_cache}
 
--- After an answer, a trap or a bound: what counted of it, and behind that what was kept. Where keeping failed, or there was
--- no memory, at least what counted. After any other status what it held.
+-- After an answer, a trap or a bound: what counted of it, and behind that what was kept. Where keeping failed, or there
+-- was no memory, at least what counted. After any other status what it held.
 abbrev pub IsHeldWith : Status → (held after : List ℕ) → Type 0
 IsHeldWith Answer held after = IsKeptFile held after []
 IsHeldWith (Trap t) held after = IsKeptFile held after []
@@ -24,6 +27,20 @@ IsHeldWith (Refused r) held after = after ≡ held
 IsHeldWith Read held after = after ≡ held
 IsHeldWith Write held after = after ≡ held
 IsHeldWith (BadCache d) held after = after ≡ held
+IsHeldWith BadModule held after = after ≡ held
+IsHeldWith Invalid held after = after ≡ held
+
+-- What it holds after a migration: with an answer what counted of it, and behind that exactly the records that are
+-- added; where the lines weren't written, what it held; and else at least what counted.
+abbrev pub IsMigratedWith : Status → (held after : List ℕ) → Type 0
+IsMigratedWith Answer held after = IsMigratedFile held after
+IsMigratedWith Write held after = after ≡ held
+IsMigratedWith s held after = HasGoodFront held after
+
+-- what it holds after a command of the kind
+abbrev pub IsHeldBy : Kind → Status → (held after : List ℕ) → Type 0
+IsHeldBy on_a_cache s held after = IsMigratedWith s held after
+IsHeldBy kind s held after = IsHeldWith s held after
 
 -- the same, of a run that ends with this status or with a fault
 abbrev pub IsHeldAfter : Result Status RunFault → (held after : List ℕ) → Type 0

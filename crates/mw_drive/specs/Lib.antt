@@ -12,4 +12,5 @@ pub mod HeldFiles
 pub mod BadRecords
 pub mod Extents
 pub mod Running
+pub mod Verdicts
 pub mod SimplifiedPrograms

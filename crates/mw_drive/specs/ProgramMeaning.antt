@@ -1,5 +1,5 @@
--- What a program means with a fuel, under a mode: its kernel items are evaluated in order, up to the first that gives no
--- code, and then, where all give code, main.
+-- What a program means with a fuel, under a mode: its kernel items are evaluated in order, up to the first that gives
+-- no code, and then, where all give code, main.
 use Rattle.std.specs.Prelude.{ℕ, List, [], ◌∷◌, map, Option, None, Some}
 use Rattle.mw_term.specs.Terms.{Expression, Value, KernelType, PureGroundValue}
 use Rattle.mw_term.specs.Programs.{Definition, value as defines, kernel, PureProgram}
@@ -15,8 +15,8 @@ pub record Kernel : Type 0 where
   pub kind : KernelType
   pub code : Expression
 
--- How kernel items go: all gave code; or these did, and the next one ended the program; or one is stuck, as none of a typable
--- program is.
+-- How kernel items go: all gave code; or these did, and the next one ended the program; or one is stuck, as none of a
+-- typable program is.
 pub data ItemsRun : Type 0 where
   all_gave : (kernels : List Kernel) → ItemsRun
   one_ended : (kernels : List Kernel) (e : Ending) → ItemsRun
@@ -61,8 +61,8 @@ main_ending no_outcome = None
 abbrev pub main_after : Mode → ℕ → List Definition → Expression → List Expression → Option Ending
 main_after mode fuel items body codes = main_ending (main_outcome mode (names_of_main items codes) fuel body)
 
--- The kernels that gave code before the program ended, and how it ended. A program with an item or a main that is stuck has
--- no end; no typable one does.
+-- The kernels that gave code before the program ended, and how it ended. A program with an item or a main that is stuck
+-- has no end; no typable one does.
 pub data ProgramRun : Type 0 where
   ended : (kernels : List Kernel) (e : Ending) → ProgramRun
   stuck : ProgramRun

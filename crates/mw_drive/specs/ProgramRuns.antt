@@ -1,5 +1,6 @@
 -- What the running of a program gives, in the words of its meaning.
-use Rattle.std.specs.Prelude.{ℕ, ◌≡◌, ◌≤◌, ◌⊎◌, List, ◌++◌, map, Bool, Option, Some, None, IsSome, IsNone, Result, IfOk, IfErr}
+use Rattle.std.specs.Prelude.{ℕ, ◌≡◌, ◌≤◌, ◌⊎◌, List, ◌++◌, map, Bool, Option, Some, None, IsSome, IsNone, Result, IfOk}
+use Rattle.std.specs.Prelude.{IfErr}
 use denote.Ref.{Bor}
 use Rattle.mw_term.specs.Terms.{expression_of, kernel_type_of, ground_value_of}
 use Rattle.mw_term.specs.Programs.{PureProgram}
@@ -22,7 +23,8 @@ use Rattle.mw_drive.specs.declared.shown.Shown.{Shown}
 use Rattle.mw_drive.specs.declared.shown.Shown.TheVariants.{Totals}
 use Rattle.mw_drive.specs.NamedPrograms.{NamedProgram}
 use Rattle.mw_drive.specs.ProgramMeaning.{Kernel, ended, program_run, erased_ending}
-use Rattle.mw_drive.specs.Works.{Work, Meaning, IsMeaning, running, erasing, ran, mode_of, shown_text, text_of, status_of}
+use Rattle.mw_drive.specs.Works.{Work, Meaning, IsMeaning, running, erasing, ran, mode_of, shown_text, text_of}
+use Rattle.mw_drive.specs.Works.{status_of}
 use Rattle.mw_drive.specs.Written.{Writes}
 
 abbrev pub ending_of : End → Ending

@@ -1,13 +1,14 @@
 -- What the top call says of words, source and sink.
-use Rattle.std.specs.Prelude.{◌≡◌, ◌⊎◌, ℕ, List, [], ◌∷◌, ◌++◌, Option, Some, None, IsSome, IsNone, Bool, true, false, IsTrue, Result, Ok, Err, alloc_error}
+use Rattle.std.specs.Prelude.{◌≡◌, ◌⊎◌, ℕ, List, [], ◌∷◌, ◌++◌, take, Option, Some, None, IsSome, IsNone, Bool, true}
+use Rattle.std.specs.Prelude.{false}
+use Rattle.std.specs.Prelude.{IsTrue, Result, Ok, Err, alloc_error}
 use Rattle.mw_outside.specs.declared.named.NamedFile.{NamedFile}
 use Rattle.mw_outside.specs.Count.{GrowsByFront}
 use Rattle.mw_outside.specs.Lookup.{file_of}
 use Rattle.mw_outside.specs.declared.errors.WriteFault.TheVariants as fault
 use Rattle.mw_meaning.specs.declared.mode.Mode.{Mode}
 use Rattle.mw_meaning.specs.declared.mode.Mode.TheVariants.{Plain, Simple}
-use Rattle.mw_words.specs.Words.{PureCommand, run, erased, sample, Means}
-use Rattle.mw_console.specs.Reading.{most_read}
+use Rattle.mw_words.specs.Words.{PureCommand, run, erased, sample, migrate, wat, check, Means}
 use Rattle.mw_console.specs.declared.status.Status.{Status}
 use Rattle.mw_console.specs.declared.status.Status.TheVariants.{Write, Memory, BadCache}
 use Rattle.mw_console.specs.Texts.{Ending}
@@ -17,105 +18,135 @@ use Rattle.mw_drive.specs.declared.shown.Shown.{Shown}
 use Rattle.mw_drive.specs.declared.shown.Shown.TheVariants.{Lines}
 use Rattle.mw_drive.specs.Honest.{IsHonestCache}
 use Rattle.mw_drive.specs.ProgramMeaning.{Kernel}
-use Rattle.mw_drive.specs.Extents.{Extent, nothing, a_front, whole, unkept, unsaid, never}
-use Rattle.mw_drive.specs.Extents.{Kind, on_a_file, over_a_cache, on_a_number, extent}
-use Rattle.mw_drive.specs.Works.{Work, running, erasing, sampling, Meaning, ran, IsMeaning, text_of, status_of, IsOutput, Reports}
+use Rattle.mw_drive.specs.Extents.{Extent, nothing, a_front, whole, unkept, all_or_nothing, unsaid, never}
+use Rattle.mw_drive.specs.Extents.{Kind, on_a_file, over_a_cache, on_a_number, on_a_cache, extent}
+use Rattle.mw_drive.specs.Works.{Work, running, erasing, sampling, migrating, writing, judging, Meaning, ran, IsMeaning}
+use Rattle.mw_drive.specs.Works.{text_of, status_of, IsOutput, Reports}
 
--- What the outside has for the program: the files of the source, if it tells them, and what the keeper holds, if it tells
--- that.
-pub record Outside : Type 0 where
+-- the files that the source has, if it tells them
+pub record Sources : Type 0 where
   pub tells : Bool
   pub files : List NamedFile
+
+-- What the outside has for the program: the source's files, and what the keeper holds, if it tells that.
+pub record Outside : Type 0 where
+  pub source : Sources
   pub keeps : Bool
   pub held : List ℕ
 
+abbrev pub sources : Bool → List NamedFile → Sources
+sources tells files = record { tells = tells; files = files }
+
 abbrev pub outside : Bool → List NamedFile → Bool → List ℕ → Outside
-outside tells files keeps held = record { tells = tells; files = files; keeps = keeps; held = held }
+outside tells files keeps held = record { source = sources tells files; keeps = keeps; held = held }
+
+-- reading a source ends with one byte more than the longest source has, and so does reading a module
+abbrev pub most_of_source : ℕ
+most_of_source = 1_048_577
+
+abbrev pub most_of_module : ℕ
+most_of_module = 67_108_865
 
 -- a file that a command reads: its name, and the most bytes of it that are read
 pub record Wanted : Type 0 where
   pub name : List ℕ
   pub most : ℕ
 
--- a source's file, of which one byte more is read than the longest source has
 abbrev pub source_file : List ℕ → Wanted
-source_file name = record { name = name; most = most_read }
+source_file name = record { name = name; most = most_of_source }
+
+abbrev pub module_file : List ℕ → Wanted
+module_file name = record { name = name; most = most_of_module }
 
 -- the files of a command, in the order in which they are read
 abbrev pub files_of : PureCommand → List Wanted
 files_of (run workers fuel simplify cache file) = source_file file ∷ []
 files_of (erased fuel file) = source_file file ∷ []
 files_of (sample number) = []
+files_of (migrate cache) = []
+files_of (wat file) = module_file file ∷ []
+files_of (check file) = module_file file ∷ []
 
 -- the name of a command's cache file
 abbrev pub path_of : PureCommand → Option (List ℕ)
 path_of (run workers fuel simplify cache file) = cache
 path_of (erased fuel file) = None
 path_of (sample number) = None
+path_of (migrate cache) = Some cache
+path_of (wat file) = None
+path_of (check file) = None
 
 -- it tells that it has the file, of these bytes
-pub record Has (outside : Outside) (file : Wanted) (bytes : List ℕ) : Type 0 where
-  pub telling : IsTrue outside.tells
-  pub found : file_of outside.files file.name ≡ Some bytes
+pub record Has (source : Sources) (file : Wanted) (bytes : List ℕ) : Type 0 where
+  pub telling : IsTrue source.tells
+  pub found : file_of source.files file.name ≡ Some bytes
 
 -- it tells that it lacks the file
-pub record Lacks (outside : Outside) (file : Wanted) : Type 0 where
-  pub telling : IsTrue outside.tells
-  pub missing : IsNone (file_of outside.files file.name)
+pub record Lacks (source : Sources) (file : Wanted) : Type 0 where
+  pub telling : IsTrue source.tells
+  pub missing : IsNone (file_of source.files file.name)
 
 -- it has each of the files, of these bytes
-pub data HasAll (outside : Outside) : List Wanted → List (List ℕ) → Type 0 where
-  has_none : HasAll outside [] []
+pub data HasAll (source : Sources) : List Wanted → List (List ℕ) → Type 0 where
+  has_none : HasAll source [] []
   has_more : {file : Wanted} {bytes : List ℕ} {files : List Wanted} {contents : List (List ℕ)}
-      → Has outside file bytes → HasAll outside files contents
-      → HasAll outside (file ∷ files) (bytes ∷ contents)
+      → Has source file bytes → HasAll source files contents
+      → HasAll source (file ∷ files) (bytes ∷ contents)
 
 -- it lacks the first of the files
-pub data LacksFirst (outside : Outside) : List Wanted → Type 0 where
-  lacks_first : {file : Wanted} {files : List Wanted} → Lacks outside file → LacksFirst outside (file ∷ files)
+pub data LacksFirst (source : Sources) : List Wanted → Type 0 where
+  lacks_first : {file : Wanted} {files : List Wanted} → Lacks source file → LacksFirst source (file ∷ files)
 
 -- how kernels' code is run, by whether it is to be simplified
 abbrev pub mode_when : Bool → Mode
 mode_when true = Simple
 mode_when false = Plain
 
--- a command's work on what its files hold
-pub data IsWork : PureCommand → List (List ℕ) → Work → Type 0 where
+-- a command's work on what its files hold, or on what the keeper holds, where that is told
+pub data IsWork (outside : Outside) : PureCommand → List (List ℕ) → Work → Type 0 where
   run_works : {workers fuel : ℕ} {simplify : Bool} {cache : Option (List ℕ)} {file bytes : List ℕ}
-      → IsWork (run workers fuel simplify cache file) (bytes ∷ []) (running bytes fuel (Lines (mode_when simplify)))
-  erased_works : {fuel : ℕ} {file bytes : List ℕ} → IsWork (erased fuel file) (bytes ∷ []) (erasing bytes fuel)
-  sample_works : {number : ℕ} → IsWork (sample number) [] (sampling number)
+      → IsWork outside (run workers fuel simplify cache file) (bytes ∷ [])
+      (running bytes fuel (Lines (mode_when simplify)))
+  erased_works : {fuel : ℕ} {file bytes : List ℕ}
+      → IsWork outside (erased fuel file) (bytes ∷ []) (erasing bytes fuel)
+  sample_works : {number : ℕ} → IsWork outside (sample number) [] (sampling number)
+  migrate_works : {cache : List ℕ} → IsTrue outside.keeps
+      → IsWork outside (migrate cache) [] (migrating outside.held)
+  wat_works : {file bytes : List ℕ} → IsWork outside (wat file) (bytes ∷ []) (writing (take most_of_module bytes))
+  check_works : {file bytes : List ℕ}
+      → IsWork outside (check file) (bytes ∷ []) (judging (take most_of_module bytes))
 
 -- the words mean this command, and the outside has its files, which hold these bytes
 pub record AsksOn (words : List (List ℕ)) (outside : Outside) (command : PureCommand)
     (contents : List (List ℕ)) : Type 0 where
   pub means : Means words command
-  pub has : HasAll outside (files_of command) contents
+  pub has : HasAll outside.source (files_of command) contents
 
--- the command has no cache file, or the outside tells what it holds, and that is honest
+-- where a run has a cache file, the outside tells what it holds, and that is honest; no other command asks for that
 abbrev pub HasHonestCache : Outside → PureCommand → Type 0
-HasHonestCache outside command = IsHonestCache outside.keeps outside.held (path_of command)
+HasHonestCache outside (run workers fuel simplify cache file) = IsHonestCache outside.keeps outside.held cache
+HasHonestCache outside command = Unit {0}
 
 -- words and outside ask for this work, whatever the cache file holds
 pub record AsksOver (words : List (List ℕ)) (outside : Outside) (work : Work) : Type 0 where
   pub command : PureCommand
   pub contents : List (List ℕ)
   pub on : AsksOn words outside command contents
-  pub works : IsWork command contents work
+  pub works : IsWork outside command contents work
 
 -- words and outside ask for this work, with no cache file or an honest one
 pub record Asks (words : List (List ℕ)) (outside : Outside) (work : Work) : Type 0 where
   pub command : PureCommand
   pub contents : List (List ℕ)
   pub on : AsksOn words outside command contents
-  pub works : IsWork command contents work
+  pub works : IsWork outside command contents work
   pub honest : HasHonestCache outside command
 
 -- the words mean a command of whose files the outside lacks the first
 pub record AsksMissing (words : List (List ℕ)) (outside : Outside) : Type 0 where
   pub command : PureCommand
   pub means : Means words command
-  pub lacks : LacksFirst outside (files_of command)
+  pub lacks : LacksFirst outside.source (files_of command)
 
 -- the words mean a command that reads no file
 pub record AsksNoFile (words : List (List ℕ)) : Type 0 where
@@ -123,27 +154,24 @@ pub record AsksNoFile (words : List (List ℕ)) : Type 0 where
   pub means : Means words command
   pub none : files_of command ≡ []
 
--- the words mean a command that has no cache file, or one that has one
+-- the words mean a command that has no cache file
 pub record AsksNoCache (words : List (List ℕ)) : Type 0 where
   pub command : PureCommand
   pub means : Means words command
   pub none : IsNone (path_of command)
-
-pub record AsksCache (words : List (List ℕ)) : Type 0 where
-  pub command : PureCommand
-  pub means : Means words command
-  pub some : IsSome (path_of command)
 
 -- the kind of command that evaluates a file
 abbrev pub kind_with : {X : Type 0} → Option X → Kind
 kind_with None = on_a_file
 kind_with (Some path) = over_a_cache
 
--- whether a command evaluates a file, with a cache file or without one, or a source that it makes
 abbrev pub kind_of : PureCommand → Kind
 kind_of (run workers fuel simplify cache file) = kind_with cache
 kind_of (erased fuel file) = on_a_file
 kind_of (sample number) = on_a_number
+kind_of (migrate cache) = on_a_cache
+kind_of (wat file) = on_a_file
+kind_of (check file) = on_a_file
 
 -- the text of a program that ran
 pub record IsRunText (work : Work) (text : List ℕ) : Type 0 where
@@ -153,18 +181,22 @@ pub record IsRunText (work : Work) (text : List ℕ) : Type 0 where
   pub is_meaning : IsMeaning work (ran shown kernels ending)
   pub is_text : text ≡ text_of (ran shown kernels ending)
 
--- What was written of a work is as much as its status says: a front of a text that belongs to it, the whole text with this
--- status, or the whole text of a program that ran, where the cache file wasn't kept.
+-- What was written of a work is as much as its status says: nothing, or a front of a text that belongs to it; the whole
+-- text with this status; the whole text of a program that ran, where the cache file wasn't kept; or the whole text, or
+-- nothing.
 abbrev pub IsFaithful : Extent → Work → Status → (before after : List ℕ) → Type 0
 IsFaithful nothing work s before after = after ≡ before
-IsFaithful a_front work s before after = (text : List ℕ) × IsOutput work text × GrowsByFront before after text
+IsFaithful a_front work s before after =
+    (after ≡ before) ⊎ ((text : List ℕ) × IsOutput work text × GrowsByFront before after text)
 IsFaithful whole work s before after = (text : List ℕ) × Reports work text s × (after ≡ before ++ text)
 IsFaithful unkept work s before after = (text : List ℕ) × IsRunText work text × (after ≡ before ++ text)
+IsFaithful all_or_nothing work s before after =
+    (after ≡ before) ⊎ ((text : List ℕ) × IsOutput work text × (after ≡ before ++ text))
 IsFaithful unsaid work s before after = ⊥
 IsFaithful never work s before after = ⊥
 
--- A work was carried out with this status: what was written is faithful, a status of a whole text is what the work means,
--- and no record was bad.
+-- A work was carried out with this status: what was written is faithful, a status of a whole text is what the work
+-- means, and no record was bad.
 pub record IsCarriedOut (kind : Kind) (work : Work) (s : Status) (tells : Bool) (before after : List ℕ) : Type 0 where
   pub faithful : IsTrue tells → IsFaithful (extent kind s) work s before after
   pub meaning : extent kind s ≡ whole → (m : Meaning) × IsMeaning work m × (s ≡ status_of m)
@@ -174,9 +206,9 @@ pub record IsCarriedOut (kind : Kind) (work : Work) (s : Status) (tells : Bool) 
 abbrev pub IsMemory : Status → Type 0
 IsMemory s = s ≡ Memory alloc_error
 
--- all of the output was written
+-- all of the output was written, or, as the cache file wasn't kept or wasn't read, all of it or nothing
 abbrev pub IsWritten : Extent → Type 0
-IsWritten x = (x ≡ whole) ⊎ (x ≡ unkept)
+IsWritten x = (x ≡ whole) ⊎ (x ≡ unkept) ⊎ (x ≡ all_or_nothing)
 
 -- the status of what was written, or of why it wasn't
 abbrev pub IsStatusOf : Result Status RunFault → Status → Type 0

@@ -1,4 +1,5 @@
--- A program that ends with an answer or a trap ends so too, with the same kernels, where their code is simplified before it is run.
+-- A program that ends with an answer or a trap ends so too, with the same kernels, where their code is simplified
+-- before it is run.
 use Rattle.std.specs.Prelude.{◌≡◌, ℕ, ◌≤◌, List}
 use Rattle.mw_term.specs.Typable.{Typable}
 use Rattle.mw_meaning.specs.declared.mode.Mode.TheVariants.{Plain, Simple}

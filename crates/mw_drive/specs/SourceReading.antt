@@ -27,7 +27,8 @@ pub record IsRead (bytes : List ℕ) (p : NamedProgram) : Type 0 where
   pub is_nameless : IsNameless surface (unnamed p)
   pub names : names_of p ≡ map name_of surface.items
 
--- A source is refused for its size, else for the first fault of its bytes, else of its tokens, else of its names and levels.
+-- A source is refused for its size, else for the first fault of its bytes, else of its tokens, else of its names and
+-- levels.
 pub data IsRefused (bytes : List ℕ) : Refusal → Type 0 where
   too_large : 1048576 < length bytes → IsRefused bytes TooLarge
   at_bytes : {r : Refusal} → IsSmall bytes → IsFirstFault bytes r → IsRefused bytes r

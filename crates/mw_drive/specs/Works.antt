@@ -1,5 +1,6 @@
--- A command, with the bytes of the file that it reads, is a work. A work has meanings, and a meaning has a text and a status.
-use Rattle.std.specs.Prelude.{ℕ, ◌≡◌, ◌+◌, List, [], ◌∷◌, ◌++◌, length, Some}
+-- A command, with the bytes of the file that it reads, is a work. A work has meanings, and a meaning has a text and a
+-- status.
+use Rattle.std.specs.Prelude.{ℕ, ◌≡◌, ◌+◌, List, [], ◌∷◌, ◌++◌, length, Some, Bool, true, false}
 use Rattle.std.specs.List.{AllByRecursion, flat_map}
 use Rattle.mw_term.specs.declared.refusal.Refusal.{Refusal}
 use Rattle.sha2.specs.Sha256.{sha256}
@@ -19,9 +20,16 @@ use Rattle.mw_key.specs.CanonicalText.{canonical_text}
 use Rattle.mw_gen.specs.Generate.{two}
 use Rattle.mw_compile.specs.Emission.{emission}
 use Rattle.mw_console.specs.declared.status.Status.{Status}
-use Rattle.mw_console.specs.declared.status.Status.TheVariants.{Refused}
-use Rattle.mw_console.specs.Texts.{Ending, kernel_text, totals_text, refusal_line, ending_line, ending_status}
+use Rattle.mw_console.specs.declared.status.Status.TheVariants.{Answer, Refused, BadModule, Invalid}
+use Rattle.mw_console.specs.Texts.{Ending, kernel_text, totals_text, migrated_text, refusal_line, ending_line}
+use Rattle.mw_console.specs.Texts.{ending_status}
 use Rattle.mw_sample.specs.Sample.{sample_text}
+use Rattle.mw_store.specs.Records.{Kept}
+use Rattle.mw_keeping.specs.Migrations.{IsMigration}
+use Rattle.mw_wat.specs.CanonicalTexts.{canonical_text as canonical_module}
+use Rattle.mw_judge.specs.declared.fault.BadFile.{BadFile}
+use Rattle.mw_judge.specs.ModuleFiles.{IsBinary, IsFileOf, IsBadBinary, IsBadFile, Judges}
+use Rattle.mw_judge.specs.FileLines.{verdict_line, bad_file_line}
 use Rattle.mw_drive.specs.NamedPrograms.{NamedProgram, unnamed, names_of}
 use Rattle.mw_drive.specs.SourceReading.{IsRead, IsRefused}
 use Rattle.mw_drive.specs.declared.shown.Shown.{Shown}
@@ -33,30 +41,40 @@ abbrev pub mode_of : Shown → Mode
 mode_of (Lines mode) = mode
 mode_of Totals = Plain
 
--- the run of a source's bytes, with so many units of fuel for each evaluation, whose kernels are shown so; or the evaluation of
--- its erased program's main
+-- the run of a source's bytes, with so many units of fuel for each evaluation, whose kernels are shown so; the
+-- evaluation of its erased program's main; the migration of a cache file that holds these bytes; the text of the module
+-- that bytes spell; or the verdict on the module that they spell, or are a text of
 pub data Work : Type 0 where
   running : (bytes : List ℕ) (fuel : ℕ) (shown : Shown) → Work
   erasing : (bytes : List ℕ) (fuel : ℕ) → Work
+  migrating : (held : List ℕ) → Work
+  writing : (bytes : List ℕ) → Work
+  judging : (bytes : List ℕ) → Work
 
 -- a sample is the run of the source that is made from a number, which shows totals
 abbrev pub sampling : ℕ → Work
 sampling number = running (sample_text number) 1000000 Totals
 
--- a refusal, with the names of the items where it speaks of one; the kernels that gave code, shown so, and an ending; or the
--- ending of an erased program
+-- a refusal, with the names of the items where it speaks of one; the kernels that gave code, shown so, and an ending;
+-- the ending of an erased program; how many texts of a cache file are of the old version, and how many records are
+-- added for them; a module; whether a module is valid; or why a file is no module
 pub data Meaning : Type 0 where
   refused : (r : Refusal) (names : List (List ℕ)) → Meaning
   ran : (shown : Shown) (kernels : List Kernel) (e : Ending) → Meaning
   erased : (e : Ending) → Meaning
+  migrated : (old added : ℕ) → Meaning
+  written : (wasm : PureModule) → Meaning
+  judged : (valid : Bool) → Meaning
+  faulty : (fault : BadFile) → Meaning
 
 -- a program has types, and no front of an item's equations is too big
 pub record IsAccepted (p : PureProgram) : Type 0 where
   pub typable : Typable p
   pub small : NoneTooBig p
 
--- The run of a source means the first refusal of its reading; else the first refusal of its types; else the run of its program.
--- What is refused is refused with its erased program too, which else means how its main ends.
+-- The run of a source means the first refusal of its reading; else the first refusal of its types; else the run of its
+-- program. What is refused is refused with its erased program too, which else means how its main ends. A file that is
+-- no module means its first fault.
 pub data IsMeaning : Work → Meaning → Type 0 where
   of_refusal : {bytes : List ℕ} {fuel : ℕ} {shown : Shown} {r : Refusal} → IsRefused bytes r → IsMeaning
       (running bytes fuel shown) (refused r [])
@@ -72,6 +90,14 @@ pub data IsMeaning : Work → Meaning → Type 0 where
       → IsMeaning (erasing bytes fuel) (refused r names)
   of_erased : {bytes : List ℕ} {fuel : ℕ} {e : Ending} (p : NamedProgram) → IsRead bytes p → IsAccepted (unnamed p)
       → erased_ending fuel (unnamed p) ≡ Some e → IsMeaning (erasing bytes fuel) (erased e)
+  of_migration : {held : List ℕ} {old : ℕ} {added : List Kept} → IsMigration held old added
+      → IsMeaning (migrating held) (migrated old (length added))
+  of_binary : {bytes : List ℕ} {wasm : PureModule} → IsBinary bytes wasm → IsMeaning (writing bytes) (written wasm)
+  of_bad_binary : {bytes : List ℕ} {fault : BadFile} → IsBadBinary bytes fault
+      → IsMeaning (writing bytes) (faulty fault)
+  of_module : {bytes : List ℕ} {valid : Bool} (wasm : PureModule) → IsFileOf bytes wasm → Judges valid wasm
+      → IsMeaning (judging bytes) (judged valid)
+  of_bad_file : {bytes : List ℕ} {fault : BadFile} → IsBadFile bytes fault → IsMeaning (judging bytes) (faulty fault)
 
 -- the text of what is run of a kernel's code under the mode
 abbrev pub run_text : Mode → Kernel → List ℕ
@@ -96,16 +122,26 @@ abbrev pub shown_text : Shown → List Kernel → List ℕ
 shown_text (Lines mode) kernels = flat_map (kernel_lines mode) kernels
 shown_text Totals kernels = totals_text (length kernels) (module_bytes kernels)
 
--- a refusal's line, or what is shown of kernels and the line of the ending
+-- a refusal's line; what is shown of kernels and the line of the ending; two numbers, each on a line; a module's text;
+-- or the line of a verdict or of a fault
 abbrev pub text_of : Meaning → List ℕ
 text_of (refused r names) = refusal_line names r
 text_of (ran shown kernels e) = shown_text shown kernels ++ ending_line e
 text_of (erased e) = ending_line e
+text_of (migrated old added) = migrated_text old added
+text_of (written wasm) = canonical_module wasm
+text_of (judged valid) = verdict_line valid
+text_of (faulty fault) = bad_file_line fault
 
 abbrev pub status_of : Meaning → Status
 status_of (refused r names) = Refused r
 status_of (ran shown kernels e) = ending_status e
 status_of (erased e) = ending_status e
+status_of (migrated old added) = Answer
+status_of (written wasm) = Answer
+status_of (judged true) = Answer
+status_of (judged false) = Invalid
+status_of (faulty fault) = BadModule
 
 -- the text that belongs to a work
 pub record IsOutput (work : Work) (text : List ℕ) : Type 0 where
@@ -120,7 +156,8 @@ pub record Reports (work : Work) (text : List ℕ) (s : Status) : Type 0 where
   pub is_text : text ≡ text_of meaning
   pub is_status : s ≡ status_of meaning
 
--- The bytes that are printed for a kernel spell a module, which is valid, and stands for the code that is run, at its type.
+-- The bytes that are printed for a kernel spell a module, which is valid, and stands for the code that is run, at its
+-- type.
 pub record HasModule (mode : Mode) (k : Kernel) : Type 0 where
   pub wasm : PureModule
   pub spelled : Spells (emission two (in_mode mode k.code) k.kind) wasm
@@ -128,6 +165,5 @@ pub record HasModule (mode : Mode) (k : Kernel) : Type 0 where
   pub stands : StandsFor wasm (in_mode mode k.code) k.kind
 
 abbrev pub HaveModules : Meaning → Type 0
-HaveModules (refused r names) = Unit {0}
 HaveModules (ran shown kernels e) = AllByRecursion (HasModule (mode_of shown)) kernels
-HaveModules (erased e) = Unit {0}
+HaveModules m = Unit {0}

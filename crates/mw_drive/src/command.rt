@@ -1,30 +1,38 @@
 // The top call.
 
-ghost use Rattle.std.specs.Prelude.{◌≡◌, ◌↔◌, ◌≤◌, ◌⊎◌, ◌∷◌, ℕ, Bool, true, List, [], Option, IsTrue, IsSome, IsNone, map, drop};
+ghost use Rattle.std.specs.Prelude.{◌≡◌, ◌↔◌, ◌≤◌, ◌⊎◌, ◌∷◌, ℕ, Bool, true, List, [], Option, IsTrue, IsSome, IsNone};
+ghost use Rattle.std.specs.Prelude.{map, take, drop};
 ghost use Rattle.std.specs.String.{string_bytes};
 ghost use Rattle.mw_outside.specs.Count.{Rose};
 ghost use Rattle.mw_term.specs.Terms.{PureGroundValue};
 ghost use Rattle.mw_term.specs.declared.refusal.Refusal.{Refusal};
-ghost use Rattle.mw_words.specs.Words.{PureCommand, run, sample, IsUsage, Means, command_in};
-ghost use Rattle.mw_console.specs.Reading.{most_read};
-ghost use Rattle.mw_console.specs.declared.status.Status.TheVariants.{Answer, Usage, Refused, Read, Write, Cache, BadCache};
+ghost use Rattle.mw_words.specs.Words.{PureCommand, run, sample, check, IsUsage, Means, command_in};
+ghost use Rattle.mw_console.specs.declared.status.Status.TheVariants.{Answer, Usage, Refused, Read, Write, Cache};
+ghost use Rattle.mw_console.specs.declared.status.Status.TheVariants.{BadCache};
 ghost use Rattle.mw_console.specs.Texts.{Ending, answered, ending_status};
 ghost use Rattle.mw_meaning.specs.declared.mode.Mode.TheVariants.{Plain, Simple};
 ghost use Rattle.mw_keeping.specs.KeptFiles.{IsKeptFile, HasGoodFront};
 ghost use Rattle.mw_drive.specs.BadRecords.{IsBadOf, HasBadRecordOf};
 ghost use Rattle.mw_drive.specs.Extents.{whole, never, Kind, on_a_number, extent};
-ghost use Rattle.mw_drive.specs.HeldFiles.{IsHeldWith, IsKeptWith};
+ghost use Rattle.mw_drive.specs.HeldFiles.{IsHeldWith, IsHeldBy, IsKeptWith};
+ghost use Rattle.mw_drive.specs.Verdicts.{IsVerdictOn};
 ghost use Rattle.mw_drive.specs.Honest.{IsHonestCache};
-ghost use Rattle.mw_drive.specs.Works.{Work, running, erasing, sampling, Meaning, ran, erased, IsMeaning, HaveModules, status_of, mode_of, run_text};
+ghost use Rattle.mw_drive.specs.Works.{Work, running, erasing, sampling, Meaning, ran, erased, IsMeaning, HaveModules};
+ghost use Rattle.mw_drive.specs.Works.{status_of, mode_of, run_text};
 ghost use Rattle.mw_drive.specs.ProgramMeaning.{Kernel};
 ghost use Rattle.mw_drive.specs.ProgramRuns.{evaluated, cache_of, IsPossible};
 ghost use Rattle.mw_drive.specs.declared.shown.Shown.{Shown};
 ghost use Rattle.mw_drive.specs.declared.shown.Shown.TheVariants.{Lines};
 ghost use Rattle.mw_drive.specs.SimplifiedPrograms.{IsUnbounded};
-ghost use Rattle.mw_drive.specs.Running.{outside, files_of, path_of, source_file, Has, Lacks, HasAll, LacksFirst, IsWork, kind_of, kind_with, IsWritten};
-ghost use Rattle.mw_drive.specs.Running.{AsksOn, Asks, AsksOver, AsksMissing, AsksNoFile, AsksCache, AsksNoCache, HasHonestCache, IsCarriedOut, IsFaithful, IsStatusOf, IsMemory, mode_when};
+ghost use Rattle.mw_drive.specs.Running.{outside, sources, files_of, path_of, Wanted, source_file, Has, Lacks, HasAll};
+ghost use Rattle.mw_drive.specs.Running.{most_of_source, most_of_module, LacksFirst, IsWork, kind_of, kind_with};
+ghost use Rattle.mw_drive.specs.Running.{IsWritten};
+ghost use Rattle.mw_drive.specs.Running.{AsksOn, Asks, AsksOver, AsksMissing, AsksNoFile, AsksNoCache, HasHonestCache};
+ghost use Rattle.mw_drive.specs.Running.{IsCarriedOut, IsFaithful, IsStatusOf, IsMemory, mode_when};
 
 use crate::fault::RunFault;
+use crate::inquiry::{Inquiry, inquire};
+use crate::migrated::migrate;
 use crate::program::RunOptions;
 use crate::shown::Shown;
 use crate::source::{Evaluation, write_source};
@@ -41,6 +49,9 @@ use std::marker::Brand;
 use std::sync::ledger::Blank;
 use std::thread::Threads;
 
+/// One byte more than the longest source: reading ends with it.
+const MOST_OF_SOURCE: usize = 1_048_577;
+
 /// The units of fuel of a sample, and how many workers it has.
 const SAMPLE_FUEL: u64 = 1_000_000;
 
@@ -48,12 +59,14 @@ const SAMPLE_WORKERS: u32 = 4;
 
 /// Carries out the command that the words mean. `run FILE` reads the file from the source, checks it, evaluates its
 /// kernel items and writes what they came to, and then evaluates main and writes the last line; with `--simplify` the
-/// kernels' code is simplified before it is compiled; with `--cache PATH` the modules that the file of this name has are
-/// loaded before, and those that were emitted are kept in it afterwards. `erased FILE` evaluates main of the erased
+/// kernels' code is simplified before it is compiled; with `--cache PATH` the modules that the file of this name has
+/// are loaded before, and those that were emitted are kept in it afterwards. `erased FILE` evaluates main of the erased
 /// program and writes the last line alone. `sample N` runs as `run` does, with a source that is made from the number,
 /// and writes totals in place of the kernels. The kernel items are evaluated by as many workers as the words say, or as
 /// a sample has, over the table of modules; what is written depends neither on their number nor on what stands in the
-/// table.
+/// table. `migrate --cache PATH` adds records of the version that is made for those of the old one, and writes how many
+/// there are of both. `wat FILE` writes the text of the module that the file's bytes spell, and `check FILE` whether
+/// the module is valid that they spell, or are a text of; a file that is no module gets the line of its first fault.
 pub fn run<R: Threads + Sync, S: Source, K: Sink, C: Keeper, G: Gate>(
     rt: &R,
     alloc: Global,
@@ -65,12 +78,14 @@ pub fn run<R: Threads + Sync, S: Source, K: Sink, C: Keeper, G: Gate>(
     table: &Table<Entry>,
 ) -> Status
     // Where nothing failed and memory was there, exactly the work's output was written, and the status is what it says.
-    ensures text { (work : Work) → Asks (map string_bytes words.now) (outside S.tells (S.told source.old) C.tells (C.held keeper.old)) work
+    ensures text { (work : Work) → Asks (map string_bytes words.now)
+        (outside S.tells (S.told source.old) C.tells (C.held keeper.old)) work
         → ¬ Rose (S.faults source.old) (S.faults source.new) → ¬ Rose (K.faults sink.old) (K.faults sink.new)
         → ¬ (result ≡ Cache) → ¬ IsMemory result → IsTrue K.tells
         → IsFaithful whole work result (K.written sink.old) (K.written sink.new) }
     // Then the status is that of the work's meaning, whether or not the sink tells.
-    ensures status { (work : Work) → Asks (map string_bytes words.now) (outside S.tells (S.told source.old) C.tells (C.held keeper.old)) work
+    ensures status { (work : Work)
+        → Asks (map string_bytes words.now) (outside S.tells (S.told source.old) C.tells (C.held keeper.old)) work
         → ¬ Rose (S.faults source.old) (S.faults source.new) → ¬ Rose (K.faults sink.old) (K.faults sink.new)
         → ¬ (result ≡ Cache) → ¬ IsMemory result
         → (meaning : Meaning) × IsMeaning work meaning × (result ≡ status_of meaning) }
@@ -80,18 +95,22 @@ pub fn run<R: Threads + Sync, S: Source, K: Sink, C: Keeper, G: Gate>(
         → extent (kind_of asked.command) result ≡ whole
         → (meaning : Meaning) × IsMeaning work meaning × (result ≡ status_of meaning) }
     // For each kernel that is printed, the bytes spell a module that is valid and means the code that is run.
-    ensures modules { (work : Work) → Asks (map string_bytes words.now) (outside S.tells (S.told source.old) C.tells (C.held keeper.old)) work
+    ensures modules { (work : Work)
+        → Asks (map string_bytes words.now) (outside S.tells (S.told source.old) C.tells (C.held keeper.old)) work
         → (meaning : Meaning) → IsMeaning work meaning → HaveModules meaning }
     // An answer of a run is any answer of the erased program, whatever the units of either.
-    ensures erasure { (workers fuel m : ℕ) (simplify : Bool) (cache : Option (List ℕ)) (file bytes : List ℕ) (w : PureGroundValue)
+    ensures erasure { (workers fuel m : ℕ) (simplify : Bool) (cache : Option (List ℕ)) (file bytes : List ℕ)
+        (w : PureGroundValue)
         → AsksOn (map string_bytes words.now) (outside S.tells (S.told source.old) C.tells (C.held keeper.old))
         (run workers fuel simplify cache file) (bytes ∷ [])
         → IsHonestCache C.tells (C.held keeper.old) cache
         → IsMeaning (erasing bytes m) (erased (answered w)) → result ≡ Answer → (kernels : List Kernel)
-        × IsMeaning (running bytes fuel (Lines (mode_when simplify))) (ran (Lines (mode_when simplify)) kernels (answered w)) }
+        × IsMeaning (running bytes fuel (Lines (mode_when simplify)))
+        (ran (Lines (mode_when simplify)) kernels (answered w)) }
     // Where the run with the kernels' code as it was built ends with an answer or a trap, the run with simplified code
     // ends so too.
-    ensures simplified { (workers fuel : ℕ) (cache : Option (List ℕ)) (file bytes : List ℕ) (kernels : List Kernel) (e : Ending)
+    ensures simplified { (workers fuel : ℕ) (cache : Option (List ℕ)) (file bytes : List ℕ) (kernels : List Kernel)
+        (e : Ending)
         → AsksOn (map string_bytes words.now) (outside S.tells (S.told source.old) C.tells (C.held keeper.old))
         (run workers fuel true cache file) (bytes ∷ [])
         → IsHonestCache C.tells (C.held keeper.old) cache
@@ -112,35 +131,48 @@ pub fn run<R: Threads + Sync, S: Source, K: Sink, C: Keeper, G: Gate>(
         → (S.faults source.new ≡ S.faults source.old) × (K.faults sink.new ≡ K.faults sink.old) }
     ensures memory { IsMemory result
         → (S.faults source.new ≡ S.faults source.old) × (K.faults sink.new ≡ K.faults sink.old) }
-    // The source is read to its end, or to one byte more than the longest source has.
-    ensures left { (command : PureCommand) (bytes : List ℕ)
-        → AsksOn (map string_bytes words.now) (outside S.tells (S.told source.old) C.tells (C.held keeper.old)) command (bytes ∷ [])
-        → ¬ IsMemory result → ¬ (result ≡ Read) → S.left source.new ≡ drop most_read bytes }
+    // A verdict is that of the module that the file's bytes spell, or are a text of, and a fault says that there is
+    // none.
+    ensures judged { (file bytes : List ℕ)
+        → AsksOn (map string_bytes words.now) (outside S.tells (S.told source.old) C.tells (C.held keeper.old))
+        (check file) (bytes ∷ [])
+        → IsVerdictOn result (take most_of_module bytes) }
+    // A file is read to its end, or to one byte more than the longest source or module has.
+    ensures left { (command : PureCommand) (file : Wanted) (bytes : List ℕ)
+        → AsksOn (map string_bytes words.now) (outside S.tells (S.told source.old) C.tells (C.held keeper.old)) command
+        (bytes ∷ [])
+        → files_of command ≡ file ∷ []
+        → ¬ IsMemory result → ¬ (result ≡ Read) → S.left source.new ≡ drop file.most bytes }
     ensures usage { (result ≡ Usage) ↔ IsUsage (map string_bytes words.now) }
     ensures read { result ≡ Read
         → Rose (S.faults source.old) (S.faults source.new)
         ⊎ AsksMissing (map string_bytes words.now) (outside S.tells (S.told source.old) C.tells (C.held keeper.old)) }
     ensures write { result ≡ Write → Rose (K.faults sink.old) (K.faults sink.new) }
-    ensures missing { AsksMissing (map string_bytes words.now) (outside S.tells (S.told source.old) C.tells (C.held keeper.old)) → result ≡ Read }
+    ensures missing { AsksMissing (map string_bytes words.now)
+        (outside S.tells (S.told source.old) C.tells (C.held keeper.old)) → result ≡ Read }
     ensures nothing { (result ≡ Usage) ⊎ (result ≡ Read) → IsTrue K.tells → K.written sink.new ≡ K.written sink.old }
     ensures unread { (result ≡ Usage) ⊎ AsksNoFile (map string_bytes words.now) → source.new ≡ source.old }
     ensures files { S.told source.new ≡ S.told source.old }
     // Only a command with a cache file touches the keeper, and that only where the source was read and accepted.
-    ensures untouched { (result ≡ Usage) ⊎ (result ≡ Read) ⊎ AsksNoCache (map string_bytes words.now) → keeper.new ≡ keeper.old }
+    ensures untouched { (result ≡ Usage) ⊎ (result ≡ Read) ⊎ AsksNoCache (map string_bytes words.now)
+        → keeper.new ≡ keeper.old }
     ensures unkept_refusal { (r : Refusal) → result ≡ Refused r → keeper.new ≡ keeper.old }
     // What counted of the cache file is never lost, whatever the status, and whatever failed.
     ensures front { IsTrue C.tells → HasGoodFront (C.held keeper.old) (C.held keeper.new) }
     // The status says what the cache file holds: what it held, or what counted of that and records behind it.
-    ensures held { AsksCache (map string_bytes words.now) → IsTrue C.tells → IsHeldWith result (C.held keeper.old) (C.held keeper.new) }
+    ensures held { (command : PureCommand) → Means (map string_bytes words.now) command → IsSome (path_of command)
+        → IsTrue C.tells → IsHeldBy (kind_of command) result (C.held keeper.old) (C.held keeper.new) }
     // The text of each kernel that is printed was loaded, or its record is kept, unless there was no more room.
     ensures kept { (work : Work) → (asked : Asks (map string_bytes words.now)
         (outside S.tells (S.told source.old) C.tells (C.held keeper.old)) work)
         → IsSome (path_of asked.command) → extent (kind_of asked.command) result ≡ whole
         → (shown : Shown) (kernels : List Kernel) (e : Ending) → IsMeaning work (ran shown kernels e)
         → IsKeptFile (C.held keeper.old) (C.held keeper.new) (map (run_text (mode_of shown)) kernels) }
-    // That the cache wasn't kept is said only where the keeper failed, and a whole text's own status only where it didn't.
+    // That the cache wasn't kept is said only where the keeper failed, and a whole text's own status only where it
+    // didn't.
     ensures cache { result ≡ Cache → Rose (C.faults keeper.old) (C.faults keeper.new) }
-    ensures sound { (command : PureCommand) → Means (map string_bytes words.now) command → extent (kind_of command) result ≡ whole
+    ensures sound { (command : PureCommand) → Means (map string_bytes words.now) command
+        → extent (kind_of command) result ≡ whole
         → C.faults keeper.new ≡ C.faults keeper.old }
     // A bad record is told only where there is one, and a record that isn't honest has the text of one of the runs.
     ensures bad { (digest : List ℕ) (work : Work) → result ≡ BadCache digest → AsksOver (map string_bytes words.now)
@@ -170,15 +202,19 @@ fn carry_out<R: Threads + Sync, S: Source, K: Sink, C: Keeper, G: Gate>(
     requires workers { (workers fuel : ℕ) (simplify : Bool) (cache : Option (List ℕ)) (file : List ℕ)
         → command_in command ≡ run workers fuel simplify cache file → 1 ≤ workers }
     ensures work { (contents : List (List ℕ)) (work : Work)
-        → HasAll (outside S.tells (S.told source.old) C.tells (C.held keeper.old)) (files_of (command_in command.entry)) contents
-        → IsWork (command_in command.entry) contents work → HasHonestCache (outside S.tells (S.told source.old) C.tells (C.held keeper.old)) (command_in command.entry)
-        → IsCarriedOut (kind_of (command_in command.entry)) work result K.tells (K.written sink.old) (K.written sink.new) }
-    ensures left { (bytes : List ℕ)
-        → HasAll (outside S.tells (S.told source.old) C.tells (C.held keeper.old)) (files_of (command_in command.entry)) (bytes ∷ [])
-        → ¬ IsMemory result → ¬ (result ≡ Read) → S.left source.new ≡ drop most_read bytes }
+        → HasAll (sources S.tells (S.told source.old)) (files_of (command_in command.entry)) contents
+        → IsWork (outside S.tells (S.told source.old) C.tells (C.held keeper.old))
+        (command_in command.entry) contents work
+        → HasHonestCache (outside S.tells (S.told source.old) C.tells (C.held keeper.old)) (command_in command.entry)
+        → IsCarriedOut (kind_of (command_in command.entry)) work result K.tells (K.written sink.old)
+        (K.written sink.new) }
+    ensures left { (file : Wanted) (bytes : List ℕ) → files_of (command_in command.entry) ≡ file ∷ []
+        → HasAll (sources S.tells (S.told source.old)) (files_of (command_in command.entry)) (bytes ∷ [])
+        → ¬ IsMemory result → ¬ (result ≡ Read) → S.left source.new ≡ drop file.most bytes }
     ensures read { result ≡ Read → Rose (S.faults source.old) (S.faults source.new)
-        ⊎ LacksFirst (outside S.tells (S.told source.old) C.tells (C.held keeper.old)) (files_of (command_in command.entry)) }
-    ensures missing { LacksFirst (outside S.tells (S.told source.old) C.tells (C.held keeper.old)) (files_of (command_in command.entry)) → result ≡ Read }
+        ⊎ LacksFirst (sources S.tells (S.told source.old)) (files_of (command_in command.entry)) }
+    ensures missing { LacksFirst (sources S.tells (S.told source.old)) (files_of (command_in command.entry))
+        → result ≡ Read }
     ensures nothing { result ≡ Read → IsTrue K.tells → K.written sink.new ≡ K.written sink.old }
     ensures write { result ≡ Write → Rose (K.faults sink.old) (K.faults sink.new) }
     ensures possible { ¬ (extent (kind_of (command_in command.entry)) result ≡ never) }
@@ -190,18 +226,23 @@ fn carry_out<R: Threads + Sync, S: Source, K: Sink, C: Keeper, G: Gate>(
     ensures files { S.told source.new ≡ S.told source.old }
     ensures untouched { (result ≡ Read) ⊎ IsNone (path_of (command_in command.entry)) → keeper.new ≡ keeper.old }
     ensures refused { (r : Refusal) → result ≡ Refused r → keeper.new ≡ keeper.old }
-    ensures held { IsSome (path_of (command_in command.entry)) → IsTrue C.tells → IsHeldWith result (C.held keeper.old) (C.held keeper.new) }
+    ensures held { IsSome (path_of (command_in command.entry)) → IsTrue C.tells
+        → IsHeldBy (kind_of (command_in command.entry)) result (C.held keeper.old) (C.held keeper.new) }
     ensures kept { (contents : List (List ℕ)) (work : Work)
-        → HasAll (outside S.tells (S.told source.old) C.tells (C.held keeper.old)) (files_of (command_in command.entry)) contents
-        → IsWork (command_in command.entry) contents work → HasHonestCache (outside S.tells (S.told source.old) C.tells (C.held keeper.old)) (command_in command.entry)
+        → HasAll (sources S.tells (S.told source.old)) (files_of (command_in command.entry)) contents
+        → IsWork (outside S.tells (S.told source.old) C.tells (C.held keeper.old))
+        (command_in command.entry) contents work
+        → HasHonestCache (outside S.tells (S.told source.old) C.tells (C.held keeper.old)) (command_in command.entry)
         → IsSome (path_of (command_in command.entry)) → (shown : Shown) (kernels : List Kernel) (e : Ending)
         → IsMeaning work (ran shown kernels e)
         → IsKeptWith (map (run_text (mode_of shown)) kernels) result (C.held keeper.old) (C.held keeper.new) }
     ensures cache { result ≡ Cache → Rose (C.faults keeper.old) (C.faults keeper.new) }
-    ensures sound { extent (kind_of (command_in command.entry)) result ≡ whole → C.faults keeper.new ≡ C.faults keeper.old }
+    ensures sound { extent (kind_of (command_in command.entry)) result ≡ whole
+        → C.faults keeper.new ≡ C.faults keeper.old }
     ensures bad { (digest : List ℕ) (contents : List (List ℕ)) (work : Work) → result ≡ BadCache digest
-        → HasAll (outside S.tells (S.told source.old) C.tells (C.held keeper.old)) (files_of (command_in command.entry)) contents
-        → IsWork (command_in command.entry) contents work → HasBadRecordOf work C.tells (C.held keeper.old) digest }
+        → HasAll (sources S.tells (S.told source.old)) (files_of (command_in command.entry)) contents
+        → IsWork (outside S.tells (S.told source.old) C.tells (C.held keeper.old))
+        (command_in command.entry) contents work → HasBadRecordOf work C.tells (C.held keeper.old) digest }
     ensures source_count { S.faults source.old ≤ S.faults source.new }
     ensures sink_count { K.faults sink.old ≤ K.faults sink.new }
     ensures keeper_count { C.faults keeper.old ≤ C.faults keeper.new }
@@ -228,6 +269,9 @@ fn carry_out<R: Threads + Sync, S: Source, K: Sink, C: Keeper, G: Gate>(
             evaluate_file(alloc, place, source, sink, keeper, file, fuel, evaluation)
         }
         Command::Sample { number } => run_sample(alloc, place, sink, keeper, number),
+        Command::Migrate { cache } => migrate(alloc, cache, sink, keeper),
+        Command::Wat { file } => inquire(alloc, source, sink, file, Inquiry::Text),
+        Command::Check { file } => inquire(alloc, source, sink, file, Inquiry::Verdict),
     }
 }
 
@@ -251,17 +295,17 @@ fn evaluate_file<R: Threads + Sync, S: Source, K: Sink, C: Keeper, G: Gate>(
 ) -> Status
     requires possible { IsPossible evaluation }
     ensures work { (bytes : List ℕ)
-        → Has (outside S.tells (S.told source.old) C.tells (C.held keeper.old)) (source_file file.now) bytes
+        → Has (sources S.tells (S.told source.old)) (source_file file.now) bytes
         → IsHonestCache C.tells (C.held keeper.old) (cache_of evaluation.entry)
         → IsCarriedOut (kind_with (cache_of evaluation.entry)) (evaluated evaluation.entry bytes fuel) result K.tells
         (K.written sink.old) (K.written sink.new) }
     ensures left { (bytes : List ℕ)
-        → Has (outside S.tells (S.told source.old) C.tells (C.held keeper.old)) (source_file file.now) bytes
-        → ¬ IsMemory result → ¬ (result ≡ Read) → S.left source.new ≡ drop most_read bytes }
+        → Has (sources S.tells (S.told source.old)) (source_file file.now) bytes
+        → ¬ IsMemory result → ¬ (result ≡ Read) → S.left source.new ≡ drop most_of_source bytes }
     ensures read { result ≡ Read
         → Rose (S.faults source.old) (S.faults source.new)
-        ⊎ Lacks (outside S.tells (S.told source.old) C.tells (C.held keeper.old)) (source_file file.now) }
-    ensures missing { Lacks (outside S.tells (S.told source.old) C.tells (C.held keeper.old)) (source_file file.now) → result ≡ Read }
+        ⊎ Lacks (sources S.tells (S.told source.old)) (source_file file.now) }
+    ensures missing { Lacks (sources S.tells (S.told source.old)) (source_file file.now) → result ≡ Read }
     ensures nothing { result ≡ Read → IsTrue K.tells → K.written sink.new ≡ K.written sink.old }
     ensures write { result ≡ Write → Rose (K.faults sink.old) (K.faults sink.new) }
     ensures possible { ¬ (extent (kind_with (cache_of evaluation.entry)) result ≡ never) }
@@ -272,23 +316,25 @@ fn evaluate_file<R: Threads + Sync, S: Source, K: Sink, C: Keeper, G: Gate>(
     ensures files { S.told source.new ≡ S.told source.old }
     ensures untouched { (result ≡ Read) ⊎ IsNone (cache_of evaluation.entry) → keeper.new ≡ keeper.old }
     ensures refused { (r : Refusal) → result ≡ Refused r → keeper.new ≡ keeper.old }
-    ensures held { IsSome (cache_of evaluation.entry) → IsTrue C.tells → IsHeldWith result (C.held keeper.old) (C.held keeper.new) }
+    ensures held { IsSome (cache_of evaluation.entry) → IsTrue C.tells
+        → IsHeldWith result (C.held keeper.old) (C.held keeper.new) }
     ensures kept { (bytes : List ℕ)
-        → Has (outside S.tells (S.told source.old) C.tells (C.held keeper.old)) (source_file file.now) bytes
+        → Has (sources S.tells (S.told source.old)) (source_file file.now) bytes
         → IsHonestCache C.tells (C.held keeper.old) (cache_of evaluation.entry)
         → IsSome (cache_of evaluation.entry) → (shown : Shown) (kernels : List Kernel) (e : Ending)
         → IsMeaning (evaluated evaluation.entry bytes fuel) (ran shown kernels e)
         → IsKeptWith (map (run_text (mode_of shown)) kernels) result (C.held keeper.old) (C.held keeper.new) }
     ensures cache { result ≡ Cache → Rose (C.faults keeper.old) (C.faults keeper.new) }
-    ensures sound { extent (kind_with (cache_of evaluation.entry)) result ≡ whole → C.faults keeper.new ≡ C.faults keeper.old }
+    ensures sound { extent (kind_with (cache_of evaluation.entry)) result ≡ whole
+        → C.faults keeper.new ≡ C.faults keeper.old }
     ensures bad { (digest bytes : List ℕ) → result ≡ BadCache digest
-        → Has (outside S.tells (S.told source.old) C.tells (C.held keeper.old)) (source_file file.now) bytes
+        → Has (sources S.tells (S.told source.old)) (source_file file.now) bytes
         → HasBadRecordOf (evaluated evaluation.entry bytes fuel) C.tells (C.held keeper.old) digest }
     ensures source_count { S.faults source.old ≤ S.faults source.new }
     ensures sink_count { K.faults sink.old ≤ K.faults sink.new }
     ensures keeper_count { C.faults keeper.old ≤ C.faults keeper.new }
 {
-    let bytes = match file_bytes(alloc, source, file) {
+    let bytes = match file_bytes(alloc, source, file, MOST_OF_SOURCE) {
         Ok(bytes) => bytes,
         Err(SourceFault::Failed) => return Status::Read,
         Err(SourceFault::Memory(error)) => return Status::Memory(error),

@@ -11,7 +11,8 @@ ghost use Rattle.mw_tasks.specs.Phases.{IfBuilt, IsPlaced};
 ghost use Rattle.mw_drive.specs.NamedPrograms.{named_program_of};
 ghost use Rattle.mw_drive.specs.ProgramMeaning.{ItemsRun};
 ghost use Rattle.mw_drive.specs.ProgramRuns.{ending_of, kernels_of, IsBuilt};
-ghost use Rattle.mw_drive.specs.ItemOutcomes.{outcomes_run, run_with, came_before, end_before, HasOneForEach, ArePlaced, IfKernel};
+ghost use Rattle.mw_drive.specs.ItemOutcomes.{outcomes_run, run_with, came_before, end_before, HasOneForEach};
+ghost use Rattle.mw_drive.specs.ItemOutcomes.{ArePlaced, IfKernel};
 
 use crate::ending::End;
 use mw_cache::Got;

@@ -65,7 +65,8 @@ pub fn write_run<R: Threads + Sync, K: Sink, C: Keeper, G: Gate, L: Ledger>(
     requires few { length program.now.items < 2 ^ 32 }
     ensures run { let p = named_program_of program.now in
         IsHonestCache C.tells (C.held keeper.old) options.entry.cache
-        → IsWrittenRun (IsEndOf options.entry.cache) options.entry.shown fuel p result K.tells (K.written sink.old) (K.written sink.new) }
+        → IsWrittenRun (IsEndOf options.entry.cache) options.entry.shown fuel p result K.tells (K.written sink.old)
+        (K.written sink.new) }
     ensures ended { IfOk result (IsEnded options.entry.cache) }
     ensures blames { BlamesSink result (K.faults sink.old) (K.faults sink.new) }
     ensures count { K.faults sink.old ≤ K.faults sink.new }

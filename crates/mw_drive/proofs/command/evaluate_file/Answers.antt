@@ -5,8 +5,10 @@ use Rattle.mw_drive.specs.Works.{IsMeaning, ran, mode_of, run_text}
 use Rattle.mw_drive.specs.ProgramRuns.{evaluated, cache_of}
 use Rattle.mw_drive.specs.Running.{kind_with}
 use Rattle.mw_drive.proofs.CommandLemmas.{carried_memory}
-use Rattle.mw_drive.proofs.RunLemmas.{carried, written_as, front_told, means_evaluated, kind_over, written_possible, no_path, ran_whole, bad_whole}
-use Rattle.mw_drive.proofs.Statuses.{not_read, refused_status, unkept_status, bad_status, sound_status, held_status, kept_status}
+use Rattle.mw_drive.proofs.RunLemmas.{carried, written_as, front_told, means_evaluated, kind_over, written_possible}
+use Rattle.mw_drive.proofs.RunLemmas.{no_path, ran_whole, bad_whole}
+use Rattle.mw_drive.proofs.Statuses.{not_read, refused_status, unkept_status, bad_status, sound_status, held_status}
+use Rattle.mw_drive.proofs.Statuses.{kept_status}
 use Rattle.mw_drive.proofs.command.evaluate_file.Goals as goal
 
 pub returns-in-Err-Memory-clause-work : goal.returns-in-Err-Memory-clause-work

@@ -6,7 +6,10 @@ use Rattle.mw_drive.specs.Extents.{extent}
 use Rattle.mw_drive.specs.Running.{kind_of, path_of}
 use Rattle.mw_words.specs.Words.{command_in}
 use Rattle.mw_keeping.proofs.KeptFiles.{front_stays}
-use Rattle.mw_drive.proofs.CommandLemmas.{sample_range, run_workers, asked_text, asked_status, asked_complete, asked_faults, asked_possible, asked_of, asked_missing, asked_no_file, asked_no_cache, asked_cache, asked_kept, asked_bad, asked_read, asked_has, asked_erased, asked_simplified}
+use Rattle.mw_drive.proofs.CommandLemmas.{sample_range, run_workers, asked_text, asked_status, asked_complete}
+use Rattle.mw_drive.proofs.CommandLemmas.{asked_faults, asked_possible, asked_of, asked_missing, asked_no_file}
+use Rattle.mw_drive.proofs.CommandLemmas.{asked_no_cache, asked_file, asked_verdict, asked_kept, asked_bad, asked_read}
+use Rattle.mw_drive.proofs.CommandLemmas.{asked_has, asked_erased, asked_simplified}
 use Rattle.mw_drive.proofs.HeldFiles.{front_of, kept_ending}
 use Rattle.mw_drive.proofs.ModuleLemmas.{meaning_modules}
 use Rattle.mw_drive.proofs.command.run.Goals as goal
@@ -91,10 +94,19 @@ returns-in-Ok-clause-missing g c = λ asked. c.carry_out.ensures.missing
     c.carry_out.ensures.write c.carry_out.ensures.possible asked)
 
 pub returns-in-Ok-clause-left : goal.returns-in-Ok-clause-left
-returns-in-Ok-clause-left g c = λ other bytes on. c.carry_out.ensures.left bytes
+returns-in-Ok-clause-left g c = λ other file bytes on is. c.carry_out.ensures.left file bytes
+    (asked_file (command_in c.in-Ok.command) c.in-Ok.ensures.some c.carry_out.result g.K.Sink.tells _ _ _ _
+    c.carry_out.ensures.work c.carry_out.ensures.read
+    c.carry_out.ensures.write c.carry_out.ensures.possible other file bytes on is)
     (asked_has (command_in c.in-Ok.command) c.in-Ok.ensures.some c.carry_out.result g.K.Sink.tells _ _ _ _
     c.carry_out.ensures.work c.carry_out.ensures.read
     c.carry_out.ensures.write c.carry_out.ensures.possible other bytes on)
+
+pub returns-in-Ok-clause-judged : goal.returns-in-Ok-clause-judged
+returns-in-Ok-clause-judged g c = λ file bytes on.
+    asked_verdict (command_in c.in-Ok.command) c.in-Ok.ensures.some c.carry_out.result g.K.Sink.tells _ _ _ _
+    c.carry_out.ensures.work c.carry_out.ensures.read
+    c.carry_out.ensures.write c.carry_out.ensures.possible file bytes on
 
 pub returns-in-Ok-clause-unread : goal.returns-in-Ok-clause-unread
 returns-in-Ok-clause-unread g c (inl usage) =
@@ -115,7 +127,7 @@ returns-in-Ok-clause-untouched g c (inr (inr asked)) = c.carry_out.ensures.untou
 
 pub returns-in-Ok-clause-front : goal.returns-in-Ok-clause-front
 returns-in-Ok-clause-front g c = λ tells.
-    front_of (path_of (command_in c.in-Ok.command)) c.carry_out.result _ _
+    front_of (path_of (command_in c.in-Ok.command)) (kind_of (command_in c.in-Ok.command)) c.carry_out.result _ _
     (λ none. ap g.C.Keeper.held (c.carry_out.ensures.untouched (inr none)))
     (λ some. c.carry_out.ensures.held some tells)
 
@@ -123,10 +135,11 @@ pub returns-in-Err-clause-front : goal.returns-in-Err-clause-front
 returns-in-Err-clause-front g c = λ tells. front_stays _ _ refl
 
 pub returns-in-Ok-clause-held : goal.returns-in-Ok-clause-held
-returns-in-Ok-clause-held g c = λ asked. c.carry_out.ensures.held
-    (asked_cache (command_in c.in-Ok.command) c.in-Ok.ensures.some c.carry_out.result g.K.Sink.tells _ _ _ _
+returns-in-Ok-clause-held g c =
+    asked_of (command_in c.in-Ok.command) c.in-Ok.ensures.some c.carry_out.result g.K.Sink.tells _ _ _ _
     c.carry_out.ensures.work c.carry_out.ensures.read
-    c.carry_out.ensures.write c.carry_out.ensures.possible asked)
+    c.carry_out.ensures.write c.carry_out.ensures.possible
+    _ c.carry_out.ensures.held
 
 pub returns-in-Ok-clause-kept : goal.returns-in-Ok-clause-kept
 returns-in-Ok-clause-kept g c = λ work asked some written shown kernels e is.

@@ -1,6 +1,6 @@
-use Rattle.std.proofs.Common.{◌≡◌, ◌++◌, map, All, Contains, ap, ◌∙◌, refl, sym, subst}
+use Rattle.std.proofs.Common.{map, All, Contains, ap, ◌∙◌, refl, sym, subst}
 use Rattle.std.proofs.lemmas.List.Elements.{Contains-append_right}
-use Rattle.mw_cache.specs.Gots.{IsHere, text_in, texts_of}
+use Rattle.mw_cache.specs.Gots.{IsHere, text_in}
 use Rattle.mw_drive.specs.HeldFiles.{texts_built}
 use Rattle.mw_keeping.proofs.KeptFiles.{front_stays, kept_of}
 use Rattle.mw_drive.proofs.kept.keep_run.Goals as goal

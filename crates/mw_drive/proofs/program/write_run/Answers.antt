@@ -1,6 +1,6 @@
-use Rattle.std.proofs.Common.{◌≡◌, ◌⊎◌, inl, inr, IsTrue, IsSome, map, refl, sym, ap, ◌∙◌, subst}
+use Rattle.std.proofs.Common.{◌≡◌, inl, inr, map, sym, ap, ◌∙◌, subst}
 use Rattle.mw_term.specs.Programs.{program_of}
-use Rattle.mw_store.specs.Loads.{LoadState, IsLoadOf}
+use Rattle.mw_store.specs.Loads.{IsLoadOf}
 use Rattle.mw_cache.specs.Gots.{CacheState}
 use Rattle.mw_cache.specs.HonestFiles.{IsHonest}
 use Rattle.mw_cached.specs.StrayRecords.{IsStrayRecord}
@@ -12,7 +12,8 @@ use Rattle.mw_drive.specs.ProgramRuns.{kernels_of, IsRanTo, IsEndOf}
 use Rattle.mw_drive.specs.Works.{mode_of, run_text}
 use Rattle.mw_drive.proofs.BadRecords.{bad_of_items, bad_of_main, load_of_stray}
 use Rattle.mw_drive.proofs.Fronts.{grows_nothing}
-use Rattle.mw_drive.proofs.HeldFiles.{texts_are, opened_read, held_failed, held_memory, held_kept, texts_kept, front_kept, end_of, has_ending_kept}
+use Rattle.mw_drive.proofs.HeldFiles.{texts_are, opened_read, held_failed, held_memory, held_kept, texts_kept}
+use Rattle.mw_drive.proofs.HeldFiles.{front_kept, end_of}
 use Rattle.mw_drive.proofs.Honest.{opened_honest, no_wrong_item}
 use Rattle.mw_drive.proofs.RunFaults.{unwritten_usual, job_is_usual, if_bad, job_bad, passed_bad}
 use Rattle.mw_drive.proofs.RunWritten.{some_ending, run_failed, run_passed, run_answered, run_spoiled, same_kernels}
@@ -22,7 +23,8 @@ use Rattle.mw_drive.proofs.program.write_run.Goals as goal
 pub returns-in_err-load-clause-run : goal.returns-in_err-load-clause-run
 returns-in_err-load-clause-run g c = λ honest.
     let e = some_ending (mode_of c.args.options.shown) c.args.fuel c.args.program.now c.requires.typable in
-    run_failed (IsEndOf c.args.options.cache) c.args.options.shown c.args.fuel c.args.program.now _ c.from_residual.result
+    run_failed (IsEndOf c.args.options.cache) c.args.options.shown c.args.fuel c.args.program.now _
+    c.from_residual.result
     g.K.Sink.tells _ _ e.0 e.1
     c.from_residual.ensures.1 (unwritten_usual _) e.2 (λ t. grows_nothing _ _)
 
@@ -76,7 +78,8 @@ returns-in_err-ran-clause-run g c = λ honest.
     let load = c.in_ok-load.field-0.load in
     let loaded = ap (λ (s : CacheState). s.load) c.new-cache.ensures in
     let right = subst IsHonest (sym loaded) (opened_honest path file load c.in_ok-load.ensures.opened honest) in
-    run_passed IsRanTo (IsEndOf path) c.args.options.shown c.args.fuel (named_program_of c.args.program.now) g.K.Sink.tells
+    run_passed IsRanTo (IsEndOf path) c.args.options.shown c.args.fuel
+    (named_program_of c.args.program.now) g.K.Sink.tells
     _ _ c.in_err-ran.field-0.0 c.from_residual-in_err-ran.result c.from_residual-in_err-ran.ensures.1
     (c.in_err-ran.ensures.run right)
 
@@ -137,7 +140,8 @@ returns-in_err-keep_run-clause-held g c = λ some tells.
     held_memory c.from_residual-in_err-keep_run.result _ _ _ c.from_residual-in_err-keep_run.ensures.1
     (front_kept g.C.Keeper.tells (g.C.Keeper.held c.args.keeper.now) path some file load c.in_ok-load.ensures.opened _
     (λ is. ap g.C.Keeper.held (c.in_err-keep_run.ensures.unread is) ∙ same)
-    (λ count is. subst (λ h. HasGoodFront h (g.C.Keeper.held c.keep_run.new.keeper)) same (c.in_err-keep_run.ensures.front count is tells)))
+    (λ count is. subst (λ h. HasGoodFront h (g.C.Keeper.held c.keep_run.new.keeper)) same
+    (c.in_err-keep_run.ensures.front count is tells)))
 
 pub returns-clause-run : goal.returns-clause-run
 returns-clause-run g c = λ honest.
@@ -179,10 +183,12 @@ returns-clause-held g c = λ some tells.
     let same = c.in_ok-load.ensures.same tells in
     held_kept g.C.Keeper.tells (g.C.Keeper.held c.args.keeper.now) path some file load c.in_ok-load.ensures.opened _
     (λ is. ap g.C.Keeper.held (c.in_ok-keep_run.ensures.unread is) ∙ same)
-    (λ count is. subst (λ h. HasGoodFront h (g.C.Keeper.held c.keep_run.new.keeper)) same (c.in_ok-keep_run.ensures.front count is tells))
+    (λ count is. subst (λ h. HasGoodFront h (g.C.Keeper.held c.keep_run.new.keeper)) same
+    (c.in_ok-keep_run.ensures.front count is tells))
     c.in_ok-ran.ran.status _ c.in_ok-ran.ensures.ended c.in_ok-keep_run.ensures.status
     (texts_built c.new-cache.result c.in_ok-ran.ran.built.items)
-    (λ count is other. subst (λ h. IsKeptFile h (g.C.Keeper.held c.keep_run.new.keeper) (texts_built c.new-cache.result c.in_ok-ran.ran.built.items)) same
+    (λ count is other. subst (λ h. IsKeptFile h (g.C.Keeper.held c.keep_run.new.keeper)
+    (texts_built c.new-cache.result c.in_ok-ran.ran.built.items)) same
     (c.in_ok-keep_run.ensures.kept count is other tells))
 
 pub returns-clause-kept : goal.returns-clause-kept
@@ -203,8 +209,10 @@ returns-clause-kept g c = λ some honest kernels e is.
     λ other. subst (IsKeptFile (g.C.Keeper.held c.args.keeper.now) (g.C.Keeper.held c.keep_run.new.keeper)) texts
     (texts_kept g.C.Keeper.tells (g.C.Keeper.held c.args.keeper.now) path some file load c.in_ok-load.ensures.opened _
     (λ is. ap g.C.Keeper.held (c.in_ok-keep_run.ensures.unread is) ∙ same)
-    (λ count is. subst (λ h. HasGoodFront h (g.C.Keeper.held c.keep_run.new.keeper)) same (c.in_ok-keep_run.ensures.front count is tells))
+    (λ count is. subst (λ h. HasGoodFront h (g.C.Keeper.held c.keep_run.new.keeper)) same
+    (c.in_ok-keep_run.ensures.front count is tells))
     c.in_ok-ran.ran.status _ c.in_ok-ran.ensures.ended c.in_ok-keep_run.ensures.status
     (texts_built c.new-cache.result built)
-    (λ count is other. subst (λ h. IsKeptFile h (g.C.Keeper.held c.keep_run.new.keeper) (texts_built c.new-cache.result built)) same
+    (λ count is other. subst (λ h. IsKeptFile h (g.C.Keeper.held c.keep_run.new.keeper)
+    (texts_built c.new-cache.result built)) same
     (c.in_ok-keep_run.ensures.kept count is other tells)) other)

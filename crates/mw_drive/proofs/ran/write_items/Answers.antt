@@ -1,4 +1,4 @@
-use Rattle.std.proofs.Common.{◌≡◌, refl, sym, ap}
+use Rattle.std.proofs.Common.{◌≡◌, refl, ap}
 use Rattle.std.specs.Option.{option_map}
 use Rattle.mw_console.specs.Texts.{ending_line}
 use Rattle.mw_term.specs.Programs.{program_of}
@@ -121,7 +121,8 @@ returns-in_err-end-clause-run g c = λ honest.
     let e =
     items_ending mode c.args.fuel c.args.program.now c.requires.typable kernels
     (option_map ending_of c.in_ok-built.field-0.end) run in
-    run_failed IsRanTo c.args.shown c.args.fuel c.args.program.now _ c.from_residual-in_err-end.result g.K.Sink.tells _ _
+    run_failed IsRanTo c.args.shown c.args.fuel c.args.program.now _ c.from_residual-in_err-end.result g.K.Sink.tells _
+    _
     kernels e.0
     c.from_residual-in_err-end.ensures.1
     (job_is_usual c.in_err-end.field-0.0 (if_bad c.in_err-end.field-0.0 _ _

@@ -8,7 +8,8 @@ use Rattle.mw_drive.proofs.shown.write_all.Given as goal
 
 abbrev pub invariant-loop-at : goal.invariant-loop-at
 invariant-loop-at g l = record {
-  written : IsHonest l.cache.load → (mode : Mode) → AllByRecursion (IsBuilt mode l.cache) l.kernels → IsTrue g.K.Sink.tells
+  written : IsHonest l.cache.load → (mode : Mode) → AllByRecursion (IsBuilt mode l.cache) l.kernels
+      → IsTrue g.K.Sink.tells
       → g.K.Sink.written l.sink ≡ g.K.Sink.written l.fn.sink ++ flat_map (kernel_lines mode)
       (kernels_of (take l.at l.kernels));
   count : g.K.Sink.faults l.sink ≡ g.K.Sink.faults l.fn.sink;

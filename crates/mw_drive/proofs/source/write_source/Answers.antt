@@ -4,7 +4,9 @@ use Rattle.mw_drive.specs.ProgramRuns.{evaluated, cache_of}
 use Rattle.mw_drive.specs.Works.{mode_of, run_text}
 use Rattle.mw_drive.proofs.HeldFiles.{held_failed, held_refused}
 use Rattle.mw_drive.proofs.RunFaults.{bad_maps}
-use Rattle.mw_drive.proofs.SourceWritten.{written_nothing, refusal_written, resolved, few_items, types_written, run_written, erased_written, few_nodes, run_kernels, bad_written, refused_kept}
+use Rattle.mw_drive.proofs.SourceWritten.{written_nothing, refusal_written, resolved, few_items, types_written}
+use Rattle.mw_drive.proofs.SourceWritten.{run_written, erased_written, few_nodes, run_kernels, bad_written}
+use Rattle.mw_drive.proofs.SourceWritten.{refused_kept}
 use Rattle.mw_drive.proofs.source.write_source.Goals as goal
 
 pub returns-in-Err-Refused-clause-meaning : goal.returns-in-Err-Refused-clause-meaning
