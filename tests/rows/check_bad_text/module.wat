@@ -1,0 +1,1 @@
+(module (func (type 0) nop (nop)))

@@ -1,0 +1,1 @@
+(module (type (func)) (func (type 0) unreachable select drop))
