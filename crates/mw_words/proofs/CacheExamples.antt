@@ -19,7 +19,7 @@ c_named : IsFileWord (codes "c")
 c_named = omega arith
 
 -- a cache stands first, in either form
-cache_apart_first : (path : List ℕ) {rest : List (List ℕ)} {parts : List PurePart} → AreParts rest parts
+pub cache_apart_first : (path : List ℕ) {rest : List (List ℕ)} {parts : List PurePart} → AreParts rest parts
     → AreParts (codes "--cache" ∷ path ∷ rest) (option (codes "--cache") (Some path) ∷ parts)
 cache_apart_first path more = one_more (valued refl (apart refl)) more
 

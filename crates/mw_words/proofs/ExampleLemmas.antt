@@ -25,10 +25,10 @@ g_named = omega arith
 pub eight : IsNumber 10000000 (codes "8") 8
 eight = record { digits = search rules; few = omega arith; value = refl; low = omega arith; high = omega arith }
 
-most_fuel : IsNumber 10000000 (codes "10000000") 10000000
+pub most_fuel : IsNumber 10000000 (codes "10000000") 10000000
 most_fuel = record { digits = search rules; few = omega arith; value = refl; low = omega arith; high = omega arith }
 
-most_workers : IsNumber 64 (codes "000000064") 64
+pub most_workers : IsNumber 64 (codes "000000064") 64
 most_workers = record { digits = search rules; few = omega arith; value = refl; low = omega arith; high = omega arith }
 
 hundred : IsNumber 100 (codes "100") 100
@@ -39,7 +39,7 @@ pub then_file : {name : List ℕ} {rest : List (List ℕ)} {parts : List PurePar
     → AreParts (name ∷ rest) (file name ∷ parts)
 then_file h more = one_more (filed h) more
 
-fuel_apart_first : (value : List ℕ) {rest : List (List ℕ)} {parts : List PurePart} → AreParts rest parts
+pub fuel_apart_first : (value : List ℕ) {rest : List (List ℕ)} {parts : List PurePart} → AreParts rest parts
     → AreParts (codes "--fuel" ∷ value ∷ rest) (option (codes "--fuel") (Some value) ∷ parts)
 fuel_apart_first value more = one_more (valued refl (apart refl)) more
 
@@ -116,7 +116,7 @@ two_dashes = no_command run_is_other
     (λ parts whole c makes. stuck (λ e. cc) (no_option_begins _ (codes "f" ∷ []) (codes "--") (codes "--") None refl
     (no_file (codes "--") (codes "-") refl) (refl, no_equal (codes "--") refl) refl) whole)
 
-fuel_file_fuel : AreParts (codes "--fuel=7" ∷ codes "f" ∷ codes "--fuel" ∷ codes "7" ∷ [])
+pub fuel_file_fuel : AreParts (codes "--fuel=7" ∷ codes "f" ∷ codes "--fuel" ∷ codes "7" ∷ [])
     (option (codes "--fuel") (Some (codes "7")) ∷ file (codes "f") ∷ option (codes "--fuel") (Some (codes "7")) ∷ [])
 fuel_file_fuel = one_more (valued {name = codes "--fuel"} refl (joined {value = codes "7"} refl)) (then_file f_named
     (fuel_apart_first (codes "7") no_part))

@@ -3,9 +3,8 @@ use Rattle.std.proofs.Common.{◌≡◌, ℕ, ◌≤◌, Bool, not, List, [], �
 use Rattle.std.proofs.Common.{ap, subst, arith}
 use Rattle.mw_words.specs.Words.{apart, joined, PurePart, is_named, is_taken, parts_named, HaveOnly, IsNumberOf}
 use Rattle.mw_words.specs.Words.{not_named, named_once, IsSwitchOf, off, on, IsWordOf, without_word, with_word, IsFileOf}
-use Rattle.mw_words.specs.Words.{HasNoFile}
-use Rattle.mw_words.specs.Words.{PureCommand, sample, Makes, run_of, erased_of, migrate_of, parts_command}
-use Rattle.mw_words.specs.Words.{sample_command, wat_command, check_command}
+use Rattle.mw_words.specs.Words.{HasNoFile, PureCommand, sample, Makes, run_of, erased_of, link_of, migrate_of}
+use Rattle.mw_words.specs.Words.{parts_command, sample_command, wat_command, check_command}
 use Rattle.mw_words.specs.WordLaws.{OneCommand, EitherForm, AnyOrder}
 use Rattle.mw_words.proofs.OptionLemmas.{one_value}
 use Rattle.mw_words.proofs.PartLemmas.{same_number}
@@ -48,6 +47,11 @@ same_made {parts = parts} (run_of {name = a} o w u s d f) (run_of {name = b} o' 
     cc
 same_made {parts = parts} (erased_of {name = a} o u f) (erased_of {name = b} o' u' f') = let fuels_same =
     one_number u u' in let files_same = one_file parts a b f f' in cc
+same_made {parts = parts} (link_of {name = a} o w u f) (link_of {name = b} o' w' u' f') =
+    let workers_same = one_number w w' in
+    let fuels_same = one_number u u' in
+    let files_same = one_file parts a b f f' in
+    cc
 same_made (migrate_of o d n) (migrate_of o' d' n') = let caches_same = one_word d d' in cc
 
 -- a sample, a module's text and the verdict on it have no parts
@@ -150,6 +154,9 @@ module _ (before after : List PurePart) (p q : PurePart) where
       (number_swapped w) (number_swapped u) (switch_swapped s) (word_swapped d) (file_swapped name f)
   in_other_order (erased_of {name = name} o u f) = erased_of (only_swapped (codes "--fuel" ∷ []) o) (number_swapped u)
       (file_swapped name f)
+  in_other_order (link_of {name = name} o w u f) = link_of
+      (only_swapped (codes "--workers" ∷ codes "--fuel" ∷ []) o)
+      (number_swapped w) (number_swapped u) (file_swapped name f)
   in_other_order (migrate_of o d n) = migrate_of (only_swapped (codes "--cache" ∷ []) o) (word_swapped d)
       (none_swapped n)
 

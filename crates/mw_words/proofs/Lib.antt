@@ -2,6 +2,7 @@ pub mod CacheExamples
 pub mod ExampleLemmas
 pub mod Items
 pub mod LawLemmas
+pub mod LinkExamples
 pub mod ModuleExamples
 pub mod OptionLemmas
 pub mod PartLemmas

@@ -2,9 +2,9 @@
 use Rattle.std.proofs.Common.{◌≡◌, ℕ, ◌≤◌, List, [], ◌∷◌, Option, Some, codes, length, get_or, Bool, refl, sym}
 use Rattle.std.proofs.Common.{ap, subst, arith}
 use Rattle.mw_words.specs.Words.{PurePart, PureCommand, HaveOnly, AreWorkersOf, AreUnitsOf, IsSwitchOf, IsWordOf}
-use Rattle.mw_words.specs.Words.{IsFileOf, HasNoFile, IsFileWord, AreParts, Makes, run_of, erased_of, migrate_of}
-use Rattle.mw_words.specs.Words.{parts_command, sample_command, wat_command, check_command, IsNumber, IsUsage}
-use Rattle.mw_words.specs.Words.{parts_named}
+use Rattle.mw_words.specs.Words.{IsFileOf, HasNoFile, IsFileWord, AreParts, Makes, run_of, erased_of, link_of}
+use Rattle.mw_words.specs.Words.{migrate_of, parts_command, sample_command, wat_command, check_command, IsNumber}
+use Rattle.mw_words.specs.Words.{IsUsage, parts_named}
 use Rattle.mw_words.proofs.LawLemmas.{few_number, few_switch, few_word, no_sample_parts, no_wat_parts, no_check_parts}
 use Rattle.mw_words.proofs.Passing.{same_parts}
 
@@ -25,6 +25,13 @@ run_is_other = (
 
 pub erased_is_other : IsOther (codes "erased")
 erased_is_other = (
+  first_differs _ _ (λ e. omega arith),
+  first_differs _ _ (λ e. omega arith),
+  first_differs _ _ (λ e. omega arith),
+)
+
+pub link_is_other : IsOther (codes "link")
+link_is_other = (
   first_differs _ _ (λ e. omega arith),
   first_differs _ _ (λ e. omega arith),
   first_differs _ _ (λ e. omega arith),
@@ -72,15 +79,20 @@ no_check none c (check_command f) = none _ refl f
 
 -- a word of no command
 pub unknown : {word : List ℕ} {words : List (List ℕ)} → (word ≡ codes "run" → ⊥) → (word ≡ codes "erased" → ⊥)
-    → (word ≡ codes "migrate" → ⊥) → IsOther word → IsUsage (word ∷ words)
-unknown r e m other c (parts_command h (run_of o w u b d f)) = r refl
-unknown r e m other c (parts_command h (erased_of o u f)) = e refl
-unknown r e m other c (parts_command h (migrate_of o d n)) = m refl
-unknown r e m other c (sample_command n) = other.0 refl
-unknown r e m other c (wat_command f) = other.1 refl
-unknown r e m other c (check_command f) = other.2 refl
+    → (word ≡ codes "link" → ⊥) → (word ≡ codes "migrate" → ⊥) → IsOther word → IsUsage (word ∷ words)
+unknown r e l m other c (parts_command h (run_of o w u b d f)) = r refl
+unknown r e l m other c (parts_command h (erased_of o u f)) = e refl
+unknown r e l m other c (parts_command h (link_of o w u f)) = l refl
+unknown r e l m other c (parts_command h (migrate_of o d n)) = m refl
+unknown r e l m other c (sample_command n) = other.0 refl
+unknown r e l m other c (wat_command f) = other.1 refl
+unknown r e l m other c (check_command f) = other.2 refl
 
 -- of each option there is one at most
+pub workers_once : {parts : List PurePart} {n : ℕ} → AreWorkersOf parts n
+    → 2 ≤ length (parts_named (Some (codes "--workers")) parts) → ⊥
+workers_once w two = omega (arith, two, few_number w)
+
 pub fuel_once : {parts : List PurePart} {n : ℕ} → AreUnitsOf parts n
     → 2 ≤ length (parts_named (Some (codes "--fuel")) parts) → ⊥
 fuel_once u two = omega (arith, two, few_number u)
@@ -130,6 +142,23 @@ units_of_erased (erased_of {fuel = n} o u f) = (n, u)
 pub file_of_erased : {parts : List PurePart} {c : PureCommand} → Makes (codes "erased") parts c
     → (name : List ℕ) × IsFileOf parts name
 file_of_erased (erased_of {name = name} o u f) = (name, f)
+
+-- what a link has
+pub options_of_link : {parts : List PurePart} {c : PureCommand} → Makes (codes "link") parts c
+    → HaveOnly (codes "--workers" ∷ codes "--fuel" ∷ []) parts
+options_of_link (link_of o w u f) = o
+
+pub workers_of_link : {parts : List PurePart} {c : PureCommand} → Makes (codes "link") parts c
+    → (n : ℕ) × AreWorkersOf parts n
+workers_of_link (link_of {workers = n} o w u f) = (n, w)
+
+pub units_of_link : {parts : List PurePart} {c : PureCommand} → Makes (codes "link") parts c
+    → (n : ℕ) × AreUnitsOf parts n
+units_of_link (link_of {fuel = n} o w u f) = (n, u)
+
+pub file_of_link : {parts : List PurePart} {c : PureCommand} → Makes (codes "link") parts c
+    → (name : List ℕ) × IsFileOf parts name
+file_of_link (link_of {name = name} o w u f) = (name, f)
 
 -- what a migration has
 pub options_of_migrate : {parts : List PurePart} {c : PureCommand} → Makes (codes "migrate") parts c

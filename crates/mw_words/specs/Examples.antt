@@ -1,6 +1,6 @@
 -- Worked examples of words, as theorems.
 use Rattle.std.specs.Prelude.{[], ◌∷◌, true, false, Some, None, codes}
-use Rattle.mw_words.specs.Words.{run, erased, sample, migrate, wat, check, Means, IsUsage}
+use Rattle.mw_words.specs.Words.{run, erased, link, sample, migrate, wat, check, Means, IsUsage}
 
 -- a file alone
 abbrev pub FileAlone : Type 0
@@ -62,6 +62,31 @@ ErasedJoined = Means (codes "erased" ∷ codes "--fuel=8" ∷ codes "f" ∷ []) 
 -- and behind the file
 abbrev pub ErasedBehind : Type 0
 ErasedBehind = Means (codes "erased" ∷ codes "f" ∷ codes "--fuel" ∷ codes "8" ∷ []) (erased 8 (codes "f"))
+
+-- the link of a file
+abbrev pub LinkAlone : Type 0
+LinkAlone = Means (codes "link" ∷ codes "f" ∷ []) (link 4 1000000 (codes "f"))
+
+-- its options in one form
+abbrev pub LinkApart : Type 0
+LinkApart = Means
+    (codes "link" ∷ codes "--workers" ∷ codes "2" ∷ codes "--fuel" ∷ codes "8" ∷ codes "f" ∷ [])
+    (link 2 8 (codes "f"))
+
+-- and in the other
+abbrev pub LinkJoined : Type 0
+LinkJoined = Means (codes "link" ∷ codes "--workers=2" ∷ codes "--fuel=8" ∷ codes "f" ∷ []) (link 2 8 (codes "f"))
+
+-- behind the file, the other way round
+abbrev pub LinkBehind : Type 0
+LinkBehind = Means (codes "link" ∷ codes "f" ∷ codes "--fuel" ∷ codes "8" ∷ codes "--workers=2" ∷ [])
+    (link 2 8 (codes "f"))
+
+-- and on both sides of it, with the greatest numbers
+abbrev pub LinkAround : Type 0
+LinkAround = Means
+    (codes "link" ∷ codes "--fuel=10000000" ∷ codes "f" ∷ codes "--workers" ∷ codes "000000064" ∷ [])
+    (link 64 10000000 (codes "f"))
 
 -- a sample
 abbrev pub SampleOfHundred : Type 0
@@ -157,6 +182,38 @@ ErasedSimplified = IsUsage (codes "erased" ∷ codes "--simplify" ∷ codes "f" 
 -- its option twice
 abbrev pub ErasedFuelTwice : Type 0
 ErasedFuelTwice = IsUsage (codes "erased" ∷ codes "--fuel=7" ∷ codes "f" ∷ codes "--fuel" ∷ codes "7" ∷ [])
+
+-- a link of no file
+abbrev pub LinkNoFile : Type 0
+LinkNoFile = IsUsage (codes "link" ∷ [])
+
+-- of two files
+abbrev pub LinkTwoFiles : Type 0
+LinkTwoFiles = IsUsage (codes "link" ∷ codes "f" ∷ codes "g" ∷ [])
+
+-- a simplified one
+abbrev pub LinkSimplified : Type 0
+LinkSimplified = IsUsage (codes "link" ∷ codes "--simplify" ∷ codes "f" ∷ [])
+
+-- and one with a cache
+abbrev pub LinkCached : Type 0
+LinkCached = IsUsage (codes "link" ∷ codes "--cache" ∷ codes "c" ∷ codes "f" ∷ [])
+
+-- by no worker
+abbrev pub LinkNoWorker : Type 0
+LinkNoWorker = IsUsage (codes "link" ∷ codes "--workers" ∷ codes "0" ∷ codes "f" ∷ [])
+
+-- by one more than there may be
+abbrev pub LinkManyWorkers : Type 0
+LinkManyWorkers = IsUsage (codes "link" ∷ codes "--workers" ∷ codes "65" ∷ codes "f" ∷ [])
+
+-- an option of it twice, in each form once
+abbrev pub LinkWorkersTwice : Type 0
+LinkWorkersTwice = IsUsage (codes "link" ∷ codes "--workers=2" ∷ codes "f" ∷ codes "--workers" ∷ codes "3" ∷ [])
+
+-- and the other
+abbrev pub LinkFuelTwice : Type 0
+LinkFuelTwice = IsUsage (codes "link" ∷ codes "--fuel=7" ∷ codes "f" ∷ codes "--fuel" ∷ codes "7" ∷ [])
 
 -- a migration without its cache
 abbrev pub MigrateUncached : Type 0

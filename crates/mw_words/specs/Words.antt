@@ -6,15 +6,17 @@ use Rattle.std.specs.List.{list_any}
 use Rattle.std.specs.Map.{lookup}
 use Rattle.std.specs.Str.Parse.{IsNumeral, digits_value}
 use Rattle.mw_words.specs.declared.Command.{Command}
-use Rattle.mw_words.specs.declared.Command.TheVariants.{Run, Erased, Sample, Migrate, Wat, Check}
+use Rattle.mw_words.specs.declared.Command.TheVariants.{Run, Erased, Link, Sample, Migrate, Wat, Check}
 
 -- a command as pure data: the run of a file by so many workers with so many units of fuel, with the
 -- kernels' code simplified or as it was built, and with the path of a cache or none; the run of a file's
--- erased program with so many units; a source made from a number; the migration of the cache at a path;
--- the text of the module in a file; or the verdict on it
+-- erased program with so many units; the kernels of a file linked as one module, by so many workers with so
+-- many units; a source made from a number; the migration of the cache at a path; the text of the module in a
+-- file; or the verdict on it
 pub data PureCommand : Type 0 where
   run : (workers fuel : ℕ) (simplify : Bool) (cache : Option (List ℕ)) (file : List ℕ) → PureCommand
   erased : (fuel : ℕ) (file : List ℕ) → PureCommand
+  link : (workers fuel : ℕ) (file : List ℕ) → PureCommand
   sample : (number : ℕ) → PureCommand
   migrate : (cache : List ℕ) → PureCommand
   wat : (file : List ℕ) → PureCommand
@@ -27,6 +29,7 @@ word_in word = word.now
 abbrev pub command_in : Command → PureCommand
 command_in (Run workers fuel simplify cache file) = run workers fuel simplify (option_map word_in cache) file.now
 command_in (Erased fuel file) = erased fuel file.now
+command_in (Link workers fuel file) = link workers fuel file.now
 command_in (Sample number) = sample number
 command_in (Migrate cache) = migrate cache.now
 command_in (Wat file) = wat file.now
@@ -149,6 +152,11 @@ pub data Makes : List ℕ → List PurePart → PureCommand → Type 0 where
   erased_of : {parts : List PurePart} {fuel : ℕ} {name : List ℕ}
       → HaveOnly (codes "--fuel" ∷ []) parts → AreUnitsOf parts fuel → IsFileOf parts name
       → Makes (codes "erased") parts (erased fuel name)
+  -- link [--workers N] [--fuel N] FILE
+  link_of : {parts : List PurePart} {workers fuel : ℕ} {name : List ℕ}
+      → HaveOnly (codes "--workers" ∷ codes "--fuel" ∷ []) parts
+      → AreWorkersOf parts workers → AreUnitsOf parts fuel → IsFileOf parts name
+      → Makes (codes "link") parts (link workers fuel name)
   -- migrate --cache PATH
   migrate_of : {parts : List PurePart} {cache : List ℕ}
       → HaveOnly (codes "--cache" ∷ []) parts → IsWordOf (codes "--cache") parts (Some cache)

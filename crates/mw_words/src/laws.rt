@@ -12,6 +12,9 @@ ghost use Rattle.mw_words.specs.Examples.{MigrateApart, MigrateJoined, MigrateUn
 ghost use Rattle.mw_words.specs.Examples.{MigrateFuelled, WatFile, WatNoFile, WatTwoFiles, WatOption, WatEmpty};
 ghost use Rattle.mw_words.specs.Examples.{WatDashed, CheckFile, CheckNoFile, CheckTwoFiles, CheckOption, CheckEmpty};
 ghost use Rattle.mw_words.specs.Examples.{CheckDashed};
+ghost use Rattle.mw_words.specs.Examples.{LinkAlone, LinkApart, LinkJoined, LinkBehind, LinkAround, LinkNoFile};
+ghost use Rattle.mw_words.specs.Examples.{LinkTwoFiles, LinkSimplified, LinkCached, LinkNoWorker, LinkManyWorkers};
+ghost use Rattle.mw_words.specs.Examples.{LinkWorkersTwice, LinkFuelTwice};
 
 /// Words mean one command at most.
 pub fn one_command()
@@ -74,6 +77,27 @@ pub fn usage()
     ensures migrate_twice { MigrateTwice }
     ensures migrate_file { MigrateFile }
     ensures migrate_fuelled { MigrateFuelled }
+{}
+
+/// Words that mean a link.
+pub fn link_commands()
+    ensures link_alone { LinkAlone }
+    ensures link_apart { LinkApart }
+    ensures link_joined { LinkJoined }
+    ensures link_behind { LinkBehind }
+    ensures link_around { LinkAround }
+{}
+
+/// Words after `link` that mean none.
+pub fn link_usage()
+    ensures link_no_file { LinkNoFile }
+    ensures link_two_files { LinkTwoFiles }
+    ensures link_simplified { LinkSimplified }
+    ensures link_cached { LinkCached }
+    ensures link_no_worker { LinkNoWorker }
+    ensures link_many_workers { LinkManyWorkers }
+    ensures link_workers_twice { LinkWorkersTwice }
+    ensures link_fuel_twice { LinkFuelTwice }
 {}
 
 /// Words that mean a module's text or the verdict on it.

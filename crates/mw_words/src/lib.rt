@@ -15,7 +15,7 @@ mod tests;
 use crate::given::{file_of, have_no_file, have_only, lone_file, number_of, switch_of, word_of};
 use crate::number::number_up_to;
 
-/// The most workers of a run, and how many there are where the words name none.
+/// The most workers of a run or a link, and how many there are where the words name none.
 const MOST_WORKERS: u32 = 64;
 
 const DEFAULT_WORKERS: u32 = 4;
@@ -42,6 +42,13 @@ pub enum Command<'w> {
     },
     /// The run of a file's erased program, with so many units of fuel.
     Erased {
+        fuel: u64,
+        file: &'w str,
+    },
+    /// The kernels of a file linked as one module, by so many workers, with so many units of fuel for
+    /// each evaluation.
+    Link {
+        workers: u32,
         fuel: u64,
         file: &'w str,
     },
@@ -79,6 +86,7 @@ pub fn read_words(words: &[String]) -> Result<Command<'_>, WordsFault>
     match command.as_str() {
         "run" => read_run(rest),
         "erased" => read_erased(rest),
+        "link" => read_link(rest),
         "sample" => read_sample(rest),
         "migrate" => read_migrate(rest),
         "wat" => read_wat(rest),
@@ -109,6 +117,19 @@ fn read_erased(words: &[String]) -> Result<Command<'_>, WordsFault>
 {
     have_only(words, &["--fuel"])?;
     Ok(Command::Erased {
+        fuel: fuel_of(words)?,
+        file: file_of(words)?,
+    })
+}
+
+/// The command that the words after `link` mean.
+fn read_link(words: &[String]) -> Result<Command<'_>, WordsFault>
+    ensures some { IfOk result (λ c. Means (codes "link" ∷ map string_bytes words.now) (command_in c)) }
+    ensures usage { IfErr result (λ _. IsUsage (codes "link" ∷ map string_bytes words.now)) }
+{
+    have_only(words, &["--workers", "--fuel"])?;
+    Ok(Command::Link {
+        workers: number_of(words, "--workers", MOST_WORKERS, DEFAULT_WORKERS)?,
         fuel: fuel_of(words)?,
         file: file_of(words)?,
     })

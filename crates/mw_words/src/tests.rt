@@ -28,6 +28,13 @@ fn meaning<R: Abort + AllocGlobal>(rt: &R, words: &[&str]) -> Result<String, Fai
             }
         }
         Ok(Command::Erased { fuel, file }) => format!(in alloc; "erased {fuel} {file}")?,
+        Ok(
+            Command::Link {
+                workers,
+                fuel,
+                file,
+            },
+        ) => format!(in alloc; "link {workers} {fuel} {file}")?,
         Ok(Command::Sample { number }) => format!(in alloc; "sample {number}")?,
         Ok(Command::Migrate { cache }) => format!(in alloc; "migrate {cache}")?,
         Ok(Command::Wat { file }) => format!(in alloc; "wat {file}")?,
@@ -163,6 +170,18 @@ const MODULES: &[(&[&str], &str)] = &[
     (&["run", "migrate"], "run 4 1000000 migrate"),
 ];
 
+/// The same, of a link.
+const LINKS: &[(&[&str], &str)] = &[
+    (&["link", "f"], "link 4 1000000 f"),
+    (&["link", "link"], "link 4 1000000 link"),
+    (&["link", "--workers", "1", "f", "--fuel=1"], "link 1 1 f"),
+    (
+        &["link", "f", "--workers=64", "--fuel", "10000000"],
+        "link 64 10000000 f",
+    ),
+    (&["run", "link"], "run 4 1000000 link"),
+];
+
 /// Words that mean nothing, for what stands around the options.
 const NO_COMMANDS: &[&[&str]] = &[
     &[],
@@ -213,7 +232,6 @@ const NO_COMMANDS: &[&[&str]] = &[
     &["sample", "5", "6"],
     &["sample", "--fuel=5", "6"],
     &["sample", "f"],
-    &["link", "f"],
     &["erased"],
     &["erased", ""],
     &["erased", "-"],
@@ -345,6 +363,29 @@ const NO_MODULES: &[&[&str]] = &[
     &["checks", "f"],
 ];
 
+/// Words that mean nothing, of a link.
+const NO_LINKS: &[&[&str]] = &[
+    &["link"],
+    &["link", ""],
+    &["link", "-f"],
+    &["link", "f", "g"],
+    &["link", "--fuel=8"],
+    &["link", "--simplify", "f"],
+    &["link", "f", "--simplify"],
+    &["link", "--cache=c", "f"],
+    &["link", "f", "--cache", "c"],
+    &["link", "--workers=0", "f"],
+    &["link", "--workers", "65", "f"],
+    &["link", "--fuel=0", "f"],
+    &["link", "--fuel", "10000001", "f"],
+    &["link", "--workers=2", "f", "--workers", "2"],
+    &["link", "--fuel", "8", "--fuel=8", "f"],
+    &["link", "f", "--workers"],
+    &["link", "f", "--fuel="],
+    &["--fuel=8", "link", "f"],
+    &["links", "f"],
+];
+
 /// Words that mean nothing, for an option that is named twice or amiss, or for its value.
 const NO_VALUES: &[&[&str]] = &[
     &["run", "--fuel=8", "--fuel=8", "f"],
@@ -428,6 +469,19 @@ fn usage(rt: HostRuntime) -> Result<(), Fail> {
         assert_eq!(rt; text.as_str(), "usage");
     }
     for &words in NO_VALUES {
+        let text = meaning(&rt, words)?;
+        assert_eq!(rt; text.as_str(), "usage");
+    }
+    Ok(())
+}
+
+#[test]
+fn links(rt: HostRuntime) -> Result<(), Fail> {
+    for &(words, expected) in LINKS {
+        let text = meaning(&rt, words)?;
+        assert_eq!(rt; text.as_str(), expected);
+    }
+    for &words in NO_LINKS {
         let text = meaning(&rt, words)?;
         assert_eq!(rt; text.as_str(), "usage");
     }
