@@ -13,5 +13,5 @@ pub use crate::lines::write_lines;
 pub use crate::source::{SourceFault, file_bytes};
 pub use crate::status::Status;
 pub use crate::text::{
-    put_answer, put_bound, put_kernel, put_migrated, put_refusal, put_totals, put_trap,
+    put_answer, put_bound, put_kernel, put_migrated, put_module, put_refusal, put_totals, put_trap,
 };

@@ -105,6 +105,13 @@ pub fn put_kernel(
 {
     put_name(text, name, kind)?;
     put_digits(text, b"key ", key)?;
+    put_module(text, bytes)
+}
+
+/// The line of a module's bytes, in hexadecimal digits.
+pub fn put_module(text: &mut Vec<u8>, bytes: &[u8]) -> Result<(), AllocError>
+    ensures { IfOk result (λ _. text.new.items ≡ text.old.items ++ digits_line (codes "module ") bytes.now) }
+{
     put_digits(text, b"module ", bytes)
 }
 

@@ -1,6 +1,6 @@
 -- Which records are bad that end a run.
 use Rattle.std.proofs.Common.{◌≡◌, ◌⊎◌, inl, inr, ℕ, zero, suc, List, [], ◌∷◌, Bool, IsTrue, Option, Some, None, refl}
-use Rattle.std.proofs.Common.{ap, sym, ◌∙◌, subst}
+use Rattle.std.proofs.Common.{ap, sym}
 use denote.Ref.{Bor}
 use Rattle.std.specs.Prelude.{slice_get}
 use Rattle.mw_term.specs.Terms.{Expression, KernelType, Value, expression_of}
@@ -13,7 +13,7 @@ use Rattle.mw_cache.specs.Gots.{CacheState}
 use Rattle.mw_tasks.specs.declared.outcome.ItemOutcome.{ItemOutcome}
 use Rattle.mw_tasks.specs.declared.outcome.ItemOutcome.TheVariants.{Code, Trap, Bound}
 use Rattle.mw_tasks.specs.Phases.{Answers, EachKernel, IsOutcomeOf, AreOutcomesOf, AreBuiltAll, codes_in}
-use Rattle.mw_tasks.specs.RightRuns.{HasWrongRun, HasWrongItem}
+use Rattle.mw_tasks.specs.RightRuns.{HasWrongRun}
 use Rattle.mw_tasks.specs.BadItems.{IsBadOfItems}
 use Rattle.mw_tasks.proofs.RightOrWrong.{all_or_one}
 use Rattle.mw_tasks.proofs.Unloaded.{none_stray}
@@ -21,7 +21,7 @@ use Rattle.mw_cached.specs.StrayRecords.{IsStrayRecord}
 use Rattle.mw_keeping.specs.CacheFiles.{IsOpened}
 use Rattle.mw_keeping.specs.declared.opening.CacheFile.{CacheFile}
 use Rattle.mw_keeping.specs.declared.opening.CacheFile.TheVariants.{Absent, Unread, Read}
-use Rattle.mw_drive.specs.BadRecords.{AreCodesOf, IsBadMain, IsBadRecord}
+use Rattle.mw_drive.specs.BadRecords.{IsBadMain, IsBadRecord}
 
 -- an outcome that is code, where it is the meaning's
 code_means : (t : _) (got : _) (a : Outcome Expression) → Answers (Code t got) a → a ≡ came_to (expression_of t)

@@ -5,17 +5,17 @@ use Rattle.std.specs.Prelude.{codes}
 use Rattle.mw_term.specs.Terms.{PureGroundValue}
 use Rattle.mw_console.specs.Texts.{Ending, answered, trapped, bounded, ending_status}
 use Rattle.mw_meaning.specs.declared.mode.Mode.TheVariants.{Plain, Simple}
-use Rattle.mw_words.specs.Words.{PureCommand, PurePart, run, erased, sample, migrate, wat, check, IsNumber, IsNumberOf}
-use Rattle.mw_words.specs.Words.{not_named, named_once, Makes, run_of, erased_of, migrate_of}
+use Rattle.mw_words.specs.Words.{PureCommand, PurePart, run, erased, link, sample, migrate, wat, check, IsNumber}
+use Rattle.mw_words.specs.Words.{IsNumberOf, not_named, named_once, Makes, run_of, erased_of, link_of, migrate_of}
 use Rattle.mw_words.specs.Words.{Means, parts_command, sample_command, wat_command, check_command}
 use Rattle.mw_words.proofs.LawLemmas.{one_command}
 use Rattle.mw_console.specs.declared.status.Status.{Status}
 use Rattle.mw_console.specs.declared.status.Status.TheVariants.{Answer, Trap, Refused, Bound, Read, Write, Cache}
 use Rattle.mw_console.specs.declared.status.Status.TheVariants.{Memory}
-use Rattle.mw_drive.specs.Works.{writing, judging, migrating}
+use Rattle.mw_drive.specs.Works.{linking, writing, judging, migrating}
 use Rattle.mw_drive.specs.Works.{Work, running, erasing, sampling, Meaning, ran, mode_of, run_text, IsMeaning}
 use Rattle.mw_drive.specs.Works.{of_refusal, of_types, of_program, status_of}
-use Rattle.mw_drive.specs.ProgramMeaning.{Kernel}
+use Rattle.mw_link.specs.Linked.{Kernel}
 use Rattle.mw_drive.specs.SimplifiedPrograms.{IsUnbounded}
 use Rattle.mw_drive.specs.declared.shown.Shown.{Shown}
 use Rattle.mw_drive.specs.declared.shown.Shown.TheVariants.{Lines}
@@ -28,7 +28,8 @@ use Rattle.mw_drive.specs.Extents.{whole, never, Kind, extent}
 use Rattle.mw_drive.specs.Running.{Outside, Sources, Wanted, source_file, module_file, most_of_module, files_of}
 use Rattle.mw_drive.specs.Running.{path_of}
 use Rattle.mw_drive.specs.Running.{kind_with, Has, Lacks, HasAll, has_none, has_more, LacksFirst, lacks_first}
-use Rattle.mw_drive.specs.Running.{IsWork, run_works, erased_works, sample_works, migrate_works, wat_works, check_works}
+use Rattle.mw_drive.specs.Running.{IsWork, run_works, erased_works, link_works, sample_works, migrate_works}
+use Rattle.mw_drive.specs.Running.{wat_works, check_works}
 use Rattle.mw_drive.specs.Running.{AsksOn, Asks, AsksOver, AsksMissing, AsksNoFile, AsksNoCache, HasHonestCache}
 use Rattle.mw_drive.specs.Running.{kind_of}
 use Rattle.mw_drive.specs.Running.{IsFaithful, IsMemory, IsCarriedOut, mode_when}
@@ -77,7 +78,23 @@ run_workers command workers fuel simplify cache file (parts_command are m) e = o
     of_run (run_of {workers = n} only are units switch path is) e =
         let same : n ≡ workers = cc in rw (← same) (some_workers are)
     of_run (erased_of only units is) e = absurd (cc)
+    of_run (link_of only are units is) e = absurd (cc)
     of_run (migrate_of only path no_file) e = absurd (cc)
+
+pub link_workers : {words : List (List ℕ)} (command : PureCommand) (workers fuel : ℕ) (file : List ℕ)
+    → Means words command → command ≡ link workers fuel file → 1 ≤ workers
+link_workers command workers fuel file (sample_command h) e = absurd (cc)
+link_workers command workers fuel file (wat_command is) e = absurd (cc)
+link_workers command workers fuel file (check_command is) e = absurd (cc)
+link_workers command workers fuel file (parts_command are m) e = of_link m e
+  where
+    of_link : {word : List ℕ} {parts : List PurePart} {c : PureCommand} → Makes word parts c
+        → c ≡ link workers fuel file → 1 ≤ workers
+    of_link (run_of only are units switch path is) e = absurd (cc)
+    of_link (erased_of only units is) e = absurd (cc)
+    of_link (link_of {workers = n} only are units is) e =
+        let same : n ≡ workers = cc in rw (← same) (some_workers are)
+    of_link (migrate_of only path no_file) e = absurd (cc)
 
 no_refusal : {r : _} → Answer ≡ Refused r → ⊥
 no_refusal e = cc
@@ -298,6 +315,12 @@ pub erased_on : {o : Outside} {fuel : ℕ} {file : List ℕ} (contents : List (L
     → IsWork o (erased fuel file) contents work
     → (bytes : List ℕ) × Has o.source (source_file file) bytes × (work ≡ erasing bytes fuel)
 erased_on contents work (has_more {bytes = bytes} has has_none) erased_works = (bytes, has, refl)
+
+pub linked_on : {o : Outside} {workers fuel : ℕ} {file : List ℕ} (contents : List (List ℕ)) (work : Work)
+    → HasAll o.source (files_of (link workers fuel file)) contents
+    → IsWork o (link workers fuel file) contents work
+    → (bytes : List ℕ) × Has o.source (source_file file) bytes × (work ≡ linking bytes fuel)
+linked_on contents work (has_more {bytes = bytes} has has_none) link_works = (bytes, has, refl)
 
 pub sample_on : {o : Outside} {number : ℕ} (contents : List (List ℕ)) (work : Work)
     → IsWork o (sample number) contents work → work ≡ sampling number

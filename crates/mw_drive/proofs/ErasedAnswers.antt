@@ -3,14 +3,16 @@ use Rattle.std.proofs.Common.{◌≡◌, ℕ, List, [], ◌∷◌, map, Option, 
 use Rattle.mw_term.specs.Terms.{Expression, Value, KernelType, PureGroundValue}
 use Rattle.mw_term.specs.Programs.{Definition, value as defines, kernel}
 use Rattle.mw_meaning.specs.declared.mode.Mode.{Mode}
-use Rattle.mw_meaning.specs.Outcomes.{Outcome, came_to, trapped as traps, bounded as bounds, stuck as no_outcome, item_outcome, main_outcome, names_of_items, names_of_main}
+use Rattle.mw_meaning.specs.Outcomes.{Outcome, came_to, trapped as traps, bounded as bounds, stuck as no_outcome}
+use Rattle.mw_meaning.specs.Outcomes.{item_outcome, main_outcome, names_of_items, names_of_main}
 use Rattle.mw_meaning.specs.ErasedPrograms.{ItemsCameTo, Answers, erased_outcome}
 use Rattle.mw_meaning.proofs.Agreement.{answers_agree}
 use Rattle.mw_console.specs.Texts.{Ending, answered}
 use Rattle.mw_drive.specs.NamedPrograms.{NamedItem, NamedProgram, unnamed}
 use Rattle.mw_drive.specs.SourceReading.{IsRead}
 use Rattle.mw_drive.specs.declared.shown.Shown.{Shown}
-use Rattle.mw_drive.specs.ProgramMeaning.{Kernel, ItemsRun, all_gave, one_ended, one_stuck, with_kernel, before_others}
+use Rattle.mw_link.specs.Linked.{Kernel}
+use Rattle.mw_drive.specs.ProgramMeaning.{ItemsRun, all_gave, one_ended, one_stuck, with_kernel, before_others}
 use Rattle.mw_drive.specs.ProgramMeaning.{run_item, run_items, items_run}
 use Rattle.mw_drive.specs.ProgramMeaning.{main_ending, main_after, ended, codes_of, ended_after, with_main, program_run}
 use Rattle.mw_drive.specs.ProgramMeaning.{erased_ending}

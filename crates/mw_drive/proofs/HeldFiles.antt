@@ -5,7 +5,6 @@ use Rattle.std.specs.List.{AllByRecursion}
 use Rattle.std.specs.Result.{IsErrAnd}
 use Rattle.mw_term.specs.declared.refusal.Refusal.{Refusal}
 use denote.Ref.{Bor}
-use Rattle.mw_outside.specs.Count.{Rose, Rose-after, Rose-before}
 use Rattle.mw_outside.specs.declared.errors.WriteFault.TheVariants as fault
 use Rattle.mw_meaning.specs.declared.mode.Mode.{Mode}
 use Rattle.mw_store.specs.Loads.{LoadState}
@@ -28,8 +27,7 @@ use Rattle.mw_drive.specs.declared.items.Built.{Built}
 use Rattle.mw_drive.specs.Extents.{Kind, on_a_file, over_a_cache, on_a_number, on_a_cache}
 use Rattle.mw_drive.specs.HeldFiles.{IsHeldBy, IsMigratedWith, IsHeldWith, IsHeldAfter, IsKeptOf, IsKeptWith}
 use Rattle.mw_drive.specs.HeldFiles.{IsStatusAfter, texts_built}
-use Rattle.mw_drive.specs.ProgramRuns.{kernel_of, kernels_of, IsBuilt, HasEnding, IsEndOf, IsEnded}
-use Rattle.mw_drive.specs.ProgramMeaning.{Kernel}
+use Rattle.mw_drive.specs.ProgramRuns.{kernel_of, kernels_of, IsBuilt, HasEnding}
 use Rattle.mw_drive.specs.Running.{kind_with}
 use Rattle.mw_drive.specs.Works.{run_text}
 use Rattle.mw_drive.proofs.Options.{none_is_some, some_is_none, answer_is_fault}

@@ -2,7 +2,11 @@ pub mod CommandLemmas
 pub mod Counts
 pub mod Faults
 pub mod Fronts
+pub mod ItemNames
 pub mod ItemsRun
+pub mod LinkedPrograms
+pub mod LinkedWritten
+pub mod Linking
 pub mod Loops
 pub mod ModuleLemmas
 pub mod OneMeaning
@@ -18,6 +22,7 @@ pub mod RunWritten
 pub mod ScopedTerms
 pub mod Showing
 pub mod SomeMeaning
+pub mod SoundKernels
 pub mod SourceReadings
 pub mod SourceWritten
 pub mod Taking

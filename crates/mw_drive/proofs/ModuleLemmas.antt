@@ -1,51 +1,46 @@
--- Each kernel of a program has its module.
-use Rattle.std.proofs.Common.{◌≡◌, ◌≤◌, ℕ, List, true, Some, sym, ◌∙◌, subst}
-use Rattle.std.specs.Prelude.{slice_get}
+-- Each kernel of a program has its module, and all kernels have one module.
+use Rattle.std.proofs.Common.{◌≡◌, ℕ, List, [], ◌∷◌, sym, ◌∙◌, subst}
 use Rattle.std.specs.List.{AllByRecursion}
-use Rattle.mw_term.specs.Terms.{Expression, KernelType}
-use Rattle.mw_term.specs.Programs.{kernel, PureProgram}
-use Rattle.mw_term.specs.Typable.{Typable, HasKernelType}
-use Rattle.mw_term.specs.Limits.{within_limits, kernel_nodes, LiteralsFit}
 use Rattle.mw_meaning.specs.declared.mode.Mode.{Mode}
+use Rattle.mw_meaning.specs.declared.mode.Mode.TheVariants.{Plain}
 use Rattle.mw_meaning.specs.Simplification.{in_mode}
-use Rattle.mw_meaning.specs.Outcomes.{Outcome, came_to, item_outcome, names_of_items}
-use Rattle.mw_meaning.specs.OutcomeLaws.{ComesTo}
-use Rattle.mw_meaning.proofs.ComingTo.{items_come_to_their_code}
 use Rattle.mw_meaning.proofs.SimplifyingKept.{keeps_kernel_type, stays_within_limits}
 use Rattle.mw_gen.specs.Generate.{two}
 use Rattle.mw_gen.specs.Emission.{emitted}
+use Rattle.mw_encode.proofs.BestModules.{encoding_shortest}
 use Rattle.mw_compile.proofs.Entering.{emission_of}
-use Rattle.mw_infer.proofs.Deciding.{typable_faultless}
-use Rattle.mw_infer.proofs.SmallRuns.{faultless-small_kernels}
-use Rattle.mw_infer.proofs.Progressing.{resolved-written}
-use Rattle.mw_infer.specs.Checking.{HasSmallKernels}
-use Rattle.mw_literals.specs.Literals.{HasShortProgram}
-use Rattle.mw_literals.proofs.SourceLiterals.{source_literals}
-use Rattle.mw_literals.proofs.BuiltLiterals.{built_literals}
 use Rattle.mw_literals.proofs.SimplifiedLiterals.{simplified_literals}
+use Rattle.mw_link.specs.Linked.{Kernel, linked}
+use Rattle.mw_link.proofs.Profile.{linked_is_within_profile}
+use Rattle.mw_link.proofs.Spelling.{linked_is_spelled}
+use Rattle.mw_link.proofs.Standing.{linked_means_all}
+use Rattle.mw_link.proofs.Valid.{linked_is_valid}
 use Rattle.mw_console.specs.Texts.{Ending}
 use Rattle.mw_drive.specs.NamedPrograms.{NamedProgram, unnamed}
 use Rattle.mw_drive.specs.SourceReading.{IsRead}
-use Rattle.mw_drive.specs.ProgramMeaning.{Kernel, ProgramRun, ended, program_run}
+use Rattle.mw_drive.specs.ProgramMeaning.{ProgramRun, items_run, ended, program_run}
+use Rattle.mw_drive.specs.LinkedPrograms.{in_one, link_run}
 use Rattle.mw_drive.specs.Works.{Work, mode_of, Meaning, IsAccepted, IsMeaning, of_refusal, of_types, of_program}
-use Rattle.mw_drive.specs.Works.{of_erased_refusal, of_erased, HasModule, HaveModules}
-use Rattle.mw_drive.specs.Works.{of_migration, of_binary, of_bad_binary, of_module, of_bad_file}
-use Rattle.mw_drive.proofs.ProgramEnds.{Ends, all_end}
-use Rattle.mw_drive.proofs.ScopedTerms.{is_resolved}
+use Rattle.mw_drive.specs.Works.{of_erased_refusal, of_erased, of_link_refusal, of_joined, of_unjoined, of_migration}
+use Rattle.mw_drive.specs.Works.{of_binary, of_bad_binary, of_module, of_bad_file}
+use Rattle.mw_drive.specs.Works.{HasModule, HaveOneModule, HaveModules}
+use Rattle.mw_drive.proofs.LinkedPrograms.{linked_kernels}
+use Rattle.mw_drive.proofs.ProgramEnds.{Ends}
+use Rattle.mw_drive.proofs.SoundKernels.{IsSound, run_sound}
 
--- the module of code of a type, within the limits, is the one that is printed
-has_module : (mode : Mode) (x : List ℕ) (k : KernelType) (c : Expression) → HasKernelType c k → within_limits c ≡ true
-    → LiteralsFit c → kernel_nodes k ≤ 10000 → HasModule mode record { name = x; kind = k; code = c }
-has_module mode x k c typed limits literals nodes =
-    let d = in_mode mode c in
+-- the module of sound code is the one that is printed
+has_module : (mode : Mode) (k : Kernel) → IsSound k → HasModule mode k
+has_module mode k sound =
+    let d = in_mode mode k.code in
     let e =
-    emission_of two d k (keeps_kernel_type mode c k typed).closed (simplified_literals mode c typed.is_code literals)
-    (stays_within_limits mode c limits) nodes in
-    record { wasm = emitted two d k; spelled = e.spelled; valid = e.valid; stands = e.stands }
+    emission_of two d k.kind (keeps_kernel_type mode k.code k.kind sound.typed).closed
+    (simplified_literals mode k.code sound.typed.is_code sound.literals)
+    (stays_within_limits mode k.code sound.limits) sound.nodes in
+    record { wasm = emitted two d k.kind; spelled = e.spelled; valid = e.valid; stands = e.stands }
 
--- what holds of what a term came to
-what_came : {A : Type 0} (P : A → Type 0) (o : Outcome A) (x : A) → o ≡ came_to x → ComesTo P o → P x
-what_came P o x e h = subst (ComesTo P) e h
+have_modules : (mode : Mode) (ks : List Kernel) → AllByRecursion IsSound ks → AllByRecursion (HasModule mode) ks
+have_modules mode [] sound = tt
+have_modules mode (k ∷ ks) sound = (has_module mode k sound.0, have_modules mode ks sound.1)
 
 -- the kernels of a run that ended so
 kernels_have : (P : Kernel → Type 0) (r : ProgramRun) (ks : List Kernel) (e : Ending) → Ends P r → r ≡ ended ks e
@@ -55,29 +50,25 @@ kernels_have P r ks e h is = subst (AllByRecursion P) (one_run (sym h.is ∙ is)
     one_run : {k l : List Kernel} {d e : Ending} → ended k d ≡ ended l e → k ≡ l
     one_run is = cc
 
-module _ (mode : Mode) (fuel : ℕ) (p : PureProgram) (typable : Typable p) (short : HasShortProgram p)
-    (small : HasSmallKernels p) where
-  item_module : (i : ℕ) (x : List ℕ) (k : KernelType) (e c : Expression) → slice_get p.items i ≡ Some (kernel k e)
-      → item_outcome mode (names_of_items p.items) fuel e ≡ came_to c
-      → HasModule mode record { name = x; kind = k; code = c }
-  item_module i x k e c there came =
-      let h =
-      what_came (λ c. HasKernelType c k × (within_limits c ≡ true))
-      (item_outcome mode (names_of_items p.items) fuel e) c came
-      (items_come_to_their_code mode p i k e fuel typable there) in
-      has_module mode x k c h.0 h.1 (built_literals mode p short i k e c fuel there came) (small i k e there)
-
 program_modules : (mode : Mode) (fuel : ℕ) (bytes : List ℕ) (p : NamedProgram) (ks : List Kernel) (e : Ending)
     → IsRead bytes p → IsAccepted (unnamed p) → program_run mode fuel p ≡ ended ks e
     → AllByRecursion (HasModule mode) ks
 program_modules mode fuel bytes p ks e read accepted is =
-    let q = unnamed p in
-    let faultless =
-    typable_faultless q (resolved-written q (is_resolved bytes p read)) accepted.typable accepted.small in
-    let short = source_literals read.tokens read.surface q read.is_surface read.is_nameless in
-    kernels_have (HasModule mode) (program_run mode fuel p) ks e
-    (all_end (HasModule mode) mode fuel p accepted.typable
-    (item_module mode fuel q accepted.typable short (faultless-small_kernels q faultless))) is
+    have_modules mode ks
+    (kernels_have IsSound (program_run mode fuel p) ks e (run_sound mode fuel bytes p read accepted) is)
+
+one_module : (fuel : ℕ) (bytes : List ℕ) (p : NamedProgram) (ks : List Kernel) → IsRead bytes p
+    → IsAccepted (unnamed p) → link_run (items_run Plain fuel p) ≡ in_one ks → HaveOneModule ks
+one_module fuel bytes p ks read accepted is =
+    let h = linked_kernels fuel bytes p ks read accepted is in
+    let spelled = linked_is_spelled ks h.linkable h.literals in
+    record {
+      spelled = (encoding_shortest (linked ks) spelled.bytes spelled.spell).0;
+      valid = linked_is_valid ks h.linkable h.literals;
+      within_profile = linked_is_within_profile ks h.linkable h.literals;
+      typed = h.typed;
+      means = linked_means_all ks h.linkable h.literals;
+    }
 
 pub meaning_modules : (work : Work) (m : Meaning) → IsMeaning work m → HaveModules m
 meaning_modules work m (of_refusal r) = tt
@@ -87,6 +78,10 @@ meaning_modules work m
     program_modules (mode_of shown) fuel bytes p kernels e read accepted is
 meaning_modules work m (of_erased_refusal h) = meaning_modules _ _ h
 meaning_modules work m (of_erased p read accepted is) = tt
+meaning_modules work m (of_link_refusal h) = meaning_modules _ _ h
+meaning_modules work m (of_joined {bytes = bytes} {fuel = fuel} {kernels = kernels} p read accepted is) =
+    one_module fuel bytes p kernels read accepted is
+meaning_modules work m (of_unjoined p read accepted is) = tt
 meaning_modules work m (of_migration is) = tt
 meaning_modules work m (of_binary is) = tt
 meaning_modules work m (of_bad_binary is) = tt

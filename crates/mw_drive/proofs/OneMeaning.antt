@@ -24,10 +24,13 @@ use Rattle.mw_meaning.specs.declared.mode.Mode.TheVariants.{Plain}
 use Rattle.mw_drive.specs.declared.shown.Shown.TheVariants.{Lines}
 use Rattle.mw_drive.specs.NamedPrograms.{NamedProgram, unnamed, names_of}
 use Rattle.mw_drive.specs.SourceReading.{IsRead, IsRefused, too_large, at_bytes, at_tokens, at_names}
-use Rattle.mw_drive.specs.ProgramMeaning.{Kernel, ended, program_run, erased_ending}
+use Rattle.mw_link.specs.Linked.{Kernel}
+use Rattle.mw_drive.specs.ProgramMeaning.{items_run, ended, program_run, erased_ending}
+use Rattle.mw_drive.specs.LinkedPrograms.{LinkRun, in_one, cut_short, link_run}
 use Rattle.mw_wasm.specs.Syntax.{PureModule}
 use Rattle.mw_drive.specs.Works.{Meaning, running, mode_of, refused, ran, erased, IsAccepted, IsMeaning, of_refusal}
 use Rattle.mw_drive.specs.Works.{of_types, of_program, of_erased_refusal, of_erased}
+use Rattle.mw_drive.specs.Works.{of_link_refusal, of_joined, of_unjoined, joined, unjoined}
 use Rattle.mw_drive.specs.Works.{of_migration, of_binary, of_bad_binary, of_module, of_bad_file}
 use Rattle.mw_drive.specs.Works.{migrated, judged, faulty}
 use Rattle.mw_drive.specs.Works as meant
@@ -142,6 +145,21 @@ one_run is = cc
 one_ending : {k l : List Kernel} {d e : Ending} → ended k d ≡ ended l e → d ≡ e
 one_ending is = cc
 
+-- linking goes one way
+one_in_one : {k l : List Kernel} → in_one k ≡ in_one l → k ≡ l
+one_in_one is = cc
+
+one_cut : {d e : Ending} → cut_short d ≡ cut_short e → d ≡ e
+one_cut is = cc
+
+in_one_or_cut : {k : List Kernel} {e : Ending} → in_one k ≡ cut_short e → ⊥
+in_one_or_cut is = cc
+
+one_link_run : {bytes : List ℕ} (fuel : ℕ) {r s : LinkRun} (p q : NamedProgram) → IsRead bytes p → IsRead bytes q
+    → link_run (items_run Plain fuel p) ≡ r → link_run (items_run Plain fuel q) ≡ s → r ≡ s
+one_link_run {bytes} fuel p q a b is end =
+    sym is ∙ (ap (λ p. link_run (items_run Plain fuel p)) (one_program bytes p q a b) ∙ end)
+
 -- a source that is refused isn't accepted
 erased_or_refused : {bytes : List ℕ} {fuel : ℕ} {r : Refusal} {names : List (List ℕ)}
     → IsMeaning (running bytes fuel (Lines Plain)) (refused r names) → (p : NamedProgram) → IsRead bytes p
@@ -187,6 +205,20 @@ one_meaning work m n (of_erased {bytes = bytes} {fuel = fuel} {e = d} p a f is) 
     let runs : Some d ≡ Some e =
     sym is ∙ (ap (λ (p : NamedProgram). erased_ending fuel (unnamed p)) (one_program bytes p q a b) ∙ end) in
     let same : d ≡ e = cc in ap erased same
+one_meaning work m n (of_link_refusal {r = r} {names = names} a) (of_link_refusal {r = q} {names = others} b) =
+    one_meaning _ (refused r names) (refused q others) a b
+one_meaning work m n (of_link_refusal a) (of_joined q b g is) = absurd (erased_or_refused a q b g)
+one_meaning work m n (of_link_refusal a) (of_unjoined q b g is) = absurd (erased_or_refused a q b g)
+one_meaning work m n (of_joined p a f is) (of_link_refusal b) = absurd (erased_or_refused b p a f)
+one_meaning work m n (of_joined {fuel = fuel} p a f is) (of_joined q b g end) =
+    ap joined (one_in_one (one_link_run fuel p q a b is end))
+one_meaning work m n (of_joined {fuel = fuel} p a f is) (of_unjoined q b g end) =
+    absurd (in_one_or_cut (one_link_run fuel p q a b is end))
+one_meaning work m n (of_unjoined p a f is) (of_link_refusal b) = absurd (erased_or_refused b p a f)
+one_meaning work m n (of_unjoined {fuel = fuel} p a f is) (of_joined q b g end) =
+    absurd (in_one_or_cut (one_link_run fuel q p b a end is))
+one_meaning work m n (of_unjoined {fuel = fuel} p a f is) (of_unjoined q b g end) =
+    ap unjoined (one_cut (one_link_run fuel p q a b is end))
 one_meaning work m n (of_migration {held = held} {old = old} {added = added} a)
     (of_migration {old = other} {added = more} b) =
     let same = one_migration held old other added more a b in

@@ -1,5 +1,5 @@
 -- Options and results that are not what is said of them.
-use Rattle.std.proofs.Common.{◌≡◌, Option, Some, None, IsSome, IsNone, Result, Ok, Err, IsErr, true≢false, sym}
+use Rattle.std.proofs.Common.{Option, Some, None, IsSome, IsNone, Result, Ok, IsErr, true≢false, sym}
 
 module _ (X : Type 0) where
   abbrev nothing : Option X

@@ -8,12 +8,14 @@ use Rattle.mw_term.specs.Programs.{Definition, value as defines, kernel}
 use Rattle.mw_term.specs.Typable.{Typable, HasKernelType}
 use Rattle.mw_term.specs.Limits.{within_limits}
 use Rattle.mw_meaning.specs.declared.mode.Mode.{Mode}
-use Rattle.mw_meaning.specs.Outcomes.{Outcome, came_to, trapped, bounded, stuck as no_outcome, item_outcome, main_outcome, names_of_items, names_of_main}
+use Rattle.mw_meaning.specs.Outcomes.{Outcome, came_to, trapped, bounded, stuck as no_outcome, item_outcome}
+use Rattle.mw_meaning.specs.Outcomes.{main_outcome, names_of_items, names_of_main}
 use Rattle.mw_meaning.specs.OutcomeLaws.{ComesTo, AreCodesOf, HasGroundType}
 use Rattle.mw_meaning.proofs.ComingTo.{items_come_to_their_code, main_comes_to_its_value_after_items}
 use Rattle.mw_console.specs.Texts.{Ending}
 use Rattle.mw_drive.specs.NamedPrograms.{NamedItem, NamedProgram, unnamed}
-use Rattle.mw_drive.specs.ProgramMeaning.{Kernel, ItemsRun, all_gave, one_ended, with_kernel, before_others, run_item}
+use Rattle.mw_link.specs.Linked.{Kernel}
+use Rattle.mw_drive.specs.ProgramMeaning.{ItemsRun, all_gave, one_ended, with_kernel, before_others, run_item}
 use Rattle.mw_drive.specs.ProgramMeaning.{run_items, items_run}
 use Rattle.mw_drive.specs.ProgramMeaning.{main_ending, main_after, ProgramRun, ended, codes_of, ended_after, with_main}
 use Rattle.mw_drive.specs.ProgramMeaning.{program_run}
@@ -26,7 +28,7 @@ pub record Ends (P : Kernel → Type 0) (r : ProgramRun) : Type 0 where
   pub each : AllByRecursion P kernels
 
 -- The items end, and each of their kernels has a property; where all gave code, these are codes of theirs.
-data ItemsEnd (P : Kernel → Type 0) (items : List Definition) : ItemsRun → Type 0 where
+pub data ItemsEnd (P : Kernel → Type 0) (items : List Definition) : ItemsRun → Type 0 where
   as_all : {kernels : List Kernel} → AllByRecursion P kernels → AreCodesOf items (codes_of kernels)
       → ItemsEnd P items (all_gave kernels)
   as_one : {kernels : List Kernel} {e : Ending} → AllByRecursion P kernels → ItemsEnd P items (one_ended kernels e)
@@ -112,6 +114,9 @@ module _ (P : Kernel → Type 0) (mode : Mode) (fuel : ℕ) (p : NamedProgram) (
   items_end [] before same = as_all tt tt
   items_end (item ∷ items) before same = one_ends item items (items_end items) before same
 
+  pub items_end_so : ItemsEnd P (unnamed p).items (items_run mode fuel p)
+  items_end_so = items_end p.items [] refl
+
   -- and main after them
   main_after_ends : (r : ItemsRun) → ItemsEnd P (unnamed p).items r
       → Ends P (with_main (λ codes. main_after mode fuel (unnamed p).items p.body codes) r)
@@ -124,7 +129,7 @@ module _ (P : Kernel → Type 0) (mode : Mode) (fuel : ℕ) (p : NamedProgram) (
   main_after_ends _ (as_one {kernels = ks} {e = e} each) = record { kernels = ks; ending = e; is = refl; each = each }
 
   pub all_end : Ends P (program_run mode fuel p)
-  all_end = main_after_ends (items_run mode fuel p) (items_end p.items [] refl)
+  all_end = main_after_ends (items_run mode fuel p) items_end_so
 
 -- the run of a typable program ends
 pub program_ends : (mode : Mode) (fuel : ℕ) (p : NamedProgram) → Typable (unnamed p)

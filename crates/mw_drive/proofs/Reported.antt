@@ -2,8 +2,8 @@
 use Rattle.std.proofs.Common.{◌≡◌, inl, inr, ℕ, List, ◌++◌, Bool, IsTrue, ◌∙◌, refl, sym, ap, subst}
 use Rattle.mw_outside.specs.Count.{GrowsByFront}
 use Rattle.mw_console.specs.declared.status.Status.{Status}
-use Rattle.mw_drive.specs.Extents.{Extent, a_front, whole, all_or_nothing, never, Kind, extent}
-use Rattle.mw_drive.specs.Running.{IsFaithful, IsCarriedOut, IsWritten}
+use Rattle.mw_drive.specs.Extents.{a_front, whole, all_or_nothing, never, Kind, extent}
+use Rattle.mw_drive.specs.Running.{IsFaithful, IsCarriedOut}
 use Rattle.mw_drive.specs.Works.{Work, Reports}
 use Rattle.mw_drive.proofs.RunLemmas.{whole_status, output_of_report}
 use Rattle.mw_drive.proofs.RunLemmas.{front_not_whole, either_not_whole, whole_said, front_said, either_said}
@@ -11,8 +11,9 @@ use Rattle.mw_drive.proofs.RunLemmas.{whole_not_never}
 use Rattle.std.proofs.Common.{Result, Ok, Err, IfOk, length}
 use Rattle.mw_console.specs.Texts.{migrated_text}
 use Rattle.mw_console.specs.declared.status.Status.TheVariants.{Answer, BadModule}
-use Rattle.mw_store.specs.Records.{Kept}
-use Rattle.mw_keeping.specs.Migrations.{IsMigration}
+use Rattle.mw_keeping.specs.Migrations.{IsMigrationHere}
+use Rattle.mw_keeping.specs.declared.migrating.FileMigration.{FileMigration}
+use Rattle.mw_keeping.proofs.Migrations.{migration_here}
 use Rattle.mw_keeping.specs.KeptFiles.{HasGoodFront}
 use Rattle.mw_wasm.specs.Syntax.{PureModule}
 use Rattle.mw_wat.specs.CanonicalTexts.{canonical_text}
@@ -35,13 +36,14 @@ pub bad_is : (P : BadFile → Type 0) (e : FileFault) (f : BadFile) → e ≡ Ba
 bad_is P e f is h = subst (IfBad P) is h
 
 -- the two lines of a migration
-pub migrated_report : {held : List ℕ} {old : ℕ} (added : List Kept) (n : ℕ) → IsMigration held old added
-    → n ≡ length added → Reports (migrating held) (migrated_text old n) Answer
-migrated_report {old = old} added n is same =
+pub file_report : (held : List ℕ) (found : FileMigration) → IsMigrationHere held found
+    → Reports (migrating held) (migrated_text found.old found.added) Answer
+file_report held found is =
+    let m = migration_here held found is in
     record {
-      meaning = migrated old (length added);
-      is_meaning = of_migration is;
-      is_text = ap (migrated_text old) same;
+      meaning = migrated found.old (length m.0);
+      is_meaning = of_migration m.1;
+      is_text = ap (migrated_text found.old) m.2;
       is_status = refl;
     }
 

@@ -1,17 +1,14 @@
 -- Faults that end a run.
-use Rattle.std.proofs.Common.{◌≡◌, ℕ, List, Bool, IsTrue, Result, Ok, Err, IfErr, refl, sym, subst}
+use Rattle.std.proofs.Common.{◌≡◌, ℕ, List, Result, Ok, Err, IfErr, sym, subst}
 use Rattle.std.specs.Result.{IsErrAnd}
-use Rattle.mw_outside.specs.Count.{Rose}
 use Rattle.mw_outside.specs.declared.errors.WriteFault.{WriteFault}
-use Rattle.mw_outside.specs.declared.errors.WriteFault.TheVariants.{Failed, Memory}
 use Rattle.mw_spread.specs.declared.job.JobFault.{JobFault}
 use Rattle.mw_spread.specs.declared.job.JobFault.TheVariants as job
 use Rattle.mw_spread.specs.Outputs.{IfBad}
 use Rattle.mw_drive.specs.declared.fault.RunFault.{RunFault}
 use Rattle.mw_drive.specs.declared.fault.RunFault.TheVariants.{Unwritten, Bad}
 use Rattle.mw_drive.specs.ProgramRuns.{IsUsual}
-use Rattle.mw_drive.specs.RunFaults.{fault_of_job, BlamesSink, IfBadRecord}
-use Rattle.mw_drive.specs.Written.{Blames}
+use Rattle.mw_drive.specs.RunFaults.{fault_of_job, IfBadRecord}
 
 -- the sink's fault is no bad record
 pub unwritten_usual : (e : WriteFault) (f : RunFault) → f ≡ Unwritten e → IsUsual f

@@ -1,6 +1,6 @@
 -- From the parts of a run to the whole.
 use Rattle.std.proofs.Common.{◌≡◌, ◌⊎◌, inl, inr, ℕ, ◌<◌, List, [], ◌++◌, Option, None, Some, Bool, true, false, IsTrue}
-use Rattle.std.proofs.Common.{IsNone, IsSome, ◌∙◌, take, drop, length, Result, Ok, Err, IfOk, IfErr, refl, sym, ap}
+use Rattle.std.proofs.Common.{IsNone, IsSome, ◌∙◌, take, length, Result, Ok, Err, IfOk, IfErr, refl, sym, ap}
 use Rattle.std.proofs.Common.{subst, arith}
 use denote.Ref.{Bor}
 use Rattle.std.specs.Prelude.{alloc_error}
@@ -10,12 +10,11 @@ use Rattle.mw_drive.specs.declared.fault.RunFault.TheVariants.{Unwritten, Bad}
 use Rattle.mw_outside.specs.declared.errors.WriteFault.TheVariants as fault
 use Rattle.mw_outside.specs.Count.{GrowsByFront}
 use Rattle.mw_outside.specs.Lookup.{file_of}
-use Rattle.mw_term.specs.declared.refusal.Refusal.{Refusal}
 use Rattle.mw_term.specs.declared.refusal.Refusal.TheVariants.{TooLarge}
 use Rattle.mw_meaning.specs.declared.mode.Mode.TheVariants.{Plain}
 use Rattle.mw_drive.specs.declared.shown.Shown.{Shown}
 use Rattle.mw_drive.specs.declared.shown.Shown.TheVariants.{Lines}
-use Rattle.mw_drive.specs.ProgramMeaning.{Kernel, erased_ending}
+use Rattle.mw_link.specs.Linked.{Kernel}
 use Rattle.mw_console.specs.Reading.{IsFront}
 use Rattle.mw_console.specs.Texts.{Ending, answered, trapped, bounded, ending_status}
 use Rattle.mw_drive.specs.NamedPrograms.{NamedProgram, unnamed}
@@ -23,16 +22,17 @@ use Rattle.mw_console.specs.declared.status.Status.{Status}
 use Rattle.mw_console.specs.declared.status.Status.TheVariants.{Answer, Trap, Usage, Refused, Bound, Read, Write}
 use Rattle.mw_console.specs.declared.status.Status.TheVariants.{Cache, Memory, BadCache, BadModule, Invalid}
 use Rattle.mw_drive.specs.SourceReading.{IsRead, IsSmall, too_large, at_bytes, at_tokens, at_names}
-use Rattle.mw_drive.specs.Works.{migrated, written, judged, faulty}
-use Rattle.mw_drive.specs.Works.{Work, running, erasing, Meaning, refused, ran, erased, IsMeaning, of_refusal, of_types}
-use Rattle.mw_drive.specs.Works.{of_program, of_erased_refusal, of_erased, IsAccepted, mode_of, IsOutput, Reports}
+use Rattle.mw_drive.specs.Works.{joined, unjoined, migrated, written, judged, faulty}
+use Rattle.mw_drive.specs.Works.{Work, running, erasing, linking, Meaning, refused, ran, erased, IsMeaning, of_refusal}
+use Rattle.mw_drive.specs.Works.{of_types, of_program, of_erased_refusal, of_erased, of_link_refusal, of_joined}
+use Rattle.mw_drive.specs.Works.{of_unjoined, IsAccepted, mode_of, IsOutput, Reports}
 use Rattle.mw_drive.specs.Works.{text_of, status_of}
 use Rattle.mw_drive.specs.BadRecords.{IsBadRecord, IsBadOf, of_run}
 use Rattle.mw_drive.specs.Honest.{IsHonestCache}
 use Rattle.mw_drive.specs.ProgramRuns.{IsWrittenMeaning, IsEndMeaning, IsEndedSource, IsUsual, evaluated}
 use Rattle.mw_drive.specs.declared.source.Evaluation.{Evaluation}
-use Rattle.mw_drive.specs.declared.source.Evaluation.TheVariants.{Run, Erased}
-use Rattle.mw_drive.specs.Extents.{Extent, a_front, whole, unkept, all_or_nothing, unsaid, never}
+use Rattle.mw_drive.specs.declared.source.Evaluation.TheVariants.{Run, Erased, Linked}
+use Rattle.mw_drive.specs.Extents.{a_front, whole, unkept, all_or_nothing, unsaid, never}
 use Rattle.mw_drive.specs.Extents.{Kind, on_a_file, over_a_cache, on_a_number, on_a_cache, extent}
 use Rattle.mw_drive.specs.RunFaults.{BlamesSink}
 use Rattle.mw_drive.specs.Running.{most_of_source, Sources, Wanted, Has, Lacks, HasAll, has_none, has_more, LacksFirst}
@@ -67,35 +67,33 @@ means_whole {bytes} {fuel} {shown} {m} d = by_size (large_or_small d)
         subst (IsMeaning (running bytes fuel shown)) (sym x.0) (of_refusal (too_large (large_whole bytes x.1)))
     by_size (inr small) = subst (λ b. IsMeaning (running b fuel shown) m) (small_front bytes small) d
 
--- an erased program's meaning is a refusal of its run, or how its main ends
-data ErasedCase (bytes : List ℕ) (fuel : ℕ) (m : Meaning) : Type 0 where
-  as_refused : (r : Refusal) (names : List (List ℕ)) → m ≡ refused r names
-      → IsMeaning (running bytes fuel (Lines Plain)) (refused r names)
-      → ErasedCase bytes fuel m
-  as_ended : (p : NamedProgram) (e : Ending) → m ≡ erased e → IsRead bytes p → IsAccepted (unnamed p)
-      → erased_ending fuel (unnamed p) ≡ Some e
-      → ErasedCase bytes fuel m
+-- a source that is read from such a front is read from the whole
+whole_read : {front bytes : List ℕ} {p : NamedProgram} → front ≡ take most_of_source bytes → IsRead front p
+    → IsRead bytes p
+whole_read {front} {bytes} {p} is read =
+    let h = subst (λ b. IsRead b p) is read in subst (λ b. IsRead b p) (small_front bytes h.small) h
 
-erased_case : {bytes : List ℕ} {fuel : ℕ} {m : Meaning} → IsMeaning (erasing bytes fuel) m → ErasedCase bytes fuel m
-erased_case (of_erased_refusal h) = as_refused _ _ refl h
-erased_case (of_erased p read accepted is) = as_ended p _ refl read accepted is
+whole_refused : {front bytes : List ℕ} {fuel : ℕ} {m : Meaning} → front ≡ take most_of_source bytes
+    → IsMeaning (running front fuel (Lines Plain)) m → IsMeaning (running bytes fuel (Lines Plain)) m
+whole_refused {fuel = fuel} {m = m} is h = means_whole (subst (λ b. IsMeaning (running b fuel (Lines Plain)) m) is h)
 
-means_erased : (bytes : List ℕ) (fuel : ℕ) (m : Meaning) → IsMeaning (erasing (take most_of_source bytes) fuel) m
-    → IsMeaning (erasing bytes fuel) m
-means_erased bytes fuel m h = by_case (erased_case h)
-  where
-    by_case : ErasedCase (take most_of_source bytes) fuel m → IsMeaning (erasing bytes fuel) m
-    by_case (as_refused r names is h) =
-        subst (IsMeaning (erasing bytes fuel)) (sym is) (of_erased_refusal (means_whole h))
-    by_case (as_ended p e is read accepted ends) =
-        subst (IsMeaning (erasing bytes fuel)) (sym is)
-        (of_erased p (subst (λ b. IsRead b p) (small_front bytes read.small) read) accepted ends)
+means_erased : {front : List ℕ} {fuel : ℕ} {m : Meaning} → IsMeaning (erasing front fuel) m → (bytes : List ℕ)
+    → front ≡ take most_of_source bytes → IsMeaning (erasing bytes fuel) m
+means_erased (of_erased_refusal h) bytes is = of_erased_refusal (whole_refused is h)
+means_erased (of_erased p read accepted ends) bytes is = of_erased p (whole_read is read) accepted ends
+
+means_linked : {front : List ℕ} {fuel : ℕ} {m : Meaning} → IsMeaning (linking front fuel) m → (bytes : List ℕ)
+    → front ≡ take most_of_source bytes → IsMeaning (linking bytes fuel) m
+means_linked (of_link_refusal h) bytes is = of_link_refusal (whole_refused is h)
+means_linked (of_joined p read accepted goes) bytes is = of_joined p (whole_read is read) accepted goes
+means_linked (of_unjoined p read accepted goes) bytes is = of_unjoined p (whole_read is read) accepted goes
 
 pub means_evaluated : (evaluation : Evaluation) (bytes : List ℕ) (fuel : ℕ) (m : Meaning)
     → IsMeaning (evaluated evaluation (take most_of_source bytes) fuel) m
     → IsMeaning (evaluated evaluation bytes fuel) m
 means_evaluated (Run options) bytes fuel m h = means_whole h
-means_evaluated Erased bytes fuel m h = means_erased bytes fuel m h
+means_evaluated Erased bytes fuel m h = means_erased h bytes refl
+means_evaluated (Linked workers) bytes fuel m h = means_linked h bytes refl
 
 -- what was read is the front of the bytes that the source tells
 pub front_told : {o : Sources} {file : Wanted} {bytes : List ℕ} (taken : List ℕ) → Has o file bytes
@@ -127,6 +125,10 @@ whole_status kind (ran shown kernels (bounded l name)) = refl
 whole_status kind (erased (answered v)) = refl
 whole_status kind (erased (trapped t name)) = refl
 whole_status kind (erased (bounded l name)) = refl
+whole_status kind (joined kernels) = refl
+whole_status kind (unjoined (answered v)) = refl
+whole_status kind (unjoined (trapped t name)) = refl
+whole_status kind (unjoined (bounded l name)) = refl
 whole_status kind (migrated old added) = refl
 whole_status kind (written wasm) = refl
 whole_status kind (judged true) = refl
@@ -175,6 +177,8 @@ own_or_unkept path (refused r names) s is = inl is
 own_or_unkept path (ran shown kernels e) s (inl is) = inl is
 own_or_unkept path (ran shown kernels e) s (inr h) = inr (h.0, h.1, (shown, kernels, e, refl))
 own_or_unkept path (erased e) s is = inl is
+own_or_unkept path (joined kernels) s is = inl is
+own_or_unkept path (unjoined e) s is = inl is
 own_or_unkept path (migrated old added) s is = inl is
 own_or_unkept path (written wasm) s is = inl is
 own_or_unkept path (judged valid) s is = inl is
@@ -368,8 +372,15 @@ no_run : {bytes : List ℕ} {fuel : ℕ} {shown : Shown} {kernels : List Kernel}
     → IsMeaning (erasing bytes fuel) (ran shown kernels e) → ⊥
 no_run m = elim m [ ]
 
+no_linked_run : {bytes : List ℕ} {fuel : ℕ} {shown : Shown} {kernels : List Kernel} {e : Ending}
+    → IsMeaning (linking bytes fuel) (ran shown kernels e) → ⊥
+no_linked_run m = elim m [ ]
+
 no_bad : {bytes held digest : List ℕ} {fuel : ℕ} → IsBadOf (erasing bytes fuel) held digest → ⊥
 no_bad m = elim m [ ]
+
+no_linked_bad : {bytes held digest : List ℕ} {fuel : ℕ} → IsBadOf (linking bytes fuel) held digest → ⊥
+no_linked_bad m = elim m [ ]
 
 -- a program that ran was read whole
 pub ran_whole : (evaluation : Evaluation) (bytes : List ℕ) (fuel : ℕ) (shown : Shown) (kernels : List Kernel)
@@ -377,6 +388,7 @@ pub ran_whole : (evaluation : Evaluation) (bytes : List ℕ) (fuel : ℕ) (shown
     → IsMeaning (evaluated evaluation bytes fuel) (ran shown kernels e) → take most_of_source bytes ≡ bytes
 ran_whole (Run options) bytes fuel shown kernels e is = of_run_meaning is
 ran_whole Erased bytes fuel shown kernels e is = absurd (no_run is)
+ran_whole (Linked workers) bytes fuel shown kernels e is = absurd (no_linked_run is)
 
 -- a bad record of a run
 record HasBadRun (bytes : List ℕ) (fuel : ℕ) (shown : Shown) (held digest : List ℕ) : Type 0 where
@@ -397,3 +409,4 @@ bad_whole (Run options) bytes fuel held digest h =
     let r = of_bad_run h in
     of_run r.program (subst (λ b. IsRead b r.program) (small_front bytes r.read.small) r.read) r.accepted r.bad
 bad_whole Erased bytes fuel held digest bad = absurd (no_bad bad)
+bad_whole (Linked workers) bytes fuel held digest bad = absurd (no_linked_bad bad)

@@ -1,5 +1,5 @@
 -- From the parts of a program's run to what was written of it.
-use Rattle.std.proofs.Common.{◌≡◌, ℕ, List, ◌++◌, Option, None, Some, Bool, IsTrue, Result, Ok, Err, IfOk, refl, sym}
+use Rattle.std.proofs.Common.{◌≡◌, ℕ, List, ◌++◌, Option, None, Some, Bool, IsTrue, Result, Ok, Err, refl, sym}
 use Rattle.std.proofs.Common.{ap, ◌∙◌, subst}
 use Rattle.std.specs.Result.{IsErrAnd}
 use Rattle.std.proofs.lemmas.List.{append_assoc}
@@ -13,17 +13,20 @@ use Rattle.mw_meaning.specs.declared.mode.Mode.{Mode}
 use Rattle.mw_console.specs.Texts.{Ending, ending_line}
 use Rattle.mw_cache.specs.Gots.{CacheState}
 use Rattle.mw_tasks.specs.declared.outcome.ItemOutcome.{ItemOutcome}
-use Rattle.mw_drive.specs.Honest.{AreMeant}
+use Rattle.mw_cache.specs.HonestFiles.{IsHonest}
+use Rattle.mw_tasks.specs.Phases.{AreOutcomesOf}
 use Rattle.mw_drive.specs.declared.items.Built.{Built}
 use Rattle.mw_drive.specs.declared.shown.Shown.{Shown}
 use Rattle.mw_drive.specs.NamedPrograms.{NamedProgram, unnamed, named_program_of}
-use Rattle.mw_drive.specs.ProgramMeaning.{Kernel, main_after, ended, codes_of, ended_after, with_main, items_run}
+use Rattle.mw_link.specs.Linked.{Kernel}
+use Rattle.mw_drive.specs.ProgramMeaning.{main_after, ended, codes_of, ended_after, with_main, items_run}
 use Rattle.mw_drive.specs.ProgramMeaning.{program_run}
 use Rattle.mw_drive.specs.Works.{mode_of, shown_text}
 use Rattle.mw_drive.specs.ItemOutcomes.{outcomes_run, run_with}
 use Rattle.mw_drive.specs.ProgramRuns.{kernels_of, IsUsual, IsWrittenRun}
 use Rattle.mw_drive.proofs.Faults.{front_written, no_answer, fault_is}
 use Rattle.mw_drive.proofs.Fronts.{grows_after, whole_grows}
+use Rattle.mw_drive.proofs.Honest.{are_meant}
 use Rattle.mw_drive.proofs.ItemsRun.{run_is}
 use Rattle.mw_drive.proofs.ProgramEnds.{program_ends}
 use Rattle.mw_drive.proofs.SourceReadings.{unnamed_program}
@@ -71,15 +74,21 @@ module _ (mode : Mode) (fuel : ℕ) (program : Program) (typable : Typable (prog
       (ap (λ (q : PureProgram). main_after mode fuel q.items q.body (codes_of kernels)) (unnamed_program program)
       ∙ (ap (main_after mode fuel (program_of program).items (program_of program).body) (sym same) ∙ ends))
 
--- the items' part of the run, where what was found of them is lent as a slice
-pub items_were : (shown : Shown) (fuel : ℕ) (program : Program) (cache : CacheState) (outcomes : List ItemOutcome)
-    (mode : Mode) (built lent : List Built) (o : Option Ending)
-    → mode ≡ mode_of shown → AreMeant mode (program_of program) fuel cache outcomes
+-- the items' part of the run, over honest records
+pub phase_is : (mode : Mode) (fuel : ℕ) (program : Program) (cache : CacheState) (outcomes : List ItemOutcome)
+    → IsHonest cache.load → AreOutcomesOf mode (program_of program) fuel cache outcomes
+    → items_run mode fuel (named_program_of program) ≡ outcomes_run (named_program_of program).items outcomes
+phase_is mode fuel program cache outcomes honest are =
+    run_is mode fuel cache program outcomes (are_meant mode (program_of program) fuel cache outcomes honest are)
+
+-- the same where what was found of the items is lent as a slice
+pub phase_run : (mode : Mode) (fuel : ℕ) (program : Program) (cache : CacheState) (outcomes : List ItemOutcome)
+    (built lent : List Built) (o : Option Ending) → IsHonest cache.load
+    → AreOutcomesOf mode (program_of program) fuel cache outcomes
     → outcomes_run (named_program_of program).items outcomes ≡ run_with (kernels_of built) o → lent ≡ built
-    → items_run (mode_of shown) fuel (named_program_of program) ≡ run_with (kernels_of lent) o
-items_were shown fuel program cache outcomes mode built lent o same are run is =
-    let meant = subst (λ mode. AreMeant mode (program_of program) fuel cache outcomes) same are in
-    run_is (mode_of shown) fuel cache program outcomes meant ∙ (run ∙ ap (λ bs. run_with (kernels_of bs) o) (sym is))
+    → items_run mode fuel (named_program_of program) ≡ run_with (kernels_of lent) o
+phase_run mode fuel program cache outcomes built lent o honest are run is =
+    phase_is mode fuel program cache outcomes honest are ∙ (run ∙ ap (λ bs. run_with (kernels_of bs) o) (sym is))
 
 module _ {A : Type 0} (Q : List Kernel → Ending → A → Type 0) (shown : Shown) (fuel : ℕ) (program : Program) where
   abbrev IsRun : List Kernel → Ending → Type 0

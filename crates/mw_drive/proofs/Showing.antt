@@ -18,7 +18,7 @@ use Rattle.mw_compile.proofs.Entering.{emission_of, one_emission}
 use Rattle.mw_cache.specs.Gots.{CacheState, text_in}
 use Rattle.mw_console.specs.Texts.{kernel_text}
 use Rattle.mw_drive.specs.declared.items.Built.{Built}
-use Rattle.mw_drive.specs.ProgramMeaning.{Kernel}
+use Rattle.mw_link.specs.Linked.{Kernel}
 use Rattle.mw_drive.specs.ProgramRuns.{kernel_of, kernels_of, IsBuilt, HasModuleHere}
 use Rattle.mw_drive.specs.Works.{kernel_lines, module_bytes}
 use Rattle.mw_drive.proofs.Fronts.{grows_front, grows_after}

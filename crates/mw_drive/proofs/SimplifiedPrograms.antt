@@ -4,11 +4,13 @@ use Rattle.std.specs.Prelude.{map, slice_get}
 use Rattle.mw_term.specs.Programs.{Definition, value as defines, kernel}
 use Rattle.mw_term.specs.Terms.{Expression, Value, KernelType, PureGroundValue}
 use Rattle.mw_meaning.specs.declared.mode.Mode.TheVariants.{Plain, Simple}
-use Rattle.mw_meaning.specs.Outcomes.{Outcome, came_to, trapped as traps, bounded as bounds, stuck as no_outcome, item_outcome, main_outcome, names_of_items, names_of_main}
+use Rattle.mw_meaning.specs.Outcomes.{Outcome, came_to, trapped as traps, bounded as bounds, stuck as no_outcome}
+use Rattle.mw_meaning.specs.Outcomes.{item_outcome, main_outcome, names_of_items, names_of_main}
 use Rattle.mw_term.specs.Typable.{Typable}
 use Rattle.mw_console.specs.Texts.{Ending, answered, trapped, bounded}
 use Rattle.mw_drive.specs.NamedPrograms.{NamedItem, NamedProgram, unnamed}
-use Rattle.mw_drive.specs.ProgramMeaning.{Kernel, ItemsRun, all_gave, one_ended, one_stuck, with_kernel, before_others}
+use Rattle.mw_link.specs.Linked.{Kernel}
+use Rattle.mw_drive.specs.ProgramMeaning.{ItemsRun, all_gave, one_ended, one_stuck, with_kernel, before_others}
 use Rattle.mw_drive.specs.ProgramMeaning.{run_item, run_items, items_run}
 use Rattle.mw_drive.specs.ProgramMeaning.{main_ending, main_after, ProgramRun, ended, stuck, codes_of, ended_after}
 use Rattle.mw_drive.specs.ProgramMeaning.{with_main, program_run}

@@ -3,7 +3,7 @@ use Rattle.std.proofs.Common.{◌≡◌, ℕ, List, refl, arith}
 use Rattle.mw_meaning.specs.declared.mode.Mode.TheVariants.{Plain, Simple}
 use Rattle.mw_console.specs.Texts.{Ending}
 use Rattle.mw_drive.specs.declared.shown.Shown.TheVariants.{Lines}
-use Rattle.mw_drive.specs.ProgramMeaning.{Kernel}
+use Rattle.mw_link.specs.Linked.{Kernel}
 use Rattle.mw_drive.specs.Works.{running, Meaning, ran, IsMeaning, of_refusal, of_types, of_program}
 use Rattle.mw_drive.specs.SimplifiedPrograms.{IsUnbounded}
 use Rattle.mw_drive.proofs.SimplifiedPrograms.{programs_end_alike}

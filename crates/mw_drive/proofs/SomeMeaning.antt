@@ -10,7 +10,8 @@ use Rattle.mw_lex.specs.Tokens.{PureToken}
 use Rattle.mw_lex.specs.Reading.{AreTokens, IsFirstFault}
 use Rattle.mw_lex.proofs.StepsOn.{either}
 use Rattle.mw_grammar.specs.SurfaceTrees.{PureSurface, PureItem}
-use Rattle.mw_grammar.specs.Answers.{place_of, kernels, AreFew, AreTooMany, items as many_items, kernel_items as many_kernels, IsProgram, HasAnswer, a_tree, a_syntax, a_deep}
+use Rattle.mw_grammar.specs.Answers.{place_of, kernels, AreFew, AreTooMany, items as many_items}
+use Rattle.mw_grammar.specs.Answers.{kernel_items as many_kernels, IsProgram, HasAnswer, a_tree, a_syntax, a_deep}
 use Rattle.mw_grammar.proofs.Exactly.{answer}
 use Rattle.mw_scope.specs.declared.fault.Fault.{Fault}
 use Rattle.mw_scope.specs.Scopes.{name_of}
@@ -25,8 +26,9 @@ use Rattle.mw_infer.proofs.Progressing.{resolved-written}
 use Rattle.mw_infer.proofs.Deciding.{checked_or_refused}
 use Rattle.mw_drive.specs.NamedPrograms.{NamedItem, NamedProgram, unnamed, names_of}
 use Rattle.mw_drive.specs.SourceReading.{IsSmall, IsRead, IsRefused, too_large, at_bytes, at_tokens, at_names}
-use Rattle.mw_drive.specs.Works.{running, erasing, mode_of, Meaning, refused, ran, erased, IsAccepted, IsMeaning}
-use Rattle.mw_drive.specs.Works.{of_refusal, of_types, of_program, of_erased_refusal, of_erased}
+use Rattle.mw_drive.specs.Works.{Work, running, erasing, linking, mode_of, Meaning, refused, ran, erased, IsAccepted}
+use Rattle.mw_drive.specs.Works.{IsMeaning, of_refusal, of_types, of_program, of_erased_refusal, of_erased}
+use Rattle.mw_drive.specs.Works.{of_link_refusal}
 use Rattle.mw_drive.specs.Works.{migrating, writing, judging, migrated, written, judged, faulty}
 use Rattle.mw_drive.specs.Works.{of_migration, of_binary, of_bad_binary, of_module, of_bad_file}
 use Rattle.mw_wasm.specs.Syntax.{PureModule}
@@ -39,6 +41,7 @@ use Rattle.mw_keeping.proofs.Migrations.{some_migration}
 use Rattle.mw_drive.specs.WorkLaws.{SomeMeaning}
 use Rattle.mw_drive.proofs.ScopedTerms.{is_resolved}
 use Rattle.mw_drive.proofs.ErasedEnds.{erased_ends, source_program}
+use Rattle.mw_drive.proofs.LinkedPrograms.{some_link, link_means}
 use Rattle.mw_drive.proofs.ProgramEnds.{program_ends}
 use Rattle.mw_drive.proofs.Counts.{at_most_or_above}
 
@@ -133,25 +136,28 @@ reading_answers bytes = by_size (at_most_or_above (length bytes) 1048576)
 
 -- So each work has a meaning.
 
+-- a work on a source: what is refused as a run is, or else what an accepted program means
+module _ (bytes : List ℕ) (work : Work) (unread : (r : Refusal) → IsRefused bytes r → IsMeaning work (refused r []))
+    (untyped : (p : NamedProgram) (r : Refusal) → IsRead bytes p → IsFirstRefusal (unnamed p) r
+    → IsMeaning work (refused r (names_of p)))
+    (accepted : (p : NamedProgram) → IsRead bytes p → IsAccepted (unnamed p) → (m : Meaning) × IsMeaning work m) where
+  program_means : (p : NamedProgram) → IsRead bytes p
+      → (Typable (unnamed p) × NoneTooBig (unnamed p)) ⊎ ((r : Refusal) × IsFirstRefusal (unnamed p) r)
+      → (m : Meaning) × IsMeaning work m
+  program_means p read (inl fine) = accepted p read (record { typable = fine.0; small = fine.1 })
+  program_means p read (inr fault) = (refused fault.0 (names_of p), untyped p fault.0 read fault.1)
+
+  answer_means : IsAnswered bytes → (m : Meaning) × IsMeaning work m
+  answer_means (as_program p read) =
+      program_means p read
+      (checked_or_refused (unnamed p) (resolved-written (unnamed p) (is_resolved bytes p read)))
+  answer_means (as_refusal r refusal) = (refused r [], unread r refusal)
+
 accepted_means : (bytes : List ℕ) (fuel : ℕ) (shown : Shown) (p : NamedProgram) → IsRead bytes p
     → IsAccepted (unnamed p) → (m : Meaning) × IsMeaning (running bytes fuel shown) m
 accepted_means bytes fuel shown p read fine =
     let e = program_ends (mode_of shown) fuel p fine.typable in
     (ran shown e.kernels e.ending, of_program p read fine e.is)
-
-program_means : (bytes : List ℕ) (fuel : ℕ) (shown : Shown) (p : NamedProgram) → IsRead bytes p
-    → (Typable (unnamed p) × NoneTooBig (unnamed p)) ⊎ ((r : Refusal) × IsFirstRefusal (unnamed p) r)
-    → (m : Meaning) × IsMeaning (running bytes fuel shown) m
-program_means bytes fuel shown p read (inl fine) =
-    accepted_means bytes fuel shown p read (record { typable = fine.0; small = fine.1 })
-program_means bytes fuel shown p read (inr fault) = (refused fault.0 (names_of p), of_types p read fault.1)
-
-answer_means : (bytes : List ℕ) (fuel : ℕ) (shown : Shown) → IsAnswered bytes
-    → (m : Meaning) × IsMeaning (running bytes fuel shown) m
-answer_means bytes fuel shown (as_program p read) =
-    program_means bytes fuel shown p read
-    (checked_or_refused (unnamed p) (resolved-written (unnamed p) (is_resolved bytes p read)))
-answer_means bytes fuel shown (as_refusal r refusal) = (refused r [], of_refusal refusal)
 
 accepted_erased : (bytes : List ℕ) (fuel : ℕ) (p : NamedProgram) → IsRead bytes p → IsAccepted (unnamed p)
     → (m : Meaning) × IsMeaning (erasing bytes fuel) m
@@ -159,15 +165,11 @@ accepted_erased bytes fuel p read fine =
     let e = erased_ends fuel (unnamed p) (source_program bytes p read) fine.typable in
     (erased e.0, of_erased p read fine e.1)
 
-erased_means : (bytes : List ℕ) (fuel : ℕ) → IsAnswered bytes → (m : Meaning) × IsMeaning (erasing bytes fuel) m
-erased_means bytes fuel (as_refusal r refusal) = (refused r [], of_erased_refusal (of_refusal refusal))
-erased_means bytes fuel (as_program p read) =
-    by_types (checked_or_refused (unnamed p) (resolved-written (unnamed p) (is_resolved bytes p read)))
-  where
-    by_types : (Typable (unnamed p) × NoneTooBig (unnamed p)) ⊎ ((r : Refusal) × IsFirstRefusal (unnamed p) r)
-        → (m : Meaning) × IsMeaning (erasing bytes fuel) m
-    by_types (inl fine) = accepted_erased bytes fuel p read (record { typable = fine.0; small = fine.1 })
-    by_types (inr fault) = (refused fault.0 (names_of p), of_erased_refusal (of_types p read fault.1))
+accepted_linked : (bytes : List ℕ) (fuel : ℕ) (p : NamedProgram) → IsRead bytes p → IsAccepted (unnamed p)
+    → (m : Meaning) × IsMeaning (linking bytes fuel) m
+accepted_linked bytes fuel p read fine =
+    let e = some_link fuel p fine.typable in
+    (e.0, link_means p read fine e.0 e.1)
 
 binary_means : (bytes : List ℕ) → ((m : PureModule) × IsBinary bytes m) ⊎ ((f : BadFile) × IsBadBinary bytes f)
     → (m : Meaning) × IsMeaning (writing bytes) m
@@ -184,8 +186,15 @@ module_means bytes (inl is) = by_validity (validity_is_decided is.0)
 module_means bytes (inr bad) = (faulty bad.0, of_bad_file bad.1)
 
 pub some_meaning : SomeMeaning
-some_meaning (running bytes fuel shown) on = answer_means bytes fuel shown (reading_answers bytes)
-some_meaning (erasing bytes fuel) on = erased_means bytes fuel (reading_answers bytes)
+some_meaning (running bytes fuel shown) on =
+    answer_means bytes (running bytes fuel shown) (λ r refusal. of_refusal refusal)
+    (λ p r read fault. of_types p read fault) (accepted_means bytes fuel shown) (reading_answers bytes)
+some_meaning (erasing bytes fuel) on =
+    answer_means bytes (erasing bytes fuel) (λ r refusal. of_erased_refusal (of_refusal refusal))
+    (λ p r read fault. of_erased_refusal (of_types p read fault)) (accepted_erased bytes fuel) (reading_answers bytes)
+some_meaning (linking bytes fuel) on =
+    answer_means bytes (linking bytes fuel) (λ r refusal. of_link_refusal (of_refusal refusal))
+    (λ p r read fault. of_link_refusal (of_types p read fault)) (accepted_linked bytes fuel) (reading_answers bytes)
 some_meaning (migrating held) on = let m = some_migration held on.0 on.1 in
     (migrated m.0 (length m.1), of_migration m.2)
 some_meaning (writing bytes) on = binary_means bytes (binary_or_bad bytes on)

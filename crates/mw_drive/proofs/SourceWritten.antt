@@ -1,6 +1,7 @@
 -- What was written of a source is what it means.
 use denote.Ref.{Bor}
-use Rattle.std.proofs.Common.{◌≡◌, ◌<◌, ℕ, ◌^◌, List, [], map, length, Some, Bool, Option, ◌⊎◌, inl, inr, Result, Ok}
+use Rattle.std.proofs.Common.{◌≡◌, ◌<◌, ℕ, ◌^◌, List, [], map, length, None, Some, Bool, Option, inl, inr, Result}
+use Rattle.std.proofs.Common.{Ok}
 use Rattle.std.proofs.Common.{Err, IfOk, IfErr, refl, sym, subst, arith}
 use Rattle.std.proofs.lemmas.List.{length-map}
 use Rattle.mw_outside.specs.declared.errors.WriteFault.TheVariants.{Memory}
@@ -19,7 +20,7 @@ use Rattle.mw_console.specs.Texts.{Ending, refusal_line}
 use Rattle.mw_console.specs.declared.status.Status.{Status}
 use Rattle.mw_console.specs.declared.status.Status.TheVariants.{Refused}
 use Rattle.mw_drive.specs.declared.source.Evaluation.{Evaluation}
-use Rattle.mw_drive.specs.declared.source.Evaluation.TheVariants.{Run, Erased}
+use Rattle.mw_drive.specs.declared.source.Evaluation.TheVariants.{Run, Erased, Linked}
 use Rattle.mw_drive.specs.declared.shown.Shown.{Shown}
 use Rattle.mw_drive.specs.declared.shown.Shown.TheVariants.{Lines}
 use Rattle.mw_drive.specs.NamedPrograms.{NamedProgram, unnamed, names_of, named_program_of}
@@ -28,15 +29,21 @@ use Rattle.mw_drive.specs.declared.fault.RunFault.{RunFault}
 use Rattle.mw_drive.specs.declared.fault.RunFault.TheVariants.{Unwritten}
 use Rattle.mw_drive.specs.declared.program.RunOptions.{RunOptions}
 use Rattle.mw_drive.specs.BadRecords.{IsBadRecord, IsBadOf, of_run}
-use Rattle.mw_drive.specs.ProgramMeaning.{Kernel, ended, program_run, erased_ending}
+use Rattle.mw_link.specs.Linked.{Kernel}
+use Rattle.mw_drive.specs.ProgramMeaning.{items_run, ended, program_run, erased_ending}
+use Rattle.mw_drive.specs.LinkedPrograms.{in_one, link_run}
 use Rattle.mw_drive.specs.ProgramRuns.{evaluated, cache_of, IsEndOf, IsEnded, IsEndMeaning, IsUsual, IsWrittenRun}
-use Rattle.mw_drive.specs.ProgramRuns.{IsWrittenErased, IsWrittenMeaning}
-use Rattle.mw_drive.specs.Works.{Work, mode_of, IsAccepted, running, refused, ran, erased, IsMeaning, of_refusal}
-use Rattle.mw_drive.specs.Works.{of_types, of_program, of_erased_refusal, of_erased}
+use Rattle.mw_drive.specs.ProgramRuns.{IsWrittenErased, IsWrittenLinked, IsWrittenMeaning}
+use Rattle.mw_drive.specs.Works.{Work, mode_of, IsAccepted, running, Meaning, refused, ran, erased, joined, unjoined}
+use Rattle.mw_drive.specs.Works.{migrated, written, judged, faulty, status_of, IsMeaning, of_refusal, of_types}
+use Rattle.mw_drive.specs.Works.{of_program, of_erased_refusal, of_erased, of_link_refusal}
 use Rattle.mw_drive.specs.WorkLaws.{IsOnFile}
 use Rattle.mw_drive.specs.Written.{Writes}
 use Rattle.mw_drive.proofs.Fronts.{grows_nothing}
+use Rattle.mw_link.specs.LinkLaw.{AreLinkable}
+use Rattle.mw_drive.proofs.LinkedPrograms.{link_means, linked_kernels}
 use Rattle.mw_drive.proofs.OneMeaning.{one_program, one_meaning}
+use Rattle.mw_drive.proofs.Reported.{ok_then}
 use Rattle.mw_drive.proofs.Statuses.{ran_not_refused}
 use Rattle.mw_drive.specs.HeldFiles.{IsKeptOf}
 use Rattle.mw_drive.proofs.SomeMeaning.{some_meaning}
@@ -53,6 +60,18 @@ record IsRunOf (bytes : List ℕ) (fuel : ℕ) (shown other : Shown) (kernels : 
 run_of_meaning : {bytes : List ℕ} {fuel : ℕ} {shown other : Shown} {kernels : List Kernel} {e : Ending}
     → IsMeaning (running bytes fuel shown) (ran other kernels e) → IsRunOf bytes fuel shown other kernels e
 run_of_meaning (of_program p read accepted is) = record { program = p; read = read; same = refl; run = is }
+
+-- a meaning's own status is one that it ends with
+own_end : (path : Option (Bor (List ℕ))) (m : Meaning) (s : Status) → s ≡ status_of m → IsEndMeaning path m s
+own_end path (refused r names) s is = is
+own_end path (ran shown kernels e) s is = inl is
+own_end path (erased e) s is = is
+own_end path (joined kernels) s is = is
+own_end path (unjoined e) s is = is
+own_end path (migrated old added) s is = is
+own_end path (written wasm) s is = is
+own_end path (judged valid) s is = is
+own_end path (faulty fault) s is = is
 
 module _ (bytes : List ℕ) (fuel : ℕ) (tells : Bool) where
   abbrev IsWritten : Evaluation → Result Status RunFault → (before after : List ℕ) → Type 0
@@ -80,10 +99,19 @@ module _ (bytes : List ℕ) (fuel : ℕ) (tells : Bool) where
         usual = usual;
         writes = writes;
       }
+  written_refusal (Linked workers) result before after r names is status usual writes =
+      record {
+        meaning = refused r names;
+        is_meaning = of_link_refusal (is (Lines Plain));
+        is_status = status;
+        usual = usual;
+        writes = writes;
+      }
 
   evaluated_on : (evaluation : Evaluation) → IsOnFile (evaluated evaluation bytes fuel)
   evaluated_on (Run options) = tt
   evaluated_on Erased = tt
+  evaluated_on (Linked workers) = tt
 
   -- want of memory before anything was written
   pub written_nothing : (evaluation : Evaluation) (before : List ℕ) (e : _)
@@ -153,6 +181,25 @@ module _ (bytes : List ℕ) (fuel : ℕ) (tells : Bool) where
       usual = h.usual;
       writes = h.writes;
     }
+
+    -- its kernels in one module
+    pub linked_written : (workers : ℕ) (result : Result Status RunFault) (before after : List ℕ)
+        → Typable (program_of p) → NoneTooBig (program_of p)
+        → IsWrittenLinked fuel (named_program_of p) result tells before after
+        → IsWritten (Linked workers) result before after
+    linked_written workers result before after typable small h = record {
+      meaning = h.meaning;
+      is_meaning = link_means (named_program_of p) found (accepted typable small) h.meaning h.is_meaning;
+      is_status = ok_then (λ s. s ≡ status_of h.meaning) (IsEndMeaning None h.meaning) result
+          (own_end None h.meaning) h.is_status;
+      usual = h.usual;
+      writes = h.writes;
+    }
+
+    pub may_be_linked : Typable (program_of p) → NoneTooBig (program_of p) → (kernels : List Kernel)
+        → link_run (items_run Plain fuel (named_program_of p)) ≡ in_one kernels → AreLinkable kernels
+    may_be_linked typable small kernels is =
+        (linked_kernels fuel bytes (named_program_of p) kernels found (accepted typable small) is).linkable
 
     -- the kernels that its run means are those of its program
     pub run_kernels : (shown other : Shown) (kernels : List Kernel) (e : Ending)

@@ -1,8 +1,7 @@
 -- From how a source was evaluated to the status.
-use Rattle.std.proofs.Common.{◌≡◌, ◌⊎◌, inl, inr, ℕ, List, [], ◌∷◌, map, Option, Some, None, IsSome, IsNone, Bool}
-use Rattle.std.proofs.Common.{IsTrue, Result, Ok, Err, IfOk, IfErr, refl, sym, ap, ◌∙◌, subst}
+use Rattle.std.proofs.Common.{◌≡◌, inl, inr, ℕ, List, Option}
+use Rattle.std.proofs.Common.{Result, Ok, Err, IfOk, IfErr, sym, ◌∙◌, subst}
 use denote.Ref.{Bor}
-use Rattle.mw_outside.specs.Count.{Rose}
 use Rattle.mw_outside.specs.declared.errors.WriteFault.TheVariants as fault
 use Rattle.mw_term.specs.declared.refusal.Refusal.{Refusal}
 use Rattle.mw_console.specs.Texts.{Ending, answered, trapped, bounded, ending_status}
@@ -13,7 +12,7 @@ use Rattle.mw_drive.specs.declared.fault.RunFault.{RunFault}
 use Rattle.mw_drive.specs.declared.fault.RunFault.TheVariants.{Unwritten, Bad}
 use Rattle.mw_drive.specs.Extents.{whole, Kind, on_a_file, over_a_cache, on_a_number, on_a_cache, extent}
 use Rattle.mw_drive.specs.HeldFiles.{IsHeldWith, IsHeldAfter, IsKeptOf, IsKeptWith}
-use Rattle.mw_drive.specs.ProgramRuns.{HasEnding, IsEnded, IsEndedSource}
+use Rattle.mw_drive.specs.ProgramRuns.{IsEnded, IsEndedSource}
 use Rattle.mw_drive.specs.RunFaults.{IfBadRecord}
 use Rattle.mw_drive.specs.Running.{IsStatusOf}
 

@@ -1,5 +1,5 @@
 -- What a verdict says of the module in a file.
-use Rattle.std.proofs.Common.{◌≡◌, Bool, true, false, List, ℕ, refl, sym, ◌∙◌, subst}
+use Rattle.std.proofs.Common.{◌≡◌, Bool, true, false, List, ℕ, refl, sym, subst}
 use Rattle.mw_wasm.specs.Syntax.{PureModule}
 use Rattle.mw_console.specs.declared.status.Status.{Status}
 use Rattle.mw_console.specs.declared.status.Status.TheVariants.{Answer, Trap, Usage, Refused, Bound, Read, Write}

@@ -1,10 +1,14 @@
 -- What the outcomes of a program's kernel items say of its run.
-use Rattle.std.specs.Prelude.{ℕ, List, [], ◌∷◌, Option, Some, None}
-use Rattle.mw_term.specs.Terms.{KernelType, Expression, expression_of, ground_value_of}
+use Rattle.std.specs.Prelude.{ℕ, ◌≡◌, List, [], ◌∷◌, Option, Some, None}
+use Rattle.mw_term.specs.Terms.{KernelType, kernel_type_of, Expression, expression_of, ground_value_of}
 use Rattle.mw_term.specs.Programs.{Definition, value as defines, kernel}
 use Rattle.mw_meaning.specs.declared.mode.Mode.{Mode}
 use Rattle.mw_meaning.specs.Outcomes.{Outcome, came_to, trapped as traps, bounded as bounds}
+use Rattle.mw_term.specs.declared.term.Term.{Term}
+use Rattle.mw_term.specs.declared.term.KType.{KType}
+use Rattle.mw_link.specs.declared.parts.Linkable.{Linkable}
 use Rattle.mw_cache.specs.Gots.{CacheState}
+use Rattle.mw_cache.specs.declared.got.Got.{Got}
 use Rattle.mw_tasks.specs.declared.outcome.ItemOutcome.{ItemOutcome}
 use Rattle.mw_tasks.specs.declared.outcome.ItemOutcome.TheVariants as outcome
 use Rattle.mw_tasks.specs.declared.outcome.MainOutcome.{MainOutcome}
@@ -15,7 +19,8 @@ use Rattle.mw_drive.specs.declared.items.Built.{Built}
 use Rattle.mw_drive.specs.declared.items.ItemEnd.{ItemEnd}
 use Rattle.mw_drive.specs.declared.items.ItemEnd.TheVariants as item
 use Rattle.mw_drive.specs.NamedPrograms.{NamedItem}
-use Rattle.mw_drive.specs.ProgramMeaning.{Kernel, ItemsRun, all_gave, one_ended, one_stuck, with_kernel, before_others}
+use Rattle.mw_link.specs.Linked.{Kernel}
+use Rattle.mw_drive.specs.ProgramMeaning.{ItemsRun, all_gave, one_ended, one_stuck, with_kernel, before_others}
 use Rattle.mw_drive.specs.ProgramRuns.{ending_of, kernel_of}
 
 abbrev pub outcome_in : ItemOutcome → Outcome Expression
@@ -65,3 +70,26 @@ HasOneForEach items outcomes = EachKernel (λ k e o. Unit {0}) items outcomes
 -- and the module of each code is of this cache
 abbrev pub ArePlaced : Mode → CacheState → List Definition → List ItemOutcome → Type 0
 ArePlaced mode cache items outcomes = EachKernel (λ k e o. IfBuilt o (IsPlaced mode cache k)) items outcomes
+
+-- the name and the type of an item that is a kernel, and nothing of one that isn't
+abbrev pub IsKernelOf : NamedItem → Option (List ℕ × KType) → Type 0
+IsKernelOf item (Some (name, k)) =
+    (e : Expression) × (item ≡ record { name = name; is = kernel (kernel_type_of k) e })
+IsKernelOf item None = (e : Expression) × (item.is ≡ defines e)
+
+-- the first of the outcomes was taken, and this is its code; or none of them is first and code
+abbrev pub IsCodeTaken : (before : List ItemOutcome) → Option Term → (after : List ItemOutcome) → Type 0
+IsCodeTaken before (Some t) after = (got : Got) × (before ≡ outcome.Code t got ∷ after)
+IsCodeTaken before None after =
+    (t : Term) (got : Got) (rest : List ItemOutcome) → before ≡ outcome.Code t got ∷ rest → ⊥
+
+-- What is taken of an item and of the outcomes that are left: nothing of an item that is no kernel; a kernel, with the
+-- first outcome, which is its code; or no kernel, where the first outcome is no code.
+pub data IsNextKernel (item : NamedItem) (before : List ItemOutcome) : Option Linkable → (after : List ItemOutcome)
+    → Type 0 where
+  not_a_kernel : {e : Expression} → item.is ≡ defines e → IsNextKernel item before None before
+  with_code : {l : Linkable} {e : Expression} {got : Got} {after : List ItemOutcome}
+      → item ≡ record { name = l.name; is = kernel (kernel_type_of l.kind) e }
+      → before ≡ outcome.Code l.code got ∷ after → IsNextKernel item before (Some l) after
+  without_code : {k : KernelType} {e : Expression} {after : List ItemOutcome} → item.is ≡ kernel k e
+      → IsCodeTaken before None after → IsNextKernel item before None after

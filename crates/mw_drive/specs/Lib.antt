@@ -1,6 +1,7 @@
 pub mod NamedPrograms
 pub mod SourceReading
 pub mod ProgramMeaning
+pub mod LinkedPrograms
 pub mod Works
 pub mod WorkLaws
 pub mod Written

@@ -5,15 +5,11 @@ use Rattle.mw_term.specs.Terms.{Expression, Value, KernelType, PureGroundValue}
 use Rattle.mw_term.specs.Programs.{Definition, value as defines, kernel, PureProgram}
 use Rattle.mw_meaning.specs.declared.mode.Mode.{Mode}
 use Rattle.mw_meaning.specs.ErasedPrograms.{erased_outcome}
-use Rattle.mw_meaning.specs.Outcomes.{Outcome, came_to, trapped as traps, bounded as bounds, stuck as no_outcome, item_outcome, main_outcome, names_of_items, names_of_main}
+use Rattle.mw_meaning.specs.Outcomes.{Outcome, came_to, trapped as traps, bounded as bounds, stuck as no_outcome}
+use Rattle.mw_meaning.specs.Outcomes.{item_outcome, main_outcome, names_of_items, names_of_main}
+use Rattle.mw_link.specs.Linked.{Kernel}
 use Rattle.mw_console.specs.Texts.{Ending, answered, trapped, bounded, main_name}
 use Rattle.mw_drive.specs.NamedPrograms.{NamedItem, NamedProgram, unnamed}
-
--- a kernel item that gave code, as it was built
-pub record Kernel : Type 0 where
-  pub name : List ℕ
-  pub kind : KernelType
-  pub code : Expression
 
 -- How kernel items go: all gave code; or these did, and the next one ended the program; or one is stuck, as none of a
 -- typable program is.

@@ -5,6 +5,7 @@ use denote.Ref.{Bor}
 use Rattle.mw_term.specs.Terms.{expression_of, kernel_type_of, ground_value_of}
 use Rattle.mw_term.specs.Programs.{PureProgram}
 use Rattle.mw_meaning.specs.declared.mode.Mode.{Mode}
+use Rattle.mw_meaning.specs.declared.mode.Mode.TheVariants.{Plain}
 use Rattle.mw_cache.specs.Gots.{CacheState, IsHere}
 use Rattle.mw_tasks.specs.Phases.{IsPlaced}
 use Rattle.mw_console.specs.Texts.{Ending, answered, trapped, bounded, ending_line, ending_status}
@@ -18,13 +19,15 @@ use Rattle.mw_drive.specs.declared.ending.End.{End}
 use Rattle.mw_drive.specs.declared.ending.End.TheVariants as end
 use Rattle.mw_drive.specs.declared.items.Built.{Built}
 use Rattle.mw_drive.specs.declared.source.Evaluation.{Evaluation}
-use Rattle.mw_drive.specs.declared.source.Evaluation.TheVariants.{Run, Erased}
+use Rattle.mw_drive.specs.declared.source.Evaluation.TheVariants.{Run, Erased, Linked}
 use Rattle.mw_drive.specs.declared.shown.Shown.{Shown}
 use Rattle.mw_drive.specs.declared.shown.Shown.TheVariants.{Totals}
 use Rattle.mw_drive.specs.NamedPrograms.{NamedProgram}
-use Rattle.mw_drive.specs.ProgramMeaning.{Kernel, ended, program_run, erased_ending}
-use Rattle.mw_drive.specs.Works.{Work, Meaning, IsMeaning, running, erasing, ran, mode_of, shown_text, text_of}
-use Rattle.mw_drive.specs.Works.{status_of}
+use Rattle.mw_link.specs.Linked.{Kernel}
+use Rattle.mw_drive.specs.ProgramMeaning.{items_run, ended, program_run, erased_ending}
+use Rattle.mw_drive.specs.LinkedPrograms.{LinkRun, in_one, cut_short, unlinkable, link_run}
+use Rattle.mw_drive.specs.Works.{Work, Meaning, IsMeaning, running, erasing, linking, ran, joined, unjoined, mode_of}
+use Rattle.mw_drive.specs.Works.{shown_text, text_of, status_of}
 use Rattle.mw_drive.specs.Written.{Writes}
 
 abbrev pub ending_of : End → Ending
@@ -87,20 +90,38 @@ pub record IsWrittenErased (fuel : ℕ) (p : PureProgram) (result : Result Statu
   pub usual : IfErr result IsUsual
   pub writes : Writes result tells before after (ending_line ending)
 
+-- what linking means that goes so; nothing where an item is stuck
+abbrev pub link_meaning : LinkRun → Option Meaning
+link_meaning (in_one kernels) = Some (joined kernels)
+link_meaning (cut_short e) = Some (unjoined e)
+link_meaning unlinkable = None
+
+-- what the linking of a program's kernels means was written, and the status says the same
+pub record IsWrittenLinked (fuel : ℕ) (p : NamedProgram) (result : Result Status RunFault) (tells : Bool)
+    (before after : List ℕ) : Type 0 where
+  pub meaning : Meaning
+  pub is_meaning : link_meaning (link_run (items_run Plain fuel p)) ≡ Some meaning
+  pub is_status : IfOk result (λ s. s ≡ status_of meaning)
+  pub usual : IfErr result IsUsual
+  pub writes : Writes result tells before after (text_of meaning)
+
 -- the work that an evaluation of a source is; how many workers there are doesn't matter, nor does the cache file
 abbrev pub evaluated : Evaluation → List ℕ → ℕ → Work
 evaluated (Run options) bytes fuel = running bytes fuel options.shown
 evaluated Erased bytes fuel = erasing bytes fuel
+evaluated (Linked workers) bytes fuel = linking bytes fuel
 
 -- there are workers where it needs them, and no cache file where totals are shown
 abbrev pub IsPossible : Evaluation → Type 0
 IsPossible (Run options) = (1 ≤ options.workers) × (options.shown ≡ Totals → IsNone options.cache)
 IsPossible Erased = Unit {0}
+IsPossible (Linked workers) = 1 ≤ workers
 
 -- the name of its cache file
 abbrev pub cache_of : Evaluation → Option (Bor (List ℕ))
 cache_of (Run options) = options.cache
 cache_of Erased = None
+cache_of (Linked workers) = None
 
 -- the status is the meaning's; where there is a cache file, that of a program that ran may be that the file wasn't kept
 abbrev pub IsEndMeaning : Option (Bor (List ℕ)) → Meaning → Status → Type 0

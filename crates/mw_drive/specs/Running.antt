@@ -1,5 +1,5 @@
 -- What the top call says of words, source and sink.
-use Rattle.std.specs.Prelude.{◌≡◌, ◌⊎◌, ℕ, List, [], ◌∷◌, ◌++◌, take, Option, Some, None, IsSome, IsNone, Bool, true}
+use Rattle.std.specs.Prelude.{◌≡◌, ◌⊎◌, ℕ, List, [], ◌∷◌, ◌++◌, take, Option, Some, None, IsNone, Bool, true}
 use Rattle.std.specs.Prelude.{false}
 use Rattle.std.specs.Prelude.{IsTrue, Result, Ok, Err, alloc_error}
 use Rattle.mw_outside.specs.declared.named.NamedFile.{NamedFile}
@@ -8,7 +8,7 @@ use Rattle.mw_outside.specs.Lookup.{file_of}
 use Rattle.mw_outside.specs.declared.errors.WriteFault.TheVariants as fault
 use Rattle.mw_meaning.specs.declared.mode.Mode.{Mode}
 use Rattle.mw_meaning.specs.declared.mode.Mode.TheVariants.{Plain, Simple}
-use Rattle.mw_words.specs.Words.{PureCommand, run, erased, sample, migrate, wat, check, Means}
+use Rattle.mw_words.specs.Words.{PureCommand, run, erased, link, sample, migrate, wat, check, Means}
 use Rattle.mw_console.specs.declared.status.Status.{Status}
 use Rattle.mw_console.specs.declared.status.Status.TheVariants.{Write, Memory, BadCache}
 use Rattle.mw_console.specs.Texts.{Ending}
@@ -17,11 +17,11 @@ use Rattle.mw_drive.specs.declared.fault.RunFault.TheVariants.{Unwritten, Bad}
 use Rattle.mw_drive.specs.declared.shown.Shown.{Shown}
 use Rattle.mw_drive.specs.declared.shown.Shown.TheVariants.{Lines}
 use Rattle.mw_drive.specs.Honest.{IsHonestCache}
-use Rattle.mw_drive.specs.ProgramMeaning.{Kernel}
+use Rattle.mw_link.specs.Linked.{Kernel}
 use Rattle.mw_drive.specs.Extents.{Extent, nothing, a_front, whole, unkept, all_or_nothing, unsaid, never}
 use Rattle.mw_drive.specs.Extents.{Kind, on_a_file, over_a_cache, on_a_number, on_a_cache, extent}
-use Rattle.mw_drive.specs.Works.{Work, running, erasing, sampling, migrating, writing, judging, Meaning, ran, IsMeaning}
-use Rattle.mw_drive.specs.Works.{text_of, status_of, IsOutput, Reports}
+use Rattle.mw_drive.specs.Works.{Work, running, erasing, linking, sampling, migrating, writing, judging, Meaning, ran}
+use Rattle.mw_drive.specs.Works.{IsMeaning, text_of, status_of, IsOutput, Reports}
 
 -- the files that the source has, if it tells them
 pub record Sources : Type 0 where
@@ -62,6 +62,7 @@ module_file name = record { name = name; most = most_of_module }
 abbrev pub files_of : PureCommand → List Wanted
 files_of (run workers fuel simplify cache file) = source_file file ∷ []
 files_of (erased fuel file) = source_file file ∷ []
+files_of (link workers fuel file) = source_file file ∷ []
 files_of (sample number) = []
 files_of (migrate cache) = []
 files_of (wat file) = module_file file ∷ []
@@ -71,6 +72,7 @@ files_of (check file) = module_file file ∷ []
 abbrev pub path_of : PureCommand → Option (List ℕ)
 path_of (run workers fuel simplify cache file) = cache
 path_of (erased fuel file) = None
+path_of (link workers fuel file) = None
 path_of (sample number) = None
 path_of (migrate cache) = Some cache
 path_of (wat file) = None
@@ -109,6 +111,8 @@ pub data IsWork (outside : Outside) : PureCommand → List (List ℕ) → Work �
       (running bytes fuel (Lines (mode_when simplify)))
   erased_works : {fuel : ℕ} {file bytes : List ℕ}
       → IsWork outside (erased fuel file) (bytes ∷ []) (erasing bytes fuel)
+  link_works : {workers fuel : ℕ} {file bytes : List ℕ}
+      → IsWork outside (link workers fuel file) (bytes ∷ []) (linking bytes fuel)
   sample_works : {number : ℕ} → IsWork outside (sample number) [] (sampling number)
   migrate_works : {cache : List ℕ} → IsTrue outside.keeps
       → IsWork outside (migrate cache) [] (migrating outside.held)
@@ -168,6 +172,7 @@ kind_with (Some path) = over_a_cache
 abbrev pub kind_of : PureCommand → Kind
 kind_of (run workers fuel simplify cache file) = kind_with cache
 kind_of (erased fuel file) = on_a_file
+kind_of (link workers fuel file) = on_a_file
 kind_of (sample number) = on_a_number
 kind_of (migrate cache) = on_a_cache
 kind_of (wat file) = on_a_file

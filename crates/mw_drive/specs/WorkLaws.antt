@@ -3,7 +3,7 @@ use Rattle.std.specs.Prelude.{◌≡◌, ℕ, List}
 use Rattle.mw_term.specs.Terms.{PureGroundValue}
 use Rattle.mw_drive.specs.declared.shown.Shown.{Shown}
 use Rattle.mw_console.specs.Texts.{answered}
-use Rattle.mw_drive.specs.ProgramMeaning.{Kernel}
+use Rattle.mw_link.specs.Linked.{Kernel}
 use Rattle.mw_drive.specs.Works.{Work, running, erasing, migrating, writing, judging, Meaning, ran, erased, IsMeaning}
 use Rattle.mw_store.specs.Loads.{LoadState, IsLoadOf}
 use Rattle.mw_leb.specs.ReadingLaws.{AreBytes}

@@ -1,12 +1,12 @@
 -- A command, with the bytes of the file that it reads, is a work. A work has meanings, and a meaning has a text and a
 -- status.
-use Rattle.std.specs.Prelude.{ℕ, ◌≡◌, ◌+◌, List, [], ◌∷◌, ◌++◌, length, Some, Bool, true, false}
+use Rattle.std.specs.Prelude.{ℕ, ◌≡◌, ◌+◌, List, [], ◌∷◌, ◌++◌, length, Some, Bool, true, false, codes}
 use Rattle.std.specs.List.{AllByRecursion, flat_map}
 use Rattle.mw_term.specs.declared.refusal.Refusal.{Refusal}
 use Rattle.sha2.specs.Sha256.{sha256}
 use Rattle.mw_term.specs.Terms.{Expression, KernelType}
 use Rattle.mw_term.specs.Programs.{PureProgram}
-use Rattle.mw_term.specs.Typable.{Typable}
+use Rattle.mw_term.specs.Typable.{Typable, HasKernelType}
 use Rattle.mw_meaning.specs.declared.mode.Mode.{Mode}
 use Rattle.mw_meaning.specs.declared.mode.Mode.TheVariants.{Plain}
 use Rattle.mw_meaning.specs.Simplification.{in_mode}
@@ -14,6 +14,7 @@ use Rattle.mw_meaning.specs.StandingFor.{StandsFor}
 use Rattle.mw_wasm.specs.Syntax.{PureModule}
 use Rattle.mw_wasm.specs.BinaryModules.{Spells}
 use Rattle.mw_wasm.specs.Validity.{IsValid}
+use Rattle.mw_wasm.specs.Profile.{IsWithinProfile}
 use Rattle.mw_infer.specs.Checking.{IsFirstRefusal, NoneTooBig}
 use Rattle.mw_key.specs.declared.version.Version.TheVariants.{Two}
 use Rattle.mw_key.specs.CanonicalText.{canonical_text}
@@ -21,8 +22,8 @@ use Rattle.mw_gen.specs.Generate.{two}
 use Rattle.mw_compile.specs.Emission.{emission}
 use Rattle.mw_console.specs.declared.status.Status.{Status}
 use Rattle.mw_console.specs.declared.status.Status.TheVariants.{Answer, Refused, BadModule, Invalid}
-use Rattle.mw_console.specs.Texts.{Ending, kernel_text, totals_text, migrated_text, refusal_line, ending_line}
-use Rattle.mw_console.specs.Texts.{ending_status}
+use Rattle.mw_console.specs.Texts.{Ending, kernel_text, digits_line, totals_text, migrated_text, refusal_line}
+use Rattle.mw_console.specs.Texts.{ending_line, ending_status}
 use Rattle.mw_sample.specs.Sample.{sample_text}
 use Rattle.mw_store.specs.Records.{Kept}
 use Rattle.mw_keeping.specs.Migrations.{IsMigration}
@@ -34,7 +35,11 @@ use Rattle.mw_drive.specs.NamedPrograms.{NamedProgram, unnamed, names_of}
 use Rattle.mw_drive.specs.SourceReading.{IsRead, IsRefused}
 use Rattle.mw_drive.specs.declared.shown.Shown.{Shown}
 use Rattle.mw_drive.specs.declared.shown.Shown.TheVariants.{Lines, Totals}
-use Rattle.mw_drive.specs.ProgramMeaning.{Kernel, ended, program_run, erased_ending}
+use Rattle.mw_encode.specs.Encoding.{encoding}
+use Rattle.mw_link.specs.Linked.{Kernel, linked}
+use Rattle.mw_link.specs.LinkLaw.{MeansAll}
+use Rattle.mw_drive.specs.ProgramMeaning.{items_run, ended, program_run, erased_ending}
+use Rattle.mw_drive.specs.LinkedPrograms.{link_run, in_one, cut_short}
 
 -- how code is run whose kernels are shown so: by their lines, of a mode, or by totals
 abbrev pub mode_of : Shown → Mode
@@ -42,11 +47,12 @@ mode_of (Lines mode) = mode
 mode_of Totals = Plain
 
 -- the run of a source's bytes, with so many units of fuel for each evaluation, whose kernels are shown so; the
--- evaluation of its erased program's main; the migration of a cache file that holds these bytes; the text of the module
--- that bytes spell; or the verdict on the module that they spell, or are a text of
+-- evaluation of its erased program's main; the linking of its kernels; the migration of a cache file that holds these
+-- bytes; the text of the module that bytes spell; or the verdict on the module that they spell, or are a text of
 pub data Work : Type 0 where
   running : (bytes : List ℕ) (fuel : ℕ) (shown : Shown) → Work
   erasing : (bytes : List ℕ) (fuel : ℕ) → Work
+  linking : (bytes : List ℕ) (fuel : ℕ) → Work
   migrating : (held : List ℕ) → Work
   writing : (bytes : List ℕ) → Work
   judging : (bytes : List ℕ) → Work
@@ -56,12 +62,15 @@ abbrev pub sampling : ℕ → Work
 sampling number = running (sample_text number) 1000000 Totals
 
 -- a refusal, with the names of the items where it speaks of one; the kernels that gave code, shown so, and an ending;
--- the ending of an erased program; how many texts of a cache file are of the old version, and how many records are
--- added for them; a module; whether a module is valid; or why a file is no module
+-- the ending of an erased program; kernels in one module, or the ending before that; how many texts of a cache file are
+-- of the old version, and how many records are added for them; a module; whether a module is valid; or why a file is no
+-- module
 pub data Meaning : Type 0 where
   refused : (r : Refusal) (names : List (List ℕ)) → Meaning
   ran : (shown : Shown) (kernels : List Kernel) (e : Ending) → Meaning
   erased : (e : Ending) → Meaning
+  joined : (kernels : List Kernel) → Meaning
+  unjoined : (e : Ending) → Meaning
   migrated : (old added : ℕ) → Meaning
   written : (wasm : PureModule) → Meaning
   judged : (valid : Bool) → Meaning
@@ -73,8 +82,9 @@ pub record IsAccepted (p : PureProgram) : Type 0 where
   pub small : NoneTooBig p
 
 -- The run of a source means the first refusal of its reading; else the first refusal of its types; else the run of its
--- program. What is refused is refused with its erased program too, which else means how its main ends. A file that is
--- no module means its first fault.
+-- program. What is refused is refused with its erased program too, which else means how its main ends, and where its
+-- kernels are to be linked, which else means them in one module, or the ending before that: main isn't evaluated. A
+-- file that is no module means its first fault.
 pub data IsMeaning : Work → Meaning → Type 0 where
   of_refusal : {bytes : List ℕ} {fuel : ℕ} {shown : Shown} {r : Refusal} → IsRefused bytes r → IsMeaning
       (running bytes fuel shown) (refused r [])
@@ -90,6 +100,15 @@ pub data IsMeaning : Work → Meaning → Type 0 where
       → IsMeaning (erasing bytes fuel) (refused r names)
   of_erased : {bytes : List ℕ} {fuel : ℕ} {e : Ending} (p : NamedProgram) → IsRead bytes p → IsAccepted (unnamed p)
       → erased_ending fuel (unnamed p) ≡ Some e → IsMeaning (erasing bytes fuel) (erased e)
+  of_link_refusal : {bytes : List ℕ} {fuel : ℕ} {r : Refusal} {names : List (List ℕ)} → IsMeaning
+      (running bytes fuel (Lines Plain)) (refused r names)
+      → IsMeaning (linking bytes fuel) (refused r names)
+  of_joined : {bytes : List ℕ} {fuel : ℕ} {kernels : List Kernel} (p : NamedProgram) → IsRead bytes p
+      → IsAccepted (unnamed p) → link_run (items_run Plain fuel p) ≡ in_one kernels
+      → IsMeaning (linking bytes fuel) (joined kernels)
+  of_unjoined : {bytes : List ℕ} {fuel : ℕ} {e : Ending} (p : NamedProgram) → IsRead bytes p
+      → IsAccepted (unnamed p) → link_run (items_run Plain fuel p) ≡ cut_short e
+      → IsMeaning (linking bytes fuel) (unjoined e)
   of_migration : {held : List ℕ} {old : ℕ} {added : List Kept} → IsMigration held old added
       → IsMeaning (migrating held) (migrated old (length added))
   of_binary : {bytes : List ℕ} {wasm : PureModule} → IsBinary bytes wasm → IsMeaning (writing bytes) (written wasm)
@@ -122,12 +141,14 @@ abbrev pub shown_text : Shown → List Kernel → List ℕ
 shown_text (Lines mode) kernels = flat_map (kernel_lines mode) kernels
 shown_text Totals kernels = totals_text (length kernels) (module_bytes kernels)
 
--- a refusal's line; what is shown of kernels and the line of the ending; two numbers, each on a line; a module's text;
--- or the line of a verdict or of a fault
+-- a refusal's line; what is shown of kernels and the line of the ending; the bytes of one module, on a line; two
+-- numbers, each on a line; a module's text; or the line of a verdict or of a fault
 abbrev pub text_of : Meaning → List ℕ
 text_of (refused r names) = refusal_line names r
 text_of (ran shown kernels e) = shown_text shown kernels ++ ending_line e
 text_of (erased e) = ending_line e
+text_of (joined kernels) = digits_line (codes "module ") (encoding (linked kernels))
+text_of (unjoined e) = ending_line e
 text_of (migrated old added) = migrated_text old added
 text_of (written wasm) = canonical_module wasm
 text_of (judged valid) = verdict_line valid
@@ -137,6 +158,8 @@ abbrev pub status_of : Meaning → Status
 status_of (refused r names) = Refused r
 status_of (ran shown kernels e) = ending_status e
 status_of (erased e) = ending_status e
+status_of (joined kernels) = Answer
+status_of (unjoined e) = ending_status e
 status_of (migrated old added) = Answer
 status_of (written wasm) = Answer
 status_of (judged true) = Answer
@@ -164,6 +187,16 @@ pub record HasModule (mode : Mode) (k : Kernel) : Type 0 where
   pub valid : IsValid wasm
   pub stands : StandsFor wasm (in_mode mode k.code) k.kind
 
+-- The bytes of the one module of kernels spell it; it is valid, within the profile, and means each of the kernels, all
+-- of which have their types.
+pub record HaveOneModule (kernels : List Kernel) : Type 0 where
+  pub spelled : Spells (encoding (linked kernels)) (linked kernels)
+  pub valid : IsValid (linked kernels)
+  pub within_profile : IsWithinProfile (linked kernels)
+  pub typed : AllByRecursion (λ (k : Kernel). HasKernelType k.code k.kind) kernels
+  pub means : MeansAll (linked kernels) kernels
+
 abbrev pub HaveModules : Meaning → Type 0
 HaveModules (ran shown kernels e) = AllByRecursion (HasModule (mode_of shown)) kernels
+HaveModules (joined kernels) = HaveOneModule kernels
 HaveModules m = Unit {0}

@@ -6,7 +6,7 @@ ghost use Rattle.std.specs.String.{string_bytes};
 ghost use Rattle.mw_outside.specs.Count.{Rose};
 ghost use Rattle.mw_term.specs.Terms.{PureGroundValue};
 ghost use Rattle.mw_term.specs.declared.refusal.Refusal.{Refusal};
-ghost use Rattle.mw_words.specs.Words.{PureCommand, run, sample, check, IsUsage, Means, command_in};
+ghost use Rattle.mw_words.specs.Words.{PureCommand, run, link, sample, check, IsUsage, Means, command_in};
 ghost use Rattle.mw_console.specs.declared.status.Status.TheVariants.{Answer, Usage, Refused, Read, Write, Cache};
 ghost use Rattle.mw_console.specs.declared.status.Status.TheVariants.{BadCache};
 ghost use Rattle.mw_console.specs.Texts.{Ending, answered, ending_status};
@@ -19,7 +19,7 @@ ghost use Rattle.mw_drive.specs.Verdicts.{IsVerdictOn};
 ghost use Rattle.mw_drive.specs.Honest.{IsHonestCache};
 ghost use Rattle.mw_drive.specs.Works.{Work, running, erasing, sampling, Meaning, ran, erased, IsMeaning, HaveModules};
 ghost use Rattle.mw_drive.specs.Works.{status_of, mode_of, run_text};
-ghost use Rattle.mw_drive.specs.ProgramMeaning.{Kernel};
+ghost use Rattle.mw_link.specs.Linked.{Kernel};
 ghost use Rattle.mw_drive.specs.ProgramRuns.{evaluated, cache_of, IsPossible};
 ghost use Rattle.mw_drive.specs.declared.shown.Shown.{Shown};
 ghost use Rattle.mw_drive.specs.declared.shown.Shown.TheVariants.{Lines};
@@ -61,12 +61,13 @@ const SAMPLE_WORKERS: u32 = 4;
 /// kernel items and writes what they came to, and then evaluates main and writes the last line; with `--simplify` the
 /// kernels' code is simplified before it is compiled; with `--cache PATH` the modules that the file of this name has
 /// are loaded before, and those that were emitted are kept in it afterwards. `erased FILE` evaluates main of the erased
-/// program and writes the last line alone. `sample N` runs as `run` does, with a source that is made from the number,
-/// and writes totals in place of the kernels. The kernel items are evaluated by as many workers as the words say, or as
-/// a sample has, over the table of modules; what is written depends neither on their number nor on what stands in the
-/// table. `migrate --cache PATH` adds records of the version that is made for those of the old one, and writes how many
-/// there are of both. `wat FILE` writes the text of the module that the file's bytes spell, and `check FILE` whether
-/// the module is valid that they spell, or are a text of; a file that is no module gets the line of its first fault.
+/// program and writes the last line alone. `link FILE` writes the kernels as one module, and doesn't evaluate main.
+/// `sample N` runs as `run` does, with a source that is made from the number, and writes totals in place of the
+/// kernels. The kernel items are evaluated by as many workers as the words say, or as a sample has, over the table of
+/// modules; what is written depends neither on their number nor on what stands in the table. `migrate --cache PATH`
+/// adds records of the version that is made for those of the old one, and writes how many there are of both. `wat FILE`
+/// writes the text of the module that the file's bytes spell, and `check FILE` whether the module is valid that they
+/// spell, or are a text of; a file that is no module gets the line of its first fault.
 pub fn run<R: Threads + Sync, S: Source, K: Sink, C: Keeper, G: Gate>(
     rt: &R,
     alloc: Global,
@@ -201,6 +202,7 @@ fn carry_out<R: Threads + Sync, S: Source, K: Sink, C: Keeper, G: Gate>(
     requires range { (number : ℕ) → command_in command ≡ sample number → (1 ≤ number) × (number ≤ 100) }
     requires workers { (workers fuel : ℕ) (simplify : Bool) (cache : Option (List ℕ)) (file : List ℕ)
         → command_in command ≡ run workers fuel simplify cache file → 1 ≤ workers }
+    requires linkers { (workers fuel : ℕ) (file : List ℕ) → command_in command ≡ link workers fuel file → 1 ≤ workers }
     ensures work { (contents : List (List ℕ)) (work : Work)
         → HasAll (sources S.tells (S.told source.old)) (files_of (command_in command.entry)) contents
         → IsWork (outside S.tells (S.told source.old) C.tells (C.held keeper.old))
@@ -266,6 +268,14 @@ fn carry_out<R: Threads + Sync, S: Source, K: Sink, C: Keeper, G: Gate>(
         }
         Command::Erased { fuel, file } => {
             let evaluation = Evaluation::Erased;
+            evaluate_file(alloc, place, source, sink, keeper, file, fuel, evaluation)
+        }
+        Command::Link {
+            workers,
+            fuel,
+            file,
+        } => {
+            let evaluation = Evaluation::Linked(workers);
             evaluate_file(alloc, place, source, sink, keeper, file, fuel, evaluation)
         }
         Command::Sample { number } => run_sample(alloc, place, sink, keeper, number),

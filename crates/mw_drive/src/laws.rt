@@ -1,7 +1,20 @@
 // Laws of works and their meanings, which no program calls.
 
+ghost use Rattle.std.specs.Prelude.{◌≡◌, true, map};
+ghost use Rattle.std.specs.String.{string_bytes};
+ghost use Rattle.mw_outside.specs.Sure.{sure_files, sure_held};
+ghost use Rattle.mw_console.specs.declared.status.Status.TheVariants.{Read, Write, Cache};
+ghost use Rattle.mw_drive.specs.Running.{outside, AsksMissing};
 ghost use Rattle.mw_drive.specs.SimplifiedPrograms.{ProgramsEndAlike};
 ghost use Rattle.mw_drive.specs.WorkLaws.{OneMeaning, SomeMeaning, AnswersAreErased};
+
+use crate::command::run;
+use mw_compile::Entry;
+use mw_console::Status;
+use mw_outside::{Gate, SureKeeper, SureSink, SureSource};
+use mw_slots::Table;
+use std::alloc::Global;
+use std::thread::Threads;
 
 /// A work has one meaning at most: bytes, fuel and mode decide text and status.
 pub fn one_meaning()
@@ -22,3 +35,23 @@ pub fn answers_are_erased()
 pub fn programs_end_alike()
     ensures { ProgramsEndAlike }
 {}
+
+/// Over a source, a sink and a keeper that never fail no command ends with Write or Cache, and one ends with Read only
+/// where the source lacks its file.
+pub fn sure_outside<R: Threads + Sync, G: Gate>(
+    rt: &R,
+    alloc: Global,
+    words: &[String],
+    source: &mut SureSource,
+    sink: &mut SureSink,
+    keeper: &mut SureKeeper,
+    gate: &G,
+    table: &Table<Entry>,
+) -> Status
+    ensures read { result ≡ Read → AsksMissing (map string_bytes words.now)
+        (outside true (sure_files source.old) true (sure_held keeper.old)) }
+    ensures write { ¬ (result ≡ Write) }
+    ensures cache { ¬ (result ≡ Cache) }
+{
+    run(rt, alloc, words, source, sink, keeper, gate, table)
+}

@@ -9,6 +9,7 @@ mod inquiry;
 mod items;
 mod kept;
 pub mod laws;
+mod linked;
 mod main_end;
 mod migrated;
 mod program;

@@ -10,7 +10,7 @@ ghost use Rattle.mw_drive.specs.declared.shown.Shown.{Shown};
 ghost use Rattle.mw_drive.specs.BadRecords.{HasBadRecordOf};
 ghost use Rattle.mw_drive.specs.HeldFiles.{IsHeldAfter, IsKeptOf};
 ghost use Rattle.mw_drive.specs.Honest.{IsHonestCache};
-ghost use Rattle.mw_drive.specs.ProgramMeaning.{Kernel};
+ghost use Rattle.mw_link.specs.Linked.{Kernel};
 ghost use Rattle.mw_drive.specs.ProgramRuns.{evaluated, cache_of, IsPossible, IsUsual, IsWrittenMeaning, IsEndedSource};
 ghost use Rattle.mw_drive.specs.RunFaults.{BlamesSink, IfBadRecord};
 ghost use Rattle.mw_drive.specs.Works.{IsMeaning, ran, mode_of, run_text};
@@ -18,6 +18,7 @@ ghost use Rattle.mw_drive.specs.Written.{Writes};
 
 use crate::erased::write_erased;
 use crate::fault::RunFault;
+use crate::linked::write_linked;
 use crate::program::{RunOptions, write_run};
 use crate::reading::read;
 use crate::workplace::Workplace;
@@ -29,11 +30,13 @@ use std::alloc::Global;
 use std::sync::ledger::{Blank, Ledger};
 use std::thread::Threads;
 
-/// What of a source is evaluated and written: the run of its program, or its erased program's main.
+/// What of a source is evaluated and written: the run of its program; its erased program's main; or its kernels, as one
+/// module, whose items are evaluated by so many workers at most.
 #[derive(Clone, Copy, Debug)]
 pub enum Evaluation<'p> {
     Run(RunOptions<'p>),
     Erased,
+    Linked(u32),
 }
 
 /// Reads and checks a source, evaluates it with so many units for each item and for main, and writes what it means. A
@@ -92,6 +95,7 @@ pub fn write_source<R: Threads + Sync, K: Sink, C: Keeper, G: Gate, L: Ledger>(
         Evaluation::Erased => {
             write_erased::<K, L>(alloc, place.table, &program, fuel, sink, blank)
         }
+        Evaluation::Linked(workers) => { write_linked(alloc, place, program, fuel, workers, sink) }
     }
 }
 

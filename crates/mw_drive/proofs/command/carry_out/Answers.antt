@@ -1,13 +1,13 @@
-use Rattle.std.proofs.Common.{◌≡◌, ◌⊎◌, inl, inr, ◌∙◌, List, ℕ, option_map, drop, refl, sym, ap, subst}
+use Rattle.std.proofs.Common.{◌≡◌, inl, inr, ◌∙◌, List, ℕ, option_map, drop, refl, sym, ap, subst}
 use denote.Ref.{Bor}
 use Rattle.mw_words.specs.Words.{word_in}
 use Rattle.mw_drive.specs.declared.shown.Shown.TheVariants.{Lines}
 use Rattle.mw_drive.specs.BadRecords.{HasBadRecordOf}
 use Rattle.mw_drive.specs.Works.{running, IsMeaning, ran}
-use Rattle.mw_drive.specs.Extents.{extent, whole, never, on_a_file, on_a_number, on_a_cache}
+use Rattle.mw_drive.specs.Extents.{extent, on_a_file, on_a_number, on_a_cache}
 use Rattle.mw_drive.specs.Running.{IsCarriedOut, IsWritten, kind_with}
 use Rattle.mw_drive.proofs.HeldFiles.{held_of_run}
-use Rattle.mw_drive.proofs.CommandLemmas.{run_on, erased_on, sample_on, migrate_on, wat_on, check_on}
+use Rattle.mw_drive.proofs.CommandLemmas.{run_on, erased_on, linked_on, sample_on, migrate_on, wat_on, check_on}
 use Rattle.mw_drive.proofs.CommandLemmas.{has_one, first_lacks, lacks_one, most_of_one, no_migrated_run}
 use Rattle.mw_drive.proofs.CommandLemmas.{kind_mapped, some_mapped, none_mapped, honest_mapped}
 use Rattle.mw_drive.proofs.Options.{none_is_some}
@@ -101,6 +101,32 @@ returns-in-Erased-clause-bad g c = λ digest contents work told has works.
     let on = erased_on contents work (rw c.in-Erased.is at has) (rw c.in-Erased.is at works) in
     subst (λ w. HasBadRecordOf w g.C.Keeper.tells (g.C.Keeper.held c.args.keeper.now) digest) (sym on.2)
     (c.evaluate_file-in-Erased.ensures.bad digest on.0 told on.1)
+
+pub returns-in-Link-clause-work : goal.returns-in-Link-clause-work
+returns-in-Link-clause-work g c = λ contents work has works honest.
+    let on = linked_on contents work (rw c.in-Link.is at has) (rw c.in-Link.is at works) in
+    rw c.in-Link.is
+    (subst (λ w. IsCarriedOut on_a_file w c.evaluate_file-in-Link.result g.K.Sink.tells
+    (g.K.Sink.written c.args.sink.now) (g.K.Sink.written c.evaluate_file-in-Link.new.sink))
+    (sym on.2) (c.evaluate_file-in-Link.ensures.work on.0 on.1 (λ some. absurd (none_is_some (Bor (List ℕ)) some))))
+
+pub returns-in-Link-clause-left : goal.returns-in-Link-clause-left
+returns-in-Link-clause-left g c = λ file bytes is has memory read.
+    c.evaluate_file-in-Link.ensures.left bytes (has_one (rw c.in-Link.is at has)) memory read
+    ∙ ap (λ n. drop n bytes) (most_of_one (rw c.in-Link.is at is))
+
+pub returns-in-Link-clause-read : goal.returns-in-Link-clause-read
+returns-in-Link-clause-read g c = λ is. rw c.in-Link.is (first_lacks (c.evaluate_file-in-Link.ensures.read is))
+
+pub returns-in-Link-clause-bad : goal.returns-in-Link-clause-bad
+returns-in-Link-clause-bad g c = λ digest contents work told has works.
+    let on = linked_on contents work (rw c.in-Link.is at has) (rw c.in-Link.is at works) in
+    subst (λ w. HasBadRecordOf w g.C.Keeper.tells (g.C.Keeper.held c.args.keeper.now) digest) (sym on.2)
+    (c.evaluate_file-in-Link.ensures.bad digest on.0 told on.1)
+
+pub evaluate_file-requires-in-Link-clause-possible : goal.evaluate_file-requires-in-Link-clause-possible
+evaluate_file-requires-in-Link-clause-possible g c = λ κs live.
+    c.requires.linkers c.in-Link.workers c.in-Link.fuel c.in-Link.file.now (rw c.in-Link.is refl)
 
 pub run_sample-requires-clause-some : goal.run_sample-requires-clause-some
 run_sample-requires-clause-some g c = λ κs live. (c.requires.range c.in-Sample.number (rw c.in-Sample.is refl)).0

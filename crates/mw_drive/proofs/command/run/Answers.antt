@@ -6,8 +6,9 @@ use Rattle.mw_drive.specs.Extents.{extent}
 use Rattle.mw_drive.specs.Running.{kind_of, path_of}
 use Rattle.mw_words.specs.Words.{command_in}
 use Rattle.mw_keeping.proofs.KeptFiles.{front_stays}
-use Rattle.mw_drive.proofs.CommandLemmas.{sample_range, run_workers, asked_text, asked_status, asked_complete}
-use Rattle.mw_drive.proofs.CommandLemmas.{asked_faults, asked_possible, asked_of, asked_missing, asked_no_file}
+use Rattle.mw_drive.proofs.CommandLemmas.{sample_range, run_workers, link_workers, asked_text, asked_status}
+use Rattle.mw_drive.proofs.CommandLemmas.{asked_complete, asked_faults, asked_possible, asked_of, asked_missing}
+use Rattle.mw_drive.proofs.CommandLemmas.{asked_no_file}
 use Rattle.mw_drive.proofs.CommandLemmas.{asked_no_cache, asked_file, asked_verdict, asked_kept, asked_bad, asked_read}
 use Rattle.mw_drive.proofs.CommandLemmas.{asked_has, asked_erased, asked_simplified}
 use Rattle.mw_drive.proofs.HeldFiles.{front_of, kept_ending}
@@ -21,6 +22,10 @@ carry_out-requires-clause-range g c = λ κs live n e. sample_range
 pub carry_out-requires-clause-workers : goal.carry_out-requires-clause-workers
 carry_out-requires-clause-workers g c = λ κs live w fuel simplify cache file e.
     run_workers (command_in c.in-Ok.command) w fuel simplify cache file c.in-Ok.ensures.some e
+
+pub carry_out-requires-clause-linkers : goal.carry_out-requires-clause-linkers
+carry_out-requires-clause-linkers g c = λ κs live w fuel file e.
+    link_workers (command_in c.in-Ok.command) w fuel file c.in-Ok.ensures.some e
 
 pub returns-in-Ok-clause-text : goal.returns-in-Ok-clause-text
 returns-in-Ok-clause-text g c =

@@ -1,6 +1,6 @@
 use Rattle.std.proofs.Common.{◌∙◌, List, ℕ, subst}
 use Rattle.mw_drive.specs.Extents.{on_a_file}
-use Rattle.mw_drive.specs.Running.{IsCarriedOut, most_of_module}
+use Rattle.mw_drive.specs.Running.{IsCarriedOut}
 use Rattle.mw_drive.specs.Verdicts.{inquired}
 use Rattle.mw_drive.proofs.CommandLemmas.{carried_memory}
 use Rattle.mw_drive.proofs.RunLemmas.{front_told}

@@ -1,11 +1,9 @@
-use Rattle.std.proofs.Common.{refl, sym, ◌∙◌}
-use Rattle.mw_console.specs.Texts.{migrated_text}
+use Rattle.std.proofs.Common.{refl}
 use Rattle.mw_console.specs.declared.status.Status.TheVariants.{Answer, Write, Cache, Memory}
 use Rattle.mw_keeping.proofs.KeptFiles.{front_stays}
-use Rattle.mw_keeping.proofs.Migrations.{migration_here}
 use Rattle.mw_drive.specs.Extents.{on_a_cache}
 use Rattle.mw_drive.proofs.Fronts.{whole_grows}
-use Rattle.mw_drive.proofs.Reported.{migrated_report, carried_report, carried_some, carried_all, front_since}
+use Rattle.mw_drive.proofs.Reported.{file_report, carried_report, carried_some, carried_all, front_since}
 use Rattle.mw_drive.proofs.migrated.migrate.Goals as goal
 
 pub returns-in-Err-Failed-clause-held : goal.returns-in-Err-Failed-clause-held
@@ -16,25 +14,13 @@ returns-in-Err-Memory-clause-held g c = λ tells. front_stays _ _ (c.uncounted.e
 
 pub returns-in-Err-Failed-write_numbers-clause-work : goal.returns-in-Err-Failed-write_numbers-clause-work
 returns-in-Err-Failed-write_numbers-clause-work g c = λ tells.
-    let held = g.C.Keeper.held c.args.keeper.now in
-    let found = c.in-Ok.found in
-    let m = migration_here held found (c.in-Ok.ensures.found tells) in
-    let report = migrated_report m.0 found.added m.1 m.2 in
-    let text = migrated_text found.old found.added in
-    let before = g.K.Sink.written c.args.sink.now in
-    let after = g.K.Sink.written c.write_numbers.new.sink in
-    carried_some on_a_cache before after text Answer Write report refl c.in-Err-Failed-write_numbers.ensures.writes
+    let report = file_report (g.C.Keeper.held c.args.keeper.now) c.in-Ok.found (c.in-Ok.ensures.found tells) in
+    carried_some on_a_cache _ _ _ Answer Write report refl c.in-Err-Failed-write_numbers.ensures.writes
 
 pub returns-in-Err-Memory-write_numbers-clause-work : goal.returns-in-Err-Memory-write_numbers-clause-work
 returns-in-Err-Memory-write_numbers-clause-work g c = λ tells.
-    let held = g.C.Keeper.held c.args.keeper.now in
-    let found = c.in-Ok.found in
-    let m = migration_here held found (c.in-Ok.ensures.found tells) in
-    let report = migrated_report m.0 found.added m.1 m.2 in
-    let text = migrated_text found.old found.added in
-    let before = g.K.Sink.written c.args.sink.now in
-    let after = g.K.Sink.written c.write_numbers.new.sink in
-    carried_some on_a_cache before after text Answer (Memory c.in-Err-Memory-write_numbers.error) report refl
+    let report = file_report (g.C.Keeper.held c.args.keeper.now) c.in-Ok.found (c.in-Ok.ensures.found tells) in
+    carried_some on_a_cache _ _ _ Answer (Memory c.in-Err-Memory-write_numbers.error) report refl
     c.in-Err-Memory-write_numbers.ensures.writes
 
 pub returns-in-Err-Memory-write_numbers-clause-held : goal.returns-in-Err-Memory-write_numbers-clause-held
@@ -42,37 +28,19 @@ returns-in-Err-Memory-write_numbers-clause-held g c = λ tells. front_stays _ _ 
 
 pub returns-in-Ok-keep_migration-clause-work : goal.returns-in-Ok-keep_migration-clause-work
 returns-in-Ok-keep_migration-clause-work g c = λ tells.
-    let held = g.C.Keeper.held c.args.keeper.now in
-    let found = c.in-Ok.found in
-    let m = migration_here held found (c.in-Ok.ensures.found tells) in
-    let report = migrated_report m.0 found.added m.1 m.2 in
-    let text = migrated_text found.old found.added in
-    let before = g.K.Sink.written c.args.sink.now in
-    let after = g.K.Sink.written c.write_numbers.new.sink in
-    carried_report on_a_cache before after text Answer report c.in-Ok-write_numbers.ensures.writes
+    let report = file_report (g.C.Keeper.held c.args.keeper.now) c.in-Ok.found (c.in-Ok.ensures.found tells) in
+    carried_report on_a_cache _ _ _ Answer report c.in-Ok-write_numbers.ensures.writes
 
 pub returns-in-Err-Failed-keep_migration-clause-work : goal.returns-in-Err-Failed-keep_migration-clause-work
 returns-in-Err-Failed-keep_migration-clause-work g c = λ tells.
-    let held = g.C.Keeper.held c.args.keeper.now in
-    let found = c.in-Ok.found in
-    let m = migration_here held found (c.in-Ok.ensures.found tells) in
-    let report = migrated_report m.0 found.added m.1 m.2 in
-    let text = migrated_text found.old found.added in
-    let before = g.K.Sink.written c.args.sink.now in
-    let after = g.K.Sink.written c.write_numbers.new.sink in
-    carried_all on_a_cache before after text Answer Cache report refl c.in-Ok-write_numbers.ensures.writes
+    let report = file_report (g.C.Keeper.held c.args.keeper.now) c.in-Ok.found (c.in-Ok.ensures.found tells) in
+    carried_all on_a_cache _ _ _ Answer Cache report refl c.in-Ok-write_numbers.ensures.writes
 
 pub returns-clause-work : goal.returns-clause-work
 returns-clause-work g c = λ tells.
-    let held = g.C.Keeper.held c.args.keeper.now in
-    let found = c.in-Ok.found in
-    let m = migration_here held found (c.in-Ok.ensures.found tells) in
-    let report = migrated_report m.0 found.added m.1 m.2 in
-    let text = migrated_text found.old found.added in
-    let before = g.K.Sink.written c.args.sink.now in
-    let after = g.K.Sink.written c.write_numbers.new.sink in
-    carried_some on_a_cache before after text Answer (Memory c.in-Err-Memory-keep_migration.error) report refl
-    (λ t. whole_grows before after text (c.in-Ok-write_numbers.ensures.writes t))
+    let report = file_report (g.C.Keeper.held c.args.keeper.now) c.in-Ok.found (c.in-Ok.ensures.found tells) in
+    carried_some on_a_cache _ _ _ Answer (Memory c.in-Err-Memory-keep_migration.error) report refl
+    (λ t. whole_grows _ _ _ (c.in-Ok-write_numbers.ensures.writes t))
 
 pub returns-in-Err-Failed-keep_migration-clause-held : goal.returns-in-Err-Failed-keep_migration-clause-held
 returns-in-Err-Failed-keep_migration-clause-held g c = λ tells.

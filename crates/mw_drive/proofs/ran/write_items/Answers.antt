@@ -1,7 +1,6 @@
-use Rattle.std.proofs.Common.{◌≡◌, refl, ap}
+use Rattle.std.proofs.Common.{◌≡◌, ap}
 use Rattle.std.specs.Option.{option_map}
 use Rattle.mw_console.specs.Texts.{ending_line}
-use Rattle.mw_term.specs.Programs.{program_of}
 use Rattle.mw_tasks.specs.Phases.{codes_in}
 use Rattle.mw_drive.specs.NamedPrograms.{named_program_of}
 use Rattle.mw_drive.specs.ProgramMeaning.{all_gave}
@@ -9,10 +8,10 @@ use Rattle.mw_drive.specs.ItemOutcomes.{outcomes_run}
 use Rattle.mw_drive.specs.ProgramRuns.{ending_of, kernels_of, IsRanTo}
 use Rattle.mw_drive.specs.Works.{mode_of, shown_text}
 use Rattle.mw_drive.proofs.Fronts.{grows_front, grows_nothing, grows_whole}
-use Rattle.mw_drive.proofs.Honest.{are_meant, none_wrong}
+use Rattle.mw_drive.proofs.Honest.{none_wrong}
 use Rattle.mw_drive.proofs.ItemsRun.{one_for_each, all_placed, all_codes}
 use Rattle.mw_drive.proofs.RunFaults.{unwritten_usual, job_is_usual, if_bad}
-use Rattle.mw_drive.proofs.RunWritten.{some_ending, items_ending, item_ended, main_ended, items_were, run_failed}
+use Rattle.mw_drive.proofs.RunWritten.{some_ending, items_ending, item_ended, main_ended, phase_run, run_failed}
 use Rattle.mw_drive.proofs.RunWritten.{run_ended, line_failed}
 use Rattle.mw_drive.proofs.ran.write_items.Goals as goal
 
@@ -39,13 +38,10 @@ write_kernels-requires-clause-built g c =
 pub returns-in_err-write_kernels-clause-run : goal.returns-in_err-write_kernels-clause-run
 returns-in_err-write_kernels-clause-run g c = λ honest.
     let mode = mode_of c.args.shown in
-    let meant =
-    are_meant mode (program_of c.args.program.now) c.args.fuel c.args.cache.now c.args.phase.now.outcomes honest
-    c.requires.phase in
     let run =
-    items_were c.args.shown c.args.fuel c.args.program.now c.args.cache.now c.args.phase.now.outcomes mode
-    c.in_ok-built.field-0.built.items c.as_slice.result.now (option_map ending_of c.in_ok-built.field-0.end) refl meant
-    c.in_ok-built.ensures.run c.as_slice.ensures.value in
+    phase_run mode c.args.fuel c.args.program.now c.args.cache.now c.args.phase.now.outcomes
+    c.in_ok-built.field-0.built.items c.as_slice.result.now (option_map ending_of c.in_ok-built.field-0.end) honest
+    c.requires.phase c.in_ok-built.ensures.run c.as_slice.ensures.value in
     let kernels = kernels_of c.as_slice.result.now in
     let e =
     items_ending mode c.args.fuel c.args.program.now c.requires.typable kernels
@@ -59,13 +55,10 @@ returns-in_err-write_kernels-clause-run g c = λ honest.
 pub returns-in_err-status-clause-run : goal.returns-in_err-status-clause-run
 returns-in_err-status-clause-run g c = λ honest.
     let mode = mode_of c.args.shown in
-    let meant =
-    are_meant mode (program_of c.args.program.now) c.args.fuel c.args.cache.now c.args.phase.now.outcomes honest
-    c.requires.phase in
     let run =
-    items_were c.args.shown c.args.fuel c.args.program.now c.args.cache.now c.args.phase.now.outcomes mode
-    c.in_ok-built.field-0.built.items c.as_slice.result.now (option_map ending_of c.in_ok-built.field-0.end) refl meant
-    c.in_ok-built.ensures.run c.as_slice.ensures.value in
+    phase_run mode c.args.fuel c.args.program.now c.args.cache.now c.args.phase.now.outcomes
+    c.in_ok-built.field-0.built.items c.as_slice.result.now (option_map ending_of c.in_ok-built.field-0.end) honest
+    c.requires.phase c.in_ok-built.ensures.run c.as_slice.ensures.value in
     let kernels = kernels_of c.as_slice.result.now in
     let is =
     item_ended mode c.args.fuel c.args.program.now c.requires.typable kernels (ending_of c.in-Some.end)
@@ -78,13 +71,10 @@ returns-in_err-status-clause-run g c = λ honest.
 pub returns-in-Some-clause-run : goal.returns-in-Some-clause-run
 returns-in-Some-clause-run g c = λ honest.
     let mode = mode_of c.args.shown in
-    let meant =
-    are_meant mode (program_of c.args.program.now) c.args.fuel c.args.cache.now c.args.phase.now.outcomes honest
-    c.requires.phase in
     let run =
-    items_were c.args.shown c.args.fuel c.args.program.now c.args.cache.now c.args.phase.now.outcomes mode
-    c.in_ok-built.field-0.built.items c.as_slice.result.now (option_map ending_of c.in_ok-built.field-0.end) refl meant
-    c.in_ok-built.ensures.run c.as_slice.ensures.value in
+    phase_run mode c.args.fuel c.args.program.now c.args.cache.now c.args.phase.now.outcomes
+    c.in_ok-built.field-0.built.items c.as_slice.result.now (option_map ending_of c.in_ok-built.field-0.end) honest
+    c.requires.phase c.in_ok-built.ensures.run c.as_slice.ensures.value in
     let kernels = kernels_of c.as_slice.result.now in
     let is =
     item_ended mode c.args.fuel c.args.program.now c.requires.typable kernels (ending_of c.in-Some.end)
@@ -110,13 +100,10 @@ main_end-requires-clause-built g c =
 pub returns-in_err-end-clause-run : goal.returns-in_err-end-clause-run
 returns-in_err-end-clause-run g c = λ honest.
     let mode = mode_of c.args.shown in
-    let meant =
-    are_meant mode (program_of c.args.program.now) c.args.fuel c.args.cache.now c.args.phase.now.outcomes honest
-    c.requires.phase in
     let run =
-    items_were c.args.shown c.args.fuel c.args.program.now c.args.cache.now c.args.phase.now.outcomes mode
-    c.in_ok-built.field-0.built.items c.as_slice.result.now (option_map ending_of c.in_ok-built.field-0.end) refl meant
-    c.in_ok-built.ensures.run c.as_slice.ensures.value in
+    phase_run mode c.args.fuel c.args.program.now c.args.cache.now c.args.phase.now.outcomes
+    c.in_ok-built.field-0.built.items c.as_slice.result.now (option_map ending_of c.in_ok-built.field-0.end) honest
+    c.requires.phase c.in_ok-built.ensures.run c.as_slice.ensures.value in
     let kernels = kernels_of c.as_slice.result.now in
     let e =
     items_ending mode c.args.fuel c.args.program.now c.requires.typable kernels
@@ -134,13 +121,10 @@ returns-in_err-end-clause-run g c = λ honest.
 pub returns-in_err-status-2-clause-run : goal.returns-in_err-status-2-clause-run
 returns-in_err-status-2-clause-run g c = λ honest.
     let mode = mode_of c.args.shown in
-    let meant =
-    are_meant mode (program_of c.args.program.now) c.args.fuel c.args.cache.now c.args.phase.now.outcomes honest
-    c.requires.phase in
     let run =
-    items_were c.args.shown c.args.fuel c.args.program.now c.args.cache.now c.args.phase.now.outcomes mode
-    c.in_ok-built.field-0.built.items c.as_slice.result.now (option_map ending_of c.in_ok-built.field-0.end) refl meant
-    c.in_ok-built.ensures.run c.as_slice.ensures.value in
+    phase_run mode c.args.fuel c.args.program.now c.args.cache.now c.args.phase.now.outcomes
+    c.in_ok-built.field-0.built.items c.as_slice.result.now (option_map ending_of c.in_ok-built.field-0.end) honest
+    c.requires.phase c.in_ok-built.ensures.run c.as_slice.ensures.value in
     let kernels = kernels_of c.as_slice.result.now in
     let gave : outcomes_run (named_program_of c.args.program.now).items c.args.phase.now.outcomes ≡ all_gave kernels =
     rw c.as_slice.ensures.value (rw c.in_default.is at c.in_ok-built.ensures.run) in
@@ -159,13 +143,10 @@ returns-in_err-status-2-clause-run g c = λ honest.
 pub returns-clause-run : goal.returns-clause-run
 returns-clause-run g c = λ honest.
     let mode = mode_of c.args.shown in
-    let meant =
-    are_meant mode (program_of c.args.program.now) c.args.fuel c.args.cache.now c.args.phase.now.outcomes honest
-    c.requires.phase in
     let run =
-    items_were c.args.shown c.args.fuel c.args.program.now c.args.cache.now c.args.phase.now.outcomes mode
-    c.in_ok-built.field-0.built.items c.as_slice.result.now (option_map ending_of c.in_ok-built.field-0.end) refl meant
-    c.in_ok-built.ensures.run c.as_slice.ensures.value in
+    phase_run mode c.args.fuel c.args.program.now c.args.cache.now c.args.phase.now.outcomes
+    c.in_ok-built.field-0.built.items c.as_slice.result.now (option_map ending_of c.in_ok-built.field-0.end) honest
+    c.requires.phase c.in_ok-built.ensures.run c.as_slice.ensures.value in
     let kernels = kernels_of c.as_slice.result.now in
     let gave : outcomes_run (named_program_of c.args.program.now).items c.args.phase.now.outcomes ≡ all_gave kernels =
     rw c.as_slice.ensures.value (rw c.in_default.is at c.in_ok-built.ensures.run) in

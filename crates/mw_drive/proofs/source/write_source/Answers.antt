@@ -5,7 +5,8 @@ use Rattle.mw_drive.specs.Works.{mode_of, run_text}
 use Rattle.mw_drive.proofs.HeldFiles.{held_failed, held_refused}
 use Rattle.mw_drive.proofs.RunFaults.{bad_maps}
 use Rattle.mw_drive.proofs.SourceWritten.{written_nothing, refusal_written, resolved, few_items, types_written}
-use Rattle.mw_drive.proofs.SourceWritten.{run_written, erased_written, few_nodes, run_kernels, bad_written}
+use Rattle.mw_drive.proofs.SourceWritten.{run_written, erased_written, linked_written, may_be_linked, few_nodes}
+use Rattle.mw_drive.proofs.SourceWritten.{run_kernels, bad_written}
 use Rattle.mw_drive.proofs.SourceWritten.{refused_kept}
 use Rattle.mw_drive.proofs.source.write_source.Goals as goal
 
@@ -57,12 +58,27 @@ pub write_erased-requires-clause-nodes : goal.write_erased-requires-clause-nodes
 write_erased-requires-clause-nodes g c =
     few_nodes c.args.bytes.now c.args.fuel g.K.Sink.tells c.in-Ok.program c.in-Ok.ensures.found
 
-pub returns-clause-meaning : goal.returns-clause-meaning
-returns-clause-meaning g c =
+pub returns-in-Erased-clause-meaning : goal.returns-in-Erased-clause-meaning
+returns-in-Erased-clause-meaning g c =
     rw c.in-Erased.is (λ honest.
     erased_written c.args.bytes.now c.args.fuel g.K.Sink.tells c.in-Ok.program c.in-Ok.ensures.found
     c.write_erased.result _ _
     c.in-Ok-check.ensures.typable c.in-Ok-check.ensures.small c.write_erased.ensures.run)
+
+pub write_linked-requires-clause-workers : goal.write_linked-requires-clause-workers
+write_linked-requires-clause-workers g c = λ κs live. rw c.in-Linked.is at c.requires.possible
+
+pub write_linked-requires-clause-linkable : goal.write_linked-requires-clause-linkable
+write_linked-requires-clause-linkable g c = λ κs live.
+    may_be_linked c.args.bytes.now c.args.fuel g.K.Sink.tells c.in-Ok.program c.in-Ok.ensures.found
+    c.in-Ok-check.ensures.typable c.in-Ok-check.ensures.small
+
+pub returns-in-Linked-clause-meaning : goal.returns-in-Linked-clause-meaning
+returns-in-Linked-clause-meaning g c =
+    rw c.in-Linked.is (λ honest.
+    linked_written c.args.bytes.now c.args.fuel g.K.Sink.tells c.in-Ok.program c.in-Ok.ensures.found
+    c.in-Linked.workers c.write_linked.result _ _
+    c.in-Ok-check.ensures.typable c.in-Ok-check.ensures.small c.write_linked.ensures.run)
 
 pub returns-in-Err-Refused-clause-held : goal.returns-in-Err-Refused-clause-held
 returns-in-Err-Refused-clause-held g c = λ some tells.
