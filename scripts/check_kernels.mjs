@@ -1,12 +1,12 @@
 // What scripts/check_kernels does, where node is installed.
 //
-// tests/calls has a line for each call: the path of an example without its ending, the kernel's name, and the leaves of the
-// argument from left to right, with truth values as 0 and 1. node calls the module that stands in the example's output. The
-// program is run on the example with another main, which makes the same call.
+// node makes each call of tests/calls with the module that stands in the example's output. The program is run on the
+// example with another main, which makes the same call.
 import { execFileSync } from 'node:child_process';
 import { mkdtempSync, readFileSync, readdirSync, rmSync, writeFileSync } from 'node:fs';
 import { tmpdir } from 'node:os';
 import { join } from 'node:path';
+import { kernelsIn, listedCalls } from './kernels.mjs';
 
 const program = 'crates/metaml/out/metaml';
 
@@ -42,19 +42,6 @@ function expression(type, leaves) {
   return `(${left}, ${expression(type[1], leaves)})`;
 }
 
-/** The kernels in an output: by name, the type and the module's bytes. */
-function kernelsOf(path) {
-  const kernels = new Map();
-  let name;
-  let type;
-  for (const line of readFileSync(`${path}.out`, 'utf8').split('\n')) {
-    const head = line.match(/^kernel (\w+) : (.*)$/);
-    if (head) [, name, type] = head;
-    if (line.startsWith('module ')) kernels.set(name, { type, bytes: Buffer.from(line.slice(7), 'hex') });
-  }
-  return kernels;
-}
-
 /** What node gives: the result of `init`, or of a call of the function that it gives. */
 function givenByNode(kernel, leaves) {
   const { init, call } = new WebAssembly.Instance(new WebAssembly.Module(kernel.bytes)).exports;
@@ -88,16 +75,14 @@ const differs = (text) => {
 };
 
 const called = new Set();
-const calls = readFileSync('tests/calls', 'utf8').split('\n').filter((line) => line && !line.startsWith('#'));
-for (const line of calls) {
-  const [path, name, ...words] = line.split(' ');
-  const kernel = kernelsOf(path).get(name);
+const calls = listedCalls();
+for (const { line, path, name, leaves } of calls) {
+  const kernel = kernelsIn(`${path}.out`).get(name);
   if (!kernel) {
     differs(`${line}: no kernel of this name`);
     continue;
   }
   called.add(`${path} ${name}`);
-  const leaves = words.map(BigInt);
   const value = givenByNode(kernel, leaves);
   const result = kernel.type.split(' -> ').pop();
   const given = `answer ${result === 'bool' ? value === 1n : value}`;
@@ -105,7 +90,7 @@ for (const line of calls) {
   if (given !== wanted) differs(`${line}: node gives "${given}", the program "${wanted}"`);
 }
 for (const path of examples()) {
-  for (const name of kernelsOf(path).keys()) {
+  for (const name of kernelsIn(`${path}.out`).keys()) {
     if (!called.has(`${path} ${name}`)) differs(`${path} ${name}: no line of tests/calls calls it`);
   }
 }
