@@ -6,7 +6,7 @@ use std::alloc::{AllocError, Global};
 /// The numbers of rows, by the place of their kind.
 #[derive(Drop)]
 pub struct Counts {
-    by_kind: [u64; 14],
+    by_kind: [u64; 15],
 }
 
 fn place(kind: Kind) -> usize {
@@ -25,12 +25,13 @@ fn place(kind: Kind) -> usize {
         Kind::Digest => 11,
         Kind::Phases => 12,
         Kind::Cached => 13,
+        Kind::Linked => 14,
     }
 }
 
 impl Counts {
     pub fn none() -> Counts {
-        Counts { by_kind: [0; 14] }
+        Counts { by_kind: [0; 15] }
     }
 
     /// Counts a row.

@@ -33,6 +33,8 @@ pub enum Kind {
     Phases,
     /// A command over the cache file that it leaves, whole and damaged at each place.
     Cached,
+    /// What an instance of a linked module gives.
+    Linked,
 }
 
 /// All kinds, in the order in which they are counted.
@@ -51,6 +53,7 @@ pub const KINDS: &[Kind] = &[
     Kind::Digest,
     Kind::Phases,
     Kind::Cached,
+    Kind::Linked,
 ];
 
 impl Kind {
@@ -71,6 +74,7 @@ impl Kind {
             Kind::Digest => "digest",
             Kind::Phases => "phases",
             Kind::Cached => "cached",
+            Kind::Linked => "linked",
         }
     }
 
@@ -90,6 +94,7 @@ impl Kind {
             Kind::Module | Kind::Text | Kind::Digest => &["text"],
             Kind::Phases => &["source", "workers", "slots", "mode", "fuel"],
             Kind::Cached => &["source", "words", "workers", "shows"],
+            Kind::Linked => &["source", "invoke", "word"],
         }
     }
 }

@@ -27,7 +27,7 @@ fn type_of(value: &Value) -> ValType
 }
 
 /// Whether values have these types.
-fn fit(values: &[Value], types: &[ValType]) -> bool
+pub fn fit(values: &[Value], types: &[ValType]) -> bool
     ensures { result ≡ true → map type_of_value values.now ≡ types.now }
 {
     match (values, types) {

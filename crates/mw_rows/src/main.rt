@@ -14,6 +14,7 @@ mod count;
 mod fields;
 mod invocations;
 mod kernels;
+mod linked;
 mod machine;
 mod modules;
 mod outside;
@@ -55,6 +56,7 @@ fn carried_out<R: AllocGlobal + Threads + Sync>(
         Kind::Digest => texts::digest_lines(alloc, row),
         Kind::Phases => phases::carried_out(rt, row),
         Kind::Cached => cached::carried_out(rt, row),
+        Kind::Linked => linked::carried_out(rt, row),
     }
 }
 

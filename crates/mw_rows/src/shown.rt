@@ -30,6 +30,8 @@ pub enum Shows {
     All,
     /// All but the bytes of modules.
     Keys,
+    /// All, with how many bytes a module has and their digest in place of them.
+    Sums,
     /// Those with the names and types of kernels.
     Kernels,
     /// The last alone.
@@ -41,6 +43,7 @@ pub fn shows_of(word: &str) -> Option<Shows> {
     match word {
         "all" => Some(Shows::All),
         "keys" => Some(Shows::Keys),
+        "sums" => Some(Shows::Sums),
         "kernels" => Some(Shows::Kernels),
         "last" => Some(Shows::Last),
         _ => None,
@@ -50,7 +53,7 @@ pub fn shows_of(word: &str) -> Option<Shows> {
 /// Whether a line is printed, which is the last or isn't.
 fn is_shown(shows: Shows, line: &[u8], is_last: bool) -> bool {
     match shows {
-        Shows::All => true,
+        Shows::All | Shows::Sums => true,
         Shows::Keys => !line.starts_with(b"module "),
         Shows::Kernels => line.starts_with(b"kernel "),
         Shows::Last => is_last,
@@ -75,6 +78,34 @@ fn push_line(alloc: Global, text: &mut String, mark: &str, line: &[u8]) -> Resul
     text.push_str("\n")
 }
 
+/// The bytes of the module that a line spells, where it spells one.
+fn module_bytes(alloc: Global, line: &[u8]) -> Option<Vec<u8>> {
+    if !line.starts_with(b"module ") {
+        return None;
+    }
+    hex::decode(alloc, line.get(7..).unwrap_or(&[])).ok()
+}
+
+/// Adds how many bytes a module has, and their digest.
+fn push_sum(alloc: Global, text: &mut String, bytes: &[u8]) -> Result<(), AllocError> {
+    let digest = hex::encode(alloc, &digest(bytes))?;
+    let line = format!(in alloc; "> module of {} bytes, {digest}\n", bytes.len())?;
+    text.push_str(line.as_str())
+}
+
+/// Adds a line that has its line feed, or what is shown in its place.
+fn push_shown(
+    alloc: Global,
+    text: &mut String,
+    line: &[u8],
+    shows: Shows,
+) -> Result<(), AllocError> {
+    match (shows, module_bytes(alloc, line)) {
+        (Shows::Sums, Some(bytes)) => push_sum(alloc, text, bytes.as_slice()),
+        _ => push_line(alloc, text, "> ", line),
+    }
+}
+
 /// Adds lines that were written: `> ` stands before one that has its line feed, and `: ` before a last one that has none.
 pub fn push_lines(
     alloc: Global,
@@ -90,7 +121,7 @@ pub fn push_lines(
         let (line, rest) = left.split_at(end);
         left = rest.get(1..).unwrap_or(&[]);
         if is_shown(shows, line, left.is_empty()) {
-            push_line(alloc, text, "> ", line)?;
+            push_shown(alloc, text, line, shows)?;
         }
     }
     if !left.is_empty() {
