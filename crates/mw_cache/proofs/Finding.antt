@@ -1,5 +1,6 @@
 -- Texts are looked for among those that were loaded.
-use Rattle.std.proofs.Common.{◌≡◌, inl, inr, ℕ, zero, suc, ◌+◌, ◌<◌, List, [], ◌∷◌, length, position, Option, Some, None, Bool, true, false, true≢false, refl, sym, ap, ◌∙◌, subst, arith}
+use Rattle.std.proofs.Common.{◌≡◌, inl, inr, ℕ, zero, suc, ◌+◌, ◌<◌, List, [], ◌∷◌, length, position, Option, Some}
+use Rattle.std.proofs.Common.{None, Bool, true, false, true≢false, refl, sym, ap, ◌∙◌, subst, arith}
 use Rattle.std.specs.Prelude.{slice_get, is_some, not, if◌then◌else◌, Result, Ok, Err, IfOk, ◌↔◌}
 use Rattle.std.specs.Option.{option_map}
 use Rattle.std.specs.List.{position_from}

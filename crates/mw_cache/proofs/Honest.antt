@@ -1,11 +1,13 @@
 -- Records with the emissions of their texts, in files and loaded.
-use Rattle.std.proofs.Common.{◌≡◌, ℕ, ◌+◌, ◌<◌, ◌^◌, List, [], ◌∷◌, ◌++◌, Bool, true, false, length, map, take, Some, refl, sym, ap, ◌∙◌, subst, if◌then◌else◌, append_assoc, arith}
+use Rattle.std.proofs.Common.{◌≡◌, ℕ, ◌+◌, ◌<◌, ◌^◌, List, [], ◌∷◌, ◌++◌, Bool, true, false, length, map, take, Some}
+use Rattle.std.proofs.Common.{refl, sym, ap, ◌∙◌, subst, if◌then◌else◌, append_assoc, arith}
 use Rattle.std.specs.Prelude.{Contains, slice_get, fold}
 use Rattle.std.specs.Option.{option_map}
 use Rattle.std.specs.List.{All, AllByRecursion}
 use Rattle.std.proofs.lemmas.List.{length-append}
 use Rattle.std.proofs.Math.Seq.{take-append_seam}
-use Rattle.std.proofs.lemmas.List.Elements.{All-push, All-contains, All-contains_itself, All-from_recursion, recursion_from_All}
+use Rattle.std.proofs.lemmas.List.Elements.{All-push, All-contains, All-contains_itself, All-from_recursion}
+use Rattle.std.proofs.lemmas.List.Elements.{recursion_from_All}
 use Rattle.std.proofs.lemmas.Option.{slice_get-map, slice_get_within, get_or_from_slice_get}
 use Rattle.mw_term.specs.Terms.{Expression, KernelType}
 use Rattle.mw_key.proofs.Lengths.{short_text}
@@ -20,7 +22,8 @@ use Rattle.mw_store.proofs.Loading.{file_of-append}
 use Rattle.mw_compile.specs.Emission.{IsEmissionOf}
 use Rattle.mw_compile.specs.EmissionLaws.{IsEmission}
 use Rattle.mw_compile.proofs.Entering.{each_emission}
-use Rattle.mw_cache.specs.HonestLaws.{HonestBytesLoadHonestly, HonestFront, KeptIsWhole, FrontsAreHonest, HonestFilesGrow}
+use Rattle.mw_cache.specs.HonestLaws.{HonestBytesLoadHonestly, HonestFront, KeptIsWhole, FrontsAreHonest}
+use Rattle.mw_cache.specs.HonestLaws.{HonestFilesGrow}
 
 -- what holds of each record holds of the first record of each text
 module _ (P : Kept → Type 0) where

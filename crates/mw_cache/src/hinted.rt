@@ -7,7 +7,8 @@ ghost use Rattle.mw_term.specs.Limits.{within_limits, kernel_nodes};
 ghost use Rattle.mw_slots.specs.Receipts.{IsFetched};
 ghost use Rattle.mw_key.specs.CanonicalText.{IsTextOf, canonical_text, home};
 ghost use Rattle.mw_key.specs.declared.version.Version.TheVariants.{Two};
-ghost use Rattle.mw_cache.specs.Gots.{text_in, entry_text, texts_of, loaded_texts, IsHere, IsAnswered, IsLoadedGot, IsLoadedText};
+ghost use Rattle.mw_cache.specs.Gots.{text_in, entry_text, texts_of, loaded_texts, IsHere, IsAnswered, IsLoadedGot};
+ghost use Rattle.mw_cache.specs.Gots.{IsLoadedText};
 ghost use Rattle.mw_cache.specs.Hints.{price_beside};
 
 use crate::cache::Cache;

@@ -1,6 +1,7 @@
 -- Answers to runs and calls are what they mean.
 use Rattle.std.proofs.Common.{◌≡◌, ℕ, false, [], ◌∷◌, Option, Some, None, Ok, refl, sym, ap, ◌∙◌, subst}
-use Rattle.mw_term.specs.Terms.{Expression, KernelValue, KernelType, GroundType, PureGroundValue, of_ground, to, int, bool, both, function, recursive, kept, ground_value, ground_value_of}
+use Rattle.mw_term.specs.Terms.{Expression, KernelValue, KernelType, GroundType, PureGroundValue, of_ground, to, int}
+use Rattle.mw_term.specs.Terms.{bool, both, function, recursive, kept, ground_value, ground_value_of}
 use Rattle.mw_term.specs.Closed.{IsCode}
 use Rattle.mw_term.specs.Limits.{LiteralsFit}
 use Rattle.mw_term.specs.Types.{kernel_type}
@@ -12,7 +13,8 @@ use Rattle.mw_meaning.specs.Arithmetic.{trap, bound}
 use Rattle.mw_meaning.specs.KernelMeaning.{Ended, gives, stops, kernel_meaning}
 use Rattle.mw_meaning.specs.Simplification.{in_mode}
 use Rattle.mw_meaning.specs.StandingFor.{StandsFor}
-use Rattle.mw_meaning.specs.StagedMeaning.{gives as answers, Runs, run_of, run_ended, call_of, call_ended, ground_result, kernel_argument, argument_words}
+use Rattle.mw_meaning.specs.StagedMeaning.{gives as answers, Runs, run_of, run_ended, call_of, call_ended}
+use Rattle.mw_meaning.specs.StagedMeaning.{ground_result, kernel_argument, argument_words}
 use Rattle.mw_meaning.proofs.SimplifyingKept.{keeps_kernel_type}
 use Rattle.mw_wasm.specs.declared.modules.Module.{Module}
 use Rattle.mw_wasm.specs.Views.{module_of}
@@ -22,13 +24,15 @@ use Rattle.mw_machine.specs.KernelCalls.{IsMeantBy, AnswersRun, AnswersCall, IsR
 use Rattle.mw_kernel.specs.declared.running.Began.{Began}
 use Rattle.mw_kernel.specs.declared.running.Began.TheVariants as began
 use Rattle.mw_kernel.specs.KernelAnswers.{FitsWords, kernel_value, HasStartType, HasCallType, IsSameFunction}
-use Rattle.mw_kernel.specs.KernelMeanings.{IsSameValue, HasShortIntegers, IsBeganFrom, IsRanFrom, IsCallMeant, MeansStart, Keeps, KeepsOn}
+use Rattle.mw_kernel.specs.KernelMeanings.{IsSameValue, HasShortIntegers, IsBeganFrom, IsRanFrom, IsCallMeant}
+use Rattle.mw_kernel.specs.KernelMeanings.{MeansStart, Keeps, KeepsOn}
 use Rattle.mw_kernel.specs.RunningStates.{RunningState}
 use Rattle.mw_kernel.specs.Straying.{IsStartOver, StartsPlay, PlaysOn}
 use Rattle.mw_kernel.proofs.MeaningLemmas.{short_integers_are_kept}
 use Rattle.mw_cached.specs.KeptFunctions.{IsFunctionOf, IsKeptFor}
 use Rattle.mw_cached.proofs.OtherUnits.{one_value}
-use Rattle.mw_cached.proofs.ShortIntegers.{code_gives_short, call_gives_short, short_integers, argument_of, argument_is_short}
+use Rattle.mw_cached.proofs.ShortIntegers.{code_gives_short, call_gives_short, short_integers, argument_of}
+use Rattle.mw_cached.proofs.ShortIntegers.{argument_is_short}
 
 -- a kernel's value that is a ground value is given back as that
 ground_back : (v : PureGroundValue) → ground_result (kernel_value v) ≡ Some (ground_value v)

@@ -1,5 +1,6 @@
 -- Kept functions are linked to the records that their modules were loaded from.
-use Rattle.std.proofs.Common.{◌≡◌, ℕ, zero, suc, List, [], ◌∷◌, ◌++◌, Option, Some, None, Result, Ok, Err, map, refl, sym, ap, ◌∙◌, subst, slice_get}
+use Rattle.std.proofs.Common.{◌≡◌, ℕ, zero, suc, List, [], ◌∷◌, ◌++◌, Option, Some, None, Result, Ok, Err, map, refl}
+use Rattle.std.proofs.Common.{sym, ap, ◌∙◌, subst, slice_get}
 use Rattle.std.specs.Prelude.{IsSome, get_or}
 use Rattle.std.specs.List.{All}
 use Rattle.std.proofs.lemmas.List.Elements.{All-push}

@@ -1,14 +1,18 @@
 -- With other units code gives the same value and takes as many words, where it gives one.
-use Rattle.std.proofs.Common.{◌≡◌, ℕ, zero, suc, ◌+◌, ◌-◌, ◌≤◌, ◌<◌, ◌⊎◌, inl, inr, Bool, true, false, refl, sym, ◌∙◌, subst, arith}
+use Rattle.std.proofs.Common.{◌≡◌, ℕ, zero, suc, ◌+◌, ◌-◌, ◌≤◌, ◌<◌, ◌⊎◌, inl, inr, Bool, true, false, refl, sym, ◌∙◌}
+use Rattle.std.proofs.Common.{subst, arith}
 use Rattle.std.specs.Prelude.{nat_le}
 use Rattle.std.proofs.lemmas.Bool.{cases_lt}
-use Rattle.mw_term.specs.Terms.{Expression, KernelTerm, KernelValue, num, truth, var, fun, fix, app, bind, cond, pair, fst, snd, prim, done, int}
+use Rattle.mw_term.specs.Terms.{Expression, KernelTerm, KernelValue, num, truth, var, fun, fix, app, bind, cond, pair}
+use Rattle.mw_term.specs.Terms.{fst, snd, prim, done, int}
 use Rattle.mw_term.specs.Terms.{bool, both, function, recursive}
 use Rattle.mw_term.specs.declared.term.Primitive.{Primitive as Prim}
 use Rattle.mw_term.specs.Substitution.{instantiate}
 use Rattle.mw_meaning.specs.Arithmetic.{PrimitiveResult, number, fact, trapped, compute}
-use Rattle.mw_meaning.specs.KernelMeaning.{Ended, gives, stops, and_then, taking, with_room, spending, entered, chosen, first_of_two, second_of_two}
-use Rattle.mw_meaning.specs.KernelMeaning.{result_of, computed, kernel_step, kernel_evaluation, kernel_meaning, kernel_size, labelled}
+use Rattle.mw_meaning.specs.KernelMeaning.{Ended, gives, stops, and_then, taking, with_room, spending, entered, chosen}
+use Rattle.mw_meaning.specs.KernelMeaning.{first_of_two, second_of_two}
+use Rattle.mw_meaning.specs.KernelMeaning.{result_of, computed, kernel_step, kernel_evaluation, kernel_meaning}
+use Rattle.mw_meaning.specs.KernelMeaning.{kernel_size, labelled}
 use Rattle.mw_meaning.proofs.KernelFixedPoint.{AtMost, fill_size, kernel_evaluation-is, kernel_evaluation_at_most}
 use Rattle.mw_meaning.proofs.Inductions.{kernel_induction}
 

@@ -2,7 +2,8 @@
 use Rattle.std.proofs.Common.{◌≡◌, ℕ, Some, refl, sym, ◌∙◌, subst}
 use Rattle.mw_term.specs.Closed.{IsCode}
 use Rattle.mw_term.specs.Limits.{LiteralsFit}
-use Rattle.mw_term.specs.Terms.{Expression, KernelValue, PureGroundValue, int, bool, both, function, recursive, ground_value}
+use Rattle.mw_term.specs.Terms.{Expression, KernelValue, PureGroundValue, int, bool, both, function, recursive}
+use Rattle.mw_term.specs.Terms.{ground_value}
 use Rattle.mw_meaning.specs.KernelMeaning.{gives, kernel_meaning}
 use Rattle.mw_meaning.specs.StagedMeaning.{kernel_argument, call_of}
 use Rattle.mw_literals.specs.Literals.{HasShortKernelValue}

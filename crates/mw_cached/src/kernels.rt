@@ -155,7 +155,8 @@ impl<'s, 'a, 't, L: Ledger> Kernels for CachedKernels<'s, 'a, 't, L> {
     ghost use Rattle.std.proofs.Common.{◌∙◌};
     ghost use Rattle.mw_cached.specs.FunctionStates.{functions_of};
     ghost use Rattle.mw_cached.specs.Links.{IsRightIn};
-    ghost use Rattle.mw_cached.specs.Following.{Follows, standing, price_in, follows_itself, follows_through, price_stays, right_stays, right_stayed};
+    ghost use Rattle.mw_cached.specs.Following.{Follows, standing, price_in, follows_itself, follows_through};
+    ghost use Rattle.mw_cached.specs.Following.{price_stays, right_stays, right_stayed};
 
     ghost mode = { λ k. k.state.now.functions.functions.mode };
 

@@ -1,6 +1,7 @@
 // The laws of code in a pool, which no program calls.
 
-ghost use Rattle.mw_code.specs.CodeLaws.{SharedCodeIsShifted, NewNodesKeepCode, OuterBindersAdd, OuterBindersDrop, CodeIsItsTerm, TermByForm, NewNodeIsDownward};
+ghost use Rattle.mw_code.specs.CodeLaws.{SharedCodeIsShifted, NewNodesKeepCode, OuterBindersAdd, OuterBindersDrop};
+ghost use Rattle.mw_code.specs.CodeLaws.{CodeIsItsTerm, TermByForm, NewNodeIsDownward};
 
 /// Shared code under one more binder, whose number is fresh, is shifted.
 pub fn shared_code_is_shifted()

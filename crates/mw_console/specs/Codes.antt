@@ -1,7 +1,8 @@
 -- The exit codes.
 use Rattle.std.specs.Prelude.{ℕ}
 use Rattle.mw_console.specs.declared.status.Status.{Status}
-use Rattle.mw_console.specs.declared.status.Status.TheVariants.{Answer, Trap, Usage, Refused, Bound, Read, Write, Cache, Memory}
+use Rattle.mw_console.specs.declared.status.Status.TheVariants.{Answer, Trap, Usage, Refused, Bound, Read, Write, Cache}
+use Rattle.mw_console.specs.declared.status.Status.TheVariants.{Memory}
 use Rattle.mw_console.specs.declared.status.Status.TheVariants.{BadCache, BadModule, Invalid}
 
 abbrev pub code_of : Status → ℕ

@@ -6,7 +6,9 @@ use Rattle.mw_term.specs.Terms.{GroundType, KernelType, base, product, of_ground
 use Rattle.mw_term.specs.declared.term.Base.{Base}
 use Rattle.mw_term.specs.declared.term.Base.TheVariants as word
 use Rattle.mw_term.specs.declared.refusal.Refusal.{Refusal}
-use Rattle.mw_term.specs.declared.refusal.Refusal.TheVariants.{TooLarge, Char, Number, Name, Syntax, TooDeep, TooMany, Unbound, Twice, NotValue, Level, IllTyped, TypeTooBig, NotClosed}
+use Rattle.mw_term.specs.declared.refusal.Refusal.TheVariants.{TooLarge, Char, Number, Name, Syntax, TooDeep, TooMany}
+use Rattle.mw_term.specs.declared.refusal.Refusal.TheVariants.{Unbound, Twice, NotValue, Level, IllTyped, TypeTooBig}
+use Rattle.mw_term.specs.declared.refusal.Refusal.TheVariants.{NotClosed}
 use Rattle.mw_term.specs.declared.value.TrapKind.{TrapKind}
 use Rattle.mw_term.specs.declared.value.TrapKind.TheVariants.{Divide, Overflow}
 use Rattle.mw_term.specs.declared.value.Limit.{Limit}

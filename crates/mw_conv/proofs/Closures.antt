@@ -1,5 +1,6 @@
 -- A function with an own name or without: what its conversion takes from that of its body.
-use Rattle.std.proofs.Common.{◌≡◌, ℕ, suc, ◌+◌, ◌<◌, ◌≤◌, Bool, true, false, List, [], ◌∷◌, ◌++◌, length, map, reverse, refl, ap, ◌∙◌, sym, subst, arith, append_assoc, length-append}
+use Rattle.std.proofs.Common.{◌≡◌, ℕ, suc, ◌+◌, ◌<◌, ◌≤◌, Bool, true, false, List, [], ◌∷◌, ◌++◌, length, map, reverse}
+use Rattle.std.proofs.Common.{refl, ap, ◌∙◌, sym, subst, arith, append_assoc, length-append}
 use Rattle.std.specs.Prelude.{◌||◌, slice_index_or, Result, Ok, Err, IsErr, IfOk}
 use Rattle.std.proofs.lemmas.Bool.{eqb-true}
 use Rattle.std.proofs.lemmas.List.{reverse-append}
@@ -11,10 +12,12 @@ use Rattle.mw_ir.specs.declared.place.Place.{Place}
 use Rattle.mw_ir.specs.Ir.{Ir, closure, IrFunc}
 use Rattle.mw_conv.specs.declared.found.Found.{Found}
 use Rattle.mw_conv.specs.Contexts.{place_at}
-use Rattle.mw_conv.specs.Convert.{free_list, fun_free, fix_free, fun_places, fix_places, funs, lets, code, functions, function_of}
+use Rattle.mw_conv.specs.Convert.{free_list, fun_free, fix_free, fun_places, fix_places, funs, lets, code, functions}
+use Rattle.mw_conv.specs.Convert.{function_of}
 use Rattle.mw_conv.specs.Finding.{levels, freeing, places, own_places, function, function_found, all_found, EndsWith}
 use Rattle.mw_conv.proofs.Same.{code_same}
-use Rattle.mw_conv.proofs.Contexts.{levels_within, levels_length, free_short, places_are, freeing_length, in_function, in_recursive}
+use Rattle.mw_conv.proofs.Contexts.{levels_within, levels_length, free_short, places_are, freeing_length, in_function}
+use Rattle.mw_conv.proofs.Contexts.{in_recursive}
 use Rattle.mw_conv.proofs.Ends.{ends_left, taken_is}
 
 -- the free variables of a function with an own name or without, its binders, and where it finds variables

@@ -1,8 +1,10 @@
 -- A context that is pushed and read, and the one within a function.
-use Rattle.std.proofs.Common.{◌≡◌, ℕ, zero, suc, ◌+◌, ◌-◌, ◌<◌, ◌≤◌, Bool, true, false, List, [], ◌∷◌, ◌++◌, length, take, reverse, get_or, set, map, refl, ap, ◌∙◌, sym, arith, append_assoc, length-append}
+use Rattle.std.proofs.Common.{◌≡◌, ℕ, zero, suc, ◌+◌, ◌-◌, ◌<◌, ◌≤◌, Bool, true, false, List, [], ◌∷◌, ◌++◌, length}
+use Rattle.std.proofs.Common.{take, reverse, get_or, set, map, refl, ap, ◌∙◌, sym, arith, append_assoc, length-append}
 use Rattle.std.specs.Prelude.{◌==◌, slice_index_or}
 use Rattle.std.proofs.lemmas.Bool.{eqb-true, eqb-false}
-use Rattle.std.proofs.lemmas.List.{reverse-append, get_or-reverse, get_or-set_same, get_or-set_other, length-set, take_all, take-append-le}
+use Rattle.std.proofs.lemmas.List.{reverse-append, get_or-reverse, get_or-set_same, get_or-set_other, length-set}
+use Rattle.std.proofs.lemmas.List.{take_all, take-append-le}
 use Rattle.mw_term.specs.Terms.{Expression}
 use Rattle.mw_meaning.specs.KernelMeaning.{occurs}
 use Rattle.mw_ir.specs.declared.place.Place.{Place}

@@ -1,5 +1,6 @@
 -- What the two walks make of a whole term.
-use Rattle.std.proofs.Common.{◌≡◌, ℕ, suc, List, [], ◌∷◌, ◌++◌, length, map, reverse, refl, ap, ◌∙◌, sym, arith, length-append}
+use Rattle.std.proofs.Common.{◌≡◌, ℕ, suc, List, [], ◌∷◌, ◌++◌, length, map, reverse, refl, ap, ◌∙◌, sym, arith}
+use Rattle.std.proofs.Common.{length-append}
 use Rattle.std.specs.Prelude.{ℤ}
 use Rattle.std.proofs.lemmas.List.{reverse-reverse, reverse-append, map-append}
 use Rattle.mw_term.specs.Terms as x
@@ -10,7 +11,8 @@ use Rattle.mw_ir.specs.Ir.{Ir, IrFunc, means, outside}
 use Rattle.mw_ir.specs.Ranges.{IsConverted}
 use Rattle.mw_conv.specs.Agreement.{Agrees}
 use Rattle.mw_conv.specs.Contexts.{place_at}
-use Rattle.mw_conv.specs.Convert.{funs, lets, code, function_of, fun_free, fix_free, converted_functions, converted_outside}
+use Rattle.mw_conv.specs.Convert.{funs, lets, code, function_of, fun_free, fix_free, converted_functions}
+use Rattle.mw_conv.specs.Convert.{converted_outside}
 use Rattle.mw_conv.specs.Finding.{all_found, function_found}
 use Rattle.mw_conv.proofs.Correct.{converted}
 

@@ -1,5 +1,6 @@
 -- The converted code means what the kernel means.
-use Rattle.std.proofs.Common.{◌≡◌, ℕ, zero, suc, ◌+◌, ◌≤◌, ◌<◌, Bool, true, List, [], ◌∷◌, ◌++◌, length, Option, Some, None, refl, ap, ◌∙◌, subst, arith, length-append, append_assoc}
+use Rattle.std.proofs.Common.{◌≡◌, ℕ, zero, suc, ◌+◌, ◌≤◌, ◌<◌, Bool, true, List, [], ◌∷◌, ◌++◌, length, Option, Some}
+use Rattle.std.proofs.Common.{None, refl, ap, ◌∙◌, subst, arith, length-append, append_assoc}
 use Rattle.std.specs.Prelude.{ℤ, pos, slice_get, get_or, ◌*◌, ◌||◌}
 use Rattle.std.proofs.lemmas.Bool.{eq-eqb}
 use Rattle.std.proofs.lemmas.Option.{get_or_from_slice_get}
@@ -13,11 +14,14 @@ use Rattle.mw_ir.specs.Ir as i
 use Rattle.mw_ir.specs.declared.place.Place.{Place}
 use Rattle.mw_ir.specs.declared.place.Place.TheVariants.{Argument, Own, Slot, Free}
 use Rattle.mw_ir.specs.Ir.{IrFunc, Frame, inside, with_slot, read, load, value, calls, found, applied}
-use Rattle.mw_conv.specs.Convert.{here, free_list, rank, fun_free, fix_free, fun_places, fix_places, funs, functions, code, converted_functions, converted_body}
+use Rattle.mw_conv.specs.Convert.{here, free_list, rank, fun_free, fix_free, fun_places, fix_places, funs, functions}
+use Rattle.mw_conv.specs.Convert.{code, converted_functions, converted_body}
 use Rattle.mw_conv.specs.Represents.{Has, Stands, s_int, s_bool, s_function, s_recursive}
 use Rattle.mw_conv.proofs.Free.{free_list_length, free_list_each, rank_is}
-use Rattle.mw_conv.proofs.Heaps.{get_appended, AllRead, read_list, grows_same, grows_append, load_new, stands_grows, has_front, has_back}
-use Rattle.mw_conv.proofs.Scopes.{Fits, fits_grows, fits_left, fits_right, fits_let, functions_length, picked, not_picked, past}
+use Rattle.mw_conv.proofs.Heaps.{get_appended, AllRead, read_list, grows_same, grows_append, load_new, stands_grows}
+use Rattle.mw_conv.proofs.Heaps.{has_front, has_back}
+use Rattle.mw_conv.proofs.Scopes.{Fits, fits_grows, fits_left, fits_right, fits_let, functions_length, picked}
+use Rattle.mw_conv.proofs.Scopes.{not_picked, past}
 use Rattle.mw_conv.specs.Agreement.{Agrees}
 use Rattle.mw_conv.proofs.Agrees.{given, then_agrees, taken, spent, computes, chooses, first, second, paired}
 

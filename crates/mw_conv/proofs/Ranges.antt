@@ -1,5 +1,6 @@
 -- The conversion of closed code within limits keeps the ranges and limits.
-use Rattle.std.proofs.Common.{◌≡◌, ℕ, zero, suc, ◌+◌, ◌*◌, ◌<◌, ◌≤◌, Bool, true, false, List, [], ◌∷◌, ◌++◌, length, map, Some, refl, ◌∙◌, sym, subst, arith}
+use Rattle.std.proofs.Common.{◌≡◌, ℕ, zero, suc, ◌+◌, ◌*◌, ◌<◌, ◌≤◌, Bool, true, false, List, [], ◌∷◌, ◌++◌, length}
+use Rattle.std.proofs.Common.{map, Some, refl, ◌∙◌, sym, subst, arith}
 use Rattle.std.specs.Prelude.{◌&&◌, nat_le, pos, slice_get, FitsSigned}
 use Rattle.std.specs.Int.{w64}
 use Rattle.std.specs.List.{AllByRecursion}
@@ -14,8 +15,10 @@ use Rattle.mw_meaning.specs.KernelMeaning.{occurs}
 use Rattle.mw_ir.specs.declared.place.Place.{Place}
 use Rattle.mw_ir.specs.declared.place.Place.TheVariants.{Argument, Slot}
 use Rattle.mw_ir.specs.Ir.{IrFunc}
-use Rattle.mw_ir.specs.Ranges.{ir_size, ir_depth, total_size, IsPlace, IsOuterPlace, HasFree, IsInRange, IsProper, IsConverted}
-use Rattle.mw_conv.specs.Convert.{here, free_list, rank, fun_free, fix_free, fun_places, fix_places, funs, lets, code, functions, converted_functions, converted_outside}
+use Rattle.mw_ir.specs.Ranges.{ir_size, ir_depth, total_size, IsPlace, IsOuterPlace, HasFree, IsInRange, IsProper}
+use Rattle.mw_ir.specs.Ranges.{IsConverted}
+use Rattle.mw_conv.specs.Convert.{here, free_list, rank, fun_free, fix_free, fun_places, fix_places, funs, lets, code}
+use Rattle.mw_conv.specs.Convert.{functions, converted_functions, converted_outside}
 use Rattle.mw_conv.specs.Represents.{Has}
 use Rattle.mw_conv.proofs.Free.{free_list_each, rank_is}
 use Rattle.mw_conv.proofs.Heaps.{has_front, has_back}

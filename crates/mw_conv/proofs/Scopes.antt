@@ -1,5 +1,6 @@
 -- Where the variables of a term are, as the term is taken apart.
-use Rattle.std.proofs.Common.{◌≡◌, ℕ, zero, suc, ◌+◌, Bool, true, false, List, [], ◌∷◌, ◌++◌, length, Some, None, refl, ap, ◌∙◌, subst, arith, length-append}
+use Rattle.std.proofs.Common.{◌≡◌, ℕ, zero, suc, ◌+◌, Bool, true, false, List, [], ◌∷◌, ◌++◌, length, Some, None, refl}
+use Rattle.std.proofs.Common.{ap, ◌∙◌, subst, arith, length-append}
 use Rattle.std.specs.Prelude.{ℤ, slice_get, ◌||◌}
 use Rattle.mw_term.specs.Terms as x
 use Rattle.mw_term.specs.Terms.{Expression, KernelTerm, KernelValue, done, var}

@@ -1,6 +1,7 @@
 -- A term with its environment, as what the substitutions so far have made of it.
 use Rattle.std.proofs.Common.{◌≡◌, ℕ, zero, suc, List, [], ◌∷◌, refl, ap}
-use Rattle.mw_term.specs.Terms.{KernelTerm, KernelValue, num, truth, var, fun, fix, app, bind, cond, pair, fst, snd, prim, done}
+use Rattle.mw_term.specs.Terms.{KernelTerm, KernelValue, num, truth, var, fun, fix, app, bind, cond, pair, fst, snd}
+use Rattle.mw_term.specs.Terms.{prim, done}
 use Rattle.mw_term.specs.Substitution.{instantiate, pick}
 
 abbrev pub pick_all : ℕ → ℕ → List KernelValue → (ℕ → KernelTerm) → KernelTerm

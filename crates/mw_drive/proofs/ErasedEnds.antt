@@ -9,7 +9,8 @@ use Rattle.mw_meaning.specs.Outcomes.{Outcome, came_to, trapped, bounded, stuck}
 use Rattle.mw_meaning.specs.ErasedPrograms.{AreSourceItems, IsSourceProgram, erased_outcome}
 use Rattle.mw_meaning.specs.ErasureLaws.{EndsPlainly}
 use Rattle.mw_meaning.proofs.ErasedMain.{erased_main_ends_plainly}
-use Rattle.mw_infer.specs.Checking.{IsWritten, an_item, main}
+use Rattle.mw_infer.specs.Checking.{IsWritten}
+use Rattle.mw_term.specs.Parts.{an_item, main}
 use Rattle.mw_infer.proofs.Progressing.{resolved-written}
 use Rattle.mw_console.specs.Texts.{Ending}
 use Rattle.mw_drive.specs.NamedPrograms.{NamedProgram, unnamed}

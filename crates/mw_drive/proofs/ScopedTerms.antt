@@ -8,7 +8,7 @@ use Rattle.mw_grammar.proofs.Sparse.{few_nodes, sparse_program}
 use Rattle.mw_scope.specs.Scopes.{name_of}
 use Rattle.mw_scope.proofs.ScopedPrograms.{nameless_is_scoped}
 use Rattle.mw_scope.proofs.Sizes.{same_program}
-use Rattle.mw_infer.specs.Checking.{IsResolved}
+use Rattle.mw_term.specs.Parts.{IsResolved}
 use Rattle.mw_infer.proofs.Resolved as resolved
 use Rattle.mw_drive.specs.NamedPrograms.{NamedItem, NamedProgram, unnamed, names_of}
 use Rattle.mw_drive.specs.SourceReading.{IsRead}

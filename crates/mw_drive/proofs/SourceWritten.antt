@@ -13,7 +13,8 @@ use Rattle.mw_term.specs.declared.program.Item.{Item}
 use Rattle.mw_term.specs.declared.refusal.Refusal.{Refusal}
 use Rattle.mw_term.specs.declared.refusal.Stop.{Stop}
 use Rattle.mw_term.specs.declared.refusal.Stop.TheVariants.{Refused as StopRefused}
-use Rattle.mw_infer.specs.Checking.{IsFirstRefusal, IsResolved, NoneTooBig}
+use Rattle.mw_infer.specs.Checking.{IsFirstRefusal, NoneTooBig}
+use Rattle.mw_term.specs.Parts.{IsResolved}
 use Rattle.mw_meaning.specs.declared.mode.Mode.TheVariants.{Plain}
 use Rattle.mw_meaning.specs.declared.mode.Mode.{Mode}
 use Rattle.mw_console.specs.Texts.{Ending, refusal_line}

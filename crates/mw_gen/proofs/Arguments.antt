@@ -1,5 +1,6 @@
 -- A call's argument, built from its leaves.
-use Rattle.std.proofs.Common.{◌≡◌, ℕ, zero, suc, ◌+◌, ◌≤◌, Bool, true, false, List, [], ◌∷◌, ◌++◌, length, Some, refl, ap, ◌∙◌, sym, subst, arith, length-append, map}
+use Rattle.std.proofs.Common.{◌≡◌, ℕ, zero, suc, ◌+◌, ◌≤◌, Bool, true, false, List, [], ◌∷◌, ◌++◌, length, Some, refl}
+use Rattle.std.proofs.Common.{ap, ◌∙◌, sym, subst, arith, length-append, map}
 use Rattle.std.specs.Prelude.{ℤ, pos, slice_get, nat_le}
 use Rattle.std.proofs.lemmas.Bool.{leb-true, le-leb, leb-false, lt-leb}
 use Rattle.mw_term.specs.declared.term.Base.TheVariants.{Int, Bool as Truth}

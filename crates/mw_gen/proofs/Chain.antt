@@ -1,5 +1,6 @@
 -- `init`, and then any list of calls, answer as the kernel meaning does.
-use Rattle.std.proofs.Common.{◌≡◌, ℕ, zero, suc, ◌+◌, ◌≤◌, ◌<◌, Bool, true, false, List, [], ◌∷◌, ◌++◌, length, Some, refl, ap, ◌∙◌, subst, arith}
+use Rattle.std.proofs.Common.{◌≡◌, ℕ, zero, suc, ◌+◌, ◌≤◌, ◌<◌, Bool, true, false, List, [], ◌∷◌, ◌++◌, length, Some}
+use Rattle.std.proofs.Common.{refl, ap, ◌∙◌, subst, arith}
 use Rattle.std.specs.Prelude.{ℤ, slice_get, nat_le, ◌*◌, map}
 use Rattle.mw_term.specs.Terms.{Expression, KernelValue, Value as Given, GroundType}
 use Rattle.mw_meaning.specs.Arithmetic.{trap, bound, stuck}
@@ -29,7 +30,8 @@ use Rattle.mw_gen.proofs.Says.{Says, Ends}
 use Rattle.mw_gen.proofs.Stores.{store_at}
 use Rattle.mw_gen.proofs.Correct.{table_of}
 use Rattle.mw_gen.specs.Generation.{call_frame}
-use Rattle.mw_gen.proofs.Arguments.{leaf_words, made, argument_made, leaves_are, term_taken, leaves_length, leaves_small, argument_right}
+use Rattle.mw_gen.proofs.Arguments.{leaf_words, made, argument_made, leaves_are, term_taken, leaves_length}
+use Rattle.mw_gen.proofs.Arguments.{leaves_small, argument_right}
 
 -- a heap that grew begins with what it was
 grows_front : (h g : List ℤ) → Grows h g → (us : List ℤ) × (g ≡ h ++ us)

@@ -1,5 +1,7 @@
 -- The reduction of the code means what the intermediate language means, in both versions.
-use Rattle.std.proofs.Common.{◌≡◌, ℕ, zero, suc, ◌+◌, ◌≤◌, ◌<◌, Bool, true, false, List, [], ◌∷◌, ◌++◌, length, Option, Some, None, refl, ap, ◌∙◌, sym, subst, arith, length-append, map, replicate, option_map, if◌then◌else◌}
+use Rattle.std.proofs.Common.{◌≡◌, ℕ, zero, suc, ◌+◌, ◌≤◌, ◌<◌, Bool, true, false, List, [], ◌∷◌, ◌++◌, length, Option}
+use Rattle.std.proofs.Common.{Some, None, refl, ap, ◌∙◌, sym, subst, arith, length-append, map, replicate, option_map}
+use Rattle.std.proofs.Common.{if◌then◌else◌}
 use Rattle.std.specs.Prelude.{ℤ, pos, negsuc, slice_get, slice_set, ◌||◌, ◌==◌, ◌*◌, ◌^◌}
 use Rattle.std.proofs.lemmas.List.{length-replicate, length-map}
 use Rattle.std.proofs.lemmas.Bool.{eqb-true}
@@ -21,16 +23,22 @@ use Rattle.std.proofs.lemmas.Bool.{le-leb}
 use Rattle.mw_ir.specs.declared.place.Place.{Place}
 use Rattle.mw_ir.specs.declared.place.Place.TheVariants.{Argument, Own, Slot, Free}
 use Rattle.mw_ir.specs.Ir as i
-use Rattle.mw_ir.specs.Ir.{also, Ir, IrFunc, Frame, inside, with_slot, read, read_all, load, value, calls, applied, function_at}
+use Rattle.mw_ir.specs.Ir.{also, Ir, IrFunc, Frame, inside, with_slot, read, read_all, load, value, calls, applied}
+use Rattle.mw_ir.specs.Ir.{function_at}
 use Rattle.mw_conv.specs.Represents.{Grows}
 use Rattle.mw_conv.proofs.Heaps.{grows_same, grows_on, grows_append, load_grows}
-use Rattle.mw_gen.specs.Generate.{Version, wants_spare, tail_wants_spare, spare_count, address_code, expression_code, tail_code, is_own, application_code, body_wants_spare, body_code, is_loop, function_for, counting, closure_type, module_with}
+use Rattle.mw_gen.specs.Generate.{Version, wants_spare, tail_wants_spare, spare_count, address_code, expression_code}
+use Rattle.mw_gen.specs.Generate.{tail_code, is_own, application_code, body_wants_spare, body_code, is_loop}
+use Rattle.mw_gen.specs.Generate.{function_for, counting, closure_type, module_with}
 use Rattle.mw_gen.proofs.Slots.{slots_needed}
 use Rattle.mw_gen.proofs.Words.{Small, Keeps, get_append, get_within}
-use Rattle.mw_gen.proofs.Locals.{word, Room, room_set, Fits, fits_past, fits_slot, fits_front, set_length, set_same, set_above, set_other}
+use Rattle.mw_gen.proofs.Locals.{word, Room, room_set, Fits, fits_past, fits_slot, fits_front, set_length, set_same}
+use Rattle.mw_gen.proofs.Locals.{set_above, set_other}
 use Rattle.mw_gen.proofs.Loads.{loaded}
 use Rattle.mw_gen.proofs.Says.{Says, then_says, found_says, along}
-use Rattle.mw_gen.proofs.Stores.{append_none, Run as RunIn, law as rule, get_local as got_local, set_local as put_local, tee_local as teed_local, place_run, one_store, all_stored, stores_says, raised, store_at}
+use Rattle.mw_gen.proofs.Stores.{append_none, Run as RunIn, law as rule, get_local as got_local, set_local as put_local}
+use Rattle.mw_gen.proofs.Stores.{tee_local as teed_local, place_run, one_store, all_stored, stores_says, raised}
+use Rattle.mw_gen.proofs.Stores.{store_at}
 use Rattle.mw_gen.proofs.Prims.{prim_says, chosen_says, truth_small, truth_bits}
 pub use Rattle.mw_gen.specs.Keeping.{some, table_of}
 

@@ -1,5 +1,6 @@
 -- An invocation of `init`, and one of `call`, by what the intermediate language says.
-use Rattle.std.proofs.Common.{◌≡◌, ℕ, zero, suc, ◌+◌, ◌≤◌, ◌<◌, Bool, true, false, List, [], ◌∷◌, ◌++◌, length, Some, refl, ap, ◌∙◌, arith, length-append, map, replicate, option_map}
+use Rattle.std.proofs.Common.{◌≡◌, ℕ, zero, suc, ◌+◌, ◌≤◌, ◌<◌, Bool, true, false, List, [], ◌∷◌, ◌++◌, length, Some}
+use Rattle.std.proofs.Common.{refl, ap, ◌∙◌, arith, length-append, map, replicate, option_map}
 use Rattle.std.specs.Prelude.{ℤ, slice_get, slice_set, ◌*◌}
 use Rattle.std.proofs.lemmas.List.{length-map}
 use Rattle.std.proofs.lemmas.Option.{slice_get-map}
@@ -17,7 +18,8 @@ use Rattle.mw_wasm.proofs.RunIsExecution.{invoked_is_run, leaves_all}
 use Rattle.mw_ir.specs.Ir as i
 use Rattle.mw_ir.specs.Ir.{Ir, IrFunc, Frame}
 use Rattle.mw_meaning.specs.Shapes.{leaf_count, init_type, call_type}
-use Rattle.mw_gen.specs.Generate.{Version, wants_spare, spare_count, argument_of, call_of, init_function, function_for, expression_code, restarting, call_numbered}
+use Rattle.mw_gen.specs.Generate.{Version, wants_spare, spare_count, argument_of, call_of, init_function, function_for}
+use Rattle.mw_gen.specs.Generate.{expression_code, restarting, call_numbered}
 use Rattle.mw_gen.proofs.Slots.{slots_needed}
 use Rattle.mw_gen.proofs.Words.{Small, Keeps, get_append, get_within}
 use Rattle.mw_gen.proofs.Locals.{word, Fits, Room, set_other, set_same, set_length}

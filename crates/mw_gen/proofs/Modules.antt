@@ -1,5 +1,6 @@
 -- An emitted module is valid and exports what it should.
-use Rattle.std.proofs.Common.{◌≡◌, ℕ, zero, suc, ◌+◌, ◌≤◌, ◌<◌, ◌^◌, Bool, true, false, List, [], ◌∷◌, ◌++◌, length, Some, refl, ap, ◌∙◌, arith, map, replicate, length-append}
+use Rattle.std.proofs.Common.{◌≡◌, ℕ, zero, suc, ◌+◌, ◌≤◌, ◌<◌, ◌^◌, Bool, true, false, List, [], ◌∷◌, ◌++◌, length}
+use Rattle.std.proofs.Common.{Some, refl, ap, ◌∙◌, arith, map, replicate, length-append}
 use Rattle.std.specs.Prelude.{slice_get, IsSome}
 use Rattle.std.specs.List.{AllByRecursion}
 use Rattle.std.proofs.lemmas.List.{length-map}
@@ -8,10 +9,15 @@ use Rattle.mw_wasm.specs.declared.values.ValType.{ValType}
 use Rattle.mw_wasm.specs.declared.values.ValType.TheVariants.{I32, I64}
 use Rattle.mw_wasm.specs.declared.modules.FuncType.{FuncType}
 use Rattle.mw_wasm.specs.Syntax.{PureModule, Exporting, end}
-use Rattle.mw_wasm.specs.Validity.{Context, CodeHasType, context_of, IsValidFunction, IsValidElement, IsThere, NamesDiffer, IsValid, of_end, of_next, of_global_get, of_global_set, of_local_get, of_local_set, of_const_i32}
+use Rattle.mw_wasm.specs.Validity.{Context, CodeHasType, context_of, IsValidFunction, IsValidElement, IsThere}
+use Rattle.mw_wasm.specs.Validity.{NamesDiffer, IsValid, of_end, of_next, of_global_get, of_global_set, of_local_get}
+use Rattle.mw_wasm.specs.Validity.{of_local_set, of_const_i32}
 use Rattle.mw_ir.specs.Ir.{Ir, IrFunc}
 use Rattle.mw_meaning.specs.Shapes.{leaf_count, init_type, call_type}
-use Rattle.mw_gen.specs.Generate.{Version, wants_spare, tail_wants_spare, spare_count, is_loop, body_wants_spare, body_code, function_for, init_function, call_of, argument_of, counting, elements_of, more_types, more_functions, closure_type, expression_code, restarting, call_numbered, module_with}
+use Rattle.mw_gen.specs.Generate.{Version, wants_spare, tail_wants_spare, spare_count, is_loop, body_wants_spare}
+use Rattle.mw_gen.specs.Generate.{body_code, function_for, init_function, call_of, argument_of, counting, elements_of}
+use Rattle.mw_gen.specs.Generate.{more_types, more_functions, closure_type, expression_code, restarting, call_numbered}
+use Rattle.mw_gen.specs.Generate.{module_with}
 use Rattle.mw_gen.proofs.Slots.{slots_needed}
 use Rattle.mw_gen.proofs.Invoke.{argument_need}
 use Rattle.mw_gen.proofs.Valid.{Offers, Sees, valid, loop_valid}

@@ -1,5 +1,6 @@
 -- Pieces of the binary format that a bounded number of bytes spells.
-use Rattle.std.proofs.Common.{◌≡◌, ◌≤◌, ◌<◌, ℕ, suc, ◌+◌, ◌*◌, ◌-◌, ◌^◌, List, [], ◌∷◌, ◌++◌, length, ℤ, pos, negsuc, refl, sym, ap, subst, inl, inr, arith, if◌then◌else◌}
+use Rattle.std.proofs.Common.{◌≡◌, ◌≤◌, ◌<◌, ℕ, suc, ◌+◌, ◌*◌, ◌-◌, ◌^◌, List, [], ◌∷◌, ◌++◌, length, ℤ, pos, negsuc}
+use Rattle.std.proofs.Common.{refl, sym, ap, subst, inl, inr, arith, if◌then◌else◌}
 use Rattle.std.specs.Prelude.{FitsSigned, Some, codes, ◌-ℤ◌, ◌≤ℤ◌, ◌<ℤ◌}
 use Rattle.std.specs.Int.{w64, cast_unsigned}
 use Rattle.std.proofs.Math.Dec.{le→leb, lt→ltb}
@@ -11,7 +12,8 @@ use Rattle.mw_wasm.specs.declared.modules.Exported.TheVariants.{Func}
 use Rattle.mw_wasm.specs.Leb.{IsUnsigned, IsSigned, unsigned_of}
 use Rattle.mw_wasm.specs.Pieces.{Piece, byte, octet, i32, ◌then◌, u32, items, vector, sized}
 use Rattle.mw_wasm.specs.BinaryInstructions.{instruction, expression, value_type}
-use Rattle.mw_wasm.specs.BinaryModules.{locals, function_type, table, limits, limits_of, global, export, section, customs, import_section, header}
+use Rattle.mw_wasm.specs.BinaryModules.{locals, function_type, table, limits, limits_of, global, export, section}
+use Rattle.mw_wasm.specs.BinaryModules.{customs, import_section, header}
 use Rattle.mw_wasm.specs.Syntax.{const_i32, const_i64, end, next}
 use Rattle.mw_leb.proofs.Groups.{unsigned_shortest, signed_shortest}
 use Rattle.mw_leb.specs.Shortest.{shortest_unsigned, shortest_signed}

@@ -1,5 +1,6 @@
 -- An emitted module is within the profile.
-use Rattle.std.proofs.Common.{◌≡◌, ℕ, zero, suc, ◌+◌, ◌≤◌, Bool, true, false, List, [], ◌∷◌, length, refl, arith, map, if◌then◌else◌}
+use Rattle.std.proofs.Common.{◌≡◌, ℕ, zero, suc, ◌+◌, ◌≤◌, Bool, true, false, List, [], ◌∷◌, length, refl, arith, map}
+use Rattle.std.proofs.Common.{if◌then◌else◌}
 use Rattle.std.specs.Prelude.{max, codes, ◌*◌}
 use Rattle.std.specs.List.{AllByRecursion}
 use Rattle.std.proofs.lemmas.List.{length-replicate}
@@ -14,7 +15,10 @@ use Rattle.mw_ir.specs.Ir as i
 use Rattle.mw_ir.specs.declared.place.Place.{Place}
 use Rattle.mw_ir.specs.Ir.{Ir, IrFunc}
 use Rattle.mw_meaning.specs.Shapes.{leaf_count}
-use Rattle.mw_gen.specs.Generate.{Version, expression_code, tail_code, is_own, place_code, stores_code, prim_code, application_code, spare_count, is_loop, body_wants_spare, body_code, function_for, init_function, call_function, call_of, argument_of, wants_spare, elements_of, more_functions, more_exports, module_with}
+use Rattle.mw_gen.specs.Generate.{Version, expression_code, tail_code, is_own, place_code, stores_code, prim_code}
+use Rattle.mw_gen.specs.Generate.{application_code, spare_count, is_loop, body_wants_spare, body_code, function_for}
+use Rattle.mw_gen.specs.Generate.{init_function, call_function, call_of, argument_of, wants_spare, elements_of}
+use Rattle.mw_gen.specs.Generate.{more_functions, more_exports, module_with}
 use Rattle.mw_gen.proofs.Modules.{all_append, few_results}
 
 -- the choices that stand one in another

@@ -1,5 +1,6 @@
 -- What generation asks for, from the ranges and limits that converted code keeps.
-use Rattle.std.proofs.Common.{◌≡◌, ℕ, zero, suc, ◌+◌, ◌*◌, ◌^◌, ◌≤◌, ◌<◌, List, [], ◌∷◌, length, Option, Some, None, refl, arith}
+use Rattle.std.proofs.Common.{◌≡◌, ℕ, zero, suc, ◌+◌, ◌*◌, ◌^◌, ◌≤◌, ◌<◌, List, [], ◌∷◌, length, Option, Some, None}
+use Rattle.std.proofs.Common.{refl, arith}
 use Rattle.std.specs.Prelude.{slice_get}
 use Rattle.std.specs.List.{AllByRecursion}
 use Rattle.mw_term.specs.Terms.{KernelType}
@@ -11,7 +12,8 @@ use Rattle.mw_ir.specs.declared.place.Place.{Place}
 use Rattle.mw_ir.specs.declared.place.Place.TheVariants.{Argument, Own, Slot, Free}
 use Rattle.mw_ir.specs.Ir as i
 use Rattle.mw_ir.specs.Ir.{Ir, IrFunc}
-use Rattle.mw_ir.specs.Ranges.{ir_size, ir_depth, total_size, IsPlace, IsOuterPlace, HasFree, IsInRange, IsProper, IsConverted}
+use Rattle.mw_ir.specs.Ranges.{ir_size, ir_depth, total_size, IsPlace, IsOuterPlace, HasFree, IsInRange, IsProper}
+use Rattle.mw_ir.specs.Ranges.{IsConverted}
 use Rattle.mw_gen.specs.Generate.{Version, module_with}
 use Rattle.mw_gen.proofs.Slots.{slots_needed}
 use Rattle.mw_gen.specs.Listing.{IsShort, IsShortPlace, AllShort}

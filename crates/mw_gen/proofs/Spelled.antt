@@ -1,5 +1,6 @@
 -- Some bytes spell the code that is generated.
-use Rattle.std.proofs.Common.{◌≡◌, ◌≤◌, ◌<◌, ℕ, suc, ◌+◌, ◌*◌, ◌^◌, Bool, true, false, List, [], ◌∷◌, length, ℤ, pos, refl, sym, subst, inr, arith, if◌then◌else◌}
+use Rattle.std.proofs.Common.{◌≡◌, ◌≤◌, ◌<◌, ℕ, suc, ◌+◌, ◌*◌, ◌^◌, Bool, true, false, List, [], ◌∷◌, length, ℤ, pos}
+use Rattle.std.proofs.Common.{refl, sym, subst, inr, arith, if◌then◌else◌}
 use Rattle.std.specs.Prelude.{Some}
 use Rattle.std.proofs.Math.Dec.{lt→ltb}
 use Rattle.mw_term.specs.declared.term.Primitive.{Primitive as Prim}
@@ -8,20 +9,23 @@ use Rattle.mw_wasm.specs.declared.values.ValType.{ValType}
 use Rattle.mw_wasm.specs.declared.values.ValType.TheVariants.{I32, I64}
 use Rattle.mw_wasm.specs.Pieces.{byte, i32, ◌then◌, u32}
 use Rattle.mw_wasm.specs.BinaryInstructions.{instruction, code as coded, expression, block_type}
-use Rattle.mw_wasm.specs.Syntax.{Instruction, Code, loop, cond, br, call_indirect, local_get, local_set, local_tee, global_get, global_set, load, store, const_i32, const_i64, numeric, end, next}
+use Rattle.mw_wasm.specs.Syntax.{Instruction, Code, loop, cond, br, call_indirect, local_get, local_set, local_tee}
+use Rattle.mw_wasm.specs.Syntax.{global_get, global_set, load, store, const_i32, const_i64, numeric, end, next}
 use Rattle.mw_leb.proofs.Groups.{signed_shortest}
 use Rattle.mw_leb.specs.Shortest.{shortest_signed}
 use Rattle.mw_ir.specs.declared.place.Place.TheVariants.{Argument, Own, Slot, Free}
 use Rattle.mw_ir.specs.Ir as i
 use Rattle.mw_ir.specs.declared.place.Place.{Place}
 use Rattle.mw_ir.specs.Ir.{Ir}
-use Rattle.mw_gen.specs.Generate.{expression_code, tail_code, is_own, place_code, stores_code, prim_code, application_code, pair_code, address_code, loop_code, body_code}
+use Rattle.mw_gen.specs.Generate.{expression_code, tail_code, is_own, place_code, stores_code, prim_code}
+use Rattle.mw_gen.specs.Generate.{application_code, pair_code, address_code, loop_code, body_code}
 use Rattle.mw_gen.proofs.Slots.{slots_needed}
 use Rattle.mw_gen.proofs.Words.{bits, Small}
 use Rattle.mw_gen.proofs.Prims.{truth_small, truth_bits}
 use Rattle.mw_gen.proofs.Correct.{Fine, pos_small}
 use Rattle.mw_gen.proofs.Valid.{place_local, AreSeen, Sees}
-use Rattle.mw_gen.proofs.Pieces.{SpelledWithin, within_then, within_more, within_byte, within_u32, constant_spelled, signed_length}
+use Rattle.mw_gen.proofs.Pieces.{SpelledWithin, within_then, within_more, within_byte, within_u32, constant_spelled}
+use Rattle.mw_gen.proofs.Pieces.{signed_length}
 
 -- at most so many bytes
 abbrev mutual

@@ -1,5 +1,6 @@
 -- Some bytes spell an emitted module.
-use Rattle.std.proofs.Common.{◌≤◌, ◌<◌, ℕ, zero, suc, ◌+◌, ◌*◌, ◌^◌, List, [], ◌∷◌, ◌++◌, length, refl, sym, arith, map, replicate, length-append, Some}
+use Rattle.std.proofs.Common.{◌≤◌, ◌<◌, ℕ, zero, suc, ◌+◌, ◌*◌, ◌^◌, List, [], ◌∷◌, ◌++◌, length, refl, sym, arith, map}
+use Rattle.std.proofs.Common.{replicate, length-append, Some}
 use Rattle.std.specs.Prelude.{codes}
 use Rattle.std.specs.List.{AllByRecursion}
 use Rattle.std.proofs.lemmas.List.{length-replicate, length-map}
@@ -9,11 +10,14 @@ use Rattle.mw_wasm.specs.declared.values.ValType.TheVariants.{I32, I64}
 use Rattle.mw_wasm.specs.declared.modules.Exported.TheVariants.{Func}
 use Rattle.mw_wasm.specs.Pieces.{octet, u32, items, vector}
 use Rattle.mw_wasm.specs.BinaryInstructions.{value_type}
-use Rattle.mw_wasm.specs.BinaryModules.{locals, run, Run, function_code, function_type, function_kind, export, element, data_segment, section, wasm_module}
+use Rattle.mw_wasm.specs.BinaryModules.{locals, run, Run, function_code, function_type, function_kind, export, element}
+use Rattle.mw_wasm.specs.BinaryModules.{data_segment, section, wasm_module}
 use Rattle.mw_wasm.specs.Syntax.{Function, Exporting, ElementSegment, next, end, const_i32}
 use Rattle.mw_ir.specs.Ir.{Ir, IrFunc}
 use Rattle.mw_meaning.specs.Shapes.{leaf_count, init_type, call_type}
-use Rattle.mw_gen.specs.Generate.{Version, wants_spare, spare_count, is_loop, body_wants_spare, function_for, init_function, call_function, call_of, argument_of, counting, elements_of, more_types, more_functions, more_exports, closure_type, module_with}
+use Rattle.mw_gen.specs.Generate.{Version, wants_spare, spare_count, is_loop, body_wants_spare, function_for}
+use Rattle.mw_gen.specs.Generate.{init_function, call_function, call_of, argument_of, counting, elements_of, more_types}
+use Rattle.mw_gen.specs.Generate.{more_functions, more_exports, closure_type, module_with}
 use Rattle.mw_gen.proofs.Slots.{slots_needed}
 use Rattle.mw_gen.proofs.Stores.{append_none}
 use Rattle.mw_gen.proofs.Correct.{Fine}
@@ -22,8 +26,13 @@ use Rattle.mw_gen.proofs.Instance.{counting_length}
 use Rattle.mw_gen.proofs.Valid.{Sees}
 use Rattle.mw_gen.proofs.Modules.{argument_sees}
 use Rattle.mw_gen.proofs.Profile.{temps_two}
-use Rattle.mw_gen.proofs.Pieces.{SpelledWithin, within_then, within_more, within_byte, within_u32, within_sized, within_nil, within_cons, within_vector, within_section, within_absent, within_one, customs_within, no_imports, header_within, one_result, closure_within, init_within, table_within, memory_within, globals_within, zero_code_within, octet_within, name_within}
-use Rattle.mw_gen.proofs.Spelled.{expression_within, breadth, body_width, expression_width, Near, expression_fit, body_fit}
+use Rattle.mw_gen.proofs.Pieces.{SpelledWithin, within_then, within_more, within_byte, within_u32, within_sized}
+use Rattle.mw_gen.proofs.Pieces.{within_nil, within_cons, within_vector, within_section, within_absent, within_one}
+use Rattle.mw_gen.proofs.Pieces.{customs_within, no_imports, header_within, one_result, closure_within, init_within}
+use Rattle.mw_gen.proofs.Pieces.{table_within, memory_within, globals_within, zero_code_within, octet_within}
+use Rattle.mw_gen.proofs.Pieces.{name_within}
+use Rattle.mw_gen.proofs.Spelled.{expression_within, breadth, body_width, expression_width, Near, expression_fit}
+use Rattle.mw_gen.proofs.Spelled.{body_fit}
 
 -- what the code of a function's body needs to be spelled
 pub record CanSpell (f : IrFunc) : Type 0 where

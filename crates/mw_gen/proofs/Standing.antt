@@ -10,10 +10,12 @@ use Rattle.mw_meaning.specs.Arithmetic.{Reason, trap, bound, stuck}
 use Rattle.mw_meaning.specs.KernelMeaning as k
 use Rattle.mw_meaning.specs.KernelMeaning.{kernel_meaning}
 use Rattle.mw_meaning.specs.StagedMeaning.{kernel_argument, argument_words, call_of}
-use Rattle.mw_meaning.specs.StandingFor.{AnswersAs, IsArgument, Call, AreCalls, IfEnded, CallsAnswer, CallsAfter, CallsMean, StandsFor}
+use Rattle.mw_meaning.specs.StandingFor.{AnswersAs, IsArgument, Call, AreCalls, IfEnded, CallsAnswer, CallsAfter}
+use Rattle.mw_meaning.specs.StandingFor.{CallsMean, StandsFor}
 use Rattle.mw_meaning.specs.TypingLaws.{KernelIsNotStuck}
 use Rattle.mw_meaning.proofs.Straying.{argument_typed}
-use Rattle.mw_meaning.proofs.KernelTyping.{none, Has as TypedValue, KernelSafe, closed_code_safe, kernel_call_safe, kernel_meaning_never_stuck}
+use Rattle.mw_meaning.proofs.KernelTyping.{none, Has as TypedValue, KernelSafe, closed_code_safe, kernel_call_safe}
+use Rattle.mw_meaning.proofs.KernelTyping.{kernel_meaning_never_stuck}
 use Rattle.mw_wasm.specs.Syntax.{PureModule}
 use Rattle.mw_wasm.specs.Store.{Memory, Store}
 use Rattle.mw_wasm.specs.Instances.{invoked}

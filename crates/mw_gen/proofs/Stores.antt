@@ -1,5 +1,6 @@
 -- The rules of a module's code, and the words that it allocates.
-use Rattle.std.proofs.Common.{◌≡◌, ℕ, suc, ◌+◌, ◌<◌, Bool, true, false, List, [], ◌∷◌, ◌++◌, length, Option, Some, None, refl, ap, ◌∙◌, sym, subst, arith, length-append, append_assoc}
+use Rattle.std.proofs.Common.{◌≡◌, ℕ, suc, ◌+◌, ◌<◌, Bool, true, false, List, [], ◌∷◌, ◌++◌, length, Option, Some, None}
+use Rattle.std.proofs.Common.{refl, ap, ◌∙◌, sym, subst, arith, length-append, append_assoc}
 use Rattle.std.specs.Prelude.{ℤ, slice_get, slice_set, nat_le, nat_lt, ◌*◌, ◌%◌, ◌^◌}
 use Rattle.std.proofs.lemmas.Bool.{leb-true, le-leb, leb-false, lt-leb}
 use Rattle.mw_wasm.specs.declared.values.Value.{Value}

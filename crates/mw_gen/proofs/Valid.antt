@@ -1,17 +1,22 @@
 -- The generated code is valid: before any rest, it puts one i64 on the stack.
-use Rattle.std.proofs.Common.{◌≡◌, ℕ, suc, ◌+◌, ◌≤◌, ◌<◌, true, false, List, [], ◌∷◌, ◌++◌, Some, refl, ap, ◌∙◌, sym, subst, arith, append_assoc, if◌then◌else◌}
+use Rattle.std.proofs.Common.{◌≡◌, ℕ, suc, ◌+◌, ◌≤◌, ◌<◌, true, false, List, [], ◌∷◌, ◌++◌, Some, refl, ap, ◌∙◌, sym}
+use Rattle.std.proofs.Common.{subst, arith, append_assoc, if◌then◌else◌}
 use Rattle.std.specs.Prelude.{slice_get, IsSome}
 use Rattle.mw_term.specs.declared.term.Primitive.{Primitive as Prim}
 use Rattle.mw_term.specs.declared.term.Primitive.TheVariants.{Add, Sub, Mul, Div, Mod, Eq, Lt, Le}
 use Rattle.mw_wasm.specs.declared.values.ValType.{ValType}
 use Rattle.mw_wasm.specs.declared.values.ValType.TheVariants.{I32, I64}
 use Rattle.mw_wasm.specs.Syntax.{Instruction, Code, end, next, br, loop}
-use Rattle.mw_wasm.specs.Validity.{Context, HasType, CodeHasType, with_label, of_end, of_next, of_loop, of_if, of_br, of_call_indirect, of_local_get, of_local_set, of_local_tee, of_global_get, of_global_set, of_load, of_store, of_const_i32, of_const_i64, of_numeric}
+use Rattle.mw_wasm.specs.Validity.{Context, HasType, CodeHasType, with_label, of_end, of_next, of_loop, of_if, of_br}
+use Rattle.mw_wasm.specs.Validity.{of_call_indirect, of_local_get, of_local_set, of_local_tee, of_global_get}
+use Rattle.mw_wasm.specs.Validity.{of_global_set, of_load, of_store, of_const_i32, of_const_i64, of_numeric}
 use Rattle.mw_ir.specs.declared.place.Place.TheVariants.{Argument, Own, Slot, Free}
 use Rattle.mw_ir.specs.Ir as i
 use Rattle.mw_ir.specs.declared.place.Place.{Place}
 use Rattle.mw_ir.specs.Ir.{Ir}
-use Rattle.mw_gen.specs.Generate.{expression_code, tail_code, is_own, place_code, stores_code, application_code, pair_code, prim_code, address_code, raising_code, wants_spare, tail_wants_spare, closure_type, wrap, load_word, store_word, loop_code}
+use Rattle.mw_gen.specs.Generate.{expression_code, tail_code, is_own, place_code, stores_code, application_code}
+use Rattle.mw_gen.specs.Generate.{pair_code, prim_code, address_code, raising_code, wants_spare, tail_wants_spare}
+use Rattle.mw_gen.specs.Generate.{closure_type, wrap, load_word, store_word, loop_code}
 use Rattle.mw_gen.proofs.Slots.{slots_needed}
 use Rattle.mw_gen.proofs.Stores.{append_none}
 use Rattle.mw_gen.proofs.Correct.{or_left, or_right}

@@ -1,5 +1,6 @@
 -- The module of converted code, in either version. Code is generated before a rest, which runs after it.
-use Rattle.std.specs.Prelude.{ℕ, zero, suc, ◌+◌, ◌*◌, Bool, true, false, ◌||◌, if◌then◌else◌, List, [], ◌∷◌, ◌++◌, length, map, replicate, Some, codes}
+use Rattle.std.specs.Prelude.{ℕ, zero, suc, ◌+◌, ◌*◌, Bool, true, false, ◌||◌, if◌then◌else◌, List, [], ◌∷◌, ◌++◌}
+use Rattle.std.specs.Prelude.{length, map, replicate, Some, codes}
 use Rattle.std.specs.Int.{cast_unsigned}
 use mir.Syntax.{w64}
 use Rattle.mw_term.specs.declared.term.Primitive.{Primitive as Prim}
@@ -14,7 +15,9 @@ use Rattle.mw_wasm.specs.declared.numbers.LoadOp.TheVariants as load_op
 use Rattle.mw_wasm.specs.declared.numbers.StoreOp.TheVariants as store_op
 use Rattle.mw_wasm.specs.declared.modules.FuncType.{FuncType}
 use Rattle.mw_wasm.specs.declared.modules.Exported.TheVariants.{Func}
-use Rattle.mw_wasm.specs.Syntax.{Code, end, next, loop, cond, br, call_indirect, local_get, local_set, local_tee, global_get, global_set, load, store, const_i32, const_i64, numeric, Function, Global, Exporting, ElementSegment, PureModule}
+use Rattle.mw_wasm.specs.Syntax.{Code, end, next, loop, cond, br, call_indirect, local_get, local_set, local_tee}
+use Rattle.mw_wasm.specs.Syntax.{global_get, global_set, load, store, const_i32, const_i64, numeric, Function, Global}
+use Rattle.mw_wasm.specs.Syntax.{Exporting, ElementSegment, PureModule}
 use Rattle.mw_ir.specs.declared.place.Place.TheVariants.{Argument, Own, Slot, Free}
 use Rattle.mw_ir.specs.Ir as i
 use Rattle.mw_ir.specs.declared.place.Place.{Place}

@@ -10,7 +10,8 @@ use Rattle.mw_wasm.specs.declared.numbers.NumOp.TheVariants as number
 use Rattle.mw_wasm.specs.declared.numbers.LoadOp.TheVariants as load_op
 use Rattle.mw_wasm.specs.declared.numbers.StoreOp.TheVariants as store_op
 use Rattle.mw_wasm.specs.declared.instructions.Instrs.{Instrs}
-use Rattle.mw_wasm.specs.Syntax.{Instruction, Code, end, next, cond, br, call_indirect, local_get, local_set, local_tee, global_get, global_set, load, store, const_i32, const_i64, numeric}
+use Rattle.mw_wasm.specs.Syntax.{Instruction, Code, end, next, cond, br, call_indirect, local_get, local_set, local_tee}
+use Rattle.mw_wasm.specs.Syntax.{global_get, global_set, load, store, const_i32, const_i64, numeric}
 use Rattle.mw_wasm.specs.Views.{instruction_of}
 use Rattle.mw_ir.specs.declared.place.Place.{Place}
 use Rattle.mw_ir.specs.declared.place.Place.TheVariants.{Argument, Own, Slot, Free}

@@ -1,12 +1,17 @@
 -- What the parser answers after a front depends on the front alone, up to the next token.
-use Rattle.std.proofs.Common.{◌≡◌, ℕ, zero, suc, ◌-◌, ◌≤◌, max, List, [], ◌∷◌, ◌++◌, refl, Bool, true, false, length, nat_lt, arith}
-use Rattle.mw_lex.specs.Tokens.{Symbol, mod_word, true_word, false_word, bracket_left, escape_mark, paren_left, plus, minus, star, slash, word, number, PureToken, token}
+use Rattle.std.proofs.Common.{◌≡◌, ℕ, zero, suc, ◌-◌, ◌≤◌, max, List, [], ◌∷◌, ◌++◌, refl, Bool, true, false, length}
+use Rattle.std.proofs.Common.{nat_lt, arith}
+use Rattle.mw_lex.specs.Tokens.{Symbol, mod_word, true_word, false_word, bracket_left, escape_mark, paren_left, plus}
+use Rattle.mw_lex.specs.Tokens.{minus, star, slash, word, number, PureToken, token}
 use Rattle.mw_term.specs.declared.term.Primitive.TheVariants.{Add, Sub, Mul, Div, Mod}
 use Rattle.mw_grammar.specs.SurfaceTrees.{SurfaceTree}
 use Rattle.mw_term.specs.declared.term.Primitive.{Primitive}
-use Rattle.mw_grammar.specs.Grammar.{Row, sum, product, application, Sign, plus_sign, minus_sign, star_sign, slash_sign, mod_sign, expr, Nonterminal, tree, Meaning, right}
-use Rattle.mw_grammar.specs.Forms.{is, Form, gives, refuses, skip, under, expect, reads, pick, option, more, by_sign, apply, operated, Opens, nothing, operator, opens, opens_by, form}
-use Rattle.mw_grammar.specs.Descent.{Answer, ok, syntax_at, deep_at, Parser, Parsers, and_then, within, Heights, none_yet, so_far, tall, beside, raise, branch, on_operator, rounds, run, parse}
+use Rattle.mw_grammar.specs.Grammar.{Row, sum, product, application, Sign, plus_sign, minus_sign, star_sign, slash_sign}
+use Rattle.mw_grammar.specs.Grammar.{mod_sign, expr, Nonterminal, tree, Meaning, right}
+use Rattle.mw_grammar.specs.Forms.{is, Form, gives, refuses, skip, under, expect, reads, pick, option, more, by_sign}
+use Rattle.mw_grammar.specs.Forms.{apply, operated, Opens, nothing, operator, opens, opens_by, form}
+use Rattle.mw_grammar.specs.Descent.{Answer, ok, syntax_at, deep_at, Parser, Parsers, and_then, within, Heights}
+use Rattle.mw_grammar.specs.Descent.{none_yet, so_far, tall, beside, raise, branch, on_operator, rounds, run, parse}
 use Rattle.mw_grammar.proofs.Depths.{opening, opens_shorter}
 
 abbrev pub rest_of : {n : Nonterminal} → Answer n → List PureToken

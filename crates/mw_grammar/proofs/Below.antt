@@ -1,11 +1,14 @@
 -- For the proofs of the reader.
-use Rattle.std.proofs.Common.{◌≡◌, ℕ, zero, suc, ◌+◌, ◌-◌, ◌<◌, ◌≤◌, max, List, Result, Bool, true, false, nat_lt, refl, ap, ◌∙◌, sym, subst, arith}
+use Rattle.std.proofs.Common.{◌≡◌, ℕ, zero, suc, ◌+◌, ◌-◌, ◌<◌, ◌≤◌, max, List, Result, Bool, true, false, nat_lt, refl}
+use Rattle.std.proofs.Common.{ap, ◌∙◌, sym, subst, arith}
 use Rattle.std.proofs.lemmas.Bool.{lt-ltb, le-ltb, ltb-true}
 use Rattle.mw_lex.specs.Tokens.{PureToken}
 use Rattle.mw_grammar.specs.SurfaceTrees.{SurfaceTree}
 use Rattle.mw_grammar.specs.Grammar.{Row, expr, Nonterminal, tree, Meaning, right}
-use Rattle.mw_grammar.specs.Descent.{Answer, ok, syntax_at, deep_at, and_then, within, Heights, none_yet, so_far, tall, beside, raise, on_operator, rounds, run, full, reading, following}
-use Rattle.mw_grammar.specs.Forms.{Form, form, gives, refuses, reads, more, Op, operated, Opens, nothing, operator, opens}
+use Rattle.mw_grammar.specs.Descent.{Answer, ok, syntax_at, deep_at, and_then, within, Heights, none_yet, so_far, tall}
+use Rattle.mw_grammar.specs.Descent.{beside, raise, on_operator, rounds, run, full, reading, following}
+use Rattle.mw_grammar.specs.Forms.{Form, form, gives, refuses, reads, more, Op, operated, Opens, nothing, operator}
+use Rattle.mw_grammar.specs.Forms.{opens}
 use Rattle.mw_grammar.specs.Gives.{Fails, Gives}
 use Rattle.mw_grammar.specs.declared.fault.Fault.{Fault}
 use Rattle.mw_grammar.specs.declared.fault.Fault.TheVariants.{Memory, Syntax, Deep}

@@ -1,14 +1,23 @@
 -- What the grammar reads, the parser reads, or it stops at the first token with which the depth is above b.
-use Rattle.std.proofs.Common.{◌≡◌, ℕ, zero, suc, ◌+◌, ◌-◌, ◌*◌, ◌<◌, ◌≤◌, max, List, [], ◌∷◌, refl, sym, subst, Bool, true, false, length, nat_lt, arith}
+use Rattle.std.proofs.Common.{◌≡◌, ℕ, zero, suc, ◌+◌, ◌-◌, ◌*◌, ◌<◌, ◌≤◌, max, List, [], ◌∷◌, refl, sym, subst, Bool}
+use Rattle.std.proofs.Common.{true, false, length, nat_lt, arith}
 use Rattle.std.proofs.lemmas.Bool.{ltb-true, ltb-false}
-use Rattle.mw_lex.specs.Tokens.{Symbol, mod_word, true_word, false_word, bracket_left, escape_mark, paren_left, plus, minus, star, slash, word, number, PureToken, token}
+use Rattle.mw_lex.specs.Tokens.{Symbol, mod_word, true_word, false_word, bracket_left, escape_mark, paren_left, plus}
+use Rattle.mw_lex.specs.Tokens.{minus, star, slash, word, number, PureToken, token}
 use Rattle.mw_grammar.specs.SurfaceTrees.{SurfaceTree}
 use Rattle.mw_grammar.specs.SourceNodes.{Nodes, none, node, both, depth, height}
 use Rattle.mw_grammar.specs.Grammar.{Row, sum, product, application, expr, row, Nonterminal, tree, Meaning, right}
-use Rattle.mw_grammar.specs.Forms.{Expected, in_next, then_next, else_next, paren_next, bracket_next, left_next, right_next, end_next, colon_next, equal_next, arrow_next, star_next, less_next, less_equal_next, and_next, or_next, symbol, is, Form, Op, operated, nothing, operator, opens, opens_by, form}
-use Rattle.mw_grammar.specs.Descent.{Answer, ok, syntax_at, deep_at, and_then, within, Heights, none_yet, so_far, tall, beside, raise, branch, on_operator, rounds, run, parse, rank}
-use Rattle.mw_grammar.proofs.Derivations.{Before, empty, some, over, nodes, force, force_of, strength, In, i_gives, i_skip, i_under, i_expect, i_reads, i_pick, i_yes, i_no, i_more, Chain, c_end, c_on}
-use Rattle.mw_grammar.proofs.Depths.{there_in, there_out, there_most, depth_most, depth_over, height_over, Grown, opening, opens_shorter, behind_operator, grown, grown_chain}
+use Rattle.mw_grammar.specs.Forms.{Expected, in_next, then_next, else_next, paren_next, bracket_next, left_next}
+use Rattle.mw_grammar.specs.Forms.{right_next, end_next, colon_next, equal_next, arrow_next, star_next, less_next}
+use Rattle.mw_grammar.specs.Forms.{less_equal_next, and_next, or_next, symbol, is, Form, Op, operated, nothing}
+use Rattle.mw_grammar.specs.Forms.{operator, opens, opens_by, form}
+use Rattle.mw_grammar.specs.Descent.{Answer, ok, syntax_at, deep_at, and_then, within, Heights, none_yet, so_far, tall}
+use Rattle.mw_grammar.specs.Descent.{beside, raise, branch, on_operator, rounds, run, parse, rank}
+use Rattle.mw_grammar.proofs.Derivations.{Before, empty, some, over, nodes, force, force_of, strength, In, i_gives}
+use Rattle.mw_grammar.proofs.Derivations.{i_skip, i_under, i_expect, i_reads, i_pick, i_yes, i_no, i_more, Chain, c_end}
+use Rattle.mw_grammar.proofs.Derivations.{c_on}
+use Rattle.mw_grammar.proofs.Depths.{there_in, there_out, there_most, depth_most, depth_over, height_over, Grown}
+use Rattle.mw_grammar.proofs.Depths.{opening, opens_shorter, behind_operator, grown, grown_chain}
 use Rattle.mw_grammar.proofs.Ranks.{Ranked, ranked, rank_right}
 
 -- the meaning where the nodes are not deeper than b, else the first token with which they are

@@ -1,11 +1,13 @@
 -- What the depth of a front is before, in and after what a form reads.
 use Rattle.std.proofs.Common.{◌≡◌, ℕ, zero, suc, ◌<◌, ◌≤◌, max, List, [], ◌∷◌, refl, ap, ◌∙◌, subst, length, arith}
-use Rattle.mw_lex.specs.Tokens.{Symbol, mod_word, true_word, false_word, bracket_left, escape_mark, paren_left, plus, minus, star, slash, word, number, PureToken, token}
+use Rattle.mw_lex.specs.Tokens.{Symbol, mod_word, true_word, false_word, bracket_left, escape_mark, paren_left, plus}
+use Rattle.mw_lex.specs.Tokens.{minus, star, slash, word, number, PureToken, token}
 use Rattle.mw_grammar.specs.SurfaceTrees.{SurfaceTree}
 use Rattle.mw_grammar.specs.SourceNodes.{Nodes, none, node, both, there, depth, height}
 use Rattle.mw_grammar.specs.Grammar.{Row, sum, product, application, atom, Nonterminal, tree, Meaning, right}
 use Rattle.mw_grammar.specs.Forms.{symbol, Form, under, Op, apply, operator, opens, opens_by, form, atom_by}
-use Rattle.mw_grammar.proofs.Derivations.{Before, empty, some, over, nodes, In, i_gives, i_skip, i_under, i_expect, i_reads, i_pick, i_yes, i_no, i_more, Chain, c_end, c_on, no_refuses}
+use Rattle.mw_grammar.proofs.Derivations.{Before, empty, some, over, nodes, In, i_gives, i_skip, i_under, i_expect}
+use Rattle.mw_grammar.proofs.Derivations.{i_reads, i_pick, i_yes, i_no, i_more, Chain, c_end, c_on, no_refuses}
 
 pub there_in : (m at : ℕ) → m < at → there m at ≡ 1
 there_in zero zero p = absurd (omega arith)

@@ -1,10 +1,15 @@
 -- Derivations by forms, each of which goes on as long as the next token allows.
 use Rattle.std.proofs.Common.{◌≡◌, ℕ, suc, ◌<◌, Bool, false, List, [], ◌∷◌, length}
-use Rattle.mw_lex.specs.Tokens.{Symbol, true_word, false_word, mod_word, bracket_left, escape_mark, paren_left, equal, less_equal, less, plus, minus, star, slash, and_mark, or_mark, word, number, PureToken, token}
+use Rattle.mw_lex.specs.Tokens.{Symbol, true_word, false_word, mod_word, bracket_left, escape_mark, paren_left, equal}
+use Rattle.mw_lex.specs.Tokens.{less_equal, less, plus, minus, star, slash, and_mark, or_mark, word, number, PureToken}
+use Rattle.mw_lex.specs.Tokens.{token}
 use Rattle.mw_grammar.specs.SurfaceTrees.{SurfaceTree}
 use Rattle.mw_grammar.specs.SourceNodes.{Nodes, none, node, both}
-use Rattle.mw_grammar.specs.Grammar.{Row, sum, product, application, Precedence, expr, disjunction, conjunction, comparison, row, head, atom, Nonterminal, program, item, parameter, body, tree, kernel_type, ground, part, base, Meaning, right}
-use Rattle.mw_grammar.specs.Forms.{Expected, star_next, arrow_next, symbol, is, Form, gives, refuses, skip, under, expect, reads, pick, option, more, Op, operated, operator, opens, form}
+use Rattle.mw_grammar.specs.Grammar.{Row, sum, product, application, Precedence, expr, disjunction, conjunction}
+use Rattle.mw_grammar.specs.Grammar.{comparison, row, head, atom, Nonterminal, program, item, parameter, body, tree}
+use Rattle.mw_grammar.specs.Grammar.{kernel_type, ground, part, base, Meaning, right}
+use Rattle.mw_grammar.specs.Forms.{Expected, star_next, arrow_next, symbol, is, Form, gives, refuses, skip, under}
+use Rattle.mw_grammar.specs.Forms.{expect, reads, pick, option, more, Op, operated, operator, opens, form}
 
 -- what stands before, under the same node
 pub data Before : Type 0 where

@@ -1,11 +1,15 @@
 -- A bound on the calls that is great enough is as good as any other.
-use Rattle.std.proofs.Common.{◌≡◌, ℕ, zero, suc, ◌+◌, ◌-◌, ◌*◌, ◌<◌, ◌≤◌, max, List, [], ◌∷◌, refl, ap, ◌∙◌, Bool, true, false, length, nat_lt, arith}
+use Rattle.std.proofs.Common.{◌≡◌, ℕ, zero, suc, ◌+◌, ◌-◌, ◌*◌, ◌<◌, ◌≤◌, max, List, [], ◌∷◌, refl, ap, ◌∙◌, Bool, true}
+use Rattle.std.proofs.Common.{false, length, nat_lt, arith}
 use Rattle.std.proofs.lemmas.Bool.{ltb-true}
 use Rattle.mw_lex.specs.Tokens.{PureToken, token}
 use Rattle.mw_grammar.specs.SurfaceTrees.{SurfaceTree}
 use Rattle.mw_grammar.specs.Grammar.{Row, expr, Nonterminal, tree, Meaning, right}
-use Rattle.mw_grammar.specs.Forms.{is, Form, gives, refuses, skip, under, expect, reads, pick, option, more, operated, Opens, nothing, operator, opens, form}
-use Rattle.mw_grammar.specs.Descent.{Answer, ok, syntax_at, deep_at, Parser, Parsers, and_then, within, Heights, none_yet, so_far, tall, beside, raise, branch, on_operator, rounds, run, parse, full, rank, calls}
+use Rattle.mw_grammar.specs.Forms.{is, Form, gives, refuses, skip, under, expect, reads, pick, option, more, operated}
+use Rattle.mw_grammar.specs.Forms.{Opens, nothing, operator, opens, form}
+use Rattle.mw_grammar.specs.Descent.{Answer, ok, syntax_at, deep_at, Parser, Parsers, and_then, within, Heights}
+use Rattle.mw_grammar.specs.Descent.{none_yet, so_far, tall, beside, raise, branch, on_operator, rounds, run, parse}
+use Rattle.mw_grammar.specs.Descent.{full, rank, calls}
 use Rattle.mw_grammar.proofs.Depths.{opening, opens_shorter}
 use Rattle.mw_grammar.proofs.Ranks.{Ranked, ranked, rank_right}
 use Rattle.mw_grammar.proofs.Alike.{rest_of, steady, Steady, steady_rounds}

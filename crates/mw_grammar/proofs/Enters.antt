@@ -1,13 +1,32 @@
 -- What the grammar reads a form reads, where the next token ends the nonterminal.
 use Rattle.std.proofs.Common.{◌≡◌, ℕ, ◌<◌, ◌≤◌, List, [], ◌∷◌, refl, sym, subst, Bool, true, false, arith}
-use Rattle.mw_lex.specs.Tokens.{Symbol, let_word, in_word, fun_word, if_word, then_word, else_word, true_word, false_word, not_word, fst_word, snd_word, run_word, close_word, open_word, lift_word, lift_b_word, bracket_left, bracket_right, escape_mark, paren_left, paren_right, square_left, square_right, arrow, item_end, colon, equal, less_equal, less, minus, star, and_mark, or_mark, word, number, PureToken, token}
+use Rattle.mw_lex.specs.Tokens.{Symbol, let_word, in_word, fun_word, if_word, then_word, else_word, true_word}
+use Rattle.mw_lex.specs.Tokens.{false_word, not_word, fst_word, snd_word, run_word, close_word, open_word, lift_word}
+use Rattle.mw_lex.specs.Tokens.{lift_b_word, bracket_left, bracket_right, escape_mark, paren_left, paren_right}
+use Rattle.mw_lex.specs.Tokens.{square_left, square_right, arrow, item_end, colon, equal, less_equal, less, minus, star}
+use Rattle.mw_lex.specs.Tokens.{and_mark, or_mark, word, number, PureToken, token}
 use Rattle.mw_term.specs.declared.term.Primitive.{Primitive}
 use Rattle.mw_term.specs.Terms.{base as ground_base}
 use Rattle.mw_grammar.specs.SurfaceTrees.{SurfaceTree}
 use Rattle.mw_grammar.specs.SourceNodes.{Nodes}
-use Rattle.mw_grammar.specs.Grammar.{Mark, by_arrow, by_equal, Row, sum, product, application, expr, disjunction, conjunction, comparison, row, head, atom, Nonterminal, item, body, tree, base, define, Meaning, Reads, More, right, operand, start_of, Sign, plus_sign, minus_sign, star_sign, slash_sign, mod_sign, equal_sign, less_sign, less_equal_sign, fst_head, snd_head, not_head, close_head, open_head, lift_head, lift_b_head, m_end, m_sign, m_argument, r_main, r_program, r_let_item, r_rec_item, r_kernel, r_let, r_let_rec, r_fun, r_if, r_expr, r_parameter, r_body, r_mark, r_or, r_disjunction, r_and, r_conjunction, r_compare, r_comparison, r_row, r_head, r_run, r_atom, r_name, r_number, r_true, r_false, r_minus, r_paren, r_pair, r_bracket, r_escape, r_ground_kernel, r_arrow, r_star, r_part, r_base_part, r_ground_paren, r_int, r_bool}
-use Rattle.mw_grammar.specs.Forms.{Expected, in_next, then_next, else_next, paren_next, bracket_next, left_next, right_next, end_next, colon_next, equal_next, arrow_next, star_next, less_next, less_equal_next, and_next, or_next, symbol, is, Form, gives, reads, pick, by_sign, apply, operator, opens, form, items_of, program_by, behind_mark, expr_by, head_by, behind_first, paren_by, part_by}
-use Rattle.mw_grammar.proofs.Derivations.{Before, empty, next_is, force, force_of, strength, Ends, In, i_gives, i_skip, i_under, i_expect, i_reads, i_pick, i_yes, i_no, i_more, Chain, c_end, c_on}
+use Rattle.mw_grammar.specs.Grammar.{Mark, by_arrow, by_equal, Row, sum, product, application, expr, disjunction}
+use Rattle.mw_grammar.specs.Grammar.{conjunction, comparison, row, head, atom, Nonterminal, item, body, tree, base}
+use Rattle.mw_grammar.specs.Grammar.{define, Meaning, Reads, More, right, operand, start_of, Sign, plus_sign}
+use Rattle.mw_grammar.specs.Grammar.{minus_sign, star_sign, slash_sign, mod_sign, equal_sign, less_sign}
+use Rattle.mw_grammar.specs.Grammar.{less_equal_sign, fst_head, snd_head, not_head, close_head, open_head, lift_head}
+use Rattle.mw_grammar.specs.Grammar.{lift_b_head, m_end, m_sign, m_argument, r_main, r_program, r_let_item, r_rec_item}
+use Rattle.mw_grammar.specs.Grammar.{r_kernel, r_let, r_let_rec, r_fun, r_if, r_expr, r_parameter, r_body, r_mark, r_or}
+use Rattle.mw_grammar.specs.Grammar.{r_disjunction, r_and, r_conjunction, r_compare, r_comparison, r_row, r_head, r_run}
+use Rattle.mw_grammar.specs.Grammar.{r_atom, r_name, r_number, r_true, r_false, r_minus, r_paren, r_pair, r_bracket}
+use Rattle.mw_grammar.specs.Grammar.{r_escape, r_ground_kernel, r_arrow, r_star, r_part, r_base_part, r_ground_paren}
+use Rattle.mw_grammar.specs.Grammar.{r_int, r_bool}
+use Rattle.mw_grammar.specs.Forms.{Expected, in_next, then_next, else_next, paren_next, bracket_next, left_next}
+use Rattle.mw_grammar.specs.Forms.{right_next, end_next, colon_next, equal_next, arrow_next, star_next, less_next}
+use Rattle.mw_grammar.specs.Forms.{less_equal_next, and_next, or_next, symbol, is, Form, gives, reads, pick, by_sign}
+use Rattle.mw_grammar.specs.Forms.{apply, operator, opens, form, items_of, program_by, behind_mark, expr_by, head_by}
+use Rattle.mw_grammar.specs.Forms.{behind_first, paren_by, part_by}
+use Rattle.mw_grammar.proofs.Derivations.{Before, empty, next_is, force, force_of, strength, Ends, In, i_gives, i_skip}
+use Rattle.mw_grammar.proofs.Derivations.{i_under, i_expect, i_reads, i_pick, i_yes, i_no, i_more, Chain, c_end, c_on}
 
 -- no operator of that strength comes next
 apart_by : (k : Expected) (s : Symbol) → force s < force (symbol k) → is k s ≡ false

@@ -1,11 +1,13 @@
 -- The parser is exact: a tree where the tokens derive one that is not too deep, else the first fault.
-use Rattle.std.proofs.Common.{◌≡◌, ℕ, zero, suc, ◌+◌, ◌<◌, ◌≤◌, max, List, [], ◌∷◌, ◌++◌, refl, ap, ◌∙◌, sym, subst, length, append_assoc, append-nil, length-append, Bool, true, false, nat_lt, arith}
+use Rattle.std.proofs.Common.{◌≡◌, ℕ, zero, suc, ◌+◌, ◌<◌, ◌≤◌, max, List, [], ◌∷◌, ◌++◌, refl, ap, ◌∙◌, sym, subst}
+use Rattle.std.proofs.Common.{length, append_assoc, append-nil, length-append, Bool, true, false, nat_lt, arith}
 use Rattle.std.proofs.lemmas.Bool.{ltb-true, ltb-false}
 use Rattle.mw_lex.specs.Tokens.{PureToken}
 use Rattle.mw_grammar.specs.SurfaceTrees.{PureSurface}
 use Rattle.mw_grammar.specs.SourceNodes.{Nodes, depth, height}
 use Rattle.mw_grammar.specs.Grammar.{program, Nonterminal, Meaning}
-use Rattle.mw_grammar.specs.Answers.{Derives, IsAtMost, IsAbove, IsDead, IsTree, IsSyntax, IsDeep, HasAnswer, a_tree, a_syntax, a_deep}
+use Rattle.mw_grammar.specs.Answers.{Derives, IsAtMost, IsAbove, IsDead, IsTree, IsSyntax, IsDeep, HasAnswer, a_tree}
+use Rattle.mw_grammar.specs.Answers.{a_syntax, a_deep}
 use Rattle.mw_grammar.specs.Descent.{Answer, ok, syntax_at, deep_at, parse, full, rank, calls}
 use Rattle.mw_grammar.proofs.Depths.{depth_most, depth_less}
 use Rattle.mw_grammar.proofs.Ranks.{ranked}

@@ -1,14 +1,30 @@
 -- What a form reads the grammar reads.
 use Rattle.std.proofs.Common.{ℕ, suc, List, ◌∷◌, length}
-use Rattle.mw_lex.specs.Tokens.{let_word, rec_word, fun_word, if_word, not_word, fst_word, snd_word, run_word, close_word, open_word, lift_word, lift_b_word, kernel_word, main_word, int_word, bool_word, comma, minus, arrow, equal, bracket_left, escape_mark, paren_left, paren_right, word, number, true_word, false_word, PureToken, token}
+use Rattle.mw_lex.specs.Tokens.{let_word, rec_word, fun_word, if_word, not_word, fst_word, snd_word, run_word}
+use Rattle.mw_lex.specs.Tokens.{close_word, open_word, lift_word, lift_b_word, kernel_word, main_word, int_word}
+use Rattle.mw_lex.specs.Tokens.{bool_word, comma, minus, arrow, equal, bracket_left, escape_mark, paren_left}
+use Rattle.mw_lex.specs.Tokens.{paren_right, word, number, true_word, false_word, PureToken, token}
 use Rattle.mw_term.specs.Terms.{GroundType, base as ground_base}
 use Rattle.mw_grammar.specs.SurfaceTrees.{SurfaceTree, PureItem, PureSurface}
 use Rattle.mw_grammar.specs.SourceNodes.{Nodes, node}
 use Rattle.mw_grammar.specs.Grammar
-use Rattle.mw_grammar.specs.Grammar.{Mark, by_arrow, by_equal, Row, sum, product, application, Precedence, expr, disjunction, conjunction, comparison, row, head, atom, Nonterminal, program, item, parameter, body, tree, kernel_type, ground, part, base, Definition, define, Abstraction, abstract, Meaning, Reads, More, right, operand, equal_sign, less_sign, less_equal_sign, fst_head, snd_head, not_head, close_head, open_head, lift_head, lift_b_head, r_main, r_program, r_let_item, r_rec_item, r_kernel, r_let, r_let_rec, r_fun, r_if, r_expr, r_parameter, r_body, r_mark, r_or, r_disjunction, r_and, r_conjunction, r_compare, r_comparison, r_row, r_head, r_run, r_atom, r_name, r_number, r_true, r_false, r_minus, r_paren, r_pair, r_bracket, r_escape, r_ground_kernel, r_arrow, r_star, r_part, r_base_part, r_ground_paren, r_int, r_bool}
-use Rattle.mw_grammar.specs.Forms.{gives, reads, pick, form, program_by, rec_item, let_by, kernel_by, item_by, parameter_by, behind_mark, body_by, rec_by, let_in_by, expr_by, head_by, minus_by, behind_first, paren_by, atom_by, part_by, base_by}
+use Rattle.mw_grammar.specs.Grammar.{Mark, by_arrow, by_equal, Row, sum, product, application, Precedence, expr}
+use Rattle.mw_grammar.specs.Grammar.{disjunction, conjunction, comparison, row, head, atom, Nonterminal, program, item}
+use Rattle.mw_grammar.specs.Grammar.{parameter, body, tree, kernel_type, ground, part, base, Definition, define}
+use Rattle.mw_grammar.specs.Grammar.{Abstraction, abstract, Meaning, Reads, More, right, operand, equal_sign, less_sign}
+use Rattle.mw_grammar.specs.Grammar.{less_equal_sign, fst_head, snd_head, not_head, close_head, open_head, lift_head}
+use Rattle.mw_grammar.specs.Grammar.{lift_b_head, r_main, r_program, r_let_item, r_rec_item, r_kernel, r_let, r_let_rec}
+use Rattle.mw_grammar.specs.Grammar.{r_fun, r_if, r_expr, r_parameter, r_body, r_mark, r_or, r_disjunction, r_and}
+use Rattle.mw_grammar.specs.Grammar.{r_conjunction, r_compare, r_comparison, r_row, r_head, r_run, r_atom, r_name}
+use Rattle.mw_grammar.specs.Grammar.{r_number, r_true, r_false, r_minus, r_paren, r_pair, r_bracket, r_escape}
+use Rattle.mw_grammar.specs.Grammar.{r_ground_kernel, r_arrow, r_star, r_part, r_base_part, r_ground_paren, r_int}
+use Rattle.mw_grammar.specs.Grammar.{r_bool}
+use Rattle.mw_grammar.specs.Forms.{gives, reads, pick, form, program_by, rec_item, let_by, kernel_by, item_by}
+use Rattle.mw_grammar.specs.Forms.{parameter_by, behind_mark, body_by, rec_by, let_in_by, expr_by, head_by, minus_by}
+use Rattle.mw_grammar.specs.Forms.{behind_first, paren_by, atom_by, part_by, base_by}
 use Rattle.mw_grammar.proofs.Derivations.{empty, some}
-use Rattle.mw_grammar.proofs.Samples.{Read, d_gives, d_skip, d_under, d_expect, d_reads, d_pick, d_yes, d_no, d_more, no_refuses}
+use Rattle.mw_grammar.proofs.Samples.{Read, d_gives, d_skip, d_under, d_expect, d_reads, d_pick, d_yes, d_no, d_more}
+use Rattle.mw_grammar.proofs.Samples.{no_refuses}
 
 fold_program : (t : PureToken) {ts rest : List PureToken} {v : PureSurface} {s : Nodes} → Read program (program_by t) empty (t ∷ ts) v s rest → Reads program (t ∷ ts) v s rest
 fold_program (token a a' main_word) (d_skip (d_expect (d_reads h (d_expect (d_reads i d_gives))))) = r_main h i

@@ -1,9 +1,17 @@
 -- Calls within calls: at the same tokens and with the same budget a form reads only nonterminals of lower rank.
 use Rattle.std.proofs.Common.{ℕ, suc, ◌<◌, arith}
-use Rattle.mw_lex.specs.Tokens.{let_word, rec_word, fun_word, if_word, not_word, fst_word, snd_word, run_word, close_word, open_word, lift_word, lift_b_word, kernel_word, main_word, int_word, bool_word, comma, minus, arrow, equal, bracket_left, escape_mark, paren_left, paren_right, word, number, true_word, false_word, PureToken, token}
+use Rattle.mw_lex.specs.Tokens.{let_word, rec_word, fun_word, if_word, not_word, fst_word, snd_word, run_word}
+use Rattle.mw_lex.specs.Tokens.{close_word, open_word, lift_word, lift_b_word, kernel_word, main_word, int_word}
+use Rattle.mw_lex.specs.Tokens.{bool_word, comma, minus, arrow, equal, bracket_left, escape_mark, paren_left}
+use Rattle.mw_lex.specs.Tokens.{paren_right, word, number, true_word, false_word, PureToken, token}
 use Rattle.mw_grammar.specs.SurfaceTrees.{SurfaceTree}
-use Rattle.mw_grammar.specs.Grammar.{Mark, by_arrow, by_equal, Row, sum, product, application, expr, disjunction, conjunction, comparison, row, head, atom, Nonterminal, program, item, parameter, body, tree, kernel_type, ground, part, base, Meaning, right}
-use Rattle.mw_grammar.specs.Forms.{Form, gives, refuses, skip, under, expect, reads, pick, option, more, form, program_by, rec_item, let_by, kernel_by, item_by, parameter_by, behind_mark, body_by, rec_by, let_in_by, expr_by, head_by, minus_by, behind_first, paren_by, atom_by, part_by, base_by}
+use Rattle.mw_grammar.specs.Grammar.{Mark, by_arrow, by_equal, Row, sum, product, application, expr, disjunction}
+use Rattle.mw_grammar.specs.Grammar.{conjunction, comparison, row, head, atom, Nonterminal, program, item, parameter}
+use Rattle.mw_grammar.specs.Grammar.{body, tree, kernel_type, ground, part, base, Meaning, right}
+use Rattle.mw_grammar.specs.Forms.{Form, gives, refuses, skip, under, expect, reads, pick, option, more, form}
+use Rattle.mw_grammar.specs.Forms.{program_by, rec_item, let_by, kernel_by, item_by, parameter_by, behind_mark, body_by}
+use Rattle.mw_grammar.specs.Forms.{rec_by, let_in_by, expr_by, head_by, minus_by, behind_first, paren_by, atom_by}
+use Rattle.mw_grammar.specs.Forms.{part_by, base_by}
 use Rattle.mw_grammar.specs.Descent.{rank}
 
 abbrev pub Ranked : {n : Nonterminal} → ℕ → Form n → Type 0

@@ -1,10 +1,20 @@
 -- Each nonterminal has some tokens, and so has each form with which one can still go on.
 use Rattle.std.proofs.Common.{ℕ, suc, List, [], ◌∷◌, ◌++◌, length, append_assoc}
-use Rattle.mw_lex.specs.Tokens.{Symbol, let_word, rec_word, fun_word, if_word, not_word, fst_word, snd_word, run_word, close_word, open_word, lift_word, lift_b_word, kernel_word, main_word, int_word, bool_word, comma, minus, arrow, equal, colon, bracket_left, escape_mark, paren_left, paren_right, word, number, true_word, false_word, PureToken, token}
+use Rattle.mw_lex.specs.Tokens.{Symbol, let_word, rec_word, fun_word, if_word, not_word, fst_word, snd_word, run_word}
+use Rattle.mw_lex.specs.Tokens.{close_word, open_word, lift_word, lift_b_word, kernel_word, main_word, int_word}
+use Rattle.mw_lex.specs.Tokens.{bool_word, comma, minus, arrow, equal, colon, bracket_left, escape_mark, paren_left}
+use Rattle.mw_lex.specs.Tokens.{paren_right, word, number, true_word, false_word, PureToken, token}
 use Rattle.mw_grammar.specs.SurfaceTrees.{SurfaceTree}
 use Rattle.mw_grammar.specs.SourceNodes.{Nodes, node}
-use Rattle.mw_grammar.specs.Grammar.{Mark, by_arrow, by_equal, Row, sum, product, application, expr, disjunction, conjunction, comparison, row, head, atom, Nonterminal, program, item, parameter, body, tree, kernel_type, ground, part, base, Meaning, Reads, More, m_end, r_main, r_let_item, r_expr, r_parameter, r_mark, r_disjunction, r_conjunction, r_comparison, r_row, r_atom, r_name, r_ground_kernel, r_part, r_base_part, r_int}
-use Rattle.mw_grammar.specs.Forms.{Expected, in_next, symbol, Form, gives, refuses, skip, under, expect, reads, pick, option, more, form, program_by, rec_item, let_by, kernel_by, item_by, parameter_by, behind_mark, body_by, rec_by, let_in_by, expr_by, head_by, minus_by, behind_first, paren_by, atom_by, part_by, base_by}
+use Rattle.mw_grammar.specs.Grammar.{Mark, by_arrow, by_equal, Row, sum, product, application, expr, disjunction}
+use Rattle.mw_grammar.specs.Grammar.{conjunction, comparison, row, head, atom, Nonterminal, program, item, parameter}
+use Rattle.mw_grammar.specs.Grammar.{body, tree, kernel_type, ground, part, base, Meaning, Reads, More, m_end, r_main}
+use Rattle.mw_grammar.specs.Grammar.{r_let_item, r_expr, r_parameter, r_mark, r_disjunction, r_conjunction}
+use Rattle.mw_grammar.specs.Grammar.{r_comparison, r_row, r_atom, r_name, r_ground_kernel, r_part, r_base_part, r_int}
+use Rattle.mw_grammar.specs.Forms.{Expected, in_next, symbol, Form, gives, refuses, skip, under, expect, reads, pick}
+use Rattle.mw_grammar.specs.Forms.{option, more, form, program_by, rec_item, let_by, kernel_by, item_by, parameter_by}
+use Rattle.mw_grammar.specs.Forms.{behind_mark, body_by, rec_by, let_in_by, expr_by, head_by, minus_by, behind_first}
+use Rattle.mw_grammar.specs.Forms.{paren_by, atom_by, part_by, base_by}
 use Rattle.mw_grammar.proofs.Derivations.{Before, empty, some, over, nodes}
 
 -- Readings by forms, in which the parts are read by the grammar.

@@ -1,17 +1,30 @@
 -- The parser reads by the grammar, and stops after a front that can be completed.
-use Rattle.std.proofs.Common.{◌≡◌, ℕ, zero, suc, ◌+◌, ◌-◌, ◌*◌, ◌<◌, ◌≤◌, max, List, [], ◌∷◌, ◌++◌, refl, ap, ◌∙◌, sym, subst, Bool, true, false, length, nat_lt, append_assoc, arith}
+use Rattle.std.proofs.Common.{◌≡◌, ℕ, zero, suc, ◌+◌, ◌-◌, ◌*◌, ◌<◌, ◌≤◌, max, List, [], ◌∷◌, ◌++◌, refl, ap, ◌∙◌, sym}
+use Rattle.std.proofs.Common.{subst, Bool, true, false, length, nat_lt, append_assoc, arith}
 use Rattle.std.proofs.lemmas.Bool.{ltb-true}
-use Rattle.mw_lex.specs.Tokens.{Symbol, in_word, then_word, else_word, bracket_right, square_left, square_right, item_end, colon, equal, arrow, less, less_equal, and_mark, or_mark, paren_right, true_word, false_word, bracket_left, escape_mark, paren_left, minus, star, word, number, PureToken, token}
+use Rattle.mw_lex.specs.Tokens.{Symbol, in_word, then_word, else_word, bracket_right, square_left, square_right}
+use Rattle.mw_lex.specs.Tokens.{item_end, colon, equal, arrow, less, less_equal, and_mark, or_mark, paren_right}
+use Rattle.mw_lex.specs.Tokens.{true_word, false_word, bracket_left, escape_mark, paren_left, minus, star, word, number}
+use Rattle.mw_lex.specs.Tokens.{PureToken, token}
 use Rattle.mw_term.specs.declared.term.Primitive.{Primitive}
 use Rattle.mw_grammar.specs.SurfaceTrees.{SurfaceTree, prim, app}
 use Rattle.mw_grammar.specs.SourceNodes.{Nodes, node, both}
-use Rattle.mw_grammar.specs.Grammar.{Row, application, expr, atom, Nonterminal, tree, Meaning, Reads, More, m_end, m_sign, m_argument, Sign, r_name, r_number, r_true, r_false, r_paren, r_bracket, r_escape, right}
-use Rattle.mw_grammar.specs.Forms.{Expected, in_next, then_next, else_next, paren_next, bracket_next, left_next, right_next, end_next, colon_next, equal_next, arrow_next, star_next, less_next, less_equal_next, and_next, or_next, symbol, is, Form, gives, refuses, skip, under, expect, reads, pick, option, more, apply, operator, opens_by, form}
-use Rattle.mw_grammar.specs.Descent.{Answer, ok, syntax_at, deep_at, and_then, within, Heights, none_yet, so_far, tall, beside, raise, branch, on_operator, rounds, run, parse, rank, calls}
+use Rattle.mw_grammar.specs.Grammar.{Row, application, expr, atom, Nonterminal, tree, Meaning, Reads, More, m_end}
+use Rattle.mw_grammar.specs.Grammar.{m_sign, m_argument, Sign, r_name, r_number, r_true, r_false, r_paren, r_bracket}
+use Rattle.mw_grammar.specs.Grammar.{r_escape, right}
+use Rattle.mw_grammar.specs.Forms.{Expected, in_next, then_next, else_next, paren_next, bracket_next, left_next}
+use Rattle.mw_grammar.specs.Forms.{right_next, end_next, colon_next, equal_next, arrow_next, star_next, less_next}
+use Rattle.mw_grammar.specs.Forms.{less_equal_next, and_next, or_next, symbol, is, Form, gives, refuses, skip, under}
+use Rattle.mw_grammar.specs.Forms.{expect, reads, pick, option, more, apply, operator, opens_by, form}
+use Rattle.mw_grammar.specs.Descent.{Answer, ok, syntax_at, deep_at, and_then, within, Heights, none_yet, so_far, tall}
+use Rattle.mw_grammar.specs.Descent.{beside, raise, branch, on_operator, rounds, run, parse, rank, calls}
 use Rattle.mw_grammar.proofs.Derivations.{Before, empty, some, over, nodes}
 use Rattle.mw_grammar.proofs.Ranks.{Ranked, ranked, rank_right}
-use Rattle.mw_grammar.proofs.Alike.{Shape, no_operator, before_operand, at_operand, shape, rest_of, steady, steady_rounds}
-use Rattle.mw_grammar.proofs.Samples.{expr_sample, atom_sample, Read, d_gives, d_skip, d_under, d_expect, d_reads, d_pick, d_yes, d_no, d_more, Fills, Open, Stand, first, going, chosen, other, opens_all, sample, fill_of}
+use Rattle.mw_grammar.proofs.Alike.{Shape, no_operator, before_operand, at_operand, shape, rest_of, steady}
+use Rattle.mw_grammar.proofs.Alike.{steady_rounds}
+use Rattle.mw_grammar.proofs.Samples.{expr_sample, atom_sample, Read, d_gives, d_skip, d_under, d_expect, d_reads}
+use Rattle.mw_grammar.proofs.Samples.{d_pick, d_yes, d_no, d_more, Fills, Open, Stand, first, going, chosen, other}
+use Rattle.mw_grammar.proofs.Samples.{opens_all, sample, fill_of}
 use Rattle.mw_grammar.proofs.Folds.{fold}
 
 -- at the head of a nonterminal, and where a token decides, a token is taken

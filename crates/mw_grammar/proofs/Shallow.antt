@@ -1,10 +1,18 @@
 -- The tree that is made is never deeper than its source.
 use Rattle.std.proofs.Common.{ℕ, suc, ◌≤◌, max, List, [], ◌∷◌, arith}
 use Rattle.mw_lex.specs.Tokens.{PureToken}
-use Rattle.mw_grammar.specs.SurfaceTrees.{SurfaceTree, num, truth, used, fun, fix, app, bind, cond, pair, fst, snd, prim, bracket, escape, run, close, opened, lift, lift_b, PureItem}
+use Rattle.mw_grammar.specs.SurfaceTrees.{SurfaceTree, num, truth, used, fun, fix, app, bind, cond, pair, fst, snd}
+use Rattle.mw_grammar.specs.SurfaceTrees.{prim, bracket, escape, run, close, opened, lift, lift_b, PureItem}
 use Rattle.mw_grammar.specs.SurfaceDepth.{surface_depth, bound_tree, AreShallow}
 use Rattle.mw_grammar.specs.SourceNodes.{Nodes, height}
-use Rattle.mw_grammar.specs.Grammar.{Nonterminal, program, item, parameter, body, tree, kernel_type, ground, part, base, define, abstract, Meaning, Reads, More, fst_head, snd_head, not_head, close_head, open_head, lift_head, lift_b_head, m_end, m_sign, m_argument, r_main, r_program, r_let_item, r_rec_item, r_kernel, r_let, r_let_rec, r_fun, r_if, r_expr, r_parameter, r_body, r_mark, r_or, r_disjunction, r_and, r_conjunction, r_compare, r_comparison, r_row, r_head, r_run, r_atom, r_name, r_number, r_true, r_false, r_minus, r_paren, r_pair, r_bracket, r_escape, r_ground_kernel, r_arrow, r_star, r_part, r_base_part, r_ground_paren, r_int, r_bool}
+use Rattle.mw_grammar.specs.Grammar.{Nonterminal, program, item, parameter, body, tree, kernel_type, ground, part, base}
+use Rattle.mw_grammar.specs.Grammar.{define, abstract, Meaning, Reads, More, fst_head, snd_head, not_head, close_head}
+use Rattle.mw_grammar.specs.Grammar.{open_head, lift_head, lift_b_head, m_end, m_sign, m_argument, r_main, r_program}
+use Rattle.mw_grammar.specs.Grammar.{r_let_item, r_rec_item, r_kernel, r_let, r_let_rec, r_fun, r_if, r_expr}
+use Rattle.mw_grammar.specs.Grammar.{r_parameter, r_body, r_mark, r_or, r_disjunction, r_and, r_conjunction, r_compare}
+use Rattle.mw_grammar.specs.Grammar.{r_comparison, r_row, r_head, r_run, r_atom, r_name, r_number, r_true, r_false}
+use Rattle.mw_grammar.specs.Grammar.{r_minus, r_paren, r_pair, r_bracket, r_escape, r_ground_kernel, r_arrow, r_star}
+use Rattle.mw_grammar.specs.Grammar.{r_part, r_base_part, r_ground_paren, r_int, r_bool}
 
 -- a tree has a node
 some_depth : (e : SurfaceTree) → 1 ≤ surface_depth e

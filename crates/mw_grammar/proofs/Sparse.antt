@@ -7,7 +7,14 @@ use Rattle.mw_grammar.specs.SurfaceDepth.{bound_tree}
 use Rattle.mw_grammar.specs.SurfaceSize.{tree_size, surface_size, IsSparse}
 use Rattle.mw_grammar.specs.SourceNodes.{Nodes}
 use Rattle.mw_grammar.specs.Answers.{IsProgram}
-use Rattle.mw_grammar.specs.Grammar.{Row, Nonterminal, program, item, parameter, body, tree, kernel_type, ground, part, base, define, abstract, Meaning, Reads, More, fst_head, snd_head, not_head, close_head, open_head, lift_head, lift_b_head, m_end, m_sign, m_argument, r_main, r_program, r_let_item, r_rec_item, r_kernel, r_let, r_let_rec, r_fun, r_if, r_expr, r_parameter, r_body, r_mark, r_or, r_disjunction, r_and, r_conjunction, r_compare, r_comparison, r_row, r_head, r_run, r_atom, r_name, r_number, r_true, r_false, r_minus, r_paren, r_pair, r_bracket, r_escape, r_ground_kernel, r_arrow, r_star, r_part, r_base_part, r_ground_paren, r_int, r_bool}
+use Rattle.mw_grammar.specs.Grammar.{Row, Nonterminal, program, item, parameter, body, tree, kernel_type, ground, part}
+use Rattle.mw_grammar.specs.Grammar.{base, define, abstract, Meaning, Reads, More, fst_head, snd_head, not_head}
+use Rattle.mw_grammar.specs.Grammar.{close_head, open_head, lift_head, lift_b_head, m_end, m_sign, m_argument, r_main}
+use Rattle.mw_grammar.specs.Grammar.{r_program, r_let_item, r_rec_item, r_kernel, r_let, r_let_rec, r_fun, r_if, r_expr}
+use Rattle.mw_grammar.specs.Grammar.{r_parameter, r_body, r_mark, r_or, r_disjunction, r_and, r_conjunction, r_compare}
+use Rattle.mw_grammar.specs.Grammar.{r_comparison, r_row, r_head, r_run, r_atom, r_name, r_number, r_true, r_false}
+use Rattle.mw_grammar.specs.Grammar.{r_minus, r_paren, r_pair, r_bracket, r_escape, r_ground_kernel, r_arrow, r_star}
+use Rattle.mw_grammar.specs.Grammar.{r_part, r_base_part, r_ground_paren, r_int, r_bool}
 
 -- What is read, by its nodes. A tree counts one more, for the application that may be made of it and takes no token; a
 -- parameter counts the function that it makes as well.

@@ -1,5 +1,6 @@
 -- A list of tokens has one answer.
-use Rattle.std.proofs.Common.{◌≡◌, ℕ, List, [], ◌∷◌, ◌++◌, refl, ap, ◌∙◌, sym, subst, length, append_assoc, append-nil, length-append, arith}
+use Rattle.std.proofs.Common.{◌≡◌, ℕ, List, [], ◌∷◌, ◌++◌, refl, ap, ◌∙◌, sym, subst, length, append_assoc, append-nil}
+use Rattle.std.proofs.Common.{length-append, arith}
 use Rattle.mw_lex.specs.Tokens.{PureToken}
 use Rattle.mw_grammar.specs.SurfaceTrees.{PureSurface}
 use Rattle.mw_grammar.specs.Answers.{Derives, BeginsProgram, IsAtMost, IsAbove, IsDead, IsTree, IsSyntax, IsDeep}

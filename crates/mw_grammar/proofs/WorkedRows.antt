@@ -1,10 +1,14 @@
 -- Rows that compute: x n is the name of byte n at offset n.
 use Rattle.std.proofs.Common.{◌≡◌, ℕ, suc, [], ◌∷◌, refl, true, false, pos, negsuc}
-use Rattle.mw_lex.specs.Tokens.{Symbol, let_word, rec_word, in_word, not_word, fst_word, run_word, kernel_word, main_word, int_word, bool_word, mod_word, paren_left, paren_right, square_left, square_right, arrow, item_end, colon, equal, less_equal, less, plus, minus, star, slash, and_mark, or_mark, word, number, PureToken, token}
+use Rattle.mw_lex.specs.Tokens.{Symbol, let_word, rec_word, in_word, not_word, fst_word, run_word, kernel_word}
+use Rattle.mw_lex.specs.Tokens.{main_word, int_word, bool_word, mod_word, paren_left, paren_right, square_left}
+use Rattle.mw_lex.specs.Tokens.{square_right, arrow, item_end, colon, equal, less_equal, less, plus, minus, star, slash}
+use Rattle.mw_lex.specs.Tokens.{and_mark, or_mark, word, number, PureToken, token}
 use Rattle.mw_term.specs.declared.term.Base.TheVariants as bases
 use Rattle.mw_term.specs.declared.term.Primitive.TheVariants.{Add, Sub, Mul, Div, Mod, Eq, Lt, Le}
 use Rattle.mw_term.specs.Terms.{base as ground_base, product as ground_pair, of_ground, to}
-use Rattle.mw_grammar.specs.SurfaceTrees.{SurfaceTree, num, truth, used, fun, fix, app, bind, cond, fst, prim, run, let_item, kernel_item}
+use Rattle.mw_grammar.specs.SurfaceTrees.{SurfaceTree, num, truth, used, fun, fix, app, bind, cond, fst, prim, run}
+use Rattle.mw_grammar.specs.SurfaceTrees.{let_item, kernel_item}
 use Rattle.mw_grammar.specs.Grammar.{expr, tree, program, kernel_type, ground}
 use Rattle.mw_grammar.specs.Descent.{ok, syntax_at, deep_at, full}
 

@@ -3,8 +3,11 @@
 use Rattle.std.specs.Prelude.{ℕ, zero, suc, ◌+◌, ◌-◌, ◌*◌, max, Bool, true, false, List, [], ◌∷◌, length, nat_lt}
 use Rattle.mw_lex.specs.Tokens.{PureToken, token}
 use Rattle.mw_grammar.specs.SurfaceTrees.{SurfaceTree}
-use Rattle.mw_grammar.specs.Grammar.{Row, sum, product, application, expr, disjunction, conjunction, comparison, row, head, atom, Nonterminal, program, item, parameter, body, tree, kernel_type, ground, part, base, Meaning, right}
-use Rattle.mw_grammar.specs.Forms.{is, Form, gives, refuses, skip, under, expect, reads, pick, option, more, Op, operated, Opens, nothing, operator, opens, form}
+use Rattle.mw_grammar.specs.Grammar.{Row, sum, product, application, expr, disjunction, conjunction, comparison, row}
+use Rattle.mw_grammar.specs.Grammar.{head, atom, Nonterminal, program, item, parameter, body, tree, kernel_type, ground}
+use Rattle.mw_grammar.specs.Grammar.{part, base, Meaning, right}
+use Rattle.mw_grammar.specs.Forms.{is, Form, gives, refuses, skip, under, expect, reads, pick, option, more, Op}
+use Rattle.mw_grammar.specs.Forms.{operated, Opens, nothing, operator, opens, form}
 
 pub data Answer (n : Nonterminal) : Type 0 where
   ok : (v : Meaning n) (height : ℕ) (rest : List PureToken) → Answer n

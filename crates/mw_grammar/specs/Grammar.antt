@@ -20,14 +20,22 @@
 --     ground    = part [ "*" ground ]
 --     part      = base | "(" ground ")"
 --     base      = "int" | "bool"
-use Rattle.std.specs.Prelude.{ℕ, zero, suc, ◌^◌, ℤ, true, false, List, [], ◌∷◌, length, pos, negsuc, nat_lt, if◌then◌else◌}
-use Rattle.mw_lex.specs.Tokens.{Symbol, let_word, rec_word, in_word, fun_word, if_word, then_word, else_word, true_word, false_word, not_word, fst_word, snd_word, run_word, close_word, open_word, lift_word, lift_b_word, kernel_word, main_word, int_word, bool_word, mod_word, bracket_left, bracket_right, escape_mark, paren_left, paren_right, square_left, square_right, comma, arrow, item_end, colon, equal, less_equal, less, plus, minus, star, slash, and_mark, or_mark, word, number, PureToken, token}
+use Rattle.std.specs.Prelude.{ℕ, zero, suc, ◌^◌, ℤ, true, false, List, [], ◌∷◌, length, pos, negsuc, nat_lt}
+use Rattle.std.specs.Prelude.{if◌then◌else◌}
+use Rattle.mw_lex.specs.Tokens.{Symbol, let_word, rec_word, in_word, fun_word, if_word, then_word, else_word, true_word}
+use Rattle.mw_lex.specs.Tokens.{false_word, not_word, fst_word, snd_word, run_word, close_word, open_word, lift_word}
+use Rattle.mw_lex.specs.Tokens.{lift_b_word, kernel_word, main_word, int_word, bool_word, mod_word, bracket_left}
+use Rattle.mw_lex.specs.Tokens.{bracket_right, escape_mark, paren_left, paren_right, square_left, square_right, comma}
+use Rattle.mw_lex.specs.Tokens.{arrow, item_end, colon, equal, less_equal, less, plus, minus, star, slash, and_mark}
+use Rattle.mw_lex.specs.Tokens.{or_mark, word, number, PureToken, token}
 use Rattle.mw_term.specs.declared.term.Base.{Base}
 use Rattle.mw_term.specs.declared.term.Base.TheVariants as bases
 use Rattle.mw_term.specs.declared.term.Primitive.{Primitive}
 use Rattle.mw_term.specs.declared.term.Primitive.TheVariants.{Add, Sub, Mul, Div, Mod, Eq, Lt, Le}
 use Rattle.mw_term.specs.Terms.{GroundType, base as ground_base, product as ground_pair, KernelType, of_ground, to}
-use Rattle.mw_grammar.specs.SurfaceTrees.{SurfaceTree, num, truth, used, fun, fix, app, bind, cond, pair, fst, snd, prim, bracket, escape, run, close, opened, lift, lift_b, PureItem, let_item, kernel_item, PureSurface}
+use Rattle.mw_grammar.specs.SurfaceTrees.{SurfaceTree, num, truth, used, fun, fix, app, bind, cond, pair, fst, snd}
+use Rattle.mw_grammar.specs.SurfaceTrees.{prim, bracket, escape, run, close, opened, lift, lift_b, PureItem, let_item}
+use Rattle.mw_grammar.specs.SurfaceTrees.{kernel_item, PureSurface}
 use Rattle.mw_grammar.specs.SourceNodes.{Nodes, none, node, both}
 
 -- what ends a list of parameters

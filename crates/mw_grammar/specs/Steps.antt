@@ -6,7 +6,8 @@ use Rattle.mw_lex.specs.declared.token.Token.{Token}
 use Rattle.mw_term.specs.declared.term.Primitive.{Primitive}
 use Rattle.mw_grammar.specs.SurfaceTrees.{SurfaceTree}
 use Rattle.mw_grammar.specs.Grammar.{Nonterminal, Row}
-use Rattle.mw_grammar.specs.Forms.{Expected, Form, gives, skip, under, pick, expect, option, opens, nothing, operator, compared, equal_to}
+use Rattle.mw_grammar.specs.Forms.{Expected, Form, gives, skip, under, pick, expect, option, opens, nothing, operator}
+use Rattle.mw_grammar.specs.Forms.{compared, equal_to}
 use Rattle.mw_grammar.specs.Descent.{Heights, none_yet, tall, syntax_at, deep_at, raise, reading}
 use Rattle.mw_grammar.specs.Levels.{op_of}
 use Rattle.mw_grammar.specs.declared.rows.Operator.{Operator}

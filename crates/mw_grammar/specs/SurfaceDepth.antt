@@ -1,6 +1,8 @@
 -- The depth of a surface tree, parentheses aside.
 use Rattle.std.specs.Prelude.{ℕ, suc, ◌≤◌, max, List, [], ◌∷◌, length}
-use Rattle.mw_grammar.specs.SurfaceTrees.{SurfaceTree, num, truth, used, fun, fix, app, bind, cond, pair, fst, snd, prim, bracket, escape, run, close, opened, lift, lift_b, PureItem, let_item, kernel_item, PureSurface}
+use Rattle.mw_grammar.specs.SurfaceTrees.{SurfaceTree, num, truth, used, fun, fix, app, bind, cond, pair, fst, snd}
+use Rattle.mw_grammar.specs.SurfaceTrees.{prim, bracket, escape, run, close, opened, lift, lift_b, PureItem, let_item}
+use Rattle.mw_grammar.specs.SurfaceTrees.{kernel_item, PureSurface}
 
 -- the nodes on the longest path
 abbrev pub surface_depth : SurfaceTree → ℕ

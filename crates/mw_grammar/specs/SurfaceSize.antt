@@ -1,7 +1,9 @@
 -- The nodes of a surface tree, the short forms unfolded. Types are not counted.
 use Rattle.std.specs.Prelude.{ℕ, ◌+◌, ◌*◌, ◌≤◌, List, [], ◌∷◌, length}
 use Rattle.mw_lex.specs.Tokens.{PureToken}
-use Rattle.mw_grammar.specs.SurfaceTrees.{SurfaceTree, num, truth, used, fun, fix, app, bind, cond, pair, fst, snd, prim, bracket, escape, run, close, opened, lift, lift_b, PureItem, PureSurface}
+use Rattle.mw_grammar.specs.SurfaceTrees.{SurfaceTree, num, truth, used, fun, fix, app, bind, cond, pair, fst, snd}
+use Rattle.mw_grammar.specs.SurfaceTrees.{prim, bracket, escape, run, close, opened, lift, lift_b, PureItem}
+use Rattle.mw_grammar.specs.SurfaceTrees.{PureSurface}
 use Rattle.mw_grammar.specs.SurfaceDepth.{bound_tree}
 
 -- an expression

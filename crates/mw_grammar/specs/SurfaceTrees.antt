@@ -3,7 +3,9 @@ use Rattle.std.specs.Prelude.{ℕ, ℤ, Bool, List, map}
 use Rattle.mw_term.specs.declared.term.Primitive.{Primitive as Prim}
 use Rattle.mw_term.specs.Terms.{GroundType, KernelType, ground_of, kernel_type_of}
 use Rattle.mw_grammar.specs.declared.tree.Tree.{Tree}
-use Rattle.mw_grammar.specs.declared.tree.Tree.TheVariants.{Int, Bool as Truth, Used, Fun', Rec', App', Let', If', Pair', Fst', Snd', Prim' as Prim-Prim', Bracket', Escape', Run', CloseCode', OpenCode', Lift', LiftB'}
+use Rattle.mw_grammar.specs.declared.tree.Tree.TheVariants.{Int, Bool as Truth, Used, Fun', Rec', App', Let', If'}
+use Rattle.mw_grammar.specs.declared.tree.Tree.TheVariants.{Pair', Fst', Snd', Prim' as Prim-Prim', Bracket', Escape'}
+use Rattle.mw_grammar.specs.declared.tree.Tree.TheVariants.{Run', CloseCode', OpenCode', Lift', LiftB'}
 use Rattle.mw_grammar.specs.declared.tree.SurfaceItem.{SurfaceItem}
 use Rattle.mw_grammar.specs.declared.tree.SurfaceItem.TheVariants.{Let as LetItem, Kernel as KernelItem}
 use Rattle.mw_grammar.specs.declared.tree.Surface.{Surface}

@@ -1,10 +1,14 @@
 -- What the symbol of a token decides: which symbol it is, or which form comes with the others.
 use Rattle.std.specs.Prelude.{ℕ, ◌≡◌, true, false, Option, Some, None}
-use Rattle.mw_lex.specs.Tokens.{PureToken, minus, let_word, rec_word, fun_word, if_word, kernel_word, main_word, paren_right, comma, word, token}
+use Rattle.mw_lex.specs.Tokens.{PureToken, minus, let_word, rec_word, fun_word, if_word, kernel_word, main_word}
+use Rattle.mw_lex.specs.Tokens.{paren_right, comma, word, token}
 use Rattle.mw_grammar.specs.SurfaceTrees.{SurfaceTree, num, truth, used, cond, fst, snd, close, opened, lift, lift_b}
 use Rattle.mw_grammar.specs.Grammar as Pure
 use Rattle.mw_grammar.specs.Grammar.{tree, expr, head, atom, parameter, positive}
-use Rattle.mw_grammar.specs.Forms.{Form, gives, reads, skip, under, pick, refuses, expr_by, disjunction_form, let_in_by, let_by, atom_by, bracket_form, escape_form, head_by, run_form, passed_form, paren_by, group_form, behind_first, body_by, behind_mark, defined, program_by, items_of, item_by}
+use Rattle.mw_grammar.specs.Forms.{Form, gives, reads, skip, under, pick, refuses, expr_by, disjunction_form, let_in_by}
+use Rattle.mw_grammar.specs.Forms.{let_by, atom_by, bracket_form, escape_form, head_by, run_form, passed_form, paren_by}
+use Rattle.mw_grammar.specs.Forms.{group_form, behind_first, body_by, behind_mark, defined, program_by, items_of}
+use Rattle.mw_grammar.specs.Forms.{item_by}
 use Rattle.mw_grammar.specs.declared.words.First.{First}
 use Rattle.mw_grammar.specs.declared.words.First.TheVariants as first
 use Rattle.mw_grammar.specs.declared.words.Named.{Named}

@@ -5,20 +5,32 @@ use Rattle.std.specs.Prelude.{slice_get}
 use Rattle.mw_term.specs.declared.term.Base.{Base}
 use Rattle.mw_term.specs.declared.term.Base.TheVariants.{Int, Bool}
 use Rattle.mw_term.specs.declared.term.Primitive.{Primitive as Prim}
-use Rattle.mw_term.specs.Terms.{Expression, KernelType, var, glob, fun, fix, app, bind, cond, pair, fst, snd, prim, bracket, escape, run, close, opened}
-use Rattle.mw_term.specs.Types.{TermType, int_type, bool_type, pair_type, function_type, code_type, closed_type, Level, live, under, Entry, entry, IsAbsent, base_type, kernel_type, primitive_type}
-use Rattle.mw_term.specs.Typing.{TopLevel, let_item, kernel_item, Typed, t_num, t_truth, t_var, t_let, t_kernel, t_fun, t_fix, t_app, t_bind, t_cond, t_pair, t_fst, t_snd, t_prim, t_bracket, t_escape, t_run, t_close, t_open, t_lift, t_lift_b, t_done}
+use Rattle.mw_term.specs.Terms.{Expression, KernelType, var, glob, fun, fix, app, bind, cond, pair, fst, snd, prim}
+use Rattle.mw_term.specs.Terms.{bracket, escape, run, close, opened}
+use Rattle.mw_term.specs.Types.{TermType, int_type, bool_type, pair_type, function_type, code_type, closed_type, Level}
+use Rattle.mw_term.specs.Types.{live, under, Entry, entry, IsAbsent, base_type, kernel_type, primitive_type}
+use Rattle.mw_term.specs.Typing.{TopLevel, let_item, kernel_item, Typed, t_num, t_truth, t_var, t_let, t_kernel, t_fun}
+use Rattle.mw_term.specs.Typing.{t_fix, t_app, t_bind, t_cond, t_pair, t_fst, t_snd, t_prim, t_bracket, t_escape, t_run}
+use Rattle.mw_term.specs.Typing.{t_close, t_open, t_lift, t_lift_b, t_done}
 use Rattle.mw_types.specs.Types.{TypeExpression, unknown, pair_ty, Within, Assignment, value}
 use Rattle.mw_types.specs.Equations.{TypeEquation, AllWithin, Solves, Agree}
 use Rattle.mw_infer.specs.Schemes.{TopScheme}
-use Rattle.mw_infer.specs.ItemEquations.{Slot, plain_slot, quoted_slot, slot, equation, unknowns_of, classifiers_of, variable_equations, function_equations, recursion_equations, application_equations, let_equations, condition_equations, pair_equations, primitive_equations, bracket_equations, escape_equations, run_equations, close_equations, open_equations, lift_equations, equations, Close, closes}
+use Rattle.mw_infer.specs.ItemEquations.{Slot, plain_slot, quoted_slot, slot, equation, unknowns_of, classifiers_of}
+use Rattle.mw_infer.specs.ItemEquations.{variable_equations, function_equations, recursion_equations}
+use Rattle.mw_infer.specs.ItemEquations.{application_equations, let_equations, condition_equations, pair_equations}
+use Rattle.mw_infer.specs.ItemEquations.{primitive_equations, bracket_equations, escape_equations, run_equations}
+use Rattle.mw_infer.specs.ItemEquations.{close_equations, open_equations, lift_equations, equations, Close, closes}
 use Rattle.mw_infer.specs.Inferring.{entry_of, AreSchemesOf}
 use Rattle.mw_term.specs.Sources.{IsSource}
-use Rattle.mw_infer.proofs.Formed.{level_of}
-use Rattle.mw_infer.proofs.Shifting.{from, value-shifted, Within-shifted, value-base_expression, value-kernel_expression, value-primitive_expression, Within-base_expression, Within-kernel_expression, Within-primitive_expression, scheme-of_let, scheme-of_kernel}
+use Rattle.mw_types.proofs.Expressions.{level_of}
+use Rattle.mw_infer.proofs.Shifting.{from, value-shifted, Within-shifted, scheme-of_let, scheme-of_kernel}
+use Rattle.mw_types.proofs.Expressions.{value-base_expression, value-kernel_expression, value-primitive_expression}
+use Rattle.mw_types.proofs.Expressions.{Within-base_expression, Within-kernel_expression, Within-primitive_expression}
 use Rattle.mw_types.proofs.Verdicts.{value_agree}
 use Rattle.mw_infer.proofs.Within.{variable-within}
-use Rattle.mw_infer.proofs.Extending.{extended, extended-keeps, extended-ty, extended-classifier, started, started-starts, Ready, Grown, then, Own, Own-started, first, ending, Ready-part, Ready-bound, Ready-gives, Ready-later, Ready-under, Ready-live}
+use Rattle.mw_infer.proofs.Extending.{extended, extended-keeps, extended-ty, extended-classifier, started}
+use Rattle.mw_infer.proofs.Extending.{started-starts, Ready, Grown, then, Own, Own-started, first, ending, Ready-part}
+use Rattle.mw_infer.proofs.Extending.{Ready-bound, Ready-gives, Ready-later, Ready-under, Ready-live}
 
 -- the slot of a variable
 find : (a : Assignment) (g : List Slot) (i : ℕ) (x : Entry) → slice_get (map (entry_of a) g) i ≡ Some x → (s : Slot) × (slice_get g i ≡ Some s) × (entry_of a s ≡ x)

@@ -1,9 +1,11 @@
 -- Each part of a program is without fault or has one, so a program is well typed and small or has a first refusal.
-use Rattle.std.proofs.Common.{◌≡◌, ◌≢◌, ◌⊎◌, inl, inr, ℕ, zero, suc, ◌<◌, ◌≤◌, List, [], ◌∷◌, ◌++◌, map, length, Some, refl, ap, arith}
+use Rattle.std.proofs.Common.{◌≡◌, ◌≢◌, ◌⊎◌, inl, inr, ℕ, zero, suc, ◌<◌, ◌≤◌, List, [], ◌∷◌, ◌++◌, map, length, Some}
+use Rattle.std.proofs.Common.{refl, ap, arith}
 use Rattle.std.specs.Prelude.{slice_get}
 use Rattle.mw_term.specs.Terms.{Expression}
 use Rattle.mw_term.specs.Programs.{Definition, value, kernel, PureProgram}
-use Rattle.mw_term.specs.Types.{TermType, int_type, bool_type, pair_type, function_type, code_type, closed_type, Entry, value as at_live, quoted, IsAbsentIn, IsAbsent, IsAbsentAt}
+use Rattle.mw_term.specs.Types.{TermType, int_type, bool_type, pair_type, function_type, code_type, closed_type, Entry}
+use Rattle.mw_term.specs.Types.{value as at_live, quoted, IsAbsentIn, IsAbsent, IsAbsentAt}
 use Rattle.mw_term.specs.Typing.{TopLevel}
 use Rattle.mw_term.specs.Typable.{seen_by_item, seen_by_main, Typable}
 use Rattle.mw_term.specs.declared.refusal.Refusal.{Refusal}
@@ -14,8 +16,13 @@ use Rattle.mw_types.proofs.Lists.{same, other, is}
 use Rattle.mw_infer.specs.Schemes.{TopScheme, let_scheme, scheme_out_of_scope}
 use Rattle.mw_term.specs.Sources.{IsSource}
 use Rattle.mw_infer.specs.ItemEquations.{Close}
-use Rattle.mw_infer.specs.Inferring.{item_unknowns, item_classifiers, item_closes, Place, main_place, item_equations, entry_of, AreFresh, least}
-use Rattle.mw_infer.specs.Checking.{Part, part_of_item, part_of_main, IsPart, an_item, main, ArePrincipal, IsFirstOpen, TypeFault, not_closed, HasFault, unsolvable, oversized, unclosed, IsFaultless, refusal_of, IsFirstRefusal, AreFaultless, NoneTooBig, IsWritten}
+use Rattle.mw_infer.specs.Inferring.{item_unknowns, item_classifiers, item_closes, item_equations, entry_of, AreFresh}
+use Rattle.mw_infer.specs.Inferring.{least}
+use Rattle.mw_term.specs.Parts.{Place, main_place}
+use Rattle.mw_term.specs.Parts.{Part, part_of_item, part_of_main, IsPart, an_item, main}
+use Rattle.mw_infer.specs.Checking.{ArePrincipal, IsFirstOpen, TypeFault, not_closed, HasFault, unsolvable, oversized}
+use Rattle.mw_infer.specs.Checking.{unclosed, IsFaultless, refusal_of, IsFirstRefusal, AreFaultless, NoneTooBig}
+use Rattle.mw_infer.specs.Checking.{IsWritten}
 use Rattle.mw_infer.specs.Progress.{Progress}
 use Rattle.mw_infer.proofs.Growing.{principal-let, principal-kernel, principal-main, principal-own, revealed}
 use Rattle.mw_infer.proofs.Items.{item-within, fresh-typable, most_general-scheme_within}

@@ -3,7 +3,10 @@ use Rattle.std.proofs.Common.{◌≡◌, ℕ, List, [], ◌∷◌, Some, sym, su
 use Rattle.std.specs.Prelude.{slice_get}
 use Rattle.mw_term.specs.Terms.{Expression, Value, KernelType}
 use Rattle.mw_term.specs.Types.{TermType, Level, live, Entry}
-use Rattle.mw_term.specs.Typing.{TopLevel, let_item, kernel_item, out_of_scope, Typed, t_num, t_truth, t_var, t_let, t_kernel, t_fun, t_fix, t_app, t_bind, t_cond, t_pair, t_fst, t_snd, t_prim, t_bracket, t_escape, t_run, t_close, t_open, t_lift, t_lift_b, t_done, Valued, v_int, v_bool, v_pair, v_function, v_recursive, v_code, v_closed, v_kept}
+use Rattle.mw_term.specs.Typing.{TopLevel, let_item, kernel_item, out_of_scope, Typed, t_num, t_truth, t_var, t_let}
+use Rattle.mw_term.specs.Typing.{t_kernel, t_fun, t_fix, t_app, t_bind, t_cond, t_pair, t_fst, t_snd, t_prim, t_bracket}
+use Rattle.mw_term.specs.Typing.{t_escape, t_run, t_close, t_open, t_lift, t_lift_b, t_done, Valued, v_int, v_bool}
+use Rattle.mw_term.specs.Typing.{v_pair, v_function, v_recursive, v_code, v_closed, v_kept}
 use Rattle.mw_infer.specs.Schemes.{Scheme, TopScheme, let_scheme, kernel_scheme, scheme_out_of_scope}
 use Rattle.mw_infer.specs.Inferring.{least, IsSchemeOf, AreSchemesOf}
 use Rattle.mw_infer.proofs.Sound.{IsSchemeOf-typed}

@@ -5,10 +5,11 @@ use Rattle.mw_types.specs.Types.{Assignment}
 use Rattle.mw_types.specs.Equations.{TypeEquation, AllWithin, Solves, Agree}
 use Rattle.mw_infer.specs.ItemEquations.{Slot, slot, Close}
 use Rattle.mw_infer.specs.Inferring.{entry_of, AreFresh}
-use Rattle.mw_infer.proofs.Formed.{level_of}
+use Rattle.mw_types.proofs.Expressions.{level_of}
 use Rattle.mw_infer.specs.Below.{SlotsBelow, LevelBelow, ClosesBelow}
 use Rattle.mw_types.proofs.Answering.{solves_agree}
-use Rattle.mw_infer.proofs.Within.{entries-agree, AreFresh-agree, level_of-agree, AllWithin-append, ClosesBelow-append, AllWithin-more, SlotsBelow-more, ClosesBelow-more, LevelBelow-more, SlotBelow-slot}
+use Rattle.mw_infer.proofs.Within.{entries-agree, AreFresh-agree, level_of-agree, AllWithin-append, ClosesBelow-append}
+use Rattle.mw_infer.proofs.Within.{AllWithin-more, SlotsBelow-more, ClosesBelow-more, LevelBelow-more, SlotBelow-slot}
 
 -- f below a number, and h from it on
 abbrev pub upto : {A : Type 0} → ℕ → (ℕ → A) → (ℕ → A) → ℕ → A

@@ -1,6 +1,7 @@
 -- The first close that is not fresh is one, whichever most general solution it is tested on.
 use Rattle.std.proofs.Common.{◌≡◌, ℕ, ◌+◌, ◌≤◌, ◌<◌, List, [], ◌∷◌, ◌++◌, map, sym, subst, ◌∙◌, arith}
-use Rattle.mw_term.specs.Terms.{Expression, num, truth, var, glob, fun, fix, app, bind, cond, pair, fst, snd, prim, bracket, escape, run, close, opened, lift, lift_b, done}
+use Rattle.mw_term.specs.Terms.{Expression, num, truth, var, glob, fun, fix, app, bind, cond, pair, fst, snd, prim}
+use Rattle.mw_term.specs.Terms.{bracket, escape, run, close, opened, lift, lift_b, done}
 use Rattle.mw_term.specs.Types.{Level, live, under, IsAbsent}
 use Rattle.mw_types.specs.Types.{Substitution, after}
 use Rattle.mw_types.specs.Equations.{TypeEquation, MostGeneral}

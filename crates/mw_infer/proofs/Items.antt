@@ -9,9 +9,13 @@ use Rattle.mw_types.specs.Equations.{AllWithin, Solves, Solvable, MostGeneral, S
 use Rattle.mw_infer.specs.Schemes.{TopScheme, AreOwn}
 use Rattle.mw_term.specs.Sources.{IsSource}
 use Rattle.mw_infer.specs.ItemEquations.{equations}
-use Rattle.mw_infer.specs.Inferring.{item_unknowns, item_classifiers, item_closes, Place, let_place, kernel_place, main_place, IsTypableAt, own_equations, item_equations, AreFresh, least, formed_type, IsInstance, IsSchemeOf, AreSchemesOf}
-use Rattle.mw_infer.proofs.Formed.{formed_type-formed, formed_type-plain, flat_type-plain, rename_type-formed_type}
-use Rattle.mw_infer.proofs.Shifting.{value-ground_expression, value-kernel_expression, Within-ground_expression, Within-kernel_expression}
+use Rattle.mw_infer.specs.Inferring.{item_unknowns, item_classifiers, item_closes, IsTypableAt, own_equations}
+use Rattle.mw_infer.specs.Inferring.{item_equations, AreFresh, least, IsInstance, IsSchemeOf, AreSchemesOf}
+use Rattle.mw_term.specs.Parts.{Place, let_place, kernel_place, main_place}
+use Rattle.mw_term.specs.FlatTypes.{formed_type}
+use Rattle.mw_term.proofs.FlatTypes.{formed_type-formed, formed_type-plain, flat_type-plain, rename_type-formed_type}
+use Rattle.mw_types.proofs.Expressions.{value-ground_expression, value-kernel_expression, Within-ground_expression}
+use Rattle.mw_types.proofs.Expressions.{Within-kernel_expression}
 use Rattle.mw_infer.proofs.Sound.{Solves-parts, solved_typed}
 use Rattle.mw_infer.specs.Below.{ClosesBelow}
 use Rattle.mw_infer.proofs.Within.{AllWithin-append, equations-within, AreFresh-agree}

@@ -4,9 +4,13 @@ use Rattle.mw_term.specs.Terms.{Expression}
 use Rattle.mw_term.specs.Types.{TermType, int_type, pair_type, IsPlain, IsFormed}
 use Rattle.mw_term.specs.Typing.{TopLevel}
 use Rattle.mw_term.proofs.MovedCode.{IsFormed-plain}
-use Rattle.mw_types.specs.Types.{TypeExpression, int_ty, bool_ty, unknown, pair_ty, function_ty, code_ty, closed_ty, Assignment, value}
-use Rattle.mw_infer.specs.Schemes.{Scheme, IsNumbered, an_int, a_bool, seen, next, a_pair, a_function, code_seen, code_next, a_closed, IsInOrder}
-use Rattle.mw_infer.specs.Inferring.{least, flat_type, formed_type, IsSchemeOf}
+use Rattle.mw_types.specs.Types.{TypeExpression, int_ty, bool_ty, unknown, pair_ty, function_ty, code_ty, closed_ty}
+use Rattle.mw_types.specs.Types.{Assignment, value}
+use Rattle.mw_infer.specs.Schemes.{Scheme, IsInOrder}
+use Rattle.mw_types.specs.Numbered.{IsNumbered, an_int, a_bool, seen, next, a_pair, a_function, code_seen, code_next}
+use Rattle.mw_types.specs.Numbered.{a_closed}
+use Rattle.mw_infer.specs.Inferring.{least, IsSchemeOf}
+use Rattle.mw_term.specs.FlatTypes.{flat_type, formed_type}
 
 -- under an assignment of plain types a scheme is a type of the language
 plain_under : (b d : Assignment) (t : TypeExpression) → ((u : ℕ) → IsPlain (b.ty u)) → value d t ≡ flat_type (value b t) → IsPlain (value b t)

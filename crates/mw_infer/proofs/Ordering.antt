@@ -1,10 +1,12 @@
 -- Each type has the instances of one with its numbers in order.
 use Rattle.std.proofs.Common.{◌≡◌, ◌≢◌, ◌⊎◌, inl, inr, ℕ, zero, suc, ◌+◌, ◌<◌, ◌≤◌, refl, ap, sym, ◌∙◌, arith}
-use Rattle.mw_types.specs.Types.{TypeExpression, int_ty, bool_ty, unknown, pair_ty, function_ty, code_ty, closed_ty, Within, Assignment, value, nodes}
+use Rattle.mw_types.specs.Types.{TypeExpression, int_ty, bool_ty, unknown, pair_ty, function_ty, code_ty, closed_ty}
+use Rattle.mw_types.specs.Types.{Within, Assignment, value, nodes}
 use Rattle.mw_types.specs.Equations.{Agree}
 use Rattle.mw_types.proofs.Lists.{Is, same, other, is}
 use Rattle.mw_types.proofs.Verdicts.{value_agree}
-use Rattle.mw_infer.specs.Schemes.{Scheme, IsNumbered, an_int, a_bool, a_pair, a_function, a_closed}
+use Rattle.mw_infer.specs.Schemes.{Scheme}
+use Rattle.mw_types.specs.Numbered.{IsNumbered, an_int, a_bool, a_pair, a_function, a_closed}
 use Rattle.mw_infer.specs.Numbering.{IsRenumbering}
 use Rattle.mw_infer.proofs.Renumbering.{number-next, code-next, count-next}
 use Rattle.mw_infer.proofs.SameInstances.{reaches}

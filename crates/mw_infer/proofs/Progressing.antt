@@ -1,16 +1,20 @@
 -- The check of a program, item by item.
-use Rattle.std.proofs.Common.{◌≡◌, Bool, true, false, ℕ, zero, suc, ◌*◌, ◌^◌, ◌<◌, ◌≤◌, List, [], ◌∷◌, ◌++◌, map, refl, ap, arith}
+use Rattle.std.proofs.Common.{◌≡◌, Bool, true, false, ℕ, zero, suc, ◌*◌, ◌^◌, ◌<◌, ◌≤◌, List, [], ◌∷◌, ◌++◌, map, refl}
+use Rattle.std.proofs.Common.{ap, arith}
 use Rattle.std.specs.Prelude.{slice_get}
-use Rattle.mw_term.specs.Terms.{Expression, size, num, truth, var, glob, fun, fix, app, bind, cond, pair, fst, snd, prim, bracket, escape, run, close, opened, lift, lift_b, done}
+use Rattle.mw_term.specs.Terms.{Expression, size, num, truth, var, glob, fun, fix, app, bind, cond, pair, fst, snd}
+use Rattle.mw_term.specs.Terms.{prim, bracket, escape, run, close, opened, lift, lift_b, done}
 use Rattle.mw_term.specs.Programs.{Definition, value, kernel, PureProgram}
 use Rattle.mw_term.specs.Typing.{TopLevel, let_item, kernel_item, out_of_scope}
 use Rattle.mw_term.specs.Scoped.{IsScoped, is_seen}
 use Rattle.mw_infer.specs.Schemes.{Scheme, TopScheme, let_scheme, kernel_scheme, scheme_out_of_scope, AreOwn}
 use Rattle.mw_term.specs.Sources.{IsSource}
 use Rattle.mw_infer.specs.ItemEquations.{unknowns_of_name, classifiers_of_name, unknowns_of, classifiers_of}
-use Rattle.mw_infer.specs.Inferring.{item_unknowns, item_classifiers, let_place, IsSchemeOf, AreSchemesOf}
+use Rattle.mw_infer.specs.Inferring.{item_unknowns, item_classifiers, IsSchemeOf, AreSchemesOf}
+use Rattle.mw_term.specs.Parts.{let_place}
 use Rattle.mw_infer.specs.Scoped.{has_scheme}
-use Rattle.mw_infer.specs.Checking.{Part, ArePrincipal, IsFaultless, IsWritten, IsResolved}
+use Rattle.mw_term.specs.Parts.{Part, IsResolved}
+use Rattle.mw_infer.specs.Checking.{ArePrincipal, IsFaultless, IsWritten}
 use Rattle.mw_infer.specs.Emitting.{AreLow}
 use Rattle.mw_infer.specs.Judging.{CanJudge, Judges}
 use Rattle.mw_infer.specs.Progress.{AreModest}

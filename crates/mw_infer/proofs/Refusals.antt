@@ -1,5 +1,6 @@
 -- A program has one refusal at most, and none where its types are well and small.
-use Rattle.std.proofs.Common.{◌≡◌, ℕ, zero, suc, ◌<◌, List, [], ◌∷◌, take, length, Some, refl, ap, sym, subst, ◌∙◌, arith}
+use Rattle.std.proofs.Common.{◌≡◌, ℕ, zero, suc, ◌<◌, List, [], ◌∷◌, take, length, Some, refl, ap, sym, subst, ◌∙◌}
+use Rattle.std.proofs.Common.{arith}
 use Rattle.std.specs.Prelude.{slice_get}
 use Rattle.mw_term.specs.Programs.{Definition, value, kernel, PureProgram}
 use Rattle.mw_term.specs.Types.{live}
@@ -12,8 +13,11 @@ use Rattle.mw_types.proofs.Faults.{one_fault, small_of_fine}
 use Rattle.mw_types.proofs.Smallest.{too_big_not_small}
 use Rattle.mw_infer.specs.Schemes.{TopScheme, let_scheme, kernel_scheme, scheme_out_of_scope}
 use Rattle.mw_term.specs.Sources.{IsSource}
-use Rattle.mw_infer.specs.Inferring.{item_unknowns, item_classifiers, item_closes, IsTypableAt, item_equations, AreSchemesOf}
-use Rattle.mw_infer.specs.Checking.{Part, part_of_main, IsPart, an_item, main, AreInOrder, ArePrincipal, TypeFault, not_closed, HasFault, unsolvable, oversized, unclosed, IsFaultless, IsFirstRefusal, AreFaultless, NoneTooBig, IsWritten}
+use Rattle.mw_infer.specs.Inferring.{item_unknowns, item_classifiers, item_closes, IsTypableAt, item_equations}
+use Rattle.mw_infer.specs.Inferring.{AreSchemesOf}
+use Rattle.mw_term.specs.Parts.{Part, part_of_main, IsPart, an_item, main}
+use Rattle.mw_infer.specs.Checking.{AreInOrder, ArePrincipal, TypeFault, not_closed, HasFault, unsolvable, oversized}
+use Rattle.mw_infer.specs.Checking.{unclosed, IsFaultless, IsFirstRefusal, AreFaultless, NoneTooBig, IsWritten}
 use Rattle.mw_infer.proofs.Items.{typable-solvable, typable-fresh}
 use Rattle.mw_infer.proofs.OneScheme.{one_scheme}
 use Rattle.mw_infer.proofs.FirstOpen.{closes-below, first_open-one, first_open-none}

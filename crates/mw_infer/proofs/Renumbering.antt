@@ -1,7 +1,9 @@
 -- Types with new numbers, part by part.
-use Rattle.std.proofs.Common.{◌≡◌, ◌≢◌, ◌⊎◌, inl, inr, ℕ, zero, suc, ◌+◌, ◌<◌, ◌≤◌, List, [], ◌∷◌, ◌++◌, refl, ap, sym, ◌∙◌, arith}
+use Rattle.std.proofs.Common.{◌≡◌, ◌≢◌, ◌⊎◌, inl, inr, ℕ, zero, suc, ◌+◌, ◌<◌, ◌≤◌, List, [], ◌∷◌, ◌++◌, refl, ap, sym}
+use Rattle.std.proofs.Common.{◌∙◌, arith}
 use Rattle.mw_types.specs.Types.{TypeExpression, int_ty, bool_ty, unknown, pair_ty, function_ty, code_ty, closed_ty}
-use Rattle.mw_infer.specs.Schemes.{IsNumbered, an_int, a_bool, seen, next, a_pair, a_function, code_seen, code_next, a_closed}
+use Rattle.mw_types.specs.Numbered.{IsNumbered, an_int, a_bool, seen, next, a_pair, a_function, code_seen, code_next}
+use Rattle.mw_types.specs.Numbered.{a_closed}
 use Rattle.mw_infer.specs.Numbering.{none, number_in, IsOrder, Keeps, Places, renumbered, AreSeen, Renumbers}
 use Rattle.mw_infer.specs.declared.renumber.Numbering.{Numbering}
 

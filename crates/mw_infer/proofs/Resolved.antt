@@ -2,10 +2,11 @@
 use Rattle.std.proofs.Common.{◌≡◌, ℕ, zero, suc, ◌^◌, ◌<◌, ◌≤◌, false, List, [], ◌∷◌, map, length, Some, arith}
 use Rattle.std.specs.Prelude.{slice_get}
 use Rattle.mw_term.specs.Terms.{Expression, KernelType, size}
-use Rattle.mw_term.specs.Programs.{Definition, value, kernel, PureProgram, IsSyntacticValue, definition_size, definitions_size, program_size}
+use Rattle.mw_term.specs.Programs.{Definition, value, kernel, PureProgram, IsSyntacticValue, definition_size}
+use Rattle.mw_term.specs.Programs.{definitions_size, program_size}
 use Rattle.mw_term.specs.Scoped.{IsScoped, is_seen}
 use Rattle.mw_term.specs.Typable.{seen_by_item, seen_by_main}
-use Rattle.mw_infer.specs.Checking.{Part, IsPart, an_item, main, IsResolved}
+use Rattle.mw_term.specs.Parts.{Part, IsPart, an_item, main, IsResolved}
 
 -- no term of a program has more nodes than all of them
 among : (ds : List Definition) (i : ℕ) (d : Definition) → slice_get ds i ≡ Some d → definition_size d ≤ definitions_size ds

@@ -2,9 +2,13 @@
 use Rattle.std.proofs.Common.{◌≡◌, ◌≢◌, ℕ, zero, suc, ◌≤◌, List, [], ◌∷◌, refl, ap, sym, ◌∙◌, arith}
 use Rattle.mw_term.specs.Terms.{Expression}
 use Rattle.mw_term.specs.Typing.{TopLevel}
-use Rattle.mw_types.specs.Types.{TypeExpression, int_ty, bool_ty, unknown, pair_ty, function_ty, code_ty, closed_ty, Within, Assignment, value, nodes}
-use Rattle.mw_infer.specs.Schemes.{Scheme, IsNumbered, an_int, a_bool, seen, next, a_pair, a_function, code_seen, code_next, a_closed}
-use Rattle.mw_infer.specs.Inferring.{formed_type, IsSchemeOf}
+use Rattle.mw_types.specs.Types.{TypeExpression, int_ty, bool_ty, unknown, pair_ty, function_ty, code_ty, closed_ty}
+use Rattle.mw_types.specs.Types.{Within, Assignment, value, nodes}
+use Rattle.mw_infer.specs.Schemes.{Scheme}
+use Rattle.mw_types.specs.Numbered.{IsNumbered, an_int, a_bool, seen, next, a_pair, a_function, code_seen, code_next}
+use Rattle.mw_types.specs.Numbered.{a_closed}
+use Rattle.mw_term.specs.FlatTypes.{formed_type}
+use Rattle.mw_infer.specs.Inferring.{IsSchemeOf}
 use Rattle.mw_infer.specs.Numbering.{none, number_in, IsOrder, renumbered, AreSeen, Renumbers, IsRenumbering}
 use Rattle.mw_infer.specs.declared.renumber.Numbering.{Numbering}
 use Rattle.mw_infer.proofs.Within.{Within-more}

@@ -1,15 +1,11 @@
 -- What assignments make of shifted types and of types without unknowns, and the schemes of names by their places.
 use Rattle.std.proofs.Common.{◌≡◌, ℕ, zero, suc, ◌+◌, ◌≤◌, List, [], ◌∷◌, Some, refl, arith}
 use Rattle.std.specs.Prelude.{slice_get}
-use Rattle.mw_term.specs.Terms.{Expression, KernelType, GroundType, base, product, of_ground, to}
-use Rattle.mw_term.specs.declared.term.Base.{Base}
-use Rattle.mw_term.specs.declared.term.Base.TheVariants.{Int, Bool as Truth}
-use Rattle.mw_term.specs.declared.term.Primitive.{Primitive as Prim}
-use Rattle.mw_term.specs.declared.term.Primitive.TheVariants.{Add, Sub, Mul, Div, Mod, Eq, Lt, Le}
-use Rattle.mw_term.specs.Types.{base_type, ground_type, kernel_type, primitive_type}
+use Rattle.mw_term.specs.Terms.{Expression, KernelType}
 use Rattle.mw_term.specs.Typing.{TopLevel, let_item, kernel_item, out_of_scope}
-use Rattle.mw_types.specs.Types.{TypeExpression, int_ty, bool_ty, unknown, pair_ty, function_ty, code_ty, closed_ty, Within, Assignment, value}
-use Rattle.mw_infer.specs.Schemes.{Scheme, TopScheme, let_scheme, kernel_scheme, scheme_out_of_scope, shifted, base_expression, ground_expression, kernel_expression, primitive_expression}
+use Rattle.mw_types.specs.Types.{TypeExpression, int_ty, bool_ty, unknown, pair_ty, function_ty, code_ty, closed_ty}
+use Rattle.mw_types.specs.Types.{Within, Assignment, value}
+use Rattle.mw_infer.specs.Schemes.{Scheme, TopScheme, let_scheme, kernel_scheme, scheme_out_of_scope, shifted}
 use Rattle.mw_infer.specs.Inferring.{IsSchemeOf, AreSchemesOf}
 
 -- an assignment of the numbers from these on
@@ -33,50 +29,6 @@ Within-shifted n m o c k l (pair_ty s t) w p q = (Within-shifted n m o c k l s w
 Within-shifted n m o c k l (function_ty s t) w p q = (Within-shifted n m o c k l s w.0 p q, Within-shifted n m o c k l t w.1 p q)
 Within-shifted n m o c k l (code_ty d t) w p q = (omega (arith, w.0), Within-shifted n m o c k l t w.1 p q)
 Within-shifted n m o c k l (closed_ty t) w p q = Within-shifted n m o c k l t w p q
-
-pub value-base_expression : (a : Assignment) (b : Base) → value a (base_expression b) ≡ base_type b
-value-base_expression a Int = refl
-value-base_expression a Truth = refl
-
-pub value-ground_expression : (a : Assignment) (s : GroundType) → value a (ground_expression s) ≡ ground_type s
-value-ground_expression a (base b) = value-base_expression a b
-value-ground_expression a (product s t) = rw (value-ground_expression a s, value-ground_expression a t) refl
-
-pub value-kernel_expression : (a : Assignment) (k : KernelType) → value a (kernel_expression k) ≡ kernel_type k
-value-kernel_expression a (of_ground t) = value-ground_expression a t
-value-kernel_expression a (to s t) = rw (value-ground_expression a s, value-ground_expression a t) refl
-
-pub value-primitive_expression : (a : Assignment) (p : Prim) → value a (primitive_expression p) ≡ primitive_type p
-value-primitive_expression a Add = refl
-value-primitive_expression a Sub = refl
-value-primitive_expression a Mul = refl
-value-primitive_expression a Div = refl
-value-primitive_expression a Mod = refl
-value-primitive_expression a Eq = refl
-value-primitive_expression a Lt = refl
-value-primitive_expression a Le = refl
-
-pub Within-base_expression : (n m : ℕ) (b : Base) → Within n m (base_expression b)
-Within-base_expression n m Int = tt
-Within-base_expression n m Truth = tt
-
-pub Within-ground_expression : (n m : ℕ) (s : GroundType) → Within n m (ground_expression s)
-Within-ground_expression n m (base b) = Within-base_expression n m b
-Within-ground_expression n m (product s t) = (Within-ground_expression n m s, Within-ground_expression n m t)
-
-pub Within-kernel_expression : (n m : ℕ) (k : KernelType) → Within n m (kernel_expression k)
-Within-kernel_expression n m (of_ground t) = Within-ground_expression n m t
-Within-kernel_expression n m (to s t) = (Within-ground_expression n m s, Within-ground_expression n m t)
-
-pub Within-primitive_expression : (n m : ℕ) (p : Prim) → Within n m (primitive_expression p)
-Within-primitive_expression n m Add = tt
-Within-primitive_expression n m Sub = tt
-Within-primitive_expression n m Mul = tt
-Within-primitive_expression n m Div = tt
-Within-primitive_expression n m Mod = tt
-Within-primitive_expression n m Eq = tt
-Within-primitive_expression n m Lt = tt
-Within-primitive_expression n m Le = tt
 
 -- what a scheme at a place is the scheme of
 pub let-of_scheme : (tops names : List TopLevel) (schemes : List TopScheme) (i : ℕ) (s : Scheme) → AreSchemesOf tops names schemes → slice_get schemes i ≡ Some (let_scheme s) → (e : Expression) × (slice_get names i ≡ Some (let_item e)) × IsSchemeOf tops e s

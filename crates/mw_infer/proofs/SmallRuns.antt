@@ -3,7 +3,8 @@ use Rattle.std.proofs.Common.{◌≡◌, ℕ, ◌+◌, ◌≤◌, List, [], ◌�
 use Rattle.std.specs.Prelude.{slice_get}
 use Rattle.mw_term.specs.declared.term.Base.TheVariants.{Int, Bool}
 use Rattle.mw_term.specs.Terms.{Expression, GroundType, KernelType, base, product, of_ground, to}
-use Rattle.mw_term.specs.Terms.{num, truth, var, glob, fun, fix, app, bind, cond, pair, fst, snd, prim, bracket, escape, run, close, opened, lift, lift_b, done}
+use Rattle.mw_term.specs.Terms.{num, truth, var, glob, fun, fix, app, bind, cond, pair, fst, snd, prim, bracket, escape}
+use Rattle.mw_term.specs.Terms.{run, close, opened, lift, lift_b, done}
 use Rattle.mw_term.specs.Types.{Level, live, under, closed_type, ground_type, kernel_type}
 use Rattle.mw_term.specs.Limits.{ground_nodes, kernel_nodes}
 use Rattle.mw_term.specs.Programs.{Definition, value as defines, kernel, PureProgram}
@@ -13,11 +14,14 @@ use Rattle.mw_term.specs.SmallTypes.{HasSmallRuns, HasSmallDefinition, HasSmallT
 use Rattle.mw_types.specs.Types.{unknown, closed_ty, value, nodes, size, Substitution, after}
 use Rattle.mw_types.specs.Equations.{Solves, IsSmall}
 use Rattle.mw_types.proofs.Smallest.{least_size}
-use Rattle.mw_infer.specs.Schemes.{TopScheme, kernel_expression}
+use Rattle.mw_infer.specs.Schemes.{TopScheme}
+use Rattle.mw_types.specs.Expressions.{kernel_expression}
 use Rattle.mw_infer.specs.ItemEquations.{Slot, slot, unknowns_of, classifiers_of, equations}
-use Rattle.mw_infer.specs.Inferring.{kernel_place, own_equations, least}
-use Rattle.mw_infer.specs.Checking.{Part, part_of_item, part_of_main, an_item, main, IsFaultless, AreFaultless, HasSmallKernels}
-use Rattle.mw_infer.proofs.Shifting.{value-kernel_expression}
+use Rattle.mw_term.specs.Parts.{kernel_place}
+use Rattle.mw_infer.specs.Inferring.{own_equations, least}
+use Rattle.mw_term.specs.Parts.{Part, part_of_item, part_of_main, an_item, main}
+use Rattle.mw_infer.specs.Checking.{IsFaultless, AreFaultless, HasSmallKernels}
+use Rattle.mw_types.proofs.Expressions.{value-kernel_expression}
 use Rattle.mw_infer.proofs.Sound.{Solves-parts, Solves-three, no_wrong}
 
 size-ground : (t : GroundType) → size (ground_type t) ≡ ground_nodes t

@@ -1,17 +1,26 @@
 -- What solves the equations of a term and keeps its closes fresh types it.
 use Rattle.std.proofs.Common.{◌≡◌, ℕ, ◌+◌, List, [], ◌∷◌, ◌++◌, map, Option, Some, None, refl, ap, sym, ◌∙◌}
 use Rattle.std.specs.Prelude.{slice_get}
-use Rattle.mw_term.specs.Terms.{Expression, num, truth, var, glob, fun, fix, app, bind, cond, pair, fst, snd, prim, bracket, escape, run, close, opened, lift, lift_b, done}
+use Rattle.mw_term.specs.Terms.{Expression, num, truth, var, glob, fun, fix, app, bind, cond, pair, fst, snd, prim}
+use Rattle.mw_term.specs.Terms.{bracket, escape, run, close, opened, lift, lift_b, done}
 use Rattle.mw_term.specs.Types.{int_type, bool_type, function_type, Level, live, under, value as at_live, kernel_type}
-use Rattle.mw_term.specs.Typing.{TopLevel, Typed, t_num, t_truth, t_var, t_let, t_kernel, t_fun, t_fix, t_app, t_bind, t_cond, t_pair, t_fst, t_snd, t_prim, t_bracket, t_escape, t_run, t_close, t_open, t_lift, t_lift_b}
+use Rattle.mw_term.specs.Typing.{TopLevel, Typed, t_num, t_truth, t_var, t_let, t_kernel, t_fun, t_fix, t_app, t_bind}
+use Rattle.mw_term.specs.Typing.{t_cond, t_pair, t_fst, t_snd, t_prim, t_bracket, t_escape, t_run, t_close, t_open}
+use Rattle.mw_term.specs.Typing.{t_lift, t_lift_b}
 use Rattle.mw_term.proofs.TypesFormed.{IsPlain-kernel_type}
 use Rattle.mw_types.specs.Types.{Assignment, value}
 use Rattle.mw_types.specs.Equations.{TypeEquation, Solves}
 use Rattle.mw_infer.specs.Schemes.{Scheme, TopScheme, let_scheme, kernel_scheme, scheme_out_of_scope}
-use Rattle.mw_infer.specs.ItemEquations.{Slot, plain_slot, quoted_slot, slot, wrong, unknowns_of, classifiers_of, variable_equations, name_equations, equations, Close, closes}
-use Rattle.mw_infer.specs.Inferring.{AreFresh, formed_type, IsSchemeOf, AreSchemesOf}
-use Rattle.mw_infer.proofs.Formed.{IsPlain-flat_type, IsFormed-formed_type, flat_type-plain, formed_type-plain, fitted, fitted-pair, fitted-function, fitted-plain, fitted-primitive, level_of, Fits-fitted, fitted_entry, fitted_entry-slot, IsAbsent-fitted, get-fitted}
-use Rattle.mw_infer.proofs.Shifting.{from, value-shifted, value-kernel_expression, value-primitive_expression, let-of_scheme, kernel-of_scheme}
+use Rattle.mw_infer.specs.ItemEquations.{Slot, plain_slot, quoted_slot, slot, wrong, unknowns_of, classifiers_of}
+use Rattle.mw_infer.specs.ItemEquations.{variable_equations, name_equations, equations, Close, closes}
+use Rattle.mw_infer.specs.Inferring.{AreFresh, IsSchemeOf, AreSchemesOf}
+use Rattle.mw_term.specs.FlatTypes.{formed_type}
+use Rattle.mw_term.proofs.FlatTypes.{IsPlain-flat_type, IsFormed-formed_type, flat_type-plain, formed_type-plain}
+use Rattle.mw_term.proofs.FlatTypes.{fitted, fitted-pair, fitted-function, fitted-plain, fitted-primitive}
+use Rattle.mw_types.proofs.Expressions.{level_of, Fits-fitted}
+use Rattle.mw_infer.proofs.Formed.{fitted_entry, fitted_entry-slot, IsAbsent-fitted, get-fitted}
+use Rattle.mw_infer.proofs.Shifting.{from, value-shifted, let-of_scheme, kernel-of_scheme}
+use Rattle.mw_types.proofs.Expressions.{value-kernel_expression, value-primitive_expression}
 
 pub Solves-parts : (a : Assignment) (es fs : List TypeEquation) → Solves a (es ++ fs) → Solves a es × Solves a fs
 Solves-parts a [] fs h = (tt, h)

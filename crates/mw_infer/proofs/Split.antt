@@ -1,9 +1,11 @@
 -- An assignment taken apart: each classifier unknown gets a name of its own, and what stood in the unknowns' types is kept
 -- apart from these. A renaming puts it together again.
 use Rattle.std.proofs.Common.{◌≡◌, ℕ, zero, suc, ◌+◌, ◌*◌, List, [], ◌∷◌, map, refl, ap, arith}
-use Rattle.mw_term.specs.Types.{TermType, int_type, bool_type, pair_type, function_type, code_type, closed_type, IsAbsentIn, IsAbsent}
+use Rattle.mw_term.specs.Types.{TermType, int_type, bool_type, pair_type, function_type, code_type, closed_type}
+use Rattle.mw_term.specs.Types.{IsAbsentIn, IsAbsent}
 use Rattle.mw_term.proofs.Renaming.{rename_type}
-use Rattle.mw_types.specs.Types.{TypeExpression, int_ty, bool_ty, unknown, pair_ty, function_ty, code_ty, closed_ty, Assignment, value, Substitution, after}
+use Rattle.mw_types.specs.Types.{TypeExpression, int_ty, bool_ty, unknown, pair_ty, function_ty, code_ty, closed_ty}
+use Rattle.mw_types.specs.Types.{Assignment, value, Substitution, after}
 use Rattle.mw_infer.specs.ItemEquations.{Slot, plain_slot, quoted_slot, Close}
 use Rattle.mw_infer.specs.Inferring.{entry_of, AreFresh, least}
 

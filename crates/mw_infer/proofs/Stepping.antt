@@ -1,5 +1,6 @@
 -- One item more, and main.
-use Rattle.std.proofs.Common.{◌≡◌, ℕ, zero, suc, ◌+◌, ◌<◌, ◌≤◌, List, [], ◌∷◌, ◌++◌, map, length, get_or, Some, refl, ap, sym, subst, ◌∙◌, arith}
+use Rattle.std.proofs.Common.{◌≡◌, ℕ, zero, suc, ◌+◌, ◌<◌, ◌≤◌, List, [], ◌∷◌, ◌++◌, map, length, get_or, Some, refl}
+use Rattle.std.proofs.Common.{ap, sym, subst, ◌∙◌, arith}
 use Rattle.std.specs.Prelude.{slice_get, slice_set}
 use Rattle.mw_term.specs.Terms.{Expression, KernelType}
 use Rattle.mw_term.specs.Programs.{Definition, value, kernel, PureProgram}
@@ -9,10 +10,13 @@ use Rattle.mw_term.specs.declared.refusal.Refusal.{Refusal}
 use Rattle.mw_term.specs.declared.refusal.Stop.{Stop}
 use Rattle.mw_term.specs.declared.refusal.Stop.TheVariants.{Refused, Memory}
 use Rattle.mw_types.specs.Types.{TypeExpression}
-use Rattle.mw_infer.specs.Schemes.{TopScheme, let_scheme, kernel_scheme, scheme_out_of_scope, ground_expression}
-use Rattle.mw_infer.specs.Inferring.{main_place, AreSchemesOf}
+use Rattle.mw_infer.specs.Schemes.{TopScheme, let_scheme, kernel_scheme, scheme_out_of_scope}
+use Rattle.mw_types.specs.Expressions.{ground_expression}
+use Rattle.mw_term.specs.Parts.{main_place}
+use Rattle.mw_infer.specs.Inferring.{AreSchemesOf}
 use Rattle.mw_term.specs.Stops.{IfRefused}
-use Rattle.mw_infer.specs.Checking.{Part, part_of_item, part_of_main, IsPart, an_item, main, ArePrincipal, IsFaultless, IsFirstRefusal, AreFaultless, IsResolved, IsTypeOf, AreTypesOf}
+use Rattle.mw_term.specs.Parts.{Part, part_of_item, part_of_main, IsPart, an_item, main, IsResolved}
+use Rattle.mw_infer.specs.Checking.{ArePrincipal, IsFaultless, IsFirstRefusal, AreFaultless, IsTypeOf, AreTypesOf}
 use Rattle.mw_infer.specs.Judging.{CanJudge, Judges}
 use Rattle.mw_infer.specs.Progress.{Progress, IsFaultOf, Steps, revealed_to, type_of_scheme}
 use Rattle.mw_infer.specs.Views.{scheme_of}
@@ -21,7 +25,8 @@ use Rattle.mw_infer.specs.declared.names.LetType.{LetType}
 use Rattle.mw_infer.proofs.Extended.{Extends, Typed-extended, Typed-back}
 use Rattle.mw_infer.proofs.Growing.{principal-first, principal-let, principal-kernel, principal-main, revealed}
 use Rattle.mw_infer.proofs.OneScheme.{low, last, low_or_last}
-use Rattle.mw_infer.proofs.Progressing.{scoped-source, can-judge, fine-faultless, fine-scheme, modest-let, modest-none, modest-revealed}
+use Rattle.mw_infer.proofs.Progressing.{scoped-source, can-judge, fine-faultless, fine-scheme, modest-let, modest-none}
+use Rattle.mw_infer.proofs.Progressing.{modest-revealed}
 use Rattle.mw_infer.proofs.Refusals.{part-one}
 use Rattle.mw_infer.proofs.Shifting.{scheme-of_let, scheme-of_kernel}
 

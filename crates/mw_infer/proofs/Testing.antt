@@ -1,5 +1,6 @@
 -- The tests of closes one after another.
-use Rattle.std.proofs.Common.{◌≡◌, ℕ, zero, suc, ◌+◌, ◌<◌, List, [], ◌∷◌, ◌++◌, map, take, drop, length, get_or, false, IsTrue, Some, refl, ap, sym, subst, arith}
+use Rattle.std.proofs.Common.{◌≡◌, ℕ, zero, suc, ◌+◌, ◌<◌, List, [], ◌∷◌, ◌++◌, map, take, drop, length, get_or, false}
+use Rattle.std.proofs.Common.{IsTrue, Some, refl, ap, sym, subst, arith}
 use Rattle.std.specs.Prelude.{slice_get, slice_index_or}
 use Rattle.mw_term.specs.Types.{IsAbsent, IsAbsentAt}
 use Rattle.mw_types.specs.Types.{Assignment, Substitution, after}

@@ -1,16 +1,22 @@
 -- Which numbers a term's equations and closes name, and that nothing else matters.
-use Rattle.std.proofs.Common.{◌≡◌, ℕ, zero, suc, ◌+◌, ◌≤◌, ◌<◌, List, [], ◌∷◌, ◌++◌, map, Option, Some, None, refl, ap, subst, arith}
+use Rattle.std.proofs.Common.{◌≡◌, ℕ, zero, suc, ◌+◌, ◌≤◌, ◌<◌, List, [], ◌∷◌, ◌++◌, map, Option, Some, None, refl, ap}
+use Rattle.std.proofs.Common.{subst, arith}
 use Rattle.std.specs.Prelude.{slice_get}
-use Rattle.mw_term.specs.Terms.{Expression, num, truth, var, glob, fun, fix, app, bind, cond, pair, fst, snd, prim, bracket, escape, run, close, opened, lift, lift_b, done}
+use Rattle.mw_term.specs.Terms.{Expression, num, truth, var, glob, fun, fix, app, bind, cond, pair, fst, snd, prim}
+use Rattle.mw_term.specs.Terms.{bracket, escape, run, close, opened, lift, lift_b, done}
 use Rattle.mw_term.specs.Types.{Level, live, under}
-use Rattle.mw_types.specs.Types.{TypeExpression, int_ty, bool_ty, unknown, pair_ty, function_ty, code_ty, closed_ty, Within, Assignment}
+use Rattle.mw_types.specs.Types.{TypeExpression, int_ty, bool_ty, unknown, pair_ty, function_ty, code_ty, closed_ty}
+use Rattle.mw_types.specs.Types.{Within, Assignment}
 use Rattle.mw_types.specs.Equations.{TypeEquation, AllWithin, Agree}
 use Rattle.mw_infer.specs.Schemes.{Scheme, TopScheme, let_scheme, kernel_scheme, scheme_out_of_scope, AreOwn}
-use Rattle.mw_infer.specs.ItemEquations.{Slot, plain_slot, quoted_slot, slot, wrong, unknowns_of_name, classifiers_of_name, unknowns_of, classifiers_of, variable_equations, name_equations, equations, Close}
+use Rattle.mw_infer.specs.ItemEquations.{Slot, plain_slot, quoted_slot, slot, wrong, unknowns_of_name}
+use Rattle.mw_infer.specs.ItemEquations.{classifiers_of_name, unknowns_of, classifiers_of, variable_equations}
+use Rattle.mw_infer.specs.ItemEquations.{name_equations, equations, Close}
 use Rattle.mw_infer.specs.Below.{SlotBelow, SlotsBelow, LevelBelow, ClosesBelow}
 use Rattle.mw_infer.specs.Inferring.{entry_of, AreFresh}
-use Rattle.mw_infer.proofs.Formed.{level_of}
-use Rattle.mw_infer.proofs.Shifting.{Within-shifted, Within-kernel_expression, Within-primitive_expression}
+use Rattle.mw_types.proofs.Expressions.{level_of}
+use Rattle.mw_infer.proofs.Shifting.{Within-shifted}
+use Rattle.mw_types.proofs.Expressions.{Within-kernel_expression, Within-primitive_expression}
 
 -- assignments that are one there
 pub entries-agree : {n m : ℕ} {a b : Assignment} → Agree n m a b → (g : List Slot) → SlotsBelow n m g → map (entry_of a) g ≡ map (entry_of b) g

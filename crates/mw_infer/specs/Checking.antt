@@ -1,38 +1,22 @@
 -- Which programs have types that are not too big, and the first fault of one that has not.
-use Rattle.std.specs.Prelude.{ℕ, ◌≡◌, ◌+◌, ◌<◌, ◌≤◌, ◌^◌, ◌↔◌, false, List, [], ◌∷◌, ◌++◌, map, take, length, Some, slice_get}
-use Rattle.mw_term.specs.Terms.{Expression, KernelType, size}
+use Rattle.std.specs.Prelude.{ℕ, ◌≡◌, ◌+◌, ◌<◌, ◌≤◌, ◌^◌, ◌↔◌, false, List, [], ◌∷◌, ◌++◌, map, take, length, Some}
+use Rattle.std.specs.Prelude.{slice_get}
+use Rattle.mw_term.specs.Terms.{Expression, KernelType}
 use Rattle.mw_term.specs.Limits.{kernel_nodes}
-use Rattle.mw_term.specs.Programs.{Definition, value, kernel, PureProgram, IsSyntacticValue}
+use Rattle.mw_term.specs.Programs.{value, kernel, PureProgram, IsSyntacticValue}
 use Rattle.mw_term.specs.Types.{TermType, live, IsAbsent}
 use Rattle.mw_term.specs.Typing.{TopLevel, Typed}
-use Rattle.mw_term.specs.Typable.{seen_by_item, seen_by_main}
-use Rattle.mw_term.specs.Scoped.{IsScoped, is_seen}
 use Rattle.mw_term.specs.declared.refusal.Refusal.{Refusal}
 use Rattle.mw_term.specs.declared.refusal.Refusal.TheVariants.{IllTyped, TypeTooBig, NotClosed}
 use Rattle.mw_types.specs.Types.{TypeExpression, Substitution, after, closed_ty}
 use Rattle.mw_types.specs.Equations.{MostGeneral, IsSmall, TooBig, Fine, FirstUnsolvable, FirstTooBig}
-use Rattle.mw_infer.specs.Schemes.{TopScheme, let_scheme, kernel_scheme, scheme_out_of_scope, IsInOrder, ground_expression, kernel_expression}
+use Rattle.mw_infer.specs.Schemes.{TopScheme, let_scheme, kernel_scheme, scheme_out_of_scope, IsInOrder}
+use Rattle.mw_types.specs.Expressions.{ground_expression, kernel_expression}
 use Rattle.mw_term.specs.Sources.{IsSource}
 use Rattle.mw_infer.specs.ItemEquations.{Close}
-use Rattle.mw_infer.specs.Inferring.{item_unknowns, item_classifiers, item_closes, Place, let_place, kernel_place, main_place, IsTypableAt, item_equations, entry_of, AreFresh, least, IsInstance, AreSchemesOf}
-
--- a term of a program, with the names that it sees and its place
-pub record Part : Type 0 where
-  pub names : List TopLevel
-  pub place : Place
-  pub term : Expression
-
-abbrev pub part_of_item : List TopLevel → Definition → Part
-part_of_item names (value e) = record { names = names; place = let_place; term = e }
-part_of_item names (kernel k e) = record { names = names; place = kernel_place k; term = e }
-
-abbrev pub part_of_main : PureProgram → Part
-part_of_main p = record { names = seen_by_main p.items; place = main_place p.result; term = p.body }
-
--- the part at an index: an item's definition, and after the items main
-pub data IsPart (p : PureProgram) : ℕ → Part → Type 0 where
-  an_item : {i : ℕ} {d : Definition} → slice_get p.items i ≡ Some d → IsPart p i (part_of_item (seen_by_item p.items i) d)
-  main : {i : ℕ} → i ≡ length p.items → IsPart p i (part_of_main p)
+use Rattle.mw_infer.specs.Inferring.{item_unknowns, item_classifiers, item_closes, IsTypableAt, item_equations}
+use Rattle.mw_infer.specs.Inferring.{entry_of, AreFresh, least, IsInstance, AreSchemesOf}
+use Rattle.mw_term.specs.Parts.{Place, let_place, kernel_place, main_place, Part, IsPart}
 
 -- each let's scheme has its numbers in order
 abbrev pub AreInOrder : List TopScheme → Type 0
@@ -108,13 +92,6 @@ HasSmallKernels p = (i : ℕ) (k : KernelType) (e : Expression) → slice_get p.
 pub record IsWritten (p : PureProgram) : Type 0 where
   pub values : (i : ℕ) (e : Expression) → slice_get p.items i ≡ Some (value e) → IsSyntacticValue e
   pub sources : (i : ℕ) (x : Part) → IsPart p i x → IsSource x.term
-
--- a program as resolving gives it: names are bound, levels are right, and numbers of nodes and items fit 32 bits
-pub record IsResolved (p : PureProgram) : Type 0 where
-  pub values : (i : ℕ) (e : Expression) → slice_get p.items i ≡ Some (value e) → IsSyntacticValue e
-  pub scoped : (i : ℕ) (x : Part) → IsPart p i x → IsScoped (map is_seen x.names) [] false x.term
-  pub small : (i : ℕ) (x : Part) → IsPart p i x → size x.term < 2 ^ 32
-  pub count : length p.items < 2 ^ 32
 
 -- the most general type of a part: a let's types are exactly its instances, and of another part it is what its place asks
 abbrev pub IsTypeOf : Part → Place → TypeExpression → Type 0

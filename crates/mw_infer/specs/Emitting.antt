@@ -8,7 +8,8 @@ use Rattle.mw_types.specs.Equations.{TypeEquation, equations_of}
 use Rattle.mw_infer.specs.declared.output.Spot.{Spot}
 use Rattle.mw_infer.specs.declared.output.Output.{Output}
 use Rattle.mw_infer.specs.Schemes.{TopScheme, let_scheme, kernel_scheme, scheme_out_of_scope}
-use Rattle.mw_infer.specs.ItemEquations.{Slot, Close, unknowns_of_name, classifiers_of_name, name_equations, unknowns_of, classifiers_of, equations, closes}
+use Rattle.mw_infer.specs.ItemEquations.{Slot, Close, unknowns_of_name, classifiers_of_name, name_equations}
+use Rattle.mw_infer.specs.ItemEquations.{unknowns_of, classifiers_of, equations, closes}
 use Rattle.mw_infer.specs.Scoped.{is_quoted, is_quoted_slot, has_scheme}
 use Rattle.mw_infer.specs.Views.{slot_of}
 

@@ -10,7 +10,9 @@ use Rattle.mw_term.specs.declared.refusal.Refusal.{Refusal}
 use Rattle.mw_infer.specs.Schemes.{Scheme, TopScheme, AreOwn, IsInOrder}
 use Rattle.mw_infer.specs.Checking.{IsFirstRefusal, AreFaultless, NoneTooBig, IsWritten}
 use Rattle.mw_term.specs.Sources.{IsSource}
-use Rattle.mw_infer.specs.Inferring.{item_unknowns, item_classifiers, item_closes, Place, let_place, IsTypableAt, item_equations, AreFresh, least, IsSchemeOf, AreSchemesOf}
+use Rattle.mw_infer.specs.Inferring.{item_unknowns, item_classifiers, item_closes, IsTypableAt, item_equations}
+use Rattle.mw_infer.specs.Inferring.{AreFresh, least, IsSchemeOf, AreSchemesOf}
+use Rattle.mw_term.specs.Parts.{Place, let_place}
 
 -- the equations of an item name its own unknowns and classifier unknowns alone
 abbrev pub EquationsAreOwn : Type 0

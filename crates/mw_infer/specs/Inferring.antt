@@ -1,12 +1,17 @@
 -- What solutions of an item's equations say of its types.
 use Rattle.std.specs.Prelude.{ℕ, ◌≡◌, ◌+◌, ◌↔◌, List, [], ◌∷◌, ◌++◌, map}
-use Rattle.mw_term.specs.Terms.{Expression, GroundType, KernelType}
-use Rattle.mw_term.specs.Types.{TermType, int_type, bool_type, pair_type, function_type, code_type, closed_type, live, Entry, value as at_live, quoted, IsFormed, IsAbsent, ground_type, kernel_type}
+use Rattle.mw_term.specs.Terms.{Expression}
+use Rattle.mw_term.specs.Types.{TermType, int_type, closed_type, live, Entry, value as at_live, quoted, IsFormed}
+use Rattle.mw_term.specs.Types.{IsAbsent, ground_type, kernel_type}
 use Rattle.mw_term.specs.Typing.{TopLevel, let_item, kernel_item, out_of_scope, Typed}
+use Rattle.mw_term.specs.Parts.{Place, let_place, kernel_place, main_place}
+use Rattle.mw_term.specs.FlatTypes.{formed_type}
 use Rattle.mw_types.specs.Types.{TypeExpression, unknown, closed_ty, Within, Assignment, value}
 use Rattle.mw_types.specs.Equations.{TypeEquation}
-use Rattle.mw_infer.specs.Schemes.{Scheme, TopScheme, let_scheme, kernel_scheme, scheme_out_of_scope, ground_expression, kernel_expression}
-use Rattle.mw_infer.specs.ItemEquations.{Slot, plain_slot, quoted_slot, equation, unknowns_of, classifiers_of, equations, Close, closes}
+use Rattle.mw_infer.specs.Schemes.{Scheme, TopScheme, let_scheme, kernel_scheme, scheme_out_of_scope}
+use Rattle.mw_types.specs.Expressions.{ground_expression, kernel_expression}
+use Rattle.mw_infer.specs.ItemEquations.{Slot, plain_slot, quoted_slot, equation, unknowns_of, classifiers_of}
+use Rattle.mw_infer.specs.ItemEquations.{equations, Close, closes}
 
 -- how many unknowns an item has, of which 0 is its type, and how many classifier unknowns
 abbrev pub item_unknowns : List TopScheme → Expression → ℕ
@@ -14,13 +19,6 @@ item_unknowns tops e = 1 + unknowns_of tops e
 
 abbrev pub item_classifiers : List TopScheme → Expression → ℕ
 item_classifiers tops e = classifiers_of tops e
-
--- what the term of a place in a program is asked: a let's definition no type, a kernel item's closed code of its kernel
--- type, main's its ground type
-pub data Place : Type 0 where
-  let_place : Place
-  kernel_place : (k : KernelType) → Place
-  main_place : (g : GroundType) → Place
 
 -- with these top-level names, the term has a type that its place asks
 abbrev pub IsTypableAt : List TopLevel → Place → Expression → Type 0
@@ -54,24 +52,6 @@ AreFresh a (x ∷ xs) = IsAbsent (a.classifier x.classifier) (map (entry_of a) x
 -- int for each unknown, and each classifier unknown by its own name
 abbrev pub least : Assignment
 least = record { ty = λ u. int_type; classifier = λ c. c }
-
--- the type without code types: each of them is int
-abbrev pub flat_type : TermType → TermType
-flat_type int_type = int_type
-flat_type bool_type = bool_type
-flat_type (pair_type s t) = pair_type (flat_type s) (flat_type t)
-flat_type (function_type s t) = function_type (flat_type s) (flat_type t)
-flat_type (code_type a t) = int_type
-flat_type (closed_type t) = int_type
-
--- the type without code types under a code type
-abbrev pub formed_type : TermType → TermType
-formed_type int_type = int_type
-formed_type bool_type = bool_type
-formed_type (pair_type s t) = pair_type (formed_type s) (formed_type t)
-formed_type (function_type s t) = function_type (formed_type s) (formed_type t)
-formed_type (code_type a t) = code_type a (flat_type t)
-formed_type (closed_type t) = closed_type (flat_type t)
 
 -- a type of the language that some assignment makes of a type with unknowns
 pub record IsInstance (s : TypeExpression) (t : TermType) : Type 0 where

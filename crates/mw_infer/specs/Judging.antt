@@ -11,7 +11,8 @@ use Rattle.mw_infer.specs.declared.own.Asked.{Asked}
 use Rattle.mw_infer.specs.declared.own.Asked.TheVariants.{Anything, Kernel, Main}
 use Rattle.mw_infer.specs.Schemes.{TopScheme, AreOwn}
 use Rattle.mw_infer.specs.ItemEquations.{Close}
-use Rattle.mw_infer.specs.Inferring.{item_unknowns, item_classifiers, item_closes, Place, let_place, kernel_place, main_place, item_equations, AreFresh, least}
+use Rattle.mw_infer.specs.Inferring.{item_unknowns, item_classifiers, item_closes, item_equations, AreFresh, least}
+use Rattle.mw_term.specs.Parts.{Place, let_place, kernel_place, main_place}
 use Rattle.mw_infer.specs.Checking.{IsFirstOpen}
 use Rattle.mw_infer.specs.Numbering.{IsRenumbering}
 use Rattle.mw_infer.specs.Scoped.{has_scheme}

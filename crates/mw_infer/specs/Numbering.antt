@@ -1,7 +1,9 @@
 -- How a type's numbers are put in their order: of each number that was seen, its new number.
 use Rattle.std.specs.Prelude.{ℕ, ◌≡◌, ◌≢◌, ◌+◌, ◌<◌, ◌≤◌, ◌⊎◌, List, length, slice_index_or}
-use Rattle.mw_types.specs.Types.{TypeExpression, int_ty, bool_ty, unknown, pair_ty, function_ty, code_ty, closed_ty, Within, Assignment, value, nodes}
-use Rattle.mw_infer.specs.Schemes.{Scheme, IsNumbered, IsInOrder}
+use Rattle.mw_types.specs.Types.{TypeExpression, int_ty, bool_ty, unknown, pair_ty, function_ty, code_ty, closed_ty}
+use Rattle.mw_types.specs.Types.{Within, Assignment, value, nodes}
+use Rattle.mw_infer.specs.Schemes.{Scheme, IsInOrder}
+use Rattle.mw_types.specs.Numbered.{IsNumbered}
 use Rattle.mw_infer.specs.declared.renumber.Numbering.{Numbering}
 
 -- stands for a number that was not seen

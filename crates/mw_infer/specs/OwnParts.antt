@@ -1,15 +1,20 @@
 -- What a node adds of its own to the equations and closes that are there, before its parts do.
 use Rattle.std.specs.Prelude.{ℕ, List, [], ◌∷◌, slice_get}
 use Rattle.mw_term.specs.declared.term.Base.TheVariants.{Int, Bool}
-use Rattle.mw_term.specs.Terms.{Expression, num, truth, var, glob, fun, fix, app, bind, cond, pair, fst, snd, prim, bracket, escape, run, close, opened, lift, lift_b, done}
+use Rattle.mw_term.specs.Terms.{Expression, num, truth, var, glob, fun, fix, app, bind, cond, pair, fst, snd, prim}
+use Rattle.mw_term.specs.Terms.{bracket, escape, run, close, opened, lift, lift_b, done}
 use Rattle.mw_term.specs.Types.{Level, live, under}
 use Rattle.mw_types.specs.Types.{int_ty, bool_ty, unknown}
 use Rattle.mw_types.specs.Equations.{TypeEquation}
 use Rattle.mw_infer.specs.declared.output.Output.{Output}
 use Rattle.mw_infer.specs.Schemes.{TopScheme}
-use Rattle.mw_infer.specs.ItemEquations.{Slot, Close, equation, wrong, unknowns_of_name, classifiers_of_name, name_equations, variable_equations}
-use Rattle.mw_infer.specs.ItemEquations.{function_equations, recursion_equations, application_equations, let_equations, condition_equations, pair_equations, first_equations, second_equations, primitive_equations}
-use Rattle.mw_infer.specs.ItemEquations.{bracket_equations, escape_equations, run_equations, close_equations, open_equations, lift_equations}
+use Rattle.mw_infer.specs.ItemEquations.{Slot, Close, equation, wrong, unknowns_of_name, classifiers_of_name}
+use Rattle.mw_infer.specs.ItemEquations.{name_equations, variable_equations}
+use Rattle.mw_infer.specs.ItemEquations.{function_equations, recursion_equations, application_equations, let_equations}
+use Rattle.mw_infer.specs.ItemEquations.{condition_equations, pair_equations, first_equations, second_equations}
+use Rattle.mw_infer.specs.ItemEquations.{primitive_equations}
+use Rattle.mw_infer.specs.ItemEquations.{bracket_equations, escape_equations, run_equations, close_equations}
+use Rattle.mw_infer.specs.ItemEquations.{open_equations, lift_equations}
 use Rattle.mw_infer.specs.Emitting.{Adds}
 
 -- so many unknowns and classifier unknowns, these equations and these closes

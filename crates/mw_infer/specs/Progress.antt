@@ -5,9 +5,11 @@ use Rattle.mw_term.specs.Programs.{Definition, value, kernel, PureProgram}
 use Rattle.mw_term.specs.declared.refusal.Refusal.{Refusal}
 use Rattle.mw_types.specs.Types.{TypeExpression, int_ty, closed_ty}
 use Rattle.mw_term.specs.Typable.{seen_by_item}
-use Rattle.mw_infer.specs.Schemes.{TopScheme, let_scheme, kernel_scheme, scheme_out_of_scope, kernel_expression}
-use Rattle.mw_infer.specs.Inferring.{Place, let_place, kernel_place}
-use Rattle.mw_infer.specs.Checking.{Part, part_of_item, IsPart, ArePrincipal, TypeFault, HasFault, IsFaultless, refusal_of}
+use Rattle.mw_infer.specs.Schemes.{TopScheme, let_scheme, kernel_scheme, scheme_out_of_scope}
+use Rattle.mw_types.specs.Expressions.{kernel_expression}
+use Rattle.mw_term.specs.Parts.{Place, let_place, kernel_place}
+use Rattle.mw_term.specs.Parts.{Part, part_of_item, IsPart}
+use Rattle.mw_infer.specs.Checking.{ArePrincipal, TypeFault, HasFault, IsFaultless, refusal_of}
 use Rattle.mw_infer.specs.Judging.{Judges}
 use Rattle.mw_infer.specs.Views.{scheme_of}
 use Rattle.mw_infer.specs.declared.judge.Verdict.TheVariants.{Fine}

@@ -3,7 +3,8 @@
 ghost use Rattle.std.specs.Prelude.{◌≡◌, ◌≤◌, ◌^◌, IfOk};
 ghost use Rattle.mw_term.specs.Terms.{ground_of, kernel_type_of};
 ghost use Rattle.mw_types.specs.Types.{type_of, Within, pair_ty, function_ty, code_ty, closed_ty};
-ghost use Rattle.mw_infer.specs.Schemes.{base_expression, ground_expression, kernel_expression, shifted};
+ghost use Rattle.mw_types.specs.Expressions.{base_expression, ground_expression, kernel_expression};
+ghost use Rattle.mw_infer.specs.Schemes.{shifted};
 
 use mw_term::{Base, Ground, KType};
 use mw_types::Ty;

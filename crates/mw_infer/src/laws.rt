@@ -1,7 +1,9 @@
 // Laws of how the equations of items and their types go together, which no program calls.
 
-ghost use Rattle.mw_infer.specs.InferenceLaws.{CheckedOrRefused, EquationsAreOwn, FaultlessAreTypable, MostGeneralIsScheme, RefusalsAreOne};
-ghost use Rattle.mw_infer.specs.InferenceLaws.{SchemesInOrderAreOne, TypableAreNotRefused, TypableIsSolvable, TypableWhereFresh};
+ghost use Rattle.mw_infer.specs.InferenceLaws.{CheckedOrRefused, EquationsAreOwn, FaultlessAreTypable};
+ghost use Rattle.mw_infer.specs.InferenceLaws.{MostGeneralIsScheme, RefusalsAreOne};
+ghost use Rattle.mw_infer.specs.InferenceLaws.{SchemesInOrderAreOne, TypableAreNotRefused, TypableIsSolvable};
+ghost use Rattle.mw_infer.specs.InferenceLaws.{TypableWhereFresh};
 
 /// The equations of an item name its own unknowns and classifier unknowns alone.
 pub fn equations_are_own()

@@ -10,7 +10,8 @@ ghost use Rattle.mw_term.specs.Stops.{AnswersOrMemory, IfRefused, IsRefusalOrMem
 ghost use Rattle.mw_term.specs.Typable.{Typable};
 ghost use Rattle.mw_term.specs.declared.refusal.Refusal.{Refusal};
 ghost use Rattle.mw_types.specs.Types.{type_of};
-ghost use Rattle.mw_infer.specs.Checking.{AreTypesOf, IsFirstRefusal, IsResolved, NoneTooBig, HasSmallKernels};
+ghost use Rattle.mw_infer.specs.Checking.{AreTypesOf, IsFirstRefusal, NoneTooBig, HasSmallKernels};
+ghost use Rattle.mw_term.specs.Parts.{IsResolved};
 
 mod build;
 mod emit;

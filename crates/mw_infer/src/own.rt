@@ -4,10 +4,13 @@ ghost use Rattle.std.specs.Prelude.{◌≡◌, [], ◌∷◌, OnOk, Some, slice_
 ghost use Rattle.std.specs.Option.{option_map};
 ghost use Rattle.mw_term.specs.Terms.{kernel_type_of};
 ghost use Rattle.mw_types.specs.Types.{type_of};
-ghost use Rattle.mw_infer.specs.Schemes.{primitive_expression};
-ghost use Rattle.mw_infer.specs.ItemEquations.{application_equations, bracket_equations, close_equations, condition_equations, escape_equations};
-ghost use Rattle.mw_infer.specs.ItemEquations.{first_equations, function_equations, let_equations, lift_equations, open_equations, pair_equations};
-ghost use Rattle.mw_infer.specs.ItemEquations.{primitive_equations, recursion_equations, run_equations, second_equations, variable_equations};
+ghost use Rattle.mw_types.specs.Expressions.{primitive_expression};
+ghost use Rattle.mw_infer.specs.ItemEquations.{application_equations, bracket_equations, close_equations};
+ghost use Rattle.mw_infer.specs.ItemEquations.{condition_equations, escape_equations};
+ghost use Rattle.mw_infer.specs.ItemEquations.{first_equations, function_equations, let_equations, lift_equations};
+ghost use Rattle.mw_infer.specs.ItemEquations.{open_equations, pair_equations};
+ghost use Rattle.mw_infer.specs.ItemEquations.{primitive_equations, recursion_equations, run_equations};
+ghost use Rattle.mw_infer.specs.ItemEquations.{second_equations, variable_equations};
 ghost use Rattle.mw_infer.specs.Emitting.{Adds, AddsName, AreLow, HasRoom, HasRoomForName};
 ghost use Rattle.mw_infer.specs.Views.{level_at, slot_of, top_of, tops_of};
 

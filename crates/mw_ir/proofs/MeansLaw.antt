@@ -1,8 +1,11 @@
 -- The meaning of the intermediate language is one step over itself, whatever the bound on calls.
-use Rattle.std.proofs.Common.{◌≡◌, ℕ, zero, suc, ◌+◌, ◌≤◌, ◌<◌, Bool, true, false, List, [], ◌∷◌, length, Option, Some, None, refl, subst, arith}
+use Rattle.std.proofs.Common.{◌≡◌, ℕ, zero, suc, ◌+◌, ◌≤◌, ◌<◌, Bool, true, false, List, [], ◌∷◌, length, Option, Some}
+use Rattle.std.proofs.Common.{None, refl, subst, arith}
 use Rattle.std.specs.Prelude.{ℤ, pos, negsuc, nat_le, ◌==◌}
 use Rattle.mw_meaning.specs.Arithmetic.{PrimitiveResult, number, fact, trapped, compute}
-use Rattle.mw_ir.specs.Ir.{Ir, num, truth, get, closure, app, bind, cond, pair, fst, snd, prim, IrFunc, Frame, inside, with_slot, load, read, read_all, Ended, gives, stops, and_then, found, with_room, spending, function_at, chosen, result_of, in_turn, Evaluates, value, calls, means}
+use Rattle.mw_ir.specs.Ir.{Ir, num, truth, get, closure, app, bind, cond, pair, fst, snd, prim, IrFunc, Frame, inside}
+use Rattle.mw_ir.specs.Ir.{with_slot, load, read, read_all, Ended, gives, stops, and_then, found, with_room, spending}
+use Rattle.mw_ir.specs.Ir.{function_at, chosen, result_of, in_turn, Evaluates, value, calls, means}
 
 abbrev pub AtMost : ℕ → Ended → Type 0
 AtMost n (gives w m h) = m ≤ n

@@ -1,7 +1,8 @@
 -- The intermediate language as plain data.
 use Rattle.mw_ir.specs.declared.code.Ir.{Ir as Code}
 use Rattle.mw_ir.specs.declared.code.IrFunc.{IrFunc as Function}
-use Rattle.mw_ir.specs.declared.code.Ir.TheVariants.{Int, Bool as Truth, Get, Closure, App', Let', If', Pair', Fst', Snd', Prim' as Prim-Prim'}
+use Rattle.mw_ir.specs.declared.code.Ir.TheVariants.{Int, Bool as Truth, Get, Closure, App', Let', If', Pair', Fst'}
+use Rattle.mw_ir.specs.declared.code.Ir.TheVariants.{Snd', Prim' as Prim-Prim'}
 use Rattle.mw_ir.specs.Ir.{Ir, IrFunc, num, truth, get, closure, app, bind, cond, pair, fst, snd, prim}
 
 abbrev pub ir_of : Code → Ir

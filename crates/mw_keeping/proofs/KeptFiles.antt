@@ -1,5 +1,6 @@
 -- What a cache file holds once it was cut and records were added.
-use Rattle.std.proofs.Common.{◌≡◌, inl, inr, ℕ, ◌+◌, ◌-◌, ◌≤◌, List, [], ◌∷◌, ◌++◌, length, take, drop, Contains, Result, Ok, Err, OnOk, refl, sym, ap, ◌∙◌, arith}
+use Rattle.std.proofs.Common.{◌≡◌, inl, inr, ℕ, ◌+◌, ◌-◌, ◌≤◌, List, [], ◌∷◌, ◌++◌, length, take, drop, Contains}
+use Rattle.std.proofs.Common.{Result, Ok, Err, OnOk, refl, sym, ap, ◌∙◌, arith}
 use Rattle.std.proofs.lemmas.List.{length-append, length-take, take_all, take-append-drop}
 use Rattle.mw_store.specs.Records.{Kept, record_bytes, file_of}
 use Rattle.mw_store.specs.Loads.{LoadState, Counts, IsLoadOf, file_limit}

@@ -1,5 +1,7 @@
 -- Migrations of cache files: each load has one, and a file has no other.
-use Rattle.std.proofs.Common.{◌≡◌, ◌⊎◌, inl, inr, ℕ, zero, suc, ◌+◌, ◌-◌, ◌≤◌, Bool, true, false, if◌then◌else◌, List, [], ◌∷◌, ◌++◌, length, map, take, position, Option, Some, None, refl, sym, ap, ◌∙◌, subst, arith}
+use Rattle.std.proofs.Common.{◌≡◌, ◌⊎◌, inl, inr, ℕ, zero, suc, ◌+◌, ◌-◌, ◌≤◌, Bool, true, false, if◌then◌else◌, List}
+use Rattle.std.proofs.Common.{[], ◌∷◌, ◌++◌, length, map, take, position, Option, Some, None, refl, sym, ap, ◌∙◌, subst}
+use Rattle.std.proofs.Common.{arith}
 use Rattle.std.specs.Prelude.{slice_get, fold}
 use Rattle.std.specs.Str.{bytes_eq}
 use Rattle.std.specs.List.{AllByRecursion}
@@ -10,7 +12,8 @@ use Rattle.mw_key.specs.CanonicalText.{IsTextOf, canonical_text}
 use Rattle.mw_key.specs.declared.version.Version.{Version}
 use Rattle.mw_key.specs.declared.version.Version.TheVariants.{One, Two}
 use Rattle.mw_store.specs.Records.{Kept, record_bytes, file_of, IsWhole}
-use Rattle.mw_store.specs.Loads.{Loaded, LoadState, Counts, IsLoadOf, is_among, with_record, firsts, kept_of, file_limit}
+use Rattle.mw_store.specs.Loads.{Loaded, LoadState, Counts, IsLoadOf, is_among, with_record, firsts, kept_of}
+use Rattle.mw_store.specs.Loads.{file_limit}
 use Rattle.mw_store.proofs.Files.{load_same, record_length}
 use Rattle.mw_cache.specs.Gots.{IsLoadedText}
 use Rattle.mw_cache.specs.Migrating.{Migrate, no_record, of_two, of_one_known, of_one_anew, anew, IsMigrationOf}

@@ -25,7 +25,8 @@ use Rattle.mw_kernel.specs.declared.outcome.Outcome.TheVariants as outcome
 use Rattle.mw_kernel.specs.declared.running.Began.{Began}
 use Rattle.mw_kernel.specs.declared.running.Began.TheVariants as began
 use Rattle.mw_kernel.specs.RunningStates.{IsStoreOf}
-use Rattle.mw_kernel.specs.KernelAnswers.{IsStartOf, IsCallOf, IsKeptAs, IsStoreAfter, StartLeavesAtMost, CallLeavesAtMost, HasStartType, HasCallType}
+use Rattle.mw_kernel.specs.KernelAnswers.{IsStartOf, IsCallOf, IsKeptAs, IsStoreAfter, StartLeavesAtMost}
+use Rattle.mw_kernel.specs.KernelAnswers.{CallLeavesAtMost, HasStartType, HasCallType}
 use Rattle.mw_kernel.specs.Invoking.{IsOtherTrap, EndsAsOutcome}
 use Rattle.mw_kernel.specs.Answering.{IsAnswerOf, IsNoFunction, IsBegunAnswer}
 use Rattle.mw_kernel.proofs.Units.{Leaves}

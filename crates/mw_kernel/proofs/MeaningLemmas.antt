@@ -1,9 +1,11 @@
 -- Answers are what the kernel means.
-use Rattle.std.proofs.Common.{◌≡◌, ℕ, true, false, List, [], ◌∷◌, Some, Result, Ok, Err, refl, sym, ap, ◌∙◌, subst, arith}
+use Rattle.std.proofs.Common.{◌≡◌, ℕ, true, false, List, [], ◌∷◌, Some, Result, Ok, Err, refl, sym, ap, ◌∙◌, subst}
+use Rattle.std.proofs.Common.{arith}
 use Rattle.std.specs.Prelude.{codes}
 use Rattle.std.specs.Int.{w64, cast_signed}
 use Rattle.std.proofs.lemmas.Int.{to_z-of_z}
-use Rattle.mw_term.specs.Terms.{Expression, KernelValue, GroundType, KernelType, PureGroundValue, base, product, of_ground, to, int, bool, both, function, recursive, ground_value, ground_value_of}
+use Rattle.mw_term.specs.Terms.{Expression, KernelValue, GroundType, KernelType, PureGroundValue, base, product}
+use Rattle.mw_term.specs.Terms.{of_ground, to, int, bool, both, function, recursive, ground_value, ground_value_of}
 use Rattle.mw_term.specs.declared.term.Base.TheVariants.{Int, Bool as Truth}
 use Rattle.mw_term.specs.declared.value.TrapKind.TheVariants as kind
 use Rattle.mw_term.specs.declared.value.Limit.TheVariants.{Fuel, Heap, KernelSize}
@@ -23,10 +25,12 @@ use Rattle.mw_meaning.specs.Arithmetic.{trap, bound, stuck}
 use Rattle.mw_meaning.specs.KernelMeaning.{Ended, gives, stops, kernel_meaning}
 use Rattle.mw_meaning.specs.OutcomeLaws.{HasGroundType}
 use Rattle.mw_meaning.specs.StagedMeaning.{kernel_argument, argument_words, call_of}
-use Rattle.mw_meaning.specs.StandingFor.{IsWord, truth_number, AnswersAs, IsArgument, Call, AreCalls, IfEnded, CallsAnswer, CallsAfter, MeansKernel, StandsFor}
+use Rattle.mw_meaning.specs.StandingFor.{IsWord, truth_number, AnswersAs, IsArgument, Call, AreCalls, IfEnded}
+use Rattle.mw_meaning.specs.StandingFor.{CallsAnswer, CallsAfter, MeansKernel, StandsFor}
 use Rattle.mw_meaning.specs.Shapes.{IsWordOf, in_init}
 use Rattle.mw_meaning.proofs.KernelTyping.{KernelSafe, Has, none, kernel_call_safe, safe_makes}
-use Rattle.mw_meaning.proofs.Straying.{word_of, answers_no_stray, argument_typed, kernel_safe, one_number, standing_is_not_stray}
+use Rattle.mw_meaning.proofs.Straying.{word_of, answers_no_stray, argument_typed, kernel_safe, one_number}
+use Rattle.mw_meaning.proofs.Straying.{standing_is_not_stray}
 use Rattle.mw_machine.specs.declared.kernels.Ran.{Ran}
 use Rattle.mw_machine.specs.declared.kernels.Ran.TheVariants as ran
 use Rattle.mw_kernel.specs.declared.fault.RunFault.{RunFault}
@@ -34,8 +38,11 @@ use Rattle.mw_kernel.specs.declared.fault.RunFault.TheVariants as fault
 use Rattle.mw_kernel.specs.declared.running.Began.{Began}
 use Rattle.mw_kernel.specs.declared.running.Began.TheVariants as began
 use Rattle.mw_kernel.specs.RunningStates.{RunningState, IsRunnable, store_of}
-use Rattle.mw_kernel.specs.KernelAnswers.{kernel_value, EndsWithValue, EndsByTrap, EndsAtBound, IsKeptAs, IsBeganAs, IsStartOf, IsCallOf, AnswersStart, AnswersCall, call_end, IsStoreAfter, StoreAfterCall, IsSameFunction, FitsWords, FitsUnlessMemory}
-use Rattle.mw_kernel.specs.KernelMeanings.{IsSameValue, Keeps, IsBeganFrom, IsRanFrom, IsStartMeant, IsCallMeant, MeansStart, MeansCall, KeepsOn, ShortIntegersAreKept}
+use Rattle.mw_kernel.specs.KernelAnswers.{kernel_value, EndsWithValue, EndsByTrap, EndsAtBound, IsKeptAs, IsBeganAs}
+use Rattle.mw_kernel.specs.KernelAnswers.{IsStartOf, IsCallOf, AnswersStart, AnswersCall, call_end, IsStoreAfter}
+use Rattle.mw_kernel.specs.KernelAnswers.{StoreAfterCall, IsSameFunction, FitsWords, FitsUnlessMemory}
+use Rattle.mw_kernel.specs.KernelMeanings.{IsSameValue, Keeps, IsBeganFrom, IsRanFrom, IsStartMeant, IsCallMeant}
+use Rattle.mw_kernel.specs.KernelMeanings.{MeansStart, MeansCall, KeepsOn, ShortIntegersAreKept}
 use Rattle.mw_kernel.proofs.WordEnds.{is_argument}
 
 -- one word is that of one value of the type

@@ -1,5 +1,6 @@
 -- Runs and calls, put together.
-use Rattle.std.proofs.Common.{◌≡◌, ℕ, ◌+◌, ◌≤◌, List, [], ◌∷◌, Option, Some, None, Result, Ok, Err, refl, sym, ◌∙◌, subst, arith}
+use Rattle.std.proofs.Common.{◌≡◌, ℕ, ◌+◌, ◌≤◌, List, [], ◌∷◌, Option, Some, None, Result, Ok, Err, refl, sym, ◌∙◌}
+use Rattle.std.proofs.Common.{subst, arith}
 use Rattle.std.specs.Prelude.{codes}
 use Rattle.mw_term.specs.Terms.{GroundType, KernelType, PureGroundValue, ground_value}
 use Rattle.mw_term.specs.declared.value.Limit.TheVariants.{Fuel, Heap, KernelSize}
@@ -23,7 +24,8 @@ use Rattle.mw_kernel.specs.declared.outcome.Outcome.{Outcome}
 use Rattle.mw_kernel.specs.declared.outcome.Outcome.TheVariants as outcome
 use Rattle.mw_kernel.specs.declared.running.Began.{Began}
 use Rattle.mw_kernel.specs.RunningStates.{RunningState, IsRunnable, IsStoreOf, store_held, store_of}
-use Rattle.mw_kernel.specs.KernelAnswers.{AnswersStart, AnswersCall, StoreAfterCall, IsStoreAfter, StartLeavesAtMost, CallLeavesAtMost, call_end}
+use Rattle.mw_kernel.specs.KernelAnswers.{AnswersStart, AnswersCall, StoreAfterCall, IsStoreAfter, StartLeavesAtMost}
+use Rattle.mw_kernel.specs.KernelAnswers.{CallLeavesAtMost, call_end}
 use Rattle.mw_kernel.specs.Invoking.{GivesWord, EndsAsOutcome, LeavesStore}
 use Rattle.mw_kernel.specs.Answering.{IsAnswerOf, IsHeldAfter}
 use Rattle.mw_kernel.proofs.Units.{invoked_leaves}

@@ -18,7 +18,9 @@ use Rattle.mw_kernel.specs.declared.fault.RunFault.TheVariants as fault
 use Rattle.mw_kernel.specs.declared.running.Began.{Began}
 use Rattle.mw_kernel.specs.declared.running.Began.TheVariants as began
 use Rattle.mw_kernel.specs.RunningStates.{RunningState, IsRunnable, store_of}
-use Rattle.mw_kernel.specs.KernelAnswers.{EndsWithValue, EndsWithFunction, IsKeptAs, IsStartOf, AnswersStart, AnswersCall, call_end, IsStoreAfter, StoreAfterCall, IsSameFunction, FitsUnlessMemory}
+use Rattle.mw_kernel.specs.KernelAnswers.{EndsWithValue, EndsWithFunction, IsKeptAs, IsStartOf, AnswersStart}
+use Rattle.mw_kernel.specs.KernelAnswers.{AnswersCall, call_end, IsStoreAfter, StoreAfterCall, IsSameFunction}
+use Rattle.mw_kernel.specs.KernelAnswers.{FitsUnlessMemory}
 use Rattle.mw_kernel.specs.Straying.{IsInPlay, BadStartIsStray, IsStartOver, StartsPlay, BadCallIsStray, PlaysOn}
 use Rattle.mw_kernel.proofs.WordEnds.{is_argument}
 

@@ -5,12 +5,17 @@ use Rattle.std.proofs.lemmas.Bool.{leb-true}
 use Rattle.mw_wasm.specs.declared.values.Value.{Value}
 use Rattle.mw_wasm.specs.declared.modules.FuncType.{FuncType}
 use Rattle.mw_wasm.specs.declared.modules.Limits.{Limits}
-use Rattle.mw_wasm.specs.Syntax.{Instruction, Code, end, next, unreachable, nop, block, loop, cond, br, br_if, br_table, give_back, call, call_indirect, drop_value, select, local_get, local_set, local_tee, global_get, global_set, load, store, memory_size, memory_grow, const_i32, const_i64, numeric, Function, PureModule}
+use Rattle.mw_wasm.specs.Syntax.{Instruction, Code, end, next, unreachable, nop, block, loop, cond, br, br_if, br_table}
+use Rattle.mw_wasm.specs.Syntax.{give_back, call, call_indirect, drop_value, select, local_get, local_set, local_tee}
+use Rattle.mw_wasm.specs.Syntax.{global_get, global_set, load, store, memory_size, memory_grow, const_i32, const_i64}
+use Rattle.mw_wasm.specs.Syntax.{numeric, Function, PureModule}
 use Rattle.mw_wasm.specs.Store.{Store, is_inside, load_size, store_type, store_size}
 use Rattle.mw_wasm.specs.NumericTypes.{operands_of}
 use Rattle.mw_wasm.specs.Numerics.{number_result}
-use Rattle.mw_wasm.specs.Act.{Act, gives, enters, calls, breaks, returns, traps, stuck, constant, same_type, most_pages, grown, entered, called, called_at, act}
-use Rattle.mw_wasm.specs.Reduction.{plain, label, frame, Sequence, nothing, first, Step, goes, spends, finished, leaves, gives_back, traps_by, stuck_here, placed, in_label, in_frame, with_constant, step}
+use Rattle.mw_wasm.specs.Act.{Act, gives, enters, calls, breaks, returns, traps, stuck, constant, same_type, most_pages}
+use Rattle.mw_wasm.specs.Act.{grown, entered, called, called_at, act}
+use Rattle.mw_wasm.specs.Reduction.{plain, label, frame, Sequence, nothing, first, Step, goes, spends, finished, leaves}
+use Rattle.mw_wasm.specs.Reduction.{gives_back, traps_by, stuck_here, placed, in_label, in_frame, with_constant, step}
 use Rattle.mw_wasm.specs.Execution.{weight, End, ended, trapped, spent, lost, follow, execution}
 use Rattle.mw_wasm.specs.Instances.{on_found, where_they_fit, are_arguments, invocation, invoked}
 use Rattle.mw_wasm.proofs.Acts.{for_value, for_i32, for_type, for_some, for_true, for_result, for_operands}

@@ -1,5 +1,6 @@
 -- How invocations that give one word end.
-use Rattle.std.proofs.Common.{◌≡◌, ℕ, zero, suc, ◌+◌, ◌≤◌, List, [], ◌∷◌, ◌++◌, map, Option, Some, None, refl, sym, ap, ◌∙◌, subst, arith, zero-add}
+use Rattle.std.proofs.Common.{◌≡◌, ℕ, zero, suc, ◌+◌, ◌≤◌, List, [], ◌∷◌, ◌++◌, map, Option, Some, None, refl, sym, ap}
+use Rattle.std.proofs.Common.{◌∙◌, subst, arith, zero-add}
 use Rattle.std.specs.Prelude.{slice_get, replicate}
 use Rattle.mw_term.specs.Terms.{GroundType, PureGroundValue, base, product, int, bool, both, ground_value}
 use Rattle.mw_term.specs.declared.term.Base.TheVariants.{Int, Bool as Truth}

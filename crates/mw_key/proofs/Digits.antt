@@ -1,5 +1,6 @@
 -- Steps of the loop that reads digits.
-use Rattle.std.proofs.Common.{if◌then◌else◌, ◌≡◌, ℕ, suc, ◌+◌, ◌-◌, ◌*◌, ◌^◌, ◌<◌, ◌≤◌, nat_le, List, length, drop, get_or, drop-cons, add-one, refl, ap, sym, ◌∙◌, Bool, true, false, Some, None}
+use Rattle.std.proofs.Common.{if◌then◌else◌, ◌≡◌, ℕ, suc, ◌+◌, ◌-◌, ◌*◌, ◌^◌, ◌<◌, ◌≤◌, nat_le, List, length, drop}
+use Rattle.std.proofs.Common.{get_or, drop-cons, add-one, refl, ap, sym, ◌∙◌, Bool, true, false, Some, None}
 use Rattle.std.proofs.lemmas.Bool.{le-leb, lt-leb}
 use Rattle.std.proofs.lemmas.List.{drop_all}
 use Rattle.mw_key.specs.Numbers.{is_digit, number_in}

@@ -1,10 +1,12 @@
 -- What is found for code: just the code whose words stand there, closed and within the limits.
-use Rattle.std.proofs.Common.{◌≡◌, ℕ, zero, suc, ◌+◌, ◌-◌, ◌*◌, ◌<◌, ◌≤◌, List, ◌∷◌, ◌++◌, refl, sym, ◌∙◌, ap, subst, arith, Some, None}
+use Rattle.std.proofs.Common.{◌≡◌, ℕ, zero, suc, ◌+◌, ◌-◌, ◌*◌, ◌<◌, ◌≤◌, List, ◌∷◌, ◌++◌, refl, sym, ◌∙◌, ap, subst}
+use Rattle.std.proofs.Common.{arith, Some, None}
 use Rattle.std.specs.Prelude.{max}
 use Rattle.std.specs.Fmt.{signed_decimal, decimal}
 use Rattle.std.proofs.lemmas.List.{append_assoc}
 use Rattle.std.proofs.Math.Numerals.{add-one}
-use Rattle.mw_term.specs.Terms.{Expression, num, truth, var, glob, fun, fix, app, bind, cond, pair, fst, snd, prim, bracket, escape, run, close, opened, lift, lift_b, done, size, depth_of}
+use Rattle.mw_term.specs.Terms.{Expression, num, truth, var, glob, fun, fix, app, bind, cond, pair, fst, snd, prim}
+use Rattle.mw_term.specs.Terms.{bracket, escape, run, close, opened, lift, lift_b, done, size, depth_of}
 use Rattle.mw_term.specs.Closed.{IsCode, ClosedBelow}
 use Rattle.mw_term.specs.Limits.{LiteralsFit}
 use Rattle.mw_key.specs.declared.form.Form.{Form}
@@ -14,7 +16,8 @@ use Rattle.mw_key.specs.declared.form.TwoParts.TheVariants.{App, Let, Pair, Prim
 use Rattle.mw_key.specs.Forms.{form_of}
 use Rattle.mw_key.specs.Numbers.{natural_of, integer_of, below}
 use Rattle.mw_key.specs.Reading.{Found, then_find, make, find_form, find_integer, find_variable, code_parts, find_code}
-use Rattle.mw_key.proofs.Finding.{after_found, made_found, then_at, make_at, word_spelled, word_from, node_spelled, node_from}
+use Rattle.mw_key.proofs.Finding.{after_found, made_found, then_at, make_at, word_spelled, word_from, node_spelled}
+use Rattle.mw_key.proofs.Finding.{node_from}
 use Rattle.mw_key.proofs.FormWords.{form_word, form_found, form_from}
 use Rattle.mw_key.proofs.NumberWords.{integer_found, integer_from, below_found, below_from}
 use Rattle.mw_key.proofs.WordLists.{code_list}

@@ -1,12 +1,14 @@
 -- What is found for a ground type or a kernel type: just the type whose words stand there.
-use Rattle.std.proofs.Common.{◌≡◌, ℕ, zero, suc, ◌+◌, ◌-◌, ◌≤◌, List, ◌∷◌, ◌++◌, refl, sym, ◌∙◌, ap, subst, arith, Some, None}
+use Rattle.std.proofs.Common.{◌≡◌, ℕ, zero, suc, ◌+◌, ◌-◌, ◌≤◌, List, ◌∷◌, ◌++◌, refl, sym, ◌∙◌, ap, subst, arith, Some}
+use Rattle.std.proofs.Common.{None}
 use Rattle.std.proofs.lemmas.List.{append_assoc}
 use Rattle.mw_term.specs.Terms.{GroundType, KernelType, base, product, of_ground, to}
 use Rattle.mw_term.specs.Limits.{ground_nodes, kernel_nodes}
 use Rattle.mw_key.specs.declared.form.TypeForm.{TypeForm}
 use Rattle.mw_key.specs.declared.form.TypeForm.TheVariants.{Base, Pair as PairType, To}
 use Rattle.mw_key.specs.Forms.{type_form_of}
-use Rattle.mw_key.specs.Reading.{Found, then_find, make, find_type_form, ground_parts, find_ground, kernel_parts, find_kernel_type}
+use Rattle.mw_key.specs.Reading.{Found, then_find, make, find_type_form, ground_parts, find_ground, kernel_parts}
+use Rattle.mw_key.specs.Reading.{find_kernel_type}
 use Rattle.mw_key.proofs.Finding.{after_found, made_found, then_at, make_at, node_spelled, node_from}
 use Rattle.mw_key.proofs.FormWords.{type_form_word, type_form_found, type_form_from}
 use Rattle.mw_key.proofs.WordLists.{ground_list, kernel_list}

@@ -1,5 +1,6 @@
 -- What the words of a text spell: just the version, code and type whose text it is.
-use Rattle.std.proofs.Common.{◌≡◌, ℕ, ◌+◌, ◌-◌, ◌≤◌, nat_le, List, [], ◌∷◌, ◌++◌, sym, ◌∙◌, ap, subst, arith, Some, None}
+use Rattle.std.proofs.Common.{◌≡◌, ℕ, ◌+◌, ◌-◌, ◌≤◌, nat_le, List, [], ◌∷◌, ◌++◌, sym, ◌∙◌, ap, subst, arith, Some}
+use Rattle.std.proofs.Common.{None}
 use Rattle.std.proofs.lemmas.Bool.{and_parts, and_from, le-leb, leb-true}
 use Rattle.std.proofs.lemmas.List.{append-nil}
 use Rattle.std.proofs.lemmas.Option.{none-some, same_Some}
@@ -9,7 +10,8 @@ use Rattle.mw_key.specs.CanonicalText.{version_word, IsKernel, IsTextOf}
 use Rattle.mw_key.specs.declared.version.Version.{Version}
 use Rattle.mw_key.specs.Forms.{version_of}
 use Rattle.mw_key.specs.TextLaws.{OneText}
-use Rattle.mw_key.specs.Reading.{Found, then_find, make, last, words, find_version, find_kernel_type, find_code, text_of_words}
+use Rattle.mw_key.specs.Reading.{Found, then_find, make, last, words, find_version, find_kernel_type, find_code}
+use Rattle.mw_key.specs.Reading.{text_of_words}
 use Rattle.mw_key.proofs.Finding.{after_found, made_found, then_at, make_at, word_spelled, word_from}
 use Rattle.mw_key.proofs.FormWords.{version_found, version_from}
 use Rattle.mw_key.proofs.WordLists.{kernel_list, code_list, words_of_text, text_from_words}

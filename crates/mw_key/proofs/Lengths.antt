@@ -1,5 +1,6 @@
 -- Canonical texts are short.
-use Rattle.std.proofs.Common.{◌≡◌, ℕ, suc, ◌+◌, ◌*◌, ◌<◌, ◌≤◌, ◌^◌, ℤ, pos, negsuc, true, false, ◌++◌, length, length-append, arith, subst, sym}
+use Rattle.std.proofs.Common.{◌≡◌, ℕ, suc, ◌+◌, ◌*◌, ◌<◌, ◌≤◌, ◌^◌, ℤ, pos, negsuc, true, false, ◌++◌, length}
+use Rattle.std.proofs.Common.{length-append, arith, subst, sym}
 use Rattle.std.specs.Prelude.{FitsSigned, codes, nat_le, ◌&&◌}
 use Rattle.std.specs.Int.{w64}
 use Rattle.std.specs.Fmt.{signed_decimal}
@@ -8,12 +9,15 @@ use Rattle.std.proofs.lemmas.Bool.Decides.{nat_tests}
 use Rattle.mw_term.specs.declared.term.Base.TheVariants.{Int, Bool as Truth}
 use Rattle.mw_term.specs.declared.term.Primitive.{Primitive as Prim}
 use Rattle.mw_term.specs.declared.term.Primitive.TheVariants.{Add, Sub, Mul, Div, Mod, Eq, Lt, Le}
-use Rattle.mw_term.specs.Terms.{Expression, GroundType, KernelType, base, product, of_ground, to, num, truth, var, glob, fun, fix, app, bind, cond, pair, fst, snd, prim, bracket, escape, run, close, opened, lift, lift_b, done, size, depth_of}
+use Rattle.mw_term.specs.Terms.{Expression, GroundType, KernelType, base, product, of_ground, to, num, truth, var, glob}
+use Rattle.mw_term.specs.Terms.{fun, fix, app, bind, cond, pair, fst, snd, prim, bracket, escape, run, close, opened}
+use Rattle.mw_term.specs.Terms.{lift, lift_b, done, size, depth_of}
 use Rattle.mw_term.specs.Closed.{ClosedBelow}
 use Rattle.mw_term.specs.Limits.{ground_nodes, kernel_nodes, LiteralsFit}
 use Rattle.mw_key.specs.declared.version.Version.{Version}
 use Rattle.mw_key.specs.declared.version.Version.TheVariants.{One, Two}
-use Rattle.mw_key.specs.CanonicalText.{version_word, ground_words, kernel_words, primitive_word, code_words, canonical_text}
+use Rattle.mw_key.specs.CanonicalText.{version_word, ground_words, kernel_words, primitive_word, code_words}
+use Rattle.mw_key.specs.CanonicalText.{canonical_text}
 use Rattle.mw_key.specs.TextLaws.{ShortText}
 
 literal_length : (z : ℤ) → FitsSigned w64 z → length (signed_decimal z) ≤ 20

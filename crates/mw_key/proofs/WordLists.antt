@@ -2,11 +2,13 @@
 use Rattle.std.proofs.Common.{◌≡◌, ℕ, List, [], ◌∷◌, ◌++◌, refl, sym, ◌∙◌, ap, true, false, codes}
 use Rattle.std.specs.Fmt.{signed_decimal, decimal}
 use Rattle.std.proofs.lemmas.List.{append_assoc, append-nil}
-use Rattle.mw_term.specs.Terms.{Expression, GroundType, KernelType, base, product, of_ground, to, num, truth, var, fun, fix, app, bind, cond, pair, fst, snd, prim}
+use Rattle.mw_term.specs.Terms.{Expression, GroundType, KernelType, base, product, of_ground, to, num, truth, var, fun}
+use Rattle.mw_term.specs.Terms.{fix, app, bind, cond, pair, fst, snd, prim}
 use Rattle.mw_term.specs.declared.term.Base.TheVariants as b
 use Rattle.mw_term.specs.declared.term.Primitive.{Primitive as Prim'}
 use Rattle.mw_term.specs.declared.term.Primitive.TheVariants.{Add, Sub, Mul, Div, Mod, Eq, Lt, Le}
-use Rattle.mw_key.specs.CanonicalText.{version_word, ground_words, kernel_words, primitive_word, code_words, canonical_text}
+use Rattle.mw_key.specs.CanonicalText.{version_word, ground_words, kernel_words, primitive_word, code_words}
+use Rattle.mw_key.specs.CanonicalText.{canonical_text}
 use Rattle.mw_key.specs.declared.version.Version.{Version}
 use Rattle.mw_key.specs.declared.form.Form.TheVariants.{Int, Bool as Truth, Var, WithOne, WithTwo, If}
 use Rattle.mw_key.specs.declared.form.OnePart.TheVariants.{Fun, Rec, Fst, Snd}
@@ -14,7 +16,8 @@ use Rattle.mw_key.specs.declared.form.TwoParts.TheVariants.{App, Let, Pair, Prim
 use Rattle.mw_key.specs.declared.form.TypeForm.TheVariants.{Base, Pair as PairType, To}
 use Rattle.mw_key.specs.Reading.{words}
 use Rattle.mw_key.proofs.Words.{spaced, spaced-append, NoSpaces, NoSpaces-append, words_of_bytes, bytes_of_words}
-use Rattle.mw_key.proofs.FormWords.{form_word, type_form_word, primitive_name, version_no_space, type_form_no_space, primitive_no_space}
+use Rattle.mw_key.proofs.FormWords.{form_word, type_form_word, primitive_name, version_no_space, type_form_no_space}
+use Rattle.mw_key.proofs.FormWords.{primitive_no_space}
 use Rattle.mw_key.proofs.NumberWords.{decimal_no_space, signed_no_space}
 
 abbrev pub ground_list : GroundType → List (List ℕ)

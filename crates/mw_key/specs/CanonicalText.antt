@@ -3,7 +3,8 @@ use Rattle.std.specs.Prelude.{◌≡◌, ℕ, ◌≤◌, true, List, [], ◌++�
 use Rattle.std.specs.Fmt.{signed_decimal, decimal}
 use Rattle.std.specs.Int.{w32, from_le_bytes}
 use Rattle.sha2.specs.Sha256.{sha256}
-use Rattle.mw_term.specs.Terms.{Expression, GroundType, KernelType, base, product, of_ground, to, num, truth, var, fun, fix, app, bind, cond, pair, fst, snd, prim}
+use Rattle.mw_term.specs.Terms.{Expression, GroundType, KernelType, base, product, of_ground, to, num, truth, var, fun}
+use Rattle.mw_term.specs.Terms.{fix, app, bind, cond, pair, fst, snd, prim}
 use Rattle.mw_term.specs.Closed.{IsCode, IsClosed}
 use Rattle.mw_term.specs.Limits.{within_limits, kernel_nodes, LiteralsFit}
 use Rattle.mw_term.specs.declared.term.Base.TheVariants.{Int, Bool as Truth}

@@ -4,7 +4,8 @@ ghost use Rattle.std.specs.Prelude.{◌≡◌, ◌≤◌, ◌+◌};
 ghost use Rattle.std.specs.Map.{lookup};
 ghost use Rattle.std.specs.Str.{bytes_eq};
 ghost use Rattle.mw_term.specs.Terms.{expression_of};
-ghost use Rattle.mw_key.specs.Forms.{version_of, type_form_of, form_of, primitive_words, under_one, code_of_one, under_two, code_of_two};
+ghost use Rattle.mw_key.specs.Forms.{version_of, type_form_of, form_of, primitive_words, under_one, code_of_one};
+ghost use Rattle.mw_key.specs.Forms.{under_two, code_of_two};
 
 use crate::version::Version;
 use mw_term::{Base, Prim as Primitive, Term};

@@ -3,7 +3,8 @@
 ghost use Rattle.std.specs.Prelude.{◌≡◌, ◌+◌, ◌*◌, ◌≤◌, IfOk, MatchResult, alloc_error};
 ghost use Rattle.mw_term.specs.Terms.{Expression, KernelType, expression_of, ground_of, kernel_type_of};
 ghost use Rattle.mw_key.specs.CanonicalText.{IsTextOf};
-ghost use Rattle.mw_key.specs.Reading.{words_left, find_ground, ground_parts, find_kernel_type, find_code, code_parts, text_of_words, Answers, Finds};
+ghost use Rattle.mw_key.specs.Reading.{words_left, find_ground, ground_parts, find_kernel_type, find_code, code_parts};
+ghost use Rattle.mw_key.specs.Reading.{text_of_words, Answers, Finds};
 ghost use Rattle.mw_key.specs.declared.version.Version.{Version as PureVersion};
 
 use crate::fault::TextFault;

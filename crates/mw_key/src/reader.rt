@@ -1,7 +1,8 @@
 // The words of a text, read one after another.
 
 ghost use Rattle.std.specs.Prelude.{◌≡◌, ◌∷◌, ◌==◌, [], position, IfSome, IfNone, IsTrue, ◌↔◌};
-ghost use Rattle.mw_key.specs.Reading.{words, words_left, find_word, find_node, find_version, find_type_form, find_form, find_integer, find_variable, Finds};
+ghost use Rattle.mw_key.specs.Reading.{words, words_left, find_word, find_node, find_version, find_type_form};
+ghost use Rattle.mw_key.specs.Reading.{find_form, find_integer, find_variable, Finds};
 
 use crate::fault::TextFault;
 use crate::form::{Form, TypeForm, form_of, type_form_of, version_of};

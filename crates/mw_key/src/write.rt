@@ -5,7 +5,8 @@ ghost use Rattle.std.specs.Fmt.{decimal, signed_decimal};
 ghost use Rattle.mw_term.specs.Terms.{expression_of, ground_of, kernel_type_of};
 ghost use Rattle.mw_term.specs.Closed.{IsCode};
 ghost use Rattle.mw_term.specs.Limits.{LiteralsFit};
-ghost use Rattle.mw_key.specs.CanonicalText.{canonical_text, kernel_words, ground_words, code_words, words_of_two, primitive_word};
+ghost use Rattle.mw_key.specs.CanonicalText.{canonical_text, kernel_words, ground_words, code_words, words_of_two};
+ghost use Rattle.mw_key.specs.CanonicalText.{primitive_word};
 ghost use Rattle.mw_key.specs.declared.version.Version.TheVariants.{Two};
 
 use mw_term::{Base, Ground, KType, Prim, Term};

@@ -1,6 +1,7 @@
 -- The tests of bytes decide what they say.
 use Rattle.std.proofs.Common.{◌≡◌, ◌≢◌, ℕ, ◌≤◌, nat_le, sym, ◌∙◌, arith, Bool, true, false, ◌&&◌}
-use Rattle.std.proofs.lemmas.Bool.{false≢true, eqb-true, eq-eqb, leb-true, le-leb, and_parts, and_from, or_cases, or_from}
+use Rattle.std.proofs.lemmas.Bool.{false≢true, eqb-true, eq-eqb, leb-true, le-leb, and_parts, and_from, or_cases}
+use Rattle.std.proofs.lemmas.Bool.{or_from}
 use Rattle.mw_lex.specs.Bytes.{IsBlank, IsAllowed, IsDigit, IsWordByte, IsCommentByte}
 use Rattle.mw_lex.specs.Pieces.{is_blank, is_digit, is_word_byte, is_comment_byte}
 

@@ -1,5 +1,6 @@
 -- Steps of the loops that count bytes and read a number.
-use Rattle.std.proofs.Common.{if◌then◌else◌, ◌≡◌, ℕ, suc, ◌+◌, ◌-◌, ◌*◌, ◌^◌, ◌<◌, ◌≤◌, nat_le, List, length, drop, get_or, drop-cons, add-one, refl, ap, sym, ◌∙◌, arith, Bool, true, false, Some, None}
+use Rattle.std.proofs.Common.{if◌then◌else◌, ◌≡◌, ℕ, suc, ◌+◌, ◌-◌, ◌*◌, ◌^◌, ◌<◌, ◌≤◌, nat_le, List, length, drop}
+use Rattle.std.proofs.Common.{get_or, drop-cons, add-one, refl, ap, sym, ◌∙◌, arith, Bool, true, false, Some, None}
 use Rattle.std.proofs.lemmas.Bool.{le-leb, lt-leb}
 use Rattle.std.proofs.lemmas.List.{drop_all}
 use Rattle.mw_lex.specs.Pieces.{is_digit, count, number_in}

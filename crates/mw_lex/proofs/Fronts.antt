@@ -1,5 +1,7 @@
 -- What is seen at the front of bytes stands there.
-use Rattle.std.proofs.Common.{◌≡◌, ◌≢◌, inl, inr, ℕ, suc, ◌+◌, ◌<◌, ◌≤◌, ◌==◌, List, [], ◌∷◌, ◌++◌, length, take, drop, refl, ap, sym, ◌∙◌, subst, add-one, arith, Bool, true, false, if◌then◌else◌, Option, Some, None}
+use Rattle.std.proofs.Common.{◌≡◌, ◌≢◌, inl, inr, ℕ, suc, ◌+◌, ◌<◌, ◌≤◌, ◌==◌, List, [], ◌∷◌, ◌++◌, length, take, drop}
+use Rattle.std.proofs.Common.{refl, ap, sym, ◌∙◌, subst, add-one, arith, Bool, true, false, if◌then◌else◌, Option, Some}
+use Rattle.std.proofs.Common.{None}
 use Rattle.std.proofs.lemmas.Bool.{false≢true, eqb-true, eqb-false}
 use Rattle.std.proofs.lemmas.List.{take-append-drop, length-take-le, length-drop}
 use Rattle.std.proofs.lemmas.Option.{none-some}
@@ -8,10 +10,12 @@ use Rattle.mw_term.specs.declared.refusal.Refusal.TheVariants.{Char}
 use Rattle.mw_lex.specs.Bytes.{IsWordByte, IsCommentByte}
 use Rattle.mw_lex.specs.Texts.{mark, IsText, IsLongest}
 use Rattle.mw_lex.specs.Tokens.{Symbol, PureToken}
-use Rattle.mw_lex.specs.Reading.{EndsComment, Reads, so_far, behind_blank, behind_comment, BeginsNone, IsFault, no_token, in_comment}
+use Rattle.mw_lex.specs.Reading.{EndsComment, Reads, so_far, behind_blank, behind_comment, BeginsNone, IsFault}
+use Rattle.mw_lex.specs.Reading.{no_token, in_comment}
 use Rattle.mw_lex.specs.declared.piece.Piece.{Piece}
 use Rattle.mw_lex.specs.declared.piece.Piece.TheVariants as piece
-use Rattle.mw_lex.specs.Pieces.{seen, IsWithin, is_blank, is_word_byte, is_comment_byte, count, Seen, gap, marked, run, strange, comment_end, comment, short_mark, long_mark, a_mark, front}
+use Rattle.mw_lex.specs.Pieces.{seen, IsWithin, is_blank, is_word_byte, is_comment_byte, count, Seen, gap, marked, run}
+use Rattle.mw_lex.specs.Pieces.{strange, comment_end, comment, short_mark, long_mark, a_mark, front}
 use Rattle.mw_lex.proofs.ByteTests.{denied, blank_true, true_blank, word_true, true_word, comment_true, allowed_comment}
 use Rattle.mw_lex.proofs.Tables.{mark_short, text_nil}
 

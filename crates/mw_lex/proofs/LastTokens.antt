@@ -1,5 +1,6 @@
 -- The last two tokens.
-use Rattle.std.proofs.Common.{◌≡◌, ◌-◌, ◌<◌, ◌≤◌, suc, List, [], ◌∷◌, ◌++◌, length, take, drop, get_or, drop-cons, refl, ap, sym, ◌∙◌, arith, false, ◌&&◌}
+use Rattle.std.proofs.Common.{◌≡◌, ◌-◌, ◌<◌, ◌≤◌, suc, List, [], ◌∷◌, ◌++◌, length, take, drop, get_or, drop-cons, refl}
+use Rattle.std.proofs.Common.{ap, sym, ◌∙◌, arith, false, ◌&&◌}
 use Rattle.std.proofs.lemmas.List.{take-append-drop, drop_all, get_or_default}
 use Rattle.mw_lex.specs.declared.token.Kind.{Kind}
 use Rattle.mw_lex.specs.declared.token.Kind.TheVariants as kind

@@ -9,7 +9,8 @@ use Rattle.mw_lex.specs.declared.token.Token.{Token}
 use Rattle.mw_lex.specs.Texts.{IsText}
 use Rattle.mw_lex.specs.Tokens.{PureToken, token, tokens_of}
 use Rattle.mw_lex.specs.InOrder.{AreFrom, AreInOrder}
-use Rattle.mw_lex.specs.Reading.{Reads, so_far, behind_blank, behind_comment, behind_token, AreTokens, IsFault, no_token, in_comment, no_number, long_name, IsFirstFault}
+use Rattle.mw_lex.specs.Reading.{Reads, so_far, behind_blank, behind_comment, behind_token, AreTokens, IsFault}
+use Rattle.mw_lex.specs.Reading.{no_token, in_comment, no_number, long_name, IsFirstFault}
 use Rattle.mw_term.specs.Stops.{AnswersOrMemory, IfRefused, IsRefusalOrMemory}
 use Rattle.mw_lex.proofs.Tables.{text_nil}
 use Rattle.mw_lex.proofs.OneAnswer.{one_list, one_first_fault, tokens_or_fault}

@@ -1,5 +1,6 @@
 -- Bytes are tokens, or have a first fault, in one way.
-use Rattle.std.proofs.Common.{◌≡◌, inl, inr, ℕ, suc, ◌+◌, List, [], ◌∷◌, ◌++◌, length, refl, ap, sym, ◌∙◌, subst, append_assoc, append-nil, Option, Some, None}
+use Rattle.std.proofs.Common.{◌≡◌, inl, inr, ℕ, suc, ◌+◌, List, [], ◌∷◌, ◌++◌, length, refl, ap, sym, ◌∙◌, subst}
+use Rattle.std.proofs.Common.{append_assoc, append-nil, Option, Some, None}
 use Rattle.std.proofs.lemmas.Option.{none-some, same_Some}
 use Rattle.std.specs.List.{AllByRecursion}
 use Rattle.mw_term.specs.declared.refusal.Refusal.{Refusal}
@@ -7,9 +8,12 @@ use Rattle.mw_lex.specs.Bytes.{IsBlank, IsCommentByte}
 use Rattle.mw_lex.specs.Texts.{IsLongest, Spells}
 use Rattle.mw_lex.specs.Tokens.{Symbol, PureToken, token, minus}
 use Rattle.mw_lex.specs.InOrder.{HaveNumbersInRange}
-use Rattle.mw_lex.specs.Reading.{EndsComment, Reads, so_far, behind_blank, behind_comment, behind_token, AreTokens, IsFault, no_token, in_comment, no_number, long_name, IsFirstFault}
+use Rattle.mw_lex.specs.Reading.{EndsComment, Reads, so_far, behind_blank, behind_comment, behind_token, AreTokens}
+use Rattle.mw_lex.specs.Reading.{IsFault, no_token, in_comment, no_number, long_name, IsFirstFault}
 use Rattle.mw_lex.proofs.Ranges.{range_front}
-use Rattle.mw_lex.proofs.OneReading.{same_text, text_some, hash_no_text, blank_no_text, blank_no_hash, one_symbol, numeral_spells, long_spells, ends_halts, no_comment_byte, same_bodies, fault_some, one_fault_here}
+use Rattle.mw_lex.proofs.OneReading.{same_text, text_some, hash_no_text, blank_no_text, blank_no_hash, one_symbol}
+use Rattle.mw_lex.proofs.OneReading.{numeral_spells, long_spells, ends_halts, no_comment_byte, same_bodies, fault_some}
+use Rattle.mw_lex.proofs.OneReading.{one_fault_here}
 
 -- where reading ends: at the end of the bytes, or at a fault
 abbrev pub Ends : List PureToken → ℕ → List ℕ → Option Refusal → Type 0

@@ -1,14 +1,17 @@
 -- Bytes are tokens, or have a first fault, in one way.
-use Rattle.std.proofs.Common.{◌≡◌, ◌≢◌, ◌⊎◌, inl, inr, ℕ, suc, ◌+◌, ◌<◌, List, [], ◌∷◌, ◌++◌, length, refl, ap, sym, ◌∙◌, subst, append-nil, arith, Some}
+use Rattle.std.proofs.Common.{◌≡◌, ◌≢◌, ◌⊎◌, inl, inr, ℕ, suc, ◌+◌, ◌<◌, List, [], ◌∷◌, ◌++◌, length, refl, ap, sym}
+use Rattle.std.proofs.Common.{◌∙◌, subst, append-nil, arith, Some}
 use Rattle.std.proofs.lemmas.Option.{none-some, same_Some}
 use Rattle.std.specs.List.{AllByRecursion}
 use Rattle.mw_term.specs.declared.refusal.Refusal.{Refusal}
 use Rattle.mw_term.specs.declared.refusal.Refusal.TheVariants.{Char}
 use Rattle.mw_lex.specs.Bytes.{IsBlank, IsAllowed, IsDigit, IsCommentByte}
-use Rattle.mw_lex.specs.Texts.{mark, reserved, IsWord, IsNumeral, IsText, IsLongest, decimal, Spells, a_mark, a_reserved_word, a_name, a_number}
+use Rattle.mw_lex.specs.Texts.{mark, reserved, IsWord, IsNumeral, IsText, IsLongest, decimal, Spells, a_mark}
+use Rattle.mw_lex.specs.Texts.{a_reserved_word, a_name, a_number}
 use Rattle.mw_lex.specs.Tokens.{Symbol, PureToken, number}
 use Rattle.mw_lex.specs.Reading.{EndsComment, IsFault, no_token, in_comment, no_number, long_name}
-use Rattle.mw_lex.proofs.Tables.{mark_nil, mark_no_word, reserved_word, reserved_short, text_nil, text_no_blank, text_no_hash}
+use Rattle.mw_lex.proofs.Tables.{mark_nil, mark_no_word, reserved_word, reserved_short, text_nil, text_no_blank}
+use Rattle.mw_lex.proofs.Tables.{text_no_hash}
 
 -- texts
 same_text_here : (text after more rest : List ℕ) → IsLongest text after → IsText (text ++ more) → after ≡ more ++ rest → more ≡ []

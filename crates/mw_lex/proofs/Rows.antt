@@ -2,7 +2,8 @@
 use Rattle.std.proofs.Common.{◌≡◌, [], ◌∷◌, refl, lit<, codes, Some, None}
 use Rattle.mw_term.specs.declared.refusal.Refusal.TheVariants.{Char, Number, Name}
 use Rattle.mw_lex.specs.Texts.{mark, reserved, decimal}
-use Rattle.mw_lex.specs.Tokens.{token, less, less_equal, equal, minus, arrow, paren_left, let_word, lift_word, lift_b_word, word, number}
+use Rattle.mw_lex.specs.Tokens.{token, less, less_equal, equal, minus, arrow, paren_left, let_word, lift_word}
+use Rattle.mw_lex.specs.Tokens.{lift_b_word, word, number}
 use Rattle.mw_lex.specs.Reading.{AreTokens, IsFirstFault}
 use Rattle.mw_lex.specs.Steps.{IsRead}
 use Rattle.mw_lex.proofs.StepsOn.{start_read, all_read, step_gap, step_mark, step_run, step_strange, step_refused}

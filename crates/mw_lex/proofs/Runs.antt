@@ -1,5 +1,6 @@
 -- What a run of letters, digits and underscores spells.
-use Rattle.std.proofs.Common.{◌≡◌, ◌≢◌, inl, inr, ℕ, ◌+◌, ◌^◌, ◌<◌, ◌≤◌, nat_lt, List, [], ◌∷◌, ◌++◌, length, refl, sym, subst, arith, Bool, true, false, ◌||◌, if◌then◌else◌, Option, Some, None, Result, Ok, Err}
+use Rattle.std.proofs.Common.{◌≡◌, ◌≢◌, inl, inr, ℕ, ◌+◌, ◌^◌, ◌<◌, ◌≤◌, nat_lt, List, [], ◌∷◌, ◌++◌, length, refl, sym}
+use Rattle.std.proofs.Common.{subst, arith, Bool, true, false, ◌||◌, if◌then◌else◌, Option, Some, None, Result, Ok, Err}
 use Rattle.std.proofs.lemmas.Bool.{ltb-true, ltb-false}
 use Rattle.std.specs.List.{AllByRecursion}
 use Rattle.mw_term.specs.declared.refusal.Refusal.{Refusal}
@@ -10,7 +11,8 @@ use Rattle.mw_lex.specs.Tokens.{Symbol, PureToken, number, minus}
 use Rattle.mw_lex.specs.InOrder.{IsInRange}
 use Rattle.mw_lex.specs.Reading.{IsNoNumber, IsFault, no_number, long_name}
 use Rattle.mw_lex.specs.Lexing.{IsOfLexing}
-use Rattle.mw_lex.specs.Pieces.{is_digit, is_word_byte, number_in, number_answer, or_name, word_answer, run_answer, next_to_last, last, opens_literal}
+use Rattle.mw_lex.specs.Pieces.{is_digit, is_word_byte, number_in, number_answer, or_name, word_answer, run_answer}
+use Rattle.mw_lex.specs.Pieces.{next_to_last, last, opens_literal}
 use Rattle.mw_lex.proofs.ByteTests.{denied, digit_true, true_digit, true_word}
 use Rattle.mw_lex.proofs.Tables.{mark_no_word, reserved_in_range}
 use Rattle.mw_lex.proofs.Ranges.{range_last, stands_below, stands_lowest, stands_only, stands_else, NumberIs, number_is}

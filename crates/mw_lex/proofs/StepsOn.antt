@@ -1,5 +1,6 @@
 -- From one piece to the next.
-use Rattle.std.proofs.Common.{◌≡◌, ◌⊎◌, inl, inr, zero, suc, nat_lt, true, false, refl, ap, ◌∙◌, ℕ, ◌+◌, ◌<◌, ◌≤◌, List, [], ◌∷◌, ◌++◌, length, take, drop, sym, subst, append-nil, arith, Bool, Result, Ok, Err}
+use Rattle.std.proofs.Common.{◌≡◌, ◌⊎◌, inl, inr, zero, suc, nat_lt, true, false, refl, ap, ◌∙◌, ℕ, ◌+◌, ◌<◌, ◌≤◌, List}
+use Rattle.std.proofs.Common.{[], ◌∷◌, ◌++◌, length, take, drop, sym, subst, append-nil, arith, Bool, Result, Ok, Err}
 use Rattle.std.proofs.lemmas.Bool.{ltb-true, ltb-false}
 use Rattle.std.proofs.lemmas.List.{drop-drop, drop_all, take-append-drop, length-drop, length-take-le}
 use Rattle.mw_term.specs.declared.refusal.Refusal.{Refusal}
@@ -7,12 +8,14 @@ use Rattle.mw_term.specs.declared.refusal.Refusal.TheVariants.{Char}
 use Rattle.mw_lex.specs.Texts.{IsLongest, Spells, a_mark}
 use Rattle.mw_lex.specs.Tokens.{Symbol, PureToken, token, minus}
 use Rattle.mw_lex.specs.InOrder.{IsInRange}
-use Rattle.mw_lex.specs.Reading.{Reads, so_far, behind_blank, behind_comment, behind_token, AreTokens, IsFault, IsFirstFault}
+use Rattle.mw_lex.specs.Reading.{Reads, so_far, behind_blank, behind_comment, behind_token, AreTokens, IsFault}
+use Rattle.mw_lex.specs.Reading.{IsFirstFault}
 use Rattle.mw_term.specs.declared.refusal.Stop.{Stop}
 use Rattle.mw_term.specs.declared.refusal.Stop.TheVariants.{Refused, Memory}
 use Rattle.mw_term.specs.Stops.{IfRefused}
 use Rattle.mw_lex.specs.Lexing.{IsOfLexing}
-use Rattle.mw_lex.specs.Pieces.{Seen, gap, marked, run, strange, front, run_answer, next_to_last, last, opens_literal, Gives}
+use Rattle.mw_lex.specs.Pieces.{Seen, gap, marked, run, strange, front, run_answer, next_to_last, last, opens_literal}
+use Rattle.mw_lex.specs.Pieces.{Gives}
 use Rattle.mw_lex.specs.Steps.{IsRead}
 use Rattle.mw_lex.proofs.Tables.{mark_in_range}
 use Rattle.mw_lex.proofs.Ranges.{range_push}

@@ -1,5 +1,6 @@
 -- What holds of each text of the two tables.
-use Rattle.std.proofs.Common.{◌≡◌, ◌≢◌, inl, inr, ℕ, ◌≤◌, ◌==◌, nat_le, List, [], ◌∷◌, length, refl, sym, subst, Bool, true, false, not, cond, ◌&&◌, Some}
+use Rattle.std.proofs.Common.{◌≡◌, ◌≢◌, inl, inr, ℕ, ◌≤◌, ◌==◌, nat_le, List, [], ◌∷◌, length, refl, sym, subst, Bool}
+use Rattle.std.proofs.Common.{true, false, not, cond, ◌&&◌, Some}
 use Rattle.std.proofs.lemmas.Bool.{false≢true, eq-eqb, leb-true, and_parts, not-true}
 use Rattle.std.proofs.lemmas.Option.{none-some, same_Some}
 use Rattle.std.proofs.lemmas.Slice.Eq.{bytes_eq-Decides}

@@ -1,10 +1,16 @@
 -- Which texts may be a token's, and which symbols they spell.
-use Rattle.std.specs.Prelude.{◌≡◌, ◌≢◌, ◌⊎◌, ℕ, ◌+◌, ◌*◌, ◌-◌, ◌≤◌, List, [], ◌∷◌, ◌++◌, length, codes, Option, Some, None}
+use Rattle.std.specs.Prelude.{◌≡◌, ◌≢◌, ◌⊎◌, ℕ, ◌+◌, ◌*◌, ◌-◌, ◌≤◌, List, [], ◌∷◌, ◌++◌, length, codes, Option, Some}
+use Rattle.std.specs.Prelude.{None}
 use Rattle.std.specs.List.{AllByRecursion}
 use Rattle.std.specs.Map.{lookup}
 use Rattle.std.specs.Str.{bytes_eq}
 use Rattle.mw_lex.specs.Bytes.{IsDigit, IsWordByte}
-use Rattle.mw_lex.specs.Tokens.{Symbol, let_word, rec_word, in_word, fun_word, if_word, then_word, else_word, true_word, false_word, not_word, fst_word, snd_word, run_word, close_word, open_word, lift_word, lift_b_word, kernel_word, main_word, int_word, bool_word, mod_word, bracket_left, bracket_right, escape_mark, paren_left, paren_right, square_left, square_right, comma, arrow, item_end, colon, equal, less_equal, less, plus, minus, star, slash, and_mark, or_mark, word, number}
+use Rattle.mw_lex.specs.Tokens.{Symbol, let_word, rec_word, in_word, fun_word, if_word, then_word, else_word, true_word}
+use Rattle.mw_lex.specs.Tokens.{false_word, not_word, fst_word, snd_word, run_word, close_word, open_word, lift_word}
+use Rattle.mw_lex.specs.Tokens.{lift_b_word, kernel_word, main_word, int_word, bool_word, mod_word, bracket_left}
+use Rattle.mw_lex.specs.Tokens.{bracket_right, escape_mark, paren_left, paren_right, square_left, square_right, comma}
+use Rattle.mw_lex.specs.Tokens.{arrow, item_end, colon, equal, less_equal, less, plus, minus, star, slash, and_mark}
+use Rattle.mw_lex.specs.Tokens.{or_mark, word, number}
 
 abbrev pub reserved_words : List (List ℕ × Symbol)
 reserved_words = (codes "let", let_word) ∷ (codes "rec", rec_word) ∷ (codes "in", in_word) ∷ (codes "fun", fun_word) ∷ (codes "if", if_word) ∷ (codes "then", then_word) ∷ (codes "else", else_word)

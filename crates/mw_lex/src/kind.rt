@@ -2,7 +2,8 @@
 
 ghost use Rattle.std.specs.Prelude.{◌≡◌, ◌<◌, ◌≤◌, [], ◌++◌, length, IfOk, OnErr};
 ghost use Rattle.mw_lex.specs.Tokens.{tokens_of, symbol_of};
-ghost use Rattle.mw_lex.specs.Pieces.{run_answer, number_answer, word_answer, number_in, is_paren_left, is_minus, opens_literal, Gives};
+ghost use Rattle.mw_lex.specs.Pieces.{run_answer, number_answer, word_answer, number_in, is_paren_left, is_minus};
+ghost use Rattle.mw_lex.specs.Pieces.{opens_literal, Gives};
 
 use crate::byte::is_digit;
 use crate::text::{number, reserved};

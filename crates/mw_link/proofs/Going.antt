@@ -1,5 +1,6 @@
 -- How far the kernels are linked.
-use Rattle.std.proofs.Common.{◌≡◌, ℕ, suc, ◌+◌, ◌≤◌, ◌<◌, true, List, [], ◌∷◌, ◌++◌, length, refl, ap, ◌∙◌, sym, subst, arith, map, length-append, append_assoc}
+use Rattle.std.proofs.Common.{◌≡◌, ℕ, suc, ◌+◌, ◌≤◌, ◌<◌, true, List, [], ◌∷◌, ◌++◌, length, refl, ap, ◌∙◌, sym, subst}
+use Rattle.std.proofs.Common.{arith, map, length-append, append_assoc}
 use Rattle.std.specs.Prelude.{drop, get_or}
 use Rattle.std.specs.List.{AllByRecursion}
 use Rattle.std.proofs.lemmas.Bool.{le-leb}
@@ -18,7 +19,8 @@ use Rattle.mw_conv.specs.Convert.{functions, funs}
 use Rattle.mw_conv.proofs.Scopes.{functions_length}
 use Rattle.mw_gen.specs.Generate.{closure_type, function_for, more_types, two}
 use Rattle.mw_gen.proofs.Stores.{append_none}
-use Rattle.mw_link.specs.Linked.{Kernel, calls, count, init_name, call_exports, exports_from, all_functions, call_types, call_of_type, init_from, outer_functions}
+use Rattle.mw_link.specs.Linked.{Kernel, calls, count, init_name, call_exports, exports_from, all_functions, call_types}
+use Rattle.mw_link.specs.Linked.{call_of_type, init_from, outer_functions}
 use Rattle.mw_link.specs.LinkLaw.{IsLinkable, AreLinkable, LiteralsOfAllFit}
 use Rattle.mw_link.proofs.Placed.{calls_one, types_length}
 

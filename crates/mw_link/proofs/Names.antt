@@ -1,5 +1,6 @@
 -- Names of exports: those of different kernels differ, and each export is found under its name.
-use Rattle.std.proofs.Common.{◌≡◌, ℕ, zero, suc, ◌+◌, Bool, true, false, List, [], ◌∷◌, ◌++◌, length, Some, refl, ap, ◌∙◌, sym, subst, arith, length-append}
+use Rattle.std.proofs.Common.{◌≡◌, ℕ, zero, suc, ◌+◌, Bool, true, false, List, [], ◌∷◌, ◌++◌, length, Some, refl, ap}
+use Rattle.std.proofs.Common.{◌∙◌, sym, subst, arith, length-append}
 use Rattle.std.specs.Prelude.{slice_get, nat_eq, codes}
 use Rattle.std.specs.List.{AllByRecursion}
 use Rattle.std.specs.Cmp.Lexicographic.{pointwise, bytes_decides}

@@ -1,5 +1,6 @@
 -- Where the parts of kernels stand in the linked module.
-use Rattle.std.proofs.Common.{◌≡◌, ℕ, suc, ◌+◌, ◌≤◌, List, [], ◌∷◌, length, Some, refl, ap, ◌∙◌, subst, arith, map, option_map}
+use Rattle.std.proofs.Common.{◌≡◌, ℕ, suc, ◌+◌, ◌≤◌, List, [], ◌∷◌, length, Some, refl, ap, ◌∙◌, subst, arith, map}
+use Rattle.std.proofs.Common.{option_map}
 use Rattle.std.specs.Prelude.{slice_get}
 use Rattle.std.specs.List.{AllByRecursion}
 use Rattle.std.proofs.lemmas.List.{length-map}
@@ -24,7 +25,8 @@ use Rattle.mw_gen.proofs.Words.{get_append}
 use Rattle.mw_gen.proofs.Correct.{Fine, Sound, Carries}
 use Rattle.mw_gen.proofs.Valid.{Sees}
 use Rattle.mw_gen.proofs.Ranges.{fine, needs, seen, all_sound, outer_below}
-use Rattle.mw_link.specs.Linked.{Kernel, calls, all_functions, call_types, call_of_type, init_from, outer_functions, init_name, call_name, call_exports, exports_from, count, linked}
+use Rattle.mw_link.specs.Linked.{Kernel, calls, all_functions, call_types, call_of_type, init_from, outer_functions}
+use Rattle.mw_link.specs.Linked.{init_name, call_name, call_exports, exports_from, count, linked}
 use Rattle.mw_link.proofs.Whole.{IsWhole, AreWhole}
 use Rattle.mw_link.proofs.Positions.{AtFrom, at_start, at_after, at_front, at_back, both_all}
 

@@ -13,7 +13,8 @@ use Rattle.mw_conv.proofs.Ranges.{code_depth, lets_depth}
 use Rattle.mw_gen.specs.Generate.{two, function_for, wants_spare, spare_count, elements_of}
 use Rattle.mw_gen.proofs.Profile.{temps_two, expression_depth, locals_few, all_shallow, call_depth}
 use Rattle.mw_gen.proofs.Ranges.{shallow, all_modest}
-use Rattle.mw_link.specs.Linked.{Kernel, calls, call_of_type, outer_functions, call_exports, exports_from, count, linked}
+use Rattle.mw_link.specs.Linked.{Kernel, calls, call_of_type, outer_functions, call_exports, exports_from, count}
+use Rattle.mw_link.specs.Linked.{linked}
 use Rattle.mw_link.specs.LinkLaw.{LinkedIsWithinProfile}
 use Rattle.mw_link.proofs.Whole.{IsWhole, whole, AreWhole}
 use Rattle.mw_link.proofs.Positions.{both_all}

@@ -1,6 +1,7 @@
 -- Fewer than 2^32 bytes spell the linked module: of its closures, which alone may be long, there are as many as
 -- functions.
-use Rattle.std.proofs.Common.{◌≡◌, ℕ, suc, ◌+◌, ◌*◌, ◌^◌, ◌≤◌, ◌<◌, List, [], ◌∷◌, ◌++◌, length, Some, refl, arith, map, length-append}
+use Rattle.std.proofs.Common.{◌≡◌, ℕ, suc, ◌+◌, ◌*◌, ◌^◌, ◌≤◌, ◌<◌, List, [], ◌∷◌, ◌++◌, length, Some, refl, arith, map}
+use Rattle.std.proofs.Common.{length-append}
 use Rattle.std.specs.Prelude.{codes}
 use Rattle.std.specs.List.{AllByRecursion}
 use Rattle.std.proofs.lemmas.List.{length-map}
@@ -9,7 +10,8 @@ use Rattle.mw_term.specs.Terms.{Expression, KernelType, of_ground, to, size}
 use Rattle.mw_term.specs.Limits.{kernel_nodes}
 use Rattle.mw_wasm.specs.declared.modules.Exported.TheVariants.{Func}
 use Rattle.mw_wasm.specs.Pieces.{octet, items}
-use Rattle.mw_wasm.specs.BinaryModules.{function_code, function_type, function_kind, export, data_segment, section, wasm_module}
+use Rattle.mw_wasm.specs.BinaryModules.{function_code, function_type, function_kind, export, data_segment, section}
+use Rattle.mw_wasm.specs.BinaryModules.{wasm_module}
 use Rattle.mw_wasm.specs.Profile.{IsPrintable}
 use Rattle.mw_wasm.specs.Syntax.{Function, Exporting, end}
 use Rattle.mw_ir.specs.declared.place.Place.{Place}
@@ -22,17 +24,23 @@ use Rattle.mw_conv.proofs.Scopes.{functions_length}
 use Rattle.mw_conv.proofs.Ranges.{code_size, lets_depth}
 use Rattle.mw_gen.specs.Generate.{two, function_for, wants_spare, spare_count, more_types}
 use Rattle.mw_gen.proofs.Profile.{temps_two}
-use Rattle.mw_gen.proofs.Pieces.{SpelledWithin, within_then, within_more, within_byte, within_u32, within_sized, within_nil, within_vector, within_section, within_absent, customs_within, no_imports, header_within, closure_within, init_within, table_within, memory_within, globals_within, octet_within}
+use Rattle.mw_gen.proofs.Pieces.{SpelledWithin, within_then, within_more, within_byte, within_u32, within_sized}
+use Rattle.mw_gen.proofs.Pieces.{within_nil, within_vector, within_section, within_absent, customs_within, no_imports}
+use Rattle.mw_gen.proofs.Pieces.{header_within, closure_within, init_within, table_within, memory_within}
+use Rattle.mw_gen.proofs.Pieces.{globals_within, octet_within}
 use Rattle.mw_gen.proofs.Spelled.{expression_within, breadth, expression_width, Near, expression_fit}
-use Rattle.mw_gen.proofs.Spelling.{CanSpell, total, locals_within, func_within, call_within, call_type_within, leaves_few, elements_within}
+use Rattle.mw_gen.proofs.Spelling.{CanSpell, total, locals_within, func_within, call_within, call_type_within}
+use Rattle.mw_gen.proofs.Spelling.{leaves_few, elements_within}
 use Rattle.mw_gen.proofs.Ranges.{near, narrow, all_spelled, outer_near}
 use Rattle.mw_gen.specs.EmissionLaw.{SpelledShort}
-use Rattle.mw_link.specs.Linked.{Kernel, calls, all_functions, call_types, call_of_type, init_from, outer_functions, init_name, call_name, call_exports, exports_from, count, linked}
+use Rattle.mw_link.specs.Linked.{Kernel, calls, all_functions, call_types, call_of_type, init_from, outer_functions}
+use Rattle.mw_link.specs.Linked.{init_name, call_name, call_exports, exports_from, count, linked}
 use Rattle.mw_link.specs.LinkLaw.{LinkedIsSpelled}
 use Rattle.mw_link.proofs.Whole.{IsWhole, AreWhole, whole}
 use Rattle.mw_link.proofs.Positions.{both_all}
 use Rattle.mw_link.proofs.Profile.{init_end, call_end}
-use Rattle.mw_link.proofs.Placed.{calls_one, T, Placed, all_placed, placed_next, Here, placed_here, proper, few, body_range, body_fine, body_needs, body_sees}
+use Rattle.mw_link.proofs.Placed.{calls_one, T, Placed, all_placed, placed_next, Here, placed_here, proper, few}
+use Rattle.mw_link.proofs.Placed.{body_range, body_fine, body_needs, body_sees}
 
 -- the closures that code makes
 abbrev closures : Ir → ℕ

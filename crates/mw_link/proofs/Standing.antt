@@ -27,7 +27,8 @@ use Rattle.mw_link.specs.LinkLaw.{Reached, begun, gone, CallsMean, MeansKernel, 
 use Rattle.mw_link.proofs.Whole.{IsWhole, AreWhole, whole}
 use Rattle.mw_wasm.proofs.StoreShape.{ended_fits, stores_keep_shape}
 use Rattle.mw_link.proofs.Names.{names_differ, found}
-use Rattle.mw_link.proofs.Placed.{T, Placed, all_placed, placed_next, Here, placed_here, CallPlaced, carries, sound, body, body_fine, body_needs}
+use Rattle.mw_link.proofs.Placed.{T, Placed, all_placed, placed_next, Here, placed_here, CallPlaced, carries, sound}
+use Rattle.mw_link.proofs.Placed.{body, body_fine, body_needs}
 use Rattle.mw_link.proofs.Valid.{valid_whole}
 
 -- a memory of 64 pages keeps no words, whatever its bytes are

@@ -8,7 +8,8 @@ use Rattle.mw_wasm.specs.declared.numbers.IntOp.TheVariants as op
 use Rattle.mw_wasm.specs.declared.numbers.NumOp.TheVariants as number
 use Rattle.mw_wasm.specs.declared.numbers.LoadOp.TheVariants as load_op
 use Rattle.mw_wasm.specs.declared.numbers.StoreOp.TheVariants as store_op
-use Rattle.mw_wasm.specs.Syntax.{Instruction, Code, end, next, loop, cond, br, call_indirect, local_get, local_set, local_tee, global_get, global_set, load, store, const_i32, const_i64, numeric}
+use Rattle.mw_wasm.specs.Syntax.{Instruction, Code, end, next, loop, cond, br, call_indirect, local_get, local_set}
+use Rattle.mw_wasm.specs.Syntax.{local_tee, global_get, global_set, load, store, const_i32, const_i64, numeric}
 use Rattle.mw_wasm.specs.declared.values.Value.TheVariants.{I64 as V64}
 use Rattle.mw_wasm.specs.Store.{Store}
 use Rattle.mw_wasm.specs.Execution.{ended, spent}

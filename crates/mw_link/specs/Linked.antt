@@ -9,7 +9,8 @@ use Rattle.mw_meaning.specs.Shapes.{init_type}
 use Rattle.mw_ir.specs.declared.place.Place.TheVariants.{Argument}
 use Rattle.mw_ir.specs.Ir.{IrFunc}
 use Rattle.mw_conv.specs.Convert.{funs, lets, code, functions}
-use Rattle.mw_gen.specs.Generate.{two, function_for, init_function, restarting, call_numbered, closure_type, more_types, heap_end, elements_of}
+use Rattle.mw_gen.specs.Generate.{two, function_for, init_function, restarting, call_numbered, closure_type, more_types}
+use Rattle.mw_gen.specs.Generate.{heap_end, elements_of}
 
 -- a kernel: its name, its code and its type
 pub record Kernel : Type 0 where

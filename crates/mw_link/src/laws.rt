@@ -2,7 +2,8 @@
 
 ghost use Rattle.mw_link.specs.LinkLaw.{LinkedIsSpelled, LinkedIsValid, LinkedIsWithinProfile, LinkedMeansAll};
 ghost use Rattle.mw_link.specs.Moved.{MovedIsNumbered};
-ghost use Rattle.mw_link.specs.Examples.{SevenIsLinked, SevenHas70Bytes, TwoAreLinked, TwoHaveTheseBytes, NoneIsLinked, OneAfterTheOther};
+ghost use Rattle.mw_link.specs.Examples.{SevenIsLinked, SevenHas70Bytes, TwoAreLinked, TwoHaveTheseBytes, NoneIsLinked};
+ghost use Rattle.mw_link.specs.Examples.{OneAfterTheOther};
 
 /// Worked examples.
 pub fn example_modules_are_linked()

@@ -4,7 +4,8 @@ use Rattle.std.specs.Prelude.{slice_get}
 use Rattle.mw_term.specs.Limits.{within_limits}
 use Rattle.mw_term.specs.Programs.{Definition, value as defines, kernel, value_of_definition}
 use Rattle.mw_term.specs.Terms.{Expression, Value, KernelType, num, truth, fun, fix, pair, code}
-use Rattle.mw_meaning.specs.Outcomes.{Outcome, came_to, trapped, bounded, stuck, measured_code, code_outcome, value_for_items, names_of_items}
+use Rattle.mw_meaning.specs.Outcomes.{Outcome, came_to, trapped, bounded, stuck, measured_code, code_outcome}
+use Rattle.mw_meaning.specs.Outcomes.{value_for_items, names_of_items}
 use Rattle.mw_meaning.specs.Arithmetic.{trap, bound, stuck as no_rule}
 use Rattle.mw_meaning.specs.StagedMeaning.{Answer, gives, stops, Runs, staged}
 use Rattle.mw_meaning.specs.TypingLaws.{IfGives}

@@ -6,20 +6,27 @@ use Rattle.std.proofs.lemmas.Bool.{ltb-true}
 use Rattle.mw_lex.specs.Tokens.{PureToken}
 use Rattle.mw_term.specs.Terms.{Expression}
 use Rattle.mw_term.specs.Programs.{Definition}
-use Rattle.mw_grammar.specs.SurfaceTrees.{SurfaceTree, num, truth, used, fun, fix, app, bind, cond, pair, fst, snd, prim}
+use Rattle.mw_grammar.specs.SurfaceTrees.{SurfaceTree, num, truth, used, fun, fix, app, bind, cond, pair, fst, snd}
+use Rattle.mw_grammar.specs.SurfaceTrees.{prim}
 use Rattle.mw_grammar.specs.SurfaceTrees.{bracket, escape, run, close, opened, lift, lift_b, PureItem}
 use Rattle.mw_grammar.specs.SurfaceDepth.{bound_tree}
 use Rattle.mw_grammar.specs.SourceNodes.{Nodes}
-use Rattle.mw_grammar.specs.Grammar.{Row, Nonterminal, program, item, parameter, body, tree, kernel_type, ground, part, base}
+use Rattle.mw_grammar.specs.Grammar.{Row, Nonterminal, program, item, parameter, body, tree, kernel_type, ground, part}
+use Rattle.mw_grammar.specs.Grammar.{base}
 use Rattle.mw_grammar.specs.Grammar.{define, abstract, positive, negative, Meaning, Reads, More}
-use Rattle.mw_grammar.specs.Grammar.{fst_head, snd_head, not_head, close_head, open_head, lift_head, lift_b_head, m_end, m_sign, m_argument}
-use Rattle.mw_grammar.specs.Grammar.{r_main, r_program, r_let_item, r_rec_item, r_kernel, r_let, r_let_rec, r_fun, r_if, r_expr, r_parameter, r_body, r_mark}
-use Rattle.mw_grammar.specs.Grammar.{r_or, r_disjunction, r_and, r_conjunction, r_compare, r_comparison, r_row, r_head, r_run, r_atom, r_name, r_number}
+use Rattle.mw_grammar.specs.Grammar.{fst_head, snd_head, not_head, close_head, open_head, lift_head, lift_b_head, m_end}
+use Rattle.mw_grammar.specs.Grammar.{m_sign, m_argument}
+use Rattle.mw_grammar.specs.Grammar.{r_main, r_program, r_let_item, r_rec_item, r_kernel, r_let, r_let_rec, r_fun, r_if}
+use Rattle.mw_grammar.specs.Grammar.{r_expr, r_parameter, r_body, r_mark}
+use Rattle.mw_grammar.specs.Grammar.{r_or, r_disjunction, r_and, r_conjunction, r_compare, r_comparison, r_row, r_head}
+use Rattle.mw_grammar.specs.Grammar.{r_run, r_atom, r_name, r_number}
 use Rattle.mw_grammar.specs.Grammar.{r_true, r_false, r_minus, r_paren, r_pair}
-use Rattle.mw_grammar.specs.Grammar.{r_bracket, r_escape, r_ground_kernel, r_arrow, r_star, r_part, r_base_part, r_ground_paren, r_int, r_bool}
+use Rattle.mw_grammar.specs.Grammar.{r_bracket, r_escape, r_ground_kernel, r_arrow, r_star, r_part, r_base_part}
+use Rattle.mw_grammar.specs.Grammar.{r_ground_paren, r_int, r_bool}
 use Rattle.mw_scope.specs.declared.level.Level.{Level}
 use Rattle.mw_scope.specs.Scopes.{Binder, TopNames}
-use Rattle.mw_scope.specs.Nameless.{Nameless, n_num, n_truth, n_var, n_glob, n_fun, n_fix, n_app, n_bind, n_cond, n_pair, n_fst, n_snd, n_prim}
+use Rattle.mw_scope.specs.Nameless.{Nameless, n_num, n_truth, n_var, n_glob, n_fun, n_fix, n_app, n_bind, n_cond}
+use Rattle.mw_scope.specs.Nameless.{n_pair, n_fst, n_snd, n_prim}
 use Rattle.mw_scope.specs.Nameless.{n_bracket, n_escape, n_run, n_close, n_open, n_lift, n_lift_b}
 use Rattle.mw_scope.specs.Nameless.{NamelessItem, a_let, a_kernel, NamelessItems, no_item, an_item}
 use Rattle.mw_literals.specs.Literals.{HasShortLiterals, HasShortDefinition, AreShortDefinitions}

@@ -4,7 +4,8 @@ use Rattle.std.specs.Prelude.{slice_get}
 use Rattle.mw_term.specs.Limits.{within_limits}
 use Rattle.mw_term.specs.Terms.{Expression, Value, KernelValue, KernelType, of_ground, to}
 use Rattle.mw_term.specs.Terms.{num, truth, var, glob, fun, fix, app, bind, cond, pair, fst, snd, prim}
-use Rattle.mw_term.specs.Terms.{bracket, escape, run, close, opened, lift, lift_b, done, int, bool, both, function, recursive, code, kept, size}
+use Rattle.mw_term.specs.Terms.{bracket, escape, run, close, opened, lift, lift_b, done, int, bool, both, function}
+use Rattle.mw_term.specs.Terms.{recursive, code, kept, size}
 use Rattle.mw_term.specs.declared.term.Primitive.{Primitive as Prim}
 use Rattle.mw_term.specs.Substitution.{substitute, shift_value}
 use Rattle.mw_term.proofs.Substituting.{size-substitute}
@@ -13,9 +14,12 @@ use Rattle.mw_meaning.specs.Arithmetic.{PrimitiveResult, number, fact, trapped, 
 use Rattle.mw_meaning.specs.KernelMeaning.{Ended, gives as made, stops as ends, kernel_meaning}
 use Rattle.mw_meaning.specs.Simplification.{in_mode}
 use Rattle.mw_meaning.specs.StagedMeaning.{Answer, gives, stops, and_then, Level, live, quoted, ResultAt, Runs}
-use Rattle.mw_meaning.specs.StagedMeaning.{value_or_stuck, spends, applied, chosen, first_of_two, second_of_two, result_of}
-use Rattle.mw_meaning.specs.StagedMeaning.{computed, lifted, lifted_b, spliced, measured, measured_run, live_step, quoted_step, evaluation}
-use Rattle.mw_meaning.specs.StagedMeaning.{kernel_argument, ground_result, argument_words, run_ended, call_ended, run_of, call_of, outside, staged}
+use Rattle.mw_meaning.specs.StagedMeaning.{value_or_stuck, spends, applied, chosen, first_of_two, second_of_two}
+use Rattle.mw_meaning.specs.StagedMeaning.{result_of}
+use Rattle.mw_meaning.specs.StagedMeaning.{computed, lifted, lifted_b, spliced, measured, measured_run, live_step}
+use Rattle.mw_meaning.specs.StagedMeaning.{quoted_step, evaluation}
+use Rattle.mw_meaning.specs.StagedMeaning.{kernel_argument, ground_result, argument_words, run_ended, call_ended}
+use Rattle.mw_meaning.specs.StagedMeaning.{run_of, call_of, outside, staged}
 use Rattle.mw_meaning.specs.TypingLaws.{IfGives}
 use Rattle.mw_meaning.proofs.Inductions.{staged_induction}
 use Rattle.mw_meaning.proofs.Outsides.{fair, staged_is}

@@ -1,7 +1,9 @@
 -- Moving and replacing variables keeps integers of 64 bits.
 use Rattle.std.proofs.Common.{ℕ, zero, suc}
-use Rattle.mw_term.specs.Terms.{Expression, Value, num, truth, var, glob, fun, fix, app, bind, cond, pair, fst, snd, prim}
-use Rattle.mw_term.specs.Terms.{bracket, escape, run, close, opened, lift, lift_b, done, int, bool, both, function, recursive, code, kept}
+use Rattle.mw_term.specs.Terms.{Expression, Value, num, truth, var, glob, fun, fix, app, bind, cond, pair, fst, snd}
+use Rattle.mw_term.specs.Terms.{prim}
+use Rattle.mw_term.specs.Terms.{bracket, escape, run, close, opened, lift, lift_b, done, int, bool, both, function}
+use Rattle.mw_term.specs.Terms.{recursive, code, kept}
 use Rattle.mw_term.specs.Substitution.{pick, shift, shift_value, substitute, substitute_value}
 use Rattle.mw_literals.specs.Literals.{HasShortLiterals, HasShortValue}
 

@@ -1,8 +1,10 @@
 -- Terms and values whose integers all have 64 bits.
 use Rattle.std.specs.Prelude.{List, [], ◌∷◌, FitsSigned}
 use Rattle.std.specs.Int.{w64}
-use Rattle.mw_term.specs.Terms.{Expression, Value, KernelTerm, KernelValue, num, truth, var, glob, fun, fix, app, bind, cond, pair, fst, snd, prim}
-use Rattle.mw_term.specs.Terms.{bracket, escape, run, close, opened, lift, lift_b, done, int, bool, both, function, recursive, code, kept}
+use Rattle.mw_term.specs.Terms.{Expression, Value, KernelTerm, KernelValue, num, truth, var, glob, fun, fix, app, bind}
+use Rattle.mw_term.specs.Terms.{cond, pair, fst, snd, prim}
+use Rattle.mw_term.specs.Terms.{bracket, escape, run, close, opened, lift, lift_b, done, int, bool, both, function}
+use Rattle.mw_term.specs.Terms.{recursive, code, kept}
 use Rattle.mw_term.specs.Programs.{Definition, value, kernel, PureProgram}
 
 -- each integer in a kernel's term, or in a kernel's value, has 64 bits

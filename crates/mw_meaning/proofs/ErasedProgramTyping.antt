@@ -1,19 +1,24 @@
 -- The erased program of a typable program is typable.
-use Rattle.std.proofs.Common.{◌≡◌, ℕ, zero, suc, ◌+◌, ◌<◌, List, [], ◌∷◌, length, Some, refl, ap, ◌∙◌, sym, subst, arith}
+use Rattle.std.proofs.Common.{◌≡◌, ℕ, zero, suc, ◌+◌, ◌<◌, List, [], ◌∷◌, length, Some, refl, ap, ◌∙◌, sym, subst}
+use Rattle.std.proofs.Common.{arith}
 use Rattle.std.specs.Prelude.{slice_get}
-use Rattle.mw_term.specs.Terms.{Expression, KernelType, num, truth, var, glob, fun, fix, app, bind, cond, pair, fst, snd, prim, bracket, escape, run, close, opened, lift, lift_b, done}
+use Rattle.mw_term.specs.Terms.{Expression, KernelType, num, truth, var, glob, fun, fix, app, bind, cond, pair, fst}
+use Rattle.mw_term.specs.Terms.{snd, prim, bracket, escape, run, close, opened, lift, lift_b, done}
 use Rattle.mw_term.specs.Sources.{IsSource}
 use Rattle.mw_term.specs.Types.{TermType, live, Entry, value, ground_type, kernel_type}
 use Rattle.mw_term.specs.Typing.{TopLevel, let_item, kernel_item, Typed, t_bind}
 use Rattle.mw_term.specs.Typable.{seen_by_item, seen_by_main, IsTypableItem, Typable}
 use Rattle.mw_term.specs.Programs.{Definition, value as defines, kernel, PureProgram, IsSyntacticValue}
-use Rattle.mw_meaning.specs.PlainTerms.{PlainTerm, num, truth, var, glob, fun, fix, app, bind, cond, pair, fst, snd, prim}
+use Rattle.mw_meaning.specs.PlainTerms.{PlainTerm, num, truth, var, glob, fun, fix, app, bind, cond, pair, fst, snd}
+use Rattle.mw_meaning.specs.PlainTerms.{prim}
 use Rattle.mw_meaning.specs.Erasure.{plain, term_of}
-use Rattle.mw_meaning.specs.ErasedPrograms.{Naming, renamed, kernels_in, name_in, lets_of, inside_lets, AreSourceItems, IsSourceProgram}
+use Rattle.mw_meaning.specs.ErasedPrograms.{Naming, renamed, kernels_in, name_in, lets_of, inside_lets, AreSourceItems}
+use Rattle.mw_meaning.specs.ErasedPrograms.{IsSourceProgram}
 use Rattle.mw_meaning.specs.ErasureLaws.{ErasedProgramIsTypable}
 use Rattle.mw_meaning.proofs.SettingValues.{seen_by_item-let, seen_by_main-let, seen_by_main-kernel}
 use Rattle.mw_meaning.proofs.OtherPlaces.{no_kernel}
-use Rattle.mw_meaning.proofs.ErasedTyping.{plain_type, plain_type-kernel_type, plain_type-ground_type, AllNames, names_typed, LetStays, KernelStays, erased_typed}
+use Rattle.mw_meaning.proofs.ErasedTyping.{plain_type, plain_type-kernel_type, plain_type-ground_type, AllNames}
+use Rattle.mw_meaning.proofs.ErasedTyping.{names_typed, LetStays, KernelStays, erased_typed}
 
 -- item i is a let
 abbrev pub IsLetOf : List Definition → ℕ → Type 0

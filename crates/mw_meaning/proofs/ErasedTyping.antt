@@ -1,14 +1,19 @@
 -- Erasure keeps types: code types are dropped, and each variable is of level 0.
-use Rattle.std.proofs.Common.{◌≡◌, ℕ, zero, suc, ◌+◌, List, [], ◌∷◌, ◌++◌, length, Some, refl, ap, ◌∙◌, sym, subst, arith}
+use Rattle.std.proofs.Common.{◌≡◌, ℕ, zero, suc, ◌+◌, List, [], ◌∷◌, ◌++◌, length, Some, refl, ap, ◌∙◌, sym, subst}
+use Rattle.std.proofs.Common.{arith}
 use Rattle.std.specs.Prelude.{slice_get}
 use Rattle.mw_term.specs.Terms.{Expression, KernelType, GroundType, base, product, of_ground, to, var, glob}
 use Rattle.mw_term.specs.declared.term.Base.{Base}
 use Rattle.mw_term.specs.declared.term.Base.TheVariants.{Int, Bool as Truth}
 use Rattle.mw_term.specs.declared.term.Primitive.{Primitive as Prim}
 use Rattle.mw_term.specs.declared.term.Primitive.TheVariants.{Add, Sub, Mul, Div, Mod, Eq, Lt, Le}
-use Rattle.mw_term.specs.Types.{TermType, int_type, bool_type, pair_type, function_type, code_type, closed_type, Level, live, under, Entry, value, quoted, entry, IsPlain, base_type, ground_type, kernel_type, primitive_type}
+use Rattle.mw_term.specs.Types.{TermType, int_type, bool_type, pair_type, function_type, code_type, closed_type, Level}
+use Rattle.mw_term.specs.Types.{live, under, Entry, value, quoted, entry, IsPlain, base_type, ground_type, kernel_type}
+use Rattle.mw_term.specs.Types.{primitive_type}
 use Rattle.mw_term.specs.Sources.{IsSource}
-use Rattle.mw_term.specs.Typing.{TopLevel, let_item, kernel_item, Typed, t_num, t_truth, t_var, t_let, t_kernel, t_fun, t_fix, t_app, t_bind, t_cond, t_pair, t_fst, t_snd, t_prim, t_bracket, t_escape, t_run, t_close, t_open, t_lift, t_lift_b, t_done}
+use Rattle.mw_term.specs.Typing.{TopLevel, let_item, kernel_item, Typed, t_num, t_truth, t_var, t_let, t_kernel, t_fun}
+use Rattle.mw_term.specs.Typing.{t_fix, t_app, t_bind, t_cond, t_pair, t_fst, t_snd, t_prim, t_bracket, t_escape, t_run}
+use Rattle.mw_term.specs.Typing.{t_close, t_open, t_lift, t_lift_b, t_done}
 use Rattle.mw_term.proofs.MovedCode.{Fits-plain}
 use Rattle.mw_meaning.specs.PlainTerms.{var, glob}
 use Rattle.mw_meaning.specs.Erasure.{plain, term_of}

@@ -1,15 +1,20 @@
 -- What the functions that erase need.
-use Rattle.std.proofs.Common.{◌≡◌, ℕ, zero, suc, ◌+◌, ◌*◌, ◌^◌, ◌<◌, ◌≤◌, length, arith, List, [], ◌∷◌, refl, ap, ◌∙◌, sym, Result, Ok, Err, IfOk, Some, None}
+use Rattle.std.proofs.Common.{◌≡◌, ℕ, zero, suc, ◌+◌, ◌*◌, ◌^◌, ◌<◌, ◌≤◌, length, arith, List, [], ◌∷◌, refl, ap, ◌∙◌}
+use Rattle.std.proofs.Common.{sym, Result, Ok, Err, IfOk, Some, None}
 use Rattle.std.specs.Prelude.{slice_get, get_or}
 use Rattle.std.proofs.lemmas.Option.{slice_get_read}
 use Rattle.mw_term.specs.Terms.{Expression, GroundType, size}
-use Rattle.mw_term.specs.Programs.{Definition, definition_of, value as defines, kernel, PureProgram, definition_size, definitions_size, program_size}
-use Rattle.mw_meaning.specs.PlainTerms.{PlainTerm, num, truth, var, glob, fun, fix, app, bind, cond, pair, fst, snd, prim}
+use Rattle.mw_term.specs.Programs.{Definition, definition_of, value as defines, kernel, PureProgram, definition_size}
+use Rattle.mw_term.specs.Programs.{definitions_size, program_size}
+use Rattle.mw_meaning.specs.PlainTerms.{PlainTerm, num, truth, var, glob, fun, fix, app, bind, cond, pair, fst, snd}
+use Rattle.mw_meaning.specs.PlainTerms.{prim}
 use Rattle.mw_meaning.specs.Erasure.{plain, term_of}
-use Rattle.mw_meaning.specs.ErasedPrograms.{renamed, name_in, lets_of, inside_lets, erased_program, kernels_in, AllNames, HasBoundItems, HasBoundNames}
+use Rattle.mw_meaning.specs.ErasedPrograms.{renamed, name_in, lets_of, inside_lets, erased_program, kernels_in}
+use Rattle.mw_meaning.specs.ErasedPrograms.{AllNames, HasBoundItems, HasBoundNames}
 use Rattle.mw_term.specs.declared.program.Item.{Item}
 use Rattle.mw_meaning.specs.declared.erasing.NewName.TheVariants.{Let, Kernel}
-use Rattle.mw_meaning.specs.NewNames.{new_name, naming_of, new_names, inside_terms, most_behind, HasRoom, HaveRoom, definitions}
+use Rattle.mw_meaning.specs.NewNames.{new_name, naming_of, new_names, inside_terms, most_behind, HasRoom, HaveRoom}
+use Rattle.mw_meaning.specs.NewNames.{definitions}
 use Rattle.mw_meaning.proofs.StagedFixedPoint.{size_positive}
 use Rattle.mw_meaning.specs.declared.erasing.NewName.{NewName}
 

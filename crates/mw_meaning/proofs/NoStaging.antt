@@ -1,7 +1,8 @@
 -- The erased program has no staging.
 use Rattle.std.proofs.Common.{zero, List, [], ◌∷◌}
 use Rattle.mw_term.specs.Programs.{Definition, value as defines, kernel}
-use Rattle.mw_meaning.specs.PlainTerms.{PlainTerm, num, truth, var, glob, fun, fix, app, bind, cond, pair, fst, snd, prim}
+use Rattle.mw_meaning.specs.PlainTerms.{PlainTerm, num, truth, var, glob, fun, fix, app, bind, cond, pair, fst, snd}
+use Rattle.mw_meaning.specs.PlainTerms.{prim}
 use Rattle.mw_meaning.specs.Erasure.{plain, term_of}
 use Rattle.mw_meaning.specs.ErasedPrograms.{Naming, renamed, name_in, lets_of, inside_lets, HasNoStaging}
 use Rattle.mw_meaning.specs.ErasureLaws.{AreWithoutStaging, ErasedProgramHasNoStaging}

@@ -1,7 +1,8 @@
 -- A module that stands for code of its kernel type is not stray.
 use Rattle.std.proofs.Common.{◌≡◌, ℕ, inl, inr, true, false, List, [], ◌∷◌, Some, Ok, refl, subst, arith, length-append}
 use Rattle.std.specs.Prelude.{codes}
-use Rattle.mw_term.specs.Terms.{Expression, Value, KernelValue, GroundType, KernelType, base, product, of_ground, to, int, bool, both, function, recursive}
+use Rattle.mw_term.specs.Terms.{Expression, Value, KernelValue, GroundType, KernelType, base, product, of_ground, to}
+use Rattle.mw_term.specs.Terms.{int, bool, both, function, recursive}
 use Rattle.mw_term.specs.declared.term.Base.TheVariants.{Int, Bool as Truth}
 use Rattle.mw_term.specs.declared.value.TrapKind.TheVariants as kind
 use Rattle.mw_term.specs.declared.value.Limit.TheVariants.{Fuel, Heap, KernelSize}
@@ -19,7 +20,8 @@ use Rattle.mw_meaning.specs.Arithmetic.{trap, bound, stuck}
 use Rattle.mw_meaning.specs.KernelMeaning.{Ended, gives, stops, kernel_meaning}
 use Rattle.mw_meaning.specs.StagedMeaning.{kernel_argument, argument_words, call_of}
 use Rattle.mw_meaning.specs.TypingLaws.{IfMakes}
-use Rattle.mw_meaning.specs.StandingFor.{IsWord, AnswersAs, IsArgument, leaves, Call, AreCalls, IfEnded, CallsAnswer, CallsAfter, MeansKernel}
+use Rattle.mw_meaning.specs.StandingFor.{IsWord, AnswersAs, IsArgument, leaves, Call, AreCalls, IfEnded, CallsAnswer}
+use Rattle.mw_meaning.specs.StandingFor.{CallsAfter, MeansKernel}
 use Rattle.mw_meaning.specs.Shapes.{IsWordOf, IsWordOfKernel, IsStrayEnd, EndStray, here, later, in_init, in_call}
 use Rattle.mw_meaning.specs.ShapeLaws.{StandingIsNotStray, LeavesAreCounted}
 use Rattle.mw_meaning.proofs.KernelTyping.{KernelSafe, Has, none, closed_code_safe, kernel_call_safe, safe_makes}

@@ -1,7 +1,8 @@
 -- The erased program: its lets are the program's, numbered among themselves, and its kernels are lets round main.
 use Rattle.std.specs.Prelude.{ℕ, zero, suc, ◌+◌, ◌<◌, ◌≡◌, length, map, List, [], ◌∷◌}
 use Rattle.std.specs.List.{flat_map}
-use Rattle.mw_term.specs.Terms.{Expression, Value, PureGroundValue, num, truth, var, glob, fun, fix, app, bind, cond, pair, fst, snd, prim}
+use Rattle.mw_term.specs.Terms.{Expression, Value, PureGroundValue, num, truth, var, glob, fun, fix, app, bind, cond}
+use Rattle.mw_term.specs.Terms.{pair, fst, snd, prim}
 use Rattle.mw_term.specs.Sources.{IsSource}
 use Rattle.mw_term.specs.Programs.{Definition, value as defines, kernel, PureProgram}
 use Rattle.mw_term.specs.declared.program.Item.{Item}
@@ -10,7 +11,8 @@ use Rattle.mw_term.specs.declared.program.ItemKind.TheVariants.{Value as ValueIt
 use Rattle.mw_meaning.specs.declared.mode.Mode.{Mode}
 use Rattle.mw_meaning.specs.declared.mode.Mode.TheVariants.{Plain}
 use Rattle.mw_meaning.specs.Outcomes.{Outcome, came_to, item_outcome, main_outcome, names_of_items, names_of_main}
-use Rattle.mw_meaning.specs.PlainTerms.{PlainTerm, num, truth, var, glob, fun, fix, app, bind, cond, pair, fst, snd, prim}
+use Rattle.mw_meaning.specs.PlainTerms.{PlainTerm, num, truth, var, glob, fun, fix, app, bind, cond, pair, fst, snd}
+use Rattle.mw_meaning.specs.PlainTerms.{prim}
 use Rattle.mw_meaning.specs.Erasure.{plain, term_of}
 
 -- what a name becomes: the term for item i's name under d binders

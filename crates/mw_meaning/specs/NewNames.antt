@@ -1,5 +1,6 @@
 -- What top-level names become, as data.
-use Rattle.std.specs.Prelude.{ℕ, ◌≡◌, ◌<◌, ◌++◌, ◌+◌, ◌*◌, ◌^◌, max, map, zero, suc, List, [], ◌∷◌, Option, Some, None, slice_get}
+use Rattle.std.specs.Prelude.{ℕ, ◌≡◌, ◌<◌, ◌++◌, ◌+◌, ◌*◌, ◌^◌, max, map, zero, suc, List, [], ◌∷◌, Option, Some, None}
+use Rattle.std.specs.Prelude.{slice_get}
 use Rattle.mw_term.specs.Terms.{Expression, bind}
 use Rattle.mw_term.specs.Programs.{Definition, value as defines, kernel, definition_of, definition_size}
 use Rattle.mw_term.specs.declared.program.Item.{Item}

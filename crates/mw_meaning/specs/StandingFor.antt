@@ -1,7 +1,8 @@
 -- When a module of WebAssembly means a kernel's code.
 use Rattle.std.specs.Prelude.{ℕ, ◌+◌, ◌≡◌, FitsSigned, Bool, true, false, IsTrue, List, [], ◌∷◌, ◌++◌, Some, Ok, codes}
 use Rattle.std.specs.Int.{w64, cast_unsigned}
-use Rattle.mw_term.specs.Terms.{Expression, Value, KernelValue, KernelType, GroundType, base, product, of_ground, to, int, bool, both, function, recursive}
+use Rattle.mw_term.specs.Terms.{Expression, Value, KernelValue, KernelType, GroundType, base, product, of_ground, to}
+use Rattle.mw_term.specs.Terms.{int, bool, both, function, recursive}
 use Rattle.mw_term.specs.declared.term.Base.TheVariants.{Int, Bool as Truth}
 use Rattle.mw_term.specs.declared.value.TrapKind.TheVariants as kind
 use Rattle.mw_term.specs.declared.value.Limit.TheVariants.{Fuel, Heap}

@@ -1,6 +1,7 @@
 -- Worked examples of typing: derivations, and terms that have none.
 use Rattle.std.specs.Prelude.{ℕ, ◌≡◌, ◌≢◌, pos, negsuc, true, List, [], ◌∷◌}
-use Rattle.mw_term.specs.Terms.{Expression, GroundType, base, num, truth, var, glob, fun, fix, app, bind, cond, pair, snd, prim, bracket, escape, run, close, opened, int, bool, function, code, kept}
+use Rattle.mw_term.specs.Terms.{Expression, GroundType, base, num, truth, var, glob, fun, fix, app, bind, cond, pair}
+use Rattle.mw_term.specs.Terms.{snd, prim, bracket, escape, run, close, opened, int, bool, function, code, kept}
 use Rattle.mw_term.specs.declared.term.Base.TheVariants.{Int}
 use Rattle.mw_term.specs.declared.term.Primitive.TheVariants.{Add, Sub, Mul, Eq}
 use Rattle.mw_term.specs.declared.value.Limit.TheVariants.{Fuel}

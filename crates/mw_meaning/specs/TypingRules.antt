@@ -1,6 +1,7 @@
 -- A term that each typing rule accepts, and one that it refuses.
 use Rattle.std.specs.Prelude.{true, false, []}
-use Rattle.mw_term.specs.Terms.{Expression, base, to, truth, var, glob, fun, fix, app, bind, cond, pair, fst, prim, bracket, escape, run, close, opened, lift, lift_b}
+use Rattle.mw_term.specs.Terms.{Expression, base, to, truth, var, glob, fun, fix, app, bind, cond, pair, fst, prim}
+use Rattle.mw_term.specs.Terms.{bracket, escape, run, close, opened, lift, lift_b}
 use Rattle.mw_term.specs.declared.term.Base.TheVariants.{Int, Bool}
 use Rattle.mw_term.specs.declared.term.Primitive.TheVariants.{Add, Eq, Lt}
 use Rattle.mw_term.specs.Types.{TermType, int_type, bool_type, function_type, code_type, closed_type, live}

@@ -4,7 +4,8 @@ ghost use Rattle.std.specs.Prelude.{◌≡◌, ◌+◌, ◌++◌, ◌<◌, ◌�
 ghost use Rattle.mw_term.specs.Terms.{expression_of, size};
 ghost use Rattle.mw_term.specs.Programs.{definition_of, definition_size, program_of, program_size};
 ghost use Rattle.mw_term.specs.Typable.{Typable};
-ghost use Rattle.mw_meaning.specs.ErasedPrograms.{kernels_in, lets_of, erased_program, item_names, let_names, HasBoundNames, IsSourceProgram};
+ghost use Rattle.mw_meaning.specs.ErasedPrograms.{kernels_in, lets_of, erased_program, item_names, let_names};
+ghost use Rattle.mw_meaning.specs.ErasedPrograms.{HasBoundNames, IsSourceProgram};
 ghost use Rattle.mw_meaning.specs.ErasureLaws.{IsWithoutStaging};
 ghost use Rattle.mw_meaning.specs.NewNames.{naming_of, new_names, inside_terms, IsNext, HasRoom, HaveRoom, definitions};
 

@@ -1,5 +1,6 @@
 -- From what the reader gives to what the grammar says.
-use Rattle.std.proofs.Common.{◌≡◌, ℕ, ◌<◌, ◌≤◌, List, [], ◌∷◌, Result, Ok, Err, IfOk, IfErr, refl, ap, ◌∙◌, sym, subst, length, map, arith}
+use Rattle.std.proofs.Common.{◌≡◌, ℕ, ◌<◌, ◌≤◌, List, [], ◌∷◌, Result, Ok, Err, IfOk, IfErr, refl, ap, ◌∙◌, sym, subst}
+use Rattle.std.proofs.Common.{length, map, arith}
 use Rattle.mw_lex.specs.Tokens.{PureToken, tokens_of, token_of}
 use Rattle.mw_lex.specs.declared.token.Token.{Token}
 use Rattle.mw_term.specs.declared.refusal.Refusal.{Refusal}
@@ -13,7 +14,8 @@ use Rattle.mw_grammar.specs.SurfaceDepth.{IsShallow}
 use Rattle.mw_grammar.specs.SurfaceSize.{IsSparse}
 use Rattle.mw_grammar.specs.SourceNodes.{height}
 use Rattle.mw_grammar.specs.Grammar.{program}
-use Rattle.mw_grammar.specs.Answers.{IsTree, IsSyntaxAt, IsTooDeepAt, place_of, kernels, AreTooMany, items, kernel_items, IsProgram, HasTooMany}
+use Rattle.mw_grammar.specs.Answers.{IsTree, IsSyntaxAt, IsTooDeepAt, place_of, kernels, AreTooMany, items}
+use Rattle.mw_grammar.specs.Answers.{kernel_items, IsProgram, HasTooMany}
 use Rattle.mw_grammar.specs.Descent.{Answer, ok, syntax_at, deep_at, full}
 use Rattle.mw_term.specs.Stops.{AnswersOrMemory, IfRefused, IsRefusalOrMemory}
 use Rattle.mw_parse.specs.Reading.{IsAnswer, Refuses}

@@ -1,5 +1,6 @@
 -- A program that is read item by item.
-use Rattle.std.proofs.Common.{◌≡◌, ℕ, suc, ◌<◌, ◌≤◌, max, List, [], ◌∷◌, ◌++◌, refl, ap, ◌∙◌, sym, append_assoc, append-nil, length, map, Bool, true, false, arith}
+use Rattle.std.proofs.Common.{◌≡◌, ℕ, suc, ◌<◌, ◌≤◌, max, List, [], ◌∷◌, ◌++◌, refl, ap, ◌∙◌, sym, append_assoc}
+use Rattle.std.proofs.Common.{append-nil, length, map, Bool, true, false, arith}
 use Rattle.mw_lex.specs.Tokens.{PureToken, token, tokens_of}
 use Rattle.mw_lex.specs.declared.token.Token.{Token}
 use Rattle.mw_term.specs.Terms.{GroundType}
@@ -7,7 +8,8 @@ use Rattle.mw_grammar.specs.SurfaceTrees.{SurfaceTree, truth, PureItem, PureSurf
 use Rattle.mw_grammar.specs.declared.tree.SurfaceItem.{SurfaceItem}
 use Rattle.mw_grammar.specs.Grammar.{Nonterminal, tree, atom, program, item, main_only, with_item}
 use Rattle.mw_grammar.specs.Forms.{Expected, is, Form, expect, end_next, reads, gives, items_of}
-use Rattle.mw_grammar.specs.Descent.{Answer, ok, syntax_at, deep_at, and_then, Heights, none_yet, so_far, branch, run, calls, full, reading}
+use Rattle.mw_grammar.specs.Descent.{Answer, ok, syntax_at, deep_at, and_then, Heights, none_yet, so_far, branch, run}
+use Rattle.mw_grammar.specs.Descent.{calls, full, reading}
 use Rattle.mw_grammar.proofs.Alike.{rest_of, steady}
 use Rattle.mw_grammar.specs.Gives.{Fails}
 use Rattle.mw_grammar.specs.declared.fault.Fault.{Fault}

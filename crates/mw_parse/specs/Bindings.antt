@@ -12,7 +12,8 @@ use Rattle.mw_grammar.specs.declared.parts.Defined.{Defined}
 use Rattle.mw_grammar.specs.declared.fault.Fault.{Fault}
 use Rattle.mw_grammar.specs.SurfaceTrees.{bind, PureItem, let_item, kernel_item}
 use Rattle.mw_grammar.specs.Grammar.{Nonterminal, item, tree, expr, parameter, kernel_type, by_arrow, by_equal}
-use Rattle.mw_grammar.specs.Forms.{Form, gives, reads, expect, pick, colon_next, equal_next, function, bound_rec, rec_bound, scope_form}
+use Rattle.mw_grammar.specs.Forms.{Form, gives, reads, expect, pick, colon_next, equal_next, function, bound_rec}
+use Rattle.mw_grammar.specs.Forms.{rec_bound, scope_form}
 use Rattle.mw_grammar.specs.Descent.{none_yet, so_far, reading}
 use Rattle.mw_grammar.specs.Gives.{Gives}
 use Rattle.mw_grammar.specs.Boxes.{tree_in}

@@ -4,14 +4,18 @@
 ghost use Rattle.std.specs.Prelude.{◌≡◌, ◌<◌, ◌≤◌, ℕ, IfOk};
 ghost use Rattle.mw_lex.specs.Tokens.{tokens_of};
 ghost use Rattle.mw_grammar.specs.SurfaceTrees.{bind};
-ghost use Rattle.mw_grammar.specs.Grammar.{tree, expr, comparison, row as leveled, head, atom, operand, right, body, parameter};
-ghost use Rattle.mw_grammar.specs.Forms.{pick, let_in_by, rec_by, paren_by, minus_by, behind_mark, let_by, rec_item, kernel_by, bracket_form, escape_form, group_form, pair_form, run_form, condition_form, branches_form, scope_form};
+ghost use Rattle.mw_grammar.specs.Grammar.{tree, expr, comparison, row as leveled, head, atom, operand, right, body};
+ghost use Rattle.mw_grammar.specs.Grammar.{parameter};
+ghost use Rattle.mw_grammar.specs.Forms.{pick, let_in_by, rec_by, paren_by, minus_by, behind_mark, let_by, rec_item};
+ghost use Rattle.mw_grammar.specs.Forms.{kernel_by, bracket_form, escape_form, group_form, pair_form, run_form};
+ghost use Rattle.mw_grammar.specs.Forms.{condition_form, branches_form, scope_form};
 ghost use Rattle.mw_grammar.specs.Descent.{none_yet, so_far, full, reading, following, following_operator};
 ghost use Rattle.mw_grammar.specs.Gives.{GivesRead, expected_of};
 ghost use Rattle.mw_grammar.specs.Words.{mark_in, atom_form, head_form};
 ghost use Rattle.mw_grammar.specs.Levels.{row_of, op_of};
 ghost use Rattle.mw_grammar.specs.Boxes.{definition_in, function_in, tree_in};
-ghost use Rattle.mw_parse.specs.Bindings.{GivesBound, GivesName, bound_item, function_form, kernel_form, rec_form, rec_item_form};
+ghost use Rattle.mw_parse.specs.Bindings.{GivesBound, GivesName, bound_item, function_form, kernel_form, rec_form};
+ghost use Rattle.mw_parse.specs.Bindings.{rec_item_form};
 ghost use Rattle.mw_parse.specs.Connectives.{connected, level_of, operand_of, sign_of};
 
 use mw_grammar::fault::{Fault, Read};

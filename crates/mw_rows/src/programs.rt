@@ -2,7 +2,7 @@
 
 ghost use Rattle.std.specs.Prelude.{IfOk};
 ghost use Rattle.mw_term.specs.Programs.{program_of};
-ghost use Rattle.mw_infer.specs.Checking.{IsResolved};
+ghost use Rattle.mw_term.specs.Parts.{IsResolved};
 
 use crate::fields::{Fault, Row};
 use crate::shown::{line, push_value};

@@ -5,8 +5,10 @@ use Rattle.std.specs.Prelude.{All, [], ◌∷◌}
 use Rattle.mw_scope.specs.declared.fault.Fault.{Fault}
 use Rattle.mw_scope.specs.declared.fault.Fault.TheVariants.{Unbound, NotValue, WrongLevel}
 use Rattle.mw_scope.specs.Faults.{IsNoLater}
-use Rattle.mw_scope.specs.Nameless.{n_num, n_var, n_glob, n_fun, n_fix, n_app, n_bind, n_prim, n_bracket, n_escape, n_run, n_close, n_lift, a_let, no_item, an_item, IsNameless}
-use Rattle.mw_scope.specs.Examples.{ExamplesHold, capture, nameless_capture, looping, nameless_looping, lifted, nameless_lifted}
+use Rattle.mw_scope.specs.Nameless.{n_num, n_var, n_glob, n_fun, n_fix, n_app, n_bind, n_prim, n_bracket, n_escape}
+use Rattle.mw_scope.specs.Nameless.{n_run, n_close, n_lift, a_let, no_item, an_item, IsNameless}
+use Rattle.mw_scope.specs.Examples.{ExamplesHold, capture, nameless_capture, looping, nameless_looping, lifted}
+use Rattle.mw_scope.specs.Examples.{nameless_lifted}
 
 is_capture : IsNameless capture nameless_capture
 is_capture = record {

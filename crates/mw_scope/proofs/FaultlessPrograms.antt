@@ -5,8 +5,10 @@ use Rattle.mw_term.specs.Programs.{Definition, value, kernel, PureProgram}
 use Rattle.mw_grammar.specs.SurfaceTrees.{PureItem, let_item, kernel_item, PureSurface}
 use Rattle.mw_scope.specs.declared.level.Level.TheVariants.{Live}
 use Rattle.mw_scope.specs.Scopes.{name_of, lets_of, items_of}
-use Rattle.mw_scope.specs.Nameless.{is_value, NamelessItem, a_let, a_kernel, NamelessItems, no_item, an_item, IsNameless}
-use Rattle.mw_scope.specs.Faults.{faults_in, faults_of_name, faults_of_value, faults_of_item, faults_of_items, faults_of}
+use Rattle.mw_scope.specs.Nameless.{is_value, NamelessItem, a_let, a_kernel, NamelessItems, no_item, an_item}
+use Rattle.mw_scope.specs.Nameless.{IsNameless}
+use Rattle.mw_scope.specs.Faults.{faults_in, faults_of_name, faults_of_value, faults_of_item, faults_of_items}
+use Rattle.mw_scope.specs.Faults.{faults_of}
 use Rattle.mw_scope.specs.Named.{named_item, named_items, named_program}
 use Rattle.mw_scope.specs.Resolving.{NamelessWhereFaultless, OneNameless}
 use Rattle.mw_scope.proofs.Faultless.{no_cons, empty_left, empty_right, empty_both, faultless, has_no_fault, is_named}

@@ -1,12 +1,14 @@
 -- What the walk finds by numbers is what the lists of binders say.
-use Rattle.std.proofs.Common.{◌≡◌, ℕ, suc, ◌-◌, ◌<◌, Bool, true, false, cond, List, [], ◌∷◌, ◌++◌, length, Option, Some, None, refl, ap, sym, ◌∙◌, arith}
+use Rattle.std.proofs.Common.{◌≡◌, ℕ, suc, ◌-◌, ◌<◌, Bool, true, false, cond, List, [], ◌∷◌, ◌++◌, length, Option, Some}
+use Rattle.std.proofs.Common.{None, refl, ap, sym, ◌∙◌, arith}
 use mathlib.Core.Path.{fun_ext}
 use Rattle.std.specs.Option.{option_map}
 use Rattle.std.specs.Str.{bytes_eq}
 use Rattle.std.proofs.lemmas.Slice.Eq.{bytes_eq-Decides}
 use Rattle.std.proofs.lemmas.Option.{same_Some, none-some}
 use Rattle.mw_term.specs.Terms as nameless
-use Rattle.mw_grammar.specs.SurfaceTrees.{SurfaceTree, num, truth, used, fun, fix, app, bind, cond as cond_tree, pair, fst, snd, prim, bracket, escape, run, close, opened, lift, lift_b}
+use Rattle.mw_grammar.specs.SurfaceTrees.{SurfaceTree, num, truth, used, fun, fix, app, bind, cond as cond_tree, pair}
+use Rattle.mw_grammar.specs.SurfaceTrees.{fst, snd, prim, bracket, escape, run, close, opened, lift, lift_b}
 use Rattle.mw_scope.specs.declared.level.Level.{Level}
 use Rattle.mw_scope.specs.declared.level.Level.TheVariants.{Live, Quoted}
 use Rattle.mw_scope.specs.Scopes.{Binder, nearest, TopNames}

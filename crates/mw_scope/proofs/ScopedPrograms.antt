@@ -1,5 +1,6 @@
 -- Nameless programs are scoped.
-use Rattle.std.proofs.Common.{◌≡◌, ℕ, zero, suc, ◌+◌, Bool, true, false, cond, List, [], ◌∷◌, ◌++◌, length, Option, Some, None, refl, ap, sym, subst, arith, append_assoc, length-append, bytes_eq}
+use Rattle.std.proofs.Common.{◌≡◌, ℕ, zero, suc, ◌+◌, Bool, true, false, cond, List, [], ◌∷◌, ◌++◌, length, Option}
+use Rattle.std.proofs.Common.{Some, None, refl, ap, sym, subst, arith, append_assoc, length-append, bytes_eq}
 use Rattle.std.specs.Prelude.{map, slice_get, ◌&&◌}
 use Rattle.std.specs.Option.{option_map}
 use Rattle.std.proofs.lemmas.Option.{same_Some, none-some}
@@ -12,7 +13,9 @@ use Rattle.mw_grammar.specs.SurfaceTrees.{SurfaceTree, PureItem, let_item, kerne
 use Rattle.mw_scope.specs.declared.level.Level.{Level}
 use Rattle.mw_scope.specs.declared.level.Level.TheVariants.{Live, Quoted}
 use Rattle.mw_scope.specs.Scopes.{Binder, TopNames, lets_of, items_of}
-use Rattle.mw_scope.specs.Nameless.{Nameless, n_num, n_truth, n_var, n_glob, n_fun, n_fix, n_app, n_bind, n_cond, n_pair, n_fst, n_snd, n_prim, n_bracket, n_escape, n_run, n_close, n_open, n_lift, n_lift_b, is_value, NamelessItem, a_let, a_kernel, NamelessItems, no_item, an_item}
+use Rattle.mw_scope.specs.Nameless.{Nameless, n_num, n_truth, n_var, n_glob, n_fun, n_fix, n_app, n_bind, n_cond}
+use Rattle.mw_scope.specs.Nameless.{n_pair, n_fst, n_snd, n_prim, n_bracket, n_escape, n_run, n_close, n_open, n_lift}
+use Rattle.mw_scope.specs.Nameless.{n_lift_b, is_value, NamelessItem, a_let, a_kernel, NamelessItems, no_item, an_item}
 use Rattle.mw_scope.specs.Scoped.{IsScopedItem, NamelessIsScoped}
 use Rattle.mw_scope.proofs.Nearest.{nearest_is_nearest}
 

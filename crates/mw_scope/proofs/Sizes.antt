@@ -9,7 +9,10 @@ use Rattle.mw_grammar.specs.SurfaceDepth.{bound_tree}
 use Rattle.mw_grammar.specs.SurfaceSize.{tree_size, items_size, surface_size}
 use Rattle.mw_scope.specs.declared.level.Level.{Level}
 use Rattle.mw_scope.specs.Scopes.{Binder, TopNames}
-use Rattle.mw_scope.specs.Nameless.{Nameless, n_num, n_truth, n_var, n_glob, n_fun, n_fix, n_app, n_bind, n_cond, n_pair, n_fst, n_snd, n_prim, n_bracket, n_escape, n_run, n_close, n_open, n_lift, n_lift_b, NamelessItem, a_let, a_kernel, NamelessItems, no_item, an_item, IsNameless}
+use Rattle.mw_scope.specs.Nameless.{Nameless, n_num, n_truth, n_var, n_glob, n_fun, n_fix, n_app, n_bind, n_cond}
+use Rattle.mw_scope.specs.Nameless.{n_pair, n_fst, n_snd, n_prim, n_bracket, n_escape, n_run, n_close, n_open, n_lift}
+use Rattle.mw_scope.specs.Nameless.{n_lift_b, NamelessItem, a_let, a_kernel, NamelessItems, no_item, an_item}
+use Rattle.mw_scope.specs.Nameless.{IsNameless}
 
 -- without names a term has as many nodes
 pub same_size : {tops : TopNames} {g : List Binder} {m : Level} {t : SurfaceTree} {e : Expression} → Nameless tops g m t e → size e ≡ tree_size t

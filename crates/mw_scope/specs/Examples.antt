@@ -5,7 +5,8 @@ use Rattle.mw_term.specs.declared.term.Primitive.TheVariants.{Add}
 use Rattle.mw_term.specs.Terms as nameless
 use Rattle.mw_term.specs.Terms.{KernelType, base, of_ground}
 use Rattle.mw_term.specs.Programs.{PureProgram, value}
-use Rattle.mw_grammar.specs.SurfaceTrees.{SurfaceTree, num, used, fun, fix, app, bind, prim, bracket, escape, run, close, lift, PureItem, let_item, kernel_item, PureSurface}
+use Rattle.mw_grammar.specs.SurfaceTrees.{SurfaceTree, num, used, fun, fix, app, bind, prim, bracket, escape, run}
+use Rattle.mw_grammar.specs.SurfaceTrees.{close, lift, PureItem, let_item, kernel_item, PureSurface}
 use Rattle.mw_scope.specs.declared.fault.Fault.TheVariants.{Unbound, Twice, NotValue, WrongLevel}
 use Rattle.mw_scope.specs.Nameless.{IsNameless}
 use Rattle.mw_scope.specs.Faults.{faults_of, IsFirst}

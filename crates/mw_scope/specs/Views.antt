@@ -4,7 +4,8 @@ use Rattle.std.specs.Option.{option_flatten}
 use Rattle.std.specs.Str.{bytes_eq}
 use Rattle.indexmap.specs.IndexMap.{get_by}
 use Rattle.mw_term.specs.Terms.{Expression}
-use Rattle.mw_grammar.specs.SurfaceTrees.{PureItem, SurfaceTree, fun, fix, bind, bracket, escape, run, close, opened, lift, lift_b}
+use Rattle.mw_grammar.specs.SurfaceTrees.{PureItem, SurfaceTree, fun, fix, bind, bracket, escape, run, close, opened}
+use Rattle.mw_grammar.specs.SurfaceTrees.{lift, lift_b}
 use Rattle.mw_grammar.specs.SurfaceDepth.{surface_depth}
 use Rattle.mw_scope.specs.declared.binders.Binders.{Binders}
 use Rattle.mw_scope.specs.declared.level.Level.{Level}

@@ -1,5 +1,6 @@
 -- What the machine asks of a program that was read and checked.
-use Rattle.std.proofs.Common.{◌≡◌, ◌≤◌, ◌<◌, ◌^◌, ℕ, zero, suc, List, [], ◌∷◌, map, length, ap, arith, Some, Result, Ok, Err, refl, sym, ◌∙◌}
+use Rattle.std.proofs.Common.{◌≡◌, ◌≤◌, ◌<◌, ◌^◌, ℕ, zero, suc, List, [], ◌∷◌, map, length, ap, arith, Some, Result, Ok}
+use Rattle.std.proofs.Common.{Err, refl, sym, ◌∙◌}
 use Rattle.std.specs.Prelude.{slice_get, IfOk}
 use Rattle.std.specs.List.{AllByRecursion}
 use Rattle.std.proofs.lemmas.List.{length-map}
@@ -21,7 +22,7 @@ use Rattle.mw_scope.specs.Scopes.{name_of}
 use Rattle.mw_scope.specs.Nameless.{IsNameless}
 use Rattle.mw_scope.specs.Resolving.{KeepsNames}
 use Rattle.mw_scope.proofs.ScopedPrograms.{nameless_is_scoped}
-use Rattle.mw_infer.specs.Checking.{IsResolved}
+use Rattle.mw_term.specs.Parts.{IsResolved}
 use Rattle.mw_infer.proofs.Resolved as resolved
 use Rattle.mw_machine.specs.Starting.{definitions_of}
 use Rattle.mw_script.specs.Starts.{IsBuilt, AreAllBuilt}

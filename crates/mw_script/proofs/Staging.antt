@@ -12,7 +12,8 @@ use Rattle.mw_machine.specs.declared.machine.Machine.{Machine}
 use Rattle.mw_machine.specs.declared.outcome.Outcome.{Outcome}
 use Rattle.mw_machine.specs.declared.outcome.Outcome.TheVariants as o
 use Rattle.mw_machine.specs.Begun.{Begins}
-use Rattle.mw_machine.specs.Evaluations.{Part, item, main, IsPart, item_part, main_part, HasNames, item_names, main_names}
+use Rattle.mw_machine.specs.Evaluations.{Part, item, main, IsPart, item_part, main_part, HasNames, item_names}
+use Rattle.mw_machine.specs.Evaluations.{main_names}
 use Rattle.mw_machine.specs.Starting.{values_at_start}
 use Rattle.mw_machine.specs.TurnAnswers.{IsReady, DriveKeeps, IsTypedOutcome, EndedWithCode}
 use Rattle.mw_machine.specs.Underway.{IsUnderway}

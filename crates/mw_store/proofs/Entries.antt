@@ -1,5 +1,7 @@
 -- Loaded records as the entries of a map.
-use Rattle.std.proofs.Common.{◌≡◌, inl, inr, ℕ, ◌+◌, List, [], ◌∷◌, map, position, Vec, Global, Some, None, Result, Ok, Err, length, true, false, ◌||◌, ◌++◌, refl, sym, ap, ◌∙◌, subst, true≢false, if◌then◌else◌}
+use Rattle.std.proofs.Common.{◌≡◌, inl, inr, ℕ, ◌+◌, List, [], ◌∷◌, map, position, Vec, Global, Some, None, Result, Ok}
+use Rattle.std.proofs.Common.{Err, length, true, false, ◌||◌, ◌++◌, refl, sym, ap, ◌∙◌, subst, true≢false}
+use Rattle.std.proofs.Common.{if◌then◌else◌}
 use Rattle.std.proofs.lemmas.Bool.{cases_Bool}
 use Rattle.indexmap.specs.IndexMap.{insert_entry}
 use Rattle.std.specs.Prelude.{slice_get, option_map, OnOk}

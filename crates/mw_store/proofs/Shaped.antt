@@ -9,7 +9,8 @@ use Rattle.mw_wasm.specs.Syntax.{PureModule}
 use Rattle.mw_wasm.proofs.FormatModules.{one_module}
 use Rattle.mw_wasm.specs.Views.{module_of}
 use Rattle.mw_store.specs.Records.{HasModule}
-use Rattle.mw_store.specs.Whole.{IsTyped, NoText, IsSound, NoModule, HasModuleOf, NoModuleOf, HasKernelModule, NoKernelModule}
+use Rattle.mw_store.specs.Whole.{IsTyped, NoText, IsSound, NoModule, HasModuleOf, NoModuleOf, HasKernelModule}
+use Rattle.mw_store.specs.Whole.{NoKernelModule}
 
 one_type : (text : List ℕ) (k l : KernelType) → IsTyped text k → IsTyped text l → k ≡ l
 one_type text k l h g = (one_text text h.0 g.0 h.1 g.1 k l h.2 g.2).2

@@ -1,6 +1,7 @@
 // What is loaded from a cache file.
 
-ghost use Rattle.std.specs.Prelude.{◌≡◌, ◌≤◌, ◌<◌, ◌++◌, ◌∷◌, ℕ, [], length, map, position, slice_get, Some, None, IfOk, OnOk, false, true};
+ghost use Rattle.std.specs.Prelude.{◌≡◌, ◌≤◌, ◌<◌, ◌++◌, ◌∷◌, ℕ, [], length, map, position, slice_get, Some, None};
+ghost use Rattle.std.specs.Prelude.{IfOk, OnOk, false, true};
 ghost use Rattle.std.specs.Arc.{arc_value};
 ghost use Rattle.std.specs.Str.{bytes_eq};
 ghost use Rattle.mw_term.specs.Terms.{expression_of, kernel_type_of};

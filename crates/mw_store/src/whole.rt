@@ -1,6 +1,7 @@
 // Whole records.
 
-ghost use Rattle.std.specs.Prelude.{◌≡◌, ◌≤◌, ◌+◌, ◌<◌, ◌^◌, ℕ, length, Bool, IfOk, IfSome, IsNone, MatchBool, ◌≢◌, MatchOption};
+ghost use Rattle.std.specs.Prelude.{◌≡◌, ◌≤◌, ◌+◌, ◌<◌, ◌^◌, ℕ, length, Bool, IfOk, IfSome, IsNone, MatchBool, ◌≢◌};
+ghost use Rattle.std.specs.Prelude.{MatchOption};
 ghost use Rattle.sha2.specs.Sha256.{sha256};
 ghost use Rattle.mw_term.specs.Terms.{Expression, KernelType, kernel_type_of};
 ghost use Rattle.mw_key.specs.CanonicalText.{IsTextOf};
@@ -11,7 +12,8 @@ ghost use Rattle.mw_meaning.specs.Shapes.{HasShape};
 ghost use Rattle.mw_store.specs.Records.{record_bytes};
 ghost use Rattle.mw_store.specs.Loads.{file_limit};
 ghost use Rattle.mw_store.specs.Parts.{IsCutFrom};
-ghost use Rattle.mw_store.specs.Whole.{kept_in, IsTyped, NoText, IsSound, NoModule, HasModuleOf, NoModuleOf, HasKernelModule, NoKernelModule, IsFoundIn};
+ghost use Rattle.mw_store.specs.Whole.{kept_in, IsTyped, NoText, IsSound, NoModule, HasModuleOf, NoModuleOf};
+ghost use Rattle.mw_store.specs.Whole.{HasKernelModule, NoKernelModule, IsFoundIn};
 
 use crate::parts::{Parts, parts_of};
 use mw_decode::{DecodeFault, decode};

@@ -22,7 +22,8 @@ use Rattle.mw_tasks.specs.declared.outcome.ItemOutcome.{ItemOutcome}
 use Rattle.mw_tasks.specs.declared.outcome.ItemOutcome.TheVariants.{Code, Trap, Bound}
 use Rattle.mw_tasks.specs.TaskOutcomes.{IsKernelItem}
 use Rattle.mw_tasks.specs.Gathering.{outcomes_of, emitted_by, HasAllSlots}
-use Rattle.mw_tasks.specs.Phases.{IfBuilt, IsPlaced, IsOutcomeOf, EachKernel, AreOutcomesOf, IsTask, IsDone, IsDoneAt, HasSmallKernels}
+use Rattle.mw_tasks.specs.Phases.{IfBuilt, IsPlaced, IsOutcomeOf, EachKernel, AreOutcomesOf, IsTask, IsDone, IsDoneAt}
+use Rattle.mw_tasks.specs.Phases.{HasSmallKernels}
 use Rattle.mw_tasks.specs.Phases.{kernel_numbers, unloaded_among}
 use Rattle.mw_tasks.specs.RightRuns.{AreRightRuns, AreRightItems, price_of_items}
 use Rattle.mw_tasks.proofs.Walks.{head_there, rest_after, each_kernel, each_gives, each_mapped}

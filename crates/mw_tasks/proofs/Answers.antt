@@ -1,6 +1,7 @@
 -- What the machine's outcome is as that of a kernel item, and of main.
 use Rattle.std.proofs.Common.{◌≡◌, ℕ, Some, ◌∙◌, Bool, true, false, Result, Ok, Err, IsErrAnd, refl, sym, subst}
-use Rattle.mw_term.specs.Terms.{Expression, Value, PureGroundValue, KernelType, int, bool, both, code, expression_of, ground_value, ground_value_of}
+use Rattle.mw_term.specs.Terms.{Expression, Value, PureGroundValue, KernelType, int, bool, both, code, expression_of}
+use Rattle.mw_term.specs.Terms.{ground_value, ground_value_of}
 use Rattle.mw_term.specs.declared.term.Term.{Term}
 use Rattle.mw_term.specs.declared.value.GroundValue.{GroundValue}
 use Rattle.mw_term.specs.declared.value.Limit.{Limit}

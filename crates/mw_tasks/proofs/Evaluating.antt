@@ -1,5 +1,6 @@
 -- An evaluation on the machine, from its start to its end.
-use Rattle.std.proofs.Common.{◌≡◌, ◌≤◌, ◌+◌, ℕ, List, [], None, Bool, false, Result, Ok, Err, IfErr, IsErrAnd, ap, sym, ◌∙◌, subst, arith}
+use Rattle.std.proofs.Common.{◌≡◌, ◌≤◌, ◌+◌, ℕ, List, [], None, Bool, false, Result, Ok, Err, IfErr, IsErrAnd, ap, sym}
+use Rattle.std.proofs.Common.{◌∙◌, subst, arith}
 use Rattle.std.proofs.lemmas.Result.{err_from_is_err_and}
 use Rattle.mw_term.specs.Terms.{Expression, Value, KernelType, ground_value_of}
 use Rattle.mw_term.specs.Programs.{PureProgram}
@@ -17,7 +18,8 @@ use Rattle.mw_machine.specs.declared.outcome.Outcome.TheVariants as o
 use Rattle.mw_machine.specs.CodesInPlace.{built_program}
 use Rattle.mw_machine.proofs.BuiltPrograms.{names_of_main-built, built_items_are}
 use Rattle.mw_machine.specs.Begun.{Begins}
-use Rattle.mw_machine.specs.Evaluations.{Part, item, main, term_of, Evaluation, runs_of, IsPart, item_part, main_part, HasNames, item_names, main_names}
+use Rattle.mw_machine.specs.Evaluations.{Part, item, main, term_of, Evaluation, runs_of, IsPart, item_part, main_part}
+use Rattle.mw_machine.specs.Evaluations.{HasNames, item_names, main_names}
 use Rattle.mw_machine.specs.KernelCalls.{AreSound, prices}
 use Rattle.mw_machine.specs.TurnAnswers.{IsReady, IsTypedOutcome, DriveKeeps, DriveMeans}
 use Rattle.mw_machine.specs.Underway.{IsUnderway, IsMeant}

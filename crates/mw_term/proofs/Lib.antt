@@ -8,4 +8,5 @@ pub mod Weakening
 pub mod TypedSubstitution
 pub mod MovedCode
 pub mod TypesFormed
+pub mod FlatTypes
 pub mod Unlabelling

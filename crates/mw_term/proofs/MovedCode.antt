@@ -3,8 +3,10 @@ use Rattle.std.proofs.Common.{◌≡◌, ℕ, zero, suc, List, [], ◌∷◌, So
 use Rattle.std.specs.Prelude.{slice_get}
 use Rattle.mw_term.specs.Terms.{Expression}
 use Rattle.mw_term.specs.Closed.{IsCode}
-use Rattle.mw_term.specs.Types.{TermType, int_type, bool_type, pair_type, function_type, code_type, closed_type, Level, live, under, Entry, value, quoted, entry, IsPlain, IsFormed, Fits, IsAbsent}
-use Rattle.mw_term.specs.Typing.{TopLevel, Typed, t_num, t_truth, t_var, t_fun, t_fix, t_app, t_bind, t_cond, t_pair, t_fst, t_snd, t_prim, t_escape}
+use Rattle.mw_term.specs.Types.{TermType, int_type, bool_type, pair_type, function_type, code_type, closed_type, Level}
+use Rattle.mw_term.specs.Types.{live, under, Entry, value, quoted, entry, IsPlain, IsFormed, Fits, IsAbsent}
+use Rattle.mw_term.specs.Typing.{TopLevel, Typed, t_num, t_truth, t_var, t_fun, t_fix, t_app, t_bind, t_cond, t_pair}
+use Rattle.mw_term.specs.Typing.{t_fst, t_snd, t_prim, t_escape}
 
 -- each variable of f under a is one of g at the level m
 pub record Moves (a : ℕ) (m : Level) (f g : List Entry) : Type 0 where

@@ -7,7 +7,9 @@ use Rattle.mw_term.specs.declared.term.Base.TheVariants.{Int, Bool as Truth}
 use Rattle.mw_term.specs.declared.term.Primitive.{Primitive as Prim}
 use Rattle.mw_term.specs.declared.term.Primitive.TheVariants.{Add, Sub, Mul, Div, Mod, Eq, Lt, Le}
 use Rattle.mw_term.specs.Substitution.{raised}
-use Rattle.mw_term.specs.Types.{TermType, int_type, bool_type, pair_type, function_type, code_type, closed_type, Level, live, under, Entry, value, quoted, entry, IsPlain, IsFormed, Fits, IsAbsentIn, IsAbsentAt, IsAbsent, base_type, ground_type, kernel_type, primitive_type}
+use Rattle.mw_term.specs.Types.{TermType, int_type, bool_type, pair_type, function_type, code_type, closed_type, Level}
+use Rattle.mw_term.specs.Types.{live, under, Entry, value, quoted, entry, IsPlain, IsFormed, Fits, IsAbsentIn}
+use Rattle.mw_term.specs.Types.{IsAbsentAt, IsAbsent, base_type, ground_type, kernel_type, primitive_type}
 
 abbrev pub rename_type : (ℕ → ℕ) → TermType → TermType
 rename_type r int_type = int_type

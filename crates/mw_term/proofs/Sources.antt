@@ -2,7 +2,9 @@
 use Rattle.mw_term.specs.Terms.{expression_of}
 use Rattle.mw_term.specs.Sources.{IsSource}
 use Rattle.mw_term.specs.declared.term.Term.{Term}
-use Rattle.mw_term.specs.declared.term.Term.TheVariants.{Int, Bool as Truth, Var, Glob, Fun', Rec', App', Let', If', Pair', Fst', Snd', Prim' as Prim-Prim', Bracket', Escape', Run', CloseCode', OpenCode', Lift', LiftB'}
+use Rattle.mw_term.specs.declared.term.Term.TheVariants.{Int, Bool as Truth, Var, Glob, Fun', Rec', App', Let', If'}
+use Rattle.mw_term.specs.declared.term.Term.TheVariants.{Pair', Fst', Snd', Prim' as Prim-Prim', Bracket', Escape'}
+use Rattle.mw_term.specs.declared.term.Term.TheVariants.{Run', CloseCode', OpenCode', Lift', LiftB'}
 
 pub sources : (t : Term) → IsSource (expression_of t)
 sources (Int n) = tt

@@ -4,7 +4,10 @@ use Rattle.std.specs.Prelude.{slice_get}
 use Rattle.mw_term.specs.Terms.{Expression, Value}
 use Rattle.mw_term.specs.Closed.{ClosedBelow, ClosedValueBelow}
 use Rattle.mw_term.specs.Types.{TermType, Level, Entry}
-use Rattle.mw_term.specs.Typing.{TopLevel, Typed, t_num, t_truth, t_var, t_let, t_kernel, t_fun, t_fix, t_app, t_bind, t_cond, t_pair, t_fst, t_snd, t_prim, t_bracket, t_escape, t_run, t_close, t_open, t_lift, t_lift_b, t_done, Valued, v_int, v_bool, v_pair, v_function, v_recursive, v_code, v_closed, v_kept}
+use Rattle.mw_term.specs.Typing.{TopLevel, Typed, t_num, t_truth, t_var, t_let, t_kernel, t_fun, t_fix, t_app, t_bind}
+use Rattle.mw_term.specs.Typing.{t_cond, t_pair, t_fst, t_snd, t_prim, t_bracket, t_escape, t_run, t_close, t_open}
+use Rattle.mw_term.specs.Typing.{t_lift, t_lift_b, t_done, Valued, v_int, v_bool, v_pair, v_function, v_recursive}
+use Rattle.mw_term.specs.Typing.{v_code, v_closed, v_kept}
 
 pub slice_get-below : (g : List Entry) (i : ℕ) (x : Entry) → slice_get g i ≡ Some x → i < length g
 slice_get-below [] i x e = absurd (cc)

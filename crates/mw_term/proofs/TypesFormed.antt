@@ -6,15 +6,20 @@ use Rattle.mw_term.specs.declared.term.Base.{Base}
 use Rattle.mw_term.specs.declared.term.Base.TheVariants.{Int, Bool as Truth}
 use Rattle.mw_term.specs.declared.term.Primitive.{Primitive as Prim}
 use Rattle.mw_term.specs.declared.term.Primitive.TheVariants.{Add, Sub, Mul, Div, Mod, Eq, Lt, Le}
-use Rattle.mw_term.specs.Types.{TermType, int_type, bool_type, pair_type, function_type, Level, live, under, Entry, value, quoted, entry, IsPlain, IsFormed, Fits, AreFormed, base_type, ground_type, kernel_type, primitive_type}
-use Rattle.mw_term.specs.Typing.{TopLevel, Typed, t_num, t_truth, t_var, t_let, t_kernel, t_fun, t_fix, t_app, t_bind, t_cond, t_pair, t_fst, t_snd, t_prim, t_bracket, t_escape, t_run, t_close, t_open, t_lift, t_lift_b, t_done, Valued, v_int, v_bool, v_pair, v_function, v_recursive, v_code, v_closed, v_kept}
+use Rattle.mw_term.specs.Types.{TermType, int_type, bool_type, pair_type, function_type, Level, live, under, Entry}
+use Rattle.mw_term.specs.Types.{value, quoted, entry, IsPlain, IsFormed, Fits, AreFormed, base_type, ground_type}
+use Rattle.mw_term.specs.Types.{kernel_type, primitive_type}
+use Rattle.mw_term.specs.Typing.{TopLevel, Typed, t_num, t_truth, t_var, t_let, t_kernel, t_fun, t_fix, t_app, t_bind}
+use Rattle.mw_term.specs.Typing.{t_cond, t_pair, t_fst, t_snd, t_prim, t_bracket, t_escape, t_run, t_close, t_open}
+use Rattle.mw_term.specs.Typing.{t_lift, t_lift_b, t_done, Valued, v_int, v_bool, v_pair, v_function, v_recursive}
+use Rattle.mw_term.specs.Typing.{v_code, v_closed, v_kept}
 use Rattle.mw_term.proofs.MovedCode.{Fits-plain}
 
 IsPlain-base_type : (b : Base) → IsPlain (base_type b)
 IsPlain-base_type Int = tt
 IsPlain-base_type Truth = tt
 
-IsPlain-ground_type : (s : GroundType) → IsPlain (ground_type s)
+pub IsPlain-ground_type : (s : GroundType) → IsPlain (ground_type s)
 IsPlain-ground_type (base b) = IsPlain-base_type b
 IsPlain-ground_type (product s t) = (IsPlain-ground_type s, IsPlain-ground_type t)
 

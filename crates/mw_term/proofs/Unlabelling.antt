@@ -1,6 +1,7 @@
 -- Kernel terms with and without their labels, under substitution.
 use Rattle.std.proofs.Common.{◌≡◌, ℕ, zero, suc, ◌≤◌, ◌<◌, refl, ap, ◌∙◌, sym, arith}
-use Rattle.mw_term.specs.Terms.{Expression, Value, KernelTerm, KernelValue, num, truth, var, fun, fix, app, bind, cond, pair, fst, snd, prim, done, int, bool, both, function, recursive}
+use Rattle.mw_term.specs.Terms.{Expression, Value, KernelTerm, KernelValue, num, truth, var, fun, fix, app, bind, cond}
+use Rattle.mw_term.specs.Terms.{pair, fst, snd, prim, done, int, bool, both, function, recursive}
 use Rattle.mw_term.specs.Substitution.{pick, shift, shift_value, substitute, substitute_value, instantiate}
 use Rattle.mw_term.specs.Unlabelled.{unlabelled, unlabelled_value, KernelClosedBelow, IsClosedKernelValue}
 use Rattle.mw_term.proofs.Closing.{raised-below, pick-below}

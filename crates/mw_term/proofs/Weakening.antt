@@ -1,13 +1,21 @@
 -- One more binder in the environment, with classifiers renamed.
 use Rattle.std.proofs.Common.{ℕ, zero, suc, List, [], ◌∷◌, Some, ap, ◌∙◌, arith}
-use Rattle.mw_term.specs.Terms.{Expression, Value, to, num, truth, var, glob, fun, fix, app, bind, cond, pair, fst, snd, prim, bracket, escape, run, close, opened, lift, lift_b, done}
+use Rattle.mw_term.specs.Terms.{Expression, Value, to, num, truth, var, glob, fun, fix, app, bind, cond, pair, fst, snd}
+use Rattle.mw_term.specs.Terms.{prim, bracket, escape, run, close, opened, lift, lift_b, done}
 use Rattle.mw_term.specs.Substitution.{shift, shift_value}
 use Rattle.mw_term.specs.Closed.{IsCode}
 use Rattle.mw_term.specs.Types.{TermType, function_type, Level, Entry}
-use Rattle.mw_term.specs.Typing.{TopLevel, Typed, t_num, t_truth, t_var, t_let, t_kernel, t_fun, t_fix, t_app, t_bind, t_cond, t_pair, t_fst, t_snd, t_prim, t_bracket, t_escape, t_run, t_close, t_open, t_lift, t_lift_b, t_done, Valued, v_int, v_bool, v_pair, v_function, v_recursive, v_code, v_closed, v_kept}
+use Rattle.mw_term.specs.Typing.{TopLevel, Typed, t_num, t_truth, t_var, t_let, t_kernel, t_fun, t_fix, t_app, t_bind}
+use Rattle.mw_term.specs.Typing.{t_cond, t_pair, t_fst, t_snd, t_prim, t_bracket, t_escape, t_run, t_close, t_open}
+use Rattle.mw_term.specs.Typing.{t_lift, t_lift_b, t_done, Valued, v_int, v_bool, v_pair, v_function, v_recursive}
+use Rattle.mw_term.specs.Typing.{v_code, v_closed, v_kept}
 use Rattle.mw_term.proofs.Closing.{shift-closed, shift-closed_value}
 use Rattle.mw_term.proofs.TypedClosed.{Typed-closed, Valued-closed}
-use Rattle.mw_term.proofs.Renaming.{rename_type, rename_level, rename_all, rename_entry-entry, rename_type-plain, IsPlain-rename_type, IsFormed-rename_type, Fits-rename_type, rename_type-kernel_type, rename_type-primitive_type, same, rename_type-same, rename_level-same, rename_all-same, rename_all-apart, changed, changed-here, changed-apart, top_of, IsAbsent-above, insert, get-insert}
+use Rattle.mw_term.proofs.Renaming.{rename_type, rename_level, rename_all, rename_entry-entry, rename_type-plain}
+use Rattle.mw_term.proofs.Renaming.{IsPlain-rename_type, IsFormed-rename_type, Fits-rename_type}
+use Rattle.mw_term.proofs.Renaming.{rename_type-kernel_type, rename_type-primitive_type, same, rename_type-same}
+use Rattle.mw_term.proofs.Renaming.{rename_level-same, rename_all-same, rename_all-apart, changed, changed-here}
+use Rattle.mw_term.proofs.Renaming.{changed-apart, top_of, IsAbsent-above, insert, get-insert}
 
 pub IsCode-shift : (e : Expression) (k : ℕ) → IsCode e → IsCode (shift e k)
 IsCode-shift (num n) k h = h

@@ -1,6 +1,8 @@
 -- Which variables a term may use.
 use Rattle.std.specs.Prelude.{ℕ, zero, suc, ◌<◌}
-use Rattle.mw_term.specs.Terms.{Expression, Value, num, truth, var, glob, fun, fix, app, bind, cond, pair, fst, snd, prim, bracket, escape, run, close, opened, lift, lift_b, done, int, bool, both, function, recursive, code, kept}
+use Rattle.mw_term.specs.Terms.{Expression, Value, num, truth, var, glob, fun, fix, app, bind, cond, pair, fst, snd}
+use Rattle.mw_term.specs.Terms.{prim, bracket, escape, run, close, opened, lift, lift_b, done, int, bool, both}
+use Rattle.mw_term.specs.Terms.{function, recursive, code, kept}
 
 -- every free variable of the term is below k
 abbrev mutual

@@ -9,6 +9,8 @@ pub mod Unlabelled
 pub mod Typing
 pub mod Typable
 pub mod Scoped
+pub mod Parts
+pub mod FlatTypes
 pub mod Stops
 pub mod Limits
 pub mod SmallTypes

@@ -1,7 +1,8 @@
 -- The limits of kernels: how large code and kernel types may be, and how large literals are.
 use Rattle.std.specs.Prelude.{ℕ, suc, ◌+◌, nat_le, Bool, ◌&&◌, FitsSigned}
 use Rattle.std.specs.Int.{w64}
-use Rattle.mw_term.specs.Terms.{Expression, GroundType, KernelType, base, product, of_ground, to, num, fun, fix, app, bind, cond, pair, fst, snd, prim, size, depth_of}
+use Rattle.mw_term.specs.Terms.{Expression, GroundType, KernelType, base, product, of_ground, to, num, fun, fix, app}
+use Rattle.mw_term.specs.Terms.{bind, cond, pair, fst, snd, prim, size, depth_of}
 
 -- whether a kernel's code is within its limits
 abbrev pub within_limits : Expression → Bool

@@ -1,6 +1,7 @@
 -- Programs as pure data.
 use Rattle.std.specs.Prelude.{ℕ, ◌+◌, List, [], ◌∷◌, map, pos}
-use Rattle.mw_term.specs.Terms.{Expression, Value, GroundType, KernelType, num, truth, fun, fix, pair, int, bool, both, function, recursive, size, expression_of, ground_of, kernel_type_of}
+use Rattle.mw_term.specs.Terms.{Expression, Value, GroundType, KernelType, num, truth, fun, fix, pair, int, bool, both}
+use Rattle.mw_term.specs.Terms.{function, recursive, size, expression_of, ground_of, kernel_type_of}
 use Rattle.mw_term.specs.declared.program.ItemKind.{ItemKind}
 use Rattle.mw_term.specs.declared.program.ItemKind.TheVariants.{Value as ValueItem, Kernel as KernelItem}
 use Rattle.mw_term.specs.declared.program.Program.{Program}

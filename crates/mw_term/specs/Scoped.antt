@@ -1,6 +1,7 @@
 -- Terms whose names are bound and whose levels are right.
 use Rattle.std.specs.Prelude.{◌≡◌, Bool, true, false, List, ◌∷◌, Some, slice_get}
-use Rattle.mw_term.specs.Terms.{Expression, num, truth, var, glob, fun, fix, app, bind, cond, pair, fst, snd, prim, bracket, escape, run, close, opened, lift, lift_b, done}
+use Rattle.mw_term.specs.Terms.{Expression, num, truth, var, glob, fun, fix, app, bind, cond, pair, fst, snd, prim}
+use Rattle.mw_term.specs.Terms.{bracket, escape, run, close, opened, lift, lift_b, done}
 use Rattle.mw_term.specs.Typing.{TopLevel, let_item, kernel_item, out_of_scope}
 
 -- With these top-level names, under these binders and at the level m, each variable is used at its binder's level, each form

@@ -1,6 +1,7 @@
 -- Terms as they are written in a source.
 use Rattle.mw_term.specs.declared.term.Term.{Term}
-use Rattle.mw_term.specs.Terms.{Expression, num, truth, var, glob, fun, fix, app, bind, cond, pair, fst, snd, prim, bracket, escape, run, close, opened, lift, lift_b, done, expression_of}
+use Rattle.mw_term.specs.Terms.{Expression, num, truth, var, glob, fun, fix, app, bind, cond, pair, fst, snd, prim}
+use Rattle.mw_term.specs.Terms.{bracket, escape, run, close, opened, lift, lift_b, done, expression_of}
 
 -- no value was put for a variable
 abbrev pub IsSource : Expression → Type 0

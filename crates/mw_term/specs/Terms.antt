@@ -7,7 +7,9 @@ use Rattle.mw_term.specs.declared.term.KType.{KType}
 use Rattle.mw_term.specs.declared.term.KType.TheVariants.{Ground as ground_kind, Fun as fun_kind}
 use Rattle.mw_term.specs.declared.term.Primitive.{Primitive as Prim}
 use Rattle.mw_term.specs.declared.term.Term.{Term}
-use Rattle.mw_term.specs.declared.term.Term.TheVariants.{Int, Bool as Truth, Var, Glob, Fun', Rec', App', Let', If', Pair', Fst', Snd', Prim' as Prim-Prim', Bracket', Escape', Run', CloseCode', OpenCode', Lift', LiftB'}
+use Rattle.mw_term.specs.declared.term.Term.TheVariants.{Int, Bool as Truth, Var, Glob, Fun', Rec', App', Let', If'}
+use Rattle.mw_term.specs.declared.term.Term.TheVariants.{Pair', Fst', Snd', Prim' as Prim-Prim', Bracket', Escape'}
+use Rattle.mw_term.specs.declared.term.Term.TheVariants.{Run', CloseCode', OpenCode', Lift', LiftB'}
 use Rattle.mw_term.specs.declared.value.BaseValue.{BaseValue}
 use Rattle.mw_term.specs.declared.value.BaseValue.TheVariants.{Int as AnInt, Bool as ATruth}
 use Rattle.mw_term.specs.declared.value.GroundValue.{GroundValue}

@@ -2,7 +2,8 @@
 use Rattle.std.specs.Prelude.{ℕ, zero, suc, ◌≡◌, ◌⊎◌, List, [], ◌∷◌, Some, slice_get}
 use Rattle.mw_term.specs.Terms.{Expression, Value, KernelType, code}
 use Rattle.mw_term.specs.Closed.{IsClosed, IsCode}
-use Rattle.mw_term.specs.Programs.{Definition, value as defines, kernel, PureProgram, IsSyntacticValue, value_of_definition}
+use Rattle.mw_term.specs.Programs.{Definition, value as defines, kernel, PureProgram, IsSyntacticValue}
+use Rattle.mw_term.specs.Programs.{value_of_definition}
 use Rattle.mw_term.specs.Types.{TermType, live, under, closed_type, ground_type, kernel_type}
 use Rattle.mw_term.specs.Typing.{TopLevel, let_item, kernel_item, out_of_scope, Typed}
 

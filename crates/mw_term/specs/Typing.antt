@@ -1,9 +1,13 @@
 -- The typing relation: which types a term has, at level 0 and at level 1 under a classifier.
 use Rattle.std.specs.Prelude.{ℕ, ◌≡◌, ℤ, Bool, List, [], ◌∷◌, Some, slice_get}
-use Rattle.mw_term.specs.Terms.{Expression, Value, KernelValue, KernelType, GroundType, to, num, truth, var, glob, fun, fix, app, bind, cond, pair, fst, snd, prim, bracket, escape, run, close, opened, lift, lift_b, done, int, bool, both, function, recursive, code, kept}
+use Rattle.mw_term.specs.Terms.{Expression, Value, KernelValue, KernelType, GroundType, to, num, truth, var, glob, fun}
+use Rattle.mw_term.specs.Terms.{fix, app, bind, cond, pair, fst, snd, prim, bracket, escape, run, close, opened, lift}
+use Rattle.mw_term.specs.Terms.{lift_b, done, int, bool, both, function, recursive, code, kept}
 use Rattle.mw_term.specs.declared.term.Primitive.{Primitive as Prim}
 use Rattle.mw_term.specs.Closed.{IsCode}
-use Rattle.mw_term.specs.Types.{TermType, int_type, bool_type, pair_type, function_type, code_type, closed_type, Level, live, under, Entry, value, entry, IsPlain, IsFormed, Fits, IsAbsent, kernel_type, primitive_type}
+use Rattle.mw_term.specs.Types.{TermType, int_type, bool_type, pair_type, function_type, code_type, closed_type, Level}
+use Rattle.mw_term.specs.Types.{live, under, Entry, value, entry, IsPlain, IsFormed, Fits, IsAbsent, kernel_type}
+use Rattle.mw_term.specs.Types.{primitive_type}
 use Rattle.mw_term.specs.Unlabelled.{unlabelled_value, IsClosedKernelValue}
 
 -- what a top-level name stands for where a term is typed

@@ -1,6 +1,7 @@
 -- Kernel terms without their labels, and which variables a kernel term may use.
 use Rattle.std.specs.Prelude.{ℕ, zero, suc, ◌<◌}
-use Rattle.mw_term.specs.Terms.{Expression, Value, KernelTerm, KernelValue, num, truth, var, fun, fix, app, bind, cond, pair, fst, snd, prim, done, int, bool, both, function, recursive}
+use Rattle.mw_term.specs.Terms.{Expression, Value, KernelTerm, KernelValue, num, truth, var, fun, fix, app, bind, cond}
+use Rattle.mw_term.specs.Terms.{pair, fst, snd, prim, done, int, bool, both, function, recursive}
 
 -- the same term, with the labels of its functions forgotten
 abbrev mutual

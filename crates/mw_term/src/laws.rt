@@ -4,7 +4,9 @@ ghost use denote.Param.Send.{IsSend, IsSync};
 ghost use Rattle.mw_term.specs.contracts.program.Program as program;
 ghost use Rattle.mw_term.specs.contracts.term.Term as term;
 ghost use Rattle.mw_term.specs.Sources.{TermsAreSources};
-ghost use Rattle.mw_term.specs.SubstitutionLaws.{ShiftKeepsSize, SubstitutionKeepsSize, SubstitutionUndoesShift, ShiftsCommute, ShiftKeepsClosed, SubstitutionKeepsClosed, ShiftRaisesFree, SubstitutionLowersFree};
+ghost use Rattle.mw_term.specs.SubstitutionLaws.{ShiftKeepsSize, SubstitutionKeepsSize, SubstitutionUndoesShift};
+ghost use Rattle.mw_term.specs.SubstitutionLaws.{ShiftsCommute, ShiftKeepsClosed, SubstitutionKeepsClosed};
+ghost use Rattle.mw_term.specs.SubstitutionLaws.{ShiftRaisesFree, SubstitutionLowersFree};
 ghost use Rattle.mw_term.specs.TypingLaws.{TypesFit, TypedIsClosed, WeakeningKeepsTypes, SubstitutionKeepsTypes};
 
 use crate::program::Program;

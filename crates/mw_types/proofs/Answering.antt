@@ -1,8 +1,10 @@
 -- From what nodes stand for to the answer.
-use Rattle.std.proofs.Common.{length-append, ◌≡◌, inl, inr, ℕ, zero, suc, ◌+◌, ◌-◌, ◌≤◌, ◌<◌, map, List, [], ◌∷◌, ◌++◌, length, refl, ap, sym, subst, ◌∙◌, arith, ◌⊎◌}
+use Rattle.std.proofs.Common.{length-append, ◌≡◌, inl, inr, ℕ, zero, suc, ◌+◌, ◌-◌, ◌≤◌, ◌<◌, map, List, [], ◌∷◌, ◌++◌}
+use Rattle.std.proofs.Common.{length, refl, ap, sym, subst, ◌∙◌, arith, ◌⊎◌}
 use Rattle.std.proofs.lemmas.List.{get_or_default}
 use Rattle.std.specs.Prelude.{slice_index_or, slice_get, Some, All}
-use Rattle.mw_types.specs.Types.{TypeExpression, int_ty, bool_ty, unknown, pair_ty, function_ty, code_ty, closed_ty, type_of, Assignment, value, nodes, Substitution, after, Within}
+use Rattle.mw_types.specs.Types.{TypeExpression, int_ty, bool_ty, unknown, pair_ty, function_ty, code_ty, closed_ty}
+use Rattle.mw_types.specs.Types.{type_of, Assignment, value, nodes, Substitution, after, Within}
 use Rattle.mw_types.specs.Equations.{TypeEquation, AllWithin, Solves, Agree, MostGeneral, IsSmall, StaysWithin}
 use Rattle.mw_types.specs.Forest.{Low, Leads, here, up}
 use Rattle.mw_types.specs.Holds.{IsShaped, Means, Sound, Inside}

@@ -1,11 +1,15 @@
 -- Equations have a most general solution or none: the elimination, an equation at a time.
-use Rattle.std.proofs.Common.{◌≡◌, ◌⊎◌, inl, inr, ℕ, zero, suc, ◌+◌, ◌≤◌, ◌<◌, List, [], ◌∷◌, length, refl, ap, sym, ◌∙◌, arith}
+use Rattle.std.proofs.Common.{◌≡◌, ◌⊎◌, inl, inr, ℕ, zero, suc, ◌+◌, ◌≤◌, ◌<◌, List, [], ◌∷◌, length, refl, ap, sym}
+use Rattle.std.proofs.Common.{◌∙◌, arith}
 use Rattle.mw_term.specs.Types.{TermType, pair_type, function_type, code_type, closed_type}
-use Rattle.mw_types.specs.Types.{TypeExpression, int_ty, bool_ty, unknown, pair_ty, function_ty, code_ty, closed_ty, Within, Assignment, value, nodes, size, Substitution}
+use Rattle.mw_types.specs.Types.{TypeExpression, int_ty, bool_ty, unknown, pair_ty, function_ty, code_ty, closed_ty}
+use Rattle.mw_types.specs.Types.{Within, Assignment, value, nodes, size, Substitution}
 use Rattle.mw_types.specs.Equations.{TypeEquation, AllWithin, Solvable, MostGeneral}
 use Rattle.mw_types.specs.Walks.{In}
 use Rattle.mw_types.proofs.Lists.{same, other, is}
-use Rattle.mw_types.proofs.Existence.{Decided, apply_all, from_applied, turn, compose, Over, AllOver, absent, itself, within, occurs, without, without_lt, put, all_over_put, put_keeps, put_absent, put_here, rename, rename_keeps, renamed, rename_weight, rename_all_over, weight}
+use Rattle.mw_types.proofs.Existence.{Decided, apply_all, from_applied, turn, compose, Over, AllOver, absent, itself}
+use Rattle.mw_types.proofs.Existence.{within, occurs, without, without_lt, put, all_over_put, put_keeps, put_absent}
+use Rattle.mw_types.proofs.Existence.{put_here, rename, rename_keeps, renamed, rename_weight, rename_all_over, weight}
 
 abbrev is_one : TypeExpression → TypeExpression → TypeEquation
 is_one l r = record { left = l; right = r }

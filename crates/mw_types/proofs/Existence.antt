@@ -1,6 +1,8 @@
 -- Equations have a most general solution or none: by elimination of one unknown after another.
-use Rattle.std.proofs.Common.{◌≡◌, ◌≢◌, ◌⊎◌, inl, inr, ℕ, suc, ◌+◌, ◌≤◌, ◌<◌, List, [], ◌∷◌, length, refl, ap, sym, ◌∙◌, arith}
-use Rattle.mw_types.specs.Types.{TypeExpression, int_ty, bool_ty, unknown, pair_ty, function_ty, code_ty, closed_ty, Assignment, value, nodes, size, Substitution, after}
+use Rattle.std.proofs.Common.{◌≡◌, ◌≢◌, ◌⊎◌, inl, inr, ℕ, suc, ◌+◌, ◌≤◌, ◌<◌, List, [], ◌∷◌, length, refl, ap, sym, ◌∙◌}
+use Rattle.std.proofs.Common.{arith}
+use Rattle.mw_types.specs.Types.{TypeExpression, int_ty, bool_ty, unknown, pair_ty, function_ty, code_ty, closed_ty}
+use Rattle.mw_types.specs.Types.{Assignment, value, nodes, size, Substitution, after}
 use Rattle.mw_types.specs.Equations.{TypeEquation, Solves, Solvable}
 use Rattle.mw_types.specs.Walks.{In}
 use Rattle.mw_types.proofs.Lists.{Is, same, other, is}

@@ -1,16 +1,19 @@
 -- First faults, from what the solver judges to most general solutions.
 use Rattle.std.specs.Prelude.{IsErrAnd, Result, Ok, Err}
 use Rattle.std.specs.declared.alloc.AllocError.{AllocError}
-use Rattle.std.proofs.Common.{◌≡◌, ◌⊎◌, inl, inr, ℕ, zero, suc, ◌≤◌, ◌<◌, List, [], ◌∷◌, take, length, refl, ap, sym, subst, arith}
+use Rattle.std.proofs.Common.{◌≡◌, ◌⊎◌, inl, inr, ℕ, zero, suc, ◌≤◌, ◌<◌, List, [], ◌∷◌, take, length, refl, ap, sym}
+use Rattle.std.proofs.Common.{subst, arith}
 use Rattle.mw_types.specs.Types.{Assignment, nodes, Substitution, after}
-use Rattle.mw_types.specs.Equations.{TypeEquation, AllWithin, Solvable, Agree, MostGeneral, TooBig, Fine, FirstUnsolvable, FirstTooBig}
+use Rattle.mw_types.specs.Equations.{TypeEquation, AllWithin, Solvable, Agree, MostGeneral, TooBig, Fine}
+use Rattle.mw_types.specs.Equations.{FirstUnsolvable, FirstTooBig}
 use Rattle.mw_types.specs.Fronts.{Small}
 use Rattle.mw_types.specs.Judged.{Faults}
 use Rattle.mw_types.specs.Solutions.{FirstFault, IsFaultOrMemory, IsSolvedOrMemory}
 use Rattle.mw_types.specs.SolutionLaws.{OneFault}
 use Rattle.mw_types.specs.declared.types.SolveFault.{SolveFault}
 use Rattle.mw_types.specs.declared.types.SolveFault.TheVariants.{Unsolvable, TooBig as TooBigFront, Memory}
-use Rattle.mw_types.proofs.Smallest.{same_sizes, small_of_most_general, most_general_small, too_big_not_small, solves_take, small_take}
+use Rattle.mw_types.proofs.Smallest.{same_sizes, small_of_most_general, most_general_small, too_big_not_small}
+use Rattle.mw_types.proofs.Smallest.{solves_take, small_take}
 use Rattle.mw_term.specs.Types.{int_type}
 use Rattle.mw_types.proofs.Lists.{same, other, is}
 use Rattle.mw_types.proofs.Elimination.{most_general_of, most_general_or_none}

@@ -2,7 +2,8 @@
 use Rattle.std.proofs.Common.{◌≡◌, ◌≢◌, ◌⊎◌, inl, inr, ℕ, ◌≤◌, ◌<◌, List, [], length, refl, ap, sym, subst, ◌∙◌, arith}
 use Rattle.std.specs.Prelude.{slice_index_or}
 use Rattle.mw_types.specs.Equations.{Agree}
-use Rattle.mw_types.specs.Types.{TypeExpression, int_ty, bool_ty, unknown, pair_ty, function_ty, code_ty, closed_ty, Assignment, value, Substitution, after}
+use Rattle.mw_types.specs.Types.{TypeExpression, int_ty, bool_ty, unknown, pair_ty, function_ty, code_ty, closed_ty}
+use Rattle.mw_types.specs.Types.{Assignment, value, Substitution, after}
 use Rattle.mw_types.specs.Forest.{Low, Same}
 use Rattle.mw_types.specs.Holds.{Meets, Holds, Inside}
 use Rattle.mw_types.specs.Stands.{Settled, Stands, s_up, s_free, s_int, s_bool, s_pair, s_arrow, s_code, s_closed}

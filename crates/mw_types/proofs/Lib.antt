@@ -15,3 +15,4 @@ pub mod Existence
 pub mod Elimination
 pub mod Faults
 pub mod Rows
+pub mod Expressions

@@ -1,7 +1,8 @@
 -- The definitions on small equations.
 use Rattle.std.proofs.Common.{◌≡◌, ℕ, zero, suc, ◌+◌, ◌<◌, List, [], ◌∷◌, take, refl, ap, arith}
 use Rattle.mw_term.specs.Types.{int_type, bool_type}
-use Rattle.mw_types.specs.Types.{TypeExpression, int_ty, bool_ty, unknown, pair_ty, function_ty, code_ty, closed_ty, Assignment, value, nodes, size, Substitution}
+use Rattle.mw_types.specs.Types.{TypeExpression, int_ty, bool_ty, unknown, pair_ty, function_ty, code_ty, closed_ty}
+use Rattle.mw_types.specs.Types.{Assignment, value, nodes, size, Substitution}
 use Rattle.mw_types.specs.Equations.{TypeEquation, Solves, Solvable, MostGeneral, TooBig, Fine, FirstUnsolvable}
 
 abbrev is_one : TypeExpression → TypeExpression → TypeEquation

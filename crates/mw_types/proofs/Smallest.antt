@@ -3,7 +3,8 @@ use Rattle.std.proofs.Common.{◌≡◌, ℕ, zero, suc, ◌≤◌, ◌<◌, Lis
 use Rattle.mw_term.specs.Types.{TermType, int_type, bool_type, pair_type, function_type, code_type, closed_type}
 use Rattle.mw_types.specs.Equations.{TypeEquation, Solves, MostGeneral, IsSmall, TooBig}
 use Rattle.mw_types.specs.Fronts.{Small}
-use Rattle.mw_types.specs.Types.{TypeExpression, int_ty, bool_ty, unknown, pair_ty, function_ty, code_ty, closed_ty, Assignment, value, nodes, size, Substitution, after}
+use Rattle.mw_types.specs.Types.{TypeExpression, int_ty, bool_ty, unknown, pair_ty, function_ty, code_ty, closed_ty}
+use Rattle.mw_types.specs.Types.{Assignment, value, nodes, size, Substitution, after}
 
 pub size_pos : (t : TermType) → 1 ≤ size t
 size_pos int_type = omega arith

@@ -1,11 +1,13 @@
 -- Steps of a state, one after another.
-use Rattle.std.proofs.Common.{true≢false, ◌≡◌, ◌≢◌, ℕ, ◌≤◌, ◌<◌, List, [], ◌∷◌, ◌++◌, length, refl, ap, sym, subst, ◌∙◌, arith}
+use Rattle.std.proofs.Common.{true≢false, ◌≡◌, ◌≢◌, ℕ, ◌≤◌, ◌<◌, List, [], ◌∷◌, ◌++◌, length, refl, ap, sym, subst, ◌∙◌}
+use Rattle.std.proofs.Common.{arith}
 use Rattle.std.proofs.lemmas.List.{get_or_default}
 use Rattle.std.specs.Prelude.{slice_index_or, slice_set, IfOk, IsErr, Result, Ok, Err}
 use Rattle.mw_term.specs.Types.{pair_type, function_type, code_type, closed_type}
 use Rattle.mw_types.specs.Types.{Assignment}
 use Rattle.mw_types.specs.Forest.{Low, Joins}
-use Rattle.mw_types.specs.Holds.{Meets, Waits, joined, Means, Meeting, kept, Extra, ExtraInside, Inside, WaitsInside, Sound, Step, Linked}
+use Rattle.mw_types.specs.Holds.{Meets, Waits, joined, Means, Meeting, kept, Extra, ExtraInside, Inside, WaitsInside}
+use Rattle.mw_types.specs.Holds.{Sound, Step, Linked}
 use Rattle.mw_types.specs.declared.state.Shape.{Shape}
 use Rattle.mw_types.specs.declared.state.Shape.TheVariants.{Free, Pair, Arrow, Code, Closed}
 use Rattle.mw_types.specs.declared.state.Pending.{Pending}

@@ -1,12 +1,14 @@
 -- Steps of the walk over classes.
-use Rattle.std.proofs.Common.{length-append, ◌≡◌, ◌≢◌, ◌⊎◌, inl, inr, ℕ, zero, suc, ◌+◌, ◌*◌, ◌≤◌, ◌<◌, min, List, [], ◌∷◌, ◌++◌, length, refl, ap, sym, subst, ◌∙◌, arith}
+use Rattle.std.proofs.Common.{length-append, ◌≡◌, ◌≢◌, ◌⊎◌, inl, inr, ℕ, zero, suc, ◌+◌, ◌*◌, ◌≤◌, ◌<◌, min, List, []}
+use Rattle.std.proofs.Common.{◌∷◌, ◌++◌, length, refl, ap, sym, subst, ◌∙◌, arith}
 use Rattle.std.proofs.lemmas.List.{get_or_default}
 use Rattle.std.specs.Prelude.{slice_index_or, slice_set}
 use Rattle.mw_types.specs.Types.{TypeExpression, pair_ty, function_ty, code_ty, closed_ty, Assignment, nodes, size}
 use Rattle.mw_types.specs.Forest.{Leads, here, up}
 use Rattle.mw_types.specs.Holds.{Means, Sound, Never}
 use Rattle.mw_types.specs.Stands.{Stands, s_up, s_pair, s_arrow, s_code, s_closed}
-use Rattle.mw_types.specs.Walks.{Sized, Marked, Above, RootOf, Lower, AllAbove, AllBelow, Falls, In, Walk, fresh, AllNew, SomeSized, AllSized}
+use Rattle.mw_types.specs.Walks.{Sized, Marked, Above, RootOf, Lower, AllAbove, AllBelow, Falls, In, Walk, fresh}
+use Rattle.mw_types.specs.Walks.{AllNew, SomeSized, AllSized}
 use Rattle.mw_types.specs.declared.state.Shape.{Shape}
 use Rattle.mw_types.specs.declared.state.Shape.TheVariants.{Free, Pair, Arrow, Code, Closed}
 use Rattle.mw_types.specs.declared.state.State.{State}

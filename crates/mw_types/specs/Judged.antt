@@ -8,7 +8,8 @@ use Rattle.mw_types.specs.declared.state.State.{State}
 use Rattle.mw_types.specs.declared.judging.Verdict.{Verdict}
 use Rattle.mw_types.specs.declared.judging.Verdict.TheVariants.{Fine, Unsolvable, TooBig}
 use Rattle.mw_types.specs.declared.types.SolveFault.{SolveFault}
-use Rattle.mw_types.specs.declared.types.SolveFault.TheVariants.{Unsolvable as UnsolvableFront, TooBig as TooBigFront, Memory}
+use Rattle.mw_types.specs.declared.types.SolveFault.TheVariants.{Unsolvable as UnsolvableFront, TooBig as TooBigFront}
+use Rattle.mw_types.specs.declared.types.SolveFault.TheVariants.{Memory}
 
 -- what a verdict says of equations
 abbrev pub Judges : ℕ → List TypeEquation → Verdict → Type 0

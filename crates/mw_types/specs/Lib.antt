@@ -1,4 +1,6 @@
 pub mod Types
+pub mod Expressions
+pub mod Numbered
 pub mod Equations
 pub mod Fronts
 pub mod Forest

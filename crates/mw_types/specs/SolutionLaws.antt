@@ -1,7 +1,8 @@
 -- Laws of most general solutions and of fronts.
 use Rattle.std.specs.Prelude.{ℕ, ◌≡◌, ◌≤◌, ◌<◌, ◌⊎◌, List, take}
 use Rattle.mw_types.specs.Types.{Assignment, Substitution, nodes, after}
-use Rattle.mw_types.specs.Equations.{TypeEquation, AllWithin, Solvable, Agree, MostGeneral, TooBig, Fine, FirstUnsolvable, FirstTooBig}
+use Rattle.mw_types.specs.Equations.{TypeEquation, AllWithin, Solvable, Agree, MostGeneral, TooBig, Fine}
+use Rattle.mw_types.specs.Equations.{FirstUnsolvable, FirstTooBig}
 
 -- equations that have a solution have a most general one
 abbrev pub SolvableHaveMostGeneral : Type 0

@@ -1,6 +1,7 @@
 // Laws of most general solutions and of fronts, which no program calls.
 
-ghost use Rattle.mw_types.specs.SolutionLaws.{SolvableHaveMostGeneral, MostGeneralAreInstances, MostGeneralHaveSameSizes, UnsolvableStays};
+ghost use Rattle.mw_types.specs.SolutionLaws.{SolvableHaveMostGeneral, MostGeneralAreInstances};
+ghost use Rattle.mw_types.specs.SolutionLaws.{MostGeneralHaveSameSizes, UnsolvableStays};
 ghost use Rattle.mw_types.specs.SolutionLaws.{TooBigStays, FineBefore, FaultsAreOne, FineOrFaulty};
 
 /// Equations that have a solution have a most general one.

@@ -3,7 +3,8 @@
 #![tactic(auto)]
 
 ghost use Rattle.std.specs.Prelude.{ℕ, ◌≡◌, ◌≤◌, length, IfOk, IfErr};
-ghost use Rattle.mw_types.specs.Equations.{said_of, AllWithin, MostGeneral, IsSmall, StaysWithin, Fine, FirstUnsolvable, FirstTooBig};
+ghost use Rattle.mw_types.specs.Equations.{said_of, AllWithin, MostGeneral, IsSmall, StaysWithin, Fine};
+ghost use Rattle.mw_types.specs.Equations.{FirstUnsolvable, FirstTooBig};
 ghost use Rattle.mw_types.specs.Solutions.{substitution_of, FirstFault, IsFaultOrMemory, IsSolvedOrMemory};
 
 mod answer;

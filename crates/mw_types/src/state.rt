@@ -2,7 +2,8 @@
 
 ghost use Rattle.std.specs.Prelude.{ℕ, ◌+◌, ◌*◌, ◌≡◌, ◌≢◌, [], ◌≤◌, ◌<◌, length, slice_index_or, IfOk, IsTrue, IsFalse};
 ghost use Rattle.mw_types.specs.Forest.{Low, Leads};
-ghost use Rattle.mw_types.specs.Holds.{Meeting, shape_at, Inside, ExtraInside, kept, Sound, Step, Linked, Never, weight, more, work};
+ghost use Rattle.mw_types.specs.Holds.{Meeting, shape_at, Inside, ExtraInside, kept, Sound, Step, Linked, Never};
+ghost use Rattle.mw_types.specs.Holds.{weight, more, work};
 ghost use Rattle.mw_types.specs.Shorter.{Found};
 
 use crate::ways::find_halving;

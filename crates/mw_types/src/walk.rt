@@ -1,6 +1,7 @@
 // The sizes of the types that nodes stand for, where the classes have no cycle.
 
-ghost use Rattle.std.specs.Prelude.{ℕ, ◌≡◌, ◌≢◌, ◌<◌, length, slice_index_or, IfSome, IfNone, IfOk, IsTrue, IsFalse, ◌↔◌};
+ghost use Rattle.std.specs.Prelude.{ℕ, ◌≡◌, ◌≢◌, ◌<◌, length, slice_index_or, IfSome, IfNone, IfOk, IsTrue, IsFalse};
+ghost use Rattle.std.specs.Prelude.{◌↔◌};
 ghost use Rattle.mw_types.specs.Holds.{Sound, Never};
 ghost use Rattle.mw_types.specs.Walks.{Sized, Marked, Finds, Looks, Walk, fresh, AllSized, AllNew};
 

@@ -1,5 +1,6 @@
 -- The canonical text is a text of its module.
-use Rattle.std.proofs.Common.{◌≡◌, inl, inr, ℕ, zero, suc, ◌+◌, ◌/◌, ◌%◌, ◌^◌, ◌<◌, ◌==◌, List, [], ◌∷◌, ◌++◌, map, refl, ap, sym, ◌∙◌, subst, arith, Bool, true, false, append_assoc}
+use Rattle.std.proofs.Common.{◌≡◌, inl, inr, ℕ, zero, suc, ◌+◌, ◌/◌, ◌%◌, ◌^◌, ◌<◌, ◌==◌, List, [], ◌∷◌, ◌++◌, map}
+use Rattle.std.proofs.Common.{refl, ap, sym, ◌∙◌, subst, arith, Bool, true, false, append_assoc}
 use Rattle.std.specs.Prelude.{codes, if◌then◌else◌, ◌||◌, ℤ, pos, negsuc}
 use Rattle.std.specs.List.{AllByRecursion, flat_map}
 use Rattle.std.specs.Int.{cast_signed}
@@ -8,10 +9,14 @@ use Rattle.std.proofs.lemmas.Bool.{and_parts, and_from, le-leb, ne_eqb, eqb-fals
 use Rattle.std.proofs.lemmas.List.{map-append}
 use Rattle.mw_wasm.specs.Syntax.{PureModule}
 use Rattle.mw_wasm.specs.Profile.{IsPrintable}
-use Rattle.mw_wat.specs.Tokens.{PureToken, IsBlank, IsWordByte, IsPlain, Quotes, nothing, plain, escape, Spells, a_left, a_right, a_word, a_string, IsWhole, Begins, ReadsTo, so_far, behind_blank, behind_token, AreTokens}
+use Rattle.mw_wat.specs.Tokens.{PureToken, IsBlank, IsWordByte, IsPlain, Quotes, nothing, plain, escape, Spells, a_left}
+use Rattle.mw_wat.specs.Tokens.{a_right, a_word, a_string, IsWhole, Begins, ReadsTo, so_far, behind_blank, behind_token}
+use Rattle.mw_wat.specs.Tokens.{AreTokens}
 use Rattle.mw_wat.specs.Tokens as t
-use Rattle.mw_wat.specs.Lexemes.{Lexeme, left, right, word, number, keyed, constant, name, octets, token_of, IsInRange, lines, lexemes}
-use Rattle.mw_wat.specs.CanonicalTexts.{escaped, name_byte, spelled, is_left, is_right, gap, laid_out, line, canonical_text}
+use Rattle.mw_wat.specs.Lexemes.{Lexeme, left, right, word, number, keyed, constant, name, octets, token_of, IsInRange}
+use Rattle.mw_wat.specs.Lexemes.{lines, lexemes}
+use Rattle.mw_wat.specs.CanonicalTexts.{escaped, name_byte, spelled, is_left, is_right, gap, laid_out, line}
+use Rattle.mw_wat.specs.CanonicalTexts.{canonical_text}
 use Rattle.mw_wat.specs.ModuleTexts.{HasTexts, IsTextOf}
 use Rattle.mw_wat.specs.Lexing.{is_word_byte}
 use Rattle.mw_wat.proofs.TokensOfText.{word_byte_from}

@@ -6,7 +6,8 @@ use Rattle.mw_wasm.specs.declared.modules.FuncType.{FuncType}
 use Rattle.mw_wasm.specs.Syntax.{Function, PureModule}
 use Rattle.mw_wat.specs.Lexing.{Tokens, stop, token}
 use Rattle.mw_wat.specs.Reading.{Read, got, bad, Reader, place_of, and_then, gives, ◌>>=◌, this, opening}
-use Rattle.mw_wat.specs.Modules.{function_type, function, table, memory, next_field, fields_up_to, fields, head, whole_module, up_to_end}
+use Rattle.mw_wat.specs.Modules.{function_type, function, table, memory, next_field, fields_up_to, fields, head}
+use Rattle.mw_wat.specs.Modules.{whole_module, up_to_end}
 use Rattle.mw_wat.specs.Parts.{one_field, single_of, single}
 use Rattle.mw_wat.specs.Chain.{behind_memory, behind_funcs, module_chain, ends_at}
 use Rattle.mw_wat.proofs.FieldLoops.{up_to_is, behind_field}

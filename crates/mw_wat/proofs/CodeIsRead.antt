@@ -1,5 +1,6 @@
 -- Code that stands there is read.
-use Rattle.std.proofs.Common.{◌≡◌, ℕ, zero, suc, ◌-◌, ◌<◌, ◌≤◌, ◌^◌, List, [], ◌∷◌, ◌++◌, map, refl, ap, sym, ◌∙◌, subst, arith, Bool, true, false, Option, Some, None, append_assoc, append-nil}
+use Rattle.std.proofs.Common.{◌≡◌, ℕ, zero, suc, ◌-◌, ◌<◌, ◌≤◌, ◌^◌, List, [], ◌∷◌, ◌++◌, map, refl, ap, sym, ◌∙◌}
+use Rattle.std.proofs.Common.{subst, arith, Bool, true, false, Option, Some, None, append_assoc, append-nil}
 use Rattle.std.specs.Prelude.{codes}
 use Rattle.std.proofs.lemmas.Bool.{false≢true}
 use Rattle.std.specs.Int.{w32, w64}
@@ -14,7 +15,10 @@ use Rattle.mw_wasm.specs.declared.numbers.LoadOp.TheVariants as load_op
 use Rattle.mw_wasm.specs.declared.numbers.StoreOp.{StoreOp}
 use Rattle.mw_wasm.specs.declared.numbers.StoreOp.TheVariants as store_op
 use Rattle.mw_wasm.specs.Syntax as pure
-use Rattle.mw_wasm.specs.Syntax.{Instruction, Code, unreachable, nop, block, loop, cond, br, br_if, br_table, give_back, call, call_indirect, drop_value, select, local_get, local_set, local_tee, global_get, global_set, load, store, memory_size, memory_grow, const_i32, const_i64, numeric, end, next}
+use Rattle.mw_wasm.specs.Syntax.{Instruction, Code, unreachable, nop, block, loop, cond, br, br_if, br_table, give_back}
+use Rattle.mw_wasm.specs.Syntax.{call, call_indirect, drop_value, select, local_get, local_set, local_tee, global_get}
+use Rattle.mw_wasm.specs.Syntax.{global_set, load, store, memory_size, memory_grow, const_i32, const_i64, numeric, end}
+use Rattle.mw_wasm.specs.Syntax.{next}
 use Rattle.mw_wasm.specs.Profile.{depth, depth_of}
 use Rattle.mw_wasm.specs.BinaryModules.{at_most_one}
 use Rattle.mw_wat.specs.Tokens.{PureToken}
@@ -23,9 +27,14 @@ use Rattle.mw_wat.specs.Names.{number_name, load_name, store_name}
 use Rattle.mw_wat.specs.Lexemes.{Lexeme, left, right, word, number, keyed, types_behind, instruction, code}
 use Rattle.mw_wat.specs.Lexing.{Tokens, token}
 use Rattle.mw_wat.specs.Reading.{got, Reader, ◌>>=◌, gives, one_of, count, all_of, as_number, if_left}
-use Rattle.mw_wat.specs.Instructions.{Opener, as_constant, as_keyed, indexed, at_address, labels, table_behind, indirect, Meaning, ends, turns, opens, alone, a_block, a_loop, an_if, meaning, Place, whole, inner, first, fresh, onward, Mark, closed, ended, turned, Listed, Lists, ahead, more, block_type, inside, second, meant, listed, instructions, expression}
+use Rattle.mw_wat.specs.Instructions.{Opener, as_constant, as_keyed, indexed, at_address, labels, table_behind}
+use Rattle.mw_wat.specs.Instructions.{indirect, Meaning, ends, turns, opens, alone, a_block, a_loop, an_if, meaning}
+use Rattle.mw_wat.specs.Instructions.{Place, whole, inner, first, fresh, onward, Mark, closed, ended, turned, Listed}
+use Rattle.mw_wat.specs.Instructions.{Lists, ahead, more, block_type, inside, second, meant, listed, instructions}
+use Rattle.mw_wat.specs.Instructions.{expression}
 use Rattle.mw_wat.specs.Instructions as read
-use Rattle.mw_wat.proofs.TokensStand.{Stands, here, there, parted, counted, number_means, constant_32, constant_64, offset_means, align_means, all_got}
+use Rattle.mw_wat.proofs.TokensStand.{Stands, here, there, parted, counted, number_means, constant_32, constant_64}
+use Rattle.mw_wat.proofs.TokensStand.{offset_means, align_means, all_got}
 
 -- the words
 number_32 : (o : IntOp) → meaning (number_name (num.I32 o)) ≡ Some (alone (gives (numeric (num.I32 o))))

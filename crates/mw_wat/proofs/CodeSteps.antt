@@ -1,5 +1,6 @@
 -- Code read one instruction after the other, as a loop reads it.
-use Rattle.std.proofs.Common.{◌≡◌, ◌≢◌, ℕ, zero, suc, ◌-◌, ◌<◌, ◌≤◌, List, [], ◌∷◌, ◌++◌, refl, ap, sym, ◌∙◌, arith, Option, Some, None}
+use Rattle.std.proofs.Common.{◌≡◌, ◌≢◌, ℕ, zero, suc, ◌-◌, ◌<◌, ◌≤◌, List, [], ◌∷◌, ◌++◌, refl, ap, sym, ◌∙◌, arith}
+use Rattle.std.proofs.Common.{Option, Some, None}
 use Rattle.mw_wasm.specs.declared.instructions.Instr.{Instr}
 use Rattle.mw_wasm.specs.Syntax as pure
 use Rattle.mw_wasm.specs.Syntax.{Instruction, Code}
@@ -9,13 +10,17 @@ use Rattle.mw_wat.specs.declared.reading.cursor.Fault.TheVariants.{Bad, Memory}
 use Rattle.mw_wat.specs.Tokens.{PureToken, left, right, word, string}
 use Rattle.mw_wat.specs.Lexing.{Tokens, stop, token}
 use Rattle.mw_wat.specs.Reading.{Read, got, bad, Reader, count, and_then, skip}
-use Rattle.mw_wat.specs.Instructions.{Opener, Meaning, ends, turns, opens, alone, meaning, Place, whole, inner, first, fresh, onward, Mark, Listed, Lists, ahead, block_type, inside, opened, more, meant, listed, within, instructions}
+use Rattle.mw_wat.specs.Instructions.{Opener, Meaning, ends, turns, opens, alone, meaning, Place, whole, inner, first}
+use Rattle.mw_wat.specs.Instructions.{fresh, onward, Mark, Listed, Lists, ahead, block_type, inside, opened, more}
+use Rattle.mw_wat.specs.Instructions.{meant, listed, within, instructions}
 use Rattle.mw_wat.specs.Cursors.{next, Fails}
 use Rattle.mw_wat.specs.Parts.{behind_opener}
-use Rattle.mw_wat.specs.Steps.{marked, one, closing_mark, end_mark, else_mark, marks_or_bad, marks, step_meant, step, go_on, before, with_front}
+use Rattle.mw_wat.specs.Steps.{marked, one, closing_mark, end_mark, else_mark, marks_or_bad, marks, step_meant, step}
+use Rattle.mw_wat.specs.Steps.{go_on, before, with_front}
 use Rattle.mw_wat.proofs.CursorReaders.{next_is}
 use Rattle.mw_wat.proofs.Lookahead.{no_longer, local_then, got_parts}
-use Rattle.mw_wat.proofs.LookaheadOfCode.{local_within, local_inside, local_block_type, local_instructions, meaning_local, same_listed, same_within}
+use Rattle.mw_wat.proofs.LookaheadOfCode.{local_within, local_inside, local_block_type, local_instructions}
+use Rattle.mw_wat.proofs.LookaheadOfCode.{meaning_local, same_listed, same_within}
 
 -- the law of reading code
 pub instructions_are : (room : ℕ) (p : Place) (ts : Tokens) → instructions room p ts ≡ listed instructions room p ts

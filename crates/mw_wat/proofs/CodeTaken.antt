@@ -1,5 +1,7 @@
 -- Code that is read is what the tokens say.
-use Rattle.std.proofs.Common.{◌≡◌, ℕ, zero, suc, ◌-◌, ◌<◌, ◌≤◌, ◌^◌, List, [], ◌∷◌, ◌++◌, length, map, take, drop, refl, ap, sym, ◌∙◌, subst, arith, Bool, true, false, Option, Some, None, append_assoc, append-nil}
+use Rattle.std.proofs.Common.{◌≡◌, ℕ, zero, suc, ◌-◌, ◌<◌, ◌≤◌, ◌^◌, List, [], ◌∷◌, ◌++◌, length, map, take, drop, refl}
+use Rattle.std.proofs.Common.{ap, sym, ◌∙◌, subst, arith, Bool, true, false, Option, Some, None, append_assoc}
+use Rattle.std.proofs.Common.{append-nil}
 use Rattle.std.specs.Prelude.{ℤ, pos, negsuc, FitsSigned, nat_lt, codes, if◌then◌else◌}
 use Rattle.std.specs.Int.{Width, w32, w64, cast_signed, cast_unsigned}
 use Rattle.std.specs.Str.{bytes_eq}
@@ -15,21 +17,30 @@ use mir.Val.{hbits}
 use Rattle.mw_wasm.specs.declared.values.ValType.{ValType}
 use Rattle.mw_wasm.specs.declared.values.ValType.TheVariants.{I32, I64}
 use Rattle.mw_wasm.specs.Syntax as pure
-use Rattle.mw_wasm.specs.Syntax.{Instruction, Code, block, loop, cond, br_table, call_indirect, const_i32, const_i64, numeric, load, store, end, next}
+use Rattle.mw_wasm.specs.Syntax.{Instruction, Code, block, loop, cond, br_table, call_indirect, const_i32, const_i64}
+use Rattle.mw_wasm.specs.Syntax.{numeric, load, store, end, next}
 use Rattle.mw_wasm.specs.Profile.{depth, depth_of}
 use Rattle.mw_wasm.specs.BinaryModules.{at_most_one}
 use Rattle.mw_wat.specs.Tokens.{PureToken}
 use Rattle.mw_wat.specs.Tokens as t
 use Rattle.mw_wat.specs.Names.{type_name, number_name, load_name, store_name}
-use Rattle.mw_wat.specs.Lexemes.{Lexeme, left, right, word, number, keyed, constant, token_of, types_behind, instruction, code, otherwise}
+use Rattle.mw_wat.specs.Lexemes.{Lexeme, left, right, word, number, keyed, constant, token_of, types_behind}
+use Rattle.mw_wat.specs.Lexemes.{instruction, code, otherwise}
 use Rattle.mw_wat.specs.Lexing.{Tokens, stop, token}
 use Rattle.mw_key.specs.Numbers.{below, natural_of, integer_of}
-use Rattle.mw_wat.specs.Reading.{got, Reader, ◌>>=◌, gives, one_of, skip, this, as_left, as_right, as_word, opening, closing, as_number, index, count, all_of, as_type, value_type}
+use Rattle.mw_wat.specs.Reading.{got, Reader, ◌>>=◌, gives, one_of, skip, this, as_left, as_right, as_word, opening}
+use Rattle.mw_wat.specs.Reading.{closing, as_number, index, count, all_of, as_type, value_type}
 use Rattle.mw_wat.specs.Instructions as read
-use Rattle.mw_wat.specs.Instructions.{fits, fits_some, as_constant, as_keyed, indexed, at_address, table_behind, labels, indirect, Opener, a_block, a_loop, an_if, Meaning, ends, turns, opens, alone, alone_words, numbers, loads, stores, number_words, load_words, store_words, words, meaning, Place, whole, inner, first, fresh, onward, Mark, closed, ended, turned, Listed, Lists, nothing, ahead, result, block_type, second, inside, opened, more, meant, by_token, listed, instructions, expression}
+use Rattle.mw_wat.specs.Instructions.{fits, fits_some, as_constant, as_keyed, indexed, at_address, table_behind, labels}
+use Rattle.mw_wat.specs.Instructions.{indirect, Opener, a_block, a_loop, an_if, Meaning, ends, turns, opens, alone}
+use Rattle.mw_wat.specs.Instructions.{alone_words, numbers, loads, stores, number_words, load_words, store_words, words}
+use Rattle.mw_wat.specs.Instructions.{meaning, Place, whole, inner, first, fresh, onward, Mark, closed, ended, turned}
+use Rattle.mw_wat.specs.Instructions.{Listed, Lists, nothing, ahead, result, block_type, second, inside, opened, more}
+use Rattle.mw_wat.specs.Instructions.{meant, by_token, listed, instructions, expression}
 use Rattle.mw_key.proofs.NumberWords.{below_found, integer_found}
 use Rattle.mw_wat.proofs.Lookahead.{got_parts}
-use Rattle.mw_wat.proofs.LexemesTaken.{IsKnown, Said, s_here, s_there, said_joined, said_first, no_got, split_got, MeansBack, said_one, said_all, number_back}
+use Rattle.mw_wat.proofs.LexemesTaken.{IsKnown, Said, s_here, s_there, said_joined, said_first, no_got, split_got}
+use Rattle.mw_wat.proofs.LexemesTaken.{MeansBack, said_one, said_all, number_back}
 
 -- what single tokens mean
 left_back : MeansBack as_left (λ _. left)

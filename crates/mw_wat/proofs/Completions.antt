@@ -1,14 +1,17 @@
 -- A reader that stops where tokens stop can go on.
-use Rattle.std.proofs.Common.{◌≡◌, ℕ, zero, suc, ◌<◌, ◌≤◌, List, [], ◌∷◌, ◌++◌, refl, ap, sym, ◌∙◌, subst, arith, Bool, true, false, Option, Some, None, append_assoc}
+use Rattle.std.proofs.Common.{◌≡◌, ℕ, zero, suc, ◌<◌, ◌≤◌, List, [], ◌∷◌, ◌++◌, refl, ap, sym, ◌∙◌, subst, arith, Bool}
+use Rattle.std.proofs.Common.{true, false, Option, Some, None, append_assoc}
 use Rattle.std.specs.Prelude.{if◌then◌else◌}
 use Rattle.std.specs.List.{AllByRecursion}
 use Rattle.std.specs.Str.{bytes_eq}
 use Rattle.mw_wat.specs.Tokens.{PureToken}
 use Rattle.mw_wat.specs.Tokens as t
 use Rattle.mw_wat.specs.Lexing.{Tokens, stop, token}
-use Rattle.mw_wat.specs.Reading.{Read, got, bad, Reader, count, and_then, ◌>>=◌, gives, or_bad, one_of, skip, one_more, some_of, in_front, or_here, all_of, if_opened, if_word}
+use Rattle.mw_wat.specs.Reading.{Read, got, bad, Reader, count, and_then, ◌>>=◌, gives, or_bad, one_of, skip, one_more}
+use Rattle.mw_wat.specs.Reading.{some_of, in_front, or_here, all_of, if_opened, if_word}
 use Rattle.mw_wat.proofs.TokensOfText.{Placed, p_here, p_there}
-use Rattle.mw_wat.proofs.Lookahead.{Local, LocalAt, gets, loses, Goes, any, same, placed_parts, placed_joined, placed_count, bad_parts, local_one, local_some}
+use Rattle.mw_wat.proofs.Lookahead.{Local, LocalAt, gets, loses, Goes, any, same, placed_parts, placed_joined}
+use Rattle.mw_wat.proofs.Lookahead.{placed_count, bad_parts, local_one, local_some}
 use Rattle.mw_wat.proofs.ReadIsText.{HoldsBytes}
 
 -- the tokens of a reader that stops, what may follow them, and what it answers then, before tokens that are as F says

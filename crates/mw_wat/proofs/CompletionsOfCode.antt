@@ -1,5 +1,6 @@
 -- The readers of code can go on where tokens stop.
-use Rattle.std.proofs.Common.{◌≡◌, ℕ, zero, suc, ◌<◌, ◌^◌, ◌-◌, List, [], ◌∷◌, ◌++◌, map, refl, ap, sym, ◌∙◌, subst, arith, Bool, true, false, Option, Some, None}
+use Rattle.std.proofs.Common.{◌≡◌, ℕ, zero, suc, ◌<◌, ◌^◌, ◌-◌, List, [], ◌∷◌, ◌++◌, map, refl, ap, sym, ◌∙◌, subst}
+use Rattle.std.proofs.Common.{arith, Bool, true, false, Option, Some, None}
 use Rattle.std.specs.Prelude.{codes, if◌then◌else◌}
 use Rattle.std.specs.List.{AllByRecursion}
 use Rattle.std.specs.Map.{lookup}
@@ -8,19 +9,30 @@ use Rattle.std.specs.Int.{w32, w64}
 use Rattle.mw_wasm.specs.declared.values.ValType.{ValType}
 use Rattle.mw_wasm.specs.declared.values.ValType.TheVariants.{I32}
 use Rattle.mw_wasm.specs.Syntax as pure
-use Rattle.mw_wasm.specs.Syntax.{Instruction, Code, block, loop, cond, call_indirect, const_i32, const_i64, numeric, load, store, nop}
+use Rattle.mw_wasm.specs.Syntax.{Instruction, Code, block, loop, cond, call_indirect, const_i32, const_i64, numeric}
+use Rattle.mw_wasm.specs.Syntax.{load, store, nop}
 use Rattle.mw_wat.specs.Tokens.{PureToken}
 use Rattle.mw_wat.specs.Tokens as t
 use Rattle.mw_wat.specs.Names.{number_name, load_name, store_name}
 use Rattle.mw_wat.specs.Lexing.{Tokens, stop, token}
-use Rattle.mw_wat.specs.Reading.{got, bad, Reader, count, and_then, ◌>>=◌, gives, one_of, as_word, as_left, as_right, as_number, index, all_of, as_type}
+use Rattle.mw_wat.specs.Reading.{got, bad, Reader, count, and_then, ◌>>=◌, gives, one_of, as_word, as_left, as_right}
+use Rattle.mw_wat.specs.Reading.{as_number, index, all_of, as_type}
 use Rattle.mw_wat.specs.Instructions as read
-use Rattle.mw_wat.specs.Instructions.{as_constant, as_keyed, indexed, at_address, table_behind, labels, indirect, Opener, a_block, a_loop, an_if, Meaning, ends, turns, opens, alone, alone_words, numbers, loads, stores, number_words, load_words, store_words, words, meaning, Place, whole, inner, first, fresh, onward, Mark, closed, ended, turned, Listed, Lists, nothing, ahead, result, block_type, second, inside, opened, more, meant, by_token, listed, instructions, expression}
+use Rattle.mw_wat.specs.Instructions.{as_constant, as_keyed, indexed, at_address, table_behind, labels, indirect}
+use Rattle.mw_wat.specs.Instructions.{Opener, a_block, a_loop, an_if, Meaning, ends, turns, opens, alone, alone_words}
+use Rattle.mw_wat.specs.Instructions.{numbers, loads, stores, number_words, load_words, store_words, words, meaning}
+use Rattle.mw_wat.specs.Instructions.{Place, whole, inner, first, fresh, onward, Mark, closed, ended, turned, Listed}
+use Rattle.mw_wat.specs.Instructions.{Lists, nothing, ahead, result, block_type, second, inside, opened, more, meant}
+use Rattle.mw_wat.specs.Instructions.{by_token, listed, instructions, expression}
 use Rattle.mw_wat.proofs.TokensOfText.{Placed, p_here, p_there}
 use Rattle.mw_wat.proofs.ReadIsText.{HoldsBytes}
 use Rattle.mw_wat.proofs.Lookahead.{Local, local_then, local_all}
-use Rattle.mw_wat.proofs.LookaheadOfCode.{local_index, local_result, local_block_type, local_inside, local_instructions, local_within, same_within, same_listed, meaning_local}
-use Rattle.mw_wat.proofs.Completions.{Completed, Started, Completes, Any, Each, NotNext, got_bad, bad_token, stop_completed, completes_after, started_then, completes_gives, started_gives, behind_completed, started_all, completes_all, On, on_gives, on_one, on_after, on_then, on_token, on_opened}
+use Rattle.mw_wat.proofs.LookaheadOfCode.{local_index, local_result, local_block_type, local_inside, local_instructions}
+use Rattle.mw_wat.proofs.LookaheadOfCode.{local_within, same_within, same_listed, meaning_local}
+use Rattle.mw_wat.proofs.Completions.{Completed, Started, Completes, Any, Each, NotNext, got_bad, bad_token}
+use Rattle.mw_wat.proofs.Completions.{stop_completed, completes_after, started_then, completes_gives, started_gives}
+use Rattle.mw_wat.proofs.Completions.{behind_completed, started_all, completes_all, On, on_gives, on_one, on_after}
+use Rattle.mw_wat.proofs.Completions.{on_then, on_token, on_opened}
 
 abbrev pub is_index : PureToken → Option ℕ
 is_index = as_number (2 ^ 32 - 1)

@@ -1,5 +1,6 @@
 -- The reader of modules can go on where tokens stop.
-use Rattle.std.proofs.Common.{◌≡◌, ℕ, zero, suc, ◌<◌, ◌≤◌, List, [], ◌∷◌, refl, ap, sym, ◌∙◌, subst, arith, Bool, true, false, Option, Some, None}
+use Rattle.std.proofs.Common.{◌≡◌, ℕ, zero, suc, ◌<◌, ◌≤◌, List, [], ◌∷◌, refl, ap, sym, ◌∙◌, subst, arith, Bool, true}
+use Rattle.std.proofs.Common.{false, Option, Some, None}
 use Rattle.std.specs.Prelude.{codes, if◌then◌else◌}
 use Rattle.std.specs.Str.{bytes_eq}
 use Rattle.std.proofs.lemmas.Bool.{false≢true}
@@ -10,15 +11,29 @@ use Rattle.mw_wasm.specs.Syntax.{PureModule}
 use Rattle.mw_wat.specs.Tokens.{PureToken}
 use Rattle.mw_wat.specs.Tokens as t
 use Rattle.mw_wat.specs.Lexing.{Tokens, stop, token}
-use Rattle.mw_wat.specs.Reading.{got, bad, Reader, count, and_then, ◌>>=◌, gives, peek, skip, as_word, as_left, as_right, closing, as_number, index, some_of, all_of, as_type, value_type, types_and_close, if_opened, if_word}
+use Rattle.mw_wat.specs.Reading.{got, bad, Reader, count, and_then, ◌>>=◌, gives, peek, skip, as_word, as_left}
+use Rattle.mw_wat.specs.Reading.{as_right, closing, as_number, index, some_of, all_of, as_type, value_type}
+use Rattle.mw_wat.specs.Reading.{types_and_close, if_opened, if_word}
 use Rattle.mw_wat.specs.Instructions.{result, expression}
-use Rattle.mw_wat.specs.Modules.{results, params_then, with_params, function_type, some_locals, function, as_limit, upper, limits, table, memory, variable, global, as_name, as_string, as_kind, export, offset, element_behind, element, data_behind, data_segment, Fields, as_either, next_field, in_front, fields_up_to, fields, no_more, head, whole_module}
+use Rattle.mw_wat.specs.Modules.{results, params_then, with_params, function_type, some_locals, function, as_limit}
+use Rattle.mw_wat.specs.Modules.{upper, limits, table, memory, variable, global, as_name, as_string, as_kind, export}
+use Rattle.mw_wat.specs.Modules.{offset, element_behind, element, data_behind, data_segment, Fields, as_either}
+use Rattle.mw_wat.specs.Modules.{next_field, in_front, fields_up_to, fields, no_more, head, whole_module}
 use Rattle.mw_wat.proofs.TokensOfText.{Placed, p_here, p_there}
-use Rattle.mw_wat.proofs.Lookahead.{Local, local_one, local_then, local_gives, local_all, local_some, no_longer, got_parts, bad_parts}
+use Rattle.mw_wat.proofs.Lookahead.{Local, local_one, local_then, local_gives, local_all, local_some, no_longer}
+use Rattle.mw_wat.proofs.Lookahead.{got_parts, bad_parts}
 use Rattle.mw_wat.proofs.LookaheadOfCode.{local_if_left, local_index, local_result, local_expression, then_same}
-use Rattle.mw_wat.proofs.LookaheadOfModules.{typed, function_with, global_with, local_closing, local_types, local_results, local_with_params, local_some_locals, local_limits, local_variable, local_offset, local_function_type, local_function, local_table, local_memory, local_global, local_export, local_element, local_data, local_fields_up_to, local_fields, same_fields}
+use Rattle.mw_wat.proofs.LookaheadOfModules.{typed, function_with, global_with, local_closing, local_types}
+use Rattle.mw_wat.proofs.LookaheadOfModules.{local_results, local_with_params, local_some_locals, local_limits}
+use Rattle.mw_wat.proofs.LookaheadOfModules.{local_variable, local_offset, local_function_type, local_function}
+use Rattle.mw_wat.proofs.LookaheadOfModules.{local_table, local_memory, local_global, local_export, local_element}
+use Rattle.mw_wat.proofs.LookaheadOfModules.{local_data, local_fields_up_to, local_fields, same_fields}
 use Rattle.mw_wat.proofs.LexemesTaken.{split_got, no_got}
-use Rattle.mw_wat.proofs.Completions.{Completed, Started, Completes, Any, Each, NotNext, got_bad, token_stop, stop_completed, completes_then, completes_after, started_then, completes_gives, started_gives, completes_one, started_one, behind_completed, started_all, completes_all, started_some, completes_some, completes_word, started_word, On, on_gives, on_after, on_then, on_token, on_opened, on_word}
+use Rattle.mw_wat.proofs.Completions.{Completed, Started, Completes, Any, Each, NotNext, got_bad, token_stop}
+use Rattle.mw_wat.proofs.Completions.{stop_completed, completes_then, completes_after, started_then, completes_gives}
+use Rattle.mw_wat.proofs.Completions.{started_gives, completes_one, started_one, behind_completed, started_all}
+use Rattle.mw_wat.proofs.Completions.{completes_all, started_some, completes_some, completes_word, started_word, On}
+use Rattle.mw_wat.proofs.Completions.{on_gives, on_after, on_then, on_token, on_opened, on_word}
 use Rattle.mw_wat.proofs.CompletionsOfCode.{zero_word, on_index, on_result, on_expression}
 
 abbrev on_closing : {A : Type 0} (k : ℕ) (x : A) → On k (closing >>= λ _. gives x) Any

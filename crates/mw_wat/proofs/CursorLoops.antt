@@ -1,10 +1,12 @@
 -- Readers of lists, as loops read them.
-use Rattle.std.proofs.Common.{◌≡◌, ℕ, suc, ◌+◌, ◌-◌, ◌<◌, ◌≤◌, List, [], ◌∷◌, ◌++◌, refl, ap, sym, ◌∙◌, arith, append_assoc, Option, Some, None}
+use Rattle.std.proofs.Common.{◌≡◌, ℕ, suc, ◌+◌, ◌-◌, ◌<◌, ◌≤◌, List, [], ◌∷◌, ◌++◌, refl, ap, sym, ◌∙◌, arith}
+use Rattle.std.proofs.Common.{append_assoc, Option, Some, None}
 use Rattle.std.proofs.lemmas.List.{append-nil}
 use Rattle.mw_wasm.specs.declared.values.ValType.{ValType}
 use Rattle.mw_wat.specs.Tokens.{PureToken}
 use Rattle.mw_wat.specs.Lexing.{Tokens, stop, token}
-use Rattle.mw_wat.specs.Reading.{Read, got, bad, Reader, count, and_then, one_more, some_of, in_front, all_of, value_type, closing, types_and_close}
+use Rattle.mw_wat.specs.Reading.{Read, got, bad, Reader, count, and_then, one_more, some_of, in_front, all_of}
+use Rattle.mw_wat.specs.Reading.{value_type, closing, types_and_close}
 use Rattle.mw_wasm.specs.Syntax.{Instruction, br_table}
 use Rattle.mw_wat.specs.Cursors.{next, joined}
 use Rattle.mw_wat.specs.Parts.{branches}

@@ -5,7 +5,8 @@ use Rattle.std.specs.Str.{bytes_eq}
 use Rattle.mw_wat.specs.declared.reading.cursor.Fault.{Fault}
 use Rattle.mw_wat.specs.Tokens.{PureToken, left, right, word, string}
 use Rattle.mw_wat.specs.Lexing.{Tokens, stop, token}
-use Rattle.mw_wat.specs.Reading.{Read, got, bad, Reader, and_then, gives, one_of, skip, peek, this, if_left, if_opened, if_same, if_word}
+use Rattle.mw_wat.specs.Reading.{Read, got, bad, Reader, and_then, gives, one_of, skip, peek, this, if_left, if_opened}
+use Rattle.mw_wat.specs.Reading.{if_same, if_word}
 use Rattle.mw_wat.specs.Cursors.{Gives, next, is_opened, is_word}
 use Rattle.mw_wat.proofs.Lookahead.{got_parts}
 

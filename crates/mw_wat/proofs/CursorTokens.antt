@@ -1,10 +1,14 @@
 -- Tokens taken one after another from the bytes that are left.
-use Rattle.std.proofs.Common.{◌≡◌, ◌≢◌, ℕ, zero, suc, ◌+◌, ◌-◌, ◌*◌, ◌<◌, ◌≤◌, ◌==◌, List, [], ◌∷◌, ◌++◌, length, take, drop, get_or, drop-cons, add-one, refl, ap, sym, ◌∙◌, arith, Bool, true, false, Option, Some, None}
+use Rattle.std.proofs.Common.{◌≡◌, ◌≢◌, ℕ, zero, suc, ◌+◌, ◌-◌, ◌*◌, ◌<◌, ◌≤◌, ◌==◌, List, [], ◌∷◌, ◌++◌, length, take}
+use Rattle.std.proofs.Common.{drop, get_or, drop-cons, add-one, refl, ap, sym, ◌∙◌, arith, Bool, true, false, Option}
+use Rattle.std.proofs.Common.{Some, None}
 use Rattle.std.specs.Prelude.{if◌then◌else◌, nat_le}
 use Rattle.std.proofs.lemmas.Bool.{ne_eqb}
 use Rattle.std.proofs.lemmas.List.{append_assoc, append-nil, drop_all, take_all, take_more}
 use Rattle.mw_wat.specs.Tokens.{PureToken, left, right, word, string, Begins}
-use Rattle.mw_wat.specs.Lexing.{stop, token, is_blank, is_word_byte, is_plain, hex_value, Found, none, found, with_byte, with_digits, quotes, escaped, half_escaped, with_word_byte, whole_word, front, without_blanks, onward, tokens_up_to, tokens}
+use Rattle.mw_wat.specs.Lexing.{stop, token, is_blank, is_word_byte, is_plain, hex_value, Found, none, found, with_byte}
+use Rattle.mw_wat.specs.Lexing.{with_digits, quotes, escaped, half_escaped, with_word_byte, whole_word, front}
+use Rattle.mw_wat.specs.Lexing.{without_blanks, onward, tokens_up_to, tokens}
 use Rattle.mw_wat.specs.Reading.{got, bad, place_of}
 use Rattle.mw_wat.specs.Chain.{ends_at}
 use Rattle.mw_wat.specs.Cursors.{content, behind, next}

@@ -10,7 +10,8 @@ use Rattle.mw_wat.specs.Modules.{whole_module}
 use Rattle.mw_wat.proofs.TokensOfText.{Placed, p_here, p_there}
 use Rattle.mw_wat.proofs.OneModule.{stands}
 use Rattle.mw_wat.proofs.ModuleIsRead.{module_got}
-use Rattle.mw_wat.proofs.Lookahead.{LocalAt, gets, loses, SameHead, both_go, goes, same_front, placed_parts, bad_parts, got_parts}
+use Rattle.mw_wat.proofs.Lookahead.{LocalAt, gets, loses, SameHead, both_go, goes, same_front, placed_parts, bad_parts}
+use Rattle.mw_wat.proofs.Lookahead.{got_parts}
 use Rattle.mw_wat.proofs.LookaheadOfModules.{local_module}
 
 -- tokens at place 0

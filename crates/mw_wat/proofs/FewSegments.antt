@@ -1,5 +1,6 @@
 -- A text within the limit has few segments, since each takes a token.
-use Rattle.std.proofs.Common.{◌≡◌, ℕ, ◌+◌, ◌^◌, ◌<◌, ◌≤◌, List, [], ◌∷◌, ◌++◌, map, length, length-append, ap, ◌∙◌, arith, codes}
+use Rattle.std.proofs.Common.{◌≡◌, ℕ, ◌+◌, ◌^◌, ◌<◌, ◌≤◌, List, [], ◌∷◌, ◌++◌, map, length, length-append, ap, ◌∙◌}
+use Rattle.std.proofs.Common.{arith, codes}
 use Rattle.std.specs.List.{flat_map}
 use Rattle.std.proofs.lemmas.List.{length-map}
 use Rattle.mw_wasm.specs.declared.modules.Module.{Module}
@@ -7,7 +8,8 @@ use Rattle.mw_wasm.specs.Syntax.{PureModule, ElementSegment, DataSegment}
 use Rattle.mw_wasm.specs.Profile.{IsWithinFileLimit}
 use Rattle.mw_wasm.specs.Views.{module_of, element_of, segment_of}
 use Rattle.mw_wat.specs.Tokens.{PureToken, ReadsTo, so_far, behind_blank, behind_token}
-use Rattle.mw_wat.specs.Lexemes.{Lexeme, left, right, word, token_of, function_type, function, table, memory, global, export, element, data_segment, fields, lexemes}
+use Rattle.mw_wat.specs.Lexemes.{Lexeme, left, right, word, token_of, function_type, function, table, memory, global}
+use Rattle.mw_wat.specs.Lexemes.{export, element, data_segment, fields, lexemes}
 use Rattle.mw_wat.specs.ModuleTexts.{IsTextOf}
 use Rattle.mw_wasm.specs.BinaryModules.{at_most_one}
 use Rattle.mw_wat.proofs.TokensOfText.{longer}

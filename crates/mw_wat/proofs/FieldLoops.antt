@@ -1,5 +1,6 @@
 -- Fields of one kind, as a loop reads them.
-use Rattle.std.proofs.Common.{◌≡◌, ℕ, zero, suc, ◌<◌, ◌≤◌, List, [], ◌∷◌, ◌++◌, map, refl, ap, sym, ◌∙◌, subst, arith, append_assoc, Bool, true, false, Option, Some, None}
+use Rattle.std.proofs.Common.{◌≡◌, ℕ, zero, suc, ◌<◌, ◌≤◌, List, [], ◌∷◌, ◌++◌, map, refl, ap, sym, ◌∙◌, subst, arith}
+use Rattle.std.proofs.Common.{append_assoc, Bool, true, false, Option, Some, None}
 use Rattle.std.proofs.lemmas.List.{append-nil, map-append}
 use Rattle.mw_wat.specs.declared.reading.cursor.Fault.{Fault}
 use Rattle.mw_wat.specs.declared.reading.cursor.Fault.TheVariants.{Bad, Memory}

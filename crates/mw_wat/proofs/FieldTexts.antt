@@ -1,11 +1,13 @@
 -- The lines of fields, as a program writes them.
-use Rattle.std.proofs.Common.{◌≡◌, ℕ, ◌<◌, List, [], ◌∷◌, ◌++◌, map, length, refl, ap, sym, ◌∙◌, arith, Bool, true, false, append_assoc, append-nil, Result, Ok, Err}
+use Rattle.std.proofs.Common.{◌≡◌, ℕ, ◌<◌, List, [], ◌∷◌, ◌++◌, map, length, refl, ap, sym, ◌∙◌, arith, Bool, true}
+use Rattle.std.proofs.Common.{false, append_assoc, append-nil, Result, Ok, Err}
 use Rattle.std.specs.Prelude.{codes, OnOk}
 use Rattle.std.specs.List.{flat_map}
 use Rattle.std.proofs.lemmas.Grind.{flat_map-append}
 use Rattle.mw_wasm.specs.declared.values.ValType.{ValType}
 use Rattle.mw_wat.specs.Names.{type_name}
-use Rattle.mw_wat.specs.Lexemes.{Lexeme, left, right, word, number, keyed, constant, name, octets, within, types_behind, global_type}
+use Rattle.mw_wat.specs.Lexemes.{Lexeme, left, right, word, number, keyed, constant, name, octets, within, types_behind}
+use Rattle.mw_wat.specs.Lexemes.{global_type}
 use Rattle.mw_wat.specs.CanonicalTexts.{spelled, gap, laid_out, line}
 use Rattle.mw_wat.specs.Spacing.{spaced, opened}
 use Rattle.mw_wat.proofs.Appending.{ends_open, spaced_append}

@@ -1,5 +1,6 @@
 -- Fields that stand there are read.
-use Rattle.std.proofs.Common.{◌≡◌, ℕ, suc, ◌-◌, ◌≤◌, ◌^◌, List, [], ◌∷◌, ◌++◌, length, map, refl, ap, arith, Bool, true, false, Option, Some, None}
+use Rattle.std.proofs.Common.{◌≡◌, ℕ, suc, ◌-◌, ◌≤◌, ◌^◌, List, [], ◌∷◌, ◌++◌, length, map, refl, ap, arith, Bool, true}
+use Rattle.std.proofs.Common.{false, Option, Some, None}
 use Rattle.std.specs.Prelude.{codes}
 use Rattle.mw_wasm.specs.declared.values.ValType.{ValType}
 use Rattle.mw_wasm.specs.declared.values.ValType.TheVariants.{I32, I64}
@@ -15,10 +16,13 @@ use Rattle.mw_wat.specs.Names.{type_name}
 use Rattle.mw_wat.specs.Lexemes.{Lexeme, left, right, word, number, name, octets, token_of, within, types_behind, code}
 use Rattle.mw_wat.specs.Lexemes as lexemes
 use Rattle.mw_wat.specs.Lexing.{Tokens, token}
-use Rattle.mw_wat.specs.Reading.{got, Reader, ◌>>=◌, gives, count, some_of, all_of, as_type, types_and_close, if_opened, closing}
+use Rattle.mw_wat.specs.Reading.{got, Reader, ◌>>=◌, gives, count, some_of, all_of, as_type, types_and_close, if_opened}
+use Rattle.mw_wat.specs.Reading.{closing}
 use Rattle.mw_wat.specs.Instructions.{instructions, expression, whole}
-use Rattle.mw_wat.specs.Modules.{function_type, function, table, memory, global, export, element, data_segment, offset, some_locals, behind_params, params_then, element_behind, data_behind}
-use Rattle.mw_wat.proofs.TokensStand.{Stands, here, there, parted, number_means, type_means, some_got, all_got, printable}
+use Rattle.mw_wat.specs.Modules.{function_type, function, table, memory, global, export, element, data_segment, offset}
+use Rattle.mw_wat.specs.Modules.{some_locals, behind_params, params_then, element_behind, data_behind}
+use Rattle.mw_wat.proofs.TokensStand.{Stands, here, there, parted, number_means, type_means, some_got, all_got}
+use Rattle.mw_wat.proofs.TokensStand.{printable}
 use Rattle.mw_wat.proofs.CodeIsRead.{Other, other, code_other, code_got, by_right, numbers_got, by_left}
 
 -- what a parenthesis closes

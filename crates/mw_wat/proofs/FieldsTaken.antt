@@ -1,5 +1,6 @@
 -- Modules that are read are what the tokens say.
-use Rattle.std.proofs.Common.{◌≡◌, ℕ, zero, suc, ◌-◌, ◌<◌, ◌≤◌, ◌^◌, List, [], ◌∷◌, ◌++◌, length, map, refl, ap, sym, ◌∙◌, subst, arith, Bool, true, false, ◌&&◌, Option, Some, None, append_assoc}
+use Rattle.std.proofs.Common.{◌≡◌, ℕ, zero, suc, ◌-◌, ◌<◌, ◌≤◌, ◌^◌, List, [], ◌∷◌, ◌++◌, length, map, refl, ap, sym}
+use Rattle.std.proofs.Common.{◌∙◌, subst, arith, Bool, true, false, ◌&&◌, Option, Some, None, append_assoc}
 use Rattle.std.specs.Prelude.{codes, nat_le, if◌then◌else◌}
 use Rattle.std.specs.Str.{bytes_eq}
 use Rattle.std.specs.List.{AllByRecursion, flat_map}
@@ -19,14 +20,22 @@ use Rattle.mw_wat.specs.Names.{type_name}
 use Rattle.mw_wat.specs.Lexemes.{Lexeme, left, right, word, number, name, octets, token_of, within, types_behind, code}
 use Rattle.mw_wat.specs.Lexemes as lexemes
 use Rattle.mw_wat.specs.Lexing.{Tokens, stop, token}
-use Rattle.mw_wat.specs.Reading.{got, Reader, ◌>>=◌, gives, peek, or_bad, one_of, skip, this, as_number, at_most, index, some_of, all_of, as_type, value_type, types_and_close, opening, closing, if_opened, if_word}
+use Rattle.mw_wat.specs.Reading.{got, Reader, ◌>>=◌, gives, peek, or_bad, one_of, skip, this, as_number, at_most, index}
+use Rattle.mw_wat.specs.Reading.{some_of, all_of, as_type, value_type, types_and_close, opening, closing, if_opened}
+use Rattle.mw_wat.specs.Reading.{if_word}
 use Rattle.mw_wat.specs.Instructions.{result, expression}
-use Rattle.mw_wat.specs.Modules.{results, params_then, behind_params, with_params, function_type, some_locals, function, as_limit, upper, limits, table, memory, variable, global, are_printable, as_name, as_string, as_kind, export, offset, element_behind, element, data_behind, data_segment, Fields, next_field, in_front, fields_up_to}
+use Rattle.mw_wat.specs.Modules.{results, params_then, behind_params, with_params, function_type, some_locals, function}
+use Rattle.mw_wat.specs.Modules.{as_limit, upper, limits, table, memory, variable, global, are_printable, as_name}
+use Rattle.mw_wat.specs.Modules.{as_string, as_kind, export, offset, element_behind, element, data_behind, data_segment}
+use Rattle.mw_wat.specs.Modules.{Fields, next_field, in_front, fields_up_to}
 use Rattle.mw_key.proofs.NumberWords.{below_found}
 use Rattle.mw_wat.proofs.Lookahead.{got_parts}
-use Rattle.mw_wat.proofs.FieldsAreRead.{type_tail, function_tail, FitsFunction, table_tail, memory_tail, global_tail, export_tail, element_tail, data_tail}
-use Rattle.mw_wat.proofs.LexemesTaken.{Said, s_here, s_there, said_joined, said_first, no_got, split_got, MeansBack, said_one, said_all, said_some, number_back}
-use Rattle.mw_wat.proofs.CodeTaken.{said_opening, said_closing, said_this, said_index, said_type, said_closed, said_result, type_back, said_expression, left_first}
+use Rattle.mw_wat.proofs.FieldsAreRead.{type_tail, function_tail, FitsFunction, table_tail, memory_tail, global_tail}
+use Rattle.mw_wat.proofs.FieldsAreRead.{export_tail, element_tail, data_tail}
+use Rattle.mw_wat.proofs.LexemesTaken.{Said, s_here, s_there, said_joined, said_first, no_got, split_got, MeansBack}
+use Rattle.mw_wat.proofs.LexemesTaken.{said_one, said_all, said_some, number_back}
+use Rattle.mw_wat.proofs.CodeTaken.{said_opening, said_closing, said_this, said_index, said_type, said_closed}
+use Rattle.mw_wat.proofs.CodeTaken.{said_result, type_back, said_expression, left_first}
 
 -- where `(` comes next, or a word
 data IfLeft {A : Type 0} (r q : Reader A) (ts : Tokens) (x : A) (rest : Tokens) : Type 0 where

@@ -1,5 +1,6 @@
 -- No bad place comes before the one where reading stops.
-use Rattle.std.proofs.Common.{◌≡◌, ◌⊎◌, inl, inr, ⊎_elim, ℕ, zero, suc, ◌-◌, ◌<◌, ◌≤◌, List, [], ◌∷◌, ◌++◌, length, refl, ap, sym, ◌∙◌, subst, arith, Bool, true, false, append_assoc, append-nil}
+use Rattle.std.proofs.Common.{◌≡◌, ◌⊎◌, inl, inr, ⊎_elim, ℕ, zero, suc, ◌-◌, ◌<◌, ◌≤◌, List, [], ◌∷◌, ◌++◌, length}
+use Rattle.std.proofs.Common.{refl, ap, sym, ◌∙◌, subst, arith, Bool, true, false, append_assoc, append-nil}
 use Rattle.std.specs.Prelude.{nat_le, Result, Ok, Err, if◌then◌else◌}
 use Rattle.std.specs.List.{AllByRecursion}
 use Rattle.std.proofs.lemmas.Bool.{leb-true, leb-false}
@@ -7,14 +8,17 @@ use Rattle.mw_wasm.specs.Syntax.{PureModule}
 use Rattle.mw_wasm.specs.Profile.{IsWithinFileLimit}
 use Rattle.mw_wat.specs.Tokens.{PureToken, BeginsNone, ReadsTo, so_far, behind_blank, behind_token}
 use Rattle.mw_wat.specs.Lexemes.{lexemes, tokens_of}
-use Rattle.mw_wat.specs.ModuleTexts.{Says, IsDead, IsTextOf, IsBadPlace, no_token, no_module, unfinished, too_long, IsFirstBadPlace}
+use Rattle.mw_wat.specs.ModuleTexts.{Says, IsDead, IsTextOf, IsBadPlace, no_token, no_module, unfinished, too_long}
+use Rattle.mw_wat.specs.ModuleTexts.{IsFirstBadPlace}
 use Rattle.mw_wat.specs.Lexing as lexing
-use Rattle.mw_wat.specs.Lexing.{Tokens, stop, token, Found, none, found, is_blank, without_blanks, onward, tokens_up_to, tokens}
+use Rattle.mw_wat.specs.Lexing.{Tokens, stop, token, Found, none, found, is_blank, without_blanks, onward, tokens_up_to}
+use Rattle.mw_wat.specs.Lexing.{tokens}
 use Rattle.mw_wat.specs.Reading.{got, bad, count, place_of}
 use Rattle.mw_wat.specs.Modules.{whole_module, up_to_end, limited, module_read}
 use Rattle.mw_wat.proofs.TokensOfText.{Placed, p_here, p_there, longer, next_token, blank_is, blank_from}
 use Rattle.mw_wat.proofs.TextOfTokens.{At, at_end, at_none, at_token, Reached, front_back}
-use Rattle.mw_wat.proofs.Lookahead.{LocalAt, gets, loses, SameHead, both_go, Goes, any, same, placed_parts, placed_count, same_front, bad_parts}
+use Rattle.mw_wat.proofs.Lookahead.{LocalAt, gets, loses, SameHead, both_go, Goes, any, same, placed_parts}
+use Rattle.mw_wat.proofs.Lookahead.{placed_count, same_front, bad_parts}
 use Rattle.mw_wat.proofs.LookaheadOfModules.{local_module}
 use Rattle.mw_wat.proofs.DeadTokens.{laid, laid_placed, bad_or_got}
 use Rattle.mw_wat.proofs.OneModule.{placed_all}

@@ -16,11 +16,16 @@ use Rattle.mw_wasm.specs.declared.modules.Limits.{Limits}
 use Rattle.mw_wasm.specs.declared.modules.FuncType.{FuncType}
 use Rattle.mw_wasm.specs.declared.modules.Exported.{Exported}
 use Rattle.mw_wasm.specs.declared.modules.Exported.TheVariants as what
-use Rattle.mw_wasm.specs.Syntax.{Instruction, Code, unreachable, nop, block, loop, cond, br, br_if, br_table, give_back, call, call_indirect, drop_value, select, local_get, local_set, local_tee, global_get, global_set, load, store, memory_size, memory_grow, const_i32, const_i64, numeric, end, next, Function, Global, Exporting, ElementSegment, DataSegment, PureModule}
+use Rattle.mw_wasm.specs.Syntax.{Instruction, Code, unreachable, nop, block, loop, cond, br, br_if, br_table, give_back}
+use Rattle.mw_wasm.specs.Syntax.{call, call_indirect, drop_value, select, local_get, local_set, local_tee, global_get}
+use Rattle.mw_wasm.specs.Syntax.{global_set, load, store, memory_size, memory_grow, const_i32, const_i64, numeric, end}
+use Rattle.mw_wasm.specs.Syntax.{next, Function, Global, Exporting, ElementSegment, DataSegment, PureModule}
 use Rattle.mw_wasm.specs.BinaryModules.{at_most_one}
 use Rattle.mw_wat.specs.Lexing.{is_word_byte}
 use Rattle.mw_wat.specs.Names.{type_name, operation_name, number_name, load_name, store_name}
-use Rattle.mw_wat.specs.Lexemes.{Lexeme, right, word, number, keyed, octets, within, types_behind, instruction, code, otherwise, function_type, function, limits, table, memory, global_type, global, exported, export, offset, element, data_segment, fields, lines}
+use Rattle.mw_wat.specs.Lexemes.{Lexeme, right, word, number, keyed, octets, within, types_behind, instruction, code}
+use Rattle.mw_wat.specs.Lexemes.{otherwise, function_type, function, limits, table, memory, global_type, global}
+use Rattle.mw_wat.specs.Lexemes.{exported, export, offset, element, data_segment, fields, lines}
 
 abbrev pub are_word_bytes : List ℕ → Bool
 are_word_bytes [] = true

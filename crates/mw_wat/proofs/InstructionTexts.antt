@@ -7,7 +7,10 @@ use Rattle.mw_wasm.specs.declared.instructions.Instr as instr
 use Rattle.mw_wasm.specs.declared.instructions.Instr.{Instr}
 use Rattle.mw_wasm.specs.declared.instructions.Instrs.{Instrs}
 use Rattle.mw_wasm.specs.BinaryModules.{at_most_one}
-use Rattle.mw_wasm.specs.Syntax.{Instruction, Code, unreachable, nop, block, loop, cond, br, br_if, br_table, give_back, call, call_indirect, drop_value, select, local_get, local_set, local_tee, global_get, global_set, load, store, memory_size, memory_grow, const_i32, const_i64, numeric, end, next}
+use Rattle.mw_wasm.specs.Syntax.{Instruction, Code, unreachable, nop, block, loop, cond, br, br_if, br_table, give_back}
+use Rattle.mw_wasm.specs.Syntax.{call, call_indirect, drop_value, select, local_get, local_set, local_tee, global_get}
+use Rattle.mw_wasm.specs.Syntax.{global_set, load, store, memory_size, memory_grow, const_i32, const_i64, numeric, end}
+use Rattle.mw_wasm.specs.Syntax.{next}
 use Rattle.mw_wasm.specs.Views.{instruction_of, list_code, code_of, block_is, loop_is, cond_is}
 use Rattle.mw_wat.specs.Lexemes.{Lexeme, word, number, types_behind, instruction, code, otherwise}
 use Rattle.mw_wat.specs.Spacing.{spaced}

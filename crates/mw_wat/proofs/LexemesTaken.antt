@@ -1,11 +1,13 @@
 -- What is read is what the tokens say.
-use Rattle.std.proofs.Common.{◌≡◌, ℕ, zero, suc, ◌<◌, ◌≤◌, ◌^◌, List, [], ◌∷◌, ◌++◌, length, map, refl, ap, sym, ◌∙◌, subst, arith, Option, Some, None}
+use Rattle.std.proofs.Common.{◌≡◌, ℕ, zero, suc, ◌<◌, ◌≤◌, ◌^◌, List, [], ◌∷◌, ◌++◌, length, map, refl, ap, sym, ◌∙◌}
+use Rattle.std.proofs.Common.{subst, arith, Option, Some, None}
 use Rattle.std.proofs.lemmas.Option.{none-some}
 use Rattle.mw_wat.specs.Tokens.{PureToken}
 use Rattle.mw_wat.specs.Tokens as t
 use Rattle.mw_wat.specs.Lexemes.{Lexeme, number, octets, token_of, IsInRange}
 use Rattle.mw_wat.specs.Lexing.{Tokens, stop, token}
-use Rattle.mw_wat.specs.Reading.{Read, got, bad, Reader, and_then, ◌>>=◌, gives, or_bad, one_of, one_more, some_of, in_front, or_here, all_of, as_number}
+use Rattle.mw_wat.specs.Reading.{Read, got, bad, Reader, and_then, ◌>>=◌, gives, or_bad, one_of, one_more, some_of}
+use Rattle.mw_wat.specs.Reading.{in_front, or_here, all_of, as_number}
 use Rattle.mw_key.proofs.NumberWords.{below_found}
 use Rattle.mw_wat.proofs.Lookahead.{got_parts}
 

@@ -1,8 +1,10 @@
 -- What a reader answers depends on the tokens that it takes and on the next one alone.
-use Rattle.std.proofs.Common.{◌≡◌, ℕ, zero, suc, ◌+◌, ◌<◌, ◌≤◌, List, [], ◌∷◌, ◌++◌, refl, ap, sym, ◌∙◌, subst, arith, Option, Some, None}
+use Rattle.std.proofs.Common.{◌≡◌, ℕ, zero, suc, ◌+◌, ◌<◌, ◌≤◌, List, [], ◌∷◌, ◌++◌, refl, ap, sym, ◌∙◌, subst, arith}
+use Rattle.std.proofs.Common.{Option, Some, None}
 use Rattle.mw_wat.specs.Tokens.{PureToken}
 use Rattle.mw_wat.specs.Lexing.{Tokens, stop, token}
-use Rattle.mw_wat.specs.Reading.{Read, got, bad, Reader, count, ◌>>=◌, gives, fails, peek, one_of, skip, one_more, some_of, all_of}
+use Rattle.mw_wat.specs.Reading.{Read, got, bad, Reader, count, ◌>>=◌, gives, fails, peek, one_of, skip, one_more}
+use Rattle.mw_wat.specs.Reading.{some_of, all_of}
 use Rattle.mw_wat.proofs.TokensOfText.{Placed, p_here, p_there}
 
 -- both stop, or both go on with the same token

@@ -1,5 +1,6 @@
 -- The readers of code are local, and the bound on their calls doesn't show.
-use Rattle.std.proofs.Common.{◌≡◌, ℕ, zero, suc, ◌<◌, ◌≤◌, ◌^◌, ◌-◌, List, [], ◌∷◌, ◌++◌, map, refl, ap, sym, ◌∙◌, subst, arith, Bool, true, false, Option, Some, None}
+use Rattle.std.proofs.Common.{◌≡◌, ℕ, zero, suc, ◌<◌, ◌≤◌, ◌^◌, ◌-◌, List, [], ◌∷◌, ◌++◌, map, refl, ap, sym, ◌∙◌}
+use Rattle.std.proofs.Common.{subst, arith, Bool, true, false, Option, Some, None}
 use Rattle.std.specs.Prelude.{codes, if◌then◌else◌}
 use Rattle.std.specs.List.{AllByRecursion}
 use Rattle.std.specs.Map.{lookup}
@@ -7,15 +8,24 @@ use Rattle.std.specs.Str.{bytes_eq}
 use Rattle.std.specs.Int.{w32, w64}
 use Rattle.mw_wasm.specs.declared.values.ValType.{ValType}
 use Rattle.mw_wasm.specs.Syntax as pure
-use Rattle.mw_wasm.specs.Syntax.{Instruction, Code, block, loop, cond, call_indirect, const_i32, const_i64, numeric, load, store}
+use Rattle.mw_wasm.specs.Syntax.{Instruction, Code, block, loop, cond, call_indirect, const_i32, const_i64, numeric}
+use Rattle.mw_wasm.specs.Syntax.{load, store}
 use Rattle.mw_wat.specs.Tokens.{PureToken}
 use Rattle.mw_wat.specs.Tokens as t
 use Rattle.mw_wat.specs.Names.{number_name, load_name, store_name}
 use Rattle.mw_wat.specs.Lexing.{Tokens, stop, token}
-use Rattle.mw_wat.specs.Reading.{got, bad, Reader, count, and_then, ◌>>=◌, gives, one_of, skip, this, as_word, as_left, as_right, opening, closing, as_number, index, all_of, as_type, value_type, if_left, if_opened, if_same, if_word}
+use Rattle.mw_wat.specs.Reading.{got, bad, Reader, count, and_then, ◌>>=◌, gives, one_of, skip, this, as_word, as_left}
+use Rattle.mw_wat.specs.Reading.{as_right, opening, closing, as_number, index, all_of, as_type, value_type, if_left}
+use Rattle.mw_wat.specs.Reading.{if_opened, if_same, if_word}
 use Rattle.mw_wat.specs.Instructions as read
-use Rattle.mw_wat.specs.Instructions.{as_constant, as_keyed, indexed, at_address, table_behind, labels, indirect, Opener, a_block, a_loop, an_if, Meaning, ends, turns, opens, alone, alone_words, numbers, loads, stores, number_words, load_words, store_words, words, meaning, Place, whole, inner, first, fresh, onward, Mark, closed, ended, turned, Listed, Lists, nothing, ahead, result, block_type, second, inside, opened, more, meant, by_token, listed, instructions, expression}
-use Rattle.mw_wat.proofs.Lookahead.{Local, LocalAt, gets, loses, local_gives, local_fails, local_one, local_then, local_skip, local_peek, local_all, no_longer, local_bounded}
+use Rattle.mw_wat.specs.Instructions.{as_constant, as_keyed, indexed, at_address, table_behind, labels, indirect}
+use Rattle.mw_wat.specs.Instructions.{Opener, a_block, a_loop, an_if, Meaning, ends, turns, opens, alone, alone_words}
+use Rattle.mw_wat.specs.Instructions.{numbers, loads, stores, number_words, load_words, store_words, words, meaning}
+use Rattle.mw_wat.specs.Instructions.{Place, whole, inner, first, fresh, onward, Mark, closed, ended, turned, Listed}
+use Rattle.mw_wat.specs.Instructions.{Lists, nothing, ahead, result, block_type, second, inside, opened, more, meant}
+use Rattle.mw_wat.specs.Instructions.{by_token, listed, instructions, expression}
+use Rattle.mw_wat.proofs.Lookahead.{Local, LocalAt, gets, loses, local_gives, local_fails, local_one, local_then}
+use Rattle.mw_wat.proofs.Lookahead.{local_skip, local_peek, local_all, no_longer, local_bounded}
 
 pub local_if_left : {A : Type 0} (r q : Reader A) → Local r → Local q → Local (if_opened r q)
 local_if_left r q a b = local_peek (if_left r q) λ t. by_token t

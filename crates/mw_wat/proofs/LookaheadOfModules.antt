@@ -1,5 +1,6 @@
 -- The readers of modules are local.
-use Rattle.std.proofs.Common.{◌≡◌, ℕ, zero, suc, ◌<◌, List, [], ◌∷◌, refl, ap, arith, Bool, true, false, Option, Some, None}
+use Rattle.std.proofs.Common.{◌≡◌, ℕ, zero, suc, ◌<◌, List, [], ◌∷◌, refl, ap, arith, Bool, true, false, Option, Some}
+use Rattle.std.proofs.Common.{None}
 use Rattle.std.specs.Prelude.{codes, if◌then◌else◌}
 use Rattle.std.specs.Str.{bytes_eq}
 use Rattle.mw_wasm.specs.declared.values.ValType.{ValType}
@@ -8,11 +9,18 @@ use Rattle.mw_wasm.specs.Syntax.{Code, Function, Global}
 use Rattle.mw_wat.specs.Tokens.{PureToken}
 use Rattle.mw_wat.specs.Tokens as t
 use Rattle.mw_wat.specs.Lexing.{Tokens, stop, token}
-use Rattle.mw_wat.specs.Reading.{got, Reader, count, and_then, ◌>>=◌, gives, one_of, skip, this, as_word, as_left, as_right, opening, closing, as_number, at_most, index, some_of, all_of, as_type, value_type, types_and_close, if_opened}
+use Rattle.mw_wat.specs.Reading.{got, Reader, count, and_then, ◌>>=◌, gives, one_of, skip, this, as_word, as_left}
+use Rattle.mw_wat.specs.Reading.{as_right, opening, closing, as_number, at_most, index, some_of, all_of, as_type}
+use Rattle.mw_wat.specs.Reading.{value_type, types_and_close, if_opened}
 use Rattle.mw_wat.specs.Instructions.{result, expression}
-use Rattle.mw_wat.specs.Modules.{results, params_then, with_params, function_type, some_locals, function, as_limit, upper, limits, table, memory, variable, global, as_name, as_string, as_kind, export, offset, element_behind, element, data_behind, data_segment, Fields, as_either, next_field, in_front, fields_up_to, fields, no_more, whole_module}
-use Rattle.mw_wat.proofs.Lookahead.{Local, local_gives, local_fails, local_one, local_then, local_skip, local_peek, local_some, local_all, local_bounded}
-use Rattle.mw_wat.proofs.LookaheadOfCode.{local_if_left, local_if_word, local_index, local_result, local_expression, then_same}
+use Rattle.mw_wat.specs.Modules.{results, params_then, with_params, function_type, some_locals, function, as_limit}
+use Rattle.mw_wat.specs.Modules.{upper, limits, table, memory, variable, global, as_name, as_string, as_kind, export}
+use Rattle.mw_wat.specs.Modules.{offset, element_behind, element, data_behind, data_segment, Fields, as_either}
+use Rattle.mw_wat.specs.Modules.{next_field, in_front, fields_up_to, fields, no_more, whole_module}
+use Rattle.mw_wat.proofs.Lookahead.{Local, local_gives, local_fails, local_one, local_then, local_skip, local_peek}
+use Rattle.mw_wat.proofs.Lookahead.{local_some, local_all, local_bounded}
+use Rattle.mw_wat.proofs.LookaheadOfCode.{local_if_left, local_if_word, local_index, local_result, local_expression}
+use Rattle.mw_wat.proofs.LookaheadOfCode.{then_same}
 
 -- fixed tokens before and behind
 pub local_this : {A : Type 0} (w : List ℕ) (r : Reader A) → Local r → Local (this w >>= λ _. r)

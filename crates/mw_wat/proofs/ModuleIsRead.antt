@@ -1,5 +1,6 @@
 -- A module whose lexemes stand there is read.
-use Rattle.std.proofs.Common.{◌≡◌, ℕ, zero, suc, ◌≤◌, List, [], ◌∷◌, ◌++◌, length, map, refl, subst, arith, Bool, true, false, Option, Some, None}
+use Rattle.std.proofs.Common.{◌≡◌, ℕ, zero, suc, ◌≤◌, List, [], ◌∷◌, ◌++◌, length, map, refl, subst, arith, Bool, true}
+use Rattle.std.proofs.Common.{false, Option, Some, None}
 use Rattle.std.specs.Prelude.{codes, IfSome}
 use Rattle.std.specs.Str.{bytes_eq}
 use Rattle.std.specs.List.{AllByRecursion, flat_map}
@@ -13,11 +14,14 @@ use Rattle.mw_wat.specs.Lexemes.{Lexeme, left, right, word, fields, lines, lexem
 use Rattle.mw_wat.specs.Lexemes as of
 use Rattle.mw_wat.specs.Lexing.{Tokens, token}
 use Rattle.mw_wat.specs.Reading.{got, Reader, count}
-use Rattle.mw_wat.specs.Modules.{Fields, next_field, in_front, fields_up_to, function_type, function, table, memory, global, export, element, data_segment, whole_module}
+use Rattle.mw_wat.specs.Modules.{Fields, next_field, in_front, fields_up_to, function_type, function, table, memory}
+use Rattle.mw_wat.specs.Modules.{global, export, element, data_segment, whole_module}
 use Rattle.mw_wat.specs.Modules as read
 use Rattle.mw_wat.specs.ModuleTexts.{HasTexts}
 use Rattle.mw_wat.proofs.TokensStand.{Stands, here, there, Parted, parted, counted}
-use Rattle.mw_wat.proofs.FieldsAreRead.{type_tail, type_got, function_tail, function_got, FitsFunction, table_tail, table_got, memory_tail, memory_got, global_tail, global_got, export_tail, export_got, element_tail, element_got, data_tail, data_got}
+use Rattle.mw_wat.proofs.FieldsAreRead.{type_tail, type_got, function_tail, function_got, FitsFunction, table_tail}
+use Rattle.mw_wat.proofs.FieldsAreRead.{table_got, memory_tail, memory_got, global_tail, global_got, export_tail}
+use Rattle.mw_wat.proofs.FieldsAreRead.{export_got, element_tail, element_got, data_tail, data_got}
 
 -- behind the parenthesis that opens a field, or closes the module
 pub data After : Tokens → Bool → Tokens → Type 0 where

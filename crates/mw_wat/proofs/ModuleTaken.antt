@@ -1,5 +1,6 @@
 -- A module that is read is what the tokens say.
-use Rattle.std.proofs.Common.{◌≡◌, ℕ, suc, ◌≤◌, List, [], ◌∷◌, ◌++◌, length, map, refl, sym, subst, arith, Bool, true, false}
+use Rattle.std.proofs.Common.{◌≡◌, ℕ, suc, ◌≤◌, List, [], ◌∷◌, ◌++◌, length, map, refl, sym, subst, arith, Bool, true}
+use Rattle.std.proofs.Common.{false}
 use Rattle.std.specs.Prelude.{codes, IfSome}
 use Rattle.std.specs.List.{AllByRecursion, flat_map}
 use Rattle.std.proofs.lemmas.Grind.{flat_map-append}
@@ -14,12 +15,15 @@ use Rattle.mw_wat.specs.Lexemes.{Lexeme, left, right, word, lexemes}
 use Rattle.mw_wat.specs.Lexemes as of
 use Rattle.mw_wat.specs.Lexing.{Tokens, token}
 use Rattle.mw_wat.specs.Reading.{got, Reader, count, ◌>>=◌, opening, this}
-use Rattle.mw_wat.specs.Modules.{function_type, function, table, memory, global, export, element, data_segment, Fields, next_field, fields_up_to, fields, head, no_more, whole_module}
+use Rattle.mw_wat.specs.Modules.{function_type, function, table, memory, global, export, element, data_segment, Fields}
+use Rattle.mw_wat.specs.Modules.{next_field, fields_up_to, fields, head, no_more, whole_module}
 use Rattle.mw_wat.proofs.Lookahead.{got_parts}
-use Rattle.mw_wat.proofs.FieldsAreRead.{type_tail, function_tail, FitsFunction, table_tail, memory_tail, global_tail, export_tail, element_tail, data_tail}
+use Rattle.mw_wat.proofs.FieldsAreRead.{type_tail, function_tail, FitsFunction, table_tail, memory_tail, global_tail}
+use Rattle.mw_wat.proofs.FieldsAreRead.{export_tail, element_tail, data_tail}
 use Rattle.mw_wat.proofs.LexemesTaken.{Said, s_here, s_there, said_joined, no_got, split_got}
 use Rattle.mw_wat.proofs.CodeTaken.{said_opening, said_this}
-use Rattle.mw_wat.proofs.FieldsTaken.{type_said, function_said, table_said, memory_said, global_said, export_said, element_said, data_said, InHand, field_of, next_back, fields_back}
+use Rattle.mw_wat.proofs.FieldsTaken.{type_said, function_said, table_said, memory_said, global_said, export_said}
+use Rattle.mw_wat.proofs.FieldsTaken.{element_said, data_said, InHand, field_of, next_back, fields_back}
 
 -- what the parts of a module that is read are
 pub record ModuleBack (ts : Tokens) (rest : Tokens) (m : PureModule) : Type 0 where

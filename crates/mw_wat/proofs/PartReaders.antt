@@ -1,5 +1,6 @@
 -- Parts of fields, by the token that comes next.
-use Rattle.std.proofs.Common.{◌≡◌, ℕ, suc, ◌+◌, ◌<◌, ◌≤◌, ◌&&◌, List, length, drop, get_or, drop-cons, add-one, nat_le, refl, ap, sym, ◌∙◌, Bool, true, false, Option, Some, None}
+use Rattle.std.proofs.Common.{◌≡◌, ℕ, suc, ◌+◌, ◌<◌, ◌≤◌, ◌&&◌, List, length, drop, get_or, drop-cons, add-one, nat_le}
+use Rattle.std.proofs.Common.{refl, ap, sym, ◌∙◌, Bool, true, false, Option, Some, None}
 use Rattle.std.specs.Prelude.{IfOk, Result, Ok, Err}
 use Rattle.std.proofs.lemmas.List.{drop_all}
 use Rattle.mw_wat.specs.declared.reading.cursor.Fault.{Fault}

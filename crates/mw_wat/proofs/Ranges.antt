@@ -1,5 +1,6 @@
 -- A module that bytes spell has its numbers in range.
-use Rattle.std.proofs.Common.{◌≡◌, inl, inr, ℕ, ◌<◌, ◌^◌, List, [], ◌∷◌, ◌++◌, map, sym, subst, arith, Bool, true, false, Option, Some, None}
+use Rattle.std.proofs.Common.{◌≡◌, inl, inr, ℕ, ◌<◌, ◌^◌, List, [], ◌∷◌, ◌++◌, map, sym, subst, arith, Bool, true}
+use Rattle.std.proofs.Common.{false, Option, Some, None}
 use Rattle.std.specs.Prelude.{codes}
 use Rattle.std.specs.List.{AllByRecursion, flat_map}
 use Rattle.mw_wasm.specs.declared.values.ValType.{ValType}
@@ -7,7 +8,10 @@ use Rattle.mw_wasm.specs.declared.modules.Limits.{Limits}
 use Rattle.mw_wasm.specs.declared.modules.FuncType.{FuncType}
 use Rattle.mw_wasm.specs.declared.modules.Exported.{Exported}
 use Rattle.mw_wasm.specs.declared.modules.Exported.TheVariants as what
-use Rattle.mw_wasm.specs.Syntax.{Instruction, Code, unreachable, nop, block, loop, cond, br, br_if, br_table, give_back, call, call_indirect, drop_value, select, local_get, local_set, local_tee, global_get, global_set, load, store, memory_size, memory_grow, const_i32, const_i64, numeric, end, next, Function, Global, Exporting, ElementSegment, DataSegment, PureModule}
+use Rattle.mw_wasm.specs.Syntax.{Instruction, Code, unreachable, nop, block, loop, cond, br, br_if, br_table, give_back}
+use Rattle.mw_wasm.specs.Syntax.{call, call_indirect, drop_value, select, local_get, local_set, local_tee, global_get}
+use Rattle.mw_wasm.specs.Syntax.{global_set, load, store, memory_size, memory_grow, const_i32, const_i64, numeric, end}
+use Rattle.mw_wasm.specs.Syntax.{next, Function, Global, Exporting, ElementSegment, DataSegment, PureModule}
 use Rattle.mw_wasm.specs.Pieces.{Piece, items, octet, u32}
 use Rattle.mw_wasm.specs.BinaryInstructions as binary
 use Rattle.mw_wasm.specs.BinaryModules as binary_modules
@@ -15,7 +19,9 @@ use Rattle.mw_wasm.specs.BinaryModules.{at_most_one, section, Spells}
 use Rattle.mw_wasm.specs.Profile.{IsPrintable, IsWithinProfile}
 use Rattle.mw_wasm.proofs.FormatNumbers.{unsigned_fits, integer_fits}
 use Rattle.mw_wat.specs.Names.{type_name}
-use Rattle.mw_wat.specs.Lexemes.{Lexeme, right, word, number, octets, IsInRange, within, types_behind, instruction, code, otherwise, function_type, function, limits, table, memory, global_type, global, exported, export, offset, element, data_segment, fields, lines}
+use Rattle.mw_wat.specs.Lexemes.{Lexeme, right, word, number, octets, IsInRange, within, types_behind, instruction}
+use Rattle.mw_wat.specs.Lexemes.{code, otherwise, function_type, function, limits, table, memory, global_type, global}
+use Rattle.mw_wat.specs.Lexemes.{exported, export, offset, element, data_segment, fields, lines}
 use Rattle.mw_wat.specs.ModuleTexts.{HasTexts}
 
 abbrev AreInRange : List Lexeme → Type 0

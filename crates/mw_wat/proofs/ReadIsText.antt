@@ -1,13 +1,16 @@
 -- What is read is a text of it.
-use Rattle.std.proofs.Common.{◌≡◌, ◌⊎◌, inl, inr, ℕ, ◌-◌, ◌^◌, ◌<◌, ◌≤◌, List, [], ◌∷◌, length, map, refl, ap, sym, ◌∙◌, subst, arith, Bool, true, false}
+use Rattle.std.proofs.Common.{◌≡◌, ◌⊎◌, inl, inr, ℕ, ◌-◌, ◌^◌, ◌<◌, ◌≤◌, List, [], ◌∷◌, length, map, refl, ap, sym, ◌∙◌}
+use Rattle.std.proofs.Common.{subst, arith, Bool, true, false}
 use Rattle.std.specs.Prelude.{nat_le, Result, Ok, Err, if◌then◌else◌}
 use Rattle.std.specs.List.{AllByRecursion}
 use Rattle.std.proofs.lemmas.Bool.{leb-true}
 use Rattle.mw_wasm.specs.Syntax.{Function, PureModule}
 use Rattle.mw_wasm.specs.Profile.{depth, IsWithinFileLimit}
-use Rattle.mw_wat.specs.Tokens.{PureToken, Quotes, nothing, plain, escape, Spells, a_left, a_right, a_word, a_string, Begins, ReadsTo, so_far, behind_blank, behind_token, AreTokens, BeginsNone}
+use Rattle.mw_wat.specs.Tokens.{PureToken, Quotes, nothing, plain, escape, Spells, a_left, a_right, a_word, a_string}
+use Rattle.mw_wat.specs.Tokens.{Begins, ReadsTo, so_far, behind_blank, behind_token, AreTokens, BeginsNone}
 use Rattle.mw_wat.specs.Tokens as t
-use Rattle.mw_wat.specs.Lexemes.{Lexeme, left, right, word, number, keyed, constant, name, octets, token_of, IsInRange, lexemes, tokens_of}
+use Rattle.mw_wat.specs.Lexemes.{Lexeme, left, right, word, number, keyed, constant, name, octets, token_of, IsInRange}
+use Rattle.mw_wat.specs.Lexemes.{lexemes, tokens_of}
 use Rattle.mw_wat.specs.ModuleTexts.{HasTexts, IsTextOf}
 use Rattle.mw_wat.specs.Lexing.{Tokens, stop, token, tokens}
 use Rattle.mw_wat.specs.Reading.{Read, got, bad}

@@ -1,13 +1,19 @@
 -- Tokens in turn stand in the bytes, and where they stop none does.
-use Rattle.std.proofs.Common.{◌≡◌, ℕ, zero, suc, ◌+◌, ◌-◌, ◌*◌, ◌<◌, ◌≤◌, ◌==◌, ◌&&◌, List, [], ◌∷◌, ◌++◌, length, refl, ap, sym, ◌∙◌, subst, arith, Bool, true, false, Option, Some, None, append_assoc}
+use Rattle.std.proofs.Common.{◌≡◌, ℕ, zero, suc, ◌+◌, ◌-◌, ◌*◌, ◌<◌, ◌≤◌, ◌==◌, ◌&&◌, List, [], ◌∷◌, ◌++◌, length, refl}
+use Rattle.std.proofs.Common.{ap, sym, ◌∙◌, subst, arith, Bool, true, false, Option, Some, None, append_assoc}
 use Rattle.std.specs.Prelude.{if◌then◌else◌, nat_le}
 use Rattle.std.specs.List.{AllByRecursion}
 use Rattle.std.specs.Fmt.{digit_glyph}
 use Rattle.std.proofs.lemmas.Bool.{and_parts, leb-true, eqb-true, false≢true, lt-ltb, le-ltb}
-use Rattle.mw_wat.specs.Tokens.{PureToken, left, right, word, string, IsBlank, IsWordByte, Quotes, nothing, plain, escape, a_left, a_right, a_word, a_string, IsWhole, Begins, ReadsTo, so_far, behind_blank, behind_token, BeginsNone}
-use Rattle.mw_wat.specs.Lexing.{Tokens, stop, token, is_blank, is_word_byte, is_plain, hex_value, Found, none, found, with_byte, with_digits, quotes, escaped, half_escaped, with_word_byte, whole_word, front, without_blanks, onward, tokens_up_to, tokens}
+use Rattle.mw_wat.specs.Tokens.{PureToken, left, right, word, string, IsBlank, IsWordByte, Quotes, nothing, plain}
+use Rattle.mw_wat.specs.Tokens.{escape, a_left, a_right, a_word, a_string, IsWhole, Begins, ReadsTo, so_far}
+use Rattle.mw_wat.specs.Tokens.{behind_blank, behind_token, BeginsNone}
+use Rattle.mw_wat.specs.Lexing.{Tokens, stop, token, is_blank, is_word_byte, is_plain, hex_value, Found, none, found}
+use Rattle.mw_wat.specs.Lexing.{with_byte, with_digits, quotes, escaped, half_escaped, with_word_byte, whole_word}
+use Rattle.mw_wat.specs.Lexing.{front, without_blanks, onward, tokens_up_to, tokens}
 use Rattle.mw_wat.specs.Lexing as lexing
-use Rattle.mw_wat.proofs.TokensOfText.{word_byte_is, word_byte_from, plain_from, blank_is, blank_from, front_got, none_found, Placed, p_here, p_there, longer}
+use Rattle.mw_wat.proofs.TokensOfText.{word_byte_is, word_byte_from, plain_from, blank_is, blank_from, front_got}
+use Rattle.mw_wat.proofs.TokensOfText.{none_found, Placed, p_here, p_there, longer}
 
 -- words
 record WordBack (bytes w rest : List ℕ) : Type 0 where

@@ -1,12 +1,17 @@
 -- The tokens of bytes in turn are those that the bytes are.
-use Rattle.std.proofs.Common.{◌≡◌, inl, inr, ℕ, zero, suc, ◌+◌, ◌-◌, ◌*◌, ◌<◌, ◌≤◌, ◌==◌, ◌&&◌, List, [], ◌∷◌, ◌++◌, length, refl, ap, sym, ◌∙◌, subst, arith, Bool, true, false, Some, append_assoc}
+use Rattle.std.proofs.Common.{◌≡◌, inl, inr, ℕ, zero, suc, ◌+◌, ◌-◌, ◌*◌, ◌<◌, ◌≤◌, ◌==◌, ◌&&◌, List, [], ◌∷◌, ◌++◌}
+use Rattle.std.proofs.Common.{length, refl, ap, sym, ◌∙◌, subst, arith, Bool, true, false, Some, append_assoc}
 use Rattle.std.specs.Prelude.{nat_le, nat_lt, not, ◌||◌}
 use Rattle.std.specs.List.{AllByRecursion}
 use Rattle.std.specs.Fmt.{digit_glyph}
-use Rattle.std.proofs.lemmas.Bool.{and_parts, le-leb, lt-leb, leb-true, ne_eqb, eqb-true, eqb-false, false≢true, ltb-true, ltb-false}
+use Rattle.std.proofs.lemmas.Bool.{and_parts, le-leb, lt-leb, leb-true, ne_eqb, eqb-true, eqb-false, false≢true}
+use Rattle.std.proofs.lemmas.Bool.{ltb-true, ltb-false}
 use Rattle.std.proofs.lemmas.List.{length-append}
-use Rattle.mw_wat.specs.Tokens.{PureToken, word, string, IsBlank, IsWordByte, IsPlain, Quotes, nothing, plain, escape, Spells, a_left, a_right, a_word, a_string, IsWhole, Begins, ReadsTo, so_far, behind_blank, behind_token}
-use Rattle.mw_wat.specs.Lexing.{Tokens, stop, token, is_blank, is_word_byte, is_plain, hex_value, none, found, with_byte, with_digits, quotes, half_escaped, whole_word, front, tokens_up_to}
+use Rattle.mw_wat.specs.Tokens.{PureToken, word, string, IsBlank, IsWordByte, IsPlain, Quotes, nothing, plain, escape}
+use Rattle.mw_wat.specs.Tokens.{Spells, a_left, a_right, a_word, a_string, IsWhole, Begins, ReadsTo, so_far}
+use Rattle.mw_wat.specs.Tokens.{behind_blank, behind_token}
+use Rattle.mw_wat.specs.Lexing.{Tokens, stop, token, is_blank, is_word_byte, is_plain, hex_value, none, found}
+use Rattle.mw_wat.specs.Lexing.{with_byte, with_digits, quotes, half_escaped, whole_word, front, tokens_up_to}
 
 -- byte tests
 pub word_byte_is : (b : ℕ) → IsWordByte b → is_word_byte b ≡ true

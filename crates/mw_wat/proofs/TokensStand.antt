@@ -1,5 +1,6 @@
 -- Lexemes at the front of tokens, and what single readers make of them.
-use Rattle.std.proofs.Common.{◌≡◌, ℕ, zero, suc, ◌+◌, ◌<◌, ◌≤◌, ◌^◌, List, [], ◌∷◌, ◌++◌, length, map, refl, ap, ◌∙◌, arith, true, Option, Some, None}
+use Rattle.std.proofs.Common.{◌≡◌, ℕ, zero, suc, ◌+◌, ◌<◌, ◌≤◌, ◌^◌, List, [], ◌∷◌, ◌++◌, length, map, refl, ap, ◌∙◌}
+use Rattle.std.proofs.Common.{arith, true, Option, Some, None}
 use Rattle.std.specs.Prelude.{ℤ, pos, negsuc, FitsSigned, codes}
 use Rattle.std.specs.Int.{Width, w32, w64, cast_signed, cast_unsigned}
 use Rattle.std.specs.List.{AllByRecursion}

@@ -1,5 +1,6 @@
 -- Words looked up in the tables of names.
-use Rattle.std.proofs.Common.{◌≡◌, ℕ, ◌&&◌, List, [], ◌∷◌, ◌++◌, map, take, drop, length, refl, ap, sym, ◌∙◌, Bool, true, false, Option, Some, None, nat_eq}
+use Rattle.std.proofs.Common.{◌≡◌, ℕ, ◌&&◌, List, [], ◌∷◌, ◌++◌, map, take, drop, length, refl, ap, sym, ◌∙◌, Bool}
+use Rattle.std.proofs.Common.{true, false, Option, Some, None, nat_eq}
 use Rattle.std.specs.Prelude.{codes, if◌then◌else◌}
 use Rattle.std.specs.Map.{lookup}
 use Rattle.std.specs.Str.{bytes_eq}
@@ -12,7 +13,8 @@ use Rattle.mw_wasm.specs.declared.numbers.StoreOp.{StoreOp}
 use Rattle.mw_wasm.specs.Syntax.{numeric, load, store}
 use Rattle.mw_wat.specs.Names.{operation_name, number_name, load_name, store_name}
 use Rattle.mw_wat.specs.Reading.{gives}
-use Rattle.mw_wat.specs.Instructions.{Meaning, alone, at_address, operations, numbers, loads, stores, alone_words, number_words, load_words, store_words, words, meaning}
+use Rattle.mw_wat.specs.Instructions.{Meaning, alone, at_address, operations, numbers, loads, stores, alone_words}
+use Rattle.mw_wat.specs.Instructions.{number_words, load_words, store_words, words, meaning}
 use Rattle.mw_wat.specs.Words.{operation_names, typed_names, number_names, conversions, load_names, store_names}
 
 -- one table behind another

@@ -5,7 +5,8 @@ use Rattle.mw_wasm.specs.declared.modules.FuncType.{FuncType}
 use Rattle.mw_wasm.specs.Syntax.{Function, PureModule}
 use Rattle.mw_wat.specs.Lexing.{Tokens, stop, token}
 use Rattle.mw_wat.specs.Reading.{Reader, ◌>>=◌, gives, this, opening}
-use Rattle.mw_wat.specs.Modules.{function_type, function, table, memory, global, export, element, data_segment, next_field, fields, no_more}
+use Rattle.mw_wat.specs.Modules.{function_type, function, table, memory, global, export, element, data_segment}
+use Rattle.mw_wat.specs.Modules.{next_field, fields, no_more}
 use Rattle.mw_wat.specs.Parts.{single}
 
 abbrev pub behind_memory : List FuncType → List Function → Option Limits → Option Limits → Bool → Reader PureModule

@@ -1,5 +1,6 @@
 -- Reading code. Room is the number of blocks that may still stand one in another.
-use Rattle.std.specs.Prelude.{ℕ, zero, suc, ◌^◌, if◌then◌else◌, List, [], ◌∷◌, ◌++◌, map, codes, Option, Some, None, take, drop, length}
+use Rattle.std.specs.Prelude.{ℕ, zero, suc, ◌^◌, if◌then◌else◌, List, [], ◌∷◌, ◌++◌, map, codes, Option, Some, None}
+use Rattle.std.specs.Prelude.{take, drop, length}
 use Rattle.std.specs.Str.{bytes_eq}
 use Rattle.std.specs.Map.{lookup}
 use Rattle.std.specs.Int.{Width, w32, w64, cast_unsigned}
@@ -13,11 +14,14 @@ use Rattle.mw_wasm.specs.declared.numbers.LoadOp.TheVariants as load_op
 use Rattle.mw_wasm.specs.declared.numbers.StoreOp.{StoreOp}
 use Rattle.mw_wasm.specs.declared.numbers.StoreOp.TheVariants as store_op
 use Rattle.mw_wasm.specs.Syntax as pure
-use Rattle.mw_wasm.specs.Syntax.{Instruction, Code, unreachable, nop, block, loop, cond, br, br_if, br_table, give_back, call, call_indirect, drop_value, select, local_get, local_set, local_tee, global_get, global_set, load, store, memory_size, memory_grow, const_i32, const_i64, numeric, next}
+use Rattle.mw_wasm.specs.Syntax.{Instruction, Code, unreachable, nop, block, loop, cond, br, br_if, br_table, give_back}
+use Rattle.mw_wasm.specs.Syntax.{call, call_indirect, drop_value, select, local_get, local_set, local_tee, global_get}
+use Rattle.mw_wasm.specs.Syntax.{global_set, load, store, memory_size, memory_grow, const_i32, const_i64, numeric, next}
 use Rattle.mw_wat.specs.Tokens.{PureToken, right, word}
 use Rattle.mw_key.specs.Numbers.{below, natural_of, integer_of}
 use Rattle.mw_wat.specs.Names.{number_name, load_name, store_name}
-use Rattle.mw_wat.specs.Reading.{bad, Reader, count, ◌>>=◌, gives, fails, peek, one_of, skip, this, opening, closing, as_number, index, all_of, value_type, if_opened}
+use Rattle.mw_wat.specs.Reading.{bad, Reader, count, ◌>>=◌, gives, fails, peek, one_of, skip, this, opening, closing}
+use Rattle.mw_wat.specs.Reading.{as_number, index, all_of, value_type, if_opened}
 use Rattle.std.specs.Prelude.{ℤ, pos, negsuc, nat_lt, ◌-◌}
 use mir.Val.{hbits}
 

@@ -25,7 +25,10 @@ use Rattle.mw_wasm.specs.declared.modules.Limits.{Limits}
 use Rattle.mw_wasm.specs.declared.modules.FuncType.{FuncType}
 use Rattle.mw_wasm.specs.declared.modules.Exported.{Exported}
 use Rattle.mw_wasm.specs.declared.modules.Exported.TheVariants as what
-use Rattle.mw_wasm.specs.Syntax.{Instruction, Code, unreachable, nop, block, loop, cond, br, br_if, br_table, give_back, call, call_indirect, drop_value, select, local_get, local_set, local_tee, global_get, global_set, load, store, memory_size, memory_grow, const_i32, const_i64, numeric, end, next, Function, Global, Exporting, ElementSegment, DataSegment, PureModule}
+use Rattle.mw_wasm.specs.Syntax.{Instruction, Code, unreachable, nop, block, loop, cond, br, br_if, br_table, give_back}
+use Rattle.mw_wasm.specs.Syntax.{call, call_indirect, drop_value, select, local_get, local_set, local_tee, global_get}
+use Rattle.mw_wasm.specs.Syntax.{global_set, load, store, memory_size, memory_grow, const_i32, const_i64, numeric, end}
+use Rattle.mw_wasm.specs.Syntax.{next, Function, Global, Exporting, ElementSegment, DataSegment, PureModule}
 use Rattle.mw_wasm.specs.BinaryModules.{at_most_one}
 use Rattle.mw_wasm.specs.Profile.{IsPrintable}
 use Rattle.mw_wat.specs.Tokens.{PureToken}

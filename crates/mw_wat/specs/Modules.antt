@@ -1,5 +1,6 @@
 -- Reading modules.
-use Rattle.std.specs.Prelude.{ℕ, zero, suc, ◌^◌, ◌-◌, Bool, true, false, if◌then◌else◌, nat_le, ◌&&◌, List, [], ◌∷◌, codes, Option, Some, None, length, Result, Ok, Err}
+use Rattle.std.specs.Prelude.{ℕ, zero, suc, ◌^◌, ◌-◌, Bool, true, false, if◌then◌else◌, nat_le, ◌&&◌, List, [], ◌∷◌}
+use Rattle.std.specs.Prelude.{codes, Option, Some, None, length, Result, Ok, Err}
 use Rattle.std.specs.Str.{bytes_eq}
 use Rattle.mw_wasm.specs.declared.values.ValType.{ValType}
 use Rattle.mw_wasm.specs.declared.modules.Limits.{Limits}
@@ -9,7 +10,9 @@ use Rattle.mw_wasm.specs.declared.modules.Exported.TheVariants as what
 use Rattle.mw_wasm.specs.Syntax.{Code, Function, Global, Exporting, ElementSegment, DataSegment, PureModule}
 use Rattle.mw_wat.specs.Tokens.{PureToken, left, right, word, string}
 use Rattle.mw_wat.specs.Lexing.{stop, token, tokens}
-use Rattle.mw_wat.specs.Reading.{Read, got, bad, Reader, count, place_of, ◌>>=◌, gives, fails, peek, one_of, skip, this, opening, closing, as_number, at_most, index, some_of, all_of, as_type, value_type, types_and_close, if_opened, if_word}
+use Rattle.mw_wat.specs.Reading.{Read, got, bad, Reader, count, place_of, ◌>>=◌, gives, fails, peek, one_of, skip, this}
+use Rattle.mw_wat.specs.Reading.{opening, closing, as_number, at_most, index, some_of, all_of, as_type, value_type}
+use Rattle.mw_wat.specs.Reading.{types_and_close, if_opened, if_word}
 use Rattle.mw_wat.specs.Instructions.{result, expression}
 
 -- types

@@ -14,7 +14,8 @@ use Rattle.mw_wat.specs.declared.reading.code.Step.TheVariants.{Marked, One}
 use Rattle.mw_wat.specs.Tokens.{PureToken, right, word}
 use Rattle.mw_wat.specs.Lexing.{Tokens}
 use Rattle.mw_wat.specs.Reading.{Read, got, bad, and_then, Reader, ◌>>=◌, gives, fails, peek, skip}
-use Rattle.mw_wat.specs.Instructions.{Meaning, ends, turns, opens, alone, meaning, Place, whole, inner, first, fresh, Mark, closed, ended, turned, Listed, Lists, opened, more}
+use Rattle.mw_wat.specs.Instructions.{Meaning, ends, turns, opens, alone, meaning, Place, whole, inner, first, fresh}
+use Rattle.mw_wat.specs.Instructions.{Mark, closed, ended, turned, Listed, Lists, opened, more}
 
 -- a mark, or one more instruction
 pub data Step : Type 0 where

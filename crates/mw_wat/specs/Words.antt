@@ -6,7 +6,9 @@ use Rattle.mw_wasm.specs.declared.numbers.NumOp.{NumOp}
 use Rattle.mw_wasm.specs.declared.numbers.NumOp.TheVariants as num
 use Rattle.mw_wasm.specs.declared.numbers.LoadOp.{LoadOp}
 use Rattle.mw_wasm.specs.declared.numbers.StoreOp.{StoreOp}
-use Rattle.mw_wasm.specs.Syntax.{Instruction, unreachable, nop, br, br_if, give_back, call, drop_value, select, local_get, local_set, local_tee, global_get, global_set, load, store, memory_size, memory_grow, const_i32, const_i64, numeric}
+use Rattle.mw_wasm.specs.Syntax.{Instruction, unreachable, nop, br, br_if, give_back, call, drop_value, select}
+use Rattle.mw_wasm.specs.Syntax.{local_get, local_set, local_tee, global_get, global_set, load, store, memory_size}
+use Rattle.mw_wasm.specs.Syntax.{memory_grow, const_i32, const_i64, numeric}
 use Rattle.mw_wat.specs.declared.reading.words.Indexed.{Indexed}
 use Rattle.mw_wat.specs.declared.reading.words.Indexed.TheVariants as with_index
 use Rattle.mw_wat.specs.declared.reading.words.Name.{Name}
@@ -17,7 +19,8 @@ use Rattle.mw_wat.specs.declared.reading.words.Word.{Word}
 use Rattle.mw_wat.specs.declared.reading.words.Word.TheVariants as means
 use Rattle.mw_wat.specs.Names.{operation_name, number_name, load_name, store_name}
 use Rattle.mw_wat.specs.Reading.{Reader, ◌>>=◌, gives, one_of}
-use Rattle.mw_wat.specs.Instructions.{as_constant, indexed, at_address, labels, indirect, Opener, a_block, a_loop, an_if, Meaning, ends, turns, opens, alone, operations, numbers, loads, stores}
+use Rattle.mw_wat.specs.Instructions.{as_constant, indexed, at_address, labels, indirect, Opener, a_block, a_loop}
+use Rattle.mw_wat.specs.Instructions.{an_if, Meaning, ends, turns, opens, alone, operations, numbers, loads, stores}
 
 -- operations by their names
 abbrev pub operation_names : List (List ℕ × IntOp)

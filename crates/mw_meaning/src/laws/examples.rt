@@ -1,6 +1,10 @@
 // Worked examples of the meanings, proved by computation.
 
-ghost use Rattle.mw_meaning.specs.Examples.{SumIsThree, RunIsSeven, CaptureIsEleven, CubeGivesItsCode, CubeIsCalledTwice, RecursionCarriesOpenCode, CodeIsNotEvaluated, DownEndsWithFour, DownNeedsFour, DivisionTraps, UntakenDivisionDoesNotTrap, ClosureTakesThreeWords, PairTakesTwoWords, ArgumentTakesFourWords, PairsAreResults, HeapBeforeFuel, NumberIsNoFunction};
+ghost use Rattle.mw_meaning.specs.Examples.{SumIsThree, RunIsSeven, CaptureIsEleven, CubeGivesItsCode};
+ghost use Rattle.mw_meaning.specs.Examples.{CubeIsCalledTwice, RecursionCarriesOpenCode, CodeIsNotEvaluated};
+ghost use Rattle.mw_meaning.specs.Examples.{DownEndsWithFour, DownNeedsFour, DivisionTraps, UntakenDivisionDoesNotTrap};
+ghost use Rattle.mw_meaning.specs.Examples.{ClosureTakesThreeWords, PairTakesTwoWords, ArgumentTakesFourWords};
+ghost use Rattle.mw_meaning.specs.Examples.{PairsAreResults, HeapBeforeFuel, NumberIsNoFunction};
 
 /// `1 + 2` is 3.
 pub fn sum_is_three()

@@ -1,6 +1,8 @@
 // Outcomes of items and of main.
 
-ghost use Rattle.mw_meaning.specs.OutcomeLaws.{NamesOfItemsAreValues, OtherPlacesDontMatter, ItemsComeToTheirCode, MainComesToItsValue, NamesOfMainAreValues, MainComesToItsValueAfterItems};
+ghost use Rattle.mw_meaning.specs.OutcomeLaws.{NamesOfItemsAreValues, OtherPlacesDontMatter, ItemsComeToTheirCode};
+ghost use Rattle.mw_meaning.specs.OutcomeLaws.{MainComesToItsValue, NamesOfMainAreValues};
+ghost use Rattle.mw_meaning.specs.OutcomeLaws.{MainComesToItsValueAfterItems};
 
 /// The outcomes of a typable program's items and of its main, under either mode.
 pub fn outcomes()

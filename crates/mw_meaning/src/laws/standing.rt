@@ -2,7 +2,8 @@
 
 ghost use Rattle.mw_meaning.specs.ShapeLaws.{StandingIsNotStray, LeavesAreCounted};
 ghost use Rattle.mw_meaning.specs.ShapeLaws.{PlaysBegin, PlaysGoOn, PlaysEndStray};
-ghost use Rattle.mw_meaning.specs.ShapeExamples.{ExamplesHaveTheirShapes, AnswersHaveTheirShape, NoIntegerIsStray, TwoIsStrayForTruth, MinusOneIsStrayForPairs};
+ghost use Rattle.mw_meaning.specs.ShapeExamples.{ExamplesHaveTheirShapes, AnswersHaveTheirShape, NoIntegerIsStray};
+ghost use Rattle.mw_meaning.specs.ShapeExamples.{TwoIsStrayForTruth, MinusOneIsStrayForPairs};
 ghost use Rattle.mw_meaning.specs.ShapeExamples.{ByteFitsUpToTheEnd};
 ghost use Rattle.mw_meaning.specs.WrongModule.{TwoParametersStandForNothing};
 

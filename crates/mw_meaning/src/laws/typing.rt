@@ -3,7 +3,11 @@
 ghost use Rattle.mw_meaning.specs.declared.mode.Mode.{Mode};
 ghost use Rattle.mw_meaning.specs.StagedMeaning.{outside};
 ghost use Rattle.mw_meaning.specs.Replies.{answering, AreTypedReplies};
-ghost use Rattle.mw_meaning.specs.TypingLaws.{NeverStuck, CodeNeverStuck, ValuesAreTyped, BuiltCodeIsTyped, CodeIsTyped, ClosedCodeIsClosed, RunsAreTyped, StagedRunsAreTyped, RunsOfCodeAreTyped, LetsHaveTheirValues, KernelsNeverStuck, KernelsGiveTheirCode, MainNeverStuck, MainGivesItsGround, AnyState, KernelMeaningNeverStuck, KernelMeaningIsTyped, KernelMeaningIsClosed};
+ghost use Rattle.mw_meaning.specs.TypingLaws.{NeverStuck, CodeNeverStuck, ValuesAreTyped, BuiltCodeIsTyped};
+ghost use Rattle.mw_meaning.specs.TypingLaws.{CodeIsTyped, ClosedCodeIsClosed, RunsAreTyped, StagedRunsAreTyped};
+ghost use Rattle.mw_meaning.specs.TypingLaws.{RunsOfCodeAreTyped, LetsHaveTheirValues, KernelsNeverStuck};
+ghost use Rattle.mw_meaning.specs.TypingLaws.{KernelsGiveTheirCode, MainNeverStuck, MainGivesItsGround, AnyState};
+ghost use Rattle.mw_meaning.specs.TypingLaws.{KernelMeaningNeverStuck, KernelMeaningIsTyped, KernelMeaningIsClosed};
 
 /// What the evaluation of a typable program keeps, where runs and calls answer by the kernel meaning, and where they take
 /// their answers in order from any list of answers of the right types.

@@ -1,7 +1,21 @@
 // Worked examples of typing: derivations, and terms that have none.
 
-ghost use Rattle.mw_meaning.specs.TypingExamples.{PowerIsItsDefinition, CubeIsTypable, LeakHasNoType, LeakIsNotTypable, TopLevelGeneratorIsTypable, InnerGeneratorHasOneType, InnerGeneratorHasOneClassifier, BracketInBracketHasNoType, NoCodeOfCode, VariableKeepsItsClassifier, OuterVariableHasNoType, EarlierLetIsSeen, LaterLetIsNotSeen, KernelIsNotSeenByItems, LetIsASyntacticValue, RepliesAreTakenInOrder, OtherRepliesAreTyped, ReplyOfAnotherTypeStops};
-ghost use Rattle.mw_meaning.specs.TypingRules.{NumberIsAccepted, VariableIsAccepted, FunctionIsAccepted, RecursionIsAccepted, ApplicationIsAccepted, InnerLetIsAccepted, ConditionIsAccepted, PairIsAccepted, PrimitiveIsAccepted, BracketIsAccepted, EscapeIsAccepted, RunIsAccepted, CloseIsAccepted, OpenIsAccepted, LiftIsAccepted, NumberIsRefused, KernelNameIsRefused, FunctionIsRefused, RecursionIsRefused, ApplicationIsRefused, InnerLetIsRefused, ConditionIsRefused, PairIsRefused, PrimitiveIsRefused, EscapeIsRefused, RunIsRefused, OpenIsRefused, LiftIsRefused};
+ghost use Rattle.mw_meaning.specs.TypingExamples.{PowerIsItsDefinition, CubeIsTypable, LeakHasNoType, LeakIsNotTypable};
+ghost use Rattle.mw_meaning.specs.TypingExamples.{TopLevelGeneratorIsTypable, InnerGeneratorHasOneType};
+ghost use Rattle.mw_meaning.specs.TypingExamples.{InnerGeneratorHasOneClassifier, BracketInBracketHasNoType};
+ghost use Rattle.mw_meaning.specs.TypingExamples.{NoCodeOfCode, VariableKeepsItsClassifier, OuterVariableHasNoType};
+ghost use Rattle.mw_meaning.specs.TypingExamples.{EarlierLetIsSeen, LaterLetIsNotSeen, KernelIsNotSeenByItems};
+ghost use Rattle.mw_meaning.specs.TypingExamples.{LetIsASyntacticValue, RepliesAreTakenInOrder, OtherRepliesAreTyped};
+ghost use Rattle.mw_meaning.specs.TypingExamples.{ReplyOfAnotherTypeStops};
+ghost use Rattle.mw_meaning.specs.TypingRules.{NumberIsAccepted, VariableIsAccepted, FunctionIsAccepted};
+ghost use Rattle.mw_meaning.specs.TypingRules.{RecursionIsAccepted, ApplicationIsAccepted, InnerLetIsAccepted};
+ghost use Rattle.mw_meaning.specs.TypingRules.{ConditionIsAccepted, PairIsAccepted, PrimitiveIsAccepted};
+ghost use Rattle.mw_meaning.specs.TypingRules.{BracketIsAccepted, EscapeIsAccepted, RunIsAccepted, CloseIsAccepted};
+ghost use Rattle.mw_meaning.specs.TypingRules.{OpenIsAccepted, LiftIsAccepted, NumberIsRefused, KernelNameIsRefused};
+ghost use Rattle.mw_meaning.specs.TypingRules.{FunctionIsRefused, RecursionIsRefused, ApplicationIsRefused};
+ghost use Rattle.mw_meaning.specs.TypingRules.{InnerLetIsRefused, ConditionIsRefused, PairIsRefused};
+ghost use Rattle.mw_meaning.specs.TypingRules.{PrimitiveIsRefused, EscapeIsRefused, RunIsRefused, OpenIsRefused};
+ghost use Rattle.mw_meaning.specs.TypingRules.{LiftIsRefused};
 
 /// The usual cube program is typable.
 pub fn cube_is_typable()

@@ -11,7 +11,8 @@ use Rattle.mw_conv.specs.Finding.{all_found, EndsWith}
 use Rattle.mw_conv.proofs.Contexts.{pushed, one_more, popped}
 use Rattle.mw_conv.proofs.Ends.{ends_left, ends_right, two_taken, two_added}
 use Rattle.std.proofs.lemmas.List.{map-append}
-use Rattle.mw_conv.proofs.Closures.{outer_free, the_found, the_rest, found_again, all_within, few, inner_within, closure_is, function_added, funs_is, size_is, closed_is, within_is, ok_map, no_ok}
+use Rattle.mw_conv.proofs.Closures.{outer_free, the_found, the_rest, found_again, all_within, few, inner_within}
+use Rattle.mw_conv.proofs.Closures.{closure_is, function_added, funs_is, size_is, closed_is, within_is, ok_map, no_ok}
 use Rattle.mw_conv.proofs.code.+convert.Goals as goal
 
 pub closure_of-places_of-requires : goal.closure_of-places_of-requires

@@ -4,7 +4,8 @@ use Rattle.mw_conv.specs.Convert.{lets}
 use Rattle.mw_conv.specs.Finding.{marking, all_found}
 use Rattle.mw_conv.proofs.Closures.{no_ok}
 use Rattle.mw_conv.proofs.Finds.{found_twice, found_under, found_thrice}
-use Rattle.mw_conv.proofs.Marks.{either, unmarked, joined_twice, joined_thrice, let_marks, function_marks, function_is_found}
+use Rattle.mw_conv.proofs.Marks.{either, unmarked, joined_twice, joined_thrice, let_marks, function_marks}
+use Rattle.mw_conv.proofs.Marks.{function_is_found}
 use Rattle.mw_conv.proofs.find.+find.Goals as goal
 
 pub find-returns-in-Int-clause-marks : goal.find-returns-in-Int-clause-marks

@@ -1,5 +1,6 @@
 use Rattle.std.proofs.Common.{arith}
-use Rattle.mw_grammar.proofs.Below.{read_full, read_gives, read_refuses, read_reads, part_fails, low_in, low_out, raise_ok, fails_raise}
+use Rattle.mw_grammar.proofs.Below.{read_full, read_gives, read_refuses, read_reads, part_fails, low_in, low_out}
+use Rattle.mw_grammar.proofs.Below.{raise_ok, fails_raise}
 use Rattle.mw_grammar.proofs.kinds.+grounds.Goals as goal
 
 pub ground_type-returns-in-None-clause-gives : goal.ground_type-returns-in-None-clause-gives

@@ -2,7 +2,9 @@ use Rattle.std.proofs.Common.{ap}
 use Rattle.mw_infer.specs.Views.{tops_of}
 use Rattle.mw_infer.proofs.Revealing.{show-kernel, show-value}
 use Rattle.mw_infer.proofs.program.reveal.Goals as goal
-use Rattle.mw_infer.proofs.program.reveal.Goals.{in-Kernel+in-Let+in-Pair-1, in-Kernel+in-Let+in-Arrow-1, in-Kernel+in-Let+in-Code-1, in-Kernel+in-Let+in-Closed-1, in-Kernel+in-Let+in-Int-1, in-Kernel+in-Kernel-1, in_default}
+use Rattle.mw_infer.proofs.program.reveal.Goals.{in-Kernel+in-Let+in-Pair-1, in-Kernel+in-Let+in-Arrow-1}
+use Rattle.mw_infer.proofs.program.reveal.Goals.{in-Kernel+in-Let+in-Code-1, in-Kernel+in-Let+in-Closed-1}
+use Rattle.mw_infer.proofs.program.reveal.Goals.{in-Kernel+in-Let+in-Int-1, in-Kernel+in-Kernel-1, in_default}
 
 -- each case but the last drops another form of what stood there
 pub loop-at-preserved : goal.loop-at-preserved

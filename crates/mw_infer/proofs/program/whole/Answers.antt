@@ -4,7 +4,8 @@ use Rattle.std.proofs.lemmas.List.{length-map}
 use Rattle.mw_term.specs.Programs.{PureProgram, Definition, program_of, definition_of}
 use Rattle.mw_infer.specs.Checking.{IsFirstRefusal}
 use Rattle.mw_infer.specs.Views.{tops_of, top_of}
-use Rattle.mw_infer.proofs.Stepping.{progress-first, progress-next, item-judged, item-refused, main-judged, main-refused, main-faultless, get-map, steps-length, if-refused, AtEnd, at-end}
+use Rattle.mw_infer.proofs.Stepping.{progress-first, progress-next, item-judged, item-refused, main-judged}
+use Rattle.mw_infer.proofs.Stepping.{main-refused, main-faultless, get-map, steps-length, if-refused, AtEnd, at-end}
 use Rattle.mw_infer.proofs.Growing.{principal-main}
 use Rattle.mw_infer.proofs.program.whole.Goals as goal
 

@@ -1,5 +1,6 @@
 use Rattle.mw_types.specs.Types.{type_of}
-use Rattle.mw_infer.proofs.Renumbering.{Renumbers-int, Renumbers-bool, Renumbers-unknown, Renumbers-pair, Renumbers-function, Renumbers-code, Renumbers-closed}
+use Rattle.mw_infer.proofs.Renumbering.{Renumbers-int, Renumbers-bool, Renumbers-unknown, Renumbers-pair}
+use Rattle.mw_infer.proofs.Renumbering.{Renumbers-function, Renumbers-code, Renumbers-closed}
 use Rattle.mw_infer.proofs.renumber.+renumbering.Goals as goal
 
 pub renumber-returns-in-Int : goal.renumber-returns-in-Int

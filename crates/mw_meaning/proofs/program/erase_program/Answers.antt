@@ -6,7 +6,8 @@ use Rattle.mw_meaning.specs.ErasureLaws.{IsWithoutStaging}
 use Rattle.mw_meaning.specs.NewNames.{naming_of, new_names, inside_terms, definitions, HasRoom, HaveRoom}
 use Rattle.mw_meaning.proofs.ErasedProgramTyping.{erased_program_is_typable}
 use Rattle.mw_meaning.proofs.NoStaging.{erased_program_has_no_staging}
-use Rattle.mw_meaning.proofs.NewNames.{erased_lets_are, erased_body_is, program_is, program_room, items_sized, length-definitions}
+use Rattle.mw_meaning.proofs.NewNames.{erased_lets_are, erased_body_is, program_is, program_room, items_sized}
+use Rattle.mw_meaning.proofs.NewNames.{length-definitions}
 use Rattle.mw_meaning.proofs.program.erase_program.Goals as goal
 
 pub names_of-requires : goal.names_of-requires

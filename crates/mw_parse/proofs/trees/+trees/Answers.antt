@@ -5,7 +5,8 @@ use Rattle.mw_grammar.specs.Forms.{disjunction_form, passed_form}
 use Rattle.mw_grammar.specs.Descent.{none_yet, ok, full, reading}
 use Rattle.mw_grammar.specs.Levels.{row_of}
 use Rattle.mw_grammar.specs.Boxes.{tree_in}
-use Rattle.mw_grammar.proofs.Below.{read_full, read_gives, read_refuses, read_reads, part_fails, fails_then, raise_ok, fails_raise, read_more, follow_none, follow_deep, follow_on, next_goes, gives_as}
+use Rattle.mw_grammar.proofs.Below.{read_full, read_gives, read_refuses, read_reads, part_fails, fails_then, raise_ok}
+use Rattle.mw_grammar.proofs.Below.{fails_raise, read_more, follow_none, follow_deep, follow_on, next_goes, gives_as}
 use Rattle.mw_parse.proofs.Connectives.{read_connected, passed, passed_more}
 use Rattle.mw_parse.proofs.trees.+trees.Goals as goal
 

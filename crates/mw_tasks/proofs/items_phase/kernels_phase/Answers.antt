@@ -5,7 +5,8 @@ use Rattle.mw_term.specs.Programs.{program_of}
 use Rattle.mw_meaning.specs.Outcomes.{names_of_items}
 use Rattle.mw_tasks.specs.Phases.{IsDoneAt, kernel_numbers}
 use Rattle.mw_tasks.proofs.Dealing.{turned_zip, some_below, no_share}
-use Rattle.mw_tasks.proofs.AllItems.{numbered_tasks, all_outcomes, all_answered, all_received, all_of_table, all_emitted}
+use Rattle.mw_tasks.proofs.AllItems.{numbered_tasks, all_outcomes, all_answered, all_received, all_of_table}
+use Rattle.mw_tasks.proofs.AllItems.{all_emitted}
 use Rattle.mw_tasks.proofs.items_phase.kernels_phase.Given.{Over}
 use Rattle.mw_tasks.proofs.items_phase.kernels_phase.Goals.{After-gathered}
 use Rattle.mw_tasks.proofs.items_phase.kernels_phase.Goals as goal

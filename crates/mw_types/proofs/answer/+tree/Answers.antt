@@ -1,6 +1,7 @@
 use Rattle.std.proofs.Common.{arith}
 use Rattle.mw_types.specs.declared.state.Shape.TheVariants.{Free, Int, Bool}
-use Rattle.mw_types.proofs.Answering.{root_at, pair_parts, arrow_parts, code_parts, closed_parts, free_stands, int_stands, bool_stands, pair_stands, arrow_stands, code_stands, closed_stands}
+use Rattle.mw_types.proofs.Answering.{root_at, pair_parts, arrow_parts, code_parts, closed_parts, free_stands}
+use Rattle.mw_types.proofs.Answering.{int_stands, bool_stands, pair_stands, arrow_stands, code_stands, closed_stands}
 use Rattle.mw_types.proofs.answer.+tree.Goals as goal
 
 pub returns-in-Free : goal.returns-in-Free

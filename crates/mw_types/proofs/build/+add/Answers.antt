@@ -1,7 +1,8 @@
 use Rattle.std.proofs.Common.{◌≡◌, refl, arith}
 use Rattle.mw_types.specs.Types.{unknown, int_ty, bool_ty, pair_ty, function_ty, code_ty, closed_ty, type_of}
 use Rattle.mw_types.proofs.Steps.{if_ok, no_answer}
-use Rattle.mw_types.proofs.Growing.{add_pair, add_arrow, add_code, add_closed, as_type, none_grew, int_not_free, bool_not_free, pair_not_free, arrow_not_free, code_not_free, closed_not_free}
+use Rattle.mw_types.proofs.Growing.{add_pair, add_arrow, add_code, add_closed, as_type, none_grew, int_not_free}
+use Rattle.mw_types.proofs.Growing.{bool_not_free, pair_not_free, arrow_not_free, code_not_free, closed_not_free}
 use Rattle.mw_types.proofs.build.+add.Goals as goal
 
 pub returns-in_ok-right-in-Pair-clause-grew : goal.returns-in_ok-right-in-Pair-clause-grew

@@ -4,7 +4,8 @@ use Rattle.std.proofs.lemmas.Grind.{get_or_default_zero}
 use Rattle.mw_types.specs.Equations.{equations_of}
 use Rattle.mw_types.specs.Judged.{Stated}
 use Rattle.mw_types.specs.Walks.{AllSized}
-use Rattle.mw_types.proofs.Verdicts.{blank_stated, left_within, right_within, item_stated, all_stated, never_unsolvable, never_after, fine, ready, big, small_more, unsolvable_not_fine, too_big_not_fine}
+use Rattle.mw_types.proofs.Verdicts.{blank_stated, left_within, right_within, item_stated, all_stated, never_unsolvable}
+use Rattle.mw_types.proofs.Verdicts.{never_after, fine, ready, big, small_more, unsolvable_not_fine, too_big_not_fine}
 use Rattle.mw_types.proofs.Work.{same_step}
 use Rattle.mw_types.proofs.Steps.{no_answer}
 use Rattle.mw_types.proofs.judging.judge.Goals as goal

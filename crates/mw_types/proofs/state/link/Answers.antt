@@ -2,7 +2,8 @@ use Rattle.std.proofs.Common.{true≢false, ◌≢◌, ◌+◌, ◌*◌, ◌≤�
 use Rattle.mw_types.specs.Holds.{Meeting, kept, weight, more}
 use Rattle.mw_types.specs.declared.state.Shape.TheVariants.{Free}
 use Rattle.mw_types.specs.declared.state.Met.TheVariants.{Clash}
-use Rattle.mw_types.proofs.Steps.{then_step, finish, no_step, shape_inside, at_shapes, no_answer, keep_not_clash, one_not_clash, two_not_clash, classes_not_clash}
+use Rattle.mw_types.proofs.Steps.{then_step, finish, no_step, shape_inside, at_shapes, no_answer, keep_not_clash}
+use Rattle.mw_types.proofs.Steps.{one_not_clash, two_not_clash, classes_not_clash}
 use Rattle.mw_types.proofs.Walking.{shape_read}
 use Rattle.mw_types.proofs.state.link.Goals as goal
 

@@ -2,7 +2,8 @@ use Rattle.std.proofs.Common.{refl, ◌+◌, arith, min}
 use Rattle.mw_types.specs.Types.{unknown, int_ty, bool_ty}
 use Rattle.mw_types.specs.Stands.{s_free, s_int, s_bool}
 use Rattle.mw_types.specs.declared.state.Shape.TheVariants.{Free, Int, Bool}
-use Rattle.mw_types.proofs.Walking.{sized_leaf, sized_pair, sized_arrow, sized_code, sized_closed, sized_as, shape_read, lower, pair_left, pair_right, arrow_left, arrow_right, code_below, closed_below}
+use Rattle.mw_types.proofs.Walking.{sized_leaf, sized_pair, sized_arrow, sized_code, sized_closed, sized_as, shape_read}
+use Rattle.mw_types.proofs.Walking.{lower, pair_left, pair_right, arrow_left, arrow_right, code_below, closed_below}
 use Rattle.mw_types.proofs.Steps.{shape_inside}
 use Rattle.mw_types.proofs.walk.inspect.Goals as goal
 

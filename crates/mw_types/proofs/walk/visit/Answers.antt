@@ -1,5 +1,7 @@
 use Rattle.std.proofs.Common.{true≢false, ap, sym, ◌∙◌, arith, length}
-use Rattle.mw_types.proofs.Walking.{start_walk, open_not_new, done_not_new, open_met, done_met, all_shut, top_in, walk_at, finish_top, cycle, ready_smaller, down_smaller, lower_at, now_new, now_open, went_down, set_not_new}
+use Rattle.mw_types.proofs.Walking.{start_walk, open_not_new, done_not_new, open_met, done_met, all_shut, top_in}
+use Rattle.mw_types.proofs.Walking.{walk_at, finish_top, cycle, ready_smaller, down_smaller, lower_at, now_new}
+use Rattle.mw_types.proofs.Walking.{now_open, went_down, set_not_new}
 use Rattle.mw_types.proofs.Steps.{no_answer}
 use Rattle.mw_types.proofs.walk.visit.Goals as goal
 

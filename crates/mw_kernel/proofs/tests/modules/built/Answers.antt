@@ -7,7 +7,8 @@ use Rattle.mw_wasm.specs.declared.modules.Module.{Module}
 use Rattle.mw_wasm.specs.declared.values.ValType.{ValType}
 use Rattle.mw_wasm.specs.declared.values.ValType.TheVariants.{I32, I64}
 use Rattle.mw_wasm.specs.Syntax.{Code}
-use Rattle.mw_wasm.specs.Validity.{Context, CodeHasType, of_end, of_call, of_drop, of_local_get, of_const_i32, of_load, of_store, of_numeric, context_of, IsValid}
+use Rattle.mw_wasm.specs.Validity.{Context, CodeHasType, of_end, of_call, of_drop, of_local_get, of_const_i32, of_load}
+use Rattle.mw_wasm.specs.Validity.{of_store, of_numeric, context_of, IsValid}
 use Rattle.mw_wasm.specs.Views.{code_of, element_of, module_of, segment_of}
 use Rattle.mw_wasm.proofs.ValidSteps.{on, heads}
 use Rattle.mw_validate.specs.Kept.{IsKept}

@@ -6,7 +6,8 @@ use Rattle.mw_wasm.specs.declared.numbers.NumOp.TheVariants as number
 use Rattle.mw_wasm.specs.declared.numbers.StoreOp.TheVariants as store_op
 use Rattle.mw_wasm.specs.declared.values.ValType.TheVariants.{I32, I64}
 use Rattle.mw_wasm.specs.Syntax.{Code, const_i32, const_i64, numeric, store, unreachable, end, next}
-use Rattle.mw_wasm.specs.Validity.{Context, of_end, of_unreachable, of_const_i32, of_const_i64, of_store, of_numeric, context_of}
+use Rattle.mw_wasm.specs.Validity.{Context, of_end, of_unreachable, of_const_i32, of_const_i64, of_store, of_numeric}
+use Rattle.mw_wasm.specs.Validity.{context_of}
 use Rattle.mw_wasm.specs.Views.{code_of}
 use Rattle.mw_wasm.proofs.ValidSteps.{on}
 use Rattle.mw_kernel.specs.TestModules.{test_module, IsInitCode}

@@ -1,4 +1,5 @@
-use Rattle.mw_meaning.proofs.KernelTyping.{kernel_meaning_never_stuck, kernel_meaning_is_typed, kernel_meaning_is_closed}
+use Rattle.mw_meaning.proofs.KernelTyping.{kernel_meaning_never_stuck, kernel_meaning_is_typed}
+use Rattle.mw_meaning.proofs.KernelTyping.{kernel_meaning_is_closed}
 use Rattle.mw_meaning.proofs.laws.typing.kernel_typing_kept.Goals as goal
 
 pub returns : goal.returns

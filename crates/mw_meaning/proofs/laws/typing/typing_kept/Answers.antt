@@ -1,7 +1,11 @@
 use Rattle.mw_meaning.specs.StagedMeaning.{outside}
 use Rattle.mw_meaning.specs.Replies.{answering, AreTypedReplies}
 use Rattle.mw_meaning.specs.TypingLaws.{AnyState}
-use Rattle.mw_meaning.proofs.EvaluationTyping.{kernels_keep, replies_keep, staged_runs_are_typed, never_stuck, code_never_stuck, values_are_typed, built_code_is_typed, code_is_typed, closed_code_is_closed, runs_are_typed, runs_of_code_are_typed, lets_have_their_values, kernels_never_stuck, kernels_give_their_code, main_never_stuck, main_gives_its_ground}
+use Rattle.mw_meaning.proofs.EvaluationTyping.{kernels_keep, replies_keep, staged_runs_are_typed, never_stuck}
+use Rattle.mw_meaning.proofs.EvaluationTyping.{code_never_stuck, values_are_typed, built_code_is_typed, code_is_typed}
+use Rattle.mw_meaning.proofs.EvaluationTyping.{closed_code_is_closed, runs_are_typed, runs_of_code_are_typed}
+use Rattle.mw_meaning.proofs.EvaluationTyping.{lets_have_their_values, kernels_never_stuck, kernels_give_their_code}
+use Rattle.mw_meaning.proofs.EvaluationTyping.{main_never_stuck, main_gives_its_ground}
 use Rattle.mw_meaning.proofs.laws.typing.typing_kept.Goals as goal
 
 pub returns : goal.returns

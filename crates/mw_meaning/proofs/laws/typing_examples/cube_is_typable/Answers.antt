@@ -2,7 +2,8 @@ use Rattle.std.proofs.Common.{◌≡◌, ℕ, zero, suc, List, [], ◌∷◌, So
 use Rattle.std.specs.Prelude.{slice_get}
 use Rattle.mw_term.specs.Programs.{Definition, value, kernel}
 use Rattle.mw_term.specs.Types.{TermType, int_type, function_type, code_type, closed_type, live}
-use Rattle.mw_term.specs.Typing.{TopLevel, let_item, Typed, t_num, t_var, t_let, t_kernel, t_fun, t_fix, t_app, t_bind, t_cond, t_prim, t_bracket, t_escape, t_run, t_close}
+use Rattle.mw_term.specs.Typing.{TopLevel, let_item, Typed, t_num, t_var, t_let, t_kernel, t_fun, t_fix, t_app, t_bind}
+use Rattle.mw_term.specs.Typing.{t_cond, t_prim, t_bracket, t_escape, t_run, t_close}
 use Rattle.mw_term.specs.Typable.{seen_by_item, IsTypableItem}
 use Rattle.mw_meaning.specs.Examples.{int_to_int, cube}
 use Rattle.mw_meaning.specs.TypingExamples.{power_definition, cube_program}

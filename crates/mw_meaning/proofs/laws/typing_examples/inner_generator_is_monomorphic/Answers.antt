@@ -1,7 +1,8 @@
 use Rattle.std.proofs.Common.{List, []}
 use Rattle.mw_term.specs.Terms.{var, bind}
 use Rattle.mw_term.specs.Types.{TermType, live}
-use Rattle.mw_term.specs.Typing.{TopLevel, Typed, t_num, t_truth, t_var, t_fun, t_app, t_bind, t_pair, t_bracket, t_escape, t_close, t_open}
+use Rattle.mw_term.specs.Typing.{TopLevel, Typed, t_num, t_truth, t_var, t_fun, t_app, t_bind, t_pair, t_bracket}
+use Rattle.mw_term.specs.Typing.{t_escape, t_close, t_open}
 use Rattle.mw_meaning.specs.TypingExamples.{twice, at_two_types, under_two_classifiers}
 use Rattle.mw_meaning.proofs.laws.typing_examples.inner_generator_is_monomorphic.Goals as goal
 

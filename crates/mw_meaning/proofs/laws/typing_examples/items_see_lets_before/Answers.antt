@@ -4,7 +4,8 @@ use Rattle.mw_term.specs.Terms.{Expression, var, glob, fun, app, pair, prim}
 use Rattle.mw_term.specs.declared.term.Primitive.TheVariants.{Add}
 use Rattle.mw_term.specs.Programs.{Definition, value, kernel}
 use Rattle.mw_term.specs.Types.{TermType, int_type, pair_type, function_type, live}
-use Rattle.mw_term.specs.Typing.{TopLevel, let_item, out_of_scope, Typed, t_num, t_var, t_let, t_kernel, t_fun, t_app, t_pair, t_snd}
+use Rattle.mw_term.specs.Typing.{TopLevel, let_item, out_of_scope, Typed, t_num, t_var, t_let, t_kernel, t_fun, t_app}
+use Rattle.mw_term.specs.Typing.{t_pair, t_snd}
 use Rattle.mw_term.specs.Typable.{seen_by_item, IsTypableItem}
 use Rattle.mw_meaning.specs.Examples.{n, int_to_int}
 use Rattle.mw_meaning.specs.TypingExamples.{power_definition}

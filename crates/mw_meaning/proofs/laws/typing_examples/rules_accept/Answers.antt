@@ -1,6 +1,7 @@
 use Rattle.std.proofs.Common.{refl, arith}
 use Rattle.mw_term.specs.Types.{int_type, function_type}
-use Rattle.mw_term.specs.Typing.{t_num, t_truth, t_var, t_fun, t_fix, t_app, t_bind, t_cond, t_pair, t_fst, t_prim, t_bracket, t_escape, t_run, t_close, t_open, t_lift, t_lift_b}
+use Rattle.mw_term.specs.Typing.{t_num, t_truth, t_var, t_fun, t_fix, t_app, t_bind, t_cond, t_pair, t_fst, t_prim}
+use Rattle.mw_term.specs.Typing.{t_bracket, t_escape, t_run, t_close, t_open, t_lift, t_lift_b}
 use Rattle.mw_meaning.proofs.laws.typing_examples.rules_accept.Goals as goal
 
 pub returns : goal.returns

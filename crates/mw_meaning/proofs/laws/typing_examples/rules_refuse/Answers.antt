@@ -1,9 +1,11 @@
 use Rattle.std.proofs.Common.{[], true, false}
-use Rattle.mw_term.specs.Terms.{base, to, truth, var, glob, fun, fix, app, bind, cond, fst, prim, bracket, escape, run, close, opened, lift, lift_b}
+use Rattle.mw_term.specs.Terms.{base, to, truth, var, glob, fun, fix, app, bind, cond, fst, prim, bracket, escape, run}
+use Rattle.mw_term.specs.Terms.{close, opened, lift, lift_b}
 use Rattle.mw_term.specs.declared.term.Base.TheVariants.{Int, Bool}
 use Rattle.mw_term.specs.declared.term.Primitive.TheVariants.{Add, Eq, Lt}
 use Rattle.mw_term.specs.Types.{TermType, live}
-use Rattle.mw_term.specs.Typing.{Typed, t_num, t_truth, t_var, t_let, t_kernel, t_fun, t_fix, t_app, t_bind, t_cond, t_fst, t_prim, t_bracket, t_escape, t_run, t_open, t_lift, t_lift_b}
+use Rattle.mw_term.specs.Typing.{Typed, t_num, t_truth, t_var, t_let, t_kernel, t_fun, t_fix, t_app, t_bind, t_cond}
+use Rattle.mw_term.specs.Typing.{t_fst, t_prim, t_bracket, t_escape, t_run, t_open, t_lift, t_lift_b}
 use Rattle.mw_term.specs.Typable.{seen_by_main}
 use Rattle.mw_meaning.specs.Examples.{n, int_kernel}
 use Rattle.mw_meaning.specs.TypingExamples.{HasNoType, cube_program}

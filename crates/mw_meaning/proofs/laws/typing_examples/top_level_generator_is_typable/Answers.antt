@@ -2,8 +2,10 @@ use Rattle.std.proofs.Common.{◌≡◌, ℕ, zero, suc, List, [], ◌∷◌, So
 use Rattle.std.specs.Prelude.{slice_get}
 use Rattle.mw_term.specs.Terms.{glob}
 use Rattle.mw_term.specs.Programs.{Definition, value as defines}
-use Rattle.mw_term.specs.Types.{TermType, int_type, bool_type, pair_type, function_type, code_type, live, value, quoted, IsPlain, IsAbsent}
-use Rattle.mw_term.specs.Typing.{TopLevel, let_item, Typed, t_num, t_truth, t_var, t_let, t_fun, t_app, t_bind, t_pair, t_bracket, t_escape, t_close, t_open}
+use Rattle.mw_term.specs.Types.{TermType, int_type, bool_type, pair_type, function_type, code_type, live, value, quoted}
+use Rattle.mw_term.specs.Types.{IsPlain, IsAbsent}
+use Rattle.mw_term.specs.Typing.{TopLevel, let_item, Typed, t_num, t_truth, t_var, t_let, t_fun, t_app, t_bind, t_pair}
+use Rattle.mw_term.specs.Typing.{t_bracket, t_escape, t_close, t_open}
 use Rattle.mw_term.specs.Typable.{seen_by_item, IsTypableItem}
 use Rattle.mw_meaning.specs.TypingExamples.{twice, at_two_types, under_two_classifiers, top_level_program}
 use Rattle.mw_meaning.proofs.laws.typing_examples.top_level_generator_is_typable.Goals as goal
