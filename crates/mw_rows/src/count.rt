@@ -6,7 +6,7 @@ use std::alloc::{AllocError, Global};
 /// The numbers of rows, by the place of their kind.
 #[derive(Drop)]
 pub struct Counts {
-    by_kind: [u64; 15],
+    by_kind: [u64; 16],
 }
 
 fn place(kind: Kind) -> usize {
@@ -26,12 +26,13 @@ fn place(kind: Kind) -> usize {
         Kind::Phases => 12,
         Kind::Cached => 13,
         Kind::Linked => 14,
+        Kind::Wat => 15,
     }
 }
 
 impl Counts {
     pub fn none() -> Counts {
-        Counts { by_kind: [0; 15] }
+        Counts { by_kind: [0; 16] }
     }
 
     /// Counts a row.

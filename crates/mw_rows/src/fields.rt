@@ -35,6 +35,8 @@ pub enum Kind {
     Cached,
     /// What an instance of a linked module gives.
     Linked,
+    /// Texts of modules, read and written again.
+    Wat,
 }
 
 /// All kinds, in the order in which they are counted.
@@ -54,6 +56,7 @@ pub const KINDS: &[Kind] = &[
     Kind::Phases,
     Kind::Cached,
     Kind::Linked,
+    Kind::Wat,
 ];
 
 impl Kind {
@@ -75,6 +78,7 @@ impl Kind {
             Kind::Phases => "phases",
             Kind::Cached => "cached",
             Kind::Linked => "linked",
+            Kind::Wat => "wat",
         }
     }
 
@@ -82,8 +86,8 @@ impl Kind {
     pub fn fields(self) -> &'static [&'static str] {
         match self {
             Kind::Run => &[
-                "source", "words", "reads", "writes", "keeps", "step", "held", "holds", "shows",
-                "beside",
+                "source", "words", "reads", "piece", "writes", "keeps", "step", "held", "holds",
+                "shows", "beside",
             ],
             Kind::Tree | Kind::Fronts | Kind::Program => &["source"],
             Kind::Verdicts => &["source", "next"],
@@ -95,6 +99,7 @@ impl Kind {
             Kind::Phases => &["source", "workers", "slots", "mode", "fuel"],
             Kind::Cached => &["source", "words", "workers", "shows"],
             Kind::Linked => &["source", "invoke", "word"],
+            Kind::Wat => &["text", "next"],
         }
     }
 }

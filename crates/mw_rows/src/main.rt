@@ -25,6 +25,7 @@ mod runs;
 mod shown;
 mod sources;
 mod texts;
+mod wat;
 
 use crate::count::Counts;
 use crate::fields::{Fault, Kind, Row};
@@ -57,6 +58,7 @@ fn carried_out<R: AllocGlobal + Threads + Sync>(
         Kind::Phases => phases::carried_out(rt, row),
         Kind::Cached => cached::carried_out(rt, row),
         Kind::Linked => linked::carried_out(rt, row),
+        Kind::Wat => wat::carried_out(alloc, row),
     }
 }
 

@@ -37,15 +37,19 @@ fn file_of(alloc: Global, row: &Row) -> Result<NamedFile, Fault> {
     Ok(NamedFile { name, bytes })
 }
 
-/// The source with its one file.
+/// The source with its one file, of which it gives so many bytes at once.
 fn source_of(alloc: Global, row: &Row) -> Result<MemSource, Fault> {
+    let piece = row.number("piece", 7)?;
+    if piece == 0 {
+        return Err(Fault::Malformed("a source that gives nothing"));
+    }
     let failing = calls(alloc, row, "reads")?;
     let mut files = Files::new(alloc);
     files.push(file_of(alloc, row)?)?;
     if !files.names_differ() {
         return Err(Fault::Malformed("two files of one name"));
     }
-    Ok(MemSource::new(files, failing, 7))
+    Ok(MemSource::new(files, failing, piece as usize))
 }
 
 /// The sink, which takes so many bytes at once.
