@@ -2,6 +2,7 @@
 use Rattle.std.proofs.Common.{◌≡◌, ◌≢◌, ◌⊎◌, inl, inr, ℕ, suc, ◌+◌, ◌≤◌, ◌<◌, List, [], ◌∷◌, length, refl, ap, sym, ◌∙◌}
 use Rattle.std.proofs.Common.{arith}
 use Rattle.mw_types.specs.Types.{TypeExpression, int_ty, bool_ty, unknown, pair_ty, function_ty, code_ty, closed_ty}
+use Rattle.mw_types.specs.Types.{apply}
 use Rattle.mw_types.specs.Types.{Assignment, value, nodes, size, Substitution, after}
 use Rattle.mw_types.specs.Equations.{TypeEquation, Solves, Solvable}
 use Rattle.mw_types.specs.Walks.{In}
@@ -25,22 +26,12 @@ pub solves_same : {a b : Assignment} → Same a b → (es : List TypeEquation) �
 solves_same k [] h = tt
 solves_same k (e ∷ es) h = (sym (value_same k e.left) ∙ h.0 ∙ value_same k e.right, solves_same k es h.1)
 
--- a substitution in a type, and in equations
-pub apply : Substitution → TypeExpression → TypeExpression
-apply s int_ty = int_ty
-apply s bool_ty = bool_ty
-apply s (unknown u) = s.ty u
-apply s (pair_ty l r) = pair_ty (apply s l) (apply s r)
-apply s (function_ty l r) = function_ty (apply s l) (apply s r)
-apply s (code_ty c t) = code_ty (s.classifier c) (apply s t)
-apply s (closed_ty t) = closed_ty (apply s t)
-
+-- a substitution in equations
 pub apply_all : Substitution → List TypeEquation → List TypeEquation
 apply_all s [] = []
 apply_all s (e ∷ es) = record { left = apply s e.left; right = apply s e.right } ∷ apply_all s es
 
 pub value_apply : (b : Assignment) (s : Substitution) (t : TypeExpression) → value b (apply s t) ≡ value (after b s) t
-unfolding apply
 value_apply b s int_ty = refl
 value_apply b s bool_ty = refl
 value_apply b s (unknown u) = refl
@@ -208,7 +199,7 @@ pub put : ℕ → TypeExpression → Substitution
 put u t = record { ty = λ v. chosen (is v u) t; classifier = λ c. c }
 
 over_put : (u : ℕ) (t : TypeExpression) (us : List ℕ) → IsAbsent u t → Over us t → (r : TypeExpression) → Over us r → Over (without u us) (apply (put u t) r)
-unfolding apply put chosen
+unfolding put chosen
 over_put u t us n k int_ty o = tt
 over_put u t us n k bool_ty o = tt
 over_put u t us n k (unknown v) o = step (is v u)
@@ -283,7 +274,7 @@ renamed c d b = ap b.classifier (step (is c c) (is d c))
     step (other n) l = absurd (n refl)
 
 rename_nodes : (c d : ℕ) (t : TypeExpression) → nodes (apply (rename c d) t) ≡ nodes t
-unfolding apply rename
+unfolding rename
 rename_nodes c d int_ty = refl
 rename_nodes c d bool_ty = refl
 rename_nodes c d (unknown u) = refl
@@ -293,7 +284,7 @@ rename_nodes c d (code_ty e t) = rw (rename_nodes c d t) refl
 rename_nodes c d (closed_ty t) = rw (rename_nodes c d t) refl
 
 rename_over : (c d : ℕ) (us : List ℕ) (t : TypeExpression) → Over us t → Over us (apply (rename c d) t)
-unfolding apply rename
+unfolding rename
 rename_over c d us int_ty o = tt
 rename_over c d us bool_ty o = tt
 rename_over c d us (unknown u) o = o

@@ -76,3 +76,13 @@ pub record Substitution : Type 0 where
 -- first the substitution, then the assignment
 abbrev pub after : Assignment → Substitution → Assignment
 after b s = record { ty = λ u. value b (s.ty u); classifier = λ c. b.classifier (s.classifier c) }
+
+-- what a substitution makes of a type
+abbrev pub apply : Substitution → TypeExpression → TypeExpression
+apply s int_ty = int_ty
+apply s bool_ty = bool_ty
+apply s (unknown u) = s.ty u
+apply s (pair_ty l r) = pair_ty (apply s l) (apply s r)
+apply s (function_ty l r) = function_ty (apply s l) (apply s r)
+apply s (code_ty c t) = code_ty (s.classifier c) (apply s t)
+apply s (closed_ty t) = closed_ty (apply s t)
