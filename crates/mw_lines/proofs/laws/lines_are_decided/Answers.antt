@@ -1,0 +1,5 @@
+use Rattle.mw_lines.proofs.Naming.{lines_decided}
+use Rattle.mw_lines.proofs.laws.lines_are_decided.Goals as goal
+
+pub returns : goal.returns
+returns c = lines_decided

@@ -1,0 +1,5 @@
+use Rattle.mw_lines.proofs.Naming.{one_list}
+use Rattle.mw_lines.proofs.laws.lines_name_one_list.Goals as goal
+
+pub returns : goal.returns
+returns c = one_list
