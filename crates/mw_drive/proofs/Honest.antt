@@ -1,5 +1,5 @@
 -- Over honest records outcomes are what the items mean, and no answer is Bad.
-use Rattle.std.proofs.Common.{◌≡◌, ℕ, List, [], ◌∷◌, Bool, Option, Some, None, refl, ap, subst}
+use Rattle.std.proofs.Common.{◌≡◌, ℕ, List, [], ◌∷◌, Bool, Option, Some, None, refl, ap, ◌∙◌, subst}
 use denote.Ref.{Bor}
 use Rattle.mw_term.specs.Terms.{Value}
 use Rattle.mw_term.specs.Programs.{Definition, value as defines, kernel, PureProgram}
@@ -70,6 +70,13 @@ module _ (mode : Mode) (p : PureProgram) (fuel : ℕ) (cache : CacheState) (outc
 -- where nothing was loaded, all is honest
 pub nothing_honest : (load : LoadState) → load.records ≡ [] → IsHonest load
 nothing_honest load none at l here = let none_here = rw none at here in absurd (cc)
+
+-- so what a cache has that is made over an empty load
+pub empty_honest : {cells : List ℕ} {load : LoadState} {cache : CacheState}
+    → cache ≡ record { cells = cells; load = load } → load ≡ record { records = []; good = 0 } → IsHonest cache.load
+empty_honest {cache = cache} made empty =
+    nothing_honest cache.load
+    (ap (λ (s : CacheState). s.load.records) made ∙ ap (λ (l : LoadState). l.records) empty)
 
 -- what was loaded of an honest cache file is honest
 pub opened_honest : {tells : Bool} {held : List ℕ} (path : Option (Bor (List ℕ))) (file : CacheFile) (load : LoadState)

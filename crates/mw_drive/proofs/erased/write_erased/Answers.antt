@@ -1,6 +1,4 @@
-use Rattle.std.proofs.Common.{◌≡◌, ◌∙◌, ap, sym, subst}
-use Rattle.mw_store.specs.Loads.{LoadState}
-use Rattle.mw_cache.specs.Gots.{CacheState}
+use Rattle.std.proofs.Common.{◌≡◌, ap, sym, subst}
 use Rattle.mw_term.specs.Programs.{program_of}
 use Rattle.mw_meaning.specs.declared.mode.Mode.TheVariants.{Plain}
 use Rattle.mw_meaning.proofs.ErasedMain.{typable_names_are_bound}
@@ -10,7 +8,7 @@ use Rattle.mw_console.specs.Texts.{ending_line, ending_status}
 use Rattle.mw_drive.specs.ProgramRuns.{ending_of, IsUsual}
 use Rattle.mw_drive.proofs.Faults.{front_written, no_answer, fault_is}
 use Rattle.mw_drive.proofs.Fronts.{grows_nothing}
-use Rattle.mw_drive.proofs.Honest.{are_outcomes, none_wrong, nothing_honest}
+use Rattle.mw_drive.proofs.Honest.{are_outcomes, none_wrong, empty_honest}
 use Rattle.mw_drive.proofs.RunFaults.{unwritten_usual, job_is_usual, if_bad}
 use Rattle.mw_drive.proofs.ErasedEnds.{erased_ends}
 use Rattle.mw_drive.proofs.ErasedWritten.{program_source, small_types, no_outcomes, erased_is}
@@ -53,8 +51,7 @@ returns-in_err-end-clause-run g c =
     let e =
     erased_ends c.args.fuel (program_of c.args.program.now) (program_source c.args.program.now) c.requires.typable in
     let err = c.from_residual-in_err-end.ensures.1 in
-    let none =
-    ap (λ (s : CacheState). s.load.records) c.new-cache.ensures ∙ ap (λ (l : LoadState). l.records) c.new.ensures in
+    let honest = empty_honest c.new-cache.ensures c.new.ensures in
     record {
       ending = e.0;
       is_run = e.1;
@@ -62,7 +59,7 @@ returns-in_err-end-clause-run g c =
       usual =
           fault_is _ IsUsual c.from_residual-in_err-end.result err
           (job_is_usual c.in_err-end.field-0.0 (if_bad c.in_err-end.field-0.0 _ _
-          (λ d h. none_wrong Plain c.new-cache.result.load (nothing_honest c.new-cache.result.load none) _ h.bad.1)
+          (λ d h. none_wrong Plain c.new-cache.result.load honest _ h.bad.1)
           c.in_err-end.ensures.bad));
       writes =
           front_written _ c.from_residual-in_err-end.result g.K.Sink.tells _ _ (ending_line e.0) err
@@ -72,8 +69,7 @@ returns-in_err-end-clause-run g c =
 pub returns-in_err-write_end-clause-run : goal.returns-in_err-write_end-clause-run
 returns-in_err-write_end-clause-run g c =
     let err = c.from_residual-in_err-write_end.ensures.1 in
-    let none =
-    ap (λ (s : CacheState). s.load.records) c.new-cache.ensures ∙ ap (λ (l : LoadState). l.records) c.new.ensures in
+    let honest = empty_honest c.new-cache.ensures c.new.ensures in
     record {
       ending = ending_of c.in_ok-end.end;
       is_run =
@@ -81,7 +77,7 @@ returns-in_err-write_end-clause-run g c =
           (ending_of c.in_ok-end.end)
           c.in_ok-erased.ensures.erased c.in_ok-erased.ensures.unstaged
           (rw (ap codes_in c.no_kernels-phase.ensures) at
-          c.in_ok-end.ensures.end (nothing_honest c.new-cache.result.load none));
+          c.in_ok-end.ensures.end honest);
       is_status =
           no_answer _ c.from_residual-in_err-write_end.result (λ s. s ≡ ending_status (ending_of c.in_ok-end.end)) err;
       usual = fault_is _ IsUsual c.from_residual-in_err-write_end.result err (unwritten_usual _);
@@ -92,8 +88,7 @@ returns-in_err-write_end-clause-run g c =
 
 pub returns-clause-run : goal.returns-clause-run
 returns-clause-run g c =
-    let none =
-    ap (λ (s : CacheState). s.load.records) c.new-cache.ensures ∙ ap (λ (l : LoadState). l.records) c.new.ensures in
+    let honest = empty_honest c.new-cache.ensures c.new.ensures in
     record {
       ending = ending_of c.in_ok-end.end;
       is_run =
@@ -101,7 +96,7 @@ returns-clause-run g c =
           (ending_of c.in_ok-end.end)
           c.in_ok-erased.ensures.erased c.in_ok-erased.ensures.unstaged
           (rw (ap codes_in c.no_kernels-phase.ensures) at
-          c.in_ok-end.ensures.end (nothing_honest c.new-cache.result.load none));
+          c.in_ok-end.ensures.end honest);
       is_status = c.in_ok-write_end.ensures.status;
       usual = tt;
       writes = c.in_ok-write_end.ensures.writes;

@@ -1,13 +1,10 @@
-use Rattle.std.proofs.Common.{◌∙◌, ap}
 use Rattle.mw_term.specs.Programs.{program_of}
 use Rattle.mw_meaning.specs.declared.mode.Mode.TheVariants.{Plain}
-use Rattle.mw_store.specs.Loads.{LoadState}
-use Rattle.mw_cache.specs.Gots.{CacheState}
 use Rattle.mw_link.specs.Views.{kernels_of}
 use Rattle.mw_drive.specs.ProgramRuns.{ending_of}
 use Rattle.mw_drive.specs.Works.{joined, unjoined}
 use Rattle.mw_drive.proofs.Fronts.{grows_nothing}
-use Rattle.mw_drive.proofs.Honest.{no_wrong_item, nothing_honest}
+use Rattle.mw_drive.proofs.Honest.{no_wrong_item, empty_honest}
 use Rattle.mw_drive.proofs.ItemsRun.{one_for_each, all_placed}
 use Rattle.mw_drive.proofs.LinkedWritten.{answer_ends, typable_means, means_cut, means_joined, made_linkable}
 use Rattle.mw_drive.proofs.LinkedWritten.{link_failed, link_ended}
@@ -16,9 +13,7 @@ use Rattle.mw_drive.proofs.linked.write_linked.Goals as goal
 
 pub returns-in_err-phase-clause-run : goal.returns-in_err-phase-clause-run
 returns-in_err-phase-clause-run g c =
-    let none =
-    ap (λ (s : CacheState). s.load.records) c.new-cache.ensures ∙ ap (λ (l : LoadState). l.records) c.new.ensures in
-    let honest = nothing_honest c.new-cache.result.load none in
+    let honest = empty_honest c.new-cache.ensures c.new.ensures in
     let m = typable_means c.args.fuel c.args.program c.requires.typable in
     link_failed c.args.fuel c.args.program _ c.from_residual.result g.K.Sink.tells _ _ m.0 m.1
     c.from_residual.ensures.1
@@ -47,9 +42,7 @@ returns-in_err-end-clause-run g c =
 
 pub returns-in_err-write_end-clause-run : goal.returns-in_err-write_end-clause-run
 returns-in_err-write_end-clause-run g c =
-    let none =
-    ap (λ (s : CacheState). s.load.records) c.new-cache.ensures ∙ ap (λ (l : LoadState). l.records) c.new.ensures in
-    let honest = nothing_honest c.new-cache.result.load none in
+    let honest = empty_honest c.new-cache.ensures c.new.ensures in
     let e = ending_of c.in-Some.end in
     let means =
     means_cut c.args.fuel c.args.program c.new-cache.result c.in_ok-phase.phase.outcomes honest
@@ -59,9 +52,7 @@ returns-in_err-write_end-clause-run g c =
 
 pub returns-in-Some-clause-run : goal.returns-in-Some-clause-run
 returns-in-Some-clause-run g c =
-    let none =
-    ap (λ (s : CacheState). s.load.records) c.new-cache.ensures ∙ ap (λ (l : LoadState). l.records) c.new.ensures in
-    let honest = nothing_honest c.new-cache.result.load none in
+    let honest = empty_honest c.new-cache.ensures c.new.ensures in
     let e = ending_of c.in-Some.end in
     let means =
     means_cut c.args.fuel c.args.program c.new-cache.result c.in_ok-phase.phase.outcomes honest
@@ -77,9 +68,7 @@ returns-in_err-kernels-clause-run g c =
 
 pub write_module-requires : goal.write_module-requires
 write_module-requires g c =
-    let none =
-    ap (λ (s : CacheState). s.load.records) c.new-cache.ensures ∙ ap (λ (l : LoadState). l.records) c.new.ensures in
-    let honest = nothing_honest c.new-cache.result.load none in
+    let honest = empty_honest c.new-cache.ensures c.new.ensures in
     let cut = rw c.in_default.is at c.in_ok-end.ensures.cut in
     record {
       linkable =
@@ -90,9 +79,7 @@ write_module-requires g c =
 
 pub returns-in_err-write_module-clause-run : goal.returns-in_err-write_module-clause-run
 returns-in_err-write_module-clause-run g c =
-    let none =
-    ap (λ (s : CacheState). s.load.records) c.new-cache.ensures ∙ ap (λ (l : LoadState). l.records) c.new.ensures in
-    let honest = nothing_honest c.new-cache.result.load none in
+    let honest = empty_honest c.new-cache.ensures c.new.ensures in
     let cut = rw c.in_default.is at c.in_ok-end.ensures.cut in
     let made = kernels_of c.in_ok-kernels.kernels.items in
     let means =
@@ -104,9 +91,7 @@ returns-in_err-write_module-clause-run g c =
 
 pub returns-clause-run : goal.returns-clause-run
 returns-clause-run g c =
-    let none =
-    ap (λ (s : CacheState). s.load.records) c.new-cache.ensures ∙ ap (λ (l : LoadState). l.records) c.new.ensures in
-    let honest = nothing_honest c.new-cache.result.load none in
+    let honest = empty_honest c.new-cache.ensures c.new.ensures in
     let cut = rw c.in_default.is at c.in_ok-end.ensures.cut in
     let made = kernels_of c.in_ok-kernels.kernels.items in
     let means =
