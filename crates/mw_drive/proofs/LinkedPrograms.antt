@@ -1,10 +1,12 @@
 -- Linking the kernels of an accepted program.
-use Rattle.std.proofs.Common.{◌≡◌, ◌≤◌, ℕ, suc, ◌+◌, Bool, true, false, List, [], ◌∷◌, map, length, Option}
+use Rattle.std.proofs.Common.{◌≡◌, ◌≤◌, ℕ, suc, ◌+◌, Bool, true, false, List, [], ◌∷◌, ◌++◌, map, length, Option}
 use Rattle.std.proofs.Common.{None}
 use Rattle.std.proofs.Common.{Some, refl, sym, ap, ◌∙◌, subst, arith, length-append}
 use Rattle.std.specs.Prelude.{nat_lt, if◌then◌else◌}
 use Rattle.std.specs.List.{AllByRecursion}
 use Rattle.std.proofs.lemmas.Bool.{ltb-false}
+use Rattle.std.proofs.lemmas.List.{append_assoc, append-nil}
+use Rattle.std.proofs.lemmas.List.Sums.{sum_by-cons}
 use Rattle.mw_term.specs.Terms.{Expression, KernelType, Value}
 use Rattle.mw_term.specs.Programs.{Definition, value as defines, kernel}
 use Rattle.mw_term.specs.Typable.{Typable, HasKernelType}
@@ -25,7 +27,8 @@ use Rattle.mw_drive.specs.SourceReading.{IsRead}
 use Rattle.mw_drive.specs.ProgramMeaning.{ItemsRun, all_gave, one_ended, one_stuck, before_others}
 use Rattle.mw_drive.specs.ProgramMeaning.{run_item}
 use Rattle.mw_drive.specs.ProgramMeaning.{run_items, items_run}
-use Rattle.mw_drive.specs.LinkedPrograms.{first_past, LinkRun, in_one, cut_short, unlinkable, in_one_unless, link_run}
+use Rattle.mw_drive.specs.LinkedPrograms.{functions_of, first_past, LinkRun, in_one, cut_short, unlinkable}
+use Rattle.mw_drive.specs.LinkedPrograms.{in_one_unless, link_run}
 use Rattle.mw_drive.specs.ProgramRuns.{link_meaning}
 use Rattle.mw_drive.specs.Works.{linking, Meaning, joined, unjoined, IsAccepted, IsMeaning, of_joined, of_unjoined}
 use Rattle.mw_drive.proofs.ItemNames.{IsName, HasName, items_named, name_printable, IsOther, Differ, names_differ}
@@ -36,7 +39,7 @@ use Rattle.mw_drive.proofs.SoundKernels.{IsSound, items_sound}
 
 link_goes : (P : Kernel → Type 0) (items : List Definition) (r : ItemsRun) → ItemsEnd P items r
     → (m : Meaning) × (link_meaning (link_run r) ≡ Some m)
-link_goes P items _ (as_all {kernels = ks} each codes) = by_name (first_past 0 ks)
+link_goes P items _ (as_all {kernels = ks} each codes) = by_name (first_past [] ks)
   where
     by_name : (o : Option (List ℕ)) → (m : Meaning) × (link_meaning (in_one_unless ks o) ≡ Some m)
     by_name None = (_, refl)
@@ -66,38 +69,44 @@ link_means {bytes} {fuel} p read accepted m = by_run (link_run (items_run Plain 
 
 -- Kernels that are put in one module were given by all items, and have few functions.
 
-not_past : (n : ℕ) (k : Kernel) (ks : List Kernel) → first_past n (k ∷ ks) ≡ None
-    → (n + funs k.code ≤ 100_000) × (first_past (n + funs k.code) ks ≡ None)
-not_past n k ks = by_test (nat_lt 100_000 (n + funs k.code)) refl
+not_past : (front : List Kernel) (k : Kernel) (ks : List Kernel) → first_past front (k ∷ ks) ≡ None
+    → (functions_of (front ++ k ∷ []) ≤ 100_000) × (first_past (front ++ k ∷ []) ks ≡ None)
+not_past front k ks = by_test (nat_lt 100_000 (functions_of (front ++ k ∷ []))) refl
   where
-    by_test : (t : Bool) → nat_lt 100_000 (n + funs k.code) ≡ t
-        → (if t then Some k.name else first_past (n + funs k.code) ks) ≡ None
-        → (n + funs k.code ≤ 100_000) × (first_past (n + funs k.code) ks ≡ None)
+    by_test : (t : Bool) → nat_lt 100_000 (functions_of (front ++ k ∷ [])) ≡ t
+        → (if t then Some k.name else first_past (front ++ k ∷ []) ks) ≡ None
+        → (functions_of (front ++ k ∷ []) ≤ 100_000) × (first_past (front ++ k ∷ []) ks ≡ None)
     by_test true e is = absurd (cc)
-    by_test false e is = (omega (arith, ltb-false 100_000 (n + funs k.code) e), is)
+    by_test false e is = (ltb-false 100_000 (functions_of (front ++ k ∷ [])) e, is)
 
-few_functions : (n : ℕ) (ks : List Kernel) → n ≤ 100_000 → first_past n ks ≡ None
-    → n + length (all_functions n ks) ≤ 100_000
-few_functions n [] small none = omega (arith, small)
-few_functions n (k ∷ ks) small none =
-    let more = not_past n k ks none in
-    let rest = few_functions (n + funs k.code) ks more.0 more.1 in
+few_functions : (front ks : List Kernel) → functions_of front ≤ 100_000 → first_past front ks ≡ None
+    → functions_of (front ++ ks) ≤ 100_000
+few_functions front [] small none = rw append-nil small
+few_functions front (k ∷ ks) small none =
+    let more = not_past front k ks none in
+    subst (λ ks. functions_of ks ≤ 100_000) (append_assoc front (k ∷ []) ks)
+    (few_functions (front ++ k ∷ []) ks more.0 more.1)
+
+counted_all : (n : ℕ) (ks : List Kernel) → length (all_functions n ks) ≡ functions_of ks
+counted_all n [] = refl
+counted_all n (k ∷ ks) =
     omega (
       arith,
-      rest,
+      counted_all (n + funs k.code) ks,
       length-append (functions k.code n 0) (all_functions (n + funs k.code) ks),
       functions_length k.code n 0,
+      sum_by-cons (λ (k : Kernel). funs k.code) k ks,
     )
 
-pub together : (ks : List Kernel) → first_past 0 ks ≡ None → count ks ≤ 100_000
-together ks none = let few = few_functions 0 ks (omega arith) none in omega (arith, few)
+pub together : (ks : List Kernel) → first_past [] ks ≡ None → count ks ≤ 100_000
+together ks none = rw counted_all (few_functions [] ks (omega arith) none)
 
 pub all_in_one : (r : ItemsRun) (kernels : List Kernel) → link_run r ≡ in_one kernels
-    → (r ≡ all_gave kernels) × (first_past 0 kernels ≡ None)
-all_in_one (all_gave ks) kernels is = by_name (first_past 0 ks) refl is
+    → (r ≡ all_gave kernels) × (first_past [] kernels ≡ None)
+all_in_one (all_gave ks) kernels is = by_name (first_past [] ks) refl is
   where
-    by_name : (o : Option (List ℕ)) → first_past 0 ks ≡ o → in_one_unless ks o ≡ in_one kernels
-        → (all_gave ks ≡ all_gave kernels) × (first_past 0 kernels ≡ None)
+    by_name : (o : Option (List ℕ)) → first_past [] ks ≡ o → in_one_unless ks o ≡ in_one kernels
+        → (all_gave ks ≡ all_gave kernels) × (first_past [] kernels ≡ None)
     by_name None none is = let same : ks ≡ kernels = cc in rw (← same) (refl, none)
     by_name (Some x) past is = absurd (cc)
 all_in_one (one_ended ks e) kernels is = absurd (cc)

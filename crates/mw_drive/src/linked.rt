@@ -111,7 +111,7 @@ fn cut_short<'p>(
 /// The name of the first kernel with which there are more functions than one module may have.
 fn first_past<'p>(built: &[Built<'p>]) -> Option<&'p [u8]>
     requires limits { AllByRecursion (λ (b : Built). within_limits (expression_of b.code.now) ≡ true) built.now }
-    ensures { first_past 0 (kernels_of built.now) ≡ option_map (λ name. name.now) result }
+    ensures { first_past [] (kernels_of built.now) ≡ option_map (λ name. name.now) result }
 {
     let mut sum: u32 = 0;
     for kernel in built {
