@@ -1,9 +1,10 @@
 -- From what a command's run gives to the clauses of the top call.
 use Rattle.std.proofs.Common.{◌≡◌, ◌≤◌, ◌⊎◌, inl, inr, ℕ, List, [], ◌∷◌, map, Bool, true, IsTrue, Option, Some, None}
-use Rattle.std.proofs.Common.{IsSome, IsNone, option_map, take, refl, sym, ap, subst, ◌∙◌, arith}
+use Rattle.std.proofs.Common.{IsSome, IsNone, option_map, take, drop, refl, sym, ap, subst, ◌∙◌, arith}
 use Rattle.std.specs.Prelude.{codes}
 use Rattle.mw_term.specs.Terms.{PureGroundValue}
 use Rattle.mw_console.specs.Texts.{Ending, answered, trapped, bounded, ending_status}
+use Rattle.mw_meaning.specs.declared.mode.Mode.{Mode}
 use Rattle.mw_meaning.specs.declared.mode.Mode.TheVariants.{Plain, Simple}
 use Rattle.mw_words.specs.Words.{PureCommand, PurePart, run, erased, link, sample, migrate, wat, check, IsNumber}
 use Rattle.mw_words.specs.Words.{IsNumberOf, not_named, named_once, Makes, run_of, erased_of, link_of, migrate_of}
@@ -131,17 +132,23 @@ erased_answer kind shown s sink_tells before after fuel m bytes w carried other 
           (answers_are_erased bytes fuel m shown a.0 a.1 w a.2 other) a.2,
     )
 
--- What words ask for that mean a command, where what its call answers is known.
-module _ {words : List (List ℕ)} {o : Outside} (command : PureCommand) (means : Means words command) (s : Status)
-    (sink_tells : Bool) (before after : List ℕ)
-    (Rose_source Rose_sink : Type 0)
-    (carried : (contents : List (List ℕ)) (work : Work) → HasAll o.source (files_of command) contents
-    → IsWork o command contents work → HasHonestCache o command
-    → IsCarriedOut (kind_of command) work s sink_tells before after)
-    (reads : s ≡ Read → Rose_source ⊎ LacksFirst o.source (files_of command)) (writes : s ≡ Write → Rose_sink)
-    (possible : extent (kind_of command) s ≡ never → ⊥) where
+-- what is known of a command that the words mean once it was carried out
+pub record IsCalled (words : List (List ℕ)) (o : Outside) (command : PureCommand) (s : Status) (sink_tells : Bool)
+    (before after : List ℕ) (Rose_source Rose_sink : Type 0) : Type 0 where
+  pub means : Means words command
+  pub carried : (contents : List (List ℕ)) (work : Work) → HasAll o.source (files_of command) contents
+      → IsWork o command contents work → HasHonestCache o command
+      → IsCarriedOut (kind_of command) work s sink_tells before after
+  pub reads : s ≡ Read → Rose_source ⊎ LacksFirst o.source (files_of command)
+  pub writes : s ≡ Write → Rose_sink
+  pub possible : extent (kind_of command) s ≡ never → ⊥
+
+-- so what the words ask for was carried out
+module _ {words : List (List ℕ)} {o : Outside} {command : PureCommand} {s : Status} {sink_tells : Bool}
+    {before after : List ℕ} {Rose_source Rose_sink : Type 0}
+    (called : IsCalled words o command s sink_tells before after Rose_source Rose_sink) where
   same : (other : PureCommand) → Means words other → other ≡ command
-  same other also = one_command words other command also means
+  same other also = one_command words other command also called.means
 
   has_on : (other : PureCommand) (contents : List (List ℕ)) → AsksOn words o other contents
       → HasAll o.source (files_of command) contents
@@ -154,7 +161,7 @@ module _ {words : List (List ℕ)} {o : Outside} (command : PureCommand) (means 
   -- the work that is asked for was carried out
   asked_carried : (work : Work) → Asks words o work → IsCarriedOut (kind_of command) work s sink_tells before after
   asked_carried work asked =
-      carried asked.contents work (has_on asked.command asked.contents asked.on)
+      called.carried asked.contents work (has_on asked.command asked.contents asked.on)
       (works_on asked.command asked.contents work asked.on.means asked.works)
       (subst (HasHonestCache o) (same asked.command asked.on.means) asked.honest)
 
@@ -163,8 +170,8 @@ module _ {words : List (List ℕ)} {o : Outside} (command : PureCommand) (means 
       → (IsMemory s → ⊥)
       → extent (kind_of command) s ≡ whole
   asked_whole work asked source sink kept memory =
-      whole_else (kind_of command) s possible (asked_carried work asked).said kept memory (λ r. not_read (reads r))
-      (λ w. sink (writes w))
+      whole_else (kind_of command) s called.possible (asked_carried work asked).said kept memory
+      (λ r. not_read (called.reads r)) (λ w. sink (called.writes w))
     where
       not_read : Rose_source ⊎ LacksFirst o.source (files_of command) → ⊥
       not_read (inl rose) = source rose
@@ -197,7 +204,7 @@ module _ {words : List (List ℕ)} {o : Outside} (command : PureCommand) (means 
       ((asked_carried work asked).faithful t)
 
   pub asked_possible : (other : PureCommand) → Means words other → extent (kind_of other) s ≡ never → ⊥
-  asked_possible other also n = possible (subst (λ c. extent (kind_of c) s ≡ never) (same other also) n)
+  asked_possible other also n = called.possible (subst (λ c. extent (kind_of c) s ≡ never) (same other also) n)
 
   -- what holds of the command that the words mean
   pub asked_of : (P : PureCommand → Type 0) → P command → (other : PureCommand) → Means words other → P other
@@ -213,11 +220,11 @@ module _ {words : List (List ℕ)} {o : Outside} (command : PureCommand) (means 
   asked_no_cache asked = subst (λ c. IsNone (path_of c)) (same asked.command asked.means) asked.none
 
   pub asked_read : s ≡ Read → Rose_source ⊎ AsksMissing words o
-  asked_read is = by_case (reads is)
+  asked_read is = by_case (called.reads is)
     where
       by_case : Rose_source ⊎ LacksFirst o.source (files_of command) → Rose_source ⊎ AsksMissing words o
       by_case (inl rose) = inl rose
-      by_case (inr lacks) = inr (record { command = command; means = means; lacks = lacks })
+      by_case (inr lacks) = inr (record { command = command; means = called.means; lacks = lacks })
 
   pub asked_has : (other : PureCommand) (bytes : List ℕ) → AsksOn words o other (bytes ∷ [])
       → HasAll o.source (files_of command) (bytes ∷ [])
@@ -258,7 +265,7 @@ module _ {words : List (List ℕ)} {o : Outside} (command : PureCommand) (means 
       let is = same (check f) on.means in
       verdict_on (take most_of_module bytes) s
       (subst (λ c. IsCarriedOut (kind_of c) (judging (take most_of_module bytes)) s sink_tells before after) (sym is)
-      (carried (bytes ∷ []) (judging (take most_of_module bytes)) (has_on (check f) (bytes ∷ []) on)
+      (called.carried (bytes ∷ []) (judging (take most_of_module bytes)) (has_on (check f) (bytes ∷ []) on)
       (subst (λ c. IsWork o c (bytes ∷ []) (judging (take most_of_module bytes))) is check_works)
       (subst (HasHonestCache o) is tt))).meaning
 
@@ -270,7 +277,7 @@ module _ {words : List (List ℕ)} {o : Outside} (command : PureCommand) (means 
       let is = same (run workers fuel simplify cache f) on.means in
       subst (λ c. IsCarriedOut (kind_of c) (running bytes fuel (Lines (mode_when simplify))) s sink_tells before
       after) (sym is)
-      (carried (bytes ∷ []) (running bytes fuel (Lines (mode_when simplify)))
+      (called.carried (bytes ∷ []) (running bytes fuel (Lines (mode_when simplify)))
       (has_on (run workers fuel simplify cache f) (bytes ∷ []) on)
       (subst (λ c. IsWork o c (bytes ∷ []) (running bytes fuel (Lines (mode_when simplify)))) is run_works)
       (subst (HasHonestCache o) is honest))
@@ -302,13 +309,12 @@ module _ {words : List (List ℕ)} {o : Outside} (command : PureCommand) (means 
 
 -- A command's work is that on what its file holds.
 pub run_on : {o : Outside} {workers fuel : ℕ} {simplify : Bool} {cache : Option (List ℕ)} {file : List ℕ}
-    (contents : List (List ℕ))
-    (work : Work)
+    {mode : Mode} → mode ≡ mode_when simplify → (contents : List (List ℕ)) (work : Work)
     → HasAll o.source (files_of (run workers fuel simplify cache file)) contents
     → IsWork o (run workers fuel simplify cache file) contents work
-    → (bytes : List ℕ) × Has o.source (source_file file) bytes
-    × (work ≡ running bytes fuel (Lines (mode_when simplify)))
-run_on contents work (has_more {bytes = bytes} has has_none) run_works = (bytes, has, refl)
+    → (bytes : List ℕ) × Has o.source (source_file file) bytes × (work ≡ running bytes fuel (Lines mode))
+run_on {fuel = fuel} is contents work (has_more {bytes = bytes} has has_none) run_works =
+    (bytes, has, ap (λ mode. running bytes fuel (Lines mode)) (sym is))
 
 pub erased_on : {o : Outside} {fuel : ℕ} {file : List ℕ} (contents : List (List ℕ)) (work : Work)
     → HasAll o.source (files_of (erased fuel file)) contents
@@ -345,12 +351,30 @@ pub check_on : {o : Outside} {file : List ℕ} (contents : List (List ℕ)) (wor
     → (bytes : List ℕ) × Has o.source (module_file file) bytes × (work ≡ judging (take most_of_module bytes))
 check_on contents work (has_more {bytes = bytes} has has_none) check_works = (bytes, has, refl)
 
--- of one file
-pub has_one : {o : Sources} {file : Wanted} {bytes : List ℕ} → HasAll o (file ∷ []) (bytes ∷ []) → Has o file bytes
-has_one (has_more has rest) = has
+-- what is carried out of a work
+pub same_carried : {kind : Kind} {other : Work} {s : Status} {tells : Bool} {before after : List ℕ} (work : Work)
+    → work ≡ other → IsCarriedOut kind other s tells before after → IsCarriedOut kind work s tells before after
+same_carried {kind} {other} {s} {tells} {before} {after} work is carried =
+    subst (λ w. IsCarriedOut kind w s tells before after) (sym is) carried
 
-pub most_of_one : {file other : Wanted} → file ∷ [] ≡ other ∷ [] → file.most ≡ other.most
+-- and of the work on what a file holds
+pub file_carried : {o : Sources} {file : Wanted} {of : List ℕ → Work} {kind : Kind} {s : Status} {tells : Bool}
+    {before after : List ℕ} (work : Work) → (bytes : List ℕ) × Has o file bytes × (work ≡ of bytes)
+    → ((bytes : List ℕ) → Has o file bytes → IsCarriedOut kind (of bytes) s tells before after)
+    → IsCarriedOut kind work s tells before after
+file_carried work on carried = same_carried work on.2 (carried on.0 on.1)
+
+-- of one file
+most_of_one : {file other : Wanted} → file ∷ [] ≡ other ∷ [] → file.most ≡ other.most
 most_of_one {file} {other} is = let same : file ≡ other = cc in ap (λ (f : Wanted). f.most) same
+
+-- what is left of it
+pub one_left : {o : Sources} {file : Wanted} {Had_memory Was_read : Type 0} {left : List ℕ}
+    → ((bytes : List ℕ) → Has o file bytes → Had_memory → Was_read → left ≡ drop file.most bytes)
+    → (other : Wanted) (bytes : List ℕ) → file ∷ [] ≡ other ∷ [] → HasAll o (file ∷ []) (bytes ∷ []) → Had_memory
+    → Was_read → left ≡ drop other.most bytes
+one_left h other bytes is (has_more has rest) memory read =
+    h bytes has memory read ∙ ap (λ n. drop n bytes) (most_of_one is)
 
 pub first_lacks : {o : Sources} {file : Wanted} {Rose_source : Type 0} → Rose_source ⊎ Lacks o file
     → Rose_source ⊎ LacksFirst o (file ∷ [])
@@ -372,6 +396,12 @@ module _ {X Y : Type 0} (f : X → Y) where
   pub kind_mapped : (o : Option X) → kind_with (option_map f o) ≡ kind_with o
   kind_mapped None = refl
   kind_mapped (Some x) = refl
+
+  pub carried_mapped : {work : Work} {s : Status} {tells : Bool} {before after : List ℕ} (o : Option X)
+      → IsCarriedOut (kind_with o) work s tells before after
+      → IsCarriedOut (kind_with (option_map f o)) work s tells before after
+  carried_mapped None carried = carried
+  carried_mapped (Some x) carried = carried
 
   pub some_mapped : (o : Option X) → IsSome (option_map f o) → IsSome o
   some_mapped None some = some

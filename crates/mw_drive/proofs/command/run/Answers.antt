@@ -1,19 +1,38 @@
 use Rattle.std.proofs.Common.{inl, inr, map, ap, ◌∙◌, refl, subst}
+use Rattle.std.specs.String.{string_bytes}
+use Rattle.mw_outside.specs.Count.{Rose}
 use Rattle.mw_drive.specs.HeldFiles.{IsKeptWith}
 use Rattle.mw_drive.specs.Works.{ran, mode_of, run_text, status_of}
 use Rattle.mw_drive.proofs.OneMeaning.{one_meaning}
 use Rattle.mw_drive.specs.Extents.{extent}
-use Rattle.mw_drive.specs.Running.{kind_of, path_of}
+use Rattle.mw_drive.specs.Running.{kind_of, path_of, outside}
 use Rattle.mw_words.specs.Words.{command_in}
 use Rattle.mw_keeping.proofs.KeptFiles.{front_stays}
-use Rattle.mw_drive.proofs.CommandLemmas.{sample_range, run_workers, link_workers, asked_text, asked_status}
-use Rattle.mw_drive.proofs.CommandLemmas.{asked_complete, asked_faults, asked_possible, asked_of, asked_missing}
-use Rattle.mw_drive.proofs.CommandLemmas.{asked_no_file}
+use Rattle.mw_drive.proofs.CommandLemmas.{IsCalled, sample_range, run_workers, link_workers, asked_text}
+use Rattle.mw_drive.proofs.CommandLemmas.{asked_status, asked_complete, asked_faults, asked_possible, asked_of}
+use Rattle.mw_drive.proofs.CommandLemmas.{asked_missing, asked_no_file}
 use Rattle.mw_drive.proofs.CommandLemmas.{asked_no_cache, asked_file, asked_verdict, asked_kept, asked_bad, asked_read}
 use Rattle.mw_drive.proofs.CommandLemmas.{asked_has, asked_erased, asked_simplified}
 use Rattle.mw_drive.proofs.HeldFiles.{front_of, kept_ending}
 use Rattle.mw_drive.proofs.ModuleLemmas.{meaning_modules}
+use Rattle.mw_drive.proofs.command.run.Given.{Over}
+use Rattle.mw_drive.proofs.command.run.Goals.{After-carry_out}
 use Rattle.mw_drive.proofs.command.run.Goals as goal
+
+-- what is known of the command that was carried out
+called : (g : Over) (c : After-carry_out g) → IsCalled (map string_bytes c.args.words.now)
+    (outside g.S.Source.tells (g.S.Source.told c.args.source.now) g.C.Keeper.tells
+    (g.C.Keeper.held c.args.keeper.now)) (command_in c.in-Ok.command) c.carry_out.result g.K.Sink.tells
+    (g.K.Sink.written c.args.sink.now) (g.K.Sink.written c.carry_out.new.sink)
+    (Rose (g.S.Source.faults c.args.source.now) (g.S.Source.faults c.carry_out.new.source))
+    (Rose (g.K.Sink.faults c.args.sink.now) (g.K.Sink.faults c.carry_out.new.sink))
+called g c = record {
+  means = c.in-Ok.ensures.some;
+  carried = c.carry_out.ensures.work;
+  reads = c.carry_out.ensures.read;
+  writes = c.carry_out.ensures.write;
+  possible = c.carry_out.ensures.possible;
+}
 
 pub carry_out-requires-clause-range : goal.carry_out-requires-clause-range
 carry_out-requires-clause-range g c = λ κs live n e. sample_range
@@ -28,107 +47,68 @@ carry_out-requires-clause-linkers g c = λ κs live w fuel file e.
     link_workers (command_in c.in-Ok.command) w fuel file c.in-Ok.ensures.some e
 
 pub returns-in-Ok-clause-text : goal.returns-in-Ok-clause-text
-returns-in-Ok-clause-text g c =
-    asked_text (command_in c.in-Ok.command) c.in-Ok.ensures.some c.carry_out.result g.K.Sink.tells _ _ _ _
-    c.carry_out.ensures.work c.carry_out.ensures.read
-    c.carry_out.ensures.write c.carry_out.ensures.possible
+returns-in-Ok-clause-text g c = asked_text (called g (goal.at.returns-in-Ok-clause-text g c).After-carry_out)
 
 pub returns-in-Ok-clause-status : goal.returns-in-Ok-clause-status
-returns-in-Ok-clause-status g c =
-    asked_status (command_in c.in-Ok.command) c.in-Ok.ensures.some c.carry_out.result g.K.Sink.tells _ _ _ _
-    c.carry_out.ensures.work c.carry_out.ensures.read
-    c.carry_out.ensures.write c.carry_out.ensures.possible
+returns-in-Ok-clause-status g c = asked_status (called g (goal.at.returns-in-Ok-clause-status g c).After-carry_out)
 
 pub returns-in-Ok-clause-complete : goal.returns-in-Ok-clause-complete
 returns-in-Ok-clause-complete g c =
-    asked_complete (command_in c.in-Ok.command) c.in-Ok.ensures.some c.carry_out.result g.K.Sink.tells _ _ _ _
-    c.carry_out.ensures.work c.carry_out.ensures.read
-    c.carry_out.ensures.write c.carry_out.ensures.possible
+    asked_complete (called g (goal.at.returns-in-Ok-clause-complete g c).After-carry_out)
 
 pub returns-in-Ok-clause-faults : goal.returns-in-Ok-clause-faults
-returns-in-Ok-clause-faults g c =
-    asked_faults (command_in c.in-Ok.command) c.in-Ok.ensures.some c.carry_out.result g.K.Sink.tells _ _ _ _
-    c.carry_out.ensures.work c.carry_out.ensures.read
-    c.carry_out.ensures.write c.carry_out.ensures.possible
+returns-in-Ok-clause-faults g c = asked_faults (called g (goal.at.returns-in-Ok-clause-faults g c).After-carry_out)
 
 pub returns-in-Ok-clause-possible : goal.returns-in-Ok-clause-possible
 returns-in-Ok-clause-possible g c =
-    asked_possible (command_in c.in-Ok.command) c.in-Ok.ensures.some c.carry_out.result g.K.Sink.tells _ _ _ _
-    c.carry_out.ensures.work c.carry_out.ensures.read
-    c.carry_out.ensures.write c.carry_out.ensures.possible
+    asked_possible (called g (goal.at.returns-in-Ok-clause-possible g c).After-carry_out)
 
 pub returns-in-Ok-clause-erasure : goal.returns-in-Ok-clause-erasure
-returns-in-Ok-clause-erasure g c =
-    asked_erased (command_in c.in-Ok.command) c.in-Ok.ensures.some c.carry_out.result g.K.Sink.tells _ _ _ _
-    c.carry_out.ensures.work c.carry_out.ensures.read
-    c.carry_out.ensures.write c.carry_out.ensures.possible
+returns-in-Ok-clause-erasure g c = asked_erased (called g (goal.at.returns-in-Ok-clause-erasure g c).After-carry_out)
 
 pub returns-in-Ok-clause-simplified : goal.returns-in-Ok-clause-simplified
 returns-in-Ok-clause-simplified g c =
-    asked_simplified (command_in c.in-Ok.command) c.in-Ok.ensures.some c.carry_out.result g.K.Sink.tells _ _ _ _
-    c.carry_out.ensures.work c.carry_out.ensures.read
-    c.carry_out.ensures.write c.carry_out.ensures.possible
+    asked_simplified (called g (goal.at.returns-in-Ok-clause-simplified g c).After-carry_out)
 
 pub returns-in-Ok-clause-read : goal.returns-in-Ok-clause-read
-returns-in-Ok-clause-read g c =
-    asked_read (command_in c.in-Ok.command) c.in-Ok.ensures.some c.carry_out.result g.K.Sink.tells _ _ _ _
-    c.carry_out.ensures.work c.carry_out.ensures.read
-    c.carry_out.ensures.write c.carry_out.ensures.possible
+returns-in-Ok-clause-read g c = asked_read (called g (goal.at.returns-in-Ok-clause-read g c).After-carry_out)
 
 pub returns-in-Ok-clause-modules : goal.returns-in-Ok-clause-modules
 returns-in-Ok-clause-modules g c = λ work asked meaning is. meaning_modules work meaning is
 
 pub returns-in-Ok-clause-unfailed : goal.returns-in-Ok-clause-unfailed
 returns-in-Ok-clause-unfailed g c =
-    asked_of (command_in c.in-Ok.command) c.in-Ok.ensures.some c.carry_out.result g.K.Sink.tells _ _ _ _
-    c.carry_out.ensures.work c.carry_out.ensures.read
-    c.carry_out.ensures.write c.carry_out.ensures.possible
-    _ c.carry_out.ensures.unfailed
+    asked_of (called g (goal.at.returns-in-Ok-clause-unfailed g c).After-carry_out) _ c.carry_out.ensures.unfailed
 
 pub returns-in-Ok-clause-sound : goal.returns-in-Ok-clause-sound
 returns-in-Ok-clause-sound g c =
-    asked_of (command_in c.in-Ok.command) c.in-Ok.ensures.some c.carry_out.result g.K.Sink.tells _ _ _ _
-    c.carry_out.ensures.work c.carry_out.ensures.read
-    c.carry_out.ensures.write c.carry_out.ensures.possible
-    _ c.carry_out.ensures.sound
+    asked_of (called g (goal.at.returns-in-Ok-clause-sound g c).After-carry_out) _ c.carry_out.ensures.sound
 
 pub returns-in-Ok-clause-missing : goal.returns-in-Ok-clause-missing
 returns-in-Ok-clause-missing g c = λ asked. c.carry_out.ensures.missing
-    (asked_missing (command_in c.in-Ok.command) c.in-Ok.ensures.some c.carry_out.result g.K.Sink.tells _ _ _ _
-    c.carry_out.ensures.work c.carry_out.ensures.read
-    c.carry_out.ensures.write c.carry_out.ensures.possible asked)
+    (asked_missing (called g (goal.at.returns-in-Ok-clause-missing g c).After-carry_out) asked)
 
 pub returns-in-Ok-clause-left : goal.returns-in-Ok-clause-left
-returns-in-Ok-clause-left g c = λ other file bytes on is. c.carry_out.ensures.left file bytes
-    (asked_file (command_in c.in-Ok.command) c.in-Ok.ensures.some c.carry_out.result g.K.Sink.tells _ _ _ _
-    c.carry_out.ensures.work c.carry_out.ensures.read
-    c.carry_out.ensures.write c.carry_out.ensures.possible other file bytes on is)
-    (asked_has (command_in c.in-Ok.command) c.in-Ok.ensures.some c.carry_out.result g.K.Sink.tells _ _ _ _
-    c.carry_out.ensures.work c.carry_out.ensures.read
-    c.carry_out.ensures.write c.carry_out.ensures.possible other bytes on)
+returns-in-Ok-clause-left g c = λ other file bytes on is.
+    let known = called g (goal.at.returns-in-Ok-clause-left g c).After-carry_out in
+    c.carry_out.ensures.left file bytes (asked_file known other file bytes on is) (asked_has known other bytes on)
 
 pub returns-in-Ok-clause-judged : goal.returns-in-Ok-clause-judged
-returns-in-Ok-clause-judged g c = λ file bytes on.
-    asked_verdict (command_in c.in-Ok.command) c.in-Ok.ensures.some c.carry_out.result g.K.Sink.tells _ _ _ _
-    c.carry_out.ensures.work c.carry_out.ensures.read
-    c.carry_out.ensures.write c.carry_out.ensures.possible file bytes on
+returns-in-Ok-clause-judged g c =
+    asked_verdict (called g (goal.at.returns-in-Ok-clause-judged g c).After-carry_out)
 
 pub returns-in-Ok-clause-unread : goal.returns-in-Ok-clause-unread
 returns-in-Ok-clause-unread g c (inl usage) =
     absurd (c.carry_out.ensures.possible (ap (extent (kind_of (command_in c.in-Ok.command))) usage))
 returns-in-Ok-clause-unread g c (inr asked) = c.carry_out.ensures.unread
-    (asked_no_file (command_in c.in-Ok.command) c.in-Ok.ensures.some c.carry_out.result g.K.Sink.tells _ _ _ _
-    c.carry_out.ensures.work c.carry_out.ensures.read
-    c.carry_out.ensures.write c.carry_out.ensures.possible asked)
+    (asked_no_file (called g (goal.at.returns-in-Ok-clause-unread g c).After-carry_out) asked)
 
 pub returns-in-Ok-clause-untouched : goal.returns-in-Ok-clause-untouched
 returns-in-Ok-clause-untouched g c (inl usage) =
     absurd (c.carry_out.ensures.possible (ap (extent (kind_of (command_in c.in-Ok.command))) usage))
 returns-in-Ok-clause-untouched g c (inr (inl read)) = c.carry_out.ensures.untouched (inl read)
 returns-in-Ok-clause-untouched g c (inr (inr asked)) = c.carry_out.ensures.untouched
-    (inr (asked_no_cache (command_in c.in-Ok.command) c.in-Ok.ensures.some c.carry_out.result g.K.Sink.tells _ _ _ _
-    c.carry_out.ensures.work c.carry_out.ensures.read
-    c.carry_out.ensures.write c.carry_out.ensures.possible asked))
+    (inr (asked_no_cache (called g (goal.at.returns-in-Ok-clause-untouched g c).After-carry_out) asked))
 
 pub returns-in-Ok-clause-front : goal.returns-in-Ok-clause-front
 returns-in-Ok-clause-front g c = λ tells.
@@ -141,31 +121,21 @@ returns-in-Err-clause-front g c = λ tells. front_stays _ _ refl
 
 pub returns-in-Ok-clause-held : goal.returns-in-Ok-clause-held
 returns-in-Ok-clause-held g c =
-    asked_of (command_in c.in-Ok.command) c.in-Ok.ensures.some c.carry_out.result g.K.Sink.tells _ _ _ _
-    c.carry_out.ensures.work c.carry_out.ensures.read
-    c.carry_out.ensures.write c.carry_out.ensures.possible
-    _ c.carry_out.ensures.held
+    asked_of (called g (goal.at.returns-in-Ok-clause-held g c).After-carry_out) _ c.carry_out.ensures.held
 
 pub returns-in-Ok-clause-kept : goal.returns-in-Ok-clause-kept
 returns-in-Ok-clause-kept g c = λ work asked some written shown kernels e is.
-    let m =
-    asked_complete (command_in c.in-Ok.command) c.in-Ok.ensures.some c.carry_out.result g.K.Sink.tells _ _ _ _
-    c.carry_out.ensures.work c.carry_out.ensures.read
-    c.carry_out.ensures.write c.carry_out.ensures.possible work asked
-    written in
+    let known = called g (goal.at.returns-in-Ok-clause-kept g c).After-carry_out in
+    let m = asked_complete known work asked written in
     let own = m.2 ∙ ap status_of (one_meaning work m.0 (ran shown kernels e) m.1 is) in
     let texts = map (run_text (mode_of shown)) kernels in
     let held = g.C.Keeper.held c.args.keeper.now in
     let after = g.C.Keeper.held c.carry_out.new.keeper in
     kept_ending e texts held after (subst (λ s. IsKeptWith texts s held after) own
-    (asked_kept (command_in c.in-Ok.command) c.in-Ok.ensures.some c.carry_out.result g.K.Sink.tells _ _ _ _
-    c.carry_out.ensures.work c.carry_out.ensures.read
-    c.carry_out.ensures.write c.carry_out.ensures.possible
-    (λ texts s. IsKeptWith texts s held after) c.carry_out.ensures.kept work asked some shown kernels e is))
+    (asked_kept known (λ texts s. IsKeptWith texts s held after) c.carry_out.ensures.kept work asked some shown kernels
+    e is))
 
 pub returns-in-Ok-clause-bad : goal.returns-in-Ok-clause-bad
 returns-in-Ok-clause-bad g c = λ digest work told asked.
-    asked_bad (command_in c.in-Ok.command) c.in-Ok.ensures.some c.carry_out.result g.K.Sink.tells _ _ _ _
-    c.carry_out.ensures.work c.carry_out.ensures.read
-    c.carry_out.ensures.write c.carry_out.ensures.possible _
+    asked_bad (called g (goal.at.returns-in-Ok-clause-bad g c).After-carry_out) _
     (λ contents work has works. c.carry_out.ensures.bad digest contents work told has works) work asked
