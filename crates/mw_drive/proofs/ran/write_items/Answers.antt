@@ -1,11 +1,13 @@
 use Rattle.std.proofs.Common.{◌≡◌, ap}
 use Rattle.std.specs.Option.{option_map}
-use Rattle.mw_console.specs.Texts.{ending_line}
+use Rattle.std.specs.List.{AllByRecursion}
+use Rattle.mw_cache.specs.HonestFiles.{IsHonest}
+use Rattle.mw_console.specs.Texts.{Ending, ending_line}
 use Rattle.mw_tasks.specs.Phases.{codes_in}
 use Rattle.mw_drive.specs.NamedPrograms.{named_program_of}
-use Rattle.mw_drive.specs.ProgramMeaning.{all_gave}
-use Rattle.mw_drive.specs.ItemOutcomes.{outcomes_run}
-use Rattle.mw_drive.specs.ProgramRuns.{ending_of, kernels_of, IsRanTo}
+use Rattle.mw_drive.specs.ProgramMeaning.{all_gave, items_run, program_run, ended}
+use Rattle.mw_drive.specs.ItemOutcomes.{outcomes_run, run_with}
+use Rattle.mw_drive.specs.ProgramRuns.{ending_of, kernels_of, IsRanTo, IsBuilt}
 use Rattle.mw_drive.specs.Works.{mode_of, shown_text}
 use Rattle.mw_drive.proofs.Fronts.{grows_front, grows_nothing, grows_whole}
 use Rattle.mw_drive.proofs.Honest.{none_wrong}
@@ -13,7 +15,52 @@ use Rattle.mw_drive.proofs.ItemsRun.{one_for_each, all_placed, all_codes}
 use Rattle.mw_drive.proofs.RunFaults.{unwritten_usual, job_is_usual, if_bad}
 use Rattle.mw_drive.proofs.RunWritten.{some_ending, items_ending, item_ended, main_ended, phase_run, run_failed}
 use Rattle.mw_drive.proofs.RunWritten.{run_ended, line_failed}
+use Rattle.mw_drive.proofs.ran.write_items.Given.{Over}
+use Rattle.mw_drive.proofs.ran.write_items.Goals.{After-as_slice, After-write_end-2}
 use Rattle.mw_drive.proofs.ran.write_items.Goals as goal
+
+-- all kernels that gave code have their modules
+all_built : (g : Over) (c : After-as_slice g)
+    → AllByRecursion (IsBuilt (mode_of c.args.shown) c.args.cache.now) c.in_ok-built.field-0.built.items
+all_built g c =
+    c.in_ok-built.ensures.built (mode_of c.args.shown) c.args.cache.now
+    (all_placed (mode_of c.args.shown) c.args.fuel c.args.cache.now c.args.program.now c.args.phase.now.outcomes
+    c.requires.phase)
+
+-- over honest records the items' part of the run is what was found
+items_so : (g : Over) (c : After-as_slice g) → IsHonest c.args.cache.now.load
+    → items_run (mode_of c.args.shown) c.args.fuel (named_program_of c.args.program.now)
+    ≡ run_with (kernels_of c.as_slice.result.now) (option_map ending_of c.in_ok-built.field-0.end)
+items_so g c honest =
+    phase_run (mode_of c.args.shown) c.args.fuel c.args.program.now c.args.cache.now c.args.phase.now.outcomes
+    c.in_ok-built.field-0.built.items c.as_slice.result.now (option_map ending_of c.in_ok-built.field-0.end) honest
+    c.requires.phase c.in_ok-built.ensures.run c.as_slice.ensures.value
+
+-- and the run ends after these kernels
+run_so : (g : Over) (c : After-as_slice g) → IsHonest c.args.cache.now.load → (e : Ending)
+    × (program_run (mode_of c.args.shown) c.args.fuel (named_program_of c.args.program.now)
+    ≡ ended (kernels_of c.as_slice.result.now) e)
+run_so g c honest =
+    items_ending (mode_of c.args.shown) c.args.fuel c.args.program.now c.requires.typable
+    (kernels_of c.as_slice.result.now) (option_map ending_of c.in_ok-built.field-0.end) (items_so g c honest)
+
+-- as main did, where no item ended it
+main_so : (g : Over) (c : After-write_end-2 g) → IsHonest c.args.cache.now.load
+    → items_run (mode_of c.args.shown) c.args.fuel (named_program_of c.args.program.now)
+    ≡ run_with (kernels_of c.as_slice.result.now) (option_map ending_of c.in_ok-built.field-0.end)
+    → program_run (mode_of c.args.shown) c.args.fuel (named_program_of c.args.program.now)
+    ≡ ended (kernels_of c.as_slice.result.now) (ending_of c.in_ok-end.end)
+main_so g c honest items =
+    let mode = mode_of c.args.shown in
+    let kernels = kernels_of c.as_slice.result.now in
+    let gave : outcomes_run (named_program_of c.args.program.now).items c.args.phase.now.outcomes ≡ all_gave kernels =
+    rw c.as_slice.ensures.value (rw c.in_default.is at c.in_ok-built.ensures.run) in
+    let codes =
+    (all_codes mode c.args.fuel c.args.cache.now c.args.program.now c.args.phase.now.outcomes c.requires.phase kernels
+    gave).1 in
+    main_ended mode c.args.fuel c.args.program.now c.requires.typable kernels (codes_in c.args.phase.now.outcomes)
+    (ending_of c.in_ok-end.end) (rw c.in_default.is at items) codes
+    (rw c.mode-mode.ensures at c.in_ok-end.ensures.end honest)
 
 pub items_end-requires : goal.items_end-requires
 items_end-requires g c = record {
@@ -30,66 +77,39 @@ returns-in_err-built-clause-run g c = λ honest.
 
 pub write_kernels-requires-clause-built : goal.write_kernels-requires-clause-built
 write_kernels-requires-clause-built g c =
-    let placed =
-    all_placed (mode_of c.args.shown) c.args.fuel c.args.cache.now c.args.program.now c.args.phase.now.outcomes
-    c.requires.phase in
-    rw c.as_slice.ensures.value (c.in_ok-built.ensures.built (mode_of c.args.shown) c.args.cache.now placed)
+    rw c.as_slice.ensures.value (all_built g (goal.at.write_kernels-requires-clause-built g c).After-as_slice)
 
 pub returns-in_err-write_kernels-clause-run : goal.returns-in_err-write_kernels-clause-run
 returns-in_err-write_kernels-clause-run g c = λ honest.
-    let mode = mode_of c.args.shown in
-    let run =
-    phase_run mode c.args.fuel c.args.program.now c.args.cache.now c.args.phase.now.outcomes
-    c.in_ok-built.field-0.built.items c.as_slice.result.now (option_map ending_of c.in_ok-built.field-0.end) honest
-    c.requires.phase c.in_ok-built.ensures.run c.as_slice.ensures.value in
+    let run = run_so g (goal.at.returns-in_err-write_kernels-clause-run g c).After-as_slice honest in
     let kernels = kernels_of c.as_slice.result.now in
-    let e =
-    items_ending mode c.args.fuel c.args.program.now c.requires.typable kernels
-    (option_map ending_of c.in_ok-built.field-0.end) run in
     run_failed IsRanTo c.args.shown c.args.fuel c.args.program.now _ c.from_residual-in_err-write_kernels.result
-    g.K.Sink.tells _ _ kernels e.0
-    c.from_residual-in_err-write_kernels.ensures.1 (unwritten_usual _) e.1
-    (λ t. grows_front _ _ (shown_text c.args.shown kernels) (ending_line e.0)
+    g.K.Sink.tells _ _ kernels run.0 c.from_residual-in_err-write_kernels.ensures.1 (unwritten_usual _) run.1
+    (λ t. grows_front _ _ (shown_text c.args.shown kernels) (ending_line run.0)
     (c.in_err-write_kernels.ensures.writes honest t))
 
 pub returns-in_err-status-clause-run : goal.returns-in_err-status-clause-run
 returns-in_err-status-clause-run g c = λ honest.
-    let mode = mode_of c.args.shown in
-    let run =
-    phase_run mode c.args.fuel c.args.program.now c.args.cache.now c.args.phase.now.outcomes
-    c.in_ok-built.field-0.built.items c.as_slice.result.now (option_map ending_of c.in_ok-built.field-0.end) honest
-    c.requires.phase c.in_ok-built.ensures.run c.as_slice.ensures.value in
+    let items = items_so g (goal.at.returns-in_err-status-clause-run g c).After-as_slice honest in
     let kernels = kernels_of c.as_slice.result.now in
-    let is =
-    item_ended mode c.args.fuel c.args.program.now c.requires.typable kernels (ending_of c.in-Some.end)
-    (rw c.in-Some.is at run) in
+    let e = ending_of c.in-Some.end in
     line_failed IsRanTo c.args.shown c.args.fuel c.args.program.now _ c.from_residual-in_err-status.result
-    g.K.Sink.tells _ _ _ kernels (ending_of c.in-Some.end)
-    c.from_residual-in_err-status.ensures.1 (unwritten_usual _) is (c.in_ok-write_kernels.ensures.writes honest)
-    c.in_err-status.ensures.writes
+    g.K.Sink.tells _ _ _ kernels e c.from_residual-in_err-status.ensures.1 (unwritten_usual _)
+    (item_ended (mode_of c.args.shown) c.args.fuel c.args.program.now c.requires.typable kernels e
+    (rw c.in-Some.is at items)) (c.in_ok-write_kernels.ensures.writes honest) c.in_err-status.ensures.writes
 
 pub returns-in-Some-clause-run : goal.returns-in-Some-clause-run
 returns-in-Some-clause-run g c = λ honest.
-    let mode = mode_of c.args.shown in
-    let run =
-    phase_run mode c.args.fuel c.args.program.now c.args.cache.now c.args.phase.now.outcomes
-    c.in_ok-built.field-0.built.items c.as_slice.result.now (option_map ending_of c.in_ok-built.field-0.end) honest
-    c.requires.phase c.in_ok-built.ensures.run c.as_slice.ensures.value in
+    let items = items_so g (goal.at.returns-in-Some-clause-run g c).After-as_slice honest in
     let kernels = kernels_of c.as_slice.result.now in
-    let is =
-    item_ended mode c.args.fuel c.args.program.now c.requires.typable kernels (ending_of c.in-Some.end)
-    (rw c.in-Some.is at run) in
-    run_ended IsRanTo c.args.shown c.args.fuel c.args.program.now _ g.K.Sink.tells _ _ _ kernels
-    (ending_of c.in-Some.end) is
-    (ap kernels_of c.as_slice.ensures.value, c.in_ok-status.ensures.status)
+    let e = ending_of c.in-Some.end in
+    run_ended IsRanTo c.args.shown c.args.fuel c.args.program.now _ g.K.Sink.tells _ _ _ kernels e
+    (item_ended (mode_of c.args.shown) c.args.fuel c.args.program.now c.requires.typable kernels e
+    (rw c.in-Some.is at items)) (ap kernels_of c.as_slice.ensures.value, c.in_ok-status.ensures.status)
     (c.in_ok-write_kernels.ensures.writes honest) c.in_ok-status.ensures.writes
 
 pub returns-in-Some-clause-built : goal.returns-in-Some-clause-built
-returns-in-Some-clause-built g c =
-    let placed =
-    all_placed (mode_of c.args.shown) c.args.fuel c.args.cache.now c.args.program.now c.args.phase.now.outcomes
-    c.requires.phase in
-    c.in_ok-built.ensures.built (mode_of c.args.shown) c.args.cache.now placed
+returns-in-Some-clause-built g c = all_built g (goal.at.returns-in-Some-clause-built g c).After-as_slice
 
 pub main_end-requires-clause-built : goal.main_end-requires-clause-built
 main_end-requires-clause-built g c =
@@ -99,71 +119,33 @@ main_end-requires-clause-built g c =
 
 pub returns-in_err-end-clause-run : goal.returns-in_err-end-clause-run
 returns-in_err-end-clause-run g c = λ honest.
-    let mode = mode_of c.args.shown in
-    let run =
-    phase_run mode c.args.fuel c.args.program.now c.args.cache.now c.args.phase.now.outcomes
-    c.in_ok-built.field-0.built.items c.as_slice.result.now (option_map ending_of c.in_ok-built.field-0.end) honest
-    c.requires.phase c.in_ok-built.ensures.run c.as_slice.ensures.value in
+    let run = run_so g (goal.at.returns-in_err-end-clause-run g c).After-as_slice honest in
     let kernels = kernels_of c.as_slice.result.now in
-    let e =
-    items_ending mode c.args.fuel c.args.program.now c.requires.typable kernels
-    (option_map ending_of c.in_ok-built.field-0.end) run in
     run_failed IsRanTo c.args.shown c.args.fuel c.args.program.now _ c.from_residual-in_err-end.result g.K.Sink.tells _
-    _
-    kernels e.0
-    c.from_residual-in_err-end.ensures.1
+    _ kernels run.0 c.from_residual-in_err-end.ensures.1
     (job_is_usual c.in_err-end.field-0.0 (if_bad c.in_err-end.field-0.0 _ _
     (λ d h. none_wrong c.mode-mode.result c.args.cache.now.load honest _ h.bad.1) c.in_err-end.ensures.bad))
-    e.1
-    (λ t. grows_whole _ _ (shown_text c.args.shown kernels) (ending_line e.0)
+    run.1
+    (λ t. grows_whole _ _ (shown_text c.args.shown kernels) (ending_line run.0)
     (c.in_ok-write_kernels.ensures.writes honest t))
 
 pub returns-in_err-status-2-clause-run : goal.returns-in_err-status-2-clause-run
 returns-in_err-status-2-clause-run g c = λ honest.
-    let mode = mode_of c.args.shown in
-    let run =
-    phase_run mode c.args.fuel c.args.program.now c.args.cache.now c.args.phase.now.outcomes
-    c.in_ok-built.field-0.built.items c.as_slice.result.now (option_map ending_of c.in_ok-built.field-0.end) honest
-    c.requires.phase c.in_ok-built.ensures.run c.as_slice.ensures.value in
-    let kernels = kernels_of c.as_slice.result.now in
-    let gave : outcomes_run (named_program_of c.args.program.now).items c.args.phase.now.outcomes ≡ all_gave kernels =
-    rw c.as_slice.ensures.value (rw c.in_default.is at c.in_ok-built.ensures.run) in
-    let codes =
-    (all_codes mode c.args.fuel c.args.cache.now c.args.program.now c.args.phase.now.outcomes c.requires.phase kernels
-    gave).1 in
-    let e = ending_of c.in_ok-end.end in
-    let is =
-    main_ended mode c.args.fuel c.args.program.now c.requires.typable kernels (codes_in c.args.phase.now.outcomes) e
-    (rw c.in_default.is at run) codes (rw c.mode-mode.ensures at c.in_ok-end.ensures.end honest) in
+    let items = items_so g (goal.at.returns-in_err-status-2-clause-run g c).After-as_slice honest in
+    let is = main_so g (goal.at.returns-in_err-status-2-clause-run g c).After-write_end-2 honest items in
     line_failed IsRanTo c.args.shown c.args.fuel c.args.program.now _ c.from_residual-in_err-status-2.result
-    g.K.Sink.tells _ _ _ kernels e
+    g.K.Sink.tells _ _ _ (kernels_of c.as_slice.result.now) (ending_of c.in_ok-end.end)
     c.from_residual-in_err-status-2.ensures.1 (unwritten_usual _) is (c.in_ok-write_kernels.ensures.writes honest)
     c.in_err-status-2.ensures.writes
 
 pub returns-clause-run : goal.returns-clause-run
 returns-clause-run g c = λ honest.
-    let mode = mode_of c.args.shown in
-    let run =
-    phase_run mode c.args.fuel c.args.program.now c.args.cache.now c.args.phase.now.outcomes
-    c.in_ok-built.field-0.built.items c.as_slice.result.now (option_map ending_of c.in_ok-built.field-0.end) honest
-    c.requires.phase c.in_ok-built.ensures.run c.as_slice.ensures.value in
-    let kernels = kernels_of c.as_slice.result.now in
-    let gave : outcomes_run (named_program_of c.args.program.now).items c.args.phase.now.outcomes ≡ all_gave kernels =
-    rw c.as_slice.ensures.value (rw c.in_default.is at c.in_ok-built.ensures.run) in
-    let codes =
-    (all_codes mode c.args.fuel c.args.cache.now c.args.program.now c.args.phase.now.outcomes c.requires.phase kernels
-    gave).1 in
-    let e = ending_of c.in_ok-end.end in
-    let is =
-    main_ended mode c.args.fuel c.args.program.now c.requires.typable kernels (codes_in c.args.phase.now.outcomes) e
-    (rw c.in_default.is at run) codes (rw c.mode-mode.ensures at c.in_ok-end.ensures.end honest) in
-    run_ended IsRanTo c.args.shown c.args.fuel c.args.program.now _ g.K.Sink.tells _ _ _ kernels e is
+    let items = items_so g (goal.at.returns-clause-run g c).After-as_slice honest in
+    let is = main_so g (goal.at.returns-clause-run g c).After-write_end-2 honest items in
+    run_ended IsRanTo c.args.shown c.args.fuel c.args.program.now _ g.K.Sink.tells _ _ _
+    (kernels_of c.as_slice.result.now) (ending_of c.in_ok-end.end) is
     (ap kernels_of c.as_slice.ensures.value, c.in_ok-status-2.ensures.status)
     (c.in_ok-write_kernels.ensures.writes honest) c.in_ok-status-2.ensures.writes
 
 pub returns-clause-built : goal.returns-clause-built
-returns-clause-built g c =
-    let placed =
-    all_placed (mode_of c.args.shown) c.args.fuel c.args.cache.now c.args.program.now c.args.phase.now.outcomes
-    c.requires.phase in
-    c.in_ok-built.ensures.built (mode_of c.args.shown) c.args.cache.now placed
+returns-clause-built g c = all_built g (goal.at.returns-clause-built g c).After-as_slice
