@@ -1,7 +1,6 @@
 -- From the outcomes of kernel items to the kernels that are put in one module.
-use Rattle.std.proofs.Common.{◌≡◌, ◌≤◌, ◌<◌, ◌+◌, ℕ, Bool, true, false, List, [], ◌∷◌, ◌++◌, map, take, drop, Option, None}
-use Rattle.std.proofs.Common.{Some}
-use Rattle.std.proofs.Common.{refl, sym, ap, ◌∙◌, subst, arith}
+use Rattle.std.proofs.Common.{◌≡◌, ◌≤◌, ◌<◌, ◌+◌, ℕ, Bool, true, false, List, [], ◌∷◌, ◌++◌, map, take, drop}
+use Rattle.std.proofs.Common.{Option, None, Some, refl, sym, ap, ◌∙◌, subst, arith}
 use Rattle.std.specs.Prelude.{slice_get, nat_lt, if◌then◌else◌}
 use Rattle.std.specs.List.{AllByRecursion}
 use Rattle.std.proofs.lemmas.Bool.{ltb-true, ltb-false}
@@ -56,8 +55,8 @@ few_more built i b limits there sum n few is =
 -- The first kernel with which there are too many functions, one kernel on, where the functions of the kernels before it
 -- are summed.
 module _ (built : List Built) (i : ℕ) (b : Built) (there : slice_get built i ≡ Some b) (before sum : ℕ)
-    (so_far : before ≡ functions_of (kernels_of (take i built))) (is : sum ≡ before + funs (expression_of b.code.now))
-    where
+    (so_far : before ≡ functions_of (kernels_of (take i built)))
+    (is : sum ≡ before + funs (expression_of b.code.now)) where
   abbrev front : ℕ → List Kernel
   front i = kernels_of (take i built)
 
