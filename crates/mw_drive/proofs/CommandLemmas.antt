@@ -384,13 +384,6 @@ first_lacks (inr lacks) = inr (lacks_first lacks)
 pub lacks_one : {o : Sources} {file : Wanted} → LacksFirst o (file ∷ []) → Lacks o file
 lacks_one (lacks_first lacks) = lacks
 
--- and of none
-pub lacks_no : {o : Sources} → LacksFirst o [] → ⊥
-lacks_no h = elim h [ ]
-
-pub has_no : {o : Sources} {bytes : List ℕ} → HasAll o [] (bytes ∷ []) → ⊥
-has_no h = elim h [ ]
-
 -- a cache file's name, and what is seen of it
 module _ {X Y : Type 0} (f : X → Y) where
   pub kind_mapped : (o : Option X) → kind_with (option_map f o) ≡ kind_with o

@@ -1,47 +1,34 @@
 -- From the outcomes of kernel items to the kernels that are put in one module.
-use Rattle.std.proofs.Common.{◌≡◌, ◌≤◌, ◌<◌, ◌+◌, ℕ, Bool, true, false, List, [], ◌∷◌, ◌++◌, map, take, drop}
-use Rattle.std.proofs.Common.{Option, None, Some, refl, sym, ap, ◌∙◌, subst, arith}
-use Rattle.std.specs.Prelude.{slice_get, nat_lt, if◌then◌else◌}
+use Rattle.std.proofs.Common.{◌≡◌, ◌≤◌, ◌+◌, ℕ, true, List, [], ◌∷◌, ◌++◌, map}
+use Rattle.std.proofs.Common.{None, Some, refl, sym, ap, ◌∙◌, subst, arith}
+use Rattle.std.specs.Prelude.{slice_get}
 use Rattle.std.specs.List.{AllByRecursion}
-use Rattle.std.proofs.lemmas.Bool.{ltb-true, ltb-false}
 use Rattle.std.proofs.lemmas.List.{append_assoc, map-append}
-use Rattle.std.proofs.lemmas.List.Sums.{sum_by_push}
 use Rattle.mw_term.specs.Terms.{KernelType, kernel_type_of, Expression, expression_of}
 use Rattle.mw_term.specs.Limits.{within_limits}
 use Rattle.mw_term.specs.Programs.{value as defines, kernel, definition_of}
 use Rattle.mw_term.specs.declared.program.ItemKind.{ItemKind}
 use Rattle.mw_term.specs.declared.program.Item.{Item}
-use Rattle.mw_term.specs.declared.value.Limit.TheVariants.{KernelSize}
-use Rattle.mw_meaning.specs.declared.mode.Mode.{Mode}
 use Rattle.mw_conv.specs.Convert.{funs}
 use Rattle.mw_conv.proofs.Ranges.{size_small, funs_few}
-use Rattle.mw_cache.specs.Gots.{CacheState}
 use Rattle.mw_tasks.specs.declared.outcome.ItemOutcome.{ItemOutcome}
 use Rattle.mw_tasks.specs.declared.outcome.ItemOutcome.TheVariants.{Code, Trap, Bound}
 use Rattle.mw_cache.specs.declared.got.Got.{Got}
 use Rattle.mw_link.specs.Linked.{Kernel}
 use Rattle.mw_link.specs.Views.{kernel_of as linkable_kernel}
 use Rattle.mw_link.specs.declared.parts.Linkable.{Linkable}
-use Rattle.mw_console.specs.Texts.{Ending, bounded}
+use Rattle.mw_console.specs.Texts.{Ending}
 use Rattle.mw_drive.specs.declared.items.Built.{Built}
 use Rattle.mw_drive.specs.NamedPrograms.{NamedItem, item_of}
 use Rattle.mw_drive.specs.ProgramMeaning.{ItemsRun, all_gave, one_ended, one_stuck, with_kernel}
-use Rattle.mw_drive.specs.LinkedPrograms.{functions_of, first_past, in_one, cut_short, in_one_unless, link_run}
-use Rattle.mw_drive.specs.ProgramRuns.{kernel_of, kernels_of, IsBuilt}
 use Rattle.mw_drive.specs.ItemOutcomes.{outcomes_run, item_run, IsCodeTaken, IsNextKernel, not_a_kernel, with_code}
 use Rattle.mw_drive.specs.ItemOutcomes.{without_code}
 use Rattle.mw_drive.proofs.ItemsRun.{with_kernels, one_more, all_before, all_kernels}
-use Rattle.mw_drive.proofs.Taking.{take_next, drop_next, all_at}
+use Rattle.mw_drive.proofs.Taking.{all_at}
 
 -- an item of this name and this kind, with its name
 abbrev pub item_with : List ℕ → ItemKind → NamedItem
 item_with name kind = record { name = name; is = definition_of kind }
-
--- codes of built kernels are within the limits
-pub built_limits : (mode : Mode) (cache : CacheState) (built : List Built) → AllByRecursion (IsBuilt mode cache) built
-    → AllByRecursion (λ (b : Built). within_limits (expression_of b.code.now) ≡ true) built
-built_limits mode cache [] all = tt
-built_limits mode cache (b ∷ built) all = (all.0.limits, built_limits mode cache built all.1)
 
 -- the functions of one more kernel are counted in 32 bits
 pub few_more : (built : List Built) (i : ℕ) (b : Built)
@@ -52,63 +39,6 @@ few_more built i b limits there sum n few is =
     let limit = all_at (λ (b : Built). within_limits (expression_of b.code.now) ≡ true) built i b limits there in
     omega (arith, few, is, funs_few (expression_of b.code.now), size_small (expression_of b.code.now) limit)
 
--- The first kernel with which there are too many functions, one kernel on, where the functions of the kernels before it
--- are summed.
-module _ (built : List Built) (i : ℕ) (b : Built) (there : slice_get built i ≡ Some b) (before sum : ℕ)
-    (so_far : before ≡ functions_of (kernels_of (take i built)))
-    (is : sum ≡ before + funs (expression_of b.code.now)) where
-  abbrev front : ℕ → List Kernel
-  front i = kernels_of (take i built)
-
-  abbrev left : ℕ → List Kernel
-  left i = kernels_of (drop i built)
-
-  one_on : front (i + 1) ≡ front i ++ kernel_of b ∷ []
-  one_on = ap kernels_of (take_next built i b there) ∙ map-append kernel_of (take i built) (b ∷ [])
-
-  pub summed : sum ≡ functions_of (front (i + 1))
-  summed =
-      is ∙ ap (λ n. n + funs (expression_of b.code.now)) so_far
-      ∙ sym (sum_by_push (λ (k : Kernel). funs k.code) (front i) (kernel_of b)) ∙ ap functions_of (sym one_on)
-
-  abbrev by_sum : ℕ → Option (List ℕ)
-  by_sum n = if nat_lt 100_000 n then Some b.name.now else first_past (front (i + 1)) (left (i + 1))
-
-  opened : first_past (front i) (left i) ≡ by_sum sum
-  opened =
-      ap (λ (bs : List Built). first_past (front i) (kernels_of bs)) (drop_next built i b there)
-      ∙ ap (λ f. if nat_lt 100_000 (functions_of f) then Some b.name.now else first_past f (left (i + 1))) (sym one_on)
-      ∙ ap by_sum (sym summed)
-
-  by_test : (t : Bool) → nat_lt 100_000 sum ≡ t
-      → first_past (front i) (left i)
-      ≡ (if t then Some b.name.now else first_past (front (i + 1)) (left (i + 1)))
-  by_test t test =
-      opened ∙ ap (λ t. if t then Some b.name.now else first_past (front (i + 1)) (left (i + 1))) test
-
-  pub past_here : 100_000 < sum → first_past (front i) (left i) ≡ Some b.name.now
-  past_here more = by_test true (sum_above (nat_lt 100_000 sum) refl)
-    where
-      sum_above : (t : Bool) → nat_lt 100_000 sum ≡ t → nat_lt 100_000 sum ≡ true
-      sum_above true e = e
-      sum_above false e = absurd (let few = ltb-false 100_000 sum e in omega (arith, few, more))
-
-  pub past_later : sum ≤ 100_000 → first_past (front i) (left i) ≡ first_past (front (i + 1)) (left (i + 1))
-  past_later few = by_test false (sum_within (nat_lt 100_000 sum) refl)
-    where
-      sum_within : (t : Bool) → nat_lt 100_000 sum ≡ t → nat_lt 100_000 sum ≡ false
-      sum_within true e = absurd (let more = ltb-true 100_000 sum e in omega (arith, few, more))
-      sum_within false e = e
-
--- Linking is cut short at the bound of a kernel, or not at all.
-pub cut_at_bound : (run : ItemsRun) (kernels : List Kernel) (name : List ℕ) → run ≡ all_gave kernels
-    → first_past [] kernels ≡ Some name → link_run run ≡ cut_short (bounded KernelSize name)
-cut_at_bound run kernels name is past = ap link_run is ∙ ap (in_one_unless kernels) past
-
-pub not_cut : (run : ItemsRun) (kernels : List Kernel) → run ≡ all_gave kernels → first_past [] kernels ≡ None
-    → link_run run ≡ in_one kernels
-not_cut run kernels is none = ap link_run is ∙ ap (in_one_unless kernels) none
-
 -- Where all of the program's items give kernels, the kernels so far, before those of the others with the outcomes that
 -- are left, are these.
 abbrev pub Gathers : List ItemOutcome → List Item → List Kernel → List ItemOutcome → Type 0
@@ -116,9 +46,6 @@ Gathers outcomes front ls left =
     (others : List NamedItem) (kernels : List Kernel)
     → outcomes_run (map item_of front ++ others) outcomes ≡ all_gave kernels
     → with_kernels ls (outcomes_run others left) ≡ all_gave kernels
-
-pub gathers_first : (outcomes left : List ItemOutcome) → left ≡ outcomes → Gathers outcomes [] [] left
-gathers_first outcomes left is = λ others kernels run. ap (outcomes_run others) is ∙ run
 
 stuck_after : (ls : List Kernel) → with_kernels ls one_stuck ≡ one_stuck
 stuck_after [] = refl
