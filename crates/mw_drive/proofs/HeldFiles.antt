@@ -30,7 +30,7 @@ use Rattle.mw_drive.specs.HeldFiles.{IsStatusAfter, texts_built}
 use Rattle.mw_drive.specs.ProgramRuns.{kernel_of, kernels_of, IsBuilt, HasEnding}
 use Rattle.mw_drive.specs.Running.{kind_with}
 use Rattle.mw_drive.specs.Works.{run_text}
-use Rattle.mw_drive.proofs.Options.{none_is_some, some_is_none, answer_is_fault}
+use Rattle.mw_drive.proofs.Options.{none_is_some, answer_is_fault}
 
 -- the texts of the kernels' modules are those of what is run of their code
 pub texts_are : (mode : Mode) (cache : CacheState) (built : List Built) → AllByRecursion (IsBuilt mode cache) built
@@ -45,9 +45,6 @@ pub ending_kept : (e : Ending) → ending_status e ≡ Cache → ⊥
 ending_kept (answered v) is = absurd (cc)
 ending_kept (trapped t name) is = absurd (cc)
 ending_kept (bounded l name) is = absurd (cc)
-
-pub has_ending_kept : (s : Status) → HasEnding s → s ≡ Cache → ⊥
-has_ending_kept s (e, is) unkept = ending_kept e (sym is ∙ unkept)
 
 pub opened_read : {tells : Bool} {held : List ℕ} (path : Option (Bor (List ℕ))) (file : CacheFile) (load : LoadState)
     → IsOpened tells held path file load → (count : ℕ) → file ≡ Read count → IsTrue tells → IsReadFile held count load
@@ -135,14 +132,6 @@ end_of tells held (Some x) Absent load own s opened is = absurd opened
 end_of tells held (Some x) Unread load own s opened is = inr (refl, is)
 end_of tells held (Some x) (Read n) load own s opened (inl same) = inl same
 end_of tells held (Some x) (Read n) load own s opened (inr unkept) = inr (refl, unkept)
-
--- where there is no file, none was opened
-pub absent : (tells : Bool) (held : List ℕ) (path : Option (Bor (List ℕ))) (file : CacheFile) (load : LoadState)
-    → IsOpened tells held path file load → IsNone path → file ≡ Absent
-absent tells held None Absent load opened none = refl
-absent tells held None Unread load opened none = absurd opened
-absent tells held None (Read n) load opened none = absurd opened
-absent tells held (Some x) file load opened none = absurd (some_is_none x none)
 
 -- whatever the status, the file begins with what counted
 pub held_front : (s : Status) (held after : List ℕ) → IsHeldWith s held after → HasGoodFront held after

@@ -1,13 +1,12 @@
 -- What was written of a text that a work means, with the status that says the same.
-use Rattle.std.proofs.Common.{◌≡◌, inl, inr, ℕ, List, ◌++◌, Bool, IsTrue, ◌∙◌, refl, sym, ap, subst}
+use Rattle.std.proofs.Common.{◌≡◌, inr, ℕ, List, ◌++◌, Bool, IsTrue, ◌∙◌, refl, sym, ap, subst}
 use Rattle.mw_outside.specs.Count.{GrowsByFront}
 use Rattle.mw_console.specs.declared.status.Status.{Status}
-use Rattle.mw_drive.specs.Extents.{a_front, whole, all_or_nothing, never, Kind, extent}
+use Rattle.mw_drive.specs.Extents.{a_front, whole, all_or_nothing, Kind, extent}
 use Rattle.mw_drive.specs.Running.{IsFaithful, IsCarriedOut}
 use Rattle.mw_drive.specs.Works.{Work, Reports}
 use Rattle.mw_drive.proofs.RunLemmas.{whole_status, output_of_report}
 use Rattle.mw_drive.proofs.RunLemmas.{front_not_whole, either_not_whole, whole_said, front_said, either_said}
-use Rattle.mw_drive.proofs.RunLemmas.{whole_not_never}
 use Rattle.std.proofs.Common.{Result, Ok, Err, IfOk, length}
 use Rattle.mw_console.specs.Texts.{migrated_text}
 use Rattle.mw_console.specs.declared.status.Status.TheVariants.{Answer, BadModule}
@@ -76,12 +75,6 @@ module _ (kind : Kind) {work : Work} where
   pub report_whole : {text : List ℕ} {s : Status} → Reports work text s → extent kind s ≡ whole
   report_whole r = ap (extent kind) r.is_status ∙ whole_status kind r.meaning
 
-  pub report_possible : {text : List ℕ} {s : Status} → Reports work text s → extent kind s ≡ never → ⊥
-  report_possible r n = whole_not_never (sym (report_whole r) ∙ n)
-
-  pub report_other : {text : List ℕ} {s t : Status} → Reports work text s → (extent kind t ≡ whole → ⊥) → s ≡ t → ⊥
-  report_other r other is = other (sym (ap (extent kind) is) ∙ report_whole r)
-
   module _ {tells : Bool} (before after : List ℕ) where
     -- written whole, with its status
     pub carried_report : (text : List ℕ) (s : Status) → Reports work text s → (IsTrue tells → after ≡ before ++ text)
@@ -116,13 +109,3 @@ module _ (kind : Kind) {work : Work} where
           meaning = λ w. absurd (either_not_whole (sym is ∙ w));
           said = λ c. absurd (either_said (sym is ∙ c));
         }
-
-  -- nothing of it, with either
-  pub carried_none : {tells : Bool} (before after : List ℕ) (t : Status) → extent kind t ≡ all_or_nothing
-      → after ≡ before → IsCarriedOut kind work t tells before after
-  carried_none before after t is same =
-      record {
-        faithful = λ told. subst (λ x. IsFaithful x work t before after) (sym is) (inl same);
-        meaning = λ w. absurd (either_not_whole (sym is ∙ w));
-        said = λ c. absurd (either_said (sym is ∙ c));
-      }

@@ -14,21 +14,6 @@ use Rattle.mw_drive.specs.RunFaults.{fault_of_job, IfBadRecord}
 pub unwritten_usual : (e : WriteFault) (f : RunFault) → f ≡ Unwritten e → IsUsual f
 unwritten_usual e f is = subst IsUsual (sym is) tt
 
-module _ {A : Type 0} (r : Result A RunFault) (e : WriteFault) where
-  pub fault_usual : IsErrAnd r (λ f. f ≡ Unwritten e) → IfErr r IsUsual
-  fault_usual h = of r h
-    where
-      of : (r : Result A RunFault) → IsErrAnd r (λ f. f ≡ Unwritten e) → IfErr r IsUsual
-      of (Ok x) h = tt
-      of (Err f) h = unwritten_usual e f h
-
-  pub fault_not_bad : (P : List ℕ → Type 0) → IsErrAnd r (λ f. f ≡ Unwritten e) → IfErr r (IfBadRecord P)
-  fault_not_bad P h = of r h
-    where
-      of : (r : Result A RunFault) → IsErrAnd r (λ f. f ≡ Unwritten e) → IfErr r (IfBadRecord P)
-      of (Ok x) h = tt
-      of (Err f) h = subst (IfBadRecord P) (sym h) tt
-
 -- a fault of the work on items or main
 module _ {A : Type 0} (r : Result A RunFault) (e : JobFault) (h : IsErrAnd r (λ f. f ≡ fault_of_job e)) where
   pub job_bad : (P : List ℕ → Type 0) → IfBad e P → IfErr r (IfBadRecord P)
@@ -39,15 +24,6 @@ module _ {A : Type 0} (r : Result A RunFault) (e : JobFault) (h : IsErrAnd r (λ
       of (Ok x) e h bad = tt
       of (Err f) (job.Memory error) h bad = subst (IfBadRecord P) (sym h) tt
       of (Err f) (job.Bad digest) h bad = subst (IfBadRecord P) (sym h) bad
-
-  pub job_usual : IfBad e (λ digest. ⊥) → IfErr r IsUsual
-  job_usual none = of r e h none
-    where
-      of : (r : Result A RunFault) (e : JobFault) → IsErrAnd r (λ f. f ≡ fault_of_job e) → IfBad e (λ digest. ⊥)
-          → IfErr r IsUsual
-      of (Ok x) e h none = tt
-      of (Err f) (job.Memory error) h none = subst IsUsual (sym h) tt
-      of (Err f) (job.Bad digest) h none = absurd none
 
 -- what is true of bad records follows from more
 pub if_bad : (e : JobFault) (P Q : List ℕ → Type 0) → ((digest : List ℕ) → P digest → Q digest) → IfBad e P → IfBad e Q

@@ -3,7 +3,6 @@ use Rattle.std.proofs.Common.{◌≡◌, ◌⊎◌, inl, inr, ℕ, ◌<◌, List
 use Rattle.std.proofs.Common.{IsNone, IsSome, ◌∙◌, take, length, Result, Ok, Err, IfOk, IfErr, refl, sym, ap}
 use Rattle.std.proofs.Common.{subst, arith}
 use denote.Ref.{Bor}
-use Rattle.std.specs.Prelude.{alloc_error}
 use Rattle.std.proofs.lemmas.List.{take_all, length-take}
 use Rattle.mw_drive.specs.declared.fault.RunFault.{RunFault}
 use Rattle.mw_drive.specs.declared.fault.RunFault.TheVariants.{Unwritten, Bad}
@@ -34,7 +33,6 @@ use Rattle.mw_drive.specs.declared.source.Evaluation.{Evaluation}
 use Rattle.mw_drive.specs.declared.source.Evaluation.TheVariants.{Run, Erased, Linked}
 use Rattle.mw_drive.specs.Extents.{a_front, whole, unkept, all_or_nothing, unsaid, never}
 use Rattle.mw_drive.specs.Extents.{Kind, on_a_file, over_a_cache, on_a_number, on_a_cache, extent}
-use Rattle.mw_drive.specs.RunFaults.{BlamesSink}
 use Rattle.mw_drive.specs.Running.{most_of_source, Sources, Wanted, Has, Lacks, HasAll, has_none, has_more, LacksFirst}
 use Rattle.mw_drive.specs.Running.{lacks_first, IsFaithful, IsMemory, IsCarriedOut, IsStatusOf, IsWritten, kind_with}
 use Rattle.mw_drive.proofs.Options.{none_is_some, some_is_none}
@@ -305,32 +303,6 @@ module _ (path : Option (Bor (List ℕ))) (kind : Kind) (over : IsSome path → 
       by_path (Some x) usual over =
           unsaid_not_never
           (sym (ap (extent kind) is ∙ ap (λ k. extent k (BadCache digest)) (over refl)) ∙ n)
-
--- a front, or what isn't said, isn't a whole text
-front_not_written : IsWritten a_front → ⊥
-front_not_written (inl e) = absurd (cc)
-front_not_written (inr (inl e)) = absurd (cc)
-front_not_written (inr (inr e)) = absurd (cc)
-
--- with the status of a whole text the count of faults stands
-module _ (kind : Kind) (old new : ℕ) (s : Status) where
-  pub written_unfailed : (r : Result Status RunFault) → IsStatusOf r s → BlamesSink r old new
-      → IsWritten (extent kind s)
-      → new ≡ old
-  written_unfailed (Ok status) is b w = b
-  written_unfailed (Err (Unwritten fault.Failed)) is b w =
-      absurd (front_not_written (subst (λ s. IsWritten (extent kind s)) is w))
-  written_unfailed (Err (Unwritten (fault.Memory error))) is b w = b
-  written_unfailed (Err (Bad digest)) is b w = b
-
-  pub written_memory : (r : Result Status RunFault) → IsStatusOf r s → BlamesSink r old new → IsMemory s → new ≡ old
-  written_memory (Ok status) is b m = b
-  written_memory (Err (Unwritten fault.Failed)) is b m = absurd (not_both is m)
-    where
-      not_both : s ≡ Write → s ≡ Memory alloc_error → ⊥
-      not_both e f = cc
-  written_memory (Err (Unwritten (fault.Memory error))) is b m = b
-  written_memory (Err (Bad digest)) is b m = b
 
 -- a status that is none of the others is that of a whole text
 pub whole_else : (kind : Kind) (s : Status) → (extent kind s ≡ never → ⊥) → (extent kind s ≡ unsaid → ⊥)
