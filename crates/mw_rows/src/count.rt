@@ -6,7 +6,7 @@ use std::alloc::{AllocError, Global};
 /// The numbers of rows, by the place of their kind.
 #[derive(Drop)]
 pub struct Counts {
-    by_kind: [u64; 16],
+    by_kind: [u64; 17],
 }
 
 fn place(kind: Kind) -> usize {
@@ -27,12 +27,13 @@ fn place(kind: Kind) -> usize {
         Kind::Cached => 13,
         Kind::Linked => 14,
         Kind::Wat => 15,
+        Kind::Certificate => 16,
     }
 }
 
 impl Counts {
     pub fn none() -> Counts {
-        Counts { by_kind: [0; 16] }
+        Counts { by_kind: [0; 17] }
     }
 
     /// Counts a row.

@@ -37,6 +37,8 @@ pub enum Kind {
     Linked,
     /// Texts of modules, read and written again.
     Wat,
+    /// Certificates beside a program.
+    Certificate,
 }
 
 /// All kinds, in the order in which they are counted.
@@ -57,6 +59,7 @@ pub const KINDS: &[Kind] = &[
     Kind::Cached,
     Kind::Linked,
     Kind::Wat,
+    Kind::Certificate,
 ];
 
 impl Kind {
@@ -79,6 +82,7 @@ impl Kind {
             Kind::Cached => "cached",
             Kind::Linked => "linked",
             Kind::Wat => "wat",
+            Kind::Certificate => "certificate",
         }
     }
 
@@ -100,6 +104,7 @@ impl Kind {
             Kind::Cached => &["source", "words", "workers", "shows"],
             Kind::Linked => &["source", "invoke", "word"],
             Kind::Wat => &["text", "next"],
+            Kind::Certificate => &["source", "cert"],
         }
     }
 }

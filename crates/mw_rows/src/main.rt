@@ -9,6 +9,7 @@
 #![tactic(auto)]
 
 mod cached;
+mod certificates;
 mod code;
 mod count;
 mod fields;
@@ -59,6 +60,7 @@ fn carried_out<R: AllocGlobal + Threads + Sync>(
         Kind::Cached => cached::carried_out(rt, row),
         Kind::Linked => linked::carried_out(rt, row),
         Kind::Wat => wat::carried_out(alloc, row),
+        Kind::Certificate => certificates::carried_out(alloc, row),
     }
 }
 

@@ -1,0 +1,126 @@
+-- Lines that are read one after the other.
+use Rattle.std.proofs.Common.{◌≡◌, ℕ, zero, suc, ◌<◌, true, false, ◌&&◌, List, [], ◌∷◌, ◌++◌, map}
+use Rattle.std.proofs.Common.{Option, Some, None, refl, ap, ◌∙◌, arith, append_assoc}
+use Rattle.std.specs.Prelude.{if◌then◌else◌}
+use Rattle.mw_lines.specs.TypeLines.{TypeLine}
+use Rattle.mw_lines.specs.Deciding.{may_follow, may_follow_all}
+use Rattle.mw_recheck.specs.Options.{◌>>=◌}
+use Rattle.mw_recheck.specs.Reading.{type_line_at, type_lines_at, numbers_at, node_lines_at}
+use Rattle.mw_recheck.specs.Answers.{lines_after}
+
+-- nothing goes on from no answer
+nowhere : {A B : Type 0} (o : Option A) → ◌>>=◌ {A = A} {B = B} o (λ x. None) ≡ None
+nowhere (Some x) = refl
+nowhere None = refl
+
+abbrev Lines : Type 0
+Lines = List TypeLine × List ℕ
+
+abbrev Nodes : Type 0
+Nodes = List (List ℕ) × List ℕ
+
+nil_right : {A : Type 0} (xs : List A) → xs ++ [] ≡ xs
+nil_right [] = refl
+nil_right (x ∷ xs) = ap (λ l. x ∷ l) (nil_right xs)
+
+pub lines_end : (before : List TypeLine) (n : ℕ) (bytes : List ℕ) → n ≡ 0
+    → lines_after before n bytes ≡ Some (before, bytes)
+lines_end before zero bytes e = ap (λ l. Some (l, bytes)) (nil_right before)
+lines_end before (suc n) bytes e = absurd (omega (arith, e))
+
+-- no line stands there
+pub lines_stop : (before : List TypeLine) (n : ℕ) (bytes : List ℕ) → 0 < n → type_line_at bytes ≡ None
+    → lines_after before n bytes ≡ None
+lines_stop before zero bytes p e = absurd (omega (arith, p))
+lines_stop before (suc n) bytes p e = rw e refl
+
+-- a line stands there, and the others after it
+lines_more : (before : List TypeLine) (n : ℕ) (bytes : List ℕ) (l : TypeLine) (rest : List ℕ)
+    → type_line_at bytes ≡ Some (l, rest)
+    → lines_after before (suc n) bytes ≡ (type_lines_at n rest >>= λ t. if may_follow before l && may_follow_all
+    (before ++ l ∷ []) t.0 then Some (before ++ l ∷ t.0, t.1) else None)
+lines_more before n bytes l rest e = rw e (of (type_lines_at n rest))
+  where
+    of : (o : Option Lines) → ◌>>=◌ {A = Lines} {B = Lines} (◌>>=◌ {A = Lines} {B =
+        Lines} o (λ y. Some (l ∷ y.0, y.1))) (λ t. if may_follow_all before t.0 then Some (
+          before ++ t.0,
+          t.1,
+        ) else None)
+        ≡ ◌>>=◌ {A = Lines} {B =
+        Lines} o (λ t. if may_follow before l && may_follow_all (before ++ l ∷ []) t.0 then Some (
+          before ++ l ∷ t.0,
+          t.1,
+        ) else None)
+    of (Some t) = refl
+    of None = refl
+
+pub lines_refused : (before : List TypeLine) (n : ℕ) (bytes : List ℕ) (l : TypeLine) (rest : List ℕ) → 0 < n
+    → type_line_at bytes ≡ Some (l, rest)
+    → may_follow before l ≡ false → lines_after before n bytes ≡ None
+lines_refused before zero bytes l rest p e f = absurd (omega (arith, p))
+lines_refused before (suc n) bytes l rest p e f = lines_more before n bytes l rest e
+    ∙ rw f (nowhere (type_lines_at n rest))
+
+pub lines_step : (before : List TypeLine) (n k : ℕ) (bytes : List ℕ) (l : TypeLine) (rest : List ℕ) → n ≡ suc k
+    → type_line_at bytes ≡ Some (l, rest)
+    → may_follow before l ≡ true → lines_after before n bytes ≡ lines_after (before ++ l ∷ []) k rest
+lines_step before zero k bytes l rest q e f = absurd (omega (arith, q))
+lines_step before (suc n) k bytes l rest q e f =
+    let same : n ≡ k = omega (arith, q) in
+    lines_more before n bytes l rest e ∙ rw (same, f) (of (type_lines_at k rest))
+  where
+    of : (o : Option Lines)
+        → ◌>>=◌ {A = Lines} {B = Lines} o (λ t. if may_follow_all (before ++ l ∷ []) t.0 then Some (
+          before ++ l ∷ t.0,
+          t.1,
+        ) else None)
+        ≡ ◌>>=◌ {A = Lines} {B =
+        Lines} o (λ t. if may_follow_all (before ++ l ∷ []) t.0 then Some (
+          (before ++ l ∷ []) ++ t.0,
+          t.1,
+        ) else None)
+    of (Some t) = rw (append_assoc before (l ∷ []) t.0) refl
+    of None = refl
+
+-- node lines after those that were read
+abbrev pub nodes_after : List (List ℕ) → ℕ → List ℕ → Option (List (List ℕ) × List ℕ)
+nodes_after before n bytes = node_lines_at n bytes >>= λ t. Some (before ++ t.0, t.1)
+
+pub nodes_start : (n : ℕ) (bytes : List ℕ) → nodes_after [] n bytes ≡ node_lines_at n bytes
+nodes_start n bytes = of (node_lines_at n bytes)
+  where
+    of : (o : Option Nodes) → ◌>>=◌ {A = Nodes} {B = Nodes} o (λ t. Some (t.0, t.1)) ≡ o
+    of (Some t) = refl
+    of None = refl
+
+pub nodes_end : (before : List (List ℕ)) (n : ℕ) (bytes : List ℕ) → n ≡ 0
+    → nodes_after before n bytes ≡ Some (before, bytes)
+nodes_end before zero bytes e = ap (λ l. Some (l, bytes)) (nil_right before)
+nodes_end before (suc n) bytes e = absurd (omega (arith, e))
+
+pub nodes_stop : (before : List (List ℕ)) (n : ℕ) (bytes : List ℕ) → 0 < n → numbers_at 3 bytes ≡ None
+    → nodes_after before n bytes ≡ None
+nodes_stop before zero bytes p e = absurd (omega (arith, p))
+nodes_stop before (suc n) bytes p e = rw e refl
+
+pub nodes_step : (before : List (List ℕ)) (n k : ℕ) (bytes : List ℕ) (l : List ℕ) (rest : List ℕ) → n ≡ suc k
+    → numbers_at 3 bytes ≡ Some (l, rest)
+    → nodes_after before n bytes ≡ nodes_after (before ++ l ∷ []) k rest
+nodes_step before zero k bytes l rest q e = absurd (omega (arith, q))
+nodes_step before (suc n) k bytes l rest q e =
+    let same : n ≡ k = omega (arith, q) in
+    rw (e, same) (of (node_lines_at k rest))
+  where
+    of : (o : Option Nodes) → ◌>>=◌ {A = Nodes} {B = Nodes} (◌>>=◌ {A = Nodes} {B =
+        Nodes} o (λ y. Some (l ∷ y.0, y.1))) (λ t. Some (before ++ t.0, t.1))
+        ≡ ◌>>=◌ {A = Nodes} {B = Nodes} o (λ t. Some ((before ++ l ∷ []) ++ t.0, t.1))
+    of (Some t) = rw (append_assoc before (l ∷ []) t.0) refl
+    of None = refl
+
+map_last : {A B : Type 0} (f : A → B) (xs : List A) (y : A) → map f (xs ++ y ∷ []) ≡ map f xs ++ f y ∷ []
+map_last f [] y = refl
+map_last f (x ∷ xs) y = ap (λ l. f x ∷ l) (map_last f xs y)
+
+pub map_pushed : {A B : Type 0} (f : A → B) (xs ys : List A) (y : A) → ys ≡ xs ++ y ∷ []
+    → map f ys ≡ map f xs ++ f y ∷ []
+map_pushed f xs ys y e = ap (λ l. map f l) e ∙ map_last f xs y

@@ -1,0 +1,5 @@
+use Rattle.mw_recheck.proofs.Decided.{certifies_decided}
+use Rattle.mw_recheck.proofs.laws.certifies_is_decided.Goals as goal
+
+pub returns : goal.returns
+returns c = certifies_decided

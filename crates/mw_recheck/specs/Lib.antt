@@ -1,0 +1,16 @@
+pub mod Options
+pub mod Sections
+pub mod Texts
+pub mod Notes
+pub mod Certificates
+pub mod CertificateLaws
+pub mod Judging
+pub mod Views
+pub mod Kernels
+pub mod Roots
+pub mod Forms
+pub mod Parts
+pub mod Following
+pub mod Reading
+pub mod Deciding
+pub mod Answers
