@@ -19,3 +19,4 @@ pub mod Using
 pub mod PartByPart
 pub mod Items
 pub mod Decided
+pub mod Rows

@@ -4,6 +4,7 @@ pub mod Texts
 pub mod Notes
 pub mod Certificates
 pub mod CertificateLaws
+pub mod Examples
 pub mod Judging
 pub mod Views
 pub mod Kernels

@@ -84,7 +84,7 @@ fn agrees_alone(
 ) -> bool
     ensures { (tops : List TopNote) → IsAlone (expression_of term.now)
         → result ≡ agrees (lines_of types.now) tops (binders_of scope.now) (level_at level)
-            (expression_of term.now) (line_at line) parts.first parts.second parts.third }
+        (expression_of term.now) (line_at line) parts.first parts.second parts.third }
 {
     let (own, other) = (line.own, line.second as usize);
     let (first, second) = (parts.first, parts.second);

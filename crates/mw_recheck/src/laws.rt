@@ -1,5 +1,6 @@
 // Laws of certificates, which no program calls.
 
+ghost use Rattle.mw_recheck.specs.Examples.{ExamplesAreCertified, OthersAreNot, OneClassifierFits, OwnLineNames};
 ghost use Rattle.mw_recheck.specs.CertificateLaws.{CertifiedAreTypable, CertificatesAreTypings, CertifiesIsDecided};
 
 /// A program for which a certificate is right is typable, where its lets are syntactic values.
@@ -15,4 +16,24 @@ pub fn certificates_are_typings()
 /// Bytes certify a program, or they don't.
 pub fn certifies_is_decided()
     ensures { CertifiesIsDecided }
+{}
+
+/// Two worked certificates, which certify their programs.
+pub fn examples_are_certified()
+    ensures { ExamplesAreCertified }
+{}
+
+/// Bytes that certify nothing.
+pub fn others_are_not()
+    ensures { OthersAreNot }
+{}
+
+/// No certificate is right for code that is closed under its own binder.
+pub fn one_classifier_fits()
+    ensures { OneClassifierFits }
+{}
+
+/// A type line that names itself names nothing.
+pub fn own_line_names()
+    ensures { OwnLineNames }
 {}
