@@ -388,7 +388,8 @@ module _ (ls : List TypeLine) (known : AreTypeLines ls (types_named ls)) (nodes 
         within = q.0.within;
         is = q.0.is;
         answer =
-            one_judged g (under c) n (escape e) x e r.at (λ x ns. judged ls tops g live e ns) o r.answer a (omega arith);
+            one_judged g (under c) n (escape e) x e r.at (λ x ns. judged ls tops g live e ns) o r.answer a
+            (omega arith);
       }
   whole g live n (run k e) t w h =
       let q = one_place_of ls known nodes decided.code live n t [] h.1 in

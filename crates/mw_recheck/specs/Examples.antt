@@ -16,7 +16,11 @@ sum_program = record { items = []; result = base Int; body = prim Add (num (pos 
 
 -- main : int = run[int] (close .<7>.)
 abbrev pub run_program : PureProgram
-run_program = record { items = []; result = base Int; body = run (of_ground (base Int)) (close 24 (bracket (num (pos 7)))) }
+run_program = record {
+  items = [];
+  result = base Int;
+  body = run (of_ground (base Int)) (close 24 (bracket (num (pos 7))));
+}
 
 -- both have certificates
 pub record ExamplesAreCertified : Type 0 where
@@ -26,7 +30,8 @@ pub record ExamplesAreCertified : Type 0 where
 -- These bytes certify nothing: the second's last line names the literal's type as closed code.
 pub record OthersAreNot : Type 0 where
   pub empty : (p : PureProgram) → Certifies [] p → ⊥
-  pub wrong_type : Certifies (codes "cert1\ntypes 3\nint\nclosed 0\ncode 0 0\nnodes 4\n0\n1 0 0\n2 0\n1\n") run_program → ⊥
+  pub wrong_type : Certifies (codes "cert1\ntypes 3\nint\nclosed 0\ncode 0 0\nnodes 4\n0\n1 0 0\n2 0\n1\n") run_program
+      → ⊥
   pub last_line_feed : Certifies (codes "cert1\ntypes 1\nint\nnodes 3\n0\n0\n0") sum_program → ⊥
   pub leading_zero : Certifies (codes "cert1\ntypes 1\nint\nnodes 3\n00\n0\n0\n") sum_program → ⊥
   pub doubled_line : Certifies (codes "cert1\ntypes 2\nint\nint\nnodes 3\n0\n0\n0\n") sum_program → ⊥

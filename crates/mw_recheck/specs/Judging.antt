@@ -207,8 +207,8 @@ abbrev pub leaf : List TypeLine → List TopNote → List PlacedBinder → Level
     → Option (ℕ × List (List ℕ))
 leaf ls tops g m e nodes = own_at ls m e nodes >>= λ x. ended ls tops g m e x.0 0 0 0 x.1
 
--- The place of a term's type, and the node lines after the term's, where these are right for it: in this environment and
--- at this level, with these top-level names.
+-- The place of a term's type, and the node lines after the term's, where these are right for it: in this environment
+-- and at this level, with these top-level names.
 abbrev pub judged : List TypeLine → List TopNote → List PlacedBinder → Level → Expression → List (List ℕ)
     → Option (ℕ × List (List ℕ))
 judged ls tops g m (num z) nodes = leaf ls tops g m (num z) nodes

@@ -71,8 +71,8 @@ IsUse (under a) x t = ⊥
 abbrev pub IsLift : Notes → Level → ℕ → TypeExpression → Base → Type 0
 IsLift p m n t b = (c : ℕ) × (t ≡ code_ty c (base_expression b)) × IsNodeLine p m n (t ∷ []) (c ∷ [])
 
--- With these names, in this environment and at this level, the node lines from n on are those of the term: its type is t,
--- each line names what its node's equations ask, and each close is fresh. Nodes are counted in pre-order.
+-- With these names, in this environment and at this level, the node lines from n on are those of the term: its type is
+-- t, each line names what its node's equations ask, and each close is fresh. Nodes are counted in pre-order.
 abbrev pub Noted : Notes → List TopNote → List BinderNote → Level → ℕ → Expression → TypeExpression → Type 0
 Noted p tops g m n (num z) t = (t ≡ int_ty) × IsNodeLine p m n (t ∷ []) []
 Noted p tops g m n (truth b) t = (t ≡ bool_ty) × IsNodeLine p m n (t ∷ []) []
