@@ -1,6 +1,6 @@
 //! The program `metaml`: it makes the real source, sink, keeper and gate, and a table of 1,024 slots for modules, calls
-//! `mw_drive::run` with the words after its own name, and exits with the status' code. Where there is no memory for the table it
-//! ends as with the status of want of memory. For the codes 2 and 5 to 9 it prints one line on standard error.
+//! `mw_drive::run` with the words after its own name, and exits with the status' code. Where there is no memory for the
+//! table it ends as with the status of want of memory. For the codes 2 and 5 to 9 it prints one line on standard error.
 #![tactic(auto)]
 
 use mw_drive::{Status, run, table};

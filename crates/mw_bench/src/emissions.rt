@@ -34,7 +34,8 @@ fn repeated<L: Ledger>(
     Ok(bytes)
 }
 
-/// The bytes of the module of a text's code, which is emitted so many times, from no emissions on; none where it is no text.
+/// The bytes of the module of a text's code, which is emitted so many times, from no emissions on; none where it is no
+/// text.
 fn bytes_of<L: Ledger>(
     alloc: Global,
     text: &str,

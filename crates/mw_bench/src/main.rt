@@ -1,6 +1,6 @@
-//! The program `mw_bench`: it solves so many equations of a shape, runs a module with a number, evaluates a program of the
-//! first stage with a number, or emits a large code so many times, and prints the answer, to be timed from outside. `form`
-//! prints the module of a sample of kernel code.
+//! The program `mw_bench`: it solves so many equations of a shape, runs a module with a number, evaluates a program of
+//! the first stage with a number, or emits a large code so many times, and prints the answer, to be timed from outside.
+//! `form` prints the module of a sample of kernel code.
 //!
 //!     mw_bench chain|star|groups|codes|doublings|late COUNT
 //!     mw_bench loop|calls|memory NUMBER

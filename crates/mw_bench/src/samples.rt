@@ -2,8 +2,8 @@
 
 use std::alloc::{AllocError, Global};
 
-/// Codes of each form: recursion in tail position and not, operations, comparisons, a function with two free variables, a pair as
-/// argument and result, and literals.
+/// Codes of each form: recursion in tail position and not, operations, comparisons, a function with two free variables,
+/// a pair as argument and result, and literals.
 const SAMPLES: &[&str] = &[
     "emit2 to int int rec if eq v 0 i 0 i 1 app v 1 sub v 0 i 1",
     "emit2 to int int rec if eq v 0 i 0 i 1 mul v 0 app v 1 sub v 0 i 1",

@@ -25,7 +25,8 @@ pub data Ending : Type 0 where
 abbrev pub main_name : List ℕ
 main_name = codes "main"
 
--- kernel types in their words: one space round `*` and `->`, and parentheses only round a pair that is the left part of a pair
+-- kernel types in their words: one space round `*` and `->`, and parentheses only round a pair that is the left part of
+-- a pair
 abbrev pub base_text : Base → List ℕ
 base_text word.Int = codes "int"
 base_text word.Bool = codes "bool"
@@ -52,7 +53,8 @@ abbrev pub kernel_line : List ℕ → KernelType → List ℕ
 kernel_line name kind = codes "kernel " ++ name ++ codes " : " ++ kind_text kind ++ codes "\n"
 
 abbrev pub kernel_text : List ℕ → KernelType → List ℕ → List ℕ → List ℕ
-kernel_text name kind key bytes = kernel_line name kind ++ digits_line (codes "key ") key ++ digits_line (codes "module ") bytes
+kernel_text name kind key bytes = kernel_line name kind ++ digits_line (codes "key ") key
+    ++ digits_line (codes "module ") bytes
 
 -- the name of the item at an index; the index of main is the number of items
 abbrev pub name_at : List (List ℕ) → ℕ → List ℕ

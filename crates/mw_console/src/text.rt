@@ -65,7 +65,8 @@ pub fn put_refusal(
     refusal: Refusal,
     items: &[Item],
 ) -> Result<(), AllocError>
-    ensures { IfOk result (λ _. text.new.items ≡ text.old.items ++ refusal_line (map (λ (i : PureItem). i.name) items.now) refusal) }
+    ensures { IfOk result
+        (λ _. text.new.items ≡ text.old.items ++ refusal_line (map (λ (i : PureItem). i.name) items.now) refusal) }
 {
     match refusal {
         Refusal::IllTyped(item) => put_item_line(text, b"12 type", name_of(items, item)),
@@ -101,7 +102,8 @@ pub fn put_kernel(
     key: &[u8],
     bytes: &[u8],
 ) -> Result<(), AllocError>
-    ensures { IfOk result (λ _. text.new.items ≡ text.old.items ++ kernel_text name.now (kernel_type_of kind.now) key.now bytes.now) }
+    ensures { IfOk result (λ _. text.new.items ≡ text.old.items ++ kernel_text name.now (kernel_type_of kind.now)
+        key.now bytes.now) }
 {
     put_name(text, name, kind)?;
     put_digits(text, b"key ", key)?;

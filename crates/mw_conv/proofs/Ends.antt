@@ -15,7 +15,12 @@ pub ends_right : (fs gs hs : List Found) → EndsWith fs (gs ++ hs) → EndsWith
 ends_right fs gs hs e = record { front = e.front ++ gs; is = e.is ∙ sym (append_assoc e.front gs hs) }
 
 pub ends_left : (fs rest gs hs : List Found) → EndsWith fs (gs ++ hs) → fs ≡ rest ++ hs → EndsWith rest gs
-ends_left fs rest gs hs e f = record { front = e.front; is = append_cancel_right rest (e.front ++ gs) hs (sym f ∙ (e.is ∙ sym (append_assoc e.front gs hs))) }
+ends_left fs rest gs hs e f =
+    record {
+      front = e.front;
+      is = append_cancel_right rest (e.front ++ gs) hs
+          (sym f ∙ (e.is ∙ sym (append_assoc e.front gs hs)));
+    }
 
 -- three lists
 pub ends_last : (fs gs hs ks : List Found) → EndsWith fs (gs ++ (hs ++ ks)) → EndsWith fs ks
@@ -24,19 +29,26 @@ ends_last fs gs hs ks e = ends_right fs hs ks (ends_right fs gs (hs ++ ks) e)
 pub ends_middle : (fs rest gs hs ks : List Found) → EndsWith fs (gs ++ (hs ++ ks)) → fs ≡ rest ++ ks → EndsWith rest hs
 ends_middle fs rest gs hs ks e f = ends_left fs rest hs ks (ends_right fs gs (hs ++ ks) e) f
 
-pub ends_first : (fs rest more gs hs ks : List Found) → EndsWith fs (gs ++ (hs ++ ks)) → fs ≡ rest ++ ks → rest ≡ more ++ hs → EndsWith more gs
-ends_first fs rest more gs hs ks e f g = ends_left fs more gs (hs ++ ks) e (f ∙ (ap (λ z. z ++ ks) g ∙ append_assoc more hs ks))
+pub ends_first : (fs rest more gs hs ks : List Found) → EndsWith fs (gs ++ (hs ++ ks)) → fs ≡ rest ++ ks
+    → rest ≡ more ++ hs → EndsWith more gs
+ends_first fs rest more gs hs ks e f g =
+    ends_left fs more gs (hs ++ ks) e (f ∙ (ap (λ z. z ++ ks) g ∙ append_assoc more hs ks))
 
 -- the last one taken
 pub taken_is : (fs rest gs : List Found) (x y : Found) → EndsWith fs (gs ++ y ∷ []) → fs ≡ rest ++ x ∷ [] → x ≡ y
-taken_is fs rest gs x y e f = (same_from_push rest (e.front ++ gs) x y (sym f ∙ (e.is ∙ sym (append_assoc e.front gs (y ∷ []))))).1
+taken_is fs rest gs x y e f =
+    (same_from_push rest (e.front ++ gs) x y (sym f ∙ (e.is ∙ sym (append_assoc e.front gs (y ∷ []))))).1
 
 -- what two terms take, and the functions that they add, those of the second first
 pub two_taken : (fs rest more gs hs : List Found) → fs ≡ rest ++ hs → rest ≡ more ++ gs → fs ≡ more ++ (gs ++ hs)
 two_taken fs rest more gs hs e f = e ∙ (ap (λ z. z ++ hs) f ∙ append_assoc more gs hs)
 
-pub two_added : (old mid new : List Function) (e f : Expression) (k : ℕ) (ps : List Place) → AreAdded old mid f (k + funs e) ps → AreAdded mid new e k ps → AreAdded old new (pair e f) k ps
-two_added old mid new e f k ps g h = h ∙ (ap (λ z. z ++ reverse es) g ∙ (append_assoc (map ir_func_of old) (reverse fs) (reverse es) ∙ ap (λ z. map ir_func_of old ++ z) (sym (reverse-append es fs))))
+pub two_added : (old mid new : List Function) (e f : Expression) (k : ℕ) (ps : List Place)
+    → AreAdded old mid f (k + funs e) ps → AreAdded mid new e k ps → AreAdded old new (pair e f) k ps
+two_added old mid new e f k ps g h =
+    h ∙ (ap (λ z. z ++ reverse es) g
+    ∙ (append_assoc (map ir_func_of old) (reverse fs) (reverse es) ∙ ap (λ z. map ir_func_of old ++ z)
+    (sym (reverse-append es fs))))
   where
     es : List IrFunc
     es = functions e k (length ps)

@@ -23,7 +23,8 @@ pub get_appended : {A : Type 0} → (h us : List A) (j : ℕ) → slice_get (h +
 get_appended [] us j = let e : 0 + j ≡ j = omega arith in rw e refl
 get_appended (x ∷ h) us j = let e : suc (length h) + j ≡ suc (length h + j) = omega arith in rw e (get_appended h us j)
 
-aligned_grows : (r : ℕ) (a b : Option ℤ) (w : ℤ) → (a ≡ Some w → b ≡ Some w) → aligned r a ≡ Some w → aligned r b ≡ Some w
+aligned_grows : (r : ℕ) (a b : Option ℤ) (w : ℤ) → (a ≡ Some w → b ≡ Some w) → aligned r a ≡ Some w → aligned r b
+    ≡ Some w
 aligned_grows zero a b w h e = h e
 aligned_grows (suc r) a b w h e = absurd (cc)
 
@@ -38,22 +39,30 @@ load_new h us j =
     let q : (8 * length h) / 8 ≡ length h = omega arith in
     rw (m, q) (get_appended h us j)
 
-own_grows : (h h' : List ℤ) → Grows h h' → (o : Option ℤ) (j : ℕ) (a : ℤ) → load_own h o j ≡ Some a → load_own h' o j ≡ Some a
+own_grows : (h h' : List ℤ) → Grows h h' → (o : Option ℤ) (j : ℕ) (a : ℤ) → load_own h o j ≡ Some a → load_own h' o j
+    ≡ Some a
 own_grows h h' g None j a e = absurd (cc)
 own_grows h h' g (Some w) j a e = load_grows h h' g w j a e
 
-pub read_grows : (h h' : List ℤ) → Grows h h' → (fr : Frame) (p : Place) (a : ℤ) → read h fr p ≡ Some a → read h' fr p ≡ Some a
+pub read_grows : (h h' : List ℤ) → Grows h h' → (fr : Frame) (p : Place) (a : ℤ) → read h fr p ≡ Some a → read h' fr p
+    ≡ Some a
 read_grows h h' g fr Argument a e = e
 read_grows h h' g fr Own a e = e
 read_grows h h' g fr (Slot s) a e = e
 read_grows h h' g fr (Free j) a e = own_grows h h' g fr.own (suc j) a e
 
-pub stands_grows : (t : List IrFunc) (h h' : List ℤ) → Grows h h' → (v : KernelValue) (w : ℤ) → Stands t h v w → Stands t h' v w
+pub stands_grows : (t : List IrFunc) (h h' : List ℤ) → Grows h h' → (v : KernelValue) (w : ℤ) → Stands t h v w
+    → Stands t h' v w
 stands_grows t h h' g v w (s_int n) = s_int n
 stands_grows t h h' g v w (s_bool b c e) = s_bool b c e
-stands_grows t h h' g v w (s_both x y c a b la lb sa sb) = s_both x y c a b (load_grows h h' g c 0 a la) (load_grows h h' g c 1 b lb) (stands_grows t h h' g x a sa) (stands_grows t h h' g y b sb)
-stands_grows t h h' g v w (s_function c i e env body words eb l has at st) = s_function c i e env body words eb (load_grows h h' g c 0 (pos i) l) has (λ j v o s. load_grows h h' g c _ (words j) (at j v o s)) (λ j v o s. stands_grows t h h' g v (words j) (st j v o s))
-stands_grows t h h' g v w (s_recursive c i e env body words eb l has at st) = s_recursive c i e env body words eb (load_grows h h' g c 0 (pos i) l) has (λ j v o s. load_grows h h' g c _ (words j) (at j v o s)) (λ j v o s. stands_grows t h h' g v (words j) (st j v o s))
+stands_grows t h h' g v w (s_both x y c a b la lb sa sb) = s_both x y c a b (load_grows h h' g c 0 a la)
+    (load_grows h h' g c 1 b lb) (stands_grows t h h' g x a sa) (stands_grows t h h' g y b sb)
+stands_grows t h h' g v w (s_function c i e env body words eb l has at st) = s_function c i e env body words eb
+    (load_grows h h' g c 0 (pos i) l) has (λ j v o s. load_grows h h' g c _ (words j) (at j v o s))
+    (λ j v o s. stands_grows t h h' g v (words j) (st j v o s))
+stands_grows t h h' g v w (s_recursive c i e env body words eb l has at st) = s_recursive c i e env body words eb
+    (load_grows h h' g c 0 (pos i) l) has (λ j v o s. load_grows h h' g c _ (words j) (at j v o s))
+    (λ j v o s. stands_grows t h h' g v (words j) (st j v o s))
 
 -- the places of a list of variables, read
 pub record AllRead (h : List ℤ) (fr : Frame) (ctx : ℕ → Place) (is : List ℕ) : Type 0 where
@@ -62,7 +71,8 @@ pub record AllRead (h : List ℤ) (fr : Frame) (ctx : ℕ → Place) (is : List 
   pub as_many : length words ≡ length is
   pub each : (j i : ℕ) → slice_get is j ≡ Some i → slice_get words j ≡ read h fr (ctx i)
 
-pub read_list : (h : List ℤ) (fr : Frame) (ctx : ℕ → Place) (is : List ℕ) → ((j i : ℕ) → slice_get is j ≡ Some i → (w : ℤ) × (read h fr (ctx i) ≡ Some w)) → AllRead h fr ctx is
+pub read_list : (h : List ℤ) (fr : Frame) (ctx : ℕ → Place) (is : List ℕ)
+    → ((j i : ℕ) → slice_get is j ≡ Some i → (w : ℤ) × (read h fr (ctx i) ≡ Some w)) → AllRead h fr ctx is
 read_list h fr ctx [] f = record { words = []; all = refl; as_many = refl; each = λ j i e. absurd (cc) }
 read_list h fr ctx (i ∷ is) f =
     let r = read_list h fr ctx is (λ j k e. f (suc j) k e) in
@@ -71,7 +81,10 @@ read_list h fr ctx (i ∷ is) f =
       words = w.0 ∷ r.words;
       all = rw (w.1, r.all) refl;
       as_many = ap suc r.as_many;
-      each = λ j k e. (elim j as (λ j. slice_get (i ∷ is) j ≡ Some k → slice_get (w.0 ∷ r.words) j ≡ read h fr (ctx k)) [ zero ↦ λ e. let g : i ≡ k = (cc) in sym w.1 ∙ ap (λ x. read h fr (ctx x)) g | suc j ↦ λ e. r.each j k e ]) e;
+      each = λ j k e.
+          (elim j as (λ j. slice_get (i ∷ is) j ≡ Some k → slice_get (w.0 ∷ r.words) j ≡ read h fr (ctx k))
+          [ zero ↦ λ e. let g : i ≡ k = (cc) in sym w.1 ∙ ap (λ x. read h fr (ctx x)) g | suc j ↦ λ e. r.each j k e ])
+          e;
     }
 
 -- functions that stand one after the other
@@ -81,4 +94,5 @@ has_front t k (f ∷ fs) gs h = (h.0, has_front t (suc k) fs gs h.1)
 
 pub has_back : (t : List IrFunc) (k : ℕ) (fs gs : List IrFunc) → Has t k (fs ++ gs) → Has t (k + length fs) gs
 has_back t k [] gs h = let e : k + 0 ≡ k = omega arith in rw e h
-has_back t k (f ∷ fs) gs h = let e : k + suc (length fs) ≡ suc k + length fs = omega arith in rw e (has_back t (suc k) fs gs h.1)
+has_back t k (f ∷ fs) gs h = let e : k + suc (length fs) ≡ suc k + length fs = omega arith in
+    rw e (has_back t (suc k) fs gs h.1)

@@ -34,7 +34,8 @@ or_assoc false b c = refl
 
 pub joined_none : (bs : List Bool) (p : ℕ → Bool) → ((i : ℕ) → i < length bs → p i ≡ false) → joined bs p ≡ bs
 joined_none [] p h = refl
-joined_none (b ∷ bs) p h = rw (h (length bs) (omega arith), or_false b, joined_none bs p (λ i lt. h i (omega arith))) refl
+joined_none (b ∷ bs) p h = rw (h (length bs) (omega arith), or_false b, joined_none bs p (λ i lt. h i (omega arith)))
+    refl
 
 pub unmarked : (bs : List Bool) → bs ≡ joined bs (λ i. false)
 unmarked bs = sym (joined_none bs (λ i. false) (λ i lt. refl))
@@ -45,21 +46,27 @@ joined_same (b ∷ bs) p q h = rw (h (length bs) (omega arith), joined_same bs p
 
 joined_again : (bs : List Bool) (p q : ℕ → Bool) → joined (joined bs p) q ≡ joined bs (λ i. p i || q i)
 joined_again [] p q = refl
-joined_again (b ∷ bs) p q = rw (joined_length bs p, or_assoc b (p (length bs)) (q (length bs)), joined_again bs p q) refl
+joined_again (b ∷ bs) p q = rw (joined_length bs p, or_assoc b (p (length bs)) (q (length bs)), joined_again bs p q)
+    refl
 
 -- two walks, and three
-pub joined_twice : (m0 m1 m2 : List Bool) (p q : ℕ → Bool) → m1 ≡ joined m0 p → m2 ≡ joined m1 q → m2 ≡ joined m0 (λ i. p i || q i)
+pub joined_twice : (m0 m1 m2 : List Bool) (p q : ℕ → Bool) → m1 ≡ joined m0 p → m2 ≡ joined m1 q
+    → m2 ≡ joined m0 (λ i. p i || q i)
 joined_twice m0 m1 m2 p q e f = f ∙ ap (λ m. joined m q) e ∙ joined_again m0 p q
 
-pub joined_thrice : (m0 m1 m2 m3 : List Bool) (p q r : ℕ → Bool) → m1 ≡ joined m0 p → m2 ≡ joined m1 q → m3 ≡ joined m2 r → m3 ≡ joined m0 (λ i. p i || (q i || r i))
+pub joined_thrice : (m0 m1 m2 m3 : List Bool) (p q r : ℕ → Bool) → m1 ≡ joined m0 p → m2 ≡ joined m1 q
+    → m3 ≡ joined m2 r → m3 ≡ joined m0 (λ i. p i || (q i || r i))
 joined_thrice m0 m1 m2 m3 p q r e f g = joined_twice m0 m1 m3 p (λ i. q i || r i) e (joined_twice m1 m2 m3 q r f g)
 
 -- one variable
-pub set_joined : (bs : List Bool) (n u v : ℕ) → n ≡ length bs → u ≤ v → v - u < n → set bs (n - 1 - (v - u)) true ≡ joined bs (λ i. v == u + i)
+pub set_joined : (bs : List Bool) (n u v : ℕ) → n ≡ length bs → u ≤ v → v - u < n → set bs (n - 1 - (v - u)) true
+    ≡ joined bs (λ i. v == u + i)
 set_joined [] n u v len le lt = absurd (omega arith)
 set_joined (b ∷ bs) n u v len le lt = go (v == u + length bs) refl (λ lt'. set_joined bs (length bs) u v refl le lt')
   where
-    go : (z : Bool) → (v == u + length bs) ≡ z → (v - u < length bs → set bs (length bs - 1 - (v - u)) true ≡ joined bs (λ i. v == u + i)) → set (b ∷ bs) (n - 1 - (v - u)) true ≡ joined (b ∷ bs) (λ i. v == u + i)
+    go : (z : Bool) → (v == u + length bs) ≡ z
+        → (v - u < length bs → set bs (length bs - 1 - (v - u)) true ≡ joined bs (λ i. v == u + i))
+        → set (b ∷ bs) (n - 1 - (v - u)) true ≡ joined (b ∷ bs) (λ i. v == u + i)
     go true e f =
         let q : v ≡ u + length bs = eqb-true v (u + length bs) e in
         let k : n - 1 - (v - u) ≡ 0 = omega arith in
@@ -84,20 +91,30 @@ past_all bs (suc d) p l le = go (p d) (past_all bs d p (suc l) (omega arith))
     go false h = h
 
 -- after a front that is done
-marking_behind : (front bs : List Bool) (u : ℕ) (p : ℕ → Bool) → marking (front ++ bs) (levels (length bs + u) p (length front)) ≡ front ++ joined bs (λ i. p (u + i))
+marking_behind : (front bs : List Bool) (u : ℕ) (p : ℕ → Bool)
+    → marking (front ++ bs) (levels (length bs + u) p (length front)) ≡ front ++ joined bs (λ i. p (u + i))
 marking_behind front [] u p = past_all (front ++ []) (0 + u) p (length front) (omega (arith, length-append front []))
 marking_behind front (b ∷ bs) u p =
     let e : length (b ∷ bs) + u ≡ suc (length bs + u) = omega arith in
     let f : length bs + u ≡ u + length bs = omega arith in
-    let next = λ (c : Bool). (let l : length (front ++ c ∷ []) ≡ suc (length front) = omega (arith, length-append front (c ∷ [])) in rw (append_assoc front (c ∷ []) bs, append_assoc front (c ∷ []) (joined bs (λ i. p (u + i))), l) at (marking_behind (front ++ c ∷ []) bs u p)) in
+    let next = λ (c : Bool).
+    (let l : length (front ++ c ∷ []) ≡ suc (length front) = omega (arith, length-append front (c ∷ [])) in
+    rw (append_assoc front (c ∷ []) bs, append_assoc front (c ∷ []) (joined bs (λ i. p (u + i))), l) at
+    (marking_behind (front ++ c ∷ []) bs u p)) in
     rw e (go (p (length bs + u)) (ap p f) next)
   where
-    go : (z : Bool) → z ≡ p (u + length bs) → ((c : Bool) → marking (front ++ c ∷ bs) (levels (length bs + u) p (suc (length front))) ≡ front ++ (c ∷ joined bs (λ i. p (u + i)))) → marking (front ++ b ∷ bs) (kept z (length front) (levels (length bs + u) p (suc (length front)))) ≡ front ++ ((b || p (u + length bs)) ∷ joined bs (λ i. p (u + i)))
-    go true e next = ap (λ (z : List Bool). marking z (levels (length bs + u) p (suc (length front)))) (set_at front b bs true (length front) refl) ∙ rw (← e, or_true b) (next true)
+    go : (z : Bool) → z ≡ p (u + length bs)
+        → ((c : Bool) → marking (front ++ c ∷ bs) (levels (length bs + u) p (suc (length front))) ≡ front
+        ++ (c ∷ joined bs (λ i. p (u + i))))
+        → marking (front ++ b ∷ bs) (kept z (length front) (levels (length bs + u) p (suc (length front)))) ≡ front
+        ++ ((b || p (u + length bs)) ∷ joined bs (λ i. p (u + i)))
+    go true e next = ap (λ (z : List Bool). marking z (levels (length bs + u) p (suc (length front))))
+        (set_at front b bs true (length front) refl) ∙ rw (← e, or_true b) (next true)
     go false e next = rw (← e, or_false b) (next b)
 
 -- the variables of a function that stand under u binders more than have marks
-pub marking_joined : (bs : List Bool) (u : ℕ) (p : ℕ → Bool) → marking bs (levels (length bs + u) p 0) ≡ joined bs (λ i. p (u + i))
+pub marking_joined : (bs : List Bool) (u : ℕ) (p : ℕ → Bool) → marking bs (levels (length bs + u) p 0)
+    ≡ joined bs (λ i. p (u + i))
 marking_joined bs u p = marking_behind [] bs u p
 
 pub lets_few : (e : Expression) → lets e ≤ size e
@@ -111,19 +128,33 @@ lets_few (x.prim p f a) = omega (arith, lets_few f, lets_few a)
 lets_few _ = omega arith
 
 -- a let, whose second part stands under one binder more
-pub let_marks : (d e : Expression) (m0 m1 m2 : List Bool) (u : ℕ) → m1 ≡ joined m0 (λ i. occurs d (u + i)) → m2 ≡ joined m1 (λ i. occurs e (u + 1 + i)) → m2 ≡ joined m0 (λ i. occurs d (u + i) || occurs e (suc (u + i)))
-let_marks d e m0 m1 m2 u f g = joined_twice m0 m1 m2 (λ i. occurs d (u + i)) (λ i. occurs e (suc (u + i))) f (g ∙ joined_same m1 _ _ (λ i lt. ap (occurs e) (let q : u + 1 + i ≡ suc (u + i) = omega arith in q)))
+pub let_marks : (d e : Expression) (m0 m1 m2 : List Bool) (u : ℕ) → m1 ≡ joined m0 (λ i. occurs d (u + i))
+    → m2 ≡ joined m1 (λ i. occurs e (u + 1 + i)) → m2 ≡ joined m0 (λ i. occurs d (u + i) || occurs e (suc (u + i)))
+let_marks d e m0 m1 m2 u f g = joined_twice m0 m1 m2 (λ i. occurs d (u + i)) (λ i. occurs e (suc (u + i))) f
+    (g ∙ joined_same m1 _ _ (λ i lt. ap (occurs e) (let q : u + 1 + i ≡ suc (u + i) = omega arith in q)))
 
 -- the levels of a function's free variables, where d binders stand outside
-pub function_levels : (e : Expression) (own d : ℕ) (m0 m1 : List Bool) → m0 ≡ replicate d false → m1 ≡ joined m0 (λ i. occurs e (own + i)) → marked m1 0 ≡ levels d (λ i. occurs e (own + i)) 0
-function_levels e own d m0 m1 f g = ap (λ (m : List Bool). marked m 0) (g ∙ ap (λ (m : List Bool). joined m (λ i. occurs e (own + i))) f) ∙ marked_levels d (λ i. occurs e (own + i)) 0
+pub function_levels : (e : Expression) (own d : ℕ) (m0 m1 : List Bool) → m0 ≡ replicate d false
+    → m1 ≡ joined m0 (λ i. occurs e (own + i)) → marked m1 0 ≡ levels d (λ i. occurs e (own + i)) 0
+function_levels e own d m0 m1 f g = ap (λ (m : List Bool). marked m 0)
+    (g ∙ ap (λ (m : List Bool). joined m (λ i. occurs e (own + i))) f) ∙ marked_levels d (λ i. occurs e (own + i)) 0
 
-pub function_marks : (e : Expression) (own u : ℕ) (bs m0 m1 m2 : List Bool) → m0 ≡ replicate (length bs + u) false → m1 ≡ joined m0 (λ i. occurs e (own + i)) → m2 ≡ marking bs (marked m1 0) → m2 ≡ joined bs (λ i. occurs e (own + (u + i)))
-function_marks e own u bs m0 m1 m2 f g h = h ∙ ap (λ ls. marking bs ls) (function_levels e own (length bs + u) m0 m1 f g) ∙ marking_joined bs u (λ i. occurs e (own + i))
+pub function_marks : (e : Expression) (own u : ℕ) (bs m0 m1 m2 : List Bool) → m0 ≡ replicate (length bs + u) false
+    → m1 ≡ joined m0 (λ i. occurs e (own + i)) → m2 ≡ marking bs (marked m1 0)
+    → m2 ≡ joined bs (λ i. occurs e (own + (u + i)))
+function_marks e own u bs m0 m1 m2 f g h =
+    h ∙ ap (λ ls. marking bs ls) (function_levels e own (length bs + u) m0 m1 f g)
+    ∙ marking_joined bs u (λ i. occurs e (own + i))
 
-pub function_is_found : (e : Expression) (own d : ℕ) (f0 f1 f2 : List Found) (slots : ℕ) (free : List ℕ) (m0 m1 : List Bool) → m0 ≡ replicate d false → m1 ≡ joined m0 (λ i. occurs e (own + i)) → f1 ≡ f0 ++ all_found e (length m0 + own) → slots ≡ lets e → free ≡ marked m1 0 → f2 ≡ f1 ++ record { slots = slots; free = free } ∷ [] → f2 ≡ f0 ++ (all_found e (d + own) ++ function_found e d (λ i. occurs e (own + i)) ∷ [])
+pub function_is_found : (e : Expression) (own d : ℕ) (f0 f1 f2 : List Found) (slots : ℕ) (free : List ℕ)
+    (m0 m1 : List Bool) → m0 ≡ replicate d false → m1 ≡ joined m0 (λ i. occurs e (own + i))
+    → f1 ≡ f0 ++ all_found e (length m0 + own) → slots ≡ lets e → free ≡ marked m1 0
+    → f2 ≡ f1 ++ record { slots = slots; free = free } ∷ []
+    → f2 ≡ f0 ++ (all_found e (d + own) ++ function_found e d (λ i. occurs e (own + i)) ∷ [])
 function_is_found e own d f0 f1 f2 slots free m0 m1 f g h k l m =
     let n : length m0 ≡ d = ap length f ∙ length-replicate d false in
     let r : free ≡ levels d (λ i. occurs e (own + i)) 0 = l ∙ function_levels e own d m0 m1 f g in
-    let last : (b : ℕ) → b ≡ d → f1 ≡ f0 ++ all_found e (b + own) → f2 ≡ f0 ++ (all_found e (d + own) ++ function_found e d (λ i. occurs e (own + i)) ∷ []) = λ b q h. m ∙ rw (h, q, k, r) (append_assoc f0 (all_found e (d + own)) _) in
+    let last : (b : ℕ) → b ≡ d → f1 ≡ f0 ++ all_found e (b + own)
+    → f2 ≡ f0 ++ (all_found e (d + own) ++ function_found e d (λ i. occurs e (own + i)) ∷ []) = λ b q h. m
+    ∙ rw (h, q, k, r) (append_assoc f0 (all_found e (d + own)) _) in
     last (length m0) n h

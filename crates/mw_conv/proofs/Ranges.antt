@@ -36,19 +36,53 @@ pub code_size : (e : Expression) (k d s : ℕ) (ctx : ℕ → Place)
     → ir_size (code e k d s ctx) + total_size (functions e k d) ≤ size e
 code_size (x.fun e) k d s ctx = omega (arith, code_size e (suc k) (suc d) 0 (fun_places e d))
 code_size (x.fix e) k d s ctx = omega (arith, code_size e (suc k) (suc (suc d)) 0 (fix_places e d))
-code_size (x.app f a) k d s ctx = omega (arith, code_size f k d s ctx, code_size a (k + funs f) d s ctx, total_append (functions f k d) (functions a (k + funs f) d))
-code_size (x.bind a e) k d s ctx = omega (arith, code_size a k d s ctx, code_size e (k + funs a) (suc d) (suc s) (here (Slot s) ctx), total_append (functions a k d) (functions e (k + funs a) (suc d)))
-code_size (x.cond c a b) k d s ctx = omega (arith, code_size c k d s ctx, code_size a (k + funs c) d s ctx, code_size b (k + funs c + funs a) d s ctx, total_append (functions c k d) (functions a (k + funs c) d ++ functions b (k + funs c + funs a) d), total_append (functions a (k + funs c) d) (functions b (k + funs c + funs a) d))
-code_size (x.pair f a) k d s ctx = omega (arith, code_size f k d s ctx, code_size a (k + funs f) d s ctx, total_append (functions f k d) (functions a (k + funs f) d))
+code_size (x.app f a) k d s ctx =
+    omega (
+      arith,
+      code_size f k d s ctx,
+      code_size a (k + funs f) d s ctx,
+      total_append (functions f k d) (functions a (k + funs f) d),
+    )
+code_size (x.bind a e) k d s ctx =
+    omega (
+      arith,
+      code_size a k d s ctx,
+      code_size e (k + funs a) (suc d) (suc s) (here (Slot s) ctx),
+      total_append (functions a k d) (functions e (k + funs a) (suc d)),
+    )
+code_size (x.cond c a b) k d s ctx =
+    omega (
+      arith,
+      code_size c k d s ctx,
+      code_size a (k + funs c) d s ctx,
+      code_size b (k + funs c + funs a) d s ctx,
+      total_append (functions c k d) (functions a (k + funs c) d ++ functions b (k + funs c + funs a) d),
+      total_append (functions a (k + funs c) d) (functions b (k + funs c + funs a) d),
+    )
+code_size (x.pair f a) k d s ctx =
+    omega (
+      arith,
+      code_size f k d s ctx,
+      code_size a (k + funs f) d s ctx,
+      total_append (functions f k d) (functions a (k + funs f) d),
+    )
 code_size (x.fst e) k d s ctx = omega (arith, code_size e k d s ctx)
 code_size (x.snd e) k d s ctx = omega (arith, code_size e k d s ctx)
-code_size (x.prim p f a) k d s ctx = omega (arith, code_size f k d s ctx, code_size a (k + funs f) d s ctx, total_append (functions f k d) (functions a (k + funs f) d))
+code_size (x.prim p f a) k d s ctx =
+    omega (
+      arith,
+      code_size f k d s ctx,
+      code_size a (k + funs f) d s ctx,
+      total_append (functions f k d) (functions a (k + funs f) d),
+    )
 code_size _ k d s ctx = omega arith
 
 pub code_depth : (e : Expression) (k d s : ℕ) (ctx : ℕ → Place) → ir_depth (code e k d s ctx) ≤ depth_of e
 code_depth (x.app f a) k d s ctx = omega (arith, code_depth f k d s ctx, code_depth a (k + funs f) d s ctx)
-code_depth (x.bind a e) k d s ctx = omega (arith, code_depth a k d s ctx, code_depth e (k + funs a) (suc d) (suc s) (here (Slot s) ctx))
-code_depth (x.cond c a b) k d s ctx = omega (arith, code_depth c k d s ctx, code_depth a (k + funs c) d s ctx, code_depth b (k + funs c + funs a) d s ctx)
+code_depth (x.bind a e) k d s ctx =
+    omega (arith, code_depth a k d s ctx, code_depth e (k + funs a) (suc d) (suc s) (here (Slot s) ctx))
+code_depth (x.cond c a b) k d s ctx =
+    omega (arith, code_depth c k d s ctx, code_depth a (k + funs c) d s ctx, code_depth b (k + funs c + funs a) d s ctx)
 code_depth (x.pair f a) k d s ctx = omega (arith, code_depth f k d s ctx, code_depth a (k + funs f) d s ctx)
 code_depth (x.fst e) k d s ctx = omega (arith, code_depth e k d s ctx)
 code_depth (x.snd e) k d s ctx = omega (arith, code_depth e k d s ctx)
@@ -85,22 +119,31 @@ index_within [] j x e = absurd (cc)
 index_within (y ∷ xs) zero x e = omega arith
 index_within (y ∷ xs) (suc j) x e = let r = index_within xs j x e in omega arith
 
-both_all : {A : Type 0} → (P : A → Type 0) (fs gs : List A) → AllByRecursion P fs → AllByRecursion P gs → AllByRecursion P (fs ++ gs)
+both_all : {A : Type 0} → (P : A → Type 0) (fs gs : List A) → AllByRecursion P fs → AllByRecursion P gs
+    → AllByRecursion P (fs ++ gs)
 both_all P [] gs a b = b
 both_all P (f ∷ fs) gs a b = (a.0, both_all P fs gs a.1 b)
 
 module _ (t : List IrFunc) where
   -- the functions of the second part
-  next : (e : Expression) (k d : ℕ) (gs : ℕ → List IrFunc) → Has t k (functions e k d ++ gs (k + funs e)) → Has t (k + funs e) (gs (k + funs e))
-  next e k d gs h = subst (λ z. Has t (k + z) (gs (k + funs e))) (functions_length e k d) (has_back t k (functions e k d) _ h)
+  next : (e : Expression) (k d : ℕ) (gs : ℕ → List IrFunc) → Has t k (functions e k d ++ gs (k + funs e))
+      → Has t (k + funs e) (gs (k + funs e))
+  next e k d gs h = subst (λ z. Has t (k + z) (gs (k + funs e))) (functions_length e k d)
+      (has_back t k (functions e k d) _ h)
 
   module _ (P : Place → Type 0) (slots : ℕ) (all_slots : (s : ℕ) → s < slots → P (Slot s)) where
-    places_all : (ctx : ℕ → Place) (is : List ℕ) → ((j i : ℕ) → slice_get is j ≡ Some i → P (ctx i)) → AllByRecursion P (map ctx is)
+    places_all : (ctx : ℕ → Place) (is : List ℕ) → ((j i : ℕ) → slice_get is j ≡ Some i → P (ctx i))
+        → AllByRecursion P (map ctx is)
     places_all ctx [] h = tt
     places_all ctx (i ∷ is) h = (h 0 i refl, places_all ctx is (λ j i e. h (suc j) i e))
 
-    closure_range : (ctx : ℕ → Place) (k d : ℕ) (p : ℕ → Bool) (f : IrFunc) → slice_get t k ≡ Some f → f.free ≡ length (free_list d p) → ((i : ℕ) → p i ≡ true → P (ctx i)) → HasFree (length (map ctx (free_list d p))) (slice_get t k) × AllByRecursion P (map ctx (free_list d p))
-    closure_range ctx k d p f e g h = (subst (λ o. HasFree (length (map ctx (free_list d p))) o) (sym e) (g ∙ sym (length-map (free_list d p) ctx)), places_all ctx (free_list d p) (λ j i e. h i (free_list_each d p j i e).1))
+    closure_range : (ctx : ℕ → Place) (k d : ℕ) (p : ℕ → Bool) (f : IrFunc) → slice_get t k ≡ Some f
+        → f.free ≡ length (free_list d p) → ((i : ℕ) → p i ≡ true → P (ctx i))
+        → HasFree (length (map ctx (free_list d p))) (slice_get t k) × AllByRecursion P (map ctx (free_list d p))
+    closure_range ctx k d p f e g h = (
+      subst (λ o. HasFree (length (map ctx (free_list d p))) o) (sym e) (g ∙ sym (length-map (free_list d p) ctx)),
+      places_all ctx (free_list d p) (λ j i e. h i (free_list_each d p j i e).1),
+    )
 
     pub code_range : (e : Expression) (k d s : ℕ) (ctx : ℕ → Place) → LiteralsFit e
         → ((i : ℕ) → occurs e i ≡ true → P (ctx i)) → s + lets e ≤ slots → Has t k (functions e k d)
@@ -110,8 +153,18 @@ module _ (t : List IrFunc) where
     code_range (x.var j) k d s ctx l h le has = h j (eq-eqb j j refl)
     code_range (x.fun e) k d s ctx l h le has = closure_range ctx k d (fun_free e) _ has.0 refl h
     code_range (x.fix e) k d s ctx l h le has = closure_range ctx k d (fix_free e) _ has.0 refl h
-    code_range (x.app f a) k d s ctx l h le has = (code_range f k d s ctx l.0 (λ i o. h i (or_left (occurs f i) _ o)) (omega arith) (has_front t k _ _ has), code_range a (k + funs f) d s ctx l.1 (λ i o. h i (or_right (occurs f i) _ o)) (omega arith) (next f k d (λ z. functions a z d) has))
-    code_range (x.bind a e) k d s ctx l h le has = (omega arith, code_range a k d s ctx l.0 (λ i o. h i (or_left (occurs a i) _ o)) (omega arith) (has_front t k _ _ has), code_range e (k + funs a) (suc d) (suc s) (here (Slot s) ctx) l.1 inner (omega arith) (next a k d (λ z. functions e z (suc d)) has))
+    code_range (x.app f a) k d s ctx l h le has = (
+      code_range f k d s ctx l.0 (λ i o. h i (or_left (occurs f i) _ o)) (omega arith) (has_front t k _ _ has),
+      code_range a (k + funs f) d s ctx l.1 (λ i o. h i (or_right (occurs f i) _ o)) (omega arith)
+          (next f k d (λ z. functions a z d) has),
+    )
+    code_range (x.bind a e) k d s ctx l h le has = (
+      omega arith,
+      code_range a k d s ctx l.0 (λ i o. h i (or_left (occurs a i) _ o)) (omega arith)
+          (has_front t k _ _ has),
+      code_range e (k + funs a) (suc d) (suc s) (here (Slot s) ctx) l.1 inner (omega arith)
+          (next a k d (λ z. functions e z (suc d)) has),
+    )
       where
         inner : (i : ℕ) → occurs e i ≡ true → P (here (Slot s) ctx i)
         inner zero o = all_slots s (omega arith)
@@ -119,27 +172,41 @@ module _ (t : List IrFunc) where
     code_range (x.cond c a b) k d s ctx l h le has =
         let n = next c k d (λ z. functions a z d ++ functions b (z + funs a) d) has in (
           code_range c k d s ctx l.0 (λ i o. h i (or_left (occurs c i) _ o)) (omega arith) (has_front t k _ _ has),
-          code_range a (k + funs c) d s ctx l.1 (λ i o. h i (or_right (occurs c i) _ (or_left (occurs a i) _ o))) (omega arith) (has_front t (k + funs c) _ _ n),
-          code_range b (k + funs c + funs a) d s ctx l.2 (λ i o. h i (or_right (occurs c i) _ (or_right (occurs a i) _ o))) (omega arith) (next a (k + funs c) d (λ z. functions b z d) n),
+          code_range a (k + funs c) d s ctx l.1 (λ i o. h i (or_right (occurs c i) _ (or_left (occurs a i) _ o)))
+              (omega arith) (has_front t (k + funs c) _ _ n),
+          code_range b (k + funs c + funs a) d s ctx l.2
+              (λ i o. h i (or_right (occurs c i) _ (or_right (occurs a i) _ o))) (omega arith)
+              (next a (k + funs c) d (λ z. functions b z d) n),
         )
-    code_range (x.pair f a) k d s ctx l h le has = (code_range f k d s ctx l.0 (λ i o. h i (or_left (occurs f i) _ o)) (omega arith) (has_front t k _ _ has), code_range a (k + funs f) d s ctx l.1 (λ i o. h i (or_right (occurs f i) _ o)) (omega arith) (next f k d (λ z. functions a z d) has))
+    code_range (x.pair f a) k d s ctx l h le has = (
+      code_range f k d s ctx l.0 (λ i o. h i (or_left (occurs f i) _ o)) (omega arith) (has_front t k _ _ has),
+      code_range a (k + funs f) d s ctx l.1 (λ i o. h i (or_right (occurs f i) _ o)) (omega arith)
+          (next f k d (λ z. functions a z d) has),
+    )
     code_range (x.fst e) k d s ctx l h le has = code_range e k d s ctx l h le has
     code_range (x.snd e) k d s ctx l h le has = code_range e k d s ctx l h le has
-    code_range (x.prim p f a) k d s ctx l h le has = (code_range f k d s ctx l.0 (λ i o. h i (or_left (occurs f i) _ o)) (omega arith) (has_front t k _ _ has), code_range a (k + funs f) d s ctx l.1 (λ i o. h i (or_right (occurs f i) _ o)) (omega arith) (next f k d (λ z. functions a z d) has))
+    code_range (x.prim p f a) k d s ctx l h le has = (
+      code_range f k d s ctx l.0 (λ i o. h i (or_left (occurs f i) _ o)) (omega arith) (has_front t k _ _ has),
+      code_range a (k + funs f) d s ctx l.1 (λ i o. h i (or_right (occurs f i) _ o)) (omega arith)
+          (next f k d (λ z. functions a z d) has),
+    )
     code_range _ k d s ctx l h le has = none_fits
 
   -- where a function's body finds its variables
   ranked : (d i : ℕ) (p : ℕ → Bool) → i < d → p i ≡ true → rank d p i < length (free_list d p)
   ranked d i p lt o = index_within (free_list d p) (rank d p i) i (rank_is d p i lt o)
 
-  fun_place : (e : Expression) (d n i : ℕ) → ClosedBelow (suc d) e → occurs e i ≡ true → IsPlace (length (free_list d (fun_free e))) n (fun_places e d i)
+  fun_place : (e : Expression) (d n i : ℕ) → ClosedBelow (suc d) e → occurs e i ≡ true
+      → IsPlace (length (free_list d (fun_free e))) n (fun_places e d i)
   fun_place e d n zero c o = tt
   fun_place e d n (suc i) c o = let lt = occurs_below e (suc d) (suc i) c o in ranked d i (fun_free e) (omega arith) o
 
-  fix_place : (e : Expression) (d n i : ℕ) → ClosedBelow (suc (suc d)) e → occurs e i ≡ true → IsPlace (length (free_list d (fix_free e))) n (fix_places e d i)
+  fix_place : (e : Expression) (d n i : ℕ) → ClosedBelow (suc (suc d)) e → occurs e i ≡ true
+      → IsPlace (length (free_list d (fix_free e))) n (fix_places e d i)
   fix_place e d n zero c o = tt
   fix_place e d n (suc zero) c o = tt
-  fix_place e d n (suc (suc i)) c o = let lt = occurs_below e (suc (suc d)) (suc (suc i)) c o in ranked d i (fix_free e) (omega arith) o
+  fix_place e d n (suc (suc i)) c o = let lt = occurs_below e (suc (suc d)) (suc (suc i)) c o in
+      ranked d i (fix_free e) (omega arith) o
 
   pub functions_proper : (e : Expression) (k d : ℕ) → ClosedBelow d e → LiteralsFit e → d + 2 * depth_of e ≤ 800
       → Has t k (functions e k d) → AllByRecursion (IsProper t) (functions e k d)
@@ -148,7 +215,8 @@ module _ (t : List IrFunc) where
       free = omega (arith, free_short d (fun_free e));
       slots = omega (arith, lets_depth e);
       depth = omega (arith, code_depth e (suc k) (suc d) 0 (fun_places e d));
-      body = code_range (IsPlace (length (free_list d (fun_free e))) (lets e)) (lets e) (λ s lt. lt) e (suc k) (suc d) 0 (fun_places e d) l (λ i o. fun_place e d (lets e) i c o) (omega arith) has.1;
+      body = code_range (IsPlace (length (free_list d (fun_free e))) (lets e)) (lets e) (λ s lt. lt) e (suc k) (suc d) 0
+          (fun_places e d) l (λ i o. fun_place e d (lets e) i c o) (omega arith) has.1;
     },
     functions_proper e (suc k) (suc d) c l (omega arith) has.1,
   )
@@ -157,23 +225,36 @@ module _ (t : List IrFunc) where
       free = omega (arith, free_short d (fix_free e));
       slots = omega (arith, lets_depth e);
       depth = omega (arith, code_depth e (suc k) (suc (suc d)) 0 (fix_places e d));
-      body = code_range (IsPlace (length (free_list d (fix_free e))) (lets e)) (lets e) (λ s lt. lt) e (suc k) (suc (suc d)) 0 (fix_places e d) l (λ i o. fix_place e d (lets e) i c o) (omega arith) has.1;
+      body = code_range (IsPlace (length (free_list d (fix_free e))) (lets e)) (lets e) (λ s lt. lt) e (suc k)
+          (suc (suc d)) 0 (fix_places e d) l (λ i o. fix_place e d (lets e) i c o) (omega arith) has.1;
     },
     functions_proper e (suc k) (suc (suc d)) c l (omega arith) has.1,
   )
-  functions_proper (x.app f a) k d c l le has = both_all (IsProper t) (functions f k d) _ (functions_proper f k d c.0 l.0 (omega arith) (has_front t k _ _ has)) (functions_proper a (k + funs f) d c.1 l.1 (omega arith) (next f k d (λ z. functions a z d) has))
-  functions_proper (x.bind a e) k d c l le has = both_all (IsProper t) (functions a k d) _ (functions_proper a k d c.0 l.0 (omega arith) (has_front t k _ _ has)) (functions_proper e (k + funs a) (suc d) c.1 l.1 (omega arith) (next a k d (λ z. functions e z (suc d)) has))
+  functions_proper (x.app f a) k d c l le has = both_all (IsProper t) (functions f k d) _
+      (functions_proper f k d c.0 l.0 (omega arith) (has_front t k _ _ has))
+      (functions_proper a (k + funs f) d c.1 l.1 (omega arith) (next f k d (λ z. functions a z d) has))
+  functions_proper (x.bind a e) k d c l le has = both_all (IsProper t) (functions a k d) _
+      (functions_proper a k d c.0 l.0 (omega arith) (has_front t k _ _ has))
+      (functions_proper e (k + funs a) (suc d) c.1 l.1 (omega arith) (next a k d (λ z. functions e z (suc d)) has))
   functions_proper (x.cond f a b) k d c l le has =
       let n = next f k d (λ z. functions a z d ++ functions b (z + funs a) d) has in
       both_all (IsProper t) (functions f k d) _ (functions_proper f k d c.0 l.0 (omega arith) (has_front t k _ _ has))
-      (both_all (IsProper t) (functions a (k + funs f) d) _ (functions_proper a (k + funs f) d c.1 l.1 (omega arith) (has_front t (k + funs f) _ _ n)) (functions_proper b (k + funs f + funs a) d c.2 l.2 (omega arith) (next a (k + funs f) d (λ z. functions b z d) n)))
-  functions_proper (x.pair f a) k d c l le has = both_all (IsProper t) (functions f k d) _ (functions_proper f k d c.0 l.0 (omega arith) (has_front t k _ _ has)) (functions_proper a (k + funs f) d c.1 l.1 (omega arith) (next f k d (λ z. functions a z d) has))
+      (both_all (IsProper t) (functions a (k + funs f) d) _
+      (functions_proper a (k + funs f) d c.1 l.1 (omega arith) (has_front t (k + funs f) _ _ n))
+      (functions_proper b (k + funs f + funs a) d c.2 l.2 (omega arith)
+      (next a (k + funs f) d (λ z. functions b z d) n)))
+  functions_proper (x.pair f a) k d c l le has = both_all (IsProper t) (functions f k d) _
+      (functions_proper f k d c.0 l.0 (omega arith) (has_front t k _ _ has))
+      (functions_proper a (k + funs f) d c.1 l.1 (omega arith) (next f k d (λ z. functions a z d) has))
   functions_proper (x.fst e) k d c l le has = functions_proper e k d c l (omega arith) has
   functions_proper (x.snd e) k d c l le has = functions_proper e k d c l (omega arith) has
-  functions_proper (x.prim p f a) k d c l le has = both_all (IsProper t) (functions f k d) _ (functions_proper f k d c.0 l.0 (omega arith) (has_front t k _ _ has)) (functions_proper a (k + funs f) d c.1 l.1 (omega arith) (next f k d (λ z. functions a z d) has))
+  functions_proper (x.prim p f a) k d c l le has = both_all (IsProper t) (functions f k d) _
+      (functions_proper f k d c.0 l.0 (omega arith) (has_front t k _ _ has))
+      (functions_proper a (k + funs f) d c.1 l.1 (omega arith) (next f k d (λ z. functions a z d) has))
   functions_proper _ k d c l le has = tt
 
-pub is_converted : (c : Expression) → ClosedBelow 0 c → LiteralsFit c → size c ≤ 20000 → depth_of c ≤ 400 → IsConverted (converted_functions c) (converted_outside c)
+pub is_converted : (c : Expression) → ClosedBelow 0 c → LiteralsFit c → size c ≤ 20000 → depth_of c ≤ 400
+    → IsConverted (converted_functions c) (converted_outside c)
 is_converted c closed l few shallow =
     let t = converted_functions c in
     let has : Has t 0 t = has_self [] t in
@@ -184,7 +265,8 @@ is_converted c closed l few shallow =
       free = refl;
       slots = omega (arith, lets_depth c);
       depth = omega (arith, code_depth c 0 0 0 (λ i. Argument));
-      body = code_range t (IsOuterPlace (lets c)) (lets c) (λ s lt. lt) c 0 0 0 (λ i. Argument) l (λ i o. (let lt = occurs_below c 0 i closed o in absurd (omega arith))) (omega arith) has;
+      body = code_range t (IsOuterPlace (lets c)) (lets c) (λ s lt. lt) c 0 0 0 (λ i. Argument) l
+          (λ i o. (let lt = occurs_below c 0 i closed o in absurd (omega arith))) (omega arith) has;
     }
 
 -- the limits of kernels
@@ -196,4 +278,5 @@ pub size_small : (c : Expression) → within_limits c ≡ true → size c ≤ 20
 size_small c e = let h = (both_true (nat_le (size c) 20000) (nat_le (depth_of c) 400) e).0 in leb-true (size c) 20000 h
 
 pub depth_small : (c : Expression) → within_limits c ≡ true → depth_of c ≤ 400
-depth_small c e = let h = (both_true (nat_le (size c) 20000) (nat_le (depth_of c) 400) e).1 in leb-true (depth_of c) 400 h
+depth_small c e = let h = (both_true (nat_le (size c) 20000) (nat_le (depth_of c) 400) e).1 in
+    leb-true (depth_of c) 400 h

@@ -16,22 +16,54 @@ map_same : (f g : ℕ → Place) (is : List ℕ) → ((j i : ℕ) → slice_get 
 map_same f g [] h = refl
 map_same f g (i ∷ is) h = rw (h 0 i refl, map_same f g is (λ j i e. h (suc j) i e)) refl
 
-free_same : (f g : ℕ → Place) (d : ℕ) (p : ℕ → Bool) → ((i : ℕ) → p i ≡ true → f i ≡ g i) → map f (free_list d p) ≡ map g (free_list d p)
+free_same : (f g : ℕ → Place) (d : ℕ) (p : ℕ → Bool) → ((i : ℕ) → p i ≡ true → f i ≡ g i) → map f (free_list d p)
+    ≡ map g (free_list d p)
 free_same f g d p h = map_same f g (free_list d p) (λ j i e. h i (free_list_each d p j i e).1)
 
-here_same : (f g : ℕ → Place) (p : Place) (q : ℕ → Bool) → ((i : ℕ) → q (suc i) ≡ true → f i ≡ g i) → (i : ℕ) → q i ≡ true → here p f i ≡ here p g i
+here_same : (f g : ℕ → Place) (p : Place) (q : ℕ → Bool) → ((i : ℕ) → q (suc i) ≡ true → f i ≡ g i) → (i : ℕ)
+    → q i ≡ true → here p f i ≡ here p g i
 here_same f g p q h zero o = refl
 here_same f g p q h (suc i) o = h i o
 
-pub code_same : (e : Expression) (k d s : ℕ) (f g : ℕ → Place) → ((i : ℕ) → occurs e i ≡ true → f i ≡ g i) → code e k d s f ≡ code e k d s g
+pub code_same : (e : Expression) (k d s : ℕ) (f g : ℕ → Place) → ((i : ℕ) → occurs e i ≡ true → f i ≡ g i)
+    → code e k d s f ≡ code e k d s g
 code_same (x.var j) k d s f g h = ap get (h j (eq-eqb j j refl))
 code_same (x.fun e) k d s f g h = ap (λ ps. closure k ps) (free_same f g d (fun_free e) h)
 code_same (x.fix e) k d s f g h = ap (λ ps. closure k ps) (free_same f g d (fix_free e) h)
-code_same (x.app c a) k d s f g h = rw (code_same c k d s f g (λ i o. h i (or_left (occurs c i) _ o)), code_same a (k + funs c) d s f g (λ i o. h i (or_right (occurs c i) _ o))) refl
-code_same (x.bind c a) k d s f g h = rw (code_same c k d s f g (λ i o. h i (or_left (occurs c i) _ o)), code_same a (k + funs c) (suc d) (suc s) (here (Slot s) f) (here (Slot s) g) (here_same f g (Slot s) (occurs a) (λ i o. h i (or_right (occurs c i) _ o)))) refl
-code_same (x.cond c a b) k d s f g h = rw (code_same c k d s f g (λ i o. h i (or_left (occurs c i) _ o)), code_same a (k + funs c) d s f g (λ i o. h i (or_right (occurs c i) _ (or_left (occurs a i) _ o))), code_same b (k + funs c + funs a) d s f g (λ i o. h i (or_right (occurs c i) _ (or_right (occurs a i) _ o)))) refl
-code_same (x.pair c a) k d s f g h = rw (code_same c k d s f g (λ i o. h i (or_left (occurs c i) _ o)), code_same a (k + funs c) d s f g (λ i o. h i (or_right (occurs c i) _ o))) refl
+code_same (x.app c a) k d s f g h =
+    rw (
+      code_same c k d s f g (λ i o. h i (or_left (occurs c i) _ o)),
+      code_same a (k + funs c) d s f g
+          (λ i o. h i (or_right (occurs c i) _ o)),
+    ) refl
+code_same (x.bind c a) k d s f g h =
+    rw (
+      code_same c k d s f g (λ i o. h i (or_left (occurs c i) _ o)),
+      code_same a (k + funs c) (suc d) (suc s)
+          (here (Slot s) f) (here (Slot s) g)
+          (here_same f g (Slot s) (occurs a) (λ i o. h i (or_right (occurs c i) _ o))),
+    )
+    refl
+code_same (x.cond c a b) k d s f g h =
+    rw (
+      code_same c k d s f g (λ i o. h i (or_left (occurs c i) _ o)),
+      code_same a (k + funs c) d s f g
+          (λ i o. h i (or_right (occurs c i) _ (or_left (occurs a i) _ o))),
+      code_same b (k + funs c + funs a) d s f g
+          (λ i o. h i (or_right (occurs c i) _ (or_right (occurs a i) _ o))),
+    ) refl
+code_same (x.pair c a) k d s f g h =
+    rw (
+      code_same c k d s f g (λ i o. h i (or_left (occurs c i) _ o)),
+      code_same a (k + funs c) d s f g
+          (λ i o. h i (or_right (occurs c i) _ o)),
+    ) refl
 code_same (x.fst e) k d s f g h = rw (code_same e k d s f g h) refl
 code_same (x.snd e) k d s f g h = rw (code_same e k d s f g h) refl
-code_same (x.prim p c a) k d s f g h = rw (code_same c k d s f g (λ i o. h i (or_left (occurs c i) _ o)), code_same a (k + funs c) d s f g (λ i o. h i (or_right (occurs c i) _ o))) refl
+code_same (x.prim p c a) k d s f g h =
+    rw (
+      code_same c k d s f g (λ i o. h i (or_left (occurs c i) _ o)),
+      code_same a (k + funs c) d s f g
+          (λ i o. h i (or_right (occurs c i) _ o)),
+    ) refl
 code_same _ k d s f g h = refl

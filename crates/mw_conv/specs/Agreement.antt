@@ -23,11 +23,13 @@ Holds t n h0 (k.stops stuck) b = Unit {0}
 Holds t n h0 (k.stops (trap y)) b = b ≡ i.stops (trap y)
 Holds t n h0 (k.stops (bound l)) b = b ≡ i.stops (bound l)
 
--- at most n units are left, the heap h0 has grown by the kernel's words, and the word stands for the value; or both stop alike; nothing is said where the kernel is stuck
+-- at most n units are left, the heap h0 has grown by the kernel's words, and the word stands for the value; or both
+-- stop alike; nothing is said where the kernel is stuck
 pub record Agrees (t : List IrFunc) (n : ℕ) (h0 : List ℤ) (a : k.Ended) (b : i.Ended) : Type 0 where
   pub holds : Holds t n h0 a b
 
--- with any units and on any heap the body outside these functions means what the kernel meaning does from that many words on
+-- with any units and on any heap the body outside these functions means what the kernel meaning does from that many
+-- words on
 abbrev pub MeansAs : List IrFunc → IrFunc → Expression → Type 0
 MeansAs t f c = (n : ℕ) (h : List ℤ) → Agrees t n h (k.kernel_meaning n (length h) c) (i.means t n h i.outside f.body)
 

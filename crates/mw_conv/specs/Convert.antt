@@ -68,7 +68,8 @@ lets (x.snd e) = lets e
 lets (x.prim p a b) = max (lets a) (lets b)
 lets _ = zero
 
--- the code of a term under d binders, s of them lets of the same function, where ctx says where the variables are and k is the next function's number
+-- the code of a term under d binders, s of them lets of the same function, where ctx says where the variables are and k
+-- is the next function's number
 abbrev pub code : Expression → (k d s : ℕ) → (ℕ → Place) → Ir
 code (x.num n) k d s ctx = num n
 code (x.truth b) k d s ctx = truth b
@@ -77,7 +78,8 @@ code (x.fun e) k d s ctx = closure k (map ctx (free_list d (fun_free e)))
 code (x.fix e) k d s ctx = closure k (map ctx (free_list d (fix_free e)))
 code (x.app f a) k d s ctx = app (code f k d s ctx) (code a (k + funs f) d s ctx)
 code (x.bind a e) k d s ctx = bind s (code a k d s ctx) (code e (k + funs a) (suc d) (suc s) (here (Slot s) ctx))
-code (x.cond c a b) k d s ctx = cond (code c k d s ctx) (code a (k + funs c) d s ctx) (code b (k + funs c + funs a) d s ctx)
+code (x.cond c a b) k d s ctx = cond (code c k d s ctx) (code a (k + funs c) d s ctx)
+    (code b (k + funs c + funs a) d s ctx)
 code (x.pair a b) k d s ctx = pair (code a k d s ctx) (code b (k + funs a) d s ctx)
 code (x.fst e) k d s ctx = fst (code e k d s ctx)
 code (x.snd e) k d s ctx = snd (code e k d s ctx)
@@ -89,8 +91,10 @@ function_of k slots body = record { free = k; slots = slots; body = body }
 
 -- the functions of a term under d binders, numbered from k on
 abbrev pub functions : Expression → (k d : ℕ) → List IrFunc
-functions (x.fun e) k d = function_of (length (free_list d (fun_free e))) (lets e) (code e (suc k) (suc d) 0 (fun_places e d)) ∷ functions e (suc k) (suc d)
-functions (x.fix e) k d = function_of (length (free_list d (fix_free e))) (lets e) (code e (suc k) (suc (suc d)) 0 (fix_places e d)) ∷ functions e (suc k) (suc (suc d))
+functions (x.fun e) k d = function_of (length (free_list d (fun_free e))) (lets e)
+    (code e (suc k) (suc d) 0 (fun_places e d)) ∷ functions e (suc k) (suc d)
+functions (x.fix e) k d = function_of (length (free_list d (fix_free e))) (lets e)
+    (code e (suc k) (suc (suc d)) 0 (fix_places e d)) ∷ functions e (suc k) (suc (suc d))
 functions (x.app f a) k d = functions f k d ++ functions a (k + funs f) d
 functions (x.bind a e) k d = functions a k d ++ functions e (k + funs a) (suc d)
 functions (x.cond c a b) k d = functions c k d ++ (functions a (k + funs c) d ++ functions b (k + funs c + funs a) d)

@@ -28,20 +28,23 @@ closing (prim p a b) k env = prim p (closing a k env) (closing b k env)
 closing (done w) k env = done w
 
 rest_same : (f : KernelTerm → KernelTerm) (o o' : ℕ → KernelTerm)
-    → ((w : KernelValue) → f (done w) ≡ done w) → ((j : ℕ) → f (o j) ≡ o' j) → (i : ℕ) (env : List KernelValue) → f (pick_all zero i env o) ≡ pick_all zero i env o'
+    → ((w : KernelValue) → f (done w) ≡ done w) → ((j : ℕ) → f (o j) ≡ o' j) → (i : ℕ) (env : List KernelValue)
+    → f (pick_all zero i env o) ≡ pick_all zero i env o'
 rest_same f o o' d h i [] = h i
 rest_same f o o' d h zero (w ∷ env) = d w
 rest_same f o o' d h (suc i) (w ∷ env) = rest_same f o o' d h i env
 
 pick_more : (f : KernelTerm → KernelTerm) (v : KernelValue) → ((w : KernelValue) → f (done w) ≡ done w)
-    → (k i : ℕ) (env : List KernelValue) (o o' : ℕ → KernelTerm) → ((j : ℕ) → f (o j) ≡ pick k j (done v) o') → f (pick_all (suc k) i env o) ≡ pick_all k i (v ∷ env) o'
+    → (k i : ℕ) (env : List KernelValue) (o o' : ℕ → KernelTerm) → ((j : ℕ) → f (o j) ≡ pick k j (done v) o')
+    → f (pick_all (suc k) i env o) ≡ pick_all k i (v ∷ env) o'
 pick_more f v d zero zero env o o' h = h zero
 pick_more f v d zero (suc i) env o o' h = rest_same f (λ j. o (suc j)) o' d (λ j. h (suc j)) i env
 pick_more f v d (suc k) zero env o o' h = h zero
 pick_more f v d (suc k) (suc i) env o o' h = pick_more f v d k i env (λ j. o (suc j)) (λ j. o' (suc j)) (λ j. h (suc j))
 
 -- one value more
-pub closing_more : (e : KernelTerm) (k : ℕ) (v : KernelValue) (env : List KernelValue) → instantiate (closing e (suc k) env) k v ≡ closing e k (v ∷ env)
+pub closing_more : (e : KernelTerm) (k : ℕ) (v : KernelValue) (env : List KernelValue)
+    → instantiate (closing e (suc k) env) k v ≡ closing e k (v ∷ env)
 closing_more (num n) k v env = refl
 closing_more (truth b) k v env = refl
 closing_more (var i) k v env = pick_more (λ e. instantiate e k v) v (λ w. refl) k i env var var (λ j. refl)

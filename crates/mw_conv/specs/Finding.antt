@@ -1,5 +1,5 @@
--- What is found of the functions of a term, before it is converted. The level of a variable is the number of binders outside
--- its own, so that the outermost has level 0.
+-- What is found of the functions of a term, before it is converted. The level of a variable is the number of binders
+-- outside its own, so that the outermost has level 0.
 use Rattle.std.specs.Prelude.{ℕ, zero, suc, ◌+◌, Bool, true, false, ◌||◌, List, [], ◌∷◌, ◌++◌, length, set, get_or, ◌≡◌}
 use Rattle.mw_term.specs.Terms as x
 use Rattle.mw_term.specs.Terms.{Expression}
@@ -55,7 +55,8 @@ all_found (x.snd e) d = all_found e d
 all_found (x.prim p a b) d = all_found a d ++ all_found b d
 all_found _ d = []
 
--- what is found of a function under d binders, which binds its own variables: of those within its body, and then of itself
+-- what is found of a function under d binders, which binds its own variables: of those within its body, and then of
+-- itself
 abbrev pub found_with : Expression → (own d : ℕ) → List Found
 found_with e own d = all_found e (d + own) ++ function_found e d (λ i. occurs e (own + i)) ∷ []
 

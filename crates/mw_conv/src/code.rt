@@ -13,8 +13,8 @@ use mw_ir::{Ir, IrFunc, IrFuncs, Place, Places};
 use mw_term::Term;
 use std::alloc::{AllocError, Global};
 
-/// The code of a term, which takes what was found of its functions and adds them to `funcs`, the last one first. `left` is
-/// the number of functions that aren't added yet.
+/// The code of a term, which takes what was found of its functions and adds them to `funcs`, the last one first. `left`
+/// is the number of functions that aren't added yet.
 #[cycle(convert)]
 pub(crate) fn code_of(
     alloc: Global,
@@ -32,9 +32,11 @@ pub(crate) fn code_of(
     requires found { EndsWith found.old.items (found_in (expression_of term.now) context.old.items) }
     ensures same { IfOk result (λ _. context.new.items ≡ context.old.items) }
     ensures left { IfOk result (λ _. left.old ≡ left.new + funs (expression_of term.now)) }
-    ensures found { IfOk result (λ _. found.old.items ≡ found.new.items ++ found_in (expression_of term.now) context.old.items) }
+    ensures found { IfOk result (λ _. found.old.items ≡ found.new.items ++ found_in (expression_of term.now)
+        context.old.items) }
     ensures code { IfOk result (λ r. ir_of r ≡ code_in (expression_of term.now) left.new context.old.items slot) }
-    ensures funcs { IfOk result (λ _. AreAdded funcs.old funcs.new (expression_of term.now) left.new context.old.items) }
+    ensures funcs { IfOk result
+        (λ _. AreAdded funcs.old funcs.new (expression_of term.now) left.new context.old.items) }
 {
     match term {
         Term::Int(n) => Ok(Ir::Int(*n)),
@@ -80,9 +82,11 @@ fn box_of(
     requires found { EndsWith found.old.items (found_in (expression_of term.now) context.old.items) }
     ensures same { IfOk result (λ _. context.new.items ≡ context.old.items) }
     ensures left { IfOk result (λ _. left.old ≡ left.new + funs (expression_of term.now)) }
-    ensures found { IfOk result (λ _. found.old.items ≡ found.new.items ++ found_in (expression_of term.now) context.old.items) }
+    ensures found { IfOk result (λ _. found.old.items ≡ found.new.items ++ found_in (expression_of term.now)
+        context.old.items) }
     ensures code { IfOk result (λ r. ir_of r.value ≡ code_in (expression_of term.now) left.new context.old.items slot) }
-    ensures funcs { IfOk result (λ _. AreAdded funcs.old funcs.new (expression_of term.now) left.new context.old.items) }
+    ensures funcs { IfOk result
+        (λ _. AreAdded funcs.old funcs.new (expression_of term.now) left.new context.old.items) }
 {
     Ok(Box::new(
         alloc,
@@ -104,15 +108,25 @@ fn two_of(
 ) -> Result<(Box<Ir>, Box<Ir>), AllocError>
     requires closed { ClosedBelow (length context.old.items) (pair (expression_of first.now) (expression_of second.now)) }
     requires slots { slot + size (pair (expression_of first.now) (expression_of second.now)) < 2 ^ 32 }
-    requires binders { length context.old.items + 2 * size (pair (expression_of first.now) (expression_of second.now)) < 2 ^ 32 }
+    requires binders { length context.old.items + 2 * size (pair (expression_of first.now) (expression_of second.now))
+        < 2 ^ 32 }
     requires left { funs (pair (expression_of first.now) (expression_of second.now)) ≤ left.old }
-    requires found { EndsWith found.old.items (found_in (pair (expression_of first.now) (expression_of second.now)) context.old.items) }
+    requires found { EndsWith found.old.items
+        (found_in (pair (expression_of first.now) (expression_of second.now)) context.old.items) }
     ensures same { IfOk result (λ _. context.new.items ≡ context.old.items) }
-    ensures left { IfOk result (λ _. left.old ≡ left.new + funs (pair (expression_of first.now) (expression_of second.now))) }
-    ensures found { IfOk result (λ _. found.old.items ≡ found.new.items ++ found_in (pair (expression_of first.now) (expression_of second.now)) context.old.items) }
-    ensures first { IfOk result (λ r. ir_of r.0.value ≡ code_in (expression_of first.now) left.new context.old.items slot) }
-    ensures second { IfOk result (λ r. ir_of r.1.value ≡ code_in (expression_of second.now) (left.new + funs (expression_of first.now)) context.old.items slot) }
-    ensures funcs { IfOk result (λ _. AreAdded funcs.old funcs.new (pair (expression_of first.now) (expression_of second.now)) left.new context.old.items) }
+    ensures left { IfOk result
+        (λ _. left.old ≡ left.new + funs (pair (expression_of first.now) (expression_of second.now))) }
+    ensures found { IfOk result
+        (λ _. found.old.items ≡ found.new.items ++ found_in (pair (expression_of first.now) (expression_of second.now))
+        context.old.items) }
+    ensures first { IfOk result (λ r. ir_of r.0.value ≡ code_in (expression_of first.now) left.new context.old.items
+        slot) }
+    ensures second { IfOk result
+        (λ r. ir_of r.1.value ≡ code_in (expression_of second.now) (left.new + funs (expression_of first.now))
+        context.old.items slot) }
+    ensures funcs { IfOk result
+        (λ _. AreAdded funcs.old funcs.new (pair (expression_of first.now) (expression_of second.now)) left.new
+        context.old.items) }
 {
     let second = box_of(alloc, second, slot, context, left, found, funcs)?;
     let first = box_of(alloc, first, slot, context, left, found, funcs)?;
@@ -135,12 +149,19 @@ fn let_of(
     requires slots { slot + size (bind (expression_of definition.now) (expression_of body.now)) < 2 ^ 32 }
     requires binders { length context.old.items + 2 * size (bind (expression_of definition.now) (expression_of body.now)) < 2 ^ 32 }
     requires left { funs (bind (expression_of definition.now) (expression_of body.now)) ≤ left.old }
-    requires found { EndsWith found.old.items (found_in (bind (expression_of definition.now) (expression_of body.now)) context.old.items) }
+    requires found { EndsWith found.old.items
+        (found_in (bind (expression_of definition.now) (expression_of body.now)) context.old.items) }
     ensures same { IfOk result (λ _. context.new.items ≡ context.old.items) }
-    ensures left { IfOk result (λ _. left.old ≡ left.new + funs (bind (expression_of definition.now) (expression_of body.now))) }
-    ensures found { IfOk result (λ _. found.old.items ≡ found.new.items ++ found_in (bind (expression_of definition.now) (expression_of body.now)) context.old.items) }
-    ensures code { IfOk result (λ r. ir_of r ≡ code_in (bind (expression_of definition.now) (expression_of body.now)) left.new context.old.items slot) }
-    ensures funcs { IfOk result (λ _. AreAdded funcs.old funcs.new (bind (expression_of definition.now) (expression_of body.now)) left.new context.old.items) }
+    ensures left { IfOk result
+        (λ _. left.old ≡ left.new + funs (bind (expression_of definition.now) (expression_of body.now))) }
+    ensures found { IfOk result
+        (λ _. found.old.items ≡ found.new.items
+        ++ found_in (bind (expression_of definition.now) (expression_of body.now)) context.old.items) }
+    ensures code { IfOk result (λ r. ir_of r ≡ code_in (bind (expression_of definition.now) (expression_of body.now))
+        left.new context.old.items slot) }
+    ensures funcs { IfOk result
+        (λ _. AreAdded funcs.old funcs.new (bind (expression_of definition.now) (expression_of body.now)) left.new
+        context.old.items) }
 {
     context.push(Place::Slot(slot))?;
     let body = box_of(alloc, body, slot + 1, context, left, found, funcs)?;
@@ -162,16 +183,32 @@ fn if_of(
     found: &mut Vec<Found>,
     funcs: &mut IrFuncs,
 ) -> Result<Ir, AllocError>
-    requires closed { ClosedBelow (length context.old.items) (cond (expression_of condition.now) (expression_of yes.now) (expression_of no.now)) }
-    requires slots { slot + size (cond (expression_of condition.now) (expression_of yes.now) (expression_of no.now)) < 2 ^ 32 }
-    requires binders { length context.old.items + 2 * size (cond (expression_of condition.now) (expression_of yes.now) (expression_of no.now)) < 2 ^ 32 }
-    requires left { funs (cond (expression_of condition.now) (expression_of yes.now) (expression_of no.now)) ≤ left.old }
-    requires found { EndsWith found.old.items (found_in (cond (expression_of condition.now) (expression_of yes.now) (expression_of no.now)) context.old.items) }
+    requires closed { ClosedBelow (length context.old.items)
+        (cond (expression_of condition.now) (expression_of yes.now) (expression_of no.now)) }
+    requires slots { slot + size (cond (expression_of condition.now) (expression_of yes.now) (expression_of no.now))
+        < 2 ^ 32 }
+    requires binders { length context.old.items
+        + 2 * size (cond (expression_of condition.now) (expression_of yes.now) (expression_of no.now)) < 2 ^ 32 }
+    requires left { funs (cond (expression_of condition.now) (expression_of yes.now) (expression_of no.now))
+        ≤ left.old }
+    requires found { EndsWith found.old.items
+        (found_in (cond (expression_of condition.now) (expression_of yes.now) (expression_of no.now))
+        context.old.items) }
     ensures same { IfOk result (λ _. context.new.items ≡ context.old.items) }
-    ensures left { IfOk result (λ _. left.old ≡ left.new + funs (cond (expression_of condition.now) (expression_of yes.now) (expression_of no.now))) }
-    ensures found { IfOk result (λ _. found.old.items ≡ found.new.items ++ found_in (cond (expression_of condition.now) (expression_of yes.now) (expression_of no.now)) context.old.items) }
-    ensures code { IfOk result (λ r. ir_of r ≡ code_in (cond (expression_of condition.now) (expression_of yes.now) (expression_of no.now)) left.new context.old.items slot) }
-    ensures funcs { IfOk result (λ _. AreAdded funcs.old funcs.new (cond (expression_of condition.now) (expression_of yes.now) (expression_of no.now)) left.new context.old.items) }
+    ensures left { IfOk result
+        (λ _. left.old ≡ left.new
+        + funs (cond (expression_of condition.now) (expression_of yes.now) (expression_of no.now))) }
+    ensures found { IfOk result
+        (λ _. found.old.items ≡ found.new.items
+        ++ found_in (cond (expression_of condition.now) (expression_of yes.now) (expression_of no.now))
+        context.old.items) }
+    ensures code { IfOk result
+        (λ r. ir_of r ≡ code_in (cond (expression_of condition.now) (expression_of yes.now) (expression_of no.now))
+        left.new context.old.items slot) }
+    ensures funcs { IfOk result
+        (λ _. AreAdded funcs.old funcs.new
+        (cond (expression_of condition.now) (expression_of yes.now) (expression_of no.now)) left.new
+        context.old.items) }
 {
     let (yes, no) = two_of(alloc, yes, no, slot, context, left, found, funcs)?;
     let condition = box_of(alloc, condition, slot, context, left, found, funcs)?;
@@ -194,9 +231,13 @@ fn closure_of(
     requires left { funs (function recursive (expression_of body.now)) ≤ left.old }
     requires found { EndsWith found.old.items (found_in (function recursive (expression_of body.now)) context.now.items) }
     ensures left { IfOk result (λ _. left.old ≡ left.new + funs (function recursive (expression_of body.now))) }
-    ensures found { IfOk result (λ _. found.old.items ≡ found.new.items ++ found_in (function recursive (expression_of body.now)) context.now.items) }
-    ensures code { IfOk result (λ r. (slot : ℕ) → ir_of r ≡ code_in (function recursive (expression_of body.now)) left.new context.now.items slot) }
-    ensures funcs { IfOk result (λ _. AreAdded funcs.old funcs.new (function recursive (expression_of body.now)) left.new context.now.items) }
+    ensures found { IfOk result
+        (λ _. found.old.items ≡ found.new.items ++ found_in (function recursive (expression_of body.now))
+        context.now.items) }
+    ensures code { IfOk result (λ r. (slot : ℕ) → ir_of r ≡ code_in (function recursive (expression_of body.now))
+        left.new context.now.items slot) }
+    ensures funcs { IfOk result (λ _. AreAdded funcs.old funcs.new (function recursive (expression_of body.now))
+        left.new context.now.items) }
 {
     let Some(Found { slots, free }) = found.pop() else {
         unreachable!()
@@ -222,8 +263,8 @@ fn places_of(alloc: Global, context: &Vec<Place>, levels: &[u32]) -> Result<Plac
     Ok(places)
 }
 
-/// The context in a function's body, whose closure holds the variables of these levels. A variable of another level doesn't
-/// occur there.
+/// The context in a function's body, whose closure holds the variables of these levels. A variable of another level
+/// doesn't occur there.
 fn inner_context(
     alloc: Global,
     context: &Vec<Place>,

@@ -15,8 +15,8 @@ use mw_ir::{Converted, IrFunc, IrFuncs};
 use mw_term::Term;
 use std::alloc::{AllocError, Global};
 
-/// The conversion of closed code within the limits of kernels, with its functions in the order in which they stand in the
-/// code.
+/// The conversion of closed code within the limits of kernels, with its functions in the order in which they stand in
+/// the code.
 pub fn convert(alloc: Global, code: &Term) -> Result<Converted, AllocError>
     requires closed { IsClosed (expression_of code.now) }
     requires limits { within_limits (expression_of code.now) ≡ true }

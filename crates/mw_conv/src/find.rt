@@ -13,8 +13,8 @@ use crate::found::{Found, Levels};
 use mw_term::Term;
 use std::alloc::{AllocError, Global};
 
-/// Finds the functions of a term, of each after those within it, and marks the variables that occur in it. The term stands
-/// under the binders that have marks, and then under `under` more. Answers how many slots its lets need.
+/// Finds the functions of a term, of each after those within it, and marks the variables that occur in it. The term
+/// stands under the binders that have marks, and then under `under` more. Answers how many slots its lets need.
 #[cycle(find)]
 pub(crate) fn find(
     alloc: Global,
@@ -24,8 +24,10 @@ pub(crate) fn find(
     found: &mut Vec<Found>,
 ) -> Result<u32, AllocError>
     requires { length marks.old.items + under + 2 * size (expression_of term.now) < 2 ^ 32 }
-    ensures marks { IfOk result (λ _. marks.new.items ≡ joined marks.old.items (λ i. occurs (expression_of term.now) (under + i))) }
-    ensures found { IfOk result (λ _. found.new.items ≡ found.old.items ++ all_found (expression_of term.now) (length marks.old.items + under)) }
+    ensures marks { IfOk result
+        (λ _. marks.new.items ≡ joined marks.old.items (λ i. occurs (expression_of term.now) (under + i))) }
+    ensures found { IfOk result (λ _. found.new.items ≡ found.old.items ++ all_found (expression_of term.now)
+        (length marks.old.items + under)) }
     ensures length { IfOk result (λ _. length marks.new.items ≡ length marks.old.items) }
     ensures slots { IfOk result (λ slots. slots ≡ lets (expression_of term.now)) }
     ensures literals { IfOk result (λ _. LiteralsFit (expression_of term.now)) }
@@ -75,8 +77,10 @@ fn find_function(
     found: &mut Vec<Found>,
 ) -> Result<u32, AllocError>
     requires { length marks.old.items + under + own + 2 * size (expression_of body.now) < 2 ^ 32 }
-    ensures marks { IfOk result (λ _. marks.new.items ≡ joined marks.old.items (λ i. occurs (expression_of body.now) (own + (under + i)))) }
-    ensures found { IfOk result (λ _. found.new.items ≡ found.old.items ++ found_with (expression_of body.now) own (length marks.old.items + under)) }
+    ensures marks { IfOk result
+        (λ _. marks.new.items ≡ joined marks.old.items (λ i. occurs (expression_of body.now) (own + (under + i)))) }
+    ensures found { IfOk result (λ _. found.new.items ≡ found.old.items ++ found_with (expression_of body.now) own
+        (length marks.old.items + under)) }
     ensures length { IfOk result (λ _. length marks.new.items ≡ length marks.old.items) }
     ensures slots { IfOk result (λ slots. slots ≡ 0) }
     ensures literals { IfOk result (λ _. LiteralsFit (expression_of body.now)) }

@@ -1,12 +1,15 @@
 -- The canonical bytes of a piece spell it, and no other spelling is shorter: how the pieces of the grammar keep that.
-use Rattle.std.proofs.Common.{◌≡◌, ℕ, ◌^◌, ◌≤◌, ◌<◌, ℤ, inl, inr, List, [], ◌∷◌, ◌++◌, length, length-append, refl, arith}
+use Rattle.std.proofs.Common.{◌≡◌, ℕ, ◌^◌, ◌≤◌, ◌<◌, ℤ, inl, inr, List, [], ◌∷◌, ◌++◌, length, length-append, refl}
+use Rattle.std.proofs.Common.{arith}
 use Rattle.std.specs.List.{flat_map}
 use Rattle.mw_wasm.specs.Leb.{IsSigned, IsInteger}
-use Rattle.mw_wasm.specs.Pieces.{Piece, Sized, byte, exactly, octet, ◌then◌, ◌or◌, ◌when◌, u32, i32, i64, items, vector, sized}
+use Rattle.mw_wasm.specs.Pieces.{Piece, Sized, byte, exactly, octet, ◌then◌, ◌or◌, ◌when◌, u32, i32, i64, items, vector}
+use Rattle.mw_wasm.specs.Pieces.{sized}
 use Rattle.mw_wasm.specs.BinaryModules.{section}
 use Rattle.mw_leb.specs.Shortest.{shortest_signed, IsShortest}
 use Rattle.mw_leb.proofs.Groups.{unsigned_shortest, signed_shortest}
-use Rattle.mw_encode.specs.Encoding.{Spelled, number, constant, signed_of, octet_bytes, vector_bytes, sized_bytes, section_bytes}
+use Rattle.mw_encode.specs.Encoding.{Spelled, number, constant, signed_of, octet_bytes, vector_bytes, sized_bytes}
+use Rattle.mw_encode.specs.Encoding.{section_bytes}
 use Rattle.mw_encode.proofs.Numbers.{unsigned_below, signed_range, signed_is, number_rises}
 
 pub record Best (P : List ℕ → Type 0) (best : List ℕ) : Type 0 where
@@ -24,7 +27,14 @@ best_octet b = record { spells = λ other p. (p.0, refl); least = λ other p. rw
 
 pub best_then : {P Q : List ℕ → Type 0} {a b : List ℕ} → Best P a → Best Q b → Best (P then Q) (a ++ b)
 best_then {P} {Q} {a} {b} x y = record {
-  spells = λ other p. record { front = a; back = b; whole = refl; first = x.spells p.front p.first; second = y.spells p.back p.second };
+  spells = λ other p. record {
+    front = a;
+    back = b;
+    whole = refl;
+    first = x.spells p.front p.first;
+    second =
+        y.spells p.back p.second;
+  };
   least = λ other p. shorter other p;
 }
   where
@@ -46,7 +56,8 @@ best_u32 n = record {
 best_integer : (N n : ℕ) → 1 ≤ N → N ≤ 70 → Best (λ bytes. IsInteger N bytes n) (constant N n)
 best_integer N n w v = record { spells = λ other p. spells other p; least = λ other p. least other p }
   where
-    shortest : (other : List ℕ) (z : ℤ) → IsSigned N other z → IsShortest (λ bytes. IsSigned N bytes z) (shortest_signed z)
+    shortest : (other : List ℕ) (z : ℤ) → IsSigned N other z → IsShortest (λ bytes. IsSigned N bytes z)
+        (shortest_signed z)
     shortest other z p = let r = signed_range other N z p in signed_shortest N z v r.low r.high
 
     spells : (other : List ℕ) → IsInteger N other n → IsInteger N (constant N n) n
@@ -54,7 +65,8 @@ best_integer N n w v = record { spells = λ other p. spells other p; least = λ 
         (z, rw (← f) (shortest other z p).spells, e)
 
     least : (other : List ℕ) → IsInteger N other n → length (constant N n) ≤ length other
-    least other (z, p, e) = let f : z ≡ signed_of N n = signed_is N n z w (signed_range other N z p) e in rw (← f) ((shortest other z p).least other p)
+    least other (z, p, e) = let f : z ≡ signed_of N n = signed_is N n z w (signed_range other N z p) e in
+        rw (← f) ((shortest other z p).least other p)
 
 pub best_i32 : (n : ℕ) → Best (i32 n) (constant 32 n)
 best_i32 n = best_integer 32 n (omega arith) (omega arith)
@@ -62,36 +74,56 @@ best_i32 n = best_integer 32 n (omega arith) (omega arith)
 pub best_i64 : (n : ℕ) → Best (i64 n) (constant 64 n)
 best_i64 n = best_integer 64 n (omega arith) (omega arith)
 
-pub best_items : {A : Type 0} (P : A → Piece) (f : A → List ℕ) → ((x : A) → Best (P x) (f x)) → (xs : List A) → Best (items P xs) (flat_map f xs)
+pub best_items : {A : Type 0} (P : A → Piece) (f : A → List ℕ) → ((x : A) → Best (P x) (f x)) → (xs : List A)
+    → Best (items P xs) (flat_map f xs)
 best_items P f each [] = best_exactly []
 best_items P f each (x ∷ xs) = best_then (each x) (best_items P f each xs)
 
-pub best_vector : {A : Type 0} (P : A → Piece) (f : A → List ℕ) → ((x : A) → Best (P x) (f x)) → (xs : List A) → Best (vector P xs) (vector_bytes f xs)
+pub best_vector : {A : Type 0} (P : A → Piece) (f : A → List ℕ) → ((x : A) → Best (P x) (f x)) → (xs : List A)
+    → Best (vector P xs) (vector_bytes f xs)
 best_vector P f each xs = best_then (best_u32 (length xs)) (best_items P f each xs)
 
 pub best_sized : {P : List ℕ → Type 0} {a : List ℕ} → Best P a → Best (sized P) (sized_bytes a)
 best_sized {P} {a} x = record { spells = λ other p. spells other p; least = λ other p. least other p }
   where
     small : (other : List ℕ) → Sized P other → length a < 2 ^ 32
-    small other p = let l : length a ≤ length p.content = x.least p.content p.inside in let h : length p.content < 2 ^ 32 = unsigned_below p.size 32 (length p.content) p.counted in omega arith
+    small other p = let l : length a ≤ length p.content = x.least p.content p.inside in let h : length p.content
+        < 2 ^ 32 = unsigned_below p.size 32 (length p.content) p.counted in omega arith
 
     spells : (other : List ℕ) → Sized P other → Sized P (sized_bytes a)
-    spells other p = record { size = number (length a); content = a; whole = refl; counted = (unsigned_shortest 32 (length a) (omega arith) (small other p)).spells; inside = x.spells p.content p.inside }
+    spells other p =
+        record {
+          size = number (length a);
+          content = a;
+          whole = refl;
+          counted =
+              (unsigned_shortest 32 (length a) (omega arith) (small other p)).spells;
+          inside = x.spells p.content p.inside;
+        }
 
     least : (other : List ℕ) → Sized P other → length (sized_bytes a) ≤ length other
     least other p =
         let l : length a ≤ length p.content = x.least p.content p.inside in
-        let m : length (number (length a)) ≤ length (number (length p.content)) = number_rises (length a) (length p.content) l in
-        let n : length (number (length p.content)) ≤ length p.size = (best_u32 (length p.content)).least p.size p.counted in
+        let m : length (number (length a)) ≤ length (number (length p.content)) =
+        number_rises (length a) (length p.content) l in
+        let n : length (number (length p.content)) ≤ length p.size = (best_u32 (length p.content)).least p.size
+        p.counted in
         rw (p.whole, length-append (number (length a)) a, length-append p.size p.content) (omega arith)
 
 -- what a size bounds
 pub content_small : {P : List ℕ → Type 0} {a : List ℕ} → Best P a → Spelled (sized P) → length a < 2 ^ 32
-content_small x s = let p = s.spell in let l = x.least p.content p.inside in let h = unsigned_below p.size 32 (length p.content) p.counted in omega (arith, l, h)
+content_small x s = let p = s.spell in let l = x.least p.content p.inside in let h =
+    unsigned_below p.size 32 (length p.content) p.counted in omega (arith, l, h)
 
-pub best_section : {A : Type 0} (id : ℕ) (P : A → Piece) (f : A → List ℕ) → ((x : A) → Best (P x) (f x)) → (xs : List A) → Best (section id P xs) (section_bytes id f xs)
+pub best_section : {A : Type 0} (id : ℕ) (P : A → Piece) (f : A → List ℕ) → ((x : A) → Best (P x) (f x)) → (xs : List A)
+    → Best (section id P xs) (section_bytes id f xs)
 best_section id P f each [] = record { spells = λ other p. inl (refl, refl); least = λ other p. omega arith }
-best_section id P f each (x ∷ xs) = record { spells = λ other p. inr (there.spells other (stands other p)); least = λ other p. there.least other (stands other p) }
+best_section id P f each (x ∷ xs) =
+    record {
+      spells = λ other p. inr (there.spells other (stands other p));
+      least = λ other p.
+          there.least other (stands other p);
+    }
   where
     there : Best (byte id then sized (vector P (x ∷ xs))) (section_bytes id f (x ∷ xs))
     there = best_then (best_byte id) (best_sized (best_vector P f each (x ∷ xs)))
@@ -100,8 +132,14 @@ best_section id P f each (x ∷ xs) = record { spells = λ other p. inr (there.s
     stands other (inl p) = absurd (let e : x ∷ xs ≡ [] = p.0 in cc)
     stands other (inr p) = p
 
-pub best_or_left : {P Q : List ℕ → Type 0} {a : List ℕ} → Best P a → P a → ((other : List ℕ) → Q other → length a ≤ length other) → Best (P or Q) a
-best_or_left {P} {Q} {a} x spelled second = record { spells = λ other p. inl spelled; least = λ other p. elim p [ inl l ↦ x.least other l | inr r ↦ second other r ] }
+pub best_or_left : {P Q : List ℕ → Type 0} {a : List ℕ} → Best P a → P a
+    → ((other : List ℕ) → Q other → length a ≤ length other) → Best (P or Q) a
+best_or_left {P} {Q} {a} x spelled second =
+    record {
+      spells = λ other p. inl spelled;
+      least = λ other p.
+          elim p [ inl l ↦ x.least other l | inr r ↦ second other r ];
+    }
 
 pub best_or_right : {P Q : List ℕ → Type 0} {a : List ℕ} → ((other : List ℕ) → P other → ⊥) → Best Q a → Best (P or Q) a
 best_or_right {P} {Q} {a} none x = record {

@@ -2,11 +2,17 @@
 use Rattle.std.proofs.Common.{◌≡◌, ℕ, ◌≤◌, List, [], ◌∷◌, ◌++◌, length, Option, Some, None, refl, arith}
 use Rattle.mw_wasm.specs.declared.values.ValType.{ValType}
 use Rattle.mw_wasm.specs.declared.values.ValType.TheVariants as value
-use Rattle.mw_wasm.specs.Syntax.{Instruction, Code, unreachable, nop, block, loop, cond, br, br_if, br_table, give_back, call, call_indirect, drop_value, select, local_get, local_set, local_tee, global_get, global_set, load, store, memory_size, memory_grow, const_i32, const_i64, numeric, end, next}
+use Rattle.mw_wasm.specs.Syntax.{Instruction, Code, unreachable, nop, block, loop, cond, br, br_if, br_table, give_back}
+use Rattle.mw_wasm.specs.Syntax.{call, call_indirect, drop_value, select, local_get, local_set, local_tee, global_get}
+use Rattle.mw_wasm.specs.Syntax.{global_set, load, store, memory_size, memory_grow, const_i32, const_i64, numeric, end}
+use Rattle.mw_wasm.specs.Syntax.{next}
 use Rattle.mw_wasm.specs.Pieces.{byte, ◌then◌, ◌or◌, ◌when◌, u32}
-use Rattle.mw_wasm.specs.BinaryInstructions.{value_type, block_type, load_opcode, store_opcode, opcode_of_number, instruction, code, expression}
-use Rattle.mw_encode.specs.Encoding.{number, value_type_bytes, block_type_byte, instruction_bytes, code_bytes, else_bytes, expression_bytes}
-use Rattle.mw_encode.proofs.Best.{Best, best_exactly, best_byte, best_then, best_u32, best_i32, best_i64, best_vector, best_when, best_or_left, best_or_right}
+use Rattle.mw_wasm.specs.BinaryInstructions.{value_type, block_type, load_opcode, store_opcode, opcode_of_number}
+use Rattle.mw_wasm.specs.BinaryInstructions.{instruction, code, expression}
+use Rattle.mw_encode.specs.Encoding.{number, value_type_bytes, block_type_byte, instruction_bytes, code_bytes}
+use Rattle.mw_encode.specs.Encoding.{else_bytes, expression_bytes}
+use Rattle.mw_encode.proofs.Best.{Best, best_exactly, best_byte, best_then, best_u32, best_i32, best_i64, best_vector}
+use Rattle.mw_encode.proofs.Best.{best_when, best_or_left, best_or_right}
 
 pub best_value_type : (t : ValType) → Best (value_type t) (value_type_bytes t)
 best_value_type value.I32 = best_byte 0x7F
@@ -30,12 +36,16 @@ mutual
   pub best_instruction : (i : Instruction) → Best (instruction i) (instruction_bytes i)
   best_instruction unreachable = best_byte 0x00
   best_instruction nop = best_byte 0x01
-  best_instruction (block t body) = best_then (best_byte 0x02) (best_then (best_block_type t) (best_then (best_code body) (best_byte 0x0B)))
-  best_instruction (loop t body) = best_then (best_byte 0x03) (best_then (best_block_type t) (best_then (best_code body) (best_byte 0x0B)))
-  best_instruction (cond t a b) = best_then (best_byte 0x04) (best_then (best_block_type t) (best_then (best_code a) (best_else b)))
+  best_instruction (block t body) =
+      best_then (best_byte 0x02) (best_then (best_block_type t) (best_then (best_code body) (best_byte 0x0B)))
+  best_instruction (loop t body) =
+      best_then (best_byte 0x03) (best_then (best_block_type t) (best_then (best_code body) (best_byte 0x0B)))
+  best_instruction (cond t a b) =
+      best_then (best_byte 0x04) (best_then (best_block_type t) (best_then (best_code a) (best_else b)))
   best_instruction (br l) = indexed 0x0C l
   best_instruction (br_if l) = indexed 0x0D l
-  best_instruction (br_table ls l) = best_then (best_byte 0x0E) (best_then (best_vector u32 number best_u32 ls) (best_u32 l))
+  best_instruction (br_table ls l) =
+      best_then (best_byte 0x0E) (best_then (best_vector u32 number best_u32 ls) (best_u32 l))
   best_instruction give_back = best_byte 0x0F
   best_instruction (call f) = indexed 0x10 f
   best_instruction (call_indirect t) = best_then (best_byte 0x11) (best_then (best_u32 t) (best_byte 0x00))
@@ -60,7 +70,8 @@ mutual
 
   best_else : (c : Code) → Best (byte 0x0B when (c ≡ end) or byte 0x05 then code c then byte 0x0B) (else_bytes c)
   best_else end = best_or_left (best_when (best_byte 0x0B)) (refl, refl) (λ other p. behind_five _ other p)
-  best_else (next i c) = best_or_right (λ other p. let e : next i c ≡ end = p.0 in cc) (best_then (best_byte 0x05) (best_then (best_then (best_instruction i) (best_code c)) (best_byte 0x0B)))
+  best_else (next i c) = best_or_right (λ other p. let e : next i c ≡ end = p.0 in cc)
+      (best_then (best_byte 0x05) (best_then (best_then (best_instruction i) (best_code c)) (best_byte 0x0B)))
 
 pub best_expression : (c : Code) → Best (expression c) (expression_bytes c)
 best_expression c = best_then (best_code c) (best_byte 0x0B)

@@ -1,5 +1,6 @@
 -- The canonical bytes of modules.
-use Rattle.std.proofs.Common.{◌≡◌, ℕ, List, [], ◌∷◌, ◌++◌, Bool, true, false, Option, Some, None, append_assoc, append-nil, refl, arith}
+use Rattle.std.proofs.Common.{◌≡◌, ℕ, List, [], ◌∷◌, ◌++◌, Bool, true, false, Option, Some, None, append_assoc}
+use Rattle.std.proofs.Common.{append-nil, refl, arith}
 use Rattle.mw_wasm.specs.declared.modules.Limits.{Limits}
 use Rattle.mw_wasm.specs.declared.modules.FuncType.{FuncType}
 use Rattle.mw_wasm.specs.declared.modules.Exported.{Exported}
@@ -7,14 +8,22 @@ use Rattle.mw_wasm.specs.declared.modules.Exported.TheVariants.{Func, Table, Mem
 use Rattle.mw_wasm.specs.Syntax.{Function, Global, Exporting, ElementSegment, DataSegment, PureModule}
 use Rattle.mw_wasm.specs.Pieces.{octet, u32}
 use Rattle.mw_wasm.specs.BinaryInstructions.{value_type}
-use Rattle.mw_wasm.specs.BinaryModules.{function_type, limits_of, limits, table, mutability, global, function_kind, exported, export, element, data_segment, function_code, import_section, customs, at_most_one, Spells}
-use Rattle.mw_encode.specs.Encoding.{number, value_type_bytes, octet_bytes, function_type_bytes, limits_of_bytes, limits_bytes, table_bytes, mutability_byte, global_bytes, function_kind_bytes, exported_bytes, export_bytes, element_bytes, segment_bytes, function_code_bytes, header_bytes, encoding, EncodingIsShortest}
-use Rattle.mw_encode.proofs.Best.{Best, best_exactly, best_byte, best_octet, best_then, best_u32, best_vector, best_sized, best_section, best_or_left}
+use Rattle.mw_wasm.specs.BinaryModules.{function_type, limits_of, limits, table, mutability, global, function_kind}
+use Rattle.mw_wasm.specs.BinaryModules.{exported, export, element, data_segment, function_code, import_section, customs}
+use Rattle.mw_wasm.specs.BinaryModules.{at_most_one, Spells}
+use Rattle.mw_encode.specs.Encoding.{number, value_type_bytes, octet_bytes, function_type_bytes, limits_of_bytes}
+use Rattle.mw_encode.specs.Encoding.{limits_bytes, table_bytes, mutability_byte, global_bytes, function_kind_bytes}
+use Rattle.mw_encode.specs.Encoding.{exported_bytes, export_bytes, element_bytes, segment_bytes, function_code_bytes}
+use Rattle.mw_encode.specs.Encoding.{header_bytes, encoding, EncodingIsShortest}
+use Rattle.mw_encode.proofs.Best.{Best, best_exactly, best_byte, best_octet, best_then, best_u32, best_vector}
+use Rattle.mw_encode.proofs.Best.{best_sized, best_section, best_or_left}
 use Rattle.mw_encode.proofs.BestInstructions.{best_value_type, best_expression}
 use Rattle.mw_encode.proofs.BestLocals.{best_locals}
 
 pub best_function_type : (t : FuncType) → Best (function_type t) (function_type_bytes t)
-best_function_type t = best_then (best_byte 0x60) (best_then (best_vector value_type value_type_bytes best_value_type t.params) (best_vector value_type value_type_bytes best_value_type t.results))
+best_function_type t =
+    best_then (best_byte 0x60) (best_then (best_vector value_type value_type_bytes best_value_type t.params)
+    (best_vector value_type value_type_bytes best_value_type t.results))
 
 best_limits_of : (min : ℕ) (max : Option ℕ) → Best (limits_of min max) (limits_of_bytes min max)
 best_limits_of min None = best_then (best_byte 0x00) (best_u32 min)
@@ -49,7 +58,8 @@ pub best_element : (e : ElementSegment) → Best (element e) (element_bytes e)
 best_element e = best_then (best_u32 0) (best_then (best_expression e.offset) (best_vector u32 number best_u32 e.funcs))
 
 pub best_segment : (d : DataSegment) → Best (data_segment d) (segment_bytes d)
-best_segment d = best_then (best_u32 0) (best_then (best_expression d.offset) (best_vector octet octet_bytes best_octet d.bytes))
+best_segment d =
+    best_then (best_u32 0) (best_then (best_expression d.offset) (best_vector octet octet_bytes best_octet d.bytes))
 
 pub best_function_code : (f : Function) → Best (function_code f) (function_code_bytes f)
 best_function_code f = best_sized (best_then (best_locals f.locals) (best_expression f.body))
@@ -60,7 +70,8 @@ best_import = best_or_left (best_exactly []) refl (λ other p. omega arith)
 best_customs : Best customs []
 best_customs = record { spells = λ other p. record { contents = []; spelled = refl }; least = λ other p. omega arith }
 
-regroup : (h a b c d e f g i j : List ℕ) → h ++ a ++ b ++ c ++ d ++ e ++ f ++ g ++ i ++ j ≡ h ++ (a ++ (b ++ (c ++ (d ++ (e ++ (f ++ (g ++ (i ++ (j ++ [])))))))))
+regroup : (h a b c d e f g i j : List ℕ) → h ++ a ++ b ++ c ++ d ++ e ++ f ++ g ++ i ++ j ≡ h
+    ++ (a ++ (b ++ (c ++ (d ++ (e ++ (f ++ (g ++ (i ++ (j ++ [])))))))))
 regroup h a b c d e f g i j = simp (append_assoc, append-nil)
 
 pub best_module : (m : PureModule) → Best (λ bytes. Spells bytes m) (encoding m)
@@ -75,7 +86,8 @@ best_module m = rw (regroup _ _ _ _ _ _ _ _ _ _)
     (best_then best_customs (best_then (best_section 7 export export_bytes best_export m.exports)
     (best_then best_customs (best_then (best_section 9 element element_bytes best_element m.elements)
     (best_then best_customs (best_then (best_section 10 function_code function_code_bytes best_function_code m.funcs)
-    (best_then best_customs (best_then (best_section 11 data_segment segment_bytes best_segment m.segments) best_customs)))))))))))))))))))))
+    (best_then best_customs (best_then (best_section 11 data_segment segment_bytes best_segment m.segments)
+    best_customs)))))))))))))))))))))
 
 pub encoding_shortest : EncodingIsShortest
 encoding_shortest m bytes p = let b = best_module m in (b.spells bytes p, b.least bytes p)

@@ -1,7 +1,8 @@
 -- The sections of a module that is spelled.
 use Rattle.std.proofs.Common.{◌≡◌, ℕ, List}
 use Rattle.mw_wasm.specs.Syntax.{PureModule}
-use Rattle.mw_wasm.specs.BinaryModules.{section, function_type, function_kind, table, limits, global, export, element, function_code, data_segment, at_most_one, Spells}
+use Rattle.mw_wasm.specs.BinaryModules.{section, function_type, function_kind, table, limits, global, export, element}
+use Rattle.mw_wasm.specs.BinaryModules.{function_code, data_segment, at_most_one, Spells}
 use Rattle.mw_encode.specs.Encoding.{Spelled, encoding}
 use Rattle.mw_encode.proofs.BestModules.{best_module}
 
@@ -39,5 +40,6 @@ sections_of m (bytes, p) =
       segments = record { bytes = _; spell = p11.first };
     }
 
-pub encoding_spells : (m : PureModule) (bytes : List ℕ) → (other : List ℕ) × Spells other m → bytes ≡ encoding m → Spells bytes m
+pub encoding_spells : (m : PureModule) (bytes : List ℕ) → (other : List ℕ) × Spells other m → bytes ≡ encoding m
+    → Spells bytes m
 encoding_spells m bytes (other, p) e = rw e ((best_module m).spells other p)

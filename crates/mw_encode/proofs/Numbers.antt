@@ -1,5 +1,6 @@
 -- Numbers: what their spellings bound, and how long the shortest ones are.
-use Rattle.std.proofs.Common.{◌≡◌, ℕ, zero, suc, ◌+◌, ◌-◌, ◌*◌, ◌/◌, ◌^◌, ◌<◌, ◌≤◌, ℤ, pos, negsuc, ◌≤ℤ◌, ◌<ℤ◌, ◌+ℤ◌, ◌-ℤ◌, ◌*ℤ◌, true, false, nat_lt, inl, inr, List, [], ◌∷◌, length, refl, ap, ◌∙◌, arith}
+use Rattle.std.proofs.Common.{◌≡◌, ℕ, zero, suc, ◌+◌, ◌-◌, ◌*◌, ◌/◌, ◌^◌, ◌<◌, ◌≤◌, ℤ, pos, negsuc, ◌≤ℤ◌, ◌<ℤ◌, ◌+ℤ◌}
+use Rattle.std.proofs.Common.{◌-ℤ◌, ◌*ℤ◌, true, false, nat_lt, inl, inr, List, [], ◌∷◌, length, refl, ap, ◌∙◌, arith}
 use Rattle.std.proofs.lemmas.Int.{ints}
 use Rattle.std.proofs.lemmas.Nat.{pow-add}
 use Rattle.std.proofs.Math.Nat.{pow-le-pow_right}
@@ -26,7 +27,8 @@ pub record InRange (H : ℕ) (z : ℤ) : Type 0 where
 
 pub signed_range : (bytes : List ℕ) (N : ℕ) (z : ℤ) → IsSigned N bytes z → InRange (2 ^ (N - 1)) z
 signed_range [] N z p = absurd p
-signed_range (b ∷ []) N z (inl p) = let e : z ≡ pos b = p.2 in let g : b < 2 ^ (N - 1) = p.1 in record { low = omega (arith, ints); high = omega (arith, ints) }
+signed_range (b ∷ []) N z (inl p) = let e : z ≡ pos b = p.2 in let g : b < 2 ^ (N - 1) = p.1 in
+    record { low = omega (arith, ints); high = omega (arith, ints) }
 signed_range (b ∷ []) N z (inr p) =
     let e : z ≡ pos b -ℤ pos 128 = p.3 in
     let g : 128 ≤ b + 2 ^ (N - 1) = p.2 in
@@ -36,12 +38,14 @@ signed_range (b ∷ []) N z (inr p) =
 signed_range (b ∷ c ∷ bs) N z (low, high, w, (m, rest, e)) =
     let r = signed_range (c ∷ bs) (N - 7) m rest in
     let H : ℕ = 2 ^ (N - 7 - 1) in
-    let f : 2 ^ (N - 1) ≡ 128 * 2 ^ (N - 7 - 1) = ap (λ x. 2 ^ x) (let k : N - 1 ≡ (N - 7 - 1) + 7 = omega arith in k) ∙ power_seven (N - 7 - 1) in
+    let f : 2 ^ (N - 1) ≡ 128 * 2 ^ (N - 7 - 1) = ap (λ x. 2 ^ x) (let k : N - 1 ≡ (N - 7 - 1) + 7 = omega arith in k)
+    ∙ power_seven (N - 7 - 1) in
     let rl : (pos 0 -ℤ pos (2 ^ (N - 7 - 1))) ≤ℤ m = r.low in
     let rh : m <ℤ pos (2 ^ (N - 7 - 1)) = r.high in
     by_sums (2 ^ (N - 7 - 1)) (2 ^ (N - 1)) b m z f low high rl rh e
   where
-    by_sums : (H G b : ℕ) (m z : ℤ) → G ≡ 128 * H → 128 ≤ b → b < 256 → (pos 0 -ℤ pos H) ≤ℤ m → m <ℤ pos H → z ≡ (pos 128 *ℤ m) +ℤ pos (b - 128) → InRange G z
+    by_sums : (H G b : ℕ) (m z : ℤ) → G ≡ 128 * H → 128 ≤ b → b < 256 → (pos 0 -ℤ pos H) ≤ℤ m → m <ℤ pos H
+        → z ≡ (pos 128 *ℤ m) +ℤ pos (b - 128) → InRange G z
     by_sums H G b m z f low high rl rh e = record { low = omega (arith, ints); high = omega (arith, ints) }
 
 test_true : (a b : ℕ) → a < b → nat_lt a b ≡ true
@@ -92,7 +96,8 @@ rising zero m n h = rw (groups_end 128 false m, groups_end 128 false n) (omega a
 rising (suc k) m n h = elim (either m 128) [
   | inl low ↦ rw (groups_last 128 false (suc k) m low) (one_at_least (suc k) n)
   | inr high ↦
-      let r : length (groups 128 false k (m / 128)) ≤ length (groups 128 false k (n / 128)) = rising k (m / 128) (n / 128) (omega arith) in
+      let r : length (groups 128 false k (m / 128)) ≤ length (groups 128 false k (n / 128)) =
+      rising k (m / 128) (n / 128) (omega arith) in
       rw (groups_more 128 false k m high, groups_more 128 false k n (let g : 128 ≤ n = omega arith in g)) (omega arith)
 ]
 
@@ -101,13 +106,16 @@ deeper zero n = rw (groups_end 128 false n) (one_at_least 1 n)
 deeper (suc k) n = elim (either n 128) [
   | inl low ↦ rw (groups_last 128 false (suc k) n low) (one_at_least (suc (suc k)) n)
   | inr high ↦
-      let r : length (groups 128 false k (n / 128)) ≤ length (groups 128 false (suc k) (n / 128)) = deeper k (n / 128) in
+      let r : length (groups 128 false k (n / 128)) ≤ length (groups 128 false (suc k) (n / 128)) =
+      deeper k (n / 128) in
       rw (groups_more 128 false k n high, groups_more 128 false (suc k) n high) (omega arith)
 ]
 
-half : (k a b : ℕ) → a ≤ b → length (groups 128 false (suc k) (a + b)) ≤ length (groups 128 false (suc k) a) + length (groups 128 false (suc k) b)
+half : (k a b : ℕ) → a ≤ b → length (groups 128 false (suc k) (a + b)) ≤ length (groups 128 false (suc k) a)
+    + length (groups 128 false (suc k) b)
 half k a b h =
-    let r : length (groups 128 false k ((a + b) / 128)) ≤ length (groups 128 false k b) = rising k ((a + b) / 128) b (omega arith) in
+    let r : length (groups 128 false k ((a + b) / 128)) ≤ length (groups 128 false k b) =
+    rising k ((a + b) / 128) b (omega arith) in
     omega (arith, one_more k (a + b), deeper k b, one_at_least (suc k) a)
 
 pub number_rises : (m n : ℕ) → m ≤ n → length (number m) ≤ length (number n)
@@ -118,5 +126,7 @@ pub number_of_sum : (a b : ℕ) → length (number (a + b)) ≤ length (number a
 unfolding shortest_unsigned
 number_of_sum a b = elim (either a b) [
   | inl h ↦ half 8 a b (omega arith)
-  | inr h ↦ let e : a + b ≡ b + a = omega arith in rw e (let r : length (groups 128 false 9 (b + a)) ≤ length (groups 128 false 9 b) + length (groups 128 false 9 a) = half 8 b a h in omega arith)
+  | inr h ↦ let e : a + b ≡ b + a = omega arith in
+      rw e (let r : length (groups 128 false 9 (b + a)) ≤ length (groups 128 false 9 b)
+      + length (groups 128 false 9 a) = half 8 b a h in omega arith)
 ]

@@ -1,5 +1,6 @@
 -- What the parts of a piece that is spelled are, and how items are written one after another.
-use Rattle.std.proofs.Common.{◌≡◌, ℕ, zero, suc, ◌+◌, ◌^◌, ◌≤◌, ◌<◌, List, [], ◌∷◌, ◌++◌, length, map, drop, get_or, drop-cons, add-one, append_assoc, append-nil, refl, sym, ap, ◌∙◌, inl, inr, arith}
+use Rattle.std.proofs.Common.{◌≡◌, ℕ, zero, suc, ◌+◌, ◌^◌, ◌≤◌, ◌<◌, List, [], ◌∷◌, ◌++◌, length, map, drop, get_or}
+use Rattle.std.proofs.Common.{drop-cons, add-one, append_assoc, append-nil, refl, sym, ap, ◌∙◌, inl, inr, arith}
 use Rattle.std.proofs.lemmas.List.{length-map, map-id}
 use Rattle.std.specs.List.{flat_map}
 use Rattle.mw_wasm.specs.Pieces.{Piece, ◌then◌, items, vector, sized}
@@ -29,17 +30,21 @@ pub record Rest {A : Type 0} (P : A → Piece) (f : A → List ℕ) (rest : List
   pub spelled : Spelled (items P rest)
   pub written : out ++ flat_map f rest ≡ whole
 
-pub rest_start : {A : Type 0} (P : A → Piece) (f : A → List ℕ) (xs : List A) (out : List ℕ) → Spelled (items P xs) → Rest P f xs out (out ++ flat_map f xs)
+pub rest_start : {A : Type 0} (P : A → Piece) (f : A → List ℕ) (xs : List A) (out : List ℕ) → Spelled (items P xs)
+    → Rest P f xs out (out ++ flat_map f xs)
 rest_start P f xs out s = record { spelled = s; written = refl }
 
 -- the next item, and what is left after it
-pub rest_item : {A : Type 0} (P : A → Piece) (f : A → List ℕ) (xs : List A) (k : ℕ) (x : A) (out whole : List ℕ) → k < length xs → x ≡ get_or xs k x → Rest P f (drop k xs) out whole → Spelled (P x)
+pub rest_item : {A : Type 0} (P : A → Piece) (f : A → List ℕ) (xs : List A) (k : ℕ) (x : A) (out whole : List ℕ)
+    → k < length xs → x ≡ get_or xs k x → Rest P f (drop k xs) out whole → Spelled (P x)
 rest_item P f xs k x out whole h e r =
     let split : drop k xs ≡ x ∷ drop (suc k) xs = drop-cons xs k x h ∙ ap (λ y. y ∷ drop (suc k) xs) (sym e) in
     let s : Spelled (items P (x ∷ drop (suc k) xs)) = rw split at r.spelled in
     spelled_first s
 
-pub rest_step : {A : Type 0} (P : A → Piece) (f : A → List ℕ) (xs : List A) (k : ℕ) (x : A) (out more whole : List ℕ) → k < length xs → x ≡ get_or xs k x → more ≡ out ++ f x → Rest P f (drop k xs) out whole → Rest P f (drop (k + 1) xs) more whole
+pub rest_step : {A : Type 0} (P : A → Piece) (f : A → List ℕ) (xs : List A) (k : ℕ) (x : A) (out more whole : List ℕ)
+    → k < length xs → x ≡ get_or xs k x → more ≡ out ++ f x → Rest P f (drop k xs) out whole
+    → Rest P f (drop (k + 1) xs) more whole
 rest_step P f xs k x out more whole h e m r =
     let split : drop k xs ≡ x ∷ drop (suc k) xs = drop-cons xs k x h ∙ ap (λ y. y ∷ drop (suc k) xs) (sym e) in
     let s : Spelled (items P (x ∷ drop (suc k) xs)) = rw split at r.spelled in
@@ -52,29 +57,47 @@ drop_past [] (suc k) h = refl
 drop_past (x ∷ xs) zero h = absurd (omega arith)
 drop_past (x ∷ xs) (suc k) h = drop_past xs k (omega arith)
 
-pub rest_end : {A : Type 0} (P : A → Piece) (f : A → List ℕ) (xs : List A) (k : ℕ) (out whole : List ℕ) → length xs ≤ k → Rest P f (drop k xs) out whole → out ≡ whole
-rest_end P f xs k out whole h r = let e : drop k xs ≡ [] = drop_past xs k h in let w : out ++ [] ≡ whole = rw e at r.written in sym (append-nil out) ∙ w
+pub rest_end : {A : Type 0} (P : A → Piece) (f : A → List ℕ) (xs : List A) (k : ℕ) (out whole : List ℕ) → length xs ≤ k
+    → Rest P f (drop k xs) out whole → out ≡ whole
+rest_end P f xs k out whole h r = let e : drop k xs ≡ [] = drop_past xs k h in let w : out ++ [] ≡ whole =
+    rw e at r.written in sym (append-nil out) ∙ w
 
 -- a vector, after its count
-pub vector_start : {A : Type 0} (P : A → Piece) (f : A → List ℕ) (xs : List A) (old out : List ℕ) → Spelled (vector P xs) → out ≡ old ++ number (length xs) → Rest P f xs out (old ++ vector_bytes f xs)
+pub vector_start : {A : Type 0} (P : A → Piece) (f : A → List ℕ) (xs : List A) (old out : List ℕ)
+    → Spelled (vector P xs) → out ≡ old ++ number (length xs) → Rest P f xs out (old ++ vector_bytes f xs)
 vector_start P f xs old out s e = record { spelled = spelled_second s; written = rw (e, append_assoc) refl }
 
 -- items that are seen through a view
-pub viewed_items : {A B : Type 0} (P : B → Piece) (v : A → B) (xs : List A) (bytes : List ℕ) → items P (map v xs) bytes → items (λ x. P (v x)) xs bytes
+pub viewed_items : {A B : Type 0} (P : B → Piece) (v : A → B) (xs : List A) (bytes : List ℕ) → items P (map v xs) bytes
+    → items (λ x. P (v x)) xs bytes
 viewed_items P v [] bytes p = p
-viewed_items P v (x ∷ xs) bytes p = record { front = p.front; back = p.back; whole = p.whole; first = p.first; second = viewed_items P v xs p.back p.second }
+viewed_items P v (x ∷ xs) bytes p = record {
+  front = p.front;
+  back = p.back;
+  whole = p.whole;
+  first = p.first;
+  second =
+      viewed_items P v xs p.back p.second;
+}
 
-pub viewed_bytes : {A B : Type 0} (f : B → List ℕ) (v : A → B) (xs : List A) → flat_map f (map v xs) ≡ flat_map (λ x. f (v x)) xs
+pub viewed_bytes : {A B : Type 0} (f : B → List ℕ) (v : A → B) (xs : List A) → flat_map f (map v xs)
+    ≡ flat_map (λ x. f (v x)) xs
 viewed_bytes f v [] = refl
 viewed_bytes f v (x ∷ xs) = ap (λ t. f (v x) ++ t) (viewed_bytes f v xs)
 
-pub viewed_start : {A B : Type 0} (P : B → Piece) (f : B → List ℕ) (v : A → B) (xs : List A) (old out : List ℕ) → Spelled (vector P (map v xs)) → out ≡ old ++ number (length xs)
+pub viewed_start : {A B : Type 0} (P : B → Piece) (f : B → List ℕ) (v : A → B) (xs : List A) (old out : List ℕ)
+    → Spelled (vector P (map v xs)) → out ≡ old ++ number (length xs)
     → Rest (λ x. P (v x)) (λ x. f (v x)) xs out (old ++ vector_bytes f (map v xs))
 viewed_start P f v xs old out s e =
     let i = spelled_second s in
-    record { spelled = record { bytes = i.bytes; spell = viewed_items P v xs i.bytes i.spell }; written = rw (e, length-map xs v, viewed_bytes f v xs, append_assoc) refl }
+    record {
+      spelled = record { bytes = i.bytes; spell = viewed_items P v xs i.bytes i.spell };
+      written =
+          rw (e, length-map xs v, viewed_bytes f v xs, append_assoc) refl;
+    }
 
-pub viewed_count : {A B : Type 0} (P : B → Piece) (v : A → B) (xs : List A) → Spelled (vector P (map v xs)) → length xs < 2 ^ 32
+pub viewed_count : {A B : Type 0} (P : B → Piece) (v : A → B) (xs : List A) → Spelled (vector P (map v xs))
+    → length xs < 2 ^ 32
 viewed_count P v xs s = let h : length (map v xs) < 2 ^ 32 = spelled_count P (map v xs) s in rw (length-map xs v) at h
 
 -- items that are seen as they are
@@ -82,9 +105,11 @@ pub seen_same : {A : Type 0} (xs : List A) → map (λ x. x) xs ≡ xs
 seen_same xs = map-id xs
 
 -- sections
-pub section_vector : {A : Type 0} (id : ℕ) (P : A → Piece) (xs : List A) → 0 < length xs → Spelled (section id P xs) → Spelled (vector P xs)
+pub section_vector : {A : Type 0} (id : ℕ) (P : A → Piece) (xs : List A) → 0 < length xs → Spelled (section id P xs)
+    → Spelled (vector P xs)
 section_vector id P xs h s = elim s.spell [
-  | inl p ↦ let e : xs ≡ [] = p.0 in absurd (let g : 0 < length xs = h in let k : length xs ≡ 0 = ap length e in omega arith)
+  | inl p ↦ let e : xs ≡ [] = p.0 in absurd (let g : 0 < length xs = h in let k : length xs ≡ 0 = ap length e in
+      omega arith)
   | inr p ↦ record { bytes = p.second.content; spell = p.second.inside }
 ]
 
@@ -92,12 +117,15 @@ pub section_none : {A : Type 0} (id : ℕ) (f : A → List ℕ) (xs : List A) �
 section_none id f [] h = refl
 section_none id f (x ∷ xs) h = absurd (omega arith)
 
-pub section_some : {A : Type 0} (id : ℕ) (f : A → List ℕ) (xs : List A) → 0 < length xs → section_bytes id f xs ≡ id ∷ sized_bytes (vector_bytes f xs)
+pub section_some : {A : Type 0} (id : ℕ) (f : A → List ℕ) (xs : List A) → 0 < length xs → section_bytes id f xs ≡ id
+    ∷ sized_bytes (vector_bytes f xs)
 section_some id f [] h = absurd (omega arith)
 section_some id f (x ∷ xs) h = refl
 
-pub section_small : {A : Type 0} (id : ℕ) (P : A → Piece) (f : A → List ℕ) → ((x : A) → Best (P x) (f x)) → (xs : List A) → 0 < length xs → Spelled (section id P xs) → length (vector_bytes f xs) < 2 ^ 32
+pub section_small : {A : Type 0} (id : ℕ) (P : A → Piece) (f : A → List ℕ) → ((x : A) → Best (P x) (f x))
+    → (xs : List A) → 0 < length xs → Spelled (section id P xs) → length (vector_bytes f xs) < 2 ^ 32
 section_small id P f each xs h s = elim s.spell [
-  | inl p ↦ let e : xs ≡ [] = p.0 in absurd (let g : 0 < length xs = h in let k : length xs ≡ 0 = ap length e in omega arith)
+  | inl p ↦ let e : xs ≡ [] = p.0 in absurd (let g : 0 < length xs = h in let k : length xs ≡ 0 = ap length e in
+      omega arith)
   | inr p ↦ content_small (best_vector P f each xs) (record { bytes = _; spell = p.second })
 ]

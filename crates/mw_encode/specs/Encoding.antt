@@ -1,5 +1,6 @@
 -- The canonical bytes of a module: its shortest spelling, in the order of the format (standard: Binary Format).
-use Rattle.std.specs.Prelude.{ℕ, ◌+◌, ◌-◌, ◌^◌, ◌≤◌, ℤ, pos, negsuc, Bool, true, false, nat_lt, if◌then◌else◌, List, [], ◌∷◌, ◌++◌, length, Option, Some, None}
+use Rattle.std.specs.Prelude.{ℕ, ◌+◌, ◌-◌, ◌^◌, ◌≤◌, ℤ, pos, negsuc, Bool, true, false, nat_lt, if◌then◌else◌, List, []}
+use Rattle.std.specs.Prelude.{◌∷◌, ◌++◌, length, Option, Some, None}
 use Rattle.std.specs.List.{flat_map}
 use Rattle.mw_wasm.specs.declared.values.ValType.{ValType}
 use Rattle.mw_wasm.specs.declared.values.ValType.TheVariants as value
@@ -7,7 +8,10 @@ use Rattle.mw_wasm.specs.declared.modules.Limits.{Limits}
 use Rattle.mw_wasm.specs.declared.modules.FuncType.{FuncType}
 use Rattle.mw_wasm.specs.declared.modules.Exported.{Exported}
 use Rattle.mw_wasm.specs.declared.modules.Exported.TheVariants.{Func, Table, Memory, Global as Variable}
-use Rattle.mw_wasm.specs.Syntax.{Instruction, Code, unreachable, nop, block, loop, cond, br, br_if, br_table, give_back, call, call_indirect, drop_value, select, local_get, local_set, local_tee, global_get, global_set, load, store, memory_size, memory_grow, const_i32, const_i64, numeric, end, next, Function, Global, Exporting, ElementSegment, DataSegment, PureModule}
+use Rattle.mw_wasm.specs.Syntax.{Instruction, Code, unreachable, nop, block, loop, cond, br, br_if, br_table, give_back}
+use Rattle.mw_wasm.specs.Syntax.{call, call_indirect, drop_value, select, local_get, local_set, local_tee, global_get}
+use Rattle.mw_wasm.specs.Syntax.{global_set, load, store, memory_size, memory_grow, const_i32, const_i64, numeric, end}
+use Rattle.mw_wasm.specs.Syntax.{next, Function, Global, Exporting, ElementSegment, DataSegment, PureModule}
 use Rattle.mw_wasm.specs.BinaryInstructions.{load_opcode, store_opcode, opcode_of_number}
 use Rattle.mw_wasm.specs.BinaryModules.{Run, at_most_one, Spells}
 use Rattle.mw_leb.specs.Shortest.{shortest_unsigned, shortest_signed}
@@ -138,7 +142,8 @@ same_type value.I64 value.I64 = true
 
 unfoldable pub runs_from : ValType → ℕ → List ValType → List Run
 runs_from t n [] = record { count = n; kind = t } ∷ []
-runs_from t n (u ∷ us) = if same_type t u then runs_from t (n + 1) us else record { count = n; kind = t } ∷ runs_from u 1 us
+runs_from t n (u ∷ us) = if same_type t u then runs_from t (n + 1) us else record { count = n; kind = t }
+    ∷ runs_from u 1 us
 
 unfoldable pub runs_of : List ValType → List Run
 runs_of [] = []
@@ -188,4 +193,5 @@ encoding m = header_bytes
 
 -- no spelling of a module is shorter than its encoding
 abbrev pub EncodingIsShortest : Type 0
-EncodingIsShortest = (m : PureModule) (bytes : List ℕ) → Spells bytes m → Spells (encoding m) m × (length (encoding m) ≤ length bytes)
+EncodingIsShortest = (m : PureModule) (bytes : List ℕ) → Spells bytes m → Spells (encoding m) m
+    × (length (encoding m) ≤ length bytes)

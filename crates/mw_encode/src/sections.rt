@@ -88,7 +88,8 @@ pub fn put_types(alloc: Global, out: &mut Vec<u8>, list: &FuncTypes) -> Result<(
 
 fn put_all_kinds(out: &mut Vec<u8>, list: &Funcs) -> Result<(), AllocError>
     requires { Spelled (vector function_kind (map function_of list.now)) }
-    ensures { OnOk result (out.new.items ≡ out.old.items ++ vector_bytes function_kind_bytes (map function_of list.now)) }
+    ensures { OnOk result
+        (out.new.items ≡ out.old.items ++ vector_bytes function_kind_bytes (map function_of list.now)) }
 {
     put_count(out, list.len())?;
     let items = list.as_slice();
@@ -101,7 +102,8 @@ fn put_all_kinds(out: &mut Vec<u8>, list: &Funcs) -> Result<(), AllocError>
 /// Appends the section of the functions' types.
 pub fn put_kinds(alloc: Global, out: &mut Vec<u8>, list: &Funcs) -> Result<(), AllocError>
     requires { Spelled (section 3 function_kind (map function_of list.now)) }
-    ensures { OnOk result (out.new.items ≡ out.old.items ++ section_bytes 3 function_kind_bytes (map function_of list.now)) }
+    ensures { OnOk result
+        (out.new.items ≡ out.old.items ++ section_bytes 3 function_kind_bytes (map function_of list.now)) }
 {
     if list.len() == 0 {
         return Ok(());
@@ -138,7 +140,8 @@ pub fn put_elements(alloc: Global, out: &mut Vec<u8>, list: &Elements) -> Result
 /// Appends the section of the functions' locals and bodies.
 pub fn put_bodies(alloc: Global, out: &mut Vec<u8>, list: &Funcs) -> Result<(), AllocError>
     requires { Spelled (section 10 function_code (map function_of list.now)) }
-    ensures { OnOk result (out.new.items ≡ out.old.items ++ section_bytes 10 function_code_bytes (map function_of list.now)) }
+    ensures { OnOk result
+        (out.new.items ≡ out.old.items ++ section_bytes 10 function_code_bytes (map function_of list.now)) }
 {
     put_items(alloc, out, 10, list.as_slice())
 }

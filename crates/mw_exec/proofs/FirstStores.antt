@@ -1,5 +1,7 @@
 -- What an instance begins with.
-use Rattle.std.proofs.Common.{◌≡◌, ◌≤◌, ◌<◌, ℕ, zero, suc, ◌+◌, ◌-◌, Bool, true, false, List, [], ◌∷◌, ◌++◌, length, take, drop, map, refl, sym, ap, ◌∙◌, subst, Option, Some, None, arith, get_or, set, inl, inr}
+use Rattle.std.proofs.Common.{◌≡◌, ◌≤◌, ◌<◌, ℕ, zero, suc, ◌+◌, ◌-◌, Bool, true, false, List, [], ◌∷◌, ◌++◌, length}
+use Rattle.std.proofs.Common.{take, drop, map, refl, sym, ap, ◌∙◌, subst, Option, Some, None, arith, get_or, set, inl}
+use Rattle.std.proofs.Common.{inr}
 use Rattle.std.specs.Prelude.{slice_get, not, position, nat_le, ◌&&◌, if◌then◌else◌}
 use Rattle.std.specs.List.{position_from, AllByRecursion}
 use Rattle.std.proofs.Math.Path.{fun_ext}
@@ -24,7 +26,8 @@ use Rattle.mw_wasm.specs.Syntax.{Code, const_i32, const_i64, end, next, Global}
 use Rattle.mw_wasm.specs.Act.{constant}
 use Rattle.mw_wasm.specs.Store.{Memory, Store, is_among}
 use Rattle.mw_wasm.specs.Validity.{IsConstantOf}
-use Rattle.mw_wasm.specs.Instances.{constant_expression, first_value, first_table, first_memory, offset_of, with_elements, with_segment, with_segments}
+use Rattle.mw_wasm.specs.Instances.{constant_expression, first_value, first_table, first_memory, offset_of}
+use Rattle.mw_wasm.specs.Instances.{with_elements, with_segment, with_segments}
 use Rattle.mw_wasm.specs.Views.{instruction_of, list_code, code_of, global_of, element_of, segment_of, module_of}
 use Rattle.mw_exec.specs.declared.held.Held.{Held}
 use Rattle.mw_exec.specs.Views.{memory_of, store_of}
@@ -42,7 +45,8 @@ is_constant I64 c h = absurd h
 same_some : {A : Type 0} {o : Option A} {a b : A} → o ≡ Some a → o ≡ Some b → a ≡ b
 same_some e f = cc
 
-first_constant : (code : List Instr) (x : Instr) (v : Value) → slice_get code 0 ≡ Some x → constant_expression (list_code code) ≡ Some v → constant (instruction_of x) ≡ Some v
+first_constant : (code : List Instr) (x : Instr) (v : Value) → slice_get code 0 ≡ Some x
+    → constant_expression (list_code code) ≡ Some v → constant (instruction_of x) ≡ Some v
 first_constant [] x v e f = absurd (cc)
 first_constant (y ∷ []) x v e f = ap (λ z. constant (instruction_of z)) (same_some e refl) ∙ f
 first_constant (y ∷ z ∷ code) x v e f = absurd (cc)
@@ -51,20 +55,24 @@ module _ (g : GlobalVar) (h : HasFirstValue g) where
   pub one_there : 0 < length g.init.inner.items
   one_there = on g.init.inner.items (is_constant g.kind (code_of g.init) h).1
     where
-      on : (xs : List Instr) → constant_expression (list_code xs) ≡ Some (is_constant g.kind (code_of g.init) h).0 → 0 < length xs
+      on : (xs : List Instr) → constant_expression (list_code xs) ≡ Some (is_constant g.kind (code_of g.init) h).0
+          → 0 < length xs
       on [] e = absurd (cc)
       on (x ∷ xs) e = omega arith
 
-  pub value_is : (x : Instr) (v : Value) → slice_get g.init.inner.items 0 ≡ Some x → constant (instruction_of x) ≡ Some v → v ≡ value_of_global g
+  pub value_is : (x : Instr) (v : Value) → slice_get g.init.inner.items 0 ≡ Some x → constant (instruction_of x)
+      ≡ Some v → v ≡ value_of_global g
   value_is x v e f =
       let c = is_constant g.kind (code_of g.init) h in
       same_some f (first_constant g.init.inner.items x c.0 e c.1) ∙ sym (rw c.1 refl)
 
-  pub is_one : (x : Instr) → slice_get g.init.inner.items 0 ≡ Some x → (v : Value) × (constant (instruction_of x) ≡ Some v)
+  pub is_one : (x : Instr) → slice_get g.init.inner.items 0 ≡ Some x → (v : Value)
+      × (constant (instruction_of x) ≡ Some v)
   is_one x e = let c = is_constant g.kind (code_of g.init) h in (c.0, first_constant g.init.inner.items x c.0 e c.1)
 
 -- no other instruction is a constant
-pub no_constant : (x : Instr) (v : Value) → ((n : ℕ) → x ≡ instr.ConstI32 n → ⊥) → ((n : ℕ) → x ≡ instr.ConstI64 n → ⊥) → constant (instruction_of x) ≡ Some v → ⊥
+pub no_constant : (x : Instr) (v : Value) → ((n : ℕ) → x ≡ instr.ConstI32 n → ⊥) → ((n : ℕ) → x ≡ instr.ConstI64 n → ⊥)
+    → constant (instruction_of x) ≡ Some v → ⊥
 no_constant (instr.ConstI32 n) v p q e = p n refl
 no_constant (instr.ConstI64 n) v p q e = q n refl
 no_constant instr.Unreachable v p q e = absurd (cc)
@@ -92,23 +100,27 @@ no_constant instr.MemoryGrow v p q e = absurd (cc)
 no_constant (instr.Num o) v p q e = absurd (cc)
 
 -- where no item passes a test, none at a place does
-passes_first : {X : Type 0} (test : X → Bool) (y : X) (xs : List X) (j : ℕ) → test y ≡ true → position_from test j (y ∷ xs) ≡ None → ⊥
+passes_first : {X : Type 0} (test : X → Bool) (y : X) (xs : List X) (j : ℕ) → test y ≡ true
+    → position_from test j (y ∷ xs) ≡ None → ⊥
 passes_first test y xs j p e = some_none (rw p at e)
   where
     some_none : Some j ≡ None → ⊥
     some_none q = cc
 
-none_first : {X : Type 0} (test : X → Bool) (y : X) (xs : List X) (j : ℕ) → position_from test j (y ∷ xs) ≡ None → test y ≡ false
+none_first : {X : Type 0} (test : X → Bool) (y : X) (xs : List X) (j : ℕ) → position_from test j (y ∷ xs) ≡ None
+    → test y ≡ false
 none_first test y xs j e = by_test (test y) refl
   where
     by_test : (b : Bool) → test y ≡ b → test y ≡ false
     by_test true p = absurd (passes_first test y xs j p e)
     by_test false p = p
 
-none_left : {X : Type 0} (test : X → Bool) (y : X) (xs : List X) (j : ℕ) → position_from test j (y ∷ xs) ≡ None → position_from test (j + 1) xs ≡ None
+none_left : {X : Type 0} (test : X → Bool) (y : X) (xs : List X) (j : ℕ) → position_from test j (y ∷ xs) ≡ None
+    → position_from test (j + 1) xs ≡ None
 none_left test y xs j e = rw (none_first test y xs j e) at e
 
-none_at : {X : Type 0} (test : X → Bool) (xs : List X) (i j : ℕ) (x : X) → position_from test j xs ≡ None → slice_get xs i ≡ Some x → test x ≡ false
+none_at : {X : Type 0} (test : X → Bool) (xs : List X) (i j : ℕ) (x : X) → position_from test j xs ≡ None
+    → slice_get xs i ≡ Some x → test x ≡ false
 none_at test [] i j x e f = absurd (cc)
 none_at test (y ∷ xs) zero j x e f = ap test (same_some f refl) ∙ none_first test y xs j e
 none_at test (y ∷ xs) (suc i) j x e f = none_at test xs i (j + 1) x (none_left test y xs j e) f
@@ -118,39 +130,53 @@ item_there [] i x lt f = absurd (omega arith)
 item_there (y ∷ xs) zero x lt f = ap (λ z. Some z) (sym f)
 item_there (y ∷ xs) (suc i) x lt f = item_there xs i x (omega arith) f
 
-no_item : {X : Type 0} (test : X → Bool) (xs : List X) (i : ℕ) (x : X) → position test xs ≡ None → i < length xs → x ≡ get_or xs i x → test x ≡ false
+no_item : {X : Type 0} (test : X → Bool) (xs : List X) (i : ℕ) (x : X) → position test xs ≡ None → i < length xs
+    → x ≡ get_or xs i x → test x ≡ false
 no_item test xs i x e lt f = none_at test xs i 0 x (sym (position_from-zero test xs) ∙ e) (item_there xs i x lt f)
 
 fits_from : (b : Bool) → not b ≡ false → b ≡ true
 fits_from true e = refl
 fits_from false e = absurd (cc)
 
-pub element_inside : (es : List Element) (size i : ℕ) (e : Element) → position (element_test size) es ≡ None → i < length es → e ≡ get_or es i e → offset_of (code_of e.offset) + length e.funcs ≤ size
-element_inside es size i e none lt f = leb-true (offset_of (code_of e.offset) + length e.funcs) size (fits_from (ends_in (offset_of (code_of e.offset)) (length e.funcs) size) (no_item (element_test size) es i e none lt f))
+pub element_inside : (es : List Element) (size i : ℕ) (e : Element) → position (element_test size) es ≡ None
+    → i < length es → e ≡ get_or es i e → offset_of (code_of e.offset) + length e.funcs ≤ size
+element_inside es size i e none lt f = leb-true (offset_of (code_of e.offset) + length e.funcs) size
+    (fits_from (ends_in (offset_of (code_of e.offset)) (length e.funcs) size)
+    (no_item (element_test size) es i e none lt f))
 
-pub segment_inside : (ss : List Segment) (size i : ℕ) (s : Segment) → position (segment_test size) ss ≡ None → i < length ss → s ≡ get_or ss i s → offset_of (code_of s.offset) + length s.bytes ≤ size
-segment_inside ss size i s none lt f = leb-true (offset_of (code_of s.offset) + length s.bytes) size (fits_from (ends_in (offset_of (code_of s.offset)) (length s.bytes) size) (no_item (segment_test size) ss i s none lt f))
+pub segment_inside : (ss : List Segment) (size i : ℕ) (s : Segment) → position (segment_test size) ss ≡ None
+    → i < length ss → s ≡ get_or ss i s → offset_of (code_of s.offset) + length s.bytes ≤ size
+segment_inside ss size i s none lt f = leb-true (offset_of (code_of s.offset) + length s.bytes) size
+    (fits_from (ends_in (offset_of (code_of s.offset)) (length s.bytes) size)
+    (no_item (segment_test size) ss i s none lt f))
 
 -- items written into a list from a place on
 pub pasted_first : {X : Type 0} (old : List X) (at : ℕ) (xs : List X) → old ≡ paste old at xs 0
 pasted_first old at xs = paste-zero old at xs
 
-pub pasted_more : {X : Type 0} (old now ys : List X) (at i : ℕ) (xs : List X) (x d : X) → now ≡ paste old at xs i → at + length xs ≤ length old → i < length xs → x ≡ get_or xs i d → ys ≡ set now (at + i) x → ys ≡ paste old at xs (i + 1)
+pub pasted_more : {X : Type 0} (old now ys : List X) (at i : ℕ) (xs : List X) (x d : X) → now ≡ paste old at xs i
+    → at + length xs ≤ length old → i < length xs → x ≡ get_or xs i d → ys ≡ set now (at + i) x
+    → ys ≡ paste old at xs (i + 1)
 pasted_more old now ys at i xs x d e le lt f g =
-    g ∙ (ap (λ zs. set zs (at + i) x) e ∙ (ap (λ z. set (paste old at xs i) (at + i) z) f ∙ (paste-suc old at xs i d (omega arith) lt ∙ ap (λ k. paste old at xs k) (sym (next_place i)))))
+    g ∙ (ap (λ zs. set zs (at + i) x) e
+    ∙ (ap (λ z. set (paste old at xs i) (at + i) z) f
+    ∙ (paste-suc old at xs i d (omega arith) lt ∙ ap (λ k. paste old at xs k) (sym (next_place i)))))
   where
     next_place : (i : ℕ) → i + 1 ≡ suc i
     next_place i = omega arith
 
-pub pasted_all : {X : Type 0} (old now : List X) (at i : ℕ) (xs : List X) → now ≡ paste old at xs i → length xs ≤ i → i ≤ length xs → now ≡ take at old ++ xs ++ drop (at + length xs) old
-pasted_all old now at i xs e le ge = e ∙ (ap (λ k. paste old at xs k) same ∙ ap (λ ys. take at old ++ ys ++ drop (at + length xs) old) (take-length xs))
+pub pasted_all : {X : Type 0} (old now : List X) (at i : ℕ) (xs : List X) → now ≡ paste old at xs i → length xs ≤ i
+    → i ≤ length xs → now ≡ take at old ++ xs ++ drop (at + length xs) old
+pasted_all old now at i xs e le ge =
+    e ∙ (ap (λ k. paste old at xs k) same ∙ ap (λ ys. take at old ++ ys ++ drop (at + length xs) old) (take-length xs))
   where
     same : i ≡ length xs
     same = omega arith
 
 module _ {X : Type 0} (ys : List X) (at : ℕ) (xs : List X) (le : at + length xs ≤ length ys) where
   pub length_placed : length (take at ys ++ xs ++ drop (at + length xs) ys) ≡ length ys
-  length_placed = ap (λ zs. length (take at ys ++ zs ++ drop (at + length xs) ys)) (sym (take-length xs)) ∙ length-paste ys at xs (length xs) le (omega arith)
+  length_placed = ap (λ zs. length (take at ys ++ zs ++ drop (at + length xs) ys)) (sym (take-length xs))
+      ∙ length-paste ys at xs (length xs) le (omega arith)
 
   length_taken : length (take at ys) ≡ at
   length_taken = omega (arith, length-take at ys)
@@ -163,12 +189,15 @@ module _ {X : Type 0} (ys : List X) (at : ℕ) (xs : List X) (le : at + length x
       get_or_append_left (take at ys ++ xs) (drop (at + length xs) ys) d a (omega (arith, length_front))
       ∙ (get_or_append_left (take at ys) xs d a (omega (arith, length_taken)) ∙ get_or-take at ys a d lt)
 
-  placed_inside : (a : ℕ) (d : X) → at ≤ a → a < at + length xs → get_or (take at ys ++ xs ++ drop (at + length xs) ys) a d ≡ get_or xs (a - at) d
+  placed_inside : (a : ℕ) (d : X) → at ≤ a → a < at + length xs → get_or (take at ys ++ xs ++ drop (at + length xs) ys)
+      a d ≡ get_or xs (a - at) d
   placed_inside a d ge lt =
       get_or_append_left (take at ys ++ xs) (drop (at + length xs) ys) d a (omega (arith, length_front))
-      ∙ (get_or-append_right (take at ys) xs a d (omega (arith, length_taken)) ∙ ap (λ n. get_or xs (a - n) d) length_taken)
+      ∙ (get_or-append_right (take at ys) xs a d (omega (arith, length_taken)) ∙ ap (λ n. get_or xs (a - n) d)
+      length_taken)
 
-  placed_above : (a : ℕ) (d : X) → at + length xs ≤ a → get_or (take at ys ++ xs ++ drop (at + length xs) ys) a d ≡ get_or ys a d
+  placed_above : (a : ℕ) (d : X) → at + length xs ≤ a → get_or (take at ys ++ xs ++ drop (at + length xs) ys) a d
+      ≡ get_or ys a d
   placed_above a d ge =
       get_or-append_right (take at ys ++ xs) (drop (at + length xs) ys) a d (omega (arith, length_front))
       ∙ (ap (λ n. get_or (drop (at + length xs) ys) (a - n) d) length_front
@@ -190,11 +219,13 @@ past at k a ge = ap (λ b. nat_le at a && b) (le-ltb a (at + k) ge) ∙ no_and (
     no_and true = refl
     no_and false = refl
 
-pub placed_bytes : (at : ℕ) (segment old mid new : List ℕ) → ((a : ℕ) → get_or mid a 0 ≡ get_or old a 0) → at + length segment ≤ length mid
+pub placed_bytes : (at : ℕ) (segment old mid new : List ℕ) → ((a : ℕ) → get_or mid a 0 ≡ get_or old a 0)
+    → at + length segment ≤ length mid
     → new ≡ take at mid ++ segment ++ drop (at + length segment) mid → IsPlaced at segment old new
 placed_bytes at segment old mid new same le e = record { byte = byte }
   where
-    byte : (a : ℕ) → get_or new a 0 ≡ (if is_among (length segment) at a then get_or segment (a - at) 0 else get_or old a 0)
+    byte : (a : ℕ) → get_or new a 0
+        ≡ (if is_among (length segment) at a then get_or segment (a - at) 0 else get_or old a 0)
     byte a = ap (λ zs. get_or zs a 0) e ∙ elim (cases_lt a at) [
       | inl lt ↦ placed_below mid at segment le a 0 lt ∙ (same a ∙ sym (rw (below at (length segment) a lt) refl))
       | inr ge ↦ elim (cases_lt a (at + length segment)) [
@@ -204,10 +235,15 @@ placed_bytes at segment old mid new same le e = record { byte = byte }
     ]
 
 pub placed_nothing : (at : ℕ) (segment old : List ℕ) → length segment ≡ 0 → IsPlaced at segment old old
-placed_nothing at segment old e = record { byte = λ a. sym (ap (λ b. if b then get_or segment (a - at) 0 else get_or old a 0) (none a)) }
+placed_nothing at segment old e =
+    record { byte = λ a. sym (ap (λ b. if b then get_or segment (a - at) 0 else get_or old a 0) (none a)) }
   where
     none : (a : ℕ) → is_among (length segment) at a ≡ false
-    none a = elim (cases_lt a at) [ inl lt ↦ below at (length segment) a lt | inr ge ↦ past at (length segment) a (omega arith) ]
+    none a = elim (cases_lt a at) [
+      | inl lt ↦ below at (length segment) a lt
+      | inr ge ↦ past at (length segment) a
+          (omega arith)
+    ]
 
 abbrev memory_at : ℕ → (ℕ → ℕ) → Memory
 memory_at n f = record { pages = n; byte_at = f }
@@ -216,7 +252,8 @@ abbrev store_with : List Value → List (Option ℕ) → Memory → Store
 store_with gs ts m = record { globals = gs; table = ts; memory = m }
 
 -- one segment of a memory, and then the others
-pub segment_memory : (s : Segment) (old new : List ℕ) (pages : ℕ) → IsPlaced (offset_of (code_of s.offset)) s.bytes old new → with_segment (memory_of pages old) (segment_of s) ≡ memory_of pages new
+pub segment_memory : (s : Segment) (old new : List ℕ) (pages : ℕ) → IsPlaced (offset_of (code_of s.offset)) s.bytes old
+    new → with_segment (memory_of pages old) (segment_of s) ≡ memory_of pages new
 segment_memory s old new pages p = ap (λ f. memory_at pages f) (sym (fun_ext p.byte))
 
 here : {X : Type 0} (xs : List X) (i : ℕ) (x : X) → i < length xs → x ≡ get_or xs i x → drop i xs ≡ x ∷ drop (i + 1) xs
@@ -233,20 +270,31 @@ nothing_left (x ∷ xs) (suc i) h = nothing_left xs i (omega arith)
 
 -- the data segments before a place are written
 pub record PlacingSegments (size i : ℕ) (ss : List Segment) (old now : List ℕ) : Type 0 where
-  pub placed : (pages : ℕ) → with_segments (memory_of pages old) (map segment_of ss) ≡ with_segments (memory_of pages now) (map segment_of (drop i ss))
+  pub placed : (pages : ℕ) → with_segments (memory_of pages old) (map segment_of ss)
+      ≡ with_segments (memory_of pages now) (map segment_of (drop i ss))
   pub short : length now ≤ size
 
-pub segments_first : (size : ℕ) (ss : List Segment) (old : List ℕ) → length old ≤ size → PlacingSegments size 0 ss old old
+pub segments_first : (size : ℕ) (ss : List Segment) (old : List ℕ) → length old ≤ size
+    → PlacingSegments size 0 ss old old
 segments_first size ss old le = record { placed = λ pages. refl; short = le }
 
-pub segments_more : (size i : ℕ) (ss : List Segment) (s : Segment) (old now new : List ℕ) → PlacingSegments size i ss old now → i < length ss → s ≡ get_or ss i s → IsPlaced (offset_of (code_of s.offset)) s.bytes now new → length new ≤ size → PlacingSegments size (i + 1) ss old new
+pub segments_more : (size i : ℕ) (ss : List Segment) (s : Segment) (old now new : List ℕ)
+    → PlacingSegments size i ss old now → i < length ss → s ≡ get_or ss i s → IsPlaced (offset_of (code_of s.offset))
+    s.bytes now new → length new ≤ size → PlacingSegments size (i + 1) ss old new
 segments_more size i ss s old now new p lt e is le = record {
-  placed = λ pages. p.placed pages ∙ (ap (λ xs. with_segments (memory_of pages now) (map segment_of xs)) (here ss i s lt e) ∙ ap (λ m. with_segments m (map segment_of (drop (i + 1) ss))) (segment_memory s now new pages is));
+  placed = λ pages. p.placed pages
+      ∙ (ap (λ xs. with_segments (memory_of pages now) (map segment_of xs)) (here ss i s lt e)
+      ∙ ap (λ m. with_segments m (map segment_of (drop (i + 1) ss))) (segment_memory s now new pages is));
   short = le;
 }
 
-pub segments_all : (size i : ℕ) (ss : List Segment) (old now : List ℕ) → PlacingSegments size i ss old now → length ss ≤ i → ArePlaced ss old now
-segments_all size i ss old now p le = record { memory = λ pages. p.placed pages ∙ ap (λ xs. with_segments (memory_of pages now) (map segment_of xs)) (nothing_left ss i le) }
+pub segments_all : (size i : ℕ) (ss : List Segment) (old now : List ℕ) → PlacingSegments size i ss old now
+    → length ss ≤ i → ArePlaced ss old now
+segments_all size i ss old now p le =
+    record {
+      memory = λ pages. p.placed pages ∙ ap (λ xs. with_segments (memory_of pages now) (map segment_of xs))
+          (nothing_left ss i le);
+    }
 
 -- the element segments before a place are written
 pub record PlacingElements (i : ℕ) (es : List Element) (old now : List (Option ℕ)) : Type 0 where
@@ -256,22 +304,34 @@ pub record PlacingElements (i : ℕ) (es : List Element) (old now : List (Option
 pub elements_first : (es : List Element) (old : List (Option ℕ)) → PlacingElements 0 es old old
 elements_first es old = record { placed = refl; long = refl }
 
-pub elements_more : (i : ℕ) (es : List Element) (e : Element) (old now new : List (Option ℕ)) → PlacingElements i es old now → i < length es → e ≡ get_or es i e → offset_of (code_of e.offset) + length e.funcs ≤ length old
-    → new ≡ take (offset_of (code_of e.offset)) now ++ map (λ f. Some f) e.funcs ++ drop (offset_of (code_of e.offset) + length e.funcs) now → PlacingElements (i + 1) es old new
+pub elements_more : (i : ℕ) (es : List Element) (e : Element) (old now new : List (Option ℕ))
+    → PlacingElements i es old now → i < length es → e ≡ get_or es i e → offset_of (code_of e.offset) + length e.funcs
+    ≤ length old
+    → new ≡ take (offset_of (code_of e.offset)) now ++ map (λ f. Some f) e.funcs
+    ++ drop (offset_of (code_of e.offset) + length e.funcs) now → PlacingElements (i + 1) es old new
 elements_more i es e old now new p lt f le is = record {
-  placed = p.placed ∙ (ap (λ xs. with_elements now (map element_of xs)) (here es i e lt f) ∙ ap (λ t. with_elements t (map element_of (drop (i + 1) es))) (sym is));
-  long = ap length is ∙ (ap (λ k. length (take (offset_of (code_of e.offset)) now ++ map (λ f. Some f) e.funcs ++ drop (offset_of (code_of e.offset) + k) now)) (sym (length-map e.funcs (λ f. Some f)))
-      ∙ (length_placed now (offset_of (code_of e.offset)) (map (λ f. Some f) e.funcs) (omega (arith, length-map e.funcs (λ f. Some f), p.long)) ∙ p.long));
+  placed = p.placed
+      ∙ (ap (λ xs. with_elements now (map element_of xs)) (here es i e lt f)
+      ∙ ap (λ t. with_elements t (map element_of (drop (i + 1) es))) (sym is));
+  long = ap length is
+      ∙ (ap (λ k.
+      length (take (offset_of (code_of e.offset)) now ++ map (λ f. Some f) e.funcs
+      ++ drop (offset_of (code_of e.offset) + k) now)) (sym (length-map e.funcs (λ f. Some f)))
+      ∙ (length_placed now (offset_of (code_of e.offset)) (map (λ f. Some f) e.funcs)
+      (omega (arith, length-map e.funcs (λ f. Some f), p.long)) ∙ p.long));
 }
 
-pub elements_all : (i : ℕ) (es : List Element) (old now : List (Option ℕ)) → PlacingElements i es old now → length es ≤ i → now ≡ with_elements old (map element_of es)
-elements_all i es old now p le = sym (p.placed ∙ ap (λ xs. with_elements now (map element_of xs)) (nothing_left es i le))
+pub elements_all : (i : ℕ) (es : List Element) (old now : List (Option ℕ)) → PlacingElements i es old now
+    → length es ≤ i → now ≡ with_elements old (map element_of es)
+elements_all i es old now p le =
+    sym (p.placed ∙ ap (λ xs. with_elements now (map element_of xs)) (nothing_left es i le))
 
 pub mapped_globals : (gs : List GlobalVar) → map first_value (map global_of gs) ≡ map value_of_global gs
 mapped_globals [] = refl
 mapped_globals (g ∷ gs) = ap (λ vs. value_of_global g ∷ vs) (mapped_globals gs)
 
-pub globals_have_values : (gs : List GlobalVar) → AllByRecursion (λ (g : Global). IsConstantOf g.kind g.init) (map global_of gs) → AllByRecursion HasFirstValue gs
+pub globals_have_values : (gs : List GlobalVar) → AllByRecursion (λ (g : Global). IsConstantOf g.kind g.init)
+    (map global_of gs) → AllByRecursion HasFirstValue gs
 globals_have_values [] all = tt
 globals_have_values (g ∷ gs) all = (all.0, globals_have_values gs all.1)
 
@@ -279,10 +339,15 @@ globals_have_values (g ∷ gs) all = (all.0, globals_have_values gs all.1)
 pub at_most : (a b : ℕ) (xs ys : List ℕ) (n k : ℕ) → a ≡ b → xs ≡ ys → n ≡ k → b + length ys ≤ k → a + length xs ≤ n
 at_most a b xs ys n k e f g le = rw (e, f, g) le
 
-pub placed_from : (a b : ℕ) (xs ys : List ℕ) (now new : List (Option ℕ)) → a ≡ b → xs ≡ ys → new ≡ take a now ++ map (λ f. Some f) xs ++ drop (a + length xs) now → new ≡ take b now ++ map (λ f. Some f) ys ++ drop (b + length ys) now
-placed_from a b xs ys now new e f g = g ∙ (ap (λ n. take n now ++ map (λ f. Some f) xs ++ drop (n + length xs) now) e ∙ ap (λ zs. take b now ++ map (λ f. Some f) zs ++ drop (b + length zs) now) f)
+pub placed_from : (a b : ℕ) (xs ys : List ℕ) (now new : List (Option ℕ)) → a ≡ b → xs ≡ ys → new ≡ take a now
+    ++ map (λ f. Some f) xs ++ drop (a + length xs) now → new ≡ take b now ++ map (λ f. Some f) ys
+    ++ drop (b + length ys) now
+placed_from a b xs ys now new e f g =
+    g ∙ (ap (λ n. take n now ++ map (λ f. Some f) xs ++ drop (n + length xs) now) e
+    ∙ ap (λ zs. take b now ++ map (λ f. Some f) zs ++ drop (b + length zs) now) f)
 
-pub is_placed_from : (a b : ℕ) (xs ys old new : List ℕ) → a ≡ b → xs ≡ ys → IsPlaced a xs old new → IsPlaced b ys old new
+pub is_placed_from : (a b : ℕ) (xs ys old new : List ℕ) → a ≡ b → xs ≡ ys → IsPlaced a xs old new
+    → IsPlaced b ys old new
 is_placed_from a b xs ys old new e f p = subst (λ n. IsPlaced n ys old new) e (subst (λ zs. IsPlaced a zs old new) f p)
 
 no_bytes : (a : ℕ) → (memory_of 0 []).byte_at a ≡ (first_memory None).byte_at a
@@ -294,16 +359,22 @@ empty_memory : (limits : Option Limits) → memory_of (first_memory limits).page
 empty_memory None = ap (λ f. memory_at 0 f) (fun_ext no_bytes)
 empty_memory (Some l) = ap (λ f. memory_at l.min f) (fun_ext no_bytes)
 
-same_store : (gs hs : List Value) (ts us : List (Option ℕ)) (m n : Memory) → gs ≡ hs → ts ≡ us → m ≡ n → store_with gs ts m ≡ store_with hs us n
+same_store : (gs hs : List Value) (ts us : List (Option ℕ)) (m n : Memory) → gs ≡ hs → ts ≡ us → m ≡ n
+    → store_with gs ts m ≡ store_with hs us n
 same_store gs hs ts us m n e f g = rw (e, f, g) refl
 
-pub begun : (wasm : Module) (h : Held) (gs : List GlobalVar) (es : List Element) (ss : List Segment) (table : List (Option ℕ)) (bytes : List ℕ)
+pub begun : (wasm : Module) (h : Held) (gs : List GlobalVar) (es : List Element) (ss : List Segment)
+    (table : List (Option ℕ)) (bytes : List ℕ)
     → gs ≡ wasm.globals → h.globals.items ≡ map value_of_global gs
     → es ≡ wasm.elements → table ≡ first_table wasm.table → h.table.items ≡ with_elements table (map element_of es)
-    → ss ≡ wasm.segments → bytes ≡ [] → ArePlaced ss bytes h.bytes.items → h.pages ≡ (first_memory wasm.memory).pages → store_of h ≡ first_store (module_of wasm)
-begun wasm h gs es ss table bytes ge gi ee te ti se be placed pe = same_store h.globals.items _ h.table.items _ (memory_of h.pages h.bytes.items) _
+    → ss ≡ wasm.segments → bytes ≡ [] → ArePlaced ss bytes h.bytes.items → h.pages ≡ (first_memory wasm.memory).pages
+    → store_of h ≡ first_store (module_of wasm)
+begun wasm h gs es ss table bytes ge gi ee te ti se be placed pe = same_store h.globals.items _ h.table.items _
+    (memory_of h.pages h.bytes.items) _
     (gi ∙ (ap (λ xs. map value_of_global xs) ge ∙ sym (mapped_globals wasm.globals)))
-    (ti ∙ (ap (λ t. with_elements t (map element_of es)) te ∙ ap (λ xs. with_elements (first_table wasm.table) (map element_of xs)) ee))
+    (ti ∙ (ap (λ t. with_elements t (map element_of es)) te
+    ∙ ap (λ xs. with_elements (first_table wasm.table) (map element_of xs)) ee))
     (sym (placed.memory h.pages) ∙ (ap (λ xs. with_segments (memory_of h.pages bytes) (map segment_of xs)) se
     ∙ (ap (λ bs. with_segments (memory_of h.pages bs) (map segment_of wasm.segments)) be
-    ∙ (ap (λ n. with_segments (memory_of n []) (map segment_of wasm.segments)) pe ∙ ap (λ m. with_segments m (map segment_of wasm.segments)) (empty_memory wasm.memory)))))
+    ∙ (ap (λ n. with_segments (memory_of n []) (map segment_of wasm.segments)) pe
+    ∙ ap (λ m. with_segments m (map segment_of wasm.segments)) (empty_memory wasm.memory)))))

@@ -16,14 +16,17 @@ use Rattle.mw_exec.specs.Instancing.{CanInvoke, BeginsAs, first_store}
 use Rattle.mw_exec.specs.Invoking.{CanRun}
 use Rattle.mw_exec.proofs.Beginnings.{begins}
 
-pub ready_again : (wasm : Module) (h : Held) → IsKept wasm → IsHeld h → StoreIsTyped (module_of wasm) (store_of h) → IsReady (state_of wasm h)
+pub ready_again : (wasm : Module) (h : Held) → IsKept wasm → IsHeld h → StoreIsTyped (module_of wasm) (store_of h)
+    → IsReady (state_of wasm h)
 ready_again wasm h kept held typed = record { kept = kept; bytes = held.bytes; pages = held.pages; typed = typed }
 
-pub can_run : (wasm : Module) (name : List ℕ) (args : List Value) (f : ℕ) → CanInvoke wasm name args → exported (module_of wasm) name ≡ Some f → CanRun wasm f args
+pub can_run : (wasm : Module) (name : List ℕ) (args : List Value) (f : ℕ) → CanInvoke wasm name args
+    → exported (module_of wasm) name ≡ Some f → CanRun wasm f args
 can_run wasm name args f can e = record {
   function = can.function;
   type = can.type;
-  is_function = subst (λ k. slice_get wasm.funcs k ≡ Some can.function) (same can.there.is_exported e) can.there.is_function;
+  is_function = subst (λ k. slice_get wasm.funcs k ≡ Some can.function) (same can.there.is_exported e)
+      can.there.is_function;
   is_type = can.there.is_type;
   fit = can.fit;
 }
@@ -31,7 +34,8 @@ can_run wasm name args f can e = record {
     same : {o : Option ℕ} {a b : ℕ} → o ≡ Some a → o ≡ Some b → a ≡ b
     same p q = cc
 
-pub begins_first : (a m : Module) (h : Held) → m ≡ a → AllFit m → store_of h ≡ first_store (module_of m) → BeginsAs a (store_of h)
+pub begins_first : (a m : Module) (h : Held) → m ≡ a → AllFit m → store_of h ≡ first_store (module_of m)
+    → BeginsAs a (store_of h)
 begins_first a m h e fit s = subst (λ w. BeginsAs w (store_of h)) e (begins m fit ∙ ap (λ st. Ok st) (sym s))
 
 pub ready_first : (a : Module) (h : Held) → IsKept a → IsHeld h → BeginsAs a (store_of h) → IsReady (state_of a h)

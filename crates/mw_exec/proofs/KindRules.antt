@@ -16,4 +16,6 @@ pub lengths_differ : (a b : List ValType) → (length a ≡ length b → ⊥) �
 lengths_differ [] [] h = absurd (h refl)
 lengths_differ [] (y ∷ ys) h = refl
 lengths_differ (x ∷ xs) [] h = refl
-lengths_differ (x ∷ xs) (y ∷ ys) h = sym (ap (λ r. same_value_type x y && r) (sym (lengths_differ xs ys (λ e. h (ap suc e)))) ∙ no_and (same_value_type x y))
+lengths_differ (x ∷ xs) (y ∷ ys) h =
+    sym (ap (λ r. same_value_type x y && r) (sym (lengths_differ xs ys (λ e. h (ap suc e))))
+    ∙ no_and (same_value_type x y))

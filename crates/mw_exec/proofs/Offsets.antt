@@ -13,13 +13,17 @@ use Rattle.mw_wasm.specs.Instances.{offset_of}
 same : {x y : Instr} → Some x ≡ Some y → x ≡ y
 same e = cc
 
-pub constant_offset : (code : List Instr) (x : Instr) (n : ℕ) → slice_get code 0 ≡ Some x → instruction_of x ≡ const_i32 n → IsConstantOf I32 (list_code code) → n ≡ offset_of (list_code code)
+pub constant_offset : (code : List Instr) (x : Instr) (n : ℕ) → slice_get code 0 ≡ Some x → instruction_of x
+    ≡ const_i32 n → IsConstantOf I32 (list_code code) → n ≡ offset_of (list_code code)
 constant_offset [] x n e f h = absurd (h)
 constant_offset (y ∷ []) x n e f h = sym (ap (λ i. offset_of (next i end)) (ap instruction_of (same e) ∙ f))
-constant_offset (y ∷ z ∷ code) x n e f h = absurd (subst (λ i. IsConstantOf I32 (next i (next (instruction_of z) (list_code code)))) (ap instruction_of (same e) ∙ f) h)
+constant_offset (y ∷ z ∷ code) x n e f h =
+    absurd (subst (λ i. IsConstantOf I32 (next i (next (instruction_of z) (list_code code))))
+    (ap instruction_of (same e) ∙ f) h)
 
 -- no other instruction begins one
-not_other : (y : Instr) (c : Code) → ((n : ℕ) → y ≡ instr.ConstI32 n → ⊥) → IsConstantOf I32 (next (instruction_of y) c) → ⊥
+not_other : (y : Instr) (c : Code) → ((n : ℕ) → y ≡ instr.ConstI32 n → ⊥) → IsConstantOf I32 (next (instruction_of y) c)
+    → ⊥
 not_other (instr.ConstI32 n) c none h = none n refl
 not_other instr.Unreachable c none h = h
 not_other instr.Nop c none h = h
@@ -46,7 +50,8 @@ not_other instr.MemoryGrow c none h = h
 not_other (instr.ConstI64 n) c none h = h
 not_other (instr.Num o) c none h = h
 
-pub only_constants : (code : List Instr) (x : Instr) → slice_get code 0 ≡ Some x → ((n : ℕ) → x ≡ instr.ConstI32 n → ⊥) → IsConstantOf I32 (list_code code) → ⊥
+pub only_constants : (code : List Instr) (x : Instr) → slice_get code 0 ≡ Some x → ((n : ℕ) → x ≡ instr.ConstI32 n → ⊥)
+    → IsConstantOf I32 (list_code code) → ⊥
 only_constants [] x e none h = h
 only_constants (y ∷ code) x e none h = not_other y (list_code code) (λ n f. none n (sym (same e) ∙ f)) h
 

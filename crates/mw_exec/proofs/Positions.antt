@@ -1,5 +1,6 @@
 -- The first place at which a test passes, found from the left.
-use Rattle.std.proofs.Common.{◌≡◌, ◌≤◌, ◌<◌, ℕ, zero, suc, ◌+◌, Bool, true, false, List, [], ◌∷◌, length, refl, sym, ◌∙◌, ap, drop-cons, Some, None, arith}
+use Rattle.std.proofs.Common.{◌≡◌, ◌≤◌, ◌<◌, ℕ, zero, suc, ◌+◌, Bool, true, false, List, [], ◌∷◌, length, refl, sym}
+use Rattle.std.proofs.Common.{◌∙◌, ap, drop-cons, Some, None, arith}
 use Rattle.std.specs.Prelude.{drop, get_or, position}
 use Rattle.std.specs.List.{position_from}
 use Rattle.std.proofs.lemmas.Iterator.Adapters.{position_from-zero}
@@ -11,20 +12,26 @@ pub record NoneBefore {X : Type 0} (test : X → Bool) (xs : List X) (i : ℕ) :
 pub none_before_first : {X : Type 0} (test : X → Bool) (xs : List X) → NoneBefore test xs 0
 none_before_first test xs = record { from = refl }
 
-here : {X : Type 0} (test : X → Bool) (xs : List X) (i : ℕ) (x : X) → i < length xs → x ≡ get_or xs i x → drop i xs ≡ x ∷ drop (suc i) xs
+here : {X : Type 0} (test : X → Bool) (xs : List X) (i : ℕ) (x : X) → i < length xs → x ≡ get_or xs i x → drop i xs ≡ x
+    ∷ drop (suc i) xs
 here test xs i x h e = drop-cons xs i x h ∙ ap (λ y. y ∷ drop (suc i) xs) (sym e)
 
 next_place : (i : ℕ) → suc i ≡ i + 1
 next_place i = omega arith
 
-pub none_before_next : {X : Type 0} (test : X → Bool) (xs : List X) (i : ℕ) (x : X) → i < length xs → x ≡ get_or xs i x → test x ≡ false → NoneBefore test xs i → NoneBefore test xs (i + 1)
+pub none_before_next : {X : Type 0} (test : X → Bool) (xs : List X) (i : ℕ) (x : X) → i < length xs → x ≡ get_or xs i x
+    → test x ≡ false → NoneBefore test xs i → NoneBefore test xs (i + 1)
 none_before_next test xs i x h e f n = record {
   from =
-      ap (λ j. position_from test (i + 1) (drop j xs)) (sym (next_place i)) ∙ (sym (ap (λ ys. position_from test i ys) (here test xs i x h e) ∙ rw f refl) ∙ n.from);
+      ap (λ j. position_from test (i + 1) (drop j xs)) (sym (next_place i))
+      ∙ (sym (ap (λ ys. position_from test i ys) (here test xs i x h e) ∙ rw f refl) ∙ n.from);
 }
 
-pub first_is_here : {X : Type 0} (test : X → Bool) (xs : List X) (i : ℕ) (x : X) → i < length xs → x ≡ get_or xs i x → test x ≡ true → NoneBefore test xs i → Some i ≡ position test xs
-first_is_here test xs i x h e t n = (sym (ap (λ ys. position_from test i ys) (here test xs i x h e) ∙ rw t refl) ∙ n.from) ∙ sym (position_from-zero test xs)
+pub first_is_here : {X : Type 0} (test : X → Bool) (xs : List X) (i : ℕ) (x : X) → i < length xs → x ≡ get_or xs i x
+    → test x ≡ true → NoneBefore test xs i → Some i ≡ position test xs
+first_is_here test xs i x h e t n =
+    (sym (ap (λ ys. position_from test i ys) (here test xs i x h e) ∙ rw t refl) ∙ n.from)
+    ∙ sym (position_from-zero test xs)
 
 nothing_left : {X : Type 0} (xs : List X) (i : ℕ) → length xs ≤ i → drop i xs ≡ []
 nothing_left [] zero h = refl
@@ -32,5 +39,7 @@ nothing_left [] (suc i) h = refl
 nothing_left (x ∷ xs) zero h = absurd (omega arith)
 nothing_left (x ∷ xs) (suc i) h = nothing_left xs i (omega arith)
 
-pub none_at_all : {X : Type 0} (test : X → Bool) (xs : List X) (i : ℕ) → length xs ≤ i → NoneBefore test xs i → None ≡ position test xs
-none_at_all test xs i h n = (sym (ap (λ ys. position_from test i ys) (nothing_left xs i h)) ∙ n.from) ∙ sym (position_from-zero test xs)
+pub none_at_all : {X : Type 0} (test : X → Bool) (xs : List X) (i : ℕ) → length xs ≤ i → NoneBefore test xs i
+    → None ≡ position test xs
+none_at_all test xs i h n = (sym (ap (λ ys. position_from test i ys) (nothing_left xs i h)) ∙ n.from)
+    ∙ sym (position_from-zero test xs)

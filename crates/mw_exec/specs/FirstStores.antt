@@ -19,7 +19,8 @@ value_of_global g = first_value (global_of g)
 
 -- the bytes of a segment are written from a place on, and past the end of what is stored there are zeros
 pub record IsPlaced (at : ℕ) (segment old new : List ℕ) : Type 0 where
-  pub byte : (a : ℕ) → get_or new a 0 ≡ (if is_among (length segment) at a then get_or segment (a - at) 0 else get_or old a 0)
+  pub byte : (a : ℕ) → get_or new a 0
+      ≡ (if is_among (length segment) at a then get_or segment (a - at) 0 else get_or old a 0)
 
 -- segments are written, one after another
 pub record ArePlaced (segments : List Segment) (old new : List ℕ) : Type 0 where

@@ -9,8 +9,8 @@ use Rattle.mw_validate.specs.Kept.{IsKept}
 use Rattle.mw_exec.specs.declared.held.Held.{Held}
 use Rattle.mw_exec.specs.Views.{memory_of}
 
--- its module, the values of its globals, the elements of its table, and its memory: how many pages, and the bytes up to the
--- highest one that was written
+-- its module, the values of its globals, the elements of its table, and its memory: how many pages, and the bytes up to
+-- the highest one that was written
 pub record InstanceState : Type 0 where
   pub wasm : Module
   pub globals : List Value
@@ -20,14 +20,21 @@ pub record InstanceState : Type 0 where
 
 -- an instance of this module that holds this
 abbrev pub state_of : Module → Held → InstanceState
-state_of wasm h = record { wasm = wasm; globals = h.globals.items; table = h.table.items; pages = h.pages; bytes = h.bytes.items }
+state_of wasm h = record {
+  wasm = wasm;
+  globals = h.globals.items;
+  table = h.table.items;
+  pages = h.pages;
+  bytes =
+      h.bytes.items;
+}
 
 -- the store that an instance holds
 abbrev pub store_in : InstanceState → Store
 store_in i = record { globals = i.globals; table = i.table; memory = memory_of i.pages i.bytes }
 
--- Its module is valid, its bytes are within its pages, which are few, and its store is typed: so it can be invoked again
--- and again.
+-- Its module is valid, its bytes are within its pages, which are few, and its store is typed: so it can be invoked
+-- again and again.
 pub record IsReady (i : InstanceState) : Type 0 where
   pub kept : IsKept i.wasm
   pub bytes : length i.bytes ≤ i.pages * 65536

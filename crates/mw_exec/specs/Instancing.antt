@@ -8,7 +8,8 @@ use Rattle.mw_wasm.specs.NumericTypes.{type_of_value}
 use Rattle.mw_wasm.specs.Syntax.{PureModule}
 use Rattle.mw_wasm.specs.Store.{Memory, Store, is_inside, read_bytes}
 use Rattle.mw_wasm.specs.Execution.{End, ended, trapped, spent}
-use Rattle.mw_wasm.specs.Instances.{element, segment, first_value, first_table, first_memory, with_elements, with_segments, instantiated, exported}
+use Rattle.mw_wasm.specs.Instances.{element, segment, first_value, first_table, first_memory, with_elements}
+use Rattle.mw_wasm.specs.Instances.{with_segments, instantiated, exported}
 use Rattle.mw_wasm.specs.Views.{module_of}
 use Rattle.mw_exec.specs.declared.ended.Ended.{Ended}
 use Rattle.mw_exec.specs.declared.ended.Ended.TheVariants as ends

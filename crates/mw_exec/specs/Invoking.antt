@@ -25,4 +25,5 @@ pub record CanRun (wasm : Module) (f : ℕ) (args : List Value) : Type 0 where
 pub record IsBeginning (g : Func) (t : FuncType) (args : List Value) (n : ℕ) (s : State) : Type 0 where
   pub formed : IsFormed s
   pub fuel : s.fuel ≡ n
-  pub is : (h : Held) → config_of h s ≡ at (store_of h) (args ++ map zero_of g.locals) [] (code_of g.body) (in_label (length t.results) end [] end ∷ in_frame (length t.results) [] [] end ∷ [])
+  pub is : (h : Held) → config_of h s ≡ at (store_of h) (args ++ map zero_of g.locals) [] (code_of g.body)
+      (in_label (length t.results) end [] end ∷ in_frame (length t.results) [] [] end ∷ [])

@@ -1,6 +1,7 @@
 // Calls.
 
-ghost use Rattle.std.specs.Prelude.{◌≡◌, ◌≤◌, ◌<◌, ◌^◌, ◌∷◌, ◌++◌, [], ℕ, Option, Some, None, List, length, map, take, drop, IfOk, slice_get};
+ghost use Rattle.std.specs.Prelude.{◌≡◌, ◌≤◌, ◌<◌, ◌^◌, ◌∷◌, ◌++◌, [], ℕ, Option, Some, None, List, length, map, take};
+ghost use Rattle.std.specs.Prelude.{drop, IfOk, slice_get};
 ghost use Rattle.mw_wasm.specs.declared.values.Value.{Value as WasmValue};
 ghost use Rattle.mw_wasm.specs.Store.{Store, zero_of as zero_value};
 ghost use Rattle.std.specs.List.{AllByRecursion};
@@ -54,7 +55,8 @@ pub fn enter_function<'m>(
 ) -> Result<Turn, AllocError>
     requires formed { IsFormed state.old }
     requires one { length kind.now.results ≤ 1 }
-    ensures { IfOk result (λ t. RuleIn (entered_by (function_of function.now) kind.now state.old) state.old.fuel t state.new) }
+    ensures { IfOk result (λ t. RuleIn (entered_by (function_of function.now) kind.now state.old) state.old.fuel t
+        state.new) }
 {
     let count = kind.params.len();
     if state.stack.len() - state.height < count {

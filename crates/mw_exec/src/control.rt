@@ -2,7 +2,9 @@
 
 ghost use Rattle.std.specs.Prelude.{◌≡◌, ◌≤◌, List, length, map, IfOk};
 ghost use Rattle.std.specs.List.{AllByRecursion};
-ghost use Rattle.mw_wasm.specs.Syntax.{Instruction, PureModule, block as block_instruction, loop as loop_instruction, cond as cond_instruction, br, br_if, give_back as return_instruction, call as call_instruction};
+ghost use Rattle.mw_wasm.specs.Syntax.{Instruction, PureModule, block as block_instruction, loop as loop_instruction};
+ghost use Rattle.mw_wasm.specs.Syntax.{cond as cond_instruction, br, br_if, give_back as return_instruction};
+ghost use Rattle.mw_wasm.specs.Syntax.{call as call_instruction};
 ghost use Rattle.mw_wasm.specs.Views.{code_of, instruction_of, module_of};
 ghost use Rattle.mw_exec.specs.declared.held.Held.{Held as WasmHeld};
 ghost use Rattle.mw_exec.specs.Views.{IsFormed};
@@ -27,7 +29,8 @@ pub fn block<'m>(
     body: &'m Instrs,
 ) -> Result<Turn, AllocError>
     requires { IsFormed state.old }
-    ensures { IfOk result (λ u. (m : PureModule) (h : WasmHeld) → TurnsBy m (block_instruction t (code_of body.now)) h state.old u state.new) }
+    ensures { IfOk result (λ u. (m : PureModule) (h : WasmHeld) → TurnsBy m (block_instruction t (code_of body.now)) h
+        state.old u state.new) }
 {
     enter(state, Kind::Block(t.is_some()), body)?;
     Ok(Turn::On)
@@ -41,7 +44,8 @@ pub fn repeat<'m>(
     body: &'m Instrs,
 ) -> Result<Turn, AllocError>
     requires { IsFormed state.old }
-    ensures { IfOk result (λ u. (m : PureModule) (h : WasmHeld) → TurnsBy m (loop_instruction t (code_of body.now)) h state.old u state.new) }
+    ensures { IfOk result (λ u. (m : PureModule) (h : WasmHeld) → TurnsBy m (loop_instruction t (code_of body.now)) h
+        state.old u state.new) }
 {
     enter(state, Kind::Loop(t), body)?;
     Ok(Turn::On)
@@ -56,7 +60,9 @@ pub fn choose<'m>(
     b: &'m Instrs,
 ) -> Result<Turn, AllocError>
     requires { IsFormed state.old }
-    ensures { IfOk result (λ u. (m : PureModule) (h : WasmHeld) → TurnsBy m (cond_instruction t (code_of a.now) (code_of b.now)) h state.old u state.new) }
+    ensures { IfOk result
+        (λ u. (m : PureModule) (h : WasmHeld) → TurnsBy m (cond_instruction t (code_of a.now) (code_of b.now)) h
+        state.old u state.new) }
 {
     let height = state.height;
     let Some(n) = pop_i32(&mut state.stack, height) else {
@@ -95,7 +101,8 @@ pub fn jump_if<'m>(state: &mut State<'m>, l: u32) -> Result<Turn, AllocError>
 #[inline(always)]
 pub fn return_now<'m>(state: &mut State<'m>) -> Result<Turn, AllocError>
     requires { IsFormed state.old }
-    ensures { IfOk result (λ u. (m : PureModule) (h : WasmHeld) → TurnsBy m return_instruction h state.old u state.new) }
+    ensures { IfOk result (λ u. (m : PureModule) (h : WasmHeld) → TurnsBy m return_instruction h state.old u
+        state.new) }
 {
     give_back(state)
 }
@@ -105,7 +112,8 @@ pub fn return_now<'m>(state: &mut State<'m>) -> Result<Turn, AllocError>
 pub fn call_now<'m>(wasm: &'m Module, state: &mut State<'m>, f: u32) -> Result<Turn, AllocError>
     requires formed { IsFormed state.old }
     requires few { AllByRecursion FewResults wasm.now.types }
-    ensures { IfOk result (λ u. (h : WasmHeld) → TurnsBy (module_of wasm.now) (call_instruction f) h state.old u state.new) }
+    ensures { IfOk result (λ u. (h : WasmHeld) → TurnsBy (module_of wasm.now) (call_instruction f) h state.old u
+        state.new) }
 {
     call(wasm, state, f)
 }
@@ -121,7 +129,8 @@ pub fn control<'m>(
     requires formed { IsFormed state.old }
     requires few { AllByRecursion FewResults wasm.now.types }
     requires control { IsControl (instruction_of instruction.now) }
-    ensures { IfOk result (λ u. TurnsBy (module_of wasm.now) (instruction_of instruction.now) held.now state.old u state.new) }
+    ensures { IfOk result (λ u. TurnsBy (module_of wasm.now) (instruction_of instruction.now) held.now state.old u
+        state.new) }
 {
     match instruction {
         Instr::Block(t, body) => block(state, *t, body),

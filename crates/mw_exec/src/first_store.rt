@@ -1,6 +1,7 @@
 // What an instance begins with.
 
-ghost use Rattle.std.specs.Prelude.{◌≡◌, ◌≤◌, ◌*◌, ◌+◌, [], ◌++◌, List, Some, None, length, map, take, drop, position, IfOk, IfErr};
+ghost use Rattle.std.specs.Prelude.{◌≡◌, ◌≤◌, ◌*◌, ◌+◌, [], ◌++◌, List, Some, None, length, map, take, drop, position};
+ghost use Rattle.std.specs.Prelude.{IfOk, IfErr};
 ghost use Rattle.std.specs.List.{AllByRecursion};
 ghost use Rattle.mw_wasm.specs.Instances.{first_value, first_table as first_table_of, first_memory, with_elements};
 ghost use Rattle.mw_wasm.specs.Views.{global_of, element_of, module_of};
@@ -88,7 +89,8 @@ fn first_pages(wasm: &Module) -> u32
 /// Functions are written into a table from a place on.
 fn place_functions(table: &mut Vec<Option<u32>>, at: usize, funcs: &[u32])
     requires { at + length funcs.now ≤ length table.old.items }
-    ensures { table.new.items ≡ take at table.old.items ++ map (λ f. Some f) funcs.now ++ drop (at + length funcs.now) table.old.items }
+    ensures { table.new.items ≡ take at table.old.items ++ map (λ f. Some f) funcs.now ++ drop (at + length funcs.now)
+        table.old.items }
 {
     for i in 0..funcs.len() {
         table[at + i] = Some(funcs[i]);
@@ -110,7 +112,8 @@ fn place_elements(table: &mut Vec<Option<u32>>, elements: &[Element])
 /// Bytes are written from a place on.
 fn place_bytes(bytes: &mut Vec<u8>, at: usize, segment: &[u8])
     requires { at + length segment.now ≤ length bytes.old.items }
-    ensures { bytes.new.items ≡ take at bytes.old.items ++ segment.now ++ drop (at + length segment.now) bytes.old.items }
+    ensures { bytes.new.items ≡ take at bytes.old.items ++ segment.now ++ drop (at + length segment.now)
+        bytes.old.items }
 {
     for i in 0..segment.len() {
         bytes[at + i] = segment[i];

@@ -44,8 +44,8 @@ impl Model for Instance {
 }
 
 impl Instance {
-    /// The instance that a module begins as. Every element segment is tested, and then every data segment; the first that
-    /// doesn't fit is the fault, and otherwise all are written.
+    /// The instance that a module begins as. Every element segment is tested, and then every data segment; the first
+    /// that doesn't fit is the fault, and otherwise all are written.
     pub fn new(alloc: Global, module: Arc<Valid>) -> Result<Instance, InstanceFault>
         ensures of { IfOk result (λ instance. instance.wasm ≡ arc_value «module») }
         ensures begins { IfOk result (λ instance. BeginsAs (arc_value «module») (store_in instance)) }
@@ -67,8 +67,8 @@ impl Instance {
         Some(kind)
     }
 
-    /// The invocation of the function that is exported under a name, with arguments of its parameters' types and so many
-    /// units, on what the instance holds. Where it ends or traps, the instance holds what it left.
+    /// The invocation of the function that is exported under a name, with arguments of its parameters' types and so
+    /// many units, on what the instance holds. Where it ends or traps, the instance holds what it left.
     pub fn invoke(
         &mut self,
         alloc: Global,
@@ -87,8 +87,8 @@ impl Instance {
         invoke_function(alloc, self.module.module(), &mut self.held, f, args, fuel)
     }
 
-    /// The number in the eight bytes from an address on, the lowest first; none where one of them is past the memory's end.
-    /// Takes no memory.
+    /// The number in the eight bytes from an address on, the lowest first; none where one of them is past the memory's
+    /// end. Takes no memory.
     pub fn word(&self, at: u64) -> Option<u64>
         ensures { result ≡ word_at at (store_in self.now).memory }
     {

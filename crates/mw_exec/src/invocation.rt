@@ -77,7 +77,8 @@ pub fn invoke_function(
     requires held { IsHeld held.old }
     requires typed { StoreIsTyped (module_of wasm.now) (store_of held.old) }
     requires can { CanRun wasm.now f args.now }
-    ensures ends { IfOk result (λ end. EndsAs end (store_of held.new) (invoked (module_of wasm.now) (store_of held.old) f args.now fuel)) }
+    ensures ends { IfOk result
+        (λ end. EndsAs end (store_of held.new) (invoked (module_of wasm.now) (store_of held.old) f args.now fuel)) }
     ensures held { IsHeld held.new }
     ensures typed { StoreIsTyped (module_of wasm.now) (store_of held.new) }
 {

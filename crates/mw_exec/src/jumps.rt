@@ -1,12 +1,14 @@
 // Branches, returns and the ends of code.
 
-ghost use Rattle.std.specs.Prelude.{◌≡◌, ◌≤◌, ◌∷◌, ◌++◌, [], ℕ, zero, suc, List, length, take, drop, reverse, IfOk, IfNone, IfSome};
+ghost use Rattle.std.specs.Prelude.{◌≡◌, ◌≤◌, ◌∷◌, ◌++◌, [], ℕ, zero, suc, List, length, take, drop, reverse, IfOk};
+ghost use Rattle.std.specs.Prelude.{IfNone, IfSome};
 ghost use Rattle.mw_wasm.specs.declared.values.Value.{Value as WasmValue};
 ghost use Rattle.mw_wasm.specs.Store.{Store};
 ghost use Rattle.mw_wasm.specs.Redex.{leave as leave_rule, branch as branch_rule, return_from};
 ghost use Rattle.mw_exec.specs.Lists.{above};
 ghost use Rattle.mw_exec.specs.Views.{IsFormed, count_of, own_locals, operands, around_of};
-ghost use Rattle.mw_exec.specs.Turns.{IsFormedWith, IsLoop, Rule, IfOn, Moves, inmost_branch, inmost_return, branch_from, left, returned, around_with};
+ghost use Rattle.mw_exec.specs.Turns.{IsFormedWith, IsLoop, Rule, IfOn, Moves, inmost_branch, inmost_return};
+ghost use Rattle.mw_exec.specs.Turns.{branch_from, left, returned, around_with};
 
 use crate::labels::{restore, unwind};
 use crate::operands::{pop, push};
@@ -19,7 +21,8 @@ use std::alloc::AllocError;
 fn keep(stack: &mut Vec<Value>, from: usize, to: usize, one: bool) -> Result<(), AllocError>
     requires order { to ≤ from }
     requires long { from ≤ length stack.old.items }
-    ensures { IfOk result (λ _. stack.new.items ≡ take to stack.old.items ++ reverse (take (count_of one) (above from stack.old.items))) }
+    ensures { IfOk result
+        (λ _. stack.new.items ≡ take to stack.old.items ++ reverse (take (count_of one) (above from stack.old.items))) }
 {
     if !one {
         stack.truncate(to);
@@ -42,7 +45,8 @@ fn keep(stack: &mut Vec<Value>, from: usize, to: usize, one: bool) -> Result<(),
 fn again<'m>(state: &mut State<'m>, waiting: Waiting<'m>) -> Result<Turn, AllocError>
     requires formed { IsFormedWith waiting state.old }
     requires kind { IsLoop waiting.kind }
-    ensures { IfOk result (λ t. (from : ℕ) → Rule (inmost_branch from state.old (around_with waiting.entry state.old)) state.old.fuel t state.new) }
+    ensures { IfOk result (λ t. (from : ℕ) → Rule (inmost_branch from state.old (around_with waiting.entry state.old))
+        state.old.fuel t state.new) }
 {
     if state.fuel == 0 {
         return Ok(Turn::Spent);
@@ -66,7 +70,8 @@ fn behind<'m>(
     requires kind { waiting.kind ≡ Kind.Block one }
     requires order { state.old.height ≤ from }
     requires long { from ≤ length state.old.stack.items }
-    ensures { IfOk result (λ t. Rule (inmost_branch from state.old (around_with waiting.entry state.old)) state.old.fuel t state.new) }
+    ensures { IfOk result (λ t. Rule (inmost_branch from state.old (around_with waiting.entry state.old)) state.old.fuel
+        t state.new) }
 {
     let height = state.height;
     keep(&mut state.stack, from, height, one)?;
@@ -87,8 +92,10 @@ fn from_body<'m>(
     requires kind { waiting.kind ≡ Kind.Frame one outside }
     requires order { state.old.height ≤ from }
     requires long { from ≤ length state.old.stack.items }
-    ensures branched { IfOk result (λ t. Rule (inmost_branch from state.old (around_with waiting.entry state.old)) state.old.fuel t state.new) }
-    ensures returned { IfOk result (λ t. Rule (inmost_return from state.old (around_with waiting.entry state.old)) state.old.fuel t state.new) }
+    ensures branched { IfOk result (λ t. Rule (inmost_branch from state.old (around_with waiting.entry state.old)) state.old.fuel t
+        state.new) }
+    ensures returned { IfOk result (λ t. Rule (inmost_return from state.old (around_with waiting.entry state.old)) state.old.fuel t
+        state.new) }
 {
     let height = state.height;
     keep(&mut state.stack, from, height, one)?;

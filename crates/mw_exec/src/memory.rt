@@ -227,7 +227,8 @@ pub fn load(
 ) -> Result<Outcome, AllocError>
     requires long { height ≤ length stack.old.items }
     requires held { IsHeld held.now }
-    ensures comes { IfOk result (λ o. ActsAligned o (λ align. load_instruction op align offset) held.now held.now height stack.old stack.new) }
+    ensures comes { IfOk result (λ o. ActsAligned o (λ align. load_instruction op align offset) held.now held.now height
+        stack.old stack.new) }
     ensures kept { IfOk result (λ _. Kept height stack.old.items stack.new.items) }
 {
     let Some(n) = pop_i32(stack, height) else {
@@ -338,7 +339,8 @@ pub fn store(
 ) -> Result<Outcome, AllocError>
     requires long { height ≤ length stack.old.items }
     requires held { IsHeld held.old }
-    ensures comes { IfOk result (λ o. ActsAligned o (λ align. store_instruction op align offset) held.old held.new height stack.old stack.new) }
+    ensures comes { IfOk result (λ o. ActsAligned o (λ align. store_instruction op align offset) held.old held.new
+        height stack.old stack.new) }
     ensures kept { IfOk result (λ _. Kept height stack.old.items stack.new.items) }
     ensures held { IsHeld held.new }
     ensures halted { IfOk result (λ o. IfHalted o (store_of held.new ≡ store_of held.old)) }
@@ -395,7 +397,8 @@ pub fn grow(
 ) -> Result<Outcome, AllocError>
     requires long { height ≤ length stack.old.items }
     requires held { IsHeld held.old }
-    ensures comes { IfOk result (λ o. ActsOnStoreIn o (module_of wasm.now) memory_grow held.old held.new height stack.old stack.new) }
+    ensures comes { IfOk result (λ o. ActsOnStoreIn o (module_of wasm.now) memory_grow held.old held.new height
+        stack.old stack.new) }
     ensures kept { IfOk result (λ _. Kept height stack.old.items stack.new.items) }
     ensures held { IsHeld held.new }
     ensures halted { IfOk result (λ o. IfHalted o (store_of held.new ≡ store_of held.old)) }

@@ -70,7 +70,8 @@ pub fn number(stack: &mut Vec<Value>, height: usize, op: NumOp) -> Result<Outcom
 #[inline(always)]
 fn integer32(stack: &mut Vec<Value>, height: usize, o: IntOp) -> Result<Outcome, AllocError>
     requires { height ≤ length stack.old.items }
-    ensures comes { IfOk result (λ r. ActsOnOperands r (numeric_instruction (numbers.I32 o)) height stack.old stack.new) }
+    ensures comes { IfOk result (λ r. ActsOnOperands r (numeric_instruction (numbers.I32 o)) height stack.old
+        stack.new) }
     ensures kept { IfOk result (λ _. Kept height stack.old.items stack.new.items) }
 {
     integer(stack, height, NumOp::I32(o), o, ValType::I32)
@@ -80,7 +81,8 @@ fn integer32(stack: &mut Vec<Value>, height: usize, o: IntOp) -> Result<Outcome,
 #[inline(always)]
 fn integer64(stack: &mut Vec<Value>, height: usize, o: IntOp) -> Result<Outcome, AllocError>
     requires { height ≤ length stack.old.items }
-    ensures comes { IfOk result (λ r. ActsOnOperands r (numeric_instruction (numbers.I64 o)) height stack.old stack.new) }
+    ensures comes { IfOk result (λ r. ActsOnOperands r (numeric_instruction (numbers.I64 o)) height stack.old
+        stack.new) }
     ensures kept { IfOk result (λ _. Kept height stack.old.items stack.new.items) }
 {
     integer(stack, height, NumOp::I64(o), o, ValType::I64)

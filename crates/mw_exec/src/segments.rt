@@ -8,7 +8,8 @@ ghost use Rattle.mw_wasm.specs.Views.{code_of};
 ghost use Rattle.mw_wasm.specs.Validity.{IsConstantOf};
 ghost use Rattle.mw_validate.specs.Kept.{IsKept};
 ghost use Rattle.mw_exec.specs.Instancing.{Refuses};
-ghost use Rattle.mw_exec.specs.Fitting.{offset_number, ends_in, element_test, segment_test, AllFit, HasElementOffset, HasSegmentOffset};
+ghost use Rattle.mw_exec.specs.Fitting.{offset_number, ends_in, element_test, segment_test, AllFit, HasElementOffset};
+ghost use Rattle.mw_exec.specs.Fitting.{HasSegmentOffset};
 
 use crate::ended::InstanceFault;
 use mw_wasm::{Element, Instr, Instrs, Module, Segment};

@@ -36,7 +36,8 @@ pub fn simple(
     requires long { height ≤ length stack.old.items }
     requires local { base ≤ length locals.old.items }
     requires held { IsHeld held.old }
-    ensures simply { IfOk result (λ o. SimplyActs o wasm.now instruction.now held.old held.new base locals.old locals.new height stack.old stack.new) }
+    ensures simply { IfOk result (λ o. SimplyActs o wasm.now instruction.now held.old held.new base locals.old locals.new height
+        stack.old stack.new) }
     ensures kept { IfOk result (λ _. Kept height stack.old.items stack.new.items) }
     ensures local { IfOk result (λ _. Kept base locals.old.items locals.new.items) }
     ensures held { IsHeld held.new }
@@ -94,7 +95,8 @@ fn local_get(
 ) -> Result<Outcome, AllocError>
     requires long { height ≤ length stack.old.items }
     requires local { base ≤ length locals.now.items }
-    ensures comes { IfOk result (λ o. ActsOnLocals o (local_get_instruction x) base locals.now locals.now height stack.old stack.new) }
+    ensures comes { IfOk result (λ o. ActsOnLocals o (local_get_instruction x) base locals.now locals.now height
+        stack.old stack.new) }
     ensures kept { IfOk result (λ _. Kept height stack.old.items stack.new.items) }
 {
     let count = locals.len() - base;
@@ -117,7 +119,8 @@ fn local_set(
 ) -> Outcome
     requires long { height ≤ length stack.old.items }
     requires local { base ≤ length locals.old.items }
-    ensures comes { ActsOnLocals result (local_set_instruction x) base locals.old locals.new height stack.old stack.new }
+    ensures comes { ActsOnLocals result (local_set_instruction x) base locals.old locals.new height stack.old
+        stack.new }
     ensures kept { Kept height stack.old.items stack.new.items }
     ensures local { Kept base locals.old.items locals.new.items }
 {
@@ -143,7 +146,8 @@ fn local_tee(
 ) -> Result<Outcome, AllocError>
     requires long { height ≤ length stack.old.items }
     requires local { base ≤ length locals.old.items }
-    ensures simply { IfOk result (λ o. SimplyOnLocals o (local_tee_instruction x) base locals.old locals.new height stack.old stack.new) }
+    ensures simply { IfOk result (λ o. SimplyOnLocals o (local_tee_instruction x) base locals.old locals.new height stack.old
+        stack.new) }
     ensures kept { IfOk result (λ _. Kept height stack.old.items stack.new.items) }
     ensures local { IfOk result (λ _. Kept base locals.old.items locals.new.items) }
 {
@@ -167,7 +171,8 @@ fn global_get(
     x: u32,
 ) -> Result<Outcome, AllocError>
     requires { height ≤ length stack.old.items }
-    ensures comes { IfOk result (λ o. ActsOnStore o (global_get_instruction x) held.now held.now height stack.old stack.new) }
+    ensures comes { IfOk result (λ o. ActsOnStore o (global_get_instruction x) held.now held.now height stack.old
+        stack.new) }
     ensures kept { IfOk result (λ _. Kept height stack.old.items stack.new.items) }
 {
     if (x as usize) < held.globals.len() {

@@ -36,11 +36,13 @@ pub argument_fine : (s : GroundType) (k : ℕ) → Fine (argument_of s k)
 argument_fine (base b) k = tt
 argument_fine (product s t) k = (argument_fine s k, argument_fine t (k + leaf_count s))
 
-pub init_at : (v : Version) (t : List IrFunc) (f : Function) (more : List Function) → slice_get (map (function_for v) t ++ f ∷ more) (length t) ≡ Some f
+pub init_at : (v : Version) (t : List IrFunc) (f : Function) (more : List Function)
+    → slice_get (map (function_for v) t ++ f ∷ more) (length t) ≡ Some f
 init_at v [] f more = refl
 init_at v (x ∷ t) f more = init_at v t f more
 
-pub call_at : (v : Version) (t : List IrFunc) (f g : Function) (more : List Function) → slice_get (map (function_for v) t ++ f ∷ g ∷ more) (suc (length t)) ≡ Some g
+pub call_at : (v : Version) (t : List IrFunc) (f g : Function) (more : List Function)
+    → slice_get (map (function_for v) t ++ f ∷ g ∷ more) (suc (length t)) ≡ Some g
 call_at v [] f g more = refl
 call_at v (x ∷ t) f g more = call_at v t f g more
 
@@ -54,10 +56,18 @@ words_typed (w ∷ ws) (suc n) e = ap (λ ts. type.I64 ∷ ts) (words_typed ws n
 module _ (v : Version) (t : List IrFunc) (m : PureModule) (carries : Carries v t m) (sound : Sound t) where
   -- the store after an end with a value
   abbrev pub Done : List ℤ → ℤ → ℕ → List ℤ → End → Type 0
-  Done top w l h E = (mem : Memory) × (E ≡ ended (store_at (table_of t) (8 * length top) mem) (word w ∷ []) l) × Keeps h mem × Small w
+  Done top w l h E = (mem : Memory) × (E ≡ ended (store_at (table_of t) (8 * length top) mem) (word w ∷ []) l)
+      × Keeps h mem × Small w
 
-  start_room : (s : ℕ) (c : Bool) → Room c (0 + s) (slice_get (zeros (s + spare_count c)) (suc (suc (0 + s)))) (zeros (s + spare_count c))
-  start_room s true = record { enough = omega (arith, zeros_length (s + 2)); long = λ q. omega (arith, zeros_length (s + 2)); past = refl }
+  start_room : (s : ℕ) (c : Bool) → Room c (0 + s) (slice_get (zeros (s + spare_count c)) (suc (suc (0 + s))))
+      (zeros (s + spare_count c))
+  start_room s true =
+      record {
+        enough = omega (arith, zeros_length (s + 2));
+        long = λ q. omega (arith, zeros_length (s + 2));
+        past =
+            refl;
+      }
   start_room s false = record { enough = omega (arith, zeros_length (s + 0)); long = λ q. absurd (cc); past = refl }
 
   -- the code outside all functions, begun on an empty heap
@@ -101,13 +111,16 @@ module _ (v : Version) (t : List IrFunc) (m : PureModule) (carries : Carries v t
   abbrev call_locals : ℤ → List ℤ → List WasmValue
   call_locals r ws = map word (r ∷ ws) ++ I64 0 ∷ I64 0 ∷ I32 0 ∷ []
 
-  slots_fit : (r : ℤ) (ws : List ℤ) (i : ℕ) (x : WasmValue) → length ws < i → ((j : ℕ) (w : ℤ) → slice_get (r ∷ ws) j ≡ Some w → Small w) → Fits 0 (call_frame r ws) (slice_set (call_locals r ws) i x)
+  slots_fit : (r : ℤ) (ws : List ℤ) (i : ℕ) (x : WasmValue) → length ws < i
+      → ((j : ℕ) (w : ℤ) → slice_get (r ∷ ws) j ≡ Some w → Small w)
+      → Fits 0 (call_frame r ws) (slice_set (call_locals r ws) i x)
   slots_fit r ws i x lt sm = record {
     argument = λ w e. absurd (cc);
     own = λ w e. absurd (cc);
     slots = λ j w e.
         let z : 0 + j ≡ j = omega arith in
-        let g : slice_get (call_locals r ws) j ≡ Some (word w) = get_append (map word (r ∷ ws)) _ j (word w) (slice_get-map word (r ∷ ws) j ∙ ap (λ o. option_map word o) e) in
+        let g : slice_get (call_locals r ws) j ≡ Some (word w) = get_append (map word (r ∷ ws)) _ j (word w)
+        (slice_get-map word (r ∷ ws) j ∙ ap (λ o. option_map word o) e) in
         (rw z (set_other (call_locals r ws) i j x (word w) (omega (arith, get_within (r ∷ ws) j w e)) g), sm j w e);
   }
 
@@ -120,15 +133,29 @@ module _ (v : Version) (t : List IrFunc) (m : PureModule) (carries : Carries v t
       let keep = suc (suc (suc (leaf_count s))) in
       let ls = slice_set (call_locals r ws) keep (I32 (8 * length h)) in
       let at_keep : suc (suc (0 + suc (leaf_count s))) ≡ keep = omega arith in
-      let long : length (call_locals r ws) ≡ suc (length ws) + 3 = length-append (map word (r ∷ ws)) (I64 0 ∷ I64 0 ∷ I32 0 ∷ []) ∙ ap (λ x. x + 3) (length-map (r ∷ ws) word) in
+      let long : length (call_locals r ws) ≡ suc (length ws) + 3 =
+      length-append (map word (r ∷ ws)) (I64 0 ∷ I64 0 ∷ I32 0 ∷ []) ∙ ap (λ x. x + 3) (length-map (r ∷ ws) word) in
       let below : keep < length (call_locals r ws) = omega (arith, len, long) in
       along (invoked_is_run m (store_at (table_of t) (8 * length h) mem) g (map word (r ∷ ws)) n (call_numbered x s)
       (call_type s) is_call is_type (words_typed (r ∷ ws) (suc (leaf_count s)) (ap suc len))
-      ∙ (rule m (table_of t) n _ ∙ put_local m (table_of t) n keep (I32 (8 * length h)) _ (call_locals r ws) [] _ _ below))
+      ∙ (rule m (table_of t) n _ ∙ put_local m (table_of t) n keep (I32 (8 * length h)) _ (call_locals r ws) [] _ _
+      below))
       (right v t m carries sound c (call_of s) n 0 (suc (leaf_count s)) true (Some (I32 (8 * length h)))
       (call_frame r ws) h mem ls [] _ (in_label 1 end [] end ∷ in_frame 1 [] [] end ∷ [])
       (λ w l g E. Done h w l g E)
       (tt, argument_fine s 1) (omega (arith, argument_need s 1)) (λ q. refl) (omega (arith, len))
-      (record { enough = omega (arith, len, long, set_length (call_locals r ws) keep (I32 (8 * length h))); long = λ q. omega (arith, len, long, set_length (call_locals r ws) keep (I32 (8 * length h))); past = rw at_keep (set_same (call_locals r ws) keep (I32 (8 * length h)) below) })
+      (record {
+        enough = omega (arith, len, long, set_length (call_locals r ws) keep (I32 (8 * length h)));
+        long = λ q.
+            omega (arith, len, long, set_length (call_locals r ws) keep (I32 (8 * length h)));
+        past =
+            rw at_keep (set_same (call_locals r ws) keep (I32 (8 * length h)) below);
+      })
       (slots_fit r ws keep (I32 (8 * length h)) (omega (arith, len)) sm) me
-      λ w l g mem ls gr sw f room me. (mem, got_local m (table_of t) l _ _ _ _ _ _ _ (rw at_keep at room.past) ∙ (rule m (table_of t) l _ ∙ leaves_all m l 1 _ ls (word w ∷ [])), me, sw))
+      λ w l g mem ls gr sw f room me. (
+        mem,
+        got_local m (table_of t) l _ _ _ _ _ _ _ (rw at_keep at room.past)
+            ∙ (rule m (table_of t) l _ ∙ leaves_all m l 1 _ ls (word w ∷ [])),
+        me,
+        sw,
+      ))

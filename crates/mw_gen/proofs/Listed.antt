@@ -37,7 +37,18 @@ place_listed (Free j) b rest = rw (more j) refl
 
 stores_listed : (ps : List Place) (j b : ℕ) (rest : Code) → stores_code ps j b rest ≡ before (stores_list ps j b) rest
 stores_listed [] j b rest = refl
-stores_listed (p ∷ ps) j b rest = rw (more j, before_append (place_list p b) (Rattle.mw_wasm.specs.Syntax.store Rattle.mw_wasm.specs.declared.numbers.StoreOp.TheVariants.I64 3 (8 * j) ∷ stores_list ps (suc j) b) rest, place_listed p b (next (Rattle.mw_wasm.specs.Syntax.store Rattle.mw_wasm.specs.declared.numbers.StoreOp.TheVariants.I64 3 (8 * j)) (stores_code ps (suc j) b rest)), stores_listed ps (suc j) b rest) refl
+stores_listed (p ∷ ps) j b rest =
+    rw (
+      more j,
+      before_append (place_list p b)
+          (Rattle.mw_wasm.specs.Syntax.store Rattle.mw_wasm.specs.declared.numbers.StoreOp.TheVariants.I64 3 (8 * j)
+          ∷ stores_list ps (suc j) b) rest,
+      place_listed p b
+          (next (Rattle.mw_wasm.specs.Syntax.store Rattle.mw_wasm.specs.declared.numbers.StoreOp.TheVariants.I64 3
+          (8 * j))
+          (stores_code ps (suc j) b rest)),
+      stores_listed ps (suc j) b rest,
+    ) refl
 
 apply_listed : (t : ℕ) (rest : Code) → application_code t rest ≡ before (apply_list t) rest
 apply_listed t rest = rw (more t) refl
@@ -56,30 +67,63 @@ prim_listed Lt rest = refl
 prim_listed Le rest = refl
 
 -- two parts, and then a third
-parts : (xs ys zs : List Instruction) (rest : Code) → before (xs ++ (ys ++ zs)) rest ≡ before xs (before ys (before zs rest))
+parts : (xs ys zs : List Instruction) (rest : Code) → before (xs ++ (ys ++ zs)) rest
+    ≡ before xs (before ys (before zs rest))
 parts xs ys zs rest = before_append xs (ys ++ zs) rest ∙ ap (before xs) (before_append ys zs rest)
 
 pub expression_listed : (e : Ir) (b t : ℕ) (rest : Code) → expression_code e b t rest ≡ before (code_list e b t) rest
 expression_listed (i.num z) b t rest = refl
 expression_listed (i.truth z) b t rest = refl
 expression_listed (i.get p) b t rest = place_listed p b rest
-expression_listed (i.closure k ps) b t rest = rw (more (length ps), stores_listed ps 1 b (address_code (8 * suc (length ps)) rest), before_append (stores_list ps 1 b) (address_list (8 * suc (length ps))) rest) refl
-expression_listed (i.app f a) b t rest = rw (expression_listed f b t (expression_code a b t (application_code t rest)), expression_listed a b t (application_code t rest), apply_listed t rest) (sym (parts (code_list f b t) (code_list a b t) (apply_list t) rest))
-expression_listed (i.bind s d e) b t rest = rw (expression_listed d b t (next (local_set (b + s)) (expression_code e b t rest)), expression_listed e b t rest) (sym (before_append (code_list d b t) (local_set (b + s) ∷ code_list e b t) rest))
-expression_listed (i.cond c x y) b t rest = expression_listed c b t _ ∙ sym (before_append (code_list c b t) (choice_list (expression_code x b t end) (expression_code y b t end)) rest)
-expression_listed (i.pair x y) b t rest = rw (expression_listed x b t (expression_code y b t (pair_code t rest)), expression_listed y b t (pair_code t rest), pair_listed t rest) (sym (parts (code_list x b t) (code_list y b t) (pair_list t) rest))
+expression_listed (i.closure k ps) b t rest =
+    rw (
+      more (length ps),
+      stores_listed ps 1 b (address_code (8 * suc (length ps)) rest),
+      before_append (stores_list ps 1 b) (address_list (8 * suc (length ps))) rest,
+    ) refl
+expression_listed (i.app f a) b t rest = rw (
+  expression_listed f b t (expression_code a b t (application_code t rest)),
+  expression_listed a b t (application_code t rest),
+  apply_listed t rest,
+)
+    (sym (parts (code_list f b t) (code_list a b t) (apply_list t) rest))
+expression_listed (i.bind s d e) b t rest =
+    rw (expression_listed d b t (next (local_set (b + s)) (expression_code e b t rest)), expression_listed e b t rest)
+    (sym (before_append (code_list d b t) (local_set (b + s) ∷ code_list e b t) rest))
+expression_listed (i.cond c x y) b t rest = expression_listed c b t _
+    ∙ sym (before_append (code_list c b t) (choice_list (expression_code x b t end) (expression_code y b t end)) rest)
+expression_listed (i.pair x y) b t rest =
+    rw (
+      expression_listed x b t (expression_code y b t (pair_code t rest)),
+      expression_listed y b t (pair_code t rest),
+      pair_listed t rest,
+    ) (sym (parts (code_list x b t) (code_list y b t) (pair_list t) rest))
 expression_listed (i.fst e) b t rest = expression_listed e b t _ ∙ sym (before_append (code_list e b t) _ rest)
 expression_listed (i.snd e) b t rest = expression_listed e b t _ ∙ sym (before_append (code_list e b t) _ rest)
-expression_listed (i.prim p x y) b t rest = rw (expression_listed x b t (expression_code y b t (prim_code p rest)), expression_listed y b t (prim_code p rest), prim_listed p rest) (sym (parts (code_list x b t) (code_list y b t) (prim_list p) rest))
+expression_listed (i.prim p x y) b t rest =
+    rw (
+      expression_listed x b t (expression_code y b t (prim_code p rest)),
+      expression_listed y b t (prim_code p rest),
+      prim_listed p rest,
+    ) (sym (parts (code_list x b t) (code_list y b t) (prim_list p) rest))
 
 pub tail_listed : (e : Ir) (b t d : ℕ) → tail_code e b t d ≡ before (tail_list e b t d) end
 tail_listed (i.app f a) b t d = go (is_own f)
   where
-    go : (z : Bool) → (if z then expression_code a b t (next (local_set 1) (next (br d) end)) else expression_code f b t (expression_code a b t (application_code t end))) ≡ before (if z then code_list a b t ++ local_set 1 ∷ br d ∷ [] else code_list f b t ++ (code_list a b t ++ apply_list t)) end
+    go : (z : Bool)
+        → (if z then expression_code a b t (next (local_set 1) (next (br d) end)) else expression_code f b t
+        (expression_code a b t (application_code t end)))
+        ≡ before (if z then code_list a b t ++ local_set 1 ∷ br d ∷ [] else code_list f b t
+        ++ (code_list a b t ++ apply_list t)) end
     go true = expression_listed a b t _ ∙ sym (before_append (code_list a b t) (local_set 1 ∷ br d ∷ []) end)
     go false = expression_listed (i.app f a) b t end
-tail_listed (i.bind s a e) b t d = rw (expression_listed a b t (next (local_set (b + s)) (tail_code e b t d)), tail_listed e b t d) (sym (before_append (code_list a b t) (local_set (b + s) ∷ tail_list e b t d) end))
-tail_listed (i.cond c x y) b t d = rw (more d) (expression_listed c b t _ ∙ sym (before_append (code_list c b t) (choice_list (tail_code x b t (suc d)) (tail_code y b t (suc d))) end))
+tail_listed (i.bind s a e) b t d =
+    rw (expression_listed a b t (next (local_set (b + s)) (tail_code e b t d)), tail_listed e b t d)
+    (sym (before_append (code_list a b t) (local_set (b + s) ∷ tail_list e b t d) end))
+tail_listed (i.cond c x y) b t d =
+    rw (more d)
+    (expression_listed c b t _
+    ∙ sym (before_append (code_list c b t) (choice_list (tail_code x b t (suc d)) (tail_code y b t (suc d))) end))
 tail_listed (i.num z) b t d = expression_listed (i.num z) b t end
 tail_listed (i.truth z) b t d = expression_listed (i.truth z) b t end
 tail_listed (i.get p) b t d = expression_listed (i.get p) b t end
@@ -94,13 +138,16 @@ list_before [] = refl
 list_before (x ∷ is) = ap (λ c. next (instruction_of x) c) (list_before is)
 
 -- code whose instructions are these
-pub code_listed : (c : Instrs) (xs : List Instruction) → map instruction_of c.inner.items ≡ xs → code_of c ≡ before xs end
+pub code_listed : (c : Instrs) (xs : List Instruction) → map instruction_of c.inner.items ≡ xs → code_of c
+    ≡ before xs end
 code_listed c xs e = list_before c.inner.items ∙ ap (λ is. before is end) e
 
-pub code_is : (c : Instrs) (e : Ir) (b t : ℕ) → map instruction_of c.inner.items ≡ code_list e b t → code_of c ≡ expression_code e b t end
+pub code_is : (c : Instrs) (e : Ir) (b t : ℕ) → map instruction_of c.inner.items ≡ code_list e b t → code_of c
+    ≡ expression_code e b t end
 code_is c e b t h = code_listed c (code_list e b t) h ∙ sym (expression_listed e b t end)
 
-pub tail_is : (c : Instrs) (e : Ir) (b t d : ℕ) → map instruction_of c.inner.items ≡ tail_list e b t d → code_of c ≡ tail_code e b t d
+pub tail_is : (c : Instrs) (e : Ir) (b t d : ℕ) → map instruction_of c.inner.items ≡ tail_list e b t d → code_of c
+    ≡ tail_code e b t d
 tail_is c e b t d h = code_listed c (tail_list e b t d) h ∙ sym (tail_listed e b t d)
 
 pub restarting_is : (c : Instrs) (e : Ir) (t : ℕ) → map instruction_of c.inner.items
@@ -116,21 +163,29 @@ replicate_more k x = sym (replicate-append-replicate k 1 x)
 
 pub counting_more : (k n : ℕ) → counting k (n + 1) ≡ counting k n ++ (k + n) ∷ []
 counting_more k zero = let e : k ≡ k + 0 = omega arith in ap (λ k. k ∷ []) e
-counting_more k (suc n) = let e : suc n + 1 ≡ suc (n + 1) = omega arith in let f : k + suc n ≡ suc k + n = omega arith in rw (e, f) (ap (λ ks. k ∷ ks) (counting_more (suc k) n))
+counting_more k (suc n) = let e : suc n + 1 ≡ suc (n + 1) = omega arith in let f : k + suc n ≡ suc k + n =
+    omega arith in rw (e, f) (ap (λ ks. k ∷ ks) (counting_more (suc k) n))
 
 pub replicate_first : (k : ℕ) (x : ValType) → replicate (1 + k) x ≡ x ∷ replicate k x
 replicate_first k x = sym (replicate-append-replicate 1 k x)
 
-pub elements_some : (n : ℕ) → 0 < n → elements_of n ≡ record { offset = next (const_i32 0) end; funcs = counting 0 n } ∷ []
+pub elements_some : (n : ℕ) → 0 < n → elements_of n ≡ record { offset = next (const_i32 0) end; funcs = counting 0 n }
+    ∷ []
 elements_some zero lt = absurd (omega arith)
 elements_some (suc n) lt = refl
 
 -- the body of `call`
-pub call_is : (c : Instrs) (s : GroundType) → map instruction_of c.inner.items ≡ global_get 0 ∷ local_set (leaf_count s + 3) ∷ (code_list (call_of s) 0 (leaf_count s + 1) ++ local_get (leaf_count s + 3) ∷ global_set 0 ∷ []) → code_of c ≡ (call_function s).body
+pub call_is : (c : Instrs) (s : GroundType) → map instruction_of c.inner.items ≡ global_get 0
+    ∷ local_set (leaf_count s + 3) ∷ (code_list (call_of s) 0 (leaf_count s + 1) ++ local_get (leaf_count s + 3)
+    ∷ global_set 0 ∷ []) → code_of c ≡ (call_function s).body
 call_is c s h =
     let keep : leaf_count s + 3 ≡ suc (suc (suc (leaf_count s))) = omega arith in
     let spare : leaf_count s + 1 ≡ 0 + suc (leaf_count s) = omega arith in
-    code_listed c (global_get 0 ∷ local_set (suc (suc (suc (leaf_count s)))) ∷ (code_list (call_of s) 0 (0 + suc (leaf_count s)) ++ local_get (suc (suc (suc (leaf_count s)))) ∷ global_set 0 ∷ [])) (rw (keep, spare) at h)
+    code_listed c (global_get 0 ∷ local_set (suc (suc (suc (leaf_count s))))
+    ∷ (code_list (call_of s) 0 (0 + suc (leaf_count s)) ++ local_get (suc (suc (suc (leaf_count s)))) ∷ global_set 0
+    ∷ [])) (rw (keep, spare) at h)
     ∙ ap (λ d. next (global_get 0) (next (local_set (suc (suc (suc (leaf_count s))))) d))
-    (before_append (code_list (call_of s) 0 (0 + suc (leaf_count s))) (local_get (suc (suc (suc (leaf_count s)))) ∷ global_set 0 ∷ []) end
-    ∙ sym (expression_listed (call_of s) 0 (0 + suc (leaf_count s)) (next (local_get (suc (suc (suc (leaf_count s))))) (next (global_set 0) end))))
+    (before_append (code_list (call_of s) 0 (0 + suc (leaf_count s)))
+    (local_get (suc (suc (suc (leaf_count s)))) ∷ global_set 0 ∷ []) end
+    ∙ sym (expression_listed (call_of s) 0 (0 + suc (leaf_count s))
+    (next (local_get (suc (suc (suc (leaf_count s))))) (next (global_set 0) end))))

@@ -41,7 +41,8 @@ entry_get n zero lt = refl
 entry_get n (suc zero) lt = refl
 entry_get n (suc (suc j)) lt = replicate_get n j (omega arith)
 
-pub all_append : {A : Type 0} (P : A → Type 0) (xs ys : List A) → AllByRecursion P xs → AllByRecursion P ys → AllByRecursion P (xs ++ ys)
+pub all_append : {A : Type 0} (P : A → Type 0) (xs ys : List A) → AllByRecursion P xs → AllByRecursion P ys
+    → AllByRecursion P (xs ++ ys)
 all_append P [] ys a b = b
 all_append P (x ∷ xs) ys a b = (a.0, all_append P xs ys a.1 b)
 
@@ -55,7 +56,8 @@ init_room false s e = absurd (cc)
 
 pub argument_sees : (s : GroundType) (k n : ℕ) → k + leaf_count s ≤ n → Sees (argument_of s k) 0 n
 argument_sees (base b) k n le = omega arith
-argument_sees (Rattle.mw_term.specs.Terms.product s t) k n le = (argument_sees s k n (omega arith), argument_sees t (k + leaf_count s) n (omega arith))
+argument_sees (Rattle.mw_term.specs.Terms.product s t) k n le =
+    (argument_sees s k n (omega arith), argument_sees t (k + leaf_count s) n (omega arith))
 
 -- What the code of kernels speaks of in a module: their functions' type, the table, the memory and the top of the heap.
 pub record Suits (m : PureModule) : Type 0 where
@@ -78,13 +80,17 @@ module _ (v : Version) (m : PureModule) (suits : Suits m) where
   func_valid : (f : IrFunc) → Proper f → IsValidFunction m (function_for v f)
   func_valid f p = (closure_type, suits.type0, go (is_loop v f.body))
     where
-      go : (z : Bool) → CodeHasType (within (I64 ∷ I64 ∷ replicate (f.slots + spare_count (body_wants_spare z f.body)) I64)) (body_code z f.body (2 + f.slots)) [] (I64 ∷ [])
+      go : (z : Bool)
+          → CodeHasType (within (I64 ∷ I64 ∷ replicate (f.slots + spare_count (body_wants_spare z f.body)) I64))
+          (body_code z f.body (2 + f.slots)) [] (I64 ∷ [])
       go false =
           let n = 2 + (f.slots + spare_count (wants_spare f.body)) in
-          valid 2 n (2 + f.slots) f.body _ (offers n _ (λ j lt. entry_get _ j lt)) (p.sees n (omega arith)) (omega (arith, p.needs)) (temps_room (wants_spare f.body) f.slots) end [] (I64 ∷ []) of_end
+          valid 2 n (2 + f.slots) f.body _ (offers n _ (λ j lt. entry_get _ j lt)) (p.sees n (omega arith))
+          (omega (arith, p.needs)) (temps_room (wants_spare f.body) f.slots) end [] (I64 ∷ []) of_end
       go true =
           let n = 2 + (f.slots + spare_count (tail_wants_spare f.body)) in
-          loop_valid n (2 + f.slots) f.body _ (offers n _ (λ j lt. entry_get _ j lt)) (omega arith) (p.sees n (omega arith)) (omega (arith, p.needs)) (temps_room (tail_wants_spare f.body) f.slots)
+          loop_valid n (2 + f.slots) f.body _ (offers n _ (λ j lt. entry_get _ j lt)) (omega arith)
+          (p.sees n (omega arith)) (omega (arith, p.needs)) (temps_room (tail_wants_spare f.body) f.slots)
 
   pub funcs_valid : (fs : List IrFunc) → AllProper fs → AllByRecursion (IsValidFunction m) (map (function_for v) fs)
   funcs_valid [] p = tt
@@ -146,7 +152,8 @@ call_valid v m suits s x is =
           (of_next (I64 ∷ []) (I32 ∷ []) [] (of_global_set suits.top) refl of_end)))),
     )
 
-more_valid : (v : Version) (t : List IrFunc) (slots : ℕ) (body : Ir) (k : KernelType) → AllByRecursion (IsValidFunction (module_with v t slots body k)) (more_functions k)
+more_valid : (v : Version) (t : List IrFunc) (slots : ℕ) (body : Ir) (k : KernelType)
+    → AllByRecursion (IsValidFunction (module_with v t slots body k)) (more_functions k)
 more_valid v t slots body (of_ground g) = tt
 more_valid v t slots body (to s b) =
     (call_valid v (module_with v t slots body (to s b)) (suits_alone v t slots body (to s b)) s 2 refl, tt)
@@ -155,8 +162,10 @@ pub counting_below : (k n m : ℕ) → k + n ≤ m → AllByRecursion (λ f. f <
 counting_below k zero m le = tt
 counting_below k (suc n) m le = (omega arith, counting_below (suc k) n m (omega arith))
 
-funcs_length : (v : Version) (t : List IrFunc) (slots : ℕ) (body : Ir) (k : KernelType) → length (module_with v t slots body k).funcs ≡ length t + suc (length (more_functions k))
-funcs_length v t slots body k = length-append (map (function_for v) t) (init_function slots body ∷ more_functions k) ∙ ap (λ x. x + suc (length (more_functions k))) (length-map t (function_for v))
+funcs_length : (v : Version) (t : List IrFunc) (slots : ℕ) (body : Ir) (k : KernelType)
+    → length (module_with v t slots body k).funcs ≡ length t + suc (length (more_functions k))
+funcs_length v t slots body k = length-append (map (function_for v) t) (init_function slots body ∷ more_functions k)
+    ∙ ap (λ x. x + suc (length (more_functions k))) (length-map t (function_for v))
 
 heads : {a b : ℕ} {xs ys : List ℕ} → a ∷ xs ≡ b ∷ ys → a ≡ b
 heads e = cc
@@ -165,7 +174,9 @@ pub few_results : (k : KernelType) → AllByRecursion (λ (t : FuncType). length
 few_results (of_ground g) = tt
 few_results (to s b) = (omega arith, tt)
 
-pub module_valid : (v : Version) (t : List IrFunc) (slots : ℕ) (body : Ir) (k : KernelType) → AllProper t → ((n : ℕ) → slots ≤ n → Sees body 0 n) → slots_needed body ≤ slots → length t ≤ 2 ^ 32 → IsValid (module_with v t slots body k)
+pub module_valid : (v : Version) (t : List IrFunc) (slots : ℕ) (body : Ir) (k : KernelType) → AllProper t
+    → ((n : ℕ) → slots ≤ n → Sees body 0 n) → slots_needed body ≤ slots → length t ≤ 2 ^ 32
+    → IsValid (module_with v t slots body k)
 module_valid v t slots body k proper sees nd few = record {
   types = (omega arith, (omega arith, few_results k));
   funcs =
@@ -184,9 +195,11 @@ module_valid v t slots body k proper sees nd few = record {
   segments = tt;
 }
   where
-    exports : (k : KernelType) → AllByRecursion (λ (e : Exporting). IsThere (module_with v t slots body k) e.what) (module_with v t slots body k).exports
+    exports : (k : KernelType) → AllByRecursion (λ (e : Exporting). IsThere (module_with v t slots body k) e.what)
+        (module_with v t slots body k).exports
     exports (of_ground g) = (omega (arith, funcs_length v t slots body (of_ground g)), tt)
-    exports (to s b) = (omega (arith, funcs_length v t slots body (to s b)), (omega (arith, funcs_length v t slots body (to s b)), tt))
+    exports (to s b) =
+        (omega (arith, funcs_length v t slots body (to s b)), (omega (arith, funcs_length v t slots body (to s b)), tt))
 
     names : (k : KernelType) → NamesDiffer (module_with v t slots body k).exports
     names (of_ground g) = (tt, tt)

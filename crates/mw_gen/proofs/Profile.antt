@@ -40,7 +40,12 @@ place_depth (Free j) b rest = omega arith
 
 stores_depth : (ps : List Place) (j b : ℕ) (rest : Code) → depth (stores_code ps j b rest) ≤ depth rest
 stores_depth [] j b rest = omega arith
-stores_depth (p ∷ ps) j b rest = omega (arith, place_depth p b (Rattle.mw_gen.specs.Generate.store_word (8 * j) (stores_code ps (suc j) b rest)), stores_depth ps (suc j) b rest)
+stores_depth (p ∷ ps) j b rest =
+    omega (
+      arith,
+      place_depth p b (Rattle.mw_gen.specs.Generate.store_word (8 * j) (stores_code ps (suc j) b rest)),
+      stores_depth ps (suc j) b rest,
+    )
 
 prim_depth : (p : Prim) (rest : Code) → depth (prim_code p rest) ≤ depth rest
 prim_depth Add rest = omega arith
@@ -52,30 +57,44 @@ prim_depth Eq rest = omega arith
 prim_depth Lt rest = omega arith
 prim_depth Le rest = omega arith
 
-pub expression_depth : (e : Ir) (b t : ℕ) (rest : Code) (m : ℕ) → depth rest ≤ m → ifs e ≤ m → depth (expression_code e b t rest) ≤ m
+pub expression_depth : (e : Ir) (b t : ℕ) (rest : Code) (m : ℕ) → depth rest ≤ m → ifs e ≤ m
+    → depth (expression_code e b t rest) ≤ m
 expression_depth (i.num z) b t rest m h g = omega arith
 expression_depth (i.truth z) b t rest m h g = omega arith
 expression_depth (i.get p) b t rest m h g = omega (arith, place_depth p b rest)
-expression_depth (i.closure k ps) b t rest m h g = omega (arith, stores_depth ps 1 b (Rattle.mw_gen.specs.Generate.address_code (8 * suc (length ps)) rest))
-expression_depth (i.app f a) b t rest m h g = expression_depth f b t _ m (expression_depth a b t _ m (omega arith) (omega arith)) (omega arith)
-expression_depth (i.bind s d e) b t rest m h g = expression_depth d b t _ m (let r = expression_depth e b t rest m h (omega arith) in omega arith) (omega arith)
+expression_depth (i.closure k ps) b t rest m h g =
+    omega (arith, stores_depth ps 1 b (Rattle.mw_gen.specs.Generate.address_code (8 * suc (length ps)) rest))
+expression_depth (i.app f a) b t rest m h g =
+    expression_depth f b t _ m (expression_depth a b t _ m (omega arith) (omega arith)) (omega arith)
+expression_depth (i.bind s d e) b t rest m h g =
+    expression_depth d b t _ m (let r = expression_depth e b t rest m h (omega arith) in omega arith) (omega arith)
 expression_depth (i.cond c y z) b t rest zero h g = absurd (omega arith)
 expression_depth (i.cond c y z) b t rest (suc m) h g =
-    expression_depth c b t _ (suc m) (let p = expression_depth y b t end m (omega arith) (omega arith) in let q = expression_depth z b t end m (omega arith) (omega arith) in omega arith) (omega arith)
-expression_depth (i.pair y z) b t rest m h g = expression_depth y b t _ m (expression_depth z b t _ m (omega arith) (omega arith)) (omega arith)
+    expression_depth c b t _ (suc m) (let p = expression_depth y b t end m (omega arith) (omega arith) in let q =
+    expression_depth z b t end m (omega arith) (omega arith) in omega arith) (omega arith)
+expression_depth (i.pair y z) b t rest m h g =
+    expression_depth y b t _ m (expression_depth z b t _ m (omega arith) (omega arith)) (omega arith)
 expression_depth (i.fst e) b t rest m h g = expression_depth e b t _ m (omega arith) g
 expression_depth (i.snd e) b t rest m h g = expression_depth e b t _ m (omega arith) g
-expression_depth (i.prim p y z) b t rest m h g = expression_depth y b t _ m (expression_depth z b t _ m (omega (arith, prim_depth p rest)) (omega arith)) (omega arith)
+expression_depth (i.prim p y z) b t rest m h g =
+    expression_depth y b t _ m (expression_depth z b t _ m (omega (arith, prim_depth p rest)) (omega arith))
+    (omega arith)
 
 pub tail_depth : (e : Ir) (b t d m : ℕ) → ifs e ≤ m → depth (tail_code e b t d) ≤ m
 tail_depth (i.app f a) b t d m g = go (is_own f)
   where
-    go : (c : Bool) → depth (if c then expression_code a b t (next (Rattle.mw_wasm.specs.Syntax.local_set 1) (next (Rattle.mw_wasm.specs.Syntax.br d) end)) else expression_code f b t (expression_code a b t (application_code t end))) ≤ m
+    go : (c : Bool)
+        → depth (if c then expression_code a b t
+        (next (Rattle.mw_wasm.specs.Syntax.local_set 1) (next (Rattle.mw_wasm.specs.Syntax.br d) end)) else
+        expression_code f b t (expression_code a b t (application_code t end))) ≤ m
     go true = expression_depth a b t _ m (omega arith) (omega arith)
     go false = expression_depth (i.app f a) b t end m (omega arith) g
-tail_depth (i.bind s y e) b t d m g = expression_depth y b t _ m (let r = tail_depth e b t d m (omega arith) in omega arith) (omega arith)
+tail_depth (i.bind s y e) b t d m g =
+    expression_depth y b t _ m (let r = tail_depth e b t d m (omega arith) in omega arith) (omega arith)
 tail_depth (i.cond c y z) b t d zero g = absurd (omega arith)
-tail_depth (i.cond c y z) b t d (suc m) g = expression_depth c b t _ (suc m) (let p = tail_depth y b t (suc d) m (omega arith) in let q = tail_depth z b t (suc d) m (omega arith) in omega arith) (omega arith)
+tail_depth (i.cond c y z) b t d (suc m) g =
+    expression_depth c b t _ (suc m) (let p = tail_depth y b t (suc d) m (omega arith) in let q =
+    tail_depth z b t (suc d) m (omega arith) in omega arith) (omega arith)
 tail_depth (i.num z) b t d m g = expression_depth (i.num z) b t end m (omega arith) g
 tail_depth (i.truth z) b t d m g = expression_depth (i.truth z) b t end m (omega arith) g
 tail_depth (i.get p) b t d m g = expression_depth (i.get p) b t end m (omega arith) g
@@ -103,27 +122,48 @@ argument_ifs (base b) k = refl
 argument_ifs (product s t) k = rw (argument_ifs s k, argument_ifs t (k + leaf_count s)) refl
 
 pub call_depth : (s : GroundType) → depth (call_function s).body ≤ 500
-call_depth s = let r = expression_depth (call_of s) 0 (0 + suc (leaf_count s)) (next (Rattle.mw_wasm.specs.Syntax.local_get (suc (suc (suc (leaf_count s))))) (next (Rattle.mw_wasm.specs.Syntax.global_set 0) end)) 0 (omega arith) (omega (arith, argument_ifs s 1)) in omega arith
+call_depth s = let r = expression_depth (call_of s) 0 (0 + suc (leaf_count s))
+    (next (Rattle.mw_wasm.specs.Syntax.local_get (suc (suc (suc (leaf_count s)))))
+    (next (Rattle.mw_wasm.specs.Syntax.global_set 0) end)) 0 (omega arith) (omega (arith, argument_ifs s 1)) in
+    omega arith
 
 module _ (v : Version) where
   pub locals_few : (fs : List IrFunc) → AllByRecursion (IsModest 400 20000) fs
       → AllByRecursion (λ (f : Function). length f.locals ≤ 50_000) (map (function_for v) fs)
   locals_few [] h = tt
-  locals_few (f ∷ fs) h = (let a = h.0.lets in omega (arith, a, length-replicate (f.slots + spare_count (body_wants_spare (is_loop v f.body) f.body)) I64, temps_two (body_wants_spare (is_loop v f.body) f.body)), locals_few fs h.1)
+  locals_few (f ∷ fs) h = (
+    let a = h.0.lets in
+        omega (
+          arith,
+          a,
+          length-replicate (f.slots + spare_count (body_wants_spare (is_loop v f.body) f.body)) I64,
+          temps_two (body_wants_spare (is_loop v f.body) f.body),
+        ),
+    locals_few fs h.1,
+  )
 
   pub all_shallow : (fs : List IrFunc) → AllByRecursion (IsModest 400 20000) fs
       → AllByRecursion (λ (f : Function). IsShallow f.body) (map (function_for v) fs)
   all_shallow [] h = tt
-  all_shallow (f ∷ fs) h = (let a = h.0.choices in omega (arith, body_depth (is_loop v f.body) f.body (2 + f.slots) 400 a), all_shallow fs h.1)
+  all_shallow (f ∷ fs) h = (
+    let a = h.0.choices in omega (arith, body_depth (is_loop v f.body) f.body (2 + f.slots) 400 a),
+    all_shallow fs h.1,
+  )
 
-pub module_within_profile : (v : Version) (t : List IrFunc) (slots : ℕ) (body : Ir) (k : KernelType) → length t ≤ 20000 → AllByRecursion (IsModest 400 20000) t → slots ≤ 20000 → ifs body ≤ 400 → IsWithinProfile (module_with v t slots body k)
+pub module_within_profile : (v : Version) (t : List IrFunc) (slots : ℕ) (body : Ir) (k : KernelType) → length t ≤ 20000
+    → AllByRecursion (IsModest 400 20000) t → slots ≤ 20000 → ifs body ≤ 400
+    → IsWithinProfile (module_with v t slots body k)
 module_within_profile v t slots body k many modest few flat = record {
   type_results = (omega arith, (omega arith, few_results k));
   table_elements = omega arith;
   memory_pages = omega arith;
-  further_locals = all_append _ (map (function_for v) t) _ (locals_few v t modest) (omega (arith, length-replicate (slots + spare_count (wants_spare body)) I64, temps_two (wants_spare body)), call_few k);
+  further_locals = all_append _ (map (function_for v) t) _ (locals_few v t modest) (
+    omega (arith, length-replicate (slots + spare_count (wants_spare body)) I64, temps_two (wants_spare body)),
+    call_few k,
+  );
   export_names = names k;
-  function_depth = all_append _ (map (function_for v) t) _ (all_shallow v t modest) (omega (arith, expression_depth body 0 (0 + slots) end 400 (omega arith) (omega arith)), call_shallow k);
+  function_depth = all_append _ (map (function_for v) t) _ (all_shallow v t modest)
+      (omega (arith, expression_depth body 0 (0 + slots) end 400 (omega arith) (omega arith)), call_shallow k);
   global_depth = (omega arith, tt);
   element_depth = elements (length t);
   segment_depth = tt;
@@ -137,16 +177,20 @@ module_within_profile v t slots body k many modest few flat = record {
     call_shallow (of_ground g) = tt
     call_shallow (to s b) = (call_depth s, tt)
 
-    four : {a b c d : ℕ} → IsPrintable a → IsPrintable b → IsPrintable c → IsPrintable d → AllByRecursion IsPrintable (a ∷ b ∷ c ∷ d ∷ [])
+    four : {a b c d : ℕ} → IsPrintable a → IsPrintable b → IsPrintable c → IsPrintable d
+        → AllByRecursion IsPrintable (a ∷ b ∷ c ∷ d ∷ [])
     four a b c d = (a, (b, (c, (d, tt))))
 
     init_name : AllByRecursion IsPrintable (codes "init")
-    init_name = four (omega arith, omega arith) (omega arith, omega arith) (omega arith, omega arith) (omega arith, omega arith)
+    init_name = four (omega arith, omega arith) (omega arith, omega arith) (omega arith, omega arith)
+        (omega arith, omega arith)
 
     call_name : AllByRecursion IsPrintable (codes "call")
-    call_name = four (omega arith, omega arith) (omega arith, omega arith) (omega arith, omega arith) (omega arith, omega arith)
+    call_name = four (omega arith, omega arith) (omega arith, omega arith) (omega arith, omega arith)
+        (omega arith, omega arith)
 
-    names : (k : KernelType) → AllByRecursion (λ (e : Exporting). AllByRecursion IsPrintable e.name) (module_with v t slots body k).exports
+    names : (k : KernelType) → AllByRecursion (λ (e : Exporting). AllByRecursion IsPrintable e.name)
+        (module_with v t slots body k).exports
     names (of_ground g) = (init_name, tt)
     names (to s b) = (init_name, (call_name, tt))
 

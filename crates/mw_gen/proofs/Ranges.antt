@@ -100,16 +100,19 @@ module _ (t : List IrFunc) (P : Place → Type 0) (slots : ℕ) where
     near (i.prim p x y) r = (near x r.0, near y r.1)
 
 -- so few slots and free variables that all numbers have 32 bits
-short_places : (P : Place → Type 0) → ((p : Place) → P p → IsShortPlace p) → (ps : List Place) → AllByRecursion P ps → AllByRecursion IsShortPlace ps
+short_places : (P : Place → Type 0) → ((p : Place) → P p → IsShortPlace p) → (ps : List Place) → AllByRecursion P ps
+    → AllByRecursion IsShortPlace ps
 short_places P close [] r = tt
 short_places P close (p ∷ ps) r = (close p r.0, short_places P close ps r.1)
 
-module _ (t : List IrFunc) (P : Place → Type 0) (slots : ℕ) (few : slots ≤ 400) (proper : AllByRecursion (IsProper t) t) (close : (p : Place) → P p → IsShortPlace p) where
+module _ (t : List IrFunc) (P : Place → Type 0) (slots : ℕ) (few : slots ≤ 400) (proper : AllByRecursion (IsProper t) t)
+    (close : (p : Place) → P p → IsShortPlace p) where
   short : (e : Ir) → IsInRange t P slots e → IsShort e
   short (i.num z) r = tt
   short (i.truth z) r = tt
   short (i.get p) r = close p r
-  short (i.closure j ps) r = ((let n = free_few t t j (length ps) proper r.0 in omega arith), short_places P close ps r.1)
+  short (i.closure j ps) r =
+      ((let n = free_few t t j (length ps) proper r.0 in omega arith), short_places P close ps r.1)
   short (i.app f a) r = (short f r.0, short a r.1)
   short (i.bind s d e) r = (omega (arith, r.0), short d r.1, short e r.2)
   short (i.cond c x y) r = (short c r.0, short x r.1, short y r.2)
@@ -132,7 +135,13 @@ outer_short slots s (Free j) r = absurd r
 
 all_short : (t fs : List IrFunc) → AllByRecursion (IsProper t) t → AllByRecursion (IsProper t) fs → AllShort fs
 all_short t [] proper a = tt
-all_short t (f ∷ fs) proper a = (short t (IsPlace f.free f.slots) f.slots a.0.slots proper (inner_short f.free f.slots a.0.free a.0.slots) f.body a.0.body, a.0.slots, a.0.depth, all_short t fs proper a.1)
+all_short t (f ∷ fs) proper a = (
+  short t (IsPlace f.free f.slots) f.slots a.0.slots proper (inner_short f.free f.slots a.0.free a.0.slots) f.body
+      a.0.body,
+  a.0.slots,
+  a.0.depth,
+  all_short t fs proper a.1,
+)
 
 -- what the program needs of converted code
 pub record IsShortCode (t : List IrFunc) (o : IrFunc) : Type 0 where
@@ -142,7 +151,14 @@ pub record IsShortCode (t : List IrFunc) (o : IrFunc) : Type 0 where
   pub few : length t ≤ 20000
 
 pub converted_short : (t : List IrFunc) (o : IrFunc) → IsConverted t o → IsShortCode t o
-converted_short t o is = record { functions = all_short t t is.functions is.functions; body = short t (IsOuterPlace o.slots) o.slots is.slots is.functions (outer_short o.slots is.slots) o.body is.body; slots = is.slots; few = is.few }
+converted_short t o is =
+    record {
+      functions = all_short t t is.functions is.functions;
+      body = short t (IsOuterPlace o.slots) o.slots is.slots
+          is.functions (outer_short o.slots is.slots) o.body is.body;
+      slots = is.slots;
+      few = is.few;
+    }
 
 pub shallow : (e : Ir) → ifs e ≤ ir_depth e
 shallow (i.num n) = omega arith
@@ -199,11 +215,25 @@ outer_near slots (Free j) r = absurd r
 module _ (t : List IrFunc) (few : length t ≤ 100000) (proper : AllByRecursion (IsProper t) t) where
   pub all_proper : (fs : List IrFunc) → AllByRecursion (IsProper t) fs → AllProper fs
   all_proper [] a = tt
-  all_proper (f ∷ fs) a = (record { sees = λ n le. seen t (IsPlace f.free f.slots) f.slots 2 n (inner_below f.free f.slots n le) f.body a.0.body; needs = needs t (IsPlace f.free f.slots) f.slots f.body a.0.body }, all_proper fs a.1)
+  all_proper (f ∷ fs) a = (
+    record {
+      sees = λ n le. seen t (IsPlace f.free f.slots) f.slots 2 n (inner_below f.free f.slots n le) f.body
+          a.0.body;
+      needs = needs t (IsPlace f.free f.slots) f.slots f.body a.0.body;
+    },
+    all_proper fs a.1,
+  )
 
   pub all_modest : (fs : List IrFunc) → AllByRecursion (IsProper t) fs → AllByRecursion (IsModest 400 20000) fs
   all_modest [] a = tt
-  all_modest (f ∷ fs) a = (record { choices = (let d = a.0.depth in omega (arith, shallow f.body)); lets = (let s = a.0.slots in omega arith) }, all_modest fs a.1)
+  all_modest (f ∷ fs) a = (
+    record {
+      choices = (let d = a.0.depth in omega (arith, shallow f.body));
+      lets =
+          (let s = a.0.slots in omega arith);
+    },
+    all_modest fs a.1,
+  )
 
   pub all_spelled : (fs : List IrFunc) → AllByRecursion (IsProper t) fs → AllByRecursion CanSpell fs
   all_spelled [] a = tt
@@ -221,12 +251,23 @@ module _ (t : List IrFunc) (few : length t ≤ 100000) (proper : AllByRecursion 
   pub all_narrow : (fs : List IrFunc) → AllByRecursion (IsProper t) fs
       → total fs ≤ 55200 * total_size fs + 60 * length fs
   all_narrow [] a = omega arith
-  all_narrow (f ∷ fs) a = omega (arith, narrow f.body (near t (IsPlace f.free f.slots) f.slots proper (inner_near f.free f.slots a.0.free) f.body a.0.body), all_narrow fs a.1)
+  all_narrow (f ∷ fs) a =
+      omega (
+        arith,
+        narrow f.body (near t (IsPlace f.free f.slots) f.slots proper (inner_near f.free f.slots a.0.free) f.body
+            a.0.body),
+        all_narrow fs a.1,
+      )
 
   pub one_sound : (fs : List IrFunc) → AllByRecursion (IsProper t) fs → (k : ℕ) (f : IrFunc) → slice_get fs k ≡ Some f
       → Fine f.body × (slots_needed f.body ≤ f.slots)
   one_sound [] a k f e = absurd (cc)
-  one_sound (g ∷ fs) a zero f e = let q : g ≡ f = (cc) in Rattle.std.proofs.Common.subst (λ f. Fine f.body × (slots_needed f.body ≤ f.slots)) q (fine t (IsPlace g.free g.slots) g.slots few g.body a.0.body, needs t (IsPlace g.free g.slots) g.slots g.body a.0.body)
+  one_sound (g ∷ fs) a zero f e = let q : g ≡ f = (cc) in
+      Rattle.std.proofs.Common.subst (λ f. Fine f.body × (slots_needed f.body ≤ f.slots)) q (
+        fine t (IsPlace g.free g.slots) g.slots few g.body a.0.body,
+        needs t (IsPlace g.free g.slots) g.slots g.body
+            a.0.body,
+      )
   one_sound (g ∷ fs) a (suc k) f e = one_sound fs a.1 k f e
 
   -- functions that are all in range
@@ -265,7 +306,8 @@ module _ (t : List IrFunc) (o : IrFunc) (is : IsConverted t o) where
       module_within_profile v t o.slots o.body k is.few (all_modest t many is.functions t is.functions)
       (let s = is.slots in omega arith) (let d = is.depth in omega (arith, shallow o.body))
 
-  pub converted_spelled : (v : Version) (k : KernelType) → kernel_nodes k ≤ 10000 → SpelledWithin 2_000_000_000 (wasm_module (module_with v t o.slots o.body k))
+  pub converted_spelled : (v : Version) (k : KernelType) → kernel_nodes k ≤ 10000
+      → SpelledWithin 2_000_000_000 (wasm_module (module_with v t o.slots o.body k))
   converted_spelled v k nodes =
       let w = narrow o.body body_near in
       let ws = all_narrow t many is.functions t is.functions in

@@ -34,13 +34,18 @@ stored h mem (pos a) j w m e = go (a % 8) refl e
           small = m.small _ w e;
         }
 
-pub word_is : (t : List IrFunc) (h : List ℤ) (mem : Memory) (v : KernelValue) (w : ℤ) → Keeps h mem → Stands t h v w → IsWord v (bits w) mem
+pub word_is : (t : List IrFunc) (h : List ℤ) (mem : Memory) (v : KernelValue) (w : ℤ) → Keeps h mem → Stands t h v w
+    → IsWord v (bits w) mem
 word_is t h mem v w m (s_int n) = refl
 word_is t h mem v w m (s_bool b c e) = ap bits e ∙ truth_word b
 word_is t h mem v w m (s_both x y c a b la lb sa sb) =
     let p = stored h mem c 0 a m la in
     let q = stored h mem c 1 b m lb in
-    let z : bits c + 8 * 0 ≡ bits c = omega arith in
-    (le-leb _ _ (omega (arith, q.inside)), subst (λ n. IsWord x n mem) (sym (rw z at p.word)) (word_is t h mem x a m sa), subst (λ n. IsWord y n mem) (sym q.word) (word_is t h mem y b m sb))
+    let z : bits c + 8 * 0 ≡ bits c = omega arith in (
+      le-leb _ _ (omega (arith, q.inside)),
+      subst (λ n. IsWord x n mem) (sym (rw z at p.word))
+          (word_is t h mem x a m sa),
+      subst (λ n. IsWord y n mem) (sym q.word) (word_is t h mem y b m sb),
+    )
 word_is t h mem v w m (s_function c i e env body words eb l has at st) = tt
 word_is t h mem v w m (s_recursive c i e env body words eb l has at st) = tt

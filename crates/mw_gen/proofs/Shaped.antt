@@ -9,9 +9,17 @@ use Rattle.mw_gen.proofs.Correct.{table_of}
 use Rattle.mw_gen.proofs.Invoke.{init_at, call_at}
 use Rattle.mw_gen.proofs.Instance.{no_memory, instance_is}
 
-pub module_shaped : (v : Version) (t : List IrFunc) (slots : ℕ) (body : Ir) (k : KernelType) → HasShape (module_with v t slots body k) k
+pub module_shaped : (v : Version) (t : List IrFunc) (slots : ℕ) (body : Ir) (k : KernelType)
+    → HasShape (module_with v t slots body k) k
 module_shaped v t slots body k = record {
-  init = record { index = length t; is_exported = refl; function = init_function slots body; is_function = init_at v t (init_function slots body) (more_functions k); has_type = refl };
+  init = record {
+    index = length t;
+    is_exported = refl;
+    function = init_function slots body;
+    is_function =
+        init_at v t (init_function slots body) (more_functions k);
+    has_type = refl;
+  };
   call = has_call k;
   memory = refl;
   store = store_at (table_of t) 0 no_memory;
@@ -20,4 +28,11 @@ module_shaped v t slots body k = record {
   where
     has_call : (k : KernelType) → HasCall (module_with v t slots body k) k
     has_call (of_ground g) = tt
-    has_call (to s r) = record { index = suc (length t); is_exported = refl; function = call_function s; is_function = call_at v t (init_function slots body) (call_function s) []; has_type = refl }
+    has_call (to s r) = record {
+      index = suc (length t);
+      is_exported = refl;
+      function = call_function s;
+      is_function =
+          call_at v t (init_function slots body) (call_function s) [];
+      has_type = refl;
+    }

@@ -76,17 +76,27 @@ type_within I64 = within_byte 0x7E
 i32_within : (n : ℕ) → n < 2 ^ 31 → SpelledWithin 10 (i32 n)
 i32_within n h =
     let s = signed_shortest 32 (pos n) (omega arith) (omega arith) (omega (arith, lt→ltb)) in
-    record { bytes = shortest_signed (pos n); spell = (pos n, s.spells, refl); short = let p = signed_length (shortest_signed (pos n)) 32 (pos n) s.spells in omega arith }
+    record {
+      bytes = shortest_signed (pos n);
+      spell = (pos n, s.spells, refl);
+      short = let p =
+          signed_length (shortest_signed (pos n)) 32 (pos n) s.spells in omega arith;
+    }
 
 index_within : (b n : ℕ) → n < 2 ^ 32 → SpelledWithin 6 (byte b then u32 n)
 index_within b n h = within_then {j = 1} {k = 5} (within_byte b) (within_u32 n h)
 
 mutual
   pub instruction_within : (x : Instruction) → IsFit x → SpelledWithin (instruction_width x) (instruction x)
-  instruction_within (loop (Some t) body) f = within_more (3 + width body) (omega arith) (within_then {j = 1} (within_byte 0x03) (within_then {j = 1} (type_within t) (within_then (code_within body f) (within_byte 0x0B))))
+  instruction_within (loop (Some t) body) f = within_more (3 + width body) (omega arith)
+      (within_then {j = 1} (within_byte 0x03)
+      (within_then {j = 1} (type_within t) (within_then (code_within body f) (within_byte 0x0B))))
   instruction_within (cond (Some t) a b) f =
       let rest = within_then {j = 1} (within_byte 0x05) (within_then (code_within b f.1) (within_byte 0x0B)) in
-      within_more (4 + width a + width b) (omega arith) (within_then {j = 1} (within_byte 0x04) (within_then {j = 1} (type_within t) (within_then (code_within a f.0) record { bytes = rest.bytes; spell = inr rest.spell; short = rest.short })))
+      within_more (4 + width a + width b) (omega arith)
+      (within_then {j = 1} (within_byte 0x04)
+      (within_then {j = 1} (type_within t)
+      (within_then (code_within a f.0) record { bytes = rest.bytes; spell = inr rest.spell; short = rest.short })))
   instruction_within (br l) f = index_within 0x0C l f
   instruction_within (call_indirect t) f =
       within_then {j = 1} {k = 6} (within_byte 0x11) (within_then {j = 5} {k = 1} (within_u32 t f) (within_byte 0x00))
@@ -95,10 +105,13 @@ mutual
   instruction_within (local_tee x) f = index_within 0x22 x f
   instruction_within (global_get x) f = index_within 0x23 x f
   instruction_within (global_set x) f = index_within 0x24 x f
-  instruction_within (load o align offset) f = within_then {j = 1} {k = 10} (within_byte _) (within_then {j = 5} {k = 5} (within_u32 align f.0) (within_u32 offset f.1))
-  instruction_within (store o align offset) f = within_then {j = 1} {k = 10} (within_byte _) (within_then {j = 5} {k = 5} (within_u32 align f.0) (within_u32 offset f.1))
+  instruction_within (load o align offset) f = within_then {j = 1} {k = 10} (within_byte _)
+      (within_then {j = 5} {k = 5} (within_u32 align f.0) (within_u32 offset f.1))
+  instruction_within (store o align offset) f = within_then {j = 1} {k = 10} (within_byte _)
+      (within_then {j = 5} {k = 5} (within_u32 align f.0) (within_u32 offset f.1))
   instruction_within (const_i32 n) f = within_then {j = 1} {k = 10} (within_byte 0x41) (i32_within n f)
-  instruction_within (const_i64 n) f = subst (λ n. SpelledWithin 11 (instruction (const_i64 n))) (sym f.2) (constant_spelled f.0 f.1)
+  instruction_within (const_i64 n) f = subst (λ n. SpelledWithin 11 (instruction (const_i64 n))) (sym f.2)
+      (constant_spelled f.0 f.1)
   instruction_within (numeric o) f = within_byte _
   instruction_within _ f = absurd (f)
 
@@ -131,7 +144,12 @@ place_width (Free j) b rest = omega arith
 
 stores_width : (ps : List Place) (j b : ℕ) (rest : Code) → width (stores_code ps j b rest) ≤ 35 * length ps + width rest
 stores_width [] j b rest = omega arith
-stores_width (p ∷ ps) j b rest = omega (arith, place_width p b (Rattle.mw_gen.specs.Generate.store_word (8 * j) (stores_code ps (suc j) b rest)), stores_width ps (suc j) b rest)
+stores_width (p ∷ ps) j b rest =
+    omega (
+      arith,
+      place_width p b (Rattle.mw_gen.specs.Generate.store_word (8 * j) (stores_code ps (suc j) b rest)),
+      stores_width ps (suc j) b rest,
+    )
 
 prim_width : (p : Prim) (rest : Code) → width (prim_code p rest) ≤ 2 + width rest
 prim_width Add rest = omega arith
@@ -147,23 +165,76 @@ pub expression_width : (e : Ir) (b t : ℕ) (rest : Code) → width (expression_
 expression_width (i.num z) b t rest = omega arith
 expression_width (i.truth z) b t rest = omega arith
 expression_width (i.get p) b t rest = place_width p b rest
-expression_width (i.closure k ps) b t rest = omega (arith, stores_width ps 1 b (address_code (8 * suc (length ps)) rest))
-expression_width (i.app f a) b t rest = omega (arith, expression_width f b t (expression_code a b t (application_code t rest)), expression_width a b t (application_code t rest))
-expression_width (i.bind s d e) b t rest = omega (arith, expression_width d b t (next (local_set (b + s)) (expression_code e b t rest)), expression_width e b t rest)
-expression_width (i.cond c y z) b t rest = omega (arith, expression_width c b t (Rattle.mw_gen.specs.Generate.wrap (next (cond (Some I64) (expression_code y b t end) (expression_code z b t end)) rest)), expression_width y b t end, expression_width z b t end)
-expression_width (i.pair y z) b t rest = omega (arith, expression_width y b t (expression_code z b t (pair_code t rest)), expression_width z b t (pair_code t rest))
-expression_width (i.fst e) b t rest = omega (arith, expression_width e b t (Rattle.mw_gen.specs.Generate.wrap (Rattle.mw_gen.specs.Generate.load_word 0 rest)))
-expression_width (i.snd e) b t rest = omega (arith, expression_width e b t (Rattle.mw_gen.specs.Generate.wrap (Rattle.mw_gen.specs.Generate.load_word 8 rest)))
-expression_width (i.prim p y z) b t rest = omega (arith, expression_width y b t (expression_code z b t (prim_code p rest)), expression_width z b t (prim_code p rest), prim_width p rest)
+expression_width (i.closure k ps) b t rest =
+    omega (arith, stores_width ps 1 b (address_code (8 * suc (length ps)) rest))
+expression_width (i.app f a) b t rest =
+    omega (
+      arith,
+      expression_width f b t (expression_code a b t (application_code t rest)),
+      expression_width a b t (application_code t rest),
+    )
+expression_width (i.bind s d e) b t rest =
+    omega (
+      arith,
+      expression_width d b t (next (local_set (b + s)) (expression_code e b t rest)),
+      expression_width e b t rest,
+    )
+expression_width (i.cond c y z) b t rest =
+    omega (
+      arith,
+      expression_width c b t
+          (Rattle.mw_gen.specs.Generate.wrap
+          (next (cond (Some I64) (expression_code y b t end) (expression_code z b t end))
+          rest)),
+      expression_width y b t end,
+      expression_width z b t end,
+    )
+expression_width (i.pair y z) b t rest =
+    omega (
+      arith,
+      expression_width y b t (expression_code z b t (pair_code t rest)),
+      expression_width z b t (pair_code t rest),
+    )
+expression_width (i.fst e) b t rest =
+    omega (
+      arith,
+      expression_width e b t (Rattle.mw_gen.specs.Generate.wrap (Rattle.mw_gen.specs.Generate.load_word 0 rest)),
+    )
+expression_width (i.snd e) b t rest =
+    omega (
+      arith,
+      expression_width e b t (Rattle.mw_gen.specs.Generate.wrap (Rattle.mw_gen.specs.Generate.load_word 8 rest)),
+    )
+expression_width (i.prim p y z) b t rest =
+    omega (
+      arith,
+      expression_width y b t (expression_code z b t (prim_code p rest)),
+      expression_width z b t (prim_code p rest),
+      prim_width p rest,
+    )
 
 pub tail_width : (e : Ir) (b t d : ℕ) → width (tail_code e b t d) ≤ breadth e
 tail_width (i.app f a) b t d = go (is_own f)
   where
-    go : (c : Bool) → width (if c then expression_code a b t (next (local_set 1) (next (br d) end)) else expression_code f b t (expression_code a b t (application_code t end))) ≤ breadth (i.app f a)
+    go : (c : Bool)
+        → width (if c then expression_code a b t (next (local_set 1) (next (br d) end)) else expression_code f b t
+        (expression_code a b t (application_code t end))) ≤ breadth (i.app f a)
     go true = omega (arith, expression_width a b t (next (local_set 1) (next (br d) end)))
     go false = omega (arith, expression_width (i.app f a) b t end)
-tail_width (i.bind s y e) b t d = omega (arith, expression_width y b t (next (local_set (b + s)) (tail_code e b t d)), tail_width e b t d)
-tail_width (i.cond c y z) b t d = omega (arith, expression_width c b t (Rattle.mw_gen.specs.Generate.wrap (next (cond (Some I64) (tail_code y b t (suc d)) (tail_code z b t (suc d))) end)), tail_width y b t (suc d), tail_width z b t (suc d))
+tail_width (i.bind s y e) b t d = omega (
+  arith,
+  expression_width y b t (next (local_set (b + s)) (tail_code e b t d)),
+  tail_width e b t d,
+)
+tail_width (i.cond c y z) b t d =
+    omega (
+      arith,
+      expression_width c b t
+          (Rattle.mw_gen.specs.Generate.wrap (next (cond (Some I64) (tail_code y b t (suc d)) (tail_code z b t (suc d)))
+          end)),
+      tail_width y b t (suc d),
+      tail_width z b t (suc d),
+    )
 tail_width (i.num z) b t d = omega (arith, expression_width (i.num z) b t end)
 tail_width (i.truth z) b t d = omega (arith, expression_width (i.truth z) b t end)
 tail_width (i.get p) b t d = omega (arith, expression_width (i.get p) b t end)
@@ -205,18 +276,38 @@ module _ (b n : ℕ) (low : n ≤ 2 ^ 31) where
   place_fit (Slot j) s r rest h = (omega arith, h)
   place_fit (Free j) s r rest h = (omega arith, (tt, ((omega arith, omega arith), h)))
 
-  stores_fit : (ps : List Place) → AreSeen ps b n → AreNear ps → (j : ℕ) → j + length ps ≤ 1000 → (rest : Code) → AreFit rest → AreFit (stores_code ps j b rest)
+  stores_fit : (ps : List Place) → AreSeen ps b n → AreNear ps → (j : ℕ) → j + length ps ≤ 1000 → (rest : Code)
+      → AreFit rest → AreFit (stores_code ps j b rest)
   stores_fit [] s r j le rest h = h
-  stores_fit (p ∷ ps) s r j le rest h = (omega arith, place_fit p s.0 r.0 _ ((omega arith, omega arith), stores_fit ps s.1 r.1 (suc j) (omega arith) rest h))
+  stores_fit (p ∷ ps) s r j le rest h = (
+    omega arith,
+    place_fit p s.0 r.0 _ ((omega arith, omega arith), stores_fit ps s.1 r.1 (suc j) (omega arith) rest h),
+  )
 
   address_fit : (m : ℕ) → m < 2 ^ 31 → (rest : Code) → AreFit rest → AreFit (address_code m rest)
   address_fit m lt rest h = (omega arith, (tt, (omega arith, (lt, (tt, (omega arith, h))))))
 
   apply_fit : (t : ℕ) → t < 2 ^ 31 → (rest : Code) → AreFit rest → AreFit (application_code t rest)
-  apply_fit t lt rest h = (omega arith, (omega arith, (omega arith, (omega arith, (tt, ((omega arith, omega arith), (omega arith, h)))))))
+  apply_fit t lt rest h =
+      (omega arith, (omega arith, (omega arith, (omega arith, (tt, ((omega arith, omega arith), (omega arith, h)))))))
 
   pair_fit : (t : ℕ) → t < 2 ^ 31 → (rest : Code) → AreFit rest → AreFit (pair_code t rest)
-  pair_fit t lt rest h = (omega arith, (omega arith, (omega arith, (omega arith, ((omega arith, omega arith), (omega arith, (omega arith, ((omega arith, omega arith), address_fit 16 (omega arith) rest h))))))))
+  pair_fit t lt rest h = (
+    omega arith,
+    (
+      omega arith,
+      (
+        omega arith,
+        (
+          omega arith,
+          (
+            (omega arith, omega arith),
+            (omega arith, (omega arith, ((omega arith, omega arith), address_fit 16 (omega arith) rest h))),
+          ),
+        ),
+      ),
+    ),
+  )
 
   prim_fit : (p : Prim) (rest : Code) → AreFit rest → AreFit (prim_code p rest)
   prim_fit Add rest h = (tt, h)
@@ -228,27 +319,65 @@ module _ (b n : ℕ) (low : n ≤ 2 ^ 31) where
   prim_fit Lt rest h = (tt, (tt, h))
   prim_fit Le rest h = (tt, (tt, h))
 
-  pub expression_fit : (t : ℕ) → t < 2 ^ 31 → (e : Ir) → Fine e → Sees e b n → Near e → b + slots_needed e ≤ n → (rest : Code) → AreFit rest → AreFit (expression_code e b t rest)
+  pub expression_fit : (t : ℕ) → t < 2 ^ 31 → (e : Ir) → Fine e → Sees e b n → Near e → b + slots_needed e ≤ n
+      → (rest : Code) → AreFit rest → AreFit (expression_code e b t rest)
   expression_fit t lt (i.num z) f s r nd rest h = ((z, f, refl), h)
   expression_fit t lt (i.truth z) f s r nd rest h = ((_, truth_small z, truth_bits z), h)
   expression_fit t lt (i.get p) f s r nd rest h = place_fit p s r rest h
-  expression_fit t lt (i.closure k ps) f s r nd rest h = (omega arith, ((pos k, pos_small k (omega arith), refl), ((omega arith, omega arith), stores_fit ps s r.0 1 (omega (arith, r.1)) _ (address_fit _ (omega (arith, r.1)) rest h))))
-  expression_fit t lt (i.app x a) f s r nd rest h = expression_fit t lt x f.0 s.0 r.0 (omega arith) _ (expression_fit t lt a f.1 s.1 r.1 (omega arith) _ (apply_fit t lt rest h))
-  expression_fit t lt (i.bind j d e) f s r nd rest h = expression_fit t lt d f.0 s.0 r.0 (omega arith) _ (omega arith, expression_fit t lt e f.1 s.1 r.1 (omega arith) rest h)
-  expression_fit t lt (i.cond c y z) f s r nd rest h = expression_fit t lt c f.0 s.0 r.0 (omega arith) _ (tt, ((expression_fit t lt y f.1 s.1 r.1 (omega arith) end tt, expression_fit t lt z f.2 s.2 r.2 (omega arith) end tt), h))
-  expression_fit t lt (i.pair y z) f s r nd rest h = expression_fit t lt y f.0 s.0 r.0 (omega arith) _ (expression_fit t lt z f.1 s.1 r.1 (omega arith) _ (pair_fit t lt rest h))
+  expression_fit t lt (i.closure k ps) f s r nd rest h = (
+    omega arith,
+    (
+      (pos k, pos_small k (omega arith), refl),
+      (
+        (omega arith, omega arith),
+        stores_fit ps s r.0 1 (omega (arith, r.1)) _
+            (address_fit _ (omega (arith, r.1)) rest h),
+      ),
+    ),
+  )
+  expression_fit t lt (i.app x a) f s r nd rest h = expression_fit t lt x f.0 s.0 r.0 (omega arith) _
+      (expression_fit t lt a f.1 s.1 r.1 (omega arith) _ (apply_fit t lt rest h))
+  expression_fit t lt (i.bind j d e) f s r nd rest h = expression_fit t lt d f.0 s.0 r.0 (omega arith) _
+      (omega arith, expression_fit t lt e f.1 s.1 r.1 (omega arith) rest h)
+  expression_fit t lt (i.cond c y z) f s r nd rest h = expression_fit t lt c f.0 s.0 r.0 (omega arith) _ (
+    tt,
+    (
+      (
+        expression_fit t lt y f.1 s.1 r.1 (omega arith) end tt,
+        expression_fit t lt z f.2 s.2 r.2 (omega arith) end
+            tt,
+      ),
+      h,
+    ),
+  )
+  expression_fit t lt (i.pair y z) f s r nd rest h = expression_fit t lt y f.0 s.0 r.0 (omega arith) _
+      (expression_fit t lt z f.1 s.1 r.1 (omega arith) _ (pair_fit t lt rest h))
   expression_fit t lt (i.fst e) f s r nd rest h = expression_fit t lt e f s r nd _ (tt, ((omega arith, omega arith), h))
   expression_fit t lt (i.snd e) f s r nd rest h = expression_fit t lt e f s r nd _ (tt, ((omega arith, omega arith), h))
-  expression_fit t lt (i.prim p y z) f s r nd rest h = expression_fit t lt y f.0 s.0 r.0 (omega arith) _ (expression_fit t lt z f.1 s.1 r.1 (omega arith) _ (prim_fit p rest h))
+  expression_fit t lt (i.prim p y z) f s r nd rest h = expression_fit t lt y f.0 s.0 r.0 (omega arith) _
+      (expression_fit t lt z f.1 s.1 r.1 (omega arith) _ (prim_fit p rest h))
 
-  pub tail_fit : (t d m : ℕ) → t < 2 ^ 31 → (e : Ir) → d + breadth e ≤ m → m < 2 ^ 32 → Fine e → Sees e b n → Near e → b + slots_needed e ≤ n → AreFit (tail_code e b t d)
+  pub tail_fit : (t d m : ℕ) → t < 2 ^ 31 → (e : Ir) → d + breadth e ≤ m → m < 2 ^ 32 → Fine e → Sees e b n → Near e
+      → b + slots_needed e ≤ n → AreFit (tail_code e b t d)
   tail_fit t d m lt (i.app x a) le big f s r nd = go (is_own x)
     where
-      go : (c : Bool) → AreFit (if c then expression_code a b t (next (local_set 1) (next (br d) end)) else expression_code x b t (expression_code a b t (application_code t end)))
+      go : (c : Bool)
+          → AreFit (if c then expression_code a b t (next (local_set 1) (next (br d) end)) else expression_code x b t
+          (expression_code a b t (application_code t end)))
       go true = expression_fit t lt a f.1 s.1 r.1 (omega arith) _ (omega arith, (omega arith, tt))
       go false = expression_fit t lt (i.app x a) f s r nd end tt
-  tail_fit t d m lt (i.bind j y e) le big f s r nd = expression_fit t lt y f.0 s.0 r.0 (omega arith) _ (omega arith, tail_fit t d m lt e (omega arith) big f.1 s.1 r.1 (omega arith))
-  tail_fit t d m lt (i.cond c y z) le big f s r nd = expression_fit t lt c f.0 s.0 r.0 (omega arith) _ (tt, ((tail_fit t (suc d) m lt y (omega arith) big f.1 s.1 r.1 (omega arith), tail_fit t (suc d) m lt z (omega arith) big f.2 s.2 r.2 (omega arith)), tt))
+  tail_fit t d m lt (i.bind j y e) le big f s r nd = expression_fit t lt y f.0 s.0 r.0 (omega arith) _
+      (omega arith, tail_fit t d m lt e (omega arith) big f.1 s.1 r.1 (omega arith))
+  tail_fit t d m lt (i.cond c y z) le big f s r nd = expression_fit t lt c f.0 s.0 r.0 (omega arith) _ (
+    tt,
+    (
+      (
+        tail_fit t (suc d) m lt y (omega arith) big f.1 s.1 r.1 (omega arith),
+        tail_fit t (suc d) m lt z (omega arith) big f.2 s.2 r.2 (omega arith),
+      ),
+      tt,
+    ),
+  )
   tail_fit t d m lt (i.num z) le big f s r nd = expression_fit t lt (i.num z) f s r nd end tt
   tail_fit t d m lt (i.truth z) le big f s r nd = expression_fit t lt (i.truth z) f s r nd end tt
   tail_fit t d m lt (i.get p) le big f s r nd = expression_fit t lt (i.get p) f s r nd end tt
@@ -258,6 +387,7 @@ module _ (b n : ℕ) (low : n ≤ 2 ^ 31) where
   tail_fit t d m lt (i.snd y) le big f s r nd = expression_fit t lt (i.snd y) f s r nd end tt
   tail_fit t d m lt (i.prim p y z) le big f s r nd = expression_fit t lt (i.prim p y z) f s r nd end tt
 
-pub body_fit : (z : Bool) (n t : ℕ) (e : Ir) → n ≤ 2 ^ 31 → t < 2 ^ 31 → breadth e < 2 ^ 32 → Fine e → Sees e 2 n → Near e → 2 + slots_needed e ≤ n → AreFit (body_code z e t)
+pub body_fit : (z : Bool) (n t : ℕ) (e : Ir) → n ≤ 2 ^ 31 → t < 2 ^ 31 → breadth e < 2 ^ 32 → Fine e → Sees e 2 n
+    → Near e → 2 + slots_needed e ≤ n → AreFit (body_code z e t)
 body_fit false n t e low lt big f s r nd = expression_fit 2 n low t lt e f s r nd end tt
 body_fit true n t e low lt big f s r nd = (tail_fit 2 n low t 0 (breadth e) lt e (omega arith) big f s r nd, tt)

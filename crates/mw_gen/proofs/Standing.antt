@@ -66,7 +66,8 @@ not_stuck {e = k.stops (trap t)} s = tt
 not_stuck {e = k.stops (bound l)} s = tt
 not_stuck {e = k.stops stuck} s = absurd s.is
 
-value_safe : {n : ℕ} {P : KernelValue → Type 0} (a : k.Ended) (f : KernelValue) (l words : ℕ) → KernelSafe n P a → a ≡ k.gives f l words → P f
+value_safe : {n : ℕ} {P : KernelValue → Type 0} (a : k.Ended) (f : KernelValue) (l words : ℕ) → KernelSafe n P a
+    → a ≡ k.gives f l words → P f
 value_safe {n} {P} a f l words s e = (subst (λ a. KernelSafe n P a) e s).is.1
 
 -- what `call` is to do in a module, as function g: what an application means
@@ -131,7 +132,8 @@ calls_going c s t typed n f l words e w m a =
     typed.typed) e in
     not_stuck (kernel_call_safe [] [] none s t f words w m [] has.0 has.1 (argument_typed s w a))
 
--- Typed code, whose functions stand in t from number o on: an end of `init` answers as the code does, and then each list of calls.
+-- Typed code, whose functions stand in t from number o on: an end of `init` answers as the code does, and then each
+-- list of calls.
 module _ (t : List IrFunc) (c : Expression) (o : ℕ) (has : Has t o (functions c o 0)) where
   pub run_answers : (kt : KernelType) → HasKernelType c kt → (n : ℕ) (E : End) → InitSays t c o n E
       → AnswersAs (kernel_meaning n 0 c) E
@@ -165,7 +167,8 @@ module _ (v : Version) (c : Expression) (is : IsConverted (converted_functions c
       (call_at v T (init_function (lets c) (converted_body c)) (call_function s) []) refl n n h mem w ws len small
       me
 
-  calls_mean : (kt : KernelType) → HasKernelType c kt → CallsMean (emitted v c kt) c kt (length T) (store_at (table_of T) 0 no_memory)
+  calls_mean : (kt : KernelType) → HasKernelType c kt → CallsMean (emitted v c kt) c kt (length T)
+      (store_at (table_of T) 0 no_memory)
   calls_mean (of_ground t) typed = tt
   calls_mean (to s r) typed = (
     suc (length T),

@@ -18,7 +18,8 @@ emission_holds v c k closed literals few flat nodes =
     let o = converted_outside c in
     let is = is_converted c closed literals few flat in
     record {
-      spelled = let s = converted_spelled t o is v k nodes in record { bytes = s.bytes; spell = s.spell; short = let p = s.short in omega arith };
+      spelled = let s = converted_spelled t o is v k nodes in
+          record { bytes = s.bytes; spell = s.spell; short = let p = s.short in omega arith };
       valid = converted_valid t o is v k;
       profile = converted_profile t o is v k;
       shape = module_shaped v t o.slots o.body k;
@@ -26,5 +27,7 @@ emission_holds v c k closed literals few flat nodes =
     }
 
 -- what is generated of the conversion of code is what is emitted
-pub generated_is_emitted : (v : Version) (c : Expression) (k : KernelType) (r : Converted) → functions_in r ≡ converted_functions c → outer_in r ≡ converted_outside c → generated v r k ≡ emitted v c k
-generated_is_emitted v c k r f o = ap (λ t. module_with v t (outer_in r).slots (outer_in r).body k) f ∙ ap (λ x. module_with v (converted_functions c) x.slots x.body k) o
+pub generated_is_emitted : (v : Version) (c : Expression) (k : KernelType) (r : Converted) → functions_in r
+    ≡ converted_functions c → outer_in r ≡ converted_outside c → generated v r k ≡ emitted v c k
+generated_is_emitted v c k r f o = ap (λ t. module_with v t (outer_in r).slots (outer_in r).body k) f
+    ∙ ap (λ x. module_with v (converted_functions c) x.slots x.body k) o

@@ -18,8 +18,8 @@ pub record SpelledShort (P : List ℕ → Type 0) : Type 0 where
   pub spell : P bytes
   pub short : length bytes < 2 ^ 32
 
--- Fewer than 2^32 bytes spell the module; it is valid and within the profile's limits, has the shape that a run of the kernel
--- type needs, and stands for the code.
+-- Fewer than 2^32 bytes spell the module; it is valid and within the profile's limits, has the shape that a run of the
+-- kernel type needs, and stands for the code.
 pub record IsEmission (m : PureModule) (c : Expression) (k : KernelType) : Type 0 where
   pub spelled : SpelledShort (wasm_module m)
   pub valid : IsValid m
@@ -27,7 +27,8 @@ pub record IsEmission (m : PureModule) (c : Expression) (k : KernelType) : Type 
   pub shape : HasShape m k
   pub stands : StandsFor m c k
 
--- in either version, of closed code within the limits of kernels, whose literals have 64 bits, at a type of at most 10,000
--- nodes
+-- in either version, of closed code within the limits of kernels, whose literals have 64 bits, at a type of at most
+-- 10,000 nodes
 abbrev pub EmissionHolds : Type 0
-EmissionHolds = (v : Version) (c : Expression) (k : KernelType) → IsClosed c → LiteralsFit c → size c ≤ 20000 → depth_of c ≤ 400 → kernel_nodes k ≤ 10000 → IsEmission (emitted v c k) c k
+EmissionHolds = (v : Version) (c : Expression) (k : KernelType) → IsClosed c → LiteralsFit c → size c ≤ 20000
+    → depth_of c ≤ 400 → kernel_nodes k ≤ 10000 → IsEmission (emitted v c k) c k

@@ -23,14 +23,16 @@ use Rattle.mw_ir.specs.Ir as i
 use Rattle.mw_ir.specs.declared.place.Place.{Place}
 use Rattle.mw_ir.specs.Ir.{Ir, IrFunc}
 
--- In version 1 each application becomes a call. In version 2 a self tail call of a recursive function becomes a branch to a loop.
+-- In version 1 each application becomes a call. In version 2 a self tail call of a recursive function becomes a branch
+-- to a loop.
 pub data Version : Type 0 where
   one : Version
   two : Version
 
 -- the heap's end moved by m bytes
 abbrev pub raising_code : ℕ → Code → Code
-raising_code m rest = next (global_get 0) (next (const_i32 m) (next (numeric (number.I32 op.Add)) (next (global_set 0) rest)))
+raising_code m rest =
+    next (global_get 0) (next (const_i32 m) (next (numeric (number.I32 op.Add)) (next (global_set 0) rest)))
 
 abbrev pub wrap : Code → Code
 wrap rest = next (numeric number.Wrap) rest
@@ -51,7 +53,8 @@ place_code (Free j) b rest = next (local_get 0) (wrap (load_word (8 * suc j) res
 -- the places stored as words j and on at the heap's end, where they become a closure's
 abbrev pub stores_code : List Place → ℕ → ℕ → Code → Code
 stores_code [] j b rest = rest
-stores_code (p ∷ ps) j b rest = next (global_get 0) (place_code p b (store_word (8 * j) (stores_code ps (suc j) b rest)))
+stores_code (p ∷ ps) j b rest =
+    next (global_get 0) (place_code p b (store_word (8 * j) (stores_code ps (suc j) b rest)))
 
 -- the address of m bytes that were stored at the heap's end, which moves past them
 abbrev pub address_code : ℕ → Code → Code
@@ -59,12 +62,19 @@ address_code m rest = next (global_get 0) (next (numeric number.ExtendU) (raisin
 
 -- an application of a closure to an argument, which are the operands; the function's number is the closure's first word
 abbrev pub application_code : ℕ → Code → Code
-application_code t rest = next (local_set (suc t)) (next (local_tee t) (next (local_get (suc t)) (next (local_get t) (wrap (next (load load_op.I32 2 0) (next (call_indirect 0) rest))))))
+application_code t rest =
+    next (local_set (suc t))
+    (next (local_tee t)
+    (next (local_get (suc t)) (next (local_get t) (wrap (next (load load_op.I32 2 0) (next (call_indirect 0) rest))))))
 
 -- a pair of the operands
 abbrev pub pair_code : ℕ → Code → Code
 pair_code t rest =
-    next (local_set (suc t)) (next (local_set t) (next (global_get 0) (next (local_get t) (store_word 0 (next (global_get 0) (next (local_get (suc t)) (store_word 8 (address_code 16 rest))))))))
+    next (local_set (suc t))
+    (next (local_set t)
+    (next (global_get 0)
+    (next (local_get t)
+    (store_word 0 (next (global_get 0) (next (local_get (suc t)) (store_word 8 (address_code 16 rest))))))))
 
 -- a comparison, whose answer becomes a word
 abbrev pub comparison_code : IntOp → Code → Code
@@ -89,10 +99,13 @@ abbrev pub expression_code : Ir → ℕ → ℕ → Code → Code
 expression_code (i.num n) b t rest = next (const_i64 (cast_unsigned w64 n)) rest
 expression_code (i.truth c) b t rest = next (const_i64 (truth_code c)) rest
 expression_code (i.get p) b t rest = place_code p b rest
-expression_code (i.closure k ps) b t rest = next (global_get 0) (next (const_i64 k) (store_word 0 (stores_code ps 1 b (address_code (8 * suc (length ps)) rest))))
+expression_code (i.closure k ps) b t rest =
+    next (global_get 0)
+    (next (const_i64 k) (store_word 0 (stores_code ps 1 b (address_code (8 * suc (length ps)) rest))))
 expression_code (i.app f a) b t rest = expression_code f b t (expression_code a b t (application_code t rest))
 expression_code (i.bind s d e) b t rest = expression_code d b t (next (local_set (b + s)) (expression_code e b t rest))
-expression_code (i.cond c x y) b t rest = expression_code c b t (wrap (next (cond (Some I64) (expression_code x b t end) (expression_code y b t end)) rest))
+expression_code (i.cond c x y) b t rest =
+    expression_code c b t (wrap (next (cond (Some I64) (expression_code x b t end) (expression_code y b t end)) rest))
 expression_code (i.pair x y) b t rest = expression_code x b t (expression_code y b t (pair_code t rest))
 expression_code (i.fst e) b t rest = expression_code e b t (wrap (load_word 0 rest))
 expression_code (i.snd e) b t rest = expression_code e b t (wrap (load_word 8 rest))
@@ -105,9 +118,11 @@ is_own _ = false
 
 -- the code of an expression at a tail place of a function with a loop, inside d ifs of it
 abbrev pub tail_code : Ir → ℕ → ℕ → ℕ → Code
-tail_code (i.app f a) b t d = if is_own f then expression_code a b t (next (local_set 1) (next (br d) end)) else expression_code f b t (expression_code a b t (application_code t end))
+tail_code (i.app f a) b t d = if is_own f then expression_code a b t (next (local_set 1) (next (br d) end)) else
+    expression_code f b t (expression_code a b t (application_code t end))
 tail_code (i.bind s a e) b t d = expression_code a b t (next (local_set (b + s)) (tail_code e b t d))
-tail_code (i.cond c x y) b t d = expression_code c b t (wrap (next (cond (Some I64) (tail_code x b t (suc d)) (tail_code y b t (suc d))) end))
+tail_code (i.cond c x y) b t d =
+    expression_code c b t (wrap (next (cond (Some I64) (tail_code x b t (suc d)) (tail_code y b t (suc d))) end))
 tail_code e b t d = expression_code e b t end
 
 -- whether a self tail call stands at a tail place
@@ -159,7 +174,12 @@ body_code true e t = loop_code e t
 
 -- a function of type 0, with its closure and its argument as parameters
 abbrev pub function_for : Version → IrFunc → Function
-function_for v f = record { kind = 0; locals = replicate (f.slots + spare_count (body_wants_spare (is_loop v f.body) f.body)) I64; body = body_code (is_loop v f.body) f.body (2 + f.slots) }
+function_for v f =
+    record {
+      kind = 0;
+      locals = replicate (f.slots + spare_count (body_wants_spare (is_loop v f.body) f.body)) I64;
+      body = body_code (is_loop v f.body) f.body (2 + f.slots);
+    }
 
 -- n numbers from k on
 abbrev pub counting : ℕ → ℕ → List ℕ
@@ -177,16 +197,22 @@ call_of s = i.app (i.get (Slot 0)) (argument_of s 1)
 
 -- `init`, of type 1, runs the code outside all functions
 abbrev pub init_function : ℕ → Ir → Function
-init_function slots body = record { kind = 1; locals = replicate (slots + spare_count (wants_spare body)) I64; body = expression_code body 0 (0 + slots) end }
+init_function slots body = record {
+  kind = 1;
+  locals = replicate (slots + spare_count (wants_spare body)) I64;
+  body =
+      expression_code body 0 (0 + slots) end;
+}
 
--- `call`, of type 2: the two spare locals follow the parameters, and then stands the local that keeps the heap's end, which it
--- gives back
+-- `call`, of type 2: the two spare locals follow the parameters, and then stands the local that keeps the heap's end,
+-- which it gives back
 abbrev pub call_function : GroundType → Function
 call_function s = record {
   kind = 2;
   locals = I64 ∷ I64 ∷ I32 ∷ [];
   body =
-      next (global_get 0) (next (local_set (suc (suc (suc (leaf_count s))))) (expression_code (call_of s) 0 (0 + suc (leaf_count s))
+      next (global_get 0)
+      (next (local_set (suc (suc (suc (leaf_count s))))) (expression_code (call_of s) 0 (0 + suc (leaf_count s))
       (next (local_get (suc (suc (suc (leaf_count s))))) (next (global_set 0) end))));
 }
 
@@ -228,8 +254,8 @@ abbrev pub elements_of : ℕ → List ElementSegment
 elements_of zero = []
 elements_of (suc n) = record { offset = next (const_i32 0) end; funcs = counting 0 (suc n) } ∷ []
 
--- the module of the functions t, and of the code outside them with its slots: function n is number n, `init` stands after them
--- and `call` last; a memory of 64 pages
+-- the module of the functions t, and of the code outside them with its slots: function n is number n, `init` stands
+-- after them and `call` last; a memory of 64 pages
 abbrev pub module_with : Version → List IrFunc → ℕ → Ir → KernelType → PureModule
 module_with v t slots body k = record {
   types = closure_type ∷ init_type ∷ more_types k;

@@ -40,17 +40,20 @@ pub record Says (a : i.Ended) (Q : ℤ → ℕ → List ℤ → End → Type 0) 
 
 -- the run ends with this word and these units, in a store whose heap ends at this byte and whose memory keeps the heap
 abbrev pub EndsAt : List IrFunc → ℕ → ℤ → ℕ → List ℤ → End → Type 0
-EndsAt t top w l h E = (mem : Memory) × (E ≡ ended (store_at (table_of t) top mem) (word w ∷ []) l) × Keeps h mem × Small w
+EndsAt t top w l h E = (mem : Memory) × (E ≡ ended (store_at (table_of t) top mem) (word w ∷ []) l) × Keeps h mem
+    × Small w
 
 -- the frame of `call`: a closure's word and the leaves of an argument are its slots
 abbrev pub call_frame : ℤ → List ℤ → Frame
 call_frame r ws = record { argument = None; own = None; slots = r ∷ ws }
 
 module _ (m : PureModule) (t : List IrFunc) where
-  -- `call` applies a closure to an argument, beside a memory that keeps a heap. When it is over the heap's end is where it was.
+  -- `call` applies a closure to an argument, beside a memory that keeps a heap. When it is over the heap's end is where
+  -- it was.
   abbrev pub CallMeans : KernelType → Type 0
   CallMeans (of_ground g) = Unit {0}
-  CallMeans (to s g) = (n : ℕ) (h : List ℤ) (mem : Memory) (r : ℤ) (ws : List ℤ) → length ws ≡ leaf_count s → ((j : ℕ) (w : ℤ) → slice_get (r ∷ ws) j ≡ Some w → Small w) → Keeps h mem
+  CallMeans (to s g) = (n : ℕ) (h : List ℤ) (mem : Memory) (r : ℤ) (ws : List ℤ) → length ws ≡ leaf_count s
+      → ((j : ℕ) (w : ℤ) → slice_get (r ∷ ws) j ≡ Some w → Small w) → Keeps h mem
       → Says (means t n h (call_frame r ws) (call_of s)) (λ w l grown E. EndsAt t (8 * length h) w l grown E)
       (invoked m (store_at (table_of t) (8 * length h) mem) (suc (length t)) (map word (r ∷ ws)) n)
 
@@ -60,9 +63,11 @@ module _ (m : PureModule) (t : List IrFunc) where
     pub memory : Memory
     pub has_instance : instantiated m ≡ Ok (store_at (table_of t) 0 memory)
     pub empty : Keeps [] memory
-    pub init : (n : ℕ) → Says (means t n [] outside body) (λ w l h E. EndsAt t (8 * length h) w l h E) (invoked m (store_at (table_of t) 0 memory) (length t) [] n)
+    pub init : (n : ℕ) → Says (means t n [] outside body) (λ w l h E. EndsAt t (8 * length h) w l h E)
+        (invoked m (store_at (table_of t) 0 memory) (length t) [] n)
     pub call : CallMeans k
 
 -- in either version, the module of converted code does what the code means
 abbrev pub GenerationKeepsMeaning : Type 0
-GenerationKeepsMeaning = (v : Version) (t : List IrFunc) (o : IrFunc) (k : KernelType) → IsConverted t o → MeansConverted (module_with v t o.slots o.body k) t o.body k
+GenerationKeepsMeaning = (v : Version) (t : List IrFunc) (o : IrFunc) (k : KernelType) → IsConverted t o
+    → MeansConverted (module_with v t o.slots o.body k) t o.body k

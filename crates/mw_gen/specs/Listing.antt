@@ -41,10 +41,12 @@ stores_list [] j b = []
 stores_list (p ∷ ps) j b = global_get 0 ∷ (place_list p b ++ store store_op.I64 3 (8 * j) ∷ stores_list ps (j + 1) b)
 
 abbrev pub address_list : ℕ → List Instruction
-address_list m = global_get 0 ∷ numeric number.ExtendU ∷ global_get 0 ∷ const_i32 m ∷ numeric (number.I32 op.Add) ∷ global_set 0 ∷ []
+address_list m = global_get 0 ∷ numeric number.ExtendU ∷ global_get 0 ∷ const_i32 m ∷ numeric (number.I32 op.Add)
+    ∷ global_set 0 ∷ []
 
 abbrev pub apply_list : ℕ → List Instruction
-apply_list t = local_set (t + 1) ∷ local_tee t ∷ local_get (t + 1) ∷ local_get t ∷ numeric number.Wrap ∷ load load_op.I32 2 0 ∷ call_indirect 0 ∷ []
+apply_list t = local_set (t + 1) ∷ local_tee t ∷ local_get (t + 1) ∷ local_get t ∷ numeric number.Wrap
+    ∷ load load_op.I32 2 0 ∷ call_indirect 0 ∷ []
 
 abbrev pub stored_list : (local offset : ℕ) → List Instruction
 stored_list x offset = global_get 0 ∷ local_get x ∷ store store_op.I64 3 offset ∷ []
@@ -69,7 +71,8 @@ prim_list Lt = numeric (number.I64 op.LtS) ∷ numeric number.ExtendU ∷ []
 prim_list Le = numeric (number.I64 op.LeS) ∷ numeric number.ExtendU ∷ []
 
 abbrev pub closure_list : ℕ → List Place → ℕ → List Instruction
-closure_list k ps b = global_get 0 ∷ const_i64 k ∷ store store_op.I64 3 0 ∷ (stores_list ps 1 b ++ address_list (8 * (length ps + 1)))
+closure_list k ps b = global_get 0 ∷ const_i64 k ∷ store store_op.I64 3 0
+    ∷ (stores_list ps 1 b ++ address_list (8 * (length ps + 1)))
 
 abbrev pub choice_list : Code → Code → List Instruction
 choice_list x y = numeric number.Wrap ∷ cond (Some I64) x y ∷ []
@@ -90,7 +93,8 @@ code_list (i.prim p x y) b t = code_list x b t ++ (code_list y b t ++ prim_list 
 
 -- the code at a tail place of a loop
 abbrev pub tail_list : Ir → ℕ → ℕ → ℕ → List Instruction
-tail_list (i.app f a) b t d = if is_own f then code_list a b t ++ local_set 1 ∷ br d ∷ [] else code_list f b t ++ (code_list a b t ++ apply_list t)
+tail_list (i.app f a) b t d = if is_own f then code_list a b t ++ local_set 1 ∷ br d ∷ [] else code_list f b t
+    ++ (code_list a b t ++ apply_list t)
 tail_list (i.bind s a e) b t d = code_list a b t ++ local_set (b + s) ∷ tail_list e b t d
 tail_list (i.cond c x y) b t d = code_list c b t ++ choice_list (tail_code x b t (d + 1)) (tail_code y b t (d + 1))
 tail_list e b t d = code_list e b t

@@ -30,7 +30,8 @@ pub fn leaves(kind: &Ground) -> u32
 fn put_argument(out: &mut Instrs, kind: &Ground, first: u32, spare: u32) -> Result<u32, AllocError>
     requires nodes { first + ground_nodes (ground_of kind.now) ≤ 20000 }
     requires spare { spare < 1000000000 }
-    ensures code { IfOk result (λ _. Appends out.old out.new (code_list (argument_of (ground_of kind.now) first) 0 spare)) }
+    ensures code { IfOk result
+        (λ _. Appends out.old out.new (code_list (argument_of (ground_of kind.now) first) 0 spare)) }
     ensures next { IfOk result (λ next. next ≡ first + leaf_count (ground_of kind.now)) }
     ensures few { IfOk result (λ next. next ≤ first + ground_nodes (ground_of kind.now)) }
 {

@@ -22,8 +22,8 @@ fn word_of_truth(truth: bool) -> u64
     if truth { 1 } else { 0 }
 }
 
-/// Appends the code of an expression, where the lets' slots begin at local `base`, and `spare` and the next are two locals
-/// for operands. The code's functions have the numbers from `from` on.
+/// Appends the code of an expression, where the lets' slots begin at local `base`, and `spare` and the next are two
+/// locals for operands. The code's functions have the numbers from `from` on.
 pub fn put_code(
     alloc: Global,
     out: &mut Instrs,

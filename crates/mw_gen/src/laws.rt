@@ -9,8 +9,8 @@ ghost use Rattle.mw_gen.specs.Examples.{
 };
 ghost use Rattle.mw_gen.specs.Generation.{GenerationKeepsMeaning};
 
-/// In both versions some bytes spell an emitted module, it is valid and within the profile's limits, has the shape of its
-/// kernel type, and stands for its code.
+/// In both versions some bytes spell an emitted module, it is valid and within the profile's limits, has the shape of
+/// its kernel type, and stands for its code.
 pub fn emission_holds()
     ensures { EmissionHolds }
 {}

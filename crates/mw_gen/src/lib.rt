@@ -147,7 +147,8 @@ fn call_part(alloc: Global, kind: &KType) -> Result<Option<Func>, AllocError>
 fn all_functions(alloc: Global, converted: &Converted, kind: &KType) -> Result<Funcs, AllocError>
     requires converted { IsConverted (functions_in converted.now) (outer_in converted.now) }
     requires nodes { kernel_nodes (kernel_type_of kind.now) ≤ 10000 }
-    ensures { IfOk result (λ funcs. map function_of funcs ≡ (generated two converted.now (kernel_type_of kind.now)).funcs) }
+    ensures { IfOk result
+        (λ funcs. map function_of funcs ≡ (generated two converted.now (kernel_type_of kind.now)).funcs) }
 {
     let mut funcs = Funcs::new(alloc);
     put_all(alloc, &mut funcs, &converted.funcs)?;

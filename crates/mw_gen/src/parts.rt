@@ -99,7 +99,8 @@ pub fn put_closure(
     put_address(out, 8 * (places.len() as u32 + 1))
 }
 
-/// Appends the application of a closure to an argument, which are the operands, by way of the locals `first` and the next.
+/// Appends the application of a closure to an argument, which are the operands, by way of the locals `first` and the
+/// next.
 pub fn put_application(out: &mut Instrs, first: u32) -> Result<(), AllocError>
     requires { first < 1000000000 }
     ensures { IfOk result (λ _. Appends out.old out.new (apply_list first)) }

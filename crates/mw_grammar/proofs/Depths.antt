@@ -69,13 +69,15 @@ pub data Opening (w : Row) (o : Op) (ts us : List PureToken) : Type 0 where
   at_sign : (a b : ℕ) (k : Symbol) → ts ≡ token a b k ∷ us → Sign w k o → Opening w o ts us
   at_argument : w ≡ application → us ≡ ts → o ≡ apply → Opening w o ts us
 
-pub found : {w : Row} {o o' : Op} {us us' : List PureToken} (a b : ℕ) (k : Symbol) → Sign w k o → operator o us ≡ operator o' us' → Opening w o' (token a b k ∷ us) us'
+pub found : {w : Row} {o o' : Op} {us us' : List PureToken} (a b : ℕ) (k : Symbol) → Sign w k o → operator o us
+    ≡ operator o' us' → Opening w o' (token a b k ∷ us) us'
 found {o = o} {o' = o'} {us = us} {us' = us'} a b k s e =
     let p : us ≡ us' = cc in
     let q : o ≡ o' = cc in
     at_sign a b k (ap (λ u. token a b k ∷ u) p) (λ from ts. s from ts ∙ ap (λ o. operator o ts) q)
 
-opening_by : (w : Row) (a b : ℕ) (k : Symbol) (ts : List PureToken) {o : Op} {us : List PureToken} → opens_by w k (token a b k ∷ ts) ts ≡ operator o us → Opening w o (token a b k ∷ ts) us
+opening_by : (w : Row) (a b : ℕ) (k : Symbol) (ts : List PureToken) {o : Op} {us : List PureToken}
+    → opens_by w k (token a b k ∷ ts) ts ≡ operator o us → Opening w o (token a b k ∷ ts) us
 opening_by sum a b plus ts e = found a b plus (λ f t. refl) e
 opening_by sum a b minus ts e = found a b minus (λ f t. refl) e
 opening_by product a b star ts e = found a b star (λ f t. refl) e
@@ -90,7 +92,8 @@ opening_by application a b bracket_left ts e = at_argument refl (cc) (cc)
 opening_by application a b escape_mark ts e = at_argument refl (cc) (cc)
 opening_by _ a b _ ts e = absurd (cc)
 
-pub opening : (w : Row) (ts : List PureToken) {o : Op} {us : List PureToken} → opens w ts ≡ operator o us → Opening w o ts us
+pub opening : (w : Row) (ts : List PureToken) {o : Op} {us : List PureToken} → opens w ts ≡ operator o us
+    → Opening w o ts us
 opening w [] e = absurd (cc)
 opening w (token a b k ∷ ts) e = opening_by w a b k ts e
 
@@ -99,7 +102,8 @@ opens_shorter (at_sign a b k e s) = omega (arith, ap length e)
 opens_shorter (at_argument f e q) = omega (arith, ap length e)
 
 mutual
-  pub shorter : {n : Nonterminal} {F : Form n} {a : Before} {ts rest : List PureToken} {v : Meaning n} {s : Nodes} → In n F a ts v s rest → length rest ≤ length ts
+  pub shorter : {n : Nonterminal} {F : Form n} {a : Before} {ts rest : List PureToken} {v : Meaning n} {s : Nodes}
+      → In n F a ts v s rest → length rest ≤ length ts
   shorter i_gives = omega arith
   shorter (i_skip h) = omega (arith, shorter h)
   shorter (i_under h) = omega (arith, shorter h)
@@ -110,14 +114,18 @@ mutual
   shorter (i_no e h) = shorter h
   shorter (i_more c e h) = omega (arith, shorter_chain c, shorter h)
 
-  pub shorter_chain : {w : Row} {l e : SurfaceTree} {s t : Nodes} {ts rest : List PureToken} → Chain w l s ts e t rest → length rest ≤ length ts
+  pub shorter_chain : {w : Row} {l e : SurfaceTree} {s t : Nodes} {ts rest : List PureToken} → Chain w l s ts e t rest
+      → length rest ≤ length ts
   shorter_chain c_end = omega arith
-  shorter_chain (c_on {w = w} {ts = ts} e h x c) = omega (arith, shorter h, shorter_chain c, opens_shorter (opening w ts e))
+  shorter_chain (c_on {w = w} {ts = ts} e h x c) =
+      omega (arith, shorter h, shorter_chain c, opens_shorter (opening w ts e))
 
-in_under : {n : Nonterminal} {F : Form n} {t : PureToken} {ts rest : List PureToken} {v : Meaning n} {s : Nodes} → In n (under F) empty (t ∷ ts) v s rest → length rest ≤ length ts
+in_under : {n : Nonterminal} {F : Form n} {t : PureToken} {ts rest : List PureToken} {v : Meaning n} {s : Nodes}
+    → In n (under F) empty (t ∷ ts) v s rest → length rest ≤ length ts
 in_under (i_under h) = shorter h
 
-atom_less : (k : Symbol) (a b : ℕ) {ts rest : List PureToken} {v : SurfaceTree} {s : Nodes} → In (tree atom) (atom_by (token a b k)) empty (token a b k ∷ ts) v s rest → length rest ≤ length ts
+atom_less : (k : Symbol) (a b : ℕ) {ts rest : List PureToken} {v : SurfaceTree} {s : Nodes}
+    → In (tree atom) (atom_by (token a b k)) empty (token a b k ∷ ts) v s rest → length rest ≤ length ts
 atom_less (word x) a b h = in_under h
 atom_less (number n) a b h = in_under h
 atom_less true_word a b h = in_under h
@@ -128,16 +136,20 @@ atom_less escape_mark a b h = in_under h
 atom_less _ a b h = absurd (no_refuses h)
 
 -- an atom has a token
-pub atom_shorter : {ts rest : List PureToken} {v : SurfaceTree} {s : Nodes} → In (tree atom) (form (tree atom)) empty ts v s rest → length rest < length ts
+pub atom_shorter : {ts rest : List PureToken} {v : SurfaceTree} {s : Nodes} → In (tree atom) (form (tree atom)) empty ts
+    v s rest → length rest < length ts
 atom_shorter (i_pick {t = token a b k} h) = omega (arith, atom_less k a b h)
 
-pub behind_operator : {w : Row} {o : Op} {ts us mid : List PureToken} {r : SurfaceTree} {t : Nodes} → Opening w o ts us → In (tree (right w)) (form (tree (right w))) empty us r t mid → length mid < length ts
+pub behind_operator : {w : Row} {o : Op} {ts us mid : List PureToken} {r : SurfaceTree} {t : Nodes} → Opening w o ts us
+    → In (tree (right w)) (form (tree (right w))) empty us r t mid → length mid < length ts
 behind_operator (at_sign a b k e s) h = omega (arith, ap length e, shorter h)
 behind_operator {us = us} {mid = mid} {r = r} {t = t} (at_argument f e q) h =
-    let i : In (tree atom) (form (tree atom)) empty us r t mid = subst (λ w. In (tree (right w)) (form (tree (right w))) empty us r t mid) f h in
+    let i : In (tree atom) (form (tree atom)) empty us r t mid =
+    subst (λ w. In (tree (right w)) (form (tree (right w))) empty us r t mid) f h in
     omega (arith, ap length e, atom_shorter i)
 
-pub over_node : (a : Before) (ts rest : List PureToken) (s : Nodes) → Grown none ts s rest → (t : PureToken) → Grown (nodes a) (t ∷ ts) (node (suc (length ts)) (over a s)) rest
+pub over_node : (a : Before) (ts rest : List PureToken) (s : Nodes) → Grown none ts s rest → (t : PureToken)
+    → Grown (nodes a) (t ∷ ts) (node (suc (length ts)) (over a s)) rest
 over_node a ts rest s g t = let at : ℕ = suc (length ts) in record {
   shorter = omega (arith, g.shorter);
   before = λ m p. omega (arith, there_out m at, g.before m, depth_over m a s);
@@ -146,11 +158,26 @@ over_node a ts rest s g t = let at : ℕ = suc (length ts) in record {
 }
 
 mutual
-  pub grown : {n : Nonterminal} {F : Form n} {a : Before} {ts rest : List PureToken} {v : Meaning n} {s : Nodes} → In n F a ts v s rest → Grown (nodes a) ts s rest
+  pub grown : {n : Nonterminal} {F : Form n} {a : Before} {ts rest : List PureToken} {v : Meaning n} {s : Nodes}
+      → In n F a ts v s rest → Grown (nodes a) ts s rest
   grown i_gives = record { shorter = omega arith; before = λ m p. refl; behind = λ m p e. e; above = λ m. omega arith }
-  grown (i_skip h) = let g = grown h in record { shorter = omega (arith, g.shorter); before = λ m p. g.before m (omega arith); behind = g.behind; above = g.above }
+  grown (i_skip h) = let g = grown h in
+      record {
+        shorter = omega (arith, g.shorter);
+        before = λ m p. g.before m (omega arith);
+        behind = g.behind;
+        above =
+            g.above;
+      }
   grown (i_under {a = a} {t = t} {ts = ts} {rest = rest} {s = s} h) = over_node a ts rest s (grown h) t
-  grown (i_expect h) = let g = grown h in record { shorter = omega (arith, g.shorter); before = λ m p. g.before m (omega arith); behind = g.behind; above = g.above }
+  grown (i_expect h) = let g = grown h in
+      record {
+        shorter = omega (arith, g.shorter);
+        before = λ m p. g.before m (omega arith);
+        behind = g.behind;
+        above =
+            g.above;
+      }
   grown (i_reads {a = a} {t = t} h e i) = let f = grown h in let g = grown i in record {
     shorter = omega (arith, f.shorter, g.shorter);
     before = λ m p. omega (arith, f.before m, g.before m, f.shorter, depth_over m a t);
@@ -158,7 +185,8 @@ mutual
     above = λ m. omega (arith, g.above m, depth_over m a t);
   }
   grown (i_pick h) = grown h
-  grown (i_yes {k = k} {a = a} {p = p} {q = q} {ts = ts} {rest = rest} {s = s} h) = over_node a ts rest s (grown h) (token p q (symbol k))
+  grown (i_yes {k = k} {a = a} {p = p} {q = q} {ts = ts} {rest = rest} {s = s} h) =
+      over_node a ts rest s (grown h) (token p q (symbol k))
   grown (i_no e h) = grown h
   grown (i_more c e h) = let f = grown_chain c in let g = grown h in record {
     shorter = omega (arith, f.shorter, g.shorter);
@@ -167,11 +195,20 @@ mutual
     above = λ m. omega (arith, f.above m, g.above m);
   }
 
-  pub grown_chain : {w : Row} {l e : SurfaceTree} {s t : Nodes} {ts rest : List PureToken} → Chain w l s ts e t rest → Grown s ts t rest
-  grown_chain c_end = record { shorter = omega arith; before = λ m p. refl; behind = λ m p e. e; above = λ m. omega arith }
-  grown_chain (c_on {w = w} {s = s} {ts = ts} e h x c) = let f = grown h in let g = grown_chain c in let q = behind_operator (opening w ts e) h in let at : ℕ = length ts in record {
-    shorter = omega (arith, f.shorter, g.shorter, q);
-    before = λ m p. omega (arith, there_out m at, f.before m, g.before m, f.shorter, q, opens_shorter (opening w ts e));
-    behind = λ m p e. omega (arith, there_in m at, f.behind m, g.behind m, f.shorter, g.shorter, q);
-    above = λ m. omega (arith, g.above m);
+  pub grown_chain : {w : Row} {l e : SurfaceTree} {s t : Nodes} {ts rest : List PureToken} → Chain w l s ts e t rest
+      → Grown s ts t rest
+  grown_chain c_end = record {
+    shorter = omega arith;
+    before = λ m p. refl;
+    behind = λ m p e. e;
+    above = λ m.
+        omega arith;
   }
+  grown_chain (c_on {w = w} {s = s} {ts = ts} e h x c) = let f = grown h in let g = grown_chain c in let q =
+      behind_operator (opening w ts e) h in let at : ℕ = length ts in record {
+        shorter = omega (arith, f.shorter, g.shorter, q);
+        before = λ m p.
+            omega (arith, there_out m at, f.before m, g.before m, f.shorter, q, opens_shorter (opening w ts e));
+        behind = λ m p e. omega (arith, there_in m at, f.behind m, g.behind m, f.shorter, g.shorter, q);
+        above = λ m. omega (arith, g.above m);
+      }

@@ -80,25 +80,36 @@ Ends base ts = Unit {0}
 mutual
   pub data In : (n : Nonterminal) → Form n → Before → List PureToken → Meaning n → Nodes → List PureToken → Type 0 where
     i_gives : {n : Nonterminal} {v : Meaning n} {a : Before} {ts : List PureToken} → In n (gives v) a ts v (nodes a) ts
-    i_skip : {n : Nonterminal} {F : Form n} {a : Before} {t : PureToken} {ts rest : List PureToken} {v : Meaning n} {s : Nodes} → In n F a ts v s rest → In n (skip F) a (t ∷ ts) v s rest
-    i_under : {n : Nonterminal} {F : Form n} {a : Before} {t : PureToken} {ts rest : List PureToken} {v : Meaning n} {s : Nodes} → In n F empty ts v s rest
+    i_skip : {n : Nonterminal} {F : Form n} {a : Before} {t : PureToken} {ts rest : List PureToken} {v : Meaning n}
+        {s : Nodes} → In n F a ts v s rest → In n (skip F) a (t ∷ ts) v s rest
+    i_under : {n : Nonterminal} {F : Form n} {a : Before} {t : PureToken} {ts rest : List PureToken} {v : Meaning n}
+        {s : Nodes} → In n F empty ts v s rest
         → In n (under F) a (t ∷ ts) v (node (suc (length ts)) (over a s)) rest
-    i_expect : {n : Nonterminal} {k : Expected} {F : Form n} {a : Before} {p q : ℕ} {ts rest : List PureToken} {v : Meaning n} {s : Nodes} → In n F a ts v s rest
+    i_expect : {n : Nonterminal} {k : Expected} {F : Form n} {a : Before} {p q : ℕ} {ts rest : List PureToken}
+        {v : Meaning n} {s : Nodes} → In n F a ts v s rest
         → In n (expect k F) a (token p q (symbol k) ∷ ts) v s rest
-    i_reads : {m n : Nonterminal} {go : Meaning m → Form n} {a : Before} {ts mid rest : List PureToken} {u : Meaning m} {v : Meaning n} {t s : Nodes} → In m (form m) empty ts u t mid → Ends m mid
+    i_reads : {m n : Nonterminal} {go : Meaning m → Form n} {a : Before} {ts mid rest : List PureToken} {u : Meaning m}
+        {v : Meaning n} {t s : Nodes} → In m (form m) empty ts u t mid → Ends m mid
         → In n (go u) (some (over a t)) mid v s rest → In n (reads m go) a ts v s rest
-    i_pick : {n : Nonterminal} {f : PureToken → Form n} {a : Before} {t : PureToken} {ts rest : List PureToken} {v : Meaning n} {s : Nodes} → In n (f t) a (t ∷ ts) v s rest → In n (pick f) a (t ∷ ts) v s rest
-    i_yes : {n : Nonterminal} {k : Expected} {F G : Form n} {a : Before} {p q : ℕ} {ts rest : List PureToken} {v : Meaning n} {s : Nodes} → In n F empty ts v s rest
+    i_pick : {n : Nonterminal} {f : PureToken → Form n} {a : Before} {t : PureToken} {ts rest : List PureToken}
+        {v : Meaning n} {s : Nodes} → In n (f t) a (t ∷ ts) v s rest → In n (pick f) a (t ∷ ts) v s rest
+    i_yes : {n : Nonterminal} {k : Expected} {F G : Form n} {a : Before} {p q : ℕ} {ts rest : List PureToken}
+        {v : Meaning n} {s : Nodes} → In n F empty ts v s rest
         → In n (option k F G) a (token p q (symbol k) ∷ ts) v (node (suc (length ts)) (over a s)) rest
-    i_no : {n : Nonterminal} {k : Expected} {F G : Form n} {a : Before} {ts rest : List PureToken} {v : Meaning n} {s : Nodes} → next_is k ts ≡ false → In n G a ts v s rest
+    i_no : {n : Nonterminal} {k : Expected} {F G : Form n} {a : Before} {ts rest : List PureToken} {v : Meaning n}
+        {s : Nodes} → next_is k ts ≡ false → In n G a ts v s rest
         → In n (option k F G) a ts v s rest
-    i_more : {n : Nonterminal} {w : Row} {l e : SurfaceTree} {go : SurfaceTree → Form n} {a : Before} {ts mid rest : List PureToken} {v : Meaning n} {t s : Nodes} → Chain w l (nodes a) ts e t mid
+    i_more : {n : Nonterminal} {w : Row} {l e : SurfaceTree} {go : SurfaceTree → Form n} {a : Before}
+        {ts mid rest : List PureToken} {v : Meaning n} {t s : Nodes} → Chain w l (nodes a) ts e t mid
         → force_of mid < strength (row w) → In n (go e) (some t) mid v s rest → In n (more w l go) a ts v s rest
 
   pub data Chain : Row → SurfaceTree → Nodes → List PureToken → SurfaceTree → Nodes → List PureToken → Type 0 where
     c_end : {w : Row} {l : SurfaceTree} {s : Nodes} {ts : List PureToken} → Chain w l s ts l s ts
-    c_on : {w : Row} {o : Op} {l r e : SurfaceTree} {s t u : Nodes} {ts us mid rest : List PureToken} → opens w ts ≡ operator o us → In (tree (right w)) (form (tree (right w))) empty us r t mid
-        → force_of mid < strength (right w) → Chain w (operated o l r) (node (length ts) (both s t)) mid e u rest → Chain w l s ts e u rest
+    c_on : {w : Row} {o : Op} {l r e : SurfaceTree} {s t u : Nodes} {ts us mid rest : List PureToken} → opens w ts
+        ≡ operator o us → In (tree (right w)) (form (tree (right w))) empty us r t mid
+        → force_of mid < strength (right w) → Chain w (operated o l r) (node (length ts) (both s t)) mid e u rest
+        → Chain w l s ts e u rest
 
-pub no_refuses : {n : Nonterminal} {a : Before} {ts rest : List PureToken} {v : Meaning n} {s : Nodes} → In n refuses a ts v s rest → ⊥
+pub no_refuses : {n : Nonterminal} {a : Before} {ts rest : List PureToken} {v : Meaning n} {s : Nodes}
+    → In n refuses a ts v s rest → ⊥
 no_refuses h = elim h [ ]

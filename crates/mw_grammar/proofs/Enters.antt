@@ -90,7 +90,8 @@ of_operand sum ts h = h
 of_operand product ts h = h
 of_operand application ts h = h
 
-starts_of : {n : Nonterminal} {ts rest : List PureToken} {v : Meaning n} {s : Nodes} → Reads n ts v s rest → StartsOf n ts
+starts_of : {n : Nonterminal} {ts rest : List PureToken} {v : Meaning n} {s : Nodes} → Reads n ts v s rest
+    → StartsOf n ts
 starts_of (r_main h i) = tt
 starts_of (r_program h i) = tt
 starts_of (r_let_item h) = tt
@@ -142,8 +143,10 @@ starts_of r_bool = tt
 data Decides {n : Nonterminal} (f : PureToken → Form n) (G : Form n) : List PureToken → Type 0 where
   decides : (t : PureToken) (ts : List PureToken) → f t ≡ G → Decides f G (t ∷ ts)
 
-picked : {n : Nonterminal} {f : PureToken → Form n} {G : Form n} {a : Before} {ts rest : List PureToken} {v : Meaning n} {s : Nodes} → Decides f G ts → In n G a ts v s rest → In n (pick f) a ts v s rest
-picked {n = n} {a = a} {rest = rest} {v = v} {s = s} (decides t ts e) h = i_pick (subst (λ F. In n F a (t ∷ ts) v s rest) (sym e) h)
+picked : {n : Nonterminal} {f : PureToken → Form n} {G : Form n} {a : Before} {ts rest : List PureToken} {v : Meaning n}
+    {s : Nodes} → Decides f G ts → In n G a ts v s rest → In n (pick f) a ts v s rest
+picked {n = n} {a = a} {rest = rest} {v = v} {s = s} (decides t ts e) h =
+    i_pick (subst (λ F. In n F a (t ∷ ts) v s rest) (sym e) h)
 
 expr_decides : (ts : List PureToken) → Starts ts → Decides expr_by (reads (tree disjunction) λ e. gives e) ts
 expr_decides [] p = absurd (cc)
@@ -158,7 +161,8 @@ expr_decides (token a b k ∷ ts) p = decides (token a b k) ts (expr_of k p)
     expr_of if_word p = absurd (cc)
     expr_of _ p = refl
 
-head_decides : {ts rest : List PureToken} {v : SurfaceTree} {s : Nodes} → Reads (tree atom) ts v s rest → Decides head_by (reads (tree atom) λ e. gives e) ts
+head_decides : {ts rest : List PureToken} {v : SurfaceTree} {s : Nodes} → Reads (tree atom) ts v s rest
+    → Decides head_by (reads (tree atom) λ e. gives e) ts
 head_decides r_name = decides _ _ refl
 head_decides r_number = decides _ _ refl
 head_decides r_true = decides _ _ refl
@@ -177,7 +181,8 @@ group_by (token a b k ∷ ts) p = decides (token a b k) ts (group_of k p)
     group_of minus p = absurd (cc)
     group_of _ p = refl
 
-group_decides : {ts rest : List PureToken} {v : SurfaceTree} {s : Nodes} → Reads (tree expr) ts v s rest → Decides paren_by (reads (tree expr) λ d. pick (behind_first d)) ts
+group_decides : {ts rest : List PureToken} {v : SurfaceTree} {s : Nodes} → Reads (tree expr) ts v s rest
+    → Decides paren_by (reads (tree expr) λ d. pick (behind_first d)) ts
 group_decides (r_let h i) = decides _ _ refl
 group_decides (r_let_rec h i) = decides _ _ refl
 group_decides (r_fun h) = decides _ _ refl
@@ -189,12 +194,15 @@ item_decides (r_let_item h) = decides _ _ refl
 item_decides (r_rec_item h) = decides _ _ refl
 item_decides (r_kernel h i) = decides _ _ refl
 
-part_decides : {ts rest : List PureToken} {v : _} {s : Nodes} → Reads base ts v s rest → Decides part_by (reads base λ b. gives (ground_base b)) ts
+part_decides : {ts rest : List PureToken} {v : _} {s : Nodes} → Reads base ts v s rest
+    → Decides part_by (reads base λ b. gives (ground_base b)) ts
 part_decides r_int = decides _ _ refl
 part_decides r_bool = decides _ _ refl
 
 -- after a mark each token decides for an expression
-behind_it : (m : Mark) (ts : List PureToken) {rest : List PureToken} {e : SurfaceTree} {s : Nodes} → In (tree expr) (form (tree expr)) empty ts e s rest → force_of rest < 1 → In (body m) (pick (behind_mark m)) empty ts (define (start_of ts) e) s rest
+behind_it : (m : Mark) (ts : List PureToken) {rest : List PureToken} {e : SurfaceTree} {s : Nodes}
+    → In (tree expr) (form (tree expr)) empty ts e s rest → force_of rest < 1 → In (body m) (pick (behind_mark m)) empty
+    ts (define (start_of ts) e) s rest
 behind_it m [] h p = elim h [ ]
 behind_it m (token a b k ∷ ts) h p = i_pick (i_reads h p i_gives)
 
@@ -216,14 +224,16 @@ sign_force star_sign = refl
 sign_force slash_sign = refl
 sign_force mod_sign = refl
 
-sign_opens : {w : Row} (a b : ℕ) {k : Symbol} {p : Primitive} {ts : List PureToken} → Sign w k p → opens w (token a b k ∷ ts) ≡ operator (by_sign p) ts
+sign_opens : {w : Row} (a b : ℕ) {k : Symbol} {p : Primitive} {ts : List PureToken} → Sign w k p
+    → opens w (token a b k ∷ ts) ≡ operator (by_sign p) ts
 sign_opens a b plus_sign = refl
 sign_opens a b minus_sign = refl
 sign_opens a b star_sign = refl
 sign_opens a b slash_sign = refl
 sign_opens a b mod_sign = refl
 
-pub atom_opens : {ts rest : List PureToken} {v : SurfaceTree} {s : Nodes} → Reads (tree atom) ts v s rest → opens application ts ≡ operator apply ts
+pub atom_opens : {ts rest : List PureToken} {v : SurfaceTree} {s : Nodes} → Reads (tree atom) ts v s rest
+    → opens application ts ≡ operator apply ts
 atom_opens r_name = refl
 atom_opens r_number = refl
 atom_opens r_true = refl
@@ -245,36 +255,58 @@ atom_force (r_pair h i) = refl
 atom_force (r_bracket h) = refl
 atom_force (r_escape h) = refl
 
-more_force : {w : Row} {l e : SurfaceTree} {s t : Nodes} {ts rest : List PureToken} → More w l s ts e t rest → force_of rest < strength (row w) → force_of ts ≤ strength (row w)
+more_force : {w : Row} {l e : SurfaceTree} {s t : Nodes} {ts rest : List PureToken} → More w l s ts e t rest
+    → force_of rest < strength (row w) → force_of ts ≤ strength (row w)
 more_force m_end p = omega arith
 more_force (m_sign g h m) p = omega (arith, sign_force g)
 more_force (m_argument h m) p = omega (arith, atom_force h)
 
 mutual
-  pub enter : {n : Nonterminal} {ts rest : List PureToken} {v : Meaning n} {s : Nodes} → Reads n ts v s rest → Ends n rest → In n (form n) empty ts v s rest
-  enter (r_main h i) f = i_pick (i_skip (i_expect (i_reads (enter h refl) refl (i_expect (i_reads (enter i f) f i_gives)))))
-  enter (r_program h i) f = picked (item_decides h) (i_reads (enter h (omega arith)) (omega arith) (i_expect (i_reads (enter i f) f i_gives)))
+  pub enter : {n : Nonterminal} {ts rest : List PureToken} {v : Meaning n} {s : Nodes} → Reads n ts v s rest
+      → Ends n rest → In n (form n) empty ts v s rest
+  enter (r_main h i) f =
+      i_pick (i_skip (i_expect (i_reads (enter h refl) refl (i_expect (i_reads (enter i f) f i_gives)))))
+  enter (r_program h i) f =
+      picked (item_decides h) (i_reads (enter h (omega arith)) (omega arith) (i_expect (i_reads (enter i f) f i_gives)))
   enter (r_let_item h) f = i_pick (i_skip (i_pick (i_skip (i_reads (enter h f) f i_gives))))
   enter (r_rec_item h) f = i_pick (i_skip (i_pick (i_skip (i_pick (i_skip (i_reads (enter h f) f i_gives))))))
-  enter (r_kernel h i) f = i_pick (i_skip (i_pick (i_skip (i_expect (i_reads (enter h (refl, refl)) (refl, refl) (i_expect (i_reads (enter i f) f i_gives)))))))
-  enter (r_let h i) f = i_pick (i_under (i_pick (i_skip (i_reads (enter h (omega arith)) (omega arith) (i_expect (i_reads (enter i f) f i_gives))))))
-  enter (r_let_rec h i) f = i_pick (i_under (i_pick (i_skip (i_pick (i_skip (i_reads (enter h (omega arith)) (omega arith) (i_expect (i_reads (enter i f) f i_gives))))))))
+  enter (r_kernel h i) f =
+      i_pick (i_skip
+      (i_pick (i_skip
+      (i_expect (i_reads (enter h (refl, refl)) (refl, refl) (i_expect (i_reads (enter i f) f i_gives)))))))
+  enter (r_let h i) f =
+      i_pick (i_under
+      (i_pick (i_skip (i_reads (enter h (omega arith)) (omega arith) (i_expect (i_reads (enter i f) f i_gives))))))
+  enter (r_let_rec h i) f =
+      i_pick (i_under
+      (i_pick (i_skip
+      (i_pick (i_skip (i_reads (enter h (omega arith)) (omega arith) (i_expect (i_reads (enter i f) f i_gives))))))))
   enter (r_fun h) f = i_pick (i_skip (i_reads (enter h f) f i_gives))
-  enter (r_if h i j) f = i_pick (i_under (i_reads (enter h (omega arith)) (omega arith) (i_expect (i_reads (enter i (omega arith)) (omega arith) (i_expect (i_reads (enter j f) f i_gives))))))
+  enter (r_if h i j) f =
+      i_pick (i_under
+      (i_reads (enter h (omega arith)) (omega arith)
+      (i_expect (i_reads (enter i (omega arith)) (omega arith) (i_expect (i_reads (enter j f) f i_gives))))))
   enter (r_expr {ts = ts} h) f = picked (expr_decides ts (starts_of h)) (i_reads (enter h f) f i_gives)
   enter (r_parameter h) f = i_pick (i_under (i_reads (enter h f) f i_gives))
   enter (r_body (r_parameter h)) f = i_pick (i_reads (i_pick (i_under (i_reads (enter h f) f i_gives))) f i_gives)
   enter (r_mark {m = by_arrow} {ts = ts} h) f = i_pick (i_skip (behind_it by_arrow ts (enter h f) f))
   enter (r_mark {m = by_equal} {ts = ts} h) f = i_pick (i_skip (behind_it by_equal ts (enter h f) f))
   enter (r_or h i) f = i_reads (enter h (omega arith)) (omega arith) (i_yes (i_reads (enter i f) f i_gives))
-  enter (r_disjunction {rest = rest} h) f = i_reads (enter h (omega arith)) (omega arith) (i_no (apart or_next rest (omega arith)) i_gives)
+  enter (r_disjunction {rest = rest} h) f = i_reads (enter h (omega arith)) (omega arith)
+      (i_no (apart or_next rest (omega arith)) i_gives)
   enter (r_and h i) f = i_reads (enter h (omega arith)) (omega arith) (i_yes (i_reads (enter i f) f i_gives))
-  enter (r_conjunction {rest = rest} h) f = i_reads (enter h (omega arith)) (omega arith) (i_no (apart and_next rest (omega arith)) i_gives)
-  enter (r_compare equal_sign h i) f = i_reads (enter h (omega arith)) (omega arith) (i_yes (i_reads (enter i (omega arith)) (omega arith) i_gives))
-  enter (r_compare less_sign h i) f = i_reads (enter h (omega arith)) (omega arith) (i_no refl (i_yes (i_reads (enter i (omega arith)) (omega arith) i_gives)))
-  enter (r_compare less_equal_sign h i) f = i_reads (enter h (omega arith)) (omega arith) (i_no refl (i_no refl (i_yes (i_reads (enter i (omega arith)) (omega arith) i_gives))))
-  enter (r_comparison {rest = rest} h) f = i_reads (enter h (omega arith)) (omega arith) (i_no (apart equal_next rest f) (i_no (apart less_next rest f) (i_no (apart less_equal_next rest f) i_gives)))
-  enter (r_row {w = w} h m) f = i_reads (enter h (omega (arith, more_force m f, strength_operand w))) (omega (arith, more_force m f, strength_operand w)) (i_more (enter_more m f) f i_gives)
+  enter (r_conjunction {rest = rest} h) f = i_reads (enter h (omega arith)) (omega arith)
+      (i_no (apart and_next rest (omega arith)) i_gives)
+  enter (r_compare equal_sign h i) f = i_reads (enter h (omega arith)) (omega arith)
+      (i_yes (i_reads (enter i (omega arith)) (omega arith) i_gives))
+  enter (r_compare less_sign h i) f = i_reads (enter h (omega arith)) (omega arith)
+      (i_no refl (i_yes (i_reads (enter i (omega arith)) (omega arith) i_gives)))
+  enter (r_compare less_equal_sign h i) f = i_reads (enter h (omega arith)) (omega arith)
+      (i_no refl (i_no refl (i_yes (i_reads (enter i (omega arith)) (omega arith) i_gives))))
+  enter (r_comparison {rest = rest} h) f = i_reads (enter h (omega arith)) (omega arith)
+      (i_no (apart equal_next rest f) (i_no (apart less_next rest f) (i_no (apart less_equal_next rest f) i_gives)))
+  enter (r_row {w = w} h m) f = i_reads (enter h (omega (arith, more_force m f, strength_operand w)))
+      (omega (arith, more_force m f, strength_operand w)) (i_more (enter_more m f) f i_gives)
   enter (r_head fst_head h) f = i_pick (i_under (i_reads (enter h f) f i_gives))
   enter (r_head snd_head h) f = i_pick (i_under (i_reads (enter h f) f i_gives))
   enter (r_head not_head h) f = i_pick (i_under (i_reads (enter h f) f i_gives))
@@ -282,15 +314,23 @@ mutual
   enter (r_head open_head h) f = i_pick (i_under (i_reads (enter h f) f i_gives))
   enter (r_head lift_head h) f = i_pick (i_under (i_reads (enter h f) f i_gives))
   enter (r_head lift_b_head h) f = i_pick (i_under (i_reads (enter h f) f i_gives))
-  enter (r_run h i) f = i_pick (i_under (i_expect (i_reads (enter h (refl, refl)) (refl, refl) (i_expect (i_reads (enter i f) f i_gives)))))
+  enter (r_run h i) f =
+      i_pick (i_under
+      (i_expect (i_reads (enter h (refl, refl)) (refl, refl) (i_expect (i_reads (enter i f) f i_gives)))))
   enter (r_atom h) f = picked (head_decides h) (i_reads (enter h f) f i_gives)
   enter r_name f = i_pick (i_under i_gives)
   enter r_number f = i_pick (i_under i_gives)
   enter r_true f = i_pick (i_under i_gives)
   enter r_false f = i_pick (i_under i_gives)
   enter r_minus f = i_pick (i_under (i_pick (i_skip (i_pick (i_skip (i_expect i_gives))))))
-  enter (r_paren h) f = i_pick (i_under (picked (group_decides h) (i_reads (enter h (omega arith)) (omega arith) (i_pick (i_skip i_gives)))))
-  enter (r_pair h i) f = i_pick (i_under (picked (group_decides h) (i_reads (enter h (omega arith)) (omega arith) (i_pick (i_skip (i_reads (enter i (omega arith)) (omega arith) (i_expect i_gives)))))))
+  enter (r_paren h) f =
+      i_pick (i_under
+      (picked (group_decides h) (i_reads (enter h (omega arith)) (omega arith) (i_pick (i_skip i_gives)))))
+  enter (r_pair h i) f =
+      i_pick (i_under
+      (picked (group_decides h)
+      (i_reads (enter h (omega arith)) (omega arith)
+      (i_pick (i_skip (i_reads (enter i (omega arith)) (omega arith) (i_expect i_gives)))))))
   enter (r_bracket h) f = i_pick (i_under (i_reads (enter h (omega arith)) (omega arith) (i_expect i_gives)))
   enter (r_escape h) f = i_pick (i_under (i_reads (enter h f) f i_gives))
   enter (r_ground_kernel h) f = i_reads (enter h f.0) f.0 (i_no f.1 i_gives)
@@ -302,7 +342,11 @@ mutual
   enter r_int f = i_pick (i_under i_gives)
   enter r_bool f = i_pick (i_under i_gives)
 
-  enter_more : {w : Row} {l e : SurfaceTree} {s t : Nodes} {ts rest : List PureToken} → More w l s ts e t rest → force_of rest < strength (row w) → Chain w l s ts e t rest
+  enter_more : {w : Row} {l e : SurfaceTree} {s t : Nodes} {ts rest : List PureToken} → More w l s ts e t rest
+      → force_of rest < strength (row w) → Chain w l s ts e t rest
   enter_more m_end f = c_end
-  enter_more (m_sign {w = w} g h m) f = c_on (sign_opens _ _ g) (enter h (omega (arith, more_force m f, strength_right w))) (omega (arith, more_force m f, strength_right w)) (enter_more m f)
-  enter_more (m_argument h m) f = c_on (atom_opens h) (enter h (omega (arith, more_force m f))) (omega (arith, more_force m f)) (enter_more m f)
+  enter_more (m_sign {w = w} g h m) f =
+      c_on (sign_opens _ _ g) (enter h (omega (arith, more_force m f, strength_right w)))
+      (omega (arith, more_force m f, strength_right w)) (enter_more m f)
+  enter_more (m_argument h m) f = c_on (atom_opens h) (enter h (omega (arith, more_force m f)))
+      (omega (arith, more_force m f)) (enter_more m f)

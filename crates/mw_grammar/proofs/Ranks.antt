@@ -129,7 +129,8 @@ ranked (body m) = ranked_body m
 ranked (tree expr) = ranked_expr
 ranked (tree disjunction) = (omega arith, λ d. ((omega arith, λ e. tt), tt))
 ranked (tree conjunction) = (omega arith, λ d. ((omega arith, λ e. tt), tt))
-ranked (tree comparison) = (omega arith, λ d. ((omega arith, λ e. tt), ((omega arith, λ e. tt), ((omega arith, λ e. tt), tt))))
+ranked (tree comparison) =
+    (omega arith, λ d. ((omega arith, λ e. tt), ((omega arith, λ e. tt), ((omega arith, λ e. tt), tt))))
 ranked (tree (row sum)) = (omega arith, λ l e. tt)
 ranked (tree (row product)) = (omega arith, λ l e. tt)
 ranked (tree (row application)) = (omega arith, λ l e. tt)

@@ -20,21 +20,30 @@ use Rattle.mw_grammar.proofs.Derivations.{Before, empty, some, over, nodes}
 -- Readings by forms, in which the parts are read by the grammar.
 pub data Read : (n : Nonterminal) → Form n → Before → List PureToken → Meaning n → Nodes → List PureToken → Type 0 where
   d_gives : {n : Nonterminal} {v : Meaning n} {a : Before} {ts : List PureToken} → Read n (gives v) a ts v (nodes a) ts
-  d_skip : {n : Nonterminal} {F : Form n} {a : Before} {t : PureToken} {ts rest : List PureToken} {v : Meaning n} {s : Nodes} → Read n F a ts v s rest → Read n (skip F) a (t ∷ ts) v s rest
-  d_under : {n : Nonterminal} {F : Form n} {a : Before} {t : PureToken} {ts rest : List PureToken} {v : Meaning n} {s : Nodes} → Read n F empty ts v s rest
+  d_skip : {n : Nonterminal} {F : Form n} {a : Before} {t : PureToken} {ts rest : List PureToken} {v : Meaning n}
+      {s : Nodes} → Read n F a ts v s rest → Read n (skip F) a (t ∷ ts) v s rest
+  d_under : {n : Nonterminal} {F : Form n} {a : Before} {t : PureToken} {ts rest : List PureToken} {v : Meaning n}
+      {s : Nodes} → Read n F empty ts v s rest
       → Read n (under F) a (t ∷ ts) v (node (suc (length ts)) (over a s)) rest
-  d_expect : {n : Nonterminal} {k : Expected} {F : Form n} {a : Before} {p q : ℕ} {ts rest : List PureToken} {v : Meaning n} {s : Nodes} → Read n F a ts v s rest
+  d_expect : {n : Nonterminal} {k : Expected} {F : Form n} {a : Before} {p q : ℕ} {ts rest : List PureToken}
+      {v : Meaning n} {s : Nodes} → Read n F a ts v s rest
       → Read n (expect k F) a (token p q (symbol k) ∷ ts) v s rest
-  d_reads : {m n : Nonterminal} {go : Meaning m → Form n} {a : Before} {ts mid rest : List PureToken} {u : Meaning m} {v : Meaning n} {t s : Nodes} → Reads m ts u t mid
+  d_reads : {m n : Nonterminal} {go : Meaning m → Form n} {a : Before} {ts mid rest : List PureToken} {u : Meaning m}
+      {v : Meaning n} {t s : Nodes} → Reads m ts u t mid
       → Read n (go u) (some (over a t)) mid v s rest → Read n (reads m go) a ts v s rest
-  d_pick : {n : Nonterminal} {f : PureToken → Form n} {a : Before} {t : PureToken} {ts rest : List PureToken} {v : Meaning n} {s : Nodes} → Read n (f t) a (t ∷ ts) v s rest → Read n (pick f) a (t ∷ ts) v s rest
-  d_yes : {n : Nonterminal} {k : Expected} {F G : Form n} {a : Before} {p q : ℕ} {ts rest : List PureToken} {v : Meaning n} {s : Nodes} → Read n F empty ts v s rest
+  d_pick : {n : Nonterminal} {f : PureToken → Form n} {a : Before} {t : PureToken} {ts rest : List PureToken}
+      {v : Meaning n} {s : Nodes} → Read n (f t) a (t ∷ ts) v s rest → Read n (pick f) a (t ∷ ts) v s rest
+  d_yes : {n : Nonterminal} {k : Expected} {F G : Form n} {a : Before} {p q : ℕ} {ts rest : List PureToken}
+      {v : Meaning n} {s : Nodes} → Read n F empty ts v s rest
       → Read n (option k F G) a (token p q (symbol k) ∷ ts) v (node (suc (length ts)) (over a s)) rest
-  d_no : {n : Nonterminal} {k : Expected} {F G : Form n} {a : Before} {ts rest : List PureToken} {v : Meaning n} {s : Nodes} → Read n G a ts v s rest → Read n (option k F G) a ts v s rest
-  d_more : {n : Nonterminal} {w : Row} {l e : SurfaceTree} {go : SurfaceTree → Form n} {a : Before} {ts mid rest : List PureToken} {v : Meaning n} {t s : Nodes} → More w l (nodes a) ts e t mid
+  d_no : {n : Nonterminal} {k : Expected} {F G : Form n} {a : Before} {ts rest : List PureToken} {v : Meaning n}
+      {s : Nodes} → Read n G a ts v s rest → Read n (option k F G) a ts v s rest
+  d_more : {n : Nonterminal} {w : Row} {l e : SurfaceTree} {go : SurfaceTree → Form n} {a : Before}
+      {ts mid rest : List PureToken} {v : Meaning n} {t s : Nodes} → More w l (nodes a) ts e t mid
       → Read n (go e) (some t) mid v s rest → Read n (more w l go) a ts v s rest
 
-pub no_refuses : {n : Nonterminal} {a : Before} {ts rest : List PureToken} {v : Meaning n} {s : Nodes} → Read n refuses a ts v s rest → ⊥
+pub no_refuses : {n : Nonterminal} {a : Before} {ts rest : List PureToken} {v : Meaning n} {s : Nodes}
+    → Read n refuses a ts v s rest → ⊥
 no_refuses h = elim h [ ]
 
 -- some tokens are of the nonterminal, whatever stands after
@@ -107,10 +116,20 @@ abbrev kernel_sample : Sample kernel_type
 kernel_sample = record { more = t int_word ∷ []; v = _; ends = λ y. (_, r_ground_kernel (ground_sample.ends y).1) }
 
 abbrev item_sample : Sample item
-item_sample = record { more = t let_word ∷ x ∷ t equal ∷ x ∷ []; v = _; ends = λ y. (_, r_let_item (equal_sample.ends y).1) }
+item_sample = record {
+  more = t let_word ∷ x ∷ t equal ∷ x ∷ [];
+  v = _;
+  ends = λ y.
+      (_, r_let_item (equal_sample.ends y).1);
+}
 
 abbrev program_sample : Sample program
-program_sample = record { more = t main_word ∷ t colon ∷ t int_word ∷ t equal ∷ x ∷ []; v = _; ends = λ y. (_, r_main (ground_sample.ends (t equal ∷ x ∷ y)).1 (expr_sample.ends y).1) }
+program_sample = record {
+  more = t main_word ∷ t colon ∷ t int_word ∷ t equal ∷ x ∷ [];
+  v = _;
+  ends = λ y.
+      (_, r_main (ground_sample.ends (t equal ∷ x ∷ y)).1 (expr_sample.ends y).1);
+}
 
 pub sample : (m : Nonterminal) → Sample m
 sample program = program_sample
@@ -141,8 +160,8 @@ pub data Stand : Type 0 where
   chosen : Stand
   other : Stand
 
--- One can go on with the form, and with all that it comes to. What a token decides takes a token, or refuses; and at its
--- head a nonterminal takes one.
+-- One can go on with the form, and with all that it comes to. What a token decides takes a token, or refuses; and at
+-- its head a nonterminal takes one.
 abbrev pub Open : {n : Nonterminal} → Stand → Form n → Type 0
 Open first (gives v) = ⊥
 Open chosen (gives v) = ⊥
@@ -172,17 +191,23 @@ Open other (more w l go) = (e : SurfaceTree) → Open going (go e)
 pub fill_of : {n : Nonterminal} (F : Form n) → Open going F → Fills F
 fill_of (gives v) o = record { more = []; v = v; ends = λ a x. (_, d_gives) }
 fill_of refuses o = absurd o
-fill_of (skip F) o = let f = fill_of F o in record { more = x ∷ f.more; v = f.v; ends = λ a y. (_, d_skip (f.ends a y).1) }
-fill_of (under F) o = let f = fill_of F o in record { more = x ∷ f.more; v = f.v; ends = λ a y. (_, d_under (f.ends empty y).1) }
-fill_of (expect k F) o = let f = fill_of F o in record { more = t (symbol k) ∷ f.more; v = f.v; ends = λ a y. (_, d_expect (f.ends a y).1) }
+fill_of (skip F) o = let f = fill_of F o in
+    record { more = x ∷ f.more; v = f.v; ends = λ a y. (_, d_skip (f.ends a y).1) }
+fill_of (under F) o = let f = fill_of F o in
+    record { more = x ∷ f.more; v = f.v; ends = λ a y. (_, d_under (f.ends empty y).1) }
+fill_of (expect k F) o = let f = fill_of F o in
+    record { more = t (symbol k) ∷ f.more; v = f.v; ends = λ a y. (_, d_expect (f.ends a y).1) }
 fill_of (reads m go) o = let s = sample m in let f = fill_of (go s.v) (o s.v) in record {
   more = s.more ++ f.more;
   v = f.v;
-  ends = λ a y. let e = s.ends (f.more ++ y) in let h = f.ends (some (over a e.0)) y in (h.0, rw (append_assoc s.more f.more y) (d_reads e.1 h.1));
+  ends = λ a y. let e = s.ends (f.more ++ y) in let h = f.ends (some (over a e.0)) y in
+      (h.0, rw (append_assoc s.more f.more y) (d_reads e.1 h.1));
 }
 fill_of (pick f) o = o.0
-fill_of (option k F G) o = let f = fill_of F o.0 in record { more = t (symbol k) ∷ f.more; v = f.v; ends = λ a y. (_, d_yes (f.ends empty y).1) }
-fill_of (more w l go) o = let f = fill_of (go l) (o l) in record { more = f.more; v = f.v; ends = λ a y. (_, d_more m_end (f.ends (some (nodes a)) y).1) }
+fill_of (option k F G) o = let f = fill_of F o.0 in
+    record { more = t (symbol k) ∷ f.more; v = f.v; ends = λ a y. (_, d_yes (f.ends empty y).1) }
+fill_of (more w l go) o = let f = fill_of (go l) (o l) in
+    record { more = f.more; v = f.v; ends = λ a y. (_, d_more m_end (f.ends (some (nodes a)) y).1) }
 
 -- the forms of the grammar
 open_program : (t : PureToken) → Open chosen (program_by t)
@@ -196,7 +221,13 @@ open_rec_item (token a b (word x)) = λ p. tt
 open_rec_item (token a b _) = tt
 
 abbrev rec_item_sample : Fills (pick rec_item)
-rec_item_sample = record { more = x ∷ x ∷ t equal ∷ x ∷ []; v = _; ends = λ a y. (_, d_pick (d_skip (d_reads (equal_parameter.ends y).1 d_gives))) }
+rec_item_sample =
+    record {
+      more = x ∷ x ∷ t equal ∷ x ∷ [];
+      v = _;
+      ends = λ a y.
+          (_, d_pick (d_skip (d_reads (equal_parameter.ends y).1 d_gives)));
+    }
 
 open_let : (t : PureToken) → Open chosen (let_by t)
 open_let (token a b (word x)) = λ d. tt
@@ -204,14 +235,29 @@ open_let (token a b rec_word) = (rec_item_sample, open_rec_item)
 open_let (token a b _) = tt
 
 abbrev let_sample : Fills (pick let_by)
-let_sample = record { more = x ∷ t equal ∷ x ∷ []; v = _; ends = λ a y. (_, d_pick (d_skip (d_reads (equal_sample.ends y).1 d_gives))) }
+let_sample = record {
+  more = x ∷ t equal ∷ x ∷ [];
+  v = _;
+  ends = λ a y.
+      (_, d_pick (d_skip (d_reads (equal_sample.ends y).1 d_gives)));
+}
 
 open_kernel : (t : PureToken) → Open chosen (kernel_by t)
 open_kernel (token a b (word x)) = λ k e. tt
 open_kernel (token a b _) = tt
 
 abbrev kernel_item_sample : Fills (pick kernel_by)
-kernel_item_sample = record { more = x ∷ t colon ∷ t int_word ∷ t equal ∷ x ∷ []; v = _; ends = λ a y. (_, d_pick (d_skip (d_expect (d_reads (kernel_sample.ends (t equal ∷ x ∷ y)).1 (d_expect (d_reads (expr_sample.ends y).1 d_gives)))))) }
+kernel_item_sample =
+    record {
+      more = x ∷ t colon ∷ t int_word ∷ t equal ∷ x ∷ [];
+      v = _;
+      ends = λ a y. (
+        _,
+        d_pick
+            (d_skip (d_expect
+            (d_reads (kernel_sample.ends (t equal ∷ x ∷ y)).1 (d_expect (d_reads (expr_sample.ends y).1 d_gives))))),
+      );
+    }
 
 open_item : (t : PureToken) → Open chosen (item_by t)
 open_item (token a b let_word) = (let_sample, open_let)
@@ -240,7 +286,16 @@ open_rec (token a b (word x)) = λ d e. tt
 open_rec (token a b _) = tt
 
 abbrev rec_sample : Fills (pick rec_by)
-rec_sample = record { more = x ∷ x ∷ t equal ∷ x ∷ t (symbol in_next) ∷ x ∷ []; v = _; ends = λ a y. (_, d_pick (d_skip (d_reads (equal_parameter.ends (t (symbol in_next) ∷ x ∷ y)).1 (d_expect (d_reads (expr_sample.ends y).1 d_gives))))) }
+rec_sample = record {
+  more = x ∷ x ∷ t equal ∷ x ∷ t (symbol in_next) ∷ x ∷ [];
+  v = _;
+  ends = λ a y. (
+    _,
+    d_pick
+        (d_skip (d_reads (equal_parameter.ends (t (symbol in_next) ∷ x ∷ y)).1
+        (d_expect (d_reads (expr_sample.ends y).1 d_gives)))),
+  );
+}
 
 open_let_in : (t : PureToken) → Open chosen (let_in_by t)
 open_let_in (token a b (word x)) = λ d e. tt
@@ -248,7 +303,16 @@ open_let_in (token a b rec_word) = (rec_sample, open_rec)
 open_let_in (token a b _) = tt
 
 abbrev let_in_sample : Fills (pick let_in_by)
-let_in_sample = record { more = x ∷ t equal ∷ x ∷ t (symbol in_next) ∷ x ∷ []; v = _; ends = λ a y. (_, d_pick (d_skip (d_reads (equal_sample.ends (t (symbol in_next) ∷ x ∷ y)).1 (d_expect (d_reads (expr_sample.ends y).1 d_gives))))) }
+let_in_sample = record {
+  more = x ∷ t equal ∷ x ∷ t (symbol in_next) ∷ x ∷ [];
+  v = _;
+  ends = λ a y. (
+    _,
+    d_pick
+        (d_skip (d_reads (equal_sample.ends (t (symbol in_next) ∷ x ∷ y)).1
+        (d_expect (d_reads (expr_sample.ends y).1 d_gives)))),
+  );
+}
 
 open_expr : (t : PureToken) → Open chosen (expr_by t)
 open_expr (token a b let_word) = (let_in_sample, open_let_in)
@@ -268,7 +332,8 @@ open_head (token a b run_word) = λ k e. tt
 open_head (token a b _) = λ e. tt
 
 abbrev minus_sample : Fills (pick minus_by)
-minus_sample = record { more = t (number 0) ∷ t paren_right ∷ []; v = _; ends = λ a y. (_, d_pick (d_skip (d_expect d_gives))) }
+minus_sample =
+    record { more = t (number 0) ∷ t paren_right ∷ []; v = _; ends = λ a y. (_, d_pick (d_skip (d_expect d_gives))) }
 
 open_minus : (t : PureToken) → Open chosen (minus_by t)
 open_minus (token a b (number n)) = tt
@@ -283,7 +348,13 @@ open_first d (token a b comma) = λ e. tt
 open_first d (token a b _) = tt
 
 abbrev paren_sample : Fills (pick paren_by)
-paren_sample = record { more = x ∷ t paren_right ∷ []; v = _; ends = λ a y. (_, d_pick (d_reads (expr_sample.ends (t paren_right ∷ y)).1 (d_pick (d_skip d_gives)))) }
+paren_sample =
+    record {
+      more = x ∷ t paren_right ∷ [];
+      v = _;
+      ends = λ a y.
+          (_, d_pick (d_reads (expr_sample.ends (t paren_right ∷ y)).1 (d_pick (d_skip d_gives))));
+    }
 
 open_paren : (t : PureToken) → Open chosen (paren_by t)
 open_paren (token a b minus) = (minus_sample, open_minus)
@@ -309,16 +380,65 @@ open_base (token a b bool_word) = tt
 open_base (token a b _) = tt
 
 pub opens_all : (n : Nonterminal) → Open first (form n)
-opens_all program = (record { more = t main_word ∷ t colon ∷ t int_word ∷ t equal ∷ x ∷ []; v = _; ends = λ a y. (_, d_pick (d_skip (d_expect (d_reads (ground_sample.ends (t equal ∷ x ∷ y)).1 (d_expect (d_reads (expr_sample.ends y).1 d_gives)))))) }, open_program)
-opens_all item = (record { more = t let_word ∷ x ∷ t equal ∷ x ∷ []; v = _; ends = λ a y. (_, d_pick (d_skip (let_sample.ends a y).1)) }, open_item)
-opens_all (parameter by_arrow) = (record { more = x ∷ t arrow ∷ x ∷ []; v = _; ends = λ a y. (_, d_pick (d_under (d_reads (arrow_sample.ends y).1 d_gives))) }, open_parameter by_arrow)
-opens_all (parameter by_equal) = (record { more = x ∷ t equal ∷ x ∷ []; v = _; ends = λ a y. (_, d_pick (d_under (d_reads (equal_sample.ends y).1 d_gives))) }, open_parameter by_equal)
-opens_all (body by_arrow) = (record { more = t arrow ∷ x ∷ []; v = _; ends = λ a y. (_, d_pick (d_skip ((mark_sample by_arrow).ends a y).1)) }, open_body by_arrow)
-opens_all (body by_equal) = (record { more = t equal ∷ x ∷ []; v = _; ends = λ a y. (_, d_pick (d_skip ((mark_sample by_equal).ends a y).1)) }, open_body by_equal)
-opens_all (tree expr) = (record { more = x ∷ []; v = _; ends = λ a y. (_, d_pick (d_reads (disjunction_sample.ends y).1 d_gives)) }, open_expr)
-opens_all (tree head) = (record { more = x ∷ []; v = _; ends = λ a y. (_, d_pick (d_reads (atom_sample.ends y).1 d_gives)) }, open_head)
+opens_all program = (
+  record {
+    more = t main_word ∷ t colon ∷ t int_word ∷ t equal ∷ x ∷ [];
+    v = _;
+    ends = λ a y. (
+      _,
+      d_pick
+          (d_skip (d_expect
+          (d_reads (ground_sample.ends (t equal ∷ x ∷ y)).1 (d_expect (d_reads (expr_sample.ends y).1 d_gives))))),
+    );
+  },
+  open_program,
+)
+opens_all item = (
+  record {
+    more = t let_word ∷ x ∷ t equal ∷ x ∷ [];
+    v = _;
+    ends = λ a y.
+        (_, d_pick (d_skip (let_sample.ends a y).1));
+  },
+  open_item,
+)
+opens_all (parameter by_arrow) = (
+  record {
+    more = x ∷ t arrow ∷ x ∷ [];
+    v = _;
+    ends = λ a y.
+        (_, d_pick (d_under (d_reads (arrow_sample.ends y).1 d_gives)));
+  },
+  open_parameter by_arrow,
+)
+opens_all (parameter by_equal) = (
+  record {
+    more = x ∷ t equal ∷ x ∷ [];
+    v = _;
+    ends = λ a y.
+        (_, d_pick (d_under (d_reads (equal_sample.ends y).1 d_gives)));
+  },
+  open_parameter by_equal,
+)
+opens_all (body by_arrow) = (
+  record { more = t arrow ∷ x ∷ []; v = _; ends = λ a y. (_, d_pick (d_skip ((mark_sample by_arrow).ends a y).1)) },
+  open_body by_arrow,
+)
+opens_all (body by_equal) = (
+  record { more = t equal ∷ x ∷ []; v = _; ends = λ a y. (_, d_pick (d_skip ((mark_sample by_equal).ends a y).1)) },
+  open_body by_equal,
+)
+opens_all (tree expr) = (
+  record { more = x ∷ []; v = _; ends = λ a y. (_, d_pick (d_reads (disjunction_sample.ends y).1 d_gives)) },
+  open_expr,
+)
+opens_all (tree head) =
+    (record { more = x ∷ []; v = _; ends = λ a y. (_, d_pick (d_reads (atom_sample.ends y).1 d_gives)) }, open_head)
 opens_all (tree atom) = (record { more = x ∷ []; v = _; ends = λ a y. (_, d_pick (d_under d_gives)) }, open_atom)
-opens_all part = (record { more = t int_word ∷ []; v = _; ends = λ a y. (_, d_pick (d_reads (base_sample.ends y).1 d_gives)) }, open_part)
+opens_all part = (
+  record { more = t int_word ∷ []; v = _; ends = λ a y. (_, d_pick (d_reads (base_sample.ends y).1 d_gives)) },
+  open_part,
+)
 opens_all base = (record { more = t int_word ∷ []; v = _; ends = λ a y. (_, d_pick (d_under d_gives)) }, open_base)
 opens_all (tree disjunction) = λ d. ((λ e. tt), tt)
 opens_all (tree conjunction) = λ d. ((λ e. tt), tt)

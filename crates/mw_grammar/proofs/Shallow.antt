@@ -61,9 +61,11 @@ Low part v b = Unit {0}
 Low base v b = Unit {0}
 
 mutual
-  pub low : {n : Nonterminal} {ts rest : List PureToken} {v : Meaning n} {s : Nodes} → Reads n ts v s rest → Low n v (height s)
+  pub low : {n : Nonterminal} {ts rest : List PureToken} {v : Meaning n} {s : Nodes} → Reads n ts v s rest
+      → Low n v (height s)
   low (r_main h i) = (tt, omega (arith, low i))
-  low (r_program {p = p} {s = s} {t = t} h i) = let k = low h in let l = low i in let m = l.1 in ((omega arith, all_low p.items (height t) (max (height s) (height t)) (omega arith) l.0), omega arith)
+  low (r_program {p = p} {s = s} {t = t} h i) = let k = low h in let l = low i in let m = l.1 in
+      ((omega arith, all_low p.items (height t) (max (height s) (height t)) (omega arith) l.0), omega arith)
   low (r_let_item h) = low h
   low (r_rec_item h) = low h
   low (r_kernel h i) = omega (arith, low i)
@@ -109,7 +111,8 @@ mutual
   low r_int = tt
   low r_bool = tt
 
-  low_more : {w : _} {l e : SurfaceTree} {s t : Nodes} {ts rest : List PureToken} → More w l s ts e t rest → surface_depth l ≤ height s → surface_depth e ≤ height t
+  low_more : {w : _} {l e : SurfaceTree} {s t : Nodes} {ts rest : List PureToken} → More w l s ts e t rest
+      → surface_depth l ≤ height s → surface_depth e ≤ height t
   low_more m_end p = p
   low_more (m_sign g h m) p = low_more m (omega (arith, low h))
   low_more (m_argument h m) p = low_more m (omega (arith, low h))

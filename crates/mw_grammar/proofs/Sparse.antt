@@ -31,7 +31,8 @@ weight base v = 0
 
 -- a token makes three nodes at most
 mutual
-  pub light : {n : Nonterminal} {ts rest : List PureToken} {v : Meaning n} {s : Nodes} → Reads n ts v s rest → weight n v + 3 * length rest ≤ 3 * length ts
+  pub light : {n : Nonterminal} {ts rest : List PureToken} {v : Meaning n} {s : Nodes} → Reads n ts v s rest
+      → weight n v + 3 * length rest ≤ 3 * length ts
   light (r_main h i) = omega (arith, light h, light i)
   light (r_program h i) = omega (arith, light h, light i)
   light (r_let_item h) = omega (arith, light h)
@@ -79,7 +80,8 @@ mutual
   light r_int = omega arith
   light r_bool = omega arith
 
-  light_more : {w : Row} {l e : SurfaceTree} {s t : Nodes} {ts rest : List PureToken} (most : ℕ) → More w l s ts e t rest → tree_size l + 1 + 3 * length ts ≤ most → tree_size e + 1 + 3 * length rest ≤ most
+  light_more : {w : Row} {l e : SurfaceTree} {s t : Nodes} {ts rest : List PureToken} (most : ℕ)
+      → More w l s ts e t rest → tree_size l + 1 + 3 * length ts ≤ most → tree_size e + 1 + 3 * length rest ≤ most
   light_more most m_end p = p
   light_more most (m_sign g h m) p = light_more most m (omega (arith, light h))
   light_more most (m_argument h m) p = light_more most m (omega (arith, light h))
@@ -93,7 +95,8 @@ pub few_tokens : (tokens : List PureToken) (n : ℕ) → AreInOrder tokens n →
 few_tokens tokens n h = omega (arith, few_from 0 tokens n h)
 
 -- of a file within its bound a program has at most three times as many nodes
-pub few_nodes : (tokens : List PureToken) (n : ℕ) (s : PureSurface) → AreInOrder tokens n → n ≤ 1048576 → IsSparse tokens s → surface_size s ≤ 3145728
+pub few_nodes : (tokens : List PureToken) (n : ℕ) (s : PureSurface) → AreInOrder tokens n → n ≤ 1048576
+    → IsSparse tokens s → surface_size s ≤ 3145728
 few_nodes tokens n s h small sparse = omega (arith, few_tokens tokens n h)
 
 -- a program that tokens are has at most three nodes for each of them

@@ -15,10 +15,12 @@ BeginsProgram front = (more : List PureToken) × (v : PureSurface) × (s : Nodes
 
 -- The depth of a front is that of the tree so far, in each completion: at most b, or above b.
 abbrev pub IsAtMost : ℕ → List PureToken → Type 0
-IsAtMost b front = (more : List PureToken) (v : PureSurface) (s : Nodes) → Derives (front ++ more) v s → depth (length more) s ≤ b
+IsAtMost b front = (more : List PureToken) (v : PureSurface) (s : Nodes) → Derives (front ++ more) v s
+    → depth (length more) s ≤ b
 
 abbrev pub IsAbove : ℕ → List PureToken → Type 0
-IsAbove b front = (more : List PureToken) (v : PureSurface) (s : Nodes) → Derives (front ++ more) v s → b < depth (length more) s
+IsAbove b front = (more : List PureToken) (v : PureSurface) (s : Nodes) → Derives (front ++ more) v s
+    → b < depth (length more) s
 
 -- no program begins with the front and the next token, or the front is none where no token is left
 abbrev pub IsDead : List PureToken → List PureToken → Type 0
@@ -102,4 +104,5 @@ HaveOneTree tokens = (v w : PureSurface) (s t : Nodes) → Derives tokens v s �
 
 -- the depth of a front is the same in all its completions
 abbrev pub HasOneDepth : List PureToken → Type 0
-HasOneDepth front = (more more' : List PureToken) (v v' : PureSurface) (s s' : Nodes) → Derives (front ++ more) v s → Derives (front ++ more') v' s' → depth (length more) s ≡ depth (length more') s'
+HasOneDepth front = (more more' : List PureToken) (v v' : PureSurface) (s s' : Nodes) → Derives (front ++ more) v s
+    → Derives (front ++ more') v' s' → depth (length more) s ≡ depth (length more') s'

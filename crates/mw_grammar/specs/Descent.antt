@@ -1,5 +1,6 @@
 -- The parser by forms: `parse f b n` reads the nonterminal n where b nodes may still stand on a path. It answers the
--- meaning, the height of the nodes and the tokens left, or the tokens from the fault on. f bounds the calls within calls.
+-- meaning, the height of the nodes and the tokens left, or the tokens from the fault on. f bounds the calls within
+-- calls.
 use Rattle.std.specs.Prelude.{ℕ, zero, suc, ◌+◌, ◌-◌, ◌*◌, max, Bool, true, false, List, [], ◌∷◌, length, nat_lt}
 use Rattle.mw_lex.specs.Tokens.{PureToken, token}
 use Rattle.mw_grammar.specs.SurfaceTrees.{SurfaceTree}
@@ -54,9 +55,12 @@ branch true x y = x
 branch false x y = y
 
 -- what follows a left operand l of height a
-abbrev pub on_operator : Parsers → Row → ℕ → (SurfaceTree → ℕ → List PureToken → Answer (tree expr)) → SurfaceTree → ℕ → List PureToken → Opens → Answer (tree expr)
+abbrev pub on_operator : Parsers → Row → ℕ → (SurfaceTree → ℕ → List PureToken → Answer (tree expr)) → SurfaceTree → ℕ
+    → List PureToken → Opens → Answer (tree expr)
 on_operator sub w b next l a ts nothing = ok l a ts
-on_operator sub w b next l a ts (operator o us) = within (nat_lt a b) ts (and_then (sub (b - 1) (tree (right w)) us) λ r h mid. next (operated o l r) (suc (max a h)) mid)
+on_operator sub w b next l a ts (operator o us) =
+    within (nat_lt a b) ts (and_then (sub (b - 1) (tree (right w)) us) λ r h mid. next (operated o l r) (suc (max a h))
+    mid)
 
 -- at most k operators, which is enough where k and a are at least b
 abbrev pub rounds : Parsers → ℕ → Row → ℕ → SurfaceTree → ℕ → List PureToken → Answer (tree expr)
@@ -77,7 +81,9 @@ run sub b (reads m go) a ts = and_then (sub b m ts) λ v h mid. run sub b (go v)
 run sub b (pick f) a [] = syntax_at []
 run sub b (pick f) a (t ∷ ts) = run sub b (f t) a (t ∷ ts)
 run sub b (option k F G) a [] = run sub b G a []
-run sub b (option k F G) a (token p q s ∷ ts) = branch (is k s) (within (nat_lt (tall a) b) (token p q s ∷ ts) (raise a (run sub (b - 1) F none_yet ts))) (run sub b G a (token p q s ∷ ts))
+run sub b (option k F G) a (token p q s ∷ ts) =
+    branch (is k s) (within (nat_lt (tall a) b) (token p q s ∷ ts) (raise a (run sub (b - 1) F none_yet ts)))
+    (run sub b G a (token p q s ∷ ts))
 run sub b (more w l go) a ts = and_then (rounds sub b w b l (tall a) ts) λ e h mid. run sub b (go e) (so_far h) mid
 
 abbrev pub parse : ℕ → Parsers
@@ -121,4 +127,5 @@ following b w l a ts = rounds full b w b l a ts
 
 -- what may follow a left operand l of height a and an operator o
 abbrev pub following_operator : ℕ → Row → Op → SurfaceTree → ℕ → List PureToken → Answer (tree expr)
-following_operator b w o l a ts = and_then (full (b - 1) (tree (right w)) ts) λ r h mid. following b w (operated o l r) (suc (max a h)) mid
+following_operator b w o l a ts = and_then (full (b - 1) (tree (right w)) ts) λ r h mid. following b w (operated o l r)
+    (suc (max a h)) mid

@@ -148,7 +148,9 @@ let_by (token a b rec_word) = skip (pick rec_item)
 let_by _ = refuses
 
 abbrev pub kernel_by : PureToken → Form item
-kernel_by (token a b (word x)) = skip (expect colon_next (reads kernel_type λ k. expect equal_next (reads (tree expr) λ e. gives (kernel_item x a k e))))
+kernel_by (token a b (word x)) =
+    skip (expect colon_next
+    (reads kernel_type λ k. expect equal_next (reads (tree expr) λ e. gives (kernel_item x a k e))))
 kernel_by _ = refuses
 
 abbrev pub item_by : PureToken → Form item
@@ -312,8 +314,10 @@ form item = pick item_by
 form (parameter m) = pick (parameter_by m)
 form (body m) = pick (body_by m)
 form (tree expr) = pick expr_by
-form (tree disjunction) = reads (tree conjunction) λ d. option or_next (reads (tree disjunction) λ e. gives (cond d (truth true) e)) (gives d)
-form (tree conjunction) = reads (tree comparison) λ d. option and_next (reads (tree conjunction) λ e. gives (cond d e (truth false))) (gives d)
+form (tree disjunction) = reads (tree conjunction) λ d.
+    option or_next (reads (tree disjunction) λ e. gives (cond d (truth true) e)) (gives d)
+form (tree conjunction) = reads (tree comparison) λ d.
+    option and_next (reads (tree conjunction) λ e. gives (cond d e (truth false))) (gives d)
 form (tree comparison) = reads (tree (row sum)) λ d. equal_to d
 form (tree (row w)) = reads (tree (operand w)) λ l. more w l λ e. gives e
 form (tree head) = pick head_by

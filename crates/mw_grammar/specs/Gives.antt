@@ -22,7 +22,8 @@ Gives view (Ok x) answer = answer ≡ view x
 Gives view (Err e) answer = Fails e answer
 
 -- the same of what was read, the height of its nodes and the tokens left
-abbrev pub GivesRead : {X : Type 0} {n : Nonterminal} → (X → Meaning n) → Result (X × ℕ × Bor (List Token)) Fault → Answer n → Type 0
+abbrev pub GivesRead : {X : Type 0} {n : Nonterminal} → (X → Meaning n) → Result (X × ℕ × Bor (List Token)) Fault
+    → Answer n → Type 0
 GivesRead view result answer = Gives (λ x. ok (view x.0) x.1 (tokens_of x.2.now)) result answer
 
 abbrev pub expected_of : Next → Expected

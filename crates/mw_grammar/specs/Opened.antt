@@ -10,8 +10,10 @@ use Rattle.mw_grammar.specs.declared.kinds.Opened.{Opened}
 use Rattle.mw_grammar.specs.declared.kinds.Opened.TheVariants.{Paren, Other, Nothing}
 
 abbrev pub IsOpened : List PureToken → Opened → Type 0
-IsOpened ts (Paren rest) = (b : ℕ) → reading b (form part) none_yet ts ≡ within (nat_lt 0 b) ts (raise none_yet (reading (b - 1) paren_form none_yet (tokens_of rest.now)))
-IsOpened ts Other = (b : ℕ) → reading b (form part) none_yet ts ≡ reading b (reads base λ c. gives (ground_base c)) none_yet ts
+IsOpened ts (Paren rest) = (b : ℕ) → reading b (form part) none_yet ts ≡ within (nat_lt 0 b) ts
+    (raise none_yet (reading (b - 1) paren_form none_yet (tokens_of rest.now)))
+IsOpened ts Other = (b : ℕ) → reading b (form part) none_yet ts ≡ reading b (reads base λ c. gives (ground_base c))
+    none_yet ts
 IsOpened ts Nothing = (b : ℕ) → reading b (form part) none_yet ts ≡ syntax_at ts
 
 -- the tokens begin with no base type, or with this one

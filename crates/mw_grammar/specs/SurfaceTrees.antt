@@ -10,7 +10,8 @@ use Rattle.mw_grammar.specs.declared.tree.SurfaceItem.{SurfaceItem}
 use Rattle.mw_grammar.specs.declared.tree.SurfaceItem.TheVariants.{Let as LetItem, Kernel as KernelItem}
 use Rattle.mw_grammar.specs.declared.tree.Surface.{Surface}
 
--- An expression with its names, which are lists of bytes. A number at is the offset of the name, bracket, escape or word.
+-- An expression with its names, which are lists of bytes. A number at is the offset of the name, bracket, escape or
+-- word.
 pub data SurfaceTree : Type 0 where
   num : (n : ℤ) → SurfaceTree
   truth : (b : Bool) → SurfaceTree

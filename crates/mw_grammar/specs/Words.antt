@@ -97,7 +97,8 @@ IsClose (token a b k) closes.Comma = k ≡ comma
 IsClose (token a b k) closes.Other = (d : SurfaceTree) → behind_first d (token a b k) ≡ refuses
 
 abbrev pub IsBody : Mark → PureToken → Body → Type 0
-IsBody m (token a b k) bodies.Parameter = body_by (mark_in m) (token a b k) ≡ (reads (parameter (mark_in m)) λ p. gives (defined p))
+IsBody m (token a b k) bodies.Parameter = body_by (mark_in m) (token a b k)
+    ≡ (reads (parameter (mark_in m)) λ p. gives (defined p))
 IsBody m (token a b k) bodies.Mark = body_by (mark_in m) (token a b k) ≡ skip (pick (behind_mark (mark_in m)))
 IsBody m (token a b k) bodies.Other = body_by (mark_in m) (token a b k) ≡ refuses
 

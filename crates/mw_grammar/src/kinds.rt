@@ -1,5 +1,5 @@
-// Ground types and kernel types, by descent. `room` is the number of nodes that may still stand on a path; each function
-// answers what it made, the height of its nodes and the tokens left.
+// Ground types and kernel types, by descent. `room` is the number of nodes that may still stand on a path; each
+// function answers what it made, the height of its nodes and the tokens left.
 
 #![tactic(auto, using(crate::proofs::Below::read_full, crate::proofs::Below::read_gives, crate::proofs::Below::read_refuses, crate::proofs::Below::read_reads, crate::proofs::Below::part_fails, crate::proofs::Below::low_in, crate::proofs::Below::low_out, crate::proofs::Below::raise_ok, crate::proofs::Below::fails_raise))]
 

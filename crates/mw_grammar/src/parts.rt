@@ -1,5 +1,5 @@
-// Trees made of the parts that were read, in boxes. The prover reads dropping a box as one step, and dropping a tree anew at
-// each place where a failed call leaves one behind.
+// Trees made of the parts that were read, in boxes. The prover reads dropping a box as one step, and dropping a tree
+// anew at each place where a failed call leaves one behind.
 
 ghost use Rattle.std.specs.Prelude.{◌≡◌, IfOk, true, false};
 ghost use Rattle.mw_term.specs.Terms.{kernel_type_of};

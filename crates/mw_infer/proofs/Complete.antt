@@ -33,60 +33,113 @@ use Rattle.mw_infer.proofs.Extending.{started-starts, Ready, Grown, then, Own, O
 use Rattle.mw_infer.proofs.Extending.{Ready-bound, Ready-gives, Ready-later, Ready-under, Ready-live}
 
 -- the slot of a variable
-find : (a : Assignment) (g : List Slot) (i : ℕ) (x : Entry) → slice_get (map (entry_of a) g) i ≡ Some x → (s : Slot) × (slice_get g i ≡ Some s) × (entry_of a s ≡ x)
+find : (a : Assignment) (g : List Slot) (i : ℕ) (x : Entry) → slice_get (map (entry_of a) g) i ≡ Some x → (s : Slot)
+    × (slice_get g i ≡ Some s) × (entry_of a s ≡ x)
 find a [] i x e = absurd (cc)
 find a (s ∷ g) zero x e = (s, refl, cc)
 find a (s ∷ g) (suc i) x e = find a g i x e
 
-variable-solved : (a : Assignment) (u : ℕ) (m : Level) (s : Slot) (t : TermType) → a.ty u ≡ t → entry_of a s ≡ entry (level_of a m) t → Solves a (variable_equations u m (Some s))
+variable-solved : (a : Assignment) (u : ℕ) (m : Level) (s : Slot) (t : TermType) → a.ty u ≡ t → entry_of a s
+    ≡ entry (level_of a m) t → Solves a (variable_equations u m (Some s))
 variable-solved a u live (plain_slot x) t e f = (e ∙ (let q : a.ty x ≡ t = cc in sym q), tt)
 variable-solved a u live (quoted_slot k x) t e f = absurd (cc)
 variable-solved a u (under d) (plain_slot x) t e f = absurd (cc)
-variable-solved a u (under d) (quoted_slot k x) t e f = let q : a.ty x ≡ t = cc in let n : a.classifier k ≡ a.classifier d = cc in (e ∙ sym q, (rw n refl, tt))
+variable-solved a u (under d) (quoted_slot k x) t e f = let q : a.ty x ≡ t = cc in let n : a.classifier k
+    ≡ a.classifier d = cc in (e ∙ sym q, (rw n refl, tt))
 
 -- a term with no part
-alone : {a b : Assignment} {o c p d : ℕ} {es : List TypeEquation} {xs : List Close} → Own a b o c p d es xs → Grown a o c p d es xs
-alone h = record { by = _; keeps = h.keeps; solves = h.solves; fresh = h.fresh; unknowns = h.unknowns; classifiers = h.classifiers; within = h.within; below = h.below }
+alone : {a b : Assignment} {o c p d : ℕ} {es : List TypeEquation} {xs : List Close} → Own a b o c p d es xs
+    → Grown a o c p d es xs
+alone h = record {
+  by = _;
+  keeps = h.keeps;
+  solves = h.solves;
+  fresh = h.fresh;
+  unknowns = h.unknowns;
+  classifiers =
+      h.classifiers;
+  within = h.within;
+  below = h.below;
+}
 
 -- it may have no number of its own
-still : (a : Assignment) (o c : ℕ) (es : List TypeEquation) → AllWithin o c es → Solves a es → Grown a o c (o + 0) (c + 0) es []
-still a o c es w h = ending (omega arith) (omega arith) (alone (record { unknowns = omega arith; classifiers = omega arith; keeps = record { types = λ u lt. refl; classifiers = λ k lt. refl }; within = w; below = tt; solves = h; fresh = tt }))
+still : (a : Assignment) (o c : ℕ) (es : List TypeEquation) → AllWithin o c es → Solves a es
+    → Grown a o c (o + 0) (c + 0) es []
+still a o c es w h = ending (omega arith) (omega arith)
+    (alone (record {
+      unknowns = omega arith;
+      classifiers = omega arith;
+      keeps =
+          record { types = λ u lt. refl; classifiers = λ k lt. refl };
+      within = w;
+      below = tt;
+      solves = h;
+      fresh = tt;
+    }))
 
 module _ (tops : List TopLevel) (schemes : List TopScheme) (known : AreSchemesOf tops tops schemes) where
   abbrev Found : Assignment → ℕ → ℕ → ℕ → List Slot → Level → Expression → Type 0
-  Found a u o c g m e = Grown a o c (o + unknowns_of schemes e) (c + classifiers_of schemes e) (equations schemes u o c g m e) (closes schemes o c g m e)
+  Found a u o c g m e = Grown a o c (o + unknowns_of schemes e) (c + classifiers_of schemes e)
+      (equations schemes u o c g m e) (closes schemes o c g m e)
 
-  found-var : (a : Assignment) (u o c : ℕ) (g : List Slot) (m : Level) (h : List Entry) (l : Level) (i : ℕ) (t : TermType) → Ready a u o c g m h l t → slice_get h i ≡ Some (entry l t) → Found a u o c g m (var i)
+  found-var : (a : Assignment) (u o c : ℕ) (g : List Slot) (m : Level) (h : List Entry) (l : Level) (i : ℕ)
+      (t : TermType) → Ready a u o c g m h l t → slice_get h i ≡ Some (entry l t) → Found a u o c g m (var i)
   found-var a u o c g m h l i t r e =
       let q = find a g i (entry (level_of a m) t) (rw (r.env, r.at) e) in
-      still a o c _ (variable-within o c u g m i (slice_get g i) refl r.own r.slots r.level) (rw q.1 (variable-solved a u m q.0 t r.gives q.2))
+      still a o c _ (variable-within o c u g m i (slice_get g i) refl r.own r.slots r.level)
+      (rw q.1 (variable-solved a u m q.0 t r.gives q.2))
 
-  found-let : (a : Assignment) (u o c : ℕ) (g : List Slot) (h : List Entry) (i : ℕ) (e : Expression) (t : TermType) → Ready a u o c g live h live t → slice_get tops i ≡ Some (let_item e) → Typed tops [] live e t → Found a u o c g live (glob i)
+  found-let : (a : Assignment) (u o c : ℕ) (g : List Slot) (h : List Entry) (i : ℕ) (e : Expression) (t : TermType)
+      → Ready a u o c g live h live t → slice_get tops i ≡ Some (let_item e) → Typed tops [] live e t
+      → Found a u o c g live (glob i)
   found-let a u o c g h i e t r q d =
       let s = scheme-of_let tops tops schemes i e known q in
       let n = (s.2.types t).0 d in
       let b = extended a o c n.by in
       let k = extended-keeps a o c n.by in
-      let p : Agree s.0.unknowns s.0.classifiers n.by (from b o c) = record { types = λ v lt. sym (extended-ty a o c n.by v); classifiers = λ v lt. sym (extended-classifier a o c n.by v) } in
+      let p : Agree s.0.unknowns s.0.classifiers n.by (from b o c) =
+      record {
+        types = λ v lt. sym (extended-ty a o c n.by v);
+        classifiers = λ v lt.
+            sym (extended-classifier a o c n.by v);
+      } in
       rw s.1 (alone {b = b} (record {
         unknowns = omega arith;
         classifiers = omega arith;
         keeps = k;
-        within = ((let z = r.own in omega arith, Within-shifted _ _ o c s.0.unknowns s.0.classifiers s.0.type s.2.within (omega arith) (omega arith)), tt);
+        within = (
+          (
+            let z = r.own in omega arith,
+            Within-shifted _ _ o c s.0.unknowns s.0.classifiers s.0.type s.2.within
+                (omega arith) (omega arith),
+          ),
+          tt,
+        );
         below = tt;
-        solves = (sym (k.types u r.own) ∙ r.gives ∙ sym n.gives ∙ value_agree p s.0.type s.2.within ∙ sym (value-shifted b o c s.0.type), tt);
+        solves = (
+          sym (k.types u r.own) ∙ r.gives ∙ sym n.gives ∙ value_agree p s.0.type s.2.within
+              ∙ sym (value-shifted b o c s.0.type),
+          tt,
+        );
         fresh = tt;
       }))
 
-  found-kernel : (a : Assignment) (u o c : ℕ) (g : List Slot) (h : List Entry) (i : ℕ) (k : KernelType) → Ready a u o c g live h live (closed_type (kernel_type k)) → slice_get tops i ≡ Some (kernel_item k) → Found a u o c g live (glob i)
-  found-kernel a u o c g h i k r q = rw (scheme-of_kernel tops tops schemes i k known q) (still a o c _ ((r.own, Within-kernel_expression o c k), tt) (r.gives ∙ rw (value-kernel_expression a k) refl, tt))
+  found-kernel : (a : Assignment) (u o c : ℕ) (g : List Slot) (h : List Entry) (i : ℕ) (k : KernelType)
+      → Ready a u o c g live h live (closed_type (kernel_type k)) → slice_get tops i ≡ Some (kernel_item k)
+      → Found a u o c g live (glob i)
+  found-kernel a u o c g h i k r q = rw (scheme-of_kernel tops tops schemes i k known q)
+      (still a o c _ ((r.own, Within-kernel_expression o c k), tt) (
+        r.gives ∙ rw (value-kernel_expression a k) refl,
+        tt,
+      ))
 
   -- what is found of a term's parts, from each assignment that is ready for them
   abbrev Part : ℕ → ℕ → ℕ → List Slot → Level → List Entry → Level → Expression → TermType → Type 0
   Part v p d g m h l e s = (b : Assignment) → Ready b v p d g m h l s → Found b v p d g m e
 
   -- each form puts what is found of its parts after its own equations
-  found-fun : (a : Assignment) (u o c : ℕ) (g : List Slot) (m : Level) (h : List Entry) (l : Level) (e : Expression) (s t : TermType) → Ready a u o c g m h l (function_type s t)
+  found-fun : (a : Assignment) (u o c : ℕ) (g : List Slot) (m : Level) (h : List Entry) (l : Level) (e : Expression)
+      (s t : TermType) → Ready a u o c g m h l (function_type s t)
       → Part (o + 1) (o + 2) c (slot m o ∷ g) m (entry l s ∷ h) l e t → Found a u o c g m (fun e)
   found-fun a u o c g m h l e s t r part =
       let z = started-starts a o c s t t 0 in
@@ -94,20 +147,31 @@ module _ (tops : List TopLevel) (schemes : List TopScheme) (known : AreSchemesOf
       let x = Own-started (function_equations u o) (o + 2) c (omega arith) (omega arith) z
       ((omega arith, (omega arith, omega arith)), tt)
       (Ready-gives z.keeps r ∙ rw (z.first, z.second) refl, tt) in
-      ending (omega arith) refl (first x (part _ (Ready-bound o (omega arith) z.first (Ready-part (o + 1) (o + 2) c (omega arith) (omega arith) (omega arith) z.keeps z.second r))))
+      ending (omega arith) refl
+      (first x (part _
+      (Ready-bound o (omega arith) z.first
+      (Ready-part (o + 1) (o + 2) c (omega arith) (omega arith) (omega arith) z.keeps z.second r))))
 
-  found-fix : (a : Assignment) (u o c : ℕ) (g : List Slot) (m : Level) (h : List Entry) (l : Level) (e : Expression) (s t : TermType) → Ready a u o c g m h l (function_type s t)
-      → Part (o + 2) (o + 3) c (slot m o ∷ slot m (o + 1) ∷ g) m (entry l s ∷ entry l (function_type s t) ∷ h) l e t → Found a u o c g m (fix e)
+  found-fix : (a : Assignment) (u o c : ℕ) (g : List Slot) (m : Level) (h : List Entry) (l : Level) (e : Expression)
+      (s t : TermType) → Ready a u o c g m h l (function_type s t)
+      → Part (o + 2) (o + 3) c (slot m o ∷ slot m (o + 1) ∷ g) m (entry l s ∷ entry l (function_type s t) ∷ h) l e t
+      → Found a u o c g m (fix e)
   found-fix a u o c g m h l e s t r part =
       let z = started-starts a o c s (function_type s t) t 0 in
       let y = r.own in
       let x = Own-started (recursion_equations u o) (o + 3) c (omega arith) (omega arith) z
       ((omega arith, (omega arith, omega arith)), ((omega arith, omega arith), tt))
       (z.second ∙ rw (z.first, z.third) refl, (Ready-gives z.keeps r ∙ sym z.second, tt)) in
-      ending (omega arith) refl (first x (part _ (Ready-bound o (omega arith) z.first (Ready-bound (o + 1) (omega arith) z.second (Ready-part (o + 2) (o + 3) c (omega arith) (omega arith) (omega arith) z.keeps z.third r)))))
+      ending (omega arith) refl
+      (first x (part _
+      (Ready-bound o (omega arith) z.first
+      (Ready-bound (o + 1) (omega arith) z.second
+      (Ready-part (o + 2) (o + 3) c (omega arith) (omega arith) (omega arith) z.keeps z.third r)))))
 
-  found-app : (a : Assignment) (u o c : ℕ) (g : List Slot) (m : Level) (h : List Entry) (l : Level) (e f : Expression) (s t : TermType) → Ready a u o c g m h l t
-      → Part o (o + 2) c g m h l e (function_type s t) → Part (o + 1) (o + 2 + unknowns_of schemes e) (c + classifiers_of schemes e) g m h l f s → Found a u o c g m (app e f)
+  found-app : (a : Assignment) (u o c : ℕ) (g : List Slot) (m : Level) (h : List Entry) (l : Level) (e f : Expression)
+      (s t : TermType) → Ready a u o c g m h l t
+      → Part o (o + 2) c g m h l e (function_type s t) → Part (o + 1) (o + 2 + unknowns_of schemes e)
+      (c + classifiers_of schemes e) g m h l f s → Found a u o c g m (app e f)
   found-app a u o c g m h l e f s t r part next =
       let z = started-starts a o c (function_type s t) s t 0 in
       let y = r.own in
@@ -118,8 +182,10 @@ module _ (tops : List TopLevel) (schemes : List TopScheme) (known : AreSchemesOf
       let two = next one.by (Ready-later (o + 1) (omega arith) (omega arith) (omega arith) z.keeps z.second one r) in
       ending (omega arith) (omega arith) (first x (then one two))
 
-  found-bind : (a : Assignment) (u o c : ℕ) (g : List Slot) (m : Level) (h : List Entry) (l : Level) (d e : Expression) (s t : TermType) → Ready a u o c g m h l t
-      → Part (o + 1) (o + 3) c g m h l d s → Part (o + 2) (o + 3 + unknowns_of schemes d) (c + classifiers_of schemes d) (slot m o ∷ g) m (entry l s ∷ h) l e t → Found a u o c g m (bind d e)
+  found-bind : (a : Assignment) (u o c : ℕ) (g : List Slot) (m : Level) (h : List Entry) (l : Level) (d e : Expression)
+      (s t : TermType) → Ready a u o c g m h l t
+      → Part (o + 1) (o + 3) c g m h l d s → Part (o + 2) (o + 3 + unknowns_of schemes d) (c + classifiers_of schemes d)
+      (slot m o ∷ g) m (entry l s ∷ h) l e t → Found a u o c g m (bind d e)
   found-bind a u o c g m h l d e s t r part next =
       let z = started-starts a o c s s t 0 in
       let y = r.own in
@@ -128,13 +194,16 @@ module _ (tops : List TopLevel) (schemes : List TopScheme) (known : AreSchemesOf
       (z.first ∙ sym z.second, (Ready-gives z.keeps r ∙ sym z.third, tt)) in
       let one = part _ (Ready-part (o + 1) (o + 3) c (omega arith) (omega arith) (omega arith) z.keeps z.second r) in
       let i = one.unknowns in
-      let two = next one.by (Ready-bound o (omega arith) (sym (one.keeps.types o (omega arith)) ∙ z.first) (Ready-later (o + 2) (omega arith) (omega arith) (omega arith) z.keeps z.third one r)) in
+      let two = next one.by (Ready-bound o (omega arith) (sym (one.keeps.types o (omega arith)) ∙ z.first)
+      (Ready-later (o + 2) (omega arith) (omega arith) (omega arith) z.keeps z.third one r)) in
       ending (omega arith) (omega arith) (first x (then one two))
 
-  found-cond : (a : Assignment) (u o c : ℕ) (g : List Slot) (m : Level) (h : List Entry) (l : Level) (p d e : Expression) (t : TermType) → Ready a u o c g m h l t
+  found-cond : (a : Assignment) (u o c : ℕ) (g : List Slot) (m : Level) (h : List Entry) (l : Level)
+      (p d e : Expression) (t : TermType) → Ready a u o c g m h l t
       → Part o (o + 3) c g m h l p bool_type
       → Part (o + 1) (o + 3 + unknowns_of schemes p) (c + classifiers_of schemes p) g m h l d t
-      → Part (o + 2) (o + 3 + unknowns_of schemes p + unknowns_of schemes d) (c + classifiers_of schemes p + classifiers_of schemes d) g m h l e t
+      → Part (o + 2) (o + 3 + unknowns_of schemes p + unknowns_of schemes d)
+      (c + classifiers_of schemes p + classifiers_of schemes d) g m h l e t
       → Found a u o c g m (cond p d e)
   found-cond a u o c g m h l p d e t r part next last =
       let z = started-starts a o c bool_type t t 0 in
@@ -144,11 +213,14 @@ module _ (tops : List TopLevel) (schemes : List TopScheme) (known : AreSchemesOf
       (z.first, (z.second ∙ sym (Ready-gives z.keeps r), (z.third ∙ sym (Ready-gives z.keeps r), tt))) in
       let one = part _ (Ready-part o (o + 3) c (omega arith) (omega arith) (omega arith) z.keeps z.first r) in
       let two = next one.by (Ready-later (o + 1) (omega arith) (omega arith) (omega arith) z.keeps z.second one r) in
-      let three = last two.by (Ready-later (o + 2) (omega arith) (omega arith) (omega arith) z.keeps z.third (then one two) r) in
+      let three = last two.by (Ready-later (o + 2) (omega arith) (omega arith) (omega arith) z.keeps z.third
+      (then one two) r) in
       ending (omega arith) (omega arith) (first x (then (then one two) three))
 
-  found-pair : (a : Assignment) (u o c : ℕ) (g : List Slot) (m : Level) (h : List Entry) (l : Level) (d e : Expression) (s t : TermType) → Ready a u o c g m h l (pair_type s t)
-      → Part o (o + 2) c g m h l d s → Part (o + 1) (o + 2 + unknowns_of schemes d) (c + classifiers_of schemes d) g m h l e t → Found a u o c g m (pair d e)
+  found-pair : (a : Assignment) (u o c : ℕ) (g : List Slot) (m : Level) (h : List Entry) (l : Level) (d e : Expression)
+      (s t : TermType) → Ready a u o c g m h l (pair_type s t)
+      → Part o (o + 2) c g m h l d s → Part (o + 1) (o + 2 + unknowns_of schemes d) (c + classifiers_of schemes d) g m h
+      l e t → Found a u o c g m (pair d e)
   found-pair a u o c g m h l d e s t r part next =
       let z = started-starts a o c s t t 0 in
       let y = r.own in
@@ -159,28 +231,39 @@ module _ (tops : List TopLevel) (schemes : List TopScheme) (known : AreSchemesOf
       let two = next one.by (Ready-later (o + 1) (omega arith) (omega arith) (omega arith) z.keeps z.second one r) in
       ending (omega arith) (omega arith) (first x (then one two))
 
-  -- a part of a pair: q is the pair's type, which is whole where this part has the type own and the other part the type other
-  found-part : (a : Assignment) (u o c : ℕ) (g : List Slot) (m : Level) (h : List Entry) (l : Level) (e : Expression) (own other whole : TermType) (q : TypeExpression)
-      → ((b : Assignment) → b.ty u ≡ own → b.ty o ≡ other → whole ≡ value b q) → (u < o → Within (o + 2) c q) → Ready a u o c g m h l own → Part (o + 1) (o + 2) c g m h l e whole
-      → Grown a o c (o + (2 + unknowns_of schemes e)) (c + classifiers_of schemes e) (equation (unknown (o + 1)) q ∷ equations schemes (o + 1) (o + 2) c g m e) (closes schemes (o + 2) c g m e)
+  -- a part of a pair: q is the pair's type, which is whole where this part has the type own and the other part the type
+  -- other
+  found-part : (a : Assignment) (u o c : ℕ) (g : List Slot) (m : Level) (h : List Entry) (l : Level) (e : Expression)
+      (own other whole : TermType) (q : TypeExpression)
+      → ((b : Assignment) → b.ty u ≡ own → b.ty o ≡ other → whole ≡ value b q) → (u < o → Within (o + 2) c q)
+      → Ready a u o c g m h l own → Part (o + 1) (o + 2) c g m h l e whole
+      → Grown a o c (o + (2 + unknowns_of schemes e)) (c + classifiers_of schemes e)
+      (equation (unknown (o + 1)) q ∷ equations schemes (o + 1) (o + 2) c g m e) (closes schemes (o + 2) c g m e)
   found-part a u o c g m h l e own other whole q gives within r part =
       let z = started-starts a o c other whole other 0 in
       let y = r.own in
       let x = Own-started (equation (unknown (o + 1)) q ∷ []) (o + 2) c (omega arith) (omega arith) z
       ((omega arith, within y), tt)
       (z.second ∙ gives _ (Ready-gives z.keeps r) z.first, tt) in
-      ending (omega arith) refl (first x (part _ (Ready-part (o + 1) (o + 2) c (omega arith) (omega arith) (omega arith) z.keeps z.second r)))
+      ending (omega arith) refl
+      (first x (part _ (Ready-part (o + 1) (o + 2) c (omega arith) (omega arith) (omega arith) z.keeps z.second r)))
 
-  found-fst : (a : Assignment) (u o c : ℕ) (g : List Slot) (m : Level) (h : List Entry) (l : Level) (e : Expression) (s t : TermType) → Ready a u o c g m h l s
+  found-fst : (a : Assignment) (u o c : ℕ) (g : List Slot) (m : Level) (h : List Entry) (l : Level) (e : Expression)
+      (s t : TermType) → Ready a u o c g m h l s
       → Part (o + 1) (o + 2) c g m h l e (pair_type s t) → Found a u o c g m (fst e)
-  found-fst a u o c g m h l e s t r part = found-part a u o c g m h l e s t (pair_type s t) (pair_ty (unknown u) (unknown o)) (λ b x y. rw (x, y) refl) (λ lt. (omega arith, omega arith)) r part
+  found-fst a u o c g m h l e s t r part = found-part a u o c g m h l e s t (pair_type s t)
+      (pair_ty (unknown u) (unknown o)) (λ b x y. rw (x, y) refl) (λ lt. (omega arith, omega arith)) r part
 
-  found-snd : (a : Assignment) (u o c : ℕ) (g : List Slot) (m : Level) (h : List Entry) (l : Level) (e : Expression) (s t : TermType) → Ready a u o c g m h l t
+  found-snd : (a : Assignment) (u o c : ℕ) (g : List Slot) (m : Level) (h : List Entry) (l : Level) (e : Expression)
+      (s t : TermType) → Ready a u o c g m h l t
       → Part (o + 1) (o + 2) c g m h l e (pair_type s t) → Found a u o c g m (snd e)
-  found-snd a u o c g m h l e s t r part = found-part a u o c g m h l e t s (pair_type s t) (pair_ty (unknown o) (unknown u)) (λ b x y. rw (x, y) refl) (λ lt. (omega arith, omega arith)) r part
+  found-snd a u o c g m h l e s t r part = found-part a u o c g m h l e t s (pair_type s t)
+      (pair_ty (unknown o) (unknown u)) (λ b x y. rw (x, y) refl) (λ lt. (omega arith, omega arith)) r part
 
-  found-prim : (a : Assignment) (u o c : ℕ) (g : List Slot) (m : Level) (h : List Entry) (l : Level) (p : Prim) (d e : Expression) (t : TermType) → t ≡ primitive_type p → Ready a u o c g m h l t
-      → Part o (o + 2) c g m h l d int_type → Part (o + 1) (o + 2 + unknowns_of schemes d) (c + classifiers_of schemes d) g m h l e int_type → Found a u o c g m (prim p d e)
+  found-prim : (a : Assignment) (u o c : ℕ) (g : List Slot) (m : Level) (h : List Entry) (l : Level) (p : Prim)
+      (d e : Expression) (t : TermType) → t ≡ primitive_type p → Ready a u o c g m h l t
+      → Part o (o + 2) c g m h l d int_type → Part (o + 1) (o + 2 + unknowns_of schemes d)
+      (c + classifiers_of schemes d) g m h l e int_type → Found a u o c g m (prim p d e)
   found-prim a u o c g m h l p d e t q r part next =
       let z = started-starts a o c int_type int_type t 0 in
       let y = r.own in
@@ -191,7 +274,8 @@ module _ (tops : List TopLevel) (schemes : List TopScheme) (known : AreSchemesOf
       let two = next one.by (Ready-later (o + 1) (omega arith) (omega arith) (omega arith) z.keeps z.second one r) in
       ending (omega arith) (omega arith) (first x (then one two))
 
-  found-bracket : (a : Assignment) (u o c : ℕ) (g : List Slot) (h : List Entry) (k : ℕ) (e : Expression) (t : TermType) → Ready a u o c g live h live (code_type k t)
+  found-bracket : (a : Assignment) (u o c : ℕ) (g : List Slot) (h : List Entry) (k : ℕ) (e : Expression) (t : TermType)
+      → Ready a u o c g live h live (code_type k t)
       → Part o (o + 1) (c + 1) g (under c) h (under k) e t → Found a u o c g live (bracket e)
   found-bracket a u o c g h k e t r part =
       let z = started-starts a o c t t t k in
@@ -199,9 +283,13 @@ module _ (tops : List TopLevel) (schemes : List TopScheme) (known : AreSchemesOf
       let x = Own-started (bracket_equations u o c) (o + 1) (c + 1) (omega arith) (omega arith) z
       ((omega arith, (omega arith, omega arith)), tt)
       (Ready-gives z.keeps r ∙ rw (z.first, z.label) refl, tt) in
-      ending (omega arith) (omega arith) (first x (part _ (Ready-under c k (omega arith) z.label (Ready-part o (o + 1) (c + 1) (omega arith) (omega arith) (omega arith) z.keeps z.first r))))
+      ending (omega arith) (omega arith)
+      (first x (part _
+      (Ready-under c k (omega arith) z.label
+      (Ready-part o (o + 1) (c + 1) (omega arith) (omega arith) (omega arith) z.keeps z.first r))))
 
-  found-escape : (a : Assignment) (u o c : ℕ) (g : List Slot) (d : ℕ) (h : List Entry) (k : ℕ) (e : Expression) (t : TermType) → Ready a u o c g (under d) h (under k) t
+  found-escape : (a : Assignment) (u o c : ℕ) (g : List Slot) (d : ℕ) (h : List Entry) (k : ℕ) (e : Expression)
+      (t : TermType) → Ready a u o c g (under d) h (under k) t
       → Part o (o + 1) c g live h live e (code_type k t) → Found a u o c g (under d) (escape e)
   found-escape a u o c g d h k e t r part =
       let z = started-starts a o c (code_type k t) t t 0 in
@@ -211,25 +299,33 @@ module _ (tops : List TopLevel) (schemes : List TopScheme) (known : AreSchemesOf
       let x = Own-started (escape_equations u o d) (o + 1) c (omega arith) (omega arith) z
       ((omega arith, (w, omega arith)), tt)
       (z.first ∙ rw (← z.keeps.classifiers d w, n, Ready-gives z.keeps r) refl, tt) in
-      ending (omega arith) refl (first x (part _ (Ready-live (Ready-part o (o + 1) c (omega arith) (omega arith) (omega arith) z.keeps z.first r))))
+      ending (omega arith) refl
+      (first x (part _
+      (Ready-live (Ready-part o (o + 1) c (omega arith) (omega arith) (omega arith) z.keeps z.first r))))
 
-  found-run : (a : Assignment) (u o c : ℕ) (g : List Slot) (h : List Entry) (k : KernelType) (e : Expression) (t : TermType) → t ≡ kernel_type k → Ready a u o c g live h live t
+  found-run : (a : Assignment) (u o c : ℕ) (g : List Slot) (h : List Entry) (k : KernelType) (e : Expression)
+      (t : TermType) → t ≡ kernel_type k → Ready a u o c g live h live t
       → Part o (o + 1) c g live h live e (closed_type t) → Found a u o c g live (run k e)
   found-run a u o c g h k e t q r part =
       let z = started-starts a o c (closed_type t) t t 0 in
       let y = r.own in
       let x = Own-started (run_equations u o k) (o + 1) c (omega arith) (omega arith) z
-      ((omega arith, Within-kernel_expression _ _ k), ((omega arith, Within-kernel_expression _ _ k), tt))
-      (z.first ∙ ap closed_type (q ∙ sym (value-kernel_expression _ k)), (Ready-gives z.keeps r ∙ q ∙ sym (value-kernel_expression _ k), tt)) in
-      ending (omega arith) refl (first x (part _ (Ready-part o (o + 1) c (omega arith) (omega arith) (omega arith) z.keeps z.first r)))
+      ((omega arith, Within-kernel_expression _ _ k), ((omega arith, Within-kernel_expression _ _ k), tt)) (
+        z.first ∙ ap closed_type (q ∙ sym (value-kernel_expression _ k)),
+        (Ready-gives z.keeps r ∙ q ∙ sym (value-kernel_expression _ k), tt),
+      ) in
+      ending (omega arith) refl
+      (first x (part _ (Ready-part o (o + 1) c (omega arith) (omega arith) (omega arith) z.keeps z.first r)))
 
-  found-close : (a : Assignment) (u o c : ℕ) (g : List Slot) (h : List Entry) (k at : ℕ) (e : Expression) (t : TermType) → IsAbsent k h → Ready a u o c g live h live (closed_type t)
+  found-close : (a : Assignment) (u o c : ℕ) (g : List Slot) (h : List Entry) (k at : ℕ) (e : Expression) (t : TermType)
+      → IsAbsent k h → Ready a u o c g live h live (closed_type t)
       → Part (o + 1) (o + 2) (c + 1) g live h live e (code_type k t) → Found a u o c g live (close at e)
   found-close a u o c g h k at e t absent r part =
       let z = started-starts a o c t (code_type k t) t k in
       let y = r.own in
       let q = Ready-part (o + 1) (o + 2) (c + 1) (omega arith) (omega arith) (omega arith) z.keeps z.second r in
-      let x : Own a (started a o c t (code_type k t) t k) o c (o + 2) (c + 1) (close_equations u o c) (record { at = at; classifier = c; scope = g } ∷ []) = record {
+      let x : Own a (started a o c t (code_type k t) t k) o c (o + 2) (c + 1) (close_equations u o c)
+      (record { at = at; classifier = c; scope = g } ∷ []) = record {
         unknowns = omega arith;
         classifiers = omega arith;
         keeps = z.keeps;
@@ -240,7 +336,8 @@ module _ (tops : List TopLevel) (schemes : List TopScheme) (known : AreSchemesOf
       } in
       ending (omega arith) (omega arith) (first x (part _ q))
 
-  found-open : (a : Assignment) (u o c : ℕ) (g : List Slot) (h : List Entry) (k : ℕ) (e : Expression) (t : TermType) → Ready a u o c g live h live (code_type k t)
+  found-open : (a : Assignment) (u o c : ℕ) (g : List Slot) (h : List Entry) (k : ℕ) (e : Expression) (t : TermType)
+      → Ready a u o c g live h live (code_type k t)
       → Part (o + 1) (o + 2) (c + 1) g live h live e (closed_type t) → Found a u o c g live (opened e)
   found-open a u o c g h k e t r part =
       let z = started-starts a o c t (closed_type t) t k in
@@ -248,21 +345,34 @@ module _ (tops : List TopLevel) (schemes : List TopScheme) (known : AreSchemesOf
       let x = Own-started (open_equations u o c) (o + 2) (c + 1) (omega arith) (omega arith) z
       ((omega arith, omega arith), ((omega arith, (omega arith, omega arith)), tt))
       (z.second ∙ rw z.first refl, (Ready-gives z.keeps r ∙ rw (z.first, z.label) refl, tt)) in
-      ending (omega arith) (omega arith) (first x (part _ (Ready-part (o + 1) (o + 2) (c + 1) (omega arith) (omega arith) (omega arith) z.keeps z.second r)))
+      ending (omega arith) (omega arith)
+      (first x (part _ (Ready-part (o + 1) (o + 2) (c + 1) (omega arith) (omega arith) (omega arith) z.keeps
+      z.second r)))
 
   -- both lifts, at a base type
-  found-lift : (b : Base) (a : Assignment) (u o c : ℕ) (g : List Slot) (h : List Entry) (k : ℕ) (e : Expression) → Ready a u o c g live h live (code_type k (base_type b)) → Part o (o + 1) (c + 1) g live h live e (base_type b)
-      → Grown a o c (o + (1 + unknowns_of schemes e)) (c + (1 + classifiers_of schemes e)) (lift_equations u o c b ++ equations schemes o (o + 1) (c + 1) g live e) (closes schemes (o + 1) (c + 1) g live e)
+  found-lift : (b : Base) (a : Assignment) (u o c : ℕ) (g : List Slot) (h : List Entry) (k : ℕ) (e : Expression)
+      → Ready a u o c g live h live (code_type k (base_type b)) → Part o (o + 1) (c + 1) g live h live e (base_type b)
+      → Grown a o c (o + (1 + unknowns_of schemes e)) (c + (1 + classifiers_of schemes e))
+      (lift_equations u o c b ++ equations schemes o (o + 1) (c + 1) g live e)
+      (closes schemes (o + 1) (c + 1) g live e)
   found-lift b a u o c g h k e r part =
       let z = started-starts a o c (base_type b) int_type int_type k in
       let y = r.own in
       let x = Own-started (lift_equations u o c b) (o + 1) (c + 1) (omega arith) (omega arith) z
-      ((omega arith, Within-base_expression _ _ b), ((omega arith, (omega arith, Within-base_expression _ _ b)), tt))
-      (z.first ∙ sym (value-base_expression _ b), (Ready-gives z.keeps r ∙ rw (z.label, value-base_expression (started a o c (base_type b) int_type int_type k) b) refl, tt)) in
-      ending (omega arith) (omega arith) (first x (part _ (Ready-part o (o + 1) (c + 1) (omega arith) (omega arith) (omega arith) z.keeps z.first r)))
+      ((omega arith, Within-base_expression _ _ b), ((omega arith, (omega arith, Within-base_expression _ _ b)), tt)) (
+        z.first ∙ sym (value-base_expression _ b),
+        (
+          Ready-gives z.keeps r
+              ∙ rw (z.label, value-base_expression (started a o c (base_type b) int_type int_type k) b) refl,
+          tt,
+        ),
+      ) in
+      ending (omega arith) (omega arith)
+      (first x (part _ (Ready-part o (o + 1) (c + 1) (omega arith) (omega arith) (omega arith) z.keeps z.first r)))
 
   -- each type of a term comes from a solution that goes on from an assignment which is ready for it
-  pub typed_solved : {h : List Entry} {l : Level} {e : Expression} {t : TermType} (a : Assignment) (u o c : ℕ) (g : List Slot) (m : Level) → IsSource e → Ready a u o c g m h l t → Typed tops h l e t → Found a u o c g m e
+  pub typed_solved : {h : List Entry} {l : Level} {e : Expression} {t : TermType} (a : Assignment) (u o c : ℕ)
+      (g : List Slot) (m : Level) → IsSource e → Ready a u o c g m h l t → Typed tops h l e t → Found a u o c g m e
   typed_solved a u o c g m w r t_num = still a o c _ ((r.own, tt), tt) (r.gives, tt)
   typed_solved a u o c g m w r t_truth = still a o c _ ((r.own, tt), tt) (r.gives, tt)
   typed_solved a u o c g m w r (t_var {i = i} {t = t} e) = found-var a u o c g m _ _ i t r e
@@ -270,38 +380,57 @@ module _ (tops : List TopLevel) (schemes : List TopScheme) (known : AreSchemesOf
   typed_solved a u o c g (under d) w r (t_let q i) = let e = r.at in absurd (cc)
   typed_solved a u o c g live w r (t_kernel {i = i} {k = k} q) = found-kernel a u o c g _ i k r q
   typed_solved a u o c g (under d) w r (t_kernel q) = let e = r.at in absurd (cc)
-  typed_solved a u o c g m w r (t_fun {g = h} {m = l} {e = e} {s = s} {t = t} p d) = found-fun a u o c g m h l e s t r (λ b q. typed_solved b (o + 1) (o + 2) c (slot m o ∷ g) m w q d)
-  typed_solved a u o c g m w r (t_fix {g = h} {m = l} {e = e} {s = s} {t = t} p d) = found-fix a u o c g m h l e s t r (λ b q. typed_solved b (o + 2) (o + 3) c (slot m o ∷ slot m (o + 1) ∷ g) m w q d)
-  typed_solved a u o c g m w r (t_app {g = h} {m = l} {f = e} {a = f} {s = s} {t = t} p q) = found-app a u o c g m h l e f s t r
+  typed_solved a u o c g m w r (t_fun {g = h} {m = l} {e = e} {s = s} {t = t} p d) =
+      found-fun a u o c g m h l e s t r (λ b q. typed_solved b (o + 1) (o + 2) c (slot m o ∷ g) m w q d)
+  typed_solved a u o c g m w r (t_fix {g = h} {m = l} {e = e} {s = s} {t = t} p d) =
+      found-fix a u o c g m h l e s t r (λ b q. typed_solved b (o + 2) (o + 3) c (slot m o ∷ slot m (o + 1) ∷ g) m w q
+      d)
+  typed_solved a u o c g m w r (t_app {g = h} {m = l} {f = e} {a = f} {s = s} {t = t} p q) =
+      found-app a u o c g m h l e f s t r
       (λ b x. typed_solved b o (o + 2) c g m w.0 x p)
       (λ b x. typed_solved b (o + 1) (o + 2 + unknowns_of schemes e) (c + classifiers_of schemes e) g m w.1 x q)
-  typed_solved a u o c g m w r (t_bind {g = h} {m = l} {d = d} {e = e} {s = s} {t = t} p q) = found-bind a u o c g m h l d e s t r
+  typed_solved a u o c g m w r (t_bind {g = h} {m = l} {d = d} {e = e} {s = s} {t = t} p q) =
+      found-bind a u o c g m h l d e s t r
       (λ b x. typed_solved b (o + 1) (o + 3) c g m w.0 x p)
-      (λ b x. typed_solved b (o + 2) (o + 3 + unknowns_of schemes d) (c + classifiers_of schemes d) (slot m o ∷ g) m w.1 x q)
-  typed_solved a u o c g m w r (t_cond {g = h} {m = l} {c = k} {a = d} {b = e} {t = t} p q s) = found-cond a u o c g m h l k d e t r
+      (λ b x. typed_solved b (o + 2) (o + 3 + unknowns_of schemes d) (c + classifiers_of schemes d) (slot m o ∷ g) m w.1
+      x q)
+  typed_solved a u o c g m w r (t_cond {g = h} {m = l} {c = k} {a = d} {b = e} {t = t} p q s) =
+      found-cond a u o c g m h l k d e t r
       (λ b x. typed_solved b o (o + 3) c g m w.0 x p)
       (λ b x. typed_solved b (o + 1) (o + 3 + unknowns_of schemes k) (c + classifiers_of schemes k) g m w.1 x q)
-      (λ b x. typed_solved b (o + 2) (o + 3 + unknowns_of schemes k + unknowns_of schemes d) (c + classifiers_of schemes k + classifiers_of schemes d) g m w.2 x s)
-  typed_solved a u o c g m w r (t_pair {g = h} {m = l} {a = d} {b = e} {s = s} {t = t} p q) = found-pair a u o c g m h l d e s t r
+      (λ b x. typed_solved b (o + 2) (o + 3 + unknowns_of schemes k + unknowns_of schemes d)
+      (c + classifiers_of schemes k + classifiers_of schemes d) g m w.2 x s)
+  typed_solved a u o c g m w r (t_pair {g = h} {m = l} {a = d} {b = e} {s = s} {t = t} p q) =
+      found-pair a u o c g m h l d e s t r
       (λ b x. typed_solved b o (o + 2) c g m w.0 x p)
       (λ b x. typed_solved b (o + 1) (o + 2 + unknowns_of schemes d) (c + classifiers_of schemes d) g m w.1 x q)
-  typed_solved a u o c g m w r (t_fst {g = h} {m = l} {e = e} {s = s} {t = t} p) = found-fst a u o c g m h l e s t r (λ b x. typed_solved b (o + 1) (o + 2) c g m w x p)
-  typed_solved a u o c g m w r (t_snd {g = h} {m = l} {e = e} {s = s} {t = t} p) = found-snd a u o c g m h l e s t r (λ b x. typed_solved b (o + 1) (o + 2) c g m w x p)
-  typed_solved a u o c g m w r (t_prim {g = h} {m = l} {p = k} {a = d} {b = e} {t = t} z p q) = found-prim a u o c g m h l k d e t z r
+  typed_solved a u o c g m w r (t_fst {g = h} {m = l} {e = e} {s = s} {t = t} p) =
+      found-fst a u o c g m h l e s t r (λ b x. typed_solved b (o + 1) (o + 2) c g m w x p)
+  typed_solved a u o c g m w r (t_snd {g = h} {m = l} {e = e} {s = s} {t = t} p) =
+      found-snd a u o c g m h l e s t r (λ b x. typed_solved b (o + 1) (o + 2) c g m w x p)
+  typed_solved a u o c g m w r (t_prim {g = h} {m = l} {p = k} {a = d} {b = e} {t = t} z p q) =
+      found-prim a u o c g m h l k d e t z r
       (λ b x. typed_solved b o (o + 2) c g m w.0 x p)
       (λ b x. typed_solved b (o + 1) (o + 2 + unknowns_of schemes d) (c + classifiers_of schemes d) g m w.1 x q)
-  typed_solved a u o c g live w r (t_bracket {g = h} {a = k} {e = e} {t = t} p d) = found-bracket a u o c g h k e t r (λ b x. typed_solved b o (o + 1) (c + 1) g (under c) w x d)
+  typed_solved a u o c g live w r (t_bracket {g = h} {a = k} {e = e} {t = t} p d) =
+      found-bracket a u o c g h k e t r (λ b x. typed_solved b o (o + 1) (c + 1) g (under c) w x d)
   typed_solved a u o c g (under i) w r (t_bracket p d) = let e = r.at in absurd (cc)
   typed_solved a u o c g live w r (t_escape p d) = let e = r.at in absurd (cc)
-  typed_solved a u o c g (under i) w r (t_escape {g = h} {a = k} {e = e} {t = t} p d) = found-escape a u o c g i h k e t r (λ b x. typed_solved b o (o + 1) c g live w x d)
-  typed_solved a u o c g live w r (t_run {g = h} {k = k} {e = e} {t = t} q d) = found-run a u o c g h k e t q r (λ b x. typed_solved b o (o + 1) c g live w x d)
+  typed_solved a u o c g (under i) w r (t_escape {g = h} {a = k} {e = e} {t = t} p d) =
+      found-escape a u o c g i h k e t r (λ b x. typed_solved b o (o + 1) c g live w x d)
+  typed_solved a u o c g live w r (t_run {g = h} {k = k} {e = e} {t = t} q d) =
+      found-run a u o c g h k e t q r (λ b x. typed_solved b o (o + 1) c g live w x d)
   typed_solved a u o c g (under i) w r (t_run q d) = let e = r.at in absurd (cc)
-  typed_solved a u o c g live w r (t_close {g = h} {a = k} {at = at} {e = e} {t = t} p f d) = found-close a u o c g h k at e t f r (λ b x. typed_solved b (o + 1) (o + 2) (c + 1) g live w x d)
+  typed_solved a u o c g live w r (t_close {g = h} {a = k} {at = at} {e = e} {t = t} p f d) =
+      found-close a u o c g h k at e t f r (λ b x. typed_solved b (o + 1) (o + 2) (c + 1) g live w x d)
   typed_solved a u o c g (under i) w r (t_close p f d) = let e = r.at in absurd (cc)
-  typed_solved a u o c g live w r (t_open {g = h} {a = k} {e = e} {t = t} p d) = found-open a u o c g h k e t r (λ b x. typed_solved b (o + 1) (o + 2) (c + 1) g live w x d)
+  typed_solved a u o c g live w r (t_open {g = h} {a = k} {e = e} {t = t} p d) =
+      found-open a u o c g h k e t r (λ b x. typed_solved b (o + 1) (o + 2) (c + 1) g live w x d)
   typed_solved a u o c g (under i) w r (t_open p d) = let e = r.at in absurd (cc)
-  typed_solved a u o c g live w r (t_lift {g = h} {a = k} {e = e} d) = found-lift Int a u o c g h k e r (λ b x. typed_solved b o (o + 1) (c + 1) g live w x d)
+  typed_solved a u o c g live w r (t_lift {g = h} {a = k} {e = e} d) =
+      found-lift Int a u o c g h k e r (λ b x. typed_solved b o (o + 1) (c + 1) g live w x d)
   typed_solved a u o c g (under i) w r (t_lift d) = let e = r.at in absurd (cc)
-  typed_solved a u o c g live w r (t_lift_b {g = h} {a = k} {e = e} d) = found-lift Bool a u o c g h k e r (λ b x. typed_solved b o (o + 1) (c + 1) g live w x d)
+  typed_solved a u o c g live w r (t_lift_b {g = h} {a = k} {e = e} d) =
+      found-lift Bool a u o c g h k e r (λ b x. typed_solved b o (o + 1) (c + 1) g live w x d)
   typed_solved a u o c g (under i) w r (t_lift_b d) = let e = r.at in absurd (cc)
   typed_solved a u o c g m w r (t_done v) = absurd w

@@ -14,11 +14,13 @@ use Rattle.mw_infer.proofs.Sound.{IsSchemeOf-typed}
 -- the names of the first list are in the second what they are in the first
 pub record Extends (tops names : List TopLevel) : Type 0 where
   pub lets : (i : ℕ) (e : Expression) → slice_get tops i ≡ Some (let_item e) → slice_get names i ≡ Some (let_item e)
-  pub kernels : (i : ℕ) (k : KernelType) → slice_get tops i ≡ Some (kernel_item k) → slice_get names i ≡ Some (kernel_item k)
+  pub kernels : (i : ℕ) (k : KernelType) → slice_get tops i ≡ Some (kernel_item k) → slice_get names i
+      ≡ Some (kernel_item k)
 
 module _ (tops names : List TopLevel) (x : Extends tops names) where
   mutual
-    pub Typed-extended : {g : List Entry} {m : Level} {e : Expression} {t : TermType} → Typed tops g m e t → Typed names g m e t
+    pub Typed-extended : {g : List Entry} {m : Level} {e : Expression} {t : TermType} → Typed tops g m e t
+        → Typed names g m e t
     Typed-extended t_num = t_num
     Typed-extended t_truth = t_truth
     Typed-extended (t_var h) = t_var h
@@ -53,25 +55,31 @@ module _ (tops names : List TopLevel) (x : Extends tops names) where
     Valued-extended (v_kept q c h) = v_kept q c (Valued-extended h)
 
   -- a let, or a kernel, that is one in both lists
-  same_let : (i : ℕ) (e f : Expression) → slice_get tops i ≡ Some (let_item e) → slice_get names i ≡ Some (let_item f) → f ≡ e
+  same_let : (i : ℕ) (e f : Expression) → slice_get tops i ≡ Some (let_item e) → slice_get names i ≡ Some (let_item f)
+      → f ≡ e
   same_let i e f p q = let r : Some (let_item f) ≡ Some (let_item e) = sym q ∙ x.lets i e p in cc
 
-  no_kernel : {X : Type 0} (i : ℕ) (e : Expression) (k : KernelType) → slice_get tops i ≡ Some (let_item e) → slice_get names i ≡ Some (kernel_item k) → X
+  no_kernel : {X : Type 0} (i : ℕ) (e : Expression) (k : KernelType) → slice_get tops i ≡ Some (let_item e)
+      → slice_get names i ≡ Some (kernel_item k) → X
   no_kernel i e k p q = absurd (let r : Some (kernel_item k) ≡ Some (let_item e) = sym q ∙ x.lets i e p in cc)
 
-  no_let : {X : Type 0} (i : ℕ) (e : Expression) (k : KernelType) → slice_get tops i ≡ Some (kernel_item k) → slice_get names i ≡ Some (let_item e) → X
+  no_let : {X : Type 0} (i : ℕ) (e : Expression) (k : KernelType) → slice_get tops i ≡ Some (kernel_item k)
+      → slice_get names i ≡ Some (let_item e) → X
   no_let i e k p q = absurd (let r : Some (let_item e) ≡ Some (kernel_item k) = sym q ∙ x.kernels i k p in cc)
 
-  same_kernel : (i : ℕ) (k l : KernelType) → slice_get tops i ≡ Some (kernel_item k) → slice_get names i ≡ Some (kernel_item l) → l ≡ k
+  same_kernel : (i : ℕ) (k l : KernelType) → slice_get tops i ≡ Some (kernel_item k) → slice_get names i
+      ≡ Some (kernel_item l) → l ≡ k
   same_kernel i k l p q = let r : Some (kernel_item l) ≡ Some (kernel_item k) = sym q ∙ x.kernels i k p in cc
 
   mutual
     -- the first typing says which names the term uses
-    pub Typed-back : {g h : List Entry} {m l : Level} {e : Expression} {s t : TermType} → Typed tops g m e s → Typed names h l e t → Typed tops h l e t
+    pub Typed-back : {g h : List Entry} {m l : Level} {e : Expression} {s t : TermType} → Typed tops g m e s
+        → Typed names h l e t → Typed tops h l e t
     Typed-back t_num t_num = t_num
     Typed-back t_truth t_truth = t_truth
     Typed-back (t_var h) (t_var i) = t_var i
-    Typed-back (t_let {i = i} {e = e} p h) (t_let {e = f} {t = t} q j) = t_let p (Typed-back h (subst (λ d. Typed names [] live d t) (same_let i e f p q) j))
+    Typed-back (t_let {i = i} {e = e} p h) (t_let {e = f} {t = t} q j) =
+        t_let p (Typed-back h (subst (λ d. Typed names [] live d t) (same_let i e f p q) j))
     Typed-back (t_let {i = i} {e = e} p h) (t_kernel {k = k} q) = no_kernel i e k p q
     Typed-back (t_kernel {i = i} {k = k} p) (t_let {e = f} q j) = no_let i f k p q
     Typed-back (t_kernel {i = i} {k = k} p) (t_kernel {k = l} q) = rw (same_kernel i k l p q) (t_kernel p)
@@ -93,7 +101,8 @@ module _ (tops names : List TopLevel) (x : Extends tops names) where
     Typed-back (t_lift_b h) (t_lift_b i) = t_lift_b (Typed-back h i)
     Typed-back (t_done h) (t_done i) = t_done (Valued-back h i)
 
-    Valued-back : {g h : List Entry} {v : Value} {s t : TermType} → Valued tops g v s → Valued names h v t → Valued tops h v t
+    Valued-back : {g h : List Entry} {v : Value} {s t : TermType} → Valued tops g v s → Valued names h v t
+        → Valued tops h v t
     Valued-back v_int v_int = v_int
     Valued-back v_bool v_bool = v_bool
     Valued-back (v_pair h i) (v_pair j k) = v_pair (Valued-back h j) (Valued-back i k)
@@ -109,20 +118,27 @@ module _ (tops names : List TopLevel) (x : Extends tops names) where
   pub IsSchemeOf-extended : (e : Expression) (s : Scheme) → IsSchemeOf tops e s → IsSchemeOf names e s
   IsSchemeOf-extended e s h = record {
     within = h.within;
-    types = λ t. ((λ d. (h.types t).0 (Typed-back (IsSchemeOf-typed tops e s h least) d)), (λ i. Typed-extended ((h.types t).1 i)));
+    types = λ t. (
+      (λ d. (h.types t).0 (Typed-back (IsSchemeOf-typed tops e s h least) d)),
+      (λ i. Typed-extended ((h.types t).1 i)),
+    );
     formed = h.formed;
   }
 
-  pub AreSchemesOf-extended : (all : List TopLevel) (schemes : List TopScheme) → AreSchemesOf tops all schemes → AreSchemesOf names all schemes
+  pub AreSchemesOf-extended : (all : List TopLevel) (schemes : List TopScheme) → AreSchemesOf tops all schemes
+      → AreSchemesOf names all schemes
   AreSchemesOf-extended [] [] h = tt
   AreSchemesOf-extended [] (s ∷ schemes) h = absurd h
   AreSchemesOf-extended (y ∷ all) [] h = absurd h
-  AreSchemesOf-extended (let_item e ∷ all) (let_scheme s ∷ schemes) h = (IsSchemeOf-extended e s h.0, AreSchemesOf-extended all schemes h.1)
+  AreSchemesOf-extended (let_item e ∷ all) (let_scheme s ∷ schemes) h =
+      (IsSchemeOf-extended e s h.0, AreSchemesOf-extended all schemes h.1)
   AreSchemesOf-extended (let_item e ∷ all) (kernel_scheme k ∷ schemes) h = absurd h.0
   AreSchemesOf-extended (let_item e ∷ all) (scheme_out_of_scope ∷ schemes) h = absurd h.0
   AreSchemesOf-extended (kernel_item k ∷ all) (let_scheme s ∷ schemes) h = absurd h.0
-  AreSchemesOf-extended (kernel_item k ∷ all) (kernel_scheme l ∷ schemes) h = (h.0, AreSchemesOf-extended all schemes h.1)
+  AreSchemesOf-extended (kernel_item k ∷ all) (kernel_scheme l ∷ schemes) h =
+      (h.0, AreSchemesOf-extended all schemes h.1)
   AreSchemesOf-extended (kernel_item k ∷ all) (scheme_out_of_scope ∷ schemes) h = absurd h.0
   AreSchemesOf-extended (out_of_scope ∷ all) (let_scheme s ∷ schemes) h = absurd h.0
   AreSchemesOf-extended (out_of_scope ∷ all) (kernel_scheme l ∷ schemes) h = absurd h.0
-  AreSchemesOf-extended (out_of_scope ∷ all) (scheme_out_of_scope ∷ schemes) h = (tt, AreSchemesOf-extended all schemes h.1)
+  AreSchemesOf-extended (out_of_scope ∷ all) (scheme_out_of_scope ∷ schemes) h =
+      (tt, AreSchemesOf-extended all schemes h.1)

@@ -32,13 +32,19 @@ extended a o c d = record { ty = upto o a.ty d.ty; classifier = upto c a.classif
 
 pub extended-keeps : (a : Assignment) (o c : ℕ) (d : Assignment) → Agree o c a (extended a o c d)
 unfolding extended
-extended-keeps a o c d = record { types = λ u lt. upto-below o a.ty d.ty u lt; classifiers = λ k lt. upto-below c a.classifier d.classifier k lt }
+extended-keeps a o c d =
+    record {
+      types = λ u lt. upto-below o a.ty d.ty u lt;
+      classifiers = λ k lt. upto-below c a.classifier d.classifier k
+          lt;
+    }
 
 pub extended-ty : (a : Assignment) (o c : ℕ) (d : Assignment) (u : ℕ) → (extended a o c d).ty (o + u) ≡ d.ty u
 unfolding extended
 extended-ty a o c d u = upto-from o a.ty d.ty u
 
-pub extended-classifier : (a : Assignment) (o c : ℕ) (d : Assignment) (k : ℕ) → (extended a o c d).classifier (c + k) ≡ d.classifier k
+pub extended-classifier : (a : Assignment) (o c : ℕ) (d : Assignment) (k : ℕ) → (extended a o c d).classifier (c + k)
+    ≡ d.classifier k
 unfolding extended
 extended-classifier a o c d k = upto-from c a.classifier d.classifier k
 
@@ -59,7 +65,8 @@ pub record Starts (a b : Assignment) (o c : ℕ) (s t r : TermType) (k : ℕ) : 
   pub third : b.ty (o + 2) ≡ r
   pub label : b.classifier c ≡ k
 
-pub started-starts : (a : Assignment) (o c : ℕ) (s t r : TermType) (k : ℕ) → Starts a (started a o c s t r k) o c s t r k
+pub started-starts : (a : Assignment) (o c : ℕ) (s t r : TermType) (k : ℕ) → Starts a (started a o c s t r k) o c s t r
+    k
 unfolding started
 started-starts a o c s t r k =
     let d : Assignment = record { ty = three_types s t r; classifier = λ i. k } in
@@ -72,13 +79,19 @@ started-starts a o c s t r k =
     }
 
 pub Agree-join : {n m : ℕ} {a b d : Assignment} → Agree n m a b → Agree n m b d → Agree n m a d
-Agree-join p q = record { types = λ u lt. p.types u lt ∙ q.types u lt; classifiers = λ c lt. p.classifiers c lt ∙ q.classifiers c lt }
+Agree-join p q = record {
+  types = λ u lt. p.types u lt ∙ q.types u lt;
+  classifiers = λ c lt. p.classifiers c lt
+      ∙ q.classifiers c lt;
+}
 
 pub Agree-less : {k l : ℕ} {a b : Assignment} (n m : ℕ) → n ≤ k → m ≤ l → Agree k l a b → Agree n m a b
-Agree-less n m p q h = record { types = λ u lt. h.types u (omega arith); classifiers = λ c lt. h.classifiers c (omega arith) }
+Agree-less n m p q h =
+    record { types = λ u lt. h.types u (omega arith); classifiers = λ c lt. h.classifiers c (omega arith) }
 
 -- Before a term: its type's unknown has the type t, and the assignment makes h and l of its environment and level.
-pub record Ready (a : Assignment) (u o c : ℕ) (g : List Slot) (m : Level) (h : List Entry) (l : Level) (t : TermType) : Type 0 where
+pub record Ready (a : Assignment) (u o c : ℕ) (g : List Slot) (m : Level) (h : List Entry) (l : Level)
+    (t : TermType) : Type 0 where
   pub own : u < o
   pub gives : a.ty u ≡ t
   pub slots : SlotsBelow o c g
@@ -107,7 +120,8 @@ AreFresh-append a [] ys p q = q
 AreFresh-append a (x ∷ xs) ys p q = (p.0, AreFresh-append a xs ys p.1 q)
 
 -- a term after what stands before it
-abbrev pub then : {a : Assignment} {o c p d q f : ℕ} {es fs : List TypeEquation} {xs ys : List Close} → (one : Grown a o c p d es xs) → Grown one.by p d q f fs ys → Grown a o c q f (es ++ fs) (xs ++ ys)
+abbrev pub then : {a : Assignment} {o c p d q f : ℕ} {es fs : List TypeEquation} {xs ys : List Close}
+    → (one : Grown a o c p d es xs) → Grown one.by p d q f fs ys → Grown a o c q f (es ++ fs) (xs ++ ys)
 then {o = o} {c = c} {es = es} {fs = fs} {xs = xs} {ys = ys} one two = record {
   by = two.by;
   keeps = Agree-join one.keeps (Agree-less o c one.unknowns one.classifiers two.keeps);
@@ -129,21 +143,45 @@ pub record Own (a b : Assignment) (o c p d : ℕ) (es : List TypeEquation) (xs :
   pub solves : Solves b es
   pub fresh : AreFresh b xs
 
--- a form's own equations, which speak of the types and the classifier that an assignment goes on with; it has no close of
--- its own
-pub Own-started : {a b : Assignment} {o c : ℕ} {s t r : TermType} {k : ℕ} (es : List TypeEquation) (p d : ℕ) → o ≤ p → c ≤ d → Starts a b o c s t r k → AllWithin p d es → Solves b es → Own a b o c p d es []
-Own-started es p d i j z w h = record { unknowns = i; classifiers = j; keeps = z.keeps; within = w; below = tt; solves = h; fresh = tt }
+-- a form's own equations, which speak of the types and the classifier that an assignment goes on with; it has no close
+-- of its own
+pub Own-started : {a b : Assignment} {o c : ℕ} {s t r : TermType} {k : ℕ} (es : List TypeEquation) (p d : ℕ) → o ≤ p
+    → c ≤ d → Starts a b o c s t r k → AllWithin p d es → Solves b es → Own a b o c p d es []
+Own-started es p d i j z w h = record {
+  unknowns = i;
+  classifiers = j;
+  keeps = z.keeps;
+  within = w;
+  below = tt;
+  solves =
+      h;
+  fresh = tt;
+}
 
 -- a term after what stands first
-pub first : {a b : Assignment} {o c p d q f : ℕ} {es fs : List TypeEquation} {xs ys : List Close} → Own a b o c p d es xs → Grown b p d q f fs ys → Grown a o c q f (es ++ fs) (xs ++ ys)
-first one two = then (record { by = _; keeps = one.keeps; solves = one.solves; fresh = one.fresh; unknowns = one.unknowns; classifiers = one.classifiers; within = one.within; below = one.below }) two
+pub first : {a b : Assignment} {o c p d q f : ℕ} {es fs : List TypeEquation} {xs ys : List Close}
+    → Own a b o c p d es xs → Grown b p d q f fs ys → Grown a o c q f (es ++ fs) (xs ++ ys)
+first one two =
+    then (record {
+      by = _;
+      keeps = one.keeps;
+      solves = one.solves;
+      fresh = one.fresh;
+      unknowns = one.unknowns;
+      classifiers = one.classifiers;
+      within = one.within;
+      below = one.below;
+    }) two
 
 -- the same ends, counted otherwise
-pub ending : {a : Assignment} {o c p d q f : ℕ} {es : List TypeEquation} {xs : List Close} → p ≡ q → d ≡ f → Grown a o c p d es xs → Grown a o c q f es xs
+pub ending : {a : Assignment} {o c p d q f : ℕ} {es : List TypeEquation} {xs : List Close} → p ≡ q → d ≡ f
+    → Grown a o c p d es xs → Grown a o c q f es xs
 ending i j h = rw (i, j) at h
 
 -- a part at the same level, in the same environment
-pub Ready-part : {a b : Assignment} {u o c : ℕ} {g : List Slot} {m : Level} {h : List Entry} {l : Level} {t s : TermType} (v p d : ℕ) → o ≤ p → c ≤ d → v < p → Agree o c a b → b.ty v ≡ s → Ready a u o c g m h l t → Ready b v p d g m h l s
+pub Ready-part : {a b : Assignment} {u o c : ℕ} {g : List Slot} {m : Level} {h : List Entry} {l : Level}
+    {t s : TermType} (v p d : ℕ) → o ≤ p → c ≤ d → v < p → Agree o c a b → b.ty v ≡ s → Ready a u o c g m h l t
+    → Ready b v p d g m h l s
 Ready-part {g = g} {m = m} v p d i j lt k e r = record {
   own = lt;
   gives = e;
@@ -158,7 +196,8 @@ entry_of-slot a live u = refl
 entry_of-slot a (under c) u = refl
 
 -- a part under one more binder
-pub Ready-bound : {a : Assignment} {u o c : ℕ} {g : List Slot} {m : Level} {h : List Entry} {l : Level} {t s : TermType} (x : ℕ) → x < o → a.ty x ≡ s → Ready a u o c g m h l t → Ready a u o c (slot m x ∷ g) m (entry l s ∷ h) l t
+pub Ready-bound : {a : Assignment} {u o c : ℕ} {g : List Slot} {m : Level} {h : List Entry} {l : Level} {t s : TermType}
+    (x : ℕ) → x < o → a.ty x ≡ s → Ready a u o c g m h l t → Ready a u o c (slot m x ∷ g) m (entry l s ∷ h) l t
 Ready-bound {a = a} {m = m} x lt e r = record {
   own = r.own;
   gives = r.gives;
@@ -169,19 +208,33 @@ Ready-bound {a = a} {m = m} x lt e r = record {
 }
 
 -- the type's unknown keeps its type
-pub Ready-gives : {a b : Assignment} {u o c : ℕ} {g : List Slot} {m : Level} {h : List Entry} {l : Level} {t : TermType} → Agree o c a b → Ready a u o c g m h l t → b.ty u ≡ t
+pub Ready-gives : {a b : Assignment} {u o c : ℕ} {g : List Slot} {m : Level} {h : List Entry} {l : Level} {t : TermType}
+    → Agree o c a b → Ready a u o c g m h l t → b.ty u ≡ t
 Ready-gives {u = u} k r = sym (k.types u r.own) ∙ r.gives
 
 -- a part at the same level, in the same environment, after other parts
-pub Ready-later : {a b : Assignment} {u o c p d q f : ℕ} {g : List Slot} {m : Level} {h : List Entry} {l : Level} {t s : TermType} {es : List TypeEquation} {xs : List Close} (v : ℕ) → o ≤ p → c ≤ d → v < p → Agree o c a b → b.ty v ≡ s → (one : Grown b p d q f es xs) → Ready a u o c g m h l t → Ready one.by v q f g m h l s
+pub Ready-later : {a b : Assignment} {u o c p d q f : ℕ} {g : List Slot} {m : Level} {h : List Entry} {l : Level}
+    {t s : TermType} {es : List TypeEquation} {xs : List Close} (v : ℕ) → o ≤ p → c ≤ d → v < p → Agree o c a b
+    → b.ty v ≡ s → (one : Grown b p d q f es xs) → Ready a u o c g m h l t → Ready one.by v q f g m h l s
 Ready-later {o = o} {c = c} {q = q} {f = f} v i j lt k e one r =
     let x = one.unknowns in
     let y = one.classifiers in
-    Ready-part v q f (omega arith) (omega arith) (omega arith) (Agree-join k (Agree-less o c i j one.keeps)) (sym (one.keeps.types v lt) ∙ e) r
+    Ready-part v q f (omega arith) (omega arith) (omega arith) (Agree-join k (Agree-less o c i j one.keeps))
+    (sym (one.keeps.types v lt) ∙ e) r
 
 -- a part at level 1 under the classifier unknown e, or at level 0
-pub Ready-under : {a : Assignment} {u o c : ℕ} {g : List Slot} {m : Level} {h : List Entry} {l : Level} {t : TermType} (e k : ℕ) → e < c → a.classifier e ≡ k → Ready a u o c g m h l t → Ready a u o c g (under e) h (under k) t
-Ready-under e k lt p r = record { own = r.own; gives = r.gives; slots = r.slots; level = lt; env = r.env; at = ap under p }
+pub Ready-under : {a : Assignment} {u o c : ℕ} {g : List Slot} {m : Level} {h : List Entry} {l : Level} {t : TermType}
+    (e k : ℕ) → e < c → a.classifier e ≡ k → Ready a u o c g m h l t → Ready a u o c g (under e) h (under k) t
+Ready-under e k lt p r = record {
+  own = r.own;
+  gives = r.gives;
+  slots = r.slots;
+  level = lt;
+  env = r.env;
+  at =
+      ap under p;
+}
 
-pub Ready-live : {a : Assignment} {u o c : ℕ} {g : List Slot} {m : Level} {h : List Entry} {l : Level} {t : TermType} → Ready a u o c g m h l t → Ready a u o c g live h live t
+pub Ready-live : {a : Assignment} {u o c : ℕ} {g : List Slot} {m : Level} {h : List Entry} {l : Level} {t : TermType}
+    → Ready a u o c g m h l t → Ready a u o c g live h live t
 Ready-live r = record { own = r.own; gives = r.gives; slots = r.slots; level = tt; env = r.env; at = refl }

@@ -13,7 +13,8 @@ use Rattle.mw_infer.specs.Inferring.{least, IsSchemeOf}
 use Rattle.mw_term.specs.FlatTypes.{flat_type, formed_type}
 
 -- under an assignment of plain types a scheme is a type of the language
-plain_under : (b d : Assignment) (t : TypeExpression) → ((u : ℕ) → IsPlain (b.ty u)) → value d t ≡ flat_type (value b t) → IsPlain (value b t)
+plain_under : (b d : Assignment) (t : TypeExpression) → ((u : ℕ) → IsPlain (b.ty u)) → value d t ≡ flat_type (value b t)
+    → IsPlain (value b t)
 plain_under b d int_ty h e = tt
 plain_under b d bool_ty h e = tt
 plain_under b d (unknown u) h e = h u
@@ -22,7 +23,8 @@ plain_under b d (function_ty s t) h e = (plain_under b d s h (cc), plain_under b
 plain_under b d (code_ty c t) h e = absurd (cc)
 plain_under b d (closed_ty t) h e = absurd (cc)
 
-formed_under : (b d : Assignment) (t : TypeExpression) → ((u : ℕ) → IsPlain (b.ty u)) → value d t ≡ formed_type (value b t) → IsFormed (value b t)
+formed_under : (b d : Assignment) (t : TypeExpression) → ((u : ℕ) → IsPlain (b.ty u)) → value d t
+    ≡ formed_type (value b t) → IsFormed (value b t)
 formed_under b d int_ty h e = tt
 formed_under b d bool_ty h e = tt
 formed_under b d (unknown u) h e = IsFormed-plain (b.ty u) (h u)
@@ -32,10 +34,12 @@ formed_under b d (code_ty c t) h e = plain_under b d t h (cc)
 formed_under b d (closed_ty t) h e = plain_under b d t h (cc)
 
 -- two schemes of a definition have the same types under such an assignment
-shared : (tops : List TopLevel) (e : Expression) (s r : Scheme) → IsSchemeOf tops e s → IsSchemeOf tops e r → (b : Assignment) → ((u : ℕ) → IsPlain (b.ty u)) → (d : Assignment) × (value b s.type ≡ value d r.type)
+shared : (tops : List TopLevel) (e : Expression) (s r : Scheme) → IsSchemeOf tops e s → IsSchemeOf tops e r
+    → (b : Assignment) → ((u : ℕ) → IsPlain (b.ty u)) → (d : Assignment) × (value b s.type ≡ value d r.type)
 shared tops e s r h k b p =
     let d = h.formed b in
-    let i = (k.types (value b s.type)).0 ((h.types (value b s.type)).1 (record { formed = formed_under b d.0 s.type p d.1; by = b; gives = refl })) in
+    let i = (k.types (value b s.type)).0
+    ((h.types (value b s.type)).1 (record { formed = formed_under b d.0 s.type p d.1; by = b; gives = refl })) in
     (i.by, sym i.gives)
 
 -- a plain type for each number, another for each, and none of them a word
@@ -90,17 +94,20 @@ alike f g d e bool_ty bool_ty h = bools
 alike f g d e (unknown u) (unknown v) h = unknowns
 alike f g d e (pair_ty s t) (pair_ty p q) h =
     let i = h.least_of in let j = h.least_by in let k = h.tagged_of in let l = h.tagged_by in
-    pairs (alike f g d e s p (record { least_of = cc; least_by = cc; tagged_of = cc; tagged_by = cc })) (alike f g d e t q (record { least_of = cc; least_by = cc; tagged_of = cc; tagged_by = cc }))
+    pairs (alike f g d e s p (record { least_of = cc; least_by = cc; tagged_of = cc; tagged_by = cc }))
+    (alike f g d e t q (record { least_of = cc; least_by = cc; tagged_of = cc; tagged_by = cc }))
 alike f g d e (function_ty s t) (function_ty p q) h =
     let i = h.least_of in let j = h.least_by in let k = h.tagged_of in let l = h.tagged_by in
-    functions (alike f g d e s p (record { least_of = cc; least_by = cc; tagged_of = cc; tagged_by = cc })) (alike f g d e t q (record { least_of = cc; least_by = cc; tagged_of = cc; tagged_by = cc }))
+    functions (alike f g d e s p (record { least_of = cc; least_by = cc; tagged_of = cc; tagged_by = cc }))
+    (alike f g d e t q (record { least_of = cc; least_by = cc; tagged_of = cc; tagged_by = cc }))
 alike f g d e (code_ty c t) (code_ty b q) h =
     let i = h.least_of in let j = h.least_by in let k = h.tagged_of in let l = h.tagged_by in
     codes (alike f g d e t q (record { least_of = cc; least_by = cc; tagged_of = cc; tagged_by = cc }))
 alike f g d e (closed_ty t) (closed_ty q) h =
     let i = h.least_of in let j = h.least_by in let k = h.tagged_of in let l = h.tagged_by in
     closed (alike f g d e t q (record { least_of = cc; least_by = cc; tagged_of = cc; tagged_by = cc }))
-alike f g d e s t h = absurd (let i = h.least_of in let j = h.least_by in let k = h.tagged_of in let l = h.tagged_by in cc)
+alike f g d e s t h = absurd (let i = h.least_of in let j = h.least_by in let k = h.tagged_of in let l = h.tagged_by in
+    cc)
 
 -- the numbers below n and m stand for themselves under d and e
 record Settled (d e : Assignment) (n m : ℕ) : Type 0 where
@@ -117,7 +124,8 @@ pub low_or_last : (n u : ℕ) → u < suc n → LowOrLast n u
 low_or_last zero zero h = last refl
 low_or_last zero (suc u) h = absurd (omega arith)
 low_or_last (suc n) zero h = low (omega arith)
-low_or_last (suc n) (suc u) h = elim (low_or_last n u (omega arith)) [ low p ↦ low (omega arith) | last p ↦ last (ap suc p) ]
+low_or_last (suc n) (suc u) h = elim (low_or_last n u (omega arith))
+    [ low p ↦ low (omega arith) | last p ↦ last (ap suc p) ]
 
 settled-type : {d e : Assignment} {n m : ℕ} → d.ty n ≡ tag n → e.ty n ≡ tag n → Settled d e n m → Settled d e (suc n) m
 settled-type {d = d} {e = e} {n = n} p q h = record {
@@ -127,7 +135,8 @@ settled-type {d = d} {e = e} {n = n} p q h = record {
   classifiers_by = h.classifiers_by;
 }
 
-settled-classifier : {d e : Assignment} {n m : ℕ} → d.classifier m ≡ m → e.classifier m ≡ m → Settled d e n m → Settled d e n (suc m)
+settled-classifier : {d e : Assignment} {n m : ℕ} → d.classifier m ≡ m → e.classifier m ≡ m → Settled d e n m
+    → Settled d e n (suc m)
 settled-classifier {d = d} {e = e} {m = m} p q h = record {
   types_of = h.types_of;
   types_by = h.types_by;
@@ -142,7 +151,8 @@ record Same (d e : Assignment) (s t : TypeExpression) (k l p q : ℕ) : Type 0 w
   classifiers : l ≡ q
   settled : Settled d e k l
 
-same : (d e : Assignment) {n m k l p q : ℕ} {s t : TypeExpression} → Alike s t → value tagged s ≡ value d t → value tagged t ≡ value e s → IsNumbered n m s k l → IsNumbered n m t p q → Settled d e n m → Same d e s t k l p q
+same : (d e : Assignment) {n m k l p q : ℕ} {s t : TypeExpression} → Alike s t → value tagged s ≡ value d t
+    → value tagged t ≡ value e s → IsNumbered n m s k l → IsNumbered n m t p q → Settled d e n m → Same d e s t k l p q
 same d e ints i j an_int an_int h = record { types = refl; unknowns = refl; classifiers = refl; settled = h }
 same d e bools i j a_bool a_bool h = record { types = refl; unknowns = refl; classifiers = refl; settled = h }
 same d e (unknowns {u = u} {v = v}) i j (seen a) (seen b) h =
@@ -164,11 +174,23 @@ same d e {n = n} (unknowns {u = u} {v = v}) i j (next a) (next b) h =
 same d e (pairs x y) i j (a_pair a b) (a_pair f g) h =
     let r = same d e x (cc) (cc) a f h in
     let s = same d e y (cc) (cc) b (rw (r.unknowns, r.classifiers) g) r.settled in
-    record { types = rw (r.types, s.types) refl; unknowns = s.unknowns; classifiers = s.classifiers; settled = s.settled }
+    record {
+      types = rw (r.types, s.types) refl;
+      unknowns = s.unknowns;
+      classifiers = s.classifiers;
+      settled =
+          s.settled;
+    }
 same d e (functions x y) i j (a_function a b) (a_function f g) h =
     let r = same d e x (cc) (cc) a f h in
     let s = same d e y (cc) (cc) b (rw (r.unknowns, r.classifiers) g) r.settled in
-    record { types = rw (r.types, s.types) refl; unknowns = s.unknowns; classifiers = s.classifiers; settled = s.settled }
+    record {
+      types = rw (r.types, s.types) refl;
+      unknowns = s.unknowns;
+      classifiers = s.classifiers;
+      settled =
+          s.settled;
+    }
 same d e (codes {c = c} {b = b} x) i j (code_seen p f) (code_seen q g) h =
     let y : c ≡ d.classifier b = cc in
     let z : c ≡ b = y ∙ h.classifiers_of b q in
@@ -193,12 +215,21 @@ same d e (closed x) i j (a_closed f) (a_closed g) h =
     let r = same d e x (cc) (cc) f g h in
     record { types = rw r.types refl; unknowns = r.unknowns; classifiers = r.classifiers; settled = r.settled }
 
-pub one_scheme : (tops : List TopLevel) (e : Expression) (s r : Scheme) → IsSchemeOf tops e s → IsSchemeOf tops e r → IsInOrder s → IsInOrder r → s ≡ r
+pub one_scheme : (tops : List TopLevel) (e : Expression) (s r : Scheme) → IsSchemeOf tops e s → IsSchemeOf tops e r
+    → IsInOrder s → IsInOrder r → s ≡ r
 one_scheme tops e s r h k p q =
     let f = shared tops e s r h k least (λ u. tt) in
     let g = shared tops e r s k h least (λ u. tt) in
     let x = shared tops e s r h k tagged tag-plain in
     let y = shared tops e r s k h tagged tag-plain in
-    let a = alike f.0 g.0 x.0 y.0 s.type r.type (record { least_of = f.1; least_by = g.1; tagged_of = x.1; tagged_by = y.1 }) in
-    let z = same x.0 y.0 a x.1 y.1 p q (record { types_of = λ u lt. absurd (omega arith); types_by = λ u lt. absurd (omega arith); classifiers_of = λ c lt. absurd (omega arith); classifiers_by = λ c lt. absurd (omega arith) }) in
+    let a = alike f.0 g.0 x.0 y.0 s.type r.type
+    (record { least_of = f.1; least_by = g.1; tagged_of = x.1; tagged_by = y.1 }) in
+    let z = same x.0 y.0 a x.1 y.1 p q
+    (record {
+      types_of = λ u lt. absurd (omega arith);
+      types_by = λ u lt. absurd (omega arith);
+      classifiers_of =
+          λ c lt. absurd (omega arith);
+      classifiers_by = λ c lt. absurd (omega arith);
+    }) in
     rw (z.types, z.unknowns, z.classifiers) refl

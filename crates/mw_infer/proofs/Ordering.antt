@@ -28,7 +28,8 @@ Grows-same : (x : Numbers) → Grows x x
 Grows-same x = record { count = omega arith; kept = λ i lt. refl }
 
 Grows-join : {x y z : Numbers} → Grows x y → Grows y z → Grows x z
-Grows-join h k = let p = h.count in let q = k.count in record { count = omega arith; kept = λ i lt. k.kept i (omega arith) ∙ h.kept i lt }
+Grows-join h k = let p = h.count in let q = k.count in
+    record { count = omega arith; kept = λ i lt. k.kept i (omega arith) ∙ h.kept i lt }
 
 -- an old number has a new one, or none
 data Place (n : ℕ) (old : ℕ → ℕ) (u : ℕ) : Type 0 where
@@ -38,7 +39,8 @@ data Place (n : ℕ) (old : ℕ → ℕ) (u : ℕ) : Type 0 where
 place-next : (n : ℕ) (old : ℕ → ℕ) (u : ℕ) → Place n old u → Is (old n) u → Place (suc n) old u
 place-next n old u (placed i lt e) d = placed i (omega arith) e
 place-next n old u (unplaced f) (same e) = placed n (omega arith) e
-place-next n old u (unplaced f) (other k) = unplaced (λ i lt. elim (is i n) [ same e ↦ rw e k | other o ↦ f i (omega arith) ])
+place-next n old u (unplaced f) (other k) =
+    unplaced (λ i lt. elim (is i n) [ same e ↦ rw e k | other o ↦ f i (omega arith) ])
 
 place : (n : ℕ) (old : ℕ → ℕ) (u : ℕ) → Place n old u
 place zero old u = unplaced (λ i lt. absurd (omega arith))
@@ -58,9 +60,11 @@ choose-other (same e) a b n = absurd (n e)
 choose-other (other k) a b n = refl
 
 -- with the next new number
-back-next : (x : Numbers) (u : ℕ) → ((i : ℕ) → i < x.count → x.old i ≢ u) → (i : ℕ) → i < x.count + 1 → (d : Is i x.count) → choose (is (choose d u (x.old i)) u) x.count (x.new (choose d u (x.old i))) ≡ i
+back-next : (x : Numbers) (u : ℕ) → ((i : ℕ) → i < x.count → x.old i ≢ u) → (i : ℕ) → i < x.count + 1
+    → (d : Is i x.count) → choose (is (choose d u (x.old i)) u) x.count (x.new (choose d u (x.old i))) ≡ i
 back-next x u f i lt (same e) = choose-same (is u u) x.count (x.new u) refl ∙ sym e
-back-next x u f i lt (other n) = let le : i < x.count = omega arith in choose-other (is (x.old i) u) x.count (x.new (x.old i)) (f i le) ∙ x.back i le
+back-next x u f i lt (other n) = let le : i < x.count = omega arith in choose-other (is (x.old i) u) x.count
+    (x.new (x.old i)) (f i le) ∙ x.back i le
 
 abbrev with_next : (x : Numbers) (u : ℕ) → ((i : ℕ) → i < x.count → x.old i ≢ u) → Numbers
 with_next x u f = record {
@@ -85,7 +89,10 @@ number x u = go (place x.count x.old u)
       with_next x u f,
       x.count,
       record {
-        grows = record { count = omega arith; kept = λ i lt. choose-other (is i x.count) u (x.old i) (λ e. omega arith) };
+        grows = record {
+          count = omega arith;
+          kept = λ i lt. choose-other (is i x.count) u (x.old i) (λ e. omega arith);
+        };
         is = choose-same (is x.count x.count) u (x.old x.count) refl;
         next = inr (refl, refl);
       },
@@ -105,7 +112,8 @@ renamed f g (function_ty s t) = function_ty (renamed f g s) (renamed f g t)
 renamed f g (code_ty c t) = code_ty (g c) (renamed f g t)
 renamed f g (closed_ty t) = closed_ty (renamed f g t)
 
-renamed-kept : {x y k l : Numbers} → Grows x k → Grows y l → (r : TypeExpression) → Within x.count y.count r → renamed k.old l.old r ≡ renamed x.old y.old r
+renamed-kept : {x y k l : Numbers} → Grows x k → Grows y l → (r : TypeExpression) → Within x.count y.count r
+    → renamed k.old l.old r ≡ renamed x.old y.old r
 renamed-kept h i int_ty w = refl
 renamed-kept h i bool_ty w = refl
 renamed-kept h i (unknown u) w = ap unknown (h.kept u w)
@@ -114,7 +122,8 @@ renamed-kept h i (function_ty s t) w = rw (renamed-kept h i s w.0, renamed-kept 
 renamed-kept h i (code_ty c t) w = rw (i.kept c w.0, renamed-kept h i t w.1) refl
 renamed-kept h i (closed_ty t) w = rw (renamed-kept h i t w) refl
 
-value-renamed : (b : Assignment) (f g : ℕ → ℕ) (r : TypeExpression) → value (record { ty = λ i. b.ty (f i); classifier = λ c. b.classifier (g c) }) r ≡ value b (renamed f g r)
+value-renamed : (b : Assignment) (f g : ℕ → ℕ) (r : TypeExpression)
+    → value (record { ty = λ i. b.ty (f i); classifier = λ c. b.classifier (g c) }) r ≡ value b (renamed f g r)
 value-renamed b f g int_ty = refl
 value-renamed b f g bool_ty = refl
 value-renamed b f g (unknown u) = refl
@@ -136,12 +145,15 @@ record Ordered (p q : Numbers) (t : TypeExpression) : Type 0 where
   classifier_count : l.count ≤ q.count + nodes t
 
 -- the numbers of two types
-first-kept : (p q : Numbers) (s t : TypeExpression) (x : Ordered p q s) (y : Ordered x.k x.l t) → renamed y.k.old y.l.old x.type ≡ s
+first-kept : (p q : Numbers) (s t : TypeExpression) (x : Ordered p q s) (y : Ordered x.k x.l t)
+    → renamed y.k.old y.l.old x.type ≡ s
 first-kept p q s t x y = renamed-kept y.unknowns y.classifiers x.type (reaches x.numbered).within ∙ x.is
 
 -- a type of two parts, from theirs
-ordered-both : (p q : Numbers) (s t whole : TypeExpression) (x : Ordered p q s) (y : Ordered x.k x.l t) (type : TypeExpression)
-    → renamed y.k.old y.l.old type ≡ whole → IsNumbered p.count q.count type y.k.count y.l.count → nodes s + nodes t ≤ nodes whole → Ordered p q whole
+ordered-both : (p q : Numbers) (s t whole : TypeExpression) (x : Ordered p q s) (y : Ordered x.k x.l t)
+    (type : TypeExpression)
+    → renamed y.k.old y.l.old type ≡ whole → IsNumbered p.count q.count type y.k.count y.l.count → nodes s + nodes t
+    ≤ nodes whole → Ordered p q whole
 ordered-both p q s t whole x y type e f le = record {
   k = y.k;
   l = y.l;
@@ -155,8 +167,30 @@ ordered-both p q s t whole x y type e f le = record {
 }
 
 ordered : (p q : Numbers) (t : TypeExpression) → Ordered p q t
-ordered p q int_ty = record { k = p; l = q; type = int_ty; unknowns = Grows-same p; classifiers = Grows-same q; is = refl; numbered = an_int; unknown_count = omega arith; classifier_count = omega arith }
-ordered p q bool_ty = record { k = p; l = q; type = bool_ty; unknowns = Grows-same p; classifiers = Grows-same q; is = refl; numbered = a_bool; unknown_count = omega arith; classifier_count = omega arith }
+ordered p q int_ty = record {
+  k = p;
+  l = q;
+  type = int_ty;
+  unknowns = Grows-same p;
+  classifiers = Grows-same q;
+  is =
+      refl;
+  numbered = an_int;
+  unknown_count = omega arith;
+  classifier_count = omega arith;
+}
+ordered p q bool_ty = record {
+  k = p;
+  l = q;
+  type = bool_ty;
+  unknowns = Grows-same p;
+  classifiers = Grows-same q;
+  is =
+      refl;
+  numbered = a_bool;
+  unknown_count = omega arith;
+  classifier_count = omega arith;
+}
 ordered p q (unknown u) =
     let x = number p u in
     record {
@@ -173,11 +207,13 @@ ordered p q (unknown u) =
 ordered p q (pair_ty s t) =
     let x = ordered p q s in
     let y = ordered x.k x.l t in
-    ordered-both p q s t _ x y (pair_ty x.type y.type) (rw (first-kept p q s t x y, y.is) refl) (a_pair x.numbered y.numbered) (omega arith)
+    ordered-both p q s t _ x y (pair_ty x.type y.type) (rw (first-kept p q s t x y, y.is) refl)
+    (a_pair x.numbered y.numbered) (omega arith)
 ordered p q (function_ty s t) =
     let x = ordered p q s in
     let y = ordered x.k x.l t in
-    ordered-both p q s t _ x y (function_ty x.type y.type) (rw (first-kept p q s t x y, y.is) refl) (a_function x.numbered y.numbered) (omega arith)
+    ordered-both p q s t _ x y (function_ty x.type y.type) (rw (first-kept p q s t x y, y.is) refl)
+    (a_function x.numbered y.numbered) (omega arith)
 ordered p q (code_ty c t) =
     let x = number q c in
     let y = ordered p x.0 t in
@@ -211,22 +247,31 @@ ordered p q (closed_ty t) =
 abbrev no_numbers : Numbers
 no_numbers = record { count = 0; old = λ i. i; new = λ i. i; back = λ i lt. refl }
 
-renumbering-of : (t : TypeExpression) → nodes t ≤ 10000 → (o : Ordered no_numbers no_numbers t) → IsRenumbering t (record { unknowns = o.k.count; classifiers = o.l.count; type = o.type })
+renumbering-of : (t : TypeExpression) → nodes t ≤ 10000 → (o : Ordered no_numbers no_numbers t)
+    → IsRenumbering t (record { unknowns = o.k.count; classifiers = o.l.count; type = o.type })
 renumbering-of t small o = record {
   in_order = o.numbered;
-  instances = λ b. (record { ty = λ i. b.ty (o.k.old i); classifier = λ c. b.classifier (o.l.old c) }, value-renamed b o.k.old o.l.old o.type ∙ ap (λ r. value b r) o.is);
+  instances = λ b. (
+    record { ty = λ i. b.ty (o.k.old i); classifier = λ c. b.classifier (o.l.old c) },
+    value-renamed b o.k.old o.l.old o.type ∙ ap (λ r. value b r) o.is,
+  );
   back = λ d.
       let b : Assignment = record { ty = λ u. d.ty (o.k.new u); classifier = λ c. d.classifier (o.l.new c) } in
       let a : Assignment = record { ty = λ i. b.ty (o.k.old i); classifier = λ c. b.classifier (o.l.old c) } in
-      let h : Agree o.k.count o.l.count a d = record { types = λ i lt. ap d.ty (o.k.back i lt); classifiers = λ c lt. ap d.classifier (o.l.back c lt) } in
-      (b, sym (ap (λ r. value b r) o.is) ∙ sym (value-renamed b o.k.old o.l.old o.type) ∙ value_agree h o.type (reaches o.numbered).within);
+      let h : Agree o.k.count o.l.count a d =
+      record { types = λ i lt. ap d.ty (o.k.back i lt); classifiers = λ c lt. ap d.classifier (o.l.back c lt) } in (
+        b,
+        sym (ap (λ r. value b r) o.is) ∙ sym (value-renamed b o.k.old o.l.old o.type)
+            ∙ value_agree h o.type (reaches o.numbered).within,
+      );
   unknowns = omega (arith, o.unknown_count);
   classifiers = omega (arith, o.classifier_count);
 }
 
 -- a scheme with its numbers in order that has the instances of the type
 pub in_order : (t : TypeExpression) → nodes t ≤ 10000 → (s : Scheme) × IsRenumbering t s
-in_order t small = let o = ordered no_numbers no_numbers t in (record { unknowns = o.k.count; classifiers = o.l.count; type = o.type }, renumbering-of t small o)
+in_order t small = let o = ordered no_numbers no_numbers t in
+    (record { unknowns = o.k.count; classifiers = o.l.count; type = o.type }, renumbering-of t small o)
 
 -- numbers above all that the type names
 abbrev pub reach : TypeExpression → ℕ
@@ -242,7 +287,15 @@ pub Within-reach : (t : TypeExpression) → Within (reach t) (reach t) t
 Within-reach int_ty = tt
 Within-reach bool_ty = tt
 Within-reach (unknown u) = omega arith
-Within-reach (pair_ty s t) = (Within-more (omega arith) (omega arith) s (Within-reach s), Within-more (omega arith) (omega arith) t (Within-reach t))
-Within-reach (function_ty s t) = (Within-more (omega arith) (omega arith) s (Within-reach s), Within-more (omega arith) (omega arith) t (Within-reach t))
+Within-reach (pair_ty s t) = (
+  Within-more (omega arith) (omega arith) s (Within-reach s),
+  Within-more (omega arith) (omega arith) t
+      (Within-reach t),
+)
+Within-reach (function_ty s t) = (
+  Within-more (omega arith) (omega arith) s (Within-reach s),
+  Within-more (omega arith) (omega arith) t
+      (Within-reach t),
+)
 Within-reach (code_ty c t) = (omega arith, Within-more (omega arith) (omega arith) t (Within-reach t))
 Within-reach (closed_ty t) = Within-reach t

@@ -36,7 +36,8 @@ scoped-source names g m (fun e) h = scoped-source names (m ∷ g) m e h
 scoped-source names g m (fix e) h = scoped-source names (m ∷ m ∷ g) m e h
 scoped-source names g m (app f a) h = (scoped-source names g m f h.0, scoped-source names g m a h.1)
 scoped-source names g m (bind d e) h = (scoped-source names g m d h.0, scoped-source names (m ∷ g) m e h.1)
-scoped-source names g m (cond c a b) h = (scoped-source names g m c h.0, scoped-source names g m a h.1, scoped-source names g m b h.2)
+scoped-source names g m (cond c a b) h =
+    (scoped-source names g m c h.0, scoped-source names g m a h.1, scoped-source names g m b h.2)
 scoped-source names g m (pair a b) h = (scoped-source names g m a h.0, scoped-source names g m b h.1)
 scoped-source names g m (fst e) h = scoped-source names g m e h
 scoped-source names g m (snd e) h = scoped-source names g m e h
@@ -51,25 +52,35 @@ scoped-source names g m (lift_b e) h = scoped-source names g false e h.1
 scoped-source names g m (done v) h = absurd h
 
 pub resolved-written : (p : PureProgram) → IsResolved p → IsWritten p
-resolved-written p h = record { values = h.values; sources = λ i x a. scoped-source (map is_seen x.names) [] false x.term (h.scoped i x a) }
+resolved-written p h =
+    record {
+      values = h.values;
+      sources = λ i x a. scoped-source (map is_seen x.names) [] false x.term
+          (h.scoped i x a);
+    }
 
 -- a name has a scheme where it is seen
-seen-schemes : (tops names : List TopLevel) (schemes : List TopScheme) → AreSchemesOf tops names schemes → map is_seen names ≡ map has_scheme schemes
+seen-schemes : (tops names : List TopLevel) (schemes : List TopScheme) → AreSchemesOf tops names schemes
+    → map is_seen names ≡ map has_scheme schemes
 seen-schemes tops [] [] h = refl
 seen-schemes tops [] (s ∷ schemes) h = absurd h
 seen-schemes tops (x ∷ names) [] h = absurd h
-seen-schemes tops (let_item e ∷ names) (let_scheme s ∷ schemes) h = ap (λ z. true ∷ z) (seen-schemes tops names schemes h.1)
+seen-schemes tops (let_item e ∷ names) (let_scheme s ∷ schemes) h =
+    ap (λ z. true ∷ z) (seen-schemes tops names schemes h.1)
 seen-schemes tops (let_item e ∷ names) (kernel_scheme k ∷ schemes) h = absurd h.0
 seen-schemes tops (let_item e ∷ names) (scheme_out_of_scope ∷ schemes) h = absurd h.0
 seen-schemes tops (kernel_item k ∷ names) (let_scheme s ∷ schemes) h = absurd h.0
-seen-schemes tops (kernel_item k ∷ names) (kernel_scheme l ∷ schemes) h = ap (λ z. true ∷ z) (seen-schemes tops names schemes h.1)
+seen-schemes tops (kernel_item k ∷ names) (kernel_scheme l ∷ schemes) h =
+    ap (λ z. true ∷ z) (seen-schemes tops names schemes h.1)
 seen-schemes tops (kernel_item k ∷ names) (scheme_out_of_scope ∷ schemes) h = absurd h.0
 seen-schemes tops (out_of_scope ∷ names) (let_scheme s ∷ schemes) h = absurd h.0
 seen-schemes tops (out_of_scope ∷ names) (kernel_scheme l ∷ schemes) h = absurd h.0
-seen-schemes tops (out_of_scope ∷ names) (scheme_out_of_scope ∷ schemes) h = ap (λ z. false ∷ z) (seen-schemes tops names schemes h.1)
+seen-schemes tops (out_of_scope ∷ names) (scheme_out_of_scope ∷ schemes) h =
+    ap (λ z. false ∷ z) (seen-schemes tops names schemes h.1)
 
 -- numbers of unknowns
-modest-name : (schemes : List TopScheme) (i : ℕ) → AreModest schemes → (unknowns_of_name (slice_get schemes i) ≤ 10000) × (classifiers_of_name (slice_get schemes i) ≤ 10000)
+modest-name : (schemes : List TopScheme) (i : ℕ) → AreModest schemes → (unknowns_of_name (slice_get schemes i) ≤ 10000)
+    × (classifiers_of_name (slice_get schemes i) ≤ 10000)
 modest-name [] i h = (omega arith, omega arith)
 modest-name (let_scheme s ∷ schemes) zero h = h.0
 modest-name (kernel_scheme k ∷ schemes) zero h = (omega arith, omega arith)
@@ -78,20 +89,26 @@ modest-name (let_scheme s ∷ schemes) (suc i) h = modest-name schemes i h.1
 modest-name (kernel_scheme k ∷ schemes) (suc i) h = modest-name schemes i h
 modest-name (scheme_out_of_scope ∷ schemes) (suc i) h = modest-name schemes i h
 
-modest-term : (schemes : List TopScheme) (e : Expression) → AreModest schemes → (unknowns_of schemes e ≤ 10000 * size e) × (classifiers_of schemes e ≤ 10000 * size e)
+modest-term : (schemes : List TopScheme) (e : Expression) → AreModest schemes → (unknowns_of schemes e ≤ 10000 * size e)
+    × (classifiers_of schemes e ≤ 10000 * size e)
 modest-term schemes (num n) h = (omega arith, omega arith)
 modest-term schemes (truth b) h = (omega arith, omega arith)
 modest-term schemes (var i) h = (omega arith, omega arith)
 modest-term schemes (glob i) h = modest-name schemes i h
 modest-term schemes (fun e) h = let x = modest-term schemes e h in (omega (arith, x.0), omega (arith, x.1))
 modest-term schemes (fix e) h = let x = modest-term schemes e h in (omega (arith, x.0), omega (arith, x.1))
-modest-term schemes (app f a) h = let x = modest-term schemes f h in let y = modest-term schemes a h in (omega (arith, x.0, y.0), omega (arith, x.1, y.1))
-modest-term schemes (bind d e) h = let x = modest-term schemes d h in let y = modest-term schemes e h in (omega (arith, x.0, y.0), omega (arith, x.1, y.1))
-modest-term schemes (cond c a b) h = let x = modest-term schemes c h in let y = modest-term schemes a h in let z = modest-term schemes b h in (omega (arith, x.0, y.0, z.0), omega (arith, x.1, y.1, z.1))
-modest-term schemes (pair a b) h = let x = modest-term schemes a h in let y = modest-term schemes b h in (omega (arith, x.0, y.0), omega (arith, x.1, y.1))
+modest-term schemes (app f a) h = let x = modest-term schemes f h in let y = modest-term schemes a h in
+    (omega (arith, x.0, y.0), omega (arith, x.1, y.1))
+modest-term schemes (bind d e) h = let x = modest-term schemes d h in let y = modest-term schemes e h in
+    (omega (arith, x.0, y.0), omega (arith, x.1, y.1))
+modest-term schemes (cond c a b) h = let x = modest-term schemes c h in let y = modest-term schemes a h in let z =
+    modest-term schemes b h in (omega (arith, x.0, y.0, z.0), omega (arith, x.1, y.1, z.1))
+modest-term schemes (pair a b) h = let x = modest-term schemes a h in let y = modest-term schemes b h in
+    (omega (arith, x.0, y.0), omega (arith, x.1, y.1))
 modest-term schemes (fst e) h = let x = modest-term schemes e h in (omega (arith, x.0), omega (arith, x.1))
 modest-term schemes (snd e) h = let x = modest-term schemes e h in (omega (arith, x.0), omega (arith, x.1))
-modest-term schemes (prim p a b) h = let x = modest-term schemes a h in let y = modest-term schemes b h in (omega (arith, x.0, y.0), omega (arith, x.1, y.1))
+modest-term schemes (prim p a b) h = let x = modest-term schemes a h in let y = modest-term schemes b h in
+    (omega (arith, x.0, y.0), omega (arith, x.1, y.1))
 modest-term schemes (bracket e) h = let x = modest-term schemes e h in (omega (arith, x.0), omega (arith, x.1))
 modest-term schemes (escape e) h = let x = modest-term schemes e h in (omega (arith, x.0), omega (arith, x.1))
 modest-term schemes (run k e) h = let x = modest-term schemes e h in (omega (arith, x.0), omega (arith, x.1))
@@ -103,12 +120,14 @@ modest-term schemes (done v) h = (omega arith, omega arith)
 
 low-schemes : (schemes : List TopScheme) → AreModest schemes → AreOwn schemes → AreLow schemes
 low-schemes [] h w = tt
-low-schemes (let_scheme s ∷ schemes) h w = (let x = h.0.0 in let y = h.0.1 in Within-more (omega arith) (omega arith) s.type w.0, low-schemes schemes h.1 w.1)
+low-schemes (let_scheme s ∷ schemes) h w =
+    (let x = h.0.0 in let y = h.0.1 in Within-more (omega arith) (omega arith) s.type w.0, low-schemes schemes h.1 w.1)
 low-schemes (kernel_scheme k ∷ schemes) h w = low-schemes schemes h w
 low-schemes (scheme_out_of_scope ∷ schemes) h w = low-schemes schemes h w
 
 -- a part of a resolved program can be judged
-pub can-judge : (names : List TopLevel) (schemes : List TopScheme) (e : Expression) → ArePrincipal names schemes → AreModest schemes → IsScoped (map is_seen names) [] false e → size e < 2 ^ 32 → CanJudge schemes e
+pub can-judge : (names : List TopLevel) (schemes : List TopScheme) (e : Expression) → ArePrincipal names schemes
+    → AreModest schemes → IsScoped (map is_seen names) [] false e → size e < 2 ^ 32 → CanJudge schemes e
 can-judge names schemes e p m s lt = record {
   scoped = rw (seen-schemes names names schemes p.of) at s;
   own = principal-own names schemes p;
@@ -118,7 +137,8 @@ can-judge names schemes e p m s lt = record {
 }
 
 -- a part that is judged fine has no fault
-pub fine-faultless : (x : Part) (schemes : List TopScheme) (l : LetType) → ArePrincipal x.names schemes → IsSource x.term → Judges schemes x.place x.term (Fine l) → IsFaultless x
+pub fine-faultless : (x : Part) (schemes : List TopScheme) (l : LetType) → ArePrincipal x.names schemes
+    → IsSource x.term → Judges schemes x.place x.term (Fine l) → IsFaultless x
 fine-faultless x schemes l p source j = record {
   schemes = schemes;
   principal = p;
@@ -127,10 +147,15 @@ fine-faultless x schemes l p source j = record {
 }
 
 -- and a let's type that is judged is its scheme
-pub fine-scheme : (names : List TopLevel) (schemes : List TopScheme) (e : Expression) (l : LetType) → ArePrincipal names schemes → IsSource e → Judges schemes let_place e (Fine l) → IsSchemeOf names e (scheme_of l)
-fine-scheme names schemes e l p source j = IsSchemeOf-renumbered names e (record { unknowns = item_unknowns schemes e; classifiers = item_classifiers schemes e; type = j.0.ty 0 }) (scheme_of l) (most_general-scheme names schemes p.of e source j.0 j.1.general j.1.within j.2) j.3
+pub fine-scheme : (names : List TopLevel) (schemes : List TopScheme) (e : Expression) (l : LetType)
+    → ArePrincipal names schemes → IsSource e → Judges schemes let_place e (Fine l) → IsSchemeOf names e (scheme_of l)
+fine-scheme names schemes e l p source j =
+    IsSchemeOf-renumbered names e
+    (record { unknowns = item_unknowns schemes e; classifiers = item_classifiers schemes e; type = j.0.ty 0 })
+    (scheme_of l) (most_general-scheme names schemes p.of e source j.0 j.1.general j.1.within j.2) j.3
 
-pub modest-let : (schemes : List TopScheme) (s : Scheme) → AreModest schemes → s.unknowns ≤ 10000 → s.classifiers ≤ 10000 → AreModest (schemes ++ (let_scheme s ∷ []))
+pub modest-let : (schemes : List TopScheme) (s : Scheme) → AreModest schemes → s.unknowns ≤ 10000 → s.classifiers
+    ≤ 10000 → AreModest (schemes ++ (let_scheme s ∷ []))
 modest-let [] s h p q = ((p, q), tt)
 modest-let (let_scheme r ∷ schemes) s h p q = (h.0, modest-let schemes s h.1 p q)
 modest-let (kernel_scheme k ∷ schemes) s h p q = modest-let schemes s h p q
@@ -142,7 +167,8 @@ modest-none (let_scheme r ∷ schemes) h = (h.0, modest-none schemes h.1)
 modest-none (kernel_scheme k ∷ schemes) h = modest-none schemes h
 modest-none (scheme_out_of_scope ∷ schemes) h = modest-none schemes h
 
-pub modest-revealed : (items : List Definition) (schemes : List TopScheme) → AreModest schemes → AreModest (revealed items schemes)
+pub modest-revealed : (items : List Definition) (schemes : List TopScheme) → AreModest schemes
+    → AreModest (revealed items schemes)
 modest-revealed [] schemes h = h
 modest-revealed (value e ∷ items) [] h = tt
 modest-revealed (kernel k e ∷ items) [] h = tt

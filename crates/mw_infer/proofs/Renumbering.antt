@@ -11,10 +11,15 @@ pub Keeps-same : (x : Numbering) → Keeps x x
 Keeps-same x = record { kept = λ u h. refl; places = refl }
 
 Keeps-join : {x y z : Numbering} → Keeps x y → Keeps y z → Keeps x z
-Keeps-join h k = record { kept = λ u p. k.kept u (λ e. p (sym (h.kept u p) ∙ e)) ∙ h.kept u p; places = k.places ∙ h.places }
+Keeps-join h k = record {
+  kept = λ u p. k.kept u (λ e. p (sym (h.kept u p) ∙ e)) ∙ h.kept u p;
+  places = k.places
+      ∙ h.places;
+}
 
 -- what was seen keeps its new type
-kept-type : {p q k l : Numbering} → Keeps p k → Keeps q l → (t : TypeExpression) → AreSeen p.places.items q.places.items t → renumbered k.places.items l.places.items t ≡ renumbered p.places.items q.places.items t
+kept-type : {p q k l : Numbering} → Keeps p k → Keeps q l → (t : TypeExpression) → AreSeen p.places.items q.places.items
+    t → renumbered k.places.items l.places.items t ≡ renumbered p.places.items q.places.items t
 kept-type h i int_ty s = refl
 kept-type h i bool_ty s = refl
 kept-type h i (unknown u) s = ap unknown (h.kept u s)
@@ -23,7 +28,8 @@ kept-type h i (function_ty t r) s = rw (kept-type h i t s.0, kept-type h i r s.1
 kept-type h i (code_ty c t) s = rw (i.kept c s.0, kept-type h i t s.1) refl
 kept-type h i (closed_ty t) s = rw (kept-type h i t s) refl
 
-kept-seen : {p q k l : Numbering} → Keeps p k → Keeps q l → (t : TypeExpression) → AreSeen p.places.items q.places.items t → AreSeen k.places.items l.places.items t
+kept-seen : {p q k l : Numbering} → Keeps p k → Keeps q l → (t : TypeExpression) → AreSeen p.places.items q.places.items
+    t → AreSeen k.places.items l.places.items t
 kept-seen h i int_ty s = tt
 kept-seen h i bool_ty s = tt
 kept-seen h i (unknown u) s = λ e. s (sym (h.kept u s) ∙ e)
@@ -33,16 +39,39 @@ kept-seen h i (code_ty c t) s = ((λ e. s.0 (sym (i.kept c s.0) ∙ e)), kept-se
 kept-seen h i (closed_ty t) s = kept-seen h i t s
 
 pub Renumbers-int : (p q : Numbering) → IsOrder p → IsOrder q → Renumbers p q p q int_ty int_ty
-Renumbers-int p q a b = record { unknown_order = a; classifier_order = b; unknowns = Keeps-same p; classifiers = Keeps-same q; is = refl; seen = tt; numbered = an_int; unknown_count = omega arith; classifier_count = omega arith }
+Renumbers-int p q a b = record {
+  unknown_order = a;
+  classifier_order = b;
+  unknowns = Keeps-same p;
+  classifiers =
+      Keeps-same q;
+  is = refl;
+  seen = tt;
+  numbered = an_int;
+  unknown_count = omega arith;
+  classifier_count = omega arith;
+}
 
 pub Renumbers-bool : (p q : Numbering) → IsOrder p → IsOrder q → Renumbers p q p q bool_ty bool_ty
-Renumbers-bool p q a b = record { unknown_order = a; classifier_order = b; unknowns = Keeps-same p; classifiers = Keeps-same q; is = refl; seen = tt; numbered = a_bool; unknown_count = omega arith; classifier_count = omega arith }
+Renumbers-bool p q a b = record {
+  unknown_order = a;
+  classifier_order = b;
+  unknowns = Keeps-same p;
+  classifiers =
+      Keeps-same q;
+  is = refl;
+  seen = tt;
+  numbered = a_bool;
+  unknown_count = omega arith;
+  classifier_count = omega arith;
+}
 
 pub number-next : (a b m n : ℕ) → ((n < a) × (b ≡ a)) ⊎ ((n ≡ a) × (b ≡ a + 1)) → IsNumbered a m (unknown n) b m
 number-next a b m n (inl h) = rw h.1 (seen h.0)
 number-next a b m n (inr h) = let e : b ≡ suc a = omega (arith, h.1) in rw e (next h.0)
 
-pub code-next : (a b n m k : ℕ) (l : ℕ) (t : TypeExpression) → ((n < a) × (b ≡ a)) ⊎ ((n ≡ a) × (b ≡ a + 1)) → IsNumbered m b t k l → IsNumbered m a (code_ty n t) k l
+pub code-next : (a b n m k : ℕ) (l : ℕ) (t : TypeExpression) → ((n < a) × (b ≡ a)) ⊎ ((n ≡ a) × (b ≡ a + 1))
+    → IsNumbered m b t k l → IsNumbered m a (code_ty n t) k l
 code-next a b n m k l t (inl h) i = code_seen h.0 (rw h.1 at i)
 code-next a b n m k l t (inr h) i = let e : b ≡ suc a = omega (arith, h.1) in code_next h.0 (rw e at i)
 
@@ -50,7 +79,8 @@ pub count-next : (a b n : ℕ) → ((n < a) × (b ≡ a)) ⊎ ((n ≡ a) × (b �
 count-next a b n (inl h) = omega (arith, h.1)
 count-next a b n (inr h) = omega (arith, h.1)
 
-pub Renumbers-unknown : (p q k : Numbering) (u n : ℕ) → IsOrder q → Places p k u n → Renumbers p q k q (unknown u) (unknown n)
+pub Renumbers-unknown : (p q k : Numbering) (u n : ℕ) → IsOrder q → Places p k u n
+    → Renumbers p q k q (unknown u) (unknown n)
 Renumbers-unknown p q k u n b h = record {
   unknown_order = h.order;
   classifier_order = b;
@@ -63,7 +93,8 @@ Renumbers-unknown p q k u n b h = record {
   classifier_count = omega arith;
 }
 
-pub Renumbers-pair : (p q i j k l : Numbering) (s t r w : TypeExpression) → Renumbers p q i j s r → Renumbers i j k l t w → Renumbers p q k l (pair_ty s t) (pair_ty r w)
+pub Renumbers-pair : (p q i j k l : Numbering) (s t r w : TypeExpression) → Renumbers p q i j s r
+    → Renumbers i j k l t w → Renumbers p q k l (pair_ty s t) (pair_ty r w)
 Renumbers-pair p q i j k l s t r w a b = record {
   unknown_order = b.unknown_order;
   classifier_order = b.classifier_order;
@@ -76,7 +107,8 @@ Renumbers-pair p q i j k l s t r w a b = record {
   classifier_count = omega (arith, a.classifier_count, b.classifier_count);
 }
 
-pub Renumbers-function : (p q i j k l : Numbering) (s t r w : TypeExpression) → Renumbers p q i j s r → Renumbers i j k l t w → Renumbers p q k l (function_ty s t) (function_ty r w)
+pub Renumbers-function : (p q i j k l : Numbering) (s t r w : TypeExpression) → Renumbers p q i j s r
+    → Renumbers i j k l t w → Renumbers p q k l (function_ty s t) (function_ty r w)
 Renumbers-function p q i j k l s t r w a b = record {
   unknown_order = b.unknown_order;
   classifier_order = b.classifier_order;
@@ -89,7 +121,8 @@ Renumbers-function p q i j k l s t r w a b = record {
   classifier_count = omega (arith, a.classifier_count, b.classifier_count);
 }
 
-pub Renumbers-code : (p q j k l : Numbering) (c n : ℕ) (t r : TypeExpression) → Places q j c n → Renumbers p j k l t r → Renumbers p q k l (code_ty c t) (code_ty n r)
+pub Renumbers-code : (p q j k l : Numbering) (c n : ℕ) (t r : TypeExpression) → Places q j c n → Renumbers p j k l t r
+    → Renumbers p q k l (code_ty c t) (code_ty n r)
 Renumbers-code p q j k l c n t r h a =
     let m : number_in j.places.items c ≢ none = λ e. h.seen (sym h.is ∙ e) in
     let z : number_in l.places.items c ≡ n = a.classifiers.kept c m ∙ h.is in
@@ -106,7 +139,8 @@ Renumbers-code p q j k l c n t r h a =
       classifier_count = omega (arith, a.classifier_count);
     }
 
-pub Renumbers-closed : (p q k l : Numbering) (t r : TypeExpression) → Renumbers p q k l t r → Renumbers p q k l (closed_ty t) (closed_ty r)
+pub Renumbers-closed : (p q k l : Numbering) (t r : TypeExpression) → Renumbers p q k l t r
+    → Renumbers p q k l (closed_ty t) (closed_ty r)
 Renumbers-closed p q k l t r a = record {
   unknown_order = a.unknown_order;
   classifier_order = a.classifier_order;

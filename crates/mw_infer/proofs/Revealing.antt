@@ -23,16 +23,28 @@ defined items = map (λ item. definition_of item.kind) items
 abbrev pub Shown : List Item → List TopScheme → List RustTopScheme → ℕ → Type 0
 Shown items xs ys n = (length ys ≡ length items) × (tops_of ys ≡ revealed_to n (defined items) xs)
 
-pub show-kernel : (items : List Item) (xs : List TopScheme) (ys zs : List RustTopScheme) (n : ℕ) (x : Item) (t : Term) (b : Bor KType) → n < length items → x ≡ get_or items n x → (get_or items n x).kind ≡ KernelItem b.now t → zs ≡ slice_set ys n (Kernel b) → Shown items xs ys n → Shown items xs zs (n + 1)
+pub show-kernel : (items : List Item) (xs : List TopScheme) (ys zs : List RustTopScheme) (n : ℕ) (x : Item) (t : Term)
+    (b : Bor KType) → n < length items → x ≡ get_or items n x → (get_or items n x).kind ≡ KernelItem b.now t
+    → zs ≡ slice_set ys n (Kernel b) → Shown items xs ys n → Shown items xs zs (n + 1)
 show-kernel items xs ys zs n x t b lt e k z h =
-    let g : slice_get (defined items) n ≡ Some (kernel (kernel_type_of b.now) (expression_of t)) = get-map (λ item. definition_of item.kind) items n x lt e ∙ ap (λ i. Some (definition_of i.kind)) e ∙ ap (λ i. Some (definition_of i)) k in (
+    let g : slice_get (defined items) n ≡ Some (kernel (kernel_type_of b.now) (expression_of t)) =
+    get-map (λ item. definition_of item.kind) items n x lt e ∙ ap (λ i. Some (definition_of i.kind)) e
+    ∙ ap (λ i. Some (definition_of i)) k in (
       ap length z ∙ set_length ys n (Kernel b) ∙ h.0,
-      ap (λ v. tops_of v) z ∙ reveal-kernel top_of xs ys n (defined items) (kernel_type_of b.now) (expression_of t) (Kernel b) g refl h.1,
+      ap (λ v. tops_of v) z ∙ reveal-kernel top_of xs ys n (defined items) (kernel_type_of b.now) (expression_of t)
+          (Kernel b) g refl h.1,
     )
 
-show-kind : (items : List Item) (xs : List TopScheme) (ys : List RustTopScheme) (n : ℕ) (i : ItemKind) → slice_get (defined items) n ≡ Some (definition_of i) → ((k : KType) (t : Term) → i ≡ KernelItem k t → ⊥) → Shown items xs ys n → Shown items xs ys (n + 1)
-show-kind items xs ys n (ValueItem t) g f h = (h.0, reveal-value xs (tops_of ys) n (defined items) (expression_of t) g h.1)
+show-kind : (items : List Item) (xs : List TopScheme) (ys : List RustTopScheme) (n : ℕ) (i : ItemKind)
+    → slice_get (defined items) n ≡ Some (definition_of i) → ((k : KType) (t : Term) → i ≡ KernelItem k t → ⊥)
+    → Shown items xs ys n → Shown items xs ys (n + 1)
+show-kind items xs ys n (ValueItem t) g f h =
+    (h.0, reveal-value xs (tops_of ys) n (defined items) (expression_of t) g h.1)
 show-kind items xs ys n (KernelItem k t) g f h = absurd (f k t refl)
 
-pub show-value : (items : List Item) (xs : List TopScheme) (ys zs : List RustTopScheme) (n : ℕ) (x : Item) → n < length items → x ≡ get_or items n x → ((k : KType) (t : Term) → (get_or items n x).kind ≡ KernelItem k t → ⊥) → zs ≡ ys → Shown items xs ys n → Shown items xs zs (n + 1)
-show-value items xs ys zs n x lt e k z h = subst (λ v. Shown items xs v (n + 1)) (sym z) (show-kind items xs ys n (get_or items n x).kind (get-map (λ item. definition_of item.kind) items n x lt e ∙ ap (λ i. Some (definition_of i.kind)) e) k h)
+pub show-value : (items : List Item) (xs : List TopScheme) (ys zs : List RustTopScheme) (n : ℕ) (x : Item)
+    → n < length items → x ≡ get_or items n x → ((k : KType) (t : Term) → (get_or items n x).kind ≡ KernelItem k t → ⊥)
+    → zs ≡ ys → Shown items xs ys n → Shown items xs zs (n + 1)
+show-value items xs ys zs n x lt e k z h = subst (λ v. Shown items xs v (n + 1)) (sym z)
+    (show-kind items xs ys n (get_or items n x).kind (get-map (λ item. definition_of item.kind) items n x lt e
+    ∙ ap (λ i. Some (definition_of i.kind)) e) k h)

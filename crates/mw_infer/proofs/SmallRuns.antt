@@ -36,7 +36,8 @@ size-kernel (to s t) = omega (arith, size-ground s, size-ground t)
 module _ (tops : List TopScheme) (n : ℕ) (s : Substitution) (small : IsSmall n s) where
   -- the type of the closed code that a run takes has one node more than the type that it is run at
   small-run : (o : ℕ) (k : KernelType) → nodes (s.ty o) ≤ 10000
-      → value (after least s) (unknown o) ≡ value (after least s) (closed_ty (kernel_expression k)) → kernel_nodes k ≤ 10000
+      → value (after least s) (unknown o) ≡ value (after least s) (closed_ty (kernel_expression k)) → kernel_nodes k
+      ≤ 10000
   small-run o k le e =
       let v = ap closed_type (value-kernel_expression (after least s) k) in
       let p : nodes (s.ty o) ≡ size (kernel_type k) + 1 = sym (least_size (s.ty o)) ∙ ap size (e ∙ v) in
@@ -50,7 +51,8 @@ module _ (tops : List TopScheme) (n : ℕ) (s : Substitution) (small : IsSmall n
   small-runs u o c g m (var i) le h = tt
   small-runs u o c g m (glob i) le h = tt
   small-runs u o c g m (fun e) le h = small-runs (o + 1) (o + 2) c (slot m o ∷ g) m e (omega arith) h.1
-  small-runs u o c g m (fix e) le h = small-runs (o + 2) (o + 3) c (slot m o ∷ slot m (o + 1) ∷ g) m e (omega arith) h.1.1
+  small-runs u o c g m (fix e) le h = small-runs (o + 2) (o + 3) c (slot m o ∷ slot m (o + 1) ∷ g) m e (omega arith)
+      h.1.1
   small-runs u o c g m (app f a) le h =
       let p = Solves-parts (after least s) _ _ h.1 in (
         small-runs o (o + 2) c g m f (omega arith) p.0,
@@ -59,13 +61,15 @@ module _ (tops : List TopScheme) (n : ℕ) (s : Substitution) (small : IsSmall n
   small-runs u o c g m (bind d e) le h =
       let p = Solves-parts (after least s) _ _ h.1.1 in (
         small-runs (o + 1) (o + 3) c g m d (omega arith) p.0,
-        small-runs (o + 2) (o + 3 + unknowns_of tops d) (c + classifiers_of tops d) (slot m o ∷ g) m e (omega arith) p.1,
+        small-runs (o + 2) (o + 3 + unknowns_of tops d) (c + classifiers_of tops d) (slot m o ∷ g) m e (omega arith)
+            p.1,
       )
   small-runs u o c g m (cond q a b) le h =
       let p = Solves-three (after least s) _ _ _ h.1.1.1 in (
         small-runs o (o + 3) c g m q (omega arith) p.0,
         small-runs (o + 1) (o + 3 + unknowns_of tops q) (c + classifiers_of tops q) g m a (omega arith) p.1,
-        small-runs (o + 2) (o + 3 + unknowns_of tops q + unknowns_of tops a) (c + classifiers_of tops q + classifiers_of tops a) g m b (omega arith) p.2,
+        small-runs (o + 2) (o + 3 + unknowns_of tops q + unknowns_of tops a)
+            (c + classifiers_of tops q + classifiers_of tops a) g m b (omega arith) p.2,
       )
   small-runs u o c g m (pair a b) le h =
       let p = Solves-parts (after least s) _ _ h.1 in (
@@ -83,7 +87,8 @@ module _ (tops : List TopScheme) (n : ℕ) (s : Substitution) (small : IsSmall n
   small-runs u o c g (under d) (bracket e) le h = no_wrong (after least s) h
   small-runs u o c g live (escape e) le h = no_wrong (after least s) h
   small-runs u o c g (under d) (escape e) le h = small-runs o (o + 1) c g live e (omega arith) h.1
-  small-runs u o c g live (run k e) le h = (small-run o k (small o (omega arith)) h.0, small-runs o (o + 1) c g live e (omega arith) h.1.1)
+  small-runs u o c g live (run k e) le h =
+      (small-run o k (small o (omega arith)) h.0, small-runs o (o + 1) c g live e (omega arith) h.1.1)
   small-runs u o c g (under d) (run k e) le h = no_wrong (after least s) h
   small-runs u o c g live (close at e) le h = small-runs (o + 1) (o + 2) (c + 1) g live e (omega arith) h.1.1
   small-runs u o c g (under d) (close at e) le h = no_wrong (after least s) h
@@ -99,14 +104,17 @@ module _ (tops : List TopScheme) (n : ℕ) (s : Substitution) (small : IsSmall n
 faultless-small_runs : (x : Part) → IsFaultless x → HasSmallRuns x.term
 faultless-small_runs x h =
     let s = h.fine.0 in
-    let solved = (Solves-parts (after least s) (own_equations x.place) (equations h.schemes 0 1 0 [] live x.term) (h.fine.1.sound least)).1 in
+    let solved = (Solves-parts (after least s) (own_equations x.place) (equations h.schemes 0 1 0 [] live x.term)
+    (h.fine.1.sound least)).1 in
     small-runs h.schemes _ s h.fine.2 0 1 0 [] live x.term (omega arith) solved
 
 -- and whose place asks closed code of a kernel type
-faultless-small_kernel : (names : List TopLevel) (k : KernelType) (e : Expression) → IsFaultless (part_of_item names (kernel k e)) → kernel_nodes k ≤ 10000
+faultless-small_kernel : (names : List TopLevel) (k : KernelType) (e : Expression)
+    → IsFaultless (part_of_item names (kernel k e)) → kernel_nodes k ≤ 10000
 faultless-small_kernel names k e h =
     let s = h.fine.0 in
-    let solved = (Solves-parts (after least s) (own_equations (kernel_place k)) (equations h.schemes 0 1 0 [] live e) (h.fine.1.sound least)).0 in
+    let solved = (Solves-parts (after least s) (own_equations (kernel_place k)) (equations h.schemes 0 1 0 [] live e)
+    (h.fine.1.sound least)).0 in
     small-run h.schemes _ s h.fine.2 0 k (h.fine.2 0 (omega arith)) solved.0
 
 module _ (p : PureProgram) (h : AreFaultless p) where
@@ -115,7 +123,12 @@ module _ (p : PureProgram) (h : AreFaultless p) where
   small-definition i (kernel k e) a = faultless-small_runs _ (h i _ (an_item a))
 
   pub faultless-small_types : HasSmallTypes p
-  faultless-small_types = record { items = small-definition; body = faultless-small_runs (part_of_main p) (h (length p.items) (part_of_main p) (main refl)) }
+  faultless-small_types =
+      record {
+        items = small-definition;
+        body = faultless-small_runs (part_of_main p)
+            (h (length p.items) (part_of_main p) (main refl));
+      }
 
   pub faultless-small_kernels : HasSmallKernels p
   faultless-small_kernels i k e a = faultless-small_kernel (seen_by_item p.items i) k e (h i _ (an_item a))

@@ -30,90 +30,154 @@ pub AreFresh-parts : (a : Assignment) (xs ys : List Close) → AreFresh a (xs ++
 AreFresh-parts a [] ys h = (tt, h)
 AreFresh-parts a (x ∷ xs) ys h = let r = AreFresh-parts a xs ys h.1 in ((h.0, r.0), r.1)
 
-pub Solves-three : (a : Assignment) (es fs gs : List TypeEquation) → Solves a ((es ++ fs) ++ gs) → Solves a es × Solves a fs × Solves a gs
-Solves-three a es fs gs h = let p = Solves-parts a (es ++ fs) gs h in let q = Solves-parts a es fs p.0 in (q.0, q.1, p.1)
+pub Solves-three : (a : Assignment) (es fs gs : List TypeEquation) → Solves a ((es ++ fs) ++ gs) → Solves a es
+    × Solves a fs × Solves a gs
+Solves-three a es fs gs h = let p = Solves-parts a (es ++ fs) gs h in let q = Solves-parts a es fs p.0 in
+    (q.0, q.1, p.1)
 
-AreFresh-three : (a : Assignment) (xs ys zs : List Close) → AreFresh a ((xs ++ ys) ++ zs) → AreFresh a xs × AreFresh a ys × AreFresh a zs
-AreFresh-three a xs ys zs h = let p = AreFresh-parts a (xs ++ ys) zs h in let q = AreFresh-parts a xs ys p.0 in (q.0, q.1, p.1)
+AreFresh-three : (a : Assignment) (xs ys zs : List Close) → AreFresh a ((xs ++ ys) ++ zs) → AreFresh a xs
+    × AreFresh a ys × AreFresh a zs
+AreFresh-three a xs ys zs h = let p = AreFresh-parts a (xs ++ ys) zs h in let q = AreFresh-parts a xs ys p.0 in
+    (q.0, q.1, p.1)
 
 pub no_wrong : {X : Type 0} (a : Assignment) → Solves a wrong → X
 no_wrong a h = absurd (let e = h.0 in cc)
 
 -- each instance of a scheme, made a type of the language, is a type of the definition
-pub IsSchemeOf-typed : (tops : List TopLevel) (e : Expression) (s : Scheme) → IsSchemeOf tops e s → (b : Assignment) → Typed tops [] live e (formed_type (value b s.type))
-IsSchemeOf-typed tops e s h b = let d = h.formed b in rw d.1 at ((h.types (value d.0 s.type)).1 record { formed = rw d.1 (IsFormed-formed_type (value b s.type)); by = d.0; gives = refl })
+pub IsSchemeOf-typed : (tops : List TopLevel) (e : Expression) (s : Scheme) → IsSchemeOf tops e s → (b : Assignment)
+    → Typed tops [] live e (formed_type (value b s.type))
+IsSchemeOf-typed tops e s h b = let d = h.formed b in
+    rw d.1 at ((h.types (value d.0 s.type)).1 record {
+      formed = rw d.1 (IsFormed-formed_type (value b s.type));
+      by =
+          d.0;
+      gives = refl;
+    })
 
-module _ (tops : List TopLevel) (schemes : List TopScheme) (known : AreSchemesOf tops tops schemes) (a : Assignment) where
-  typed_variable : (u : ℕ) (g : List Slot) (m : Level) (i : ℕ) (s : Option Slot) → slice_get g i ≡ s → Solves a (variable_equations u m s) → Typed tops (map (fitted_entry a) g) (level_of a m) (var i) (fitted m (a.ty u))
-  typed_variable u g live i (Some (plain_slot x)) e h = t_var (get-fitted a g i _ e ∙ ap (λ t. Some (at_live (formed_type t))) (sym h.0))
-  typed_variable u g (under c) i (Some (quoted_slot b x)) e h =
-      let p : a.classifier b ≡ a.classifier c = let q = h.1.0 in cc in
-      t_var (get-fitted a g i _ e ∙ (rw (p, h.0) refl))
-  typed_variable u g live i (Some (quoted_slot b x)) e h = no_wrong a h
-  typed_variable u g (under c) i (Some (plain_slot x)) e h = no_wrong a h
-  typed_variable u g live i None e h = no_wrong a h
-  typed_variable u g (under c) i None e h = no_wrong a h
+module _ (tops : List TopLevel) (schemes : List TopScheme) (known : AreSchemesOf tops tops schemes) (a : Assignment)
+  where
+    typed_variable : (u : ℕ) (g : List Slot) (m : Level) (i : ℕ) (s : Option Slot) → slice_get g i ≡ s
+        → Solves a (variable_equations u m s) → Typed tops (map (fitted_entry a) g) (level_of a m) (var i)
+        (fitted m (a.ty u))
+    typed_variable u g live i (Some (plain_slot x)) e h =
+        t_var (get-fitted a g i _ e ∙ ap (λ t. Some (at_live (formed_type t))) (sym h.0))
+    typed_variable u g (under c) i (Some (quoted_slot b x)) e h =
+        let p : a.classifier b ≡ a.classifier c = let q = h.1.0 in cc in
+        t_var (get-fitted a g i _ e ∙ (rw (p, h.0) refl))
+    typed_variable u g live i (Some (quoted_slot b x)) e h = no_wrong a h
+    typed_variable u g (under c) i (Some (plain_slot x)) e h = no_wrong a h
+    typed_variable u g live i None e h = no_wrong a h
+    typed_variable u g (under c) i None e h = no_wrong a h
 
-  typed_name : (u o c : ℕ) (g : List Slot) (m : Level) (i : ℕ) (s : Option TopScheme) → slice_get schemes i ≡ s → Solves a (name_equations u o c m s) → Typed tops (map (fitted_entry a) g) (level_of a m) (glob i) (fitted m (a.ty u))
-  typed_name u o c g live i (Some (let_scheme s)) e h =
-      let q = let-of_scheme tops tops schemes i s known e in
-      t_let q.1 (rw (h.0 ∙ value-shifted a o c s.type) (IsSchemeOf-typed tops q.0 s q.2 (from a o c)))
-  typed_name u o c g live i (Some (kernel_scheme k)) e h = rw (h.0, value-kernel_expression a k, flat_type-plain (kernel_type k) (IsPlain-kernel_type k)) (t_kernel (kernel-of_scheme tops tops schemes i k known e))
-  typed_name u o c g live i (Some scheme_out_of_scope) e h = no_wrong a h
-  typed_name u o c g live i None e h = no_wrong a h
-  typed_name u o c g (under d) i s e h = no_wrong a h
+    typed_name : (u o c : ℕ) (g : List Slot) (m : Level) (i : ℕ) (s : Option TopScheme) → slice_get schemes i ≡ s
+        → Solves a (name_equations u o c m s) → Typed tops (map (fitted_entry a) g) (level_of a m) (glob i)
+        (fitted m (a.ty u))
+    typed_name u o c g live i (Some (let_scheme s)) e h =
+        let q = let-of_scheme tops tops schemes i s known e in
+        t_let q.1 (rw (h.0 ∙ value-shifted a o c s.type) (IsSchemeOf-typed tops q.0 s q.2 (from a o c)))
+    typed_name u o c g live i (Some (kernel_scheme k)) e h =
+        rw (h.0, value-kernel_expression a k, flat_type-plain (kernel_type k) (IsPlain-kernel_type k))
+        (t_kernel (kernel-of_scheme tops tops schemes i k known e))
+    typed_name u o c g live i (Some scheme_out_of_scope) e h = no_wrong a h
+    typed_name u o c g live i None e h = no_wrong a h
+    typed_name u o c g (under d) i s e h = no_wrong a h
 
-  -- the types of a term's fresh solution, each made one of its level, type the term
-  pub solved_typed : (u o c : ℕ) (g : List Slot) (m : Level) (e : Expression) → Solves a (equations schemes u o c g m e) → AreFresh a (closes schemes o c g m e) → Typed tops (map (fitted_entry a) g) (level_of a m) e (fitted m (a.ty u))
-  solved_typed u o c g m (num n) h f = rw (h.0, fitted-plain m int_type tt) t_num
-  solved_typed u o c g m (truth b) h f = rw (h.0, fitted-plain m bool_type tt) t_truth
-  solved_typed u o c g m (var i) h f = typed_variable u g m i (slice_get g i) refl h
-  solved_typed u o c g m (glob i) h f = typed_name u o c g m i (slice_get schemes i) refl h
-  solved_typed u o c g m (fun e) h f = rw (h.0, fitted-function m (a.ty o) (a.ty (o + 1))) (t_fun (Fits-fitted a m (a.ty o)) (rw (fitted_entry-slot a m o) at (solved_typed (o + 1) (o + 2) c (slot m o ∷ g) m e h.1 f)))
-  solved_typed u o c g m (fix e) h f =
-      let p : fitted m (a.ty (o + 1)) ≡ function_type (fitted m (a.ty o)) (fitted m (a.ty (o + 2))) = ap (λ t. fitted m t) h.0 ∙ fitted-function m (a.ty o) (a.ty (o + 2)) in
-      rw (h.1.0, p) (t_fix {m = level_of a m} {s = fitted m (a.ty o)} {t = fitted m (a.ty (o + 2))} (rw p at (Fits-fitted a m (a.ty (o + 1)))) (rw (fitted_entry-slot a m o, fitted_entry-slot a m (o + 1), p) at (solved_typed (o + 2) (o + 3) c (slot m o ∷ slot m (o + 1) ∷ g) m e h.1.1 f)))
-  solved_typed u o c g m (app d b) h f =
-      let p = Solves-parts a (equations schemes o (o + 2) c g m d) (equations schemes (o + 1) (o + 2 + unknowns_of schemes d) (c + classifiers_of schemes d) g m b) h.1 in
-      let q = AreFresh-parts a (closes schemes (o + 2) c g m d) (closes schemes (o + 2 + unknowns_of schemes d) (c + classifiers_of schemes d) g m b) f in
-      t_app (rw (h.0, fitted-function m (a.ty (o + 1)) (a.ty u)) at (solved_typed o (o + 2) c g m d p.0 q.0)) (solved_typed (o + 1) (o + 2 + unknowns_of schemes d) (c + classifiers_of schemes d) g m b p.1 q.1)
-  solved_typed u o c g m (bind d e) h f =
-      let p = Solves-parts a (equations schemes (o + 1) (o + 3) c g m d) (equations schemes (o + 2) (o + 3 + unknowns_of schemes d) (c + classifiers_of schemes d) (slot m o ∷ g) m e) h.1.1 in
-      let q = AreFresh-parts a (closes schemes (o + 3) c g m d) (closes schemes (o + 3 + unknowns_of schemes d) (c + classifiers_of schemes d) (slot m o ∷ g) m e) f in
-      rw h.1.0 (t_bind (rw (← h.0) at (solved_typed (o + 1) (o + 3) c g m d p.0 q.0)) (rw (fitted_entry-slot a m o) at (solved_typed (o + 2) (o + 3 + unknowns_of schemes d) (c + classifiers_of schemes d) (slot m o ∷ g) m e p.1 q.1)))
-  solved_typed u o c g m (cond p d b) h f =
-      let r = Solves-three a (equations schemes o (o + 3) c g m p) (equations schemes (o + 1) (o + 3 + unknowns_of schemes p) (c + classifiers_of schemes p) g m d) (equations schemes (o + 2) (o + 3 + unknowns_of schemes p + unknowns_of schemes d) (c + classifiers_of schemes p + classifiers_of schemes d) g m b) h.1.1.1 in
-      let q = AreFresh-three a (closes schemes (o + 3) c g m p) (closes schemes (o + 3 + unknowns_of schemes p) (c + classifiers_of schemes p) g m d) (closes schemes (o + 3 + unknowns_of schemes p + unknowns_of schemes d) (c + classifiers_of schemes p + classifiers_of schemes d) g m b) f in
-      t_cond (rw (h.0, fitted-plain m bool_type tt) at (solved_typed o (o + 3) c g m p r.0 q.0))
-      (rw h.1.0 at (solved_typed (o + 1) (o + 3 + unknowns_of schemes p) (c + classifiers_of schemes p) g m d r.1 q.1))
-      (rw h.1.1.0 at (solved_typed (o + 2) (o + 3 + unknowns_of schemes p + unknowns_of schemes d) (c + classifiers_of schemes p + classifiers_of schemes d) g m b r.2 q.2))
-  solved_typed u o c g m (pair d b) h f =
-      let p = Solves-parts a (equations schemes o (o + 2) c g m d) (equations schemes (o + 1) (o + 2 + unknowns_of schemes d) (c + classifiers_of schemes d) g m b) h.1 in
-      let q = AreFresh-parts a (closes schemes (o + 2) c g m d) (closes schemes (o + 2 + unknowns_of schemes d) (c + classifiers_of schemes d) g m b) f in
-      rw (h.0, fitted-pair m (a.ty o) (a.ty (o + 1))) (t_pair (solved_typed o (o + 2) c g m d p.0 q.0) (solved_typed (o + 1) (o + 2 + unknowns_of schemes d) (c + classifiers_of schemes d) g m b p.1 q.1))
-  solved_typed u o c g m (fst e) h f = t_fst (rw (h.0, fitted-pair m (a.ty u) (a.ty o)) at (solved_typed (o + 1) (o + 2) c g m e h.1 f))
-  solved_typed u o c g m (snd e) h f = t_snd (rw (h.0, fitted-pair m (a.ty o) (a.ty u)) at (solved_typed (o + 1) (o + 2) c g m e h.1 f))
-  solved_typed u o c g m (prim p d b) h f =
-      let r = Solves-parts a (equations schemes o (o + 2) c g m d) (equations schemes (o + 1) (o + 2 + unknowns_of schemes d) (c + classifiers_of schemes d) g m b) h.1.1.1 in
-      let q = AreFresh-parts a (closes schemes (o + 2) c g m d) (closes schemes (o + 2 + unknowns_of schemes d) (c + classifiers_of schemes d) g m b) f in
-      t_prim (ap (λ t. fitted m t) (h.1.1.0 ∙ value-primitive_expression a p) ∙ fitted-primitive m p)
-      (rw (h.0, fitted-plain m int_type tt) at (solved_typed o (o + 2) c g m d r.0 q.0))
-      (rw (h.1.0, fitted-plain m int_type tt) at (solved_typed (o + 1) (o + 2 + unknowns_of schemes d) (c + classifiers_of schemes d) g m b r.1 q.1))
-  solved_typed u o c g live (bracket e) h f = rw h.0 (t_bracket (IsPlain-flat_type (a.ty o)) (solved_typed o (o + 1) (c + 1) g (under c) e h.1 f))
-  solved_typed u o c g (under b) (bracket e) h f = no_wrong a h
-  solved_typed u o c g live (escape e) h f = no_wrong a h
-  solved_typed u o c g (under b) (escape e) h f = t_escape (IsPlain-flat_type (a.ty u)) (rw h.0 at (solved_typed o (o + 1) c g live e h.1 f))
-  solved_typed u o c g live (run k e) h f =
-      let v = value-kernel_expression a k in
-      t_run (ap (λ t. formed_type t) (h.1.0 ∙ v) ∙ formed_type-plain (kernel_type k) (IsPlain-kernel_type k))
-      (rw (h.1.0, v, formed_type-plain (kernel_type k) (IsPlain-kernel_type k)) (rw (h.0, v, flat_type-plain (kernel_type k) (IsPlain-kernel_type k)) at (solved_typed o (o + 1) c g live e h.1.1 f)))
-  solved_typed u o c g (under b) (run k e) h f = no_wrong a h
-  solved_typed u o c g live (close at e) h f = rw h.1.0 (t_close (IsPlain-flat_type (a.ty o)) (IsAbsent-fitted a (a.classifier c) g f.0) (rw h.0 at (solved_typed (o + 1) (o + 2) (c + 1) g live e h.1.1 f.1)))
-  solved_typed u o c g (under b) (close at e) h f = no_wrong a h
-  solved_typed u o c g live (opened e) h f = rw h.1.0 (t_open (IsPlain-flat_type (a.ty o)) (rw h.0 at (solved_typed (o + 1) (o + 2) (c + 1) g live e h.1.1 f)))
-  solved_typed u o c g (under b) (opened e) h f = no_wrong a h
-  solved_typed u o c g live (lift e) h f = rw h.1.0 (t_lift (rw h.0 at (solved_typed o (o + 1) (c + 1) g live e h.1.1 f)))
-  solved_typed u o c g (under b) (lift e) h f = no_wrong a h
-  solved_typed u o c g live (lift_b e) h f = rw h.1.0 (t_lift_b (rw h.0 at (solved_typed o (o + 1) (c + 1) g live e h.1.1 f)))
-  solved_typed u o c g (under b) (lift_b e) h f = no_wrong a h
-  solved_typed u o c g m (done v) h f = no_wrong a h
+    -- the types of a term's fresh solution, each made one of its level, type the term
+    pub solved_typed : (u o c : ℕ) (g : List Slot) (m : Level) (e : Expression)
+        → Solves a (equations schemes u o c g m e)
+        → AreFresh a (closes schemes o c g m e) → Typed tops (map (fitted_entry a) g) (level_of a m) e
+        (fitted m (a.ty u))
+    solved_typed u o c g m (num n) h f = rw (h.0, fitted-plain m int_type tt) t_num
+    solved_typed u o c g m (truth b) h f = rw (h.0, fitted-plain m bool_type tt) t_truth
+    solved_typed u o c g m (var i) h f = typed_variable u g m i (slice_get g i) refl h
+    solved_typed u o c g m (glob i) h f = typed_name u o c g m i (slice_get schemes i) refl h
+    solved_typed u o c g m (fun e) h f = rw (h.0, fitted-function m (a.ty o) (a.ty (o + 1)))
+        (t_fun (Fits-fitted a m (a.ty o))
+        (rw (fitted_entry-slot a m o) at (solved_typed (o + 1) (o + 2) c (slot m o ∷ g) m e h.1 f)))
+    solved_typed u o c g m (fix e) h f =
+        let p : fitted m (a.ty (o + 1)) ≡ function_type (fitted m (a.ty o)) (fitted m (a.ty (o + 2))) =
+        ap (λ t. fitted m t) h.0 ∙ fitted-function m (a.ty o) (a.ty (o + 2)) in
+        rw (h.1.0, p) (t_fix {m = level_of a m} {s = fitted m (a.ty o)} {t = fitted m (a.ty (o + 2))}
+        (rw p at (Fits-fitted a m (a.ty (o + 1))))
+        (rw (fitted_entry-slot a m o, fitted_entry-slot a m (o + 1), p) at
+        (solved_typed (o + 2) (o + 3) c (slot m o ∷ slot m (o + 1) ∷ g) m e h.1.1 f)))
+    solved_typed u o c g m (app d b) h f =
+        let p = Solves-parts a (equations schemes o (o + 2) c g m d)
+        (equations schemes (o + 1) (o + 2 + unknowns_of schemes d) (c + classifiers_of schemes d) g m b) h.1 in
+        let q = AreFresh-parts a (closes schemes (o + 2) c g m d)
+        (closes schemes (o + 2 + unknowns_of schemes d) (c + classifiers_of schemes d) g m b) f in
+        t_app (rw (h.0, fitted-function m (a.ty (o + 1)) (a.ty u)) at (solved_typed o (o + 2) c g m d p.0 q.0))
+        (solved_typed (o + 1) (o + 2 + unknowns_of schemes d) (c + classifiers_of schemes d) g m b p.1 q.1)
+    solved_typed u o c g m (bind d e) h f =
+        let p = Solves-parts a (equations schemes (o + 1) (o + 3) c g m d)
+        (equations schemes (o + 2) (o + 3 + unknowns_of schemes d) (c + classifiers_of schemes d) (slot m o ∷ g) m e)
+        h.1.1 in
+        let q = AreFresh-parts a (closes schemes (o + 3) c g m d)
+        (closes schemes (o + 3 + unknowns_of schemes d) (c + classifiers_of schemes d) (slot m o ∷ g) m e) f in
+        rw h.1.0 (t_bind (rw (← h.0) at (solved_typed (o + 1) (o + 3) c g m d p.0 q.0))
+        (rw (fitted_entry-slot a m o) at
+        (solved_typed (o + 2) (o + 3 + unknowns_of schemes d) (c + classifiers_of schemes d) (slot m o ∷ g) m e p.1
+        q.1)))
+    solved_typed u o c g m (cond p d b) h f =
+        let r = Solves-three a (equations schemes o (o + 3) c g m p)
+        (equations schemes (o + 1) (o + 3 + unknowns_of schemes p) (c + classifiers_of schemes p) g m d)
+        (equations schemes (o + 2) (o + 3 + unknowns_of schemes p + unknowns_of schemes d)
+        (c + classifiers_of schemes p + classifiers_of schemes d) g m b) h.1.1.1 in
+        let q = AreFresh-three a (closes schemes (o + 3) c g m p)
+        (closes schemes (o + 3 + unknowns_of schemes p) (c + classifiers_of schemes p) g m d)
+        (closes schemes (o + 3 + unknowns_of schemes p + unknowns_of schemes d)
+        (c + classifiers_of schemes p + classifiers_of schemes d) g m b) f in
+        t_cond (rw (h.0, fitted-plain m bool_type tt) at (solved_typed o (o + 3) c g m p r.0 q.0))
+        (rw h.1.0 at (solved_typed (o + 1) (o + 3 + unknowns_of schemes p) (c + classifiers_of schemes p) g m d r.1
+        q.1))
+        (rw h.1.1.0 at (solved_typed (o + 2) (o + 3 + unknowns_of schemes p + unknowns_of schemes d)
+        (c + classifiers_of schemes p + classifiers_of schemes d) g m b r.2 q.2))
+    solved_typed u o c g m (pair d b) h f =
+        let p = Solves-parts a (equations schemes o (o + 2) c g m d)
+        (equations schemes (o + 1) (o + 2 + unknowns_of schemes d) (c + classifiers_of schemes d) g m b) h.1 in
+        let q = AreFresh-parts a (closes schemes (o + 2) c g m d)
+        (closes schemes (o + 2 + unknowns_of schemes d) (c + classifiers_of schemes d) g m b) f in
+        rw (h.0, fitted-pair m (a.ty o) (a.ty (o + 1)))
+        (t_pair (solved_typed o (o + 2) c g m d p.0 q.0)
+        (solved_typed (o + 1) (o + 2 + unknowns_of schemes d) (c + classifiers_of schemes d) g m b p.1 q.1))
+    solved_typed u o c g m (fst e) h f =
+        t_fst (rw (h.0, fitted-pair m (a.ty u) (a.ty o)) at (solved_typed (o + 1) (o + 2) c g m e h.1 f))
+    solved_typed u o c g m (snd e) h f =
+        t_snd (rw (h.0, fitted-pair m (a.ty o) (a.ty u)) at (solved_typed (o + 1) (o + 2) c g m e h.1 f))
+    solved_typed u o c g m (prim p d b) h f =
+        let r = Solves-parts a (equations schemes o (o + 2) c g m d)
+        (equations schemes (o + 1) (o + 2 + unknowns_of schemes d) (c + classifiers_of schemes d) g m b) h.1.1.1 in
+        let q = AreFresh-parts a (closes schemes (o + 2) c g m d)
+        (closes schemes (o + 2 + unknowns_of schemes d) (c + classifiers_of schemes d) g m b) f in
+        t_prim (ap (λ t. fitted m t) (h.1.1.0 ∙ value-primitive_expression a p) ∙ fitted-primitive m p)
+        (rw (h.0, fitted-plain m int_type tt) at (solved_typed o (o + 2) c g m d r.0 q.0))
+        (rw (h.1.0, fitted-plain m int_type tt) at
+        (solved_typed (o + 1) (o + 2 + unknowns_of schemes d) (c + classifiers_of schemes d) g m b r.1 q.1))
+    solved_typed u o c g live (bracket e) h f =
+        rw h.0 (t_bracket (IsPlain-flat_type (a.ty o)) (solved_typed o (o + 1) (c + 1) g (under c) e h.1 f))
+    solved_typed u o c g (under b) (bracket e) h f = no_wrong a h
+    solved_typed u o c g live (escape e) h f = no_wrong a h
+    solved_typed u o c g (under b) (escape e) h f = t_escape (IsPlain-flat_type (a.ty u))
+        (rw h.0 at (solved_typed o (o + 1) c g live e h.1 f))
+    solved_typed u o c g live (run k e) h f =
+        let v = value-kernel_expression a k in
+        t_run (ap (λ t. formed_type t) (h.1.0 ∙ v) ∙ formed_type-plain (kernel_type k) (IsPlain-kernel_type k))
+        (rw (h.1.0, v, formed_type-plain (kernel_type k) (IsPlain-kernel_type k))
+        (rw (h.0, v, flat_type-plain (kernel_type k) (IsPlain-kernel_type k)) at
+        (solved_typed o (o + 1) c g live e h.1.1 f)))
+    solved_typed u o c g (under b) (run k e) h f = no_wrong a h
+    solved_typed u o c g live (close at e) h f =
+        rw h.1.0 (t_close (IsPlain-flat_type (a.ty o)) (IsAbsent-fitted a (a.classifier c) g f.0)
+        (rw h.0 at (solved_typed (o + 1) (o + 2) (c + 1) g live e h.1.1 f.1)))
+    solved_typed u o c g (under b) (close at e) h f = no_wrong a h
+    solved_typed u o c g live (opened e) h f =
+        rw h.1.0 (t_open (IsPlain-flat_type (a.ty o))
+        (rw h.0 at (solved_typed (o + 1) (o + 2) (c + 1) g live e h.1.1 f)))
+    solved_typed u o c g (under b) (opened e) h f = no_wrong a h
+    solved_typed u o c g live (lift e) h f =
+        rw h.1.0 (t_lift (rw h.0 at (solved_typed o (o + 1) (c + 1) g live e h.1.1 f)))
+    solved_typed u o c g (under b) (lift e) h f = no_wrong a h
+    solved_typed u o c g live (lift_b e) h f =
+        rw h.1.0 (t_lift_b (rw h.0 at (solved_typed o (o + 1) (c + 1) g live e h.1.1 f)))
+    solved_typed u o c g (under b) (lift_b e) h f = no_wrong a h
+    solved_typed u o c g m (done v) h f = no_wrong a h

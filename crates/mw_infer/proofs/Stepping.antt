@@ -30,23 +30,27 @@ use Rattle.mw_infer.proofs.Progressing.{modest-revealed}
 use Rattle.mw_infer.proofs.Refusals.{part-one}
 use Rattle.mw_infer.proofs.Shifting.{scheme-of_let, scheme-of_kernel}
 
-pub earlier-next : (p : PureProgram) (i : ℕ) (y : Part) → ((j : ℕ) (x : Part) → j < i → IsPart p j x → IsFaultless x) → IsPart p i y → IsFaultless y → (j : ℕ) (x : Part) → j < suc i → IsPart p j x → IsFaultless x
+pub earlier-next : (p : PureProgram) (i : ℕ) (y : Part) → ((j : ℕ) (x : Part) → j < i → IsPart p j x → IsFaultless x)
+    → IsPart p i y → IsFaultless y → (j : ℕ) (x : Part) → j < suc i → IsPart p j x → IsFaultless x
 earlier-next p i y h a f j x lt b = elim (low_or_last i j lt) [
   | low k ↦ h j x k b
   | last e ↦ subst (λ z. IsFaultless z) (part-one p (subst (λ n. IsPart p n y) (sym e) a) b) f
 ]
 
 pub progress-first : (p : PureProgram) → Progress p 0 []
-progress-first p = record { principal = principal-first p.items; modest = tt; earlier = λ j x lt a. absurd (omega arith) }
+progress-first p =
+    record { principal = principal-first p.items; modest = tt; earlier = λ j x lt a. absurd (omega arith) }
 
-step-on : (p : PureProgram) (i : ℕ) (d : Definition) (schemes new : List TopScheme) → IsResolved p → slice_get p.items i ≡ Some d → Progress p i schemes → Steps schemes d new → Progress p (suc i) new
+step-on : (p : PureProgram) (i : ℕ) (d : Definition) (schemes new : List TopScheme) → IsResolved p → slice_get p.items i
+    ≡ Some d → Progress p i schemes → Steps schemes d new → Progress p (suc i) new
 step-on p i (value e) schemes new w g h s =
     let names = seen_by_item p.items i in
     let a : IsPart p i (part_of_item names (value e)) = an_item g in
     let source = scoped-source _ [] _ e (w.scoped i _ a) in
     let n = s.1.3 in
     rw s.2 (record {
-      principal = principal-let p.items i e schemes (scheme_of s.0) g h.principal (fine-scheme names schemes e s.0 h.principal source s.1) n.in_order;
+      principal = principal-let p.items i e schemes (scheme_of s.0) g h.principal
+          (fine-scheme names schemes e s.0 h.principal source s.1) n.in_order;
       modest = modest-let schemes (scheme_of s.0) h.modest n.unknowns n.classifiers;
       earlier = earlier-next p i _ h.earlier a (fine-faultless _ schemes s.0 h.principal source s.1);
     })
@@ -60,53 +64,104 @@ step-on p i (kernel k e) schemes new w g h s =
       earlier = earlier-next p i _ h.earlier a (fine-faultless _ schemes s.0 h.principal source s.1);
     })
 
-pub progress-next : (p : PureProgram) (i : ℕ) (d : Definition) (schemes new : List TopScheme) → IsResolved p → slice_get p.items i ≡ Some d → Progress p i schemes → Steps schemes d new → Progress p (i + 1) new
-progress-next p i d schemes new w g h s = let e : i + 1 ≡ suc i = omega arith in rw e (step-on p i d schemes new w g h s)
+pub progress-next : (p : PureProgram) (i : ℕ) (d : Definition) (schemes new : List TopScheme) → IsResolved p
+    → slice_get p.items i ≡ Some d → Progress p i schemes → Steps schemes d new → Progress p (i + 1) new
+progress-next p i d schemes new w g h s = let e : i + 1 ≡ suc i = omega arith in
+    rw e (step-on p i d schemes new w g h s)
 
 -- an item that is next can be judged, and its fault is the program's first refusal
-pub item-judged : (p : PureProgram) (i : ℕ) (d : Definition) (schemes : List TopScheme) → IsResolved p → slice_get p.items i ≡ Some d → Progress p i schemes → CanJudge schemes (part_of_item [] d).term
-item-judged p i (value e) schemes w g h = let a : IsPart p i (part_of_item (seen_by_item p.items i) (value e)) = an_item g in can-judge _ schemes e h.principal h.modest (w.scoped i _ a) (w.small i _ a)
-item-judged p i (kernel k e) schemes w g h = let a : IsPart p i (part_of_item (seen_by_item p.items i) (kernel k e)) = an_item g in can-judge _ schemes e h.principal h.modest (w.scoped i _ a) (w.small i _ a)
+pub item-judged : (p : PureProgram) (i : ℕ) (d : Definition) (schemes : List TopScheme) → IsResolved p
+    → slice_get p.items i ≡ Some d → Progress p i schemes → CanJudge schemes (part_of_item [] d).term
+item-judged p i (value e) schemes w g h = let a : IsPart p i (part_of_item (seen_by_item p.items i) (value e)) =
+    an_item g in can-judge _ schemes e h.principal h.modest (w.scoped i _ a) (w.small i _ a)
+item-judged p i (kernel k e) schemes w g h = let a : IsPart p i (part_of_item (seen_by_item p.items i) (kernel k e)) =
+    an_item g in can-judge _ schemes e h.principal h.modest (w.scoped i _ a) (w.small i _ a)
 
-pub item-refused : (p : PureProgram) (i : ℕ) (d : Definition) (schemes : List TopScheme) (r : Refusal) → slice_get p.items i ≡ Some d → Progress p i schemes → IsFaultOf schemes (part_of_item [] d).place (part_of_item [] d).term i r → IsFirstRefusal p r
-item-refused p i (value e) schemes r g h f = record { at = i; part = _; is_part = an_item g; schemes = schemes; principal = h.principal; fault = f.0; has = f.1; refusal = f.2; earlier = h.earlier }
-item-refused p i (kernel k e) schemes r g h f = record { at = i; part = _; is_part = an_item g; schemes = schemes; principal = h.principal; fault = f.0; has = f.1; refusal = f.2; earlier = h.earlier }
+pub item-refused : (p : PureProgram) (i : ℕ) (d : Definition) (schemes : List TopScheme) (r : Refusal)
+    → slice_get p.items i ≡ Some d → Progress p i schemes → IsFaultOf schemes (part_of_item [] d).place
+    (part_of_item [] d).term i r → IsFirstRefusal p r
+item-refused p i (value e) schemes r g h f =
+    record {
+      at = i;
+      part = _;
+      is_part = an_item g;
+      schemes = schemes;
+      principal = h.principal;
+      fault = f.0;
+      has = f.1;
+      refusal = f.2;
+      earlier = h.earlier;
+    }
+item-refused p i (kernel k e) schemes r g h f =
+    record {
+      at = i;
+      part = _;
+      is_part = an_item g;
+      schemes = schemes;
+      principal = h.principal;
+      fault = f.0;
+      has = f.1;
+      refusal = f.2;
+      earlier = h.earlier;
+    }
 
 -- the same of main, which sees the kernel items
-pub all-revealed : (items : List Definition) (schemes : List TopScheme) → revealed_to (length items) items schemes ≡ revealed items schemes
+pub all-revealed : (items : List Definition) (schemes : List TopScheme) → revealed_to (length items) items schemes
+    ≡ revealed items schemes
 all-revealed [] schemes = refl
 all-revealed (value e ∷ items) [] = refl
 all-revealed (kernel k e ∷ items) [] = refl
 all-revealed (value e ∷ items) (s ∷ schemes) = ap (λ z. s ∷ z) (all-revealed items schemes)
 all-revealed (kernel k e ∷ items) (s ∷ schemes) = ap (λ z. kernel_scheme k ∷ z) (all-revealed items schemes)
 
-pub main-judged : (p : PureProgram) (schemes : List TopScheme) → IsResolved p → Progress p (length p.items) schemes → CanJudge (revealed p.items schemes) p.body
+pub main-judged : (p : PureProgram) (schemes : List TopScheme) → IsResolved p → Progress p (length p.items) schemes
+    → CanJudge (revealed p.items schemes) p.body
 main-judged p schemes w h =
     let a : IsPart p (length p.items) (part_of_main p) = main refl in
-    can-judge (seen_by_main p.items) (revealed p.items schemes) p.body (principal-main p.items schemes h.principal) (modest-revealed p.items schemes h.modest) (w.scoped _ _ a) (w.small _ _ a)
+    can-judge (seen_by_main p.items) (revealed p.items schemes) p.body (principal-main p.items schemes h.principal)
+    (modest-revealed p.items schemes h.modest) (w.scoped _ _ a) (w.small _ _ a)
 
-pub main-refused : (p : PureProgram) (schemes : List TopScheme) (r : Refusal) → Progress p (length p.items) schemes → IsFaultOf (revealed p.items schemes) (main_place p.result) p.body (length p.items) r → IsFirstRefusal p r
-main-refused p schemes r h f = record { at = length p.items; part = part_of_main p; is_part = main refl; schemes = revealed p.items schemes; principal = principal-main p.items schemes h.principal; fault = f.0; has = f.1; refusal = f.2; earlier = h.earlier }
+pub main-refused : (p : PureProgram) (schemes : List TopScheme) (r : Refusal) → Progress p (length p.items) schemes
+    → IsFaultOf (revealed p.items schemes) (main_place p.result) p.body (length p.items) r → IsFirstRefusal p r
+main-refused p schemes r h f = record {
+  at = length p.items;
+  part = part_of_main p;
+  is_part = main refl;
+  schemes =
+      revealed p.items schemes;
+  principal = principal-main p.items schemes h.principal;
+  fault = f.0;
+  has = f.1;
+  refusal =
+      f.2;
+  earlier = h.earlier;
+}
 
 get-below : {A : Type 0} (xs : List A) (i : ℕ) (x : A) → slice_get xs i ≡ Some x → i < length xs
 get-below [] i x e = absurd (cc)
 get-below (y ∷ xs) zero x e = omega arith
 get-below (y ∷ xs) (suc i) x e = omega (arith, get-below xs i x e)
 
-pub all-faultless : (p : PureProgram) (schemes : List TopScheme) → Progress p (length p.items) schemes → IsFaultless (part_of_main p) → AreFaultless p
+pub all-faultless : (p : PureProgram) (schemes : List TopScheme) → Progress p (length p.items) schemes
+    → IsFaultless (part_of_main p) → AreFaultless p
 all-faultless p schemes h f j x a = part-faultless a
   where
     part-faultless : {i : ℕ} {x : Part} → IsPart p i x → IsFaultless x
     part-faultless (an_item {i = i} {d = d} g) = h.earlier i _ (get-below p.items i d g) (an_item g)
     part-faultless (main e) = f
 
-pub main-faultless : (p : PureProgram) (schemes : List TopScheme) (l : LetType) → IsResolved p → Progress p (length p.items) schemes → Judges (revealed p.items schemes) (main_place p.result) p.body (Fine l) → AreFaultless p
+pub main-faultless : (p : PureProgram) (schemes : List TopScheme) (l : LetType) → IsResolved p
+    → Progress p (length p.items) schemes → Judges (revealed p.items schemes) (main_place p.result) p.body (Fine l)
+    → AreFaultless p
 main-faultless p schemes l w h j =
     let b : IsPart p (length p.items) (part_of_main p) = main refl in
-    all-faultless p schemes h (fine-faultless (part_of_main p) (revealed p.items schemes) l (principal-main p.items schemes h.principal) (scoped-source _ [] _ p.body (w.scoped _ _ b)) j)
+    all-faultless p schemes h
+    (fine-faultless (part_of_main p) (revealed p.items schemes) l (principal-main p.items schemes h.principal)
+    (scoped-source _ [] _ p.body (w.scoped _ _ b)) j)
 
 -- a kernel item that is revealed
-set-same : (xs : List TopScheme) (n : ℕ) (items : List Definition) (e : Expression) → slice_get items n ≡ Some (value e) → revealed_to (suc n) items xs ≡ revealed_to n items xs
+set-same : (xs : List TopScheme) (n : ℕ) (items : List Definition) (e : Expression) → slice_get items n ≡ Some (value e)
+    → revealed_to (suc n) items xs ≡ revealed_to n items xs
 set-same xs n [] e g = absurd (cc)
 set-same [] zero (d ∷ items) e g = refl
 set-same [] (suc n) (d ∷ items) e g = refl
@@ -115,7 +170,9 @@ set-same (x ∷ xs) zero (kernel k f ∷ items) e g = absurd (cc)
 set-same (x ∷ xs) (suc n) (value f ∷ items) e g = ap (λ z. x ∷ z) (set-same xs n items e g)
 set-same (x ∷ xs) (suc n) (kernel k f ∷ items) e g = ap (λ z. kernel_scheme k ∷ z) (set-same xs n items e g)
 
-set-kernel : (xs : List TopScheme) (n : ℕ) (items : List Definition) (k : KernelType) (e : Expression) → slice_get items n ≡ Some (kernel k e) → slice_set (revealed_to n items xs) n (kernel_scheme k) ≡ revealed_to (suc n) items xs
+set-kernel : (xs : List TopScheme) (n : ℕ) (items : List Definition) (k : KernelType) (e : Expression)
+    → slice_get items n ≡ Some (kernel k e) → slice_set (revealed_to n items xs) n (kernel_scheme k)
+    ≡ revealed_to (suc n) items xs
 set-kernel xs n [] k e g = absurd (cc)
 set-kernel [] zero (d ∷ items) k e g = refl
 set-kernel [] (suc n) (d ∷ items) k e g = refl
@@ -124,19 +181,26 @@ set-kernel (x ∷ xs) zero (kernel l f ∷ items) k e g = let p : l ≡ k = cc i
 set-kernel (x ∷ xs) (suc n) (value f ∷ items) k e g = ap (λ z. x ∷ z) (set-kernel xs n items k e g)
 set-kernel (x ∷ xs) (suc n) (kernel l f ∷ items) k e g = ap (λ z. kernel_scheme l ∷ z) (set-kernel xs n items k e g)
 
-pub reveal-value : (xs ys : List TopScheme) (n : ℕ) (items : List Definition) (e : Expression) → slice_get items n ≡ Some (value e) → ys ≡ revealed_to n items xs → ys ≡ revealed_to (n + 1) items xs
+pub reveal-value : (xs ys : List TopScheme) (n : ℕ) (items : List Definition) (e : Expression) → slice_get items n
+    ≡ Some (value e) → ys ≡ revealed_to n items xs → ys ≡ revealed_to (n + 1) items xs
 reveal-value xs ys n items e g h = let i : n + 1 ≡ suc n = omega arith in rw i (h ∙ sym (set-same xs n items e g))
 
-map-set : {A B : Type 0} (f : A → B) (xs : List A) (n : ℕ) (x : A) → map f (slice_set xs n x) ≡ slice_set (map f xs) n (f x)
+map-set : {A B : Type 0} (f : A → B) (xs : List A) (n : ℕ) (x : A) → map f (slice_set xs n x) ≡ slice_set (map f xs) n
+    (f x)
 map-set f [] n x = refl
 map-set f (y ∷ xs) zero x = refl
 map-set f (y ∷ xs) (suc n) x = ap (λ z. f y ∷ z) (map-set f xs n x)
 
-pub reveal-kernel : {A : Type 0} (f : A → TopScheme) (xs : List TopScheme) (ys : List A) (n : ℕ) (items : List Definition) (k : KernelType) (e : Expression) (x : A) → slice_get items n ≡ Some (kernel k e) → f x ≡ kernel_scheme k → map f ys ≡ revealed_to n items xs → map f (slice_set ys n x) ≡ revealed_to (n + 1) items xs
-reveal-kernel f xs ys n items k e x g p h = let i : n + 1 ≡ suc n = omega arith in rw i (map-set f ys n x ∙ rw (h, p) (set-kernel xs n items k e g))
+pub reveal-kernel : {A : Type 0} (f : A → TopScheme) (xs : List TopScheme) (ys : List A) (n : ℕ)
+    (items : List Definition) (k : KernelType) (e : Expression) (x : A) → slice_get items n ≡ Some (kernel k e)
+    → f x ≡ kernel_scheme k → map f ys ≡ revealed_to n items xs → map f (slice_set ys n x) ≡ revealed_to (n + 1) items
+    xs
+reveal-kernel f xs ys n items k e x g p h = let i : n + 1 ≡ suc n = omega arith in
+    rw i (map-set f ys n x ∙ rw (h, p) (set-kernel xs n items k e g))
 
 -- an item at its place
-pub get-map : {A B : Type 0} (f : A → B) (xs : List A) (i : ℕ) (x : A) → i < length xs → x ≡ get_or xs i x → slice_get (map f xs) i ≡ Some (f x)
+pub get-map : {A B : Type 0} (f : A → B) (xs : List A) (i : ℕ) (x : A) → i < length xs → x ≡ get_or xs i x
+    → slice_get (map f xs) i ≡ Some (f x)
 get-map f [] i x lt e = absurd (omega arith)
 get-map f (y ∷ xs) zero x lt e = ap (λ z. Some (f z)) (sym e)
 get-map f (y ∷ xs) (suc i) x lt e = get-map f xs i x (omega arith) e
@@ -145,7 +209,8 @@ get-map f (y ∷ xs) (suc i) x lt e = get-map f xs i x (omega arith) e
 Extends-item : (items : List Definition) (i : ℕ) → Extends (seen_by_item items i) (seen_by_main items)
 Extends-item items i = record { lets = lets items i; kernels = kernels items i }
   where
-    lets : (items : List Definition) (i j : ℕ) (e : Expression) → slice_get (seen_by_item items i) j ≡ Some (let_item e) → slice_get (seen_by_main items) j ≡ Some (let_item e)
+    lets : (items : List Definition) (i j : ℕ) (e : Expression) → slice_get (seen_by_item items i) j ≡ Some (let_item e)
+        → slice_get (seen_by_main items) j ≡ Some (let_item e)
     lets [] i j e g = absurd (cc)
     lets (value f ∷ items) zero j e g = absurd (cc)
     lets (kernel k f ∷ items) zero j e g = absurd (cc)
@@ -154,7 +219,8 @@ Extends-item items i = record { lets = lets items i; kernels = kernels items i }
     lets (value f ∷ items) (suc i) (suc j) e g = lets items i j e g
     lets (kernel k f ∷ items) (suc i) (suc j) e g = lets items i j e g
 
-    kernels : (items : List Definition) (i j : ℕ) (k : KernelType) → slice_get (seen_by_item items i) j ≡ Some (kernel_item k) → slice_get (seen_by_main items) j ≡ Some (kernel_item k)
+    kernels : (items : List Definition) (i j : ℕ) (k : KernelType) → slice_get (seen_by_item items i) j
+        ≡ Some (kernel_item k) → slice_get (seen_by_main items) j ≡ Some (kernel_item k)
     kernels [] i j k g = absurd (cc)
     kernels (value f ∷ items) zero j k g = absurd (cc)
     kernels (kernel l f ∷ items) zero j k g = absurd (cc)
@@ -163,21 +229,24 @@ Extends-item items i = record { lets = lets items i; kernels = kernels items i }
     kernels (value f ∷ items) (suc i) (suc j) k g = kernels items i j k g
     kernels (kernel l f ∷ items) (suc i) (suc j) k g = kernels items i j k g
 
-main-at : (items : List Definition) (i : ℕ) (e : Expression) → slice_get items i ≡ Some (value e) → slice_get (seen_by_main items) i ≡ Some (let_item e)
+main-at : (items : List Definition) (i : ℕ) (e : Expression) → slice_get items i ≡ Some (value e)
+    → slice_get (seen_by_main items) i ≡ Some (let_item e)
 main-at [] i e g = absurd (cc)
 main-at (value f ∷ items) zero e g = let p : f ≡ e = cc in rw p refl
 main-at (kernel k f ∷ items) zero e g = absurd (cc)
 main-at (value f ∷ items) (suc i) e g = main-at items i e g
 main-at (kernel k f ∷ items) (suc i) e g = main-at items i e g
 
-main-at-kernel : (items : List Definition) (i : ℕ) (k : KernelType) (e : Expression) → slice_get items i ≡ Some (kernel k e) → slice_get (seen_by_main items) i ≡ Some (kernel_item k)
+main-at-kernel : (items : List Definition) (i : ℕ) (k : KernelType) (e : Expression) → slice_get items i
+    ≡ Some (kernel k e) → slice_get (seen_by_main items) i ≡ Some (kernel_item k)
 main-at-kernel [] i k e g = absurd (cc)
 main-at-kernel (value f ∷ items) zero k e g = absurd (cc)
 main-at-kernel (kernel l f ∷ items) zero k e g = let p : l ≡ k = cc in rw p refl
 main-at-kernel (value f ∷ items) (suc i) k e g = main-at-kernel items i k e g
 main-at-kernel (kernel l f ∷ items) (suc i) k e g = main-at-kernel items i k e g
 
-length-main : (tops : List TopLevel) (items : List Definition) (schemes : List TopScheme) → AreSchemesOf tops (seen_by_main items) schemes → length schemes ≡ length items
+length-main : (tops : List TopLevel) (items : List Definition) (schemes : List TopScheme)
+    → AreSchemesOf tops (seen_by_main items) schemes → length schemes ≡ length items
 length-main tops [] [] h = refl
 length-main tops [] (s ∷ schemes) h = absurd h
 length-main tops (value e ∷ items) [] h = absurd h
@@ -185,23 +254,34 @@ length-main tops (kernel k e ∷ items) [] h = absurd h
 length-main tops (value e ∷ items) (s ∷ schemes) h = ap suc (length-main tops items schemes h.1)
 length-main tops (kernel k e ∷ items) (s ∷ schemes) h = ap suc (length-main tops items schemes h.1)
 
-type-at : (schemes : List TopScheme) (main_type t : TypeExpression) (i : ℕ) (s : TopScheme) → slice_get schemes i ≡ Some s → slice_get (map type_of_scheme schemes ++ (main_type ∷ [])) i ≡ Some t → t ≡ type_of_scheme s
+type-at : (schemes : List TopScheme) (main_type t : TypeExpression) (i : ℕ) (s : TopScheme) → slice_get schemes i
+    ≡ Some s → slice_get (map type_of_scheme schemes ++ (main_type ∷ [])) i ≡ Some t → t ≡ type_of_scheme s
 type-at [] main_type t i s g e = absurd (cc)
-type-at (x ∷ schemes) main_type t zero s g e = let p : x ≡ s = cc in let q : type_of_scheme x ≡ t = cc in sym q ∙ ap (λ z. type_of_scheme z) p
+type-at (x ∷ schemes) main_type t zero s g e = let p : x ≡ s = cc in let q : type_of_scheme x ≡ t = cc in sym q
+    ∙ ap (λ z. type_of_scheme z) p
 type-at (x ∷ schemes) main_type t (suc i) s g e = type-at schemes main_type t i s g e
 
-type-last : (schemes : List TopScheme) (main_type t : TypeExpression) → slice_get (map type_of_scheme schemes ++ (main_type ∷ [])) (length schemes) ≡ Some t → t ≡ main_type
+type-last : (schemes : List TopScheme) (main_type t : TypeExpression)
+    → slice_get (map type_of_scheme schemes ++ (main_type ∷ [])) (length schemes) ≡ Some t → t ≡ main_type
 type-last [] main_type t e = cc
 type-last (x ∷ schemes) main_type t e = type-last schemes main_type t e
 
-length-types : (schemes : List TopScheme) (main_type : TypeExpression) → length (map type_of_scheme schemes ++ (main_type ∷ [])) ≡ length schemes + 1
+length-types : (schemes : List TopScheme) (main_type : TypeExpression)
+    → length (map type_of_scheme schemes ++ (main_type ∷ [])) ≡ length schemes + 1
 length-types [] main_type = omega arith
 length-types (x ∷ schemes) main_type = let h = length-types schemes main_type in omega (arith, h)
 
-pub types-of : (p : PureProgram) (schemes : List TopScheme) → AreFaultless p → ArePrincipal (seen_by_main p.items) schemes → AreTypesOf p (map type_of_scheme schemes ++ (ground_expression p.result ∷ []))
-types-of p schemes h q = record { count = length-types schemes (ground_expression p.result) ∙ ap (λ n. n + 1) (length-main _ p.items schemes q.of); each = λ i x t a g. part-type a t g }
+pub types-of : (p : PureProgram) (schemes : List TopScheme) → AreFaultless p → ArePrincipal (seen_by_main p.items)
+    schemes → AreTypesOf p (map type_of_scheme schemes ++ (ground_expression p.result ∷ []))
+types-of p schemes h q =
+    record {
+      count = length-types schemes (ground_expression p.result)
+          ∙ ap (λ n. n + 1) (length-main _ p.items schemes q.of);
+      each = λ i x t a g. part-type a t g;
+    }
   where
-    part-type : {i : ℕ} {x : Part} → IsPart p i x → (t : TypeExpression) → slice_get (map type_of_scheme schemes ++ (ground_expression p.result ∷ [])) i ≡ Some t → IsTypeOf x x.place t
+    part-type : {i : ℕ} {x : Part} → IsPart p i x → (t : TypeExpression)
+        → slice_get (map type_of_scheme schemes ++ (ground_expression p.result ∷ [])) i ≡ Some t → IsTypeOf x x.place t
     part-type (an_item {i = i} {d = value e} a) t g =
         let names = seen_by_main p.items in
         let own = seen_by_item p.items i in
@@ -215,14 +295,17 @@ types-of p schemes h q = record { count = length-types schemes (ground_expressio
         ))
     part-type (an_item {i = i} {d = kernel k e} a) t g =
         let names = seen_by_main p.items in
-        type-at schemes (ground_expression p.result) t i (kernel_scheme k) (scheme-of_kernel names names schemes i k q.of (main-at-kernel p.items i k e a)) g
-    part-type (main {i = i} e) t g = type-last schemes (ground_expression p.result) t (rw (e ∙ sym (length-main _ p.items schemes q.of)) at g)
+        type-at schemes (ground_expression p.result) t i (kernel_scheme k)
+        (scheme-of_kernel names names schemes i k q.of (main-at-kernel p.items i k e a)) g
+    part-type (main {i = i} e) t g = type-last schemes (ground_expression p.result) t
+        (rw (e ∙ sym (length-main _ p.items schemes q.of)) at g)
 
 append-length : {A : Type 0} (xs : List A) (x : A) → length (xs ++ (x ∷ [])) ≡ length xs + 1
 append-length [] x = omega arith
 append-length (y ∷ xs) x = let h = append-length xs x in omega (arith, h)
 
-pub steps-length : (schemes : List TopScheme) (d : Definition) (new : List TopScheme) → Steps schemes d new → length new ≡ length schemes + 1
+pub steps-length : (schemes : List TopScheme) (d : Definition) (new : List TopScheme) → Steps schemes d new → length new
+    ≡ length schemes + 1
 steps-length schemes (value e) new s = ap length s.2 ∙ append-length schemes (let_scheme (scheme_of s.0))
 steps-length schemes (kernel k e) new s = ap length s.2 ∙ append-length schemes scheme_out_of_scope
 
@@ -236,7 +319,13 @@ pub record AtEnd (p : PureProgram) (schemes new : List TopScheme) (i : ℕ) : Ty
   pub shown : new ≡ revealed p.items schemes
   pub index : i ≡ length p.items
 
-pub at-end : (p : PureProgram) (k i : ℕ) (schemes new : List TopScheme) → k ≡ length p.items → k ≤ i → i ≤ k → Progress p i schemes → new ≡ revealed_to k p.items schemes → AtEnd p schemes new i
+pub at-end : (p : PureProgram) (k i : ℕ) (schemes new : List TopScheme) → k ≡ length p.items → k ≤ i → i ≤ k
+    → Progress p i schemes → new ≡ revealed_to k p.items schemes → AtEnd p schemes new i
 at-end p k i schemes new e a b h r =
     let n : i ≡ length p.items = omega (arith, e, a, b) in
-    record { progress = subst (λ j. Progress p j schemes) n h; shown = r ∙ ap (λ j. revealed_to j p.items schemes) e ∙ all-revealed p.items schemes; index = n }
+    record {
+      progress = subst (λ j. Progress p j schemes) n h;
+      shown = r ∙ ap (λ j. revealed_to j p.items schemes) e
+          ∙ all-revealed p.items schemes;
+      index = n;
+    }

@@ -44,18 +44,23 @@ pub data TypeFault : Type 0 where
   too_big : TypeFault
   not_closed : (at : ℕ) → TypeFault
 
--- With the schemes of its names, a term at a place has the fault: the first front of its equations that has no solution or
--- is too big decides, and where there is none the first close that is not fresh on a most general solution.
+-- With the schemes of its names, a term at a place has the fault: the first front of its equations that has no solution
+-- or is too big decides, and where there is none the first close that is not fresh on a most general solution.
 pub data HasFault (schemes : List TopScheme) (place : Place) (e : Expression) : TypeFault → Type 0 where
-  unsolvable : {k : ℕ} → FirstUnsolvable (item_unknowns schemes e) (item_classifiers schemes e) (item_equations schemes place e) k → HasFault schemes place e ill_typed
-  oversized : {k : ℕ} → FirstTooBig (item_unknowns schemes e) (item_classifiers schemes e) (item_equations schemes place e) k → HasFault schemes place e too_big
-  unclosed : {s : Substitution} {y : Close} → MostGeneral (item_unknowns schemes e) (item_classifiers schemes e) (item_equations schemes place e) s → IsSmall (item_unknowns schemes e) s → IsFirstOpen s (item_closes schemes e) y → HasFault schemes place e (not_closed y.at)
+  unsolvable : {k : ℕ} → FirstUnsolvable (item_unknowns schemes e) (item_classifiers schemes e)
+      (item_equations schemes place e) k → HasFault schemes place e ill_typed
+  oversized : {k : ℕ} → FirstTooBig (item_unknowns schemes e) (item_classifiers schemes e)
+      (item_equations schemes place e) k → HasFault schemes place e too_big
+  unclosed : {s : Substitution} {y : Close} → MostGeneral (item_unknowns schemes e) (item_classifiers schemes e)
+      (item_equations schemes place e) s → IsSmall (item_unknowns schemes e) s → IsFirstOpen s (item_closes schemes e) y
+      → HasFault schemes place e (not_closed y.at)
 
 -- the part has a type that its place asks, and no type of its equations is too big
 pub record IsFaultless (x : Part) : Type 0 where
   pub schemes : List TopScheme
   pub principal : ArePrincipal x.names schemes
-  pub fine : Fine (item_unknowns schemes x.term) (item_classifiers schemes x.term) (item_equations schemes x.place x.term)
+  pub fine : Fine (item_unknowns schemes x.term) (item_classifiers schemes x.term)
+      (item_equations schemes x.place x.term)
   pub typable : IsTypableAt x.names x.place x.term
 
 -- the refusal for a fault of the part at an index
@@ -82,18 +87,22 @@ AreFaultless p = (i : ℕ) (x : Part) → IsPart p i x → IsFaultless x
 
 -- no front of a part's equations is too big
 abbrev pub NoneTooBig : PureProgram → Type 0
-NoneTooBig p = (i : ℕ) (x : Part) (schemes : List TopScheme) (k : ℕ) → IsPart p i x → ArePrincipal x.names schemes → TooBig (item_unknowns schemes x.term) (item_classifiers schemes x.term) (take k (item_equations schemes x.place x.term)) → ⊥
+NoneTooBig p = (i : ℕ) (x : Part) (schemes : List TopScheme) (k : ℕ) → IsPart p i x → ArePrincipal x.names schemes
+    → TooBig (item_unknowns schemes x.term) (item_classifiers schemes x.term)
+    (take k (item_equations schemes x.place x.term)) → ⊥
 
 -- each kernel item's type has at most 10,000 nodes
 abbrev pub HasSmallKernels : PureProgram → Type 0
-HasSmallKernels p = (i : ℕ) (k : KernelType) (e : Expression) → slice_get p.items i ≡ Some (kernel k e) → kernel_nodes k ≤ 10000
+HasSmallKernels p = (i : ℕ) (k : KernelType) (e : Expression) → slice_get p.items i ≡ Some (kernel k e) → kernel_nodes k
+    ≤ 10000
 
 -- a program as it comes from a source: its lets are syntactic values, and no value was put into its terms
 pub record IsWritten (p : PureProgram) : Type 0 where
   pub values : (i : ℕ) (e : Expression) → slice_get p.items i ≡ Some (value e) → IsSyntacticValue e
   pub sources : (i : ℕ) (x : Part) → IsPart p i x → IsSource x.term
 
--- the most general type of a part: a let's types are exactly its instances, and of another part it is what its place asks
+-- the most general type of a part: a let's types are exactly its instances, and of another part it is what its place
+-- asks
 abbrev pub IsTypeOf : Part → Place → TypeExpression → Type 0
 IsTypeOf x let_place t = (u : TermType) → Typed x.names [] live x.term u ↔ IsInstance t u
 IsTypeOf x (kernel_place k) t = t ≡ closed_ty (kernel_expression k)

@@ -29,11 +29,13 @@ pub record Adds (old new : Output) (n m : ℕ) (es : List TypeEquation) (xs : Li
 
 -- those of a term
 abbrev pub AddsTerm : Output → Output → List TopScheme → ℕ → List Slot → Level → Expression → Type 0
-AddsTerm old new tops u g m e = Adds old new (unknowns_of tops e) (classifiers_of tops e) (equations tops u old.unknowns old.classifiers g m e) (closes tops old.unknowns old.classifiers g m e)
+AddsTerm old new tops u g m e = Adds old new (unknowns_of tops e) (classifiers_of tops e)
+    (equations tops u old.unknowns old.classifiers g m e) (closes tops old.unknowns old.classifiers g m e)
 
 -- those of a top-level name of level 0, whose type is u
 abbrev pub AddsName : Output → Output → ℕ → Option TopScheme → Type 0
-AddsName old new u s = Adds old new (unknowns_of_name s) (classifiers_of_name s) (name_equations u old.unknowns old.classifiers live s) []
+AddsName old new u s = Adds old new (unknowns_of_name s) (classifiers_of_name s)
+    (name_equations u old.unknowns old.classifiers live s) []
 
 -- there are numbers for so many more
 pub record HasRoom (old : Output) (n m : ℕ) : Type 0 where

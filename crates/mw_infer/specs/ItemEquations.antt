@@ -97,7 +97,8 @@ classifiers_of tops (done v) = 0
 -- a variable, whose type is u: its binder's type, and at level 1 its binder's classifier
 abbrev pub variable_equations : ℕ → Level → Option Slot → List TypeEquation
 variable_equations u live (Some (plain_slot x)) = equation (unknown u) (unknown x) ∷ []
-variable_equations u (under a) (Some (quoted_slot b x)) = equation (unknown u) (unknown x) ∷ equation (code_ty a int_ty) (code_ty b int_ty) ∷ []
+variable_equations u (under a) (Some (quoted_slot b x)) = equation (unknown u) (unknown x) ∷ equation (code_ty a int_ty)
+    (code_ty b int_ty) ∷ []
 variable_equations u live (Some (quoted_slot b x)) = wrong
 variable_equations u (under a) (Some (plain_slot x)) = wrong
 variable_equations u live None = wrong
@@ -117,7 +118,8 @@ abbrev pub function_equations : ℕ → ℕ → List TypeEquation
 function_equations u o = equation (unknown u) (function_ty (unknown o) (unknown (o + 1))) ∷ []
 
 abbrev pub recursion_equations : ℕ → ℕ → List TypeEquation
-recursion_equations u o = equation (unknown (o + 1)) (function_ty (unknown o) (unknown (o + 2))) ∷ equation (unknown u) (unknown (o + 1)) ∷ []
+recursion_equations u o = equation (unknown (o + 1)) (function_ty (unknown o) (unknown (o + 2))) ∷ equation (unknown u)
+    (unknown (o + 1)) ∷ []
 
 abbrev pub application_equations : ℕ → ℕ → List TypeEquation
 application_equations u o = equation (unknown o) (function_ty (unknown (o + 1)) (unknown u)) ∷ []
@@ -126,7 +128,8 @@ abbrev pub let_equations : ℕ → ℕ → List TypeEquation
 let_equations u o = equation (unknown o) (unknown (o + 1)) ∷ equation (unknown u) (unknown (o + 2)) ∷ []
 
 abbrev pub condition_equations : ℕ → ℕ → List TypeEquation
-condition_equations u o = equation (unknown o) bool_ty ∷ equation (unknown (o + 1)) (unknown u) ∷ equation (unknown (o + 2)) (unknown u) ∷ []
+condition_equations u o = equation (unknown o) bool_ty ∷ equation (unknown (o + 1)) (unknown u)
+    ∷ equation (unknown (o + 2)) (unknown u) ∷ []
 
 abbrev pub pair_equations : ℕ → ℕ → List TypeEquation
 pair_equations u o = equation (unknown u) (pair_ty (unknown o) (unknown (o + 1))) ∷ []
@@ -138,7 +141,8 @@ abbrev pub second_equations : ℕ → ℕ → List TypeEquation
 second_equations u o = equation (unknown (o + 1)) (pair_ty (unknown o) (unknown u)) ∷ []
 
 abbrev pub primitive_equations : ℕ → ℕ → Prim → List TypeEquation
-primitive_equations u o p = equation (unknown o) int_ty ∷ equation (unknown (o + 1)) int_ty ∷ equation (unknown u) (primitive_expression p) ∷ []
+primitive_equations u o p = equation (unknown o) int_ty ∷ equation (unknown (o + 1)) int_ty ∷ equation (unknown u)
+    (primitive_expression p) ∷ []
 
 abbrev pub bracket_equations : ℕ → ℕ → ℕ → List TypeEquation
 bracket_equations u o c = equation (unknown u) (code_ty c (unknown o)) ∷ []
@@ -148,17 +152,21 @@ abbrev pub escape_equations : ℕ → ℕ → ℕ → List TypeEquation
 escape_equations u o a = equation (unknown o) (code_ty a (unknown u)) ∷ []
 
 abbrev pub run_equations : ℕ → ℕ → KernelType → List TypeEquation
-run_equations u o k = equation (unknown o) (closed_ty (kernel_expression k)) ∷ equation (unknown u) (kernel_expression k) ∷ []
+run_equations u o k = equation (unknown o) (closed_ty (kernel_expression k)) ∷ equation (unknown u)
+    (kernel_expression k) ∷ []
 
 abbrev pub close_equations : ℕ → ℕ → ℕ → List TypeEquation
-close_equations u o c = equation (unknown (o + 1)) (code_ty c (unknown o)) ∷ equation (unknown u) (closed_ty (unknown o)) ∷ []
+close_equations u o c = equation (unknown (o + 1)) (code_ty c (unknown o)) ∷ equation (unknown u)
+    (closed_ty (unknown o)) ∷ []
 
 abbrev pub open_equations : ℕ → ℕ → ℕ → List TypeEquation
-open_equations u o c = equation (unknown (o + 1)) (closed_ty (unknown o)) ∷ equation (unknown u) (code_ty c (unknown o)) ∷ []
+open_equations u o c = equation (unknown (o + 1)) (closed_ty (unknown o)) ∷ equation (unknown u) (code_ty c (unknown o))
+    ∷ []
 
 -- of a lift at a base type
 abbrev pub lift_equations : ℕ → ℕ → ℕ → Base → List TypeEquation
-lift_equations u o c b = equation (unknown o) (base_expression b) ∷ equation (unknown u) (code_ty c (base_expression b)) ∷ []
+lift_equations u o c b = equation (unknown o) (base_expression b) ∷ equation (unknown u) (code_ty c (base_expression b))
+    ∷ []
 
 -- The equations of a term in an environment, at a level: u is its type's unknown, and o and c are the next free numbers
 -- of unknowns and of classifier unknowns.
@@ -168,14 +176,26 @@ equations tops u o c g m (truth b) = equation (unknown u) bool_ty ∷ []
 equations tops u o c g m (var i) = variable_equations u m (slice_get g i)
 equations tops u o c g m (glob i) = name_equations u o c m (slice_get tops i)
 equations tops u o c g m (fun e) = function_equations u o ++ equations tops (o + 1) (o + 2) c (slot m o ∷ g) m e
-equations tops u o c g m (fix e) = recursion_equations u o ++ equations tops (o + 2) (o + 3) c (slot m o ∷ slot m (o + 1) ∷ g) m e
-equations tops u o c g m (app f a) = application_equations u o ++ (equations tops o (o + 2) c g m f ++ equations tops (o + 1) (o + 2 + unknowns_of tops f) (c + classifiers_of tops f) g m a)
-equations tops u o c g m (bind d e) = let_equations u o ++ (equations tops (o + 1) (o + 3) c g m d ++ equations tops (o + 2) (o + 3 + unknowns_of tops d) (c + classifiers_of tops d) (slot m o ∷ g) m e)
-equations tops u o c g m (cond p a b) = condition_equations u o ++ ((equations tops o (o + 3) c g m p ++ equations tops (o + 1) (o + 3 + unknowns_of tops p) (c + classifiers_of tops p) g m a) ++ equations tops (o + 2) (o + 3 + unknowns_of tops p + unknowns_of tops a) (c + classifiers_of tops p + classifiers_of tops a) g m b)
-equations tops u o c g m (pair a b) = pair_equations u o ++ (equations tops o (o + 2) c g m a ++ equations tops (o + 1) (o + 2 + unknowns_of tops a) (c + classifiers_of tops a) g m b)
+equations tops u o c g m (fix e) = recursion_equations u o ++ equations tops (o + 2) (o + 3) c
+    (slot m o ∷ slot m (o + 1) ∷ g) m e
+equations tops u o c g m (app f a) = application_equations u o
+    ++ (equations tops o (o + 2) c g m f ++ equations tops (o + 1) (o + 2 + unknowns_of tops f)
+    (c + classifiers_of tops f) g m a)
+equations tops u o c g m (bind d e) = let_equations u o
+    ++ (equations tops (o + 1) (o + 3) c g m d ++ equations tops (o + 2) (o + 3 + unknowns_of tops d)
+    (c + classifiers_of tops d) (slot m o ∷ g) m e)
+equations tops u o c g m (cond p a b) = condition_equations u o
+    ++ ((equations tops o (o + 3) c g m p ++ equations tops (o + 1) (o + 3 + unknowns_of tops p)
+    (c + classifiers_of tops p) g m a) ++ equations tops (o + 2) (o + 3 + unknowns_of tops p + unknowns_of tops a)
+    (c + classifiers_of tops p + classifiers_of tops a) g m b)
+equations tops u o c g m (pair a b) = pair_equations u o
+    ++ (equations tops o (o + 2) c g m a ++ equations tops (o + 1) (o + 2 + unknowns_of tops a)
+    (c + classifiers_of tops a) g m b)
 equations tops u o c g m (fst e) = first_equations u o ++ equations tops (o + 1) (o + 2) c g m e
 equations tops u o c g m (snd e) = second_equations u o ++ equations tops (o + 1) (o + 2) c g m e
-equations tops u o c g m (prim p a b) = primitive_equations u o p ++ (equations tops o (o + 2) c g m a ++ equations tops (o + 1) (o + 2 + unknowns_of tops a) (c + classifiers_of tops a) g m b)
+equations tops u o c g m (prim p a b) = primitive_equations u o p
+    ++ (equations tops o (o + 2) c g m a ++ equations tops (o + 1) (o + 2 + unknowns_of tops a)
+    (c + classifiers_of tops a) g m b)
 equations tops u o c g live (bracket e) = bracket_equations u o c ++ equations tops o (o + 1) (c + 1) g (under c) e
 equations tops u o c g (under a) (bracket e) = wrong
 equations tops u o c g live (escape e) = wrong
@@ -206,13 +226,20 @@ closes tops o c g m (var i) = []
 closes tops o c g m (glob i) = []
 closes tops o c g m (fun e) = closes tops (o + 2) c (slot m o ∷ g) m e
 closes tops o c g m (fix e) = closes tops (o + 3) c (slot m o ∷ slot m (o + 1) ∷ g) m e
-closes tops o c g m (app f a) = closes tops (o + 2) c g m f ++ closes tops (o + 2 + unknowns_of tops f) (c + classifiers_of tops f) g m a
-closes tops o c g m (bind d e) = closes tops (o + 3) c g m d ++ closes tops (o + 3 + unknowns_of tops d) (c + classifiers_of tops d) (slot m o ∷ g) m e
-closes tops o c g m (cond p a b) = (closes tops (o + 3) c g m p ++ closes tops (o + 3 + unknowns_of tops p) (c + classifiers_of tops p) g m a) ++ closes tops (o + 3 + unknowns_of tops p + unknowns_of tops a) (c + classifiers_of tops p + classifiers_of tops a) g m b
-closes tops o c g m (pair a b) = closes tops (o + 2) c g m a ++ closes tops (o + 2 + unknowns_of tops a) (c + classifiers_of tops a) g m b
+closes tops o c g m (app f a) = closes tops (o + 2) c g m f ++ closes tops (o + 2 + unknowns_of tops f)
+    (c + classifiers_of tops f) g m a
+closes tops o c g m (bind d e) = closes tops (o + 3) c g m d ++ closes tops (o + 3 + unknowns_of tops d)
+    (c + classifiers_of tops d) (slot m o ∷ g) m e
+closes tops o c g m (cond p a b) =
+    (closes tops (o + 3) c g m p ++ closes tops (o + 3 + unknowns_of tops p) (c + classifiers_of tops p) g m a)
+    ++ closes tops (o + 3 + unknowns_of tops p + unknowns_of tops a) (c + classifiers_of tops p + classifiers_of tops a)
+    g m b
+closes tops o c g m (pair a b) = closes tops (o + 2) c g m a ++ closes tops (o + 2 + unknowns_of tops a)
+    (c + classifiers_of tops a) g m b
 closes tops o c g m (fst e) = closes tops (o + 2) c g m e
 closes tops o c g m (snd e) = closes tops (o + 2) c g m e
-closes tops o c g m (prim p a b) = closes tops (o + 2) c g m a ++ closes tops (o + 2 + unknowns_of tops a) (c + classifiers_of tops a) g m b
+closes tops o c g m (prim p a b) = closes tops (o + 2) c g m a ++ closes tops (o + 2 + unknowns_of tops a)
+    (c + classifiers_of tops a) g m b
 closes tops o c g m (bracket e) = closes tops (o + 1) (c + 1) g (under c) e
 closes tops o c g m (escape e) = closes tops (o + 1) c g live e
 closes tops o c g m (run k e) = closes tops (o + 1) c g m e

@@ -48,10 +48,14 @@ pub record IsItemSolution (schemes : List TopScheme) (place : Place) (e : Expres
   pub within : StaysWithin (item_unknowns schemes e) (item_classifiers schemes e) s
 
 abbrev pub Judges : List TopScheme → Place → Expression → Verdict → Type 0
-Judges schemes place e (Fine l) = (s : Substitution) × IsItemSolution schemes place e s × AreFresh (after least s) (item_closes schemes e) × IsRenumbering (s.ty 0) (scheme_of l)
-Judges schemes place e IllTyped = (k : ℕ) × FirstUnsolvable (item_unknowns schemes e) (item_classifiers schemes e) (item_equations schemes place e) k
-Judges schemes place e TooBig = (k : ℕ) × FirstTooBig (item_unknowns schemes e) (item_classifiers schemes e) (item_equations schemes place e) k
-Judges schemes place e (NotClosed at) = (s : Substitution) × IsItemSolution schemes place e s × IsFirstOpenAt s (item_closes schemes e) at
+Judges schemes place e (Fine l) = (s : Substitution) × IsItemSolution schemes place e s
+    × AreFresh (after least s) (item_closes schemes e) × IsRenumbering (s.ty 0) (scheme_of l)
+Judges schemes place e IllTyped = (k : ℕ) × FirstUnsolvable (item_unknowns schemes e) (item_classifiers schemes e)
+    (item_equations schemes place e) k
+Judges schemes place e TooBig = (k : ℕ) × FirstTooBig (item_unknowns schemes e) (item_classifiers schemes e)
+    (item_equations schemes place e) k
+Judges schemes place e (NotClosed at) = (s : Substitution) × IsItemSolution schemes place e s
+    × IsFirstOpenAt s (item_closes schemes e) at
 
 -- what is emitted for an item
 pub record IsEmitted (schemes : List TopScheme) (place : Place) (e : Expression) (out : Output) : Type 0 where

@@ -17,7 +17,8 @@ number_in places u = slice_index_or places u none
 -- new numbers are below the count, and no two numbers have one
 pub record IsOrder (x : Numbering) : Type 0 where
   pub low : (u : ℕ) → number_in x.places.items u ≢ none → number_in x.places.items u < x.count
-  pub one : (u v : ℕ) → number_in x.places.items u ≢ none → number_in x.places.items u ≡ number_in x.places.items v → u ≡ v
+  pub one : (u v : ℕ) → number_in x.places.items u ≢ none → number_in x.places.items u ≡ number_in x.places.items v
+      → u ≡ v
 
 -- what was seen has the number that it had
 pub record Keeps (old new : Numbering) : Type 0 where

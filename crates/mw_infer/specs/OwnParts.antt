@@ -76,4 +76,5 @@ own_closes c g (close at e) = record { at = at; classifier = c; scope = g } ∷ 
 own_closes c g _ = []
 
 abbrev pub AddsOwn : Output → Output → List TopScheme → ℕ → List Slot → Level → Expression → Type 0
-AddsOwn old new tops u g m e = Adds old new (own_unknowns tops e) (own_classifiers tops e) (own_equations tops u old.unknowns old.classifiers g m e) (own_closes old.classifiers g e)
+AddsOwn old new tops u g m e = Adds old new (own_unknowns tops e) (own_classifiers tops e)
+    (own_equations tops u old.unknowns old.classifiers g m e) (own_closes old.classifiers g e)

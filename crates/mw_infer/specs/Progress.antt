@@ -38,8 +38,10 @@ IsFaultOfItem schemes d i r = IsFaultOf schemes (part_of_item [] d).place (part_
 
 -- after an item that is without fault there are these schemes
 abbrev pub Steps : List TopScheme → Definition → List TopScheme → Type 0
-Steps schemes (value e) new = (l : LetType) × Judges schemes let_place e (Fine l) × (new ≡ schemes ++ (let_scheme (scheme_of l) ∷ []))
-Steps schemes (kernel k e) new = (l : LetType) × Judges schemes (kernel_place k) e (Fine l) × (new ≡ schemes ++ (scheme_out_of_scope ∷ []))
+Steps schemes (value e) new = (l : LetType) × Judges schemes let_place e (Fine l)
+    × (new ≡ schemes ++ (let_scheme (scheme_of l) ∷ []))
+Steps schemes (kernel k e) new = (l : LetType) × Judges schemes (kernel_place k) e (Fine l)
+    × (new ≡ schemes ++ (scheme_out_of_scope ∷ []))
 
 -- the schemes with those of the kernel items among the first n
 abbrev pub revealed_to : ℕ → List Definition → List TopScheme → List TopScheme

@@ -43,8 +43,10 @@ pub fn emit(
     own: u64,
     out: &mut Output,
 ) -> Result<(), AllocError>
-    requires { CanEmit out.old (tops_of setting.now.names.now) (slots_of scope.now) (level_at level) (expression_of term.now) }
-    ensures { OnOk result (AddsTerm out.old out.new (tops_of setting.now.names.now) own (slots_of scope.now) (level_at level) (expression_of term.now)) }
+    requires { CanEmit out.old (tops_of setting.now.names.now) (slots_of scope.now) (level_at level)
+        (expression_of term.now) }
+    ensures { OnOk result (AddsTerm out.old out.new (tops_of setting.now.names.now) own (slots_of scope.now)
+        (level_at level) (expression_of term.now)) }
 {
     let o = out.unknowns;
     let classifier = out.classifiers;
@@ -94,8 +96,10 @@ fn emit_own(
     own: u64,
     out: &mut Output,
 ) -> Result<(), AllocError>
-    requires { CanEmit out.old (tops_of setting.now.names.now) (slots_of scope.now) (level_at level) (expression_of term.now) }
-    ensures { OnOk result (AddsOwn out.old out.new (tops_of setting.now.names.now) own (slots_of scope.now) (level_at level) (expression_of term.now)) }
+    requires { CanEmit out.old (tops_of setting.now.names.now) (slots_of scope.now) (level_at level)
+        (expression_of term.now) }
+    ensures { OnOk result (AddsOwn out.old out.new (tops_of setting.now.names.now) own (slots_of scope.now)
+        (level_at level) (expression_of term.now)) }
 {
     let alloc = setting.alloc;
     match term {
@@ -141,7 +145,8 @@ fn close(
     scope: &Scope,
 ) -> Result<(), AllocError>
     requires { HasRoom out.old 2 1 }
-    ensures { OnOk result (Adds out.old out.new 2 1 (close_equations own out.old.unknowns out.old.classifiers) (record { at = at; classifier = out.old.classifiers; scope = slots_of scope.now } ∷ [])) }
+    ensures { OnOk result (Adds out.old out.new 2 1 (close_equations own out.old.unknowns out.old.classifiers)
+        (record { at = at; classifier = out.old.classifiers; scope = slots_of scope.now } ∷ [])) }
 {
     let classifier = out.classifiers;
     own::close(alloc, out, own)?;
@@ -156,7 +161,8 @@ fn close_here(
     classifier: u64,
     scope: &Scope,
 ) -> Result<(), AllocError>
-    ensures { OnOk result (Adds out.old out.new 0 0 [] (record { at = at; classifier = classifier; scope = slots_of scope.now } ∷ [])) }
+    ensures { OnOk result
+        (Adds out.old out.new 0 0 [] (record { at = at; classifier = classifier; scope = slots_of scope.now } ∷ [])) }
 {
     let scope = listed(alloc, scope)?;
     out.closes.push(Spot {

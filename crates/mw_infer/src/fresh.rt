@@ -55,7 +55,8 @@ fn is_absent_from(scope: &[Binder], solved: &Solved, classifier: u64) -> bool
 /// The offset of the first `close` whose classifier stands in its environment.
 pub fn first_open(closes: &[Spot], solved: &Solved) -> Option<u32>
     requires { ClosesBelow (length solved.now.types) (length solved.now.classifiers) (closes_of closes.now) }
-    ensures { MatchOption result (AreFresh (least_of solved.now) (closes_of closes.now)) (IsFirstOpenAt (substitution_of solved.now) (closes_of closes.now)) }
+    ensures { MatchOption result (AreFresh (least_of solved.now) (closes_of closes.now))
+        (IsFirstOpenAt (substitution_of solved.now) (closes_of closes.now)) }
 {
     for spot in closes {
         let classifier = solved.classifier(spot.classifier);

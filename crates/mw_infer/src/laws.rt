@@ -20,8 +20,8 @@ pub fn typable_where_fresh()
     ensures { TypableWhereFresh }
 {}
 
-/// Where the closes of a let are fresh on a most general solution, the let's types are exactly the instances of the type
-/// that this solution gives it.
+/// Where the closes of a let are fresh on a most general solution, the let's types are exactly the instances of the
+/// type that this solution gives it.
 pub fn most_general_is_scheme()
     ensures { MostGeneralIsScheme }
 {}

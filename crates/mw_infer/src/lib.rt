@@ -31,8 +31,8 @@ pub use crate::typed::Typed;
 use mw_term::{Program, Stop};
 use std::alloc::Global;
 
-/// The most general types of a program's items and of main, where the program is typable and no type is too big; else its
-/// first refusal.
+/// The most general types of a program's items and of main, where the program is typable and no type is too big; else
+/// its first refusal.
 pub fn check(alloc: Global, program: &Program) -> Result<Typed, Stop>
     requires { IsResolved (program_of program.now) }
     ensures typable { IfOk result (λ _. Typable (program_of program.now)) }
@@ -40,7 +40,8 @@ pub fn check(alloc: Global, program: &Program) -> Result<Typed, Stop>
     ensures runs { IfOk result (λ _. HasSmallTypes (program_of program.now)) }
     ensures kernels { IfOk result (λ _. HasSmallKernels (program_of program.now)) }
     ensures types { IfOk result (λ typed. AreTypesOf (program_of program.now) (map type_of typed)) }
-    ensures only { Typable (program_of program.now) → NoneTooBig (program_of program.now) → AnswersOrMemory (λ typed. Unit {0}) result }
+    ensures only { Typable (program_of program.now) → NoneTooBig (program_of program.now)
+        → AnswersOrMemory (λ typed. Unit {0}) result }
     ensures refused { IfErr result (IfRefused (IsFirstRefusal (program_of program.now))) }
     ensures first { (r : Refusal) → IsFirstRefusal (program_of program.now) r → IsRefusalOrMemory result r }
 {

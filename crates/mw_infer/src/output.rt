@@ -9,7 +9,8 @@ use crate::scope::Binder;
 use mw_types::{Equation, Pairs, Ty};
 use std::alloc::AllocError;
 
-/// A `close`: its offset in the source, the classifier unknown of its code, and the binders in scope, the nearest first.
+/// A `close`: its offset in the source, the classifier unknown of its code, and the binders in scope, the nearest
+/// first.
 #[derive(Drop)]
 pub struct Spot {
     pub at: u32,

@@ -239,7 +239,8 @@ pub fn variable(
     level: Level,
     binder: Option<Binder>,
 ) -> Result<(), AllocError>
-    ensures { OnOk result (Adds out.old out.new 0 0 (variable_equations own (level_at level) (option_map slot_of binder)) []) }
+    ensures { OnOk result
+        (Adds out.old out.new 0 0 (variable_equations own (level_at level) (option_map slot_of binder)) []) }
 {
     match (level, binder) {
         (Level::Live, Some(Binder::Plain(x))) => equate(out, Ty::Unknown(own), Ty::Unknown(x)),

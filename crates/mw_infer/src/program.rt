@@ -32,7 +32,8 @@ fn judged(
     index: u32,
 ) -> Result<LetType, Stop>
     requires { CanJudge (tops_of names.now) (expression_of term.now) }
-    ensures fine { IfOk result (λ l. Judges (tops_of names.now) (place_of asked.now) (expression_of term.now) (Fine l)) }
+    ensures fine { IfOk result (λ l. Judges (tops_of names.now) (place_of asked.now) (expression_of term.now)
+        (Fine l)) }
     ensures refused { IfErr result (IfRefused (IsFaultOf (tops_of names.now) (place_of asked.now) (expression_of term.now) index)) }
 {
     match judge(alloc, names, asked, term)? {
@@ -67,7 +68,8 @@ fn step(alloc: Global, names: &mut Vec<TopScheme>, item: &Item, index: u32) -> R
 /// Shows main the kernel items.
 fn reveal<'p>(names: &mut Vec<TopScheme<'p>>, items: &'p [Item])
     requires { length names.old.items ≡ length items.now }
-    ensures { tops_of names.new.items ≡ revealed_to (length items.now) (map (λ item. definition_of item.kind) items.now) (tops_of names.old.items) }
+    ensures { tops_of names.new.items ≡ revealed_to (length items.now) (map (λ item. definition_of item.kind) items.now)
+        (tops_of names.old.items) }
 {
     for at in 0..items.len() {
         if let ItemKind::Kernel(kind, _) = &items[at].kind {
@@ -85,8 +87,10 @@ fn last(
     index: u32,
 ) -> Result<(), Stop>
     requires { CanJudge (tops_of names.now) (expression_of body.now) }
-    ensures fine { OnOk result ((l : LetType) × Judges (tops_of names.now) (main_place (ground_of ground.now)) (expression_of body.now) (Fine l)) }
-    ensures refused { IfErr result (IfRefused (IsFaultOf (tops_of names.now) (main_place (ground_of ground.now)) (expression_of body.now) index)) }
+    ensures fine { OnOk result ((l : LetType) × Judges (tops_of names.now) (main_place (ground_of ground.now))
+        (expression_of body.now) (Fine l)) }
+    ensures refused { IfErr result
+        (IfRefused (IsFaultOf (tops_of names.now) (main_place (ground_of ground.now)) (expression_of body.now) index)) }
 {
     let known = judged(alloc, names, &Asked::Main(ground), body, index)?;
     drop(known);
@@ -170,7 +174,8 @@ fn scheme_ty(alloc: Global, known: &TopScheme) -> Result<Ty, AllocError>
 
 /// The types of all items and of main.
 pub fn types_of(alloc: Global, names: &[TopScheme], ground: &Ground) -> Result<Vec<Ty>, AllocError>
-    ensures { IfOk result (λ types. map type_of types.items ≡ map type_of_scheme (tops_of names.now) ++ (ground_expression (ground_of ground.now) ∷ [])) }
+    ensures { IfOk result (λ types. map type_of types.items ≡ map type_of_scheme (tops_of names.now)
+        ++ (ground_expression (ground_of ground.now) ∷ [])) }
 {
     let mut types = Vec::new(alloc);
     for named in names {

@@ -26,14 +26,18 @@ more n m a b le g = record { same = g.same; at_most = at_most_more n m a le g.at
 itself : (n : ℕ) (a : Ended) → AtMost n a → Agree n a a
 itself n a h = record { same = refl; at_most = h }
 
-then_itself : (n : ℕ) (a : Ended) (go to : ℤ → ℕ → List ℤ → Ended) → AtMost n a → ((w : ℤ) (m : ℕ) (h : List ℤ) → m ≤ n → Agree n (go w m h) (to w m h)) → Agree n (and_then a go) (and_then a to)
+then_itself : (n : ℕ) (a : Ended) (go to : ℤ → ℕ → List ℤ → Ended) → AtMost n a
+    → ((w : ℤ) (m : ℕ) (h : List ℤ) → m ≤ n → Agree n (go w m h) (to w m h)) → Agree n (and_then a go) (and_then a to)
 then_itself n (gives w m h) go to p g = g w m h p
 then_itself n (stops y) go to p g = itself n (stops y) tt
 
-then_agree : (n : ℕ) (a b : Ended) (go to : ℤ → ℕ → List ℤ → Ended) → Agree n a b → ((w : ℤ) (m : ℕ) (h : List ℤ) → m ≤ n → Agree n (go w m h) (to w m h)) → Agree n (and_then a go) (and_then b to)
-then_agree n a b go to p g = subst (λ x. Agree n (and_then a go) (and_then x to)) p.same (then_itself n a go to p.at_most g)
+then_agree : (n : ℕ) (a b : Ended) (go to : ℤ → ℕ → List ℤ → Ended) → Agree n a b
+    → ((w : ℤ) (m : ℕ) (h : List ℤ) → m ≤ n → Agree n (go w m h) (to w m h)) → Agree n (and_then a go) (and_then b to)
+then_agree n a b go to p g = subst (λ x. Agree n (and_then a go) (and_then x to)) p.same
+    (then_itself n a go to p.at_most g)
 
-found_agree : {A : Type 0} (n : ℕ) (o : Option A) (go to : A → Ended) → ((x : A) → Agree n (go x) (to x)) → Agree n (found o go) (found o to)
+found_agree : {A : Type 0} (n : ℕ) (o : Option A) (go to : A → Ended) → ((x : A) → Agree n (go x) (to x))
+    → Agree n (found o go) (found o to)
 found_agree n None go to g = itself n _ tt
 found_agree n (Some x) go to g = g x
 
@@ -56,51 +60,79 @@ turn_agree : (n : ℕ) (b : Bool) (a c : Ended) → Agree n a c → Agree n (in_
 turn_agree n true a c g = g
 turn_agree n false a c g = itself n _ tt
 
-spending_agree : (n l : ℕ) → l ≤ n → (go to : ℕ → Ended) → ((k : ℕ) → k < n → Agree n (go k) (to k)) → Agree n (spending l go) (spending l to)
+spending_agree : (n l : ℕ) → l ≤ n → (go to : ℕ → Ended) → ((k : ℕ) → k < n → Agree n (go k) (to k))
+    → Agree n (spending l go) (spending l to)
 spending_agree n zero le go to g = itself n _ tt
 spending_agree n (suc l) le go to g = g l le
 
 module _ (t : List IrFunc) where
-  value_agree : (n : ℕ) (again again' : Evaluates) → ((l : ℕ) (h : List ℤ) (fr : Frame) (e : Ir) → l < n → Agree n (again l h fr e) (again' l h fr e)) → (e : Ir) (l : ℕ) (h : List ℤ) (fr : Frame) → l ≤ n → Agree n (value t again e l h fr) (value t again' e l h fr)
+  value_agree : (n : ℕ) (again again' : Evaluates)
+      → ((l : ℕ) (h : List ℤ) (fr : Frame) (e : Ir) → l < n → Agree n (again l h fr e) (again' l h fr e))
+      → (e : Ir) (l : ℕ) (h : List ℤ) (fr : Frame) → l ≤ n → Agree n (value t again e l h fr) (value t again' e l h fr)
   value_agree n again again' below (num z) l h fr le = itself n _ le
   value_agree n again again' below (truth z) l h fr le = itself n _ le
   value_agree n again again' below (get p) l h fr le = found_agree n (read h fr p) _ _ λ w. itself n _ le
-  value_agree n again again' below (closure k ps) l h fr le = found_agree n (read_all h fr ps) _ _ λ ws. itself n _ (room_at_most n (nat_le (length h + length (pos k ∷ ws)) 524288) _ le)
+  value_agree n again again' below (closure k ps) l h fr le = found_agree n (read_all h fr ps) _ _ λ ws.
+      itself n _ (room_at_most n (nat_le (length h + length (pos k ∷ ws)) 524288) _ le)
   value_agree n again again' below (app f a) l h fr le =
       then_agree n _ _ _ _ (value_agree n again again' below f l h fr le) λ u l h le.
       then_agree n _ _ _ _ (value_agree n again again' below a l h fr le) λ w l h le.
-      found_agree n (load h u 0) _ _ λ z. found_agree n (function_at t z) _ _ λ g. spending_agree n l le _ _ λ k lt. below k h (inside u w) g.body lt
-  value_agree n again again' below (bind s d e) l h fr le = turn_agree n (length fr.slots == s) _ _ (then_agree n _ _ _ _ (value_agree n again again' below d l h fr le) λ w l h le. value_agree n again again' below e l h (with_slot fr w) le)
+      found_agree n (load h u 0) _ _ λ z. found_agree n (function_at t z) _ _ λ g. spending_agree n l le _ _ λ k lt.
+      below k h (inside u w) g.body lt
+  value_agree n again again' below (bind s d e) l h fr le = turn_agree n (length fr.slots == s) _ _
+      (then_agree n _ _ _ _ (value_agree n again again' below d l h fr le) λ w l h le. value_agree n again again' below
+      e l h (with_slot fr w) le)
   value_agree n again again' below (cond c a b) l h fr le =
-      then_agree n _ _ _ _ (value_agree n again again' below c l h fr le) λ w l h le. chosen_agree n w _ _ _ _ (value_agree n again again' below a l h fr le) (value_agree n again again' below b l h fr le)
+      then_agree n _ _ _ _ (value_agree n again again' below c l h fr le) λ w l h le.
+      chosen_agree n w _ _ _ _ (value_agree n again again' below a l h fr le)
+      (value_agree n again again' below b l h fr le)
   value_agree n again again' below (pair a b) l h fr le =
       then_agree n _ _ _ _ (value_agree n again again' below a l h fr le) λ u l h le.
-      then_agree n _ _ _ _ (value_agree n again again' below b l h fr le) λ w l h le. itself n _ (room_at_most n (nat_le (length h + length (u ∷ w ∷ [])) 524288) _ le)
-  value_agree n again again' below (fst e) l h fr le = then_agree n _ _ _ _ (value_agree n again again' below e l h fr le) λ w l h le. found_agree n (load h w 0) _ _ λ u. itself n _ le
-  value_agree n again again' below (snd e) l h fr le = then_agree n _ _ _ _ (value_agree n again again' below e l h fr le) λ w l h le. found_agree n (load h w 1) _ _ λ u. itself n _ le
+      then_agree n _ _ _ _ (value_agree n again again' below b l h fr le) λ w l h le.
+      itself n _ (room_at_most n (nat_le (length h + length (u ∷ w ∷ [])) 524288) _ le)
+  value_agree n again again' below (fst e) l h fr le =
+      then_agree n _ _ _ _ (value_agree n again again' below e l h fr le) λ w l h le. found_agree n (load h w 0) _ _
+      λ u. itself n _ le
+  value_agree n again again' below (snd e) l h fr le =
+      then_agree n _ _ _ _ (value_agree n again again' below e l h fr le) λ w l h le. found_agree n (load h w 1) _ _
+      λ u. itself n _ le
   value_agree n again again' below (prim p a b) l h fr le =
       then_agree n _ _ _ _ (value_agree n again again' below a l h fr le) λ u l h le.
-      then_agree n _ _ _ _ (value_agree n again again' below b l h fr le) λ w l h le. itself n _ (result_at_most n l (compute p u w) h le)
+      then_agree n _ _ _ _ (value_agree n again again' below b l h fr le) λ w l h le.
+      itself n _ (result_at_most n l (compute p u w) h le)
 
-  calls_agree : (b c n : ℕ) (h : List ℤ) (fr : Frame) (e : Ir) → n < b → n < c → Agree n (calls t b n h fr e) (calls t c n h fr e)
+  calls_agree : (b c n : ℕ) (h : List ℤ) (fr : Frame) (e : Ir) → n < b → n < c
+      → Agree n (calls t b n h fr e) (calls t c n h fr e)
   calls_agree zero c n h fr e p q = absurd (omega arith)
   calls_agree (suc b) zero n h fr e p q = absurd (omega arith)
-  calls_agree (suc b) (suc c) n h fr e p q = value_agree n _ _ (λ l h fr e lt. more n l _ _ (omega arith) (calls_agree b c l h fr e (omega arith) (omega arith))) e n h fr (omega arith)
+  calls_agree (suc b) (suc c) n h fr e p q =
+      value_agree n _ _
+      (λ l h fr e lt. more n l _ _ (omega arith) (calls_agree b c l h fr e (omega arith) (omega arith))) e n h fr
+      (omega arith)
 
   -- a body within any bound that is enough
   calls_mean : (b n : ℕ) (h : List ℤ) (fr : Frame) (e : Ir) → n < b → Agree n (calls t b n h fr e) (means t n h fr e)
   unfolding means
   calls_mean zero n h fr e p = absurd (omega arith)
-  calls_mean (suc b) n h fr e p = value_agree n _ _ (λ l h fr e lt. more n l _ _ (omega arith) (calls_agree b n l h fr e (omega arith) lt)) e n h fr (omega arith)
+  calls_mean (suc b) n h fr e p =
+      value_agree n _ _ (λ l h fr e lt. more n l _ _ (omega arith) (calls_agree b n l h fr e (omega arith) lt)) e n h fr
+      (omega arith)
 
-  pub value_means : (b n : ℕ) (h : List ℤ) (fr : Frame) (e : Ir) → n ≤ b → Agree n (value t (λ n h fr e. calls t b n h fr e) e n h fr) (value t (means t) e n h fr)
-  value_means b n h fr e le = value_agree n _ _ (λ l h fr e lt. more n l _ _ (omega arith) (calls_mean b l h fr e (omega arith))) e n h fr (omega arith)
+  pub value_means : (b n : ℕ) (h : List ℤ) (fr : Frame) (e : Ir) → n ≤ b
+      → Agree n (value t (λ n h fr e. calls t b n h fr e) e n h fr) (value t (means t) e n h fr)
+  value_means b n h fr e le =
+      value_agree n _ _ (λ l h fr e lt. more n l _ _ (omega arith) (calls_mean b l h fr e (omega arith))) e n h fr
+      (omega arith)
 
   -- the meaning is one form of it over itself
   pub means-is : (n : ℕ) (h : List ℤ) (fr : Frame) (e : Ir) → means t n h fr e ≡ value t (means t) e n h fr
   unfolding means
-  means-is n h fr e = (value_agree n _ _ (λ l h fr e lt. more n l _ _ (omega arith) (calls_mean n l h fr e lt)) e n h fr (omega arith)).same
+  means-is n h fr e =
+      (value_agree n _ _ (λ l h fr e lt. more n l _ _ (omega arith) (calls_mean n l h fr e lt)) e n h fr
+      (omega arith)).same
 
   pub means_at_most : (n : ℕ) (h : List ℤ) (fr : Frame) (e : Ir) → AtMost n (means t n h fr e)
   unfolding means
-  means_at_most n h fr e = (value_agree n _ _ (λ l h fr e lt. more n l _ _ (omega arith) (calls_mean n l h fr e lt)) e n h fr (omega arith)).at_most
+  means_at_most n h fr e =
+      (value_agree n _ _ (λ l h fr e lt. more n l _ _ (omega arith) (calls_mean n l h fr e lt)) e n h fr
+      (omega arith)).at_most

@@ -1,4 +1,5 @@
--- The intermediate language: functions that are closed but for their closure's words, and its meaning over a heap of words.
+-- The intermediate language: functions that are closed but for their closure's words, and its meaning over a heap of
+-- words.
 use Rattle.std.specs.Prelude.{ℕ, zero, suc, ◌+◌, ◌*◌, ◌/◌, ◌%◌, nat_le, ◌==◌, ℤ, pos, negsuc, Bool, true, false, List}
 use Rattle.std.specs.Prelude.{[], ◌∷◌, ◌++◌, length, Option, Some, None, slice_get}
 use Rattle.mw_term.specs.declared.term.Primitive.{Primitive as Prim}
@@ -128,7 +129,8 @@ Evaluates = ℕ → List ℤ → Frame → Ir → Ended
 
 module _ (t : List IrFunc) where
   abbrev pub applied : ℤ → ℤ → (ℕ → List ℤ → Frame → Ir → Ended) → ℕ → List ℤ → Ended
-  applied u w again n h = found (load h u 0) λ i. found (function_at t i) λ f. spending n λ n. again n h (inside u w) f.body
+  applied u w again n h = found (load h u 0) λ i. found (function_at t i) λ f. spending n λ n.
+      again n h (inside u w) f.body
 
   -- the meaning, where again is the meaning of the functions' bodies
   abbrev pub value : Evaluates → Ir → ℕ → List ℤ → Frame → Ended
@@ -136,13 +138,18 @@ module _ (t : List IrFunc) where
   value again (truth b) n h fr = gives (word_of_truth b) n h
   value again (get p) n h fr = found (read h fr p) λ w. gives w n h
   value again (closure i ps) n h fr = found (read_all h fr ps) λ ws. allocate (pos i ∷ ws) h n
-  value again (app f a) n h fr = and_then (value again f n h fr) λ u n h. and_then (value again a n h fr) λ w n h. applied u w again n h
-  value again (bind s d e) n h fr = in_turn (length fr.slots == s) (and_then (value again d n h fr) λ w n h. value again e n h (with_slot fr w))
-  value again (cond c a b) n h fr = and_then (value again c n h fr) λ w n h. chosen w (value again a n h fr) (value again b n h fr)
-  value again (pair a b) n h fr = and_then (value again a n h fr) λ u n h. and_then (value again b n h fr) λ w n h. allocate (u ∷ w ∷ []) h n
+  value again (app f a) n h fr = and_then (value again f n h fr) λ u n h. and_then (value again a n h fr) λ w n h.
+      applied u w again n h
+  value again (bind s d e) n h fr =
+      in_turn (length fr.slots == s) (and_then (value again d n h fr) λ w n h. value again e n h (with_slot fr w))
+  value again (cond c a b) n h fr = and_then (value again c n h fr) λ w n h. chosen w (value again a n h fr)
+      (value again b n h fr)
+  value again (pair a b) n h fr = and_then (value again a n h fr) λ u n h. and_then (value again b n h fr) λ w n h.
+      allocate (u ∷ w ∷ []) h n
   value again (fst e) n h fr = and_then (value again e n h fr) λ w n h. found (load h w 0) λ u. gives u n h
   value again (snd e) n h fr = and_then (value again e n h fr) λ w n h. found (load h w 1) λ u. gives u n h
-  value again (prim p a b) n h fr = and_then (value again a n h fr) λ u n h. and_then (value again b n h fr) λ w n h. result_of (compute p u w) n h
+  value again (prim p a b) n h fr = and_then (value again a n h fr) λ u n h. and_then (value again b n h fr) λ w n h.
+      result_of (compute p u w) n h
 
   -- what the bodies mean with fewer than b units
   abbrev pub calls : ℕ → Evaluates

@@ -57,8 +57,8 @@ abbrev pub HasFree : ℕ → Option IrFunc → Type 0
 HasFree k None = ⊥
 HasFree k (Some f) = f.free ≡ k
 
--- Code over the functions t, whose places all have P and whose slots are below the number of them. Its literals have 64 bits,
--- and a closure is of a function of t and has as many places as that has free variables.
+-- Code over the functions t, whose places all have P and whose slots are below the number of them. Its literals have 64
+-- bits, and a closure is of a function of t and has as many places as that has free variables.
 abbrev pub IsInRange : List IrFunc → (Place → Type 0) → ℕ → Ir → Type 0
 IsInRange t P slots (num n) = FitsSigned w64 n
 IsInRange t P slots (truth b) = Unit {0}

@@ -11,7 +11,8 @@ use Rattle.mw_keeping.specs.KeptFiles.{HasNoRoom, IsKeptFile, HasGoodFront, fitt
 use Rattle.mw_keeping.proofs.Fitting.{fits, fitting_rise, fitting_among, fitting_or_next}
 
 -- the records that count are a front of the bytes
-records_within : (past : ℕ) (bytes : List ℕ) (rs : List Kept) → Counts past bytes rs → length (file_of rs) ≤ length bytes
+records_within : (past : ℕ) (bytes : List ℕ) (rs : List Kept) → Counts past bytes rs → length (file_of rs)
+    ≤ length bytes
 records_within past bytes [] h = omega arith
 records_within past bytes (r ∷ rs) h =
     let rest = records_within (past + length (record_bytes r)) h.2.0 rs h.2.2 in

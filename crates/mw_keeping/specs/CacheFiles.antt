@@ -13,8 +13,8 @@ pub record IsReadFile (held : List ℕ) (count : ℕ) (load : LoadState) : Type 
   pub count_is : count ≡ length (take file_limit held)
   pub is_load : IsLoadOf held load
 
--- a file is there exactly where it has a name; where it was read, and the keeper tells, what counts of it was loaded, and
--- else nothing was
+-- a file is there exactly where it has a name; where it was read, and the keeper tells, what counts of it was loaded,
+-- and else nothing was
 abbrev pub IsOpened : Bool → List ℕ → Option (Bor (List ℕ)) → CacheFile → LoadState → Type 0
 IsOpened tells held None Absent load = load ≡ record { records = []; good = 0 }
 IsOpened tells held (Some path) Unread load = load ≡ record { records = []; good = 0 }

@@ -10,8 +10,8 @@ use Rattle.mw_store.specs.Loads.{LoadState, IsLoadOf, file_limit}
 use Rattle.mw_compile.specs.Emission.{IsEmissionOf}
 use Rattle.mw_cache.specs.Gots.{IsLoadedText}
 
--- Records behind those that were loaded: their texts rise in the order of bytes, none of them was loaded, each module is
--- the emission of its text, and all of them end within the limit.
+-- Records behind those that were loaded: their texts rise in the order of bytes, none of them was loaded, each module
+-- is the emission of its text, and all of them end within the limit.
 pub record AreKept (load : LoadState) (ks : List Kept) : Type 0 where
   pub rise : IsStrictlySortedBy (slice_cmp nat_cmp) (map (λ k. k.text) ks)
   pub unloaded : (k : Kept) → Contains ks k → IsLoadedText load k.text → ⊥

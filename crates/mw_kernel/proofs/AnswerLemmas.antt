@@ -43,7 +43,8 @@ other_is_stray P traps.WrongType st h = tt
 
 -- the answer of an outcome at a ground type is how the invocation ends
 module _ (t : GroundType) (after : Store) where
-  at_word : (answer : Result Ran RunFault) (n units : ℕ) → IsAnswerOf answer (outcome.Word n units) t after.memory → IsCallOf answer t (ended after (I64 n ∷ []) units)
+  at_word : (answer : Result Ran RunFault) (n units : ℕ) → IsAnswerOf answer (outcome.Word n units) t after.memory
+      → IsCallOf answer t (ended after (I64 n ∷ []) units)
   at_word (Ok (ran.Value v left)) n units a = a
   at_word (Ok (ran.Function i left)) n units a = absurd a
   at_word (Ok (ran.Trap k)) n units a = absurd a
@@ -51,7 +52,8 @@ module _ (t : GroundType) (after : Store) where
   at_word (Err fault.Bad) n units a = a
   at_word (Err (fault.Memory e)) n units a = tt
 
-  at_divide : (answer : Result Ran RunFault) → IsAnswerOf answer (outcome.Trap kind.Divide) t after.memory → IsCallOf answer t (trapped traps.Divide after)
+  at_divide : (answer : Result Ran RunFault) → IsAnswerOf answer (outcome.Trap kind.Divide) t after.memory
+      → IsCallOf answer t (trapped traps.Divide after)
   at_divide (Ok (ran.Trap kind.Divide)) a = tt
   at_divide (Ok (ran.Trap kind.Overflow)) a = absurd (cc)
   at_divide (Ok (ran.Value v left)) a = absurd a
@@ -60,7 +62,8 @@ module _ (t : GroundType) (after : Store) where
   at_divide (Err fault.Bad) a = absurd a
   at_divide (Err (fault.Memory e)) a = tt
 
-  at_overflow : (answer : Result Ran RunFault) → IsAnswerOf answer (outcome.Trap kind.Overflow) t after.memory → IsCallOf answer t (trapped traps.Overflow after)
+  at_overflow : (answer : Result Ran RunFault) → IsAnswerOf answer (outcome.Trap kind.Overflow) t after.memory
+      → IsCallOf answer t (trapped traps.Overflow after)
   at_overflow (Ok (ran.Trap kind.Overflow)) a = tt
   at_overflow (Ok (ran.Trap kind.Divide)) a = absurd (cc)
   at_overflow (Ok (ran.Value v left)) a = absurd a
@@ -69,7 +72,8 @@ module _ (t : GroundType) (after : Store) where
   at_overflow (Err fault.Bad) a = absurd a
   at_overflow (Err (fault.Memory e)) a = tt
 
-  at_heap : (answer : Result Ran RunFault) → IsAnswerOf answer (outcome.Bound Heap) t after.memory → IsCallOf answer t (trapped traps.OutOfBounds after)
+  at_heap : (answer : Result Ran RunFault) → IsAnswerOf answer (outcome.Bound Heap) t after.memory
+      → IsCallOf answer t (trapped traps.OutOfBounds after)
   at_heap (Ok (ran.Bound Heap)) a = tt
   at_heap (Ok (ran.Bound Fuel)) a = absurd (cc)
   at_heap (Ok (ran.Bound KernelSize)) a = absurd (cc)
@@ -79,7 +83,8 @@ module _ (t : GroundType) (after : Store) where
   at_heap (Err fault.Bad) a = absurd a
   at_heap (Err (fault.Memory e)) a = tt
 
-  at_spent : (answer : Result Ran RunFault) → IsAnswerOf answer (outcome.Bound Fuel) t after.memory → IsCallOf answer t spent
+  at_spent : (answer : Result Ran RunFault) → IsAnswerOf answer (outcome.Bound Fuel) t after.memory
+      → IsCallOf answer t spent
   at_spent (Ok (ran.Bound Fuel)) a = tt
   at_spent (Ok (ran.Bound Heap)) a = absurd (cc)
   at_spent (Ok (ran.Bound KernelSize)) a = absurd (cc)
@@ -89,7 +94,8 @@ module _ (t : GroundType) (after : Store) where
   at_spent (Err fault.Bad) a = absurd a
   at_spent (Err (fault.Memory e)) a = tt
 
-  at_stray : (answer : Result Ran RunFault) (u : Trap) → IsAnswerOf answer outcome.Stray t after.memory → IsOtherTrap u → IsCallOf answer t (trapped u after)
+  at_stray : (answer : Result Ran RunFault) (u : Trap) → IsAnswerOf answer outcome.Stray t after.memory → IsOtherTrap u
+      → IsCallOf answer t (trapped u after)
   at_stray (Ok (ran.Value v left)) u a h = absurd a
   at_stray (Ok (ran.Function i left)) u a h = absurd a
   at_stray (Ok (ran.Trap k)) u a h = absurd a
@@ -97,16 +103,20 @@ module _ (t : GroundType) (after : Store) where
   at_stray (Err fault.Bad) u a h = other_is_stray (IsWordOf t) u after h
   at_stray (Err (fault.Memory e)) u a h = tt
 
-  pub answer_is_call : (answer : Result Ran RunFault) (o : Outcome) (e : End) → IsAnswerOf answer o t after.memory → EndsAsOutcome o after e → IsCallOf answer t e
-  answer_is_call answer (outcome.Word n units) e a x = subst (λ e. IsCallOf answer t e) (sym x) (at_word answer n units a)
+  pub answer_is_call : (answer : Result Ran RunFault) (o : Outcome) (e : End) → IsAnswerOf answer o t after.memory
+      → EndsAsOutcome o after e → IsCallOf answer t e
+  answer_is_call answer (outcome.Word n units) e a x = subst (λ e. IsCallOf answer t e) (sym x)
+      (at_word answer n units a)
   answer_is_call answer (outcome.Trap kind.Divide) e a x = subst (λ e. IsCallOf answer t e) (sym x) (at_divide answer a)
-  answer_is_call answer (outcome.Trap kind.Overflow) e a x = subst (λ e. IsCallOf answer t e) (sym x) (at_overflow answer a)
+  answer_is_call answer (outcome.Trap kind.Overflow) e a x = subst (λ e. IsCallOf answer t e) (sym x)
+      (at_overflow answer a)
   answer_is_call answer (outcome.Bound Heap) e a x = subst (λ e. IsCallOf answer t e) (sym x) (at_heap answer a)
   answer_is_call answer (outcome.Bound Fuel) e a x = subst (λ e. IsCallOf answer t e) (sym x) (at_spent answer a)
   answer_is_call answer (outcome.Bound KernelSize) e a x = absurd x
   answer_is_call answer outcome.Stray e a x = subst (λ e. IsCallOf answer t e) (sym x.2) (at_stray answer x.0 a x.1)
 
-  pub answer_is_no_function : (answer : Result Ran RunFault) (o : Outcome) → IsAnswerOf answer o t after.memory → IsNoFunction answer
+  pub answer_is_no_function : (answer : Result Ran RunFault) (o : Outcome) → IsAnswerOf answer o t after.memory
+      → IsNoFunction answer
   answer_is_no_function (Ok (ran.Value v left)) o a = tt
   answer_is_no_function (Ok (ran.Trap k)) o a = tt
   answer_is_no_function (Ok (ran.Bound l)) o a = tt
@@ -117,7 +127,8 @@ module _ (t : GroundType) (after : Store) where
   answer_is_no_function (Err f) o a = tt
 
   -- and of a run of a kernel of the type
-  begun_as : (wasm : Module) (r : Result Ran RunFault) (b : Result Began RunFault) (e : End) → IsCallOf r t e → IsBegunAnswer r b → IsStartOf b wasm (of_ground t) e
+  begun_as : (wasm : Module) (r : Result Ran RunFault) (b : Result Began RunFault) (e : End) → IsCallOf r t e
+      → IsBegunAnswer r b → IsStartOf b wasm (of_ground t) e
   begun_as wasm (Ok (ran.Value v left)) (Ok (began.Value w units)) e a h = rw (h.0, h.1) a
   begun_as wasm (Ok (ran.Trap k)) (Ok (began.Trap j)) e a h = rw h a
   begun_as wasm (Ok (ran.Bound l)) (Ok (began.Bound b)) e a h = rw h a
@@ -140,25 +151,31 @@ module _ (t : GroundType) (after : Store) where
   begun_as wasm (Ok (ran.Bound k)) (Err w) e a h = absurd h
   begun_as wasm (Err f) (Ok b) e a h = absurd h
 
-  pub ground_start : (wasm : Module) (r : Result Ran RunFault) (b : Result Began RunFault) (o : Outcome) (e : End) → IsAnswerOf r o t after.memory → IsBegunAnswer r b → EndsAsOutcome o after e → IsStartOf b wasm (of_ground t) e
+  pub ground_start : (wasm : Module) (r : Result Ran RunFault) (b : Result Began RunFault) (o : Outcome) (e : End)
+      → IsAnswerOf r o t after.memory → IsBegunAnswer r b → EndsAsOutcome o after e → IsStartOf b wasm (of_ground t) e
   ground_start wasm r b o e a h x = begun_as wasm r b e (answer_is_call r o e a x) h
 
 -- a run of a kernel that gives a function
 module _ (wasm : Module) (s t : GroundType) (after : Store) where
-  pub function_start : (n units : ℕ) (r : _) (e : End) → IsKeptAs wasm after n s t r → EndsAsOutcome (outcome.Word n units) after e → IsStartOf (Ok (began.Function r units)) wasm (to s t) e
-  function_start n units r e h x = subst (λ e. IsStartOf (Ok (began.Function r units)) wasm (to s t) e) (sym x) (h, refl)
+  pub function_start : (n units : ℕ) (r : _) (e : End) → IsKeptAs wasm after n s t r
+      → EndsAsOutcome (outcome.Word n units) after e → IsStartOf (Ok (began.Function r units)) wasm (to s t) e
+  function_start n units r e h x = subst (λ e. IsStartOf (Ok (began.Function r units)) wasm (to s t) e) (sym x)
+      (h, refl)
 
-  pub trap_start : (k : _) (e : End) → EndsAsOutcome (outcome.Trap k) after e → IsStartOf (Ok (began.Trap k)) wasm (to s t) e
+  pub trap_start : (k : _) (e : End) → EndsAsOutcome (outcome.Trap k) after e → IsStartOf (Ok (began.Trap k)) wasm
+      (to s t) e
   trap_start kind.Divide e x = subst (λ e. IsStartOf (Ok (began.Trap kind.Divide)) wasm (to s t) e) (sym x) tt
   trap_start kind.Overflow e x = subst (λ e. IsStartOf (Ok (began.Trap kind.Overflow)) wasm (to s t) e) (sym x) tt
 
-  pub bound_start : (l : _) (e : End) → EndsAsOutcome (outcome.Bound l) after e → IsStartOf (Ok (began.Bound l)) wasm (to s t) e
+  pub bound_start : (l : _) (e : End) → EndsAsOutcome (outcome.Bound l) after e → IsStartOf (Ok (began.Bound l)) wasm
+      (to s t) e
   bound_start Heap e x = subst (λ e. IsStartOf (Ok (began.Bound Heap)) wasm (to s t) e) (sym x) tt
   bound_start Fuel e x = subst (λ e. IsStartOf (Ok (began.Bound Fuel)) wasm (to s t) e) (sym x) tt
   bound_start KernelSize e x = absurd x
 
   pub stray_start : (e : End) → EndsAsOutcome outcome.Stray after e → IsStartOf (Err fault.Bad) wasm (to s t) e
-  stray_start e x = subst (λ e. IsStartOf (Err fault.Bad) wasm (to s t) e) (sym x.2) (other_is_stray (IsWordOfKernel (to s t)) x.0 after x.1)
+  stray_start e x = subst (λ e. IsStartOf (Err fault.Bad) wasm (to s t) e) (sym x.2)
+      (other_is_stray (IsWordOfKernel (to s t)) x.0 after x.1)
 
 -- what a call leaves
 pub store_after : (o : Outcome) (after : Store) (e : End) → EndsAsOutcome o after e → IsStoreAfter e after
@@ -171,7 +188,8 @@ store_after (outcome.Bound KernelSize) after e x = absurd x
 store_after outcome.Stray after e x = rw x.2 refl
 
 -- where a module has an instance, it begins with the first store
-begins : (o p : Option ℕ) (st is : Store) → unless o element (unless p segment (Ok st)) ≡ Ok is → unless o element (unless p segment (Ok st)) ≡ Ok st
+begins : (o p : Option ℕ) (st is : Store) → unless o element (unless p segment (Ok st)) ≡ Ok is
+    → unless o element (unless p segment (Ok st)) ≡ Ok st
 begins None None st is e = refl
 begins None (Some k) st is e = absurd (cc)
 begins (Some k) p st is e = absurd (cc)
@@ -188,11 +206,17 @@ first_pages None h = omega arith
 first_pages (Some limits) h = omega arith
 
 pub first_is_store : (m : PureModule) → IsValid m → instantiated m ≡ Ok (first_store m) → IsStoreOf m (first_store m)
-first_is_store m valid e = record { typed = instances_are_typed m valid (first_store m) e; few = rw (segments_pages (first_memory m.memory) m.segments) (first_pages m.memory valid.memory) }
+first_is_store m valid e =
+    record {
+      typed = instances_are_typed m valid (first_store m) e;
+      few =
+          rw (segments_pages (first_memory m.memory) m.segments) (first_pages m.memory valid.memory);
+    }
 
 -- no more units are left than were given
 module _ (k units : ℕ) where
-  pub start_left : (answer : Result Began RunFault) (wasm : Module) (kind : KernelType) (e : End) → IsStartOf answer wasm kind e → Leaves k units e → StartLeavesAtMost answer units
+  pub start_left : (answer : Result Began RunFault) (wasm : Module) (kind : KernelType) (e : End)
+      → IsStartOf answer wasm kind e → Leaves k units e → StartLeavesAtMost answer units
   start_left (Ok (began.Value v left)) wasm (of_ground t) (ended st (I64 n ∷ []) l) a h = rw a.1 h.0
   start_left (Ok (began.Function r left)) wasm (to s t) (ended st (I64 n ∷ []) l) a h = rw a.1 h.0
   start_left (Ok (began.Trap t)) wasm k e a h = tt
@@ -201,7 +225,8 @@ module _ (k units : ℕ) where
   start_left (Ok (began.Value v left)) wasm _ _ a h = absurd a
   start_left (Ok (began.Function v left)) wasm _ _ a h = absurd a
 
-  pub call_left : (answer : Result Ran RunFault) (t : GroundType) (e : End) → IsCallOf answer t e → Leaves k units e → CallLeavesAtMost answer units
+  pub call_left : (answer : Result Ran RunFault) (t : GroundType) (e : End) → IsCallOf answer t e → Leaves k units e
+      → CallLeavesAtMost answer units
   call_left (Ok (ran.Value v left)) t (ended st (I64 n ∷ []) l) a h = rw a.1 h.0
   call_left (Ok (ran.Function r left)) t e a h = absurd a
   call_left (Ok (ran.Trap t)) k e a h = tt
@@ -210,7 +235,8 @@ module _ (k units : ℕ) where
   call_left (Ok (ran.Value v left)) _ _ a h = absurd a
 
 -- answers have their types
-pub start_type : (answer : Result Began RunFault) (wasm : Module) (kind : KernelType) (e : End) → IsStartOf answer wasm kind e → HasStartType answer kind
+pub start_type : (answer : Result Began RunFault) (wasm : Module) (kind : KernelType) (e : End)
+    → IsStartOf answer wasm kind e → HasStartType answer kind
 start_type (Ok (began.Value v left)) wasm (of_ground t) (ended st (I64 n ∷ []) l) a = a.0.has_type
 start_type (Ok (began.Function r left)) wasm (to s t) (ended st (I64 n ∷ []) l) a = (a.0.argument_is, a.0.result_is)
 start_type (Ok (began.Value v left)) wasm (to s t) e a = absurd a
@@ -221,7 +247,8 @@ start_type (Err f) wasm k e a = tt
 start_type (Ok (began.Value v left)) wasm (of_ground t) _ a = absurd a
 start_type (Ok (began.Function v left)) wasm (to s t) _ a = absurd a
 
-pub call_type_of : (answer : Result Ran RunFault) (t : GroundType) (e : End) → IsCallOf answer t e → HasCallType answer t
+pub call_type_of : (answer : Result Ran RunFault) (t : GroundType) (e : End) → IsCallOf answer t e
+    → HasCallType answer t
 call_type_of (Ok (ran.Value v left)) t (ended st (I64 n ∷ []) l) a = a.0.has_type
 call_type_of (Ok (ran.Function r left)) t e a = absurd a
 call_type_of (Ok (ran.Trap t)) k e a = tt

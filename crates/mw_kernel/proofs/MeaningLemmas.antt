@@ -52,9 +52,11 @@ same_truth false false n e f = refl
 same_truth true false n e f = absurd (omega arith)
 same_truth false true n e f = absurd (omega arith)
 
-same_value : (t : GroundType) (v : PureGroundValue) (w : KernelValue) (n : ℕ) (memory : Memory) → HasGroundType t v → IsArgument t (ground_value v) → Valued [] [] (unlabelled_value w) (ground_type t)
+same_value : (t : GroundType) (v : PureGroundValue) (w : KernelValue) (n : ℕ) (memory : Memory) → HasGroundType t v
+    → IsArgument t (ground_value v) → Valued [] [] (unlabelled_value w) (ground_type t)
     → IsWord (kernel_value v) n memory → IsWord w n memory → IsSameValue w v
-same_value (base Int) (int z) (int y) n memory h f p e g = sym (to_z-of_z w64 z f) ∙ ap (λ k. cast_signed w64 k) (sym e ∙ g)
+same_value (base Int) (int z) (int y) n memory h f p e g = sym (to_z-of_z w64 z f) ∙ ap (λ k. cast_signed w64 k)
+    (sym e ∙ g)
 same_value (base Int) (int z) (bool b) n memory h f p e g = elim p [ ]
 same_value (base Int) (int z) (both u x) n memory h f p e g = elim p [ ]
 same_value (base Int) (int z) (function x) n memory h f p e g = elim p [ ]
@@ -68,7 +70,8 @@ same_value (base Truth) (bool c) (function x) n memory h f p e g = elim p [ ]
 same_value (base Truth) (bool c) (recursive x) n memory h f p e g = elim p [ ]
 same_value (base Truth) (int z) w n memory h f p e g = absurd h
 same_value (base Truth) (both u x) w n memory h f p e g = absurd h
-same_value (product s t) (both v x) (both u w) n memory h f (v_pair p q) e g = (same_value s v u _ memory h.0 f.0 p e.1 g.1, same_value t x w _ memory h.1 f.1 q e.2 g.2)
+same_value (product s t) (both v x) (both u w) n memory h f (v_pair p q) e g =
+    (same_value s v u _ memory h.0 f.0 p e.1 g.1, same_value t x w _ memory h.1 f.1 q e.2 g.2)
 same_value (product s t) (both v x) (int y) n memory h f p e g = elim p [ ]
 same_value (product s t) (both v x) (bool b) n memory h f p e g = elim p [ ]
 same_value (product s t) (both v x) (function y) n memory h f p e g = elim p [ ]
@@ -84,7 +87,8 @@ pub record IsGiven (a : Ended) (n units : ℕ) (memory : Memory) : Type 0 where
   pub word : IsWord value n memory
 
 given : (a : Ended) (st : Store) (n units : ℕ) → AnswersAs a (ended st (I64 n ∷ []) units) → IsGiven a n units st.memory
-given (gives v left words) st n units h = record { value = v; words = words; is = rw h.1 refl; word = subst (λ k. IsWord v k st.memory) (same h.0.1) h.0.2 }
+given (gives v left words) st n units h =
+    record { value = v; words = words; is = rw h.1 refl; word = subst (λ k. IsWord v k st.memory) (same h.0.1) h.0.2 }
   where
     same : {j k : ℕ} → I64 j ∷ [] ≡ I64 k ∷ [] → k ≡ j
     same e = cc
@@ -142,12 +146,18 @@ at_bound Fuel a spent h x = spends a h
 at_bound _ a _ h x = absurd x
 
 -- a value that is given is the kernel's
-value_meant : (t : GroundType) (v : PureGroundValue) (left : ℕ) (a : Ended) (e : End) (n : ℕ) → KernelSafe n (Has [] [] none (ground_type t)) a → EndsWithValue t v left e → AnswersAs a e
+value_meant : (t : GroundType) (v : PureGroundValue) (left : ℕ) (a : Ended) (e : End) (n : ℕ)
+    → KernelSafe n (Has [] [] none (ground_type t)) a → EndsWithValue t v left e → AnswersAs a e
     → (w : KernelValue) × (words : ℕ) × (a ≡ gives w left words) × IsSameValue w v
 value_meant t v left a (ended st (I64 n ∷ []) units) k safe h x =
     let g = given a st n units x in
-    let s = subst (KernelSafe k (Has [] [] none (ground_type t))) g.is safe in
-    (g.value, g.words, g.is ∙ ap (λ k. gives g.value k g.words) (sym h.1), same_value t v g.value n st.memory h.0.has_type h.0.fits s.is.1.1 h.0.is_word g.word)
+    let s = subst (KernelSafe k (Has [] [] none (ground_type t))) g.is safe in (
+      g.value,
+      g.words,
+      g.is ∙ ap (λ k. gives g.value k g.words) (sym h.1),
+      same_value t v g.value n st.memory
+          h.0.has_type h.0.fits s.is.1.1 h.0.is_word g.word,
+    )
 value_meant t v left a (ended st [] units) k safe h x = absurd h
 value_meant t v left a (ended st (I32 n ∷ vs) units) k safe h x = absurd h
 value_meant t v left a (ended st (I64 n ∷ u ∷ vs) units) k safe h x = absurd h
@@ -156,28 +166,41 @@ value_meant t v left a spent k safe h x = absurd h
 value_meant t v left a lost k safe h x = absurd h
 
 -- calls on what is kept are those on the store that `init` left
-keeps_as : (wasm : Module) (st : Store) (n : ℕ) (s t : GroundType) (r : RunningState) (f : KernelValue) (words : ℕ) → IsKeptAs wasm st n s t r → IsClosedKernelValue f → Valued [] [] (unlabelled_value f) (kernel_type (to s t))
-    → ((g : ℕ) → exported (module_of wasm) (codes "call") ≡ Some g → (calls : List Call) → AreCalls s calls → CallsAnswer (module_of wasm) g n f words calls st) → Keeps r f words
+keeps_as : (wasm : Module) (st : Store) (n : ℕ) (s t : GroundType) (r : RunningState) (f : KernelValue) (words : ℕ)
+    → IsKeptAs wasm st n s t r → IsClosedKernelValue f → Valued [] [] (unlabelled_value f) (kernel_type (to s t))
+    → ((g : ℕ) → exported (module_of wasm) (codes "call") ≡ Some g → (calls : List Call) → AreCalls s calls
+    → CallsAnswer (module_of wasm) g n f words calls st) → Keeps r f words
 keeps_as wasm st n s t r f words h shut typed calls = record {
   closed = shut;
-  typed = subst (λ t. Valued [] [] (unlabelled_value f) (kernel_type (to r.argument t))) (sym h.result_is) (subst (λ s. Valued [] [] (unlabelled_value f) (kernel_type (to s t))) (sym h.argument_is) typed);
+  typed = subst (λ t. Valued [] [] (unlabelled_value f) (kernel_type (to r.argument t))) (sym h.result_is)
+      (subst (λ s. Valued [] [] (unlabelled_value f) (kernel_type (to s t))) (sym h.argument_is) typed);
   calls = λ g e cs are.
       subst (λ w. CallsAnswer (module_of w) g r.function f words cs (store_of r)) (sym h.wasm_is)
       (subst (λ n. CallsAnswer (module_of wasm) g n f words cs (store_of r)) (sym h.function_is)
       (subst (λ st. CallsAnswer (module_of wasm) g n f words cs st) (sym h.store_is)
-      (calls g (subst (λ w. exported (module_of w) (codes "call") ≡ Some g) h.wasm_is e) cs (subst (λ s. AreCalls s cs) h.argument_is are))));
+      (calls g (subst (λ w. exported (module_of w) (codes "call") ≡ Some g) h.wasm_is e) cs
+      (subst (λ s. AreCalls s cs) h.argument_is are))));
 }
 
 -- the calls that follow an `init` which ended with a word
-module _ (wasm : Module) (c : Expression) (s t : GroundType) (units : ℕ) (typed : HasKernelType c (to s t)) (stands : StandsFor (module_of wasm) c (to s t)) where
+module _ (wasm : Module) (c : Expression) (s t : GroundType) (units : ℕ) (typed : HasKernelType c (to s t))
+    (stands : StandsFor (module_of wasm) c (to s t)) where
   means : MeansKernel (module_of wasm) c (to s t) stands.store
   means = stands.means typed
 
-  function_meant : (r : RunningState) (left : ℕ) (e : End) (a : Ended) → KernelSafe units (Has [] [] none (kernel_type (to s t))) a → IsBeganAs wasm (to s t) (began.Function r left) e → AnswersAs a e
-      → ((calls : List Call) → AreCalls s calls → CallsAfter (module_of wasm) means.calls.0 a e calls) → IsBeganFrom (to s t) (began.Function r left) a
-  function_meant r left (ended st (I64 n ∷ []) l) (gives f u words) safe h x after =
-      (keeps_as wasm st n s t r f words h.0 safe.is.1.0 safe.is.1.1 (λ g e cs are. subst (λ g. CallsAnswer (module_of wasm) g n f words cs st) (one_number (module_of wasm) (codes "call") e means.calls.1) (after cs are)), h.1 ∙ x.1)
-  function_meant r left (ended st (I64 n ∷ []) l) (stops w) safe h x after = let g = given (stops w) st n l x in let p = g.is in absurd (cc)
+  function_meant : (r : RunningState) (left : ℕ) (e : End) (a : Ended)
+      → KernelSafe units (Has [] [] none (kernel_type (to s t))) a → IsBeganAs wasm (to s t) (began.Function r left) e
+      → AnswersAs a e
+      → ((calls : List Call) → AreCalls s calls → CallsAfter (module_of wasm) means.calls.0 a e calls)
+      → IsBeganFrom (to s t) (began.Function r left) a
+  function_meant r left (ended st (I64 n ∷ []) l) (gives f u words) safe h x after = (
+    keeps_as wasm st n s t r f words h.0 safe.is.1.0 safe.is.1.1
+        (λ g e cs are. subst (λ g. CallsAnswer (module_of wasm) g n f words cs st)
+        (one_number (module_of wasm) (codes "call") e means.calls.1) (after cs are)),
+    h.1 ∙ x.1,
+  )
+  function_meant r left (ended st (I64 n ∷ []) l) (stops w) safe h x after = let g = given (stops w) st n l x in let p =
+      g.is in absurd (cc)
   function_meant r left (ended st [] l) a safe h x after = absurd h
   function_meant r left (ended st (I32 n ∷ vs) l) a safe h x after = absurd h
   function_meant r left (ended st (I64 n ∷ u ∷ vs) l) a safe h x after = absurd h
@@ -185,7 +208,8 @@ module _ (wasm : Module) (c : Expression) (s t : GroundType) (units : ℕ) (type
   function_meant r left spent a safe h x after = absurd h
   function_meant r left lost a safe h x after = absurd h
 
-  pub function_start_meant : (answer : Result Began RunFault) → AnswersStart answer wasm (to s t) units → IsStartMeant answer (to s t) (kernel_meaning units 0 c)
+  pub function_start_meant : (answer : Result Began RunFault) → AnswersStart answer wasm (to s t) units
+      → IsStartMeant answer (to s t) (kernel_meaning units 0 c)
   function_start_meant answer h = at_answer answer (h stands.store means.init stands.has_instance means.is_init)
     where
       a : Ended
@@ -197,40 +221,56 @@ module _ (wasm : Module) (c : Expression) (s t : GroundType) (units : ℕ) (type
       safe : KernelSafe units (Has [] [] none (kernel_type (to s t))) (kernel_meaning units 0 c)
       safe = kernel_safe c (to s t) units typed
 
-      at_answer : (answer : Result Began RunFault) → IsStartOf answer wasm (to s t) (invoked (module_of wasm) stands.store means.init [] units) → IsStartMeant answer (to s t) (kernel_meaning units 0 c)
-      at_answer (Ok (began.Function r left)) h = function_meant r left _ _ safe h (means.run units) (λ cs are. means.calls.2 units cs are)
+      at_answer : (answer : Result Began RunFault)
+          → IsStartOf answer wasm (to s t) (invoked (module_of wasm) stands.store means.init [] units)
+          → IsStartMeant answer (to s t) (kernel_meaning units 0 c)
+      at_answer (Ok (began.Function r left)) h = function_meant r left _ _ safe h (means.run units)
+          (λ cs are. means.calls.2 units cs are)
       at_answer (Ok (began.Value v left)) h = absurd h
-      at_answer (Ok (began.Trap k)) h = subst (λ a. IsBeganFrom (to s t) (began.Trap k) a) (sym (by_trap k _ _ (means.run units) h)) refl
-      at_answer (Ok (began.Bound l)) h = subst (λ a. IsBeganFrom (to s t) (began.Bound l) a) (sym (at_bound l _ _ (means.run units) h)) refl
-      at_answer (Err fault.Bad) h = standing_is_not_stray (module_of wasm) c (to s t) stands typed (in_init units stands.has_instance means.is_init h)
+      at_answer (Ok (began.Trap k)) h = subst (λ a. IsBeganFrom (to s t) (began.Trap k) a)
+          (sym (by_trap k _ _ (means.run units) h)) refl
+      at_answer (Ok (began.Bound l)) h = subst (λ a. IsBeganFrom (to s t) (began.Bound l) a)
+          (sym (at_bound l _ _ (means.run units) h)) refl
+      at_answer (Err fault.Bad) h = standing_is_not_stray (module_of wasm) c (to s t) stands typed
+          (in_init units stands.has_instance means.is_init h)
       at_answer (Err (fault.Memory f)) h = tt
 
-module _ (wasm : Module) (c : Expression) (t : GroundType) (units : ℕ) (typed : HasKernelType c (of_ground t)) (stands : StandsFor (module_of wasm) c (of_ground t)) where
+module _ (wasm : Module) (c : Expression) (t : GroundType) (units : ℕ) (typed : HasKernelType c (of_ground t))
+    (stands : StandsFor (module_of wasm) c (of_ground t)) where
   ground_means : MeansKernel (module_of wasm) c (of_ground t) stands.store
   ground_means = stands.means typed
 
-  pub ground_start_meant : (answer : Result Began RunFault) → AnswersStart answer wasm (of_ground t) units → IsStartMeant answer (of_ground t) (kernel_meaning units 0 c)
-  ground_start_meant answer h = at_answer answer (h stands.store ground_means.init stands.has_instance ground_means.is_init)
+  pub ground_start_meant : (answer : Result Began RunFault) → AnswersStart answer wasm (of_ground t) units
+      → IsStartMeant answer (of_ground t) (kernel_meaning units 0 c)
+  ground_start_meant answer h =
+      at_answer answer (h stands.store ground_means.init stands.has_instance ground_means.is_init)
     where
       safe : KernelSafe units (Has [] [] none (ground_type t)) (kernel_meaning units 0 c)
       safe = kernel_safe c (of_ground t) units typed
 
-      at_answer : (answer : Result Began RunFault) → IsStartOf answer wasm (of_ground t) (invoked (module_of wasm) stands.store ground_means.init [] units) → IsStartMeant answer (of_ground t) (kernel_meaning units 0 c)
+      at_answer : (answer : Result Began RunFault) → IsStartOf answer wasm (of_ground t)
+          (invoked (module_of wasm) stands.store ground_means.init [] units) → IsStartMeant answer (of_ground t)
+          (kernel_meaning units 0 c)
       at_answer (Ok (began.Value v left)) h =
           let g = value_meant t (ground_value_of v) left _ _ units safe h (ground_means.run units) in
           subst (λ a. IsBeganFrom (of_ground t) (began.Value v left) a) (sym g.2) (g.3, refl)
       at_answer (Ok (began.Function r left)) h = absurd h
-      at_answer (Ok (began.Trap k)) h = subst (λ a. IsBeganFrom (of_ground t) (began.Trap k) a) (sym (by_trap k _ _ (ground_means.run units) h)) refl
-      at_answer (Ok (began.Bound l)) h = subst (λ a. IsBeganFrom (of_ground t) (began.Bound l) a) (sym (at_bound l _ _ (ground_means.run units) h)) refl
-      at_answer (Err fault.Bad) h = standing_is_not_stray (module_of wasm) c (of_ground t) stands typed (in_init units stands.has_instance ground_means.is_init h)
+      at_answer (Ok (began.Trap k)) h = subst (λ a. IsBeganFrom (of_ground t) (began.Trap k) a)
+          (sym (by_trap k _ _ (ground_means.run units) h)) refl
+      at_answer (Ok (began.Bound l)) h = subst (λ a. IsBeganFrom (of_ground t) (began.Bound l) a)
+          (sym (at_bound l _ _ (ground_means.run units) h)) refl
+      at_answer (Err fault.Bad) h = standing_is_not_stray (module_of wasm) c (of_ground t) stands typed
+          (in_init units stands.has_instance ground_means.is_init h)
       at_answer (Err (fault.Memory f)) h = tt
 
-pub start_meant : (answer : Result Began RunFault) (wasm : Module) (k : KernelType) (units : ℕ) → AnswersStart answer wasm k units → MeansStart answer wasm k units
+pub start_meant : (answer : Result Began RunFault) (wasm : Module) (k : KernelType) (units : ℕ)
+    → AnswersStart answer wasm k units → MeansStart answer wasm k units
 start_meant answer wasm (of_ground t) units h c typed stands = ground_start_meant wasm c t units typed stands answer h
 start_meant answer wasm (to s t) units h c typed stands = function_start_meant wasm c s t units typed stands answer h
 
 -- a call of what is kept
-module _ (r : RunningState) (runnable : IsRunnable r) (v : PureGroundValue) (has : HasGroundType r.argument v) (units : ℕ) (f : KernelValue) (words : ℕ) (keeps : Keeps r f words) where
+module _ (r : RunningState) (runnable : IsRunnable r) (v : PureGroundValue) (has : HasGroundType r.argument v)
+    (units : ℕ) (f : KernelValue) (words : ℕ) (keeps : Keeps r f words) where
   m : PureModule
   m = module_of r.wasm
 
@@ -241,26 +281,35 @@ module _ (r : RunningState) (runnable : IsRunnable r) (v : PureGroundValue) (has
   this = record { argument = ground_value v; units = units }
 
   first_answer : FitsWords v → AnswersAs a (call_end r runnable.call.index v units)
-  first_answer fits = (keeps.calls runnable.call.index runnable.call.is_exported (this ∷ []) (is_argument r.argument v has fits, tt)).0
+  first_answer fits =
+      (keeps.calls runnable.call.index runnable.call.is_exported (this ∷ []) (is_argument r.argument v has fits, tt)).0
 
   safe : FitsWords v → KernelSafe units (Has [] [] none (ground_type r.result)) a
-  safe fits = kernel_call_safe [] [] none r.argument r.result f words (ground_value v) units [] keeps.closed keeps.typed (argument_typed r.argument (ground_value v) (is_argument r.argument v has fits))
+  safe fits = kernel_call_safe [] [] none r.argument r.result f words (ground_value v) units [] keeps.closed keeps.typed
+      (argument_typed r.argument (ground_value v) (is_argument r.argument v has fits))
 
-  at_answer : (answer : Result Ran RunFault) → FitsUnlessMemory answer v → IsCallOf answer r.result (call_end r runnable.call.index v units) → IsCallMeant answer a
+  at_answer : (answer : Result Ran RunFault) → FitsUnlessMemory answer v
+      → IsCallOf answer r.result (call_end r runnable.call.index v units) → IsCallMeant answer a
   at_answer (Ok (ran.Value x left)) fits h =
       let g = value_meant r.result (ground_value_of x) left _ _ units (safe fits) h (first_answer fits) in
       subst (λ a. IsRanFrom (ran.Value x left) a) (sym g.2) (g.3, refl)
   at_answer (Ok (ran.Function i left)) fits h = absurd h
-  at_answer (Ok (ran.Trap k)) fits h = subst (λ a. IsRanFrom (ran.Trap k) a) (sym (by_trap k _ _ (first_answer fits) h)) refl
-  at_answer (Ok (ran.Bound l)) fits h = subst (λ a. IsRanFrom (ran.Bound l) a) (sym (at_bound l _ _ (first_answer fits) h)) refl
-  at_answer (Err fault.Bad) fits h = answers_no_stray (IsWordOf r.result) _ _ (safe_makes (λ v p n memory. word_of r.result v n memory p.1) (safe fits)) (first_answer fits) h
+  at_answer (Ok (ran.Trap k)) fits h = subst (λ a. IsRanFrom (ran.Trap k) a) (sym (by_trap k _ _ (first_answer fits) h))
+      refl
+  at_answer (Ok (ran.Bound l)) fits h = subst (λ a. IsRanFrom (ran.Bound l) a)
+      (sym (at_bound l _ _ (first_answer fits) h)) refl
+  at_answer (Err fault.Bad) fits h = answers_no_stray (IsWordOf r.result) _ _
+      (safe_makes (λ v p n memory. word_of r.result v n memory p.1) (safe fits)) (first_answer fits) h
   at_answer (Err (fault.Memory e)) fits h = tt
 
-pub call_meant : (answer : Result Ran RunFault) (r : RunningState) (v : PureGroundValue) (units : ℕ) → IsRunnable r → HasGroundType r.argument v → FitsUnlessMemory answer v → AnswersCall answer r v units → MeansCall answer r v units
-call_meant answer r v units runnable has fits h f words keeps = at_answer r runnable v has units f words keeps answer fits (h runnable.call.index runnable.call.is_exported)
+pub call_meant : (answer : Result Ran RunFault) (r : RunningState) (v : PureGroundValue) (units : ℕ) → IsRunnable r
+    → HasGroundType r.argument v → FitsUnlessMemory answer v → AnswersCall answer r v units → MeansCall answer r v units
+call_meant answer r v units runnable has fits h f words keeps = at_answer r runnable v has units f words keeps answer
+    fits (h runnable.call.index runnable.call.is_exported)
 
 -- and after a value it is kept
-onward : (t : GroundType) (v : PureGroundValue) (left : ℕ) (e : End) (after : Store) (P : Store → Type 0) → EndsWithValue t v left e → IsStoreAfter e after → IfEnded e P → P after
+onward : (t : GroundType) (v : PureGroundValue) (left : ℕ) (e : End) (after : Store) (P : Store → Type 0)
+    → EndsWithValue t v left e → IsStoreAfter e after → IfEnded e P → P after
 onward t v left (ended st (I64 n ∷ []) units) after P h s o = subst P (sym s) o
 onward t v left (ended st [] units) after P h s o = absurd h
 onward t v left (ended st (I32 n ∷ vs) units) after P h s o = absurd h
@@ -269,13 +318,23 @@ onward t v left (trapped u st) after P h s o = absurd h
 onward t v left spent after P h s o = absurd h
 onward t v left lost after P h s o = absurd h
 
-pub kept_on : (answer : Result Ran RunFault) (old new : RunningState) (v : PureGroundValue) (units : ℕ) → HasGroundType old.argument v → FitsUnlessMemory answer v → AnswersCall answer old v units → StoreAfterCall answer old new v units → IsSameFunction old new
+pub kept_on : (answer : Result Ran RunFault) (old new : RunningState) (v : PureGroundValue) (units : ℕ)
+    → HasGroundType old.argument v → FitsUnlessMemory answer v → AnswersCall answer old v units
+    → StoreAfterCall answer old new v units → IsSameFunction old new
     → KeepsOn answer old new
 kept_on (Ok (ran.Value x left)) old new v units has fits h after same = λ f words keeps.
     keeps_as old.wasm (store_of new) old.function old.argument old.result new f words
-    record { wasm_is = same.wasm_is; store_is = refl; function_is = same.function_is; argument_is = same.argument_is; result_is = same.result_is } keeps.closed keeps.typed
-    (λ g e cs are. onward old.result (ground_value_of x) left (call_end old g v units) (store_of new) (CallsAnswer (module_of old.wasm) g old.function f words cs) (h g e) (after g e)
-    (keeps.calls g e (record { argument = ground_value v; units = units } ∷ cs) (is_argument old.argument v has fits, are)).1)
+    record {
+      wasm_is = same.wasm_is;
+      store_is = refl;
+      function_is = same.function_is;
+      argument_is = same.argument_is;
+      result_is = same.result_is;
+    } keeps.closed keeps.typed
+    (λ g e cs are. onward old.result (ground_value_of x) left (call_end old g v units) (store_of new)
+    (CallsAnswer (module_of old.wasm) g old.function f words cs) (h g e) (after g e)
+    (keeps.calls g e (record { argument = ground_value v; units = units } ∷ cs)
+    (is_argument old.argument v has fits, are)).1)
 kept_on (Ok (ran.Function i left)) old new v units has fits h after same = tt
 kept_on (Ok (ran.Trap k)) old new v units has fits h after same = tt
 kept_on (Ok (ran.Bound l)) old new v units has fits h after same = tt
@@ -284,7 +343,8 @@ kept_on (Err f) old new v units has fits h after same = tt
 pub short_integers_are_kept : ShortIntegersAreKept
 short_integers_are_kept (int y) (int z) h e = ap (λ z. int z) (e ∙ to_z-of_z w64 y h)
 short_integers_are_kept (bool b) (bool c) h e = ap (λ b. bool b) e
-short_integers_are_kept (both v w) (both x y) h e = rw (short_integers_are_kept v x h.0 e.0, short_integers_are_kept w y h.1 e.1) refl
+short_integers_are_kept (both v w) (both x y) h e =
+    rw (short_integers_are_kept v x h.0 e.0, short_integers_are_kept w y h.1 e.1) refl
 short_integers_are_kept (int y) (bool c) h e = absurd e
 short_integers_are_kept (int y) (both c d) h e = absurd e
 short_integers_are_kept (bool y) (int c) h e = absurd e

@@ -22,7 +22,8 @@ HasFewPages _ st = Unit {0}
 
 -- what an outcome answers at a ground type, beside this memory
 abbrev pub IsAnswerOf : Result Ran RunFault → Outcome → GroundType → Memory → Type 0
-IsAnswerOf (Ok (ran.Value v left)) (outcome.Word n units) t memory = IsValueAt t (ground_value_of v) n memory × (left ≡ units)
+IsAnswerOf (Ok (ran.Value v left)) (outcome.Word n units) t memory = IsValueAt t (ground_value_of v) n memory
+    × (left ≡ units)
 IsAnswerOf (Err fault.Bad) (outcome.Word n units) t memory = IsWordOf t n memory → ⊥
 IsAnswerOf (Ok (ran.Trap k)) (outcome.Trap j) t memory = k ≡ j
 IsAnswerOf (Ok (ran.Bound l)) (outcome.Bound b) t memory = l ≡ b

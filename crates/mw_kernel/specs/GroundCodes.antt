@@ -28,7 +28,8 @@ tree_of_inj (base Truth) (base Truth) p = refl
 tree_of_inj (base Truth) (product u v) p = cc
 tree_of_inj (product s t) (base Int) p = cc
 tree_of_inj (product s t) (base Truth) p = cc
-tree_of_inj (product s t) (product u v) p = let e = tree_of_inj s u (ap left p) in let f = tree_of_inj t v (ap right p) in cc
+tree_of_inj (product s t) (product u v) p = let e = tree_of_inj s u (ap left p) in let f =
+    tree_of_inj t v (ap right p) in cc
 
 abbrev pub ground_code : Coded GroundType
 ground_code = record { code = tree_of; inj = tree_of_inj }

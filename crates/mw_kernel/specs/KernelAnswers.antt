@@ -118,11 +118,13 @@ IsStoreAfter (ended st vs units) after = after ≡ st
 IsStoreAfter (trapped t st) after = after ≡ st
 IsStoreAfter _ after = Unit {0}
 
--- after every answer but want of memory the next call runs on the store that the module's `call` left, where it left one
+-- after every answer but want of memory the next call runs on the store that the module's `call` left, where it left
+-- one
 abbrev pub StoreAfterCall : Result Ran RunFault → RunningState → RunningState → PureGroundValue → ℕ → Type 0
 StoreAfterCall (Err (fault.Memory _)) old new v units = Unit {0}
 StoreAfterCall answer old new v units =
-    (g : ℕ) → exported (module_of old.wasm) (codes "call") ≡ Some g → IsStoreAfter (call_end old g v units) (store_of new)
+    (g : ℕ) → exported (module_of old.wasm) (codes "call") ≡ Some g → IsStoreAfter (call_end old g v units)
+    (store_of new)
 
 -- all but the store stays as it is
 pub record IsSameFunction (old new : RunningState) : Type 0 where

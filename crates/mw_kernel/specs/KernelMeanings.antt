@@ -23,8 +23,8 @@ use Rattle.mw_kernel.specs.declared.running.Began.TheVariants as began
 use Rattle.mw_kernel.specs.RunningStates.{RunningState, store_of}
 use Rattle.mw_kernel.specs.KernelAnswers.{kernel_value}
 
--- The value is the kernel's: its integers are those of 64 bits with the same words, and so the same where the kernel's have
--- 64 bits.
+-- The value is the kernel's: its integers are those of 64 bits with the same words, and so the same where the kernel's
+-- have 64 bits.
 abbrev pub IsSameValue : KernelValue → PureGroundValue → Type 0
 IsSameValue (int y) (int z) = z ≡ cast_signed w64 (cast_unsigned w64 y)
 IsSameValue (bool b) (bool c) = c ≡ b
@@ -39,17 +39,20 @@ HasShortIntegers (both v w) = HasShortIntegers v × HasShortIntegers w
 HasShortIntegers (function e) = Unit {0}
 HasShortIntegers (recursive e) = Unit {0}
 
--- What is kept is this function, which has taken so many words: it has the type, and each list of calls on the store as it
--- is answers as the calls of the function do.
+-- What is kept is this function, which has taken so many words: it has the type, and each list of calls on the store as
+-- it is answers as the calls of the function do.
 pub record Keeps (r : RunningState) (f : KernelValue) (words : ℕ) : Type 0 where
   pub closed : IsClosedKernelValue f
   pub typed : Valued [] [] (unlabelled_value f) (kernel_type (to r.argument r.result))
-  pub calls : (g : ℕ) → exported (module_of r.wasm) (codes "call") ≡ Some g → (calls : List Call) → AreCalls r.argument calls
+  pub calls : (g : ℕ) → exported (module_of r.wasm) (codes "call") ≡ Some g → (calls : List Call)
+      → AreCalls r.argument calls
       → CallsAnswer (module_of r.wasm) g r.function f words calls (store_of r)
 
--- a start answers as the code means: with its value or its function, and as many units left, by its trap or at its bound
+-- a start answers as the code means: with its value or its function, and as many units left, by its trap or at its
+-- bound
 abbrev pub IsBeganFrom : KernelType → Began → Ended → Type 0
-IsBeganFrom (of_ground t) (began.Value v left) (gives w units words) = IsSameValue w (ground_value_of v) × (left ≡ units)
+IsBeganFrom (of_ground t) (began.Value v left) (gives w units words) = IsSameValue w (ground_value_of v)
+    × (left ≡ units)
 IsBeganFrom (to s t) (began.Function r left) (gives f units words) = Keeps r f words × (left ≡ units)
 IsBeganFrom k (began.Trap t) (stops (trap u)) = t ≡ u
 IsBeganFrom k (began.Bound l) (stops (bound b)) = l ≡ b
@@ -76,7 +79,8 @@ IsCallMeant (Err (fault.Memory _)) a = Unit {0}
 -- whatever code of the type the module stands for, a start answers as the code means
 abbrev pub MeansStart : Result Began RunFault → Module → KernelType → ℕ → Type 0
 MeansStart answer wasm k units =
-    (c : Expression) → HasKernelType c k → StandsFor (module_of wasm) c k → IsStartMeant answer k (kernel_meaning units 0 c)
+    (c : Expression) → HasKernelType c k → StandsFor (module_of wasm) c k
+    → IsStartMeant answer k (kernel_meaning units 0 c)
 
 -- whatever function is kept, a call answers as the call of the function means
 abbrev pub MeansCall : Result Ran RunFault → RunningState → PureGroundValue → ℕ → Type 0
@@ -91,4 +95,5 @@ KeepsOn _ old new = Unit {0}
 
 -- Where a kernel's value has integers of 64 bits, the value that is given for it is the same.
 abbrev pub ShortIntegersAreKept : Type 0
-ShortIntegersAreKept = (w : KernelValue) (v : PureGroundValue) → HasShortIntegers w → IsSameValue w v → kernel_value v ≡ w
+ShortIntegersAreKept = (w : KernelValue) (v : PureGroundValue) → HasShortIntegers w → IsSameValue w v → kernel_value v
+    ≡ w

@@ -13,8 +13,8 @@ use Rattle.mw_wasm.specs.Views.{module_of}
 use Rattle.mw_exec.specs.Instancing.{first_store}
 use Rattle.mw_exec.specs.InstanceStates.{InstanceState, store_in}
 
--- The module and its instance, the word that `init` gave, and the kernel's argument and result types. There is no instance
--- after a call that ran out of units or of memory: the next one begins with a new instance.
+-- The module and its instance, the word that `init` gave, and the kernel's argument and result types. There is no
+-- instance after a call that ran out of units or of memory: the next one begins with a new instance.
 pub record RunningState : Type 0 where
   pub wasm : Module
   pub held : Option InstanceState
@@ -23,7 +23,8 @@ pub record RunningState : Type 0 where
   pub result : GroundType
 
 abbrev pub running_state : Module → Option InstanceState → ℕ → Ground → Ground → RunningState
-running_state wasm held function argument result = record { wasm = wasm; held = held; function = function; argument = ground_of argument; result = ground_of result }
+running_state wasm held function argument result =
+    record { wasm = wasm; held = held; function = function; argument = ground_of argument; result = ground_of result }
 
 abbrev pub store_held : Module → Option InstanceState → Store
 store_held wasm None = first_store (module_of wasm)

@@ -13,8 +13,8 @@ use Rattle.mw_kernel.specs.declared.running.Began.{Began}
 use Rattle.mw_kernel.specs.declared.running.Began.TheVariants as began
 use Rattle.mw_kernel.specs.RunningStates.{RunningState, store_of}
 
--- What is kept is in play: the invocations of its module so far all ended with a word, `init`'s with the function's, and
--- the last one left the store.
+-- What is kept is in play: the invocations of its module so far all ended with a word, `init`'s with the function's,
+-- and the last one left the store.
 abbrev pub IsInPlay : RunningState → Type 0
 IsInPlay r = HasPlayed (module_of r.wasm) r.argument r.function (store_of r)
 

@@ -57,7 +57,8 @@ pub fn invoke_word(
     requires { GivesWord instance.old.wasm (store_in instance.old) name.now args.now }
     ensures same { instance.new.wasm ≡ instance.old.wasm }
     ensures ends { IfOk result (λ outcome. (f : ℕ) → exported (module_of instance.old.wasm) name.now ≡ Some f
-        → EndsAsOutcome outcome (store_in instance.new) (invoked (module_of instance.old.wasm) (store_in instance.old) f args.now fuel)) }
+        → EndsAsOutcome outcome (store_in instance.new)
+        (invoked (module_of instance.old.wasm) (store_in instance.old) f args.now fuel)) }
     ensures store { IfOk result (λ outcome. LeavesStore outcome (module_of instance.old.wasm) (store_in instance.new)) }
 {
     Ok(outcome_of(instance.invoke(alloc, name, args, fuel)?))
@@ -86,7 +87,8 @@ pub fn ready_instance(
     held: Option<Instance>,
     wasm: &Arc<Valid>,
 ) -> Result<Instance, AllocError>
-    requires begins { instantiated (module_of (arc_value wasm.now)) ≡ Ok (first_store (module_of (arc_value wasm.now))) }
+    requires begins { instantiated (module_of (arc_value wasm.now))
+        ≡ Ok (first_store (module_of (arc_value wasm.now))) }
     requires held { IsInstanceOf (arc_value wasm.now) held }
     ensures of { IfOk result (λ instance. instance.wasm ≡ arc_value wasm.now) }
     ensures store { IfOk result (λ instance. store_in instance ≡ store_held (arc_value wasm.now) held) }

@@ -10,8 +10,8 @@ use mw_exec::Instance;
 use mw_term::{Base, BaseValue, Ground, GroundValue};
 use std::alloc::{AllocError, Global};
 
-/// The value of a ground type that a word is, beside an instance's memory; none where it is the word of none. It recurses
-/// on the type alone, so what the memory holds doesn't lengthen its work.
+/// The value of a ground type that a word is, beside an instance's memory; none where it is the word of none. It
+/// recurses on the type alone, so what the memory holds doesn't lengthen its work.
 pub fn read_value(
     alloc: Global,
     instance: &Instance,

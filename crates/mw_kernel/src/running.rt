@@ -28,8 +28,8 @@ use std::alloc::Global;
 use std::marker::Model;
 use std::sync::Arc;
 
-/// A function that a run of a kernel gave: the module with its instance, and the function's word. Contracts see the module,
-/// what its instance holds, the word, and the kernel's argument and result types.
+/// A function that a run of a kernel gave: the module with its instance, and the function's word. Contracts see the
+/// module, what its instance holds, the word, and the kernel's argument and result types.
 #[derive(Drop)]
 pub struct Running {
     module: Arc<Valid>,
@@ -69,8 +69,8 @@ pub enum Began {
 }
 
 impl Running {
-    /// The run of a kernel of this type, with so many units: `init` of its module, on the instance that the module begins
-    /// as. Bad where the module gives what no kernel of the type gives.
+    /// The run of a kernel of this type, with so many units: `init` of its module, on the instance that the module
+    /// begins as. Bad where the module gives what no kernel of the type gives.
     pub fn start(
         alloc: Global,
         module: &Arc<Valid>,
@@ -89,8 +89,8 @@ impl Running {
         begin(alloc, module, kind, fuel)
     }
 
-    /// The call of the function with an argument and so many units. Bad where the module gives what no kernel of the type
-    /// gives.
+    /// The call of the function with an argument and so many units. Bad where the module gives what no kernel of the
+    /// type gives.
     pub fn call(
         &mut self,
         alloc: Global,

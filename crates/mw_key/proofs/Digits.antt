@@ -6,17 +6,26 @@ use Rattle.std.proofs.lemmas.List.{drop_all}
 use Rattle.mw_key.specs.Numbers.{is_digit, number_in}
 
 module _ (value n : ℕ) (bytes : List ℕ) where
-  digit_here : n < length bytes → (d s : Bool) → is_digit (get_or bytes n 0) ≡ d → nat_le (10 * value + (get_or bytes n 0 - 48)) (2 ^ 63) ≡ s
-      → number_in value (drop n bytes) ≡ (if d then (if s then number_in (10 * value + (get_or bytes n 0 - 48)) (drop (suc n) bytes) else None) else None)
+  digit_here : n < length bytes → (d s : Bool) → is_digit (get_or bytes n 0) ≡ d
+      → nat_le (10 * value + (get_or bytes n 0 - 48)) (2 ^ 63) ≡ s
+      → number_in value (drop n bytes)
+      ≡ (if d then (if s then number_in (10 * value + (get_or bytes n 0 - 48)) (drop (suc n) bytes) else None) else
+      None)
   digit_here p d s e f =
       ap (λ r. number_in value r) (drop-cons bytes n 0 p)
-      ∙ ap (λ d. if d then (if nat_le (10 * value + (get_or bytes n 0 - 48)) (2 ^ 63) then number_in (10 * value + (get_or bytes n 0 - 48)) (drop (suc n) bytes) else None) else None) e
-      ∙ ap (λ s. if d then (if s then number_in (10 * value + (get_or bytes n 0 - 48)) (drop (suc n) bytes) else None) else None) f
+      ∙ ap (λ d. if d then
+      (if nat_le (10 * value + (get_or bytes n 0 - 48)) (2 ^ 63) then number_in
+      (10 * value + (get_or bytes n 0 - 48)) (drop (suc n) bytes) else None) else None) e
+      ∙ ap (λ s. if d then (if s then number_in (10 * value + (get_or bytes n 0 - 48)) (drop (suc n) bytes) else None)
+      else None) f
 
-  pub number_digit : n < length bytes → is_digit (get_or bytes n 0) ≡ true → 10 * value + (get_or bytes n 0 - 48) ≤ 2 ^ 63 → number_in (10 * value + (get_or bytes n 0 - 48)) (drop (n + 1) bytes) ≡ number_in value (drop n bytes)
-  number_digit p e q = ap (λ k. number_in (10 * value + (get_or bytes n 0 - 48)) (drop k bytes)) (add-one n) ∙ sym (digit_here p true true e (le-leb (10 * value + (get_or bytes n 0 - 48)) (2 ^ 63) q))
+  pub number_digit : n < length bytes → is_digit (get_or bytes n 0) ≡ true → 10 * value + (get_or bytes n 0 - 48)
+      ≤ 2 ^ 63 → number_in (10 * value + (get_or bytes n 0 - 48)) (drop (n + 1) bytes) ≡ number_in value (drop n bytes)
+  number_digit p e q = ap (λ k. number_in (10 * value + (get_or bytes n 0 - 48)) (drop k bytes)) (add-one n)
+      ∙ sym (digit_here p true true e (le-leb (10 * value + (get_or bytes n 0 - 48)) (2 ^ 63) q))
 
-  pub number_big : n < length bytes → is_digit (get_or bytes n 0) ≡ true → 2 ^ 63 < 10 * value + (get_or bytes n 0 - 48) → number_in value (drop n bytes) ≡ None
+  pub number_big : n < length bytes → is_digit (get_or bytes n 0) ≡ true → 2 ^ 63 < 10 * value + (get_or bytes n 0 - 48)
+      → number_in value (drop n bytes) ≡ None
   number_big p e q = digit_here p true false e (lt-leb (10 * value + (get_or bytes n 0 - 48)) (2 ^ 63) q)
 
   pub number_other : n < length bytes → is_digit (get_or bytes n 0) ≡ false → number_in value (drop n bytes) ≡ None

@@ -57,14 +57,16 @@ abbrev all_spelled : {A : Type 0} → (A → List ℕ) → List (List ℕ × A) 
 all_spelled word [] = true
 all_spelled word (entry ∷ entries) = bytes_eq entry.0 (word entry.1) && all_spelled word entries
 
-looked_up : {A : Type 0} (word : A → List ℕ) (entries : List (List ℕ × A)) (w : List ℕ) (a : A) → all_spelled word entries ≡ true → lookup (bytes_eq w) entries ≡ Some a → w ≡ word a
+looked_up : {A : Type 0} (word : A → List ℕ) (entries : List (List ℕ × A)) (w : List ℕ) (a : A)
+    → all_spelled word entries ≡ true → lookup (bytes_eq w) entries ≡ Some a → w ≡ word a
 looked_up word [] w a s e = absurd (none-some a e)
 looked_up {A} word (entry ∷ entries) w a s e = by_text (looked_up word entries w a parts.1) (bytes_eq w entry.0) refl e
   where
     parts : (bytes_eq entry.0 (word entry.1) ≡ true) × (all_spelled word entries ≡ true)
     parts = and_parts (bytes_eq entry.0 (word entry.1)) (all_spelled word entries) s
 
-    by_text : (lookup (bytes_eq w) entries ≡ Some a → w ≡ word a) → (t : Bool) → bytes_eq w entry.0 ≡ t → cond t (Some entry.1) (lookup (bytes_eq w) entries) ≡ Some a → w ≡ word a
+    by_text : (lookup (bytes_eq w) entries ≡ Some a → w ≡ word a) → (t : Bool) → bytes_eq w entry.0 ≡ t
+        → cond t (Some entry.1) (lookup (bytes_eq w) entries) ≡ Some a → w ≡ word a
     by_text more true f e =
         let same_text : w ≡ entry.0 = (bytes_eq-Decides w entry.0).0 f in
         let same_thing : entry.1 ≡ a = same_Some entry.1 a e in

@@ -22,7 +22,8 @@ use Rattle.mw_key.specs.TextLaws.{ShortText}
 
 literal_length : (z : ℤ) → FitsSigned w64 z → length (signed_decimal z) ≤ 20
 literal_length (pos n) fits = let small : n < 2 ^ 63 = fits.sfits in length_signed_le 19 (pos n) (omega arith) small
-literal_length (negsuc n) fits = let small : n < 2 ^ 63 = fits.sfits in length_signed_le 19 (negsuc n) (omega arith) small
+literal_length (negsuc n) fits = let small : n < 2 ^ 63 = fits.sfits in length_signed_le 19 (negsuc n) (omega arith)
+    small
 
 primitive_length : (p : Prim) → length (primitive_word p) ≤ 4
 primitive_length Add = omega arith
@@ -37,22 +38,48 @@ primitive_length Le = omega arith
 ground_length : (t : GroundType) → length (ground_words t) ≤ 5 * ground_nodes t
 ground_length (base Int) = omega arith
 ground_length (base Truth) = omega arith
-ground_length (product s t) = omega (arith, length-append (codes " pair" ++ ground_words s) (ground_words t), ground_length s, ground_length t)
+ground_length (product s t) = omega (
+  arith,
+  length-append (codes " pair" ++ ground_words s) (ground_words t),
+  ground_length s,
+  ground_length t,
+)
 
 kernel_length : (k : KernelType) → length (kernel_words k) ≤ 5 * kernel_nodes k
 kernel_length (of_ground t) = ground_length t
-kernel_length (to s t) = omega (arith, length-append (codes " to" ++ ground_words s) (ground_words t), ground_length s, ground_length t)
+kernel_length (to s t) = omega (
+  arith,
+  length-append (codes " to" ++ ground_words s) (ground_words t),
+  ground_length s,
+  ground_length t,
+)
 
 -- a node has at most 24 bytes
-code_length : (c : Expression) (k : ℕ) → ClosedBelow k c → LiteralsFit c → k + 2 * depth_of c ≤ 1000 → length (code_words c) ≤ 24 * size c
+code_length : (c : Expression) (k : ℕ) → ClosedBelow k c → LiteralsFit c → k + 2 * depth_of c ≤ 1000
+    → length (code_words c) ≤ 24 * size c
 code_length (num z) k closed fits low = omega (arith, literal_length z fits)
 code_length (truth true) k closed fits low = omega arith
 code_length (truth false) k closed fits low = omega arith
-code_length (var i) k closed fits low = let digits = length-decimal-le 3 i (omega arith) (omega arith) (omega arith) in omega arith
+code_length (var i) k closed fits low = let digits = length-decimal-le 3 i (omega arith) (omega arith) (omega arith) in
+    omega arith
 code_length (fun e) k closed fits low = omega (arith, code_length e (suc k) closed fits (omega arith))
 code_length (fix e) k closed fits low = omega (arith, code_length e (suc (suc k)) closed fits (omega arith))
-code_length (app f a) k closed fits low = omega (arith, length-append (codes " app" ++ code_words f) (code_words a), code_length f k closed.0 fits.0 (omega arith), code_length a k closed.1 fits.1 (omega arith))
-code_length (bind d e) k closed fits low = omega (arith, length-append (codes " let" ++ code_words d) (code_words e), code_length d k closed.0 fits.0 (omega arith), code_length e (suc k) closed.1 fits.1 (omega arith))
+code_length (app f a) k closed fits low =
+    omega (
+      arith,
+      length-append (codes " app" ++ code_words f) (code_words a),
+      code_length f k closed.0 fits.0
+          (omega arith),
+      code_length a k closed.1 fits.1 (omega arith),
+    )
+code_length (bind d e) k closed fits low =
+    omega (
+      arith,
+      length-append (codes " let" ++ code_words d) (code_words e),
+      code_length d k closed.0 fits.0
+          (omega arith),
+      code_length e (suc k) closed.1 fits.1 (omega arith),
+    )
 code_length (cond c a b) k closed fits low = omega (
   arith,
   length-append (codes " if" ++ code_words c ++ code_words a) (code_words b),
@@ -61,7 +88,14 @@ code_length (cond c a b) k closed fits low = omega (
   code_length a k closed.1 fits.1 (omega arith),
   code_length b k closed.2 fits.2 (omega arith),
 )
-code_length (pair a b) k closed fits low = omega (arith, length-append (codes " pair" ++ code_words a) (code_words b), code_length a k closed.0 fits.0 (omega arith), code_length b k closed.1 fits.1 (omega arith))
+code_length (pair a b) k closed fits low =
+    omega (
+      arith,
+      length-append (codes " pair" ++ code_words a) (code_words b),
+      code_length a k closed.0 fits.0
+          (omega arith),
+      code_length b k closed.1 fits.1 (omega arith),
+    )
 code_length (fst e) k closed fits low = omega (arith, code_length e k closed fits (omega arith))
 code_length (snd e) k closed fits low = omega (arith, code_length e k closed fits (omega arith))
 code_length (prim p a b) k closed fits low = omega (
@@ -96,5 +130,6 @@ short_text bytes v c k is =
     let text = code_length c 0 q.closed q.literals (omega (arith, few.1)) in
     let first = length-append (version_word v ++ kernel_words k) (code_words c) in
     let second = length-append (version_word v) (kernel_words k) in
-    let short : length (canonical_text v c k) < 2 ^ 32 = omega (arith, first, second, text, few.0, q.nodes, version_length v, kernel_length k) in
+    let short : length (canonical_text v c k) < 2 ^ 32 =
+    omega (arith, first, second, text, few.0, q.nodes, version_length v, kernel_length k) in
     subst (λ bs. length bs < 2 ^ 32) (sym is.text) short

@@ -36,39 +36,55 @@ record IsNumber (value : ℕ) (bytes : List ℕ) (n : ℕ) : Type 0 where
   at_most : value ≤ 2 ^ 63 → n ≤ 2 ^ 63
 
 number_found : (value : ℕ) (bytes : List ℕ) (n : ℕ) → number_in value bytes ≡ Some n → IsNumber value bytes n
-number_found value [] n e = let same : value ≡ n = same_Some value n e in record { of_digits = tt; worth = same; at_most = λ p. omega arith }
-number_found value (b ∷ bytes) n e = by_digit (number_found (10 * value + (b - 48)) bytes n) (is_digit b) (nat_le (10 * value + (b - 48)) (2 ^ 63)) refl refl e
+number_found value [] n e = let same : value ≡ n = same_Some value n e in
+    record { of_digits = tt; worth = same; at_most = λ p. omega arith }
+number_found value (b ∷ bytes) n e = by_digit (number_found (10 * value + (b - 48)) bytes n) (is_digit b)
+    (nat_le (10 * value + (b - 48)) (2 ^ 63)) refl refl e
   where
-    by_digit : (number_in (10 * value + (b - 48)) bytes ≡ Some n → IsNumber (10 * value + (b - 48)) bytes n) → (d s : Bool) → is_digit b ≡ d → nat_le (10 * value + (b - 48)) (2 ^ 63) ≡ s
-        → (if d then (if s then number_in (10 * value + (b - 48)) bytes else None) else None) ≡ Some n → IsNumber value (b ∷ bytes) n
+    by_digit : (number_in (10 * value + (b - 48)) bytes ≡ Some n → IsNumber (10 * value + (b - 48)) bytes n)
+        → (d s : Bool) → is_digit b ≡ d → nat_le (10 * value + (b - 48)) (2 ^ 63) ≡ s
+        → (if d then (if s then number_in (10 * value + (b - 48)) bytes else None) else None) ≡ Some n
+        → IsNumber value (b ∷ bytes) n
     by_digit more false s p q e = absurd (none-some n e)
     by_digit more true false p q e = absurd (none-some n e)
     by_digit more true true p q e =
         let rest = more e in
-        record { of_digits = (digit_is b p, rest.of_digits); worth = rest.worth; at_most = λ _. rest.at_most (leb-true (10 * value + (b - 48)) (2 ^ 63) q) }
+        record {
+          of_digits = (digit_is b p, rest.of_digits);
+          worth = rest.worth;
+          at_most = λ _.
+              rest.at_most (leb-true (10 * value + (b - 48)) (2 ^ 63) q);
+        }
 
 value_grows : (value : ℕ) (bytes : List ℕ) → value ≤ value_after value bytes
 value_grows value [] = omega arith
 value_grows value (b ∷ bytes) = omega (arith, value_grows (10 * value + (b - 48)) bytes)
 
-number_from : (value : ℕ) (bytes : List ℕ) → AreDigits bytes → value_after value bytes ≤ 2 ^ 63 → number_in value bytes ≡ Some (value_after value bytes)
+number_from : (value : ℕ) (bytes : List ℕ) → AreDigits bytes → value_after value bytes ≤ 2 ^ 63 → number_in value bytes
+    ≡ Some (value_after value bytes)
 number_from value [] d p = refl
 number_from value (b ∷ bytes) d p =
     let small : 10 * value + (b - 48) ≤ 2 ^ 63 = omega (arith, value_grows (10 * value + (b - 48)) bytes) in
-    rw (is_digit_from b d.0, le-leb (10 * value + (b - 48)) (2 ^ 63) small) (number_from (10 * value + (b - 48)) bytes d.1 p)
+    rw (is_digit_from b d.0, le-leb (10 * value + (b - 48)) (2 ^ 63) small)
+    (number_from (10 * value + (b - 48)) bytes d.1 p)
 
-decimal_of : (bytes : List ℕ) (n : ℕ) → number_in 0 bytes ≡ Some n → 0 < length bytes → (get_or bytes 0 0 ≡ 48 → length bytes ≡ 1) → (bytes ≡ decimal n) × (n ≤ 2 ^ 63)
+decimal_of : (bytes : List ℕ) (n : ℕ) → number_in 0 bytes ≡ Some n → 0 < length bytes
+    → (get_or bytes 0 0 ≡ 48 → length bytes ≡ 1) → (bytes ≡ decimal n) × (n ≤ 2 ^ 63)
 decimal_of bytes n e some lead =
     let number = number_found 0 bytes n e in
-    let small : n ≤ 2 ^ 63 = number.at_most (omega arith) in
-    (sym (decimal-digits_value own bytes number.of_digits some lead (omega (arith, number.worth))) ∙ ap decimal number.worth, small)
+    let small : n ≤ 2 ^ 63 = number.at_most (omega arith) in (
+      sym (decimal-digits_value own bytes number.of_digits some lead (omega (arith, number.worth)))
+          ∙ ap decimal number.worth,
+      small,
+    )
 
 pub natural_found : (bytes : List ℕ) (n : ℕ) → natural_of bytes ≡ Some n → (bytes ≡ decimal n) × (n ≤ 2 ^ 63)
 natural_found [] n e = absurd (none-some n e)
 natural_found (b ∷ []) n e = decimal_of (b ∷ []) n e (omega arith) (λ _. refl)
 natural_found (b ∷ c ∷ bytes) n e = by_zero (b == 48) refl e
   where
-    by_zero : (t : Bool) → (b == 48) ≡ t → (if t then None else number_in 0 (b ∷ c ∷ bytes)) ≡ Some n → (b ∷ c ∷ bytes ≡ decimal n) × (n ≤ 2 ^ 63)
+    by_zero : (t : Bool) → (b == 48) ≡ t → (if t then None else number_in 0 (b ∷ c ∷ bytes)) ≡ Some n
+        → (b ∷ c ∷ bytes ≡ decimal n) × (n ≤ 2 ^ 63)
     by_zero true p e = absurd (none-some n e)
     by_zero false p e = decimal_of (b ∷ c ∷ bytes) n e (omega arith) (λ z. absurd (eqb-false b 48 p z))
 
@@ -97,18 +113,22 @@ natural_spelled : (n : ℕ) (bytes : List ℕ) → n ≤ 2 ^ 63 → IsSpelling n
 natural_spelled n [] p s = absurd (let q = s.some in omega arith)
 natural_spelled n (b ∷ []) p s = number_from 0 (b ∷ []) s.of_digits (omega (arith, s.worth)) ∙ ap Some s.worth
 natural_spelled n (b ∷ c ∷ bytes) p s =
-    let positive_n : 0 < n = ⊎_elim (λ q. q) (λ q. absurd (let one = s.zero_alone (omega arith) in omega arith)) (cases_lt 0 n) in
+    let positive_n : 0 < n = ⊎_elim (λ q. q) (λ q. absurd (let one = s.zero_alone (omega arith) in omega arith))
+    (cases_lt 0 n) in
     let not_zero : (b == 48) ≡ false = ne_eqb b 48 (λ z. let q = s.first positive_n in omega arith) in
     rw not_zero (number_from 0 (b ∷ c ∷ bytes) s.of_digits (omega (arith, s.worth)) ∙ ap Some s.worth)
 
 pub natural_from : (n : ℕ) → n ≤ 2 ^ 63 → natural_of (decimal n) ≡ Some n
 natural_from n p = natural_spelled n (decimal n) p (spelling n p)
 
-pub below_found : (bound : ℕ) (bytes : List ℕ) (n : ℕ) → below bound (natural_of bytes) ≡ Some n → (bytes ≡ decimal n) × (n < bound)
+pub below_found : (bound : ℕ) (bytes : List ℕ) (n : ℕ) → below bound (natural_of bytes) ≡ Some n → (bytes ≡ decimal n)
+    × (n < bound)
 below_found bound bytes n e = by_number (natural_of bytes) refl e
   where
-    by_bound : (m : ℕ) → natural_of bytes ≡ Some m → (t : Bool) → nat_lt m bound ≡ t → (if t then Some m else None) ≡ Some n → (bytes ≡ decimal n) × (n < bound)
-    by_bound m f true q e = let same : m ≡ n = same_Some m n e in subst (λ k. (bytes ≡ decimal k) × (k < bound)) same ((natural_found bytes m f).0, ltb-true m bound q)
+    by_bound : (m : ℕ) → natural_of bytes ≡ Some m → (t : Bool) → nat_lt m bound ≡ t → (if t then Some m else None)
+        ≡ Some n → (bytes ≡ decimal n) × (n < bound)
+    by_bound m f true q e = let same : m ≡ n = same_Some m n e in subst (λ k. (bytes ≡ decimal k) × (k < bound)) same
+        ((natural_found bytes m f).0, ltb-true m bound q)
     by_bound m f false q e = absurd (none-some n e)
 
     by_number : (o : Option ℕ) → natural_of bytes ≡ o → below bound o ≡ Some n → (bytes ≡ decimal n) × (n < bound)
@@ -118,36 +138,45 @@ below_found bound bytes n e = by_number (natural_of bytes) refl e
 pub below_from : (bound n : ℕ) → n < bound → n ≤ 2 ^ 63 → below bound (natural_of (decimal n)) ≡ Some n
 below_from bound n p q = rw (natural_from n q, lt-ltb n bound p) refl
 
-signed_of : (bytes : List ℕ) (z : ℤ) → positive (natural_of bytes) ≡ Some z → (bytes ≡ signed_decimal z) × FitsSigned w64 z
+signed_of : (bytes : List ℕ) (z : ℤ) → positive (natural_of bytes) ≡ Some z → (bytes ≡ signed_decimal z)
+    × FitsSigned w64 z
 signed_of bytes z e = by_number (natural_of bytes) refl e
   where
-    by_bound : (m : ℕ) → natural_of bytes ≡ Some m → (t : Bool) → nat_lt m (2 ^ 63) ≡ t → (if t then Some (pos m) else None) ≡ Some z → (bytes ≡ signed_decimal z) × FitsSigned w64 z
+    by_bound : (m : ℕ) → natural_of bytes ≡ Some m → (t : Bool) → nat_lt m (2 ^ 63) ≡ t
+        → (if t then Some (pos m) else None) ≡ Some z → (bytes ≡ signed_decimal z) × FitsSigned w64 z
     by_bound m f true q e =
         let fits : FitsSigned w64 (pos m) = record { sfits = ltb-true m (2 ^ 63) q } in
-        subst (λ y. (bytes ≡ signed_decimal y) × FitsSigned w64 y) (same_Some (pos m) z e) ((natural_found bytes m f).0, fits)
+        subst (λ y. (bytes ≡ signed_decimal y) × FitsSigned w64 y) (same_Some (pos m) z e)
+        ((natural_found bytes m f).0, fits)
     by_bound m f false q e = absurd (none-some z e)
 
-    by_number : (o : Option ℕ) → natural_of bytes ≡ o → positive o ≡ Some z → (bytes ≡ signed_decimal z) × FitsSigned w64 z
+    by_number : (o : Option ℕ) → natural_of bytes ≡ o → positive o ≡ Some z → (bytes ≡ signed_decimal z)
+        × FitsSigned w64 z
     by_number None f e = absurd (none-some z e)
     by_number (Some m) f e = by_bound m f (nat_lt m (2 ^ 63)) refl e
 
-minus_of : (bytes : List ℕ) (z : ℤ) → negative (natural_of bytes) ≡ Some z → (45 ∷ bytes ≡ signed_decimal z) × FitsSigned w64 z
+minus_of : (bytes : List ℕ) (z : ℤ) → negative (natural_of bytes) ≡ Some z → (45 ∷ bytes ≡ signed_decimal z)
+    × FitsSigned w64 z
 minus_of bytes z e = by_number (natural_of bytes) refl e
   where
-    by_number : (o : Option ℕ) → natural_of bytes ≡ o → negative o ≡ Some z → (45 ∷ bytes ≡ signed_decimal z) × FitsSigned w64 z
+    by_number : (o : Option ℕ) → natural_of bytes ≡ o → negative o ≡ Some z → (45 ∷ bytes ≡ signed_decimal z)
+        × FitsSigned w64 z
     by_number None f e = absurd (none-some z e)
     by_number (Some zero) f e = absurd (none-some z e)
     by_number (Some (suc m)) f e =
         let found = natural_found bytes (suc m) f in
         let small : m < 2 ^ 63 = (let q = found.1 in omega arith) in
         let fits : FitsSigned w64 (negsuc m) = record { sfits = small } in
-        subst (λ y. (45 ∷ bytes ≡ signed_decimal y) × FitsSigned w64 y) (same_Some (negsuc m) z e) (ap (λ l. 45 ∷ l) found.0, fits)
+        subst (λ y. (45 ∷ bytes ≡ signed_decimal y) × FitsSigned w64 y) (same_Some (negsuc m) z e)
+        (ap (λ l. 45 ∷ l) found.0, fits)
 
 pub integer_found : (bytes : List ℕ) (z : ℤ) → integer_of bytes ≡ Some z → (bytes ≡ signed_decimal z) × FitsSigned w64 z
 integer_found [] z e = absurd (none-some z e)
 integer_found (b ∷ bytes) z e = by_sign (b == 45) refl e
   where
-    by_sign : (t : Bool) → (b == 45) ≡ t → (if t then negative (natural_of bytes) else positive (natural_of (b ∷ bytes))) ≡ Some z → (b ∷ bytes ≡ signed_decimal z) × FitsSigned w64 z
+    by_sign : (t : Bool) → (b == 45) ≡ t
+        → (if t then negative (natural_of bytes) else positive (natural_of (b ∷ bytes))) ≡ Some z
+        → (b ∷ bytes ≡ signed_decimal z) × FitsSigned w64 z
     by_sign true p e = let found = minus_of bytes z e in (ap (λ c. c ∷ bytes) (eqb-true b 45 p) ∙ found.0, found.1)
     by_sign false p e = signed_of (b ∷ bytes) z e
 
@@ -173,11 +202,14 @@ glyph_no_space d = by_small (nat_lt d 10)
 onto_no_space : (k n : ℕ) (bytes : List ℕ) → no_space bytes ≡ true → no_space (digits_onto k 10 false n bytes) ≡ true
 onto_no_space zero n bytes p = p
 onto_no_space (suc k) n bytes p =
-    let more : no_space (digit_glyph false (n % 10) ∷ bytes) ≡ true = and_from (not (is_space (digit_glyph false (n % 10)))) (no_space bytes) (ap not (glyph_no_space (n % 10))) p in
+    let more : no_space (digit_glyph false (n % 10) ∷ bytes) ≡ true =
+    and_from (not (is_space (digit_glyph false (n % 10)))) (no_space bytes) (ap not (glyph_no_space (n % 10))) p in
     by_last more (onto_no_space k (n / 10) (digit_glyph false (n % 10) ∷ bytes) more) (n / 10 == 0)
   where
-    by_last : no_space (digit_glyph false (n % 10) ∷ bytes) ≡ true → no_space (digits_onto k 10 false (n / 10) (digit_glyph false (n % 10) ∷ bytes)) ≡ true → (t : Bool)
-        → no_space (if t then digit_glyph false (n % 10) ∷ bytes else digits_onto k 10 false (n / 10) (digit_glyph false (n % 10) ∷ bytes)) ≡ true
+    by_last : no_space (digit_glyph false (n % 10) ∷ bytes) ≡ true
+        → no_space (digits_onto k 10 false (n / 10) (digit_glyph false (n % 10) ∷ bytes)) ≡ true → (t : Bool)
+        → no_space (if t then digit_glyph false (n % 10) ∷ bytes else digits_onto k 10 false (n / 10)
+        (digit_glyph false (n % 10) ∷ bytes)) ≡ true
     by_last one more true = one
     by_last one more false = more
 

@@ -47,10 +47,13 @@ code_list _ = []
 one_spaced : (w x : List ℕ) (xs : List (List ℕ)) → x ≡ spaced xs → 32 ∷ w ++ x ≡ spaced (w ∷ xs)
 one_spaced w x xs e = ap (λ bytes. 32 ∷ (w ++ bytes)) e
 
-two_spaced : (w x y : List ℕ) (xs ys : List (List ℕ)) → x ≡ spaced xs → y ≡ spaced ys → (32 ∷ w) ++ x ++ y ≡ spaced (w ∷ (xs ++ ys))
-two_spaced w x y xs ys e f = append_assoc (32 ∷ w) x y ∙ ap (λ bytes. 32 ∷ (w ++ bytes)) (cc (ap (λ bytes. bytes ++ y) e, ap (λ bytes. spaced xs ++ bytes) f, spaced-append xs ys))
+two_spaced : (w x y : List ℕ) (xs ys : List (List ℕ)) → x ≡ spaced xs → y ≡ spaced ys → (32 ∷ w) ++ x ++ y
+    ≡ spaced (w ∷ (xs ++ ys))
+two_spaced w x y xs ys e f = append_assoc (32 ∷ w) x y ∙ ap (λ bytes. 32 ∷ (w ++ bytes))
+    (cc (ap (λ bytes. bytes ++ y) e, ap (λ bytes. spaced xs ++ bytes) f, spaced-append xs ys))
 
-three_spaced : (w x y z : List ℕ) (xs ys zs : List (List ℕ)) → x ≡ spaced xs → y ≡ spaced ys → z ≡ spaced zs → (32 ∷ w) ++ x ++ y ++ z ≡ spaced (w ∷ (xs ++ (ys ++ zs)))
+three_spaced : (w x y z : List ℕ) (xs ys zs : List (List ℕ)) → x ≡ spaced xs → y ≡ spaced ys → z ≡ spaced zs
+    → (32 ∷ w) ++ x ++ y ++ z ≡ spaced (w ∷ (xs ++ (ys ++ zs)))
 three_spaced w x y z xs ys zs e f g =
     ap (λ bytes. bytes ++ z) (two_spaced w x y xs ys e f)
     ∙ ap (λ bytes. (32 ∷ (w ++ spaced (xs ++ ys))) ++ bytes) g
@@ -60,11 +63,13 @@ three_spaced w x y z xs ys zs e f g =
 ground_spaced : (t : GroundType) → ground_words t ≡ spaced (ground_list t)
 ground_spaced (base b.Int) = refl
 ground_spaced (base b.Bool) = refl
-ground_spaced (product s t) = two_spaced (codes "pair") (ground_words s) (ground_words t) (ground_list s) (ground_list t) (ground_spaced s) (ground_spaced t)
+ground_spaced (product s t) = two_spaced (codes "pair") (ground_words s) (ground_words t) (ground_list s)
+    (ground_list t) (ground_spaced s) (ground_spaced t)
 
 kernel_spaced : (k : KernelType) → kernel_words k ≡ spaced (kernel_list k)
 kernel_spaced (of_ground t) = ground_spaced t
-kernel_spaced (to s t) = two_spaced (codes "to") (ground_words s) (ground_words t) (ground_list s) (ground_list t) (ground_spaced s) (ground_spaced t)
+kernel_spaced (to s t) = two_spaced (codes "to") (ground_words s) (ground_words t) (ground_list s) (ground_list t)
+    (ground_spaced s) (ground_spaced t)
 
 primitive_spaced : (p : Prim') → primitive_word p ≡ 32 ∷ primitive_name p
 primitive_spaced Add = refl
@@ -86,31 +91,45 @@ code_spaced (truth false) = refl
 code_spaced (var i) = number_spaced (codes "v") (decimal i)
 code_spaced (fun e) = one_spaced (codes "fun") (code_words e) (code_list e) (code_spaced e)
 code_spaced (fix e) = one_spaced (codes "rec") (code_words e) (code_list e) (code_spaced e)
-code_spaced (app f a) = two_spaced (codes "app") (code_words f) (code_words a) (code_list f) (code_list a) (code_spaced f) (code_spaced a)
-code_spaced (bind d e) = two_spaced (codes "let") (code_words d) (code_words e) (code_list d) (code_list e) (code_spaced d) (code_spaced e)
+code_spaced (app f a) = two_spaced (codes "app") (code_words f) (code_words a) (code_list f) (code_list a)
+    (code_spaced f) (code_spaced a)
+code_spaced (bind d e) = two_spaced (codes "let") (code_words d) (code_words e) (code_list d) (code_list e)
+    (code_spaced d) (code_spaced e)
 code_spaced (cond c a t) =
-    three_spaced (codes "if") (code_words c) (code_words a) (code_words t) (code_list c) (code_list a) (code_list t) (code_spaced c) (code_spaced a) (code_spaced t)
-code_spaced (pair a t) = two_spaced (codes "pair") (code_words a) (code_words t) (code_list a) (code_list t) (code_spaced a) (code_spaced t)
+    three_spaced (codes "if") (code_words c) (code_words a) (code_words t) (code_list c) (code_list a) (code_list t)
+    (code_spaced c) (code_spaced a) (code_spaced t)
+code_spaced (pair a t) = two_spaced (codes "pair") (code_words a) (code_words t) (code_list a) (code_list t)
+    (code_spaced a) (code_spaced t)
 code_spaced (fst e) = one_spaced (codes "fst") (code_words e) (code_list e) (code_spaced e)
 code_spaced (snd e) = one_spaced (codes "snd") (code_words e) (code_list e) (code_spaced e)
 code_spaced (prim p a t) =
     ap (λ w. w ++ code_words a ++ code_words t) (primitive_spaced p)
-    ∙ two_spaced (primitive_name p) (code_words a) (code_words t) (code_list a) (code_list t) (code_spaced a) (code_spaced t)
+    ∙ two_spaced (primitive_name p) (code_words a) (code_words t) (code_list a) (code_list t) (code_spaced a)
+    (code_spaced t)
 code_spaced _ = refl
 
 -- the text is its words with spaces between them
-text_spaced : (v : Version) (c : Expression) (k : KernelType) → canonical_text v c k ≡ version_word v ++ spaced (kernel_list k ++ code_list c)
+text_spaced : (v : Version) (c : Expression) (k : KernelType) → canonical_text v c k ≡ version_word v
+    ++ spaced (kernel_list k ++ code_list c)
 text_spaced v c k =
     append_assoc (version_word v) (kernel_words k) (code_words c)
-    ∙ ap (λ bytes. version_word v ++ bytes) (cc (ap (λ bytes. bytes ++ code_words c) (kernel_spaced k), ap (λ bytes. spaced (kernel_list k) ++ bytes) (code_spaced c), spaced-append (kernel_list k) (code_list c)))
+    ∙ ap (λ bytes. version_word v ++ bytes)
+    (cc (
+      ap (λ bytes. bytes ++ code_words c) (kernel_spaced k),
+      ap (λ bytes. spaced (kernel_list k) ++ bytes)
+          (code_spaced c),
+      spaced-append (kernel_list k) (code_list c),
+    ))
 
 ground_spaceless : (t : GroundType) → NoSpaces (ground_list t)
 ground_spaceless (base t) = (type_form_no_space (Base t), tt)
-ground_spaceless (product s t) = (refl, NoSpaces-append (ground_list s) (ground_list t) (ground_spaceless s) (ground_spaceless t))
+ground_spaceless (product s t) =
+    (refl, NoSpaces-append (ground_list s) (ground_list t) (ground_spaceless s) (ground_spaceless t))
 
 kernel_spaceless : (k : KernelType) → NoSpaces (kernel_list k)
 kernel_spaceless (of_ground t) = ground_spaceless t
-kernel_spaceless (to s t) = (refl, NoSpaces-append (ground_list s) (ground_list t) (ground_spaceless s) (ground_spaceless t))
+kernel_spaceless (to s t) =
+    (refl, NoSpaces-append (ground_list s) (ground_list t) (ground_spaceless s) (ground_spaceless t))
 
 code_spaceless : (c : Expression) → NoSpaces (code_list c)
 code_spaceless (num n) = (refl, (signed_no_space n, tt))
@@ -121,18 +140,26 @@ code_spaceless (fun e) = (refl, code_spaceless e)
 code_spaceless (fix e) = (refl, code_spaceless e)
 code_spaceless (app f a) = (refl, NoSpaces-append (code_list f) (code_list a) (code_spaceless f) (code_spaceless a))
 code_spaceless (bind d e) = (refl, NoSpaces-append (code_list d) (code_list e) (code_spaceless d) (code_spaceless e))
-code_spaceless (cond c a t) =
-    (refl, NoSpaces-append (code_list c) (code_list a ++ code_list t) (code_spaceless c) (NoSpaces-append (code_list a) (code_list t) (code_spaceless a) (code_spaceless t)))
+code_spaceless (cond c a t) = (
+  refl,
+  NoSpaces-append (code_list c) (code_list a ++ code_list t) (code_spaceless c)
+      (NoSpaces-append (code_list a) (code_list t) (code_spaceless a) (code_spaceless t)),
+)
 code_spaceless (pair a t) = (refl, NoSpaces-append (code_list a) (code_list t) (code_spaceless a) (code_spaceless t))
 code_spaceless (fst e) = (refl, code_spaceless e)
 code_spaceless (snd e) = (refl, code_spaceless e)
-code_spaceless (prim p a t) = (primitive_no_space p, NoSpaces-append (code_list a) (code_list t) (code_spaceless a) (code_spaceless t))
+code_spaceless (prim p a t) =
+    (primitive_no_space p, NoSpaces-append (code_list a) (code_list t) (code_spaceless a) (code_spaceless t))
 code_spaceless _ = tt
 
 -- the words of a text
-pub words_of_text : (v : Version) (c : Expression) (k : KernelType) → words (canonical_text v c k) ≡ version_word v ∷ (kernel_list k ++ code_list c)
-words_of_text v c k = ap words (text_spaced v c k) ∙ words_of_bytes (version_word v) (kernel_list k ++ code_list c) (version_no_space v) (NoSpaces-append (kernel_list k) (code_list c) (kernel_spaceless k) (code_spaceless c))
+pub words_of_text : (v : Version) (c : Expression) (k : KernelType) → words (canonical_text v c k) ≡ version_word v
+    ∷ (kernel_list k ++ code_list c)
+words_of_text v c k = ap words (text_spaced v c k) ∙ words_of_bytes (version_word v) (kernel_list k ++ code_list c)
+    (version_no_space v) (NoSpaces-append (kernel_list k) (code_list c) (kernel_spaceless k) (code_spaceless c))
 
 -- bytes with the words of a text are the text
-pub text_from_words : (bytes : List ℕ) (v : Version) (c : Expression) (k : KernelType) → words bytes ≡ version_word v ∷ (kernel_list k ++ code_list c) → bytes ≡ canonical_text v c k
-text_from_words bytes v c k e = bytes_of_words bytes (version_word v) (kernel_list k ++ code_list c) e ∙ sym (text_spaced v c k)
+pub text_from_words : (bytes : List ℕ) (v : Version) (c : Expression) (k : KernelType) → words bytes ≡ version_word v
+    ∷ (kernel_list k ++ code_list c) → bytes ≡ canonical_text v c k
+text_from_words bytes v c k e = bytes_of_words bytes (version_word v) (kernel_list k ++ code_list c) e
+    ∙ sym (text_spaced v c k)

@@ -20,15 +20,19 @@ abbrev pub version_words : List (List ℕ × Version)
 version_words = (codes "emit1", One) ∷ (codes "emit2", Two) ∷ []
 
 abbrev pub type_words : List (List ℕ × TypeForm)
-type_words = (codes "int", Base base.Int) ∷ (codes "bool", Base base.Bool) ∷ (codes "pair", PairType) ∷ (codes "to", To) ∷ []
+type_words = (codes "int", Base base.Int) ∷ (codes "bool", Base base.Bool) ∷ (codes "pair", PairType) ∷ (codes "to", To)
+    ∷ []
 
 abbrev pub primitive_words : List (List ℕ × Form)
-primitive_words = (codes "add", WithTwo (Prim Add)) ∷ (codes "sub", WithTwo (Prim Sub)) ∷ (codes "mul", WithTwo (Prim Mul)) ∷ (codes "div", WithTwo (Prim Div)) ∷ (codes "mod", WithTwo (Prim Mod))
+primitive_words = (codes "add", WithTwo (Prim Add)) ∷ (codes "sub", WithTwo (Prim Sub))
+    ∷ (codes "mul", WithTwo (Prim Mul)) ∷ (codes "div", WithTwo (Prim Div)) ∷ (codes "mod", WithTwo (Prim Mod))
     ∷ (codes "eq", WithTwo (Prim Eq)) ∷ (codes "lt", WithTwo (Prim Lt)) ∷ (codes "le", WithTwo (Prim Le)) ∷ []
 
 abbrev pub code_forms : List (List ℕ × Form)
-code_forms = (codes "i", Int) ∷ (codes "true", Bool true) ∷ (codes "false", Bool false) ∷ (codes "v", Var) ∷ (codes "fun", WithOne Fun) ∷ (codes "rec", WithOne Rec)
-    ∷ (codes "app", WithTwo App) ∷ (codes "let", WithTwo Let) ∷ (codes "if", If) ∷ (codes "pair", WithTwo Pair) ∷ (codes "fst", WithOne Fst) ∷ (codes "snd", WithOne Snd) ∷ primitive_words
+code_forms = (codes "i", Int) ∷ (codes "true", Bool true) ∷ (codes "false", Bool false) ∷ (codes "v", Var)
+    ∷ (codes "fun", WithOne Fun) ∷ (codes "rec", WithOne Rec)
+    ∷ (codes "app", WithTwo App) ∷ (codes "let", WithTwo Let) ∷ (codes "if", If) ∷ (codes "pair", WithTwo Pair)
+    ∷ (codes "fst", WithOne Fst) ∷ (codes "snd", WithOne Snd) ∷ primitive_words
 
 -- what a word spells
 abbrev pub version_of : List ℕ → Option Version
@@ -40,7 +44,8 @@ type_form_of word = lookup (bytes_eq word) type_words
 abbrev pub form_of : List ℕ → Option Form
 form_of word = lookup (bytes_eq word) code_forms
 
--- how many binders the part of a form stands under, and the second part of one of two, where the form stands under so many
+-- how many binders the part of a form stands under, and the second part of one of two, where the form stands under so
+-- many
 abbrev pub under_one : OnePart → ℕ → ℕ
 under_one Fun k = k + 1
 under_one Rec k = k + 2

@@ -91,8 +91,10 @@ code_parts part Int k ws n = make num (find_integer ws n)
 code_parts part (Bool b) k ws n = Some (truth b, ws, n)
 code_parts part Var k ws n = make var (find_variable k ws n)
 code_parts part (WithOne form) k ws n = make (code_of_one form) (part (under_one form k) ws n)
-code_parts part (WithTwo form) k ws n = then_find (part k ws n) λ a ws n. make (code_of_two form a) (part (under_two form k) ws n)
-code_parts part If k ws n = then_find (part k ws n) λ c ws n. then_find (part k ws n) λ a ws n. make (cond c a) (part k ws n)
+code_parts part (WithTwo form) k ws n = then_find (part k ws n) λ a ws n. make (code_of_two form a)
+    (part (under_two form k) ws n)
+code_parts part If k ws n = then_find (part k ws n) λ c ws n. then_find (part k ws n) λ a ws n.
+    make (cond c a) (part k ws n)
 
 -- code of at most this depth under this many binders
 unfoldable pub find_code : ℕ → ℕ → List (List ℕ) → ℕ → Found Expression
@@ -107,7 +109,8 @@ last (Some (found, w ∷ ws, n)) = None
 
 -- the version, type and code that the words of a text spell
 unfoldable pub text_of_words : List (List ℕ) → Option (Version × Expression × KernelType)
-text_of_words ws = last (then_find (find_version ws 10000) λ v ws n. then_find (find_kernel_type 10000 ws n) λ k ws n. make (λ c. (v, c, k)) (find_code 400 0 ws 20000))
+text_of_words ws = last (then_find (find_version ws 10000) λ v ws n. then_find (find_kernel_type 10000 ws n) λ k ws n.
+    make (λ c. (v, c, k)) (find_code 400 0 ws 20000))
 
 -- what a call that reads a whole text answers: what its words spell, or that they spell nothing
 abbrev pub Answers : {T A : Type 0} → (T → A) → Result T TextFault → Option A → Type 0
@@ -115,6 +118,7 @@ Answers view (Ok x) spelt = spelt ≡ Some (view x)
 Answers view (Err fault) spelt = fault ≡ BadText → spelt ≡ None
 
 -- what a call that reads from words answers: the thing that is found, with what is left after it, or that there is none
-abbrev pub Finds : {T A : Type 0} → (T → A) → Result T TextFault → (List (List ℕ) → ℕ → Found A) → Reader → Reader → Type 0
+abbrev pub Finds : {T A : Type 0} → (T → A) → Result T TextFault → (List (List ℕ) → ℕ → Found A) → Reader → Reader
+    → Type 0
 Finds view (Ok x) find old new = find (words_left old.rest) old.nodes ≡ Some (view x, words_left new.rest, new.nodes)
 Finds view (Err fault) find old new = fault ≡ BadText → find (words_left old.rest) old.nodes ≡ None

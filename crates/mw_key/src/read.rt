@@ -26,13 +26,15 @@ const MOST_CODE_NODES: u32 = 20_000;
 /// How deep code may nest.
 const MOST_DEPTH: u32 = 400;
 
-/// The version, code and type whose canonical text the bytes are. `BadText` comes where they are none, and `Memory` where
-/// memory runs out. Words are read one after another, and no further than to the first that can't stand there.
+/// The version, code and type whose canonical text the bytes are. `BadText` comes where they are none, and `Memory`
+/// where memory runs out. Words are read one after another, and no further than to the first that can't stand there.
 pub fn read_text(alloc: Global, bytes: &[u8]) -> Result<(Version, Term, KType), TextFault>
     ensures read { IfOk result (λ t. IsTextOf bytes.now t.0 (expression_of t.1) (kernel_type_of t.2)) }
-    ensures refused { result ≡ Err TextFault.BadText → (v : PureVersion) (c : Expression) (k : KernelType) → IsTextOf bytes.now v c k → ⊥ }
+    ensures refused { result ≡ Err TextFault.BadText → (v : PureVersion) (c : Expression) (k : KernelType)
+        → IsTextOf bytes.now v c k → ⊥ }
     ensures found { (v : PureVersion) (c : Expression) (k : KernelType) → IsTextOf bytes.now v c k
-        → MatchResult result (λ t. (t.0 ≡ v) × (expression_of t.1 ≡ c) × (kernel_type_of t.2 ≡ k)) (λ fault. fault ≡ TextFault.Memory alloc_error) }
+        → MatchResult result (λ t. (t.0 ≡ v) × (expression_of t.1 ≡ c) × (kernel_type_of t.2 ≡ k))
+        (λ fault. fault ≡ TextFault.Memory alloc_error) }
 {
     whole_text(alloc, &mut Reader::new(bytes))
 }
@@ -40,7 +42,8 @@ pub fn read_text(alloc: Global, bytes: &[u8]) -> Result<(Version, Term, KType), 
 /// The version, code and type that all words that are left spell.
 #[tactic(auto, unfolding(crate::specs::Reading::text_of_words))]
 fn whole_text(alloc: Global, reader: &mut Reader) -> Read<(Version, Term, KType)>
-    ensures { Answers (λ t. (t.0, expression_of t.1, kernel_type_of t.2)) result (text_of_words (words_left reader.old.rest)) }
+    ensures { Answers (λ t. (t.0, expression_of t.1, kernel_type_of t.2)) result
+        (text_of_words (words_left reader.old.rest)) }
 {
     reader.allow(MOST_TYPE_NODES);
     let version = reader.version()?;

@@ -15,7 +15,8 @@ use std::alloc::{AllocError, Global};
 /// The text of the second version for the code at the kernel type. The one error is want of memory.
 pub fn text_of(alloc: Global, code: &Term, kind: &KType) -> Result<Vec<u8>, AllocError>
     requires code { IsCode (expression_of code.now) }
-    ensures text { IfOk result (λ text. text.items ≡ canonical_text Two (expression_of code.now) (kernel_type_of kind.now)) }
+    ensures text { IfOk result
+        (λ text. text.items ≡ canonical_text Two (expression_of code.now) (kernel_type_of kind.now)) }
     ensures literals { IfOk result (λ _. LiteralsFit (expression_of code.now)) }
 {
     let mut text = Vec::new(alloc);
@@ -99,7 +100,8 @@ fn put_code(text: &mut Vec<u8>, code: &Term) -> Result<(), AllocError>
 /// A word and the words of code.
 #[cycle(code)]
 fn put_one(text: &mut Vec<u8>, word: &[u8], code: &Term) -> Result<(), AllocError>
-    ensures text { IfOk result (λ _. text.new.items ≡ text.old.items ++ (word.now ++ code_words (expression_of code.now))) }
+    ensures text { IfOk result
+        (λ _. text.new.items ≡ text.old.items ++ (word.now ++ code_words (expression_of code.now))) }
     ensures literals { IfOk result (λ _. LiteralsFit (expression_of code.now)) }
 {
     put(text, word)?;
@@ -109,7 +111,8 @@ fn put_one(text: &mut Vec<u8>, word: &[u8], code: &Term) -> Result<(), AllocErro
 /// A word and the words of code and of more code.
 #[cycle(code)]
 fn put_two(text: &mut Vec<u8>, word: &[u8], first: &Term, second: &Term) -> Result<(), AllocError>
-    ensures text { IfOk result (λ _. text.new.items ≡ text.old.items ++ words_of_two word.now (expression_of first.now) (expression_of second.now)) }
+    ensures text { IfOk result (λ _. text.new.items ≡ text.old.items ++ words_of_two word.now (expression_of first.now)
+        (expression_of second.now)) }
     ensures literals { IfOk result (λ _. LiteralsFit (expression_of first.now) × LiteralsFit (expression_of second.now)) }
 {
     put(text, word)?;

@@ -7,11 +7,15 @@ use Rattle.mw_lex.specs.Pieces.{is_digit, count, number_in}
 
 module _ (test : ℕ → Bool) (bytes : List ℕ) (n : ℕ) where
   -- the bytes from n on
-  here : n < length bytes → (t : Bool) → test (get_or bytes n 0) ≡ t → count test (drop n bytes) ≡ (if t then suc (count test (drop (suc n) bytes)) else 0)
-  here p t e = ap (λ r. count test r) (drop-cons bytes n 0 p) ∙ ap (λ t. if t then suc (count test (drop (suc n) bytes)) else 0) e
+  here : n < length bytes → (t : Bool) → test (get_or bytes n 0) ≡ t → count test (drop n bytes)
+      ≡ (if t then suc (count test (drop (suc n) bytes)) else 0)
+  here p t e = ap (λ r. count test r) (drop-cons bytes n 0 p)
+      ∙ ap (λ t. if t then suc (count test (drop (suc n) bytes)) else 0) e
 
-  pub counts_on : n < length bytes → test (get_or bytes n 0) ≡ true → n + count test (drop n bytes) ≡ n + 1 + count test (drop (n + 1) bytes)
-  counts_on p e = let f : count test (drop n bytes) ≡ suc (count test (drop (n + 1) bytes)) = here p true e ∙ ap (λ k. suc (count test (drop k bytes))) (sym (add-one n)) in omega (arith, f)
+  pub counts_on : n < length bytes → test (get_or bytes n 0) ≡ true → n + count test (drop n bytes)
+      ≡ n + 1 + count test (drop (n + 1) bytes)
+  counts_on p e = let f : count test (drop n bytes) ≡ suc (count test (drop (n + 1) bytes)) = here p true e
+      ∙ ap (λ k. suc (count test (drop k bytes))) (sym (add-one n)) in omega (arith, f)
 
   pub counts_off : n < length bytes → test (get_or bytes n 0) ≡ false → n + count test (drop n bytes) ≡ n
   counts_off p e = let f = here p false e in omega (arith, f)
@@ -20,17 +24,26 @@ module _ (test : ℕ → Bool) (bytes : List ℕ) (n : ℕ) where
   counts_all p = let f : count test (drop n bytes) ≡ 0 = ap (λ r. count test r) (drop_all n bytes p) in omega (arith, f)
 
 module _ (value n : ℕ) (bytes : List ℕ) where
-  digit_here : n < length bytes → (d s : Bool) → is_digit (get_or bytes n 0) ≡ d → nat_le (10 * value + (get_or bytes n 0 - 48)) (2 ^ 63) ≡ s
-      → number_in value (drop n bytes) ≡ (if d then (if s then number_in (10 * value + (get_or bytes n 0 - 48)) (drop (suc n) bytes) else None) else None)
+  digit_here : n < length bytes → (d s : Bool) → is_digit (get_or bytes n 0) ≡ d
+      → nat_le (10 * value + (get_or bytes n 0 - 48)) (2 ^ 63) ≡ s
+      → number_in value (drop n bytes)
+      ≡ (if d then (if s then number_in (10 * value + (get_or bytes n 0 - 48)) (drop (suc n) bytes) else None) else
+      None)
   digit_here p d s e f =
       ap (λ r. number_in value r) (drop-cons bytes n 0 p)
-      ∙ ap (λ d. if d then (if nat_le (10 * value + (get_or bytes n 0 - 48)) (2 ^ 63) then number_in (10 * value + (get_or bytes n 0 - 48)) (drop (suc n) bytes) else None) else None) e
-      ∙ ap (λ s. if d then (if s then number_in (10 * value + (get_or bytes n 0 - 48)) (drop (suc n) bytes) else None) else None) f
+      ∙ ap (λ d. if d then
+      (if nat_le (10 * value + (get_or bytes n 0 - 48)) (2 ^ 63) then number_in
+      (10 * value + (get_or bytes n 0 - 48)) (drop (suc n) bytes) else None) else None) e
+      ∙ ap (λ s. if d then (if s then number_in (10 * value + (get_or bytes n 0 - 48)) (drop (suc n) bytes) else None)
+      else None) f
 
-  pub number_digit : n < length bytes → is_digit (get_or bytes n 0) ≡ true → 10 * value + (get_or bytes n 0 - 48) ≤ 2 ^ 63 → number_in (10 * value + (get_or bytes n 0 - 48)) (drop (n + 1) bytes) ≡ number_in value (drop n bytes)
-  number_digit p e q = ap (λ k. number_in (10 * value + (get_or bytes n 0 - 48)) (drop k bytes)) (add-one n) ∙ sym (digit_here p true true e (le-leb (10 * value + (get_or bytes n 0 - 48)) (2 ^ 63) q))
+  pub number_digit : n < length bytes → is_digit (get_or bytes n 0) ≡ true → 10 * value + (get_or bytes n 0 - 48)
+      ≤ 2 ^ 63 → number_in (10 * value + (get_or bytes n 0 - 48)) (drop (n + 1) bytes) ≡ number_in value (drop n bytes)
+  number_digit p e q = ap (λ k. number_in (10 * value + (get_or bytes n 0 - 48)) (drop k bytes)) (add-one n)
+      ∙ sym (digit_here p true true e (le-leb (10 * value + (get_or bytes n 0 - 48)) (2 ^ 63) q))
 
-  pub number_big : n < length bytes → is_digit (get_or bytes n 0) ≡ true → 2 ^ 63 < 10 * value + (get_or bytes n 0 - 48) → number_in value (drop n bytes) ≡ None
+  pub number_big : n < length bytes → is_digit (get_or bytes n 0) ≡ true → 2 ^ 63 < 10 * value + (get_or bytes n 0 - 48)
+      → number_in value (drop n bytes) ≡ None
   number_big p e q = digit_here p true false e (lt-leb (10 * value + (get_or bytes n 0 - 48)) (2 ^ 63) q)
 
   pub number_other : n < length bytes → is_digit (get_or bytes n 0) ≡ false → number_in value (drop n bytes) ≡ None

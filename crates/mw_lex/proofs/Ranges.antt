@@ -10,15 +10,18 @@ use Rattle.mw_lex.specs.InOrder.{MayStand, IsInRange, AreInRange}
 use Rattle.mw_lex.specs.Pieces.{is_digit, number_in, next_to_last, last, is_paren_left, is_minus}
 use Rattle.mw_lex.proofs.ByteTests.{denied, digit_true, true_digit}
 
-pub range_push : (a b : Symbol) (tokens : List PureToken) (start stop : ℕ) (s : Symbol) → AreInRange a b tokens → IsInRange (next_to_last a b tokens) (last b tokens) s → AreInRange a b (tokens ++ token start stop s ∷ [])
+pub range_push : (a b : Symbol) (tokens : List PureToken) (start stop : ℕ) (s : Symbol) → AreInRange a b tokens
+    → IsInRange (next_to_last a b tokens) (last b tokens) s → AreInRange a b (tokens ++ token start stop s ∷ [])
 range_push a b [] start stop s r i = (i, tt)
 range_push a b (token from to t ∷ tokens) start stop s r i = (r.0, range_push b t tokens start stop s r.1 i)
 
-pub range_last : (a b : Symbol) (tokens : List PureToken) (start stop : ℕ) (s : Symbol) (more : List PureToken) → AreInRange a b (tokens ++ token start stop s ∷ more) → IsInRange (next_to_last a b tokens) (last b tokens) s
+pub range_last : (a b : Symbol) (tokens : List PureToken) (start stop : ℕ) (s : Symbol) (more : List PureToken)
+    → AreInRange a b (tokens ++ token start stop s ∷ more) → IsInRange (next_to_last a b tokens) (last b tokens) s
 range_last a b [] start stop s more r = r.0
 range_last a b (token from to t ∷ tokens) start stop s more r = range_last b t tokens start stop s more r.1
 
-pub range_front : (a b : Symbol) (tokens : List PureToken) (t : PureToken) (more : List PureToken) → AreInRange a b (tokens ++ t ∷ more) → AreInRange a b (tokens ++ t ∷ [])
+pub range_front : (a b : Symbol) (tokens : List PureToken) (t : PureToken) (more : List PureToken)
+    → AreInRange a b (tokens ++ t ∷ more) → AreInRange a b (tokens ++ t ∷ [])
 range_front a b [] (token start stop s) more r = (r.0, tt)
 range_front a b (token from to t ∷ tokens) u more r = (r.0, range_front b t tokens u more r.1)
 
@@ -48,16 +51,22 @@ least : (front : ℕ) (text : List ℕ) → front ≤ decimal front text
 least front [] = omega arith
 least front (b ∷ text) = omega (arith, least (10 * front + (b - 48)) text)
 
-number_digits : (front b : ℕ) (text : List ℕ) → IsDigit b → (o : Option ℕ) → NumberIs (10 * front + (b - 48)) text o → NumberIs front (b ∷ text) o
+number_digits : (front b : ℕ) (text : List ℕ) → IsDigit b → (o : Option ℕ) → NumberIs (10 * front + (b - 48)) text o
+    → NumberIs front (b ∷ text) o
 number_digits front b text d None h = λ a. h a.1
 number_digits front b text d (Some n) h = ((d, h.0), h.1, h.2)
 
 pub number_is : (front : ℕ) (text : List ℕ) → front ≤ 2 ^ 63 → NumberIs front text (number_in front text)
 number_is front [] p = (tt, refl, p)
-number_is front (b ∷ text) p = by_digit (number_is (10 * front + (b - 48)) text) (is_digit b) refl (nat_le (10 * front + (b - 48)) (2 ^ 63)) refl
+number_is front (b ∷ text) p = by_digit (number_is (10 * front + (b - 48)) text) (is_digit b) refl
+    (nat_le (10 * front + (b - 48)) (2 ^ 63)) refl
   where
-    by_digit : (10 * front + (b - 48) ≤ 2 ^ 63 → NumberIs (10 * front + (b - 48)) text (number_in (10 * front + (b - 48)) text)) → (d : Bool) → is_digit b ≡ d → (s : Bool) → nat_le (10 * front + (b - 48)) (2 ^ 63) ≡ s
+    by_digit : (10 * front + (b - 48) ≤ 2 ^ 63 → NumberIs (10 * front + (b - 48)) text
+        (number_in (10 * front + (b - 48)) text)) → (d : Bool) → is_digit b ≡ d → (s : Bool)
+        → nat_le (10 * front + (b - 48)) (2 ^ 63) ≡ s
         → NumberIs front (b ∷ text) (if d then (if s then number_in (10 * front + (b - 48)) text else None) else None)
-    by_digit more true e true f = number_digits front b text (digit_true b e) (number_in (10 * front + (b - 48)) text) (more (leb-true (10 * front + (b - 48)) (2 ^ 63) f))
-    by_digit more true e false f = λ a. omega (arith, leb-false (10 * front + (b - 48)) (2 ^ 63) f, least (10 * front + (b - 48)) text)
+    by_digit more true e true f = number_digits front b text (digit_true b e) (number_in (10 * front + (b - 48)) text)
+        (more (leb-true (10 * front + (b - 48)) (2 ^ 63) f))
+    by_digit more true e false f = λ a.
+        omega (arith, leb-false (10 * front + (b - 48)) (2 ^ 63) f, least (10 * front + (b - 48)) text)
     by_digit more false e s f = λ a. absurd (denied (true_digit b) e a.0)

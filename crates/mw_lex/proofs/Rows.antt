@@ -29,7 +29,8 @@ row_zeros = refl
 
 -- one token, and not `<` and `=`
 row_longest : AreTokens (codes "<=") (token 0 2 less_equal ∷ [])
-row_longest = all_read (codes "<=") 2 _ (step_mark (codes "<=") 0 [] (start_read (codes "<=")) (lit< tt) less_equal 2 refl) (lit< tt)
+row_longest = all_read (codes "<=") 2 _ (step_mark (codes "<=") 0 [] (start_read (codes "<=")) (lit< tt) less_equal 2
+    refl) (lit< tt)
 
 -- two tokens
 row_apart : AreTokens (codes "< =") (token 0 1 less ∷ token 2 3 equal ∷ [])
@@ -43,20 +44,28 @@ row_apart =
 row_words : AreTokens (codes "let lets") (token 0 3 let_word ∷ token 4 8 (word (codes "lets")) ∷ [])
 row_words =
     let bytes = codes "let lets" in
-    let one : IsRead bytes 3 (token 0 3 let_word ∷ []) = step_run bytes 0 [] (start_read bytes) (lit< tt) 3 let_word refl refl in
-    let two : IsRead bytes 4 (token 0 3 let_word ∷ []) = step_gap bytes 3 (token 0 3 let_word ∷ []) one (lit< tt) 1 refl in
-    all_read bytes 8 _ (step_run bytes 4 (token 0 3 let_word ∷ []) two (lit< tt) 4 (word (codes "lets")) refl refl) (lit< tt)
+    let one : IsRead bytes 3 (token 0 3 let_word ∷ []) = step_run bytes 0 [] (start_read bytes) (lit< tt) 3 let_word
+    refl refl in
+    let two : IsRead bytes 4 (token 0 3 let_word ∷ []) = step_gap bytes 3 (token 0 3 let_word ∷ []) one (lit< tt) 1
+    refl in
+    all_read bytes 8 _ (step_run bytes 4 (token 0 3 let_word ∷ []) two (lit< tt) 4 (word (codes "lets")) refl refl)
+    (lit< tt)
 
 -- 2^63 after `(` and `-`, and alone
-row_lowest : AreTokens (codes "(-9223372036854775808") (token 0 1 paren_left ∷ token 1 2 minus ∷ token 2 21 (number 9223372036854775808) ∷ [])
+row_lowest : AreTokens (codes "(-9223372036854775808")
+    (token 0 1 paren_left ∷ token 1 2 minus ∷ token 2 21 (number 9223372036854775808) ∷ [])
 row_lowest =
     let bytes = codes "(-9223372036854775808" in
-    let one : IsRead bytes 1 (token 0 1 paren_left ∷ []) = step_mark bytes 0 [] (start_read bytes) (lit< tt) paren_left 1 refl in
-    let two : IsRead bytes 2 (token 0 1 paren_left ∷ token 1 2 minus ∷ []) = step_mark bytes 1 (token 0 1 paren_left ∷ []) one (lit< tt) minus 1 refl in
-    all_read bytes 21 _ (step_run bytes 2 (token 0 1 paren_left ∷ token 1 2 minus ∷ []) two (lit< tt) 19 (number 9223372036854775808) refl refl) (lit< tt)
+    let one : IsRead bytes 1 (token 0 1 paren_left ∷ []) = step_mark bytes 0 [] (start_read bytes) (lit< tt) paren_left
+    1 refl in
+    let two : IsRead bytes 2 (token 0 1 paren_left ∷ token 1 2 minus ∷ []) =
+    step_mark bytes 1 (token 0 1 paren_left ∷ []) one (lit< tt) minus 1 refl in
+    all_read bytes 21 _ (step_run bytes 2 (token 0 1 paren_left ∷ token 1 2 minus ∷ []) two (lit< tt) 19
+    (number 9223372036854775808) refl refl) (lit< tt)
 
 row_alone : IsFirstFault (codes "9223372036854775808") (Number 0)
-row_alone = (step_refused (codes "9223372036854775808") 0 [] (start_read (codes "9223372036854775808")) (lit< tt) 19 (Number 0) refl refl).0
+row_alone = (step_refused (codes "9223372036854775808") 0 [] (start_read (codes "9223372036854775808")) (lit< tt) 19
+    (Number 0) refl refl).0
 
 -- the run is no number, and no number and a name
 row_misspelt : IsFirstFault (codes "1x") (Number 0)

@@ -17,11 +17,15 @@ abbrev all_pass : (List ℕ × Symbol → Bool) → List (List ℕ × Symbol) �
 all_pass test [] = true
 all_pass test (entry ∷ entries) = test entry && all_pass test entries
 
-looked_up : (test : List ℕ × Symbol → Bool) (entries : List (List ℕ × Symbol)) (text : List ℕ) (s : Symbol) → all_pass test entries ≡ true → lookup (bytes_eq text) entries ≡ Some s → test (text, s) ≡ true
+looked_up : (test : List ℕ × Symbol → Bool) (entries : List (List ℕ × Symbol)) (text : List ℕ) (s : Symbol)
+    → all_pass test entries ≡ true → lookup (bytes_eq text) entries ≡ Some s → test (text, s) ≡ true
 looked_up test [] text s a e = absurd (none-some s e)
-looked_up test (entry ∷ entries) text s a e = by_text (looked_up test entries text s (and_parts (test entry) (all_pass test entries) a).1) (bytes_eq text entry.0) refl e
+looked_up test (entry ∷ entries) text s a e =
+    by_text (looked_up test entries text s (and_parts (test entry) (all_pass test entries) a).1) (bytes_eq text entry.0)
+    refl e
   where
-    by_text : (lookup (bytes_eq text) entries ≡ Some s → test (text, s) ≡ true) → (t : Bool) → bytes_eq text entry.0 ≡ t → cond t (Some entry.1) (lookup (bytes_eq text) entries) ≡ Some s → test (text, s) ≡ true
+    by_text : (lookup (bytes_eq text) entries ≡ Some s → test (text, s) ≡ true) → (t : Bool) → bytes_eq text entry.0 ≡ t
+        → cond t (Some entry.1) (lookup (bytes_eq text) entries) ≡ Some s → test (text, s) ≡ true
     by_text more true f e =
         let same_text : text ≡ entry.0 = (bytes_eq-Decides text entry.0).0 f in
         let same_symbol : entry.1 ≡ s = same_Some entry.1 s e in
@@ -52,11 +56,15 @@ reserved_test entry = starts_word entry.0 && (nat_le (length entry.0) 64 && not 
 three : (a b c : Bool) → (a && (b && c)) ≡ true → (a ≡ true) × (b ≡ true) × (c ≡ true)
 three a b c e = let p = and_parts a (b && c) e in let q = and_parts b c p.1 in (p.0, q.0, q.1)
 
-mark_parts : (text : List ℕ) (s : Symbol) → mark text ≡ Some s → (starts_mark text ≡ true) × (nat_le (length text) 2 ≡ true) × (not (is_number s) ≡ true)
-mark_parts text s e = three (starts_mark text) (nat_le (length text) 2) (not (is_number s)) (looked_up mark_test mark_texts text s refl e)
+mark_parts : (text : List ℕ) (s : Symbol) → mark text ≡ Some s → (starts_mark text ≡ true)
+    × (nat_le (length text) 2 ≡ true) × (not (is_number s) ≡ true)
+mark_parts text s e = three (starts_mark text) (nat_le (length text) 2) (not (is_number s))
+    (looked_up mark_test mark_texts text s refl e)
 
-reserved_parts : (text : List ℕ) (s : Symbol) → reserved text ≡ Some s → (starts_word text ≡ true) × (nat_le (length text) 64 ≡ true) × (not (is_number s) ≡ true)
-reserved_parts text s e = three (starts_word text) (nat_le (length text) 64) (not (is_number s)) (looked_up reserved_test reserved_words text s refl e)
+reserved_parts : (text : List ℕ) (s : Symbol) → reserved text ≡ Some s → (starts_word text ≡ true)
+    × (nat_le (length text) 64 ≡ true) × (not (is_number s) ≡ true)
+reserved_parts text s e = three (starts_word text) (nat_le (length text) 64) (not (is_number s))
+    (looked_up reserved_test reserved_words text s refl e)
 
 no_number : (a b s : Symbol) → not (is_number s) ≡ true → IsInRange a b s
 no_number a b (number n) e = absurd (false≢true e)
@@ -77,7 +85,8 @@ reserved_short text s e = leb-true (length text) 64 (reserved_parts text s e).1
 pub mark_nil : (s : Symbol) → mark [] ≡ Some s → ⊥
 mark_nil s e = none-some s e
 
-head_parts : (b : ℕ) (text : List ℕ) (s : Symbol) → mark (b ∷ text) ≡ Some s → (not (is_blank b) ≡ true) × (not (b == 35) ≡ true) × (not (is_word_byte b) ≡ true)
+head_parts : (b : ℕ) (text : List ℕ) (s : Symbol) → mark (b ∷ text) ≡ Some s → (not (is_blank b) ≡ true)
+    × (not (b == 35) ≡ true) × (not (is_word_byte b) ≡ true)
 head_parts b text s e = three (not (is_blank b)) (not (b == 35)) (not (is_word_byte b)) (mark_parts (b ∷ text) s e).0
 
 pub mark_no_word : (b : ℕ) (text : List ℕ) (s : Symbol) → mark (b ∷ text) ≡ Some s → IsWordByte b → ⊥

@@ -19,7 +19,8 @@ IsSmall bytes = length bytes ≤ 1048576
 
 -- Bytes have one list of tokens, or one first fault, and never both.
 abbrev pub OneList : Type 0
-OneList = (bytes : List ℕ) (tokens others : List PureToken) → AreTokens bytes tokens → AreTokens bytes others → tokens ≡ others
+OneList = (bytes : List ℕ) (tokens others : List PureToken) → AreTokens bytes tokens → AreTokens bytes others
+    → tokens ≡ others
 
 abbrev pub OneFault : Type 0
 OneFault = (bytes : List ℕ) (r q : Refusal) → IsFirstFault bytes r → IsFirstFault bytes q → r ≡ q
@@ -28,4 +29,5 @@ abbrev pub NeverBoth : Type 0
 NeverBoth = (bytes : List ℕ) (tokens : List PureToken) (r : Refusal) → AreTokens bytes tokens → IsFirstFault bytes r → ⊥
 
 abbrev pub AlwaysOne : Type 0
-AlwaysOne = (bytes : List ℕ) → ((tokens : List PureToken) × AreTokens bytes tokens) ⊎ ((r : Refusal) × IsFirstFault bytes r)
+AlwaysOne = (bytes : List ℕ) → ((tokens : List PureToken) × AreTokens bytes tokens)
+    ⊎ ((r : Refusal) × IsFirstFault bytes r)

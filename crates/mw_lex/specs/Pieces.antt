@@ -31,9 +31,12 @@ count test (b ∷ bytes) = if test b then suc (count test bytes) else 0
 -- the value of digits after a front of this value, which is at most 2^63
 abbrev pub number_in : ℕ → List ℕ → Option ℕ
 number_in value [] = Some value
-number_in value (b ∷ bytes) = if is_digit b then (if nat_le (10 * value + (b - 48)) (2 ^ 63) then number_in (10 * value + (b - 48)) bytes else None) else None
+number_in value (b ∷ bytes) =
+    if is_digit b then (if nat_le (10 * value + (b - 48)) (2 ^ 63) then number_in (10 * value + (b - 48)) bytes else
+    None) else None
 
--- a blank or a comment, a mark, a run of letters, digits and underscores, each with its length, or a strange byte with its offset
+-- a blank or a comment, a mark, a run of letters, digits and underscores, each with its length, or a strange byte with
+-- its offset
 pub data Seen : Type 0 where
   gap : (n : ℕ) → Seen
   marked : (s : Symbol) (n : ℕ) → Seen
@@ -64,7 +67,10 @@ a_mark (a ∷ b ∷ rest) = long_mark (mark (a ∷ b ∷ [])) (mark (a ∷ []))
 
 abbrev pub front : List ℕ → Seen
 front [] = strange 0
-front (b ∷ bytes) = if is_blank b then gap 1 else (if b == 35 then comment bytes else (if is_word_byte b then run (count is_word_byte (b ∷ bytes)) else a_mark (b ∷ bytes)))
+front (b ∷ bytes) =
+    if is_blank b then gap 1 else
+    (if b == 35 then comment bytes else
+    (if is_word_byte b then run (count is_word_byte (b ∷ bytes)) else a_mark (b ∷ bytes)))
 
 -- the code's values as plain data
 abbrev pub kind_seen : Option Kind → Option Symbol
@@ -84,7 +90,8 @@ IsWithin length (p.Mark kind n) = (0 < n) × (n ≤ length)
 IsWithin length (p.Run n) = (0 < n) × (n ≤ length)
 IsWithin length (p.Strange n) = n < length
 
--- the symbol of a run of letters, digits and underscores that begins at an offset; lowest says whether 2^63 may stand there
+-- the symbol of a run of letters, digits and underscores that begins at an offset; lowest says whether 2^63 may stand
+-- there
 abbrev pub number_answer : Bool → ℕ → Option ℕ → Result Symbol Refusal
 number_answer lowest at None = Err (Number at)
 number_answer lowest at (Some n) = if nat_lt n (2 ^ 63) || lowest then Ok (number n) else Err (Number at)
@@ -98,7 +105,8 @@ word_answer at text = if nat_lt 64 (length text) then Err (Name at) else Ok (or_
 
 abbrev pub run_answer : Bool → ℕ → List ℕ → Result Symbol Refusal
 run_answer lowest at [] = Err (Name at)
-run_answer lowest at (b ∷ bytes) = if is_digit b then number_answer lowest at (number_in 0 (b ∷ bytes)) else word_answer at (b ∷ bytes)
+run_answer lowest at (b ∷ bytes) = if is_digit b then number_answer lowest at (number_in 0 (b ∷ bytes)) else word_answer
+    at (b ∷ bytes)
 
 -- the last two symbols, where a and b stand before the tokens
 abbrev pub next_to_last : Symbol → Symbol → List PureToken → Symbol

@@ -13,14 +13,19 @@ use Rattle.mw_lex.specs.Tokens.{arrow, item_end, colon, equal, less_equal, less,
 use Rattle.mw_lex.specs.Tokens.{or_mark, word, number}
 
 abbrev pub reserved_words : List (List ℕ × Symbol)
-reserved_words = (codes "let", let_word) ∷ (codes "rec", rec_word) ∷ (codes "in", in_word) ∷ (codes "fun", fun_word) ∷ (codes "if", if_word) ∷ (codes "then", then_word) ∷ (codes "else", else_word)
-    ∷ (codes "true", true_word) ∷ (codes "false", false_word) ∷ (codes "not", not_word) ∷ (codes "fst", fst_word) ∷ (codes "snd", snd_word) ∷ (codes "run", run_word) ∷ (codes "close", close_word)
-    ∷ (codes "open", open_word) ∷ (codes "lift", lift_word) ∷ (codes "liftb", lift_b_word) ∷ (codes "kernel", kernel_word) ∷ (codes "main", main_word) ∷ (codes "int", int_word)
+reserved_words = (codes "let", let_word) ∷ (codes "rec", rec_word) ∷ (codes "in", in_word) ∷ (codes "fun", fun_word)
+    ∷ (codes "if", if_word) ∷ (codes "then", then_word) ∷ (codes "else", else_word)
+    ∷ (codes "true", true_word) ∷ (codes "false", false_word) ∷ (codes "not", not_word) ∷ (codes "fst", fst_word)
+    ∷ (codes "snd", snd_word) ∷ (codes "run", run_word) ∷ (codes "close", close_word)
+    ∷ (codes "open", open_word) ∷ (codes "lift", lift_word) ∷ (codes "liftb", lift_b_word)
+    ∷ (codes "kernel", kernel_word) ∷ (codes "main", main_word) ∷ (codes "int", int_word)
     ∷ (codes "bool", bool_word) ∷ (codes "mod", mod_word) ∷ []
 
 abbrev pub mark_texts : List (List ℕ × Symbol)
-mark_texts = (codes ".<", bracket_left) ∷ (codes ">.", bracket_right) ∷ (codes ".~", escape_mark) ∷ (codes "->", arrow) ∷ (codes ";;", item_end) ∷ (codes "<=", less_equal) ∷ (codes "&&", and_mark)
-    ∷ (codes "||", or_mark) ∷ (codes "(", paren_left) ∷ (codes ")", paren_right) ∷ (codes "[", square_left) ∷ (codes "]", square_right) ∷ (codes ",", comma) ∷ (codes ":", colon) ∷ (codes "=", equal)
+mark_texts = (codes ".<", bracket_left) ∷ (codes ">.", bracket_right) ∷ (codes ".~", escape_mark) ∷ (codes "->", arrow)
+    ∷ (codes ";;", item_end) ∷ (codes "<=", less_equal) ∷ (codes "&&", and_mark)
+    ∷ (codes "||", or_mark) ∷ (codes "(", paren_left) ∷ (codes ")", paren_right) ∷ (codes "[", square_left)
+    ∷ (codes "]", square_right) ∷ (codes ",", comma) ∷ (codes ":", colon) ∷ (codes "=", equal)
     ∷ (codes "<", less) ∷ (codes "+", plus) ∷ (codes "-", minus) ∷ (codes "*", star) ∷ (codes "/", slash) ∷ []
 
 abbrev pub reserved : List ℕ → Option Symbol
@@ -29,7 +34,8 @@ reserved text = lookup (bytes_eq text) reserved_words
 abbrev pub mark : List ℕ → Option Symbol
 mark text = lookup (bytes_eq text) mark_texts
 
--- a word begins with a letter or an underscore, and a numeral with a digit; both go on over letters, digits and underscores
+-- a word begins with a letter or an underscore, and a numeral with a digit; both go on over letters, digits and
+-- underscores
 abbrev pub IsWord : List ℕ → Type 0
 IsWord [] = ⊥
 IsWord (b ∷ bytes) = (IsDigit b → ⊥) × AllByRecursion IsWordByte (b ∷ bytes)
@@ -47,7 +53,8 @@ IsText text = IsWord text ⊎ IsNumeral text ⊎ IsMark text
 
 -- The text of a token is the longest that stands at its place: with more of the bytes after it, it is none.
 abbrev pub IsLongest : List ℕ → List ℕ → Type 0
-IsLongest text rest = IsText text × ((more after : List ℕ) → rest ≡ more ++ after → more ≢ [] → IsText (text ++ more) → ⊥)
+IsLongest text rest = IsText text × ((more after : List ℕ) → rest ≡ more ++ after → more ≢ [] → IsText (text ++ more)
+    → ⊥)
 
 -- the number that decimal digits stand for, the most significant first, after digits of the value front
 abbrev pub decimal : ℕ → List ℕ → ℕ

@@ -31,17 +31,21 @@ use std::alloc::Global;
 #[tactic(auto, using(crate::proofs::Lexed::in_order, crate::proofs::Lexed::says, crate::proofs::Lexed::not_large))]
 pub fn lex(alloc: Global, bytes: &[u8]) -> Result<Tokens, Stop>
     ensures found { IfOk result (λ v. AreTokens bytes.now (tokens_of v)) }
-    ensures only { (tokens : List PureToken) → IsSmall bytes.now → AreTokens bytes.now tokens → AnswersOrMemory (λ v. tokens_of v ≡ tokens) result }
+    ensures only { (tokens : List PureToken) → IsSmall bytes.now → AreTokens bytes.now tokens
+        → AnswersOrMemory (λ v. tokens_of v ≡ tokens) result }
     ensures in_order { IfOk result (λ v. AreInOrder (tokens_of v) (length bytes.now)) }
     ensures in_range { IfOk result (λ v. HaveNumbersInRange (tokens_of v)) }
     ensures too_large { result ≡ Err (Refused TooLarge) → 1048576 < length bytes.now }
     ensures only_too_large { 1048576 < length bytes.now → result ≡ Err (Refused TooLarge) }
     ensures char { (at : ℕ) → result ≡ Err (Refused (Char at)) → IsFirstFault bytes.now (Char at) }
-    ensures only_char { (at : ℕ) → IsSmall bytes.now → IsFirstFault bytes.now (Char at) → IsRefusalOrMemory result (Char at) }
+    ensures only_char { (at : ℕ) → IsSmall bytes.now → IsFirstFault bytes.now (Char at)
+        → IsRefusalOrMemory result (Char at) }
     ensures number { (at : ℕ) → result ≡ Err (Refused (Number at)) → IsFirstFault bytes.now (Number at) }
-    ensures only_number { (at : ℕ) → IsSmall bytes.now → IsFirstFault bytes.now (Number at) → IsRefusalOrMemory result (Number at) }
+    ensures only_number { (at : ℕ) → IsSmall bytes.now → IsFirstFault bytes.now (Number at)
+        → IsRefusalOrMemory result (Number at) }
     ensures name { (at : ℕ) → result ≡ Err (Refused (Name at)) → IsFirstFault bytes.now (Name at) }
-    ensures only_name { (at : ℕ) → IsSmall bytes.now → IsFirstFault bytes.now (Name at) → IsRefusalOrMemory result (Name at) }
+    ensures only_name { (at : ℕ) → IsSmall bytes.now → IsFirstFault bytes.now (Name at)
+        → IsRefusalOrMemory result (Name at) }
     ensures no_other { IfErr result (IfRefused IsOfLexing) }
 {
     if bytes.len() > 1_048_576 {

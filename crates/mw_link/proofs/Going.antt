@@ -37,7 +37,14 @@ pub record Going (all left : List Kernel) (inner outer : List Function) (types :
   pub literals : LiteralsOfAllFit left → LiteralsOfAllFit all
 
 pub going_first : (all : List Kernel) → AreLinkable all → Going all all [] [] (closure_type ∷ init_type ∷ [])
-going_first all are = record { inner_is = refl; outer_is = refl; types_are = refl; linkable = are.all; literals = λ fit. fit }
+going_first all are = record {
+  inner_is = refl;
+  outer_is = refl;
+  types_are = refl;
+  linkable = are.all;
+  literals = λ fit.
+      fit;
+}
 
 -- one kernel more
 pub going_on : (all : List Kernel) (p : Kernel) (left : List Kernel) (inner outer : List Function)
@@ -76,7 +83,13 @@ going_done all inner outer types g = (
 call_types_few : (ps : List Kernel) → length (call_types ps) ≤ length ps
 call_types_few [] = omega arith
 call_types_few (p ∷ ps) =
-    omega (arith, length-append (more_types p.kind) (call_types ps), types_length p.kind, calls_one p.kind, call_types_few ps)
+    omega (
+      arith,
+      length-append (more_types p.kind) (call_types ps),
+      types_length p.kind,
+      calls_one p.kind,
+      call_types_few ps,
+    )
 
 -- few functions and types so far
 pub going_few : (all left : List Kernel) (inner outer : List Function) (types : List FuncType) → AreLinkable all

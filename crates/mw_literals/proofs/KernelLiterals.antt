@@ -40,14 +40,16 @@ labelled_short (prim p a b) d x = (labelled_short a d x.0, labelled_short b d x.
 labelled_short _ d x = tt
 
 -- a short value in a short term
-pick_short : (k i : ℕ) (v : KernelValue) (other : ℕ → KernelTerm) → HasShortKernelValue v → ((j : ℕ) → HasShortKernelTerm (other j))
+pick_short : (k i : ℕ) (v : KernelValue) (other : ℕ → KernelTerm) → HasShortKernelValue v
+    → ((j : ℕ) → HasShortKernelTerm (other j))
     → HasShortKernelTerm (pick k i (done v) other)
 pick_short zero zero v other x h = x
 pick_short zero (suc i) v other x h = h i
 pick_short (suc k) zero v other x h = h zero
 pick_short (suc k) (suc i) v other x h = pick_short k i v (λ j. other (suc j)) x (λ j. h (suc j))
 
-instantiate_short : (e : KernelTerm) (k : ℕ) (v : KernelValue) → HasShortKernelTerm e → HasShortKernelValue v → HasShortKernelTerm (instantiate e k v)
+instantiate_short : (e : KernelTerm) (k : ℕ) (v : KernelValue) → HasShortKernelTerm e → HasShortKernelValue v
+    → HasShortKernelTerm (instantiate e k v)
 instantiate_short (num z) k v x y = x
 instantiate_short (truth b) k v x y = tt
 instantiate_short (var i) k v x y = pick_short k i v var y (λ j. tt)
@@ -55,7 +57,8 @@ instantiate_short (fun free e) k v x y = instantiate_short e (suc k) v x y
 instantiate_short (fix free e) k v x y = instantiate_short e (suc (suc k)) v x y
 instantiate_short (app f a) k v x y = (instantiate_short f k v x.0 y, instantiate_short a k v x.1 y)
 instantiate_short (bind d e) k v x y = (instantiate_short d k v x.0 y, instantiate_short e (suc k) v x.1 y)
-instantiate_short (cond c a b) k v x y = (instantiate_short c k v x.0 y, instantiate_short a k v x.1 y, instantiate_short b k v x.2 y)
+instantiate_short (cond c a b) k v x y =
+    (instantiate_short c k v x.0 y, instantiate_short a k v x.1 y, instantiate_short b k v x.2 y)
 instantiate_short (pair a b) k v x y = (instantiate_short a k v x.0 y, instantiate_short b k v x.1 y)
 instantiate_short (fst e) k v x y = instantiate_short e k v x y
 instantiate_short (snd e) k v x y = instantiate_short e k v x y
@@ -75,16 +78,21 @@ negated (suc r) a le = omega arith
 quotient_short : (x y : ℤ) → FitsSigned w64 x → IsShortResult (quotient x y)
 quotient_short x (pos zero) s = tt
 quotient_short (pos a) (pos (suc d)) s = record { sfits = omega (arith, div-le_self a (suc d), s.sfits) }
-quotient_short (negsuc a) (pos (suc d)) s = record { sfits = omega (arith, negated (suc a / suc d) a (div-le_self (suc a) (suc d)), s.sfits) }
-quotient_short (pos a) (negsuc zero) s = let l : a / 1 ≤ suc a = omega arith in record { sfits = omega (arith, negated (a / 1) a l, s.sfits) }
+quotient_short (negsuc a) (pos (suc d)) s =
+    record { sfits = omega (arith, negated (suc a / suc d) a (div-le_self (suc a) (suc d)), s.sfits) }
+quotient_short (pos a) (negsuc zero) s = let l : a / 1 ≤ suc a = omega arith in
+    record { sfits = omega (arith, negated (a / 1) a l, s.sfits) }
 quotient_short (negsuc a) (negsuc zero) s = go (a == 2 ^ 63 - 1) refl
   where
-    go : (b : Bool) → (a == 2 ^ 63 - 1) ≡ b → IsShortResult (if b then trapped Overflow else number (int_div (negsuc a) (negsuc zero)))
+    go : (b : Bool) → (a == 2 ^ 63 - 1) ≡ b
+        → IsShortResult (if b then trapped Overflow else number (int_div (negsuc a) (negsuc zero)))
     go true e = tt
     go false e = let g = eqb-false a (2 ^ 63 - 1) e in record { sfits = omega (arith, s.sfits) }
 quotient_short (pos a) (negsuc (suc d)) s =
-    let l = div-le_self a (suc (suc d)) in record { sfits = omega (arith, negated (a / suc (suc d)) a (omega arith), s.sfits) }
-quotient_short (negsuc a) (negsuc (suc d)) s = record { sfits = omega (arith, div-lt_self {n = suc a} {k = suc (suc d)} (omega arith) (omega arith), s.sfits) }
+    let l = div-le_self a (suc (suc d)) in
+    record { sfits = omega (arith, negated (a / suc (suc d)) a (omega arith), s.sfits) }
+quotient_short (negsuc a) (negsuc (suc d)) s =
+    record { sfits = omega (arith, div-lt_self {n = suc a} {k = suc (suc d)} (omega arith) (omega arith), s.sfits) }
 
 remainder_short : (x y : ℤ) → FitsSigned w64 x → IsShortResult (remainder x y)
 remainder_short x (pos zero) s = tt
@@ -125,10 +133,12 @@ spending_short n (suc m) le go g = g m le
 entered_short : (u w : KernelValue) (go : KernelTerm → Ended) → HasShortKernelValue u → HasShortKernelValue w
     → ((e : KernelTerm) → HasShortKernelTerm e → EndsShort (go e)) → EndsShort (entered u w go)
 entered_short (function e) w go x y g = g _ (instantiate_short e zero w x y)
-entered_short (recursive e) w go x y g = g _ (instantiate_short (instantiate e 1 (recursive e)) zero w (instantiate_short e 1 (recursive e) x x) y)
+entered_short (recursive e) w go x y g =
+    g _ (instantiate_short (instantiate e 1 (recursive e)) zero w (instantiate_short e 1 (recursive e) x x) y)
 entered_short _ w go x y g = tt
 
-chosen_short : (v : KernelValue) (a b : KernelTerm) (go : KernelTerm → Ended) → EndsShort (go a) → EndsShort (go b) → EndsShort (chosen v a b go)
+chosen_short : (v : KernelValue) (a b : KernelTerm) (go : KernelTerm → Ended) → EndsShort (go a) → EndsShort (go b)
+    → EndsShort (chosen v a b go)
 chosen_short (bool true) a b go x y = x
 chosen_short (bool false) a b go x y = y
 chosen_short _ a b go x y = tt
@@ -173,23 +183,30 @@ step_short n (cond c a b) below parts h x =
     chosen_short v a b _ (parts m a le (omega arith) h x.1) (parts m b le (omega arith) h x.2)
 step_short n (pair a b) below parts h x =
     then_short n _ _ (kernel_evaluation_at_most n h a) (parts n a (omega arith) (omega arith) h x.0) λ u m h le y.
-    then_short m _ _ (kernel_evaluation_at_most m h b) (parts m b le (omega arith) h x.1) λ w l h le' z. taking_short 2 h _ (λ h. (y, z))
+    then_short m _ _ (kernel_evaluation_at_most m h b) (parts m b le (omega arith) h x.1) λ w l h le' z.
+    taking_short 2 h _ (λ h. (y, z))
 step_short n (fst e) below parts h x =
-    then_short n _ _ (kernel_evaluation_at_most n h e) (parts n e (omega arith) (omega arith) h x) λ v m h le y. first_short v m h y
+    then_short n _ _ (kernel_evaluation_at_most n h e) (parts n e (omega arith) (omega arith) h x) λ v m h le y.
+    first_short v m h y
 step_short n (snd e) below parts h x =
-    then_short n _ _ (kernel_evaluation_at_most n h e) (parts n e (omega arith) (omega arith) h x) λ v m h le y. second_short v m h y
+    then_short n _ _ (kernel_evaluation_at_most n h e) (parts n e (omega arith) (omega arith) h x) λ v m h le y.
+    second_short v m h y
 step_short n (prim p a b) below parts h x =
     then_short n _ _ (kernel_evaluation_at_most n h a) (parts n a (omega arith) (omega arith) h x.0) λ u m h le y.
-    then_short m _ _ (kernel_evaluation_at_most m h b) (parts m b le (omega arith) h x.1) λ w l h le' z. computed_short p u w l h y
+    then_short m _ _ (kernel_evaluation_at_most m h b) (parts m b le (omega arith) h x.1) λ w l h le' z.
+    computed_short p u w l h y
 step_short n (done v) below parts h x = x
 
 evaluation_short : (n : ℕ) (e : KernelTerm) → Goal n e
-evaluation_short = kernel_induction Goal λ n e below parts h x. rw (kernel_evaluation-is n h e) (step_short n e below parts h x)
+evaluation_short = kernel_induction Goal λ n e below parts h x. rw (kernel_evaluation-is n h e)
+    (step_short n e below parts h x)
 
 -- the value that code gives
 pub meaning_short : (c : Expression) (n h : ℕ) → HasShortLiterals c → EndsShort (kernel_meaning n h c)
 meaning_short c n h x = evaluation_short n (labelled c zero) h (labelled_short c zero x)
 
 -- the value that a call of a function gives
-pub call_short : (f w : KernelValue) (h k n : ℕ) → HasShortKernelValue f → HasShortKernelValue w → EndsShort (call_of f h (Some w) k n)
-call_short f w h k n x y = taking_short k h _ λ h. entered_short f w _ x y λ e s. spending_short n n (omega arith) _ λ m lt. evaluation_short m e h s
+pub call_short : (f w : KernelValue) (h k n : ℕ) → HasShortKernelValue f → HasShortKernelValue w
+    → EndsShort (call_of f h (Some w) k n)
+call_short f w h k n x y = taking_short k h _ λ h. entered_short f w _ x y λ e s. spending_short n n (omega arith) _
+    λ m lt. evaluation_short m e h s

@@ -16,17 +16,22 @@ use Rattle.mw_literals.proofs.KernelLiterals.{IsShortResult, compute_short}
 use Rattle.mw_literals.proofs.SubstitutedLiterals.{shift_short}
 
 -- code put for variables
-under_short : (put : ℕ → Expression) → ((i : ℕ) → HasShortLiterals (put i)) → (i : ℕ) → HasShortLiterals (under_binder put i)
+under_short : (put : ℕ → Expression) → ((i : ℕ) → HasShortLiterals (put i)) → (i : ℕ)
+    → HasShortLiterals (under_binder put i)
 under_short put h zero = tt
 under_short put h (suc i) = shift_short (put i) zero (h i)
 
-replaced_short : (e : Expression) (put : ℕ → Expression) → ((i : ℕ) → HasShortLiterals (put i)) → HasShortLiterals e → HasShortLiterals (replaced put e)
+replaced_short : (e : Expression) (put : ℕ → Expression) → ((i : ℕ) → HasShortLiterals (put i)) → HasShortLiterals e
+    → HasShortLiterals (replaced put e)
 replaced_short (var i) put h x = h i
 replaced_short (fun e) put h x = replaced_short e (under_binder put) (under_short put h) x
-replaced_short (fix e) put h x = replaced_short e (under_binder (under_binder put)) (under_short (under_binder put) (under_short put h)) x
+replaced_short (fix e) put h x = replaced_short e (under_binder (under_binder put))
+    (under_short (under_binder put) (under_short put h)) x
 replaced_short (app f a) put h x = (replaced_short f put h x.0, replaced_short a put h x.1)
-replaced_short (bind d e) put h x = (replaced_short d put h x.0, replaced_short e (under_binder put) (under_short put h) x.1)
-replaced_short (cond c a b) put h x = (replaced_short c put h x.0, replaced_short a put h x.1, replaced_short b put h x.2)
+replaced_short (bind d e) put h x =
+    (replaced_short d put h x.0, replaced_short e (under_binder put) (under_short put h) x.1)
+replaced_short (cond c a b) put h x =
+    (replaced_short c put h x.0, replaced_short a put h x.1, replaced_short b put h x.2)
 replaced_short (pair a b) put h x = (replaced_short a put h x.0, replaced_short b put h x.1)
 replaced_short (fst e) put h x = replaced_short e put h x
 replaced_short (snd e) put h x = replaced_short e put h x
@@ -38,13 +43,15 @@ nearest_short d h zero = h
 nearest_short d h (suc i) = tt
 
 -- a literal that a primitive gives
-literal_short : (r : PrimitiveResult) (other : Expression) → IsShortResult r → HasShortLiterals other → HasShortLiterals (literal_of r other)
+literal_short : (r : PrimitiveResult) (other : Expression) → IsShortResult r → HasShortLiterals other
+    → HasShortLiterals (literal_of r other)
 literal_short (number z) other x y = x
 literal_short (fact b) other x y = tt
 literal_short (trapped t) other x y = y
 
 folded_short : (p : Prim) (a b : Expression) → HasShortLiterals a → HasShortLiterals b → HasShortLiterals (folded p a b)
-folded_short p (num x) (num y) s t = literal_short (compute p x y) (prim p (num x) (num y)) (compute_short p x y s) (s, t)
+folded_short p (num x) (num y) s t = literal_short (compute p x y) (prim p (num x) (num y)) (compute_short p x y s)
+    (s, t)
 folded_short p _ _ s t = (s, t)
 
 -- the parts of a pair
@@ -54,22 +61,26 @@ left_short e q h = (subst HasShortLiterals q h).0
 right_short : {a b : Expression} (e : Expression) → e ≡ pair a b → HasShortLiterals e → HasShortLiterals b
 right_short e q h = (subst HasShortLiterals q h).1
 
-module _ (sub : Expression → Expression) (keeps : (e : Expression) → HasShortLiterals e → HasShortLiterals (sub e)) where
-  step_short : (e : Expression) → HasShortLiterals e → HasShortLiterals (simplification_step sub e)
-  step_short (prim p a b) h = folded_short p (sub a) (sub b) (keeps a h.0) (keeps b h.1)
-  step_short (cond c a b) h = decided_cases HasShortLiterals sub (sub c) a b (keeps a h.1) (keeps b h.2) (keeps c h.0, keeps a h.1, keeps b h.2)
-  step_short (fst e) h = first_cases HasShortLiterals (sub e) (λ a b q. left_short (sub e) q (keeps e h)) (keeps e h)
-  step_short (snd e) h = second_cases HasShortLiterals (sub e) (λ a b q. right_short (sub e) q (keeps e h)) (keeps e h)
-  step_short (bind d e) h =
-      let_cases HasShortLiterals sub (sub d) e
-      (λ l. keeps (replaced (for_nearest (sub d)) e) (replaced_short e (for_nearest (sub d)) (nearest_short (sub d) (keeps d h.0)) h.1))
-      (λ u. replaced_short (sub e) down_by_one (λ i. tt) (keeps e h.1))
-      (keeps d h.0, keeps e h.1)
-  step_short (fun e) h = keeps e h
-  step_short (fix e) h = keeps e h
-  step_short (app f a) h = (keeps f h.0, keeps a h.1)
-  step_short (pair a b) h = (keeps a h.0, keeps b h.1)
-  step_short _ h = h
+module _ (sub : Expression → Expression) (keeps : (e : Expression) → HasShortLiterals e → HasShortLiterals (sub e))
+  where
+    step_short : (e : Expression) → HasShortLiterals e → HasShortLiterals (simplification_step sub e)
+    step_short (prim p a b) h = folded_short p (sub a) (sub b) (keeps a h.0) (keeps b h.1)
+    step_short (cond c a b) h = decided_cases HasShortLiterals sub (sub c) a b (keeps a h.1) (keeps b h.2)
+        (keeps c h.0, keeps a h.1, keeps b h.2)
+    step_short (fst e) h = first_cases HasShortLiterals (sub e) (λ a b q. left_short (sub e) q (keeps e h)) (keeps e h)
+    step_short (snd e) h = second_cases HasShortLiterals (sub e) (λ a b q. right_short (sub e) q (keeps e h))
+        (keeps e h)
+    step_short (bind d e) h =
+        let_cases HasShortLiterals sub (sub d) e
+        (λ l. keeps (replaced (for_nearest (sub d)) e)
+        (replaced_short e (for_nearest (sub d)) (nearest_short (sub d) (keeps d h.0)) h.1))
+        (λ u. replaced_short (sub e) down_by_one (λ i. tt) (keeps e h.1))
+        (keeps d h.0, keeps e h.1)
+    step_short (fun e) h = keeps e h
+    step_short (fix e) h = keeps e h
+    step_short (app f a) h = (keeps f h.0, keeps a h.1)
+    step_short (pair a b) h = (keeps a h.0, keeps b h.1)
+    step_short _ h = h
 
 within_short : (z : ℕ) (e : Expression) → HasShortLiterals e → HasShortLiterals (simplified_within z e)
 within_short zero e h = h

@@ -87,7 +87,8 @@ IsShort part v = Unit {0}
 IsShort base v = Unit {0}
 
 mutual
-  read_short : {n : Nonterminal} {ts rest : List PureToken} {v : Meaning n} {s : Nodes} → Reads n ts v s rest → IsShort n v
+  read_short : {n : Nonterminal} {ts rest : List PureToken} {v : Meaning n} {s : Nodes} → Reads n ts v s rest
+      → IsShort n v
   read_short (r_main h i) = (tt, read_short i)
   read_short (r_program h i) = let p = read_short i in ((read_short h, p.0), p.1)
   read_short (r_let_item h) = read_short h
@@ -135,7 +136,8 @@ mutual
   read_short r_int = tt
   read_short r_bool = tt
 
-  more_short : {w : Row} {l e : SurfaceTree} {s t : Nodes} {ts rest : List PureToken} → More w l s ts e t rest → HasShortNumbers l → HasShortNumbers e
+  more_short : {w : Row} {l e : SurfaceTree} {s t : Nodes} {ts rest : List PureToken} → More w l s ts e t rest
+      → HasShortNumbers l → HasShortNumbers e
   more_short m_end p = p
   more_short (m_sign g h m) p = more_short m (p, read_short h)
   more_short (m_argument h m) p = more_short m (p, read_short h)
@@ -164,13 +166,16 @@ nameless_short (n_open d) x = nameless_short d x
 nameless_short (n_lift d) x = nameless_short d x
 nameless_short (n_lift_b d) x = nameless_short d x
 
-item_short : {before : List PureItem} {i : PureItem} {d : Definition} → NamelessItem before i d → HasShortNumbers (bound_tree i) → HasShortDefinition d
+item_short : {before : List PureItem} {i : PureItem} {d : Definition} → NamelessItem before i d
+    → HasShortNumbers (bound_tree i) → HasShortDefinition d
 item_short (a_let v d) x = nameless_short d x
 item_short (a_kernel d) x = nameless_short d x
 
-items_short : {before items : List PureItem} {ds : List Definition} → NamelessItems before items ds → AreShortItems items → AreShortDefinitions ds
+items_short : {before items : List PureItem} {ds : List Definition} → NamelessItems before items ds
+    → AreShortItems items → AreShortDefinitions ds
 items_short no_item x = tt
 items_short (an_item new d ds) x = (item_short d x.0, items_short ds x.1)
 
 pub source_literals : SourceLiteralsFit
-source_literals tokens s p read named = let x = read_short read.is.derives in (items_short named.items x.0, nameless_short named.body x.1)
+source_literals tokens s p read named = let x = read_short read.is.derives in
+    (items_short named.items x.0, nameless_short named.body x.1)

@@ -55,16 +55,20 @@ twice : (v : Value) → HasShortValue v → HasShortValue (shift_value (shift_va
 twice v y = once (shift_value v zero) (once v y)
 
 mutual
-  pub substitute_short : (e : Expression) (k : ℕ) (v : Value) → HasShortLiterals e → HasShortValue v → HasShortLiterals (substitute e k v)
+  pub substitute_short : (e : Expression) (k : ℕ) (v : Value) → HasShortLiterals e → HasShortValue v
+      → HasShortLiterals (substitute e k v)
   substitute_short (num z) k v x y = x
   substitute_short (truth b) k v x y = tt
   substitute_short (var i) k v x y = pick_short k i v var y (λ j. tt)
   substitute_short (glob i) k v x y = tt
   substitute_short (fun e) k v x y = substitute_short e (suc k) (shift_value v zero) x (once v y)
-  substitute_short (fix e) k v x y = substitute_short e (suc (suc k)) (shift_value (shift_value v zero) zero) x (twice v y)
+  substitute_short (fix e) k v x y = substitute_short e (suc (suc k)) (shift_value (shift_value v zero) zero) x
+      (twice v y)
   substitute_short (app f a) k v x y = (substitute_short f k v x.0 y, substitute_short a k v x.1 y)
-  substitute_short (bind d e) k v x y = (substitute_short d k v x.0 y, substitute_short e (suc k) (shift_value v zero) x.1 (once v y))
-  substitute_short (cond c a b) k v x y = (substitute_short c k v x.0 y, substitute_short a k v x.1 y, substitute_short b k v x.2 y)
+  substitute_short (bind d e) k v x y =
+      (substitute_short d k v x.0 y, substitute_short e (suc k) (shift_value v zero) x.1 (once v y))
+  substitute_short (cond c a b) k v x y =
+      (substitute_short c k v x.0 y, substitute_short a k v x.1 y, substitute_short b k v x.2 y)
   substitute_short (pair a b) k v x y = (substitute_short a k v x.0 y, substitute_short b k v x.1 y)
   substitute_short (fst e) k v x y = substitute_short e k v x y
   substitute_short (snd e) k v x y = substitute_short e k v x y
@@ -78,11 +82,13 @@ mutual
   substitute_short (lift_b e) k v x y = substitute_short e k v x y
   substitute_short (done w) k v x y = substitute_value_short w k v x y
 
-  substitute_value_short : (w : Value) (k : ℕ) (v : Value) → HasShortValue w → HasShortValue v → HasShortValue (substitute_value w k v)
+  substitute_value_short : (w : Value) (k : ℕ) (v : Value) → HasShortValue w → HasShortValue v
+      → HasShortValue (substitute_value w k v)
   substitute_value_short (int z) k v x y = x
   substitute_value_short (bool b) k v x y = tt
   substitute_value_short (both u w) k v x y = (substitute_value_short u k v x.0 y, substitute_value_short w k v x.1 y)
   substitute_value_short (function e) k v x y = substitute_short e (suc k) (shift_value v zero) x (once v y)
-  substitute_value_short (recursive e) k v x y = substitute_short e (suc (suc k)) (shift_value (shift_value v zero) zero) x (twice v y)
+  substitute_value_short (recursive e) k v x y =
+      substitute_short e (suc (suc k)) (shift_value (shift_value v zero) zero) x (twice v y)
   substitute_value_short (code e) k v x y = substitute_short e k v x y
   substitute_value_short (kept t f h) k v x y = x

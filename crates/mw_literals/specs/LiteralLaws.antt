@@ -15,12 +15,15 @@ use Rattle.mw_literals.specs.Literals.{HasShortProgram}
 
 -- a program that is read from tokens has literals of 64 bits
 abbrev pub SourceLiteralsFit : Type 0
-SourceLiteralsFit = (tokens : List PureToken) (s : PureSurface) (p : PureProgram) → IsProgram tokens s → IsNameless s p → HasShortProgram p
+SourceLiteralsFit = (tokens : List PureToken) (s : PureSurface) (p : PureProgram) → IsProgram tokens s → IsNameless s p
+    → HasShortProgram p
 
 -- so has the code that a kernel item of such a program comes to
 abbrev pub BuiltLiteralsFit : Type 0
-BuiltLiteralsFit = (mode : Mode) (p : PureProgram) → HasShortProgram p → (i : ℕ) (k : KernelType) (e c : Expression) (fuel : ℕ)
-    → slice_get p.items i ≡ Some (kernel k e) → item_outcome mode (names_of_items p.items) fuel e ≡ came_to c → LiteralsFit c
+BuiltLiteralsFit = (mode : Mode) (p : PureProgram) → HasShortProgram p → (i : ℕ) (k : KernelType) (e c : Expression)
+    (fuel : ℕ)
+    → slice_get p.items i ≡ Some (kernel k e) → item_outcome mode (names_of_items p.items) fuel e ≡ came_to c
+    → LiteralsFit c
 
 -- and the code that a mode makes of code with literals of 64 bits
 abbrev pub SimplifiedLiteralsFit : Type 0

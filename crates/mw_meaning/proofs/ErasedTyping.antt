@@ -71,17 +71,22 @@ plain_entry-entry : (m : Level) (t : TermType) → plain_entry (entry m t) ≡ v
 plain_entry-entry live t = refl
 plain_entry-entry (under a) t = refl
 
-get-plain : (g k : List Entry) (i : ℕ) (x : Entry) → slice_get g i ≡ Some x → slice_get (plain_entries g ++ k) i ≡ Some (plain_entry x)
+get-plain : (g k : List Entry) (i : ℕ) (x : Entry) → slice_get g i ≡ Some x → slice_get (plain_entries g ++ k) i
+    ≡ Some (plain_entry x)
 get-plain [] k i x e = absurd (cc)
 get-plain (y ∷ g) k zero x e = let p : y ≡ x = cc in rw p refl
 get-plain (y ∷ g) k (suc i) x e = get-plain g k i x e
 
 get-behind : (g k : List Entry) (j : ℕ) → slice_get (plain_entries g ++ k) (length g + j) ≡ slice_get k j
 get-behind [] k j = let p : zero + j ≡ j = omega arith in ap (λ n. slice_get k n) p
-get-behind (x ∷ g) k j = let p : suc (length g) + j ≡ suc (length g + j) = omega arith in ap (λ n. slice_get (plain_entries (x ∷ g) ++ k) n) p ∙ get-behind g k j
+get-behind (x ∷ g) k j = let p : suc (length g) + j ≡ suc (length g + j) = omega arith in
+    ap (λ n. slice_get (plain_entries (x ∷ g) ++ k) n) p ∙ get-behind g k j
 
 -- the names in a typed term are those of lets and kernels
-pub names_typed : {tops : List TopLevel} {g : List Entry} {m : Level} {e : Expression} {t : TermType} (P : ℕ → Type 0) → ((i : ℕ) (e : Expression) → slice_get tops i ≡ Some (let_item e) → P i) → ((i : ℕ) (k : KernelType) → slice_get tops i ≡ Some (kernel_item k) → P i) → IsSource e → Typed tops g m e t → AllNames P (plain e)
+pub names_typed : {tops : List TopLevel} {g : List Entry} {m : Level} {e : Expression} {t : TermType} (P : ℕ → Type 0)
+    → ((i : ℕ) (e : Expression) → slice_get tops i ≡ Some (let_item e) → P i)
+    → ((i : ℕ) (k : KernelType) → slice_get tops i ≡ Some (kernel_item k) → P i) → IsSource e → Typed tops g m e t
+    → AllNames P (plain e)
 names_typed P l k s t_num = tt
 names_typed P l k s t_truth = tt
 names_typed P l k s (t_var h) = tt
@@ -119,36 +124,52 @@ pub record KernelStays (r : Naming) (k : List Entry) (i : ℕ) (t : KernelType) 
   pub named : (d : ℕ) → r d i ≡ var (d + number)
   pub there : slice_get k number ≡ Some (value (kernel_type t))
 
-module _ (tops names : List TopLevel) (r : Naming) (IsLet : ℕ → Type 0) (let_stays : (i : ℕ) (e : Expression) → slice_get tops i ≡ Some (let_item e) → LetStays names r IsLet i e) (let_is_no_kernel : (i : ℕ) (t : KernelType) → IsLet i → slice_get tops i ≡ Some (kernel_item t) → ⊥) where
-  at_entry : {g : List Entry} {x y : Entry} {e : Expression} {t : TermType} → x ≡ y → Typed names (x ∷ g) live e t → Typed names (y ∷ g) live e t
+module _ (tops names : List TopLevel) (r : Naming) (IsLet : ℕ → Type 0)
+    (let_stays : (i : ℕ) (e : Expression) → slice_get tops i ≡ Some (let_item e) → LetStays names r IsLet i e)
+    (let_is_no_kernel : (i : ℕ) (t : KernelType) → IsLet i → slice_get tops i ≡ Some (kernel_item t) → ⊥) where
+  at_entry : {g : List Entry} {x y : Entry} {e : Expression} {t : TermType} → x ≡ y → Typed names (x ∷ g) live e t
+      → Typed names (y ∷ g) live e t
   at_entry {g} {e = e} {t = t} q h = subst (λ x. Typed names (x ∷ g) live e t) q h
 
-  at_entries : {g : List Entry} {x y z w : Entry} {e : Expression} {t : TermType} → x ≡ y → z ≡ w → Typed names (x ∷ z ∷ g) live e t → Typed names (y ∷ w ∷ g) live e t
-  at_entries {g} {x} {y} {z} {w} {e = e} {t = t} q p h = subst (λ x. Typed names (x ∷ w ∷ g) live e t) q (subst (λ z. Typed names (x ∷ z ∷ g) live e t) p h)
+  at_entries : {g : List Entry} {x y z w : Entry} {e : Expression} {t : TermType} → x ≡ y → z ≡ w
+      → Typed names (x ∷ z ∷ g) live e t → Typed names (y ∷ w ∷ g) live e t
+  at_entries {g} {x} {y} {z} {w} {e = e} {t = t} q p h = subst (λ x. Typed names (x ∷ w ∷ g) live e t) q
+      (subst (λ z. Typed names (x ∷ z ∷ g) live e t) p h)
 
   at_type : {g : List Entry} {e : Expression} {s t : TermType} → s ≡ t → Typed names g live e s → Typed names g live e t
   at_type {g} {e} q h = subst (λ t. Typed names g live e t) q h
 
-  pub erased_typed : {g : List Entry} {m : Level} {e : Expression} {t : TermType} (k : List Entry) (P : ℕ → Type 0) → ((i : ℕ) (t : KernelType) → P i → slice_get tops i ≡ Some (kernel_item t) → KernelStays r k i t) → IsSource e → AllNames P (plain e) → Typed tops g m e t → Typed names (plain_entries g ++ k) live (term_of (renamed r (length g) (plain e))) (plain_type t)
+  pub erased_typed : {g : List Entry} {m : Level} {e : Expression} {t : TermType} (k : List Entry) (P : ℕ → Type 0)
+      → ((i : ℕ) (t : KernelType) → P i → slice_get tops i ≡ Some (kernel_item t) → KernelStays r k i t) → IsSource e
+      → AllNames P (plain e) → Typed tops g m e t → Typed names (plain_entries g ++ k) live
+      (term_of (renamed r (length g) (plain e))) (plain_type t)
   erased_typed k P z s c t_num = t_num
   erased_typed k P z s c t_truth = t_truth
-  erased_typed k P z s c (t_var {g = g} {m = m} {i = i} {t = t} h) = t_var (get-plain g k i (entry m t) h ∙ ap Some (plain_entry-entry m t))
+  erased_typed k P z s c (t_var {g = g} {m = m} {i = i} {t = t} h) =
+      t_var (get-plain g k i (entry m t) h ∙ ap Some (plain_entry-entry m t))
   erased_typed k P z s c (t_let {g = g} {i = i} {e = e} q h) =
       let l = let_stays i e q in
-      rw (l.named (length g)) (t_let l.there (erased_typed [] IsLet (λ i t p q. absurd (let_is_no_kernel i t p q)) l.source l.lets h))
+      rw (l.named (length g))
+      (t_let l.there (erased_typed [] IsLet (λ i t p q. absurd (let_is_no_kernel i t p q)) l.source l.lets h))
   erased_typed k P z s c (t_kernel {g = g} {i = i} {k = t} q) =
       let l = z i t c q in
-      rw (l.named (length g)) (t_var (get-behind g k l.number ∙ l.there ∙ ap (λ t. Some (value t)) (sym (plain_type-kernel_type t))))
-  erased_typed k P z s c (t_fun {m = m} {s = u} p h) = t_fun (Fits-plain live _ (IsPlain-plain_type u)) (at_entry (plain_entry-entry m u) (erased_typed k P z s c h))
+      rw (l.named (length g))
+      (t_var (get-behind g k l.number ∙ l.there ∙ ap (λ t. Some (value t)) (sym (plain_type-kernel_type t))))
+  erased_typed k P z s c (t_fun {m = m} {s = u} p h) = t_fun (Fits-plain live _ (IsPlain-plain_type u))
+      (at_entry (plain_entry-entry m u) (erased_typed k P z s c h))
   erased_typed k P z s c (t_fix {m = m} {s = u} {t = t} p h) =
-      t_fix (Fits-plain live (plain_type (function_type u t)) (IsPlain-plain_type (function_type u t))) (at_entries (plain_entry-entry m u) (plain_entry-entry m (function_type u t)) (erased_typed k P z s c h))
+      t_fix (Fits-plain live (plain_type (function_type u t)) (IsPlain-plain_type (function_type u t)))
+      (at_entries (plain_entry-entry m u) (plain_entry-entry m (function_type u t)) (erased_typed k P z s c h))
   erased_typed k P z s c (t_app x y) = t_app (erased_typed k P z s.0 c.0 x) (erased_typed k P z s.1 c.1 y)
-  erased_typed k P z s c (t_bind {m = m} {s = u} x y) = t_bind (erased_typed k P z s.0 c.0 x) (at_entry (plain_entry-entry m u) (erased_typed k P z s.1 c.1 y))
-  erased_typed k P z s c (t_cond x y w) = t_cond (erased_typed k P z s.0 c.0 x) (erased_typed k P z s.1 c.1 y) (erased_typed k P z s.2 c.2 w)
+  erased_typed k P z s c (t_bind {m = m} {s = u} x y) = t_bind (erased_typed k P z s.0 c.0 x)
+      (at_entry (plain_entry-entry m u) (erased_typed k P z s.1 c.1 y))
+  erased_typed k P z s c (t_cond x y w) = t_cond (erased_typed k P z s.0 c.0 x) (erased_typed k P z s.1 c.1 y)
+      (erased_typed k P z s.2 c.2 w)
   erased_typed k P z s c (t_pair x y) = t_pair (erased_typed k P z s.0 c.0 x) (erased_typed k P z s.1 c.1 y)
   erased_typed k P z s c (t_fst x) = t_fst (erased_typed k P z s c x)
   erased_typed k P z s c (t_snd x) = t_snd (erased_typed k P z s c x)
-  erased_typed k P z s c (t_prim {p = p} e x y) = t_prim (ap plain_type e ∙ plain_type-primitive_type p) (erased_typed k P z s.0 c.0 x) (erased_typed k P z s.1 c.1 y)
+  erased_typed k P z s c (t_prim {p = p} e x y) = t_prim (ap plain_type e ∙ plain_type-primitive_type p)
+      (erased_typed k P z s.0 c.0 x) (erased_typed k P z s.1 c.1 y)
   erased_typed k P z s c (t_bracket p x) = erased_typed k P z s c x
   erased_typed k P z s c (t_escape p x) = erased_typed k P z s c x
   erased_typed k P z s c (t_run e x) = erased_typed k P z s c x

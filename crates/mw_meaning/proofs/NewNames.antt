@@ -35,14 +35,16 @@ renamed-none names q (fun e) d = ap fun (renamed-none names q e (suc d))
 renamed-none names q (fix e) d = ap fix (renamed-none names q e (suc (suc d)))
 renamed-none names q (app f x) d = rw (renamed-none names q f d, renamed-none names q x d) refl
 renamed-none names q (bind x e) d = rw (renamed-none names q x d, renamed-none names q e (suc d)) refl
-renamed-none names q (cond x y z) d = rw (renamed-none names q x d, renamed-none names q y d, renamed-none names q z d) refl
+renamed-none names q (cond x y z) d = rw (renamed-none names q x d, renamed-none names q y d, renamed-none names q z d)
+    refl
 renamed-none names q (pair x y) d = rw (renamed-none names q x d, renamed-none names q y d) refl
 renamed-none names q (fst e) d = ap fst (renamed-none names q e d)
 renamed-none names q (snd e) d = ap snd (renamed-none names q e d)
 renamed-none names q (prim p x y) d = rw (renamed-none names q x d, renamed-none names q y d) refl
 
 -- a name that is there has the same place in a longer list
-there : (names : List NewName) (d i n : ℕ) → i < length names → new_name (slice_get names i) d n ≡ new_name (slice_get names i) d i
+there : (names : List NewName) (d i n : ℕ) → i < length names → new_name (slice_get names i) d n
+    ≡ new_name (slice_get names i) d i
 there [] d i n lt = absurd (omega arith)
 there (Let l ∷ names) d zero n lt = refl
 there (Kernel k ∷ names) d zero n lt = refl
@@ -54,15 +56,19 @@ length-new_names (defines e ∷ items) l = ap suc (length-new_names items (suc l
 length-new_names (kernel k e ∷ items) l = ap suc (length-new_names items l)
 
 -- the list of new names is the naming of the erased program
-pub naming_of-new_names : (items : List Definition) (l d i : ℕ) → i < length items → naming_of (new_names items l) d i ≡ name_in items l d i
+pub naming_of-new_names : (items : List Definition) (l d i : ℕ) → i < length items → naming_of (new_names items l) d i
+    ≡ name_in items l d i
 naming_of-new_names [] l d i lt = absurd (omega arith)
 naming_of-new_names (defines e ∷ items) l d zero lt = refl
-naming_of-new_names (defines e ∷ items) l d (suc i) lt = there (new_names items (suc l)) d i (suc i) (omega (arith, length-new_names items (suc l))) ∙ naming_of-new_names items (suc l) d i (omega arith)
+naming_of-new_names (defines e ∷ items) l d (suc i) lt = there (new_names items (suc l)) d i (suc i)
+    (omega (arith, length-new_names items (suc l))) ∙ naming_of-new_names items (suc l) d i (omega arith)
 naming_of-new_names (kernel k e ∷ items) l d zero lt = refl
-naming_of-new_names (kernel k e ∷ items) l d (suc i) lt = there (new_names items l) d i (suc i) (omega (arith, length-new_names items l)) ∙ naming_of-new_names items l d i (omega arith)
+naming_of-new_names (kernel k e ∷ items) l d (suc i) lt = there (new_names items l) d i (suc i)
+    (omega (arith, length-new_names items l)) ∙ naming_of-new_names items l d i (omega arith)
 
 -- so terms that name items alone are renamed alike
-pub renamed-new_names : (items : List Definition) (x : PlainTerm) (d : ℕ) → AllNames (λ i. i < length items) x → renamed (naming_of (new_names items zero)) d x ≡ renamed (name_in items zero) d x
+pub renamed-new_names : (items : List Definition) (x : PlainTerm) (d : ℕ) → AllNames (λ i. i < length items) x
+    → renamed (naming_of (new_names items zero)) d x ≡ renamed (name_in items zero) d x
 renamed-new_names items (num n) d h = refl
 renamed-new_names items (truth b) d h = refl
 renamed-new_names items (var i) d h = refl
@@ -70,37 +76,53 @@ renamed-new_names items (glob i) d h = naming_of-new_names items zero d i h
 renamed-new_names items (fun e) d h = ap fun (renamed-new_names items e (suc d) h)
 renamed-new_names items (fix e) d h = ap fix (renamed-new_names items e (suc (suc d)) h)
 renamed-new_names items (app f x) d h = rw (renamed-new_names items f d h.0, renamed-new_names items x d h.1) refl
-renamed-new_names items (bind x e) d h = rw (renamed-new_names items x d h.0, renamed-new_names items e (suc d) h.1) refl
-renamed-new_names items (cond x y z) d h = rw (renamed-new_names items x d h.0, renamed-new_names items y d h.1, renamed-new_names items z d h.2) refl
+renamed-new_names items (bind x e) d h = rw (renamed-new_names items x d h.0, renamed-new_names items e (suc d) h.1)
+    refl
+renamed-new_names items (cond x y z) d h =
+    rw (renamed-new_names items x d h.0, renamed-new_names items y d h.1, renamed-new_names items z d h.2) refl
 renamed-new_names items (pair x y) d h = rw (renamed-new_names items x d h.0, renamed-new_names items y d h.1) refl
 renamed-new_names items (fst e) d h = ap fst (renamed-new_names items e d h)
 renamed-new_names items (snd e) d h = ap snd (renamed-new_names items e d h)
 renamed-new_names items (prim p x y) d h = rw (renamed-new_names items x d h.0, renamed-new_names items y d h.1) refl
 
-lets_same : (all items : List Definition) → HasBoundItems (length all) items → lets_of (naming_of (new_names all zero)) items ≡ lets_of (name_in all zero) items
+lets_same : (all items : List Definition) → HasBoundItems (length all) items → lets_of (naming_of (new_names all zero))
+    items ≡ lets_of (name_in all zero) items
 lets_same all [] h = refl
 lets_same all (defines e ∷ items) h = rw (renamed-new_names all (plain e) zero h.0, lets_same all items h.1) refl
 lets_same all (kernel k e ∷ items) h = lets_same all items h.1
 
-inside_same : (all items : List Definition) (b : PlainTerm) → HasBoundItems (length all) items → inside_terms (naming_of (new_names all zero)) items (term_of b) ≡ term_of (inside_lets (name_in all zero) items b)
+inside_same : (all items : List Definition) (b : PlainTerm) → HasBoundItems (length all) items
+    → inside_terms (naming_of (new_names all zero)) items (term_of b) ≡ term_of (inside_lets (name_in all zero) items b)
 inside_same all [] b h = refl
 inside_same all (defines e ∷ items) b h = inside_same all items b h.1
-inside_same all (kernel k e ∷ items) b h = rw (renamed-new_names all (plain e) zero h.0, inside_same all items b h.1) refl
+inside_same all (kernel k e ∷ items) b h = rw (renamed-new_names all (plain e) zero h.0, inside_same all items b h.1)
+    refl
 
 -- the erased program, by the list of its new names
-pub erased_lets_are : (p : PureProgram) (names : List NewName) (items : List Definition) → names ≡ new_names p.items zero → items ≡ p.items → HasBoundNames p → lets_of (naming_of names) items ≡ (erased_program p).items
-erased_lets_are p names items q s h = ap (λ n. lets_of (naming_of n) items) q ∙ ap (λ i. lets_of (naming_of (new_names p.items zero)) i) s ∙ lets_same p.items p.items h.items
+pub erased_lets_are : (p : PureProgram) (names : List NewName) (items : List Definition)
+    → names ≡ new_names p.items zero → items ≡ p.items → HasBoundNames p → lets_of (naming_of names) items
+    ≡ (erased_program p).items
+erased_lets_are p names items q s h = ap (λ n. lets_of (naming_of n) items) q
+    ∙ ap (λ i. lets_of (naming_of (new_names p.items zero)) i) s ∙ lets_same p.items p.items h.items
 
-pub erased_body_is : (p : PureProgram) (names main_names : List NewName) (items : List Definition) → names ≡ new_names p.items zero → main_names ≡ new_names p.items zero → items ≡ p.items → HasBoundNames p → inside_terms (naming_of names) items (term_of (renamed (naming_of main_names) zero (plain p.body))) ≡ (erased_program p).body
+pub erased_body_is : (p : PureProgram) (names main_names : List NewName) (items : List Definition)
+    → names ≡ new_names p.items zero → main_names ≡ new_names p.items zero → items ≡ p.items → HasBoundNames p
+    → inside_terms (naming_of names) items (term_of (renamed (naming_of main_names) zero (plain p.body)))
+    ≡ (erased_program p).body
 erased_body_is p names main_names items q m s h =
     ap (λ n. inside_terms (naming_of n) items (term_of (renamed (naming_of main_names) zero (plain p.body)))) q
-    ∙ ap (λ n. inside_terms (naming_of (new_names p.items zero)) items (term_of (renamed (naming_of n) zero (plain p.body)))) m
-    ∙ ap (λ i. inside_terms (naming_of (new_names p.items zero)) i (term_of (renamed (naming_of (new_names p.items zero)) zero (plain p.body)))) s
-    ∙ ap (λ b. inside_terms (naming_of (new_names p.items zero)) p.items (term_of b)) (renamed-new_names p.items (plain p.body) zero h.body)
+    ∙ ap (λ n. inside_terms (naming_of (new_names p.items zero)) items
+    (term_of (renamed (naming_of n) zero (plain p.body)))) m
+    ∙ ap (λ i. inside_terms (naming_of (new_names p.items zero)) i
+    (term_of (renamed (naming_of (new_names p.items zero)) zero (plain p.body)))) s
+    ∙ ap (λ b. inside_terms (naming_of (new_names p.items zero)) p.items (term_of b))
+    (renamed-new_names p.items (plain p.body) zero h.body)
     ∙ inside_same p.items p.items (renamed (name_in p.items zero) zero (plain p.body)) h.items
 
-pub program_is : (items others : List Definition) (b c : GroundType) (e d : Expression) → items ≡ others → b ≡ c → e ≡ d → program_with items b e ≡ program_with others c d
-program_is items others b c e d p r q = ap (λ i. program_with i b e) p ∙ ap (λ b. program_with others b e) r ∙ ap (λ e. program_with others c e) q
+pub program_is : (items others : List Definition) (b c : GroundType) (e d : Expression) → items ≡ others → b ≡ c → e ≡ d
+    → program_with items b e ≡ program_with others c d
+program_is items others b c e d p r q = ap (λ i. program_with i b e) p ∙ ap (λ b. program_with others b e) r
+    ∙ ap (λ e. program_with others c e) q
 
 -- a name past the last
 pub none_there : (names : List NewName) (i : ℕ) → length names ≤ i → slice_get names i ≡ None
@@ -116,7 +138,8 @@ kernel_most (Kernel m ∷ names) zero n h = let p : m ≡ n = cc in omega arith
 kernel_most (Let l ∷ names) (suc i) n h = kernel_most names i n h
 kernel_most (Kernel m ∷ names) (suc i) n h = let p = kernel_most names i n h in omega arith
 
-pub kernel_room : (names : List NewName) (i d n : ℕ) → slice_get names i ≡ Some (Kernel n) → HasRoom names d 1 → d + n < 2 ^ 32
+pub kernel_room : (names : List NewName) (i d n : ℕ) → slice_get names i ≡ Some (Kernel n) → HasRoom names d 1
+    → d + n < 2 ^ 32
 kernel_room [] i d n h r = absurd (cc)
 kernel_room (x ∷ names) i d n h r = let p = kernel_most (x ∷ names) i n h in omega arith
 
@@ -143,27 +166,34 @@ kernels_counted (defines e ∷ items) = omega (arith, kernels_counted items)
 kernels_counted (kernel k e ∷ items) = omega (arith, kernels_counted items)
 
 -- an item's nodes, and a node for each other kernel
-item_and_kernels : (items : List Definition) (i : ℕ) (d : Definition) → slice_get items i ≡ Some d → definition_size d + kernels_in items ≤ definitions_size items + 1
+item_and_kernels : (items : List Definition) (i : ℕ) (d : Definition) → slice_get items i ≡ Some d
+    → definition_size d + kernels_in items ≤ definitions_size items + 1
 item_and_kernels [] i d h = absurd (cc)
-item_and_kernels (x ∷ items) zero d h = let p : x ≡ d = cc in rw (← p) (first x (omega (arith, kernels_counted items, items_sized items)))
+item_and_kernels (x ∷ items) zero d h = let p : x ≡ d = cc in
+    rw (← p) (first x (omega (arith, kernels_counted items, items_sized items)))
   where
-    first : (x : Definition) → kernels_in items ≤ definitions_size items → definition_size x + kernels_in (x ∷ items) ≤ definitions_size (x ∷ items) + 1
+    first : (x : Definition) → kernels_in items ≤ definitions_size items → definition_size x + kernels_in (x ∷ items)
+        ≤ definitions_size (x ∷ items) + 1
     first (defines e) q = omega arith
     first (kernel k e) q = omega arith
 item_and_kernels (defines e ∷ items) (suc i) d h = omega (arith, item_and_kernels items i d h, size_positive e)
 item_and_kernels (kernel k e ∷ items) (suc i) d h = omega (arith, item_and_kernels items i d h, size_positive e)
 
-have_room : (names : List NewName) (items : List Definition) → ((i : ℕ) (d : Definition) → slice_get items i ≡ Some d → HasRoom names zero (definition_size d)) → HaveRoom names items
+have_room : (names : List NewName) (items : List Definition)
+    → ((i : ℕ) (d : Definition) → slice_get items i ≡ Some d → HasRoom names zero (definition_size d))
+    → HaveRoom names items
 have_room names [] h = tt
 have_room names (d ∷ items) h = (h zero d refl, have_room names items (λ i d q. h (suc i) d q))
 
-pub room_at : (names : List NewName) (items : List Definition) (i : ℕ) (d : Definition) → slice_get items i ≡ Some d → HaveRoom names items → HasRoom names zero (definition_size d)
+pub room_at : (names : List NewName) (items : List Definition) (i : ℕ) (d : Definition) → slice_get items i ≡ Some d
+    → HaveRoom names items → HasRoom names zero (definition_size d)
 room_at names [] i d q h = absurd (cc)
 room_at names (x ∷ items) zero d q h = let p : x ≡ d = cc in rw p at h.0
 room_at names (x ∷ items) (suc i) d q h = room_at names items i d q h.1
 
 -- the items of a program of fewer than 2^31 nodes, and its main, have room for its names
-pub program_room : (p : PureProgram) → program_size p < 2 ^ 31 → HaveRoom (new_names p.items zero) p.items × HasRoom (new_names p.items zero) zero (size p.body)
+pub program_room : (p : PureProgram) → program_size p < 2 ^ 31 → HaveRoom (new_names p.items zero) p.items
+    × HasRoom (new_names p.items zero) zero (size p.body)
 program_room p h = (have_room names p.items item, main)
   where
     names : List NewName
@@ -174,19 +204,24 @@ program_room p h = (have_room names p.items item, main)
     room (x ∷ names) y lt = omega arith
 
     item : (i : ℕ) (d : Definition) → slice_get p.items i ≡ Some d → HasRoom names zero (definition_size d)
-    item i d q = room names (definition_size d) (omega (arith, most_behind-new_names p.items zero, item_and_kernels p.items i d q, size_positive p.body))
+    item i d q = room names (definition_size d)
+        (omega (arith, most_behind-new_names p.items zero, item_and_kernels p.items i d q, size_positive p.body))
 
     main : HasRoom names zero (size p.body)
-    main = room names (size p.body) (omega (arith, most_behind-new_names p.items zero, kernels_counted p.items, items_sized p.items))
+    main = room names (size p.body)
+        (omega (arith, most_behind-new_names p.items zero, kernels_counted p.items, items_sized p.items))
 
 -- the definition that an item is
-definition_at : (items : List Item) (i : ℕ) (x : Item) → slice_get items i ≡ Some x → slice_get (definitions items) i ≡ Some (definition_of x.kind)
+definition_at : (items : List Item) (i : ℕ) (x : Item) → slice_get items i ≡ Some x → slice_get (definitions items) i
+    ≡ Some (definition_of x.kind)
 definition_at [] i x h = absurd (cc)
 definition_at (y ∷ items) zero x h = let p : y ≡ x = cc in ap (λ (y : Item). Some (definition_of y.kind)) p
 definition_at (y ∷ items) (suc i) x h = definition_at items i x h
 
-pub item_room : (names : List NewName) (items : List Item) (i : ℕ) (x : Item) → i < length items → x ≡ get_or items i x → HaveRoom names (definitions items) → HasRoom names zero (definition_size (definition_of x.kind))
-item_room names items i x lt q h = room_at names (definitions items) i (definition_of x.kind) (definition_at items i x (slice_get_read items (length items) i x refl lt q)) h
+pub item_room : (names : List NewName) (items : List Item) (i : ℕ) (x : Item) → i < length items → x ≡ get_or items i x
+    → HaveRoom names (definitions items) → HasRoom names zero (definition_size (definition_of x.kind))
+item_room names items i x lt q h = room_at names (definitions items) i (definition_of x.kind)
+    (definition_at items i x (slice_get_read items (length items) i x refl lt q)) h
 
 pub length-definitions : (items : List Item) → length (definitions items) ≡ length items
 length-definitions [] = refl

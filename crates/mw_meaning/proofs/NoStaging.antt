@@ -28,4 +28,7 @@ lets_without r (defines e ∷ items) = (no_staging (renamed r zero (plain e)), l
 lets_without r (kernel k e ∷ items) = lets_without r items
 
 pub erased_program_has_no_staging : ErasedProgramHasNoStaging
-erased_program_has_no_staging p = (lets_without (name_in p.items zero) p.items, no_staging (inside_lets (name_in p.items zero) p.items (renamed (name_in p.items zero) zero (plain p.body))))
+erased_program_has_no_staging p = (
+  lets_without (name_in p.items zero) p.items,
+  no_staging (inside_lets (name_in p.items zero) p.items (renamed (name_in p.items zero) zero (plain p.body))),
+)

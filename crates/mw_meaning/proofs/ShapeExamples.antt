@@ -29,12 +29,14 @@ answers_stray : (n : ℕ) (k : KernelType) → (IsWordOfKernel k n (first_store 
 unfolding execution
 answers_stray n k h = in_init {st = first_store n} {f = 0} 0 refl refl h
 
-answers_no_stray : (n : ℕ) (t : GroundType) → IsWordOf t n (first_store n).memory → IsStray (init_answers n) (of_ground t) → ⊥
+answers_no_stray : (n : ℕ) (t : GroundType) → IsWordOf t n (first_store n).memory
+    → IsStray (init_answers n) (of_ground t) → ⊥
 unfolding execution
 answers_no_stray n t h (in_init {st = st} {f = f} units x y z) =
     let e : st ≡ first_store n = cc in
     let i : f ≡ 0 = cc in
-    let w = subst (λ s. IsStrayEnd (IsWordOf t) (invoked (init_answers n) s 0 [] units)) e (subst (λ i. IsStrayEnd (IsWordOf t) (invoked (init_answers n) st i [] units)) i z) in
+    let w = subst (λ s. IsStrayEnd (IsWordOf t) (invoked (init_answers n) s 0 [] units)) e
+    (subst (λ i. IsStrayEnd (IsWordOf t) (invoked (init_answers n) st i [] units)) i z) in
     w h
 
 no_call : {i : ℕ} → exported example_a (codes "call") ≡ Some i → ⊥
@@ -42,13 +44,35 @@ no_call e = cc
 
 pub examples_have_their_shapes : ExamplesHaveTheirShapes
 examples_have_their_shapes = (
-  record { init = record { index = 0; is_exported = refl; function = _; is_function = refl; has_type = refl }; call = tt; memory = refl; store = instance_of (instantiated example_a); has_instance = refl },
+  record {
+    init = record { index = 0; is_exported = refl; function = _; is_function = refl; has_type = refl };
+    call =
+        tt;
+    memory = refl;
+    store = instance_of (instantiated example_a);
+    has_instance = refl;
+  },
   λ s. no_call s.call.is_exported,
-  record { init = record { index = 1; is_exported = refl; function = _; is_function = refl; has_type = refl }; call = record { index = 2; is_exported = refl; function = _; is_function = refl; has_type = refl }; memory = refl; store = instance_of (instantiated example_b); has_instance = refl },
+  record {
+    init = record { index = 1; is_exported = refl; function = _; is_function = refl; has_type = refl };
+    call =
+        record { index = 2; is_exported = refl; function = _; is_function = refl; has_type = refl };
+    memory = refl;
+    store = instance_of (instantiated example_b);
+    has_instance = refl;
+  },
 )
 
 pub answers_have_their_shape : AnswersHaveTheirShape
-answers_have_their_shape n t = record { init = record { index = 0; is_exported = refl; function = _; is_function = refl; has_type = refl }; call = tt; memory = refl; store = first_store n; has_instance = refl }
+answers_have_their_shape n t =
+    record {
+      init = record { index = 0; is_exported = refl; function = _; is_function = refl; has_type = refl };
+      call =
+          tt;
+      memory = refl;
+      store = first_store n;
+      has_instance = refl;
+    }
 
 pub no_integer_is_stray : NoIntegerIsStray
 no_integer_is_stray n = answers_no_stray n _ tt
@@ -58,7 +82,8 @@ two_is_no_truth (inl e) = absurd (omega arith)
 two_is_no_truth (inr e) = absurd (omega arith)
 
 pub two_is_stray_for_truth : TwoIsStrayForTruth
-two_is_stray_for_truth = (answers_no_stray 0 _ (inl refl), answers_no_stray 1 _ (inr refl), answers_stray 2 _ two_is_no_truth)
+two_is_stray_for_truth =
+    (answers_no_stray 0 _ (inl refl), answers_no_stray 1 _ (inr refl), answers_stray 2 _ two_is_no_truth)
 
 past_the_end : IsWordOfKernel pair_kernel (2 ^ 64 - 1) (first_store (2 ^ 64 - 1)).memory → ⊥
 past_the_end h = let e : false ≡ true = h.0 in cc

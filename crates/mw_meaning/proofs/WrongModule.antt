@@ -23,4 +23,5 @@ two_parameters_stand_for_nothing h =
     let means = h.means seven_typed in
     let answers : AnswersAs (gives (int (pos 7)) 0 0) (invoked seven_of_two h.store means.init [] 0) = means.run 0 in
     subst (λ e. AnswersAs (gives (int (pos 7)) 0 0) e) (two_parameters_want_two.with_none h.store 0)
-    (subst (λ f. AnswersAs (gives (int (pos 7)) 0 0) (invoked seven_of_two h.store f [] 0)) (same means.is_init) answers)
+    (subst (λ f. AnswersAs (gives (int (pos 7)) 0 0) (invoked seven_of_two h.store f [] 0)) (same means.is_init)
+    answers)

@@ -138,7 +138,8 @@ ItemsCameTo mode fuel names [] [] = Unit {0}
 ItemsCameTo mode fuel names [] (c ∷ codes) = ⊥
 ItemsCameTo mode fuel names (defines e ∷ items) codes = ItemsCameTo mode fuel names items codes
 ItemsCameTo mode fuel names (kernel k e ∷ items) [] = ⊥
-ItemsCameTo mode fuel names (kernel k e ∷ items) (c ∷ codes) = (item_outcome mode names fuel e ≡ came_to c) × ItemsCameTo mode fuel names items codes
+ItemsCameTo mode fuel names (kernel k e ∷ items) (c ∷ codes) = (item_outcome mode names fuel e ≡ came_to c)
+    × ItemsCameTo mode fuel names items codes
 
 -- the program's answer, where each kernel item, and main, has the fuel
 pub record Answers (mode : Mode) (fuel : ℕ) (p : PureProgram) (v : PureGroundValue) : Type 0 where

@@ -42,8 +42,8 @@ most_behind [] = zero
 most_behind (Let l ∷ names) = most_behind names
 most_behind (Kernel n ∷ names) = max n (most_behind names)
 
--- Under so many binders each variable that a name of a term of so many nodes becomes has a number of 32 bits. A node binds two
--- variables at most.
+-- Under so many binders each variable that a name of a term of so many nodes becomes has a number of 32 bits. A node
+-- binds two variables at most.
 abbrev pub HasRoom : List NewName → (depth nodes : ℕ) → Type 0
 HasRoom [] depth nodes = Unit {0}
 HasRoom (x ∷ names) depth nodes = depth + 2 * nodes + most_behind (x ∷ names) < 2 ^ 32

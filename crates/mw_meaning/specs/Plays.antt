@@ -8,16 +8,17 @@ use Rattle.mw_wasm.specs.Execution.{ended}
 use Rattle.mw_wasm.specs.Instances.{exported, instantiated, invoked}
 use Rattle.mw_meaning.specs.StandingFor.{Call, AreCalls, leaves}
 
--- Calls on one instance, one after another, where `call` is function g and `init` gave r: each ended with a word, and the
--- last store is the one that they leave.
+-- Calls on one instance, one after another, where `call` is function g and `init` gave r: each ended with a word, and
+-- the last store is the one that they leave.
 pub data CallsEnd (m : PureModule) (g r : ℕ) : List Call → Store → Store → Type 0 where
   none : {st : Store} → CallsEnd m g r [] st st
   one_more : {c : Call} {calls : List Call} {st after last : Store} {n left : ℕ}
-      → invoked m st g (I64 r ∷ leaves c.argument) c.units ≡ ended after (I64 n ∷ []) left → CallsEnd m g r calls after last
+      → invoked m st g (I64 r ∷ leaves c.argument) c.units ≡ ended after (I64 n ∷ []) left
+      → CallsEnd m g r calls after last
       → CallsEnd m g r (c ∷ calls) st last
 
--- A play whose `init` gave the function's word r, whose arguments are of type s, and whose invocations so far all ended with a
--- word: the last one left this store.
+-- A play whose `init` gave the function's word r, whose arguments are of type s, and whose invocations so far all ended
+-- with a word: the last one left this store.
 pub record HasPlayed (m : PureModule) (s : GroundType) (r : ℕ) (last : Store) : Type 0 where
   pub first : Store
   pub has_instance : instantiated m ≡ Ok first

@@ -29,7 +29,8 @@ init_answers n = record {
 
 -- the constant's module has the shape for int, and not for a function, since it has no `call`; the cube's has that
 abbrev pub ExamplesHaveTheirShapes : Type 0
-ExamplesHaveTheirShapes = HasShape example_a int_kernel × (HasShape example_a int_to_int → ⊥) × HasShape example_b int_to_int
+ExamplesHaveTheirShapes = HasShape example_a int_kernel × (HasShape example_a int_to_int → ⊥)
+    × HasShape example_b int_to_int
 
 -- a module whose `init` answers a word has the shape for each ground type
 abbrev pub AnswersHaveTheirShape : Type 0
@@ -41,7 +42,8 @@ NoIntegerIsStray = (n : ℕ) → IsStray (init_answers n) int_kernel → ⊥
 
 -- 0 and 1 are truth values, and 2 is none
 abbrev pub TwoIsStrayForTruth : Type 0
-TwoIsStrayForTruth = (IsStray (init_answers 0) truth_kernel → ⊥) × (IsStray (init_answers 1) truth_kernel → ⊥) × IsStray (init_answers 2) truth_kernel
+TwoIsStrayForTruth = (IsStray (init_answers 0) truth_kernel → ⊥) × (IsStray (init_answers 1) truth_kernel → ⊥)
+    × IsStray (init_answers 2) truth_kernel
 
 -- 0 may be a pair's address, and the word of -1 is the address of no pair: its 16 bytes lie past the memory's end
 abbrev pub MinusOneIsStrayForPairs : Type 0

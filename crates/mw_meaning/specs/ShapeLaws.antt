@@ -13,9 +13,11 @@ use Rattle.mw_meaning.specs.Plays.{HasPlayed}
 
 -- A module that stands for typed code gives what a kernel of its type gives.
 abbrev pub StandingIsNotStray : Type 0
-StandingIsNotStray = (m : PureModule) (c : Expression) (k : KernelType) → StandsFor m c k → HasKernelType c k → IsStray m k → ⊥
+StandingIsNotStray = (m : PureModule) (c : Expression) (k : KernelType) → StandsFor m c k → HasKernelType c k
+    → IsStray m k → ⊥
 
--- An argument has as many leaves as its type, so beside the function's word `call` is given one for each other parameter.
+-- An argument has as many leaves as its type, so beside the function's word `call` is given one for each other
+-- parameter.
 abbrev pub LeavesAreCounted : Type 0
 LeavesAreCounted = (s : GroundType) (v : Value) → IsArgument s v → length (leaves v) ≡ leaf_count s
 

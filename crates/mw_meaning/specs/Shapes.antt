@@ -45,21 +45,22 @@ pub record HasShape (m : PureModule) (k : KernelType) : Type 0 where
   pub store : Store
   pub has_instance : instantiated m ≡ Ok store
 
--- A word may be one of a value of the ground type, beside this memory: a truth value's is 0 or 1, a pair's the address of 16
--- bytes of the memory whose two words may be those of its parts.
+-- A word may be one of a value of the ground type, beside this memory: a truth value's is 0 or 1, a pair's the address
+-- of 16 bytes of the memory whose two words may be those of its parts.
 abbrev pub IsWordOf : GroundType → ℕ → Memory → Type 0
 IsWordOf (base Int) n memory = Unit {0}
 IsWordOf (base Truth) n memory = (n ≡ 0) ⊎ (n ≡ 1)
-IsWordOf (product s t) n memory = IsTrue (is_inside memory n 16) × IsWordOf s (read_bytes 8 n memory) memory × IsWordOf t (read_bytes 8 (n + 8) memory) memory
+IsWordOf (product s t) n memory = IsTrue (is_inside memory n 16) × IsWordOf s (read_bytes 8 n memory) memory
+    × IsWordOf t (read_bytes 8 (n + 8) memory) memory
 
 -- any word may be a function's
 abbrev pub IsWordOfKernel : KernelType → ℕ → Memory → Type 0
 IsWordOfKernel (of_ground t) n memory = IsWordOf t n memory
 IsWordOfKernel (to s t) n memory = Unit {0}
 
--- An invocation ends as no kernel does: by a trap other than a kernel's, or with a word of which P doesn't hold. An end with
--- another number of words, or with an i32, can't come for a valid module of the shape, whose `init` and `call` give one i64 by
--- their types. Nor can an end where no rule fits, and where the units are spent a kernel may end too.
+-- An invocation ends as no kernel does: by a trap other than a kernel's, or with a word of which P doesn't hold. An end
+-- with another number of words, or with an i32, can't come for a valid module of the shape, whose `init` and `call`
+-- give one i64 by their types. Nor can an end where no rule fits, and where the units are spent a kernel may end too.
 abbrev pub IsStrayEnd : (ℕ → Memory → Type 0) → End → Type 0
 IsStrayEnd P (ended st (I64 n ∷ []) units) = P n st.memory → ⊥
 IsStrayEnd P (trapped Divide st) = ⊥
@@ -68,17 +69,21 @@ IsStrayEnd P (trapped OutOfBounds st) = ⊥
 IsStrayEnd P (trapped t st) = Unit {0}
 IsStrayEnd P _ = ⊥
 
--- Of calls on one instance, one after another, where `call` is function g and `init` gave r: each before the last ends with a
--- word, and the last as no kernel does with results of type t.
+-- Of calls on one instance, one after another, where `call` is function g and `init` gave r: each before the last ends
+-- with a word, and the last as no kernel does with results of type t.
 pub data EndStray (m : PureModule) (g r : ℕ) (t : GroundType) : List Call → Store → Type 0 where
-  here : {c : Call} {calls : List Call} {st : Store} → IsStrayEnd (IsWordOf t) (invoked m st g (I64 r ∷ leaves c.argument) c.units) → EndStray m g r t (c ∷ calls) st
+  here : {c : Call} {calls : List Call} {st : Store}
+      → IsStrayEnd (IsWordOf t) (invoked m st g (I64 r ∷ leaves c.argument) c.units) → EndStray m g r t (c ∷ calls) st
   later : {c : Call} {calls : List Call} {st after : Store} {n left : ℕ}
-      → invoked m st g (I64 r ∷ leaves c.argument) c.units ≡ ended after (I64 n ∷ []) left → EndStray m g r t calls after → EndStray m g r t (c ∷ calls) st
+      → invoked m st g (I64 r ∷ leaves c.argument) c.units ≡ ended after (I64 n ∷ []) left
+      → EndStray m g r t calls after → EndStray m g r t (c ∷ calls) st
 
--- A play of a module: its `init` with some units, and then calls with arguments of its type. The module is stray for the
--- kernel type where some play of it ends as no kernel of the type does.
+-- A play of a module: its `init` with some units, and then calls with arguments of its type. The module is stray for
+-- the kernel type where some play of it ends as no kernel of the type does.
 pub data IsStray (m : PureModule) : KernelType → Type 0 where
-  in_init : {k : KernelType} {st : Store} {f : ℕ} (n : ℕ) → instantiated m ≡ Ok st → exported m (codes "init") ≡ Some f → IsStrayEnd (IsWordOfKernel k) (invoked m st f [] n) → IsStray m k
+  in_init : {k : KernelType} {st : Store} {f : ℕ} (n : ℕ) → instantiated m ≡ Ok st → exported m (codes "init") ≡ Some f
+      → IsStrayEnd (IsWordOfKernel k) (invoked m st f [] n) → IsStray m k
   in_call : {s t : GroundType} {st after : Store} {f g r left : ℕ} {calls : List Call} (n : ℕ)
-      → instantiated m ≡ Ok st → exported m (codes "init") ≡ Some f → exported m (codes "call") ≡ Some g → AreCalls s calls
+      → instantiated m ≡ Ok st → exported m (codes "init") ≡ Some f → exported m (codes "call") ≡ Some g
+      → AreCalls s calls
       → invoked m st f [] n ≡ ended after (I64 r ∷ []) left → EndStray m g r t calls after → IsStray m (to s t)

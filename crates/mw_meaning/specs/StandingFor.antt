@@ -23,12 +23,13 @@ abbrev pub truth_number : Bool → ℕ
 truth_number true = 1
 truth_number false = 0
 
--- A word, read unsigned, is a value beside this memory: an integer's two's complement, 1 or 0 for a truth value, for a pair
--- the address of 16 bytes of the memory whose two words are its parts, and any word for a function.
+-- A word, read unsigned, is a value beside this memory: an integer's two's complement, 1 or 0 for a truth value, for a
+-- pair the address of 16 bytes of the memory whose two words are its parts, and any word for a function.
 abbrev pub IsWord : KernelValue → ℕ → Memory → Type 0
 IsWord (int z) n memory = n ≡ cast_unsigned w64 z
 IsWord (bool b) n memory = n ≡ truth_number b
-IsWord (both v w) n memory = IsTrue (is_inside memory n 16) × IsWord v (read_bytes 8 n memory) memory × IsWord w (read_bytes 8 (n + 8) memory) memory
+IsWord (both v w) n memory = IsTrue (is_inside memory n 16) × IsWord v (read_bytes 8 n memory) memory
+    × IsWord w (read_bytes 8 (n + 8) memory) memory
 IsWord (function e) n memory = Unit {0}
 IsWord (recursive e) n memory = Unit {0}
 
@@ -36,8 +37,9 @@ IsWord (recursive e) n memory = Unit {0}
 abbrev pub IsResult : KernelValue → List WasmValue → Memory → Type 0
 IsResult v vs memory = (n : ℕ) × (vs ≡ I64 n ∷ []) × IsWord v n memory
 
--- An invocation answers as the kernel meaning does: its value, read beside the memory that it leaves, with as many units
--- left, its trap, a trap of a store out of bounds where the heap is full, and the end of the units where they are spent.
+-- An invocation answers as the kernel meaning does: its value, read beside the memory that it leaves, with as many
+-- units left, its trap, a trap of a store out of bounds where the heap is full, and the end of the units where they are
+-- spent.
 abbrev pub AnswersAs : Ended → End → Type 0
 AnswersAs (gives v left words) (ended st vs units) = IsResult v vs st.memory × (units ≡ left)
 AnswersAs (stops (trap kind.Divide)) (trapped traps.Divide st) = Unit {0}
@@ -80,7 +82,8 @@ module _ (m : PureModule) where
   abbrev pub CallsAnswer : (g r : ℕ) → KernelValue → (words : ℕ) → List Call → Store → Type 0
   CallsAnswer g r f words [] st = Unit {0}
   CallsAnswer g r f words (c ∷ calls) st =
-      AnswersAs (call_of f words (kernel_argument c.argument) (argument_words c.argument) c.units) (invoked m st g (I64 r ∷ leaves c.argument) c.units)
+      AnswersAs (call_of f words (kernel_argument c.argument) (argument_words c.argument) c.units)
+      (invoked m st g (I64 r ∷ leaves c.argument) c.units)
       × IfEnded (invoked m st g (I64 r ∷ leaves c.argument) c.units) (CallsAnswer g r f words calls)
 
   -- the calls after an invocation of `init` that ended with a value
@@ -92,9 +95,11 @@ module _ (m : PureModule) where
   abbrev pub CallsMean : Expression → KernelType → (init : ℕ) → Store → Type 0
   CallsMean c (of_ground t) init st = Unit {0}
   CallsMean c (to s t) init st = (g : ℕ) × (exported m (codes "call") ≡ Some g)
-      × ((n : ℕ) (calls : List Call) → AreCalls s calls → CallsAfter g (kernel_meaning n 0 c) (invoked m st init [] n) calls)
+      × ((n : ℕ) (calls : List Call) → AreCalls s calls → CallsAfter g (kernel_meaning n 0 c) (invoked m st init [] n)
+      calls)
 
-  -- on the instance that the module begins as, `init` answers as the code does, and then each list of calls as its calls do
+  -- on the instance that the module begins as, `init` answers as the code does, and then each list of calls as its
+  -- calls do
   pub record MeansKernel (c : Expression) (k : KernelType) (st : Store) : Type 0 where
     pub init : ℕ
     pub is_init : exported m (codes "init") ≡ Some init

@@ -27,7 +27,8 @@ VariableIsAccepted = HasType (bracket (fun (var 0))) (code_type 0 (function_type
 
 -- run[int -> bool] cube after the item cube, whose type is int -> int
 abbrev pub KernelNameIsRefused : Type 0
-KernelNameIsRefused = (t : TermType) → Typed (seen_by_main cube_program.items) [] live (run (to (base Int) (base Bool)) (glob 1)) t → ⊥
+KernelNameIsRefused = (t : TermType) → Typed (seen_by_main cube_program.items) [] live
+    (run (to (base Int) (base Bool)) (glob 1)) t → ⊥
 
 -- fun x -> x + 1, and not fun x -> if x then x + 1 else 2
 abbrev pub FunctionIsAccepted : Type 0
@@ -102,14 +103,16 @@ CloseIsAccepted = HasType (close 0 (bracket (fun (var 0)))) (closed_type (functi
 
 -- .<fun x -> x + .~(open (close .<1>.))>., and not open .<1>.
 abbrev pub OpenIsAccepted : Type 0
-OpenIsAccepted = HasType (bracket (fun (prim Add (var 0) (escape (opened (close 0 (bracket (n 1)))))))) (code_type 0 (function_type int_type int_type))
+OpenIsAccepted = HasType (bracket (fun (prim Add (var 0) (escape (opened (close 0 (bracket (n 1))))))))
+    (code_type 0 (function_type int_type int_type))
 
 abbrev pub OpenIsRefused : Type 0
 OpenIsRefused = HasNoType (opened (bracket (n 1)))
 
 -- lift (1 + 2) and liftb true, and neither lift true nor liftb 1
 abbrev pub LiftIsAccepted : Type 0
-LiftIsAccepted = HasType (lift (prim Add (n 1) (n 2))) (code_type 0 int_type) × HasType (lift_b (truth true)) (code_type 0 bool_type)
+LiftIsAccepted = HasType (lift (prim Add (n 1) (n 2))) (code_type 0 int_type) × HasType (lift_b (truth true))
+    (code_type 0 bool_type)
 
 abbrev pub LiftIsRefused : Type 0
 LiftIsRefused = HasNoType (lift (truth true)) × HasNoType (lift_b (n 1))

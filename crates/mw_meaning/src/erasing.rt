@@ -23,7 +23,8 @@ pub enum NewName {
 fn deeper(names: &[NewName], depth: u32, binders: u32) -> u32
     requires binds { binders ≤ 2 }
     requires room { HasRoom names.now depth 1 }
-    ensures same { (x : PlainTerm) → renamed (naming_of names.now) result x ≡ renamed (naming_of names.now) (depth + binders) x }
+    ensures same { (x : PlainTerm) → renamed (naming_of names.now) result x ≡ renamed (naming_of names.now)
+        (depth + binders) x }
     ensures most { result ≤ depth + binders }
 {
     if names.is_empty() {
@@ -54,7 +55,8 @@ pub fn erased_under(
     depth: u32,
 ) -> Result<Term, AllocError>
     requires { HasRoom names.now depth (size (expression_of term.now)) }
-    ensures { IfOk result (λ t. expression_of t ≡ term_of (renamed (naming_of names.now) depth (plain (expression_of term.now)))) }
+    ensures { IfOk result
+        (λ t. expression_of t ≡ term_of (renamed (naming_of names.now) depth (plain (expression_of term.now)))) }
 {
     match term {
         Term::Int(n) => Ok(Term::Int(*n)),
@@ -105,7 +107,8 @@ pub(crate) fn boxed(
     depth: u32,
 ) -> Result<Box<Term>, AllocError>
     requires { HasRoom names.now depth (size (expression_of term.now)) }
-    ensures { IfOk result (λ t. expression_of t.value ≡ term_of (renamed (naming_of names.now) depth (plain (expression_of term.now)))) }
+    ensures { IfOk result
+        (λ t. expression_of t.value ≡ term_of (renamed (naming_of names.now) depth (plain (expression_of term.now)))) }
 {
     let term = erased_under(alloc, term, names, depth)?;
     Ok(Box::new(alloc, term)?)
@@ -122,8 +125,12 @@ fn both(
 ) -> Result<(Box<Term>, Box<Term>), AllocError>
     requires room_first { HasRoom names.now depth (size (expression_of first.now)) }
     requires room_second { HasRoom names.now depth (size (expression_of second.now)) }
-    ensures first { IfOk result (λ t. expression_of t.0.value ≡ term_of (renamed (naming_of names.now) depth (plain (expression_of first.now)))) }
-    ensures second { IfOk result (λ t. expression_of t.1.value ≡ term_of (renamed (naming_of names.now) depth (plain (expression_of second.now)))) }
+    ensures first { IfOk result
+        (λ t. expression_of t.0.value
+        ≡ term_of (renamed (naming_of names.now) depth (plain (expression_of first.now)))) }
+    ensures second { IfOk result
+        (λ t. expression_of t.1.value
+        ≡ term_of (renamed (naming_of names.now) depth (plain (expression_of second.now)))) }
 {
     let first = boxed(alloc, first, names, depth)?;
     Ok((first, boxed(alloc, second, names, depth)?))

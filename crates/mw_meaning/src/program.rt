@@ -46,7 +46,8 @@ fn kernel_count(items: &[Item]) -> u32
 /// What the next item's name becomes, put last.
 fn put_name(names: &mut Vec<NewName>, count: Count, kind: &ItemKind) -> Result<Count, AllocError>
     requires { count.lets + 1 < 2 ^ 32 }
-    ensures next { IfOk result (λ next. IsNext (definition_of kind.now) names.old.items names.new.items count.lets count.behind next.lets next.behind) }
+    ensures next { IfOk result (λ next. IsNext (definition_of kind.now) names.old.items names.new.items count.lets
+        count.behind next.lets next.behind) }
     ensures lets { IfOk result (λ next. next.lets ≤ count.lets + 1) }
 {
     match kind {
@@ -90,7 +91,8 @@ fn put_let(
     names: &[NewName],
 ) -> Result<(), AllocError>
     requires { HasRoom names.now 0 (definition_size (definition_of item.now.kind)) }
-    ensures lets { IfOk result (λ _. definitions lets.new ≡ definitions lets.old ++ lets_of (naming_of names.now) (definition_of item.now.kind ∷ [])) }
+    ensures lets { IfOk result (λ _. definitions lets.new ≡ definitions lets.old ++ lets_of (naming_of names.now)
+        (definition_of item.now.kind ∷ [])) }
     ensures named { IfOk result (λ _. item_names lets.new ≡ item_names lets.old ++ let_names (item.now ∷ [])) }
 {
     match &item.kind {
@@ -124,7 +126,9 @@ fn wrapped(
     inner: Box<Term>,
 ) -> Result<Box<Term>, AllocError>
     requires { HasRoom names.now 0 (definition_size (definition_of item.now.kind)) }
-    ensures { IfOk result (λ t. expression_of t.value ≡ inside_terms (naming_of names.now) (definition_of item.now.kind ∷ []) (expression_of inner.value)) }
+    ensures { IfOk result
+        (λ t. expression_of t.value ≡ inside_terms (naming_of names.now) (definition_of item.now.kind ∷ [])
+        (expression_of inner.value)) }
 {
     match &item.kind {
         ItemKind::Value(_) => Ok(inner),
@@ -143,7 +147,8 @@ fn inside(
     body: Box<Term>,
 ) -> Result<Box<Term>, AllocError>
     requires { HaveRoom names.now (definitions items.now) }
-    ensures { IfOk result (λ t. expression_of t.value ≡ inside_terms (naming_of names.now) (definitions items.now) (expression_of body.value)) }
+    ensures { IfOk result (λ t. expression_of t.value ≡ inside_terms (naming_of names.now) (definitions items.now)
+        (expression_of body.value)) }
 {
     let mut inner = body;
     let mut rest = items.len();
@@ -154,15 +159,16 @@ fn inside(
     Ok(inner)
 }
 
-/// The erased program: the program's lets, erased, each under its name, and main, erased, inside one let for each kernel. It
-/// needs fewer than 2^31 nodes, and that each name is an item's, as in a program that was checked. The one error is want of
-/// memory.
+/// The erased program: the program's lets, erased, each under its name, and main, erased, inside one let for each
+/// kernel. It needs fewer than 2^31 nodes, and that each name is an item's, as in a program that was checked. The one
+/// error is want of memory.
 pub fn erase_program(alloc: Global, program: &Program) -> Result<Program, AllocError>
     requires names { HasBoundNames (program_of program.now) }
     requires nodes { program_size (program_of program.now) < 2 ^ 31 }
     ensures erased { IfOk result (λ p. program_of p ≡ erased_program (program_of program.now)) }
     ensures named { IfOk result (λ p. item_names p.items ≡ let_names program.now.items) }
-    ensures typable { IfOk result (λ p. IsSourceProgram (program_of program.now) → Typable (program_of program.now) → Typable (program_of p)) }
+    ensures typable { IfOk result (λ p. IsSourceProgram (program_of program.now) → Typable (program_of program.now)
+        → Typable (program_of p)) }
     ensures unstaged { IfOk result (λ p. IsWithoutStaging (program_of p)) }
 {
     let items = program.items.as_slice();

@@ -35,8 +35,8 @@ pub fn stands_alone(line: &str) -> bool {
     line.trim().is_empty() || line.starts_with('#')
 }
 
-/// The row of a line: a name, a colon and words. A word is bytes in hexadecimal digits, or a number, an `x` and bytes that stand
-/// there so many times.
+/// The row of a line: a name, a colon and words. A word is bytes in hexadecimal digits, or a number, an `x` and bytes
+/// that stand there so many times.
 pub fn row_of(alloc: Global, line: &str) -> Result<Row, RowFault> {
     let Some((name, words)) = line.split_once(':') else {
         return Err(RowFault::Malformed);

@@ -9,7 +9,9 @@ Rose before after = (before < after) ⊎ (after ≡ 2 ^ 64 - 1)
 
 -- a count that rose and then didn't fall has risen
 pub Rose-after : (before middle after : ℕ) → before ≤ middle → middle ≤ after → Rose before middle → Rose before after
-Rose-after before middle after first second rose = elim (cases_lt before after) [ inl above ↦ inl above | inr below ↦ inr (⊎_elim (λ h. omega arith) (λ h. omega arith) rose) ]
+Rose-after before middle after first second rose =
+    elim (cases_lt before after)
+    [ inl above ↦ inl above | inr below ↦ inr (⊎_elim (λ h. omega arith) (λ h. omega arith) rose) ]
 
 -- a count that didn't fall and then rose has risen
 pub Rose-before : (before middle after : ℕ) → before ≤ middle → Rose middle after → Rose before after

@@ -1,5 +1,6 @@
 -- Which file a name stands for.
-use Rattle.std.specs.Prelude.{ℕ, List, slice_get, option_map, unwrap_or, [], ◌∷◌, Option, Some, None, Bool, IsTrue, IsNone, true, false, cond, bytes_eq, not, ◌&&◌, ◌||◌}
+use Rattle.std.specs.Prelude.{ℕ, List, slice_get, option_map, unwrap_or, [], ◌∷◌, Option, Some, None, Bool, IsTrue}
+use Rattle.std.specs.Prelude.{IsNone, true, false, cond, bytes_eq, not, ◌&&◌, ◌||◌}
 use Rattle.mw_outside.specs.declared.named.NamedFile.{NamedFile}
 
 -- the bytes of the first file of this name

@@ -1,6 +1,7 @@
 // Where a file is kept.
 
-ghost use Rattle.std.specs.Prelude.{◌≡◌, ◌≤◌, ◌++◌, ℕ, List, Bool, take, IsTrue, IsErrOf, IfOk, OnOk, OnErr, vec_len, alloc_error};
+ghost use Rattle.std.specs.Prelude.{◌≡◌, ◌≤◌, ◌++◌, ℕ, List, Bool, take, IsTrue, IsErrOf, IfOk, OnOk, OnErr, vec_len};
+ghost use Rattle.std.specs.Prelude.{alloc_error};
 ghost use Rattle.mw_outside.specs.Count.{Rose, GrowsByFront, IsWithin};
 
 use crate::errors::KeepFault;

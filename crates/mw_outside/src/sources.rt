@@ -1,6 +1,7 @@
 // Where files are read.
 
-ghost use Rattle.std.specs.Prelude.{◌≡◌, ◌<◌, ◌≤◌, ◌⊎◌, ◌++◌, [], ℕ, List, Bool, length, take, IsTrue, Some, IsErrOf, IfOk, OnOk, OnErr};
+ghost use Rattle.std.specs.Prelude.{◌≡◌, ◌<◌, ◌≤◌, ◌⊎◌, ◌++◌, [], ℕ, List, Bool, length, take, IsTrue, Some, IsErrOf};
+ghost use Rattle.std.specs.Prelude.{IfOk, OnOk, OnErr};
 ghost use Rattle.mw_outside.specs.declared.named.NamedFile.{NamedFile};
 ghost use Rattle.mw_outside.specs.Count.{Rose};
 ghost use Rattle.mw_outside.specs.Lookup.{file_of, LacksFile};
@@ -30,7 +31,8 @@ pub trait Source {
         ensures found { OnOk result (IsTrue tells → file_of (told self.old) name.now ≡ Some (left self.new)) }
         ensures ready { OnOk result (IsStarted self.new) }
         ensures same_count { OnOk result (faults self.new ≡ faults self.old) }
-        ensures missing { IsErrOf result StartFault.Missing → Rose (faults self.old) (faults self.new) ⊎ LacksFile tells (told self.old) name.now }
+        ensures missing { IsErrOf result StartFault.Missing → Rose (faults self.old) (faults self.new)
+            ⊎ LacksFile tells (told self.old) name.now }
         ensures failed { IsErrOf result StartFault.Failed → Rose (faults self.old) (faults self.new) }
         ensures still_ready { OnErr result (IsStarted self.old → IsStarted self.new) }
         ensures still_left { OnErr result (IsTrue tells → left self.new ≡ left self.old) }

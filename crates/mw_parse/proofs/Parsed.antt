@@ -28,39 +28,60 @@ use Rattle.mw_grammar.proofs.Sparse.{light}
 tells_by : (ts : List PureToken) (x : Answer program) → full 200 program ts ≡ x → Tells program ts x
 tells_by ts x e = subst (λ x. Tells program ts x) e (tells_full 200 ts)
 
-tree_by : (ts : List PureToken) (v : PureSurface) (h : ℕ) (rest : List PureToken) → full 200 program ts ≡ ok v h rest → rest ≡ [] → IsTree 200 ts v
-tree_by ts v h rest e f = let g : full 200 program ts ≡ ok v h [] = e ∙ ap (λ r. ok v h r) f in exact_ok 200 ts v h g (tells_by ts (ok v h []) g)
+tree_by : (ts : List PureToken) (v : PureSurface) (h : ℕ) (rest : List PureToken) → full 200 program ts ≡ ok v h rest
+    → rest ≡ [] → IsTree 200 ts v
+tree_by ts v h rest e f = let g : full 200 program ts ≡ ok v h [] = e ∙ ap (λ r. ok v h r) f in
+    exact_ok 200 ts v h g (tells_by ts (ok v h []) g)
 
 -- each way out
-pub few_program : (ts : List PureToken) (v : PureSurface) (h : ℕ) (rest : List PureToken) → full 200 program ts ≡ ok v h rest → rest ≡ [] → length v.items ≤ 1000 → kernels v.items ≤ 100 → IsProgram ts v
+pub few_program : (ts : List PureToken) (v : PureSurface) (h : ℕ) (rest : List PureToken) → full 200 program ts
+    ≡ ok v h rest → rest ≡ [] → length v.items ≤ 1000 → kernels v.items ≤ 100 → IsProgram ts v
 few_program ts v h rest e f p q = record { is = tree_by ts v h rest e f; few = record { items = p; kernel_items = q } }
 
-pub many_items : (ts : List PureToken) (v : PureSurface) (h : ℕ) (rest : List PureToken) → full 200 program ts ≡ ok v h rest → rest ≡ [] → 1000 < length v.items → HasTooMany ts
+pub many_items : (ts : List PureToken) (v : PureSurface) (h : ℕ) (rest : List PureToken) → full 200 program ts
+    ≡ ok v h rest → rest ≡ [] → 1000 < length v.items → HasTooMany ts
 many_items ts v h rest e f p = record { tree = v; is = tree_by ts v h rest e f; many = items p }
 
-pub many_kernels : (ts : List PureToken) (v : PureSurface) (h : ℕ) (rest : List PureToken) → full 200 program ts ≡ ok v h rest → rest ≡ [] → 100 < kernels v.items → HasTooMany ts
+pub many_kernels : (ts : List PureToken) (v : PureSurface) (h : ℕ) (rest : List PureToken) → full 200 program ts
+    ≡ ok v h rest → rest ≡ [] → 100 < kernels v.items → HasTooMany ts
 many_kernels ts v h rest e f p = record { tree = v; is = tree_by ts v h rest e f; many = kernel_items p }
 
-pub left_over : (ts : List PureToken) (v : PureSurface) (h : ℕ) (us : List Token) (n at : ℕ) → full 200 program ts ≡ ok v h (tokens_of us) → 1 ≤ length us → at ≡ place_of (tokens_of us) n → IsSyntaxAt ts n at
+pub left_over : (ts : List PureToken) (v : PureSurface) (h : ℕ) (us : List Token) (n at : ℕ) → full 200 program ts
+    ≡ ok v h (tokens_of us) → 1 ≤ length us → at ≡ place_of (tokens_of us) n → IsSyntaxAt ts n at
 left_over ts v h [] n at e p q = absurd (omega arith)
-left_over ts v h (u ∷ us) n at e p q = record { rest = tokens_of (u ∷ us); fault = exact_left 200 ts v h (token_of u) (tokens_of us) e (tells_by ts (ok v h (tokens_of (u ∷ us))) e); place = q }
+left_over ts v h (u ∷ us) n at e p q =
+    record {
+      rest = tokens_of (u ∷ us);
+      fault = exact_left 200 ts v h (token_of u) (tokens_of us) e
+          (tells_by ts (ok v h (tokens_of (u ∷ us))) e);
+      place = q;
+    }
 
-pub syntax_fault : (ts r : List PureToken) (n at : ℕ) → full 200 program ts ≡ syntax_at r → at ≡ place_of r n → IsSyntaxAt ts n at
-syntax_fault ts r n at e q = record { rest = r; fault = exact_syntax 200 ts r e (tells_by ts (syntax_at r) e); place = q }
+pub syntax_fault : (ts r : List PureToken) (n at : ℕ) → full 200 program ts ≡ syntax_at r → at ≡ place_of r n
+    → IsSyntaxAt ts n at
+syntax_fault ts r n at e q = record {
+  rest = r;
+  fault = exact_syntax 200 ts r e (tells_by ts (syntax_at r) e);
+  place =
+      q;
+}
 
-pub deep_fault : (ts r : List PureToken) (at : ℕ) → full 200 program ts ≡ deep_at r → at ≡ place_of r 0 → IsTooDeepAt ts at
+pub deep_fault : (ts r : List PureToken) (at : ℕ) → full 200 program ts ≡ deep_at r → at ≡ place_of r 0
+    → IsTooDeepAt ts at
 deep_fault ts r at e q = record { rest = r; fault = exact_deep 200 ts r e (tells_by ts (deep_at r) e); place = q }
 
 -- the clauses
 module _ (ts : List PureToken) (n : ℕ) where
   syntax_place : (a b : ℕ) → IsSyntaxAt ts n a → IsSyntaxAt ts n b → a ≡ b
-  syntax_place a b x y = x.place ∙ ap (λ r. place_of r n) (syntax_once 200 ts x.rest y.rest x.fault y.fault) ∙ sym y.place
+  syntax_place a b x y = x.place ∙ ap (λ r. place_of r n) (syntax_once 200 ts x.rest y.rest x.fault y.fault)
+      ∙ sym y.place
 
   deep_place : (a b : ℕ) → IsTooDeepAt ts a → IsTooDeepAt ts b → a ≡ b
   deep_place a b x y = x.place ∙ ap (λ r. place_of r 0) (deep_once 200 ts x.rest y.rest x.fault y.fault) ∙ sym y.place
 
   few_many : (v : PureSurface) → IsProgram ts v → HasTooMany ts → ⊥
-  few_many v x y = by (subst (λ w. AreTooMany w.items) (one_tree ts y.tree v y.is.nodes x.is.nodes y.is.derives x.is.derives) y.many)
+  few_many v x y =
+      by (subst (λ w. AreTooMany w.items) (one_tree ts y.tree v y.is.nodes x.is.nodes y.is.derives x.is.derives) y.many)
     where
       by : AreTooMany v.items → ⊥
       by (items p) = let q = x.few.items in omega arith
@@ -91,7 +112,8 @@ module _ (ts : List PureToken) (n : ℕ) where
   found (Ok s) x = x
   found (Err e) x = tt
 
-  pub only : (result : Result Surface Stop) → IsAnswer ts n result → (v : PureSurface) → IsProgram ts v → AnswersOrMemory (λ s. surface_of s ≡ v) result
+  pub only : (result : Result Surface Stop) → IsAnswer ts n result → (v : PureSurface) → IsProgram ts v
+      → AnswersOrMemory (λ s. surface_of s ≡ v) result
   only (Ok s) x v y = one_tree ts (surface_of s) v x.is.nodes y.is.nodes x.is.derives y.is.derives
   only (Err (Refused r)) x v y = program_or v r y x
   only (Err (Memory e)) x v y = tt
@@ -100,13 +122,15 @@ module _ (ts : List PureToken) (n : ℕ) where
   refused (Ok s) x = tt
   refused (Err e) x = x
 
-  pub first : (result : Result Surface Stop) → IsAnswer ts n result → (r : Refusal) → Refuses ts n r → IsRefusalOrMemory result r
+  pub first : (result : Result Surface Stop) → IsAnswer ts n result → (r : Refusal) → Refuses ts n r
+      → IsRefusalOrMemory result r
   first (Ok s) x r y = program_or (surface_of s) r x y
   first (Err (Refused s)) x r y = one_refusal s r x y
   first (Err (Memory e)) x r y = tt
 
   is_shallow : (v : PureSurface) → IsProgram ts v → IsShallow v
-  is_shallow v x = let h = low x.is.derives in let k = h.1 in let m = x.is.low in record { count = x.few.items; items = are_shallow v.items (height x.is.nodes) m h.0; body = omega arith }
+  is_shallow v x = let h = low x.is.derives in let k = h.1 in let m = x.is.low in
+      record { count = x.few.items; items = are_shallow v.items (height x.is.nodes) m h.0; body = omega arith }
 
   pub shallow : (result : Result Surface Stop) → IsAnswer ts n result → IfOk result (λ s. IsShallow (surface_of s))
   shallow (Ok s) x = is_shallow (surface_of s) x

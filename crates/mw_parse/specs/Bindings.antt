@@ -40,12 +40,17 @@ abbrev pub function_form : Form (tree expr)
 function_form = reads (parameter by_arrow) λ p. gives (function p)
 
 -- where a name was read, a form that is picked by it goes on so; else it fails
-abbrev pub GivesName : {n : Nonterminal} → (Placed → Form n) → Result (Placed × Bor (List Token)) Fault → (PureToken → Form n) → List PureToken → Type 0
-GivesName go result by ts = (b : ℕ) → Gives (λ x. reading b (go x.0) none_yet (tokens_of x.1.now)) result (reading b (pick by) none_yet ts)
+abbrev pub GivesName : {n : Nonterminal} → (Placed → Form n) → Result (Placed × Bor (List Token)) Fault
+    → (PureToken → Form n) → List PureToken → Type 0
+GivesName go result by ts = (b : ℕ) → Gives (λ x. reading b (go x.0) none_yet (tokens_of x.1.now)) result
+    (reading b (pick by) none_yet ts)
 
 -- what a `let` binds, as an item, and before `in` and what it is in scope in
 abbrev pub bound_item : Placed × Defined → PureItem
 bound_item x = let_item x.0.name x.0.at x.1.from (tree_in x.1.tree)
 
-abbrev pub GivesBound : ℕ → Result ((Placed × Defined) × ℕ × Bor (List Token)) Fault → (PureToken → Form (tree expr)) → List PureToken → Type 0
-GivesBound b result by ts = Gives (λ x. reading b (scope_form (bind x.0.0.name (tree_in x.0.1.tree))) (so_far x.1) (tokens_of x.2.now)) result (reading b (pick by) none_yet ts)
+abbrev pub GivesBound : ℕ → Result ((Placed × Defined) × ℕ × Bor (List Token)) Fault → (PureToken → Form (tree expr))
+    → List PureToken → Type 0
+GivesBound b result by ts =
+    Gives (λ x. reading b (scope_form (bind x.0.0.name (tree_in x.0.1.tree))) (so_far x.1) (tokens_of x.2.now)) result
+    (reading b (pick by) none_yet ts)

@@ -32,4 +32,5 @@ IsAnswer tokens length (Err e) = IfRefused (Refuses tokens length) e
 
 -- what was read of main, the height of its nodes and the tokens left are those of the answer, which has no items
 abbrev pub GivesMain : Result (Ground × Tree × ℕ × Bor (List Token)) Fault → Answer program → Type 0
-GivesMain result answer = Gives (λ x. ok (main_only (ground_of x.0) (tree_of x.1)) x.2 (tokens_of x.3.now)) result answer
+GivesMain result answer = Gives (λ x. ok (main_only (ground_of x.0) (tree_of x.1)) x.2 (tokens_of x.3.now)) result
+    answer

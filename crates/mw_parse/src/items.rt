@@ -69,7 +69,8 @@ fn kernel_item(alloc: Global, tokens: &[Token], room: u32) -> Read<SurfaceItem>
 /// A kernel type, and what stands after `=`.
 fn typed_tree(alloc: Global, tokens: &[Token], room: u32) -> Read<(KType, Box<Tree>)>
     requires { room ≤ 200 }
-    ensures gives { (x : PlacedName) → GivesRead (typed_item x) result (reading room (kernel_rest x) none_yet (tokens_of tokens.now)) }
+    ensures gives { (x : PlacedName)
+        → GivesRead (typed_item x) result (reading room (kernel_rest x) none_yet (tokens_of tokens.now)) }
     ensures height { IfOk result (λ x. x.1 ≤ room) }
 {
     let (kind, height, mid) = kernel(alloc, tokens, room)?;

@@ -168,7 +168,8 @@ fn paired(
     room: u32,
 ) -> Read<Box<Tree>>
     requires { (height ≤ room) × (room ≤ 200) }
-    ensures gives { GivesRead tree_in result (reading room (pair_form (tree_in left)) (so_far height) (tokens_of tokens.now)) }
+    ensures gives { GivesRead tree_in result
+        (reading room (pair_form (tree_in left)) (so_far height) (tokens_of tokens.now)) }
     ensures height { IfOk result (λ x. x.1 ≤ room) }
 {
     let (right, other, mid) = expr_tree(alloc, tokens, room)?;
@@ -289,7 +290,8 @@ fn more_trees(
     room: u32,
 ) -> Read<Box<Tree>>
     requires { (height ≤ room) × (room ≤ 200) }
-    ensures gives { GivesRead tree_in result (following room (row_of row) (tree_in left) height (tokens_of tokens.now)) }
+    ensures gives { GivesRead tree_in result
+        (following room (row_of row) (tree_in left) height (tokens_of tokens.now)) }
     ensures height { IfOk result (λ x. x.1 ≤ room) }
 {
     match next_operator(row, tokens) {
@@ -451,7 +453,8 @@ fn branches(
     room: u32,
 ) -> Read<Box<Tree>>
     requires { (height ≤ room) × (room ≤ 200) }
-    ensures gives { GivesRead tree_in result (reading room (branches_form (tree_in test)) (so_far height) (tokens_of tokens.now)) }
+    ensures gives { GivesRead tree_in result
+        (reading room (branches_form (tree_in test)) (so_far height) (tokens_of tokens.now)) }
     ensures height { IfOk result (λ x. x.1 ≤ room) }
 {
     let (left, other, mid) = expr_tree(alloc, tokens, room)?;
@@ -546,7 +549,8 @@ fn scoped(
     room: u32,
 ) -> Read<Box<Tree>>
     requires { (height ≤ room) × (room ≤ 200) }
-    ensures gives { GivesRead tree_in result (reading room (scope_form (bind name (tree_in definition))) (so_far height) (tokens_of tokens.now)) }
+    ensures gives { GivesRead tree_in result (reading room (scope_form (bind name (tree_in definition))) (so_far height)
+        (tokens_of tokens.now)) }
     ensures height { IfOk result (λ x. x.1 ≤ room) }
 {
     match after(Next::In, tokens) {
@@ -607,7 +611,8 @@ pub fn body_tree(alloc: Global, mark: Mark, tokens: &[Token], room: u32) -> Read
 #[cycle(trees)]
 fn behind_tree(alloc: Global, mark: Mark, tokens: &[Token], room: u32) -> Read<Defined>
     requires { room ≤ 200 }
-    ensures gives { GivesRead definition_in result (reading room (pick (behind_mark (mark_in mark))) none_yet (tokens_of tokens.now)) }
+    ensures gives { GivesRead definition_in result
+        (reading room (pick (behind_mark (mark_in mark))) none_yet (tokens_of tokens.now)) }
     ensures height { IfOk result (λ x. x.1 ≤ room) }
 {
     match in_hand(tokens) {
@@ -632,7 +637,8 @@ fn next_operand(
     room: u32,
 ) -> Read<Box<Tree>>
     requires { (height < room) × (room ≤ 200) }
-    ensures gives { GivesRead tree_in result (following_operator room (row_of row) (op_of operator) (tree_in left) height (tokens_of tokens.now)) }
+    ensures gives { GivesRead tree_in result
+        (following_operator room (row_of row) (op_of operator) (tree_in left) height (tokens_of tokens.now)) }
     ensures height { IfOk result (λ x. x.1 ≤ room) }
 {
     let (right, other, mid) = right_tree(alloc, row, tokens, room - 1)?;

@@ -131,8 +131,9 @@ fn items_of_two_chunks(rt: HostRuntime) -> Result<(), Fail> {
     Ok(())
 }
 
-// 48 places are left of two chunks, and five more chunks make 5,168. In an ordinary run the second call succeeds. It makes the
-// fifth to tenth allocation, the list of chunks and then each chunk: `rt try --test --fail-alloc N` refuses the Nth.
+// 48 places are left of two chunks, and five more chunks make 5,168. In an ordinary run the second call succeeds. It
+// makes the fifth to tenth allocation, the list of chunks and then each chunk: `rt try --test --fail-alloc N` refuses
+// the Nth.
 #[test]
 fn refused_room_changes_nothing(rt: HostRuntime) -> Result<(), Fail> {
     let mut pool = numbers(rt.alloc())?;

@@ -1,10 +1,10 @@
 // Sweeps over the cache file that a command leaves.
 //
-// `source` is the one file, and `words` are the command's, `run --cache c source.metaml` where the field isn't there. `workers`
-// are numbers of workers, 1 where the field isn't there. With each of them the command is carried out over an empty cache file;
-// again over what that left; over each shorter front of it; and over it with each byte in turn changed in its lowest bit. What
-// the very first wrote and left is printed. Of the others it is only said that they wrote and left the same, or which is the
-// first that didn't.
+// `source` is the one file, and `words` are the command's, `run --cache c source.metaml` where the field isn't there.
+// `workers` are numbers of workers, 1 where the field isn't there. With each of them the command is carried out over an
+// empty cache file; again over what that left; over each shorter front of it; and over it with each byte in turn
+// changed in its lowest bit. What the very first wrote and left is printed. Of the others it is only said that they
+// wrote and left the same, or which is the first that didn't.
 
 use crate::fields::{Fault, Row};
 use crate::outside::{Ended, end_of};
@@ -66,7 +66,8 @@ fn said(difference: Option<&'static str>) -> &'static str {
     difference.unwrap_or("the same output, the same file")
 }
 
-/// The first place of a damage after which the command ends otherwise than over an empty file, and what is another then.
+/// The first place of a damage after which the command ends otherwise than over an empty file, and what is another
+/// then.
 fn first_difference<R: AllocGlobal + Threads + Sync>(
     rt: &R,
     row: &Row,

@@ -1,7 +1,7 @@
 // Certificates beside a program: which of them certify its typing.
 //
-// `source` is the program, and each `cert` the bytes of a certificate. A line for each says what is found; of a source that has
-// no program the refusal is told.
+// `source` is the program, and each `cert` the bytes of a certificate. A line for each says what is found; of a source
+// that has no program the refusal is told.
 
 ghost use Rattle.mw_term.specs.Parts.{IsResolved};
 ghost use Rattle.mw_term.specs.Programs.{program_of};

@@ -1,8 +1,8 @@
 // How code ends.
 //
-// `code` is the function `run` of a module, of the `type` 1 where the field doesn't stand there; `modules` says what else the module
-// has, and what `table`, `element` and `data` change. Each `invoke` has a function's name, units, and the arguments; each
-// `word` asks for the eight bytes at an address. They are carried out in turn, on one instance.
+// `code` is the function `run` of a module, of the `type` 1 where the field doesn't stand there; `modules` says what
+// else the module has, and what `table`, `element` and `data` change. Each `invoke` has a function's name, units, and
+// the arguments; each `word` asks for the eight bytes at an address. They are carried out in turn, on one instance.
 
 ghost use Rattle.std.specs.Prelude.{◌≡◌, true, map};
 ghost use Rattle.mw_wasm.specs.NumericTypes.{type_of_value};

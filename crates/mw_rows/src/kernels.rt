@@ -1,8 +1,8 @@
 // Kernels of canonical texts, emitted, run and called.
 //
-// `text` is the kernel's, `fuel` the units of its run. Where the run gives a function, each `call` has an argument and units: the
-// leaves of the argument's value in turn, then the units, with blanks between them. Of a `module` row's `text` the bytes are printed
-// that its kernel's module has, in hexadecimal.
+// `text` is the kernel's, `fuel` the units of its run. Where the run gives a function, each `call` has an argument and
+// units: the leaves of the argument's value in turn, then the units, with blanks between them. Of a `module` row's
+// `text` the bytes are printed that its kernel's module has, in hexadecimal.
 
 ghost use Rattle.std.specs.Prelude.{◌≡◌, ◌<◌, IfOk, IfSome};
 ghost use Rattle.mw_term.specs.Terms.{base as base_of, expression_of, ground_of, ground_value_of, kernel_type_of};

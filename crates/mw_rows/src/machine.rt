@@ -1,8 +1,8 @@
 // Evaluations on the machine, over kernels that answer from a list.
 //
-// `source` is evaluated with `fuel` units: main, or the definition of the kernel item at the place `item`. Each `reply` is what the
-// kernels answer next: `number N`, `truth true`, `both N N`, `function`, `divides`, `full`, `no memory`, or `bad N`, with a
-// digest of 32 such bytes.
+// `source` is evaluated with `fuel` units: main, or the definition of the kernel item at the place `item`. Each `reply`
+// is what the kernels answer next: `number N`, `truth true`, `both N N`, `function`, `divides`, `full`, `no memory`, or
+// `bad N`, with a digest of 32 such bytes.
 
 use crate::fields::{Fault, Row, number_in};
 use mw_script::{Reply, answer};

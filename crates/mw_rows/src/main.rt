@@ -1,11 +1,11 @@
-//! The program `mw_rows`: it reads the files of rows that its words name, carries each row out, and prints under the row's name
-//! what came. It judges nothing: the stored output of the gate is what is expected. At the end it prints how many rows of each
-//! kind there were.
+//! The program `mw_rows`: it reads the files of rows that its words name, carries each row out, and prints under the
+//! row's name what came. It judges nothing: the stored output of the gate is what is expected. At the end it prints how
+//! many rows of each kind there were.
 //!
 //!     mw_rows FILE..
 //!
-//! A row that cannot be read is an error: its file and line are told on standard error, nothing more is carried out, and the
-//! status is 1.
+//! A row that cannot be read is an error: its file and line are told on standard error, nothing more is carried out,
+//! and the status is 1.
 #![tactic(auto)]
 
 mod cached;

@@ -1,9 +1,10 @@
 // Files of rows.
 //
-// A row begins with a line `[kind] name`. The lines after it are its fields: a name, a colon, a blank and a text. A name may come
-// more than once: its texts stand one after the other. `name*9: text` stands for nine times the text. `name^9: text` puts the
-// text of the line before, which has the same name, in the place of each `$`, nine times over: what comes is the next time's.
-// In a text `\n`, `\r`, `\t`, `\\` and `\xHH` are a byte each. Empty lines and lines that begin with `#` are passed over.
+// A row begins with a line `[kind] name`. The lines after it are its fields: a name, a colon, a blank and a text. A
+// name may come more than once: its texts stand one after the other. `name*9: text` stands for nine times the text.
+// `name^9: text` puts the text of the line before, which has the same name, in the place of each `$`, nine times over:
+// what comes is the next time's. In a text `\n`, `\r`, `\t`, `\\` and `\xHH` are a byte each. Empty lines and lines
+// that begin with `#` are passed over.
 
 use crate::fields::{Fault, Field, KINDS, Kind, Row, number_in};
 use std::alloc::{AllocError, Global};

@@ -106,7 +106,8 @@ fn push_shown(
     }
 }
 
-/// Adds lines that were written: `> ` stands before one that has its line feed, and `: ` before a last one that has none.
+/// Adds lines that were written: `> ` stands before one that has its line feed, and `: ` before a last one that has
+/// none.
 pub fn push_lines(
     alloc: Global,
     text: &mut String,

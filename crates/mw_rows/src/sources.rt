@@ -1,9 +1,10 @@
 // Sources and their trees.
 //
-// A `tree` row prints the tree of its source, or the refusal. A `verdicts` row has several sources: each begins with what
-// `source` says and ends with one of the texts of `next`; for each it is printed whether it has a tree, or the refusal. A
-// `followers` row has tokens that stand, each alone, behind its front: it prints those that the reader takes, those that are
-// refused at themselves, and all others. A `fronts` row prints the verdict of each front of its source, the shortest first.
+// A `tree` row prints the tree of its source, or the refusal. A `verdicts` row has several sources: each begins with
+// what `source` says and ends with one of the texts of `next`; for each it is printed whether it has a tree, or the
+// refusal. A `followers` row has tokens that stand, each alone, behind its front: it prints those that the reader
+// takes, those that are refused at themselves, and all others. A `fronts` row prints the verdict of each front of its
+// source, the shortest first.
 
 use crate::fields::{Fault, Row};
 use crate::shown::line;

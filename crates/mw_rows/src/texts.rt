@@ -1,7 +1,7 @@
 // Canonical texts, and digests.
 //
-// A `text` row prints the version, the code and the type that its text spells, and the text that is written of these. A `digest`
-// row prints the digest of its bytes, and the number from which a table looks for their name.
+// A `text` row prints the version, the code and the type that its text spells, and the text that is written of these. A
+// `digest` row prints the digest of its bytes, and the number from which a table looks for their name.
 
 ghost use Rattle.mw_term.specs.Terms.{expression_of};
 ghost use Rattle.mw_term.specs.Closed.{IsCode};
@@ -24,7 +24,8 @@ fn push_written(alloc: Global, text: &mut String, code: &Term, kind: &KType) -> 
     Ok(())
 }
 
-/// What a text of this length spells, and the text that is written of it. Of a long one it is said alone that it is one.
+/// What a text of this length spells, and the text that is written of it. Of a long one it is said alone that it is
+/// one.
 fn spelled(
     alloc: Global,
     length: usize,

@@ -1,7 +1,7 @@
 // Texts of modules, read and written again.
 //
-// `text` and each `next` are texts. Of the first the canonical text of its module is printed, or its first bad place; of each next
-// one that the same comes of it, or what does.
+// `text` and each `next` are texts. Of the first the canonical text of its module is printed, or its first bad place;
+// of each next one that the same comes of it, or what does.
 
 use crate::fields::{Fault, Row};
 use crate::shown::{Shows, push_lines};

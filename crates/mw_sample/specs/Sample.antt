@@ -9,7 +9,8 @@ ones_line = codes "let rec ones n = if n = 1 then .<1>. else .<.~(ones (n / 2)) 
 
 -- the line of kernel i, whose code is the product of its argument and a sum of 90i ones
 abbrev pub kernel_line : ℕ → List ℕ
-kernel_line i = codes "kernel k" ++ decimal i ++ codes " : int -> int = close .<fun x -> x * .~(ones " ++ decimal (90 * i) ++ codes ")>. ;;\n"
+kernel_line i = codes "kernel k" ++ decimal i ++ codes " : int -> int = close .<fun x -> x * .~(ones "
+    ++ decimal (90 * i) ++ codes ")>. ;;\n"
 
 -- kernel i is run and called with 2
 abbrev pub call_text : ℕ → List ℕ

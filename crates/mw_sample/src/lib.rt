@@ -31,7 +31,8 @@ pub fn sample(alloc: Global, kernels: u32) -> Result<Vec<u8>, AllocError>
 fn put_kernels(text: &mut String, kernels: u32) -> Result<(), AllocError>
     requires some { 1 ≤ kernels }
     requires within_limit { kernels ≤ 100 }
-    ensures { IfOk result (λ _. string_bytes text.new ≡ string_bytes text.old ++ flat_map kernel_line (range_with_len 1 kernels)) }
+    ensures { IfOk result (λ _. string_bytes text.new ≡ string_bytes text.old ++ flat_map kernel_line
+        (range_with_len 1 kernels)) }
 {
     for number in 1..=kernels {
         put_kernel(text, number)?;

@@ -25,12 +25,16 @@ pub all_known : {names : Names} (s : PureSurface) → Knows names s.items → pl
 all_known s knows = fun_ext (λ x. knows.all x)
 
 -- the fault that is kept of the items and of main in turn
-pub kept_of_all : (s : PureSurface) (names : Names) (middle first : Option Fault) → Knows names s.items → middle ≡ kept None (faults_of_items [] s.items) → first ≡ kept middle (faults_in (place_at names.all) [] Live s.body) → first ≡ kept None (faults_of s)
+pub kept_of_all : (s : PureSurface) (names : Names) (middle first : Option Fault) → Knows names s.items
+    → middle ≡ kept None (faults_of_items [] s.items)
+    → first ≡ kept middle (faults_in (place_at names.all) [] Live s.body) → first ≡ kept None (faults_of s)
 kept_of_all s names middle first knows items body =
-    let here : first ≡ kept middle (faults_in (items_of s.items) [] Live s.body) = body ∙ ap (λ tops. kept middle (faults_in tops [] Live s.body)) (all_known s knows) in
+    let here : first ≡ kept middle (faults_in (items_of s.items) [] Live s.body) =
+    body ∙ ap (λ tops. kept middle (faults_in tops [] Live s.body)) (all_known s knows) in
     kept_two None middle first (faults_of_items [] s.items) (faults_in (items_of s.items) [] Live s.body) items here
 
-pub body_named : (s : PureSurface) (names : Names) → Knows names s.items → named (place_at names.all) [] Live s.body ≡ named (items_of s.items) [] Live s.body
+pub body_named : (s : PureSurface) (names : Names) → Knows names s.items → named (place_at names.all) [] Live s.body
+    ≡ named (items_of s.items) [] Live s.body
 body_named s names knows = ap (λ tops. named tops [] Live s.body) (all_known s knows)
 
 pub no_fault_found : (s : PureSurface) → None ≡ kept None (faults_of s) → faults_of s ≡ []
@@ -44,10 +48,12 @@ none_is_first faults f e h =
     let P : List Fault → Type 0 = λ fs. IsFirst fs f in
     let first : IsFirst [] f = subst P e h in absurd (omega (arith, first.stands.1))
 
-pub first_is_none : {A : Type 0} (s : PureSurface) (f : Fault) (p : PureProgram) → IsFirst (faults_of s) f → IsNameless s p → A
+pub first_is_none : {A : Type 0} (s : PureSurface) (f : Fault) (p : PureProgram) → IsFirst (faults_of s) f
+    → IsNameless s p → A
 first_is_none s f p h k = none_is_first (faults_of s) f (program_has_no_fault k) h
 
-pub same_refusal : (s : PureSurface) (f g : Fault) → IsFirst (faults_of s) f → IsFirst (faults_of s) g → refusal_of f ≡ refusal_of g
+pub same_refusal : (s : PureSurface) (f g : Fault) → IsFirst (faults_of s) f → IsFirst (faults_of s) g → refusal_of f
+    ≡ refusal_of g
 same_refusal s f g a b = ap refusal_of (one_first (faults_of s) f g a b)
 
 -- what the clauses of the answer say
@@ -57,7 +63,8 @@ pub record IsAnswer (s : PureSurface) (result : Result Program Stop) : Type 0 wh
   pub refused : IfErr result (IfRefused (IsOfFirstFault s))
   pub first : (f : Fault) → IsFirst (faults_of s) f → IsRefusalOrMemory result (refusal_of f)
 
-accepted : (s : PureSurface) (program : Program) → program_of program ≡ named_program s → faults_of s ≡ [] → IsAnswer s (Ok program)
+accepted : (s : PureSurface) (program : Program) → program_of program ≡ named_program s → faults_of s ≡ []
+    → IsAnswer s (Ok program)
 accepted s program is none = record {
   found = let P : PureProgram → Type 0 = λ p. IsNameless s p in subst P (sym is) (faultless_program s none);
   only = λ p h. is ∙ sym (program_is_named s p h);
@@ -73,6 +80,8 @@ denied s f is = record {
   first = λ g h. same_refusal s f g is h;
 }
 
-pub is_answer : (s : PureSurface) (first : Option Fault) (program : Program) (result : Result Program Stop) → program_of program ≡ named_program s → first ≡ kept None (faults_of s) → MatchOption first (result ≡ Ok program) (λ f. result ≡ Err (Refused (refusal_of f))) → IsAnswer s result
+pub is_answer : (s : PureSurface) (first : Option Fault) (program : Program) (result : Result Program Stop)
+    → program_of program ≡ named_program s → first ≡ kept None (faults_of s) → MatchOption first (result ≡ Ok program)
+    (λ f. result ≡ Err (Refused (refusal_of f))) → IsAnswer s result
 is_answer s None program result is kept how = rw how (accepted s program is (no_fault_found s kept))
 is_answer s (Some f) program result is kept how = rw how (denied s f (first_found s f kept))

@@ -14,7 +14,11 @@ is_capture : IsNameless capture nameless_capture
 is_capture = record {
   items = no_item;
   result = refl;
-  body = n_run (n_close (n_bracket (n_app (n_app (n_fun (n_escape (n_app (n_fun (n_bracket (n_fun (n_prim (n_escape (n_var refl)) (n_var refl))))) (n_bracket (n_var refl))))) n_num) n_num)));
+  body = n_run (n_close
+      (n_bracket
+      (n_app (n_app
+      (n_fun (n_escape (n_app (n_fun (n_bracket (n_fun (n_prim (n_escape (n_var refl)) (n_var refl)))))
+      (n_bracket (n_var refl))))) n_num) n_num)));
 }
 
 is_looping : IsNameless looping nameless_looping

@@ -44,27 +44,35 @@ at_own_level Live at = refl
 at_own_level Quoted at = refl
 
 -- a tree without faults is what the walk builds
-faultless_use : (tops : TopNames) (g : List Binder) (m : Level) (x : List ℕ) (at : ℕ) (o : Option (ℕ × Level)) (i : Option ℕ) → nearest g x ≡ o → tops x ≡ i → faults_of_use o i m at ≡ [] → Nameless tops g m (used x at) (named_use o i)
+faultless_use : (tops : TopNames) (g : List Binder) (m : Level) (x : List ℕ) (at : ℕ) (o : Option (ℕ × Level))
+    (i : Option ℕ) → nearest g x ≡ o → tops x ≡ i → faults_of_use o i m at ≡ []
+    → Nameless tops g m (used x at) (named_use o i)
 faultless_use tops g m x at (Some p) i e h f = n_var (e ∙ ap (λ l. Some (p.0, l)) (same_level p.1 m at f))
 faultless_use tops g Live x at None (Some i) e h f = n_glob e h
 faultless_use tops g Quoted x at None (Some i) e h f = no_cons _ _ f
 faultless_use tops g m x at None None e h f = no_cons _ _ f
 
-pub faultless : (tops : TopNames) (g : List Binder) (m : Level) (t : SurfaceTree) → faults_in tops g m t ≡ [] → Nameless tops g m t (named tops g m t)
+pub faultless : (tops : TopNames) (g : List Binder) (m : Level) (t : SurfaceTree) → faults_in tops g m t ≡ []
+    → Nameless tops g m t (named tops g m t)
 faultless tops g m (num n) e = n_num
 faultless tops g m (truth b) e = n_truth
 faultless tops g m (used x at) e = faultless_use tops g m x at (nearest g x) (tops x) refl refl e
 faultless tops g m (fun x t) e = n_fun (faultless tops _ m t e)
 faultless tops g m (fix f x t) e = n_fix (faultless tops _ m t e)
-faultless tops g m (app s t) e = n_app (faultless tops g m s (empty_left _ _ e)) (faultless tops g m t (empty_right (faults_in tops g m s) _ e))
-faultless tops g m (bind x s t) e = n_bind (faultless tops g m s (empty_left _ _ e)) (faultless tops _ m t (empty_right (faults_in tops g m s) _ e))
+faultless tops g m (app s t) e = n_app (faultless tops g m s (empty_left _ _ e))
+    (faultless tops g m t (empty_right (faults_in tops g m s) _ e))
+faultless tops g m (bind x s t) e = n_bind (faultless tops g m s (empty_left _ _ e))
+    (faultless tops _ m t (empty_right (faults_in tops g m s) _ e))
 faultless tops g m (cond r s t) e =
     let more : faults_in tops g m s ++ faults_in tops g m t ≡ [] = empty_right (faults_in tops g m r) _ e in
-    n_cond (faultless tops g m r (empty_left _ _ e)) (faultless tops g m s (empty_left _ _ more)) (faultless tops g m t (empty_right (faults_in tops g m s) _ more))
-faultless tops g m (pair s t) e = n_pair (faultless tops g m s (empty_left _ _ e)) (faultless tops g m t (empty_right (faults_in tops g m s) _ e))
+    n_cond (faultless tops g m r (empty_left _ _ e)) (faultless tops g m s (empty_left _ _ more))
+    (faultless tops g m t (empty_right (faults_in tops g m s) _ more))
+faultless tops g m (pair s t) e = n_pair (faultless tops g m s (empty_left _ _ e))
+    (faultless tops g m t (empty_right (faults_in tops g m s) _ e))
 faultless tops g m (fst t) e = n_fst (faultless tops g m t e)
 faultless tops g m (snd t) e = n_snd (faultless tops g m t e)
-faultless tops g m (prim p s t) e = n_prim (faultless tops g m s (empty_left _ _ e)) (faultless tops g m t (empty_right (faults_in tops g m s) _ e))
+faultless tops g m (prim p s t) e = n_prim (faultless tops g m s (empty_left _ _ e))
+    (faultless tops g m t (empty_right (faults_in tops g m s) _ e))
 faultless tops g Live (bracket at t) e = n_bracket (faultless tops g Quoted t e)
 faultless tops g Quoted (bracket at t) e = no_cons _ _ e
 faultless tops g Live (escape at t) e = no_cons _ _ e
@@ -81,11 +89,14 @@ faultless tops g Live (lift_b at t) e = n_lift_b (faultless tops g Live t e)
 faultless tops g Quoted (lift_b at t) e = no_cons _ _ e
 
 -- a tree that is some expression has no fault
-pub has_no_fault : {tops : TopNames} {g : List Binder} {m : Level} {t : SurfaceTree} {e : Expression} → Nameless tops g m t e → faults_in tops g m t ≡ []
+pub has_no_fault : {tops : TopNames} {g : List Binder} {m : Level} {t : SurfaceTree} {e : Expression}
+    → Nameless tops g m t e → faults_in tops g m t ≡ []
 has_no_fault n_num = refl
 has_no_fault n_truth = refl
-has_no_fault {tops = tops} {m = m} (n_var {x = x} {at = at} h) = ap (λ o. faults_of_use o (tops x) m at) h ∙ at_own_level m at
-has_no_fault {tops = tops} (n_glob {x = x} {at = at} h i) = ap (λ o. faults_of_use o (tops x) Live at) h ∙ ap (λ o. faults_of_use None o Live at) i
+has_no_fault {tops = tops} {m = m} (n_var {x = x} {at = at} h) = ap (λ o. faults_of_use o (tops x) m at) h
+    ∙ at_own_level m at
+has_no_fault {tops = tops} (n_glob {x = x} {at = at} h i) = ap (λ o. faults_of_use o (tops x) Live at) h
+    ∙ ap (λ o. faults_of_use None o Live at) i
 has_no_fault (n_fun d) = has_no_fault d
 has_no_fault (n_fix d) = has_no_fault d
 has_no_fault (n_app c d) = empty_both (has_no_fault c) (has_no_fault d)
@@ -104,7 +115,8 @@ has_no_fault (n_lift d) = has_no_fault d
 has_no_fault (n_lift_b d) = has_no_fault d
 
 -- the expression that a tree is, is what the walk builds
-pub is_named : {tops : TopNames} {g : List Binder} {m : Level} {t : SurfaceTree} {e : Expression} → Nameless tops g m t e → e ≡ named tops g m t
+pub is_named : {tops : TopNames} {g : List Binder} {m : Level} {t : SurfaceTree} {e : Expression}
+    → Nameless tops g m t e → e ≡ named tops g m t
 is_named n_num = refl
 is_named n_truth = refl
 is_named {tops = tops} (n_var {x = x} h) = sym (ap (λ o. named_use o (tops x)) h)

@@ -18,7 +18,8 @@ kept_append o (f ∷ fs) gs = kept_append (Some (kept_of o f)) fs gs
 pub kept_two : (o p q : Option Fault) (fs gs : List Fault) → p ≡ kept o fs → q ≡ kept p gs → q ≡ kept o (fs ++ gs)
 kept_two o p q fs gs e h = h ∙ ap (λ x. kept x gs) e ∙ sym (kept_append o fs gs)
 
-pub kept_three : (o p q r : Option Fault) (fs gs hs : List Fault) → p ≡ kept o fs → q ≡ kept p gs → r ≡ kept q hs → r ≡ kept o (fs ++ (gs ++ hs))
+pub kept_three : (o p q r : Option Fault) (fs gs hs : List Fault) → p ≡ kept o fs → q ≡ kept p gs → r ≡ kept q hs
+    → r ≡ kept o (fs ++ (gs ++ hs))
 kept_three o p q r fs gs hs e h i = kept_two o p r fs (gs ++ hs) e (kept_two p q r gs hs h i)
 
 -- the order of two faults by their places and numbers
@@ -28,14 +29,16 @@ before_is p q m n h = grind (arith, h)
 not_before_is : (p q m n : ℕ) → (nat_lt p q || (nat_eq p q && nat_lt m n)) ≡ false → (q < p) ⊎ ((q ≡ p) × (n ≤ m))
 not_before_is p q m n h = grind (arith, h)
 
-after_both : (p q r l m n : ℕ) → (p < q) ⊎ ((p ≡ q) × (l ≤ m)) → (q < r) ⊎ ((q ≡ r) × (m ≤ n)) → (p < r) ⊎ ((p ≡ r) × (l ≤ n))
+after_both : (p q r l m n : ℕ) → (p < q) ⊎ ((p ≡ q) × (l ≤ m)) → (q < r) ⊎ ((q ≡ r) × (m ≤ n)) → (p < r)
+    ⊎ ((p ≡ r) × (l ≤ n))
 after_both p q r l m n a b = grind (arith, a, b)
 
 no_later_self : (f : Fault) → IsNoLater f f
 no_later_self f = inr (refl, omega arith)
 
 no_later_both : (f g h : Fault) → IsNoLater f g → IsNoLater g h → IsNoLater f h
-no_later_both f g h a b = after_both (place_of f) (place_of g) (place_of h) (number_of f) (number_of g) (number_of h) a b
+no_later_both f g h a b = after_both (place_of f) (place_of g) (place_of h) (number_of f) (number_of g) (number_of h) a
+    b
 
 kept_is_no_later : (g f : Fault) → IsNoLater (kept_of (Some g) f) g × IsNoLater (kept_of (Some g) f) f
 kept_is_no_later g f =
@@ -46,7 +49,8 @@ kept_is_no_later g f =
     ] in by (is_before f g) refl
 
 kept_is_one : (g f : Fault) → (kept_of (Some g) f ≡ f) ⊎ (kept_of (Some g) f ≡ g)
-kept_is_one g f = elim (is_before f g) as (λ b. (cond b f g ≡ f) ⊎ (cond b f g ≡ g)) [ true ↦ inl refl | false ↦ inr refl ]
+kept_is_one g f = elim (is_before f g) as (λ b. (cond b f g ≡ f) ⊎ (cond b f g ≡ g))
+    [ true ↦ inl refl | false ↦ inr refl ]
 
 contains_head : (f : Fault) (fs : List Fault) → Contains (f ∷ fs) f
 contains_head f fs = (0, omega arith, refl)
@@ -69,7 +73,8 @@ is_kept g (h ∷ fs) =
     let f : Fault = rest.0 in
     let less = kept_is_no_later g h in
     let where_next : f ≡ next → (f ≡ g) ⊎ Contains (h ∷ fs) f = λ e. elim (kept_is_one g h) [
-      | inl is_met ↦ inr (let P : Fault → Type 0 = λ x. Contains (h ∷ fs) x in subst P (sym (e ∙ is_met)) (contains_head h fs))
+      | inl is_met ↦ inr (let P : Fault → Type 0 = λ x. Contains (h ∷ fs) x in
+          subst P (sym (e ∙ is_met)) (contains_head h fs))
       | inr stays ↦ inl (e ∙ stays)
     ] in (
       f,
@@ -88,7 +93,11 @@ kept_is_first (g ∷ fs) f e =
     let k : (f : Fault) × IsKept g fs f = is_kept g fs in
     let same : k.0 ≡ f = same_Some _ _ (sym k.1.is ∙ e) in
     let first : IsFirst (g ∷ fs) k.0 = record {
-      stands = elim k.1.found [ inl e ↦ (let P : Fault → Type 0 = λ x. Contains (g ∷ fs) x in subst P (sym e) (contains_head g fs)) | inr i ↦ contains_tail k.0 g fs i ];
+      stands = elim k.1.found [
+        | inl e ↦ (let P : Fault → Type 0 = λ x. Contains (g ∷ fs) x in subst P (sym e) (contains_head g fs))
+        | inr i
+            ↦ contains_tail k.0 g fs i
+      ];
       first = All-from_recursion (IsNoLater k.0) (g ∷ fs) (k.1.before_kept, k.1.before_met);
     } in
     let P : Fault → Type 0 = λ x. IsFirst (g ∷ fs) x in subst P same first
@@ -124,5 +133,6 @@ is_before_stander fs f g all i = let P : Fault → Type 0 = IsNoLater f in subst
 
 pub one_first : (fs : List Fault) (f g : Fault) → IsFirst fs f → IsFirst fs g → f ≡ g
 one_first fs f g a b =
-    let both = no_later_twice f g (is_before_stander fs f g a.first b.stands) (is_before_stander fs g f b.first a.stands) in
+    let both = no_later_twice f g (is_before_stander fs f g a.first b.stands)
+    (is_before_stander fs g f b.first a.stands) in
     same_fault f g both.0 both.1

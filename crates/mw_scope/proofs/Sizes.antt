@@ -15,7 +15,8 @@ use Rattle.mw_scope.specs.Nameless.{n_lift_b, NamelessItem, a_let, a_kernel, Nam
 use Rattle.mw_scope.specs.Nameless.{IsNameless}
 
 -- without names a term has as many nodes
-pub same_size : {tops : TopNames} {g : List Binder} {m : Level} {t : SurfaceTree} {e : Expression} → Nameless tops g m t e → size e ≡ tree_size t
+pub same_size : {tops : TopNames} {g : List Binder} {m : Level} {t : SurfaceTree} {e : Expression}
+    → Nameless tops g m t e → size e ≡ tree_size t
 same_size n_num = omega arith
 same_size n_truth = omega arith
 same_size (n_var h) = omega arith
@@ -37,11 +38,13 @@ same_size (n_open d) = omega (arith, same_size d)
 same_size (n_lift d) = omega (arith, same_size d)
 same_size (n_lift_b d) = omega (arith, same_size d)
 
-same_item : {before : List PureItem} {i : PureItem} {d : Definition} → NamelessItem before i d → definition_size d ≡ tree_size (bound_tree i)
+same_item : {before : List PureItem} {i : PureItem} {d : Definition} → NamelessItem before i d → definition_size d
+    ≡ tree_size (bound_tree i)
 same_item (a_let v d) = same_size d
 same_item (a_kernel d) = same_size d
 
-same_items : {before items : List PureItem} {ds : List Definition} → NamelessItems before items ds → definitions_size ds ≡ items_size items
+same_items : {before items : List PureItem} {ds : List Definition} → NamelessItems before items ds → definitions_size ds
+    ≡ items_size items
 same_items no_item = omega arith
 same_items (an_item new d ds) = omega (arith, same_item d, same_items ds)
 
@@ -49,6 +52,7 @@ pub same_program : (s : PureSurface) (p : PureProgram) → IsNameless s p → pr
 same_program s p h = omega (arith, same_items h.items, same_size h.body)
 
 -- so it has fewer than 2^31, where the tree has few
-pub is_small : (s : PureSurface) (result : Result Program Stop) → surface_size s ≤ 3145728 → IfOk result (λ p. IsNameless s (program_of p)) → IfOk result (λ p. program_size (program_of p) < 2 ^ 31)
+pub is_small : (s : PureSurface) (result : Result Program Stop) → surface_size s ≤ 3145728
+    → IfOk result (λ p. IsNameless s (program_of p)) → IfOk result (λ p. program_size (program_of p) < 2 ^ 31)
 is_small s (Ok p) few h = omega (arith, same_program s (program_of p) h)
 is_small s (Err e) few h = tt

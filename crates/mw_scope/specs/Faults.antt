@@ -39,7 +39,8 @@ faults_in tops g m (num n) = []
 faults_in tops g m (truth b) = []
 faults_in tops g m (used x at) = faults_of_use (nearest g x) (tops x) m at
 faults_in tops g m (fun x e) = faults_in tops (record { name = x; level = m } ∷ g) m e
-faults_in tops g m (fix f x e) = faults_in tops (record { name = x; level = m } ∷ record { name = f; level = m } ∷ g) m e
+faults_in tops g m (fix f x e) = faults_in tops (record { name = x; level = m } ∷ record { name = f; level = m } ∷ g) m
+    e
 faults_in tops g m (app f a) = faults_in tops g m f ++ faults_in tops g m a
 faults_in tops g m (bind x d e) = faults_in tops g m d ++ faults_in tops (record { name = x; level = m } ∷ g) m e
 faults_in tops g m (cond_tree c a b) = faults_in tops g m c ++ (faults_in tops g m a ++ faults_in tops g m b)
@@ -67,13 +68,15 @@ faults_of_value false from = NotValue from ∷ []
 
 -- the faults of an item, by the lets before it, which it sees, and by all items before it
 abbrev pub faults_of_item : TopNames → TopNames → PureItem → List Fault
-faults_of_item lets all (let_item x at from e) = faults_of_name (all x) at ++ (faults_of_value (is_value e) from ++ faults_in lets [] Live e)
+faults_of_item lets all (let_item x at from e) = faults_of_name (all x) at
+    ++ (faults_of_value (is_value e) from ++ faults_in lets [] Live e)
 faults_of_item lets all (kernel_item x at k e) = faults_of_name (all x) at ++ faults_in lets [] Live e
 
 -- the faults of items after the items before them
 abbrev pub faults_of_items : List PureItem → List PureItem → List Fault
 faults_of_items before [] = []
-faults_of_items before (item ∷ items) = faults_of_item (lets_of before) (items_of before) item ++ faults_of_items (before ++ item ∷ []) items
+faults_of_items before (item ∷ items) = faults_of_item (lets_of before) (items_of before) item
+    ++ faults_of_items (before ++ item ∷ []) items
 
 -- all faults of a program; main sees all items
 abbrev pub faults_of : PureSurface → List Fault

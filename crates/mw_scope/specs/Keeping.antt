@@ -5,7 +5,8 @@ use Rattle.mw_scope.specs.Faults.{place_of, number_of}
 
 -- the first stands at an earlier place, or at the same one with a smaller number
 abbrev pub is_before : Fault → Fault → Bool
-is_before f g = nat_lt (place_of f) (place_of g) || (nat_eq (place_of f) (place_of g) && nat_lt (number_of f) (number_of g))
+is_before f g = nat_lt (place_of f) (place_of g) ||
+    (nat_eq (place_of f) (place_of g) && nat_lt (number_of f) (number_of g))
 
 -- a fault takes the place of the one that was kept, where it comes before it
 abbrev pub kept_of : Option Fault → Fault → Fault

@@ -35,10 +35,13 @@ named_by tops look n m (num i) = nameless.num i
 named_by tops look n m (truth b) = nameless.truth b
 named_by tops look n m (used x at) = use_by n (look x) (tops x)
 named_by tops look n m (fun x e) = nameless.fun (named_by tops (rebound look x (Some (n, m))) (suc n) m e)
-named_by tops look n m (fix f x e) = nameless.fix (named_by tops (rebound (rebound look f (Some (n, m))) x (Some (suc n, m))) (suc (suc n)) m e)
+named_by tops look n m (fix f x e) =
+    nameless.fix (named_by tops (rebound (rebound look f (Some (n, m))) x (Some (suc n, m))) (suc (suc n)) m e)
 named_by tops look n m (app f a) = nameless.app (named_by tops look n m f) (named_by tops look n m a)
-named_by tops look n m (bind x d e) = nameless.bind (named_by tops look n m d) (named_by tops (rebound look x (Some (n, m))) (suc n) m e)
-named_by tops look n m (cond_tree c a b) = nameless.cond (named_by tops look n m c) (named_by tops look n m a) (named_by tops look n m b)
+named_by tops look n m (bind x d e) = nameless.bind (named_by tops look n m d)
+    (named_by tops (rebound look x (Some (n, m))) (suc n) m e)
+named_by tops look n m (cond_tree c a b) = nameless.cond (named_by tops look n m c) (named_by tops look n m a)
+    (named_by tops look n m b)
 named_by tops look n m (pair a b) = nameless.pair (named_by tops look n m a) (named_by tops look n m b)
 named_by tops look n m (fst e) = nameless.fst (named_by tops look n m e)
 named_by tops look n m (snd e) = nameless.snd (named_by tops look n m e)
@@ -57,10 +60,13 @@ faults_by tops look n m (num i) = []
 faults_by tops look n m (truth b) = []
 faults_by tops look n m (used x at) = faults_of_use (look x) (tops x) m at
 faults_by tops look n m (fun x e) = faults_by tops (rebound look x (Some (n, m))) (suc n) m e
-faults_by tops look n m (fix f x e) = faults_by tops (rebound (rebound look f (Some (n, m))) x (Some (suc n, m))) (suc (suc n)) m e
+faults_by tops look n m (fix f x e) = faults_by tops (rebound (rebound look f (Some (n, m))) x (Some (suc n, m)))
+    (suc (suc n)) m e
 faults_by tops look n m (app f a) = faults_by tops look n m f ++ faults_by tops look n m a
-faults_by tops look n m (bind x d e) = faults_by tops look n m d ++ faults_by tops (rebound look x (Some (n, m))) (suc n) m e
-faults_by tops look n m (cond_tree c a b) = faults_by tops look n m c ++ (faults_by tops look n m a ++ faults_by tops look n m b)
+faults_by tops look n m (bind x d e) = faults_by tops look n m d ++ faults_by tops (rebound look x (Some (n, m)))
+    (suc n) m e
+faults_by tops look n m (cond_tree c a b) = faults_by tops look n m c
+    ++ (faults_by tops look n m a ++ faults_by tops look n m b)
 faults_by tops look n m (pair a b) = faults_by tops look n m a ++ faults_by tops look n m b
 faults_by tops look n m (fst e) = faults_by tops look n m e
 faults_by tops look n m (snd e) = faults_by tops look n m e

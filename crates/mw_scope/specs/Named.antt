@@ -19,7 +19,8 @@ named tops g m (surface.num n) = num n
 named tops g m (surface.truth b) = truth b
 named tops g m (surface.used x at) = named_use (nearest g x) (tops x)
 named tops g m (surface.fun x e) = fun (named tops (record { name = x; level = m } ∷ g) m e)
-named tops g m (surface.fix f x e) = fix (named tops (record { name = x; level = m } ∷ record { name = f; level = m } ∷ g) m e)
+named tops g m (surface.fix f x e) =
+    fix (named tops (record { name = x; level = m } ∷ record { name = f; level = m } ∷ g) m e)
 named tops g m (surface.app f a) = app (named tops g m f) (named tops g m a)
 named tops g m (surface.bind x d e) = bind (named tops g m d) (named tops (record { name = x; level = m } ∷ g) m e)
 named tops g m (surface.cond c a b) = cond (named tops g m c) (named tops g m a) (named tops g m b)
@@ -44,4 +45,5 @@ named_items before [] = []
 named_items before (item ∷ items) = named_item (lets_of before) item ∷ named_items (before ++ item ∷ []) items
 
 abbrev pub named_program : PureSurface → PureProgram
-named_program s = record { items = named_items [] s.items; result = s.result; body = named (items_of s.items) [] Live s.body }
+named_program s =
+    record { items = named_items [] s.items; result = s.result; body = named (items_of s.items) [] Live s.body }

@@ -26,17 +26,23 @@ NamelessWhereFaultless = (s : PureSurface) → ((p : PureProgram) × IsNameless 
 abbrev pub OneNameless : Type 0
 OneNameless = (s : PureSurface) (p q : PureProgram) → IsNameless s p → IsNameless s q → p ≡ q
 
--- the nearest binder of a name is of that name, at that level, and no binder before it has the name; where there is none,
--- no binder has it
+-- the nearest binder of a name is of that name, at that level, and no binder before it has the name; where there is
+-- none, no binder has it
 pub record NearestIsNearest : Type 0 where
   pub found : (g : List Binder) (x : List ℕ) (i : ℕ) (m : Level) → nearest g x ≡ Some (i, m)
-      → (slice_get g i ≡ Some (record { name = x; level = m })) × ((j : ℕ) (b : Binder) → j < i → slice_get g j ≡ Some b → b.name ≢ x)
-  pub none : (g : List Binder) (x : List ℕ) → nearest g x ≡ None → (j : ℕ) (b : Binder) → slice_get g j ≡ Some b → b.name ≢ x
+      → (slice_get g i ≡ Some (record { name = x; level = m }))
+      × ((j : ℕ) (b : Binder) → j < i → slice_get g j ≡ Some b → b.name ≢ x)
+  pub none : (g : List Binder) (x : List ℕ) → nearest g x ≡ None → (j : ℕ) (b : Binder) → slice_get g j ≡ Some b
+      → b.name ≢ x
 
--- the item that a name stands for has the name, and is a let where items see it; a name that stands for none is the name of
--- none
+-- the item that a name stands for has the name, and is a let where items see it; a name that stands for none is the
+-- name of none
 pub record TopNamesAreItems : Type 0 where
-  pub item : (items : List PureItem) (x : List ℕ) (i : ℕ) → items_of items x ≡ Some i → (item : PureItem) × (slice_get items i ≡ Some item) × (name_of item ≡ x)
-  pub no_item : (items : List PureItem) (x : List ℕ) → items_of items x ≡ None → (j : ℕ) (item : PureItem) → slice_get items j ≡ Some item → name_of item ≢ x
-  pub a_let : (items : List PureItem) (x : List ℕ) (i : ℕ) → lets_of items x ≡ Some i → (at : ℕ) × (from : ℕ) × (e : SurfaceTree) × (slice_get items i ≡ Some (let_item x at from e))
-  pub no_let : (items : List PureItem) (x : List ℕ) → lets_of items x ≡ None → (j at from : ℕ) (y : List ℕ) (e : SurfaceTree) → slice_get items j ≡ Some (let_item y at from e) → y ≢ x
+  pub item : (items : List PureItem) (x : List ℕ) (i : ℕ) → items_of items x ≡ Some i → (item : PureItem)
+      × (slice_get items i ≡ Some item) × (name_of item ≡ x)
+  pub no_item : (items : List PureItem) (x : List ℕ) → items_of items x ≡ None → (j : ℕ) (item : PureItem)
+      → slice_get items j ≡ Some item → name_of item ≢ x
+  pub a_let : (items : List PureItem) (x : List ℕ) (i : ℕ) → lets_of items x ≡ Some i → (at : ℕ) × (from : ℕ)
+      × (e : SurfaceTree) × (slice_get items i ≡ Some (let_item x at from e))
+  pub no_let : (items : List PureItem) (x : List ℕ) → lets_of items x ≡ None
+      → (j at from : ℕ) (y : List ℕ) (e : SurfaceTree) → slice_get items j ≡ Some (let_item y at from e) → y ≢ x

@@ -13,7 +13,8 @@ pub record Binder : Type 0 where
 -- of binders with the nearest first, the nearest one of a name: how many stand before it, and its level
 abbrev pub nearest : List Binder → List ℕ → Option (ℕ × Level)
 nearest [] x = None
-nearest (b ∷ binders) x = cond (bytes_eq x b.name) (Some (0, b.level)) (option_map (λ p. (suc p.0, p.1)) (nearest binders x))
+nearest (b ∷ binders) x = cond (bytes_eq x b.name) (Some (0, b.level))
+    (option_map (λ p. (suc p.0, p.1)) (nearest binders x))
 
 -- the top-level names in scope: of a name, the item that it stands for
 abbrev pub TopNames : Type 0

@@ -64,4 +64,5 @@ pub record Knows (names : Names) (items : List PureItem) : Type 0 where
 
 -- to the names of as many items as the index says, the name of this one was added
 abbrev pub AddsName : Names → Names → PureItem → ℕ → Type 0
-AddsName old new item index = (before : List PureItem) → Knows old before → length before ≡ index → Knows new (before ++ item ∷ [])
+AddsName old new item index = (before : List PureItem) → Knows old before → length before ≡ index
+    → Knows new (before ++ item ∷ [])

@@ -60,7 +60,8 @@ impl Binders {
     ) -> Result<Option<(u32, Level)>, AllocError>
         requires { self.old.count < 2 ^ 32 - 1 }
         ensures hidden { IfOk result (λ hidden. hidden ≡ binder_at self.old name.now) }
-        ensures bound { OnOk result (binder_at self.new ≡ rebound (binder_at self.old) name.now (Some (self.old.count, level))) }
+        ensures bound { OnOk result
+            (binder_at self.new ≡ rebound (binder_at self.old) name.now (Some (self.old.count, level))) }
         ensures count { OnOk result (self.new.count ≡ suc self.old.count) }
     {
         let hidden = self.find(name);

@@ -77,7 +77,9 @@ fn kind(
 ) -> Result<ItemKind, AllocError>
     requires { surface_depth (bound_tree (item_of item.now)) ≤ 200 }
     ensures definition { IfOk result (λ kind. definition_of kind ≡ named_item (place_at names.now.lets) (item_of item.now)) }
-    ensures faults { OnOk result (first.new ≡ kept first.old (faults_of_item (place_at names.now.lets) (place_at names.now.all) (item_of item.now))) }
+    ensures faults { OnOk result
+        (first.new
+        ≡ kept first.old (faults_of_item (place_at names.now.lets) (place_at names.now.all) (item_of item.now))) }
 {
     match item {
         SurfaceItem::Let(name, from, tree) => {
@@ -114,7 +116,9 @@ fn item(
     requires { surface_depth (bound_tree (item_of item.now)) ≤ 200 }
     ensures name { IfOk result (λ i. i.name ≡ name_of (item_of item.now)) }
     ensures definition { IfOk result (λ i. definition_of i.kind ≡ named_item (place_at names.old.lets) (item_of item.now)) }
-    ensures faults { OnOk result (first.new ≡ kept first.old (faults_of_item (place_at names.old.lets) (place_at names.old.all) (item_of item.now))) }
+    ensures faults { OnOk result
+        (first.new
+        ≡ kept first.old (faults_of_item (place_at names.old.lets) (place_at names.old.all) (item_of item.now))) }
     ensures names { OnOk result (AddsName names.old names.new (item_of item.now) index) }
 {
     let name = copied_name(alloc, &item_name(item).name)?;

@@ -35,7 +35,9 @@ impl TopNames {
 
     /// Adds a name with the index of its item, unless the name is there.
     pub fn add(&mut self, alloc: Global, name: &Name, at: u32) -> Result<(), AllocError>
-        ensures { OnOk result ((x : List ℕ) → place_at self.new x ≡ option_or (place_at self.old x) (cond (bytes_eq x name.now) (Some at) None)) }
+        ensures { OnOk result
+            ((x : List ℕ) → place_at self.new x ≡ option_or (place_at self.old x)
+            (cond (bytes_eq x name.now) (Some at) None)) }
     {
         if self.find(name).is_some() {
             return Ok(());

@@ -1,5 +1,5 @@
-//! Sources on the machine, over kernels that answer from a list: what a program's main or a kernel item comes to, and what the
-//! machine asks. For tests and for timing.
+//! Sources on the machine, over kernels that answer from a list: what a program's main or a kernel item comes to, and
+//! what the machine asks. For tests and for timing.
 #![tactic(auto)]
 
 mod scripts;

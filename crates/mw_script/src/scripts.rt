@@ -32,8 +32,8 @@ pub struct Kept {
     pub kind: KType,
 }
 
-/// Kernels that answer a list of replies in turn, half the units left, and the bound of the heap after it or where a reply is
-/// not of its type. They note what they were asked.
+/// Kernels that answer a list of replies in turn, half the units left, and the bound of the heap after it or where a
+/// reply is not of its type. They note what they were asked.
 #[derive(Drop)]
 pub struct Script {
     pub alloc: Global,
@@ -89,7 +89,8 @@ impl Script {
         requires { (s t : GroundType) × (kernel_type_of kind.now ≡ to s t) }
         ensures types { IsRunAt result (kernel_type_of kind.now) (length (functions_of self.old)) }
         ensures left { LeavesAtMost result fuel }
-        ensures functions { functions_of self.new ≡ kept_after result (expression_of code.now) (kernel_type_of kind.now) (functions_of self.old) }
+        ensures functions { functions_of self.new ≡ kept_after result (expression_of code.now) (kernel_type_of kind.now)
+            (functions_of self.old) }
         ensures rest { IsSameRest self.old self.new }
         ensures memory { IsNoBad result }
     {
@@ -123,7 +124,8 @@ impl Script {
     fn run_answer(&mut self, code: &Term, kind: &KType, fuel: u64) -> Result<Ran, KernelFault>
         ensures types { IsRunAt result (kernel_type_of kind.now) (length (functions_of self.old)) }
         ensures left { LeavesAtMost result fuel }
-        ensures functions { functions_of self.new ≡ kept_after result (expression_of code.now) (kernel_type_of kind.now) (functions_of self.old) }
+        ensures functions { functions_of self.new ≡ kept_after result (expression_of code.now) (kernel_type_of kind.now)
+            (functions_of self.old) }
         ensures stopped { self.new.stopped ≡ self.old.stopped }
         ensures count { self.old.next ≤ self.new.next }
         ensures bad { IfBad result (self.old.next < self.new.next) }
@@ -146,7 +148,8 @@ impl Script {
         fuel: u64,
     ) -> Result<Ran, KernelFault>
         requires here { which < length self.old.kept.items }
-        ensures types { (c : Expression) (k : KernelType) → slice_get (functions_of self.old) which ≡ Some (c, k) → IsCallAt result k }
+        ensures types { (c : Expression) (k : KernelType) → slice_get (functions_of self.old) which ≡ Some (c, k)
+            → IsCallAt result k }
         ensures left { LeavesAtMost result fuel }
         ensures functions { functions_of self.new ≡ functions_of self.old }
         ensures stopped { self.new.stopped ≡ self.old.stopped }

@@ -15,8 +15,8 @@ use mw_region::Id;
 use mw_term::{BaseValue, GroundValue, ItemKind, Program, Stop};
 use std::alloc::{AllocError, Global};
 
-/// A machine at the start of a program's main, or of the definition of the kernel item at a place; none where there is no
-/// such item, or where main has kernels that have to be built before.
+/// A machine at the start of a program's main, or of the definition of the kernel item at a place; none where there is
+/// no such item, or where main has kernels that have to be built before.
 fn start(
     alloc: Global,
     program: &Program,
@@ -55,8 +55,8 @@ fn start_item(
     }
 }
 
-/// Drives a machine to its end, and once more after a fault: where memory was refused it goes on, and a fault of the kernels is
-/// answered again.
+/// Drives a machine to its end, and once more after a fault: where memory was refused it goes on, and a fault of the
+/// kernels is answered again.
 fn driven<K: Kernels>(
     alloc: Global,
     program: &Program,
@@ -117,8 +117,8 @@ fn ending_text(
     format!(in alloc; "{text} left {left}")
 }
 
-/// The answer of a program's main, or of the kernel item at a place, over kernels that reply these in turn: what it asks of
-/// them, and how it ends.
+/// The answer of a program's main, or of the kernel item at a place, over kernels that reply these in turn: what it
+/// asks of them, and how it ends.
 pub fn answer(
     alloc: Global,
     source: &str,

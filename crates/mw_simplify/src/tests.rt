@@ -35,7 +35,9 @@ fn computed(alloc: Global, p: Prim, a: Leaf, b: Leaf) -> Result<Box<Term>, Alloc
 
 /// `let b = (x, x) in if a = 5 then x * a else 1 / 0`.
 fn inner(alloc: Global) -> Result<Box<Term>, AllocError>
-    ensures { IfOk result (λ code. expression_of code.value ≡ bind (pair (var 1) (var 1)) (cond (prim Eq (var 1) (num (pos 5))) (prim Mul (var 2) (var 1)) (prim Div (num (pos 1)) (num (pos 0))))) }
+    ensures { IfOk result
+        (λ code. expression_of code.value ≡ bind (pair (var 1) (var 1))
+        (cond (prim Eq (var 1) (num (pos 5))) (prim Mul (var 2) (var 1)) (prim Div (num (pos 1)) (num (pos 0))))) }
 {
     let product = computed(alloc, Prim::Mul, Leaf::Var(2), Leaf::Var(1))?;
     let trap = computed(alloc, Prim::Div, Leaf::Int(1), Leaf::Int(0))?;

@@ -1,9 +1,12 @@
 -- What each event of the table keeps.
-use Rattle.std.proofs.Common.{◌≡◌, ◌≢◌, ℕ, zero, suc, ◌+◌, ◌%◌, ◌<◌, ◌≤◌, ◌⊎◌, List, [], ◌∷◌, length, Bool, true, false, cond, eqb, ◌==◌, eq-eqb, Option, Some, None, refl, ap, sym, ◌∙◌, subst, inl, inr, arith, slice_get, get_or, drop, set, length-set, replicate}
+use Rattle.std.proofs.Common.{◌≡◌, ◌≢◌, ℕ, zero, suc, ◌+◌, ◌%◌, ◌<◌, ◌≤◌, ◌⊎◌, List, [], ◌∷◌, length, Bool, true, false}
+use Rattle.std.proofs.Common.{cond, eqb, ◌==◌, eq-eqb, Option, Some, None, refl, ap, sym, ◌∙◌, subst, inl, inr, arith}
+use Rattle.std.proofs.Common.{slice_get, get_or, drop, set, length-set, replicate}
 use native.Mathlib.Nat.{mod-lt}
 use Rattle.std.proofs.lemmas.Option.{same_Some, none-some, slice_get_within, slice_get-get_or}
 use Rattle.std.proofs.lemmas.Bool.{cases_lt, false≢true, eqb-true}
-use Rattle.mw_slots.specs.Core.{Name, going, has, no_room, Asker, asker, State, Event, begin, look, fill, empty, with_asker, Holds, place, next, IsOther, Steps, Follows, Core}
+use Rattle.mw_slots.specs.Core.{Name, going, has, no_room, Asker, asker, State, Event, begin, look, fill, empty}
+use Rattle.mw_slots.specs.Core.{with_asker, Holds, place, next, IsOther, Steps, Follows, Core}
 
 slice_get_set_same : {X : Type 0} (xs : List X) (i : ℕ) (v : X) → i < length xs → slice_get (set xs i v) i ≡ Some v
 slice_get_set_same [] i v h = absurd (omega arith)
@@ -17,11 +20,13 @@ slice_get_set_other (x ∷ xs) zero (suc j) v h = refl
 slice_get_set_other (x ∷ xs) (suc i) zero v h = refl
 slice_get_set_other (x ∷ xs) (suc i) (suc j) v h = slice_get_set_other xs i j v (λ e. h (ap suc e))
 
-with_by : (f : ℕ → Option Asker) (v w : ℕ) (a b : Asker) (x : Bool) → (x ≡ true → v ≡ w) → cond x (Some a) (f v) ≡ Some b → ((v ≡ w) × (a ≡ b)) ⊎ (f v ≡ Some b)
+with_by : (f : ℕ → Option Asker) (v w : ℕ) (a b : Asker) (x : Bool) → (x ≡ true → v ≡ w) → cond x (Some a) (f v)
+    ≡ Some b → ((v ≡ w) × (a ≡ b)) ⊎ (f v ≡ Some b)
 with_by f v w a b true e h = inl (e refl, same_Some a b h)
 with_by f v w a b false e h = inr h
 
-with_cases : (f : ℕ → Option Asker) (w : ℕ) (a : Asker) (v : ℕ) (b : Asker) → with_asker f w a v ≡ Some b → ((v ≡ w) × (a ≡ b)) ⊎ (f v ≡ Some b)
+with_cases : (f : ℕ → Option Asker) (w : ℕ) (a : Asker) (v : ℕ) (b : Asker) → with_asker f w a v ≡ Some b
+    → ((v ≡ w) × (a ≡ b)) ⊎ (f v ≡ Some b)
 with_cases f w a v b h = with_by f v w a b (eqb v w) (λ e. eqb-true v w e) h
 
 empty_holds : (n i : ℕ) (t : Name) → Holds (replicate n None) i t → ⊥
@@ -34,15 +39,18 @@ length_empty zero = refl
 length_empty (suc n) = ap suc (length_empty n)
 
 -- a slot of the table is empty or filled
-slot_by : (slots : List (Option Name)) (i : ℕ) (v : Option Name) → slice_get slots i ≡ Some v → (slice_get slots i ≡ Some None) ⊎ ((y : Name) × Holds slots i y)
+slot_by : (slots : List (Option Name)) (i : ℕ) (v : Option Name) → slice_get slots i ≡ Some v
+    → (slice_get slots i ≡ Some None) ⊎ ((y : Name) × Holds slots i y)
 slot_by slots i None e = inl e
 slot_by slots i (Some y) e = inr (y, e)
 
-slot_cases : (slots : List (Option Name)) (i : ℕ) → i < length slots → (slice_get slots i ≡ Some None) ⊎ ((y : Name) × Holds slots i y)
+slot_cases : (slots : List (Option Name)) (i : ℕ) → i < length slots → (slice_get slots i ≡ Some None)
+    ⊎ ((y : Name) × Holds slots i y)
 slot_cases slots i h = slot_by slots i (get_or slots i None) (slice_get-get_or slots i None h)
 
 -- two names are one or not
-cons_by : (x y : ℕ) (xs ys : Name) (b : Bool) → eqb x y ≡ b → (xs ≡ ys) ⊎ (xs ≢ ys) → (x ∷ xs ≡ y ∷ ys) ⊎ (x ∷ xs ≢ y ∷ ys)
+cons_by : (x y : ℕ) (xs ys : Name) (b : Bool) → eqb x y ≡ b → (xs ≡ ys) ⊎ (xs ≢ ys) → (x ∷ xs ≡ y ∷ ys)
+    ⊎ (x ∷ xs ≢ y ∷ ys)
 cons_by x y xs ys true e (inl same) = inl (λ i. eqb-true x y e i ∷ same i)
 cons_by x y xs ys true e (inr other) = inr (λ q. other (ap (drop 1) q))
 cons_by x y xs ys false e either = inr (λ q. false≢true (sym e ∙ eq-eqb x y (ap (λ (zs : Name). get_or zs 0 0) q)))
@@ -82,10 +90,13 @@ module _ (home : Name → ℕ) where
   grows_on : (a b c : List (Option Name)) → Grows a b → Grows b c → Grows a c
   grows_on a b c g h = record { long = h.long ∙ g.long; stays = λ i t x. h.stays i t (g.stays i t x) }
 
-  holds_on : (slots slots' : List (Option Name)) → Grows slots slots' → (t u : Name) (k : ℕ) → Holds slots (place home slots t k) u → Holds slots' (place home slots' t k) u
-  holds_on slots slots' g t u k h = subst (λ (n : ℕ). Holds slots' ((home t + k) % n) u) (sym g.long) (g.stays (place home slots t k) u h)
+  holds_on : (slots slots' : List (Option Name)) → Grows slots slots' → (t u : Name) (k : ℕ)
+      → Holds slots (place home slots t k) u → Holds slots' (place home slots' t k) u
+  holds_on slots slots' g t u k h = subst (λ (n : ℕ). Holds slots' ((home t + k) % n) u) (sym g.long)
+      (g.stays (place home slots t k) u h)
 
-  other_on : (slots slots' : List (Option Name)) → Grows slots slots' → (t : Name) (k : ℕ) → IsOther home slots t k → IsOther home slots' t k
+  other_on : (slots slots' : List (Option Name)) → Grows slots slots' → (t : Name) (k : ℕ) → IsOther home slots t k
+      → IsOther home slots' t k
   other_on slots slots' g t k o = (o.0, holds_on slots slots' g t o.0 k o.1, o.2)
 
   knows_on : (slots slots' : List (Option Name)) → Grows slots slots' → (a : Asker) → Knows slots a → Knows slots' a
@@ -96,11 +107,19 @@ module _ (home : Name → ℕ) where
     sixteen = k.sixteen;
   }
 
-  placed_on : (slots slots' : List (Option Name)) → Grows slots slots' → (i : ℕ) (t : Name) → Placed slots i t → Placed slots' i t
-  placed_on slots slots' g i t p = (p.0, p.1, subst (λ (n : ℕ). i ≡ (home t + p.0) % n) (sym g.long) p.2, λ j h. other_on slots slots' g t j (p.3 j h))
+  placed_on : (slots slots' : List (Option Name)) → Grows slots slots' → (i : ℕ) (t : Name) → Placed slots i t
+      → Placed slots' i t
+  placed_on slots slots' g i t p = (
+    p.0,
+    p.1,
+    subst (λ (n : ℕ). i ≡ (home t + p.0) % n) (sym g.long) p.2,
+    λ j h. other_on slots slots' g t j
+        (p.3 j h),
+  )
 
   -- one asker changed, and the slots stayed or grew
-  fine_with : (s : State) (slots' : List (Option Name)) (w : ℕ) (a : Asker) → Fine s → Grows s.slots slots' → Knows slots' a → ((i : ℕ) (t : Name) → Holds slots' i t → Placed slots' i t)
+  fine_with : (s : State) (slots' : List (Option Name)) (w : ℕ) (a : Asker) → Fine s → Grows s.slots slots'
+      → Knows slots' a → ((i : ℕ) (t : Name) → Holds slots' i t → Placed slots' i t)
       → Fine (record { slots = slots'; askers = with_asker s.askers w a })
   fine_with s slots' w a fine g knows placed = record {
     knows = λ v b h. elim (with_cases s.askers w a v b h) [
@@ -114,27 +133,47 @@ module _ (home : Name → ℕ) where
   fine_empty n = record { knows = λ w a h. absurd (none-some a h); placed = λ i t h. absurd (empty_holds n i t h) }
 
   -- what a slot that is filled means for the others
-  grows_set : (slots : List (Option Name)) (i : ℕ) (t : Name) → slice_get slots i ≡ Some None → Grows slots (set slots i (Some t))
+  grows_set : (slots : List (Option Name)) (i : ℕ) (t : Name) → slice_get slots i ≡ Some None
+      → Grows slots (set slots i (Some t))
   grows_set slots i t free = record {
     long = length-set slots i (Some t);
-    stays = λ j u h. slice_get_set_other slots i j (Some t) (λ e. none-some u (same_Some None (Some u) (sym free ∙ subst (λ (n : ℕ). Holds slots n u) e h))) ∙ h;
+    stays = λ j u h. slice_get_set_other slots i j (Some t)
+        (λ e. none-some u (same_Some None (Some u) (sym free ∙ subst (λ (n : ℕ). Holds slots n u) e h))) ∙ h;
   }
 
-  set_by : (slots : List (Option Name)) (i : ℕ) (t : Name) (j : ℕ) (u : Name) (x : Bool) → eqb j i ≡ x → slice_get slots i ≡ Some None → Holds (set slots i (Some t)) j u → ((j ≡ i) × (t ≡ u)) ⊎ Holds slots j u
+  set_by : (slots : List (Option Name)) (i : ℕ) (t : Name) (j : ℕ) (u : Name) (x : Bool) → eqb j i ≡ x
+      → slice_get slots i ≡ Some None → Holds (set slots i (Some t)) j u → ((j ≡ i) × (t ≡ u)) ⊎ Holds slots j u
   set_by slots i t j u true e free h =
       let is : j ≡ i = eqb-true j i e in
-      let now : slice_get (set slots i (Some t)) i ≡ Some (Some t) = slice_get_set_same slots i (Some t) (slice_get_within slots i None free) in
-      inl (is, same_Some t u (same_Some (Some t) (Some u) (sym now ∙ subst (λ (n : ℕ). Holds (set slots i (Some t)) n u) is h)))
-  set_by slots i t j u false e free h = inr (sym (slice_get_set_other slots i j (Some t) (λ is. false≢true (sym e ∙ eq-eqb j i is))) ∙ h)
+      let now : slice_get (set slots i (Some t)) i ≡ Some (Some t) = slice_get_set_same slots i (Some t)
+      (slice_get_within slots i None free) in
+      inl (
+        is,
+        same_Some t u
+            (same_Some (Some t) (Some u) (sym now ∙ subst (λ (n : ℕ). Holds (set slots i (Some t)) n u) is h)),
+      )
+  set_by slots i t j u false e free h =
+      inr (sym (slice_get_set_other slots i j (Some t) (λ is. false≢true (sym e ∙ eq-eqb j i is))) ∙ h)
 
-  set_cases : (slots : List (Option Name)) (i : ℕ) (t : Name) (j : ℕ) (u : Name) → slice_get slots i ≡ Some None → Holds (set slots i (Some t)) j u → ((j ≡ i) × (t ≡ u)) ⊎ Holds slots j u
+  set_cases : (slots : List (Option Name)) (i : ℕ) (t : Name) (j : ℕ) (u : Name) → slice_get slots i ≡ Some None
+      → Holds (set slots i (Some t)) j u → ((j ≡ i) × (t ≡ u)) ⊎ Holds slots j u
   set_cases slots i t j u free h = set_by slots i t j u (eqb j i) refl free h
 
-  others_upto : (slots : List (Option Name)) (t : Name) (p : ℕ) → ((k : ℕ) → k < p → IsOther home slots t k) → IsOther home slots t p → (k : ℕ) → k < p + 1 → IsOther home slots t k
-  others_upto slots t p old one k h = elim (cases_lt k p) [ inl a ↦ old k a | inr b ↦ subst (IsOther home slots t) (omega arith) one ]
+  others_upto : (slots : List (Option Name)) (t : Name) (p : ℕ) → ((k : ℕ) → k < p → IsOther home slots t k)
+      → IsOther home slots t p → (k : ℕ) → k < p + 1 → IsOther home slots t k
+  others_upto slots t p old one k h =
+      elim (cases_lt k p) [ inl a ↦ old k a | inr b ↦ subst (IsOther home slots t) (omega arith) one ]
 
-  standing_by : (slots : List (Option Name)) (t : Name) (p : ℕ) (x : Bool) → (p + 1 == 16) ≡ x → p < 16 → ((k : ℕ) → k < p + 1 → IsOther home slots t k) → Knows slots (asker t (p + 1) (cond x no_room going))
-  standing_by slots t p true e near others = record { others = others; near = λ s. absurd (cc s); mine = λ s. absurd (cc s); sixteen = λ s. eqb-true (p + 1) 16 e }
+  standing_by : (slots : List (Option Name)) (t : Name) (p : ℕ) (x : Bool) → (p + 1 == 16) ≡ x → p < 16
+      → ((k : ℕ) → k < p + 1 → IsOther home slots t k) → Knows slots (asker t (p + 1) (cond x no_room going))
+  standing_by slots t p true e near others =
+      record {
+        others = others;
+        near = λ s. absurd (cc s);
+        mine = λ s. absurd (cc s);
+        sixteen = λ s.
+            eqb-true (p + 1) 16 e;
+      }
   standing_by slots t p false e near others = record {
     others = others;
     near = λ s. (let no : p + 1 ≢ 16 = λ is. false≢true (sym e ∙ eq-eqb (p + 1) 16 is) in omega arith);
@@ -148,27 +187,56 @@ module _ (home : Name → ℕ) where
 
   goes : (s : State) (e : Event) (s' : State) → Fine s → Steps home s e s' → Goes s s'
   goes s (begin w t) s' fine h =
-      let k : Knows s.slots (asker t 0 going) = record { others = λ k n. absurd (omega arith); near = λ e. omega arith; mine = λ e. absurd (cc e); sixteen = λ e. absurd (cc e) } in
-      subst (Goes s) (sym h.1) record { grows = grows_same s.slots; fine = fine_with s s.slots w (asker t 0 going) fine (grows_same s.slots) k fine.placed }
+      let k : Knows s.slots (asker t 0 going) =
+      record {
+        others = λ k n. absurd (omega arith);
+        near = λ e. omega arith;
+        mine = λ e. absurd (cc e);
+        sixteen = λ e. absurd (cc e);
+      } in
+      subst (Goes s) (sym h.1) record {
+        grows = grows_same s.slots;
+        fine = fine_with s s.slots w (asker t 0 going) fine
+            (grows_same s.slots) k fine.placed;
+      }
   goes s (look w) s' fine h =
       let a : Asker = h.0 in let u : Name = h.1 in
       let k : Knows s.slots a = fine.knows w a h.2 in
       let near : a.passed < 16 = k.near h.3 in
       elim h.5 [
         | inl e ↦
-            let k' : Knows s.slots (asker a.name a.passed has) = record { others = k.others; near = λ x. absurd (cc x); mine = λ x. (near, subst (Holds s.slots (next home s.slots a)) e.0 h.4); sixteen = λ x. absurd (cc x) } in
-            subst (Goes s) (sym e.1) record { grows = grows_same s.slots; fine = fine_with s s.slots w (asker a.name a.passed has) fine (grows_same s.slots) k' fine.placed }
+            let k' : Knows s.slots (asker a.name a.passed has) =
+            record {
+              others = k.others;
+              near = λ x. absurd (cc x);
+              mine = λ x.
+                  (near, subst (Holds s.slots (next home s.slots a)) e.0 h.4);
+              sixteen = λ x. absurd (cc x);
+            } in
+            subst (Goes s) (sym e.1) record {
+              grows = grows_same s.slots;
+              fine =
+                  fine_with s s.slots w (asker a.name a.passed has) fine (grows_same s.slots) k' fine.placed;
+            }
         | inr e ↦
-            let all : (j : ℕ) → j < a.passed + 1 → IsOther home s.slots a.name j = others_upto s.slots a.name a.passed k.others (u, h.4, e.0) in
+            let all : (j : ℕ) → j < a.passed + 1 → IsOther home s.slots a.name j = others_upto s.slots a.name a.passed
+            k.others (u, h.4, e.0) in
             let k' = standing_by s.slots a.name a.passed (a.passed + 1 == 16) refl near all in
-            subst (Goes s) (sym e.1) record { grows = grows_same s.slots; fine = fine_with s s.slots w (asker a.name (a.passed + 1) (cond (a.passed + 1 == 16) no_room going)) fine (grows_same s.slots) k' fine.placed }
+            subst (Goes s) (sym e.1) record {
+              grows = grows_same s.slots;
+              fine =
+                  fine_with s s.slots w (asker a.name (a.passed + 1) (cond (a.passed + 1 == 16) no_room going)) fine
+                  (grows_same s.slots) k' fine.placed;
+            }
       ]
   goes s (fill w) s' fine h =
-      let a : Asker = h.0 in let i : ℕ = next home s.slots a in let slots' : List (Option Name) = set s.slots i (Some a.name) in
+      let a : Asker = h.0 in let i : ℕ = next home s.slots a in let slots' : List (Option Name) =
+      set s.slots i (Some a.name) in
       let k : Knows s.slots a = fine.knows w a h.1 in let near : a.passed < 16 = k.near h.2 in
       let g : Grows s.slots slots' = grows_set s.slots i a.name h.3 in
       let at : next home slots' a ≡ i = ap (λ (n : ℕ). (home a.name + a.passed) % n) g.long in
-      let now : Holds slots' i a.name = slice_get_set_same s.slots i (Some a.name) (slice_get_within s.slots i None h.3) in
+      let now : Holds slots' i a.name = slice_get_set_same s.slots i (Some a.name)
+      (slice_get_within s.slots i None h.3) in
       let k' : Knows slots' (asker a.name a.passed has) = record {
         others = λ j n. other_on s.slots slots' g a.name j (k.others j n);
         near = λ x. absurd (cc x);
@@ -176,11 +244,16 @@ module _ (home : Name → ℕ) where
         sixteen = λ x. absurd (cc x);
       } in
       let mine : Placed slots' i a.name = (a.passed, near, sym at, k'.others) in
-      let placed' : (j : ℕ) (t : Name) → Holds slots' j t → Placed slots' j t = λ j t x. elim (set_cases s.slots i a.name j t h.3 x) [
+      let placed' : (j : ℕ) (t : Name) → Holds slots' j t → Placed slots' j t = λ j t x.
+      elim (set_cases s.slots i a.name j t h.3 x) [
         | inl e ↦ subst (λ (n : ℕ). Placed slots' n t) (sym e.0) (subst (Placed slots' i) e.1 mine)
         | inr old ↦ placed_on s.slots slots' g j t (fine.placed j t old)
       ] in
-      subst (Goes s) (sym h.4) record { grows = g; fine = fine_with s slots' w (asker a.name a.passed has) fine g k' placed' }
+      subst (Goes s) (sym h.4) record {
+        grows = g;
+        fine = fine_with s slots' w (asker a.name a.passed has) fine g k'
+            placed';
+      }
 
   goes_all : (s : State) (es : List Event) (s' : State) → Fine s → Follows home s es s' → Goes s s'
   goes_all s [] s' fine h = subst (Goes s) h record { grows = grows_same s.slots; fine = fine }
@@ -190,15 +263,23 @@ module _ (home : Name → ℕ) where
       record { grows = grows_on s.slots h.0.slots s'.slots one.grows rest.grows; fine = rest.fine }
 
   -- where one name stood at two places of its window, the later place would hold another name
-  two_places : (slots : List (Option Name)) (i j : ℕ) (t : Name) → Holds slots i t → (p : Placed slots i t) → (q : Placed slots j t) → p.0 < q.0 → ⊥
+  two_places : (slots : List (Option Name)) (i j : ℕ) (t : Name) → Holds slots i t → (p : Placed slots i t)
+      → (q : Placed slots j t) → p.0 < q.0 → ⊥
   two_places slots i j t h p q less =
       let o : IsOther home slots t p.0 = q.3 p.0 less in
       o.2 (same_Some o.0 t (same_Some (Some o.0) (Some t) (sym o.1 ∙ subst (λ (n : ℕ). Holds slots n t) p.2 h)))
 
-  one_place : (slots : List (Option Name)) (i j : ℕ) (t : Name) → Holds slots i t → Holds slots j t → (p : Placed slots i t) → (q : Placed slots j t) → i ≡ j
+  one_place : (slots : List (Option Name)) (i j : ℕ) (t : Name) → Holds slots i t → Holds slots j t
+      → (p : Placed slots i t) → (q : Placed slots j t) → i ≡ j
   one_place slots i j t h g p q =
-      let first : p.0 < q.0 → ⊥ = two_places slots i j t h p q in let second : q.0 < p.0 → ⊥ = two_places slots j i t g q p in
-      let same : p.0 ≡ q.0 = elim (cases_lt p.0 q.0) [ inl a ↦ absurd (first a) | inr b ↦ elim (cases_lt q.0 p.0) [ inl c ↦ absurd (second c) | inr d ↦ omega arith ] ] in
+      let first : p.0 < q.0 → ⊥ = two_places slots i j t h p q in let second : q.0 < p.0 → ⊥ =
+      two_places slots j i t g q p in
+      let same : p.0 ≡ q.0 =
+      elim (cases_lt p.0 q.0) [
+        | inl a ↦ absurd (first a)
+        | inr b ↦ elim (cases_lt q.0 p.0)
+            [ inl c ↦ absurd (second c) | inr d ↦ omega arith ]
+      ] in
       p.2 ∙ ap (place home slots t) same ∙ sym q.2
 
   -- the next slot of an asker that goes on is one of the table's, filled or empty
@@ -213,7 +294,8 @@ module _ (home : Name → ℕ) where
         ]
       ]
 
-  pub core_holds : (n : ℕ) (es fs : List Event) (before after : State) → 16 ≤ n → Follows home (empty n) es before → Follows home before fs after → Core home before after
+  pub core_holds : (n : ℕ) (es fs : List Event) (before after : State) → 16 ≤ n → Follows home (empty n) es before
+      → Follows home before fs after → Core home before after
   core_holds n es fs before after some first then =
       let one : Goes (empty n) before = goes_all (empty n) es before (fine_empty n) first in
       let two : Goes before after = goes_all before fs after one.fine then in
@@ -222,7 +304,9 @@ module _ (home : Name → ℕ) where
         kept = two.grows.stays;
         once = λ i j t h g. one_place after.slots i j t h g (two.fine.placed i t h) (two.fine.placed j t g);
         has_name = λ w a h e. ((two.fine.knows w a h).mine e).1;
-        sixteen_others = λ w a h e k n. (let long : a.passed ≡ 16 = (two.fine.knows w a h).sixteen e in (two.fine.knows w a h).others k (omega arith));
+        sixteen_others = λ w a h e k n.
+            (let long : a.passed ≡ 16 = (two.fine.knows w a h).sixteen e in
+            (two.fine.knows w a h).others k (omega arith));
         passed = λ w a h. (two.fine.knows w a h).others;
         in_window = two.fine.placed;
         goes_on = λ w a h e. can_go after w a (omega arith) h e;

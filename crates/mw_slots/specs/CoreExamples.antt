@@ -3,8 +3,8 @@ use Rattle.std.specs.Prelude.{◌≡◌, List, [], ◌∷◌, ◌++◌, replicat
 use Rattle.std.specs.declared.option.Option.TheVariants.{Some, None}
 use Rattle.mw_slots.specs.Core.{State, Event, begin, look, fill, asker, has, empty, Follows}
 
--- Three askers of two names in a table of sixteen slots, where every window begins at the last one: the first name fills the
--- last slot, the second one goes round to slot 0, and who asks for it again finds it there.
+-- Three askers of two names in a table of sixteen slots, where every window begins at the last one: the first name
+-- fills the last slot, the second one goes round to slot 0, and who asks for it again finds it there.
 abbrev pub three_askers : List Event
 three_askers =
     begin 0 (1 ∷ []) ∷ fill 0

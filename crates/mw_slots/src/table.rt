@@ -1,6 +1,7 @@
 // The table.
 
-ghost use Rattle.std.specs.Prelude.{◌≡◌, ℕ, ◌+◌, ◌<◌, ◌≤◌, ◌%◌, ◌⊎◌, ◌^◌, ◌≢◌, length, IfOk, IfErr, slice_get, Some, IsNone, IfSome, vec_len, vec_capacity, map, [], ◌∷◌, ◌++◌};
+ghost use Rattle.std.specs.Prelude.{◌≡◌, ℕ, ◌+◌, ◌<◌, ◌≤◌, ◌%◌, ◌⊎◌, ◌^◌, ◌≢◌, length, IfOk, IfErr, slice_get, Some};
+ghost use Rattle.std.specs.Prelude.{IsNone, IfSome, vec_len, vec_capacity, map, [], ◌∷◌, ◌++◌};
 ghost use Rattle.once_cell.specs.Once.{cell_name};
 ghost use Rattle.mw_slots.specs.Receipts.{IsOf, IsFirst, IsFetched, IsFull, window};
 ghost use Rattle.mw_slots.specs.Refusals.{IfNoRoom, HasNoRoom};

@@ -47,7 +47,8 @@ pub fault_is : {A B N : Type 0} (P : KernelFault → Type 0) (result : Result A 
 fault_is {N = N} P result r f is q h none =
     subst (λ r. IfErr r P) (sym (err_is result f is)) ((subst (λ r. IfErr r (λ g. N → P g)) q h) none)
 
--- A machine begins with a part of a program, whose names have some values. The program that is handed in has main's type.
+-- A machine begins with a part of a program, whose names have some values. The program that is handed in has main's
+-- type.
 module _ (p : PureProgram) (part : Part) (fuel : ℕ) (m : Machine) (b : Begins m p part fuel)
     (some : (names : List Value) × HasNames p part names) (given : PureProgram) (same : p.result ≡ given.result) where
   -- the evaluation of the part with these values of the names

@@ -14,7 +14,8 @@ module _ {X : Type 0} where
   AreEmpty ([] ∷ lists) = AreEmpty lists
   AreEmpty ((x ∷ xs) ∷ lists) = ⊥
 
-  -- The elements are dealt out to the lists in turn: they are the first of each list, then the second of each, and so on.
+  -- The elements are dealt out to the lists in turn: they are the first of each list, then the second of each, and so
+  -- on.
   abbrev pub AreDealt : List X → List (List X) → Type 0
   AreDealt [] lists = AreEmpty lists
   AreDealt (x ∷ xs) [] = ⊥

@@ -87,7 +87,8 @@ pub fitted-pair : (m : Level) (s t : TermType) → fitted m (pair_type s t) ≡ 
 fitted-pair live s t = refl
 fitted-pair (under c) s t = refl
 
-pub fitted-function : (m : Level) (s t : TermType) → fitted m (function_type s t) ≡ function_type (fitted m s) (fitted m t)
+pub fitted-function : (m : Level) (s t : TermType) → fitted m (function_type s t) ≡ function_type (fitted m s)
+    (fitted m t)
 fitted-function live s t = refl
 fitted-function (under c) s t = refl
 

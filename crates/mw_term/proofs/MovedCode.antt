@@ -12,10 +12,12 @@ use Rattle.mw_term.specs.Typing.{t_fst, t_snd, t_prim, t_escape}
 pub record Moves (a : ℕ) (m : Level) (f g : List Entry) : Type 0 where
   pub at : (i : ℕ) (t : TermType) → slice_get f i ≡ Some (quoted a t) → slice_get g i ≡ Some (entry m t)
 
-Moves-binder : {a : ℕ} {m : Level} {f g : List Entry} → Moves a m f g → (s : TermType) → Moves a m (quoted a s ∷ f) (entry m s ∷ g)
+Moves-binder : {a : ℕ} {m : Level} {f g : List Entry} → Moves a m f g → (s : TermType)
+    → Moves a m (quoted a s ∷ f) (entry m s ∷ g)
 Moves-binder {a} {m} {f} {g} h s = record { at = go }
   where
-    go : (i : ℕ) (t : TermType) → slice_get (quoted a s ∷ f) i ≡ Some (quoted a t) → slice_get (entry m s ∷ g) i ≡ Some (entry m t)
+    go : (i : ℕ) (t : TermType) → slice_get (quoted a s ∷ f) i ≡ Some (quoted a t) → slice_get (entry m s ∷ g) i
+        ≡ Some (entry m t)
     go zero t e = let p : s ≡ t = cc in rw p refl
     go (suc i) t e = h.at i t e
 
@@ -31,12 +33,14 @@ pub Fits-plain : (m : Level) (t : TermType) → IsPlain t → Fits m t
 Fits-plain live t h = IsFormed-plain t h
 Fits-plain (under a) t h = h
 
-pub Typed-moved : {tops names : List TopLevel} {f g : List Entry} {a : ℕ} {m : Level} {c : Expression} {t : TermType} → Moves a m f g → IsCode c → Typed tops f (under a) c t → Typed names g m c t
+pub Typed-moved : {tops names : List TopLevel} {f g : List Entry} {a : ℕ} {m : Level} {c : Expression} {t : TermType}
+    → Moves a m f g → IsCode c → Typed tops f (under a) c t → Typed names g m c t
 Typed-moved h c t_num = t_num
 Typed-moved h c t_truth = t_truth
 Typed-moved h c (t_var {i = i} {t = t} e) = t_var (h.at i t e)
 Typed-moved {m = m} h c (t_fun {s = s} p e) = t_fun (Fits-plain m s p) (Typed-moved (Moves-binder h s) c e)
-Typed-moved {m = m} h c (t_fix {s = s} {t = t} p e) = t_fix (Fits-plain m (function_type s t) p) (Typed-moved (Moves-binder (Moves-binder h (function_type s t)) s) c e)
+Typed-moved {m = m} h c (t_fix {s = s} {t = t} p e) = t_fix (Fits-plain m (function_type s t) p)
+    (Typed-moved (Moves-binder (Moves-binder h (function_type s t)) s) c e)
 Typed-moved h c (t_app x y) = t_app (Typed-moved h c.0 x) (Typed-moved h c.1 y)
 Typed-moved h c (t_bind {s = s} x y) = t_bind (Typed-moved h c.0 x) (Typed-moved (Moves-binder h s) c.1 y)
 Typed-moved h c (t_cond x y z) = t_cond (Typed-moved h c.0 x) (Typed-moved h c.1 y) (Typed-moved h c.2 z)

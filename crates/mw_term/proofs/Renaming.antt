@@ -31,7 +31,8 @@ abbrev pub rename_all : (ℕ → ℕ) → List Entry → List Entry
 rename_all r [] = []
 rename_all r (x ∷ g) = rename_entry r x ∷ rename_all r g
 
-pub rename_entry-entry : (r : ℕ → ℕ) (m : Level) (t : TermType) → rename_entry r (entry m t) ≡ entry (rename_level r m) (rename_type r t)
+pub rename_entry-entry : (r : ℕ → ℕ) (m : Level) (t : TermType) → rename_entry r (entry m t) ≡ entry (rename_level r m)
+    (rename_type r t)
 rename_entry-entry r live t = refl
 rename_entry-entry r (under a) t = refl
 
@@ -108,19 +109,23 @@ rename_all-same (x ∷ g) = rw (rename_entry-same x, rename_all-same g) refl
 pub record DifferOnlyAt (a : ℕ) (r q : ℕ → ℕ) : Type 0 where
   pub same : (b : ℕ) → b ≢ a → q b ≡ r b
 
-rename_type-apart : (a : ℕ) (r q : ℕ → ℕ) → DifferOnlyAt a r q → (t : TermType) → IsAbsentIn a t → rename_type q t ≡ rename_type r t
+rename_type-apart : (a : ℕ) (r q : ℕ → ℕ) → DifferOnlyAt a r q → (t : TermType) → IsAbsentIn a t → rename_type q t
+    ≡ rename_type r t
 rename_type-apart a r q h int_type p = refl
 rename_type-apart a r q h bool_type p = refl
 rename_type-apart a r q h (pair_type s t) p = rw (rename_type-apart a r q h s p.0, rename_type-apart a r q h t p.1) refl
-rename_type-apart a r q h (function_type s t) p = rw (rename_type-apart a r q h s p.0, rename_type-apart a r q h t p.1) refl
+rename_type-apart a r q h (function_type s t) p = rw (rename_type-apart a r q h s p.0, rename_type-apart a r q h t p.1)
+    refl
 rename_type-apart a r q h (code_type b t) p = rw (h.same b p.0, rename_type-apart a r q h t p.1) refl
 rename_type-apart a r q h (closed_type t) p = rw (rename_type-apart a r q h t p) refl
 
-rename_entry-apart : (a : ℕ) (r q : ℕ → ℕ) → DifferOnlyAt a r q → (x : Entry) → IsAbsentAt a x → rename_entry q x ≡ rename_entry r x
+rename_entry-apart : (a : ℕ) (r q : ℕ → ℕ) → DifferOnlyAt a r q → (x : Entry) → IsAbsentAt a x → rename_entry q x
+    ≡ rename_entry r x
 rename_entry-apart a r q h (value t) p = rw (rename_type-apart a r q h t p) refl
 rename_entry-apart a r q h (quoted b t) p = rw (h.same b p.0, rename_type-apart a r q h t p.1) refl
 
-pub rename_all-apart : (a : ℕ) (r q : ℕ → ℕ) → DifferOnlyAt a r q → (g : List Entry) → IsAbsent a g → rename_all q g ≡ rename_all r g
+pub rename_all-apart : (a : ℕ) (r q : ℕ → ℕ) → DifferOnlyAt a r q → (g : List Entry) → IsAbsent a g → rename_all q g
+    ≡ rename_all r g
 rename_all-apart a r q h [] p = refl
 rename_all-apart a r q h (x ∷ g) p = rw (rename_entry-apart a r q h x p.0, rename_all-apart a r q h g p.1) refl
 
@@ -173,7 +178,8 @@ insert zero x g = x ∷ g
 insert (suc k) x [] = []
 insert (suc k) x (y ∷ g) = y ∷ insert k x g
 
-pub get-insert : (k : ℕ) (x : Entry) (r : ℕ → ℕ) (g : List Entry) (i : ℕ) (y : Entry) → slice_get g i ≡ Some y → slice_get (insert k x (rename_all r g)) (raised k i) ≡ Some (rename_entry r y)
+pub get-insert : (k : ℕ) (x : Entry) (r : ℕ → ℕ) (g : List Entry) (i : ℕ) (y : Entry) → slice_get g i ≡ Some y
+    → slice_get (insert k x (rename_all r g)) (raised k i) ≡ Some (rename_entry r y)
 get-insert k x r [] i y e = absurd (cc)
 get-insert zero x r (z ∷ g) zero y e = let p : z ≡ y = cc in rw p refl
 get-insert zero x r (z ∷ g) (suc i) y e = get-insert zero x r g i y e

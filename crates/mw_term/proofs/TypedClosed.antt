@@ -15,7 +15,8 @@ slice_get-below (y ∷ g) zero x e = omega arith
 slice_get-below (y ∷ g) (suc i) x e = let h = slice_get-below g i x e in omega arith
 
 mutual
-  pub Typed-closed : {tops : List TopLevel} {g : List Entry} {m : Level} {e : Expression} {t : TermType} (k : ℕ) → length g ≤ k → Typed tops g m e t → ClosedBelow k e
+  pub Typed-closed : {tops : List TopLevel} {g : List Entry} {m : Level} {e : Expression} {t : TermType} (k : ℕ)
+      → length g ≤ k → Typed tops g m e t → ClosedBelow k e
   Typed-closed k le t_num = tt
   Typed-closed k le t_truth = tt
   Typed-closed k le (t_var {g = g} {i = i} h) = let p = slice_get-below g i _ h in omega arith
@@ -39,7 +40,8 @@ mutual
   Typed-closed k le (t_lift_b h) = Typed-closed k le h
   Typed-closed k le (t_done h) = Valued-closed k le h
 
-  pub Valued-closed : {tops : List TopLevel} {g : List Entry} {v : Value} {t : TermType} (k : ℕ) → length g ≤ k → Valued tops g v t → ClosedValueBelow k v
+  pub Valued-closed : {tops : List TopLevel} {g : List Entry} {v : Value} {t : TermType} (k : ℕ) → length g ≤ k
+      → Valued tops g v t → ClosedValueBelow k v
   Valued-closed k le v_int = tt
   Valued-closed k le v_bool = tt
   Valued-closed k le (v_pair h i) = (Valued-closed k le h, Valued-closed k le i)

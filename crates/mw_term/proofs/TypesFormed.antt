@@ -65,7 +65,8 @@ AreFormed-entry : (m : Level) (t : TermType) (g : List Entry) → Fits m t → A
 AreFormed-entry live t g h i = (h, i)
 AreFormed-entry (under a) t g h i = (h, i)
 
-AreFormed-at : (g : List Entry) (i : ℕ) (m : Level) (t : TermType) → AreFormed g → slice_get g i ≡ Some (entry m t) → Fits m t
+AreFormed-at : (g : List Entry) (i : ℕ) (m : Level) (t : TermType) → AreFormed g → slice_get g i ≡ Some (entry m t)
+    → Fits m t
 AreFormed-at [] i m t h e = absurd (cc)
 AreFormed-at (value s ∷ g) zero live t h e = let p : s ≡ t = cc in subst (λ t. IsFormed t) p h.0
 AreFormed-at (value s ∷ g) zero (under a) t h e = absurd (cc)
@@ -75,13 +76,15 @@ AreFormed-at (value s ∷ g) (suc i) m t h e = AreFormed-at g i m t h.1 e
 AreFormed-at (quoted b s ∷ g) (suc i) m t h e = AreFormed-at g i m t h.1 e
 
 mutual
-  pub Typed-formed : {tops : List TopLevel} {g : List Entry} {m : Level} {e : Expression} {t : TermType} → AreFormed g → Typed tops g m e t → Fits m t
+  pub Typed-formed : {tops : List TopLevel} {g : List Entry} {m : Level} {e : Expression} {t : TermType} → AreFormed g
+      → Typed tops g m e t → Fits m t
   Typed-formed {m = m} f t_num = Fits-plain m int_type tt
   Typed-formed {m = m} f t_truth = Fits-plain m bool_type tt
   Typed-formed f (t_var {g = g} {m = m} {i = i} {t = t} h) = AreFormed-at g i m t f h
   Typed-formed f (t_let e h) = Typed-formed tt h
   Typed-formed f (t_kernel {k = k} e) = IsPlain-kernel_type k
-  Typed-formed f (t_fun {g = g} {m = m} {s = s} {t = t} p h) = Fits-function m s t p (Typed-formed (AreFormed-entry m s g p f) h)
+  Typed-formed f (t_fun {g = g} {m = m} {s = s} {t = t} p h) =
+      Fits-function m s t p (Typed-formed (AreFormed-entry m s g p f) h)
   Typed-formed f (t_fix p h) = p
   Typed-formed f (t_app {m = m} {s = s} {t = t} x y) = Fits-result m s t (Typed-formed f x)
   Typed-formed f (t_bind {g = g} {m = m} {s = s} x y) = Typed-formed (AreFormed-entry m s g (Typed-formed f x) f) y
@@ -99,7 +102,8 @@ mutual
   Typed-formed f (t_lift_b h) = tt
   Typed-formed f (t_done h) = Valued-formed f h
 
-  pub Valued-formed : {tops : List TopLevel} {g : List Entry} {v : Value} {t : TermType} → AreFormed g → Valued tops g v t → IsFormed t
+  pub Valued-formed : {tops : List TopLevel} {g : List Entry} {v : Value} {t : TermType} → AreFormed g
+      → Valued tops g v t → IsFormed t
   Valued-formed f v_int = tt
   Valued-formed f v_bool = tt
   Valued-formed f (v_pair x y) = (Valued-formed f x, Valued-formed f y)
@@ -107,4 +111,5 @@ mutual
   Valued-formed f (v_recursive p h) = p
   Valued-formed f (v_code p c h) = p
   Valued-formed f (v_closed p c h) = p
-  Valued-formed f (v_kept {r = r} {s = s} e c h) = rw e (Fits-plain live (kernel_type (to r s)) (IsPlain-kernel_type (to r s)))
+  Valued-formed f (v_kept {r = r} {s = s} e c h) =
+      rw e (Fits-plain live (kernel_type (to r s)) (IsPlain-kernel_type (to r s)))

@@ -28,7 +28,8 @@ part_of_main p = record { names = seen_by_main p.items; place = main_place p.res
 
 -- the part at an index: an item's definition, and after the items main
 pub data IsPart (p : PureProgram) : ℕ → Part → Type 0 where
-  an_item : {i : ℕ} {d : Definition} → slice_get p.items i ≡ Some d → IsPart p i (part_of_item (seen_by_item p.items i) d)
+  an_item : {i : ℕ} {d : Definition} → slice_get p.items i ≡ Some d
+      → IsPart p i (part_of_item (seen_by_item p.items i) d)
   main : {i : ℕ} → i ≡ length p.items → IsPart p i (part_of_main p)
 
 -- a program as resolving gives it: names are bound, levels are right, and numbers of nodes and items fit 32 bits

@@ -22,7 +22,12 @@ pub record PureProgram : Type 0 where
   pub body : Expression
 
 abbrev pub program_of : Program → PureProgram
-program_of p = record { items = map (λ i. definition_of i.kind) p.items; result = ground_of p.result; body = expression_of p.body }
+program_of p = record {
+  items = map (λ i. definition_of i.kind) p.items;
+  result = ground_of p.result;
+  body =
+      expression_of p.body;
+}
 
 -- a syntactic value: a function, a literal or a pair of such
 abbrev pub IsSyntacticValue : Expression → Type 0

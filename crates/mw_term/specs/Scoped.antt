@@ -4,9 +4,9 @@ use Rattle.mw_term.specs.Terms.{Expression, num, truth, var, glob, fun, fix, app
 use Rattle.mw_term.specs.Terms.{bracket, escape, run, close, opened, lift, lift_b, done}
 use Rattle.mw_term.specs.Typing.{TopLevel, let_item, kernel_item, out_of_scope}
 
--- With these top-level names, under these binders and at the level m, each variable is used at its binder's level, each form
--- and each name stands at its own, and no value was put for a variable. Of a name true means that it is in scope, of a
--- binder and of the term that it stands at level 1.
+-- With these top-level names, under these binders and at the level m, each variable is used at its binder's level, each
+-- form and each name stands at its own, and no value was put for a variable. Of a name true means that it is in scope,
+-- of a binder and of the term that it stands at level 1.
 abbrev pub IsScoped : List Bool → List Bool → Bool → Expression → Type 0
 IsScoped names g m (num n) = Unit {0}
 IsScoped names g m (truth b) = Unit {0}

@@ -31,4 +31,5 @@ abbrev pub ShiftRaisesFree : Type 0
 ShiftRaisesFree = (e : Expression) (k m : ℕ) → ClosedBelow m e → ClosedBelow (suc m) (shift e k)
 
 abbrev pub SubstitutionLowersFree : Type 0
-SubstitutionLowersFree = (e : Expression) (k m : ℕ) (v : Value) → k ≤ m → ClosedValueBelow m v → ClosedBelow (suc m) e → ClosedBelow m (substitute e k v)
+SubstitutionLowersFree = (e : Expression) (k m : ℕ) (v : Value) → k ≤ m → ClosedValueBelow m v → ClosedBelow (suc m) e
+    → ClosedBelow m (substitute e k v)

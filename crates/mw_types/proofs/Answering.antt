@@ -25,7 +25,8 @@ use Rattle.mw_types.proofs.Verdicts.{value_agree}
 use Rattle.mw_types.proofs.Reps.{answer, answer_sound, answer_general, answer_classifier, answer_stands}
 
 -- what a node stands for, its representative stands for
-stands_root : {ps : List ℕ} {hs : List Shape} {k : ℕ → ℕ} {i r : ℕ} {t : TypeExpression} → Leads ps i r → Stands ps hs k i t → Stands ps hs k r t
+stands_root : {ps : List ℕ} {hs : List Shape} {k : ℕ → ℕ} {i r : ℕ} {t : TypeExpression} → Leads ps i r
+    → Stands ps hs k i t → Stands ps hs k r t
 stands_root here h = h
 stands_root {ps = ps} {hs = hs} {k = k} {t = t} (up {p = p} {r = r} l lt e) h = elim (is r p) [
   | same q ↦ subst (λ x. Stands ps hs k x t) (sym q) (stands_root l h)
@@ -38,7 +39,9 @@ pub record RootAt (s : State) (i r : ℕ) (h : Shape) : Type 0 where
   pub root : slice_index_or s.parent.items r 0 ≡ r
   pub shape : slice_index_or s.shape.items r Free ≡ h
 
-pub root_at : (s : State) (ps : List ℕ) (i r : ℕ) (x h : Shape) → Sound s → ps ≡ s.parent.items → i < length s.parent.items → Leads ps i r → slice_index_or ps r 0 ≡ r → r ≤ i → x ≡ slice_index_or s.shape.items r x → x ≡ h → RootAt s i r h
+pub root_at : (s : State) (ps : List ℕ) (i r : ℕ) (x h : Shape) → Sound s → ps ≡ s.parent.items
+    → i < length s.parent.items → Leads ps i r → slice_index_or ps r 0 ≡ r → r ≤ i → x ≡ slice_index_or s.shape.items r
+    x → x ≡ h → RootAt s i r h
 root_at s ps i r x h p e lt l o le f g = record {
   leads = subst (λ qs. Leads qs i r) e l;
   root = subst (λ qs. slice_index_or qs r 0 ≡ r) e o;
@@ -49,13 +52,18 @@ root_at s ps i r x h p e lt l o le f g = record {
 abbrev Part : State → List ℕ → ℕ → ℕ → Type 0
 Part s names i room = (i < length s.parent.items) × HasRoom s names i (room - 1)
 
-shape_inside : (s : State) {i r : ℕ} {h : Shape} → Sound s → RootAt s i r h → Inside (length s.parent.items) (length s.classifier.items) h
-shape_inside s {r = r} p a = subst (λ x. Inside (length s.parent.items) (length s.classifier.items) x) a.shape (p.inside r)
+shape_inside : (s : State) {i r : ℕ} {h : Shape} → Sound s → RootAt s i r h
+    → Inside (length s.parent.items) (length s.classifier.items) h
+shape_inside s {r = r} p a = subst (λ x. Inside (length s.parent.items) (length s.classifier.items) x) a.shape
+    (p.inside r)
 
-inv : (s : State) (names : List ℕ) {i r : ℕ} {h : Shape} {t : TypeExpression} → RootAt s i r h → StandsFor s names i t → Inv s.parent.items s.shape.items (name_in names) h r t
-inv s names {r = r} {t = t} a k = subst (λ x. Inv s.parent.items s.shape.items (name_in names) x r t) a.shape (root_inv a.root (stands_root a.leads k))
+inv : (s : State) (names : List ℕ) {i r : ℕ} {h : Shape} {t : TypeExpression} → RootAt s i r h → StandsFor s names i t
+    → Inv s.parent.items s.shape.items (name_in names) h r t
+inv s names {r = r} {t = t} a k = subst (λ x. Inv s.parent.items s.shape.items (name_in names) x r t) a.shape
+    (root_inv a.root (stands_root a.leads k))
 
-pub pair_parts : (s : State) (names : List ℕ) (i r l m room : ℕ) → Sound s → RootAt s i r (Pair l m) → HasRoom s names i room → (1 ≤ room) × Part s names l room × Part s names m room
+pub pair_parts : (s : State) (names : List ℕ) (i r l m room : ℕ) → Sound s → RootAt s i r (Pair l m)
+    → HasRoom s names i room → (1 ≤ room) × Part s names l room × Part s names m room
 pair_parts s names i r l m room p a h =
     let z = shape_inside s p a in
     let v = inv s names a h.1 in
@@ -63,7 +71,8 @@ pair_parts s names i r l m room p a h =
     let k = h.2 in
     (omega arith, (z.0, (v.0, v.3, omega arith)), (z.1, (v.1, v.4, omega arith)))
 
-pub arrow_parts : (s : State) (names : List ℕ) (i r l m room : ℕ) → Sound s → RootAt s i r (Arrow l m) → HasRoom s names i room → (1 ≤ room) × Part s names l room × Part s names m room
+pub arrow_parts : (s : State) (names : List ℕ) (i r l m room : ℕ) → Sound s → RootAt s i r (Arrow l m)
+    → HasRoom s names i room → (1 ≤ room) × Part s names l room × Part s names m room
 arrow_parts s names i r l m room p a h =
     let z = shape_inside s p a in
     let v = inv s names a h.1 in
@@ -71,7 +80,8 @@ arrow_parts s names i r l m room p a h =
     let k = h.2 in
     (omega arith, (z.0, (v.0, v.3, omega arith)), (z.1, (v.1, v.4, omega arith)))
 
-pub code_parts : (s : State) (names : List ℕ) (i r c m room : ℕ) → Sound s → RootAt s i r (Code c m) → HasRoom s names i room → (1 ≤ room) × (c < length s.classifier.items) × Part s names m room
+pub code_parts : (s : State) (names : List ℕ) (i r c m room : ℕ) → Sound s → RootAt s i r (Code c m)
+    → HasRoom s names i room → (1 ≤ room) × (c < length s.classifier.items) × Part s names m room
 code_parts s names i r c m room p a h =
     let z = shape_inside s p a in
     let v = inv s names a h.1 in
@@ -79,7 +89,8 @@ code_parts s names i r c m room p a h =
     let k = h.2 in
     (omega arith, z.0, (z.1, (v.0, v.2, omega arith)))
 
-pub closed_parts : (s : State) (names : List ℕ) (i r m room : ℕ) → Sound s → RootAt s i r (Closed m) → HasRoom s names i room → (1 ≤ room) × Part s names m room
+pub closed_parts : (s : State) (names : List ℕ) (i r m room : ℕ) → Sound s → RootAt s i r (Closed m)
+    → HasRoom s names i room → (1 ≤ room) × Part s names m room
 closed_parts s names i r m room p a h =
     let z = shape_inside s p a in
     let v = inv s names a h.1 in
@@ -97,20 +108,25 @@ int_stands s names i r a = leads_stands a.leads (s_int a.root a.shape)
 pub bool_stands : (s : State) (names : List ℕ) (i r : ℕ) → RootAt s i r Bool → StandsFor s names i bool_ty
 bool_stands s names i r a = leads_stands a.leads (s_bool a.root a.shape)
 
-pub pair_stands : (s : State) (names : List ℕ) (i r l m : ℕ) (S T : TypeExpression) → RootAt s i r (Pair l m) → StandsFor s names l S → StandsFor s names m T → StandsFor s names i (pair_ty S T)
+pub pair_stands : (s : State) (names : List ℕ) (i r l m : ℕ) (S T : TypeExpression) → RootAt s i r (Pair l m)
+    → StandsFor s names l S → StandsFor s names m T → StandsFor s names i (pair_ty S T)
 pair_stands s names i r l m S T a p q = leads_stands a.leads (s_pair a.root a.shape p q)
 
-pub arrow_stands : (s : State) (names : List ℕ) (i r l m : ℕ) (S T : TypeExpression) → RootAt s i r (Arrow l m) → StandsFor s names l S → StandsFor s names m T → StandsFor s names i (function_ty S T)
+pub arrow_stands : (s : State) (names : List ℕ) (i r l m : ℕ) (S T : TypeExpression) → RootAt s i r (Arrow l m)
+    → StandsFor s names l S → StandsFor s names m T → StandsFor s names i (function_ty S T)
 arrow_stands s names i r l m S T a p q = leads_stands a.leads (s_arrow a.root a.shape p q)
 
-pub code_stands : (s : State) (names : List ℕ) (i r c m d : ℕ) (T : TypeExpression) → RootAt s i r (Code c m) → d ≡ name_in names c → StandsFor s names m T → StandsFor s names i (code_ty d T)
+pub code_stands : (s : State) (names : List ℕ) (i r c m d : ℕ) (T : TypeExpression) → RootAt s i r (Code c m)
+    → d ≡ name_in names c → StandsFor s names m T → StandsFor s names i (code_ty d T)
 code_stands s names i r c m d T a e p = leads_stands a.leads (s_code a.root a.shape e p)
 
-pub closed_stands : (s : State) (names : List ℕ) (i r m : ℕ) (T : TypeExpression) → RootAt s i r (Closed m) → StandsFor s names m T → StandsFor s names i (closed_ty T)
+pub closed_stands : (s : State) (names : List ℕ) (i r m : ℕ) (T : TypeExpression) → RootAt s i r (Closed m)
+    → StandsFor s names m T → StandsFor s names i (closed_ty T)
 closed_stands s names i r m T a p = leads_stands a.leads (s_closed a.root a.shape p)
 
 -- one more representative
-pub name_more : (cs names : List ℕ) (c r : ℕ) → Low cs → c < length cs → NamedTo cs names c → IsName cs names c r → NamedTo cs (names ++ r ∷ []) (c + 1)
+pub name_more : (cs names : List ℕ) (c r : ℕ) → Low cs → c < length cs → NamedTo cs names c → IsName cs names c r
+    → NamedTo cs (names ++ r ∷ []) (c + 1)
 name_more cs names c r low lt h k = record {
   long = len ∙ ap (λ x. x + 1) h.long;
   low = λ d dl. elim (is d c) [
@@ -123,9 +139,11 @@ name_more cs names c r low lt h k = record {
   one = λ d dl. elim (is d c) [
     | same q ↦ elim k [
       | inl x ↦ ap (name_in (names ++ r ∷ [])) (q ∙ sym x.0 ∙ ap (λ y. slice_index_or cs y 0) (sym q))
-      | inr x ↦ last d q ∙ x.1 ∙ sym (left (slice_index_or cs c 0) x.0) ∙ ap (λ y. name_in (names ++ r ∷ []) (slice_index_or cs y 0)) (sym q)
+      | inr x ↦ last d q ∙ x.1 ∙ sym (left (slice_index_or cs c 0) x.0)
+          ∙ ap (λ y. name_in (names ++ r ∷ []) (slice_index_or cs y 0)) (sym q)
     ]
-    | other n ↦ let p = low d (omega arith) in left d (omega arith) ∙ h.one d (omega arith) ∙ sym (left (slice_index_or cs d 0) (omega arith))
+    | other n ↦ let p = low d (omega arith) in left d (omega arith) ∙ h.one d (omega arith)
+        ∙ sym (left (slice_index_or cs d 0) (omega arith))
   ];
   own = λ a s d dl. elim (is d c) [
     | same q ↦ elim k [
@@ -146,11 +164,18 @@ name_more cs names c r low lt h k = record {
     last d q = get_last names r 0 d (q ∙ sym h.long)
 
 pub no_names : (cs : List ℕ) → NamedTo cs [] 0
-no_names cs = record { long = refl; low = λ c lt. absurd (omega arith); one = λ c lt. absurd (omega arith); own = λ a s c lt. absurd (omega arith) }
+no_names cs = record {
+  long = refl;
+  low = λ c lt. absurd (omega arith);
+  one = λ c lt. absurd (omega arith);
+  own = λ a s c lt. absurd (omega arith);
+}
 
 -- one more unknown
-pub tree_more : (s : State) (names roots : List ℕ) (trees : List Ty) (u r : ℕ) (t : Ty) → TreesTo s names roots trees u → r ≤ u → Leads s.parent.items u r → slice_index_or s.parent.items r 0 ≡ r
-    → (slice_index_or s.parent.items u 0 ≡ u → StandsFor s names u (type_of t)) → TreesTo s names (roots ++ r ∷ []) (trees ++ t ∷ []) (u + 1)
+pub tree_more : (s : State) (names roots : List ℕ) (trees : List Ty) (u r : ℕ) (t : Ty) → TreesTo s names roots trees u
+    → r ≤ u → Leads s.parent.items u r → slice_index_or s.parent.items r 0 ≡ r
+    → (slice_index_or s.parent.items u 0 ≡ u → StandsFor s names u (type_of t)) → TreesTo s names (roots ++ r ∷ [])
+    (trees ++ t ∷ []) (u + 1)
 tree_more s names roots trees u r t h le l e k = record {
   root_count = length-append roots (r ∷ []) ∙ ap (λ x. x + 1) h.root_count;
   tree_count = length-append trees (t ∷ []) ∙ ap (λ x. x + 1) h.tree_count;
@@ -192,21 +217,28 @@ pub map_length : {A B : Type 0} (f : A → B) (xs : List A) → length (map f xs
 map_length f [] = refl
 map_length f (x ∷ xs) = ap suc (map_length f xs)
 
-map_at : {A B : Type 0} (f : A → B) (xs : List A) (i : ℕ) (d : A) (e : B) → i < length xs → slice_index_or (map f xs) i e ≡ f (slice_index_or xs i d)
+map_at : {A B : Type 0} (f : A → B) (xs : List A) (i : ℕ) (d : A) (e : B) → i < length xs
+    → slice_index_or (map f xs) i e ≡ f (slice_index_or xs i d)
 map_at f [] i d e lt = absurd (omega arith)
 map_at f (x ∷ xs) zero d e lt = refl
 map_at f (x ∷ xs) (suc i) d e lt = map_at f xs i d e (omega arith)
 
 -- an unknown's type, as it is read
-pub read_type : (roots : List ℕ) (trees : List Ty) (u r : ℕ) (t : Ty) → u < length roots → r ≡ slice_index_or roots u r → r < length trees → t ≡ slice_index_or trees r t → slice_get (map (λ k. slice_index_or trees k int_tree) roots) u ≡ Some t
+pub read_type : (roots : List ℕ) (trees : List Ty) (u r : ℕ) (t : Ty) → u < length roots → r ≡ slice_index_or roots u r
+    → r < length trees → t ≡ slice_index_or trees r t → slice_get (map (λ k. slice_index_or trees k int_tree) roots) u
+    ≡ Some t
 read_type [] trees u r t lt e ll f = absurd (omega arith)
-read_type (x ∷ roots) trees zero r t lt e ll f = ap Some (ap (λ k. slice_index_or trees k int_tree) (sym e) ∙ sym (get_or_default trees r t int_tree ll) ∙ sym f)
+read_type (x ∷ roots) trees zero r t lt e ll f =
+    ap Some (ap (λ k. slice_index_or trees k int_tree) (sym e) ∙ sym (get_or_default trees r t int_tree ll) ∙ sym f)
 read_type (x ∷ roots) trees (suc u) r t lt e ll f = read_type roots trees u r t (omega arith) e ll f
 
-pub roots_inside : {s : State} {names roots : List ℕ} {trees : List Ty} {n : ℕ} → TreesTo s names roots trees n → All (λ r. r < length trees) roots
-roots_inside {roots = roots} h = λ i d lt. let p = h.below i (omega (arith, h.root_count)) in let q = get_or_default roots i d 0 lt in omega (arith, h.root_count, h.tree_count)
+pub roots_inside : {s : State} {names roots : List ℕ} {trees : List Ty} {n : ℕ} → TreesTo s names roots trees n
+    → All (λ r. r < length trees) roots
+roots_inside {roots = roots} h = λ i d lt. let p = h.below i (omega (arith, h.root_count)) in let q =
+    get_or_default roots i d 0 lt in omega (arith, h.root_count, h.tree_count)
 
-pub answers : (s : State) (names roots : List ℕ) (trees : List Ty) (n : ℕ) → n ≤ length s.parent.items → NamedTo s.classifier.items names (length s.classifier.items) → TreesTo s names roots trees n
+pub answers : (s : State) (names roots : List ℕ) (trees : List Ty) (n : ℕ) → n ≤ length s.parent.items
+    → NamedTo s.classifier.items names (length s.classifier.items) → TreesTo s names roots trees n
     → Answers n s (record { types = map (λ r. slice_index_or trees r int_tree) roots; classifiers = names })
 answers s names roots trees n le d h = record {
   named = d;
@@ -216,35 +248,49 @@ answers s names roots trees n le d h = record {
       (leads_stands (h.leads u lt) (h.own (slice_index_or roots u 0) (omega arith) (h.rooted u lt)));
 }
 
-pub ready_at : {n k m l : ℕ} {es fs : List TypeEquation} {s : State} → n ≡ k → m ≡ l → es ≡ fs → Ready n m es s → Ready k l fs s
-ready_at {n = n} {k = k} {m = m} {l = l} {es = es} {fs = fs} {s = s} e f g h = subst (λ xs. Ready k l xs s) g (subst (λ x. Ready k x es s) f (subst (λ x. Ready x m es s) e h))
+pub ready_at : {n k m l : ℕ} {es fs : List TypeEquation} {s : State} → n ≡ k → m ≡ l → es ≡ fs → Ready n m es s
+    → Ready k l fs s
+ready_at {n = n} {k = k} {m = m} {l = l} {es = es} {fs = fs} {s = s} e f g h =
+    subst (λ xs. Ready k l xs s) g (subst (λ x. Ready k x es s) f (subst (λ x. Ready x m es s) e h))
 
 -- each small unknown has room
-pub room : (s : State) (sizes : List ℕ) (n : ℕ) → n ≤ length s.parent.items → AllSized s sizes → ((u : ℕ) → u < n → slice_index_or sizes u 0 ≤ 10000) → (names : List ℕ) (u : ℕ) → u < n → HasRoom s names u 10000
+pub room : (s : State) (sizes : List ℕ) (n : ℕ) → n ≤ length s.parent.items → AllSized s sizes
+    → ((u : ℕ) → u < n → slice_index_or sizes u 0 ≤ 10000) → (names : List ℕ) (u : ℕ) → u < n → HasRoom s names u 10000
 room s sizes n le all small names u lt =
     let z = all.each u (omega arith) in
     let k = name_in names in
     (z.type k, z.stands k, (let c = z.count k in let p = small u lt in omega arith))
 
-pub solves_agree : {n m : ℕ} {a b : Assignment} → Agree n m a b → (es : List TypeEquation) → AllWithin n m es → Solves a es → Solves b es
+pub solves_agree : {n m : ℕ} {a b : Assignment} → Agree n m a b → (es : List TypeEquation) → AllWithin n m es
+    → Solves a es → Solves b es
 solves_agree k [] w h = tt
-solves_agree k (e ∷ es) w h = (sym (value_agree k e.left w.0.0) ∙ h.0 ∙ value_agree k e.right w.0.1, solves_agree k es w.1 h.1)
+solves_agree k (e ∷ es) w h =
+    (sym (value_agree k e.left w.0.0) ∙ h.0 ∙ value_agree k e.right w.0.1, solves_agree k es w.1 h.1)
 
 lt_or_le : (i n : ℕ) → (i < n) ⊎ (n ≤ i)
 lt_or_le i n = grind arith
 
 -- a node's type names unknowns and representatives of classifier unknowns alone
-stands_within : (s : State) (names : List ℕ) (n m : ℕ) → Sound s → IsShaped n s.parent.items s.shape.items → ((c : ℕ) → c < length s.classifier.items → name_in names c < m) → {i : ℕ} {t : TypeExpression} → i < length s.parent.items → StandsFor s names i t → Within n m t
-stands_within s names n m p f k lt (s_up {i = i} {p = r} il e o h) = stands_within s names n m p f k (let z = p.low i il in omega arith) h
-stands_within s names n m p f k lt (s_free {i = i} r e) = elim (lt_or_le i n) [ inl il ↦ il | inr le ↦ absurd (f i le lt r e) ]
+stands_within : (s : State) (names : List ℕ) (n m : ℕ) → Sound s → IsShaped n s.parent.items s.shape.items
+    → ((c : ℕ) → c < length s.classifier.items → name_in names c < m) → {i : ℕ} {t : TypeExpression}
+    → i < length s.parent.items → StandsFor s names i t → Within n m t
+stands_within s names n m p f k lt (s_up {i = i} {p = r} il e o h) =
+    stands_within s names n m p f k (let z = p.low i il in omega arith) h
+stands_within s names n m p f k lt (s_free {i = i} r e) =
+    elim (lt_or_le i n) [ inl il ↦ il | inr le ↦ absurd (f i le lt r e) ]
 stands_within s names n m p f k lt (s_int r e) = tt
 stands_within s names n m p f k lt (s_bool r e) = tt
-stands_within s names n m p f k lt (s_pair {i = i} r e h l) = let z = rw e at (p.inside i) in (stands_within s names n m p f k z.0 h, stands_within s names n m p f k z.1 l)
-stands_within s names n m p f k lt (s_arrow {i = i} r e h l) = let z = rw e at (p.inside i) in (stands_within s names n m p f k z.0 h, stands_within s names n m p f k z.1 l)
-stands_within s names n m p f k lt (s_code {i = i} {c = c} r e d h) = let z = rw e at (p.inside i) in (let y = k c z.0 in omega (arith, d), stands_within s names n m p f k z.1 h)
-stands_within s names n m p f k lt (s_closed {i = i} r e h) = let z = rw e at (p.inside i) in stands_within s names n m p f k z h
+stands_within s names n m p f k lt (s_pair {i = i} r e h l) = let z = rw e at (p.inside i) in
+    (stands_within s names n m p f k z.0 h, stands_within s names n m p f k z.1 l)
+stands_within s names n m p f k lt (s_arrow {i = i} r e h l) = let z = rw e at (p.inside i) in
+    (stands_within s names n m p f k z.0 h, stands_within s names n m p f k z.1 l)
+stands_within s names n m p f k lt (s_code {i = i} {c = c} r e d h) = let z = rw e at (p.inside i) in
+    (let y = k c z.0 in omega (arith, d), stands_within s names n m p f k z.1 h)
+stands_within s names n m p f k lt (s_closed {i = i} r e h) = let z = rw e at (p.inside i) in
+    stands_within s names n m p f k z h
 
-module _ (n m : ℕ) (es : List TypeEquation) (s : State) (within : AllWithin n m es) (ready : Ready n m es s) (solution : Solution) (answered : Answers n s solution) where
+module _ (n m : ℕ) (es : List TypeEquation) (s : State) (within : AllWithin n m es) (ready : Ready n m es s)
+    (solution : Solution) (answered : Answers n s solution) where
   names : ℕ → ℕ
   names = name_in solution.classifiers
 
@@ -257,17 +303,25 @@ module _ (n m : ℕ) (es : List TypeEquation) (s : State) (within : AllWithin n 
 
   same_types : (u : ℕ) → u < n → σ.ty u ≡ (substitution_of solution).ty u
   unfolding σ names
-  same_types u lt = unique (answer_stands s ready.sizes ready.stated.sound ready.empty ready.all names named u (let p = ready.stated.long in omega arith)) (answered.each u lt)
+  same_types u lt =
+      unique (answer_stands s ready.sizes ready.stated.sound ready.empty ready.all names named u
+      (let p = ready.stated.long in omega arith)) (answered.each u lt)
 
   after_agree : (b : Assignment) → Agree n m (after b σ) (after b (substitution_of solution))
   unfolding σ names
-  after_agree b = record { types = λ u lt. ap (value b) (same_types u lt); classifiers = λ c lt. ap b.classifier (answer_classifier s ready.sizes ready.stated.sound ready.empty ready.all names named c) }
+  after_agree b =
+      record {
+        types = λ u lt. ap (value b) (same_types u lt);
+        classifiers = λ c lt.
+            ap b.classifier (answer_classifier s ready.sizes ready.stated.sound ready.empty ready.all names named c);
+      }
 
   stands_sound : (b : Assignment) → Means s (after b σ)
   unfolding σ
   stands_sound = answer_sound s ready.sizes ready.stated.sound ready.empty ready.all names named
 
-  stands_general : (a : Assignment) → Means s a → Agree (length s.parent.items) (length s.classifier.items) a (after a σ)
+  stands_general : (a : Assignment) → Means s a → Agree (length s.parent.items) (length s.classifier.items) a
+      (after a σ)
   unfolding σ
   stands_general = answer_general s ready.sizes ready.stated.sound ready.empty ready.all names named
 
@@ -280,7 +334,8 @@ module _ (n m : ℕ) (es : List TypeEquation) (s : State) (within : AllWithin n 
           x.0,
           record {
             types = λ u lt. x.1.types u lt ∙ g.types u (let p = ready.stated.long in omega arith) ∙ k.types u lt;
-            classifiers = λ c lt. x.1.classifiers c lt ∙ g.classifiers c (let p = ready.stated.classifier_count in omega arith) ∙ k.classifiers c lt;
+            classifiers = λ c lt. x.1.classifiers c lt
+                ∙ g.classifiers c (let p = ready.stated.classifier_count in omega arith) ∙ k.classifiers c lt;
           },
         );
   }
@@ -295,6 +350,7 @@ module _ (n m : ℕ) (es : List TypeEquation) (s : State) (within : AllWithin n 
 
   pub stays_within : StaysWithin n m (substitution_of solution)
   stays_within = record {
-    types = λ u lt. stands_within s solution.classifiers n m ready.stated.sound ready.stated.shaped named_within (let e = ready.stated.long in omega arith) (answered.each u lt);
+    types = λ u lt. stands_within s solution.classifiers n m ready.stated.sound ready.stated.shaped named_within
+        (let e = ready.stated.long in omega arith) (answered.each u lt);
     classifiers = λ c lt. named_within c (let e = ready.stated.classifier_count in omega arith);
   }

@@ -40,12 +40,14 @@ value_apply b s (function_ty l r) = rw (value_apply b s l, value_apply b s r) re
 value_apply b s (code_ty c t) = rw (value_apply b s t) refl
 value_apply b s (closed_ty t) = rw (value_apply b s t) refl
 
-pub from_applied : (b : Assignment) (s : Substitution) (es : List TypeEquation) → Solves b (apply_all s es) → Solves (after b s) es
+pub from_applied : (b : Assignment) (s : Substitution) (es : List TypeEquation) → Solves b (apply_all s es)
+    → Solves (after b s) es
 unfolding apply_all
 from_applied b s [] h = tt
 from_applied b s (e ∷ es) h = (sym (value_apply b s e.left) ∙ h.0 ∙ value_apply b s e.right, from_applied b s es h.1)
 
-pub to_applied : (b : Assignment) (s : Substitution) (es : List TypeEquation) → Solves (after b s) es → Solves b (apply_all s es)
+pub to_applied : (b : Assignment) (s : Substitution) (es : List TypeEquation) → Solves (after b s) es
+    → Solves b (apply_all s es)
 unfolding apply_all
 to_applied b s [] h = tt
 to_applied b s (e ∷ es) h = (value_apply b s e.left ∙ h.0 ∙ sym (value_apply b s e.right), to_applied b s es h.1)
@@ -63,19 +65,24 @@ abbrev pub Decided : List TypeEquation → Type 0
 Decided es = Found es ⊎ (Solvable es → ⊥)
 
 -- the same solutions
-pub turn : (es fs : List TypeEquation) → ((a : Assignment) → Solves a es → Solves a fs) → ((a : Assignment) → Solves a fs → Solves a es) → Decided es → Decided fs
-turn es fs to from (inl f) = inl (f.0, record { sound = λ b. to (after b f.0) (f.1.sound b); keeps = λ a h. f.1.keeps a (from a h) })
+pub turn : (es fs : List TypeEquation) → ((a : Assignment) → Solves a es → Solves a fs)
+    → ((a : Assignment) → Solves a fs → Solves a es) → Decided es → Decided fs
+turn es fs to from (inl f) =
+    inl (f.0, record { sound = λ b. to (after b f.0) (f.1.sound b); keeps = λ a h. f.1.keeps a (from a h) })
 turn es fs to from (inr n) = inr (λ h. n (h.0, from h.0 h.1))
 
 abbrev pub then : Substitution → Substitution → Substitution
 then s k = record { ty = λ u. apply s (k.ty u); classifier = λ c. s.classifier (k.classifier c) }
 
 -- first a substitution that changes no solution, then a most general solution of what is left
-pub compose : (es fs : List TypeEquation) (k : Substitution) → ((a : Assignment) → Solves a fs → Same a (after a k)) → ((a : Assignment) → Solves a fs → Solves a es) → ((b : Assignment) → Solves b (apply_all k es) → Solves (after b k) fs) → Decided (apply_all k es) → Decided fs
+pub compose : (es fs : List TypeEquation) (k : Substitution) → ((a : Assignment) → Solves a fs → Same a (after a k))
+    → ((a : Assignment) → Solves a fs → Solves a es)
+    → ((b : Assignment) → Solves b (apply_all k es) → Solves (after b k) fs) → Decided (apply_all k es) → Decided fs
 compose es fs k keeps some enough (inl f) = inl (
   then f.0 k,
   record {
-    sound = λ b. solves_same (record { types = λ u. sym (value_apply b f.0 (k.ty u)); classifiers = λ c. refl }) fs (enough (after b f.0) (f.1.sound b));
+    sound = λ b. solves_same (record { types = λ u. sym (value_apply b f.0 (k.ty u)); classifiers = λ c. refl }) fs
+        (enough (after b f.0) (f.1.sound b));
     keeps = λ a h.
         let p = keeps a h in
         let q = f.1.keeps a (to_applied a k es (solves_same p es (some a h))) in
@@ -85,7 +92,8 @@ compose es fs k keeps some enough (inl f) = inl (
         };
   },
 )
-compose es fs k keeps some enough (inr n) = inr (λ h. n (h.0, to_applied h.0 k es (solves_same (keeps h.0 h.1) es (some h.0 h.1))))
+compose es fs k keeps some enough (inr n) =
+    inr (λ h. n (h.0, to_applied h.0 k es (solves_same (keeps h.0 h.1) es (some h.0 h.1))))
 
 -- the unknowns of a type are in a list
 abbrev pub Over : List ℕ → TypeExpression → Type 0
@@ -116,12 +124,14 @@ pub data Occurs (u : ℕ) (t : TypeExpression) : Type 0 where
   itself : t ≡ unknown u → Occurs u t
   within : ((a : Assignment) → size (a.ty u) < size (value a t)) → Occurs u t
 
-no_larger : {u : ℕ} {t : TypeExpression} → Occurs u t → IsAbsent u t ⊎ ((a : Assignment) → size (a.ty u) ≤ size (value a t))
+no_larger : {u : ℕ} {t : TypeExpression} → Occurs u t → IsAbsent u t
+    ⊎ ((a : Assignment) → size (a.ty u) ≤ size (value a t))
 no_larger (absent n) = inl n
 no_larger (itself e) = inr (λ a. rw e (omega arith))
 no_larger (within lt) = inr (λ a. let p = lt a in omega arith)
 
-occurs_two : {u : ℕ} {s t : TypeExpression} → Occurs u s → Occurs u t → (IsAbsent u s × IsAbsent u t) ⊎ ((a : Assignment) → size (a.ty u) < size (value a s) + size (value a t) + 1)
+occurs_two : {u : ℕ} {s t : TypeExpression} → Occurs u s → Occurs u t → (IsAbsent u s × IsAbsent u t)
+    ⊎ ((a : Assignment) → size (a.ty u) < size (value a s) + size (value a t) + 1)
 occurs_two p q = elim (no_larger p) [
   | inl n ↦ elim (no_larger q) [
     | inl m ↦ inl (n, m)
@@ -136,8 +146,10 @@ occurs u bool_ty = absent tt
 occurs u (unknown v) = elim (is v u) [ same e ↦ itself (ap unknown e) | other n ↦ absent n ]
 occurs u (pair_ty s t) = elim (occurs_two (occurs u s) (occurs u t)) [ inl n ↦ absent n | inr lt ↦ within lt ]
 occurs u (function_ty s t) = elim (occurs_two (occurs u s) (occurs u t)) [ inl n ↦ absent n | inr lt ↦ within lt ]
-occurs u (code_ty c t) = elim (no_larger (occurs u t)) [ inl n ↦ absent n | inr le ↦ within (λ a. let k = le a in omega arith) ]
-occurs u (closed_ty t) = elim (no_larger (occurs u t)) [ inl n ↦ absent n | inr le ↦ within (λ a. let k = le a in omega arith) ]
+occurs u (code_ty c t) =
+    elim (no_larger (occurs u t)) [ inl n ↦ absent n | inr le ↦ within (λ a. let k = le a in omega arith) ]
+occurs u (closed_ty t) =
+    elim (no_larger (occurs u t)) [ inl n ↦ absent n | inr le ↦ within (λ a. let k = le a in omega arith) ]
 
 -- a list without a number
 kept_in : {x u : ℕ} → Is x u → ℕ → List ℕ → List ℕ
@@ -148,7 +160,8 @@ pub without : ℕ → List ℕ → List ℕ
 without u [] = []
 without u (x ∷ xs) = kept_in (is x u) x (without u xs)
 
-kept_le : {x u : ℕ} (d : Is x u) (y : ℕ) (xs ys : List ℕ) → length ys ≤ length xs → length (kept_in d y ys) ≤ suc (length xs)
+kept_le : {x u : ℕ} (d : Is x u) (y : ℕ) (xs ys : List ℕ) → length ys ≤ length xs → length (kept_in d y ys)
+    ≤ suc (length xs)
 unfolding kept_in
 kept_le (same e) y xs ys le = omega arith
 kept_le (other n) y xs ys le = omega arith
@@ -158,7 +171,8 @@ unfolding without
 without_le u [] = omega arith
 without_le u (x ∷ xs) = kept_le (is x u) x xs (without u xs) (without_le u xs)
 
-kept_lt : {x u : ℕ} (d : Is x u) (xs ys : List ℕ) → (u ≡ x) ⊎ In u xs → length ys ≤ length xs → (In u xs → length ys < length xs) → length (kept_in d x ys) < suc (length xs)
+kept_lt : {x u : ℕ} (d : Is x u) (xs ys : List ℕ) → (u ≡ x) ⊎ In u xs → length ys ≤ length xs
+    → (In u xs → length ys < length xs) → length (kept_in d x ys) < suc (length xs)
 unfolding kept_in
 kept_lt (same e) xs ys k le lt = omega arith
 kept_lt (other n) xs ys (inl e) le lt = absurd (n (sym e))
@@ -169,7 +183,8 @@ unfolding without
 without_lt u [] h = absurd h
 without_lt u (x ∷ xs) h = kept_lt (is x u) xs (without u xs) h (without_le u xs) (without_lt u xs)
 
-kept_has : {x u : ℕ} (v : ℕ) (d : Is x u) (xs ys : List ℕ) → v ≢ u → (v ≡ x) ⊎ In v xs → (In v xs → In v ys) → In v (kept_in d x ys)
+kept_has : {x u : ℕ} (v : ℕ) (d : Is x u) (xs ys : List ℕ) → v ≢ u → (v ≡ x) ⊎ In v xs → (In v xs → In v ys)
+    → In v (kept_in d x ys)
 unfolding kept_in
 kept_has v (same e) xs ys n (inl q) f = absurd (n (q ∙ e))
 kept_has v (same e) xs ys n (inr k) f = f k
@@ -198,7 +213,8 @@ chosen {v = v} (other n) t = unknown v
 pub put : ℕ → TypeExpression → Substitution
 put u t = record { ty = λ v. chosen (is v u) t; classifier = λ c. c }
 
-over_put : (u : ℕ) (t : TypeExpression) (us : List ℕ) → IsAbsent u t → Over us t → (r : TypeExpression) → Over us r → Over (without u us) (apply (put u t) r)
+over_put : (u : ℕ) (t : TypeExpression) (us : List ℕ) → IsAbsent u t → Over us t → (r : TypeExpression) → Over us r
+    → Over (without u us) (apply (put u t) r)
 unfolding put chosen
 over_put u t us n k int_ty o = tt
 over_put u t us n k bool_ty o = tt
@@ -212,10 +228,12 @@ over_put u t us n k (function_ty l r) o = (over_put u t us n k l o.0, over_put u
 over_put u t us n k (code_ty c r) o = over_put u t us n k r o
 over_put u t us n k (closed_ty r) o = over_put u t us n k r o
 
-pub all_over_put : (u : ℕ) (t : TypeExpression) (us : List ℕ) → IsAbsent u t → Over us t → (es : List TypeEquation) → AllOver us es → AllOver (without u us) (apply_all (put u t) es)
+pub all_over_put : (u : ℕ) (t : TypeExpression) (us : List ℕ) → IsAbsent u t → Over us t → (es : List TypeEquation)
+    → AllOver us es → AllOver (without u us) (apply_all (put u t) es)
 unfolding apply_all
 all_over_put u t us n k [] o = tt
-all_over_put u t us n k (e ∷ es) o = ((over_put u t us n k e.left o.0.0, over_put u t us n k e.right o.0.1), all_over_put u t us n k es o.1)
+all_over_put u t us n k (e ∷ es) o =
+    ((over_put u t us n k e.left o.0.0, over_put u t us n k e.right o.0.1), all_over_put u t us n k es o.1)
 
 pub put_keeps : (u : ℕ) (t : TypeExpression) (a : Assignment) → a.ty u ≡ value a t → Same a (after a (put u t))
 unfolding put chosen
@@ -226,7 +244,8 @@ put_keeps u t a e = record { types = λ v. step v (is v u); classifiers = λ c. 
     step v (other n) = refl
 
 -- where the unknown is absent, its type is not changed
-pub put_absent : (u : ℕ) (t : TypeExpression) (b : Assignment) (r : TypeExpression) → IsAbsent u r → value (after b (put u t)) r ≡ value b r
+pub put_absent : (u : ℕ) (t : TypeExpression) (b : Assignment) (r : TypeExpression) → IsAbsent u r
+    → value (after b (put u t)) r ≡ value b r
 unfolding put chosen
 put_absent u t b int_ty n = refl
 put_absent u t b bool_ty n = refl
@@ -302,7 +321,9 @@ unfolding apply_all
 rename_weight c d [] = refl
 rename_weight c d (e ∷ es) = rw (rename_nodes c d e.left, rename_nodes c d e.right, rename_weight c d es) refl
 
-pub rename_all_over : (c d : ℕ) (us : List ℕ) (es : List TypeEquation) → AllOver us es → AllOver us (apply_all (rename c d) es)
+pub rename_all_over : (c d : ℕ) (us : List ℕ) (es : List TypeEquation) → AllOver us es
+    → AllOver us (apply_all (rename c d) es)
 unfolding apply_all
 rename_all_over c d us [] o = tt
-rename_all_over c d us (e ∷ es) o = ((rename_over c d us e.left o.0.0, rename_over c d us e.right o.0.1), rename_all_over c d us es o.1)
+rename_all_over c d us (e ∷ es) o =
+    ((rename_over c d us e.left o.0.0, rename_over c d us e.right o.0.1), rename_all_over c d us es o.1)

@@ -29,7 +29,8 @@ sizes f (suc n) = step f n (sizes f n) (le_or_lt (f n))
     le_or_lt : (x : ℕ) → (x ≤ 10000) ⊎ (10000 < x)
     le_or_lt x = grind arith
 
-    step : (f : ℕ → ℕ) (n : ℕ) → ((u : ℕ) → u < n → f u ≤ 10000) ⊎ Large f n → (f n ≤ 10000) ⊎ (10000 < f n) → ((u : ℕ) → u < suc n → f u ≤ 10000) ⊎ Large f (suc n)
+    step : (f : ℕ → ℕ) (n : ℕ) → ((u : ℕ) → u < n → f u ≤ 10000) ⊎ Large f n → (f n ≤ 10000) ⊎ (10000 < f n)
+        → ((u : ℕ) → u < suc n → f u ≤ 10000) ⊎ Large f (suc n)
     step f n (inr x) d = inr (x.0, omega arith, x.2)
     step f n (inl g) (inr lt) = inr (n, omega arith, lt)
     step f n (inl g) (inl le) = inl (λ u lt. elim (is u n) [ same e ↦ rw e le | other k ↦ g u (omega arith) ])
@@ -46,8 +47,10 @@ too_big_of n m es w h f = let g = most_general_of n m es w h in elim (sizes (λ 
   | inr large ↦ (g.0, g.1, large.0, large.1, large.2)
 ]
 
-pub solvable_of_most_general : {n m : ℕ} {es : List TypeEquation} {s : Substitution} → MostGeneral n m es s → Solvable es
-solvable_of_most_general {s = s} g = let b : Assignment = record { ty = λ u. int_type; classifier = λ c. c } in (after b s, g.sound b)
+pub solvable_of_most_general : {n m : ℕ} {es : List TypeEquation} {s : Substitution} → MostGeneral n m es s
+    → Solvable es
+solvable_of_most_general {s = s} g = let b : Assignment = record { ty = λ u. int_type; classifier = λ c. c } in
+    (after b s, g.sound b)
 
 front_within : (n m : ℕ) (es : List TypeEquation) (k : ℕ) → AllWithin n m es → AllWithin n m (take k es)
 front_within n m [] zero w = tt
@@ -59,7 +62,8 @@ whole : (es : List TypeEquation) → take (length es) es ≡ es
 whole [] = refl
 whole (e ∷ es) = ap (λ fs. e ∷ fs) (whole es)
 
-pub first_fault_of : (n m : ℕ) (es : List TypeEquation) (f : SolveFault) → AllWithin n m es → Faults n es f → FirstFault n m es f
+pub first_fault_of : (n m : ℕ) (es : List TypeEquation) (f : SolveFault) → AllWithin n m es → Faults n es f
+    → FirstFault n m es f
 first_fault_of n m es (Unsolvable k) w h = record {
   within = h.within;
   unsolvable = h.fault;
@@ -72,19 +76,26 @@ first_fault_of n m es (TooBigFront k) w h = record {
 }
 first_fault_of n m es (Memory e) w h = tt
 
-pub unsolvable_stays : (es : List TypeEquation) (j k : ℕ) → j ≤ k → (Solvable (take j es) → ⊥) → Solvable (take k es) → ⊥
+pub unsolvable_stays : (es : List TypeEquation) (j k : ℕ) → j ≤ k → (Solvable (take j es) → ⊥) → Solvable (take k es)
+    → ⊥
 unsolvable_stays es j k le f h = f (h.0, solves_take h.0 es j k le h.1)
 
-pub too_big_stays : (n m : ℕ) (es : List TypeEquation) (j k : ℕ) → AllWithin n m es → j ≤ k → TooBig n m (take j es) → Solvable (take k es) → TooBig n m (take k es)
-too_big_stays n m es j k w le b h = too_big_of n m (take k es) (front_within n m es k w) h (λ s. too_big_not_small b (small_take es j k le s))
+pub too_big_stays : (n m : ℕ) (es : List TypeEquation) (j k : ℕ) → AllWithin n m es → j ≤ k → TooBig n m (take j es)
+    → Solvable (take k es) → TooBig n m (take k es)
+too_big_stays n m es j k w le b h = too_big_of n m (take k es) (front_within n m es k w) h
+    (λ s. too_big_not_small b (small_take es j k le s))
 
-pub fine_before : (n m : ℕ) (es : List TypeEquation) (j k : ℕ) → AllWithin n m es → j ≤ k → Fine n m (take k es) → Fine n m (take j es)
-fine_before n m es j k w le f = fine_of_small n m (take j es) (front_within n m es j w) (small_take es j k le (small_of_fine f))
+pub fine_before : (n m : ℕ) (es : List TypeEquation) (j k : ℕ) → AllWithin n m es → j ≤ k → Fine n m (take k es)
+    → Fine n m (take j es)
+fine_before n m es j k w le f = fine_of_small n m (take j es) (front_within n m es j w)
+    (small_take es j k le (small_of_fine f))
 
-pub are_instances : (n m : ℕ) (es : List TypeEquation) (s t : Substitution) → MostGeneral n m es s → MostGeneral n m es t → (b : Assignment) → (d : Assignment) × Agree n m (after b s) (after d t)
+pub are_instances : (n m : ℕ) (es : List TypeEquation) (s t : Substitution) → MostGeneral n m es s
+    → MostGeneral n m es t → (b : Assignment) → (d : Assignment) × Agree n m (after b s) (after d t)
 are_instances n m es s t g h b = h.general (after b s) (g.sound b)
 
-pub same_nodes : (n m : ℕ) (es : List TypeEquation) (s t : Substitution) → MostGeneral n m es s → MostGeneral n m es t → (u : ℕ) → u < n → nodes (s.ty u) ≡ nodes (t.ty u)
+pub same_nodes : (n m : ℕ) (es : List TypeEquation) (s t : Substitution) → MostGeneral n m es s → MostGeneral n m es t
+    → (u : ℕ) → u < n → nodes (s.ty u) ≡ nodes (t.ty u)
 same_nodes n m es s t g h u lt = let p = same_sizes g h u lt in let q = same_sizes h g u lt in omega arith
 
 solvable_of_fine : {n m : ℕ} {es : List TypeEquation} → Fine n m es → Solvable es
@@ -92,17 +103,26 @@ solvable_of_fine f = solvable_of_most_general f.1
 
 -- what is fine is small at each front of it
 small_front : {n m : ℕ} (es : List TypeEquation) (k : ℕ) → k ≤ length es → Fine n m es → Small n (take k es)
-small_front {n = n} es k le f = small_take es k (length es) le (subst (λ fs. Small n fs) (sym (whole es)) (small_of_fine f))
+small_front {n = n} es k le f =
+    small_take es k (length es) le (subst (λ fs. Small n fs) (sym (whole es)) (small_of_fine f))
 
 pub one_fault : (n m : ℕ) (es : List TypeEquation) → OneFault n m es
 one_fault n m es = record {
   unsolvable = λ j k f g. elim (ordered j k) [
     | inl lt ↦ absurd (f.unsolvable (solvable_of_fine (g.shorter j lt)))
-    | inr le ↦ elim (ordered k j) [ inl lt ↦ absurd (g.unsolvable (solvable_of_fine (f.shorter k lt))) | inr ge ↦ omega arith ]
+    | inr le ↦ elim (ordered k j) [
+      | inl lt ↦ absurd (g.unsolvable (solvable_of_fine (f.shorter k lt)))
+      | inr ge ↦ omega
+          arith
+    ]
   ];
   too_big = λ j k f g. elim (ordered j k) [
     | inl lt ↦ absurd (too_big_not_small f.too_big (small_of_fine (g.shorter j lt)))
-    | inr le ↦ elim (ordered k j) [ inl lt ↦ absurd (too_big_not_small g.too_big (small_of_fine (f.shorter k lt))) | inr ge ↦ omega arith ]
+    | inr le ↦ elim (ordered k j) [
+      | inl lt ↦ absurd (too_big_not_small g.too_big (small_of_fine (f.shorter k lt)))
+      | inr
+          ge ↦ omega arith
+    ]
   ];
   apart = λ j k f g. elim (ordered k j) [
     | inl lt ↦ too_big_not_small g.too_big (small_of_fine (f.shorter k lt))
@@ -116,7 +136,8 @@ one_fault n m es = record {
     ordered j k = grind arith
 
 -- equations are fine, too big or without a solution
-front_verdict : (n m : ℕ) (es : List TypeEquation) → AllWithin n m es → Fine n m es ⊎ (TooBig n m es ⊎ (Solvable es → ⊥))
+front_verdict : (n m : ℕ) (es : List TypeEquation) → AllWithin n m es → Fine n m es
+    ⊎ (TooBig n m es ⊎ (Solvable es → ⊥))
 front_verdict n m es w = elim (most_general_or_none n m es w) [
   | inl g ↦ elim (sizes (λ u. nodes (g.0.ty u)) n) [
     | inl small ↦ inl (g.0, g.1, small)
@@ -127,9 +148,11 @@ front_verdict n m es w = elim (most_general_or_none n m es w) [
 
 -- each shorter front is fine, or there is a first fault
 abbrev FineBelow : ℕ → ℕ → List TypeEquation → ℕ → Type 0
-FineBelow n m es k = ((j : ℕ) → j < k → Fine n m (take j es)) ⊎ (((j : ℕ) × FirstUnsolvable n m es j) ⊎ ((j : ℕ) × FirstTooBig n m es j))
+FineBelow n m es k = ((j : ℕ) → j < k → Fine n m (take j es))
+    ⊎ (((j : ℕ) × FirstUnsolvable n m es j) ⊎ ((j : ℕ) × FirstTooBig n m es j))
 
-fine_next : (n m : ℕ) (es : List TypeEquation) (k : ℕ) → k ≤ length es → FineBelow n m es k → Fine n m (take k es) ⊎ (TooBig n m (take k es) ⊎ (Solvable (take k es) → ⊥)) → FineBelow n m es (suc k)
+fine_next : (n m : ℕ) (es : List TypeEquation) (k : ℕ) → k ≤ length es → FineBelow n m es k → Fine n m (take k es)
+    ⊎ (TooBig n m (take k es) ⊎ (Solvable (take k es) → ⊥)) → FineBelow n m es (suc k)
 fine_next n m es k le (inr fault) d = inr fault
 fine_next n m es k le (inl f) (inl g) = inl (λ j lt. elim (is j k) [ same e ↦ rw e g | other o ↦ f j (omega arith) ])
 fine_next n m es k le (inl f) (inr (inl big)) = inr (inr (k, record { within = le; too_big = big; shorter = f }))
@@ -137,32 +160,38 @@ fine_next n m es k le (inl f) (inr (inr none)) = inr (inl (k, record { within = 
 
 fine_below : (n m : ℕ) (es : List TypeEquation) → AllWithin n m es → (k : ℕ) → k ≤ suc (length es) → FineBelow n m es k
 fine_below n m es w zero le = inl (λ j lt. absurd (omega arith))
-fine_below n m es w (suc k) le = fine_next n m es k (omega arith) (fine_below n m es w k (omega arith)) (front_verdict n m (take k es) (front_within n m es k w))
+fine_below n m es w (suc k) le = fine_next n m es k (omega arith) (fine_below n m es w k (omega arith))
+    (front_verdict n m (take k es) (front_within n m es k w))
 
 -- equations are fine or have a first fault
-pub fine_or_faulty : (n m : ℕ) (es : List TypeEquation) → AllWithin n m es → Fine n m es ⊎ (((k : ℕ) × FirstUnsolvable n m es k) ⊎ ((k : ℕ) × FirstTooBig n m es k))
+pub fine_or_faulty : (n m : ℕ) (es : List TypeEquation) → AllWithin n m es → Fine n m es
+    ⊎ (((k : ℕ) × FirstUnsolvable n m es k) ⊎ ((k : ℕ) × FirstTooBig n m es k))
 fine_or_faulty n m es w = elim (fine_below n m es w (suc (length es)) (omega arith)) [
   | inl f ↦ inl (subst (λ fs. Fine n m fs) (whole es) (f (length es) (omega arith)))
   | inr fault ↦ inr fault
 ]
 
 -- the answers that are left where there is a first fault, or none
-pub fault_only : (n m : ℕ) (es : List TypeEquation) (f : SolveFault) (k : ℕ) → FirstFault n m es f → FirstUnsolvable n m es k → IsFaultOrMemory (Err f) (Unsolvable k)
+pub fault_only : (n m : ℕ) (es : List TypeEquation) (f : SolveFault) (k : ℕ) → FirstFault n m es f
+    → FirstUnsolvable n m es k → IsFaultOrMemory (Err f) (Unsolvable k)
 fault_only n m es (Unsolvable j) k h g = ap (λ x. Unsolvable x) ((one_fault n m es).unsolvable j k h g)
 fault_only n m es (TooBigFront j) k h g = absurd ((one_fault n m es).apart k j g h)
 fault_only n m es (Memory e) k h g = tt
 
-pub too_big_only : (n m : ℕ) (es : List TypeEquation) (f : SolveFault) (k : ℕ) → FirstFault n m es f → FirstTooBig n m es k → IsFaultOrMemory (Err f) (TooBigFront k)
+pub too_big_only : (n m : ℕ) (es : List TypeEquation) (f : SolveFault) (k : ℕ) → FirstFault n m es f
+    → FirstTooBig n m es k → IsFaultOrMemory (Err f) (TooBigFront k)
 too_big_only n m es (Unsolvable j) k h g = absurd ((one_fault n m es).apart j k h g)
 too_big_only n m es (TooBigFront j) k h g = ap (λ x. TooBigFront x) ((one_fault n m es).too_big j k h g)
 too_big_only n m es (Memory e) k h g = tt
 
-pub solved_only : (n m : ℕ) (es : List TypeEquation) (f : SolveFault) → FirstFault n m es f → Fine n m es → IsSolvedOrMemory (Err f)
+pub solved_only : (n m : ℕ) (es : List TypeEquation) (f : SolveFault) → FirstFault n m es f → Fine n m es
+    → IsSolvedOrMemory (Err f)
 solved_only n m es (Unsolvable j) h g = (one_fault n m es).fine_unsolvable j g h
 solved_only n m es (TooBigFront j) h g = (one_fault n m es).fine_too_big j g h
 solved_only n m es (Memory e) h g = tt
 
 -- an error that is made of want of memory
-pub from_memory : {A : Type 0} {r : Result A SolveFault} {e : AllocError} → IsErrAnd r (λ f. f ≡ Memory e) → r ≡ Err (Memory e)
+pub from_memory : {A : Type 0} {r : Result A SolveFault} {e : AllocError} → IsErrAnd r (λ f. f ≡ Memory e)
+    → r ≡ Err (Memory e)
 from_memory {r = Ok x} h = absurd h
 from_memory {r = Err f} h = ap Err h

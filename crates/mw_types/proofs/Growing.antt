@@ -16,7 +16,8 @@ use Rattle.mw_types.specs.declared.state.State.{State}
 use Rattle.mw_types.proofs.Lists.{same, other, is}
 use Rattle.mw_types.proofs.General.{in_or_out}
 
-pub get_left : {A : Type 0} (xs : List A) (y d : A) (i : ℕ) → i < length xs → slice_index_or (xs ++ y ∷ []) i d ≡ slice_index_or xs i d
+pub get_left : {A : Type 0} (xs : List A) (y d : A) (i : ℕ) → i < length xs → slice_index_or (xs ++ y ∷ []) i d
+    ≡ slice_index_or xs i d
 get_left [] y d i lt = absurd (omega arith)
 get_left (x ∷ xs) y d zero lt = refl
 get_left (x ∷ xs) y d (suc i) lt = get_left xs y d i (omega arith)
@@ -27,7 +28,8 @@ get_last [] y d (suc i) e = absurd (omega arith)
 get_last (x ∷ xs) y d zero e = absurd (omega arith)
 get_last (x ∷ xs) y d (suc i) e = get_last xs y d i (omega arith)
 
-meets_agree : {n m : ℕ} {a b : Assignment} → Agree n m a b → (h : Shape) → Inside n m h → (g : TermType) → Meets h g a → Meets h g b
+meets_agree : {n m : ℕ} {a b : Assignment} → Agree n m a b → (h : Shape) → Inside n m h → (g : TermType) → Meets h g a
+    → Meets h g b
 meets_agree k Free i g h = tt
 meets_agree k Int i g h = h
 meets_agree k Bool i g h = h
@@ -36,17 +38,22 @@ meets_agree k (Arrow l r) i g h = rw (← k.types l i.0, ← k.types r i.1) h
 meets_agree k (Code c t) i g h = rw (← k.classifiers c i.0, ← k.types t i.1) h
 meets_agree k (Closed t) i g h = rw (← k.types t i) h
 
-waits_agree : {n m : ℕ} {a b : Assignment} → Agree n m a b → (ws : List Pending) → WaitsInside n ws → Waits ws a → Waits ws b
+waits_agree : {n m : ℕ} {a b : Assignment} → Agree n m a b → (ws : List Pending) → WaitsInside n ws → Waits ws a
+    → Waits ws b
 waits_agree k [] i h = tt
 waits_agree k (w ∷ ws) i h = (sym (k.types w.left i.0) ∙ h.0 ∙ k.types w.right i.1, waits_agree k ws i.2 h.1)
 
 -- a state speaks of its nodes alone
-pub means_agree : (s : State) (a b : Assignment) → Sound s → Agree (length s.parent.items) (length s.classifier.items) a b → Means s a → Means s b
+pub means_agree : (s : State) (a b : Assignment) → Sound s → Agree (length s.parent.items) (length s.classifier.items) a
+    b → Means s a → Means s b
 means_agree s a b p k h = record {
-  types = λ i lt. sym (k.types i lt) ∙ h.types i lt ∙ k.types (slice_index_or s.parent.items i 0) (let q = p.low i lt in omega arith);
-  classifiers = λ c lt. sym (k.classifiers c lt) ∙ h.classifiers c lt ∙ k.classifiers (slice_index_or s.classifier.items c 0) (let q = p.low_classifiers c lt in omega arith);
+  types = λ i lt. sym (k.types i lt) ∙ h.types i lt ∙ k.types (slice_index_or s.parent.items i 0)
+      (let q = p.low i lt in omega arith);
+  classifiers = λ c lt. sym (k.classifiers c lt) ∙ h.classifiers c lt
+      ∙ k.classifiers (slice_index_or s.classifier.items c 0) (let q = p.low_classifiers c lt in omega arith);
   shapes = λ i. elim (in_or_out s.parent.items i) [
-    | inl lt ↦ rw (← k.types i lt) (meets_agree k (slice_index_or s.shape.items i Free) (p.inside i) (a.ty i) (h.shapes i))
+    | inl lt ↦ rw (← k.types i lt) (meets_agree k (slice_index_or s.shape.items i Free) (p.inside i) (a.ty i)
+        (h.shapes i))
     | inr le ↦ rw (get_or-eq_default s.shape.items Free {n = i} (let q = p.lengths in omega arith)) tt
   ];
   waits = waits_agree k s.waiting.items p.waiting h.waits;
@@ -101,7 +108,8 @@ upto_at (suc o) f x = upto_at o (λ v. f (suc v)) x
 
 -- with one more node the state means what it meant, where the node's type is one of its shape
 node_means : (s t : State) (h : Shape) → Sound s
-    → t.parent.items ≡ s.parent.items ++ length s.parent.items ∷ [] → t.shape.items ≡ s.shape.items ++ h ∷ [] → t.classifier.items ≡ s.classifier.items → t.waiting.items ≡ s.waiting.items
+    → t.parent.items ≡ s.parent.items ++ length s.parent.items ∷ [] → t.shape.items ≡ s.shape.items ++ h ∷ []
+    → t.classifier.items ≡ s.classifier.items → t.waiting.items ≡ s.waiting.items
     → (a : Assignment) → Means s a → Meets h (a.ty (length s.parent.items)) a → Means t a
 node_means s t h p e f g w a k m = record {
   types = rw e (λ i lt. elim (is i n) [
@@ -113,7 +121,8 @@ node_means s t h p e f g w a k m = record {
     | inl lt ↦ rw (get_left s.shape.items h Free i lt) (k.shapes i)
     | inr le ↦ elim (is i (length s.shape.items)) [
       | same q ↦ rw (get_last s.shape.items h Free i q, q, p.lengths) m
-      | other o ↦ rw (get_or-eq_default (s.shape.items ++ h ∷ []) Free {n = i} (let x = length-append s.shape.items (h ∷ []) in omega arith)) tt
+      | other o ↦ rw (get_or-eq_default (s.shape.items ++ h ∷ []) Free {n = i}
+          (let x = length-append s.shape.items (h ∷ []) in omega arith)) tt
     ]
   ]);
   waits = rw w k.waits;
@@ -126,7 +135,8 @@ node_means s t h p e f g w a k m = record {
     len = length-append s.parent.items (length s.parent.items ∷ [])
 
 pub node_grew : (s t : State) (h : Shape) → Sound s → Inside (length s.parent.items) (length s.classifier.items) h
-    → t.parent.items ≡ s.parent.items ++ length s.parent.items ∷ [] → t.shape.items ≡ s.shape.items ++ h ∷ [] → t.classifier.items ≡ s.classifier.items → t.waiting.items ≡ s.waiting.items
+    → t.parent.items ≡ s.parent.items ++ length s.parent.items ∷ [] → t.shape.items ≡ s.shape.items ++ h ∷ []
+    → t.classifier.items ≡ s.classifier.items → t.waiting.items ≡ s.waiting.items
     → Grew s t (λ a. Meets h (a.ty (length s.parent.items)) a)
 node_grew s t h p ins e f g w = record {
   sound = t_sound;
@@ -134,8 +144,13 @@ node_grew s t h p ins e f g w = record {
   classifier_count = ap length g;
   out = λ a k. (back a k, rw (get_last s.shape.items h Free n (sym p.lengths)) at (rw f at (k.shapes n)));
   more = λ a k. let b : Assignment = record { ty = upto n a.ty (shape_type a h); classifier = a.classifier } in
-      let ag : Agree n (length s.classifier.items) a b = record { types = λ u lt. upto_below n a.ty (shape_type a h) u lt; classifiers = λ c lt. refl } in
-      (b, ag, node_means s t h p e f g w b (means_agree s a b p ag k) (rw (upto_at n a.ty (shape_type a h)) (meets_agree ag h ins (shape_type a h) (shape_meets a h))));
+      let ag : Agree n (length s.classifier.items) a b =
+      record { types = λ u lt. upto_below n a.ty (shape_type a h) u lt; classifiers = λ c lt. refl } in (
+        b,
+        ag,
+        node_means s t h p e f g w b (means_agree s a b p ag k)
+            (rw (upto_at n a.ty (shape_type a h)) (meets_agree ag h ins (shape_type a h) (shape_meets a h))),
+      );
 }
   where
     n : ℕ
@@ -153,17 +168,23 @@ node_grew s t h p ins e f g w = record {
       | other o ↦ rw (get_left s.parent.items n 0 i (omega (arith, len))) (p.low i (omega (arith, len)))
     ]
 
-    bare : (i : ℕ) → i < length (s.parent.items ++ n ∷ []) → slice_index_or (s.parent.items ++ n ∷ []) i 0 ≢ i → slice_index_or (s.shape.items ++ h ∷ []) i Free ≡ Free
+    bare : (i : ℕ) → i < length (s.parent.items ++ n ∷ []) → slice_index_or (s.parent.items ++ n ∷ []) i 0 ≢ i
+        → slice_index_or (s.shape.items ++ h ∷ []) i Free ≡ Free
     bare i lt r = elim (is i n) [
       | same q ↦ absurd (r (get_last s.parent.items n 0 i q ∙ sym q))
-      | other o ↦ get_left s.shape.items h Free i (omega (arith, len, p.lengths)) ∙ p.bare i (omega (arith, len)) (λ z. r (get_left s.parent.items n 0 i (omega (arith, len)) ∙ z))
+      | other o ↦ get_left s.shape.items h Free i (omega (arith, len, p.lengths)) ∙ p.bare i (omega (arith, len))
+          (λ z. r (get_left s.parent.items n 0 i (omega (arith, len)) ∙ z))
     ]
 
-    inside : (i : ℕ) → Inside (length (s.parent.items ++ n ∷ [])) (length s.classifier.items) (slice_index_or (s.shape.items ++ h ∷ []) i Free)
+    inside : (i : ℕ) → Inside (length (s.parent.items ++ n ∷ [])) (length s.classifier.items)
+        (slice_index_or (s.shape.items ++ h ∷ []) i Free)
     inside i = elim (in_or_out s.shape.items i) [
-      | inl lt ↦ rw (get_left s.shape.items h Free i lt) (inside_more n _ (length s.classifier.items) (slice_index_or s.shape.items i Free) (omega (arith, len)) (p.inside i))
+      | inl lt ↦ rw (get_left s.shape.items h Free i lt)
+          (inside_more n _ (length s.classifier.items) (slice_index_or s.shape.items i Free) (omega (arith, len))
+          (p.inside i))
       | inr le ↦ elim (is i (length s.shape.items)) [
-        | same q ↦ rw (get_last s.shape.items h Free i q) (inside_more n _ (length s.classifier.items) h (omega (arith, len)) ins)
+        | same q ↦ rw (get_last s.shape.items h Free i q)
+            (inside_more n _ (length s.classifier.items) h (omega (arith, len)) ins)
         | other o ↦ rw (get_or-eq_default (s.shape.items ++ h ∷ []) Free {n = i} (omega (arith, shape_len))) tt
       ]
     ]
@@ -198,50 +219,82 @@ grew_then p q = record {
   long = omega (arith, p.long, q.long);
   classifier_count = q.classifier_count ∙ p.classifier_count;
   out = λ a h. let y = q.out a h in let x = p.out a y.0 in (x.0, (x.1, y.1));
-  more = λ a h. let x = p.more a h in let y = q.more x.0 x.2 in
-      (y.0, record { types = λ i lt. x.1.types i lt ∙ y.1.types i (let l = p.long in omega arith); classifiers = λ c lt. x.1.classifiers c lt ∙ y.1.classifiers c (let e = p.classifier_count in omega arith) }, y.2);
+  more = λ a h. let x = p.more a h in let y = q.more x.0 x.2 in (
+    y.0,
+    record {
+      types = λ i lt. x.1.types i lt ∙ y.1.types i (let l = p.long in omega arith);
+      classifiers = λ c lt.
+          x.1.classifiers c lt ∙ y.1.classifiers c (let e = p.classifier_count in omega arith);
+    },
+    y.2,
+  );
 }
 
 pub map_grew : {s t : State} {X Y : Assignment → Type 0} → ((a : Assignment) → X a → Y a) → Grew s t X → Grew s t Y
-map_grew f p = record { sound = p.sound; long = p.long; classifier_count = p.classifier_count; out = λ a h. let x = p.out a h in (x.0, f a x.1); more = p.more }
+map_grew f p = record {
+  sound = p.sound;
+  long = p.long;
+  classifier_count = p.classifier_count;
+  out = λ a h. let x =
+      p.out a h in (x.0, f a x.1);
+  more = p.more;
+}
 
-pub add_pair : (S T : TypeExpression) {s t u v : State} {i j k : ℕ} → Grew s t (λ a. a.ty i ≡ value a S) → Grew t u (λ a. a.ty j ≡ value a T) → Grew u v (λ a. Meets (Pair i j) (a.ty k) a) → Grew s v (λ a. a.ty k ≡ value a (pair_ty S T))
+pub add_pair : (S T : TypeExpression) {s t u v : State} {i j k : ℕ} → Grew s t (λ a. a.ty i ≡ value a S)
+    → Grew t u (λ a. a.ty j ≡ value a T) → Grew u v (λ a. Meets (Pair i j) (a.ty k) a)
+    → Grew s v (λ a. a.ty k ≡ value a (pair_ty S T))
 add_pair S T p q r = map_grew (λ a x. x.1 ∙ rw (x.0.0, x.0.1) refl) (grew_then (grew_then p q) r)
 
-pub add_arrow : (S T : TypeExpression) {s t u v : State} {i j k : ℕ} → Grew s t (λ a. a.ty i ≡ value a S) → Grew t u (λ a. a.ty j ≡ value a T) → Grew u v (λ a. Meets (Arrow i j) (a.ty k) a) → Grew s v (λ a. a.ty k ≡ value a (function_ty S T))
+pub add_arrow : (S T : TypeExpression) {s t u v : State} {i j k : ℕ} → Grew s t (λ a. a.ty i ≡ value a S)
+    → Grew t u (λ a. a.ty j ≡ value a T) → Grew u v (λ a. Meets (Arrow i j) (a.ty k) a)
+    → Grew s v (λ a. a.ty k ≡ value a (function_ty S T))
 add_arrow S T p q r = map_grew (λ a x. x.1 ∙ rw (x.0.0, x.0.1) refl) (grew_then (grew_then p q) r)
 
-pub add_code : (T : TypeExpression) {s t u : State} {c i k : ℕ} → Grew s t (λ a. a.ty i ≡ value a T) → Grew t u (λ a. Meets (Code c i) (a.ty k) a) → Grew s u (λ a. a.ty k ≡ value a (code_ty c T))
+pub add_code : (T : TypeExpression) {s t u : State} {c i k : ℕ} → Grew s t (λ a. a.ty i ≡ value a T)
+    → Grew t u (λ a. Meets (Code c i) (a.ty k) a) → Grew s u (λ a. a.ty k ≡ value a (code_ty c T))
 add_code T p r = map_grew (λ a x. x.1 ∙ rw x.0 refl) (grew_then p r)
 
-pub add_closed : (T : TypeExpression) {s t u : State} {i k : ℕ} → Grew s t (λ a. a.ty i ≡ value a T) → Grew t u (λ a. Meets (Closed i) (a.ty k) a) → Grew s u (λ a. a.ty k ≡ value a (closed_ty T))
+pub add_closed : (T : TypeExpression) {s t u : State} {i k : ℕ} → Grew s t (λ a. a.ty i ≡ value a T)
+    → Grew t u (λ a. Meets (Closed i) (a.ty k) a) → Grew s u (λ a. a.ty k ≡ value a (closed_ty T))
 add_closed T p r = map_grew (λ a x. x.1 ∙ rw x.0 refl) (grew_then p r)
 
-pub grew_at : {s t : State} (h : Shape) (n i : ℕ) → i ≡ n → Grew s t (λ a. Meets h (a.ty n) a) → Grew s t (λ a. Meets h (a.ty i) a)
+pub grew_at : {s t : State} (h : Shape) (n i : ℕ) → i ≡ n → Grew s t (λ a. Meets h (a.ty n) a)
+    → Grew s t (λ a. Meets h (a.ty i) a)
 grew_at {s = s} {t = t} h n i e g = subst (λ k. Grew s t (λ a. Meets h (a.ty k) a)) (sym e) g
 
-pub as_type : {s t : State} {i : ℕ} {T U : TypeExpression} → T ≡ U → Grew s t (λ a. a.ty i ≡ value a U) → Grew s t (λ a. a.ty i ≡ value a T)
+pub as_type : {s t : State} {i : ℕ} {T U : TypeExpression} → T ≡ U → Grew s t (λ a. a.ty i ≡ value a U)
+    → Grew s t (λ a. a.ty i ≡ value a T)
 as_type e g = map_grew (λ a x. x ∙ sym (ap (value a) e)) g
 
 pub free_grew : (s t : State) (h : Shape) → Sound s → h ≡ Free
-    → t.parent.items ≡ s.parent.items ++ length s.parent.items ∷ [] → t.shape.items ≡ s.shape.items ++ h ∷ [] → t.classifier.items ≡ s.classifier.items → t.waiting.items ≡ s.waiting.items
+    → t.parent.items ≡ s.parent.items ++ length s.parent.items ∷ [] → t.shape.items ≡ s.shape.items ++ h ∷ []
+    → t.classifier.items ≡ s.classifier.items → t.waiting.items ≡ s.waiting.items
     → (a : Assignment) → Means s a → Means t a
 free_grew s t h p z e f g w a k = node_means s t h p e f g w a k (rw z tt)
 
 -- a node that has a shape
-pub node_shaped : (ps : List ℕ) (hs : List Shape) (h : Shape) → length hs ≡ length ps → h ≢ Free → (n : ℕ) → IsShaped n ps hs → IsShaped n (ps ++ length ps ∷ []) (hs ++ h ∷ [])
+pub node_shaped : (ps : List ℕ) (hs : List Shape) (h : Shape) → length hs ≡ length ps → h ≢ Free → (n : ℕ)
+    → IsShaped n ps hs → IsShaped n (ps ++ length ps ∷ []) (hs ++ h ∷ [])
 node_shaped ps hs h e f n k i le lt o = elim (is i (length ps)) [
   | same q ↦ rw (get_last hs h Free i (q ∙ sym e)) f
   | other m ↦ let il : i < length ps = let z = length-append ps (length ps ∷ []) in omega arith in
       rw (get_left hs h Free i (omega arith)) (k i le il (sym (get_left ps (length ps) 0 i il) ∙ o))
 ]
 
-pub node_shaped_at : (ps qs : List ℕ) (hs gs : List Shape) (h : Shape) → qs ≡ ps ++ length ps ∷ [] → gs ≡ hs ++ h ∷ [] → length hs ≡ length ps → h ≢ Free → (n : ℕ) → IsShaped n ps hs → IsShaped n qs gs
+pub node_shaped_at : (ps qs : List ℕ) (hs gs : List Shape) (h : Shape) → qs ≡ ps ++ length ps ∷ [] → gs ≡ hs ++ h ∷ []
+    → length hs ≡ length ps → h ≢ Free → (n : ℕ) → IsShaped n ps hs → IsShaped n qs gs
 node_shaped_at ps qs hs gs h e f l m n k = rw (e, f) (node_shaped ps hs h l m n k)
 
 -- no node more, where all is said already
 pub none_grew : {s : State} {X : Assignment → Type 0} → Sound s → ((a : Assignment) → X a) → Grew s s X
-none_grew p f = record { sound = p; long = omega arith; classifier_count = refl; out = λ a h. (h, f a); more = λ a h. (a, record { types = λ i lt. refl; classifiers = λ c lt. refl }, h) }
+none_grew p f = record {
+  sound = p;
+  long = omega arith;
+  classifier_count = refl;
+  out = λ a h. (h, f a);
+  more = λ a h.
+      (a, record { types = λ i lt. refl; classifiers = λ c lt. refl }, h);
+}
 
 -- each shape but Free
 pub int_not_free : Int ≢ Free

@@ -47,17 +47,20 @@ names cs l = record {
   own = λ a s c lt. rep_own cs a s (length cs) c;
 }
 
-module _ (s : State) (sizes : List ℕ) (sound : Sound s) (empty : s.waiting.items ≡ []) (all : AllSized s sizes) (classifiers : ℕ → ℕ) (named : Names s.classifier.items classifiers) where
+module _ (s : State) (sizes : List ℕ) (sound : Sound s) (empty : s.waiting.items ≡ []) (all : AllSized s sizes)
+    (classifiers : ℕ → ℕ) (named : Names s.classifier.items classifiers) where
   at : (u : ℕ) → (u < length s.parent.items) ⊎ (length s.parent.items ≤ u) → TypeExpression
   at u (inl lt) = (all.each u lt).type classifiers
   at u (inr le) = int_ty
 
-  at_stands : (u : ℕ) (d : (u < length s.parent.items) ⊎ (length s.parent.items ≤ u)) → u < length s.parent.items → Stands s.parent.items s.shape.items classifiers u (at u d)
+  at_stands : (u : ℕ) (d : (u < length s.parent.items) ⊎ (length s.parent.items ≤ u)) → u < length s.parent.items
+      → Stands s.parent.items s.shape.items classifiers u (at u d)
   unfolding at
   at_stands u (inl lt) p = (all.each u lt).stands classifiers
   at_stands u (inr le) p = absurd (omega arith)
 
-  at_size : (u : ℕ) (d : (u < length s.parent.items) ⊎ (length s.parent.items ≤ u)) → u < length s.parent.items → slice_index_or sizes u 0 ≡ min (nodes (at u d)) 10001
+  at_size : (u : ℕ) (d : (u < length s.parent.items) ⊎ (length s.parent.items ≤ u)) → u < length s.parent.items
+      → slice_index_or sizes u 0 ≡ min (nodes (at u d)) 10001
   unfolding at
   at_size u (inl lt) p = (all.each u lt).count classifiers
   at_size u (inr le) p = absurd (omega arith)
@@ -70,10 +73,21 @@ module _ (s : State) (sizes : List ℕ) (sound : Sound s) (empty : s.waiting.ite
   settled = record { each = λ i lt. at_stands i (in_or_out s.parent.items i) lt; names = named }
 
   pub answer_sound : (b : Assignment) → Means s (after b answer)
-  answer_sound b = let h = settled_sound s.parent.items s.shape.items s.classifier.items answer sound.low sound.lengths sound.bare sound.inside settled b in record { types = h.types; classifiers = h.classifiers; shapes = h.shapes; waits = subst (λ ws. Waits ws (after b answer)) (sym empty) tt }
+  answer_sound b = let h = settled_sound s.parent.items s.shape.items s.classifier.items answer sound.low sound.lengths
+      sound.bare sound.inside settled b in
+      record {
+        types = h.types;
+        classifiers = h.classifiers;
+        shapes = h.shapes;
+        waits =
+            subst (λ ws. Waits ws (after b answer)) (sym empty) tt;
+      }
 
-  pub answer_general : (a : Assignment) → Means s a → Agree (length s.parent.items) (length s.classifier.items) a (after a answer)
-  answer_general a h = settled_general s.parent.items s.shape.items s.classifier.items answer sound.low sound.lengths sound.bare sound.inside settled a (record { types = h.types; classifiers = h.classifiers; shapes = h.shapes; waits = tt })
+  pub answer_general : (a : Assignment) → Means s a → Agree (length s.parent.items) (length s.classifier.items) a
+      (after a answer)
+  answer_general a h = settled_general s.parent.items s.shape.items s.classifier.items answer sound.low sound.lengths
+      sound.bare sound.inside settled a
+      (record { types = h.types; classifiers = h.classifiers; shapes = h.shapes; waits = tt })
 
   pub answer_size : (u : ℕ) → u < length s.parent.items → slice_index_or sizes u 0 ≡ min (nodes (answer.ty u)) 10001
   unfolding answer
@@ -83,6 +97,7 @@ module _ (s : State) (sizes : List ℕ) (sound : Sound s) (empty : s.waiting.ite
   unfolding answer
   answer_classifier c = refl
 
-  pub answer_stands : (u : ℕ) → u < length s.parent.items → Stands s.parent.items s.shape.items classifiers u (answer.ty u)
+  pub answer_stands : (u : ℕ) → u < length s.parent.items → Stands s.parent.items s.shape.items classifiers u
+      (answer.ty u)
   unfolding answer
   answer_stands u lt = at_stands u (in_or_out s.parent.items u) lt

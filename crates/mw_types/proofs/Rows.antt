@@ -17,7 +17,8 @@ abbrev free : Substitution
 free = record { ty = λ u. unknown u; classifier = λ c. c }
 
 free_is_general : MostGeneral 1 0 [] free
-free_is_general = record { sound = λ b. tt; general = λ a h. (a, record { types = λ u lt. refl; classifiers = λ c lt. refl }) }
+free_is_general =
+    record { sound = λ b. tt; general = λ a h. (a, record { types = λ u lt. refl; classifiers = λ c lt. refl }) }
 
 -- and a substitution that puts int for it is not most general
 abbrev ints : Substitution
@@ -55,7 +56,8 @@ codes_general = record {
 infinite : Solvable (is_one (unknown 0) (pair_ty (unknown 0) int_ty) ∷ []) → ⊥
 infinite h = let p : size (h.0.ty 0) ≡ size (h.0.ty 0) + 1 + 1 = ap size h.1.0 in omega arith
 
-infinite_code : Solvable (is_one (unknown 0) (code_ty 0 (unknown 1)) ∷ is_one (unknown 1) (closed_ty (unknown 0)) ∷ []) → ⊥
+infinite_code : Solvable (is_one (unknown 0) (code_ty 0 (unknown 1)) ∷ is_one (unknown 1) (closed_ty (unknown 0)) ∷ [])
+    → ⊥
 infinite_code h =
     let p : size (h.0.ty 0) ≡ size (h.0.ty 1) + 1 = ap size h.1.0 in
     let q : size (h.0.ty 1) ≡ size (h.0.ty 0) + 1 = ap size h.1.1.0 in
@@ -79,7 +81,15 @@ int_then_bool = record {
 
     front : (j : ℕ) → j < 2 → Fine 1 0 (take j (is_one (unknown 0) int_ty ∷ is_one (unknown 0) bool_ty ∷ []))
     front zero lt = (free, free_is_general, (λ u l. omega arith))
-    front (suc zero) lt = (ints, record { sound = λ b. (refl, tt); general = λ a h. (a, record { types = λ u l. int_at a h.0 u l; classifiers = λ c l. refl }) }, (λ u l. omega arith))
+    front (suc zero) lt = (
+      ints,
+      record {
+        sound = λ b. (refl, tt);
+        general = λ a h.
+            (a, record { types = λ u l. int_at a h.0 u l; classifiers = λ c l. refl });
+      },
+      (λ u l. omega arith),
+    )
     front (suc (suc j)) lt = absurd (omega arith)
 
 -- closed, so many times
@@ -110,7 +120,18 @@ tall_general n = record {
 
 -- 10,000 nodes are fine, 10,001 are too big
 highest_is_fine : Fine 1 0 (tall_one 9999)
-highest_is_fine = (record { ty = λ u. tall 9999; classifier = λ c. c }, tall_general 9999, (λ u lt. let e = tall_nodes 9999 in omega arith))
+highest_is_fine = (
+  record { ty = λ u. tall 9999; classifier = λ c. c },
+  tall_general 9999,
+  (λ u lt. let e = tall_nodes 9999 in omega arith),
+)
 
 higher_is_too_big : TooBig 1 0 (tall_one 10000)
-higher_is_too_big = (record { ty = λ u. tall 10000; classifier = λ c. c }, tall_general 10000, 0, omega arith, let e = tall_nodes 10000 in omega arith)
+higher_is_too_big = (
+  record { ty = λ u. tall 10000; classifier = λ c. c },
+  tall_general 10000,
+  0,
+  omega arith,
+  let e =
+      tall_nodes 10000 in omega arith,
+)

@@ -23,7 +23,8 @@ start_shorter ps from l lt = record {
   classes_at = λ v s. refl;
 }
 
-pub step_shorter : (ps qs : List ℕ) (from at up : ℕ) → Shorter ps qs from at → slice_index_or qs at 0 ≢ at → up ≡ slice_index_or qs (slice_index_or qs at 0) 0 → Shorter ps (slice_set qs at up) from up × (up < at)
+pub step_shorter : (ps qs : List ℕ) (from at up : ℕ) → Shorter ps qs from at → slice_index_or qs at 0 ≢ at
+    → up ≡ slice_index_or qs (slice_index_or qs at 0) 0 → Shorter ps (slice_set qs at up) from up × (up < at)
 step_shorter ps qs from at up h n e = (
   record {
     low = low_set qs at up (omega arith) inside h.low;
@@ -34,7 +35,8 @@ step_shorter ps qs from at up h n e = (
       | other o ↦ get_other qs at i up 0 o ∙ h.roots i r
     ];
     roots_from = λ i il r. elim (is at i) [
-      | same q ↦ absurd (let z = sym (get_here qs at up 0 inside) ∙ ap (λ x. slice_index_or (slice_set qs at up) x 0) q ∙ r in omega arith)
+      | same q ↦ absurd (let z = sym (get_here qs at up 0 inside) ∙ ap (λ x. slice_index_or (slice_set qs at up) x 0) q
+          ∙ r in omega arith)
       | other o ↦ h.roots_from i il (sym (get_other qs at i up 0 o) ∙ r)
     ];
     types_to = λ v s. rw e (halve_to qs v at h.low inside (h.types_to v s));
@@ -60,7 +62,9 @@ step_shorter ps qs from at up h n e = (
     along v s = s at inside ∙ s (slice_index_or qs at 0) (omega arith) ∙ ap v (sym e)
 
 -- a state whose ways are shorter says the same
-pub shorter_step : (s t : State) (from at : ℕ) → Sound s → Shorter s.parent.items t.parent.items from at → t.shape.items ≡ s.shape.items → t.classifier.items ≡ s.classifier.items → t.waiting.items ≡ s.waiting.items → Step s t (λ a. a.ty from ≡ a.ty at)
+pub shorter_step : (s t : State) (from at : ℕ) → Sound s → Shorter s.parent.items t.parent.items from at → t.shape.items
+    ≡ s.shape.items → t.classifier.items ≡ s.classifier.items → t.waiting.items ≡ s.waiting.items
+    → Step s t (λ a. a.ty from ≡ a.ty at)
 shorter_step s t from at p h f g w = record {
   sound = record {
     low = h.low;
@@ -72,28 +76,42 @@ shorter_step s t from at p h f g w = record {
   };
   node_count = h.long;
   classifier_count = ap length g;
-  shaped = λ n k i le lt o. let il : i < length s.parent.items = omega (arith, h.long) in rw f (k i le il (h.roots_from i il o));
-  out = λ a k. let ty = h.types_from a.ty k.types in
-      (record { types = ty; classifiers = rw g at k.classifiers; shapes = rw f at k.shapes; waits = rw w at k.waits }, h.types_at a.ty ty);
-  back = λ a k x. record { types = h.types_to a.ty k.types; classifiers = rw g k.classifiers; shapes = rw f k.shapes; waits = rw w k.waits };
+  shaped = λ n k i le lt o. let il : i < length s.parent.items = omega (arith, h.long) in
+      rw f (k i le il (h.roots_from i il o));
+  out = λ a k. let ty = h.types_from a.ty k.types in (
+    record { types = ty; classifiers = rw g at k.classifiers; shapes = rw f at k.shapes; waits = rw w at k.waits },
+    h.types_at a.ty ty,
+  );
+  back = λ a k x. record {
+    types = h.types_to a.ty k.types;
+    classifiers = rw g k.classifiers;
+    shapes = rw f k.shapes;
+    waits = rw w k.waits;
+  };
 }
 
-pub found : (s t : State) (from at : ℕ) → Sound s → Shorter s.parent.items t.parent.items from at → t.shape.items ≡ s.shape.items → t.classifier.items ≡ s.classifier.items → t.waiting.items ≡ s.waiting.items → Found s t from at
-found s t from at p h f g w = record { step = shorter_step s t from at p h f g w; same = λ a k. h.types_at a.ty k.types }
+pub found : (s t : State) (from at : ℕ) → Sound s → Shorter s.parent.items t.parent.items from at → t.shape.items
+    ≡ s.shape.items → t.classifier.items ≡ s.classifier.items → t.waiting.items ≡ s.waiting.items → Found s t from at
+found s t from at p h f g w =
+    record { step = shorter_step s t from at p h f g w; same = λ a k. h.types_at a.ty k.types }
 
 -- two finds, and a link of what they found
-pub linked_finds : {s t u v : State} {i j one two : ℕ} → Found s t i one → Found t u j two → Step u v (λ a. a.ty one ≡ a.ty two) → Step s v (λ a. a.ty i ≡ a.ty j)
+pub linked_finds : {s t u v : State} {i j one two : ℕ} → Found s t i one → Found t u j two
+    → Step u v (λ a. a.ty one ≡ a.ty two) → Step s v (λ a. a.ty i ≡ a.ty j)
 linked_finds p q r = record {
   sound = r.sound;
   node_count = r.node_count ∙ q.step.node_count ∙ p.step.node_count;
   classifier_count = r.classifier_count ∙ q.step.classifier_count ∙ p.step.classifier_count;
   shaped = λ n k. r.shaped n (q.step.shaped n (p.step.shaped n k));
   out = λ a h. let x = r.out a h in let y = q.step.out a x.0 in let z = p.step.out a y.0 in (z.0, z.1 ∙ x.1 ∙ sym y.1);
-  back = λ a h e. let z = p.step.back a h (p.same a h) in let y = q.step.back a z (q.same a z) in r.back a y (sym (p.same a h) ∙ e ∙ q.same a z);
+  back = λ a h e. let z = p.step.back a h (p.same a h) in let y = q.step.back a z (q.same a z) in
+      r.back a y (sym (p.same a h) ∙ e ∙ q.same a z);
 }
 
-pub never_finds : {s t u : State} {i j one two : ℕ} → Found s t i one → Found t u j two → Never u (λ a. a.ty one ≡ a.ty two) → Never s (λ a. a.ty i ≡ a.ty j)
-never_finds p q n a h e = let z = p.step.back a h (p.same a h) in let y = q.step.back a z (q.same a z) in n a y (sym (p.same a h) ∙ e ∙ q.same a z)
+pub never_finds : {s t u : State} {i j one two : ℕ} → Found s t i one → Found t u j two
+    → Never u (λ a. a.ty one ≡ a.ty two) → Never s (λ a. a.ty i ≡ a.ty j)
+never_finds p q n a h e = let z = p.step.back a h (p.same a h) in let y = q.step.back a z (q.same a z) in
+    n a y (sym (p.same a h) ∙ e ∙ q.same a z)
 
 pub found_same : {s t : State} {i r : ℕ} → Found s t i r → Step s t (λ a. Unit {0})
 found_same p = record {
@@ -106,7 +124,8 @@ found_same p = record {
 }
 
 -- two finds among the classifiers, and one root put under the other
-pub joins_down : (cs ds es : List ℕ) (c d one two : ℕ) → Shorter cs ds c one → Shorter ds es d two → two < length es → slice_index_or es two 0 ≡ two → Joins cs (slice_set es two one) c d
+pub joins_down : (cs ds es : List ℕ) (c d one two : ℕ) → Shorter cs ds c one → Shorter ds es d two → two < length es
+    → slice_index_or es two 0 ≡ two → Joins cs (slice_set es two one) c d
 joins_down cs ds es c d one two p q lt r v = (
   (λ s. let e = same_unset es v two one lt r s in
       let m = q.classes_from v e in
@@ -116,7 +135,8 @@ joins_down cs ds es c d one two p q lt r v = (
       same_set es v two one lt (q.classes_to v m) (sym (q.classes_at v m) ∙ sym f ∙ p.classes_at v s)),
 )
 
-pub joins_up : (cs ds es : List ℕ) (c d one two : ℕ) → Shorter cs ds c one → Shorter ds es d two → one < length es → slice_index_or es one 0 ≡ one → Joins cs (slice_set es one two) c d
+pub joins_up : (cs ds es : List ℕ) (c d one two : ℕ) → Shorter cs ds c one → Shorter ds es d two → one < length es
+    → slice_index_or es one 0 ≡ one → Joins cs (slice_set es one two) c d
 joins_up cs ds es c d one two p q lt r v = (
   (λ s. let e = same_unset es v one two lt r s in
       let m = q.classes_from v e in

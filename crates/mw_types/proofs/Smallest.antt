@@ -38,32 +38,37 @@ least_size (code_ty c t) = omega (arith, least_size t)
 least_size (closed_ty t) = omega (arith, least_size t)
 
 -- a most general solution is the smallest of all, at every unknown
-pub smallest : {n m : ℕ} {es : List TypeEquation} {s : Substitution} → MostGeneral n m es s → (a : Assignment) → Solves a es → (u : ℕ) → u < n → nodes (s.ty u) ≤ size (a.ty u)
+pub smallest : {n m : ℕ} {es : List TypeEquation} {s : Substitution} → MostGeneral n m es s → (a : Assignment)
+    → Solves a es → (u : ℕ) → u < n → nodes (s.ty u) ≤ size (a.ty u)
 smallest {s = s} g a h u lt =
     let p = g.general a h in
     let e = p.1.types u lt in
     rw e (grows p.0 (s.ty u))
 
 -- two most general solutions have types of the same sizes
-pub same_sizes : {n m : ℕ} {es : List TypeEquation} {s t : Substitution} → MostGeneral n m es s → MostGeneral n m es t → (u : ℕ) → u < n → nodes (s.ty u) ≤ nodes (t.ty u)
+pub same_sizes : {n m : ℕ} {es : List TypeEquation} {s t : Substitution} → MostGeneral n m es s → MostGeneral n m es t
+    → (u : ℕ) → u < n → nodes (s.ty u) ≤ nodes (t.ty u)
 same_sizes {t = t} g h u lt = omega (arith, smallest g (after least t) (h.sound least) u lt, least_size (t.ty u))
 
 -- no type is too big exactly where some solution is small
-pub small_of_most_general : {n m : ℕ} {es : List TypeEquation} {s : Substitution} → MostGeneral n m es s → IsSmall n s → Small n es
+pub small_of_most_general : {n m : ℕ} {es : List TypeEquation} {s : Substitution} → MostGeneral n m es s → IsSmall n s
+    → Small n es
 small_of_most_general {s = s} g f = record {
   by = after least s;
   solves = g.sound least;
   small = λ u lt. omega (arith, f u lt, least_size (s.ty u));
 }
 
-pub most_general_small : {n m : ℕ} {es : List TypeEquation} {s : Substitution} → MostGeneral n m es s → Small n es → IsSmall n s
+pub most_general_small : {n m : ℕ} {es : List TypeEquation} {s : Substitution} → MostGeneral n m es s → Small n es
+    → IsSmall n s
 most_general_small g h u lt = omega (arith, smallest g h.by h.solves u lt, h.small u lt)
 
 pub too_big_not_small : {n m : ℕ} {es : List TypeEquation} → TooBig n m es → Small n es → ⊥
 too_big_not_small b h = omega (arith, most_general_small b.1 h b.2 b.3, b.4)
 
 -- what solves a front solves the shorter ones
-pub solves_take : (a : Assignment) (es : List TypeEquation) (j k : ℕ) → j ≤ k → Solves a (take k es) → Solves a (take j es)
+pub solves_take : (a : Assignment) (es : List TypeEquation) (j k : ℕ) → j ≤ k → Solves a (take k es)
+    → Solves a (take j es)
 solves_take a [] zero zero le h = h
 solves_take a [] zero (suc k) le h = h
 solves_take a [] (suc j) zero le h = h

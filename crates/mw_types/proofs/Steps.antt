@@ -28,7 +28,8 @@ then_step p q = record {
 }
 
 -- the same in other words
-pub map_step : {s t : State} {X Y : Assignment → Type 0} → ((a : Assignment) → Means s a → X a → Y a) → ((a : Assignment) → Means s a → Y a → X a) → Step s t X → Step s t Y
+pub map_step : {s t : State} {X Y : Assignment → Type 0} → ((a : Assignment) → Means s a → X a → Y a)
+    → ((a : Assignment) → Means s a → Y a → X a) → Step s t X → Step s t Y
 map_step f g p = record {
   sound = p.sound;
   node_count = p.node_count;
@@ -39,10 +40,19 @@ map_step f g p = record {
 }
 
 pub no_step : {s : State} {X : Assignment → Type 0} → Sound s → ((a : Assignment) → Means s a → X a) → Step s s X
-no_step p f = record { sound = p; node_count = refl; classifier_count = refl; shaped = λ n h. h; out = λ a h. (h, f a h); back = λ a h x. h }
+no_step p f = record {
+  sound = p;
+  node_count = refl;
+  classifier_count = refl;
+  shaped = λ n h. h;
+  out = λ a h.
+      (h, f a h);
+  back = λ a h x. h;
+}
 
 -- a link, and then what else is to be one
-pub finish : {s t u : State} {low high : ℕ} (m : Met) → m ≢ Clash → Linked s t low high m → Step t u (λ a. Extra m a) → Step s u (λ a. a.ty low ≡ a.ty high)
+pub finish : {s t u : State} {low high : ℕ} (m : Met) → m ≢ Clash → Linked s t low high m → Step t u (λ a. Extra m a)
+    → Step s u (λ a. a.ty low ≡ a.ty high)
 finish m n p q = record {
   sound = q.sound;
   node_count = q.node_count ∙ p.node_count;
@@ -60,27 +70,35 @@ pub turn_step : {s t : State} {i j : ℕ} → Step s t (λ a. a.ty i ≡ a.ty j)
 turn_step = map_step (λ a h e. sym e) (λ a h e. sym e)
 
 -- a shape that was read
-pub shape_inside : (s : State) (i : ℕ) (h : Shape) → Sound s → i < length s.parent.items → h ≡ slice_index_or s.shape.items i h → Inside (length s.parent.items) (length s.classifier.items) h
-shape_inside s i h p lt e = subst (λ x. Inside (length s.parent.items) (length s.classifier.items) x) (sym (e ∙ get_or_default s.shape.items i h Free (omega (arith, p.lengths)))) (p.inside i)
+pub shape_inside : (s : State) (i : ℕ) (h : Shape) → Sound s → i < length s.parent.items
+    → h ≡ slice_index_or s.shape.items i h → Inside (length s.parent.items) (length s.classifier.items) h
+shape_inside s i h p lt e = subst (λ x. Inside (length s.parent.items) (length s.classifier.items) x)
+    (sym (e ∙ get_or_default s.shape.items i h Free (omega (arith, p.lengths)))) (p.inside i)
 
 -- one more waits
-pub waits_more : (ws : List Pending) (w : Pending) (a : Assignment) → Waits (ws ++ w ∷ []) a → Waits ws a × (a.ty w.left ≡ a.ty w.right)
+pub waits_more : (ws : List Pending) (w : Pending) (a : Assignment) → Waits (ws ++ w ∷ []) a → Waits ws a
+    × (a.ty w.left ≡ a.ty w.right)
 waits_more [] w a h = (tt, h.0)
 waits_more (x ∷ ws) w a h = let r = waits_more ws w a h.1 in ((h.0, r.0), r.1)
 
-pub more_waits : (ws : List Pending) (w : Pending) (a : Assignment) → Waits ws a → a.ty w.left ≡ a.ty w.right → Waits (ws ++ w ∷ []) a
+pub more_waits : (ws : List Pending) (w : Pending) (a : Assignment) → Waits ws a → a.ty w.left ≡ a.ty w.right
+    → Waits (ws ++ w ∷ []) a
 more_waits [] w a h e = (e, tt)
 more_waits (x ∷ ws) w a h e = (h.0, more_waits ws w a h.1 e)
 
-pub more_inside : (n : ℕ) (ws : List Pending) (w : Pending) → WaitsInside n ws → w.left < n → w.right < n → WaitsInside n (ws ++ w ∷ [])
+pub more_inside : (n : ℕ) (ws : List Pending) (w : Pending) → WaitsInside n ws → w.left < n → w.right < n
+    → WaitsInside n (ws ++ w ∷ [])
 more_inside n [] w h p q = (p, q, tt)
 more_inside n (x ∷ ws) w h p q = (h.0, h.1, more_inside n ws w h.2 p q)
 
-pub inside_more : (n : ℕ) (ws : List Pending) (w : Pending) → WaitsInside n (ws ++ w ∷ []) → WaitsInside n ws × (w.left < n) × (w.right < n)
+pub inside_more : (n : ℕ) (ws : List Pending) (w : Pending) → WaitsInside n (ws ++ w ∷ []) → WaitsInside n ws
+    × (w.left < n) × (w.right < n)
 inside_more n [] w h = (tt, h.0, h.1)
 inside_more n (x ∷ ws) w h = let r = inside_more n ws w h.2 in ((h.0, h.1, r.0), r.1, r.2)
 
-pub wait_step : (s t : State) (w : Pending) → Sound s → w.left < length s.parent.items → w.right < length s.parent.items → t.parent.items ≡ s.parent.items → t.shape.items ≡ s.shape.items → t.classifier.items ≡ s.classifier.items → t.waiting.items ≡ s.waiting.items ++ w ∷ [] → Step s t (λ a. a.ty w.left ≡ a.ty w.right)
+pub wait_step : (s t : State) (w : Pending) → Sound s → w.left < length s.parent.items → w.right < length s.parent.items
+    → t.parent.items ≡ s.parent.items → t.shape.items ≡ s.shape.items → t.classifier.items ≡ s.classifier.items
+    → t.waiting.items ≡ s.waiting.items ++ w ∷ [] → Step s t (λ a. a.ty w.left ≡ a.ty w.right)
 wait_step s t w p l r e f g h = record {
   sound = record {
     low = rw e p.low;
@@ -93,11 +111,22 @@ wait_step s t w p l r e f g h = record {
   node_count = ap length e;
   classifier_count = ap length g;
   shaped = λ n k. rw (e, f) k;
-  out = λ a k. let q = waits_more s.waiting.items w a (rw h at k.waits) in (record { types = rw e at k.types; classifiers = rw g at k.classifiers; shapes = rw f at k.shapes; waits = q.0 }, q.1);
-  back = λ a k x. record { types = rw e k.types; classifiers = rw g k.classifiers; shapes = rw f k.shapes; waits = rw h (more_waits s.waiting.items w a k.waits x) };
+  out = λ a k. let q = waits_more s.waiting.items w a (rw h at k.waits) in (
+    record { types = rw e at k.types; classifiers = rw g at k.classifiers; shapes = rw f at k.shapes; waits = q.0 },
+    q.1,
+  );
+  back = λ a k x. record {
+    types = rw e k.types;
+    classifiers = rw g k.classifiers;
+    shapes = rw f k.shapes;
+    waits =
+        rw h (more_waits s.waiting.items w a k.waits x);
+  };
 }
 
-pub class_step : (s t : State) (c d : ℕ) → Sound s → t.parent.items ≡ s.parent.items → t.shape.items ≡ s.shape.items → t.waiting.items ≡ s.waiting.items → length t.classifier.items ≡ length s.classifier.items → Low t.classifier.items → Joins s.classifier.items t.classifier.items c d → Step s t (λ a. a.classifier c ≡ a.classifier d)
+pub class_step : (s t : State) (c d : ℕ) → Sound s → t.parent.items ≡ s.parent.items → t.shape.items ≡ s.shape.items
+    → t.waiting.items ≡ s.waiting.items → length t.classifier.items ≡ length s.classifier.items → Low t.classifier.items
+    → Joins s.classifier.items t.classifier.items c d → Step s t (λ a. a.classifier c ≡ a.classifier d)
 class_step s t c d p e f h g l j = record {
   sound = record {
     low = rw e p.low;
@@ -110,8 +139,15 @@ class_step s t c d p e f h g l j = record {
   node_count = ap length e;
   classifier_count = g;
   shaped = λ n k. rw (e, f) k;
-  out = λ a k. let q = (j a.classifier).0 k.classifiers in (record { types = rw e at k.types; classifiers = q.0; shapes = rw f at k.shapes; waits = rw h at k.waits }, q.1);
-  back = λ a k x. record { types = rw e k.types; classifiers = (j a.classifier).1 k.classifiers x; shapes = rw f k.shapes; waits = rw h k.waits };
+  out = λ a k. let q = (j a.classifier).0 k.classifiers in
+      (record { types = rw e at k.types; classifiers = q.0; shapes = rw f at k.shapes; waits = rw h at k.waits }, q.1);
+  back = λ a k x. record {
+    types = rw e k.types;
+    classifiers = (j a.classifier).1 k.classifiers x;
+    shapes =
+        rw f k.shapes;
+    waits = rw h k.waits;
+  };
 }
 
 kept_inside : (n m : ℕ) (x : Met) → ExtraInside n m x → Inside n m (kept x)
@@ -121,11 +157,13 @@ kept_inside n m (One s w) h = h.0
 kept_inside n m (Two s w x) h = h.0
 kept_inside n m (Classes s c d w) h = h.0
 
-pub put_linked : (s t : State) (low high : ℕ) (m : Met) → Sound s → low < high → high < length s.parent.items → slice_index_or s.parent.items low 0 ≡ low → slice_index_or s.parent.items high 0 ≡ high
+pub put_linked : (s t : State) (low high : ℕ) (m : Met) → Sound s → low < high → high < length s.parent.items
+    → slice_index_or s.parent.items low 0 ≡ low → slice_index_or s.parent.items high 0 ≡ high
     → Meeting (slice_index_or s.shape.items low Free) (slice_index_or s.shape.items high Free) m
     → (m ≢ Clash → slice_index_or s.shape.items low Free ≢ Free → kept m ≢ Free)
     → ExtraInside (length s.parent.items) (length s.classifier.items) m
-    → t.parent.items ≡ slice_set s.parent.items high low → t.shape.items ≡ joined s.shape.items high low (kept m) → t.classifier.items ≡ s.classifier.items → t.waiting.items ≡ s.waiting.items
+    → t.parent.items ≡ slice_set s.parent.items high low → t.shape.items ≡ joined s.shape.items high low (kept m)
+    → t.classifier.items ≡ s.classifier.items → t.waiting.items ≡ s.waiting.items
     → Linked s t low high m
 put_linked s t low high m p below lt rl rh meet full ins e f g h = record {
   sound = record {
@@ -140,8 +178,24 @@ put_linked s t low high m p below lt rl rh meet full ins e f g h = record {
   classifier_count = rw g refl;
   shaped = λ c n k. rw (e, f) (shaped' c n k);
   extra = rw (e, g, set_length ps high low) ins;
-  out = λ a k x. unlink ps hs cs ws a low high apart lt ll hl rh (kept m) (Extra m a) (pair_ty a) (record { types = rw e at k.types; classifiers = rw g at k.classifiers; shapes = rw f at k.shapes; waits = rw h at k.waits }) x;
-  back = λ a k q. let r = link ps hs cs ws a low high apart lt ll hl rh (kept m) (Extra m a) (pair_ty a) k q in (record { types = rw e r.0.types; classifiers = rw g r.0.classifiers; shapes = rw f r.0.shapes; waits = rw h r.0.waits }, r.1);
+  out = λ a k x. unlink ps hs cs ws a low high apart lt ll hl rh (kept m) (Extra m a) (pair_ty a)
+      (record {
+        types = rw e at k.types;
+        classifiers = rw g at k.classifiers;
+        shapes = rw f at k.shapes;
+        waits =
+            rw h at k.waits;
+      }) x;
+  back = λ a k q. let r = link ps hs cs ws a low high apart lt ll hl rh (kept m) (Extra m a) (pair_ty a) k q in (
+    record {
+      types = rw e r.0.types;
+      classifiers = rw g r.0.classifiers;
+      shapes = rw f r.0.shapes;
+      waits =
+          rw h r.0.waits;
+    },
+    r.1,
+  );
 }
   where
     ps : List ℕ
@@ -165,31 +219,40 @@ put_linked s t low high m p below lt rl rh meet full ins e f g h = record {
     hl : high < length s.shape.items
     hl = omega (arith, p.lengths)
 
-    pair_ty : (a : Assignment) → Both (slice_index_or s.shape.items low Free) (slice_index_or s.shape.items high Free) (kept m) (Extra m a) a
+    pair_ty : (a : Assignment) → Both (slice_index_or s.shape.items low Free) (slice_index_or s.shape.items high Free)
+        (kept m) (Extra m a) a
     pair_ty a = record { to = λ y. (meet y a).0; back = λ y. (meet y a).1 }
 
     len : length (joined s.shape.items high low (kept m)) ≡ length s.shape.items
     len = set_length (slice_set s.shape.items high Free) low (kept m) ∙ set_length s.shape.items high Free
 
     at_low : slice_index_or (joined s.shape.items high low (kept m)) low Free ≡ kept m
-    at_low = get_here (slice_set s.shape.items high Free) low (kept m) Free (let q = set_length s.shape.items high Free in omega arith)
+    at_low = get_here (slice_set s.shape.items high Free) low (kept m) Free
+        (let q = set_length s.shape.items high Free in omega arith)
 
     at_high : slice_index_or (joined s.shape.items high low (kept m)) high Free ≡ Free
-    at_high = get_other (slice_set s.shape.items high Free) low high (kept m) Free (omega arith) ∙ get_here s.shape.items high Free Free hl
+    at_high = get_other (slice_set s.shape.items high Free) low high (kept m) Free (omega arith)
+        ∙ get_here s.shape.items high Free Free hl
 
-    at_rest : (i : ℕ) → low ≢ i → high ≢ i → slice_index_or (joined s.shape.items high low (kept m)) i Free ≡ slice_index_or s.shape.items i Free
-    at_rest i n o = get_other (slice_set s.shape.items high Free) low i (kept m) Free n ∙ get_other s.shape.items high i Free Free o
+    at_rest : (i : ℕ) → low ≢ i → high ≢ i → slice_index_or (joined s.shape.items high low (kept m)) i Free
+        ≡ slice_index_or s.shape.items i Free
+    at_rest i n o = get_other (slice_set s.shape.items high Free) low i (kept m) Free n ∙ get_other s.shape.items high i
+        Free Free o
 
-    bare' : (i : ℕ) → i < length (slice_set s.parent.items high low) → slice_index_or (slice_set s.parent.items high low) i 0 ≢ i → slice_index_or (joined s.shape.items high low (kept m)) i Free ≡ Free
+    bare' : (i : ℕ) → i < length (slice_set s.parent.items high low)
+        → slice_index_or (slice_set s.parent.items high low) i 0 ≢ i
+        → slice_index_or (joined s.shape.items high low (kept m)) i Free ≡ Free
     bare' i il n = elim (is low i) [
       | same q ↦ absurd (n (rw (← q) (get_other s.parent.items high low low 0 apart ∙ rl)))
       | other o ↦ elim (is high i) [
         | same q ↦ rw (← q) at_high
-        | other k ↦ at_rest i o k ∙ p.bare i (let z = set_length s.parent.items high low in omega arith) (λ z. n (get_other s.parent.items high i low 0 k ∙ z))
+        | other k ↦ at_rest i o k ∙ p.bare i (let z = set_length s.parent.items high low in omega arith)
+            (λ z. n (get_other s.parent.items high i low 0 k ∙ z))
       ]
     ]
 
-    inside' : (i : ℕ) → Inside (length s.parent.items) (length s.classifier.items) (slice_index_or (joined s.shape.items high low (kept m)) i Free)
+    inside' : (i : ℕ) → Inside (length s.parent.items) (length s.classifier.items)
+        (slice_index_or (joined s.shape.items high low (kept m)) i Free)
     inside' i = elim (is low i) [
       | same q ↦ rw (← q, at_low) (kept_inside _ _ m ins)
       | other o ↦ elim (is high i) [
@@ -198,13 +261,20 @@ put_linked s t low high m p below lt rl rh meet full ins e f g h = record {
       ]
     ]
 
-    shaped' : m ≢ Clash → (n : ℕ) → ((i : ℕ) → n ≤ i → i < length s.parent.items → slice_index_or s.parent.items i 0 ≡ i → slice_index_or s.shape.items i Free ≢ Free)
-        → (i : ℕ) → n ≤ i → i < length (slice_set s.parent.items high low) → slice_index_or (slice_set s.parent.items high low) i 0 ≡ i → slice_index_or (joined s.shape.items high low (kept m)) i Free ≢ Free
+    shaped' : m ≢ Clash → (n : ℕ) → ((i : ℕ) → n ≤ i → i < length s.parent.items → slice_index_or s.parent.items i 0 ≡ i
+        → slice_index_or s.shape.items i Free ≢ Free)
+        → (i : ℕ) → n ≤ i → i < length (slice_set s.parent.items high low)
+        → slice_index_or (slice_set s.parent.items high low) i 0 ≡ i
+        → slice_index_or (joined s.shape.items high low (kept m)) i Free ≢ Free
     shaped' c n k i le il o = elim (is low i) [
       | same q ↦ rw (← q, at_low) (full c (k low (omega arith) (omega arith) rl))
       | other a ↦ elim (is high i) [
-        | same q ↦ absurd (a (sym (get_here s.parent.items high low 0 lt) ∙ ap (λ x. slice_index_or (slice_set s.parent.items high low) x 0) q ∙ o))
-        | other b ↦ rw (at_rest i a b) (k i le (let z = set_length s.parent.items high low in omega arith) (sym (get_other s.parent.items high i low 0 b) ∙ o))
+        | same q ↦ absurd
+            (a (sym (get_here s.parent.items high low 0 lt)
+            ∙ ap (λ x. slice_index_or (slice_set s.parent.items high low) x 0) q ∙ o))
+        | other b ↦ rw (at_rest i a b)
+            (k i le (let z = set_length s.parent.items high low in omega arith)
+            (sym (get_other s.parent.items high i low 0 b) ∙ o))
       ]
     ]
 
@@ -242,14 +312,30 @@ pub meets_same : {x y h : Shape} → x ≡ h → y ≡ h → Meeting x y (Keep x
 meets_same e f g a = ((λ p q. (p, tt)), (λ p u. (p, subst (λ z. Meets z g a) (e ∙ sym f) p)))
 
 -- two shapes of one kind
-pub pairs_meet : (l r m s : ℕ) → Meeting (Pair l r) (Pair m s) (Two (Pair l r) (record { left = l; right = m }) (record { left = r; right = s }))
-pairs_meet l r m s g a = ((λ p q. let e : pair_type (a.ty l) (a.ty r) ≡ pair_type (a.ty m) (a.ty s) = sym p ∙ q in (p, (cc, cc))), (λ p z. (p, p ∙ rw (z.0, z.1) refl)))
+pub pairs_meet : (l r m s : ℕ)
+    → Meeting (Pair l r) (Pair m s) (Two (Pair l r) (record { left = l; right = m }) (record { left = r; right = s }))
+pairs_meet l r m s g a = (
+  (λ p q. let e : pair_type (a.ty l) (a.ty r) ≡ pair_type (a.ty m) (a.ty s) = sym p ∙ q in (p, (cc, cc))),
+  (λ p z. (p, p ∙ rw (z.0, z.1) refl)),
+)
 
-pub arrows_meet : (l r m s : ℕ) → Meeting (Arrow l r) (Arrow m s) (Two (Arrow l r) (record { left = l; right = m }) (record { left = r; right = s }))
-arrows_meet l r m s g a = ((λ p q. let e : function_type (a.ty l) (a.ty r) ≡ function_type (a.ty m) (a.ty s) = sym p ∙ q in (p, (cc, cc))), (λ p z. (p, p ∙ rw (z.0, z.1) refl)))
+pub arrows_meet : (l r m s : ℕ)
+    → Meeting (Arrow l r) (Arrow m s)
+    (Two (Arrow l r) (record { left = l; right = m }) (record { left = r; right = s }))
+arrows_meet l r m s g a = (
+  (λ p q. let e : function_type (a.ty l) (a.ty r) ≡ function_type (a.ty m) (a.ty s) = sym p ∙ q in (p, (cc, cc))),
+  (λ p z. (p, p ∙ rw (z.0, z.1) refl)),
+)
 
 pub codes_meet : (c t d u : ℕ) → Meeting (Code c t) (Code d u) (Classes (Code c t) c d (record { left = t; right = u }))
-codes_meet c t d u g a = ((λ p q. let e : code_type (a.classifier c) (a.ty t) ≡ code_type (a.classifier d) (a.ty u) = sym p ∙ q in (p, (cc, cc))), (λ p z. (p, p ∙ rw (z.0, z.1) refl)))
+codes_meet c t d u g a = (
+  (λ p q. let e : code_type (a.classifier c) (a.ty t) ≡ code_type (a.classifier d) (a.ty u) = sym p ∙ q in
+      (p, (cc, cc))),
+  (λ p z. (p, p ∙ rw (z.0, z.1) refl)),
+)
 
 pub closed_meet : (t u : ℕ) → Meeting (Closed t) (Closed u) (One (Closed t) (record { left = t; right = u }))
-closed_meet t u g a = ((λ p q. let e : closed_type (a.ty t) ≡ closed_type (a.ty u) = sym p ∙ q in (p, cc)), (λ p z. (p, p ∙ rw z refl)))
+closed_meet t u g a = (
+  (λ p q. let e : closed_type (a.ty t) ≡ closed_type (a.ty u) = sym p ∙ q in (p, cc)),
+  (λ p z. (p, p ∙ rw z refl)),
+)

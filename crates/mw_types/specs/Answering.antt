@@ -31,7 +31,8 @@ pub record NamedTo (cs names : List ℕ) (count : ℕ) : Type 0 where
 
 -- the representative of the next: itself, or that of its parent
 abbrev pub IsName : List ℕ → List ℕ → ℕ → ℕ → Type 0
-IsName cs names c r = ((slice_index_or cs c 0 ≡ c) × (r ≡ c)) ⊎ ((slice_index_or cs c 0 < c) × (r ≡ name_in names (slice_index_or cs c 0)))
+IsName cs names c r = ((slice_index_or cs c 0 ≡ c) × (r ≡ c))
+    ⊎ ((slice_index_or cs c 0 < c) × (r ≡ name_in names (slice_index_or cs c 0)))
 
 -- the node stands for a type
 abbrev pub StandsFor : State → List ℕ → ℕ → TypeExpression → Type 0
@@ -47,8 +48,10 @@ pub record TreesTo (s : State) (names roots : List ℕ) (trees : List Ty) (count
   pub tree_count : length trees ≡ count
   pub below : (i : ℕ) → i < count → slice_index_or roots i 0 ≤ i
   pub leads : (i : ℕ) → i < count → Leads s.parent.items i (slice_index_or roots i 0)
-  pub rooted : (i : ℕ) → i < count → slice_index_or s.parent.items (slice_index_or roots i 0) 0 ≡ slice_index_or roots i 0
-  pub own : (i : ℕ) → i < count → slice_index_or s.parent.items i 0 ≡ i → StandsFor s names i (type_of (slice_index_or trees i Int))
+  pub rooted : (i : ℕ) → i < count → slice_index_or s.parent.items (slice_index_or roots i 0) 0 ≡ slice_index_or roots i
+      0
+  pub own : (i : ℕ) → i < count → slice_index_or s.parent.items i 0 ≡ i
+      → StandsFor s names i (type_of (slice_index_or trees i Int))
 
 -- each unknown's type is the one that it stands for
 pub record Answers (n : ℕ) (s : State) (answer : Solution) : Type 0 where

@@ -11,4 +11,5 @@ pub record Grew (s t : State) (X : Assignment → Type 0) : Type 0 where
   pub long : length s.parent.items ≤ length t.parent.items
   pub classifier_count : length t.classifier.items ≡ length s.classifier.items
   pub out : (a : Assignment) → Means t a → Means s a × X a
-  pub more : (a : Assignment) → Means s a → (b : Assignment) × Agree (length s.parent.items) (length s.classifier.items) a b × Means t b
+  pub more : (a : Assignment) → Means s a → (b : Assignment) × Agree (length s.parent.items) (length s.classifier.items)
+      a b × Means t b

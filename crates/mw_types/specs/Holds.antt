@@ -38,7 +38,8 @@ Extra (Classes h c d w) a = (a.ty w.left ≡ a.ty w.right) × (a.classifier c �
 
 -- one type of both shapes means the kept shape and what else is to be one
 abbrev pub Meeting : Shape → Shape → Met → Type 0
-Meeting x y m = (g : TermType) (a : Assignment) → (Meets x g a → Meets y g a → Meets (kept m) g a × Extra m a) × (Meets (kept m) g a → Extra m a → Meets x g a × Meets y g a)
+Meeting x y m = (g : TermType) (a : Assignment) → (Meets x g a → Meets y g a → Meets (kept m) g a × Extra m a)
+    × (Meets (kept m) g a → Extra m a → Meets x g a × Meets y g a)
 
 abbrev pub Waits : List Pending → Assignment → Type 0
 Waits [] a = Unit {0}
@@ -87,8 +88,10 @@ pub record Sound (s : State) : Type 0 where
   pub low : Low s.parent.items
   pub low_classifiers : Low s.classifier.items
   pub lengths : length s.shape.items ≡ length s.parent.items
-  pub bare : (i : ℕ) → i < length s.parent.items → slice_index_or s.parent.items i 0 ≢ i → slice_index_or s.shape.items i Free ≡ Free
-  pub inside : (i : ℕ) → Inside (length s.parent.items) (length s.classifier.items) (slice_index_or s.shape.items i Free)
+  pub bare : (i : ℕ) → i < length s.parent.items → slice_index_or s.parent.items i 0 ≢ i
+      → slice_index_or s.shape.items i Free ≡ Free
+  pub inside : (i : ℕ) → Inside (length s.parent.items) (length s.classifier.items)
+      (slice_index_or s.shape.items i Free)
   pub waiting : WaitsInside (length s.parent.items) s.waiting.items
 
 abbrev pub ExtraInside : ℕ → ℕ → Met → Type 0

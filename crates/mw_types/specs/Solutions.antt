@@ -14,7 +14,8 @@ pub record Solution : Type 0 where
 
 -- the solution as a substitution
 abbrev pub substitution_of : Solution → Substitution
-substitution_of s = record { ty = λ u. type_of (slice_index_or s.types u Int); classifier = λ c. slice_index_or s.classifiers c 0 }
+substitution_of s =
+    record { ty = λ u. type_of (slice_index_or s.types u Int); classifier = λ c. slice_index_or s.classifiers c 0 }
 
 -- what a fault says of equations on n unknowns and m classifier unknowns
 abbrev pub FirstFault : ℕ → ℕ → List TypeEquation → SolveFault → Type 0

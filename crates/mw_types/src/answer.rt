@@ -32,7 +32,11 @@ impl Model for Solved {
 
     ghost coded = { Prim.hlevel (codes, ty.the_row.coded) };
 
-    ghost view = { λ s. record { types = map (λ r. slice_index_or s.trees.items r Int) s.roots.items; classifiers = s.names.items } };
+    ghost view = { λ s. record {
+      types = map (λ r. slice_index_or s.trees.items r Int) s.roots.items;
+      classifiers =
+          s.names.items;
+    } };
 
     ghost invariant = { λ s. All (λ r. r < length s.trees.items) s.roots.items };
 }
@@ -105,7 +109,8 @@ fn own_tree(alloc: Global, state: &State, names: &[u64], node: usize) -> Result<
     requires named { NamedTo state.now.classifier.items names.now (length state.now.classifier.items) }
     requires inside { node < length state.now.parent.items }
     requires room { HasRoom state.now names.now node 10000 }
-    ensures { IfOk result (λ ty. slice_index_or state.now.parent.items node 0 ≡ node → StandsFor state.now names.now node (type_of ty)) }
+    ensures { IfOk result (λ ty. slice_index_or state.now.parent.items node 0 ≡ node
+        → StandsFor state.now names.now node (type_of ty)) }
 {
     if state.parent[node] != node {
         return Ok(Ty::Int);

@@ -31,7 +31,8 @@ pub fn judge(
     requires blank { (a : Assignment) → Means state.old a }
     requires inside { AllWithin (nodes_in state.old) (classifiers_in state.old) (equations_of equations.now) }
     ensures judged { IfOk result (λ verdict. Judges (nodes_in state.old) (equations_of equations.now) verdict) }
-    ensures ready { IfOk result (λ found. found ≡ Verdict.Fine → Ready (nodes_in state.old) (classifiers_in state.old) (equations_of equations.now) state.new) }
+    ensures ready { IfOk result (λ found. found ≡ Verdict.Fine → Ready (nodes_in state.old) (classifiers_in state.old)
+        (equations_of equations.now) state.new) }
 {
     let unknowns = state.parent.len();
     for equation in equations {

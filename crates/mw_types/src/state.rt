@@ -122,7 +122,8 @@ fn seek(state: &mut State, node: usize) -> usize
     ensures found { Found state.old state.new node result }
     ensures inside { result < length state.new.parent.items }
     ensures root { slice_index_or state.new.parent.items result 0 ≡ result }
-    ensures roots { (i : ℕ) → slice_index_or state.old.parent.items i 0 ≡ i → slice_index_or state.new.parent.items i 0 ≡ i }
+    ensures roots { (i : ℕ) → slice_index_or state.old.parent.items i 0 ≡ i → slice_index_or state.new.parent.items i 0
+        ≡ i }
     ensures work { work state.new ≡ work state.old }
     ensures waiting { state.new.waiting ≡ state.old.waiting }
 {

@@ -116,8 +116,8 @@ fn doublings(alloc: Global, pairs: &mut Pairs) -> Result<(), AllocError> {
     Ok(())
 }
 
-/// Gives unknown 0 a type of 10,000 nodes: from unknown 17, which is int, pairs of one type and `closed` lead to 3, 7, 8,
-/// 17, 18, 37, 38, 77, 155, 311, 623, 624, 1,249, 2,499, 4,999, 9,999 and 10,000 nodes.
+/// Gives unknown 0 a type of 10,000 nodes: from unknown 17, which is int, pairs of one type and `closed` lead to 3, 7,
+/// 8, 17, 18, 37, 38, 77, 155, 311, 623, 624, 1,249, 2,499, 4,999, 9,999 and 10,000 nodes.
 fn ten_thousand(alloc: Global, pairs: &mut Pairs) -> Result<(), AllocError> {
     for unknown in 0..17 {
         let below = unknown + 1;

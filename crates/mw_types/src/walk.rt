@@ -8,7 +8,8 @@ ghost use Rattle.mw_types.specs.Walks.{Sized, Marked, Finds, Looks, Walk, fresh,
 use crate::state::{Shape, State, find};
 use std::alloc::{AllocError, Global};
 
-/// Where a class is in the walk: not met, below the walk's place, or done, with its size, of which 10,001 and more is 10,001.
+/// Where a class is in the walk: not met, below the walk's place, or done, with its size, of which 10,001 and more is
+/// 10,001.
 #[derive(Clone, Copy)]
 pub enum Mark {
     New,

@@ -1,5 +1,6 @@
 -- Names collected into a set: there are as many as items exactly where no two are the same.
-use Rattle.std.proofs.Common.{◌≡◌, ◌≢◌, ℕ, Bool, true, false, List, [], ◌∷◌, length, map, Bor, refl, sym, ap, subst, ◌∙◌, ◌⊎◌, inl, inr, Ordering}
+use Rattle.std.proofs.Common.{◌≡◌, ◌≢◌, ℕ, Bool, true, false, List, [], ◌∷◌, length, map, Bor, refl, sym, ap, subst}
+use Rattle.std.proofs.Common.{◌∙◌, ◌⊎◌, inl, inr, Ordering}
 use Rattle.std.specs.List.{AllByRecursion, IsDistinct}
 use Rattle.std.specs.Cmp.{IsTotalOrder}
 use Rattle.std.specs.Cmp.Lexicographic.{slice_cmp}
@@ -33,12 +34,14 @@ target_total = record {
 }
 
 -- being distinct, through a function
-through : {X Y : Type 0} (e : Y → Y → Bool) (f : X → Y) (xs : List X) → IsDistinct (λ a b. e (f a) (f b)) xs → IsDistinct e (map f xs)
+through : {X Y : Type 0} (e : Y → Y → Bool) (f : X → Y) (xs : List X) → IsDistinct (λ a b. e (f a) (f b)) xs
+    → IsDistinct e (map f xs)
 unfolding IsDistinct
 through e f [] d = tt
 through e f (x ∷ xs) d = (mapped (λ y. e (f x) y ≡ false) f xs d.0, through e f xs d.1)
 
-back : {X Y : Type 0} (e : Y → Y → Bool) (f : X → Y) (xs : List X) → IsDistinct e (map f xs) → IsDistinct (λ a b. e (f a) (f b)) xs
+back : {X Y : Type 0} (e : Y → Y → Bool) (f : X → Y) (xs : List X) → IsDistinct e (map f xs)
+    → IsDistinct (λ a b. e (f a) (f b)) xs
 unfolding IsDistinct
 back e f [] d = tt
 back e f (x ∷ xs) d = (unmapped (λ y. e (f x) y ≡ false) f xs d.0, back e f xs d.1)
@@ -64,7 +67,8 @@ apart a b h = by (same a b) refl
     by true e = absurd (h (sym (tells_apart exact_bytes a b e)))
     by false e = e
 
-weaker : {X : Type 0} (P Q : X → Type 0) (xs : List X) → ((x : X) → P x → Q x) → AllByRecursion P xs → AllByRecursion Q xs
+weaker : {X : Type 0} (P Q : X → Type 0) (xs : List X) → ((x : X) → P x → Q x) → AllByRecursion P xs
+    → AllByRecursion Q xs
 weaker P Q [] h a = tt
 weaker P Q (x ∷ xs) h a = (h x a.0, weaker P Q xs h a.1)
 
@@ -78,7 +82,8 @@ unfolding IsDistinct
 names_distinct [] d = tt
 names_distinct (e ∷ es) d = (weaker _ _ es (λ x. apart e.name x.name) d.0, names_distinct es d.1)
 
-pub counted : (xs : List (Bor (List ℕ))) (n : BTreeSet (Bor (List ℕ))) (exports : List Export) → IsFromIterResult by_target xs n
+pub counted : (xs : List (Bor (List ℕ))) (n : BTreeSet (Bor (List ℕ))) (exports : List Export)
+    → IsFromIterResult by_target xs n
     → map (λ (x : Bor (List ℕ)). x.now) xs ≡ map (λ (e : Export). (export_of e).name) exports
     → (r : Bool) → ((r ≡ true) × (length n.keys ≡ length exports)) ⊎ ((r ≡ false) × (length n.keys ≢ length exports))
     → Decides r (NamesDiffer (map export_of exports))
@@ -88,12 +93,14 @@ counted xs n exports made seen = go
     es = map export_of exports
 
     long : length exports ≡ length xs
-    long = sym (length-map exports (λ (e : Export). (export_of e).name)) ∙ (ap length (sym seen) ∙ length-map xs (λ (x : Bor (List ℕ)). x.now))
+    long = sym (length-map exports (λ (e : Export). (export_of e).name))
+        ∙ (ap length (sym seen) ∙ length-map xs (λ (x : Bor (List ℕ)). x.now))
 
     same_names : map (λ (x : Bor (List ℕ)). x.now) xs ≡ map (λ (e : Exporting). e.name) es
     same_names = seen ∙ twice exports
       where
-        twice : (exports : List Export) → map (λ (e : Export). (export_of e).name) exports ≡ map (λ (e : Exporting). e.name) (map export_of exports)
+        twice : (exports : List Export) → map (λ (e : Export). (export_of e).name) exports
+            ≡ map (λ (e : Exporting). e.name) (map export_of exports)
         twice [] = refl
         twice (e ∷ rest) = ap (λ names. (export_of e).name ∷ names) (twice rest)
 
@@ -101,14 +108,19 @@ counted xs n exports made seen = go
     so_many = btree_set_len-from_list target_total xs n made
 
     yes : length n.keys ≡ length exports → NamesDiffer es
-    yes e = names_differ es (back same (λ (e : Exporting). e.name) es (subst (IsDistinct same) same_names (through same (λ (x : Bor (List ℕ)). x.now) xs
+    yes e = names_differ es
+        (back same (λ (e : Exporting). e.name) es
+        (subst (IsDistinct same) same_names (through same (λ (x : Bor (List ℕ)). x.now) xs
         (IsDistinct-from_count (eq_by_cmp_equiv target_total) xs (sym so_many ∙ (e ∙ long))))))
 
     no : NamesDiffer es → length n.keys ≡ length exports
     no d = so_many ∙ (distinct_count-from_IsDistinct (eq_by_cmp_equiv target_total) xs
-        (back same (λ (x : Bor (List ℕ)). x.now) xs (subst (IsDistinct same) (sym same_names) (through same (λ (e : Exporting). e.name) es (names_distinct es d)))) ∙ sym long)
+        (back same (λ (x : Bor (List ℕ)). x.now) xs
+        (subst (IsDistinct same) (sym same_names)
+        (through same (λ (e : Exporting). e.name) es (names_distinct es d)))) ∙ sym long)
 
-    go : (r : Bool) → ((r ≡ true) × (length n.keys ≡ length exports)) ⊎ ((r ≡ false) × (length n.keys ≢ length exports)) → Decides r (NamesDiffer es)
+    go : (r : Bool) → ((r ≡ true) × (length n.keys ≡ length exports)) ⊎ ((r ≡ false) × (length n.keys ≢ length exports))
+        → Decides r (NamesDiffer es)
     go true (inl e) = yes e.1
     go true (inr e) = absurd (true_false e.0)
     go false (inl e) = absurd (true_false (sym e.0))

@@ -16,10 +16,15 @@ some_is : {X : Type 0} (x y : X) → Some x ≡ Some y → x ≡ y
 some_is x y e = ap (or_else y) e
 
 pub placed : (m : PureModule) (f : Function) (t : FuncType) (at : Option ℕ) → slice_get m.types f.kind ≡ Some t
-    → is_none at ≡ body_passes (record (context_of m) { locals = t.params ++ f.locals; labels = []; results = t.results }) f.body
+    → is_none at ≡ body_passes
+    (record (context_of m) { locals = t.params ++ f.locals; labels = []; results = t.results }) f.body
     → NoneWhere at (PassesBody m f)
 placed m f t None here e = (t, here, sym e)
-placed m f t (Some at) here e = λ p. never (e ∙ (ap (λ (t : FuncType). body_passes (record (context_of m) { locals = t.params ++ f.locals; labels = []; results = t.results }) f.body) (some_is t p.0 (sym here ∙ p.1)) ∙ p.2))
+placed m f t (Some at) here e = λ p.
+    never (e ∙
+    (ap (λ (t : FuncType).
+    body_passes (record (context_of m) { locals = t.params ++ f.locals; labels = []; results = t.results }) f.body)
+    (some_is t p.0 (sym here ∙ p.1)) ∙ p.2))
   where
     never : false ≡ true → ⊥
     never e = subst (λ (b : Bool). if_false b) e tt

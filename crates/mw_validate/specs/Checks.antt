@@ -1,14 +1,19 @@
 -- The tests of the validator: one pass over code with a list of what is known of its operands (standard: Appendix,
 -- Validation Algorithm). Lists of operands have the last operand first. Lists of types have the last one's at the end.
-use Rattle.std.specs.Prelude.{◌≡◌, ◌≤◌, ℕ, ◌^◌, Bool, true, false, ◌&&◌, nat_le, List, [], ◌∷◌, ◌++◌, Option, Some, None, is_some, slice_get, length, map, reverse}
+use Rattle.std.specs.Prelude.{◌≡◌, ◌≤◌, ℕ, ◌^◌, Bool, true, false, ◌&&◌, nat_le, List, [], ◌∷◌, ◌++◌, Option, Some}
+use Rattle.std.specs.Prelude.{None, is_some, slice_get, length, map, reverse}
 use Rattle.std.specs.List.{AllByRecursion}
 use Rattle.mw_wasm.specs.declared.values.ValType.{ValType}
 use Rattle.mw_wasm.specs.declared.values.ValType.TheVariants.{I32, I64}
 use Rattle.mw_wasm.specs.declared.modules.FuncType.{FuncType}
-use Rattle.mw_wasm.specs.Syntax.{Instruction, Code, unreachable, nop, block, loop, cond, br, br_if, br_table, give_back, call, call_indirect, drop_value, select, local_get, local_set, local_tee, global_get, global_set, load, store, memory_size, memory_grow, const_i32, const_i64, numeric, end, next, Function, Global, Exporting, PureModule}
+use Rattle.mw_wasm.specs.Syntax.{Instruction, Code, unreachable, nop, block, loop, cond, br, br_if, br_table, give_back}
+use Rattle.mw_wasm.specs.Syntax.{call, call_indirect, drop_value, select, local_get, local_set, local_tee, global_get}
+use Rattle.mw_wasm.specs.Syntax.{global_set, load, store, memory_size, memory_grow, const_i32, const_i64, numeric, end}
+use Rattle.mw_wasm.specs.Syntax.{next, Function, Global, Exporting, PureModule}
 use Rattle.mw_wasm.specs.NumericTypes.{operands_of, result_type}
 use Rattle.mw_wasm.specs.Store.{load_size, store_size, store_type}
-use Rattle.mw_wasm.specs.Validity.{Context, results_of, with_label, load_type, AreLimitsOf, IsConstantOf, context_of, IsValidElement, IsValidData, IsThere, NamesDiffer}
+use Rattle.mw_wasm.specs.Validity.{Context, results_of, with_label, load_type, AreLimitsOf, IsConstantOf, context_of}
+use Rattle.mw_wasm.specs.Validity.{IsValidElement, IsValidData, IsThere, NamesDiffer}
 
 -- an operand's type, or unknown: then it may be any
 pub data Operand : Type 0 where

@@ -2,7 +2,8 @@
 
 ghost use Rattle.std.specs.Prelude.{◌≡◌, slice_get};
 ghost use Rattle.mw_wasm.specs.Views.{instruction_of};
-ghost use Rattle.mw_validate.specs.Checks.{same_type, same_types, takes as takes_here, all_take as all_take_here, last_pops};
+ghost use Rattle.mw_validate.specs.Checks.{same_type, same_types, takes as takes_here, all_take as all_take_here};
+ghost use Rattle.mw_validate.specs.Checks.{last_pops};
 ghost use Rattle.mw_validate.specs.Turns.{labels_at, context_at};
 ghost use Rattle.mw_validate.specs.Effects.{IsLast};
 

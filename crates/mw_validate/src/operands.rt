@@ -2,7 +2,9 @@
 
 ghost use Rattle.std.specs.Prelude.{◌≡◌, ◌≤◌, [], true, false, length, IfSome, IfNone, IfOk, None, Some};
 ghost use Rattle.mw_wasm.specs.Validity.{results_of};
-ghost use Rattle.mw_validate.specs.Checks.{closes as closes_here, pop as pop_here, pop_any as pop_any_here, pops as pops_here, push as push_here, pushes as pushes_here, joined as joined_here, opened, operands, may_be};
+ghost use Rattle.mw_validate.specs.Checks.{closes as closes_here, pop as pop_here, pop_any as pop_any_here};
+ghost use Rattle.mw_validate.specs.Checks.{pops as pops_here, push as push_here, pushes as pushes_here};
+ghost use Rattle.mw_validate.specs.Checks.{joined as joined_here, opened, operands, may_be};
 ghost use Rattle.mw_validate.specs.Lists.{operand_of, operands_of, Leaves};
 
 use mw_wasm::ValType;
@@ -28,7 +30,8 @@ pub fn no_operands(alloc: Global) -> OperandList
 /// The last operand.
 #[tactic(auto, using(crate::proofs::OperandLists::last_popped, crate::proofs::OperandLists::none_left, crate::proofs::OperandLists::unknown_left))]
 pub fn pop_any(list: &mut OperandList) -> Option<Option<ValType>>
-    ensures some { IfSome result (λ o. pop_any_here (operands_of list.old) ≡ Some (operand_of o, operands_of list.new)) }
+    ensures some { IfSome result
+        (λ o. pop_any_here (operands_of list.old) ≡ Some (operand_of o, operands_of list.new)) }
     ensures none { IfNone result (pop_any_here (operands_of list.old) ≡ None) }
 {
     match list.items.pop() {

@@ -26,18 +26,21 @@ pub same_all : (a b : List ValType) → same_value_types a b ≡ true → a ≡ 
 same_all [] [] e = refl
 same_all [] (u ∷ us) e = absurd (cc)
 same_all (t ∷ ts) [] e = absurd (cc)
-same_all (t ∷ ts) (u ∷ us) e = let h = both_true (same_value_type t u) (same_value_types ts us) e in rw (same_one t u h.0, same_all ts us h.1) refl
+same_all (t ∷ ts) (u ∷ us) e = let h = both_true (same_value_type t u) (same_value_types ts us) e in
+    rw (same_one t u h.0, same_all ts us h.1) refl
 
 all_same : (ts : List ValType) → same_value_types ts ts ≡ true
 all_same [] = refl
 all_same (I32 ∷ ts) = all_same ts
 all_same (I64 ∷ ts) = all_same ts
 
-pub arguments_fit : (params : List ValType) (args : List Value) → map type_of_value args ≡ params → are_arguments params args ≡ true
+pub arguments_fit : (params : List ValType) (args : List Value) → map type_of_value args ≡ params
+    → are_arguments params args ≡ true
 arguments_fit params args e = subst (λ ts. same_value_types params ts ≡ true) (sym e) (all_same params)
 
 -- where the comparison says yes, the arguments have the parameters' types; where they haven't, it says no
-others_fail : (params : List ValType) (args : List Value) → ¬ (map type_of_value args ≡ params) → are_arguments params args ≡ false
+others_fail : (params : List ValType) (args : List Value) → ¬ (map type_of_value args ≡ params)
+    → are_arguments params args ≡ false
 others_fail params args h = decide (are_arguments params args) refl
   where
     decide : (b : Bool) → are_arguments params args ≡ b → are_arguments params args ≡ false
@@ -45,17 +48,29 @@ others_fail params args h = decide (are_arguments params args) refl
     decide false e = e
 
 pub arguments_are_taken : ArgumentsAreTaken
-arguments_are_taken m st f args n g t at e = rw (at.is_function, at.is_type) (ap (λ b. where_they_fit b (execution m n st (invocation t g args))) (arguments_fit t.params args e))
+arguments_are_taken m st f args n g t at e =
+    rw (at.is_function, at.is_type)
+    (ap (λ b. where_they_fit b (execution m n st (invocation t g args))) (arguments_fit t.params args e))
 
 pub other_arguments_are_lost : OtherArgumentsAreLost
-other_arguments_are_lost m st f args n g t at h = rw (at.is_function, at.is_type) (ap (λ b. where_they_fit b (execution m n st (invocation t g args))) (others_fail t.params args h))
+other_arguments_are_lost m st f args n g t at h =
+    rw (at.is_function, at.is_type)
+    (ap (λ b. where_they_fit b (execution m n st (invocation t g args))) (others_fail t.params args h))
 
 pub two_parameters_want_two : TwoParametersWantTwo
 unfolding execution
 two_parameters_want_two = record {
   valid = record {
     types = (lit≤ tt, tt);
-    funcs = ((record { params = I64 ∷ I32 ∷ []; results = I64 ∷ [] }, refl, of_next [] [] (I64 ∷ []) of_const_i64 refl of_end), tt);
+    funcs = (
+      (
+        record { params = I64 ∷ I32 ∷ []; results = I64 ∷ [] },
+        refl,
+        of_next [] [] (I64 ∷ []) of_const_i64 refl
+            of_end,
+      ),
+      tt,
+    );
     table = tt;
     memory = tt;
     globals = tt;

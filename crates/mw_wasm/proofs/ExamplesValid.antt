@@ -4,8 +4,11 @@ use Rattle.std.specs.Prelude.{slice_get}
 use Rattle.mw_wasm.specs.declared.values.ValType.{ValType}
 use Rattle.mw_wasm.specs.declared.values.ValType.TheVariants.{I32, I64}
 use Rattle.mw_wasm.specs.Syntax.{Code, br, next}
-use Rattle.mw_wasm.specs.ExampleModules.{example_a, example_b, closure_type, init_type, cube_body, closure_body, call_body}
-use Rattle.mw_wasm.specs.Validity.{Context, CodeHasType, of_end, of_next, of_local_get, of_local_set, of_local_tee, of_global_get, of_global_set, of_const_i32, of_const_i64, of_numeric, of_store, of_load, of_br, of_call_indirect, context_of, IsValid}
+use Rattle.mw_wasm.specs.ExampleModules.{example_a, example_b, closure_type, init_type, cube_body, closure_body}
+use Rattle.mw_wasm.specs.ExampleModules.{call_body}
+use Rattle.mw_wasm.specs.Validity.{Context, CodeHasType, of_end, of_next, of_local_get, of_local_set, of_local_tee}
+use Rattle.mw_wasm.specs.Validity.{of_global_get, of_global_set, of_const_i32, of_const_i64, of_numeric, of_store}
+use Rattle.mw_wasm.specs.Validity.{of_load, of_br, of_call_indirect, context_of, IsValid}
 use Rattle.mw_wasm.proofs.ValidSteps.{on, heads}
 
 pub example_a_valid : IsValid example_a
@@ -78,10 +81,12 @@ example_b_valid = record {
         on (t ∷ t ∷ []) [] (t ∷ []) (of_local_get refl) (
         on (t ∷ t ∷ []) (t ∷ []) (w ∷ []) (of_numeric refl refl) (
         on (t ∷ t ∷ []) (w ∷ []) (w ∷ []) (of_load {c = within (t ∷ t ∷ t ∷ t ∷ w ∷ [])} refl (omega arith) refl) (
-        on [] (t ∷ t ∷ w ∷ []) (t ∷ []) (of_call_indirect {c = within (t ∷ t ∷ t ∷ t ∷ w ∷ [])} closure_type refl refl refl refl) (
+        on [] (t ∷ t ∷ w ∷ []) (t ∷ []) (of_call_indirect {c = within (t ∷ t ∷ t ∷ t ∷ w ∷ [])} closure_type refl refl
+        refl refl) (
         on (t ∷ []) [] (w ∷ []) (of_local_get refl) (
         on (t ∷ []) (w ∷ []) [] (of_global_set refl) of_end))))))))))))
 
 -- after a branch to label 0 nothing is known of the operands
-pub after_branch : (c : Context) (code : Code) (label ins outs : List ValType) → slice_get c.labels 0 ≡ Some label → CodeHasType c code ins outs → CodeHasType c (next (br 0) code) label outs
+pub after_branch : (c : Context) (code : Code) (label ins outs : List ValType) → slice_get c.labels 0 ≡ Some label
+    → CodeHasType c code ins outs → CodeHasType c (next (br 0) code) label outs
 after_branch c code label ins outs e h = of_next [] label ins (of_br [] label e refl) refl h

@@ -7,7 +7,8 @@ use Rattle.mw_wasm.specs.Store.{Store}
 use Rattle.mw_wasm.specs.Execution.{End, ended, trapped, spent, lost, execution}
 use Rattle.mw_wasm.specs.Instances.{Unfit, instantiated, invoked}
 use Rattle.mw_wasm.specs.ExampleModules.{example_a, example_b}
-use Rattle.mw_wasm.specs.ExecutionExamples.{InitAnswersSeven, CubeIsCalledTwice, LoopIsSpent, StoreOutOfBoundsTraps, EmptyElementTraps}
+use Rattle.mw_wasm.specs.ExecutionExamples.{InitAnswersSeven, CubeIsCalledTwice, LoopIsSpent, StoreOutOfBoundsTraps}
+use Rattle.mw_wasm.specs.ExecutionExamples.{EmptyElementTraps}
 use Rattle.mw_wasm.proofs.ExecutionLaw.{execution_is}
 
 empty : Store
@@ -61,7 +62,8 @@ above : (a b : ℕ) → b < a → nat_le a b ≡ false
 above a b h = grind (arith, nat_tests)
 
 pub store_out_of_bounds_traps : StoreOutOfBoundsTraps
-store_out_of_bounds_traps m n st address value align offset h = execution_is m n st _ ∙ rw (above (address + offset + 8) (st.memory.pages * 65536) h) refl
+store_out_of_bounds_traps m n st address value align offset h = execution_is m n st _
+    ∙ rw (above (address + offset + 8) (st.memory.pages * 65536) h) refl
 
 pub empty_element_traps : EmptyElementTraps
 empty_element_traps m st i t h = execution_is m 0 st _ ∙ rw h refl

@@ -1,5 +1,6 @@
 -- An opcode tells which instruction it begins.
-use Rattle.std.proofs.Common.{◌≡◌, ℕ, ◌-◌, Bool, true, false, ◌||◌, T, eqb, List, [], ◌∷◌, get_or, nat_lt, if◌then◌else◌, refl, sym, ap, ◌∙◌, subst}
+use Rattle.std.proofs.Common.{◌≡◌, ℕ, ◌-◌, Bool, true, false, ◌||◌, T, eqb, List, [], ◌∷◌, get_or, nat_lt}
+use Rattle.std.proofs.Common.{if◌then◌else◌, refl, sym, ap, ◌∙◌, subst}
 use Rattle.std.proofs.Math.Dec.{eqb_refl}
 use Rattle.mw_wasm.specs.declared.numbers.IntOp.{IntOp}
 use Rattle.mw_wasm.specs.declared.numbers.IntOp.TheVariants as op
@@ -9,7 +10,9 @@ use Rattle.mw_wasm.specs.declared.numbers.LoadOp.{LoadOp}
 use Rattle.mw_wasm.specs.declared.numbers.LoadOp.TheVariants as load_op
 use Rattle.mw_wasm.specs.declared.numbers.StoreOp.{StoreOp}
 use Rattle.mw_wasm.specs.declared.numbers.StoreOp.TheVariants as store_op
-use Rattle.mw_wasm.specs.Syntax.{Instruction, unreachable, nop, block, loop, cond, br, br_if, br_table, give_back, call, call_indirect, drop_value, select, local_get, local_set, local_tee, global_get, global_set, load, store, memory_size, memory_grow, const_i32, const_i64, numeric}
+use Rattle.mw_wasm.specs.Syntax.{Instruction, unreachable, nop, block, loop, cond, br, br_if, br_table, give_back, call}
+use Rattle.mw_wasm.specs.Syntax.{call_indirect, drop_value, select, local_get, local_set, local_tee, global_get}
+use Rattle.mw_wasm.specs.Syntax.{global_set, load, store, memory_size, memory_grow, const_i32, const_i64, numeric}
 use Rattle.mw_wasm.specs.BinaryInstructions.{load_opcode, store_opcode, int_opcode, opcode_of_number}
 
 -- the first byte of an instruction
@@ -42,7 +45,8 @@ opcode (numeric o) = opcode_of_number o
 
 -- the least opcode of the same form of instruction
 abbrev pub group : ℕ → ℕ
-group b = if nat_lt b 0x28 then b else if nat_lt b 0x36 then 0x28 else if nat_lt b 0x3F then 0x36 else if nat_lt b 0x45 then b else 0x45
+group b = if nat_lt b 0x28 then b else if nat_lt b 0x36 then 0x28 else if nat_lt b 0x3F then 0x36 else if nat_lt b 0x45
+    then b else 0x45
 
 abbrev pub form : Instruction → ℕ
 form unreachable = 0x00
@@ -122,7 +126,8 @@ never_ends i b e g t =
     cc
 
 loads : List LoadOp
-loads = load_op.I32 ∷ load_op.I64 ∷ load_op.I32 ∷ load_op.I32 ∷ load_op.I32S8 ∷ load_op.I32U8 ∷ load_op.I32S16 ∷ load_op.I32U16
+loads = load_op.I32 ∷ load_op.I64 ∷ load_op.I32 ∷ load_op.I32 ∷ load_op.I32S8 ∷ load_op.I32U8 ∷ load_op.I32S16
+    ∷ load_op.I32U16
     ∷ load_op.I64S8 ∷ load_op.I64U8 ∷ load_op.I64S16 ∷ load_op.I64U16 ∷ load_op.I64S32 ∷ load_op.I64U32 ∷ []
 
 load_of : ℕ → LoadOp
@@ -137,7 +142,8 @@ pub same_load : (o p : LoadOp) → load_opcode o ≡ load_opcode p → o ≡ p
 same_load o p e = sym (load_of_opcode o) ∙ (ap load_of e ∙ load_of_opcode p)
 
 stores : List StoreOp
-stores = store_op.I32 ∷ store_op.I64 ∷ store_op.I32 ∷ store_op.I32 ∷ store_op.I32To8 ∷ store_op.I32To16 ∷ store_op.I64To8 ∷ store_op.I64To16 ∷ store_op.I64To32 ∷ []
+stores = store_op.I32 ∷ store_op.I64 ∷ store_op.I32 ∷ store_op.I32 ∷ store_op.I32To8 ∷ store_op.I32To16
+    ∷ store_op.I64To8 ∷ store_op.I64To16 ∷ store_op.I64To32 ∷ []
 
 store_of : ℕ → StoreOp
 store_of b = get_or stores (b - 0x36) store_op.I32
@@ -154,7 +160,8 @@ tests : List IntOp
 tests = op.Eqz ∷ op.Eq ∷ op.Ne ∷ op.LtS ∷ op.LtU ∷ op.GtS ∷ op.GtU ∷ op.LeS ∷ op.LeU ∷ op.GeS ∷ op.GeU ∷ []
 
 others : List IntOp
-others = op.Clz ∷ op.Ctz ∷ op.Popcnt ∷ op.Add ∷ op.Sub ∷ op.Mul ∷ op.DivS ∷ op.DivU ∷ op.RemS ∷ op.RemU ∷ op.And ∷ op.Or ∷ op.Xor ∷ op.Shl ∷ op.ShrS ∷ op.ShrU ∷ op.Rotl ∷ op.Rotr ∷ []
+others = op.Clz ∷ op.Ctz ∷ op.Popcnt ∷ op.Add ∷ op.Sub ∷ op.Mul ∷ op.DivS ∷ op.DivU ∷ op.RemS ∷ op.RemU ∷ op.And ∷ op.Or
+    ∷ op.Xor ∷ op.Shl ∷ op.ShrS ∷ op.ShrU ∷ op.Rotl ∷ op.Rotr ∷ []
 
 number_of : ℕ → NumOp
 number_of b = if nat_lt b 0x50 then number.I32 (get_or tests (b - 0x45) op.Eqz)

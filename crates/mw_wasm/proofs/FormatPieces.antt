@@ -1,5 +1,6 @@
 -- No spelling begins another: how the pieces of the grammar keep that.
-use Rattle.std.proofs.Common.{◌≡◌, ℕ, ◌-◌, ◌^◌, ◌<◌, ℤ, inl, inr, List, [], ◌∷◌, ◌++◌, map, length, refl, sym, ap, ◌∙◌, append_assoc, arith}
+use Rattle.std.proofs.Common.{◌≡◌, ℕ, ◌-◌, ◌^◌, ◌<◌, ℤ, inl, inr, List, [], ◌∷◌, ◌++◌, map, length, refl, sym, ap, ◌∙◌}
+use Rattle.std.proofs.Common.{append_assoc, arith}
 use Rattle.std.proofs.lemmas.List.{append_cancel_left}
 use Rattle.mw_wasm.specs.Leb.{IsUnsigned, IsSigned, IsInteger, unsigned_of}
 use Rattle.mw_wasm.specs.Pieces.{Piece, Joined, Sized, nothing, byte, octet, ◌then◌, u32, items, vector, sized}
@@ -19,37 +20,46 @@ pub agree_so : {P Q : List ℕ → Type 0} {E F : Type 0} → Agree P Q E → (E
 agree_so h f = record { agree = λ a b r s p q e. let t = h.agree a b r s p q e in (t.0, f t.1) }
 
 pub agree_byte : (m n : ℕ) → Agree (byte m) (byte n) (m ≡ n)
-agree_byte m n = record { agree = λ a b r s p q e. let h : m ∷ r ≡ n ∷ s = rw (p, q) at e in let k : m ≡ n = (cc) in (rw (p, q, k) refl, k) }
+agree_byte m n = record {
+  agree = λ a b r s p q e. let h : m ∷ r ≡ n ∷ s = rw (p, q) at e in let k : m ≡ n = (cc) in
+      (rw (p, q, k) refl, k);
+}
 
 pub agree_octet : (m n : ℕ) → Agree (octet m) (octet n) (m ≡ n)
 agree_octet m n = record { agree = λ a b r s p q e. (agree_byte m n).agree a b r s p.1 q.1 e }
 
 -- two joined pieces that begin the same bytes, taken apart
-pub split : {P Q P' Q' : List ℕ → Type 0} {a b : List ℕ} (p : Joined P Q a) (q : Joined P' Q' b) (r s : List ℕ) → a ++ r ≡ b ++ s
+pub split : {P Q P' Q' : List ℕ → Type 0} {a b : List ℕ} (p : Joined P Q a) (q : Joined P' Q' b) (r s : List ℕ)
+    → a ++ r ≡ b ++ s
     → p.front ++ (p.back ++ r) ≡ q.front ++ (q.back ++ s)
-split p q r s e = sym (append_assoc p.front p.back r) ∙ (ap (λ x. x ++ r) (sym p.whole) ∙ (e ∙ (ap (λ x. x ++ s) q.whole ∙ append_assoc q.front q.back s)))
+split p q r s e = sym (append_assoc p.front p.back r)
+    ∙ (ap (λ x. x ++ r) (sym p.whole) ∙ (e ∙ (ap (λ x. x ++ s) q.whole ∙ append_assoc q.front q.back s)))
 
 pub behind : (f g x y : List ℕ) → f ≡ g → f ++ x ≡ g ++ y → x ≡ y
 behind f g x y h e = append_cancel_left g x y (ap (λ t. t ++ x) (sym h) ∙ e)
 
-pub joined : {P Q P' Q' : List ℕ → Type 0} {a b : List ℕ} (p : Joined P Q a) (q : Joined P' Q' b) → p.front ≡ q.front → p.back ≡ q.back → a ≡ b
+pub joined : {P Q P' Q' : List ℕ → Type 0} {a b : List ℕ} (p : Joined P Q a) (q : Joined P' Q' b) → p.front ≡ q.front
+    → p.back ≡ q.back → a ≡ b
 joined p q f g = p.whole ∙ (ap (λ t. t ++ p.back) f ∙ (ap (λ t. q.front ++ t) g ∙ sym q.whole))
 
-pub agree_then : {P Q P' Q' : List ℕ → Type 0} {E F : Type 0} → Agree P Q E → (E → Agree P' Q' F) → Agree (P then P') (Q then Q') (E × F)
+pub agree_then : {P Q P' Q' : List ℕ → Type 0} {E F : Type 0} → Agree P Q E → (E → Agree P' Q' F)
+    → Agree (P then P') (Q then Q') (E × F)
 agree_then {P} {Q} {P'} {Q'} {E} {F} first second = record { agree = λ a b r s p q e. both a b r s p q e }
   where
     both : (a b r s : List ℕ) → (P then P') a → (Q then Q') b → a ++ r ≡ b ++ s → (a ≡ b) × (E × F)
     both a b r s p q e =
         let h = split p q r s e in
         let x = first.agree p.front q.front (p.back ++ r) (q.back ++ s) p.first q.first h in
-        let y = (second x.1).agree p.back q.back r s p.second q.second (behind p.front q.front (p.back ++ r) (q.back ++ s) x.0 h) in
+        let y = (second x.1).agree p.back q.back r s p.second q.second
+        (behind p.front q.front (p.back ++ r) (q.back ++ s) x.0 h) in
         (joined p q x.0 y.0, (x.1, y.1))
 
 agree_nothing : {E : Type 0} → E → Agree nothing nothing E
 agree_nothing e = record { agree = λ a b r s p q _. (p ∙ sym q, e) }
 
 -- numbers
-unsigned : (N : ℕ) (a b r s : List ℕ) (v w : ℕ) → IsUnsigned N a v → IsUnsigned N b w → a ++ r ≡ b ++ s → (a ≡ b) × (v ≡ w)
+unsigned : (N : ℕ) (a b r s : List ℕ) (v w : ℕ) → IsUnsigned N a v → IsUnsigned N b w → a ++ r ≡ b ++ s → (a ≡ b)
+    × (v ≡ w)
 unsigned N [] b r s v w p q e = absurd p
 unsigned N (x ∷ []) [] r s v w p q e = absurd q
 unsigned N (x ∷ []) (y ∷ []) r s v w p q e = let h : x ≡ y = (cc) in (ap (λ z. z ∷ []) h, p.2 ∙ (h ∙ sym q.2))
@@ -111,13 +121,15 @@ agree_items P f each (x ∷ xs) (y ∷ ys) h =
 
 pub agree_parts : {A B : Type 0} (P : A → Piece) (f : A → B) → ((x y : A) → Agree (P x) (P y) (f x ≡ f y))
     → (xs ys : List A) → Agree (vector P xs) (vector P ys) (map f xs ≡ map f ys)
-agree_parts P f each xs ys = agree_so (agree_then (agree_u32 (length xs) (length ys)) (λ e. agree_items P f each xs ys e)) (λ e. e.1)
+agree_parts P f each xs ys =
+    agree_so (agree_then (agree_u32 (length xs) (length ys)) (λ e. agree_items P f each xs ys e)) (λ e. e.1)
 
 same_map : {A : Type 0} (xs : List A) → map (λ x. x) xs ≡ xs
 same_map [] = refl
 same_map (x ∷ xs) = ap (λ t. x ∷ t) (same_map xs)
 
-pub agree_vector : {A : Type 0} (P : A → Piece) → ((x y : A) → Agree (P x) (P y) (x ≡ y)) → (xs ys : List A) → Agree (vector P xs) (vector P ys) (xs ≡ ys)
+pub agree_vector : {A : Type 0} (P : A → Piece) → ((x y : A) → Agree (P x) (P y) (x ≡ y)) → (xs ys : List A)
+    → Agree (vector P xs) (vector P ys) (xs ≡ ys)
 agree_vector P each xs ys = agree_so (agree_parts P (λ x. x) each xs ys) (λ e. sym (same_map xs) ∙ (e ∙ same_map ys))
 
 -- two fronts of one length
@@ -135,7 +147,13 @@ agree_sized {P} {Q} {E} inner = record { agree = λ a b r s p q e. both a b r s 
   where
     both : (a b r s : List ℕ) → Sized P a → Sized Q b → a ++ r ≡ b ++ s → (a ≡ b) × E
     both a b r s p q e =
-        let h : p.size ++ (p.content ++ r) ≡ q.size ++ (q.content ++ s) = sym (append_assoc p.size p.content r) ∙ (ap (λ x. x ++ r) (sym p.whole) ∙ (e ∙ (ap (λ x. x ++ s) q.whole ∙ append_assoc q.size q.content s))) in
-        let x = unsigned 32 p.size q.size (p.content ++ r) (q.content ++ s) (length p.content) (length q.content) p.counted q.counted h in
-        let y : q.content ≡ p.content = sym (same_length_fronts p.content q.content r s x.1 (behind p.size q.size (p.content ++ r) (q.content ++ s) x.0 h)) in
-        (p.whole ∙ (ap (λ f. f ++ p.content) x.0 ∙ (ap (λ t. q.size ++ t) (sym y) ∙ sym q.whole)), inner.whole p.content p.inside (rw y at q.inside))
+        let h : p.size ++ (p.content ++ r) ≡ q.size ++ (q.content ++ s) = sym (append_assoc p.size p.content r)
+        ∙ (ap (λ x. x ++ r) (sym p.whole) ∙ (e ∙ (ap (λ x. x ++ s) q.whole ∙ append_assoc q.size q.content s))) in
+        let x = unsigned 32 p.size q.size (p.content ++ r) (q.content ++ s) (length p.content) (length q.content)
+        p.counted q.counted h in
+        let y : q.content ≡ p.content =
+        sym (same_length_fronts p.content q.content r s x.1
+        (behind p.size q.size (p.content ++ r) (q.content ++ s) x.0 h)) in (
+          p.whole ∙ (ap (λ f. f ++ p.content) x.0 ∙ (ap (λ t. q.size ++ t) (sym y) ∙ sym q.whole)),
+          inner.whole p.content p.inside (rw y at q.inside),
+        )

@@ -1,5 +1,6 @@
 -- The instance of a valid module is typed, and invocations of it are never lost.
-use Rattle.std.proofs.Common.{◌≡◌, ℕ, zero, suc, ◌+◌, ◌<◌, List, [], ◌∷◌, ◌++◌, take, drop, length, refl, subst, Option, Some, None, Result, Ok}
+use Rattle.std.proofs.Common.{◌≡◌, ℕ, zero, suc, ◌+◌, ◌<◌, List, [], ◌∷◌, ◌++◌, take, drop, length, refl, subst, Option}
+use Rattle.std.proofs.Common.{Some, None, Result, Ok}
 use Rattle.std.specs.Prelude.{map, replicate}
 use Rattle.std.specs.List.{AllByRecursion}
 use Rattle.mw_wasm.specs.declared.values.ValType.{ValType}
@@ -9,23 +10,27 @@ use Rattle.mw_wasm.specs.NumericTypes.{type_of_value}
 use Rattle.mw_wasm.specs.Syntax.{Code, const_i32, const_i64, end, next, Global, ElementSegment, PureModule}
 use Rattle.mw_wasm.specs.Store.{Store}
 use Rattle.mw_wasm.specs.Execution.{End, ended, trapped, spent, lost}
-use Rattle.mw_wasm.specs.Instances.{Unfit, unless, first_value, offset_of, first_table, with_element, with_elements, element, segment, invoked}
+use Rattle.mw_wasm.specs.Instances.{Unfit, unless, first_value, offset_of, first_table, with_element, with_elements}
+use Rattle.mw_wasm.specs.Instances.{element, segment, invoked}
 use Rattle.mw_wasm.specs.Validity.{IsValid, IsValidElement, IsConstantOf}
 use Rattle.mw_wasm.specs.StateTypes.{IsElementOf, StoreIsTyped}
-use Rattle.mw_wasm.specs.Soundness.{EndIsTyped, InstancesAreTyped, Invocation, IsInvocationOf, Onward, NeverLost, ValidModulesAreNeverLost}
+use Rattle.mw_wasm.specs.Soundness.{EndIsTyped, InstancesAreTyped, Invocation, IsInvocationOf, Onward, NeverLost}
+use Rattle.mw_wasm.specs.Soundness.{ValidModulesAreNeverLost}
 use Rattle.mw_wasm.proofs.Soundness.{invocations_are_sound}
 
 -- a global begins with a value of its type
 first_typed : (g : Global) → IsConstantOf g.kind g.init → type_of_value (first_value g) ≡ g.kind
 first_typed g h = at_code g.kind g.init h
   where
-    at_code : (t : ValType) (c : Code) → IsConstantOf t c → type_of_value (first_value record g { kind = t; init = c }) ≡ t
+    at_code : (t : ValType) (c : Code) → IsConstantOf t c → type_of_value (first_value record g { kind = t; init = c })
+        ≡ t
     at_code I32 (next (const_i32 n) end) h = refl
     at_code I64 (next (const_i64 n) end) h = refl
     at_code I32 c h = absurd h
     at_code I64 c h = absurd h
 
-globals_typed : (gs : List Global) → AllByRecursion (λ (g : Global). IsConstantOf g.kind g.init) gs → map type_of_value (map first_value gs) ≡ map (λ (g : Global). g.kind) gs
+globals_typed : (gs : List Global) → AllByRecursion (λ (g : Global). IsConstantOf g.kind g.init) gs
+    → map type_of_value (map first_value gs) ≡ map (λ (g : Global). g.kind) gs
 globals_typed [] h = refl
 globals_typed (g ∷ gs) h = rw (first_typed g h.0, globals_typed gs h.1) refl
 
@@ -59,13 +64,17 @@ module _ (m : PureModule) where
   functions [] h = tt
   functions (f ∷ fs) h = (h.0, functions fs h.1)
 
-  element_typed : (table : List (Option ℕ)) (e : ElementSegment) → AreElements table → IsValidElement m e → AreElements (with_element table e)
+  element_typed : (table : List (Option ℕ)) (e : ElementSegment) → AreElements table → IsValidElement m e
+      → AreElements (with_element table e)
   element_typed table e h k =
       let before = take (offset_of e.offset) table in
       let written = map (λ f. Some f) e.funcs in
-      joined (before ++ written) (drop (offset_of e.offset + length e.funcs) table) (joined before written (taken (offset_of e.offset) table h) (functions e.funcs k.2)) (dropped (offset_of e.offset + length e.funcs) table h)
+      joined (before ++ written) (drop (offset_of e.offset + length e.funcs) table)
+      (joined before written (taken (offset_of e.offset) table h) (functions e.funcs k.2))
+      (dropped (offset_of e.offset + length e.funcs) table h)
 
-  elements_typed : (table : List (Option ℕ)) (es : List ElementSegment) → AreElements table → AllByRecursion (IsValidElement m) es → AreElements (with_elements table es)
+  elements_typed : (table : List (Option ℕ)) (es : List ElementSegment) → AreElements table
+      → AllByRecursion (IsValidElement m) es → AreElements (with_elements table es)
   elements_typed table [] h k = h
   elements_typed table (e ∷ es) h k = elements_typed (with_element table e) es (element_typed table e h k.0) k.1
 
@@ -85,17 +94,20 @@ instances_are_typed m valid st e = subst (λ st. StoreIsTyped m st) (begins m _ 
 }
 
 module _ (m : PureModule) (valid : IsValid m) where
-  onward : (final : List ValType) (e : End) (P : Store → Type 0) → ((st : Store) → StoreIsTyped m st → P st) → EndIsTyped m final e → Onward e P
+  onward : (final : List ValType) (e : End) (P : Store → Type 0) → ((st : Store) → StoreIsTyped m st → P st)
+      → EndIsTyped m final e → Onward e P
   onward final (ended st vs left) P h s = h st s.0
   onward final (trapped t st) P h s = h st s
   onward final spent P h s = tt
   onward final lost P h s = absurd s
 
-  never_lost : (is : List Invocation) (st : Store) → StoreIsTyped m st → AllByRecursion (IsInvocationOf m) is → NeverLost m st is
+  never_lost : (is : List Invocation) (st : Store) → StoreIsTyped m st → AllByRecursion (IsInvocationOf m) is
+      → NeverLost m st is
   never_lost [] st s all = tt
   never_lost (i ∷ is) st s all =
       let h = all.0 in
-      onward h.type.results (invoked m st i.function i.args i.units) (λ st. NeverLost m st is) (λ st s. never_lost is st s all.1)
+      onward h.type.results (invoked m st i.function i.args i.units) (λ st. NeverLost m st is)
+      (λ st s. never_lost is st s all.1)
       (invocations_are_sound m valid st s i.function i.args i.units h.body h.type h.is_function h.arguments)
 
 pub valid_modules_are_never_lost : ValidModulesAreNeverLost

@@ -1,5 +1,6 @@
 -- Lists of instructions and modules that aren't valid, by looking at what a typing of them would be.
-use Rattle.std.specs.Prelude.{◌≡◌, ◌≤◌, ◌<◌, ℕ, suc, ◌+◌, ◌^◌, Bool, true, false, Option, IsSome, Some, None, List, [], ◌∷◌, ◌++◌, length, slice_get}
+use Rattle.std.specs.Prelude.{◌≡◌, ◌≤◌, ◌<◌, ℕ, suc, ◌+◌, ◌^◌, Bool, true, false, Option, IsSome, Some, None, List, []}
+use Rattle.std.specs.Prelude.{◌∷◌, ◌++◌, length, slice_get}
 use Rattle.std.proofs.Common.{refl, sym, ap, subst, ◌∙◌, arith, lit≤}
 use Rattle.mw_wasm.specs.declared.values.ValType.{ValType}
 use Rattle.mw_wasm.specs.declared.values.ValType.TheVariants.{I32, I64}
@@ -11,9 +12,14 @@ use Rattle.mw_wasm.specs.declared.numbers.IntOp.TheVariants.{Add, Eqz}
 use Rattle.mw_wasm.specs.declared.numbers.LoadOp.TheVariants as load_op
 use Rattle.mw_wasm.specs.declared.numbers.StoreOp.TheVariants as store_op
 use Rattle.mw_wasm.specs.declared.modules.FuncType.{FuncType}
-use Rattle.mw_wasm.specs.Syntax.{unreachable, nop, cond, br, give_back, call_indirect, local_get, global_set, load, store, memory_size, memory_grow, const_i32, const_i64, numeric, end, next}
-use Rattle.mw_wasm.specs.Validity.{Context, load_type, HasType, CodeHasType, of_end, of_next, of_unreachable, of_nop, of_loop, of_if, of_br, of_br_if, of_return, of_call_indirect, of_local_get, of_global_set, of_load, of_store, of_memory_size, of_memory_grow, of_const_i32, of_const_i64, of_numeric}
-use Rattle.mw_wasm.specs.InvalidExamples.{InvalidLists, ValidLists, LoadAlignedTo, StoreAlignedTo, AlignmentRows, InvalidModules}
+use Rattle.mw_wasm.specs.Syntax.{unreachable, nop, cond, br, give_back, call_indirect, local_get, global_set, load}
+use Rattle.mw_wasm.specs.Syntax.{store, memory_size, memory_grow, const_i32, const_i64, numeric, end, next}
+use Rattle.mw_wasm.specs.Validity.{Context, load_type, HasType, CodeHasType, of_end, of_next, of_unreachable, of_nop}
+use Rattle.mw_wasm.specs.Validity.{of_loop, of_if, of_br, of_br_if, of_return, of_call_indirect, of_local_get}
+use Rattle.mw_wasm.specs.Validity.{of_global_set, of_load, of_store, of_memory_size, of_memory_grow, of_const_i32}
+use Rattle.mw_wasm.specs.Validity.{of_const_i64, of_numeric}
+use Rattle.mw_wasm.specs.InvalidExamples.{InvalidLists, ValidLists, LoadAlignedTo, StoreAlignedTo, AlignmentRows}
+use Rattle.mw_wasm.specs.InvalidExamples.{InvalidModules}
 
 longer : (xs ys : List ValType) → length (xs ++ ys) ≡ length xs + length ys
 longer [] ys = omega arith
@@ -39,7 +45,8 @@ last_behind (y ∷ []) (z ∷ ys) x = last_of (z ∷ ys) x
 last_behind (y ∷ z ∷ xs) ys x = last_behind (z ∷ xs) ys x
 
 two_types : (xs ys zs : List ValType) → xs ++ I64 ∷ [] ≡ ys ++ (zs ++ I32 ∷ []) → ⊥
-two_types xs ys zs e = let m : Some I64 ≡ Some I32 = sym (last_of xs I64) ∙ (ap last e ∙ last_behind ys zs I32) in absurd (cc)
+two_types xs ys zs e = let m : Some I64 ≡ Some I32 = sym (last_of xs I64) ∙ (ap last e ∙ last_behind ys zs I32) in
+    absurd (cc)
 
 abbrev second : Option (ValType × Bool) → Bool
 second None = true
@@ -49,22 +56,29 @@ none_there : {A : Type 0} (o : Option A) → o ≡ None → IsSome o → ⊥
 none_there o e h = let k : false ≡ true = subst (λ o. IsSome o) e h in absurd (cc)
 
 nothing_above : (below front : List ValType) (t : ValType) → [] ≡ below ++ (front ++ t ∷ []) → ⊥
-nothing_above below front t e = let k = ap length e in let l = longer below (front ++ t ∷ []) in let j = longer front (t ∷ []) in omega arith
+nothing_above below front t e = let k = ap length e in let l = longer below (front ++ t ∷ []) in let j =
+    longer front (t ∷ []) in omega arith
 
 missing : (c : Context) (outs : List ValType) → ¬ CodeHasType c (next (numeric (number.I32 Add)) end) [] outs
-missing c outs (of_next below taken left (of_numeric p q) e rest) = let j = ap length p in let k = ap length e in let l = longer below taken in omega arith
+missing c outs (of_next below taken left (of_numeric p q) e rest) = let j = ap length p in let k = ap length e in
+    let l = longer below taken in omega arith
 
-wrong : (c : Context) (ins outs : List ValType) → ¬ CodeHasType c (next (const_i64 5) (next (numeric (number.I32 Eqz)) end)) ins outs
-wrong c ins outs (of_next b t l of_const_i64 e (of_next b' t' l' (of_numeric p q) e' rest)) = two_types b b' [] (e' ∙ ap (λ x. b' ++ x) p)
+wrong : (c : Context) (ins outs : List ValType)
+    → ¬ CodeHasType c (next (const_i64 5) (next (numeric (number.I32 Eqz)) end)) ins outs
+wrong c ins outs (of_next b t l of_const_i64 e (of_next b' t' l' (of_numeric p q) e' rest)) =
+    two_types b b' [] (e' ∙ ap (λ x. b' ++ x) p)
 
-behind : (c : Context) (ins outs : List ValType) → ¬ CodeHasType c (next unreachable (next (const_i64 5) (next (numeric (number.I32 Eqz)) end))) ins outs
+behind : (c : Context) (ins outs : List ValType)
+    → ¬ CodeHasType c (next unreachable (next (const_i64 5) (next (numeric (number.I32 Eqz)) end))) ins outs
 behind c ins outs (of_next below taken left of_unreachable e rest) = wrong c (below ++ left) outs rest
 
 left_over : (c : Context) → ¬ CodeHasType c (next (const_i32 1) end) [] []
-left_over c (of_next below taken left of_const_i32 e rest) = let k = ap length (at_end rest) in let l = longer below (I32 ∷ []) in omega arith
+left_over c (of_next below taken left of_const_i32 e rest) = let k = ap length (at_end rest) in let l =
+    longer below (I32 ∷ []) in omega arith
 
 no_result : (c : Context) → ¬ CodeHasType c (next nop end) [] (I32 ∷ [])
-no_result c (of_next below taken left of_nop e rest) = let k = ap length (at_end rest) in let j = ap length e in let l = longer below [] in omega arith
+no_result c (of_next below taken left of_nop e rest) = let k = ap length (at_end rest) in let j = ap length e in let l =
+    longer below [] in omega arith
 
 no_label : (c : Context) (ins outs : List ValType) → c.labels ≡ [] → ¬ CodeHasType c (next (br 0) end) ins outs
 no_label c ins outs z (of_next below taken left (of_br b label p q) e rest) = let k = p in absurd (cc)
@@ -72,13 +86,16 @@ no_label c ins outs z (of_next below taken left (of_br b label p q) e rest) = le
 no_local : (c : Context) (ins outs : List ValType) → c.locals ≡ [] → ¬ CodeHasType c (next (local_get 0) end) ins outs
 no_local c ins outs z (of_next below taken left (of_local_get p) e rest) = absurd (cc)
 
-no_table : (c : Context) (ins outs : List ValType) → c.table ≡ None → ¬ CodeHasType c (next (call_indirect 0) end) ins outs
+no_table : (c : Context) (ins outs : List ValType) → c.table ≡ None → ¬ CodeHasType c (next (call_indirect 0) end) ins
+    outs
 no_table c ins outs z (of_next below taken left (of_call_indirect t s p q r) e rest) = none_there c.table z s
 
-no_load : (c : Context) (ins outs : List ValType) → c.memory ≡ None → ¬ CodeHasType c (next (load load_op.I32 0 0) end) ins outs
+no_load : (c : Context) (ins outs : List ValType) → c.memory ≡ None → ¬ CodeHasType c (next (load load_op.I32 0 0) end)
+    ins outs
 no_load c ins outs z (of_next below taken left (of_load s a t) e rest) = none_there c.memory z s
 
-no_store : (c : Context) (ins outs : List ValType) → c.memory ≡ None → ¬ CodeHasType c (next (store store_op.I32 0 0) end) ins outs
+no_store : (c : Context) (ins outs : List ValType) → c.memory ≡ None
+    → ¬ CodeHasType c (next (store store_op.I32 0 0) end) ins outs
 no_store c ins outs z (of_next below taken left (of_store s a t) e rest) = none_there c.memory z s
 
 no_growth : (c : Context) (ins outs : List ValType) → c.memory ≡ None → ¬ CodeHasType c (next memory_grow end) ins outs
@@ -87,20 +104,30 @@ no_growth c ins outs z (of_next below taken left (of_memory_grow s) e rest) = no
 no_size : (c : Context) (ins outs : List ValType) → c.memory ≡ None → ¬ CodeHasType c (next memory_size end) ins outs
 no_size c ins outs z (of_next below taken left (of_memory_size s) e rest) = none_there c.memory z s
 
-constant_set : (c : Context) (ins outs : List ValType) → slice_get c.globals 0 ≡ Some (I32, false) → ¬ CodeHasType c (next (global_set 0) end) ins outs
-constant_set c ins outs z (of_next below taken left (of_global_set p) e rest) = let k : false ≡ true = ap second (sym z ∙ p) in absurd (cc)
+constant_set : (c : Context) (ins outs : List ValType) → slice_get c.globals 0 ≡ Some (I32, false)
+    → ¬ CodeHasType c (next (global_set 0) end) ins outs
+constant_set c ins outs z (of_next below taken left (of_global_set p) e rest) = let k : false ≡ true =
+    ap second (sym z ∙ p) in absurd (cc)
 
-no_else : (c : Context) (ins outs : List ValType) → ¬ CodeHasType c (next (cond (Some I32) (next (const_i32 1) end) end) end) ins outs
+no_else : (c : Context) (ins outs : List ValType)
+    → ¬ CodeHasType c (next (cond (Some I32) (next (const_i32 1) end) end) end) ins outs
 no_else c ins outs (of_next below taken left (of_if p a b) e rest) = let k = ap length (at_end b ∙ p) in omega arith
 
-returns_nothing : (c : Context) (outs : List ValType) → c.results ≡ I32 ∷ [] → ¬ CodeHasType c (next give_back end) [] outs
-returns_nothing c outs z (of_next below taken left (of_return b p) e rest) = nothing_above below b I32 (e ∙ ap (λ ts. below ++ ts) (p ∙ ap (λ ts. b ++ ts) z))
+returns_nothing : (c : Context) (outs : List ValType) → c.results ≡ I32 ∷ [] → ¬ CodeHasType c (next give_back end) []
+    outs
+returns_nothing c outs z (of_next below taken left (of_return b p) e rest) =
+    nothing_above below b I32 (e ∙ ap (λ ts. below ++ ts) (p ∙ ap (λ ts. b ++ ts) z))
 
-returns_wrong : (c : Context) (ins outs : List ValType) → c.results ≡ I32 ∷ [] → ¬ CodeHasType c (next (const_i64 5) (next give_back end)) ins outs
-returns_wrong c ins outs z (of_next b t l of_const_i64 e (of_next b' t' l' (of_return u p) e' rest)) = two_types b b' u (e' ∙ ap (λ ts. b' ++ ts) (p ∙ ap (λ ts. u ++ ts) z))
+returns_wrong : (c : Context) (ins outs : List ValType) → c.results ≡ I32 ∷ []
+    → ¬ CodeHasType c (next (const_i64 5) (next give_back end)) ins outs
+returns_wrong c ins outs z (of_next b t l of_const_i64 e (of_next b' t' l' (of_return u p) e' rest)) =
+    two_types b b' u (e' ∙ ap (λ ts. b' ++ ts) (p ∙ ap (λ ts. u ++ ts) z))
 
-branches_with_nothing : (c : Context) (outs : List ValType) → c.labels ≡ (I32 ∷ []) ∷ [] → ¬ CodeHasType c (next (br 0) end) [] outs
-branches_with_nothing c outs z (of_next below taken left (of_br b label p q) e rest) = nothing_above below b I32 (e ∙ ap (λ ts. below ++ ts) (q ∙ ap (λ ts. b ++ ts) (one_label label (sym p ∙ ap (λ ls. slice_get ls 0) z))))
+branches_with_nothing : (c : Context) (outs : List ValType) → c.labels ≡ (I32 ∷ []) ∷ []
+    → ¬ CodeHasType c (next (br 0) end) [] outs
+branches_with_nothing c outs z (of_next below taken left (of_br b label p q) e rest) =
+    nothing_above below b I32
+    (e ∙ ap (λ ts. below ++ ts) (q ∙ ap (λ ts. b ++ ts) (one_label label (sym p ∙ ap (λ ls. slice_get ls 0) z))))
   where
     one_label : (label : List ValType) → Some label ≡ Some (I32 ∷ []) → label ≡ I32 ∷ []
     one_label label e = cc
@@ -138,13 +165,15 @@ valid_lists = record {
   return_above = λ c e. of_return (I64 ∷ []) (ap (λ ts. I64 ∷ ts) (sym e));
 }
 
-load_aligned : (o : LoadOp) (t : ValType) (k : ℕ) → t ≡ load_type o → 2 ^ k ≤ load_size o → (2 ^ suc k ≤ load_size o → ⊥) → LoadAlignedTo o t k
+load_aligned : (o : LoadOp) (t : ValType) (k : ℕ) → t ≡ load_type o → 2 ^ k ≤ load_size o
+    → (2 ^ suc k ≤ load_size o → ⊥) → LoadAlignedTo o t k
 load_aligned o t k e h g = (λ c offset s. of_load s h e, λ c offset ins outs typed. past c offset ins outs typed)
   where
     past : (c : Context) (offset : ℕ) (ins outs : List ValType) → ¬ HasType c (load o (suc k) offset) ins outs
     past c offset ins outs (of_load s a t) = g a
 
-store_aligned : (o : StoreOp) (t : ValType) (k : ℕ) → t ≡ store_type o → 2 ^ k ≤ store_size o → (2 ^ suc k ≤ store_size o → ⊥) → StoreAlignedTo o t k
+store_aligned : (o : StoreOp) (t : ValType) (k : ℕ) → t ≡ store_type o → 2 ^ k ≤ store_size o
+    → (2 ^ suc k ≤ store_size o → ⊥) → StoreAlignedTo o t k
 store_aligned o t k e h g = (λ c offset s. of_store s h e, λ c offset ins outs typed. past c offset ins outs typed)
   where
     past : (c : Context) (offset : ℕ) (ins outs : List ValType) → ¬ HasType c (store o (suc k) offset) ins outs
@@ -203,10 +232,13 @@ one_is_zero e = omega arith
 no_type : (t : FuncType) → None ≡ Some t → ⊥
 no_type t e = cc
 
-no_body : (t : FuncType) → Some record { params = []; results = I32 ∷ [] } ≡ Some t → {c : Context} → CodeHasType c end [] t.results → ⊥
-no_body t e h = let k : ◌≡◌ {A = ℕ} 0 1 = ap length (at_end h ∙ sym (ap (λ (t : FuncType). t.results) (one_type t e))) in omega arith
+no_body : (t : FuncType) → Some record { params = []; results = I32 ∷ [] } ≡ Some t → {c : Context}
+    → CodeHasType c end [] t.results → ⊥
+no_body t e h = let k : ◌≡◌ {A = ℕ} 0 1 =
+    ap length (at_end h ∙ sym (ap (λ (t : FuncType). t.results) (one_type t e))) in omega arith
   where
-    one_type : (t : FuncType) → Some record { params = []; results = I32 ∷ [] } ≡ Some t → record { params = []; results = I32 ∷ [] } ≡ t
+    one_type : (t : FuncType) → Some record { params = []; results = I32 ∷ [] } ≡ Some t
+        → record { params = []; results = I32 ∷ [] } ≡ t
     one_type t e = cc
 
 pub invalid_modules : InvalidModules

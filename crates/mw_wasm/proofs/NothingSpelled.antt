@@ -3,7 +3,9 @@ use Rattle.std.specs.Prelude.{◌≡◌, ℕ, ◌<◌, ◌⊎◌, List, [], ◌�
 use Rattle.std.proofs.Common.{refl, sym, ap, ◌∙◌, subst, inl, inr, arith, lit<}
 use Rattle.mw_wasm.specs.Syntax.{PureModule}
 use Rattle.mw_wasm.specs.Pieces.{Piece, Joined, ◌then◌, items, sized, exactly, byte}
-use Rattle.mw_wasm.specs.BinaryModules.{Spells, customs, section, import_section, header, function_type, function_kind, table, limits, global, export, element, function_code, data_segment, at_most_one}
+use Rattle.mw_wasm.specs.BinaryModules.{Spells, customs, section, import_section, header, function_type, function_kind}
+use Rattle.mw_wasm.specs.BinaryModules.{table, limits, global, export, element, function_code, data_segment}
+use Rattle.mw_wasm.specs.BinaryModules.{at_most_one}
 use Rattle.mw_wasm.specs.NothingSpelled.{begun, NothingIsSpelled}
 use Rattle.mw_wasm.proofs.ValidSteps.{heads}
 
@@ -16,7 +18,8 @@ pub record Starts (P : List ℕ → Type 0) : Type 0 where
   pub id : (b : ℕ) (rest : List ℕ) → P (b ∷ rest) → Id b
 
 first_byte : {P : List ℕ → Type 0} (i b : ℕ) (rest : List ℕ) → Id i → Joined (byte i) P (b ∷ rest) → Id b
-first_byte i b rest h j = let k : b ∷ rest ≡ i ∷ j.back = j.whole ∙ ap (λ f. f ++ j.back) j.first in subst (λ x. Id x) (sym (heads k)) h
+first_byte i b rest h j = let k : b ∷ rest ≡ i ∷ j.back = j.whole ∙ ap (λ f. f ++ j.back) j.first in
+    subst (λ x. Id x) (sym (heads k)) h
 
 both : {P Q : List ℕ → Type 0} → Starts P → Starts Q → Starts (λ bytes. Joined P Q bytes)
 both {P} {Q} p q = record { id = λ b rest j. go b rest j.front j.back j.whole j.first j.second }
@@ -28,11 +31,13 @@ both {P} {Q} p q = record { id = λ b rest j. go b rest j.front j.back j.whole j
 starts_customs : Starts customs
 starts_customs = record { id = λ b rest c. go b rest c.contents c.spelled }
   where
-    go : (b : ℕ) (rest : List ℕ) (cs : List (List ℕ)) → items (λ content. byte 0x00 then sized (exactly content)) cs (b ∷ rest) → Id b
+    go : (b : ℕ) (rest : List ℕ) (cs : List (List ℕ)) → items (λ content. byte 0x00 then sized (exactly content)) cs
+        (b ∷ rest) → Id b
     go b rest [] e = absurd (cc)
     go b rest (c ∷ cs) j = inner j.front j.back j.whole j.first j.second
       where
-        inner : (front back : List ℕ) → b ∷ rest ≡ front ++ back → Joined (byte 0x00) (sized (exactly c)) front → items (λ content. byte 0x00 then sized (exactly content)) cs back → Id b
+        inner : (front back : List ℕ) → b ∷ rest ≡ front ++ back → Joined (byte 0x00) (sized (exactly c)) front
+            → items (λ content. byte 0x00 then sized (exactly content)) cs back → Id b
         inner [] back e x y = let k = ap length (x.whole ∙ ap (λ f. f ++ x.back) x.first) in absurd (cc)
         inner (d ∷ ds) back e x y = subst (λ z. Id z) (sym (heads e)) (first_byte 0 d ds (inl (lit< tt)) x)
 
@@ -88,11 +93,14 @@ seven_bytes m j = let k = whole j in absurd (cc)
 one_apart : (a : ℕ) → a ≡ 2 → a ≡ 1 → ⊥
 one_apart a h k = omega arith
 
-version_two : (m : PureModule) (rest : List ℕ) → ¬ Spells (0x00 ∷ 0x61 ∷ 0x73 ∷ 0x6D ∷ 0x02 ∷ 0x00 ∷ 0x00 ∷ 0x00 ∷ rest) m
-version_two m rest j = let k : 0x00 ∷ 0x61 ∷ 0x73 ∷ 0x6D ∷ 0x02 ∷ 0x00 ∷ 0x00 ∷ 0x00 ∷ rest ≡ begun j.back = whole j in one_apart 2 refl (cc)
+version_two : (m : PureModule) (rest : List ℕ) → ¬ Spells (0x00 ∷ 0x61 ∷ 0x73 ∷ 0x6D ∷ 0x02 ∷ 0x00 ∷ 0x00 ∷ 0x00 ∷ rest)
+    m
+version_two m rest j = let k : 0x00 ∷ 0x61 ∷ 0x73 ∷ 0x6D ∷ 0x02 ∷ 0x00 ∷ 0x00 ∷ 0x00 ∷ rest ≡ begun j.back = whole j in
+    one_apart 2 refl (cc)
 
 refused : (i : ℕ) → ¬ Id i → (m : PureModule) (rest : List ℕ) → ¬ Spells (begun (i ∷ rest)) m
-refused i never m rest j = let k = whole j in let e : i ∷ rest ≡ j.back = cc in never ((behind m).id i rest (subst (λ bytes. behind_header m bytes) (sym e) j.second))
+refused i never m rest j = let k = whole j in let e : i ∷ rest ≡ j.back = cc in
+    never ((behind m).id i rest (subst (λ bytes. behind_header m bytes) (sym e) j.second))
 
 start_first : (m : PureModule) (rest : List ℕ) → ¬ Spells (begun (0x08 ∷ rest)) m
 start_first m rest = refused 8 not_eight m rest
@@ -109,4 +117,11 @@ data_count_first m rest = refused 12 not_twelve m rest
     not_twelve (inr h) = let k : 12 < 12 = h.1 in omega arith
 
 pub nothing_is_spelled : NothingIsSpelled
-nothing_is_spelled = record { empty = empty; seven_bytes = seven_bytes; version_two = version_two; start_first = start_first; data_count_first = data_count_first }
+nothing_is_spelled = record {
+  empty = empty;
+  seven_bytes = seven_bytes;
+  version_two = version_two;
+  start_first =
+      start_first;
+  data_count_first = data_count_first;
+}

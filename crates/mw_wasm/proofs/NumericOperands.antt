@@ -10,7 +10,9 @@ use Rattle.mw_wasm.specs.NumericTypes.{OperandsFit, type_of_value}
 use Rattle.mw_wasm.specs.Numerics.{number_of, number_result}
 
 -- x and y are the operands' numbers wherever they are i32; an operation of one operand never looks at y
-pub number_result_of_i32 : (o : IntOp) (a b : Value) (x y : ℕ) → OperandsFit (num.I32 o) a b → (type_of_value a ≡ type.I32 → x ≡ number_of a) → (type_of_value b ≡ type.I32 → y ≡ number_of b) → number_result (num.I32 o) (value.I32 x) (value.I32 y) ≡ number_result (num.I32 o) a b
+pub number_result_of_i32 : (o : IntOp) (a b : Value) (x y : ℕ) → OperandsFit (num.I32 o) a b
+    → (type_of_value a ≡ type.I32 → x ≡ number_of a) → (type_of_value b ≡ type.I32 → y ≡ number_of b)
+    → number_result (num.I32 o) (value.I32 x) (value.I32 y) ≡ number_result (num.I32 o) a b
 number_result_of_i32 int.Eqz a b x y fits first second = rw (first fits) refl
 number_result_of_i32 int.Clz a b x y fits first second = rw (first fits) refl
 number_result_of_i32 int.Ctz a b x y fits first second = rw (first fits) refl

@@ -37,9 +37,189 @@ instruction_rows = record {
 
 pub opcode_rows : OpcodeRows
 opcode_rows = record {
-  loads = (cut 1 refl (cut 1 (small 1 tt) (small 2 tt)), (cut 1 refl (cut 1 (small 1 tt) (small 2 tt)), (cut 1 refl (cut 1 (small 1 tt) (small 2 tt)), (cut 1 refl (cut 1 (small 1 tt) (small 2 tt)), (cut 1 refl (cut 1 (small 1 tt) (small 2 tt)), (cut 1 refl (cut 1 (small 1 tt) (small 2 tt)), (cut 1 refl (cut 1 (small 1 tt) (small 2 tt)), (cut 1 refl (cut 1 (small 1 tt) (small 2 tt)), (cut 1 refl (cut 1 (small 1 tt) (small 2 tt)), (cut 1 refl (cut 1 (small 1 tt) (small 2 tt)), (cut 1 refl (cut 1 (small 1 tt) (small 2 tt)), (cut 1 refl (cut 1 (small 1 tt) (small 2 tt)), tt))))))))))));
-  stores = (cut 1 refl (cut 1 (small 1 tt) (small 2 tt)), (cut 1 refl (cut 1 (small 1 tt) (small 2 tt)), (cut 1 refl (cut 1 (small 1 tt) (small 2 tt)), (cut 1 refl (cut 1 (small 1 tt) (small 2 tt)), (cut 1 refl (cut 1 (small 1 tt) (small 2 tt)), (cut 1 refl (cut 1 (small 1 tt) (small 2 tt)), (cut 1 refl (cut 1 (small 1 tt) (small 2 tt)), tt)))))));
-  at_32 = (refl, (refl, (refl, (refl, (refl, (refl, (refl, (refl, (refl, (refl, (refl, (refl, (refl, (refl, (refl, (refl, (refl, (refl, (refl, (refl, (refl, (refl, (refl, (refl, (refl, (refl, (refl, (refl, (refl, tt)))))))))))))))))))))))))))));
-  at_64 = (refl, (refl, (refl, (refl, (refl, (refl, (refl, (refl, (refl, (refl, (refl, (refl, (refl, (refl, (refl, (refl, (refl, (refl, (refl, (refl, (refl, (refl, (refl, (refl, (refl, (refl, (refl, (refl, (refl, tt)))))))))))))))))))))))))))));
+  loads = (
+    cut 1 refl (cut 1 (small 1 tt) (small 2 tt)),
+    (
+      cut 1 refl (cut 1 (small 1 tt) (small 2 tt)),
+      (
+        cut 1 refl (cut 1 (small 1 tt) (small 2 tt)),
+        (
+          cut 1 refl (cut 1 (small 1 tt) (small 2 tt)),
+          (
+            cut 1 refl (cut 1 (small 1 tt) (small 2 tt)),
+            (
+              cut 1 refl (cut 1 (small 1 tt) (small 2 tt)),
+              (
+                cut 1 refl (cut 1 (small 1 tt) (small 2 tt)),
+                (
+                  cut 1 refl (cut 1 (small 1 tt) (small 2 tt)),
+                  (
+                    cut 1 refl (cut 1 (small 1 tt) (small 2 tt)),
+                    (
+                      cut 1 refl (cut 1 (small 1 tt) (small 2 tt)),
+                      (
+                        cut 1 refl (cut 1 (small 1 tt) (small 2 tt)),
+                        (cut 1 refl (cut 1 (small 1 tt) (small 2 tt)), tt),
+                      ),
+                    ),
+                  ),
+                ),
+              ),
+            ),
+          ),
+        ),
+      ),
+    ),
+  );
+  stores = (
+    cut 1 refl (cut 1 (small 1 tt) (small 2 tt)),
+    (
+      cut 1 refl (cut 1 (small 1 tt) (small 2 tt)),
+      (
+        cut 1 refl (cut 1 (small 1 tt) (small 2 tt)),
+        (
+          cut 1 refl (cut 1 (small 1 tt) (small 2 tt)),
+          (
+            cut 1 refl (cut 1 (small 1 tt) (small 2 tt)),
+            (cut 1 refl (cut 1 (small 1 tt) (small 2 tt)), (cut 1 refl (cut 1 (small 1 tt) (small 2 tt)), tt)),
+          ),
+        ),
+      ),
+    ),
+  );
+  at_32 = (
+    refl,
+    (
+      refl,
+      (
+        refl,
+        (
+          refl,
+          (
+            refl,
+            (
+              refl,
+              (
+                refl,
+                (
+                  refl,
+                  (
+                    refl,
+                    (
+                      refl,
+                      (
+                        refl,
+                        (
+                          refl,
+                          (
+                            refl,
+                            (
+                              refl,
+                              (
+                                refl,
+                                (
+                                  refl,
+                                  (
+                                    refl,
+                                    (
+                                      refl,
+                                      (
+                                        refl,
+                                        (
+                                          refl,
+                                          (
+                                            refl,
+                                            (
+                                              refl,
+                                              (refl, (refl, (refl, (refl, (refl, (refl, (refl, tt))))))),
+                                            ),
+                                          ),
+                                        ),
+                                      ),
+                                    ),
+                                  ),
+                                ),
+                              ),
+                            ),
+                          ),
+                        ),
+                      ),
+                    ),
+                  ),
+                ),
+              ),
+            ),
+          ),
+        ),
+      ),
+    ),
+  );
+  at_64 = (
+    refl,
+    (
+      refl,
+      (
+        refl,
+        (
+          refl,
+          (
+            refl,
+            (
+              refl,
+              (
+                refl,
+                (
+                  refl,
+                  (
+                    refl,
+                    (
+                      refl,
+                      (
+                        refl,
+                        (
+                          refl,
+                          (
+                            refl,
+                            (
+                              refl,
+                              (
+                                refl,
+                                (
+                                  refl,
+                                  (
+                                    refl,
+                                    (
+                                      refl,
+                                      (
+                                        refl,
+                                        (
+                                          refl,
+                                          (
+                                            refl,
+                                            (
+                                              refl,
+                                              (refl, (refl, (refl, (refl, (refl, (refl, (refl, tt))))))),
+                                            ),
+                                          ),
+                                        ),
+                                      ),
+                                    ),
+                                  ),
+                                ),
+                              ),
+                            ),
+                          ),
+                        ),
+                      ),
+                    ),
+                  ),
+                ),
+              ),
+            ),
+          ),
+        ),
+      ),
+    ),
+  );
   conversions = (refl, (refl, (refl, tt)));
 }

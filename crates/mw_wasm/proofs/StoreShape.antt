@@ -1,5 +1,6 @@
 -- No instruction changes the table, and a memory of as many pages as it may have stays so.
-use Rattle.std.proofs.Common.{◌≡◌, ℕ, zero, suc, ◌+◌, ◌<◌, Bool, true, false, List, [], ◌∷◌, length, Option, Some, None, refl, sym, subst, arith}
+use Rattle.std.proofs.Common.{◌≡◌, ℕ, zero, suc, ◌+◌, ◌<◌, Bool, true, false, List, [], ◌∷◌, length, Option, Some, None}
+use Rattle.std.proofs.Common.{refl, sym, subst, arith}
 use Rattle.std.specs.Prelude.{slice_get, slice_set, nat_le, nat_lt, map, ◌-◌, ◌^◌}
 use Rattle.std.proofs.lemmas.Bool.{leb-true}
 use Rattle.mw_wasm.specs.declared.values.Value.{Value}
@@ -7,11 +8,17 @@ use Rattle.mw_wasm.specs.declared.values.Value.TheVariants.{I32}
 use Rattle.mw_wasm.specs.declared.modules.FuncType.{FuncType}
 use Rattle.mw_wasm.specs.NumericTypes.{type_of_value, operands_of}
 use Rattle.mw_wasm.specs.Numerics.{number_result}
-use Rattle.mw_wasm.specs.Syntax.{Instruction, Code, unreachable, nop, block, loop, cond, br, br_if, br_table, give_back, call, call_indirect, drop_value, select, local_get, local_set, local_tee, global_get, global_set, load, store, memory_size, memory_grow, const_i32, const_i64, numeric, end, next, Function, PureModule}
+use Rattle.mw_wasm.specs.Syntax.{Instruction, Code, unreachable, nop, block, loop, cond, br, br_if, br_table, give_back}
+use Rattle.mw_wasm.specs.Syntax.{call, call_indirect, drop_value, select, local_get, local_set, local_tee, global_get}
+use Rattle.mw_wasm.specs.Syntax.{global_set, load, store, memory_size, memory_grow, const_i32, const_i64, numeric, end}
+use Rattle.mw_wasm.specs.Syntax.{next, Function, PureModule}
 use Rattle.mw_wasm.specs.Store.{Store, is_inside, load_size, store_type, store_size, write_bytes}
 use Rattle.mw_wasm.specs.Act as acts
-use Rattle.mw_wasm.specs.Act.{Act, constant, same_type, most_pages, more_pages, grown, entered, called, called_at, act, bits_of}
-use Rattle.mw_wasm.specs.Redex.{Around, in_label, in_frame, Config, Next, moves, goes, spends, ends, traps, stuck, leave, branch, return_from, placed, with_constant, reduce_code, reduce, config_weight, follow, run}
+use Rattle.mw_wasm.specs.Act.{Act, constant, same_type, most_pages, more_pages, grown, entered, called, called_at, act}
+use Rattle.mw_wasm.specs.Act.{bits_of}
+use Rattle.mw_wasm.specs.Redex.{Around, in_label, in_frame, Config, Next, moves, goes, spends, ends, traps, stuck}
+use Rattle.mw_wasm.specs.Redex.{leave, branch, return_from, placed, with_constant, reduce_code, reduce, config_weight}
+use Rattle.mw_wasm.specs.Redex.{follow, run}
 use Rattle.mw_wasm.specs.Execution.{End, ended, trapped, spent, lost, execution}
 use Rattle.mw_wasm.specs.Instances.{on_found, invocation, are_arguments, where_they_fit, invoked}
 use Rattle.mw_wasm.proofs.Acts.{for_value, for_i32, for_type, for_some, for_true, for_result, for_operands}

@@ -10,7 +10,10 @@ use Rattle.mw_wasm.specs.declared.numbers.LoadOp.{LoadOp}
 use Rattle.mw_wasm.specs.declared.numbers.LoadOp.TheVariants as load_op
 use Rattle.mw_wasm.specs.declared.numbers.StoreOp.{StoreOp}
 use Rattle.mw_wasm.specs.declared.numbers.StoreOp.TheVariants as store_op
-use Rattle.mw_wasm.specs.Syntax.{Instruction, Code, unreachable, nop, block, loop, cond, br, br_if, br_table, give_back, call, call_indirect, drop_value, select, local_get, local_set, local_tee, global_get, global_set, load, store, memory_size, memory_grow, const_i32, const_i64, numeric, end, next}
+use Rattle.mw_wasm.specs.Syntax.{Instruction, Code, unreachable, nop, block, loop, cond, br, br_if, br_table, give_back}
+use Rattle.mw_wasm.specs.Syntax.{call, call_indirect, drop_value, select, local_get, local_set, local_tee, global_get}
+use Rattle.mw_wasm.specs.Syntax.{global_set, load, store, memory_size, memory_grow, const_i32, const_i64, numeric, end}
+use Rattle.mw_wasm.specs.Syntax.{next}
 use Rattle.mw_wasm.specs.Pieces.{Piece, nothing, byte, ◌then◌, ◌or◌, ◌when◌, u32, i32, i64, vector}
 
 -- value types (standard: Binary Format, Types, Value Types)
@@ -94,7 +97,8 @@ abbrev mutual
   instruction nop = byte 0x01
   instruction (block t body) = byte 0x02 then block_type t then code body then byte 0x0B
   instruction (loop t body) = byte 0x03 then block_type t then code body then byte 0x0B
-  instruction (cond t a b) = byte 0x04 then block_type t then code a then (byte 0x0B when (b ≡ end) or byte 0x05 then code b then byte 0x0B)
+  instruction (cond t a b) = byte 0x04 then block_type t then code a then
+      (byte 0x0B when (b ≡ end) or byte 0x05 then code b then byte 0x0B)
   instruction (br l) = byte 0x0C then u32 l
   instruction (br_if l) = byte 0x0D then u32 l
   instruction (br_table ls l) = byte 0x0E then vector u32 ls then u32 l

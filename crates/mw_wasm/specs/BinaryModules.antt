@@ -79,7 +79,8 @@ locals types bytes = Locals types bytes
 abbrev pub function_code : Function → Piece
 function_code f = sized (locals f.locals then expression f.body)
 
--- a section: its identity, its size and a vector; one with an empty vector may be missing (standard: Binary Format, Modules, Sections)
+-- a section: its identity, its size and a vector; one with an empty vector may be missing (standard: Binary Format,
+-- Modules, Sections)
 abbrev pub section : {A : Type 0} → ℕ → (A → Piece) → List A → Piece
 section id P xs = nothing when (xs ≡ []) or byte id then sized (vector P xs)
 

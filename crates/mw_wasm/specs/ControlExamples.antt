@@ -7,7 +7,9 @@ use Rattle.mw_wasm.specs.declared.numbers.NumOp.TheVariants as number
 use Rattle.mw_wasm.specs.declared.numbers.IntOp.TheVariants.{Add}
 use Rattle.mw_wasm.specs.declared.numbers.LoadOp.TheVariants as load_op
 use Rattle.mw_wasm.specs.declared.numbers.StoreOp.TheVariants as store_op
-use Rattle.mw_wasm.specs.Syntax.{Instruction, block, loop, cond, br, br_if, br_table, give_back, call, call_indirect, drop_value, select, local_get, local_tee, load, store, memory_size, memory_grow, const_i32, const_i64, numeric, ElementSegment, DataSegment, PureModule}
+use Rattle.mw_wasm.specs.Syntax.{Instruction, block, loop, cond, br, br_if, br_table, give_back, call, call_indirect}
+use Rattle.mw_wasm.specs.Syntax.{drop_value, select, local_get, local_tee, load, store, memory_size, memory_grow}
+use Rattle.mw_wasm.specs.Syntax.{const_i32, const_i64, numeric, ElementSegment, DataSegment, PureModule}
 use Rattle.mw_wasm.specs.Store.{Store}
 use Rattle.mw_wasm.specs.Execution.{End, ended, trapped, spent}
 use Rattle.mw_wasm.specs.Instances.{element, segment, instantiated, invoked}
@@ -28,7 +30,8 @@ of_one_function is = record {
 
 -- the function's answer, with n units, leaves this many
 abbrev pub Answers : List Instruction → ℕ → ℕ → ℕ → ℕ → Type 0
-Answers is argument n answer left = (st : Store) → invoked (of_one_function is) st 0 (I32 argument ∷ []) n ≡ ended st (I32 answer ∷ []) left
+Answers is argument n answer left = (st : Store) → invoked (of_one_function is) st 0 (I32 argument ∷ []) n
+    ≡ ended st (I32 answer ∷ []) left
 
 -- the answer spends nothing
 abbrev pub AnswersFree : List Instruction → ℕ → ℕ → Type 0
@@ -43,7 +46,8 @@ dropping = block (Some type.I32) (code_of_list (const_i32 1 ∷ const_i32 2 ∷ 
 
 -- a branch out of two blocks
 abbrev pub out_of_two : List Instruction
-out_of_two = block (Some type.I32) (code_of_list (block None (code_of_list (const_i32 5 ∷ br 1 ∷ [])) ∷ const_i32 6 ∷ [])) ∷ []
+out_of_two = block (Some type.I32)
+    (code_of_list (block None (code_of_list (const_i32 5 ∷ br 1 ∷ [])) ∷ const_i32 6 ∷ [])) ∷ []
 
 -- a return out of a block and a loop, over an operand
 abbrev pub returning : List Instruction
@@ -55,12 +59,17 @@ past_all = const_i32 1 ∷ block None (code_of_list (local_get 0 ∷ br 1 ∷ []
 
 -- counts the argument down to 0
 abbrev pub counting : List Instruction
-counting = loop None (code_of_list (local_get 0 ∷ const_i32 (2 ^ 32 - 1) ∷ numeric (number.I32 Add) ∷ local_tee 0 ∷ br_if 0 ∷ [])) ∷ local_get 0 ∷ []
+counting = loop None
+    (code_of_list (local_get 0 ∷ const_i32 (2 ^ 32 - 1) ∷ numeric (number.I32 Add) ∷ local_tee 0 ∷ br_if 0 ∷ []))
+    ∷ local_get 0 ∷ []
 
 -- 10, 20, and 30 for whatever is past the labels
 abbrev pub choosing : List Instruction
 choosing =
-    block None (code_of_list (block None (code_of_list (block None (code_of_list (local_get 0 ∷ br_table (0 ∷ 1 ∷ []) 2 ∷ [])) ∷ const_i32 10 ∷ give_back ∷ [])) ∷ const_i32 20 ∷ give_back ∷ []))
+    block None (code_of_list
+    (block None
+    (code_of_list (block None (code_of_list (local_get 0 ∷ br_table (0 ∷ 1 ∷ []) 2 ∷ [])) ∷ const_i32 10 ∷ give_back
+    ∷ [])) ∷ const_i32 20 ∷ give_back ∷ []))
     ∷ const_i32 30 ∷ []
 
 -- 1 where the argument isn't 0, else 2
@@ -93,7 +102,8 @@ pub record ControlRows : Type 0 where
 
 -- on the instance of the module
 abbrev pub AnswersThere : List Instruction → ℕ → Type 0
-AnswersThere is answer = IsOkAnd (instantiated (of_one_function is)) λ st. (n : ℕ) → (after : Store) × (invoked (of_one_function is) st 0 (I32 0 ∷ []) n ≡ ended after (I32 answer ∷ []) n)
+AnswersThere is answer = IsOkAnd (instantiated (of_one_function is)) λ st. (n : ℕ) → (after : Store)
+    × (invoked (of_one_function is) st 0 (I32 0 ∷ []) n ≡ ended after (I32 answer ∷ []) n)
 
 -- one page more, and the old size; then no more, and -1
 abbrev pub grows : List Instruction
@@ -137,7 +147,8 @@ abbrev pub at_another_type : List Instruction
 at_another_type = const_i32 0 ∷ call_indirect 1 ∷ const_i32 0 ∷ []
 
 abbrev pub EndsThere : List Instruction → (Store → End) → Type 0
-EndsThere is how = IsOkAnd (instantiated (of_one_function is)) λ st. invoked (of_one_function is) st 0 (I32 0 ∷ []) 0 ≡ how st
+EndsThere is how = IsOkAnd (instantiated (of_one_function is)) λ st. invoked (of_one_function is) st 0 (I32 0 ∷ []) 0
+    ≡ how st
 
 -- traps are tested before units are
 pub record IndirectRows : Type 0 where
@@ -156,11 +167,15 @@ abbrev pub segment_at : ℕ → List ℕ → DataSegment
 segment_at offset bytes = record { offset = code_of_list (const_i32 offset ∷ []); bytes = bytes }
 
 pub record SegmentRows : Type 0 where
-  pub empty_at_the_end : IsOkAnd (instantiated (of_segments (element_at 2 [] ∷ []) (segment_at 65536 [] ∷ []))) (λ st. (st.table ≡ None ∷ None ∷ []) × (st.memory.pages ≡ 1))
+  pub empty_at_the_end : IsOkAnd (instantiated (of_segments (element_at 2 [] ∷ []) (segment_at 65536 [] ∷ [])))
+      (λ st. (st.table ≡ None ∷ None ∷ []) × (st.memory.pages ≡ 1))
   pub element_past : instantiated (of_segments (element_at 0 [] ∷ element_at 3 [] ∷ []) []) ≡ Err (element 1)
   pub segment_past : instantiated (of_segments [] (segment_at 65537 [] ∷ [])) ≡ Err (segment 0)
   pub no_wrapping : instantiated (of_segments [] (segment_at (2 ^ 32 - 1) (5 ∷ []) ∷ [])) ≡ Err (segment 0)
-  pub elements_first : instantiated (of_segments (element_at 2 (0 ∷ []) ∷ []) (segment_at 65537 [] ∷ [])) ≡ Err (element 0)
-  pub later_over_earlier : IsOkAnd (instantiated (of_segments (element_at 0 (0 ∷ 0 ∷ []) ∷ element_at 1 (7 ∷ []) ∷ []) [])) (λ st. st.table ≡ Some 0 ∷ Some 7 ∷ [])
+  pub elements_first : instantiated (of_segments (element_at 2 (0 ∷ []) ∷ []) (segment_at 65537 [] ∷ []))
+      ≡ Err (element 0)
+  pub later_over_earlier : IsOkAnd
+      (instantiated (of_segments (element_at 0 (0 ∷ 0 ∷ []) ∷ element_at 1 (7 ∷ []) ∷ []) []))
+      (λ st. st.table ≡ Some 0 ∷ Some 7 ∷ [])
   pub later_bytes : IsOkAnd (instantiated (of_segments [] (segment_at 10 (1 ∷ 2 ∷ []) ∷ segment_at 11 (3 ∷ []) ∷ [])))
       (λ st. (st.memory.byte_at 10 ≡ 1) × (st.memory.byte_at 11 ≡ 3) × (st.memory.byte_at 12 ≡ 0))

@@ -8,7 +8,8 @@ use Rattle.mw_wasm.specs.declared.numbers.StoreOp.TheVariants as store_op
 use Rattle.mw_wasm.specs.declared.modules.Limits.{Limits}
 use Rattle.mw_wasm.specs.declared.modules.FuncType.{FuncType}
 use Rattle.mw_wasm.specs.declared.modules.Exported.TheVariants.{Func}
-use Rattle.mw_wasm.specs.Syntax.{Instruction, Code, call_indirect, local_get, local_set, local_tee, global_get, global_set, load, store, const_i32, const_i64, numeric, end, next, Global, PureModule}
+use Rattle.mw_wasm.specs.Syntax.{Instruction, Code, call_indirect, local_get, local_set, local_tee, global_get}
+use Rattle.mw_wasm.specs.Syntax.{global_set, load, store, const_i32, const_i64, numeric, end, next, Global, PureModule}
 
 -- instructions in order
 abbrev pub code_of_list : List Instruction → Code
@@ -58,7 +59,8 @@ example_a = record {
 
 -- x * (x * (x * 1)), of the argument in local 1
 abbrev pub cube_body : Code
-cube_body = code_of_list (local_get 1 ∷ local_get 1 ∷ local_get 1 ∷ const_i64 1 ∷ numeric (number.I64 Mul) ∷ numeric (number.I64 Mul) ∷ numeric (number.I64 Mul) ∷ [])
+cube_body = code_of_list (local_get 1 ∷ local_get 1 ∷ local_get 1 ∷ const_i64 1 ∷ numeric (number.I64 Mul)
+    ∷ numeric (number.I64 Mul) ∷ numeric (number.I64 Mul) ∷ [])
 
 -- makes a closure of function 0 at the heap's top and gives its address
 abbrev pub closure_body : Code
@@ -67,7 +69,8 @@ closure_body = code_of_list (global_get 0 ∷ const_i64 0 ∷ store store_op.I64
 
 -- calls the closure in local 0 with local 1, and frees what the call took
 abbrev pub call_body : Code
-call_body = code_of_list (global_get 0 ∷ local_set 4 ∷ local_get 0 ∷ local_get 1 ∷ local_set 3 ∷ local_tee 2 ∷ local_get 3 ∷ local_get 2
+call_body = code_of_list (global_get 0 ∷ local_set 4 ∷ local_get 0 ∷ local_get 1 ∷ local_set 3 ∷ local_tee 2
+    ∷ local_get 3 ∷ local_get 2
     ∷ numeric number.Wrap ∷ load load_op.I32 2 0 ∷ call_indirect 0 ∷ local_get 4 ∷ global_set 0 ∷ [])
 
 -- init makes a closure of the cube, and call applies a closure to an integer

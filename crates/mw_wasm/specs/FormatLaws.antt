@@ -14,7 +14,8 @@ IntegersFit = (N : ℕ) (bytes : List ℕ) (n : ℕ) → 0 < N → IsInteger N b
 
 -- no spelling of an expression begins another one, and none spells two
 abbrev pub OneExpression : Type 0
-OneExpression = (a b r s : List ℕ) (c d : Code) → SpellsExpression a c → SpellsExpression b d → a ++ r ≡ b ++ s → (a ≡ b) × (c ≡ d)
+OneExpression = (a b r s : List ℕ) (c d : Code) → SpellsExpression a c → SpellsExpression b d → a ++ r ≡ b ++ s
+    → (a ≡ b) × (c ≡ d)
 
 -- no bytes spell two modules
 abbrev pub OneModule : Type 0

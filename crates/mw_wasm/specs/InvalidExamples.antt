@@ -10,7 +10,9 @@ use Rattle.mw_wasm.specs.declared.numbers.StoreOp.{StoreOp}
 use Rattle.mw_wasm.specs.declared.numbers.StoreOp.TheVariants as store_op
 use Rattle.mw_wasm.specs.declared.modules.Exported.{Exported}
 use Rattle.mw_wasm.specs.declared.modules.Exported.TheVariants.{Func, Table, Memory, Global}
-use Rattle.mw_wasm.specs.Syntax.{Instruction, unreachable, nop, loop, cond, br, br_if, give_back, call_indirect, local_get, global_get, global_set, load, store, memory_size, memory_grow, const_i32, const_i64, numeric, Exporting, PureModule}
+use Rattle.mw_wasm.specs.Syntax.{Instruction, unreachable, nop, loop, cond, br, br_if, give_back, call_indirect}
+use Rattle.mw_wasm.specs.Syntax.{local_get, global_get, global_set, load, store, memory_size, memory_grow, const_i32}
+use Rattle.mw_wasm.specs.Syntax.{const_i64, numeric, Exporting, PureModule}
 use Rattle.mw_wasm.specs.Validity.{Context, HasType, CodeHasType, IsValid}
 use Rattle.mw_wasm.specs.ExampleModules.{code_of_list}
 
@@ -36,7 +38,8 @@ pub record InvalidLists : Type 0 where
   pub no_memory_to_grow : (c : Context) → c.memory ≡ None → HasNoType c (memory_grow ∷ [])
   pub no_memory_to_measure : (c : Context) → c.memory ≡ None → HasNoType c (memory_size ∷ [])
   pub constant_global_set : (c : Context) → slice_get c.globals 0 ≡ Some (I32, false) → HasNoType c (global_set 0 ∷ [])
-  pub if_with_a_result_without_else : (c : Context) → HasNoType c (cond (Some I32) (code_of_list (const_i32 1 ∷ [])) (code_of_list []) ∷ [])
+  pub if_with_a_result_without_else : (c : Context)
+      → HasNoType c (cond (Some I32) (code_of_list (const_i32 1 ∷ [])) (code_of_list []) ∷ [])
   pub return_without_result : (c : Context) → c.results ≡ I32 ∷ [] → HasNoTypeFrom c (give_back ∷ []) []
   pub return_of_wrong_type : (c : Context) → c.results ≡ I32 ∷ [] → HasNoType c (const_i64 5 ∷ give_back ∷ [])
   pub branch_without_result : (c : Context) → c.labels ≡ (I32 ∷ []) ∷ [] → HasNoTypeFrom c (br 0 ∷ []) []
@@ -44,7 +47,9 @@ pub record InvalidLists : Type 0 where
 -- a loop's label takes no operands, whatever the loop gives, and a return takes what is below its results as well
 pub record ValidLists : Type 0 where
   pub loop_again : (c : Context) → HasType c (loop (Some I32) (code_of_list (br 0 ∷ []))) [] (I32 ∷ [])
-  pub loop_again_if : (c : Context) → HasType c (loop (Some I32) (code_of_list (const_i32 1 ∷ br_if 0 ∷ const_i64 2 ∷ numeric (number.I64 Eqz) ∷ []))) [] (I32 ∷ [])
+  pub loop_again_if : (c : Context)
+      → HasType c (loop (Some I32) (code_of_list (const_i32 1 ∷ br_if 0 ∷ const_i64 2 ∷ numeric (number.I64 Eqz) ∷ [])))
+      [] (I32 ∷ [])
   pub variable_set : (c : Context) → slice_get c.globals 0 ≡ Some (I32, true) → HasType c (global_set 0) (I32 ∷ []) []
   pub return_above : (c : Context) → c.results ≡ I32 ∷ [] → HasType c give_back (I64 ∷ I32 ∷ []) []
 
@@ -80,11 +85,24 @@ pub record AlignmentRows : Type 0 where
   pub i64_store32 : StoreAlignedTo store_op.I64To32 I64 2
 
 abbrev pub empty_module : PureModule
-empty_module = record { types = []; funcs = []; table = None; memory = None; globals = []; exports = []; elements = []; segments = [] }
+empty_module = record {
+  types = [];
+  funcs = [];
+  table = None;
+  memory = None;
+  globals = [];
+  exports = [];
+  elements = [];
+  segments = [];
+}
 
 -- one function of no parameters and no results, which does nothing
 abbrev pub idle_module : PureModule
-idle_module = record empty_module { types = record { params = []; results = [] } ∷ []; funcs = record { kind = 0; locals = []; body = code_of_list [] } ∷ [] }
+idle_module = record empty_module {
+  types = record { params = []; results = [] } ∷ [];
+  funcs =
+      record { kind = 0; locals = []; body = code_of_list [] } ∷ [];
+}
 
 abbrev pub page_module : PureModule
 page_module = record empty_module { memory = Some record { min = 1; max = Some 1 } }
@@ -107,18 +125,28 @@ pub record InvalidModules : Type 0 where
   pub minimum_of_65537_pages : ¬ IsValid record empty_module { memory = Some record { min = 65537; max = None } }
   pub maximum_of_65537_pages : ¬ IsValid record empty_module { memory = Some record { min = 1; max = Some 65537 } }
   pub table_above_maximum : ¬ IsValid record empty_module { table = Some record { min = 3; max = Some 2 } }
-  pub name_twice : ¬ IsValid record idle_module { exports = as_a (Func 0) ∷ record { name = 98 ∷ []; what = Func 0 } ∷ as_a (Func 0) ∷ [] }
+  pub name_twice : ¬ IsValid record idle_module {
+    exports = as_a (Func 0) ∷ record { name = 98 ∷ []; what = Func 0 }
+        ∷ as_a (Func 0) ∷ [];
+  }
   pub function_past_exported : ¬ IsValid record idle_module { exports = as_a (Func 1) ∷ [] }
   pub no_memory_exported : ¬ IsValid record empty_module { exports = as_a (Memory 0) ∷ [] }
   pub second_memory_exported : ¬ IsValid record page_module { exports = as_a (Memory 1) ∷ [] }
   pub no_table_exported : ¬ IsValid record empty_module { exports = as_a (Table 0) ∷ [] }
   pub no_global_exported : ¬ IsValid record empty_module { exports = as_a (Global 0) ∷ [] }
   pub global_past_exported : ¬ IsValid record (of_global (const_i32 0 ∷ [])) { exports = as_a (Global 1) ∷ [] }
-  pub element_without_table : ¬ IsValid record idle_module { elements = record { offset = code_of_list (const_i32 0 ∷ []); funcs = 0 ∷ [] } ∷ [] }
-  pub element_past_functions : ¬ IsValid record idle_module { table = Some record { min = 1; max = None }; elements = record { offset = code_of_list (const_i32 0 ∷ []); funcs = 1 ∷ [] } ∷ [] }
+  pub element_without_table : ¬ IsValid record idle_module
+      { elements = record { offset = code_of_list (const_i32 0 ∷ []); funcs = 0 ∷ [] } ∷ [] }
+  pub element_past_functions : ¬ IsValid record idle_module {
+    table = Some record { min = 1; max = None };
+    elements =
+        record { offset = code_of_list (const_i32 0 ∷ []); funcs = 1 ∷ [] } ∷ [];
+  }
   pub data_without_memory : ¬ IsValid (with_data_at (const_i32 0 ∷ []) empty_module)
   pub offset_of_i64 : ¬ IsValid (with_data_at (const_i64 0 ∷ []) page_module)
-  pub offset_of_a_global : ¬ IsValid (with_data_at (global_get 0 ∷ []) (record (of_global (const_i32 0 ∷ [])) { memory = Some record { min = 1; max = None } }))
+  pub offset_of_a_global : ¬ IsValid
+      (with_data_at (global_get 0 ∷ [])
+      (record (of_global (const_i32 0 ∷ [])) { memory = Some record { min = 1; max = None } }))
   pub offset_of_nothing : ¬ IsValid (with_data_at [] page_module)
   pub global_of_wrong_type : ¬ IsValid (of_global (const_i64 0 ∷ []))
   pub global_of_two : ¬ IsValid (of_global (const_i32 0 ∷ const_i32 0 ∷ []))

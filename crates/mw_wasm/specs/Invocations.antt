@@ -21,13 +21,15 @@ pub record IsFunctionOf (m : PureModule) (f : ℕ) (g : Function) (t : FuncType)
 -- with arguments of its parameters' types, an invocation is the execution of the function's body in its frame
 abbrev pub ArgumentsAreTaken : Type 0
 ArgumentsAreTaken =
-    (m : PureModule) (st : Store) (f : ℕ) (args : List Value) (n : ℕ) (g : Function) (t : FuncType) → IsFunctionOf m f g t
+    (m : PureModule) (st : Store) (f : ℕ) (args : List Value) (n : ℕ) (g : Function) (t : FuncType)
+    → IsFunctionOf m f g t
     → map type_of_value args ≡ t.params → invoked m st f args n ≡ execution m n st (invocation t g args)
 
 -- with any others it is lost
 abbrev pub OtherArgumentsAreLost : Type 0
 OtherArgumentsAreLost =
-    (m : PureModule) (st : Store) (f : ℕ) (args : List Value) (n : ℕ) (g : Function) (t : FuncType) → IsFunctionOf m f g t
+    (m : PureModule) (st : Store) (f : ℕ) (args : List Value) (n : ℕ) (g : Function) (t : FuncType)
+    → IsFunctionOf m f g t
     → ¬ (map type_of_value args ≡ t.params) → invoked m st f args n ≡ lost
 
 -- a valid module whose init has two parameters and gives 7
@@ -43,13 +45,15 @@ seven_of_two = record {
   segments = [];
 }
 
--- It is valid, and its init answers 7 where it has both arguments. Invoked without arguments, with one, with both the other
--- way round, or with one too many, it is lost.
+-- It is valid, and its init answers 7 where it has both arguments. Invoked without arguments, with one, with both the
+-- other way round, or with one too many, it is lost.
 pub record TwoParametersWantTwo : Type 0 where
   pub valid : IsValid seven_of_two
   pub is_init : exported seven_of_two init_name ≡ Some 0
-  pub with_both : (st : Store) (n : ℕ) → invoked seven_of_two st 0 (value.I64 1 ∷ value.I32 2 ∷ []) n ≡ ended st (value.I64 7 ∷ []) n
+  pub with_both : (st : Store) (n : ℕ) → invoked seven_of_two st 0 (value.I64 1 ∷ value.I32 2 ∷ []) n
+      ≡ ended st (value.I64 7 ∷ []) n
   pub with_none : (st : Store) (n : ℕ) → invoked seven_of_two st 0 [] n ≡ lost
   pub with_one : (st : Store) (n : ℕ) → invoked seven_of_two st 0 (value.I64 1 ∷ []) n ≡ lost
   pub other_way_round : (st : Store) (n : ℕ) → invoked seven_of_two st 0 (value.I32 2 ∷ value.I64 1 ∷ []) n ≡ lost
-  pub with_three : (st : Store) (n : ℕ) → invoked seven_of_two st 0 (value.I64 1 ∷ value.I32 2 ∷ value.I32 3 ∷ []) n ≡ lost
+  pub with_three : (st : Store) (n : ℕ) → invoked seven_of_two st 0 (value.I64 1 ∷ value.I32 2 ∷ value.I32 3 ∷ []) n
+      ≡ lost

@@ -1,5 +1,5 @@
--- Every load and store inside the memory, at its end and past it, and growth. The answers of loads and stores are those of an
--- engine of the standard; those of growth follow from the limit of 1,024 pages.
+-- Every load and store inside the memory, at its end and past it, and growth. The answers of loads and stores are those
+-- of an engine of the standard; those of growth follow from the limit of 1,024 pages.
 use Rattle.std.specs.Prelude.{◌≡◌, ℕ, ◌-◌, ◌^◌, List, [], ◌∷◌, ◌++◌, map, Option, Some, None}
 use Rattle.mw_wasm.specs.declared.values.Value.{Value}
 use Rattle.mw_wasm.specs.declared.values.Value.TheVariants as value
@@ -12,7 +12,8 @@ use Rattle.mw_wasm.specs.declared.numbers.StoreOp.{StoreOp}
 use Rattle.mw_wasm.specs.declared.numbers.StoreOp.TheVariants as store_op
 use Rattle.mw_wasm.specs.NumericTypes.{type_of_value}
 use Rattle.mw_wasm.specs.Validity.{load_type}
-use Rattle.mw_wasm.specs.Syntax.{Instruction, local_get, load, store, drop_value, memory_grow, const_i32, DataSegment, PureModule}
+use Rattle.mw_wasm.specs.Syntax.{Instruction, local_get, load, store, drop_value, memory_grow, const_i32, DataSegment}
+use Rattle.mw_wasm.specs.Syntax.{PureModule}
 use Rattle.mw_wasm.specs.Execution as ends
 use Rattle.mw_wasm.specs.Execution.{End}
 use Rattle.mw_wasm.specs.Instances.{instantiated}
@@ -22,14 +23,17 @@ use Rattle.mw_wasm.specs.Outcomes.{Outcome, gave, trapped, outcome_of, end_of, o
 -- bytes from 4 on, and the last eight bytes of a page
 abbrev pub bytes_inside : List DataSegment
 bytes_inside =
-    segment_at 4 (0x80 ∷ 0x7F ∷ 0xFF ∷ 0x7F ∷ 0 ∷ 0x80 ∷ 0xFF ∷ 0xFF ∷ 0xFF ∷ 0x7F ∷ 0 ∷ 0 ∷ 0 ∷ 0x80 ∷ 1 ∷ 2 ∷ 3 ∷ 4 ∷ [])
+    segment_at 4 (0x80 ∷ 0x7F ∷ 0xFF ∷ 0x7F ∷ 0 ∷ 0x80 ∷ 0xFF ∷ 0xFF ∷ 0xFF ∷ 0x7F ∷ 0 ∷ 0 ∷ 0 ∷ 0x80 ∷ 1 ∷ 2 ∷ 3 ∷ 4
+    ∷ [])
     ∷ segment_at 65528 (1 ∷ 2 ∷ 3 ∷ 4 ∷ 5 ∷ 6 ∷ 7 ∷ 0x88 ∷ []) ∷ []
 
 -- a function beside a memory of so many pages
 abbrev pub beside_memory : ℕ → Option ℕ → List ValType → List ValType → List Instruction → PureModule
-beside_memory min max params results is = record (function_alone params results [] is) { memory = Some record { min = min; max = max }; segments = bytes_inside }
+beside_memory min max params results is = record (function_alone params results [] is)
+    { memory = Some record { min = min; max = max }; segments = bytes_inside }
 
--- loads of k bytes with the offset 3, from 4, 5, 6, 8, 10 and 14, at the end, one past it, and from an address that mustn't wrap
+-- loads of k bytes with the offset 3, from 4, 5, 6, 8, 10 and 14, at the end, one past it, and from an address that
+-- mustn't wrap
 abbrev pub loads : LoadOp → ℕ → List Outcome
 loads o k = outcomes (beside_memory 1 (Some 2) (I32 ∷ []) (load_type o ∷ []) (local_get 0 ∷ load o 0 3 ∷ []))
     (map (λ a. value.I32 a ∷ []) (1 ∷ 2 ∷ 3 ∷ 5 ∷ 7 ∷ 11 ∷ (65533 - k) ∷ (65534 - k) ∷ (2 ^ 32 - 1) ∷ []))
@@ -38,19 +42,32 @@ abbrev pub past : List Outcome
 past = trapped OutOfBounds ∷ trapped OutOfBounds ∷ []
 
 pub record LoadRows : Type 0 where
-  pub i32_load : loads load_op.I32 4 ≡ map i32 (0x7FFF7F80 ∷ 0x7FFF7F ∷ 0x80007FFF ∷ 0xFFFF8000 ∷ 0x7FFFFFFF ∷ 0x80000000 ∷ 0x88070605 ∷ []) ++ past
+  pub i32_load : loads load_op.I32 4
+      ≡ map i32 (0x7FFF7F80 ∷ 0x7FFF7F ∷ 0x80007FFF ∷ 0xFFFF8000 ∷ 0x7FFFFFFF ∷ 0x80000000 ∷ 0x88070605 ∷ []) ++ past
   pub i64_load : loads load_op.I64 8
-      ≡ map i64 (0xFFFF80007FFF7F80 ∷ 0xFFFFFF80007FFF7F ∷ 0x7FFFFFFF80007FFF ∷ 0x7FFFFFFF8000 ∷ 0x800000007FFFFFFF ∷ 0x403020180000000 ∷ 0x8807060504030201 ∷ []) ++ past
-  pub i32_load8_s : loads load_op.I32S8 1 ≡ map i32 (0xFFFFFF80 ∷ 0x7F ∷ 0xFFFFFFFF ∷ 0 ∷ 0xFFFFFFFF ∷ 0 ∷ 0xFFFFFF88 ∷ []) ++ past
+      ≡ map i64 (0xFFFF80007FFF7F80 ∷ 0xFFFFFF80007FFF7F ∷ 0x7FFFFFFF80007FFF ∷ 0x7FFFFFFF8000 ∷ 0x800000007FFFFFFF
+      ∷ 0x403020180000000 ∷ 0x8807060504030201 ∷ []) ++ past
+  pub i32_load8_s : loads load_op.I32S8 1
+      ≡ map i32 (0xFFFFFF80 ∷ 0x7F ∷ 0xFFFFFFFF ∷ 0 ∷ 0xFFFFFFFF ∷ 0 ∷ 0xFFFFFF88 ∷ []) ++ past
   pub i32_load8_u : loads load_op.I32U8 1 ≡ map i32 (0x80 ∷ 0x7F ∷ 0xFF ∷ 0 ∷ 0xFF ∷ 0 ∷ 0x88 ∷ []) ++ past
-  pub i32_load16_s : loads load_op.I32S16 2 ≡ map i32 (0x7F80 ∷ 0xFFFFFF7F ∷ 0x7FFF ∷ 0xFFFF8000 ∷ 0xFFFFFFFF ∷ 0 ∷ 0xFFFF8807 ∷ []) ++ past
-  pub i32_load16_u : loads load_op.I32U16 2 ≡ map i32 (0x7F80 ∷ 0xFF7F ∷ 0x7FFF ∷ 0x8000 ∷ 0xFFFF ∷ 0 ∷ 0x8807 ∷ []) ++ past
-  pub i64_load8_s : loads load_op.I64S8 1 ≡ map i64 (0xFFFFFFFFFFFFFF80 ∷ 0x7F ∷ 0xFFFFFFFFFFFFFFFF ∷ 0 ∷ 0xFFFFFFFFFFFFFFFF ∷ 0 ∷ 0xFFFFFFFFFFFFFF88 ∷ []) ++ past
+  pub i32_load16_s : loads load_op.I32S16 2
+      ≡ map i32 (0x7F80 ∷ 0xFFFFFF7F ∷ 0x7FFF ∷ 0xFFFF8000 ∷ 0xFFFFFFFF ∷ 0 ∷ 0xFFFF8807 ∷ []) ++ past
+  pub i32_load16_u : loads load_op.I32U16 2 ≡ map i32 (0x7F80 ∷ 0xFF7F ∷ 0x7FFF ∷ 0x8000 ∷ 0xFFFF ∷ 0 ∷ 0x8807 ∷ [])
+      ++ past
+  pub i64_load8_s : loads load_op.I64S8 1
+      ≡ map i64 (0xFFFFFFFFFFFFFF80 ∷ 0x7F ∷ 0xFFFFFFFFFFFFFFFF ∷ 0 ∷ 0xFFFFFFFFFFFFFFFF ∷ 0 ∷ 0xFFFFFFFFFFFFFF88 ∷ [])
+      ++ past
   pub i64_load8_u : loads load_op.I64U8 1 ≡ map i64 (0x80 ∷ 0x7F ∷ 0xFF ∷ 0 ∷ 0xFF ∷ 0 ∷ 0x88 ∷ []) ++ past
-  pub i64_load16_s : loads load_op.I64S16 2 ≡ map i64 (0x7F80 ∷ 0xFFFFFFFFFFFFFF7F ∷ 0x7FFF ∷ 0xFFFFFFFFFFFF8000 ∷ 0xFFFFFFFFFFFFFFFF ∷ 0 ∷ 0xFFFFFFFFFFFF8807 ∷ []) ++ past
-  pub i64_load16_u : loads load_op.I64U16 2 ≡ map i64 (0x7F80 ∷ 0xFF7F ∷ 0x7FFF ∷ 0x8000 ∷ 0xFFFF ∷ 0 ∷ 0x8807 ∷ []) ++ past
-  pub i64_load32_s : loads load_op.I64S32 4 ≡ map i64 (0x7FFF7F80 ∷ 0x7FFF7F ∷ 0xFFFFFFFF80007FFF ∷ 0xFFFFFFFFFFFF8000 ∷ 0x7FFFFFFF ∷ 0xFFFFFFFF80000000 ∷ 0xFFFFFFFF88070605 ∷ []) ++ past
-  pub i64_load32_u : loads load_op.I64U32 4 ≡ map i64 (0x7FFF7F80 ∷ 0x7FFF7F ∷ 0x80007FFF ∷ 0xFFFF8000 ∷ 0x7FFFFFFF ∷ 0x80000000 ∷ 0x88070605 ∷ []) ++ past
+  pub i64_load16_s : loads load_op.I64S16 2
+      ≡ map i64 (0x7F80 ∷ 0xFFFFFFFFFFFFFF7F ∷ 0x7FFF ∷ 0xFFFFFFFFFFFF8000 ∷ 0xFFFFFFFFFFFFFFFF ∷ 0 ∷ 0xFFFFFFFFFFFF8807
+      ∷ []) ++ past
+  pub i64_load16_u : loads load_op.I64U16 2 ≡ map i64 (0x7F80 ∷ 0xFF7F ∷ 0x7FFF ∷ 0x8000 ∷ 0xFFFF ∷ 0 ∷ 0x8807 ∷ [])
+      ++ past
+  pub i64_load32_s : loads load_op.I64S32 4
+      ≡ map i64 (0x7FFF7F80 ∷ 0x7FFF7F ∷ 0xFFFFFFFF80007FFF ∷ 0xFFFFFFFFFFFF8000 ∷ 0x7FFFFFFF ∷ 0xFFFFFFFF80000000
+      ∷ 0xFFFFFFFF88070605 ∷ []) ++ past
+  pub i64_load32_u : loads load_op.I64U32 4
+      ≡ map i64 (0x7FFF7F80 ∷ 0x7FFF7F ∷ 0x80007FFF ∷ 0xFFFF8000 ∷ 0x7FFFFFFF ∷ 0x80000000 ∷ 0x88070605 ∷ []) ++ past
 
 -- the bytes at these addresses after an invocation that ended or trapped
 abbrev pub bytes_after : End → List ℕ → List ℕ
@@ -76,14 +93,16 @@ last_nine = 65527 ∷ 65528 ∷ 65529 ∷ 65530 ∷ 65531 ∷ 65532 ∷ 65533 �
 
 -- stores of k bytes from 4, at the end, one past it, and from an address that mustn't wrap
 abbrev pub stores : StoreOp → Value → ℕ → List (Outcome × List ℕ)
-stores o v k = stored o v 1 near_four ∷ stored o v (65533 - k) last_nine ∷ stored o v (65534 - k) last_nine ∷ stored o v (2 ^ 32 - 1) last_nine ∷ []
+stores o v k = stored o v 1 near_four ∷ stored o v (65533 - k) last_nine ∷ stored o v (65534 - k) last_nine
+    ∷ stored o v (2 ^ 32 - 1) last_nine ∷ []
 
 abbrev pub done : Outcome
 done = gave [] 0
 
 -- traps, and nothing written
 abbrev pub unwritten : List (Outcome × List ℕ)
-unwritten = (trapped OutOfBounds, 0 ∷ 1 ∷ 2 ∷ 3 ∷ 4 ∷ 5 ∷ 6 ∷ 7 ∷ 0x88 ∷ []) ∷ (trapped OutOfBounds, 0 ∷ 1 ∷ 2 ∷ 3 ∷ 4 ∷ 5 ∷ 6 ∷ 7 ∷ 0x88 ∷ []) ∷ []
+unwritten = (trapped OutOfBounds, 0 ∷ 1 ∷ 2 ∷ 3 ∷ 4 ∷ 5 ∷ 6 ∷ 7 ∷ 0x88 ∷ [])
+    ∷ (trapped OutOfBounds, 0 ∷ 1 ∷ 2 ∷ 3 ∷ 4 ∷ 5 ∷ 6 ∷ 7 ∷ 0x88 ∷ []) ∷ []
 
 pub record StoreRows : Type 0 where
   pub i32_store : stores store_op.I32 (value.I32 0xA4A3A2A1) 4
@@ -110,15 +129,20 @@ pub record StoreRows : Type 0 where
 
 -- growth of a memory of so many pages by each of these, each on a new instance
 abbrev pub growths : ℕ → Option ℕ → List ℕ → List Outcome
-growths min max by = outcomes (record (beside_memory min max (I32 ∷ []) (I32 ∷ []) (local_get 0 ∷ memory_grow ∷ [])) { segments = [] }) (map (λ n. value.I32 n ∷ []) by)
+growths min max by =
+    outcomes (record (beside_memory min max (I32 ∷ []) (I32 ∷ []) (local_get 0 ∷ memory_grow ∷ [])) { segments = [] })
+    (map (λ n. value.I32 n ∷ []) by)
 
 -- after growth by one page: a byte of the first page, the first and the last of the second, and the one past it
 abbrev pub grown_bytes : List Outcome
-grown_bytes = outcomes (beside_memory 1 None (I32 ∷ []) (I32 ∷ []) (const_i32 1 ∷ memory_grow ∷ drop_value ∷ local_get 0 ∷ load load_op.I32U8 0 0 ∷ []))
+grown_bytes = outcomes
+    (beside_memory 1 None (I32 ∷ []) (I32 ∷ [])
+    (const_i32 1 ∷ memory_grow ∷ drop_value ∷ local_get 0 ∷ load load_op.I32U8 0 0 ∷ []))
     (map (λ a. value.I32 a ∷ []) (4 ∷ 65535 ∷ 65536 ∷ 131071 ∷ 131072 ∷ []))
 
 pub record GrowthRows : Type 0 where
-  pub no_maximum : growths 1 None (0 ∷ 1 ∷ 1023 ∷ 1024 ∷ (2 ^ 32 - 1) ∷ []) ≡ map i32 (1 ∷ 1 ∷ 1 ∷ (2 ^ 32 - 1) ∷ (2 ^ 32 - 1) ∷ [])
+  pub no_maximum : growths 1 None (0 ∷ 1 ∷ 1023 ∷ 1024 ∷ (2 ^ 32 - 1) ∷ [])
+      ≡ map i32 (1 ∷ 1 ∷ 1 ∷ (2 ^ 32 - 1) ∷ (2 ^ 32 - 1) ∷ [])
   pub maximum_of_2 : growths 1 (Some 2) (0 ∷ 1 ∷ 2 ∷ []) ≡ map i32 (1 ∷ 1 ∷ (2 ^ 32 - 1) ∷ [])
   pub maximum_of_1024 : growths 1 (Some 1024) (1023 ∷ 1024 ∷ []) ≡ map i32 (1 ∷ (2 ^ 32 - 1) ∷ [])
   pub maximum_of_2000 : growths 1 (Some 2000) (1023 ∷ 1024 ∷ []) ≡ map i32 (1 ∷ (2 ^ 32 - 1) ∷ [])

@@ -1,7 +1,10 @@
--- What the numeric instructions compute, on numbers below 2 ^ N (standard: Execution, Numerics). N is `bits w`, and N - 1 is `hbits w`.
--- `cast_signed w n` is the signed reading of n, and `cast_unsigned w z` the number with the signed reading z.
-use Rattle.std.specs.Prelude.{ℕ, ◌+◌, ◌-◌, ◌*◌, ◌/◌, ◌%◌, ◌^◌, ◌==◌, nat_lt, nat_le, Bool, not, ◌&&◌, if◌then◌else◌, Result, Ok, Err, bit_and, bit_or, bit_xor, count_ones, int_lt, int_le, int_div, int_rem}
-use Rattle.std.specs.Int.{Width, w32, w64, cast_signed, cast_unsigned, from_bool, leading_zeros, trailing_zeros, rotate_left, rotate_right, int_shr}
+-- What the numeric instructions compute, on numbers below 2 ^ N (standard: Execution, Numerics). N is `bits w`, and N -
+-- 1 is `hbits w`. `cast_signed w n` is the signed reading of n, and `cast_unsigned w z` the number with the signed
+-- reading z.
+use Rattle.std.specs.Prelude.{ℕ, ◌+◌, ◌-◌, ◌*◌, ◌/◌, ◌%◌, ◌^◌, ◌==◌, nat_lt, nat_le, Bool, not, ◌&&◌, if◌then◌else◌}
+use Rattle.std.specs.Prelude.{Result, Ok, Err, bit_and, bit_or, bit_xor, count_ones, int_lt, int_le, int_div, int_rem}
+use Rattle.std.specs.Int.{Width, w32, w64, cast_signed, cast_unsigned, from_bool, leading_zeros, trailing_zeros}
+use Rattle.std.specs.Int.{rotate_left, rotate_right, int_shr}
 use mir.Val.{bits, hbits}
 use Rattle.mw_wasm.specs.declared.numbers.IntOp.TheVariants as int
 use Rattle.mw_wasm.specs.declared.numbers.IntOp.{IntOp}
@@ -26,7 +29,8 @@ is_minus_one w b = b == 2 ^ bits w - 1
 abbrev pub divided_by : ℕ → Result ℕ Trap → Result ℕ Trap
 divided_by b r = if b == 0 then Err trap.Divide else r
 
--- the quotient of the signed readings, rounded toward zero; that of the least one by -1 would be 2 ^ (N - 1), which is no signed reading
+-- the quotient of the signed readings, rounded toward zero; that of the least one by -1 would be 2 ^ (N - 1), which is
+-- no signed reading
 abbrev pub signed_quotient : Width → ℕ → ℕ → Result ℕ Trap
 signed_quotient w a b =
     if is_least w a && is_minus_one w b
@@ -37,9 +41,9 @@ signed_quotient w a b =
 abbrev pub signed_remainder : Width → ℕ → ℕ → ℕ
 signed_remainder w a b = cast_unsigned w (int_rem (cast_signed w a) (cast_signed w b))
 
--- An operation on integers of a width (standard: Execution, Numerics, Integer Operations). Tests and comparisons give 1 or 0.
--- Shifts and rotations go by b modulo N bits. `int_shr` divides the signed reading by a power of two and rounds down, which
--- fills with the sign bit.
+-- An operation on integers of a width (standard: Execution, Numerics, Integer Operations). Tests and comparisons give 1
+-- or 0. Shifts and rotations go by b modulo N bits. `int_shr` divides the signed reading by a power of two and rounds
+-- down, which fills with the sign bit.
 abbrev pub int_result : Width → IntOp → ℕ → ℕ → Result ℕ Trap
 int_result w int.Eqz a b = Ok (from_bool (a == 0))
 int_result w int.Eq a b = Ok (from_bool (a == b))

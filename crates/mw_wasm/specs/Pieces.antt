@@ -2,7 +2,8 @@
 use Rattle.std.specs.Prelude.{◌≡◌, ℕ, ◌<◌, ◌^◌, ◌⊎◌, List, [], ◌∷◌, ◌++◌, length}
 use Rattle.mw_wasm.specs.Leb.{IsUnsigned, IsInteger}
 
--- A piece says which bytes may stand there. Pieces are named like the standard's symbols, and those that spell a value take it.
+-- A piece says which bytes may stand there. Pieces are named like the standard's symbols, and those that spell a value
+-- take it.
 abbrev pub Piece : Type 1
 Piece = List ℕ → Type 0
 

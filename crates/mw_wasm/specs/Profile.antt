@@ -1,4 +1,5 @@
--- The limits of the integer profile, which the standard allows an implementation (standard: Implementation Limitations).
+-- The limits of the integer profile, which the standard allows an implementation (standard: Implementation
+-- Limitations).
 use Rattle.std.specs.Prelude.{ℕ, zero, suc, ◌≤◌, max, List, length, IfSome}
 use Rattle.std.specs.List.{AllByRecursion}
 use Rattle.mw_wasm.specs.Syntax.{Instruction, Code, block, loop, cond, end, next, PureModule}

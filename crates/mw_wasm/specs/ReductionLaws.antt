@@ -13,7 +13,8 @@ use Rattle.mw_wasm.specs.Redex.{Config, Next, reduce, plugged, top_locals, run}
 
 -- an execution is one rule, and then an execution
 abbrev pub ExecutionFollows : Type 0
-ExecutionFollows = (m : PureModule) (n : ℕ) (st : Store) (s : Sequence) → execution m n st s ≡ executions.follow (step m st [] [] s) st n (execution m n) (execution m)
+ExecutionFollows = (m : PureModule) (n : ℕ) (st : Store) (s : Sequence) → execution m n st s
+    ≡ executions.follow (step m st [] [] s) st n (execution m n) (execution m)
 
 -- a run of a state taken apart is one rule, or a constant that becomes an operand, and then a run
 abbrev pub RunFollows : Type 0
@@ -38,14 +39,15 @@ IsOneRule c whole (redex.ends st vs) = (st ≡ c.store) × (whole ≡ reduction.
 IsOneRule c whole (redex.traps t) = whole ≡ reduction.traps_by t
 IsOneRule c whole redex.stuck = IsOff whole
 
--- One rule of a state taken apart is one of the whole, in the standard's form. Only that a constant becomes an operand is no
--- rule there: the whole stays as it is.
+-- One rule of a state taken apart is one of the whole, in the standard's form. Only that a constant becomes an operand
+-- is no rule there: the whole stays as it is.
 abbrev pub OneRule : Type 0
 OneRule = (m : PureModule) (c : Config) → IsOneRule c (step m c.store (top_locals c) [] (plugged c)) (reduce m c)
 
 -- a run is the execution of the whole; outside all frames there are no locals
 abbrev pub RunIsExecution : Type 0
-RunIsExecution = (m : PureModule) (n : ℕ) (c : Config) → top_locals c ≡ [] → run m n c ≡ execution m n c.store (plugged c)
+RunIsExecution = (m : PureModule) (n : ℕ) (c : Config) → top_locals c ≡ [] → run m n c ≡ execution m n c.store
+    (plugged c)
 
 -- with more units an execution that ends does the same, and has as many more left
 abbrev pub MoreUnitsWhereItEnds : Type 0
@@ -55,4 +57,5 @@ MoreUnitsWhereItEnds = (m : PureModule) (n k : ℕ) (st st' : Store) (s : Sequen
 
 -- and one that traps traps
 abbrev pub MoreUnitsWhereItTraps : Type 0
-MoreUnitsWhereItTraps = (m : PureModule) (n k : ℕ) (st st' : Store) (s : Sequence) (t : Trap) → execution m n st s ≡ trapped t st' → execution m (n + k) st s ≡ trapped t st'
+MoreUnitsWhereItTraps = (m : PureModule) (n k : ℕ) (st st' : Store) (s : Sequence) (t : Trap) → execution m n st s
+    ≡ trapped t st' → execution m (n + k) st s ≡ trapped t st'

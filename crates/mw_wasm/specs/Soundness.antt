@@ -24,7 +24,8 @@ NextIsTyped m final (traps t) = Unit {0}
 NextIsTyped m final stuck = ⊥
 
 abbrev pub ProgressAndPreservation : Type 0
-ProgressAndPreservation = (m : PureModule) → IsValid m → (final : List ValType) (c : Config) → ConfigIsTyped m final c → NextIsTyped m final (reduce m c)
+ProgressAndPreservation = (m : PureModule) → IsValid m → (final : List ValType) (c : Config) → ConfigIsTyped m final c
+    → NextIsTyped m final (reduce m c)
 
 -- with values of these types and a typed store, by a trap with a typed store, or where no unit is left; but never lost
 abbrev pub EndIsTyped : PureModule → List ValType → End → Type 0
@@ -34,11 +35,13 @@ EndIsTyped m final spent = Unit {0}
 EndIsTyped m final lost = ⊥
 
 abbrev pub RunsAreSound : Type 0
-RunsAreSound = (m : PureModule) → IsValid m → (final : List ValType) (n : ℕ) (c : Config) → ConfigIsTyped m final c → EndIsTyped m final (run m n c)
+RunsAreSound = (m : PureModule) → IsValid m → (final : List ValType) (n : ℕ) (c : Config) → ConfigIsTyped m final c
+    → EndIsTyped m final (run m n c)
 
 abbrev pub InvocationsAreSound : Type 0
 InvocationsAreSound =
-    (m : PureModule) → IsValid m → (st : Store) → StoreIsTyped m st → (f : ℕ) (args : List Value) (n : ℕ) (g : Function) (t : FuncType)
+    (m : PureModule) → IsValid m → (st : Store) → StoreIsTyped m st → (f : ℕ) (args : List Value) (n : ℕ) (g : Function)
+    (t : FuncType)
     → IsFunctionOf m f g t → map type_of_value args ≡ t.params → EndIsTyped m t.results (invoked m st f args n)
 
 -- a valid module's instance begins with a typed store
@@ -67,10 +70,12 @@ Onward (trapped t st) P = P st
 Onward spent P = Unit {0}
 Onward lost P = ⊥
 
--- Invocations one after another, each on the store as the one before left it, up to the first that is spent: none is lost.
+-- Invocations one after another, each on the store as the one before left it, up to the first that is spent: none is
+-- lost.
 abbrev pub NeverLost : PureModule → Store → List Invocation → Type 0
 NeverLost m st [] = Unit {0}
 NeverLost m st (i ∷ is) = Onward (invoked m st i.function i.args i.units) λ st. NeverLost m st is
 
 abbrev pub ValidModulesAreNeverLost : Type 0
-ValidModulesAreNeverLost = (m : PureModule) → IsValid m → (st : Store) → instantiated m ≡ Ok st → (is : List Invocation) → AllByRecursion (IsInvocationOf m) is → NeverLost m st is
+ValidModulesAreNeverLost = (m : PureModule) → IsValid m → (st : Store) → instantiated m ≡ Ok st → (is : List Invocation)
+    → AllByRecursion (IsInvocationOf m) is → NeverLost m st is

@@ -1,5 +1,5 @@
--- Typing of stores, frames and configurations (standard: Appendix, Soundness). A configuration is a state taken apart: the
--- code in hand, and the labels and frames round it.
+-- Typing of stores, frames and configurations (standard: Appendix, Soundness). A configuration is a state taken apart:
+-- the code in hand, and the labels and frames round it.
 use Rattle.std.specs.Prelude.{◌≡◌, ℕ, ◌<◌, List, [], ◌∷◌, ◌++◌, Option, Some, None, length, map, reverse}
 use Rattle.std.specs.List.{AllByRecursion}
 use Rattle.mw_wasm.specs.declared.values.ValType.{ValType}
@@ -28,13 +28,17 @@ pub record OperandsAreTyped (vs : List Value) (ts : List ValType) : Type 0 where
 abbrev pub context_inside : PureModule → List (List ValType) → List ValType → List ValType → Context
 context_inside m labels ls rs = record (context_of m) { locals = ls; labels = labels; results = rs }
 
--- where a branch that takes values of the first types goes on, in code that gives the second: after the label, or at its loop
+-- where a branch that takes values of the first types goes on, in code that gives the second: after the label, or at
+-- its loop
 pub data Continues (c : Context) : List ValType → List ValType → Code → Type 0 where
   behind : {ts : List ValType} → Continues c ts ts end
-  again : {t : _} {body : Code} {gives : List ValType} → HasType c (loop t body) [] gives → Continues c [] gives (next (loop t body) end)
+  again : {t : _} {body : Code} {gives : List ValType} → HasType c (loop t body) [] gives
+      → Continues c [] gives (next (loop t body) end)
 
--- label typing: a label that takes and gives values of these types, after the operands vs and before the rest, which gives outs
-pub record LabelIsTyped (c : Context) (n : ℕ) (k : Code) (vs : List Value) (rest : Code) (takes gives outs : List ValType) : Type 0 where
+-- label typing: a label that takes and gives values of these types, after the operands vs and before the rest, which
+-- gives outs
+pub record LabelIsTyped (c : Context) (n : ℕ) (k : Code) (vs : List Value) (rest : Code)
+    (takes gives outs : List ValType) : Type 0 where
   pub arity : n ≡ length takes
   pub continues : Continues c takes gives k
   pub below : List ValType
@@ -42,12 +46,13 @@ pub record LabelIsTyped (c : Context) (n : ℕ) (k : Code) (vs : List Value) (re
   pub rest_typed : CodeHasType c rest (below ++ gives) outs
 
 -- frame typing: a frame that gives values of these types, after the operands us of a function with the locals ks
-pub record FrameIsTyped (c : Context) (n : ℕ) (ks us : List Value) (rest : Code) (gives outs : List ValType) : Type 0 where
-  pub arity : n ≡ length gives
-  pub locals : map type_of_value ks ≡ c.locals
-  pub below : List ValType
-  pub operands : OperandsAreTyped us below
-  pub rest_typed : CodeHasType c rest (below ++ gives) outs
+pub record FrameIsTyped (c : Context) (n : ℕ) (ks us : List Value) (rest : Code) (gives outs : List ValType) : Type 0
+  where
+    pub arity : n ≡ length gives
+    pub locals : map type_of_value ks ≡ c.locals
+    pub below : List ValType
+    pub operands : OperandsAreTyped us below
+    pub rest_typed : CodeHasType c rest (below ++ gives) outs
 
 -- the outermost frame, which is that of the invocation
 pub record OutermostFrameIsTyped (n : ℕ) (ks us : List Value) (rest : Code) (gives final : List ValType) : Type 0 where
@@ -57,16 +62,18 @@ pub record OutermostFrameIsTyped (n : ℕ) (ks us : List Value) (rest : Code) (g
   pub no_rest : rest ≡ end
   pub is_final : final ≡ gives
 
--- The labels and frames round code with these labels, locals' types and results, where the code gives values of the types
--- gives and the whole ends with values of the types final.
-abbrev pub SurroundingsAreTyped : PureModule → List Around → List (List ValType) → List ValType → List ValType → List ValType → List ValType → Type 0
+-- The labels and frames round code with these labels, locals' types and results, where the code gives values of the
+-- types gives and the whole ends with values of the types final.
+abbrev pub SurroundingsAreTyped : PureModule → List Around → List (List ValType) → List ValType → List ValType
+    → List ValType → List ValType → Type 0
 SurroundingsAreTyped m [] labels ls rs gives final = ⊥
 SurroundingsAreTyped m (in_label n k vs rest ∷ around) labels ls rs gives final =
     (takes : List ValType) × (others : List (List ValType)) × (outs : List ValType)
     × (labels ≡ takes ∷ others)
     × LabelIsTyped (context_inside m others ls rs) n k vs rest takes gives outs
     × SurroundingsAreTyped m around others ls rs outs final
-SurroundingsAreTyped m (in_frame n ks us rest ∷ []) labels ls rs gives final = (labels ≡ []) × (gives ≡ rs) × OutermostFrameIsTyped n ks us rest gives final
+SurroundingsAreTyped m (in_frame n ks us rest ∷ []) labels ls rs gives final = (labels ≡ []) × (gives ≡ rs)
+    × OutermostFrameIsTyped n ks us rest gives final
 SurroundingsAreTyped m (in_frame n ks us rest ∷ a ∷ around) labels ls rs gives final =
     (others : List (List ValType)) × (ks' : List ValType) × (rs' : List ValType) × (outs : List ValType)
     × (labels ≡ []) × (gives ≡ rs)

@@ -1,5 +1,6 @@
 -- What an instance holds (standard: Execution, Runtime Structure).
-use Rattle.std.specs.Prelude.{ℕ, zero, suc, ◌+◌, ◌-◌, ◌*◌, ◌/◌, ◌%◌, ◌^◌, nat_le, nat_lt, Bool, ◌&&◌, if◌then◌else◌, List, Option}
+use Rattle.std.specs.Prelude.{ℕ, zero, suc, ◌+◌, ◌-◌, ◌*◌, ◌/◌, ◌%◌, ◌^◌, nat_le, nat_lt, Bool, ◌&&◌, if◌then◌else◌}
+use Rattle.std.specs.Prelude.{List, Option}
 use Rattle.mw_wasm.specs.declared.values.Value.{Value}
 use Rattle.mw_wasm.specs.declared.values.Value.TheVariants as value
 use Rattle.mw_wasm.specs.declared.values.ValType.{ValType}
@@ -14,8 +15,8 @@ pub record Memory : Type 0 where
   pub pages : ℕ
   pub byte_at : ℕ → ℕ
 
--- Globals, the table's elements (None where there is no function) and the memory. An instance without a table has one of
--- no elements, and one without a memory has one of no pages: no valid instruction names them.
+-- Globals, the table's elements (None where there is no function) and the memory. An instance without a table has one
+-- of no elements, and one without a memory has one of no pages: no valid instruction names them.
 pub record Store : Type 0 where
   pub globals : List Value
   pub table : List (Option ℕ)

@@ -12,7 +12,10 @@ use Rattle.mw_wasm.specs.declared.modules.Export.{Export}
 use Rattle.mw_wasm.specs.declared.modules.Element.{Element}
 use Rattle.mw_wasm.specs.declared.modules.Segment.{Segment}
 use Rattle.mw_wasm.specs.declared.modules.Module.{Module}
-use Rattle.mw_wasm.specs.Syntax.{Instruction, Code, unreachable, nop, block, loop, cond, br, br_if, br_table, give_back, call, call_indirect, drop_value, select, local_get, local_set, local_tee, global_get, global_set, load, store, memory_size, memory_grow, const_i32, const_i64, numeric, end, next, Function, Global, Exporting, ElementSegment, DataSegment, PureModule}
+use Rattle.mw_wasm.specs.Syntax.{Instruction, Code, unreachable, nop, block, loop, cond, br, br_if, br_table, give_back}
+use Rattle.mw_wasm.specs.Syntax.{call, call_indirect, drop_value, select, local_get, local_set, local_tee, global_get}
+use Rattle.mw_wasm.specs.Syntax.{global_set, load, store, memory_size, memory_grow, const_i32, const_i64, numeric, end}
+use Rattle.mw_wasm.specs.Syntax.{next, Function, Global, Exporting, ElementSegment, DataSegment, PureModule}
 
 abbrev mutual
   pub instruction_of : Instr → Instruction

@@ -40,7 +40,8 @@ behind_tables types funcs going = fields_up_to 1 (codes "table") table going
     >>= λ tables. behind_table types funcs (head tables.list) tables.going
 
 whole_chain : Reader PureModule
-whole_chain = opening >>= λ _. this (codes "module") >>= λ _. next_field >>= λ going. fields (codes "type") function_type
+whole_chain = opening >>= λ _. this (codes "module") >>= λ _. next_field >>= λ going.
+    fields (codes "type") function_type
     going >>= λ types. fields (codes "func") function types.going
     >>= λ funcs. behind_tables types.list funcs.list funcs.going
 
@@ -56,7 +57,8 @@ same_behind types funcs going ts =
     (λ tab going. fields_up_to 1 (codes "memory") memory going
     >>= λ memories. behind_memory types funcs tab (head memories.list) memories.going)
     ∙ then_cong (single (codes "table") table going ts) _ _
-    (λ tab rest. single_then (codes "memory") memory tab.1 rest (λ mem going. behind_memory types funcs tab.0 mem going))
+    (λ tab rest. single_then (codes "memory") memory tab.1 rest
+    (λ mem going. behind_memory types funcs tab.0 mem going))
 
 pub module_is : (ts : Tokens) → whole_module ts ≡ module_chain ts
 unfolding whole_chain

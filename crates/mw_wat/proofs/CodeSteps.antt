@@ -38,7 +38,8 @@ regroup lists room p (got i rest) = refl
 regroup lists room p (bad rest) = refl
 
 module _ (L : Lists) (room : ℕ) where
-  meant_steps : (p : Place) (m : Option Meaning) (at : ℕ) (t : PureToken) (us : Tokens) → meant L room p m (token at t us)
+  meant_steps : (p : Place) (m : Option Meaning) (at : ℕ) (t : PureToken) (us : Tokens)
+      → meant L room p m (token at t us)
       ≡ and_then (step_meant L room p m (token at t us)) (go_on L room p)
   meant_steps p None at t us = refl
   meant_steps whole (Some ends) at t us = refl

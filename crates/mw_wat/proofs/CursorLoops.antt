@@ -37,7 +37,8 @@ module _ {A : Type 0} (means : PureToken → Option A) (front : List A) (ts : To
       let one : all_of means ts ≡ got [] ts = rw (n.1, m) refl in
       sym so_far ∙ (ap (joined front) one ∙ ap (λ ys. got ys ts) (append-nil front))
 
-pub all_stops : {A : Type 0} (means : PureToken → Option A) (ts us : Tokens) → next ts ≡ bad us → all_of means ts ≡ bad us
+pub all_stops : {A : Type 0} (means : PureToken → Option A) (ts us : Tokens) → next ts ≡ bad us → all_of means ts
+    ≡ bad us
 all_stops means (stop at) us e = let s : stop at ≡ us = cc in ap bad s
 all_stops means (token at t rest) us e = absurd (cc)
 

@@ -17,7 +17,8 @@ next_is (token at u us) t rest e =
     let p = got_parts u t us rest e in
     (at, ap (λ v. token at v us) p.0 ∙ ap (token at t) p.1)
 
-pub one_ended : {A : Type 0} (means : PureToken → Option A) (ts us : Tokens) → next ts ≡ bad us → one_of means ts ≡ bad us
+pub one_ended : {A : Type 0} (means : PureToken → Option A) (ts us : Tokens) → next ts ≡ bad us → one_of means ts
+    ≡ bad us
 one_ended means (stop at) us e = let s : stop at ≡ us = cc in ap bad s
 one_ended means (token at t rest) us e = absurd (cc)
 

@@ -114,7 +114,8 @@ content_more before b (found right rest) = refl
 content_more before b (found (word w) rest) = refl
 content_more before b (found (string w) rest) = sym (append_assoc before (b ∷ []) w)
 
-pub content_goes_on : (list : List ℕ) (b : ℕ) (rest now : List ℕ) (all : List ℕ) → quotes now ≡ with_byte b (quotes rest)
+pub content_goes_on : (list : List ℕ) (b : ℕ) (rest now : List ℕ) (all : List ℕ) → quotes now
+    ≡ with_byte b (quotes rest)
     → content_with list (quotes now) ≡ all → content_with (list ++ b ∷ []) (quotes rest) ≡ all
 content_goes_on list b rest now all e so_far =
     sym (content_more list b (quotes rest)) ∙ (sym (ap (content_with list) e) ∙ so_far)
@@ -259,7 +260,8 @@ tokens_are end bytes = by_front (front (without_blanks bytes)) refl
         (enough (length bytes) (suc (length rest)) end rest
         (behind_shorter bytes t rest e) (omega arith))
 
-pub next_found : (end : ℕ) (bytes : List ℕ) (t : PureToken) (rest : List ℕ) → front (without_blanks bytes) ≡ found t rest
+pub next_found : (end : ℕ) (bytes : List ℕ) (t : PureToken) (rest : List ℕ) → front (without_blanks bytes)
+    ≡ found t rest
     → next (tokens end bytes) ≡ got t (tokens end rest)
 next_found end bytes t rest e =
     ap next

@@ -23,8 +23,10 @@ word_no_longer w ts b rest e =
 
 pub either_shorter : (ts : Tokens) (b : Bool) (rest : Tokens) → next_field ts ≡ got b rest → count rest < count ts
 either_shorter (stop at) b rest e = absurd (cc)
-either_shorter (token at left us) b rest e = let s : us ≡ rest = cc in subst (λ r. count r < suc (count us)) s (omega arith)
-either_shorter (token at right us) b rest e = let s : us ≡ rest = cc in subst (λ r. count r < suc (count us)) s (omega arith)
+either_shorter (token at left us) b rest e = let s : us ≡ rest = cc in subst (λ r. count r < suc (count us)) s
+    (omega arith)
+either_shorter (token at right us) b rest e = let s : us ≡ rest = cc in subst (λ r. count r < suc (count us)) s
+    (omega arith)
 either_shorter (token at (word w) us) b rest e = absurd (cc)
 either_shorter (token at (string w) us) b rest e = absurd (cc)
 
@@ -112,7 +114,8 @@ module _ {X A : Type 0} (view : X → A) (w : List ℕ) (field : Reader A) (list
         bound = b.0;
         enough = omega arith;
         told =
-            ap (λ z. with_fields z (fields_up_to b.0 w field more rest)) (ap (map view) l ∙ map-append view list (x ∷ []))
+            ap (λ z. with_fields z (fields_up_to b.0 w field more rest))
+            (ap (map view) l ∙ map-append view list (x ∷ []))
             ∙ (sym (with_one (map view list) (view x) (fields_up_to b.0 w field more rest))
             ∙ (sym (ap (λ r. with_fields (map view list) (and_then r (behind_field b.0 w field))) e)
             ∙ unrolled b.0 b.1 g));

@@ -105,7 +105,8 @@ none_behind w front (x ∷ xs) e =
 pub typed_some : (w front name : List ℕ) (r : Option IntOp) → bytes_eq (take (length front) w) front ≡ true
     → name ≡ drop (length front) w → r ≡ lookup (bytes_eq name) operation_names
     → r ≡ lookup (bytes_eq w) (typed_names front)
-typed_some w front name r e n h = h ∙ (ap (λ v. lookup (bytes_eq v) operation_names) n ∙ same_behind w front operations e)
+typed_some w front name r e n h =
+    h ∙ (ap (λ v. lookup (bytes_eq v) operation_names) n ∙ same_behind w front operations e)
 
 pub typed_none : (w front : List ℕ) → bytes_eq (take (length front) w) front ≡ false
     → None ≡ lookup (bytes_eq w) (typed_names front)

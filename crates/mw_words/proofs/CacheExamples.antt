@@ -1,5 +1,6 @@
 -- Worked examples of words that name a cache.
-use Rattle.std.proofs.Common.{◌≡◌, ℕ, List, [], ◌∷◌, Option, Some, None, codes, length, refl, sym, ◌∙◌, ap, subst, arith}
+use Rattle.std.proofs.Common.{◌≡◌, ℕ, List, [], ◌∷◌, Option, Some, None, codes, length, refl, sym, ◌∙◌, ap, subst}
+use Rattle.std.proofs.Common.{arith}
 use Rattle.mw_words.specs.Words.{IsFileWord, PurePart, PureCommand, option, AreParts, Makes, IsWordOf, parts_named}
 use Rattle.mw_words.specs.Words.{apart, joined, valued, filed, no_part, one_more, not_named, named_once, off, on}
 use Rattle.mw_words.specs.Words.{with_word, without_word, run_of, migrate_of, parts_command}

@@ -48,7 +48,8 @@ pub simplify_first_of : {rest : List (List ℕ)} {parts : List PurePart} → Are
 simplify_first_of more = one_more (alone refl) more
 
 pub file_alone : FileAlone
-file_alone = parts_command (then_file f_named no_part) (run_of refl (not_named refl) (not_named refl) (off refl) (without_word refl) refl)
+file_alone = parts_command (then_file f_named no_part)
+    (run_of refl (not_named refl) (not_named refl) (off refl) (without_word refl) refl)
 
 pub fuel_apart : FuelApart
 fuel_apart = parts_command (fuel_apart_first (codes "8") (then_file f_named no_part)) (run_of refl (not_named refl)

@@ -1,8 +1,10 @@
 -- Words mean one command at most, and options and files may stand in any order.
-use Rattle.std.proofs.Common.{◌≡◌, ℕ, ◌≤◌, Bool, not, List, [], ◌∷◌, ◌++◌, Option, Some, None, codes, length, refl, sym, ◌∙◌}
+use Rattle.std.proofs.Common.{◌≡◌, ℕ, ◌≤◌, Bool, not, List, [], ◌∷◌, ◌++◌, Option, Some, None, codes, length, refl, sym}
+use Rattle.std.proofs.Common.{◌∙◌}
 use Rattle.std.proofs.Common.{ap, subst, arith}
 use Rattle.mw_words.specs.Words.{apart, joined, PurePart, is_named, is_taken, parts_named, HaveOnly, IsNumberOf}
-use Rattle.mw_words.specs.Words.{not_named, named_once, IsSwitchOf, off, on, IsWordOf, without_word, with_word, IsFileOf}
+use Rattle.mw_words.specs.Words.{not_named, named_once, IsSwitchOf, off, on, IsWordOf, without_word, with_word}
+use Rattle.mw_words.specs.Words.{IsFileOf}
 use Rattle.mw_words.specs.Words.{HasNoFile, PureCommand, sample, Makes, run_of, erased_of, link_of, migrate_of}
 use Rattle.mw_words.specs.Words.{parts_command, sample_command, wat_command, check_command}
 use Rattle.mw_words.specs.WordLaws.{OneCommand, EitherForm, AnyOrder}

@@ -25,7 +25,8 @@ abbrev pub SimplifyFirst : Type 0
 SimplifyFirst = Means (codes "run" ∷ codes "--simplify" ∷ codes "f" ∷ []) (run 4 1000000 true None (codes "f"))
 
 abbrev pub SimplifyLast : Type 0
-SimplifyLast = Means (codes "run" ∷ codes "f" ∷ codes "--fuel=8" ∷ codes "--simplify" ∷ []) (run 4 8 true None (codes "f"))
+SimplifyLast = Means (codes "run" ∷ codes "f" ∷ codes "--fuel=8" ∷ codes "--simplify" ∷ [])
+    (run 4 8 true None (codes "f"))
 
 -- a cache's path as the next word
 abbrev pub CacheApart : Type 0

@@ -3,7 +3,8 @@
 ghost use Rattle.std.specs.Prelude.{◌≡◌, ◌≤◌, [], ◌∷◌, List, ℕ, Bool, Option, length, map, option_map, option_to_list};
 ghost use Rattle.std.specs.Prelude.{IfOk, OnOk, OnErr};
 ghost use Rattle.std.specs.String.{string_bytes};
-ghost use Rattle.mw_words.specs.Words.{AreParts, HaveOnly, IsFileOf, IsNumberOf, IsSwitchOf, IsWordOf, PurePart, word_in};
+ghost use Rattle.mw_words.specs.Words.{AreParts, HaveOnly, IsFileOf, IsNumberOf, IsSwitchOf, IsWordOf, PurePart};
+ghost use Rattle.mw_words.specs.Words.{word_in};
 ghost use Rattle.mw_words.specs.Words.{HasNoFile, IsFileWord, is_named, is_taken, parts_named};
 ghost use Rattle.mw_words.specs.Gathered.{part_in};
 
@@ -127,7 +128,8 @@ fn only_part<'w>(words: &'w [String], name: Option<&str>) -> Result<Option<Part<
         → AreParts (map string_bytes words.now) parts
         → parts_named (option_map word_in name.entry) parts ≡ option_to_list (option_map part_in found)) }
     ensures usage { OnErr result ((parts : List PurePart)
-        → AreParts (map string_bytes words.now) parts → 2 ≤ length (parts_named (option_map word_in name.entry) parts)) }
+        → AreParts (map string_bytes words.now) parts
+        → 2 ≤ length (parts_named (option_map word_in name.entry) parts)) }
 {
     let mut found = None;
     let mut rest = words;

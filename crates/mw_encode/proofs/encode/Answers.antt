@@ -8,7 +8,10 @@ pub put_sections-requires : goal.put_sections-requires
 put_sections-requires c = c.requires.spelled
 
 pub returns-clause-exact : goal.returns-clause-exact
-returns-clause-exact c = c.in_ok-put_sections.ensures ∙ ap (λ old. with_sections old (module_of c.args.module.now)) c.in_ok-out.ensures.items
+returns-clause-exact c = c.in_ok-put_sections.ensures ∙ ap (λ old. with_sections old (module_of c.args.module.now))
+    c.in_ok-out.ensures.items
 
 pub returns-clause-spelled : goal.returns-clause-spelled
-returns-clause-spelled c = encoding_spells _ _ c.requires.spelled (c.in_ok-put_sections.ensures ∙ ap (λ old. with_sections old (module_of c.args.module.now)) c.in_ok-out.ensures.items)
+returns-clause-spelled c = encoding_spells _ _ c.requires.spelled
+    (c.in_ok-put_sections.ensures ∙ ap (λ old. with_sections old (module_of c.args.module.now))
+    c.in_ok-out.ensures.items)

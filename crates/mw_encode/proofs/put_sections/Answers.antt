@@ -30,4 +30,9 @@ pub put_segments-requires : goal.put_segments-requires
 put_segments-requires c = (sections_of _ c.requires).segments
 
 pub returns : goal.returns
-returns c = after_last c.put_segments.result c.put_segments.new.out.items _ (after _ (after _ (after _ (after _ (after _ (after _ (after _ c.in_ok-put_types.ensures c.in_ok-put_kinds.ensures) c.in_ok-put_table_section.ensures) c.in_ok-put_memory_section.ensures) c.in_ok-put_globals.ensures) c.in_ok-put_exports.ensures) c.in_ok-put_elements.ensures) c.in_ok-put_bodies.ensures) c.put_segments.ensures
+returns c = after_last c.put_segments.result c.put_segments.new.out.items _
+    (after _ (after _
+    (after _ (after _
+    (after _ (after _ (after _ c.in_ok-put_types.ensures c.in_ok-put_kinds.ensures) c.in_ok-put_table_section.ensures)
+    c.in_ok-put_memory_section.ensures) c.in_ok-put_globals.ensures) c.in_ok-put_exports.ensures)
+    c.in_ok-put_elements.ensures) c.in_ok-put_bodies.ensures) c.put_segments.ensures

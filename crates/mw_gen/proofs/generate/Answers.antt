@@ -20,21 +20,39 @@ use Rattle.mw_gen.proofs.Shaped.{module_shaped}
 use Rattle.mw_gen.proofs.generate.Goals as goal
 
 -- what holds of the module that it is
-of_module : (P : PureModule → Type 0) (r : Result Module AllocError) (m : PureModule) → P m → IfOk r (λ wasm. module_of wasm ≡ m) → IfOk r (λ wasm. P (module_of wasm))
+of_module : (P : PureModule → Type 0) (r : Result Module AllocError) (m : PureModule) → P m
+    → IfOk r (λ wasm. module_of wasm ≡ m) → IfOk r (λ wasm. P (module_of wasm))
 of_module P (Ok wasm) m p e = subst P (sym e) p
 of_module P (Err e) m p q = tt
 
 pub returns-clause-spelled : goal.returns-clause-spelled
-returns-clause-spelled c = of_module (λ m. Spelled (wasm_module m)) c.whole_module.result (generated two c.args.converted.now (kernel_type_of c.args.kind.now)) (spelled (converted_spelled (functions_in c.args.converted.now) (outer_in c.args.converted.now) c.requires.converted two (kernel_type_of c.args.kind.now) c.requires.nodes)) c.whole_module.ensures
+returns-clause-spelled c = of_module (λ m. Spelled (wasm_module m)) c.whole_module.result
+    (generated two c.args.converted.now (kernel_type_of c.args.kind.now))
+    (spelled (converted_spelled (functions_in c.args.converted.now) (outer_in c.args.converted.now) c.requires.converted
+    two (kernel_type_of c.args.kind.now) c.requires.nodes)) c.whole_module.ensures
 
 pub returns-clause-profile : goal.returns-clause-profile
-returns-clause-profile c = of_module IsWithinProfile c.whole_module.result (generated two c.args.converted.now (kernel_type_of c.args.kind.now)) (converted_profile (functions_in c.args.converted.now) (outer_in c.args.converted.now) c.requires.converted two (kernel_type_of c.args.kind.now)) c.whole_module.ensures
+returns-clause-profile c = of_module IsWithinProfile c.whole_module.result
+    (generated two c.args.converted.now (kernel_type_of c.args.kind.now))
+    (converted_profile (functions_in c.args.converted.now) (outer_in c.args.converted.now) c.requires.converted two
+    (kernel_type_of c.args.kind.now)) c.whole_module.ensures
 
 pub returns-clause-valid : goal.returns-clause-valid
-returns-clause-valid c = of_module IsValid c.whole_module.result (generated two c.args.converted.now (kernel_type_of c.args.kind.now)) (converted_valid (functions_in c.args.converted.now) (outer_in c.args.converted.now) c.requires.converted two (kernel_type_of c.args.kind.now)) c.whole_module.ensures
+returns-clause-valid c = of_module IsValid c.whole_module.result
+    (generated two c.args.converted.now (kernel_type_of c.args.kind.now))
+    (converted_valid (functions_in c.args.converted.now) (outer_in c.args.converted.now) c.requires.converted two
+    (kernel_type_of c.args.kind.now)) c.whole_module.ensures
 
 pub returns-clause-shape : goal.returns-clause-shape
-returns-clause-shape c = of_module (λ m. HasShape m (kernel_type_of c.args.kind.now)) c.whole_module.result (generated two c.args.converted.now (kernel_type_of c.args.kind.now)) (module_shaped two (functions_in c.args.converted.now) (outer_in c.args.converted.now).slots (outer_in c.args.converted.now).body (kernel_type_of c.args.kind.now)) c.whole_module.ensures
+returns-clause-shape c = of_module (λ m. HasShape m (kernel_type_of c.args.kind.now)) c.whole_module.result
+    (generated two c.args.converted.now (kernel_type_of c.args.kind.now))
+    (module_shaped two (functions_in c.args.converted.now) (outer_in c.args.converted.now).slots
+    (outer_in c.args.converted.now).body (kernel_type_of c.args.kind.now)) c.whole_module.ensures
 
 pub returns-clause-means : goal.returns-clause-means
-returns-clause-means c = of_module (λ m. MeansConverted m (functions_in c.args.converted.now) (outer_in c.args.converted.now).body (kernel_type_of c.args.kind.now)) c.whole_module.result (generated two c.args.converted.now (kernel_type_of c.args.kind.now)) (generation_keeps_meaning two (functions_in c.args.converted.now) (outer_in c.args.converted.now) (kernel_type_of c.args.kind.now) c.requires.converted) c.whole_module.ensures
+returns-clause-means c =
+    of_module (λ m. MeansConverted m (functions_in c.args.converted.now) (outer_in c.args.converted.now).body
+    (kernel_type_of c.args.kind.now)) c.whole_module.result
+    (generated two c.args.converted.now (kernel_type_of c.args.kind.now))
+    (generation_keeps_meaning two (functions_in c.args.converted.now) (outer_in c.args.converted.now)
+    (kernel_type_of c.args.kind.now) c.requires.converted) c.whole_module.ensures

@@ -45,7 +45,8 @@ fn stop(alloc: Global) -> Result<Instrs, AllocError>
 }
 
 fn quotient(alloc: Global, x: u64, y: u64) -> Result<Instrs, AllocError>
-    ensures { IfOk result (λ c. code_of c ≡ next (const_i64 x) (next (const_i64 y) (next (numeric (number.I64 DivS)) end))) }
+    ensures { IfOk result
+        (λ c. code_of c ≡ next (const_i64 x) (next (const_i64 y) (next (numeric (number.I64 DivS)) end))) }
 {
     let mut body = Instrs::new(alloc);
     body.push(Instr::ConstI64(x))?;
@@ -55,7 +56,9 @@ fn quotient(alloc: Global, x: u64, y: u64) -> Result<Instrs, AllocError>
 }
 
 fn store_past_the_end(alloc: Global) -> Result<Instrs, AllocError>
-    ensures { IfOk result (λ c. code_of c ≡ next (const_i32 65529) (next (const_i64 1) (next (store store_op.I64 3 0) (next (const_i64 0) end)))) }
+    ensures { IfOk result
+        (λ c. code_of c ≡ next (const_i32 65529)
+        (next (const_i64 1) (next (store store_op.I64 3 0) (next (const_i64 0) end)))) }
 {
     let mut body = Instrs::new(alloc);
     body.push(Instr::ConstI32(65_529))?;

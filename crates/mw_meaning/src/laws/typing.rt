@@ -9,8 +9,8 @@ ghost use Rattle.mw_meaning.specs.TypingLaws.{RunsOfCodeAreTyped, LetsHaveTheirV
 ghost use Rattle.mw_meaning.specs.TypingLaws.{KernelsGiveTheirCode, MainNeverStuck, MainGivesItsGround, AnyState};
 ghost use Rattle.mw_meaning.specs.TypingLaws.{KernelMeaningNeverStuck, KernelMeaningIsTyped, KernelMeaningIsClosed};
 
-/// What the evaluation of a typable program keeps, where runs and calls answer by the kernel meaning, and where they take
-/// their answers in order from any list of answers of the right types.
+/// What the evaluation of a typable program keeps, where runs and calls answer by the kernel meaning, and where they
+/// take their answers in order from any list of answers of the right types.
 pub fn typing_kept()
     ensures never_stuck { (mode : Mode) → NeverStuck (outside mode) AnyState }
     ensures code_never_stuck { (mode : Mode) → CodeNeverStuck (outside mode) AnyState }

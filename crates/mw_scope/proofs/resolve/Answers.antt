@@ -4,7 +4,8 @@ use Rattle.mw_scope.proofs.Sizes.{is_small}
 use Rattle.mw_scope.proofs.resolve.Goals as goal
 
 whole_is : (c : goal.After-answer) → IsAnswer (surface_of c.args.surface.now) c.answer.result
-whole_is c = is_answer (surface_of c.args.surface.now) c.whole.new.first c.in_ok-program.program c.answer.result c.in_ok-program.ensures.program c.in_ok-program.ensures.faults c.answer.ensures
+whole_is c = is_answer (surface_of c.args.surface.now) c.whole.new.first c.in_ok-program.program c.answer.result
+    c.in_ok-program.ensures.program c.in_ok-program.ensures.faults c.answer.ensures
 
 pub returns-clause-found : goal.returns-clause-found
 returns-clause-found c = (whole_is c).found

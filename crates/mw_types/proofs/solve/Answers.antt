@@ -9,41 +9,72 @@ use Rattle.mw_types.proofs.solve.Goals as goal
 
 pub answer-requires-clause-room : goal.answer-requires-clause-room
 answer-requires-clause-room c names u lt =
-    let r = ready_at c.in_ok-state.ensures.node_count c.in_ok-state.ensures.classifier_count (ap equations_of c.as_slice-pairs.ensures) (c.in_ok-verdict.ensures.ready (c.is_fine.ensures.0 c.if-is_fine.true)) in
+    let r = ready_at c.in_ok-state.ensures.node_count c.in_ok-state.ensures.classifier_count
+    (ap equations_of c.as_slice-pairs.ensures)
+    (c.in_ok-verdict.ensures.ready (c.is_fine.ensures.0 c.if-is_fine.true)) in
     room c.judge.new.state r.sizes c.args.equations.now.unknowns r.stated.long r.all r.small names u lt
 
 pub returns-then-is_fine-clause-most_general : goal.returns-then-is_fine-clause-most_general
 returns-then-is_fine-clause-most_general c =
-    let r = ready_at c.in_ok-state.ensures.node_count c.in_ok-state.ensures.classifier_count (ap equations_of c.as_slice-pairs.ensures) (c.in_ok-verdict.ensures.ready (c.is_fine.ensures.0 c.if-is_fine.true)) in
-    most_general c.args.equations.now.unknowns c.args.equations.now.classifiers (equations_of c.args.equations.now.pairs) c.judge.new.state c.requires.within r c.in_ok-answer.field-0 c.in_ok-answer.ensures
+    let r = ready_at c.in_ok-state.ensures.node_count c.in_ok-state.ensures.classifier_count
+    (ap equations_of c.as_slice-pairs.ensures)
+    (c.in_ok-verdict.ensures.ready (c.is_fine.ensures.0 c.if-is_fine.true)) in
+    most_general c.args.equations.now.unknowns c.args.equations.now.classifiers
+    (equations_of c.args.equations.now.pairs) c.judge.new.state c.requires.within r c.in_ok-answer.field-0
+    c.in_ok-answer.ensures
 
 pub returns-then-is_fine-clause-small : goal.returns-then-is_fine-clause-small
 returns-then-is_fine-clause-small c =
-    let r = ready_at c.in_ok-state.ensures.node_count c.in_ok-state.ensures.classifier_count (ap equations_of c.as_slice-pairs.ensures) (c.in_ok-verdict.ensures.ready (c.is_fine.ensures.0 c.if-is_fine.true)) in
-    is_small c.args.equations.now.unknowns c.args.equations.now.classifiers (equations_of c.args.equations.now.pairs) c.judge.new.state c.requires.within r c.in_ok-answer.field-0 c.in_ok-answer.ensures
+    let r = ready_at c.in_ok-state.ensures.node_count c.in_ok-state.ensures.classifier_count
+    (ap equations_of c.as_slice-pairs.ensures)
+    (c.in_ok-verdict.ensures.ready (c.is_fine.ensures.0 c.if-is_fine.true)) in
+    is_small c.args.equations.now.unknowns c.args.equations.now.classifiers (equations_of c.args.equations.now.pairs)
+    c.judge.new.state c.requires.within r c.in_ok-answer.field-0 c.in_ok-answer.ensures
 
 pub returns-then-is_fine-clause-within : goal.returns-then-is_fine-clause-within
 returns-then-is_fine-clause-within c =
-    let r = ready_at c.in_ok-state.ensures.node_count c.in_ok-state.ensures.classifier_count (ap equations_of c.as_slice-pairs.ensures) (c.in_ok-verdict.ensures.ready (c.is_fine.ensures.0 c.if-is_fine.true)) in
-    stays_within c.args.equations.now.unknowns c.args.equations.now.classifiers (equations_of c.args.equations.now.pairs) c.judge.new.state c.requires.within r c.in_ok-answer.field-0 c.in_ok-answer.ensures
+    let r = ready_at c.in_ok-state.ensures.node_count c.in_ok-state.ensures.classifier_count
+    (ap equations_of c.as_slice-pairs.ensures)
+    (c.in_ok-verdict.ensures.ready (c.is_fine.ensures.0 c.if-is_fine.true)) in
+    stays_within c.args.equations.now.unknowns c.args.equations.now.classifiers
+    (equations_of c.args.equations.now.pairs) c.judge.new.state c.requires.within r c.in_ok-answer.field-0
+    c.in_ok-answer.ensures
 
 pub returns-clause-fault : goal.returns-clause-fault
-returns-clause-fault c = first_fault_of c.args.equations.now.unknowns c.args.equations.now.classifiers (equations_of c.args.equations.now.pairs) c.in_ok-first_fault.field-0 c.requires.within (subst (λ ps. Faults c.args.equations.now.unknowns (equations_of ps) c.in_ok-first_fault.field-0) c.as_slice-pairs.ensures c.in_ok-first_fault.ensures)
+returns-clause-fault c = first_fault_of c.args.equations.now.unknowns c.args.equations.now.classifiers
+    (equations_of c.args.equations.now.pairs) c.in_ok-first_fault.field-0 c.requires.within
+    (subst (λ ps. Faults c.args.equations.now.unknowns (equations_of ps) c.in_ok-first_fault.field-0)
+    c.as_slice-pairs.ensures c.in_ok-first_fault.ensures)
 
 pub returns-then-is_fine-clause-unsolvable : goal.returns-then-is_fine-clause-unsolvable
-returns-then-is_fine-clause-unsolvable c = λ k h. (one_fault c.args.equations.now.unknowns c.args.equations.now.classifiers (equations_of c.args.equations.now.pairs)).fine_unsolvable k (substitution_of c.in_ok-answer.field-0, returns-then-is_fine-clause-most_general c, returns-then-is_fine-clause-small c) h
+returns-then-is_fine-clause-unsolvable c = λ k h.
+    (one_fault c.args.equations.now.unknowns c.args.equations.now.classifiers
+    (equations_of c.args.equations.now.pairs)).fine_unsolvable k (
+      substitution_of c.in_ok-answer.field-0,
+      returns-then-is_fine-clause-most_general c,
+      returns-then-is_fine-clause-small c,
+    ) h
 
 pub returns-then-is_fine-clause-too_big : goal.returns-then-is_fine-clause-too_big
-returns-then-is_fine-clause-too_big c = λ k h. (one_fault c.args.equations.now.unknowns c.args.equations.now.classifiers (equations_of c.args.equations.now.pairs)).fine_too_big k (substitution_of c.in_ok-answer.field-0, returns-then-is_fine-clause-most_general c, returns-then-is_fine-clause-small c) h
+returns-then-is_fine-clause-too_big c = λ k h.
+    (one_fault c.args.equations.now.unknowns c.args.equations.now.classifiers
+    (equations_of c.args.equations.now.pairs)).fine_too_big k (
+      substitution_of c.in_ok-answer.field-0,
+      returns-then-is_fine-clause-most_general c,
+      returns-then-is_fine-clause-small c,
+    ) h
 
 pub returns-clause-fine : goal.returns-clause-fine
-returns-clause-fine c = λ h. solved_only c.args.equations.now.unknowns c.args.equations.now.classifiers (equations_of c.args.equations.now.pairs) c.in_ok-first_fault.field-0 (returns-clause-fault c) h
+returns-clause-fine c = λ h. solved_only c.args.equations.now.unknowns c.args.equations.now.classifiers
+    (equations_of c.args.equations.now.pairs) c.in_ok-first_fault.field-0 (returns-clause-fault c) h
 
 pub returns-clause-unsolvable : goal.returns-clause-unsolvable
-returns-clause-unsolvable c = λ k h. fault_only c.args.equations.now.unknowns c.args.equations.now.classifiers (equations_of c.args.equations.now.pairs) c.in_ok-first_fault.field-0 k (returns-clause-fault c) h
+returns-clause-unsolvable c = λ k h. fault_only c.args.equations.now.unknowns c.args.equations.now.classifiers
+    (equations_of c.args.equations.now.pairs) c.in_ok-first_fault.field-0 k (returns-clause-fault c) h
 
 pub returns-clause-too_big : goal.returns-clause-too_big
-returns-clause-too_big c = λ k h. too_big_only c.args.equations.now.unknowns c.args.equations.now.classifiers (equations_of c.args.equations.now.pairs) c.in_ok-first_fault.field-0 k (returns-clause-fault c) h
+returns-clause-too_big c = λ k h. too_big_only c.args.equations.now.unknowns c.args.equations.now.classifiers
+    (equations_of c.args.equations.now.pairs) c.in_ok-first_fault.field-0 k (returns-clause-fault c) h
 
 pub returns-in_err-state-clause-most_general : goal.returns-in_err-state-clause-most_general
 returns-in_err-state-clause-most_general c = no_answer _ c.from_residual.result c.from_residual.ensures.0
@@ -73,19 +104,24 @@ pub returns-in_err-state-clause-fault : goal.returns-in_err-state-clause-fault
 returns-in_err-state-clause-fault c = rw (from_memory c.from_residual.ensures.1) tt
 
 pub returns-in_err-verdict-clause-most_general : goal.returns-in_err-verdict-clause-most_general
-returns-in_err-verdict-clause-most_general c = no_answer _ c.from_residual-in_err-verdict.result c.from_residual-in_err-verdict.ensures.0
+returns-in_err-verdict-clause-most_general c = no_answer _ c.from_residual-in_err-verdict.result
+    c.from_residual-in_err-verdict.ensures.0
 
 pub returns-in_err-verdict-clause-small : goal.returns-in_err-verdict-clause-small
-returns-in_err-verdict-clause-small c = no_answer _ c.from_residual-in_err-verdict.result c.from_residual-in_err-verdict.ensures.0
+returns-in_err-verdict-clause-small c = no_answer _ c.from_residual-in_err-verdict.result
+    c.from_residual-in_err-verdict.ensures.0
 
 pub returns-in_err-verdict-clause-within : goal.returns-in_err-verdict-clause-within
-returns-in_err-verdict-clause-within c = no_answer _ c.from_residual-in_err-verdict.result c.from_residual-in_err-verdict.ensures.0
+returns-in_err-verdict-clause-within c = no_answer _ c.from_residual-in_err-verdict.result
+    c.from_residual-in_err-verdict.ensures.0
 
 pub returns-in_err-verdict-clause-types : goal.returns-in_err-verdict-clause-types
-returns-in_err-verdict-clause-types c = no_answer _ c.from_residual-in_err-verdict.result c.from_residual-in_err-verdict.ensures.0
+returns-in_err-verdict-clause-types c = no_answer _ c.from_residual-in_err-verdict.result
+    c.from_residual-in_err-verdict.ensures.0
 
 pub returns-in_err-verdict-clause-classifiers : goal.returns-in_err-verdict-clause-classifiers
-returns-in_err-verdict-clause-classifiers c = no_answer _ c.from_residual-in_err-verdict.result c.from_residual-in_err-verdict.ensures.0
+returns-in_err-verdict-clause-classifiers c = no_answer _ c.from_residual-in_err-verdict.result
+    c.from_residual-in_err-verdict.ensures.0
 
 pub returns-in_err-verdict-clause-fine : goal.returns-in_err-verdict-clause-fine
 returns-in_err-verdict-clause-fine c = λ h. rw (from_memory c.from_residual-in_err-verdict.ensures.1) tt
@@ -100,19 +136,24 @@ pub returns-in_err-verdict-clause-fault : goal.returns-in_err-verdict-clause-fau
 returns-in_err-verdict-clause-fault c = rw (from_memory c.from_residual-in_err-verdict.ensures.1) tt
 
 pub returns-in_err-answer-clause-most_general : goal.returns-in_err-answer-clause-most_general
-returns-in_err-answer-clause-most_general c = no_answer _ c.from_residual-in_err-answer.result c.from_residual-in_err-answer.ensures.0
+returns-in_err-answer-clause-most_general c = no_answer _ c.from_residual-in_err-answer.result
+    c.from_residual-in_err-answer.ensures.0
 
 pub returns-in_err-answer-clause-small : goal.returns-in_err-answer-clause-small
-returns-in_err-answer-clause-small c = no_answer _ c.from_residual-in_err-answer.result c.from_residual-in_err-answer.ensures.0
+returns-in_err-answer-clause-small c = no_answer _ c.from_residual-in_err-answer.result
+    c.from_residual-in_err-answer.ensures.0
 
 pub returns-in_err-answer-clause-within : goal.returns-in_err-answer-clause-within
-returns-in_err-answer-clause-within c = no_answer _ c.from_residual-in_err-answer.result c.from_residual-in_err-answer.ensures.0
+returns-in_err-answer-clause-within c = no_answer _ c.from_residual-in_err-answer.result
+    c.from_residual-in_err-answer.ensures.0
 
 pub returns-in_err-answer-clause-types : goal.returns-in_err-answer-clause-types
-returns-in_err-answer-clause-types c = no_answer _ c.from_residual-in_err-answer.result c.from_residual-in_err-answer.ensures.0
+returns-in_err-answer-clause-types c = no_answer _ c.from_residual-in_err-answer.result
+    c.from_residual-in_err-answer.ensures.0
 
 pub returns-in_err-answer-clause-classifiers : goal.returns-in_err-answer-clause-classifiers
-returns-in_err-answer-clause-classifiers c = no_answer _ c.from_residual-in_err-answer.result c.from_residual-in_err-answer.ensures.0
+returns-in_err-answer-clause-classifiers c = no_answer _ c.from_residual-in_err-answer.result
+    c.from_residual-in_err-answer.ensures.0
 
 pub returns-in_err-answer-clause-fine : goal.returns-in_err-answer-clause-fine
 returns-in_err-answer-clause-fine c = λ h. rw (from_memory c.from_residual-in_err-answer.ensures.1) tt
@@ -127,19 +168,24 @@ pub returns-in_err-answer-clause-fault : goal.returns-in_err-answer-clause-fault
 returns-in_err-answer-clause-fault c = rw (from_memory c.from_residual-in_err-answer.ensures.1) tt
 
 pub returns-in_err-first_fault-clause-most_general : goal.returns-in_err-first_fault-clause-most_general
-returns-in_err-first_fault-clause-most_general c = no_answer _ c.from_residual-in_err-first_fault.result c.from_residual-in_err-first_fault.ensures.0
+returns-in_err-first_fault-clause-most_general c = no_answer _ c.from_residual-in_err-first_fault.result
+    c.from_residual-in_err-first_fault.ensures.0
 
 pub returns-in_err-first_fault-clause-small : goal.returns-in_err-first_fault-clause-small
-returns-in_err-first_fault-clause-small c = no_answer _ c.from_residual-in_err-first_fault.result c.from_residual-in_err-first_fault.ensures.0
+returns-in_err-first_fault-clause-small c = no_answer _ c.from_residual-in_err-first_fault.result
+    c.from_residual-in_err-first_fault.ensures.0
 
 pub returns-in_err-first_fault-clause-within : goal.returns-in_err-first_fault-clause-within
-returns-in_err-first_fault-clause-within c = no_answer _ c.from_residual-in_err-first_fault.result c.from_residual-in_err-first_fault.ensures.0
+returns-in_err-first_fault-clause-within c = no_answer _ c.from_residual-in_err-first_fault.result
+    c.from_residual-in_err-first_fault.ensures.0
 
 pub returns-in_err-first_fault-clause-types : goal.returns-in_err-first_fault-clause-types
-returns-in_err-first_fault-clause-types c = no_answer _ c.from_residual-in_err-first_fault.result c.from_residual-in_err-first_fault.ensures.0
+returns-in_err-first_fault-clause-types c = no_answer _ c.from_residual-in_err-first_fault.result
+    c.from_residual-in_err-first_fault.ensures.0
 
 pub returns-in_err-first_fault-clause-classifiers : goal.returns-in_err-first_fault-clause-classifiers
-returns-in_err-first_fault-clause-classifiers c = no_answer _ c.from_residual-in_err-first_fault.result c.from_residual-in_err-first_fault.ensures.0
+returns-in_err-first_fault-clause-classifiers c = no_answer _ c.from_residual-in_err-first_fault.result
+    c.from_residual-in_err-first_fault.ensures.0
 
 pub returns-in_err-first_fault-clause-fine : goal.returns-in_err-first_fault-clause-fine
 returns-in_err-first_fault-clause-fine c = λ h. rw (from_memory c.from_residual-in_err-first_fault.ensures.1) tt
@@ -160,16 +206,24 @@ pub judge-requires-clause-blank : goal.judge-requires-clause-blank
 judge-requires-clause-blank c = c.in_ok-state.ensures.means
 
 pub judge-requires-clause-inside : goal.judge-requires-clause-inside
-judge-requires-clause-inside c = rw (c.in_ok-state.ensures.node_count, c.in_ok-state.ensures.classifier_count, c.as_slice-pairs.ensures) c.requires.within
+judge-requires-clause-inside c = rw (
+  c.in_ok-state.ensures.node_count,
+  c.in_ok-state.ensures.classifier_count,
+  c.as_slice-pairs.ensures,
+) c.requires.within
 
 pub answer-requires-clause-sound : goal.answer-requires-clause-sound
 answer-requires-clause-sound c =
-    let r = ready_at c.in_ok-state.ensures.node_count c.in_ok-state.ensures.classifier_count (ap equations_of c.as_slice-pairs.ensures) (c.in_ok-verdict.ensures.ready (c.is_fine.ensures.0 c.if-is_fine.true)) in
+    let r = ready_at c.in_ok-state.ensures.node_count c.in_ok-state.ensures.classifier_count
+    (ap equations_of c.as_slice-pairs.ensures)
+    (c.in_ok-verdict.ensures.ready (c.is_fine.ensures.0 c.if-is_fine.true)) in
     r.stated.sound
 
 pub answer-requires-clause-unknowns : goal.answer-requires-clause-unknowns
 answer-requires-clause-unknowns c =
-    let r = ready_at c.in_ok-state.ensures.node_count c.in_ok-state.ensures.classifier_count (ap equations_of c.as_slice-pairs.ensures) (c.in_ok-verdict.ensures.ready (c.is_fine.ensures.0 c.if-is_fine.true)) in
+    let r = ready_at c.in_ok-state.ensures.node_count c.in_ok-state.ensures.classifier_count
+    (ap equations_of c.as_slice-pairs.ensures)
+    (c.in_ok-verdict.ensures.ready (c.is_fine.ensures.0 c.if-is_fine.true)) in
     r.stated.long
 
 pub returns-then-is_fine-clause-types : goal.returns-then-is_fine-clause-types
@@ -177,7 +231,9 @@ returns-then-is_fine-clause-types c = c.in_ok-answer.ensures.long
 
 pub returns-then-is_fine-clause-classifiers : goal.returns-then-is_fine-clause-classifiers
 returns-then-is_fine-clause-classifiers c =
-    let r = ready_at c.in_ok-state.ensures.node_count c.in_ok-state.ensures.classifier_count (ap equations_of c.as_slice-pairs.ensures) (c.in_ok-verdict.ensures.ready (c.is_fine.ensures.0 c.if-is_fine.true)) in
+    let r = ready_at c.in_ok-state.ensures.node_count c.in_ok-state.ensures.classifier_count
+    (ap equations_of c.as_slice-pairs.ensures)
+    (c.in_ok-verdict.ensures.ready (c.is_fine.ensures.0 c.if-is_fine.true)) in
     c.in_ok-answer.ensures.named.long ∙ r.stated.classifier_count
 
 pub returns-then-is_fine-clause-fine : goal.returns-then-is_fine-clause-fine

@@ -1,6 +1,7 @@
 // Worked examples of execution.
 
-ghost use Rattle.mw_wasm.specs.ExecutionExamples.{InitAnswersSeven, CubeIsCalledTwice, LoopIsSpent, StoreOutOfBoundsTraps, EmptyElementTraps};
+ghost use Rattle.mw_wasm.specs.ExecutionExamples.{InitAnswersSeven, CubeIsCalledTwice, LoopIsSpent};
+ghost use Rattle.mw_wasm.specs.ExecutionExamples.{StoreOutOfBoundsTraps, EmptyElementTraps};
 ghost use Rattle.mw_wasm.specs.ControlExamples.{ControlRows, MemoryRows, IndirectRows, SegmentRows};
 
 /// `init` of the constant module answers 7 with all units left.

@@ -1,7 +1,10 @@
 // The binary format.
 
 ghost use Rattle.mw_wasm.specs.FormatLaws.{UnsignedNumbersFit, IntegersFit, OneExpression, OneModule};
-ghost use Rattle.mw_wasm.specs.FormatExamples.{ExampleAIsSpelled, ExampleBIsSpelled, LongerIndexIsSpelled, PaddedModuleIsSpelled, EmptyElseIsSpelled, ExamplesAreWithinProfile, TwoResultsAreOutside, DepthEndsAt500, SixBytesAreNoIndex, UnusedBitsAreZero, MinusOneIsSpelled, UnusedBitsAreTheSign};
+ghost use Rattle.mw_wasm.specs.FormatExamples.{ExampleAIsSpelled, ExampleBIsSpelled, LongerIndexIsSpelled};
+ghost use Rattle.mw_wasm.specs.FormatExamples.{PaddedModuleIsSpelled, EmptyElseIsSpelled, ExamplesAreWithinProfile};
+ghost use Rattle.mw_wasm.specs.FormatExamples.{TwoResultsAreOutside, DepthEndsAt500, SixBytesAreNoIndex};
+ghost use Rattle.mw_wasm.specs.FormatExamples.{UnusedBitsAreZero, MinusOneIsSpelled, UnusedBitsAreTheSign};
 ghost use Rattle.mw_wasm.specs.OpcodeRows.{InstructionRows, OpcodeRows};
 ghost use Rattle.mw_wasm.specs.NothingSpelled.{NothingIsSpelled};
 

@@ -3,7 +3,8 @@
 ghost use Rattle.mw_wasm.specs.Invocations.{ArgumentsAreTaken, OtherArgumentsAreLost, TwoParametersWantTwo};
 ghost use Rattle.mw_wasm.specs.StoreShape.{StoresKeepShape};
 
-/// With arguments of its parameters' types a function's invocation is the execution of its body; with others it is lost.
+/// With arguments of its parameters' types a function's invocation is the execution of its body; with others it is
+/// lost.
 pub fn arguments_have_their_types()
     ensures taken { ArgumentsAreTaken }
     ensures lost { OtherArgumentsAreLost }

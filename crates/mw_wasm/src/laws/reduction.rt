@@ -1,6 +1,7 @@
 // Reduction.
 
-ghost use Rattle.mw_wasm.specs.ReductionLaws.{ExecutionFollows, OneRule, RunFollows, RunIsExecution, MoreUnitsWhereItEnds, MoreUnitsWhereItTraps};
+ghost use Rattle.mw_wasm.specs.ReductionLaws.{ExecutionFollows, OneRule, RunFollows, RunIsExecution};
+ghost use Rattle.mw_wasm.specs.ReductionLaws.{MoreUnitsWhereItEnds, MoreUnitsWhereItTraps};
 
 /// An execution is one rule, and then an execution.
 pub fn execution_follows()

@@ -1,6 +1,7 @@
 // A valid module never gets lost.
 
-ghost use Rattle.mw_wasm.specs.Soundness.{ProgressAndPreservation, RunsAreSound, InvocationsAreSound, InstancesAreTyped, ValidModulesAreNeverLost};
+ghost use Rattle.mw_wasm.specs.Soundness.{ProgressAndPreservation, RunsAreSound, InvocationsAreSound};
+ghost use Rattle.mw_wasm.specs.Soundness.{InstancesAreTyped, ValidModulesAreNeverLost};
 
 /// Some rule applies to a typed state, and what it makes is typed again.
 pub fn progress_and_preservation()

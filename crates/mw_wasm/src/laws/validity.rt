@@ -1,6 +1,7 @@
 // Worked examples of validity.
 
-ghost use Rattle.mw_wasm.specs.ValidityExamples.{ConstantModuleIsValid, CubeModuleIsValid, CodeAfterBranchHasAnyOperands};
+ghost use Rattle.mw_wasm.specs.ValidityExamples.{ConstantModuleIsValid, CubeModuleIsValid};
+ghost use Rattle.mw_wasm.specs.ValidityExamples.{CodeAfterBranchHasAnyOperands};
 ghost use Rattle.mw_wasm.specs.InvalidExamples.{InvalidLists, ValidLists, AlignmentRows, InvalidModules};
 
 /// The module whose `init` answers 7 is valid.

@@ -9,7 +9,8 @@ pub loop-next-preserved : goal.loop-next-preserved
 loop-next-preserved g c =
     let last = last_here _ _ _ _ c.in-Some.ensures.items c.loop-next.invariant.1 in
     rw c.in_ok-push_parts.ensures (
-      counts_on _ _ _ _ _ _ _ _ c.requires.down c.in-Some.ensures.items c.visit-node.ensures.node c.loop-next.invariant.0 (omega (arith, c.if-budget-eq0.false)),
+      counts_on _ _ _ _ _ _ _ _ c.requires.down c.in-Some.ensures.items c.visit-node.ensures.node
+          c.loop-next.invariant.0 (omega (arith, c.if-budget-eq0.false)),
       AreHere_append _ _ _ last.1 (node_here _ _ _ c.requires.down last.0 c.visit-node.ensures.node),
       omega (arith, c.loop-next.invariant.2, c.visit-node.ensures.step, c.if-budget-eq0.false),
     )

@@ -18,4 +18,5 @@ abbrev pub decreases-let_of : goal.decreases-let_of
 decreases-let_of l = 4 * (size (expression_of l.definition.now) + size (expression_of l.body.now)) + 2
 
 abbrev pub decreases-if_of : goal.decreases-if_of
-decreases-if_of l = 4 * (size (expression_of l.condition.now) + size (expression_of l.yes.now) + size (expression_of l.no.now)) + 3
+decreases-if_of l =
+    4 * (size (expression_of l.condition.now) + size (expression_of l.yes.now) + size (expression_of l.no.now)) + 3

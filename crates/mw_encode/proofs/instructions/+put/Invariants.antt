@@ -11,4 +11,5 @@ abbrev pub decreases-put_instruction : goal.decreases-put_instruction
 decreases-put_instruction l = goal.size-put_instruction l
 
 abbrev pub invariant-put_code-loop-instruction : goal.invariant-put_code-loop-instruction
-invariant-put_code-loop-instruction l = Rest each_instruction each_bytes (drop l.instruction-index l.list) l.out.items (l.fn.out.items ++ flat_map each_bytes l.list)
+invariant-put_code-loop-instruction l = Rest each_instruction each_bytes (drop l.instruction-index l.list) l.out.items
+    (l.fn.out.items ++ flat_map each_bytes l.list)

@@ -4,4 +4,5 @@ use Rattle.mw_encode.proofs.Appending.{then_with}
 use Rattle.mw_encode.proofs.instructions.put_indirect_call.Goals as goal
 
 pub returns : goal.returns
-returns c = then_with c.put_byte.result c.args.out.now.items c.put_indexed.new.out.items c.put_byte.new.out.items (17 ∷ number c.args.kind) (0 ∷ []) _ refl c.in_ok-put_indexed.ensures c.put_byte.ensures
+returns c = then_with c.put_byte.result c.args.out.now.items c.put_indexed.new.out.items c.put_byte.new.out.items
+    (17 ∷ number c.args.kind) (0 ∷ []) _ refl c.in_ok-put_indexed.ensures c.put_byte.ensures

@@ -5,4 +5,5 @@ use Rattle.mw_encode.proofs.BestLocals.{runs_few}
 use Rattle.mw_encode.proofs.parts.put_locals.Goals as goal
 
 pub put_count-requires : goal.put_count-requires
-put_count-requires c = let h : length (runs_of c.args.types.now) < 2 ^ 32 = runs_few _ _ c.requires.spell in grind (arith, common_steps)
+put_count-requires c = let h : length (runs_of c.args.types.now) < 2 ^ 32 = runs_few _ _ c.requires.spell in
+    grind (arith, common_steps)

@@ -14,8 +14,11 @@ loop-at-init c = runs_start _ _ _ (let h = c.if-list-eq0.false in omega arith)
 
 pub loop-at-preserved : goal.loop-at-preserved
 loop-at-preserved c = elim c.if-is_same.branch [
-  | then-is_same w ↦ rw (w.out-is, w.kind-is, w.count-is, w.before-is) (same_step _ _ _ _ _ _ _ _ c.loop-at-test.true (sym c.is_same.ensures ∙ w.if-is_same.true) c.loop-at.invariant)
-  | else-is_same+in_ok-put_run w ↦ rw (w.out-is, w.kind-is, w.count-is, w.before-is) (other_step _ _ _ _ _ _ _ _ _ c.loop-at-test.true (sym c.is_same.ensures ∙ w.if-is_same.false) w.in_ok-put_run.ensures c.loop-at.auto.at c.loop-at.invariant)
+  | then-is_same w ↦ rw (w.out-is, w.kind-is, w.count-is, w.before-is)
+      (same_step _ _ _ _ _ _ _ _ c.loop-at-test.true (sym c.is_same.ensures ∙ w.if-is_same.true) c.loop-at.invariant)
+  | else-is_same+in_ok-put_run w ↦ rw (w.out-is, w.kind-is, w.count-is, w.before-is)
+      (other_step _ _ _ _ _ _ _ _ _ c.loop-at-test.true (sym c.is_same.ensures ∙ w.if-is_same.false)
+      w.in_ok-put_run.ensures c.loop-at.auto.at c.loop-at.invariant)
 ]
 
 pub returns-clause-number : goal.returns-clause-number

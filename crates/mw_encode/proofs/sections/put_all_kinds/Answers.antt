@@ -10,11 +10,16 @@ put_count-requires c = rw c.len.ensures (viewed_count function_kind function_of 
 
 pub loop-one-init : goal.loop-one-init
 loop-one-init c = rw c.as_slice-items.ensures
-    (viewed_start function_kind function_kind_bytes function_of _ _ _ c.requires (c.in_ok-put_count.ensures ∙ ap (λ n. c.args.out.now.items ++ number n) c.len.ensures))
+    (viewed_start function_kind function_kind_bytes function_of _ _ _ c.requires
+    (c.in_ok-put_count.ensures ∙ ap (λ n. c.args.out.now.items ++ number n) c.len.ensures))
 
 pub loop-one-preserved : goal.loop-one-preserved
-loop-one-preserved c = rest_step (λ x. function_kind (function_of x)) (λ x. function_kind_bytes (function_of x)) c.as_slice-items.result.now c.loop-one.one-index c.one-item.result c.loop-one.out.items c.put_u32.new.out.items _ c.loop-one-test.true c.one-item.is c.in_ok-put_u32.ensures.exact c.loop-one.invariant
+loop-one-preserved c = rest_step (λ x. function_kind (function_of x)) (λ x. function_kind_bytes (function_of x))
+    c.as_slice-items.result.now c.loop-one.one-index c.one-item.result c.loop-one.out.items c.put_u32.new.out.items _
+    c.loop-one-test.true c.one-item.is c.in_ok-put_u32.ensures.exact c.loop-one.invariant
 
 pub returns : goal.returns
-returns c = rest_end (λ x. function_kind (function_of x)) (λ x. function_kind_bytes (function_of x)) c.as_slice-items.result.now c.loop-one.one-index c.loop-one.out.items _ c.loop-one-test.false c.loop-one.invariant
-    ∙ ap (λ items. c.args.out.now.items ++ vector_bytes function_kind_bytes (map function_of items)) c.as_slice-items.ensures
+returns c = rest_end (λ x. function_kind (function_of x)) (λ x. function_kind_bytes (function_of x))
+    c.as_slice-items.result.now c.loop-one.one-index c.loop-one.out.items _ c.loop-one-test.false c.loop-one.invariant
+    ∙ ap (λ items. c.args.out.now.items ++ vector_bytes function_kind_bytes (map function_of items))
+    c.as_slice-items.ensures

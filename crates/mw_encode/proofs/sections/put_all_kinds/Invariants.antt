@@ -6,4 +6,6 @@ use Rattle.mw_encode.proofs.Pieces.{Rest}
 use Rattle.mw_encode.proofs.sections.put_all_kinds.Given as goal
 
 abbrev pub invariant-loop-one : goal.invariant-loop-one
-invariant-loop-one l = Rest (λ x. function_kind (function_of x)) (λ x. function_kind_bytes (function_of x)) (drop l.one-index l.items) l.out.items (l.fn.out.items ++ vector_bytes function_kind_bytes (map function_of l.items))
+invariant-loop-one l = Rest (λ x. function_kind (function_of x)) (λ x. function_kind_bytes (function_of x))
+    (drop l.one-index l.items) l.out.items
+    (l.fn.out.items ++ vector_bytes function_kind_bytes (map function_of l.items))

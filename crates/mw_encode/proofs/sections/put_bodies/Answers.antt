@@ -10,7 +10,11 @@ pub put_items-requires-clause-spelled : goal.put_items-requires-clause-spelled
 put_items-requires-clause-spelled c = rw c.as_slice.ensures c.requires
 
 pub put_items-requires-clause-small : goal.put_items-requires-clause-small
-put_items-requires-clause-small c = rw c.as_slice.ensures (content_small 10 function_code function_code_bytes best_function_code function_of c.args.list.now c.requires)
+put_items-requires-clause-small c =
+    rw c.as_slice.ensures (content_small 10 function_code function_code_bytes best_function_code function_of
+    c.args.list.now c.requires)
 
 pub returns : goal.returns
-returns c = ends_with c.put_items.result c.put_items.new.out.items c.args.out.now.items _ _ (ap (λ items. section_bytes 10 function_code_bytes (map function_of items)) (sym c.as_slice.ensures)) c.put_items.ensures
+returns c = ends_with c.put_items.result c.put_items.new.out.items c.args.out.now.items _ _
+    (ap (λ items. section_bytes 10 function_code_bytes (map function_of items)) (sym c.as_slice.ensures))
+    c.put_items.ensures

@@ -10,7 +10,9 @@ pub put_items-requires-clause-spelled : goal.put_items-requires-clause-spelled
 put_items-requires-clause-spelled c = rw c.as_slice.ensures c.requires
 
 pub put_items-requires-clause-small : goal.put_items-requires-clause-small
-put_items-requires-clause-small c = rw c.as_slice.ensures (content_small 6 global global_bytes best_global global_of c.args.list.now c.requires)
+put_items-requires-clause-small c =
+    rw c.as_slice.ensures (content_small 6 global global_bytes best_global global_of c.args.list.now c.requires)
 
 pub returns : goal.returns
-returns c = ends_with c.put_items.result c.put_items.new.out.items c.args.out.now.items _ _ (ap (λ items. section_bytes 6 global_bytes (map global_of items)) (sym c.as_slice.ensures)) c.put_items.ensures
+returns c = ends_with c.put_items.result c.put_items.new.out.items c.args.out.now.items _ _
+    (ap (λ items. section_bytes 6 global_bytes (map global_of items)) (sym c.as_slice.ensures)) c.put_items.ensures

@@ -10,7 +10,10 @@ pub put_items-requires-clause-spelled : goal.put_items-requires-clause-spelled
 put_items-requires-clause-spelled c = rw (c.as_slice.ensures, seen_same c.args.list.now) c.requires
 
 pub put_items-requires-clause-small : goal.put_items-requires-clause-small
-put_items-requires-clause-small c = rw (c.as_slice.ensures, seen_same c.args.list.now) (λ some. section_small 1 function_type function_type_bytes best_function_type c.args.list.now some c.requires)
+put_items-requires-clause-small c = rw (c.as_slice.ensures, seen_same c.args.list.now)
+    (λ some. section_small 1 function_type function_type_bytes best_function_type c.args.list.now some c.requires)
 
 pub returns : goal.returns
-returns c = ends_with c.put_items.result c.put_items.new.out.items c.args.out.now.items _ _ (sym (ap (λ kinds. section_bytes 1 function_type_bytes (map (λ kind. kind) kinds)) c.as_slice.ensures ∙ ap (λ kinds. section_bytes 1 function_type_bytes kinds) (seen_same c.args.list.now))) c.put_items.ensures
+returns c = ends_with c.put_items.result c.put_items.new.out.items c.args.out.now.items _ _
+    (sym (ap (λ kinds. section_bytes 1 function_type_bytes (map (λ kind. kind) kinds)) c.as_slice.ensures
+    ∙ ap (λ kinds. section_bytes 1 function_type_bytes kinds) (seen_same c.args.list.now))) c.put_items.ensures

@@ -4,4 +4,5 @@ use Rattle.mw_encode.specs.Encoding.{number, vector_bytes}
 use Rattle.mw_encode.proofs.vectors.put_indices.Given as goal
 
 abbrev pub invariant-loop-index : goal.invariant-loop-index
-invariant-loop-index l = l.out.items ++ flat_map number (drop l.index-index l.list) ≡ l.fn.out.items ++ vector_bytes number l.list
+invariant-loop-index l = l.out.items ++ flat_map number (drop l.index-index l.list) ≡ l.fn.out.items
+    ++ vector_bytes number l.list

@@ -20,7 +20,8 @@ pub overflow_sub-result-else-bits-lt2147483648-2 : goal.overflow_sub-result-else
 overflow_sub-result-else-bits-lt2147483648-2 c = omega (arith, ints)
 
 pub returns-then-bits-lt2147483648 : goal.returns-then-bits-lt2147483648
-returns-then-bits-lt2147483648 c = to_z_pos w32 c.args.bits c.if-bits-lt2147483648.true ∙ sym (rw (lt-ltb c.args.bits 2147483648 c.if-bits-lt2147483648.true) refl)
+returns-then-bits-lt2147483648 c = to_z_pos w32 c.args.bits c.if-bits-lt2147483648.true
+    ∙ sym (rw (lt-ltb c.args.bits 2147483648 c.if-bits-lt2147483648.true) refl)
 
 pub returns-else-bits-lt2147483648 : goal.returns-else-bits-lt2147483648
 returns-else-bits-lt2147483648 c = rw (le-ltb c.args.bits 2147483648 c.if-bits-lt2147483648.false) (omega (arith, ints))

@@ -20,7 +20,9 @@ pub overflow_sub-result-else-bits-lt9223372036854775808-2 : goal.overflow_sub-re
 overflow_sub-result-else-bits-lt9223372036854775808-2 c = omega (arith, ints)
 
 pub returns-then-bits-lt9223372036854775808 : goal.returns-then-bits-lt9223372036854775808
-returns-then-bits-lt9223372036854775808 c = to_z_pos w64 c.args.bits c.if-bits-lt9223372036854775808.true ∙ sym (rw (lt-ltb c.args.bits 9223372036854775808 c.if-bits-lt9223372036854775808.true) refl)
+returns-then-bits-lt9223372036854775808 c = to_z_pos w64 c.args.bits c.if-bits-lt9223372036854775808.true
+    ∙ sym (rw (lt-ltb c.args.bits 9223372036854775808 c.if-bits-lt9223372036854775808.true) refl)
 
 pub returns-else-bits-lt9223372036854775808 : goal.returns-else-bits-lt9223372036854775808
-returns-else-bits-lt9223372036854775808 c = rw (le-ltb c.args.bits 9223372036854775808 c.if-bits-lt9223372036854775808.false) (omega (arith, ints))
+returns-else-bits-lt9223372036854775808 c =
+    rw (le-ltb c.args.bits 9223372036854775808 c.if-bits-lt9223372036854775808.false) (omega (arith, ints))

@@ -8,7 +8,11 @@ pub loop-t-init : goal.loop-t-init
 loop-t-init c = sym (append-nil c.extend_from_slice.new.self.items)
 
 pub loop-t-preserved : goal.loop-t-preserved
-loop-t-preserved c = mapped_more zero_of c.args.further.now c.loop-t.t-index _ c.zero_of.result c.extend_from_slice.new.self.items c.loop-t.locals.items c.push.new.self.items c.loop-t.invariant c.loop-t-test.true c.zero_of.ensures c.in_ok-push.ensures.items
+loop-t-preserved c = mapped_more zero_of c.args.further.now c.loop-t.t-index _ c.zero_of.result
+    c.extend_from_slice.new.self.items c.loop-t.locals.items c.push.new.self.items c.loop-t.invariant c.loop-t-test.true
+    c.zero_of.ensures c.in_ok-push.ensures.items
 
 pub returns : goal.returns
-returns c = mapped_all zero_of c.args.further.now c.loop-t.t-index c.extend_from_slice.new.self.items c.loop-t.locals.items c.loop-t.invariant c.loop-t-test.false ∙ ap (λ xs. xs ++ map zero_of c.args.further.now) c.in_ok-extend_from_slice.ensures.items
+returns c = mapped_all zero_of c.args.further.now c.loop-t.t-index c.extend_from_slice.new.self.items
+    c.loop-t.locals.items c.loop-t.invariant c.loop-t-test.false ∙ ap (λ xs. xs ++ map zero_of c.args.further.now)
+    c.in_ok-extend_from_slice.ensures.items

@@ -9,10 +9,13 @@ pub get-requires : goal.get-requires
 get-requires c = one_there c.args.global.now c.requires
 
 pub unreachable-requires : goal.unreachable-requires
-unreachable-requires c = let one = is_one c.args.global.now c.requires c.get.result.now c.get.ensures in no_constant c.get.result.now one.0 c.in_default.not-ConstI32 c.in_default.not-ConstI64 one.1
+unreachable-requires c = let one = is_one c.args.global.now c.requires c.get.result.now c.get.ensures in
+    no_constant c.get.result.now one.0 c.in_default.not-ConstI32 c.in_default.not-ConstI64 one.1
 
 pub returns-in-ConstI32 : goal.returns-in-ConstI32
-returns-in-ConstI32 c = value_is c.args.global.now c.requires c.get.result.now (value.I32 c.in-ConstI32.n) c.get.ensures (ap (λ i. constant (instruction_of i)) c.in-ConstI32.is)
+returns-in-ConstI32 c = value_is c.args.global.now c.requires c.get.result.now (value.I32 c.in-ConstI32.n) c.get.ensures
+    (ap (λ i. constant (instruction_of i)) c.in-ConstI32.is)
 
 pub returns-in-ConstI64 : goal.returns-in-ConstI64
-returns-in-ConstI64 c = value_is c.args.global.now c.requires c.get.result.now (value.I64 c.in-ConstI64.n) c.get.ensures (ap (λ i. constant (instruction_of i)) c.in-ConstI64.is)
+returns-in-ConstI64 c = value_is c.args.global.now c.requires c.get.result.now (value.I64 c.in-ConstI64.n) c.get.ensures
+    (ap (λ i. constant (instruction_of i)) c.in-ConstI64.is)

@@ -6,7 +6,13 @@ use Rattle.mw_exec.proofs.invocation.begin.Goals as goal
 
 pub returns : goal.returns
 returns c =
-    let w : Waiting = record { kind = kind.Frame c.gives_one.result 0; code = c.as_slice-body.result; at = length c.as_slice-body.result.now; height = 0 } in
+    let w : Waiting = record {
+      kind = kind.Frame c.gives_one.result 0;
+      code = c.as_slice-body.result;
+      at =
+          length c.as_slice-body.result.now;
+      height = 0;
+    } in
     begins_is c.args.function.now c.args.kind.now c.args.args.now c.gives_one.result w _ c.args.fuel record {
       locals = c.in_ok-push_locals.ensures ∙ rw (c.new-locals.ensures.items, c.as_slice.ensures) refl;
       base = refl;

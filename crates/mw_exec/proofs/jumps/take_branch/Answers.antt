@@ -4,26 +4,85 @@ use Rattle.mw_exec.proofs.Leaving.{taken_formed, branch_taken, branch_from_any, 
 use Rattle.mw_exec.proofs.jumps.take_branch.Goals as goal
 
 pub returns-in-None : goal.returns-in-None
-returns-in-None c = branch_lost c.args.from c.args.state.now _ (sym c.args.state.now.waiting.ok.0 ∙ c.in-None.ensures.cases.0)
+returns-in-None c = branch_lost c.args.from c.args.state.now _
+    (sym c.args.state.now.waiting.ok.0 ∙ c.in-None.ensures.cases.0)
 
 pub again-requires-clause-formed : goal.again-requires-clause-formed
-again-requires-clause-formed c = taken_formed c.in-Some.waiting c.args.state.now (record c.args.state.now { waiting = c.pop.new.self }) c.requires.formed record { waiting = c.in-Some.ensures.items; stack = refl; height = refl; locals = refl; base = refl; code = refl; fuel = refl }
+again-requires-clause-formed c = taken_formed c.in-Some.waiting c.args.state.now
+    (record c.args.state.now { waiting = c.pop.new.self }) c.requires.formed record {
+      waiting = c.in-Some.ensures.items;
+      stack = refl;
+      height = refl;
+      locals = refl;
+      base = refl;
+      code = refl;
+      fuel =
+          refl;
+    }
 
 pub behind-requires-clause-formed : goal.behind-requires-clause-formed
-behind-requires-clause-formed c = taken_formed c.in-Some.waiting c.args.state.now (record c.args.state.now { waiting = c.pop.new.self }) c.requires.formed record { waiting = c.in-Some.ensures.items; stack = refl; height = refl; locals = refl; base = refl; code = refl; fuel = refl }
+behind-requires-clause-formed c = taken_formed c.in-Some.waiting c.args.state.now
+    (record c.args.state.now { waiting = c.pop.new.self }) c.requires.formed record {
+      waiting = c.in-Some.ensures.items;
+      stack = refl;
+      height = refl;
+      locals = refl;
+      base = refl;
+      code = refl;
+      fuel =
+          refl;
+    }
 
 pub from_body-requires-clause-formed : goal.from_body-requires-clause-formed
-from_body-requires-clause-formed c = taken_formed c.in-Some.waiting c.args.state.now (record c.args.state.now { waiting = c.pop.new.self }) c.requires.formed record { waiting = c.in-Some.ensures.items; stack = refl; height = refl; locals = refl; base = refl; code = refl; fuel = refl }
+from_body-requires-clause-formed c = taken_formed c.in-Some.waiting c.args.state.now
+    (record c.args.state.now { waiting = c.pop.new.self }) c.requires.formed record {
+      waiting = c.in-Some.ensures.items;
+      stack = refl;
+      height = refl;
+      locals = refl;
+      base = refl;
+      code = refl;
+      fuel =
+          refl;
+    }
 
 pub returns-in-Loop : goal.returns-in-Loop
-returns-in-Loop c = branch_taken c.again.result c.in-Some.waiting c.args.from c.args.state.now (record c.args.state.now { waiting = c.pop.new.self }) c.again.new.state
-    record { waiting = c.in-Some.ensures.items; stack = refl; height = refl; locals = refl; base = refl; code = refl; fuel = refl }
-    (branch_from_any c.again.result c.args.from (record c.args.state.now { waiting = c.pop.new.self }) c.again.new.state (around_with c.in-Some.waiting (record c.args.state.now { waiting = c.pop.new.self })) c.again.ensures)
+returns-in-Loop c = branch_taken c.again.result c.in-Some.waiting c.args.from c.args.state.now
+    (record c.args.state.now { waiting = c.pop.new.self }) c.again.new.state
+    record {
+      waiting = c.in-Some.ensures.items;
+      stack = refl;
+      height = refl;
+      locals = refl;
+      base = refl;
+      code = refl;
+      fuel = refl;
+    }
+    (branch_from_any c.again.result c.args.from (record c.args.state.now { waiting = c.pop.new.self }) c.again.new.state
+    (around_with c.in-Some.waiting (record c.args.state.now { waiting = c.pop.new.self })) c.again.ensures)
 
 pub returns-in-Block : goal.returns-in-Block
-returns-in-Block c = branch_taken c.behind.result c.in-Some.waiting c.args.from c.args.state.now (record c.args.state.now { waiting = c.pop.new.self }) c.behind.new.state
-    record { waiting = c.in-Some.ensures.items; stack = refl; height = refl; locals = refl; base = refl; code = refl; fuel = refl } c.behind.ensures
+returns-in-Block c = branch_taken c.behind.result c.in-Some.waiting c.args.from c.args.state.now
+    (record c.args.state.now { waiting = c.pop.new.self }) c.behind.new.state
+    record {
+      waiting = c.in-Some.ensures.items;
+      stack = refl;
+      height = refl;
+      locals = refl;
+      base = refl;
+      code = refl;
+      fuel = refl;
+    } c.behind.ensures
 
 pub returns-in-Frame : goal.returns-in-Frame
-returns-in-Frame c = branch_taken c.from_body.result c.in-Some.waiting c.args.from c.args.state.now (record c.args.state.now { waiting = c.pop.new.self }) c.from_body.new.state
-    record { waiting = c.in-Some.ensures.items; stack = refl; height = refl; locals = refl; base = refl; code = refl; fuel = refl } c.from_body.ensures.branched
+returns-in-Frame c = branch_taken c.from_body.result c.in-Some.waiting c.args.from c.args.state.now
+    (record c.args.state.now { waiting = c.pop.new.self }) c.from_body.new.state
+    record {
+      waiting = c.in-Some.ensures.items;
+      stack = refl;
+      height = refl;
+      locals = refl;
+      base = refl;
+      code = refl;
+      fuel = refl;
+    } c.from_body.ensures.branched

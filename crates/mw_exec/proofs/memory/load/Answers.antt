@@ -12,13 +12,32 @@ pub returns-in_default-clause-comes : goal.returns-in_default-clause-comes
 returns-in_default-clause-comes c m align ls = c.in_default.ensures.none.lacks _
 
 pub returns-then-at-size_of_load-clause-comes : goal.returns-then-at-size_of_load-clause-comes
-returns-then-at-size_of_load-clause-comes c m align ls = rw (c.in-Some.ensures.some.top, lt-leb (c.in-Some.n + c.args.offset + load_size c.args.op) (c.args.held.now.pages * 65536) (omega (arith, c.size_of_load.ensures.is))) refl
+returns-then-at-size_of_load-clause-comes c m align ls =
+    rw (
+      c.in-Some.ensures.some.top,
+      lt-leb (c.in-Some.n + c.args.offset + load_size c.args.op)
+          (c.args.held.now.pages * 65536) (omega (arith, c.size_of_load.ensures.is)),
+    ) refl
 
 pub returns-clause-comes : goal.returns-clause-comes
-returns-clause-comes c m align ls = rw (c.in-Some.ensures.some.top, le-leb (c.in-Some.n + c.args.offset + load_size c.args.op) (c.args.held.now.pages * 65536) (omega (arith, c.size_of_load.ensures.is)))
-    (ap (λ vs. gives (store_of c.args.held.now) ls vs None) (sym (ap (above c.args.height) c.in_ok-push.ensures ∙ (above_pushed c.args.height c.pop_i32.new.stack.items c.value_at.result c.in-Some.ensures.kept.long
-    ∙ ap (λ v. v ∷ above c.args.height c.pop_i32.new.stack.items) (c.value_at.ensures ∙ (ap (λ bytes. loaded c.args.op (read_bytes (load_size c.args.op) (c.in-Some.n + c.args.offset) (memory_of 0 bytes))) c.as_slice.ensures.value
-    ∙ ap (loaded c.args.op) (read_pages (load_size c.args.op) (c.in-Some.n + c.args.offset) 0 c.args.held.now.pages c.args.held.now.bytes.items)))))))
+returns-clause-comes c m align ls =
+    rw (
+      c.in-Some.ensures.some.top,
+      le-leb (c.in-Some.n + c.args.offset + load_size c.args.op)
+          (c.args.held.now.pages * 65536) (omega (arith, c.size_of_load.ensures.is)),
+    )
+    (ap (λ vs. gives (store_of c.args.held.now) ls vs None)
+    (sym (ap (above c.args.height) c.in_ok-push.ensures
+    ∙ (above_pushed c.args.height c.pop_i32.new.stack.items c.value_at.result c.in-Some.ensures.kept.long
+    ∙ ap (λ v. v ∷ above c.args.height c.pop_i32.new.stack.items)
+    (c.value_at.ensures
+    ∙ (ap (λ bytes.
+    loaded c.args.op (read_bytes (load_size c.args.op) (c.in-Some.n + c.args.offset) (memory_of 0 bytes)))
+    c.as_slice.ensures.value
+    ∙ ap (loaded c.args.op) (read_pages (load_size c.args.op) (c.in-Some.n + c.args.offset) 0 c.args.held.now.pages
+    c.args.held.now.bytes.items)))))))
 
 pub returns-clause-kept : goal.returns-clause-kept
-returns-clause-kept c = kept_then c.args.height c.args.stack.now.items c.pop_i32.new.stack.items c.push.new.stack.items c.in-Some.ensures.kept (kept_pushed c.args.height c.pop_i32.new.stack.items c.push.new.stack.items c.value_at.result c.in-Some.ensures.kept.long c.in_ok-push.ensures)
+returns-clause-kept c = kept_then c.args.height c.args.stack.now.items c.pop_i32.new.stack.items c.push.new.stack.items
+    c.in-Some.ensures.kept (kept_pushed c.args.height c.pop_i32.new.stack.items c.push.new.stack.items c.value_at.result
+    c.in-Some.ensures.kept.long c.in_ok-push.ensures)

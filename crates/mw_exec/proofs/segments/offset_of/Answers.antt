@@ -4,7 +4,9 @@ use Rattle.mw_exec.proofs.Offsets.{constant_offset, only_constants}
 use Rattle.mw_exec.proofs.segments.offset_of.Goals as goal
 
 pub unreachable-requires : goal.unreachable-requires
-unreachable-requires c = only_constants c.args.code.now.inner.items c.get.result.now c.get.ensures c.in_default.not-ConstI32 c.requires
+unreachable-requires c = only_constants c.args.code.now.inner.items c.get.result.now c.get.ensures
+    c.in_default.not-ConstI32 c.requires
 
 pub returns : goal.returns
-returns c = constant_offset c.args.code.now.inner.items c.get.result.now c.in-ConstI32.n c.get.ensures (ap instruction_of c.in-ConstI32.is) c.requires
+returns c = constant_offset c.args.code.now.inner.items c.get.result.now c.in-ConstI32.n c.get.ensures
+    (ap instruction_of c.in-ConstI32.is) c.requires

@@ -6,19 +6,27 @@ use Rattle.mw_infer.proofs.Testing.{spot-below, fresh-more, open-at, read, not_t
 use Rattle.mw_infer.proofs.fresh.first_open.Goals as goal
 
 pub classifier-classifier-requires : goal.classifier-classifier-requires
-classifier-classifier-requires c = (spot-below _ _ c.args.closes.now c.loop-spot.spot-index c.spot-item.result c.requires c.loop-spot-test.true c.spot-item.is).0
+classifier-classifier-requires c =
+    (spot-below _ _ c.args.closes.now c.loop-spot.spot-index c.spot-item.result c.requires c.loop-spot-test.true
+    c.spot-item.is).0
 
 pub is_absent_from-requires : goal.is_absent_from-requires
-is_absent_from-requires c = rw c.as_slice.ensures.value (spot-below _ _ c.args.closes.now c.loop-spot.spot-index c.spot-item.result c.requires c.loop-spot-test.true c.spot-item.is).1
+is_absent_from-requires c =
+    rw c.as_slice.ensures.value (spot-below _ _ c.args.closes.now c.loop-spot.spot-index c.spot-item.result c.requires
+    c.loop-spot-test.true c.spot-item.is).1
 
 pub returns-then-not-is_absent_from : goal.returns-then-not-is_absent_from
 returns-then-not-is_absent_from c =
-    let e = read c.args.solved.now.classifiers c.spot-item.result.classifier 0 c.classifier-classifier.result c.classifier-classifier.ensures in
-    open-at (substitution_of c.args.solved.now) c.args.closes.now c.loop-spot.spot-index c.spot-item.result c.loop-spot-test.true c.spot-item.is c.loop-spot.invariant
+    let e = read c.args.solved.now.classifiers c.spot-item.result.classifier 0 c.classifier-classifier.result
+    c.classifier-classifier.ensures in
+    open-at (substitution_of c.args.solved.now) c.args.closes.now c.loop-spot.spot-index c.spot-item.result
+    c.loop-spot-test.true c.spot-item.is c.loop-spot.invariant
     (λ h. not_true (c.if-not-is_absent_from.ensures.1 (rw (c.as_slice.ensures.value, sym e) h)))
 
 pub loop-spot-preserved : goal.loop-spot-preserved
 loop-spot-preserved c =
-    let e = read c.args.solved.now.classifiers c.spot-item.result.classifier 0 c.classifier-classifier.result c.classifier-classifier.ensures in
-    fresh-more (after least (substitution_of c.args.solved.now)) c.args.closes.now c.loop-spot.spot-index c.spot-item.result c.loop-spot-test.true c.spot-item.is c.loop-spot.invariant
+    let e = read c.args.solved.now.classifiers c.spot-item.result.classifier 0 c.classifier-classifier.result
+    c.classifier-classifier.ensures in
+    fresh-more (after least (substitution_of c.args.solved.now)) c.args.closes.now c.loop-spot.spot-index
+    c.spot-item.result c.loop-spot-test.true c.spot-item.is c.loop-spot.invariant
     (rw (c.as_slice.ensures.value, sym e) at (c.if-not-is_absent_from.ensures.0 refl))

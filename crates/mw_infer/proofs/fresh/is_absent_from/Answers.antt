@@ -6,10 +6,17 @@ use Rattle.mw_infer.proofs.Testing.{binder-below, absent-at, absent-more, not_tr
 use Rattle.mw_infer.proofs.fresh.is_absent_from.Goals as goal
 
 pub is_absent_at-requires : goal.is_absent_at-requires
-is_absent_at-requires c = binder-below _ _ c.args.scope.now c.loop-binder.binder-index _ c.requires c.loop-binder-test.true
+is_absent_at-requires c = binder-below _ _ c.args.scope.now c.loop-binder.binder-index _ c.requires
+    c.loop-binder-test.true
 
 pub returns-then-not-is_absent_at : goal.returns-then-not-is_absent_at
-returns-then-not-is_absent_at c = ((λ f. not_true f), (λ h. c.if-not-is_absent_at.ensures.1 (absent-at c.args.classifier (after least (substitution_of c.args.solved.now)) c.args.scope.now c.loop-binder.binder-index _ c.loop-binder-test.true h)))
+returns-then-not-is_absent_at c = (
+  (λ f. not_true f),
+  (λ h. c.if-not-is_absent_at.ensures.1 (absent-at c.args.classifier (after least (substitution_of c.args.solved.now))
+      c.args.scope.now c.loop-binder.binder-index _ c.loop-binder-test.true h)),
+)
 
 pub loop-binder-preserved : goal.loop-binder-preserved
-loop-binder-preserved c = absent-more c.args.classifier (after least (substitution_of c.args.solved.now)) c.args.scope.now c.loop-binder.binder-index _ c.loop-binder-test.true c.loop-binder.invariant (c.if-not-is_absent_at.ensures.0 refl)
+loop-binder-preserved c = absent-more c.args.classifier (after least (substitution_of c.args.solved.now))
+    c.args.scope.now c.loop-binder.binder-index _ c.loop-binder-test.true c.loop-binder.invariant
+    (c.if-not-is_absent_at.ensures.0 refl)

@@ -7,4 +7,6 @@ use Rattle.mw_infer.specs.Views.{slot_of}
 use Rattle.mw_infer.proofs.fresh.is_absent_from.Given as goal
 
 abbrev pub invariant-loop-binder : goal.invariant-loop-binder
-invariant-loop-binder l = IsAbsent l.classifier (map (entry_of (after least (substitution_of l.solved))) (map slot_of (take l.binder-index l.scope)))
+invariant-loop-binder l =
+    IsAbsent l.classifier
+    (map (entry_of (after least (substitution_of l.solved))) (map slot_of (take l.binder-index l.scope)))

@@ -15,14 +15,26 @@ use Rattle.mw_infer.proofs.judge.judge.Goals as goal
 pub solve-requires : goal.solve-requires
 solve-requires c =
     let e = c.in_ok-out.ensures in
-    record { within = rw (e.unknowns, e.classifiers, e.equations) (item-within (tops_of c.args.names.now) (place_of c.args.asked.now) (expression_of c.args.term.now) c.requires.own) }
+    record {
+      within = rw (e.unknowns, e.classifiers, e.equations)
+          (item-within (tops_of c.args.names.now) (place_of c.args.asked.now) (expression_of c.args.term.now)
+          c.requires.own);
+    }
 
 pub first_open-requires : goal.first_open-requires
 first_open-requires c =
     let e = c.in_ok-out.ensures in
     let tops = tops_of c.args.names.now in
     let term = expression_of c.args.term.now in
-    rw (c.in-Ok.ensures.types, c.in-Ok.ensures.classifiers, e.unknowns, e.classifiers, c.as_slice.ensures.value, e.closes) (closes-below tops (item_unknowns tops term) (item_classifiers tops term) 1 0 [] live term (omega arith) (omega arith) tt tt)
+    rw (
+      c.in-Ok.ensures.types,
+      c.in-Ok.ensures.classifiers,
+      e.unknowns,
+      e.classifiers,
+      c.as_slice.ensures.value,
+      e.closes,
+    ) (closes-below tops (item_unknowns tops term) (item_classifiers tops term) 1 0 [] live term
+    (omega arith) (omega arith) tt tt)
 
 pub let_type-requires-clause-within : goal.let_type-requires-clause-within
 let_type-requires-clause-within c =

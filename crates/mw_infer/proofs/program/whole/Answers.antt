@@ -10,57 +10,97 @@ use Rattle.mw_infer.proofs.Growing.{principal-main}
 use Rattle.mw_infer.proofs.program.whole.Goals as goal
 
 pub loop-item-init : goal.loop-item-init
-loop-item-init c = record { progress = rw c.new-names.ensures.items (progress-first (program_of c.args.program.now)); names = ap length c.new-names.ensures.items }
+loop-item-init c = record {
+  progress = rw c.new-names.ensures.items (progress-first (program_of c.args.program.now));
+  names = ap length c.new-names.ensures.items;
+}
 
 pub step-requires : goal.step-requires
 step-requires c =
     let p : PureProgram = program_of c.args.program.now in
-    let g : slice_get p.items c.loop-item.item-index ≡ Some (definition_of c.item-item.result.kind) = get-map (λ i. definition_of i.kind) c.args.program.now.items c.loop-item.item-index c.item-item.result (rw c.as_slice-items.ensures at c.loop-item-test.true) (rw c.as_slice-items.ensures at c.item-item.is) in
-    item-judged p c.loop-item.item-index (definition_of c.item-item.result.kind) (tops_of c.loop-item.names.items) c.requires g c.loop-item.invariant.progress
+    let g : slice_get p.items c.loop-item.item-index ≡ Some (definition_of c.item-item.result.kind) =
+    get-map (λ i. definition_of i.kind) c.args.program.now.items c.loop-item.item-index c.item-item.result
+    (rw c.as_slice-items.ensures at c.loop-item-test.true) (rw c.as_slice-items.ensures at c.item-item.is) in
+    item-judged p c.loop-item.item-index (definition_of c.item-item.result.kind) (tops_of c.loop-item.names.items)
+    c.requires g c.loop-item.invariant.progress
 
 pub returns-in-Err-clause-refused : goal.returns-in-Err-clause-refused
 returns-in-Err-clause-refused c =
     let p : PureProgram = program_of c.args.program.now in
     let i : ℕ = c.loop-item.item-index in
     let d : Definition = definition_of c.item-item.result.kind in
-    let g : slice_get p.items i ≡ Some d = get-map (λ i. definition_of i.kind) c.args.program.now.items i c.item-item.result (rw c.as_slice-items.ensures at c.loop-item-test.true) (rw c.as_slice-items.ensures at c.item-item.is) in
-    let e : c.len-index.result ≡ i = omega (arith, c.len-index.ensures, c.loop-item.names.ok.0, c.loop-item.invariant.names) in
-    if-refused c.in-Err.stop _ (IsFirstRefusal p) (λ r f. item-refused p i d (tops_of c.loop-item.names.items) r g c.loop-item.invariant.progress (rw e at f)) c.in-Err.ensures.refused
+    let g : slice_get p.items i ≡ Some d = get-map (λ i. definition_of i.kind) c.args.program.now.items i
+    c.item-item.result (rw c.as_slice-items.ensures at c.loop-item-test.true)
+    (rw c.as_slice-items.ensures at c.item-item.is) in
+    let e : c.len-index.result ≡ i =
+    omega (arith, c.len-index.ensures, c.loop-item.names.ok.0, c.loop-item.invariant.names) in
+    if-refused c.in-Err.stop _ (IsFirstRefusal p)
+    (λ r f. item-refused p i d (tops_of c.loop-item.names.items) r g c.loop-item.invariant.progress (rw e at f))
+    c.in-Err.ensures.refused
 
 pub loop-item-preserved : goal.loop-item-preserved
 loop-item-preserved c =
     let p : PureProgram = program_of c.args.program.now in
     let i : ℕ = c.loop-item.item-index in
     let d : Definition = definition_of c.item-item.result.kind in
-    let g : slice_get p.items i ≡ Some d = get-map (λ i. definition_of i.kind) c.args.program.now.items i c.item-item.result (rw c.as_slice-items.ensures at c.loop-item-test.true) (rw c.as_slice-items.ensures at c.item-item.is) in
+    let g : slice_get p.items i ≡ Some d = get-map (λ i. definition_of i.kind) c.args.program.now.items i
+    c.item-item.result (rw c.as_slice-items.ensures at c.loop-item-test.true)
+    (rw c.as_slice-items.ensures at c.item-item.is) in
     let s = c.in-Ok.ensures.ok in
     record {
-      progress = progress-next p i d (tops_of c.loop-item.names.items) (tops_of c.step.new.names.items) c.requires g c.loop-item.invariant.progress s;
-      names = sym (length-map c.step.new.names.items top_of) ∙ steps-length (tops_of c.loop-item.names.items) d (tops_of c.step.new.names.items) s ∙ ap (λ n. n + 1) (length-map c.loop-item.names.items top_of ∙ c.loop-item.invariant.names);
+      progress = progress-next p i d (tops_of c.loop-item.names.items) (tops_of c.step.new.names.items) c.requires g
+          c.loop-item.invariant.progress s;
+      names = sym (length-map c.step.new.names.items top_of) ∙ steps-length (tops_of c.loop-item.names.items) d
+          (tops_of c.step.new.names.items) s
+          ∙ ap (λ n. n + 1) (length-map c.loop-item.names.items top_of ∙ c.loop-item.invariant.names);
     }
 
 pub last-requires : goal.last-requires
 last-requires c =
     let p : PureProgram = program_of c.args.program.now in
-    let a : AtEnd p (tops_of c.loop-item.names.items) (tops_of c.reveal.new.names.items) c.loop-item.item-index = at-end p (length c.args.program.now.items) c.loop-item.item-index (tops_of c.loop-item.names.items) (tops_of c.reveal.new.names.items) (sym (length-map c.args.program.now.items (λ i. definition_of i.kind))) (rw c.as_slice-items.ensures at c.loop-item-test.false) (rw c.as_slice-items.ensures at c.loop-item.auto.item-index-end) c.loop-item.invariant.progress (rw c.as_slice-items.ensures at c.reveal.ensures) in
+    let a : AtEnd p (tops_of c.loop-item.names.items) (tops_of c.reveal.new.names.items) c.loop-item.item-index =
+    at-end p (length c.args.program.now.items) c.loop-item.item-index (tops_of c.loop-item.names.items)
+    (tops_of c.reveal.new.names.items) (sym (length-map c.args.program.now.items (λ i. definition_of i.kind)))
+    (rw c.as_slice-items.ensures at c.loop-item-test.false)
+    (rw c.as_slice-items.ensures at c.loop-item.auto.item-index-end) c.loop-item.invariant.progress
+    (rw c.as_slice-items.ensures at c.reveal.ensures) in
     rw (c.as_slice.ensures.value, a.shown) (main-judged p (tops_of c.loop-item.names.items) c.requires a.progress)
 
 pub returns-in-Ok-last-clause-faultless : goal.returns-in-Ok-last-clause-faultless
 returns-in-Ok-last-clause-faultless c =
     let p : PureProgram = program_of c.args.program.now in
-    let a : AtEnd p (tops_of c.loop-item.names.items) (tops_of c.reveal.new.names.items) c.loop-item.item-index = at-end p (length c.args.program.now.items) c.loop-item.item-index (tops_of c.loop-item.names.items) (tops_of c.reveal.new.names.items) (sym (length-map c.args.program.now.items (λ i. definition_of i.kind))) (rw c.as_slice-items.ensures at c.loop-item-test.false) (rw c.as_slice-items.ensures at c.loop-item.auto.item-index-end) c.loop-item.invariant.progress (rw c.as_slice-items.ensures at c.reveal.ensures) in
+    let a : AtEnd p (tops_of c.loop-item.names.items) (tops_of c.reveal.new.names.items) c.loop-item.item-index =
+    at-end p (length c.args.program.now.items) c.loop-item.item-index (tops_of c.loop-item.names.items)
+    (tops_of c.reveal.new.names.items) (sym (length-map c.args.program.now.items (λ i. definition_of i.kind)))
+    (rw c.as_slice-items.ensures at c.loop-item-test.false)
+    (rw c.as_slice-items.ensures at c.loop-item.auto.item-index-end) c.loop-item.invariant.progress
+    (rw c.as_slice-items.ensures at c.reveal.ensures) in
     let j = c.in-Ok-last.ensures.fine in
-    main-faultless p (tops_of c.loop-item.names.items) j.0 c.requires a.progress (rw (c.as_slice.ensures.value, a.shown) at j.1)
+    main-faultless p (tops_of c.loop-item.names.items) j.0 c.requires a.progress
+    (rw (c.as_slice.ensures.value, a.shown) at j.1)
 
 pub returns-in-Ok-last-clause-principal : goal.returns-in-Ok-last-clause-principal
 returns-in-Ok-last-clause-principal c =
     let p : PureProgram = program_of c.args.program.now in
-    let a : AtEnd p (tops_of c.loop-item.names.items) (tops_of c.reveal.new.names.items) c.loop-item.item-index = at-end p (length c.args.program.now.items) c.loop-item.item-index (tops_of c.loop-item.names.items) (tops_of c.reveal.new.names.items) (sym (length-map c.args.program.now.items (λ i. definition_of i.kind))) (rw c.as_slice-items.ensures at c.loop-item-test.false) (rw c.as_slice-items.ensures at c.loop-item.auto.item-index-end) c.loop-item.invariant.progress (rw c.as_slice-items.ensures at c.reveal.ensures) in
+    let a : AtEnd p (tops_of c.loop-item.names.items) (tops_of c.reveal.new.names.items) c.loop-item.item-index =
+    at-end p (length c.args.program.now.items) c.loop-item.item-index (tops_of c.loop-item.names.items)
+    (tops_of c.reveal.new.names.items) (sym (length-map c.args.program.now.items (λ i. definition_of i.kind)))
+    (rw c.as_slice-items.ensures at c.loop-item-test.false)
+    (rw c.as_slice-items.ensures at c.loop-item.auto.item-index-end) c.loop-item.invariant.progress
+    (rw c.as_slice-items.ensures at c.reveal.ensures) in
     rw a.shown (principal-main p.items (tops_of c.loop-item.names.items) a.progress.principal)
 
 pub returns-clause-refused : goal.returns-clause-refused
 returns-clause-refused c =
     let p : PureProgram = program_of c.args.program.now in
-    let a : AtEnd p (tops_of c.loop-item.names.items) (tops_of c.reveal.new.names.items) c.loop-item.item-index = at-end p (length c.args.program.now.items) c.loop-item.item-index (tops_of c.loop-item.names.items) (tops_of c.reveal.new.names.items) (sym (length-map c.args.program.now.items (λ i. definition_of i.kind))) (rw c.as_slice-items.ensures at c.loop-item-test.false) (rw c.as_slice-items.ensures at c.loop-item.auto.item-index-end) c.loop-item.invariant.progress (rw c.as_slice-items.ensures at c.reveal.ensures) in
-    let e : c.len-index-2.result ≡ length p.items = omega (arith, c.len-index-2.ensures, c.loop-item.names.ok.0, c.loop-item.invariant.names, a.index) in
-    if-refused c.in-Err-last.stop _ (IsFirstRefusal p) (λ r f. main-refused p (tops_of c.loop-item.names.items) r a.progress (rw (c.as_slice.ensures.value, a.shown, e) at f)) c.in-Err-last.ensures.refused
+    let a : AtEnd p (tops_of c.loop-item.names.items) (tops_of c.reveal.new.names.items) c.loop-item.item-index =
+    at-end p (length c.args.program.now.items) c.loop-item.item-index (tops_of c.loop-item.names.items)
+    (tops_of c.reveal.new.names.items) (sym (length-map c.args.program.now.items (λ i. definition_of i.kind)))
+    (rw c.as_slice-items.ensures at c.loop-item-test.false)
+    (rw c.as_slice-items.ensures at c.loop-item.auto.item-index-end) c.loop-item.invariant.progress
+    (rw c.as_slice-items.ensures at c.reveal.ensures) in
+    let e : c.len-index-2.result ≡ length p.items =
+    omega (arith, c.len-index-2.ensures, c.loop-item.names.ok.0, c.loop-item.invariant.names, a.index) in
+    if-refused c.in-Err-last.stop _ (IsFirstRefusal p)
+    (λ r f. main-refused p (tops_of c.loop-item.names.items) r a.progress
+    (rw (c.as_slice.ensures.value, a.shown, e) at f)) c.in-Err-last.ensures.refused

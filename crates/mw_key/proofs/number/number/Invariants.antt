@@ -3,4 +3,5 @@ use Rattle.mw_key.specs.Numbers.{number_in}
 use Rattle.mw_key.proofs.number.number.Given as goal
 
 abbrev pub invariant-loop-n : goal.invariant-loop-n
-invariant-loop-n l = record { in_range : l.value ≤ 2 ^ 63; same : number_in l.value (drop l.n l.digits) ≡ number_in 0 l.digits }
+invariant-loop-n l =
+    record { in_range : l.value ≤ 2 ^ 63; same : number_in l.value (drop l.n l.digits) ≡ number_in 0 l.digits }

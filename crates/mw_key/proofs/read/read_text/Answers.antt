@@ -5,7 +5,9 @@ pub returns-clause-read : goal.returns-clause-read
 returns-clause-read c = text_read c.args.bytes.now c.whole_text.result (rw c.new.ensures.words at c.whole_text.ensures)
 
 pub returns-clause-refused : goal.returns-clause-refused
-returns-clause-refused c = text_refused c.args.bytes.now c.whole_text.result (rw c.new.ensures.words at c.whole_text.ensures)
+returns-clause-refused c = text_refused c.args.bytes.now c.whole_text.result
+    (rw c.new.ensures.words at c.whole_text.ensures)
 
 pub returns-clause-found : goal.returns-clause-found
-returns-clause-found c = text_answered c.args.bytes.now c.whole_text.result (rw c.new.ensures.words at c.whole_text.ensures)
+returns-clause-found c = text_answered c.args.bytes.now c.whole_text.result
+    (rw c.new.ensures.words at c.whole_text.ensures)

@@ -15,7 +15,10 @@ use Rattle.mw_link.proofs.linking.link.Goals as goal
 pub encode-requires : goal.encode-requires
 encode-requires c =
     let s = linked_is_spelled (kernels_of c.args.parts.now) c.requires.linkable c.in_ok-wasm.ensures.literals in
-    record { spelled = subst (λ m. (bytes : List ℕ) × Spells bytes m) (sym c.in_ok-wasm.ensures.made) (s.bytes, s.spell) }
+    record {
+      spelled = subst (λ m. (bytes : List ℕ) × Spells bytes m) (sym c.in_ok-wasm.ensures.made)
+          (s.bytes, s.spell);
+    }
 
 pub returns-clause-spelled : goal.returns-clause-spelled
 returns-clause-spelled c =

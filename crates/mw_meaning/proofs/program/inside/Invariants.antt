@@ -6,7 +6,8 @@ use Rattle.mw_meaning.proofs.program.inside.Given as goal
 abbrev pub invariant-loop-rest : goal.invariant-loop-rest
 invariant-loop-rest l = record {
   within : l.rest ≤ length l.items;
-  inside : inside_terms (naming_of l.names) (definitions (drop l.rest l.items)) (expression_of l.fn.body.value) ≡ expression_of l.inner.value;
+  inside : inside_terms (naming_of l.names) (definitions (drop l.rest l.items)) (expression_of l.fn.body.value)
+      ≡ expression_of l.inner.value;
 }
 
 abbrev pub decreases-loop-rest : goal.decreases-loop-rest

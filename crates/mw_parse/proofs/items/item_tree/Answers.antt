@@ -12,4 +12,5 @@ pub returns-in-Let-clause-gives : goal.returns-in-Let-clause-gives
 returns-in-Let-clause-gives c = grind (arith, read_full, read_gives, read_refuses, read_reads, part_fails, fails_then)
 
 pub returns-in-Kernel-clause-gives : goal.returns-in-Kernel-clause-gives
-returns-in-Kernel-clause-gives c = grind (arith, read_full, read_gives, read_refuses, read_reads, part_fails, fails_then)
+returns-in-Kernel-clause-gives c =
+    grind (arith, read_full, read_gives, read_refuses, read_reads, part_fails, fails_then)

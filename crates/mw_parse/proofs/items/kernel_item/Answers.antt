@@ -3,13 +3,16 @@ use Rattle.mw_grammar.proofs.Below.{read_full, read_gives, read_refuses, read_re
 use Rattle.mw_parse.proofs.items.kernel_item.Goals as goal
 
 pub returns-in_err-placed-clause-gives : goal.returns-in_err-placed-clause-gives
-returns-in_err-placed-clause-gives c = grind (arith, read_full, read_gives, read_refuses, read_reads, part_fails, fails_then)
+returns-in_err-placed-clause-gives c =
+    grind (arith, read_full, read_gives, read_refuses, read_reads, part_fails, fails_then)
 
 pub returns-in-None-clause-gives : goal.returns-in-None-clause-gives
 returns-in-None-clause-gives c = grind (arith, read_full, read_gives, read_refuses, read_reads, part_fails, fails_then)
 
 pub returns-in_err-kind-in-Some-clause-gives : goal.returns-in_err-kind-in-Some-clause-gives
-returns-in_err-kind-in-Some-clause-gives c = grind (arith, read_full, read_gives, read_refuses, read_reads, part_fails, fails_then)
+returns-in_err-kind-in-Some-clause-gives c =
+    grind (arith, read_full, read_gives, read_refuses, read_reads, part_fails, fails_then)
 
 pub returns-in_ok-kind-in-Some-clause-gives : goal.returns-in_ok-kind-in-Some-clause-gives
-returns-in_ok-kind-in-Some-clause-gives c = grind (arith, read_full, read_gives, read_refuses, read_reads, part_fails, fails_then)
+returns-in_ok-kind-in-Some-clause-gives c =
+    grind (arith, read_full, read_gives, read_refuses, read_reads, part_fails, fails_then)

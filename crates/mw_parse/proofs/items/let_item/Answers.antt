@@ -3,7 +3,8 @@ use Rattle.mw_grammar.proofs.Below.{read_full, read_gives, read_refuses, read_re
 use Rattle.mw_parse.proofs.items.let_item.Goals as goal
 
 pub returns-in_err-placed-clause-gives : goal.returns-in_err-placed-clause-gives
-returns-in_err-placed-clause-gives c = grind (arith, read_full, read_gives, read_refuses, read_reads, part_fails, fails_then)
+returns-in_err-placed-clause-gives c =
+    grind (arith, read_full, read_gives, read_refuses, read_reads, part_fails, fails_then)
 
 pub returns-clause-gives : goal.returns-clause-gives
 returns-clause-gives c = grind (arith, read_full, read_gives, read_refuses, read_reads, part_fails, fails_then)

@@ -9,5 +9,6 @@ pub returns-then-kernel_count-gt100 : goal.returns-then-kernel_count-gt100
 returns-then-kernel_count-gt100 c =
     let e : length c.in-Ok.rest.now ≡ 0 = search rules in
     let k : 100 < c.kernel_count.result = search rules in
-    many_kernels (tokens_of c.args.tokens.now) (surface_of c.in-Ok.surface) c.in-Ok.field-0-1 (tokens_of c.in-Ok.rest.now) c.in-Ok.ensures.gives (nothing_left c.in-Ok.rest.now e)
+    many_kernels (tokens_of c.args.tokens.now) (surface_of c.in-Ok.surface) c.in-Ok.field-0-1
+    (tokens_of c.in-Ok.rest.now) c.in-Ok.ensures.gives (nothing_left c.in-Ok.rest.now e)
     (omega (arith, k, c.kernel_count.ensures.count, ap (λ is. kernels (map item_of is)) c.as_slice.ensures))

@@ -11,5 +11,6 @@ returns-clause-faults c =
     let s = surface_of c.args.surface.now in
     let same = c.as_slice.ensures in
     let knows : Knows c.items.new.names s.items = rw same at c.in_ok-items.ensures.known in
-    let from_none : c.items.new.first ≡ kept None (faults_of_items [] s.items) = rw (same, c.requires.none) at c.in_ok-items.ensures.faults in
+    let from_none : c.items.new.first ≡ kept None (faults_of_items [] s.items) =
+    rw (same, c.requires.none) at c.in_ok-items.ensures.faults in
     kept_of_all s c.items.new.names c.items.new.first c.outer_term.new.first knows from_none c.in_ok-body.ensures.faults

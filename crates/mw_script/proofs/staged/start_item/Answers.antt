@@ -8,12 +8,15 @@ pub start-requires-clause-body : goal.start-requires-clause-body
 start-requires-clause-body c = (
   item c.args.place,
   item_part c.args.place (kernel_type_of c.in-Kernel.field-0)
-      (kernel_at c.args.program.now.items c.args.place c.get.result.now c.in-Kernel.field-0 c.in-Kernel.term c.get.ensures c.in-Kernel.is),
+      (kernel_at c.args.program.now.items c.args.place c.get.result.now c.in-Kernel.field-0 c.in-Kernel.term
+      c.get.ensures c.in-Kernel.is),
 )
 
 pub returns-in_ok-start-in-Kernel : goal.returns-in_ok-start-in-Kernel
 returns-in_ok-start-in-Kernel c =
-    item_started c.args.program.now c.in_ok-start-in-Kernel.field-0 c.args.fuel c.args.place (kernel_type_of c.in-Kernel.field-0)
+    item_started c.args.program.now c.in_ok-start-in-Kernel.field-0 c.args.fuel c.args.place
+    (kernel_type_of c.in-Kernel.field-0)
     (expression_of c.in-Kernel.term)
-    (kernel_at c.args.program.now.items c.args.place c.get.result.now c.in-Kernel.field-0 c.in-Kernel.term c.get.ensures c.in-Kernel.is)
+    (kernel_at c.args.program.now.items c.args.place c.get.result.now c.in-Kernel.field-0 c.in-Kernel.term c.get.ensures
+    c.in-Kernel.is)
     c.in_ok-start-in-Kernel.ensures.begins

@@ -11,7 +11,9 @@ pub name-requires-clause-named : goal.name-requires-clause-named
 name-requires-clause-named c = rw c.as_slice.ensures.value c.loop-class.invariant
 
 pub loop-class-preserved : goal.loop-class-preserved
-loop-class-preserved c = rw c.in_ok-push.ensures.items (name_more c.args.parent.now c.loop-class.names.items c.loop-class.class c.name.result c.requires.low (omega arith) c.loop-class.invariant (rw c.as_slice.ensures.value at c.name.ensures))
+loop-class-preserved c =
+    rw c.in_ok-push.ensures.items (name_more c.args.parent.now c.loop-class.names.items c.loop-class.class c.name.result
+    c.requires.low (omega arith) c.loop-class.invariant (rw c.as_slice.ensures.value at c.name.ensures))
 
 pub returns-in_err-push : goal.returns-in_err-push
 returns-in_err-push c = no_answer _ c.from_residual.result c.from_residual.ensures.0
@@ -20,4 +22,5 @@ pub name-requires-clause-low : goal.name-requires-clause-low
 name-requires-clause-low c = c.requires.low
 
 pub returns : goal.returns
-returns c = let e : c.loop-class.class ≡ length c.args.parent.now = omega arith in subst (λ k. NamedTo c.args.parent.now c.loop-class.names.items k) e c.loop-class.invariant
+returns c = let e : c.loop-class.class ≡ length c.args.parent.now = omega arith in
+    subst (λ k. NamedTo c.args.parent.now c.loop-class.names.items k) e c.loop-class.invariant

@@ -4,7 +4,8 @@ use Rattle.mw_types.specs.Judged.{Halved}
 use Rattle.mw_types.proofs.solving.first_fault.Given as goal
 
 abbrev pub invariant-loop-high : goal.invariant-loop-high
-invariant-loop-high l = Halved l.unknowns (equations_of l.equations) l.low l.high l.verdict × (l.high ≤ length l.equations) × (l.low ≤ l.high)
+invariant-loop-high l = Halved l.unknowns (equations_of l.equations) l.low l.high l.verdict
+    × (l.high ≤ length l.equations) × (l.low ≤ l.high)
 
 abbrev pub decreases-loop-high : goal.decreases-loop-high
 decreases-loop-high l = l.high - l.low

@@ -6,4 +6,5 @@ pub loop-at-init : goal.loop-at-init
 loop-at-init c = (here, omega arith)
 
 pub loop-at-preserved : goal.loop-at-preserved
-loop-at-preserved c = (up c.loop-at.invariant.0 (omega arith) refl, omega (arith, c.requires.low c.loop-at.at (omega arith)))
+loop-at-preserved c =
+    (up c.loop-at.invariant.0 (omega arith) refl, omega (arith, c.requires.low c.loop-at.at (omega arith)))

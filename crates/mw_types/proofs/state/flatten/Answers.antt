@@ -7,4 +7,8 @@ pub loop-node-init : goal.loop-node-init
 loop-node-init c = (start_step c.requires.sound, refl)
 
 pub loop-node-preserved : goal.loop-node-preserved
-loop-node-preserved c = (same_step c.loop-node.invariant.0 (found_same c.seek-root.ensures.found), c.seek-root.ensures.waiting ∙ c.loop-node.invariant.1)
+loop-node-preserved c = (
+  same_step c.loop-node.invariant.0 (found_same c.seek-root.ensures.found),
+  c.seek-root.ensures.waiting
+      ∙ c.loop-node.invariant.1,
+)

@@ -23,4 +23,5 @@ returns-else-one-two-clause-step c =
     let two = c.find_halving-two.result in
     class_step _ _ c.args.c c.args.d c.requires.sound refl refl refl (set_length _ one two ∙ q.long ∙ p.long)
     (low_set _ one two (omega arith) (omega (arith, q.long, p.long, p.inside)) q.low)
-    (joins_up _ _ _ c.args.c c.args.d one two p q (omega (arith, q.long, p.long, p.inside)) (q.roots one c.find_halving-one.ensures.root))
+    (joins_up _ _ _ c.args.c c.args.d one two p q (omega (arith, q.long, p.long, p.inside))
+    (q.roots one c.find_halving-one.ensures.root))

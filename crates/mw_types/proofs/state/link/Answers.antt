@@ -25,10 +25,12 @@ pub postpone-requires-in-Two-clause-right : goal.postpone-requires-in-Two-clause
 postpone-requires-in-Two-clause-right c = (rw c.in-Two.is at c.put.ensures.linked.extra).2
 
 pub postpone-requires-in-Two-2-clause-left : goal.postpone-requires-in-Two-2-clause-left
-postpone-requires-in-Two-2-clause-left c = rw c.in_ok-postpone-in-Two.ensures.step.node_count ((rw c.in-Two.is at c.put.ensures.linked.extra).3)
+postpone-requires-in-Two-2-clause-left c = rw c.in_ok-postpone-in-Two.ensures.step.node_count
+    ((rw c.in-Two.is at c.put.ensures.linked.extra).3)
 
 pub postpone-requires-in-Two-2-clause-right : goal.postpone-requires-in-Two-2-clause-right
-postpone-requires-in-Two-2-clause-right c = rw c.in_ok-postpone-in-Two.ensures.step.node_count ((rw c.in-Two.is at c.put.ensures.linked.extra).4)
+postpone-requires-in-Two-2-clause-right c = rw c.in_ok-postpone-in-Two.ensures.step.node_count
+    ((rw c.in-Two.is at c.put.ensures.linked.extra).4)
 
 pub postpone-requires-in-Classes-clause-left : goal.postpone-requires-in-Classes-clause-left
 postpone-requires-in-Classes-clause-left c = (rw c.in-Classes.is at c.put.ensures.linked.extra).3
@@ -37,23 +39,30 @@ pub postpone-requires-in-Classes-clause-right : goal.postpone-requires-in-Classe
 postpone-requires-in-Classes-clause-right c = (rw c.in-Classes.is at c.put.ensures.linked.extra).4
 
 pub join-requires-clause-left : goal.join-requires-clause-left
-join-requires-clause-left c = rw c.in_ok-postpone-in-Classes.ensures.step.classifier_count ((rw c.in-Classes.is at c.put.ensures.linked.extra).1)
+join-requires-clause-left c = rw c.in_ok-postpone-in-Classes.ensures.step.classifier_count
+    ((rw c.in-Classes.is at c.put.ensures.linked.extra).1)
 
 pub join-requires-clause-right : goal.join-requires-clause-right
-join-requires-clause-right c = rw c.in_ok-postpone-in-Classes.ensures.step.classifier_count ((rw c.in-Classes.is at c.put.ensures.linked.extra).2)
+join-requires-clause-right c = rw c.in_ok-postpone-in-Classes.ensures.step.classifier_count
+    ((rw c.in-Classes.is at c.put.ensures.linked.extra).2)
 
 pub returns-in_ok-postpone-in-Two-2-clause-same : goal.returns-in_ok-postpone-in-Two-2-clause-same
-returns-in_ok-postpone-in-Two-2-clause-same c t = finish _ two_not_clash (rw c.in-Two.is at c.put.ensures.linked) (then_step c.in_ok-postpone-in-Two.ensures.step c.in_ok-postpone-in-Two-2.ensures.step)
+returns-in_ok-postpone-in-Two-2-clause-same c t = finish _ two_not_clash (rw c.in-Two.is at c.put.ensures.linked)
+    (then_step c.in_ok-postpone-in-Two.ensures.step c.in_ok-postpone-in-Two-2.ensures.step)
 
 pub returns-in_ok-postpone-in-Classes-clause-same :
     goal.returns-in_ok-postpone-in-Classes-clause-same
-returns-in_ok-postpone-in-Classes-clause-same c t = finish _ classes_not_clash (rw c.in-Classes.is at c.put.ensures.linked) (then_step c.in_ok-postpone-in-Classes.ensures.step c.join.ensures.step)
+returns-in_ok-postpone-in-Classes-clause-same c t =
+    finish _ classes_not_clash (rw c.in-Classes.is at c.put.ensures.linked)
+    (then_step c.in_ok-postpone-in-Classes.ensures.step c.join.ensures.step)
 
 pub returns-in_ok-postpone-in-One-clause-same : goal.returns-in_ok-postpone-in-One-clause-same
-returns-in_ok-postpone-in-One-clause-same c t = finish _ one_not_clash (rw c.in-One.is at c.put.ensures.linked) c.in_ok-postpone-in-One.ensures.step
+returns-in_ok-postpone-in-One-clause-same c t = finish _ one_not_clash (rw c.in-One.is at c.put.ensures.linked)
+    c.in_ok-postpone-in-One.ensures.step
 
 pub returns-in-Keep-clause-same : goal.returns-in-Keep-clause-same
-returns-in-Keep-clause-same c t = finish _ keep_not_clash (rw c.in-Keep.is at c.put.ensures.linked) (no_step c.put.ensures.linked.sound (λ a h. tt))
+returns-in-Keep-clause-same c t = finish _ keep_not_clash (rw c.in-Keep.is at c.put.ensures.linked)
+    (no_step c.put.ensures.linked.sound (λ a h. tt))
 
 pub index-requires : goal.index-requires
 index-requires c = omega (arith, c.requires.below, c.requires.inside, c.requires.sound.lengths)
@@ -78,21 +87,29 @@ put-requires-clause-high_root c = c.requires.high_root
 
 pub put-requires-clause-meeting : goal.put-requires-clause-meeting
 put-requires-clause-meeting c =
-    let e = sym (shape_read c.args.state.now c.args.low c.index.result.now _ c.requires.sound (omega (arith, c.requires.below, c.requires.inside)) c.index.ensures refl) in
-    let f = sym (shape_read c.args.state.now c.args.high c.index-2.result.now _ c.requires.sound c.requires.inside c.index-2.ensures refl) in
+    let e = sym (shape_read c.args.state.now c.args.low c.index.result.now _ c.requires.sound
+    (omega (arith, c.requires.below, c.requires.inside)) c.index.ensures refl) in
+    let f = sym (shape_read c.args.state.now c.args.high c.index-2.result.now _ c.requires.sound c.requires.inside
+    c.index-2.ensures refl) in
     at_shapes (λ h k. Meeting h k c.meet-met.result) e f c.meet-met.ensures.meeting
 
 pub put-requires-clause-lighter : goal.put-requires-clause-lighter
 put-requires-clause-lighter c =
-    let e = sym (shape_read c.args.state.now c.args.low c.index.result.now _ c.requires.sound (omega (arith, c.requires.below, c.requires.inside)) c.index.ensures refl) in
-    let f = sym (shape_read c.args.state.now c.args.high c.index-2.result.now _ c.requires.sound c.requires.inside c.index-2.ensures refl) in
-    at_shapes (λ h k. 3 * weight (kept c.meet-met.result) + more c.meet-met.result ≤ 3 * (weight h + weight k)) e f c.meet-met.ensures.lighter
+    let e = sym (shape_read c.args.state.now c.args.low c.index.result.now _ c.requires.sound
+    (omega (arith, c.requires.below, c.requires.inside)) c.index.ensures refl) in
+    let f = sym (shape_read c.args.state.now c.args.high c.index-2.result.now _ c.requires.sound c.requires.inside
+    c.index-2.ensures refl) in
+    at_shapes (λ h k. 3 * weight (kept c.meet-met.result) + more c.meet-met.result ≤ 3 * (weight h + weight k)) e f
+    c.meet-met.ensures.lighter
 
 pub put-requires-clause-shaped : goal.put-requires-clause-shaped
 put-requires-clause-shaped c =
-    let e = sym (shape_read c.args.state.now c.args.low c.index.result.now _ c.requires.sound (omega (arith, c.requires.below, c.requires.inside)) c.index.ensures refl) in
-    let f = sym (shape_read c.args.state.now c.args.high c.index-2.result.now _ c.requires.sound c.requires.inside c.index-2.ensures refl) in
-    at_shapes (λ h k. c.meet-met.result ≢ Clash → h ≢ Free → kept c.meet-met.result ≢ Free) e f c.meet-met.ensures.shaped
+    let e = sym (shape_read c.args.state.now c.args.low c.index.result.now _ c.requires.sound
+    (omega (arith, c.requires.below, c.requires.inside)) c.index.ensures refl) in
+    let f = sym (shape_read c.args.state.now c.args.high c.index-2.result.now _ c.requires.sound c.requires.inside
+    c.index-2.ensures refl) in
+    at_shapes (λ h k. c.meet-met.result ≢ Clash → h ≢ Free → kept c.meet-met.result ≢ Free) e f
+    c.meet-met.ensures.shaped
 
 pub postpone-requires-clause-sound : goal.postpone-requires-clause-sound
 postpone-requires-clause-sound c = c.put.ensures.linked.sound
@@ -140,31 +157,40 @@ pub returns-in_err-postpone-in-One-clause-none : goal.returns-in_err-postpone-in
 returns-in_err-postpone-in-One-clause-none c = no_answer _ c.from_residual.result c.from_residual.ensures.0
 
 pub returns-in_err-postpone-in-Two-clause-same : goal.returns-in_err-postpone-in-Two-clause-same
-returns-in_err-postpone-in-Two-clause-same c = no_answer _ c.from_residual-in_err-postpone-in-Two.result c.from_residual-in_err-postpone-in-Two.ensures.0
+returns-in_err-postpone-in-Two-clause-same c = no_answer _ c.from_residual-in_err-postpone-in-Two.result
+    c.from_residual-in_err-postpone-in-Two.ensures.0
 
 pub returns-in_err-postpone-in-Two-clause-none : goal.returns-in_err-postpone-in-Two-clause-none
-returns-in_err-postpone-in-Two-clause-none c = no_answer _ c.from_residual-in_err-postpone-in-Two.result c.from_residual-in_err-postpone-in-Two.ensures.0
+returns-in_err-postpone-in-Two-clause-none c = no_answer _ c.from_residual-in_err-postpone-in-Two.result
+    c.from_residual-in_err-postpone-in-Two.ensures.0
 
 pub returns-in_err-postpone-in-Two-2-clause-same : goal.returns-in_err-postpone-in-Two-2-clause-same
-returns-in_err-postpone-in-Two-2-clause-same c = no_answer _ c.from_residual-in_err-postpone-in-Two-2.result c.from_residual-in_err-postpone-in-Two-2.ensures.0
+returns-in_err-postpone-in-Two-2-clause-same c = no_answer _ c.from_residual-in_err-postpone-in-Two-2.result
+    c.from_residual-in_err-postpone-in-Two-2.ensures.0
 
 pub returns-in_err-postpone-in-Two-2-clause-none : goal.returns-in_err-postpone-in-Two-2-clause-none
-returns-in_err-postpone-in-Two-2-clause-none c = no_answer _ c.from_residual-in_err-postpone-in-Two-2.result c.from_residual-in_err-postpone-in-Two-2.ensures.0
+returns-in_err-postpone-in-Two-2-clause-none c = no_answer _ c.from_residual-in_err-postpone-in-Two-2.result
+    c.from_residual-in_err-postpone-in-Two-2.ensures.0
 
 pub returns-in_err-postpone-in-Classes-clause-same : goal.returns-in_err-postpone-in-Classes-clause-same
-returns-in_err-postpone-in-Classes-clause-same c = no_answer _ c.from_residual-in_err-postpone-in-Classes.result c.from_residual-in_err-postpone-in-Classes.ensures.0
+returns-in_err-postpone-in-Classes-clause-same c = no_answer _ c.from_residual-in_err-postpone-in-Classes.result
+    c.from_residual-in_err-postpone-in-Classes.ensures.0
 
 pub returns-in_err-postpone-in-Classes-clause-none : goal.returns-in_err-postpone-in-Classes-clause-none
-returns-in_err-postpone-in-Classes-clause-none c = no_answer _ c.from_residual-in_err-postpone-in-Classes.result c.from_residual-in_err-postpone-in-Classes.ensures.0
+returns-in_err-postpone-in-Classes-clause-none c = no_answer _ c.from_residual-in_err-postpone-in-Classes.result
+    c.from_residual-in_err-postpone-in-Classes.ensures.0
 
 pub returns-in_err-postpone-in-One-clause-work : goal.returns-in_err-postpone-in-One-clause-work
 returns-in_err-postpone-in-One-clause-work c = no_answer _ c.from_residual.result c.from_residual.ensures.0
 
 pub returns-in_err-postpone-in-Two-clause-work : goal.returns-in_err-postpone-in-Two-clause-work
-returns-in_err-postpone-in-Two-clause-work c = no_answer _ c.from_residual-in_err-postpone-in-Two.result c.from_residual-in_err-postpone-in-Two.ensures.0
+returns-in_err-postpone-in-Two-clause-work c = no_answer _ c.from_residual-in_err-postpone-in-Two.result
+    c.from_residual-in_err-postpone-in-Two.ensures.0
 
 pub returns-in_err-postpone-in-Two-2-clause-work : goal.returns-in_err-postpone-in-Two-2-clause-work
-returns-in_err-postpone-in-Two-2-clause-work c = no_answer _ c.from_residual-in_err-postpone-in-Two-2.result c.from_residual-in_err-postpone-in-Two-2.ensures.0
+returns-in_err-postpone-in-Two-2-clause-work c = no_answer _ c.from_residual-in_err-postpone-in-Two-2.result
+    c.from_residual-in_err-postpone-in-Two-2.ensures.0
 
 pub returns-in_err-postpone-in-Classes-clause-work : goal.returns-in_err-postpone-in-Classes-clause-work
-returns-in_err-postpone-in-Classes-clause-work c = no_answer _ c.from_residual-in_err-postpone-in-Classes.result c.from_residual-in_err-postpone-in-Classes.ensures.0
+returns-in_err-postpone-in-Classes-clause-work c = no_answer _ c.from_residual-in_err-postpone-in-Classes.result
+    c.from_residual-in_err-postpone-in-Classes.ensures.0

@@ -39,10 +39,12 @@ pub returns-in-Bool-Bool-clause-shaped : goal.returns-in-Bool-Bool-clause-shaped
 returns-in-Bool-Bool-clause-shaped c = λ k n. n
 
 pub returns-in-Pair-Pair-clause-meeting : goal.returns-in-Pair-Pair-clause-meeting
-returns-in-Pair-Pair-clause-meeting c = rw (c.in-Pair-Pair.is-0, c.in-Pair-Pair.is-1) (pairs_meet c.in-Pair-Pair.l c.in-Pair-Pair.r c.in-Pair-Pair.m c.in-Pair-Pair.s)
+returns-in-Pair-Pair-clause-meeting c = rw (c.in-Pair-Pair.is-0, c.in-Pair-Pair.is-1)
+    (pairs_meet c.in-Pair-Pair.l c.in-Pair-Pair.r c.in-Pair-Pair.m c.in-Pair-Pair.s)
 
 pub returns-in-Pair-Pair-clause-inside : goal.returns-in-Pair-Pair-clause-inside
-returns-in-Pair-Pair-clause-inside c = λ n m i j. let p = rw c.in-Pair-Pair.is-0 at i in let q = rw c.in-Pair-Pair.is-1 at j in (i, p.0, q.0, p.1, q.1)
+returns-in-Pair-Pair-clause-inside c = λ n m i j. let p = rw c.in-Pair-Pair.is-0 at i in let q =
+    rw c.in-Pair-Pair.is-1 at j in (i, p.0, q.0, p.1, q.1)
 
 pub returns-in-Pair-Pair-clause-lighter : goal.returns-in-Pair-Pair-clause-lighter
 returns-in-Pair-Pair-clause-lighter c = rw c.in-Pair-Pair.is-1 (omega arith)
@@ -51,10 +53,12 @@ pub returns-in-Pair-Pair-clause-shaped : goal.returns-in-Pair-Pair-clause-shaped
 returns-in-Pair-Pair-clause-shaped c = λ k n. n
 
 pub returns-in-Arrow-Arrow-clause-meeting : goal.returns-in-Arrow-Arrow-clause-meeting
-returns-in-Arrow-Arrow-clause-meeting c = rw (c.in-Arrow-Arrow.is-0, c.in-Arrow-Arrow.is-1) (arrows_meet c.in-Arrow-Arrow.l c.in-Arrow-Arrow.r c.in-Arrow-Arrow.m c.in-Arrow-Arrow.s)
+returns-in-Arrow-Arrow-clause-meeting c = rw (c.in-Arrow-Arrow.is-0, c.in-Arrow-Arrow.is-1)
+    (arrows_meet c.in-Arrow-Arrow.l c.in-Arrow-Arrow.r c.in-Arrow-Arrow.m c.in-Arrow-Arrow.s)
 
 pub returns-in-Arrow-Arrow-clause-inside : goal.returns-in-Arrow-Arrow-clause-inside
-returns-in-Arrow-Arrow-clause-inside c = λ n m i j. let p = rw c.in-Arrow-Arrow.is-0 at i in let q = rw c.in-Arrow-Arrow.is-1 at j in (i, p.0, q.0, p.1, q.1)
+returns-in-Arrow-Arrow-clause-inside c = λ n m i j. let p = rw c.in-Arrow-Arrow.is-0 at i in let q =
+    rw c.in-Arrow-Arrow.is-1 at j in (i, p.0, q.0, p.1, q.1)
 
 pub returns-in-Arrow-Arrow-clause-lighter : goal.returns-in-Arrow-Arrow-clause-lighter
 returns-in-Arrow-Arrow-clause-lighter c = rw c.in-Arrow-Arrow.is-1 (omega arith)
@@ -63,10 +67,12 @@ pub returns-in-Arrow-Arrow-clause-shaped : goal.returns-in-Arrow-Arrow-clause-sh
 returns-in-Arrow-Arrow-clause-shaped c = λ k n. n
 
 pub returns-in-Code-Code-clause-meeting : goal.returns-in-Code-Code-clause-meeting
-returns-in-Code-Code-clause-meeting c = rw (c.in-Code-Code.is-0, c.in-Code-Code.is-1) (codes_meet c.in-Code-Code.c c.in-Code-Code.t c.in-Code-Code.d c.in-Code-Code.u)
+returns-in-Code-Code-clause-meeting c = rw (c.in-Code-Code.is-0, c.in-Code-Code.is-1)
+    (codes_meet c.in-Code-Code.c c.in-Code-Code.t c.in-Code-Code.d c.in-Code-Code.u)
 
 pub returns-in-Code-Code-clause-inside : goal.returns-in-Code-Code-clause-inside
-returns-in-Code-Code-clause-inside c = λ n m i j. let p = rw c.in-Code-Code.is-0 at i in let q = rw c.in-Code-Code.is-1 at j in (i, p.0, q.0, p.1, q.1)
+returns-in-Code-Code-clause-inside c = λ n m i j. let p = rw c.in-Code-Code.is-0 at i in let q =
+    rw c.in-Code-Code.is-1 at j in (i, p.0, q.0, p.1, q.1)
 
 pub returns-in-Code-Code-clause-lighter : goal.returns-in-Code-Code-clause-lighter
 returns-in-Code-Code-clause-lighter c = rw c.in-Code-Code.is-1 (omega arith)
@@ -75,10 +81,12 @@ pub returns-in-Code-Code-clause-shaped : goal.returns-in-Code-Code-clause-shaped
 returns-in-Code-Code-clause-shaped c = λ k n. n
 
 pub returns-in-Closed-Closed-clause-meeting : goal.returns-in-Closed-Closed-clause-meeting
-returns-in-Closed-Closed-clause-meeting c = rw (c.in-Closed-Closed.is-0, c.in-Closed-Closed.is-1) (closed_meet c.in-Closed-Closed.t c.in-Closed-Closed.u)
+returns-in-Closed-Closed-clause-meeting c = rw (c.in-Closed-Closed.is-0, c.in-Closed-Closed.is-1)
+    (closed_meet c.in-Closed-Closed.t c.in-Closed-Closed.u)
 
 pub returns-in-Closed-Closed-clause-inside : goal.returns-in-Closed-Closed-clause-inside
-returns-in-Closed-Closed-clause-inside c = λ n m i j. let p = rw c.in-Closed-Closed.is-0 at i in let q = rw c.in-Closed-Closed.is-1 at j in (i, p, q)
+returns-in-Closed-Closed-clause-inside c = λ n m i j. let p = rw c.in-Closed-Closed.is-0 at i in let q =
+    rw c.in-Closed-Closed.is-1 at j in (i, p, q)
 
 pub returns-in-Closed-Closed-clause-lighter : goal.returns-in-Closed-Closed-clause-lighter
 returns-in-Closed-Closed-clause-lighter c = rw c.in-Closed-Closed.is-1 (omega arith)

@@ -1,6 +1,7 @@
 use Rattle.mw_words.proofs.ExampleLemmas.{no_word, option_first, two_files, two_dashes, fuel_twice, simplify_twice}
 use Rattle.mw_words.proofs.ExampleLemmas.{simplify_valued}
-use Rattle.mw_words.proofs.ExampleLemmas.{erased_no_file, erased_workers, erased_two_files, erased_simplified, erased_fuel_twice}
+use Rattle.mw_words.proofs.ExampleLemmas.{erased_no_file, erased_workers, erased_two_files, erased_simplified}
+use Rattle.mw_words.proofs.ExampleLemmas.{erased_fuel_twice}
 use Rattle.mw_words.proofs.CacheExamples.{cache_twice, cache_without_path, cache_empty, cache_dashed}
 use Rattle.mw_words.proofs.CacheExamples.{cache_option_as_path, erased_cached, sample_cached, migrate_uncached}
 use Rattle.mw_words.proofs.CacheExamples.{migrate_twice, migrate_file, migrate_fuelled}

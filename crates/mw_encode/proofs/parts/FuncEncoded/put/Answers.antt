@@ -9,5 +9,6 @@ use Rattle.mw_encode.proofs.parts.FuncEncoded.put.Goals as goal
 
 pub put_sized-requires : goal.put_sized-requires
 put_sized-requires c =
-    let h : length (locals_bytes c.args.self.now.locals ++ expression_bytes (code_of c.args.self.now.body)) < 2 ^ 32 = content_small (best_then (best_locals _) (best_expression _)) c.requires in
+    let h : length (locals_bytes c.args.self.now.locals ++ expression_bytes (code_of c.args.self.now.body)) < 2 ^ 32 =
+    content_small (best_then (best_locals _) (best_expression _)) c.requires in
     grind (arith, common_steps)

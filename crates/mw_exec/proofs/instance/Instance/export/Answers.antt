@@ -6,5 +6,7 @@ use Rattle.mw_exec.proofs.instance.Instance.export.Goals as goal
 pub returns-clause-some : goal.returns-clause-some
 returns-clause-some c = (
   c.in_ok-kind.field-0-0.now,
-  subst (λ w. IsFunctionAt w c.args.name.now c.in_ok-kind.field-0-0.now c.in_ok-kind.kind.now) (c.module.ensures.«module» ∙ (c.deref.ensures ∙ ap (λ (i : InstanceState). i.wasm) c.self.view_is)) c.in_ok-kind.ensures.some,
+  subst (λ w. IsFunctionAt w c.args.name.now c.in_ok-kind.field-0-0.now c.in_ok-kind.kind.now)
+      (c.module.ensures.«module» ∙ (c.deref.ensures ∙ ap (λ (i : InstanceState). i.wasm) c.self.view_is))
+      c.in_ok-kind.ensures.some,
 )

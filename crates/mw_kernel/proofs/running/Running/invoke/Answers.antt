@@ -21,28 +21,80 @@ invariant_of-self-in_err-outcome c = without_instance _ _ c.take.ensures.after c
 
 pub invoke_word-requires : goal.invoke_word-requires
 invoke_word-requires c =
-    let r : RunningState = record { wasm = arc_value c.self.inside.module; held = c.self.inside.instance; function = c.self.inside.function; argument = ground_of c.self.inside.argument; result = ground_of c.self.inside.result } in
+    let r : RunningState = record {
+      wasm = arc_value c.self.inside.module;
+      held = c.self.inside.instance;
+      function =
+          c.self.inside.function;
+      argument = ground_of c.self.inside.argument;
+      result =
+          ground_of c.self.inside.result;
+    } in
     call_gives r (ground_value_of c.args.argument.now) c.in_ok-instance.instance c.as_slice.result.now c.self.invariant
-    (subst (λ (r : RunningState). HasGroundType r.argument (ground_value_of c.args.argument.now)) (sym c.self.view_is) c.requires.argument) c.in_ok-instance.ensures.of
-    (c.in_ok-instance.ensures.store ∙ ap (λ held. store_held r.wasm held) c.take.ensures.value) (c.as_slice.ensures.value ∙ c.in_ok-args.ensures.values)
+    (subst (λ (r : RunningState). HasGroundType r.argument (ground_value_of c.args.argument.now)) (sym c.self.view_is)
+    c.requires.argument) c.in_ok-instance.ensures.of
+    (c.in_ok-instance.ensures.store ∙ ap (λ held. store_held r.wasm held) c.take.ensures.value)
+    (c.as_slice.ensures.value ∙ c.in_ok-args.ensures.values)
 
 pub invariant_of-self-2 : goal.invariant_of-self-2
 invariant_of-self-2 c =
-    let r : RunningState = record { wasm = arc_value c.self.inside.module; held = c.self.inside.instance; function = c.self.inside.function; argument = ground_of c.self.inside.argument; result = ground_of c.self.inside.result } in
-    after_call r c.in_ok-outcome.outcome c.invoke_word.new.instance c.unless_spent.result c.unless_spent.ensures (c.invoke_word.ensures.same ∙ c.in_ok-instance.ensures.of)
-    (subst (λ w. LeavesStore c.in_ok-outcome.outcome (module_of w) (store_in c.invoke_word.new.instance)) c.in_ok-instance.ensures.of c.in_ok-outcome.ensures.store) c.self.invariant
+    let r : RunningState = record {
+      wasm = arc_value c.self.inside.module;
+      held = c.self.inside.instance;
+      function =
+          c.self.inside.function;
+      argument = ground_of c.self.inside.argument;
+      result =
+          ground_of c.self.inside.result;
+    } in
+    after_call r c.in_ok-outcome.outcome c.invoke_word.new.instance c.unless_spent.result c.unless_spent.ensures
+    (c.invoke_word.ensures.same ∙ c.in_ok-instance.ensures.of)
+    (subst (λ w. LeavesStore c.in_ok-outcome.outcome (module_of w) (store_in c.invoke_word.new.instance))
+    c.in_ok-instance.ensures.of c.in_ok-outcome.ensures.store) c.self.invariant
 
 pub returns-clause-answers : goal.returns-clause-answers
 returns-clause-answers c =
-    let r : RunningState = record { wasm = arc_value c.self.inside.module; held = c.self.inside.instance; function = c.self.inside.function; argument = ground_of c.self.inside.argument; result = ground_of c.self.inside.result } in
-    subst (λ r. AnswersCall c.answer_of-answer.result r (ground_value_of c.args.argument.now) c.args.fuel) c.self.view_is
-    (call_answers r (ground_value_of c.args.argument.now) c.in_ok-instance.instance c.as_slice.result.now (store_in c.invoke_word.new.instance) c.args.fuel c.in_ok-outcome.outcome c.answer_of-answer.result c.in_ok-instance.ensures.of
-    (c.in_ok-instance.ensures.store ∙ ap (λ held. store_held r.wasm held) c.take.ensures.value) (c.as_slice.ensures.value ∙ c.in_ok-args.ensures.values) c.in_ok-outcome.ensures.ends c.answer_of-answer.ensures)
+    let r : RunningState = record {
+      wasm = arc_value c.self.inside.module;
+      held = c.self.inside.instance;
+      function =
+          c.self.inside.function;
+      argument = ground_of c.self.inside.argument;
+      result =
+          ground_of c.self.inside.result;
+    } in
+    subst (λ r. AnswersCall c.answer_of-answer.result r (ground_value_of c.args.argument.now) c.args.fuel)
+    c.self.view_is
+    (call_answers r (ground_value_of c.args.argument.now) c.in_ok-instance.instance c.as_slice.result.now
+    (store_in c.invoke_word.new.instance) c.args.fuel c.in_ok-outcome.outcome c.answer_of-answer.result
+    c.in_ok-instance.ensures.of
+    (c.in_ok-instance.ensures.store ∙ ap (λ held. store_held r.wasm held) c.take.ensures.value)
+    (c.as_slice.ensures.value ∙ c.in_ok-args.ensures.values) c.in_ok-outcome.ensures.ends
+    c.answer_of-answer.ensures)
 
 pub returns-clause-store : goal.returns-clause-store
 returns-clause-store c =
-    let r : RunningState = record { wasm = arc_value c.self.inside.module; held = c.self.inside.instance; function = c.self.inside.function; argument = ground_of c.self.inside.argument; result = ground_of c.self.inside.result } in
-    let new : RunningState = record { wasm = r.wasm; held = c.unless_spent.result; function = r.function; argument = r.argument; result = r.result } in
-    subst (λ r. StoreAfterCall c.answer_of-answer.result r new (ground_value_of c.args.argument.now) c.args.fuel) c.self.view_is
-    (call_leaves_store r (ground_value_of c.args.argument.now) c.in_ok-instance.instance c.invoke_word.new.instance c.as_slice.result.now c.args.fuel c.in_ok-outcome.outcome c.answer_of-answer.result c.unless_spent.result c.in_ok-instance.ensures.of
-    (c.in_ok-instance.ensures.store ∙ ap (λ held. store_held r.wasm held) c.take.ensures.value) (c.as_slice.ensures.value ∙ c.in_ok-args.ensures.values) c.in_ok-outcome.ensures.ends c.unless_spent.ensures)
+    let r : RunningState = record {
+      wasm = arc_value c.self.inside.module;
+      held = c.self.inside.instance;
+      function =
+          c.self.inside.function;
+      argument = ground_of c.self.inside.argument;
+      result =
+          ground_of c.self.inside.result;
+    } in
+    let new : RunningState = record {
+      wasm = r.wasm;
+      held = c.unless_spent.result;
+      function = r.function;
+      argument =
+          r.argument;
+      result = r.result;
+    } in
+    subst (λ r. StoreAfterCall c.answer_of-answer.result r new (ground_value_of c.args.argument.now) c.args.fuel)
+    c.self.view_is
+    (call_leaves_store r (ground_value_of c.args.argument.now) c.in_ok-instance.instance c.invoke_word.new.instance
+    c.as_slice.result.now c.args.fuel c.in_ok-outcome.outcome c.answer_of-answer.result c.unless_spent.result
+    c.in_ok-instance.ensures.of
+    (c.in_ok-instance.ensures.store ∙ ap (λ held. store_held r.wasm held) c.take.ensures.value)
+    (c.as_slice.ensures.value ∙ c.in_ok-args.ensures.values) c.in_ok-outcome.ensures.ends c.unless_spent.ensures)

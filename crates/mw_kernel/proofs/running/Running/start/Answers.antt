@@ -10,21 +10,28 @@ use Rattle.mw_kernel.proofs.StrayLemmas.{bad_start_is_stray, start_is_over, star
 use Rattle.mw_kernel.proofs.running.Running.start.Goals as goal
 
 pub returns-clause-left : goal.returns-clause-left
-returns-clause-left c = start_leaves c.begin.result (arc_value c.args.module.now) (kernel_type_of c.args.kind.now) c.args.fuel c.requires.shape c.begin.ensures
+returns-clause-left c = start_leaves c.begin.result (arc_value c.args.module.now) (kernel_type_of c.args.kind.now)
+    c.args.fuel c.requires.shape c.begin.ensures
 
 pub returns-clause-means : goal.returns-clause-means
-returns-clause-means c = start_meant c.begin.result (arc_value c.args.module.now) (kernel_type_of c.args.kind.now) c.args.fuel c.begin.ensures
+returns-clause-means c = start_meant c.begin.result (arc_value c.args.module.now) (kernel_type_of c.args.kind.now)
+    c.args.fuel c.begin.ensures
 
 pub returns-clause-types : goal.returns-clause-types
 returns-clause-types c =
     let shape = c.requires.shape in
-    start_type c.begin.result (arc_value c.args.module.now) (kernel_type_of c.args.kind.now) (invoked (module_of (arc_value c.args.module.now)) shape.store shape.init.index [] c.args.fuel) (c.begin.ensures shape.store shape.init.index shape.has_instance shape.init.is_exported)
+    start_type c.begin.result (arc_value c.args.module.now) (kernel_type_of c.args.kind.now)
+    (invoked (module_of (arc_value c.args.module.now)) shape.store shape.init.index [] c.args.fuel)
+    (c.begin.ensures shape.store shape.init.index shape.has_instance shape.init.is_exported)
 
 pub returns-clause-stray : goal.returns-clause-stray
-returns-clause-stray c = bad_start_is_stray c.begin.result (arc_value c.args.module.now) (kernel_type_of c.args.kind.now) c.args.fuel c.requires.shape c.begin.ensures
+returns-clause-stray c = bad_start_is_stray c.begin.result (arc_value c.args.module.now)
+    (kernel_type_of c.args.kind.now) c.args.fuel c.requires.shape c.begin.ensures
 
 pub returns-clause-over : goal.returns-clause-over
-returns-clause-over c = start_is_over c.begin.result (arc_value c.args.module.now) (kernel_type_of c.args.kind.now) c.args.fuel c.requires.shape c.begin.ensures
+returns-clause-over c = start_is_over c.begin.result (arc_value c.args.module.now) (kernel_type_of c.args.kind.now)
+    c.args.fuel c.requires.shape c.begin.ensures
 
 pub returns-clause-plays : goal.returns-clause-plays
-returns-clause-plays c = starts_play c.begin.result (arc_value c.args.module.now) (kernel_type_of c.args.kind.now) c.args.fuel c.requires.shape c.begin.ensures
+returns-clause-plays c = starts_play c.begin.result (arc_value c.args.module.now) (kernel_type_of c.args.kind.now)
+    c.args.fuel c.requires.shape c.begin.ensures

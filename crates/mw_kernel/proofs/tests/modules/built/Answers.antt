@@ -62,7 +62,13 @@ kept wasm init e h = record {
 
 shapes : (init : Code) → HasTestShapes (test_module init)
 shapes init = (
-  λ t. record { init = record { index = 0; is_exported = refl; function = _; is_function = refl; has_type = refl }; call = tt; memory = refl; store = first_store (test_module init); has_instance = refl },
+  λ t. record {
+    init = record { index = 0; is_exported = refl; function = _; is_function = refl; has_type = refl };
+    call = tt;
+    memory = refl;
+    store = first_store (test_module init);
+    has_instance = refl;
+  },
   record {
     init = record { index = 0; is_exported = refl; function = _; is_function = refl; has_type = refl };
     call = record { index = 1; is_exported = refl; function = _; is_function = refl; has_type = refl };
@@ -74,10 +80,25 @@ shapes init = (
 
 pub sure-requires : goal.sure-requires
 sure-requires c = kept _ (code_of c.in_ok-init_code.field-0)
-    (rw (c.in_ok-types.ensures, c.in_ok-funcs.ensures, c.new.ensures, c.in_ok-exports.ensures, c.new-2.ensures, c.in_ok-segments.ensures) refl) c.in_ok-init_code.ensures
+    (rw (
+      c.in_ok-types.ensures,
+      c.in_ok-funcs.ensures,
+      c.new.ensures,
+      c.in_ok-exports.ensures,
+      c.new-2.ensures,
+      c.in_ok-segments.ensures,
+    ) refl) c.in_ok-init_code.ensures
 
 pub returns : goal.returns
 returns c =
     let e : module_of c.sure.result ≡ test_module (code_of c.in_ok-init_code.field-0) =
-    rw (c.sure.ensures, c.in_ok-types.ensures, c.in_ok-funcs.ensures, c.new.ensures, c.in_ok-exports.ensures, c.new-2.ensures, c.in_ok-segments.ensures) refl in
+    rw (
+      c.sure.ensures,
+      c.in_ok-types.ensures,
+      c.in_ok-funcs.ensures,
+      c.new.ensures,
+      c.in_ok-exports.ensures,
+      c.new-2.ensures,
+      c.in_ok-segments.ensures,
+    ) refl in
     subst HasTestShapes (sym (ap module_of c.in_ok-new.ensures.ok ∙ e)) (shapes (code_of c.in_ok-init_code.field-0))

@@ -38,7 +38,8 @@ store_typed =
     on [] (I32 ∷ I64 ∷ []) [] (of_store {c = inside} refl (omega arith) refl) (
     on [] [] (I64 ∷ []) of_const_i64 of_end)))
 
-typed_as : (r : Result Instrs AllocError) (x : Code) → IsInitCode x → IfOk r (λ c. code_of c ≡ x) → IfOk r (λ c. IsInitCode (code_of c))
+typed_as : (r : Result Instrs AllocError) (x : Code) → IsInitCode x → IfOk r (λ c. code_of c ≡ x)
+    → IfOk r (λ c. IsInitCode (code_of c))
 typed_as (Ok c) x h e = subst IsInitCode (sym e) h
 typed_as (Err f) x h e = tt
 
@@ -52,7 +53,8 @@ pub returns-in-Divide : goal.returns-in-Divide
 returns-in-Divide c = typed_as c.quotient.result _ (quotient_typed 1 0) c.quotient.ensures
 
 pub returns-in-Overflow : goal.returns-in-Overflow
-returns-in-Overflow c = typed_as c.quotient-in-Overflow.result _ (quotient_typed 0x8000_0000_0000_0000 0xffff_ffff_ffff_ffff) c.quotient-in-Overflow.ensures
+returns-in-Overflow c = typed_as c.quotient-in-Overflow.result _
+    (quotient_typed 0x8000_0000_0000_0000 0xffff_ffff_ffff_ffff) c.quotient-in-Overflow.ensures
 
 pub returns-in-Store : goal.returns-in-Store
 returns-in-Store c = typed_as c.store_past_the_end.result _ store_typed c.store_past_the_end.ensures

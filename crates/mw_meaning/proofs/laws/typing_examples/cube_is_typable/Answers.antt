@@ -15,18 +15,34 @@ power_type = function_type int_type (function_type (code_type 0 int_type) (code_
 
 power_typed : (tops : List TopLevel) → Typed tops [] live power_definition power_type
 power_typed tops =
-    t_fix (tt, (tt, tt)) (t_fun tt (t_cond (t_prim refl (t_var refl) t_num) (t_bracket tt t_num) (t_bracket tt (t_prim refl (t_escape tt (t_var refl)) (t_escape tt (t_app {s = code_type 0 int_type} (t_app {s = int_type} (t_var refl) (t_prim refl (t_var refl) t_num)) (t_var refl)))))))
+    t_fix (tt, (tt, tt))
+    (t_fun tt (t_cond (t_prim refl (t_var refl) t_num) (t_bracket tt t_num)
+    (t_bracket tt
+    (t_prim refl (t_escape tt (t_var refl))
+    (t_escape tt
+    (t_app {s = code_type 0 int_type} (t_app {s = int_type} (t_var refl) (t_prim refl (t_var refl) t_num))
+    (t_var refl)))))))
 
 cube_typed : Typed (let_item power_definition ∷ []) [] live cube (closed_type (function_type int_type int_type))
-cube_typed = t_close {a = 0} (tt, tt) tt (t_bracket (tt, tt) (t_fun tt (t_escape tt (t_app {s = code_type 0 int_type} (t_app {s = int_type} (t_let refl (power_typed _)) t_num) (t_bracket tt (t_var refl))))))
+cube_typed = t_close {a = 0} (tt, tt) tt
+    (t_bracket (tt, tt)
+    (t_fun tt (t_escape tt (t_app {s = code_type 0 int_type} (t_app {s = int_type} (t_let refl (power_typed _)) t_num)
+    (t_bracket tt (t_var refl))))))
 
-items_typed : (i : ℕ) (d : Definition) → slice_get cube_program.items i ≡ Some d → IsTypableItem (seen_by_item cube_program.items i) d
-items_typed zero d e = let p : value power_definition ≡ d = cc in subst (λ d. IsTypableItem [] d) p (tt, power_type, power_typed [])
-items_typed (suc zero) d e = let p : kernel int_to_int cube ≡ d = cc in subst (λ d. IsTypableItem (let_item power_definition ∷ []) d) p cube_typed
+items_typed : (i : ℕ) (d : Definition) → slice_get cube_program.items i ≡ Some d
+    → IsTypableItem (seen_by_item cube_program.items i) d
+items_typed zero d e = let p : value power_definition ≡ d = cc in
+    subst (λ d. IsTypableItem [] d) p (tt, power_type, power_typed [])
+items_typed (suc zero) d e = let p : kernel int_to_int cube ≡ d = cc in
+    subst (λ d. IsTypableItem (let_item power_definition ∷ []) d) p cube_typed
 items_typed (suc (suc i)) d e = absurd (cc)
 
 pub returns : goal.returns
 returns c = record {
   definition = refl;
-  typable = record { items = items_typed; body = t_bind (t_run refl (t_kernel refl)) (t_prim refl (t_app {s = int_type} (t_var refl) t_num) (t_app {s = int_type} (t_var refl) t_num)) };
+  typable = record {
+    items = items_typed;
+    body = t_bind (t_run refl (t_kernel refl))
+        (t_prim refl (t_app {s = int_type} (t_var refl) t_num) (t_app {s = int_type} (t_var refl) t_num));
+  };
 }

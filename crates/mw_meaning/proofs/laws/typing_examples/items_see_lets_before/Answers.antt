@@ -24,12 +24,16 @@ items = value f_definition ∷ value p_definition ∷ []
 f_typed : (tops : List TopLevel) → Typed tops [] live f_definition (function_type int_type int_type)
 f_typed tops = t_fun tt (t_var refl)
 
-p_typed : (rest : List TopLevel) → Typed (let_item f_definition ∷ rest) [] live p_definition (pair_type int_type (function_type int_type int_type))
+p_typed : (rest : List TopLevel) → Typed (let_item f_definition ∷ rest) [] live p_definition
+    (pair_type int_type (function_type int_type int_type))
 p_typed rest = t_pair t_num (t_fun tt (t_app {s = int_type} (t_let refl (f_typed _)) (t_var refl)))
 
 items_typed : (i : ℕ) (d : Definition) → slice_get items i ≡ Some d → IsTypableItem (seen_by_item items i) d
-items_typed zero d e = let p : value f_definition ≡ d = cc in subst (λ d. IsTypableItem [] d) p (tt, function_type int_type int_type, f_typed [])
-items_typed (suc zero) d e = let p : value p_definition ≡ d = cc in subst (λ d. IsTypableItem (let_item f_definition ∷ []) d) p ((tt, tt), pair_type int_type (function_type int_type int_type), p_typed [])
+items_typed zero d e = let p : value f_definition ≡ d = cc in
+    subst (λ d. IsTypableItem [] d) p (tt, function_type int_type int_type, f_typed [])
+items_typed (suc zero) d e = let p : value p_definition ≡ d = cc in
+    subst (λ d. IsTypableItem (let_item f_definition ∷ []) d) p
+    ((tt, tt), pair_type int_type (function_type int_type int_type), p_typed [])
 items_typed (suc (suc i)) d e = absurd (cc)
 
 later : (t : TermType) → Typed [] [] live (fun (glob 1)) t → ⊥
@@ -42,7 +46,8 @@ kernel_name _ (t_kernel e) = cc
 
 pub returns : goal.returns
 returns c = record {
-  earlier_let = record { items = items_typed; body = t_app {s = int_type} (t_snd {s = int_type} (t_let refl (p_typed _))) t_num };
+  earlier_let = record
+      { items = items_typed; body = t_app {s = int_type} (t_snd {s = int_type} (t_let refl (p_typed _))) t_num };
   later_let = λ b body h. let d = h.items 0 (value (fun (glob 1))) refl in later d.1 d.2;
   kernel = λ b body h. kernel_name _ (h.items 2 (kernel int_to_int (glob 1)) refl);
   syntactic_value = λ b body h. (h.items 0 (value (prim Add (n 1) (n 2))) refl).0;

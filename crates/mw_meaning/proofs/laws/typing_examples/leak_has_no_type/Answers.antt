@@ -7,7 +7,9 @@ use Rattle.mw_meaning.specs.TypingExamples.{leak}
 use Rattle.mw_meaning.proofs.laws.typing_examples.leak_has_no_type.Goals as goal
 
 refuted : (at inner : ℕ) (tops : List TopLevel) (t : TermType) → Typed tops [] live (leak at inner) t → ⊥
-refuted at inner tops t (t_close p q (t_bracket r (t_fun f (t_escape x (t_open y (t_close z absent (t_bracket w (t_var e)))))))) = absent.0.0 (cc)
+refuted at inner tops t
+    (t_close p q (t_bracket r (t_fun f (t_escape x (t_open y (t_close z absent (t_bracket w (t_var e)))))))) =
+    absent.0.0 (cc)
 
 pub returns : goal.returns
 returns c = record {

@@ -12,7 +12,8 @@ use Rattle.mw_meaning.proofs.laws.typing_examples.replies_are_taken.Goals as goa
 
 typed : (tops : List TopLevel) → AreTypedReplies tops other_replies
 typed tops =
-    let first : IsTypedReply tops (replies (kept int_to_int (function (num (pos 0))) 1) 9) = (int_to_int, v_kept refl tt (v_function tt t_num)) in
+    let first : IsTypedReply tops (replies (kept int_to_int (function (num (pos 0))) 1) 9) =
+    (int_to_int, v_kept refl tt (v_function tt t_num)) in
     let second : IsTypedReply tops (replies (int (pos 3)) 9) = (int_kernel, v_int) in
     let third : IsTypedReply tops (replies (int (pos 4)) 9) = (int_kernel, v_int) in
     All-from_recursion (IsTypedReply tops) other_replies.to_come (first, (second, (third, tt)))

@@ -9,9 +9,13 @@ returns c = record {
   number = t_num;
   variable = t_bracket (tt, tt) (t_fun tt (t_var refl));
   function = t_fun tt (t_prim refl (t_var refl) t_num);
-  recursion = t_bind {s = function_type int_type int_type} (t_fix (tt, tt) (t_cond (t_prim refl (t_var refl) t_num) t_num (t_app {s = int_type} (t_var refl) (t_prim refl (t_var refl) t_num)))) (t_var refl);
+  recursion = t_bind {s = function_type int_type int_type}
+      (t_fix (tt, tt)
+      (t_cond (t_prim refl (t_var refl) t_num) t_num
+      (t_app {s = int_type} (t_var refl) (t_prim refl (t_var refl) t_num)))) (t_var refl);
   application = t_app {s = int_type} (t_fun tt (t_var refl)) t_num;
-  inner_let = t_bind {s = function_type int_type int_type} (t_fun tt (t_var refl)) (t_app {s = int_type} (t_var refl) t_num);
+  inner_let = t_bind {s = function_type int_type int_type} (t_fun tt (t_var refl))
+      (t_app {s = int_type} (t_var refl) t_num);
   condition = t_cond (t_prim refl t_num t_num) t_num t_num;
   pair = t_fst (t_pair t_num t_truth);
   primitive = t_prim refl (t_prim refl t_num t_num) t_num;
@@ -19,6 +23,8 @@ returns c = record {
   escape = t_bracket tt (t_prim refl t_num (t_escape tt (t_lift t_num)));
   run = t_run refl (t_close {a = 0} tt tt (t_bracket tt t_num));
   closed = t_close {a = 0} (tt, tt) tt (t_bracket (tt, tt) (t_fun tt (t_var refl)));
-  opened = t_bracket (tt, tt) (t_fun tt (t_prim refl (t_var refl) (t_escape tt (t_open tt (t_close {a = 1} tt ((omega arith, tt), tt) (t_bracket tt t_num))))));
+  opened = t_bracket (tt, tt)
+      (t_fun tt (t_prim refl (t_var refl)
+      (t_escape tt (t_open tt (t_close {a = 1} tt ((omega arith, tt), tt) (t_bracket tt t_num))))));
   lift = (t_lift (t_prim refl t_num t_num), t_lift_b t_truth);
 }

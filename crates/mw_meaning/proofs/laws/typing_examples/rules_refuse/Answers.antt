@@ -14,7 +14,8 @@ use Rattle.mw_meaning.proofs.laws.typing_examples.rules_refuse.Goals as goal
 number : HasNoType (cond (n 5) (n 1) (n 2))
 number tops t (t_cond x y z) = elim x [ ]
 
-kernel_name : (t : TermType) → Typed (seen_by_main cube_program.items) [] live (run (to (base Int) (base Bool)) (glob 1)) t → ⊥
+kernel_name : (t : TermType) → Typed (seen_by_main cube_program.items) [] live
+    (run (to (base Int) (base Bool)) (glob 1)) t → ⊥
 kernel_name t (t_run e (t_let q h)) = cc
 kernel_name t (t_run e (t_kernel q)) = cc
 

@@ -17,7 +17,9 @@ loop-at-preserved g c = record {
   room = omega arith;
   full =
       let near : c.loop-at.at < length c.args.passed.items = omega (arith, c.args.passed.ok.0) in
-      full_more g.E.Named.name_of c.args.self.now c.args.start c.args.name.now shown c.args.passed.items c.index.result.now c.again-own.result c.loop-at.items.items _ _ c.loop-at.at near c.index.ensures
+      full_more g.E.Named.name_of c.args.self.now c.args.start c.args.name.now shown c.args.passed.items
+      c.index.result.now c.again-own.result c.loop-at.items.items _ _ c.loop-at.at near c.index.ensures
       (λ i. (c.again-own.ensures.0 i, arc_value (c.again-own.ensures.1 i)))
-      (sym c.loop-at.invariant.count ∙ c.loop-at.items.ok.0) c.place-slot.ensures.is refl refl c.push_reserved.ensures.items c.requires.others c.loop-at.invariant.full;
+      (sym c.loop-at.invariant.count ∙ c.loop-at.items.ok.0) c.place-slot.ensures.is refl refl
+      c.push_reserved.ensures.items c.requires.others c.loop-at.invariant.full;
 }

@@ -6,17 +6,26 @@ use Rattle.mw_types.proofs.answer.Solved.ty.Goals as goal
 
 pub index-requires : goal.index-requires
 index-requires c =
-    let e : length c.self.inside.roots.items ≡ length c.args.self.now.types = sym (map_length (λ k. slice_index_or c.self.inside.trees.items k Int) c.self.inside.roots.items) ∙ ap (λ s. length s.types) c.self.view_is in
+    let e : length c.self.inside.roots.items ≡ length c.args.self.now.types =
+    sym (map_length (λ k. slice_index_or c.self.inside.trees.items k Int) c.self.inside.roots.items)
+    ∙ ap (λ s. length s.types) c.self.view_is in
     omega (arith, e, c.requires, c.self.inside.roots.ok.0)
 
 pub index-requires-2 : goal.index-requires-2
 index-requires-2 c =
-    let e : length c.self.inside.roots.items ≡ length c.args.self.now.types = sym (map_length (λ k. slice_index_or c.self.inside.trees.items k Int) c.self.inside.roots.items) ∙ ap (λ s. length s.types) c.self.view_is in
+    let e : length c.self.inside.roots.items ≡ length c.args.self.now.types =
+    sym (map_length (λ k. slice_index_or c.self.inside.trees.items k Int) c.self.inside.roots.items)
+    ∙ ap (λ s. length s.types) c.self.view_is in
     let p = c.self.invariant c.args.unknown c.index.result.now (omega (arith, e, c.requires)) in
     omega (arith, p, c.index.ensures, c.self.inside.trees.ok.0)
 
 pub returns : goal.returns
 returns c =
-    let e : length c.self.inside.roots.items ≡ length c.args.self.now.types = sym (map_length (λ k. slice_index_or c.self.inside.trees.items k Int) c.self.inside.roots.items) ∙ ap (λ s. length s.types) c.self.view_is in
+    let e : length c.self.inside.roots.items ≡ length c.args.self.now.types =
+    sym (map_length (λ k. slice_index_or c.self.inside.trees.items k Int) c.self.inside.roots.items)
+    ∙ ap (λ s. length s.types) c.self.view_is in
     let p = c.self.invariant c.args.unknown c.index.result.now (omega (arith, e, c.requires)) in
-    subst (λ s. slice_get s.types c.args.unknown ≡ Some c.index-2.result.now) c.self.view_is (read_type c.self.inside.roots.items c.self.inside.trees.items c.args.unknown c.index.result.now c.index-2.result.now (omega (arith, e, c.requires)) c.index.ensures (omega (arith, p, c.index.ensures)) c.index-2.ensures)
+    subst (λ s. slice_get s.types c.args.unknown ≡ Some c.index-2.result.now) c.self.view_is
+    (read_type c.self.inside.roots.items c.self.inside.trees.items c.args.unknown c.index.result.now
+    c.index-2.result.now (omega (arith, e, c.requires)) c.index.ensures (omega (arith, p, c.index.ensures))
+    c.index-2.ensures)

@@ -7,4 +7,5 @@ use Rattle.mw_wat.proofs.reading.parts.ElementTextField.read.Goals as goal
 
 pub returns-clause-shorter : goal.returns-clause-shorter
 returns-clause-shorter c =
-    gives_shorter element local_element (tokens_at c.args.cursor) (λ x. element_of x.0) (λ x. tokens_at x.1) c.element.result c.element.ensures
+    gives_shorter element local_element (tokens_at c.args.cursor) (λ x. element_of x.0) (λ x. tokens_at x.1)
+    c.element.result c.element.ensures

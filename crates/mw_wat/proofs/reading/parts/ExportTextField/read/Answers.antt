@@ -7,4 +7,5 @@ use Rattle.mw_wat.proofs.reading.parts.ExportTextField.read.Goals as goal
 
 pub returns-clause-shorter : goal.returns-clause-shorter
 returns-clause-shorter c =
-    gives_shorter export local_export (tokens_at c.args.cursor) (λ x. export_of x.0) (λ x. tokens_at x.1) c.export.result c.export.ensures
+    gives_shorter export local_export (tokens_at c.args.cursor) (λ x. export_of x.0) (λ x. tokens_at x.1)
+    c.export.result c.export.ensures

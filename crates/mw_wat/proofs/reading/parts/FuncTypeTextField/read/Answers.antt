@@ -6,4 +6,5 @@ use Rattle.mw_wat.proofs.reading.parts.FuncTypeTextField.read.Goals as goal
 
 pub returns-clause-shorter : goal.returns-clause-shorter
 returns-clause-shorter c =
-    gives_shorter function_type local_function_type (tokens_at c.args.cursor) (λ x. x.0) (λ x. tokens_at x.1) c.function_type.result c.function_type.ensures
+    gives_shorter function_type local_function_type (tokens_at c.args.cursor) (λ x. x.0) (λ x. tokens_at x.1)
+    c.function_type.result c.function_type.ensures

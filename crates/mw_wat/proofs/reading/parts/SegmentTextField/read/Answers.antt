@@ -7,4 +7,5 @@ use Rattle.mw_wat.proofs.reading.parts.SegmentTextField.read.Goals as goal
 
 pub returns-clause-shorter : goal.returns-clause-shorter
 returns-clause-shorter c =
-    gives_shorter data_segment local_data (tokens_at c.args.cursor) (λ x. segment_of x.0) (λ x. tokens_at x.1) c.segment.result c.segment.ensures
+    gives_shorter data_segment local_data (tokens_at c.args.cursor) (λ x. segment_of x.0) (λ x. tokens_at x.1)
+    c.segment.result c.segment.ensures
