@@ -1,5 +1,6 @@
 -- The cache file of a run, as it was read.
-use Rattle.std.specs.Prelude.{◌≡◌, ℕ, List, [], length, take, Bool, IsTrue, Option, Some, None, Result, Ok, Err}
+use Rattle.std.specs.Prelude.{◌≡◌, ◌⊎◌, ◌++◌, ℕ, List, [], ◌∷◌, length, take, Bool, IsTrue, Option, Some, None, Result}
+use Rattle.std.specs.Prelude.{Ok, Err}
 use Rattle.mw_outside.specs.Count.{Rose}
 use Rattle.mw_outside.specs.declared.errors.KeepFault.{KeepFault}
 use Rattle.mw_outside.specs.declared.errors.KeepFault.TheVariants.{Failed, Memory}
@@ -25,6 +26,25 @@ IsOpened tells held _ _ load = ⊥
 abbrev pub BlamesOpening : CacheFile → (old new : ℕ) → Type 0
 BlamesOpening Unread old new = Rose old new
 BlamesOpening _ old new = new ≡ old
+
+-- a keeper was started once, with this name
+abbrev pub IsStartedWith : (name : List ℕ) → (old new : List (List ℕ)) → Type 0
+IsStartedWith name old new = new ≡ old ++ name ∷ []
+
+-- it was, or it wasn't started
+abbrev pub IsStartedAtMost : (name : List ℕ) → (old new : List (List ℕ)) → Type 0
+IsStartedAtMost name old new = IsStartedWith name old new ⊎ (new ≡ old)
+
+-- a keeper was started with the name of the file, if it has one: once, or at most once where the file wasn't read
+abbrev pub IsStartedFor : Option (Bor (List ℕ)) → CacheFile → (old new : List (List ℕ)) → Type 0
+IsStartedFor None file old new = new ≡ old
+IsStartedFor (Some path) (Read count) old new = IsStartedWith path.now old new
+IsStartedFor (Some path) file old new = IsStartedAtMost path.now old new
+
+-- a keeper was started with no other name than this one, if it is one, and at most once
+abbrev pub IsNoOtherStarted : Option (Bor (List ℕ)) → (old new : List (List ℕ)) → Type 0
+IsNoOtherStarted None old new = new ≡ old
+IsNoOtherStarted (Some path) old new = IsStartedAtMost path.now old new
 
 -- a failure of the keeper comes only where its count of faults rose, and else the count stands
 abbrev pub BlamesKeeper : {A : Type 0} → Result A KeepFault → (old new : ℕ) → Type 0

@@ -32,6 +32,7 @@ pub fn keep<C: Keeper>(
     ensures kept { let texts = texts_of receipts.now ++ map (λ g. text_in cache.now g.now) gots.now in
         OnOk result (IsTrue C.tells → IsKeptFile (C.held keeper.old) (C.held keeper.new) texts) }
     ensures front { IsTrue C.tells → HasGoodFront (C.held keeper.old) (C.held keeper.new) }
+    ensures same_names { IsTrue C.tells → C.opened keeper.new ≡ C.opened keeper.old }
     ensures blames { BlamesKeeper result (C.faults keeper.old) (C.faults keeper.new) }
     ensures rises { C.faults keeper.old ≤ C.faults keeper.new }
 {
@@ -51,6 +52,7 @@ pub(crate) fn cut_back<C: Keeper>(
     ensures cut { OnOk result (IsTrue C.tells → (load : LoadState) → load.good ≡ good
         → IsReadFile (C.held keeper.old) count load → C.held keeper.new ≡ take good (C.held keeper.old)) }
     ensures same { OnErr result (IsTrue C.tells → C.held keeper.new ≡ C.held keeper.old) }
+    ensures same_names { IsTrue C.tells → C.opened keeper.new ≡ C.opened keeper.old }
     ensures blames { BlamesKeeper result (C.faults keeper.old) (C.faults keeper.new) }
     ensures rises { C.faults keeper.old ≤ C.faults keeper.new }
 {
@@ -69,6 +71,7 @@ pub(crate) fn append_fitting<C: Keeper>(
     ensures fitting { OnOk result ((ks : List Kept) → records.now ≡ map record_bytes ks → IsTrue C.tells
         → C.held keeper.new ≡ C.held keeper.old ++ file_of (fitting room ks)) }
     ensures front { IsTrue C.tells → (rest : List ℕ) × (C.held keeper.new ≡ C.held keeper.old ++ rest) }
+    ensures same_names { IsTrue C.tells → C.opened keeper.new ≡ C.opened keeper.old }
     ensures blames { BlamesKeeper result (C.faults keeper.old) (C.faults keeper.new) }
     ensures rises { C.faults keeper.old ≤ C.faults keeper.new }
 {

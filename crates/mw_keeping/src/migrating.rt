@@ -2,7 +2,7 @@
 
 ghost use Rattle.std.specs.Prelude.{◌≡◌, ◌≤◌, ◌+◌, List, length, map, IsTrue, IfOk, OnOk};
 ghost use Rattle.mw_store.specs.Records.{Kept, record_bytes};
-ghost use Rattle.mw_keeping.specs.CacheFiles.{BlamesKeeper};
+ghost use Rattle.mw_keeping.specs.CacheFiles.{IsStartedWith, IsStartedAtMost, BlamesKeeper};
 ghost use Rattle.mw_keeping.specs.KeptFiles.{HasGoodFront, fitting};
 ghost use Rattle.mw_keeping.specs.Migrations.{IsMigrationHere, IsMigratedFile};
 
@@ -41,6 +41,9 @@ pub fn migration<C: Keeper, L: Ledger>(
     ensures few { IfOk result (λ m. m.added ≤ m.old) }
     ensures spent { IfOk result (λ m. steps.new ≤ steps.old + m.old) }
     ensures same { IsTrue C.tells → C.held keeper.new ≡ C.held keeper.old }
+    ensures started { OnOk result (IsTrue C.tells
+        → IsStartedWith path.now (C.opened keeper.old) (C.opened keeper.new)) }
+    ensures no_other { IsTrue C.tells → IsStartedAtMost path.now (C.opened keeper.old) (C.opened keeper.new) }
     ensures blames { BlamesKeeper result (C.faults keeper.old) (C.faults keeper.new) }
     ensures count { C.faults keeper.old ≤ C.faults keeper.new }
 {
@@ -62,6 +65,7 @@ pub fn migration<C: Keeper, L: Ledger>(
 /// these, and then adds the records that have room, one call each. The first failure ends it.
 pub fn keep_migration<C: Keeper>(keeper: &mut C, migration: &FileMigration) -> Result<(), KeepFault>
     requires { IsTrue C.tells → IsMigrationHere (C.held keeper.old) migration.now }
+    ensures same_names { IsTrue C.tells → C.opened keeper.new ≡ C.opened keeper.old }
     ensures kept { OnOk result (IsTrue C.tells → IsMigratedFile (C.held keeper.old) (C.held keeper.new)) }
     ensures front { IsTrue C.tells → HasGoodFront (C.held keeper.old) (C.held keeper.new) }
     ensures blames { BlamesKeeper result (C.faults keeper.old) (C.faults keeper.new) }

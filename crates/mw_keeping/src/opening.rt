@@ -1,7 +1,8 @@
 // The cache file of a run, as it is before the run.
 
-ghost use Rattle.std.specs.Prelude.{◌≡◌, ◌≤◌, take, IsTrue, IfOk, IsNone};
-ghost use Rattle.mw_keeping.specs.CacheFiles.{IsOpened, BlamesOpening, BlamesKeeper};
+ghost use Rattle.std.specs.Prelude.{◌≡◌, ◌≤◌, take, IsTrue, IfOk, OnOk, IsNone};
+ghost use Rattle.mw_keeping.specs.CacheFiles.{IsOpened, IsStartedWith, IsStartedAtMost, IsStartedFor, IsNoOtherStarted};
+ghost use Rattle.mw_keeping.specs.CacheFiles.{BlamesOpening, BlamesKeeper};
 ghost use Rattle.mw_store.specs.Loads.{file_limit};
 
 use mw_outside::{KeepFault, Keeper};
@@ -33,6 +34,9 @@ pub fn open_cache<C: Keeper>(
 ) -> Result<Opened, AllocError>
     ensures opened { IfOk result (λ o. IsOpened C.tells (C.held keeper.old) path.entry o.file o.load) }
     ensures same { IsTrue C.tells → C.held keeper.new ≡ C.held keeper.old }
+    ensures started { IfOk result (λ o. IsTrue C.tells
+        → IsStartedFor path.entry o.file (C.opened keeper.old) (C.opened keeper.new)) }
+    ensures no_other { IsTrue C.tells → IsNoOtherStarted path.entry (C.opened keeper.old) (C.opened keeper.new) }
     ensures untouched { IsNone path.entry → keeper.new ≡ keeper.old }
     ensures blames { IfOk result (λ o. BlamesOpening o.file (C.faults keeper.old) (C.faults keeper.new)) }
     ensures count { C.faults keeper.old ≤ C.faults keeper.new }
@@ -67,6 +71,9 @@ pub(crate) fn read_cache<C: Keeper>(
 ) -> Result<Vec<u8>, KeepFault>
     ensures ok { IfOk result (λ bytes. IsTrue C.tells → bytes.items ≡ take file_limit (C.held keeper.old)) }
     ensures same { IsTrue C.tells → C.held keeper.new ≡ C.held keeper.old }
+    ensures started { OnOk result (IsTrue C.tells
+        → IsStartedWith path.now (C.opened keeper.old) (C.opened keeper.new)) }
+    ensures no_other { IsTrue C.tells → IsStartedAtMost path.now (C.opened keeper.old) (C.opened keeper.new) }
     ensures blames { BlamesKeeper result (C.faults keeper.old) (C.faults keeper.new) }
     ensures count { C.faults keeper.old ≤ C.faults keeper.new }
 {

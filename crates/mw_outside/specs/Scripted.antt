@@ -6,7 +6,7 @@ use Rattle.mw_outside.specs.declared.scripted.MemSource.{MemSource}
 use Rattle.mw_outside.specs.declared.scripted.MemSink.{MemSink}
 use Rattle.mw_outside.specs.declared.scripted.MemKeeper.{MemKeeper}
 use Rattle.mw_outside.specs.Sure.{sure_files, sure_source_step, IsSureUnderWay, sure_left}
-use Rattle.mw_outside.specs.Sure.{sure_written, sure_sink_step, sure_held}
+use Rattle.mw_outside.specs.Sure.{sure_written, sure_sink_step, sure_held, sure_opened}
 
 -- the files of a source
 abbrev pub files_of : MemSource → List NamedFile
@@ -43,6 +43,10 @@ sink_step sink = sure_sink_step sink.sink
 -- the bytes that a keeper holds
 abbrev pub held_of : MemKeeper → List ℕ
 held_of keeper = sure_held keeper.keeper
+
+-- the names with which it was started
+abbrev pub opened_of : MemKeeper → List (List ℕ)
+opened_of keeper = sure_opened keeper.keeper
 
 -- which of its calls fail
 abbrev pub keeper_plan : MemKeeper → Plan

@@ -33,3 +33,7 @@ sure_sink_step sink = sink.step
 -- the bytes that a keeper holds
 abbrev pub sure_held : SureKeeper → List ℕ
 sure_held keeper = keeper.bytes
+
+-- the names with which a keeper was started
+abbrev pub sure_opened : SureKeeper → List (List ℕ)
+sure_opened keeper = keeper.opened

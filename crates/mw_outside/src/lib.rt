@@ -20,7 +20,7 @@ mod writing;
 pub use errors::{KeepFault, ReadFault, ReadStop, StartFault, WriteFault};
 pub use gates::{Gate, Pass};
 pub use keepers::Keeper;
-pub use lists::{Bytes, Calls};
+pub use lists::{Bytes, Calls, Names};
 pub use named::{Files, NamedFile};
 pub use reading::read_up_to;
 pub use real::{FileKeeper, FileSource, OutSink};

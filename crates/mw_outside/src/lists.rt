@@ -1,4 +1,4 @@
-// Lists of numbers, which contracts see as lists.
+// Lists of numbers, and of names, which contracts see as lists.
 
 ghost use Rattle.std.specs.Prelude.{◌≡◌, ◌<◌, [], ◌∷◌, ◌++◌, length, take, OnOk, OnErr, IfOk, slice_get, Some};
 
@@ -137,6 +137,48 @@ impl Calls {
         ensures err { OnErr result (self.new ≡ self.old) }
     {
         self.items.push(call)?;
+        Ok(())
+    }
+}
+
+/// A list of names.
+#[derive(Debug, Drop)]
+pub struct Names {
+    items: Vec<Bytes>,
+}
+
+impl Model for Names {
+    ghost use Rattle.std.specs.Prelude.{List, ℕ};
+
+    ghost Value = { List (List ℕ) };
+
+    ghost view = { λ list. list.items.items };
+}
+
+impl Names {
+    /// No names. Takes no memory; the list grows by `alloc`.
+    pub fn new(alloc: Global) -> Names
+        ensures { result ≡ [] }
+    {
+        Names {
+            items: Vec::new(alloc),
+        }
+    }
+
+    /// All of them, in order.
+    pub fn as_slice(&self) -> &[Bytes]
+        ensures { result.now ≡ self.now }
+    {
+        self.items.as_slice()
+    }
+
+    /// Adds a copy of a name at the end. The error is want of memory, and leaves the list unchanged.
+    pub fn add(&mut self, name: &[u8]) -> Result<(), AllocError>
+        ensures ok { OnOk result (self.new ≡ self.old ++ name.now ∷ []) }
+        ensures err { OnErr result (self.new ≡ self.old) }
+    {
+        let copy = Bytes::copied(*self.items.allocator(), name)?;
+        self.items.push(copy)?;
         Ok(())
     }
 }

@@ -155,6 +155,8 @@ impl<R: Files> Keeper for FileKeeper<R> {
 
     ghost held = { λ _. [] };
 
+    ghost opened = { λ _. [] };
+
     ghost faults = { λ keeper. keeper.faults };
 
     /// Remembers the name, and looks: a folder, or a file that can't be opened to be read, is `Failed`. A

@@ -1,6 +1,6 @@
 // A source, a sink and a keeper in memory, with calls that fail by plan.
 
-ghost use Rattle.std.specs.Prelude.{◌≡◌, ◌<◌, ◌≤◌, ◌↔◌, ◌++◌, [], ℕ, length, min, take, true, IsTrue, Some};
+ghost use Rattle.std.specs.Prelude.{◌≡◌, ◌<◌, ◌≤◌, ◌↔◌, ◌++◌, [], ◌∷◌, ℕ, length, min, take, true, IsTrue, Some};
 ghost use Rattle.std.specs.Prelude.{IsNone, IsErr, IsErrOf, IsOkUnless, IfOk, OnOk, OnErr, alloc_error};
 
 use crate::errors::{KeepFault, ReadFault, StartFault, WriteFault};
@@ -193,16 +193,18 @@ pub struct MemKeeper {
 
 impl MemKeeper {
     ghost use Rattle.mw_outside.specs.Plan.{fresh_plan, fault_count};
-    ghost use Rattle.mw_outside.specs.Scripted.{held_of, keeper_plan};
+    ghost use Rattle.mw_outside.specs.Scripted.{held_of, opened_of, keeper_plan};
 
-    /// A keeper that holds these bytes. The calls whose numbers stand in `failing` fail. Takes no memory.
-    pub fn new(held: Bytes, failing: Calls) -> MemKeeper
+    /// A keeper that holds these bytes, and wasn't started. The calls whose numbers stand in `failing` fail. Takes no
+    /// memory; the names are kept by `alloc`.
+    pub fn new(alloc: Global, held: Bytes, failing: Calls) -> MemKeeper
         ensures held { held_of result ≡ held }
+        ensures opened { opened_of result ≡ [] }
         ensures plan { keeper_plan result ≡ fresh_plan failing }
         ensures count { fault_count (keeper_plan result) ≡ 0 }
     {
         MemKeeper {
-            keeper: SureKeeper::new(held),
+            keeper: SureKeeper::new(alloc, held),
             plan: Plan::new(failing),
         }
     }
@@ -213,27 +215,39 @@ impl MemKeeper {
     {
         self.keeper.held()
     }
+
+    /// The names with which it was started, in order.
+    pub fn opened(&self) -> &[Bytes]
+        ensures { result.now ≡ opened_of self.now }
+    {
+        self.keeper.opened()
+    }
 }
 
 impl Keeper for MemKeeper {
     ghost use Rattle.mw_outside.specs.Count.{Rose};
     ghost use Rattle.mw_outside.specs.Plan.{fails_next, after_call, fault_count};
-    ghost use Rattle.mw_outside.specs.Scripted.{held_of, keeper_plan};
+    ghost use Rattle.mw_outside.specs.Scripted.{held_of, opened_of, keeper_plan};
 
     ghost tells = { true };
 
     ghost held = { held_of };
 
+    ghost opened = { opened_of };
+
     ghost faults = { λ keeper. fault_count (keeper_plan keeper) };
 
-    /// Takes any name. The call fails exactly by plan.
+    /// Takes any name. The call is `Failed` exactly by plan, and else fails only for want of memory.
     fn start(&mut self, name: &str) -> Result<(), KeepFault>
         ensures by_plan { IsErrOf result KeepFault.Failed ↔ IsTrue (fails_next (keeper_plan self.old)) }
         ensures plan { keeper_plan self.new ≡ after_call (keeper_plan self.old) }
-        ensures sure { IsOkUnless result KeepFault.Failed }
+        ensures named { OnOk result (opened_of self.new ≡ opened_of self.old ++ name.now ∷ []) }
+        ensures unnamed { OnErr result (opened_of self.new ≡ opened_of self.old) }
         ensures kept { held_of self.new ≡ held_of self.old }
         ensures same_count { OnOk result (fault_count (keeper_plan self.new)
             ≡ fault_count (keeper_plan self.old)) }
+        ensures memory_count { IsErrOf result (KeepFault.Memory alloc_error)
+            → fault_count (keeper_plan self.new) ≡ fault_count (keeper_plan self.old) }
         ensures failed { IsErrOf result KeepFault.Failed
             → Rose (fault_count (keeper_plan self.old)) (fault_count (keeper_plan self.new)) }
         ensures count { fault_count (keeper_plan self.old) ≤ fault_count (keeper_plan self.new) }
@@ -251,6 +265,7 @@ impl Keeper for MemKeeper {
         ensures plan { keeper_plan self.new ≡ after_call (keeper_plan self.old) }
         ensures ok { IfOk result (λ bytes. bytes.items ≡ take most (held_of self.old)) }
         ensures kept { held_of self.new ≡ held_of self.old }
+        ensures same_names { opened_of self.new ≡ opened_of self.old }
         ensures same_count { OnOk result (fault_count (keeper_plan self.new)
             ≡ fault_count (keeper_plan self.old)) }
         ensures memory_count { IsErrOf result (KeepFault.Memory alloc_error)
@@ -272,6 +287,7 @@ impl Keeper for MemKeeper {
         ensures sure { IsOkUnless result KeepFault.Failed }
         ensures ok { OnOk result (held_of self.new ≡ take length (held_of self.old)) }
         ensures err { OnErr result (held_of self.new ≡ held_of self.old) }
+        ensures same_names { opened_of self.new ≡ opened_of self.old }
         ensures same_count { OnOk result (fault_count (keeper_plan self.new)
             ≡ fault_count (keeper_plan self.old)) }
         ensures failed { IsErrOf result KeepFault.Failed
@@ -291,6 +307,7 @@ impl Keeper for MemKeeper {
         ensures plan { keeper_plan self.new ≡ after_call (keeper_plan self.old) }
         ensures ok { OnOk result (held_of self.new ≡ held_of self.old ++ bytes.now) }
         ensures err { OnErr result (held_of self.new ≡ held_of self.old) }
+        ensures same_names { opened_of self.new ≡ opened_of self.old }
         ensures same_count { OnOk result (fault_count (keeper_plan self.new)
             ≡ fault_count (keeper_plan self.old)) }
         ensures memory_count { IsErrOf result (KeepFault.Memory alloc_error)

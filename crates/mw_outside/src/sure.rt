@@ -1,12 +1,12 @@
 // A source, a sink and a keeper in memory that never fail.
 
-ghost use Rattle.std.specs.Prelude.{◌≡◌, ◌<◌, ◌≤◌, ◌↔◌, ◌++◌, [], ℕ, length, min, take, true, IsTrue, Some};
+ghost use Rattle.std.specs.Prelude.{◌≡◌, ◌<◌, ◌≤◌, ◌↔◌, ◌++◌, [], ◌∷◌, ℕ, length, min, take, true, IsTrue, Some};
 ghost use Rattle.std.specs.Prelude.{IsNone, IsOk, IsErr, IsOkUnless, IfOk, OnOk, OnErr, alloc_error};
 ghost use Rattle.mw_outside.specs.Lookup.{bytes_at};
 
 use crate::errors::{KeepFault, ReadFault, StartFault, WriteFault};
 use crate::keepers::Keeper;
-use crate::lists::Bytes;
+use crate::lists::{Bytes, Names};
 use crate::named::{Files, find_file};
 use crate::sinks::Sink;
 use crate::sources::Source;
@@ -168,16 +168,28 @@ impl Sink for SureSink {
 #[derive(Debug, Drop)]
 pub struct SureKeeper {
     bytes: Bytes,
+    opened: Names,
 }
 
 impl SureKeeper {
-    ghost use Rattle.mw_outside.specs.Sure.{sure_held};
+    ghost use Rattle.mw_outside.specs.Sure.{sure_held, sure_opened};
 
-    /// A keeper that holds these bytes. Takes no memory.
-    pub fn new(held: Bytes) -> SureKeeper
-        ensures { sure_held result ≡ held }
+    /// A keeper that holds these bytes, and wasn't started. Takes no memory; the names are kept by `alloc`.
+    pub fn new(alloc: Global, held: Bytes) -> SureKeeper
+        ensures held { sure_held result ≡ held }
+        ensures opened { sure_opened result ≡ [] }
     {
-        SureKeeper { bytes: held }
+        SureKeeper {
+            bytes: held,
+            opened: Names::new(alloc),
+        }
+    }
+
+    /// The names with which it was started, in order.
+    pub fn opened(&self) -> &[Bytes]
+        ensures { result.now ≡ sure_opened self.now }
+    {
+        self.opened.as_slice()
     }
 
     /// The bytes held.
@@ -189,19 +201,24 @@ impl SureKeeper {
 }
 
 impl Keeper for SureKeeper {
-    ghost use Rattle.mw_outside.specs.Sure.{sure_held};
+    ghost use Rattle.mw_outside.specs.Sure.{sure_held, sure_opened};
 
     ghost tells = { true };
 
     ghost held = { sure_held };
 
+    ghost opened = { sure_opened };
+
     ghost faults = { λ _. 0 };
 
-    /// Succeeds.
-    fn start(&mut self, _name: &str) -> Result<(), KeepFault>
-        ensures ok { IsOk result }
+    /// Fails only for want of memory.
+    fn start(&mut self, name: &str) -> Result<(), KeepFault>
+        ensures named { OnOk result (sure_opened self.new ≡ sure_opened self.old ++ name.now ∷ []) }
+        ensures unnamed { OnErr result (sure_opened self.new ≡ sure_opened self.old) }
         ensures kept { sure_held self.new ≡ sure_held self.old }
+        ensures sure { IsOkUnless result (KeepFault.Memory alloc_error) }
     {
+        self.opened.add(name.as_bytes())?;
         Ok(())
     }
 
@@ -209,6 +226,7 @@ impl Keeper for SureKeeper {
     fn read_all(&mut self, alloc: Global, most: usize) -> Result<Vec<u8>, KeepFault>
         ensures ok { IfOk result (λ bytes. bytes.items ≡ take most (sure_held self.old)) }
         ensures kept { sure_held self.new ≡ sure_held self.old }
+        ensures same_names { sure_opened self.new ≡ sure_opened self.old }
         ensures sure { IsOkUnless result (KeepFault.Memory alloc_error) }
     {
         let count = most.min(self.bytes.len());
@@ -219,6 +237,7 @@ impl Keeper for SureKeeper {
     fn cut(&mut self, length: usize) -> Result<(), KeepFault>
         ensures ok { IsOk result }
         ensures kept { sure_held self.new ≡ take length (sure_held self.old) }
+        ensures same_names { sure_opened self.new ≡ sure_opened self.old }
     {
         self.bytes.truncate(length);
         Ok(())
@@ -228,6 +247,7 @@ impl Keeper for SureKeeper {
     fn append(&mut self, bytes: &[u8]) -> Result<(), KeepFault>
         ensures ok { OnOk result (sure_held self.new ≡ sure_held self.old ++ bytes.now) }
         ensures err { OnErr result (sure_held self.new ≡ sure_held self.old) }
+        ensures same_names { sure_opened self.new ≡ sure_opened self.old }
         ensures sure { IsOkUnless result (KeepFault.Memory alloc_error) }
     {
         self.bytes.append(bytes)?;

@@ -305,8 +305,17 @@ fn three_counts(source: &mut SureSource) -> Option<[Result<usize, ReadFault>; 3]
 
 #[test]
 fn keeps(rt: HostRuntime) -> Result<(), Fail> {
-    let mut keeper = SureKeeper::new(Bytes::copied(rt.alloc(), b"one ")?);
+    let mut keeper = SureKeeper::new(rt.alloc(), Bytes::copied(rt.alloc(), b"one ")?);
+    assert_eq!(rt; keeper.opened().len(), 0);
     assert_eq!(rt; keeper.start("any"), Ok(()));
+    assert_eq!(rt; keeper.start(""), Ok(()));
+    match keeper.opened() {
+        [first, second] => {
+            assert_eq!(rt; first.as_slice(), b"any".as_slice());
+            assert_eq!(rt; second.as_slice(), b"".as_slice());
+        }
+        _ => assert!(rt; false),
+    }
     assert_eq!(rt; keeper.append(b"two"), Ok(()));
     assert_eq!(rt; keeper.held(), b"one two".as_slice());
     assert_eq!(rt; keeper.cut(5), Ok(()));

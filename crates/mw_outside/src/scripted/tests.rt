@@ -95,6 +95,7 @@ fn each_call_fails_in_turn(rt: HostRuntime) -> Result<(), Fail> {
 
 fn keep_row(rt: &impl Abort, alloc: Global, row: &KeepRow) -> Result<(), Fail> {
     let mut keeper = MemKeeper::new(
+        alloc,
         Bytes::copied(alloc, b"one two")?,
         calls(alloc, row.failing)?,
     );

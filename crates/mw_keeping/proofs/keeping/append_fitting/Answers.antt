@@ -30,6 +30,7 @@ loop-at-preserved g c = record {
       (c.in_ok-append.ensures.ok tells ∙ ap (λ bs. g.C.Keeper.held c.loop-at.keeper ++ bs) c.as_slice-record.ensures);
   grown = λ tells.
       grows_on _ _ _ c.as_slice-record.result.now (c.loop-at.invariant.grown tells) (c.in_ok-append.ensures.ok tells);
+  names = λ tells. c.in_ok-append.ensures.same_names tells ∙ c.loop-at.invariant.names tells;
   count = c.in_ok-append.ensures.same_count ∙ c.loop-at.invariant.count;
 }
 
