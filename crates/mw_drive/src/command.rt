@@ -1,7 +1,8 @@
 // The top call.
 
 ghost use Rattle.std.specs.Prelude.{◌≡◌, ◌↔◌, ◌≤◌, ◌⊎◌, ◌∷◌, ℕ, Bool, true, List, [], Option, IsTrue, IsSome, IsNone};
-ghost use Rattle.std.specs.Prelude.{map, take, drop};
+ghost use Rattle.std.specs.Prelude.{map, take, drop, Some};
+ghost use denote.Ref.{Bor};
 ghost use Rattle.std.specs.String.{string_bytes};
 ghost use Rattle.mw_outside.specs.Count.{Rose};
 ghost use Rattle.mw_term.specs.Terms.{PureGroundValue};
@@ -15,6 +16,7 @@ ghost use Rattle.mw_keeping.specs.KeptFiles.{IsKeptFile, HasGoodFront};
 ghost use Rattle.mw_drive.specs.BadRecords.{IsBadOf, HasBadRecordOf};
 ghost use Rattle.mw_drive.specs.Extents.{whole, never, Kind, on_a_number, extent};
 ghost use Rattle.mw_drive.specs.HeldFiles.{IsHeldWith, IsHeldBy, IsKeptWith};
+ghost use Rattle.mw_drive.specs.OpenedFiles.{IsOpenedWith};
 ghost use Rattle.mw_drive.specs.Verdicts.{IsVerdictOn};
 ghost use Rattle.mw_drive.specs.Honest.{IsHonestCache};
 ghost use Rattle.mw_drive.specs.Works.{Work, running, erasing, sampling, Meaning, ran, erased, IsMeaning, HaveModules};
@@ -158,6 +160,11 @@ pub fn run<R: Threads + Sync, S: Source, K: Sink, C: Keeper, G: Gate>(
     ensures untouched { (result ≡ Usage) ⊎ (result ≡ Read) ⊎ AsksNoCache (map string_bytes words.now)
         → keeper.new ≡ keeper.old }
     ensures unkept_refusal { (r : Refusal) → result ≡ Refused r → keeper.new ≡ keeper.old }
+    // The keeper is started with the name of the command's cache file alone, and once where a whole text's own status
+    // came.
+    ensures opened { (command : PureCommand) → Means (map string_bytes words.now) command → (path : List ℕ)
+        → path_of command ≡ Some path → IsTrue C.tells
+        → IsOpenedWith result path (C.opened keeper.old) (C.opened keeper.new) }
     // What counted of the cache file is never lost, whatever the status, and whatever failed.
     ensures front { IsTrue C.tells → HasGoodFront (C.held keeper.old) (C.held keeper.new) }
     // The status says what the cache file holds: what it held, or what counted of that and records behind it.
@@ -228,6 +235,8 @@ fn carry_out<R: Threads + Sync, S: Source, K: Sink, C: Keeper, G: Gate>(
     ensures files { S.told source.new ≡ S.told source.old }
     ensures untouched { (result ≡ Read) ⊎ IsNone (path_of (command_in command.entry)) → keeper.new ≡ keeper.old }
     ensures refused { (r : Refusal) → result ≡ Refused r → keeper.new ≡ keeper.old }
+    ensures opened { (path : List ℕ) → path_of (command_in command.entry) ≡ Some path → IsTrue C.tells
+        → IsOpenedWith result path (C.opened keeper.old) (C.opened keeper.new) }
     ensures held { IsSome (path_of (command_in command.entry)) → IsTrue C.tells
         → IsHeldBy (kind_of (command_in command.entry)) result (C.held keeper.old) (C.held keeper.new) }
     ensures kept { (contents : List (List ℕ)) (work : Work)
@@ -326,6 +335,8 @@ fn evaluate_file<R: Threads + Sync, S: Source, K: Sink, C: Keeper, G: Gate>(
     ensures files { S.told source.new ≡ S.told source.old }
     ensures untouched { (result ≡ Read) ⊎ IsNone (cache_of evaluation.entry) → keeper.new ≡ keeper.old }
     ensures refused { (r : Refusal) → result ≡ Refused r → keeper.new ≡ keeper.old }
+    ensures opened { (path : Bor (List ℕ)) → cache_of evaluation.entry ≡ Some path → IsTrue C.tells
+        → IsOpenedWith result path.now (C.opened keeper.old) (C.opened keeper.new) }
     ensures held { IsSome (cache_of evaluation.entry) → IsTrue C.tells
         → IsHeldWith result (C.held keeper.old) (C.held keeper.new) }
     ensures kept { (bytes : List ℕ)

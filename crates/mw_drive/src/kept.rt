@@ -45,6 +45,7 @@ pub fn keep_run<C: Keeper>(
         → IsKeptFile (C.held keeper.old) (C.held keeper.new) (texts_built cache.now ran.now.built.items)) }
     ensures front { (count : ℕ) → file ≡ Read count → IsTrue C.tells
         → HasGoodFront (C.held keeper.old) (C.held keeper.new) }
+    ensures same_names { IsTrue C.tells → C.opened keeper.new ≡ C.opened keeper.old }
     ensures unkept { IfOk result (λ s. s ≡ Unkept → (ran.now.status ≡ Unkept) ⊎ (file ≡ Unread)
         ⊎ Rose (C.faults keeper.old) (C.faults keeper.new)) }
     ensures unfailed { IfOk result (λ s. (s ≡ Unkept → ⊥) → C.faults keeper.new ≡ C.faults keeper.old) }

@@ -1,14 +1,15 @@
 // The migration of a cache file.
 
-ghost use Rattle.std.specs.Prelude.{◌≡◌, ◌≤◌, ◌<◌, IsTrue, IfOk};
+ghost use Rattle.std.specs.Prelude.{◌≡◌, ◌≤◌, ◌<◌, IsTrue, IfOk, OnOk};
 ghost use Rattle.mw_outside.specs.Count.{Rose};
 ghost use Rattle.mw_console.specs.Texts.{migrated_text};
 ghost use Rattle.mw_term.specs.declared.refusal.Refusal.{Refusal};
 ghost use Rattle.mw_console.specs.declared.status.Status.TheVariants.{Refused, Write, Cache};
-ghost use Rattle.mw_keeping.specs.CacheFiles.{BlamesKeeper};
+ghost use Rattle.mw_keeping.specs.CacheFiles.{IsStartedWith, IsStartedAtMost, BlamesKeeper};
 ghost use Rattle.mw_keeping.specs.Migrations.{IsMigrationHere};
 ghost use Rattle.mw_drive.specs.Extents.{whole, never, on_a_cache, extent};
 ghost use Rattle.mw_drive.specs.HeldFiles.{IsMigratedWith};
+ghost use Rattle.mw_drive.specs.OpenedFiles.{IsOpenedWith};
 ghost use Rattle.mw_drive.specs.Running.{IsCarriedOut, IsMemory, IsWritten};
 ghost use Rattle.mw_drive.specs.Works.{migrating};
 ghost use Rattle.mw_drive.specs.Written.{Writes, Blames};
@@ -36,6 +37,7 @@ pub fn migrate<K: Sink, C: Keeper>(
     ensures accepted { (r : Refusal) → ¬ (result ≡ Refused r) }
     ensures unfailed { IsWritten (extent on_a_cache result) → K.faults sink.new ≡ K.faults sink.old }
     ensures memory { IsMemory result → K.faults sink.new ≡ K.faults sink.old }
+    ensures opened { IsTrue C.tells → IsOpenedWith result path.now (C.opened keeper.old) (C.opened keeper.new) }
     ensures held { IsTrue C.tells → IsMigratedWith result (C.held keeper.old) (C.held keeper.new) }
     ensures cache { result ≡ Cache → Rose (C.faults keeper.old) (C.faults keeper.new) }
     ensures sound { extent on_a_cache result ≡ whole → C.faults keeper.new ≡ C.faults keeper.old }
@@ -77,6 +79,9 @@ fn uncounted<C: Keeper, L: Ledger>(
     requires some { 0 < L.parts }
     ensures found { IfOk result (λ m. IsTrue C.tells → IsMigrationHere (C.held keeper.old) m) }
     ensures same { IsTrue C.tells → C.held keeper.new ≡ C.held keeper.old }
+    ensures started { OnOk result (IsTrue C.tells
+        → IsStartedWith file.path.now (C.opened keeper.old) (C.opened keeper.new)) }
+    ensures no_other { IsTrue C.tells → IsStartedAtMost file.path.now (C.opened keeper.old) (C.opened keeper.new) }
     ensures blames { BlamesKeeper result (C.faults keeper.old) (C.faults keeper.new) }
     ensures count { C.faults keeper.old ≤ C.faults keeper.new }
 {

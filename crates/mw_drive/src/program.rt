@@ -1,6 +1,8 @@
 // The run of a program.
 
-ghost use Rattle.std.specs.Prelude.{◌≡◌, ◌≤◌, ◌<◌, ◌^◌, ℕ, List, [], map, length, IsTrue, IsSome, IsNone, IfOk, IfErr};
+ghost use Rattle.std.specs.Prelude.{◌≡◌, ◌≤◌, ◌<◌, ◌^◌, ℕ, List, [], map, length, IsTrue, Some, IsSome, IsNone, IfOk};
+ghost use Rattle.std.specs.Prelude.{IfErr};
+ghost use denote.Ref.{Bor};
 ghost use Rattle.mw_outside.specs.Count.{Rose};
 ghost use Rattle.mw_term.specs.Programs.{program_of};
 ghost use Rattle.mw_term.specs.SmallTypes.{HasSmallTypes};
@@ -16,6 +18,7 @@ ghost use Rattle.mw_drive.specs.ProgramRuns.{IsWrittenRun, IsEndOf, IsEnded};
 ghost use Rattle.mw_drive.specs.BadRecords.{HasBadRecord};
 ghost use Rattle.mw_drive.specs.RunFaults.{BlamesSink, IfBadRecord};
 ghost use Rattle.mw_drive.specs.HeldFiles.{IsHeldAfter, IsKeptOf};
+ghost use Rattle.mw_drive.specs.OpenedFiles.{IsOpenedAfter};
 ghost use Rattle.mw_drive.specs.Works.{mode_of, run_text};
 ghost use Rattle.mw_drive.specs.declared.shown.Shown.TheVariants.{Totals};
 
@@ -72,6 +75,8 @@ pub fn write_run<R: Threads + Sync, K: Sink, C: Keeper, G: Gate, L: Ledger>(
     ensures blames { BlamesSink result (K.faults sink.old) (K.faults sink.new) }
     ensures count { K.faults sink.old ≤ K.faults sink.new }
     ensures untouched { IsNone options.entry.cache → keeper.new ≡ keeper.old }
+    ensures opened { (path : Bor (List ℕ)) → options.entry.cache ≡ Some path → IsTrue C.tells
+        → IsOpenedAfter result path.now (C.opened keeper.old) (C.opened keeper.new) }
     ensures held { IsSome options.entry.cache → IsTrue C.tells
         → IsHeldAfter result (C.held keeper.old) (C.held keeper.new) }
     ensures kept { let p = named_program_of program.now in let mode = mode_of options.entry.shown in

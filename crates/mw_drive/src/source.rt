@@ -1,6 +1,7 @@
 // The evaluation of a source.
 
-ghost use Rattle.std.specs.Prelude.{◌≡◌, ◌≤◌, ◌<◌, List, map, IsTrue, IsSome, IsNone, IfOk, IfErr};
+ghost use Rattle.std.specs.Prelude.{◌≡◌, ◌≤◌, ◌<◌, ℕ, List, map, IsTrue, Some, IsSome, IsNone, IfOk, IfErr};
+ghost use denote.Ref.{Bor};
 ghost use Rattle.mw_outside.specs.Count.{Rose};
 ghost use Rattle.mw_term.specs.declared.program.Item.{Item as PureItem};
 ghost use Rattle.mw_term.specs.declared.refusal.Refusal.{Refusal};
@@ -9,6 +10,7 @@ ghost use Rattle.mw_console.specs.declared.status.Status.TheVariants.{Refused, C
 ghost use Rattle.mw_drive.specs.declared.shown.Shown.{Shown};
 ghost use Rattle.mw_drive.specs.BadRecords.{HasBadRecordOf};
 ghost use Rattle.mw_drive.specs.HeldFiles.{IsHeldAfter, IsKeptOf};
+ghost use Rattle.mw_drive.specs.OpenedFiles.{IsOpenedAfter};
 ghost use Rattle.mw_drive.specs.Honest.{IsHonestCache};
 ghost use Rattle.mw_link.specs.Linked.{Kernel};
 ghost use Rattle.mw_drive.specs.ProgramRuns.{evaluated, cache_of, IsPossible, IsUsual, IsWrittenMeaning, IsEndedSource};
@@ -63,6 +65,8 @@ pub fn write_source<R: Threads + Sync, K: Sink, C: Keeper, G: Gate, L: Ledger>(
     ensures count { K.faults sink.old ≤ K.faults sink.new }
     ensures untouched { IsNone (cache_of evaluation.entry) → keeper.new ≡ keeper.old }
     ensures refused { IfOk result (λ s. (r : Refusal) → s ≡ Refused r → keeper.new ≡ keeper.old) }
+    ensures opened { (path : Bor (List ℕ)) → cache_of evaluation.entry ≡ Some path → IsTrue C.tells
+        → IsOpenedAfter result path.now (C.opened keeper.old) (C.opened keeper.new) }
     ensures held { IsSome (cache_of evaluation.entry) → IsTrue C.tells
         → IsHeldAfter result (C.held keeper.old) (C.held keeper.new) }
     ensures kept { let path = cache_of evaluation.entry in

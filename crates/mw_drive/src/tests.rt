@@ -82,7 +82,7 @@ fn carried_out<R: Threads + Sync, G: Gate>(
     let words = words_of(alloc, workers)?;
     let mut source = source_of(alloc, text)?;
     let mut sink = MemSink::new(alloc, Calls::new(alloc), 4096);
-    let mut keeper = SureKeeper::new(Bytes::new(alloc));
+    let mut keeper = SureKeeper::new(alloc, Bytes::new(alloc));
     let status = run(
         rt,
         alloc,

@@ -65,7 +65,7 @@ fn sink_of(alloc: Global, row: &Row) -> Result<MemSink, Fault> {
 /// The keeper, which holds these bytes.
 fn keeper_of(alloc: Global, row: &Row, held: &[u8]) -> Result<MemKeeper, Fault> {
     let failing = calls(alloc, row, "keeps")?;
-    Ok(MemKeeper::new(Bytes::copied(alloc, held)?, failing))
+    Ok(MemKeeper::new(alloc, Bytes::copied(alloc, held)?, failing))
 }
 
 /// How the command of these words ends, over a source and a sink of the row and a keeper that holds these bytes.

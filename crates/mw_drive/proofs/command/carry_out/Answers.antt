@@ -1,4 +1,4 @@
-use Rattle.std.proofs.Common.{inl, inr, ◌∙◌, List, ℕ, option_map, refl, sym, ap, subst}
+use Rattle.std.proofs.Common.{◌≡◌, inl, inr, ◌∙◌, List, ℕ, option_map, refl, sym, ap, subst}
 use denote.Ref.{Bor}
 use Rattle.mw_words.specs.Words.{word_in}
 use Rattle.mw_drive.specs.BadRecords.{HasBadRecordOf}
@@ -6,6 +6,8 @@ use Rattle.mw_drive.specs.Works.{IsMeaning, ran}
 use Rattle.mw_drive.specs.Extents.{extent, on_a_file, on_a_cache}
 use Rattle.mw_drive.specs.Running.{IsWritten}
 use Rattle.mw_drive.proofs.HeldFiles.{held_of_run}
+use Rattle.mw_drive.proofs.OpenedFiles.{named_path}
+use Rattle.mw_drive.specs.OpenedFiles.{IsOpenedWith}
 use Rattle.mw_drive.proofs.CommandLemmas.{run_on, erased_on, linked_on, sample_on, migrate_on, wat_on, check_on}
 use Rattle.mw_drive.proofs.CommandLemmas.{file_carried, same_carried, one_left, first_lacks, lacks_one, no_migrated_run}
 use Rattle.mw_drive.proofs.CommandLemmas.{kind_mapped, carried_mapped, some_mapped, none_mapped, honest_mapped}
@@ -179,3 +181,15 @@ pub returns-in-Migrate-clause-kept : goal.returns-in-Migrate-clause-kept
 returns-in-Migrate-clause-kept g c = λ contents work has works honest some shown kernels e means.
     let on = migrate_on contents work (rw c.in-Migrate.is at works) in
     absurd (no_migrated_run (subst (λ w. IsMeaning w (ran shown kernels e)) on.1 means))
+
+pub returns-in-Run-clause-opened : goal.returns-in-Run-clause-opened
+returns-in-Run-clause-opened g c = rw c.in-Run.is (λ path is tells.
+    let named = named_path c.in-Run.cache path is in
+    subst (λ p. IsOpenedWith c.evaluate_file.result p (g.C.Keeper.opened c.args.keeper.now)
+    (g.C.Keeper.opened c.evaluate_file.new.keeper)) named.2 (c.evaluate_file.ensures.opened named.0 named.1 tells))
+
+pub returns-in-Migrate-clause-opened : goal.returns-in-Migrate-clause-opened
+returns-in-Migrate-clause-opened g c = rw c.in-Migrate.is (λ path is tells.
+    let same : c.in-Migrate.cache.now ≡ path = cc in
+    subst (λ p. IsOpenedWith c.migrate.result p (g.C.Keeper.opened c.args.keeper.now)
+    (g.C.Keeper.opened c.migrate.new.keeper)) same (c.migrate.ensures.opened tells))

@@ -5,6 +5,7 @@ use Rattle.mw_drive.specs.Works.{IsMeaning, ran, mode_of, run_text}
 use Rattle.mw_drive.specs.ProgramRuns.{evaluated, cache_of}
 use Rattle.mw_drive.specs.Running.{kind_with}
 use Rattle.mw_drive.proofs.CommandLemmas.{carried_memory}
+use Rattle.mw_drive.proofs.OpenedFiles.{opened_status}
 use Rattle.mw_drive.proofs.RunLemmas.{carried, written_as, front_told, means_evaluated, kind_over, written_possible}
 use Rattle.mw_drive.proofs.RunLemmas.{no_path, ran_whole, bad_whole}
 use Rattle.mw_drive.proofs.Statuses.{not_read, refused_status, unkept_status, bad_status, sound_status, held_status}
@@ -79,3 +80,8 @@ returns-clause-bad g c = λ digest bytes told has tells.
 
 pub returns-in-Err-Memory-clause-held : goal.returns-in-Err-Memory-clause-held
 returns-in-Err-Memory-clause-held g c = λ some tells. front_stays _ _ refl
+
+pub returns-clause-opened : goal.returns-clause-opened
+returns-clause-opened g c = λ path is tells.
+    opened_status path.now _ _ c.status_of.result c.write_source.result c.status_of.ensures
+    (c.write_source.ensures.opened path is tells)

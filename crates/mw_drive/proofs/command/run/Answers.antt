@@ -139,3 +139,7 @@ pub returns-in-Ok-clause-bad : goal.returns-in-Ok-clause-bad
 returns-in-Ok-clause-bad g c = λ digest work told asked.
     asked_bad (called g (goal.at.returns-in-Ok-clause-bad g c).After-carry_out) _
     (λ contents work has works. c.carry_out.ensures.bad digest contents work told has works) work asked
+
+pub returns-in-Ok-clause-opened : goal.returns-in-Ok-clause-opened
+returns-in-Ok-clause-opened g c =
+    asked_of (called g (goal.at.returns-in-Ok-clause-opened g c).After-carry_out) _ c.carry_out.ensures.opened

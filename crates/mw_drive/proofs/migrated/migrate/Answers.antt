@@ -1,4 +1,5 @@
-use Rattle.std.proofs.Common.{refl}
+use Rattle.std.proofs.Common.{refl, sym, subst}
+use Rattle.mw_keeping.specs.CacheFiles.{IsStartedWith, IsStartedAtMost}
 use Rattle.mw_console.specs.declared.status.Status.TheVariants.{Answer, Write, Cache, Memory}
 use Rattle.mw_keeping.proofs.KeptFiles.{front_stays}
 use Rattle.mw_drive.specs.Extents.{on_a_cache}
@@ -49,3 +50,18 @@ returns-in-Err-Failed-keep_migration-clause-held g c = λ tells.
 pub returns-clause-held : goal.returns-clause-held
 returns-clause-held g c = λ tells.
     front_since _ _ _ (c.uncounted.ensures.same tells) (c.keep_migration.ensures.front tells)
+
+pub returns-in-Ok-keep_migration-clause-opened : goal.returns-in-Ok-keep_migration-clause-opened
+returns-in-Ok-keep_migration-clause-opened g c = λ tells.
+    subst (IsStartedWith c.args.path.now _) (sym (c.keep_migration.ensures.same_names tells))
+    (c.in-Ok.ensures.started tells)
+
+pub returns-in-Err-Failed-keep_migration-clause-opened : goal.returns-in-Err-Failed-keep_migration-clause-opened
+returns-in-Err-Failed-keep_migration-clause-opened g c = λ tells.
+    subst (IsStartedAtMost c.args.path.now _) (sym (c.keep_migration.ensures.same_names tells))
+    (c.uncounted.ensures.no_other tells)
+
+pub returns-clause-opened : goal.returns-clause-opened
+returns-clause-opened g c = λ tells.
+    subst (IsStartedAtMost c.args.path.now _) (sym (c.keep_migration.ensures.same_names tells))
+    (c.uncounted.ensures.no_other tells)

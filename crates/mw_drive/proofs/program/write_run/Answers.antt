@@ -4,9 +4,11 @@ use Rattle.mw_store.specs.Loads.{IsLoadOf}
 use Rattle.mw_cache.specs.Gots.{CacheState}
 use Rattle.mw_cache.specs.HonestFiles.{IsHonest}
 use Rattle.mw_cached.specs.StrayRecords.{IsStrayRecord}
+use Rattle.mw_keeping.specs.CacheFiles.{IsStartedAtMost}
 use Rattle.mw_keeping.specs.KeptFiles.{IsKeptFile, HasGoodFront}
 use Rattle.mw_drive.specs.BadRecords.{HasBadRecord}
 use Rattle.mw_drive.specs.HeldFiles.{texts_built}
+use Rattle.mw_drive.specs.OpenedFiles.{IsOpenedWith}
 use Rattle.mw_drive.specs.Honest.{IsHonestCache}
 use Rattle.mw_drive.specs.NamedPrograms.{named_program_of}
 use Rattle.mw_drive.specs.ProgramRuns.{kernels_of, IsRanTo, IsEndOf}
@@ -15,6 +17,7 @@ use Rattle.mw_drive.proofs.BadRecords.{bad_of_items, bad_of_main, load_of_stray}
 use Rattle.mw_drive.proofs.Fronts.{grows_nothing}
 use Rattle.mw_drive.proofs.HeldFiles.{texts_are, opened_read, held_failed, held_memory, held_kept, texts_kept}
 use Rattle.mw_drive.proofs.HeldFiles.{front_kept, end_of}
+use Rattle.mw_drive.proofs.OpenedFiles.{opened_failed, only_opened, opened_by_file}
 use Rattle.mw_drive.proofs.Honest.{opened_honest, no_wrong_item}
 use Rattle.mw_drive.proofs.RunFaults.{unwritten_usual, job_is_usual, if_bad, job_bad, passed_bad}
 use Rattle.mw_drive.proofs.RunWritten.{some_ending, run_failed, run_passed, run_answered, run_spoiled, same_kernels}
@@ -191,3 +194,33 @@ returns-clause-kept g c = λ some honest kernels e is other.
     c.in_ok-ran.ran.status _ c.in_ok-ran.ensures.ended c.in_ok-keep_run.ensures.status texts
     (λ count is other. subst (λ h. IsKeptFile h after texts) same (c.in_ok-keep_run.ensures.kept count is other tells))
     other)
+
+pub returns-in_err-load-clause-opened : goal.returns-in_err-load-clause-opened
+returns-in_err-load-clause-opened g c = λ path is tells.
+    opened_failed path.now _ _ c.from_residual.result c.from_residual.ensures.0
+    (only_opened path _ _ c.args.options.cache is (c.in_err-load.ensures.no_other tells))
+
+pub returns-in_err-phase-clause-opened : goal.returns-in_err-phase-clause-opened
+returns-in_err-phase-clause-opened g c = λ path is tells.
+    opened_failed path.now _ _ c.from_residual-in_err-phase.result c.from_residual-in_err-phase.ensures.0
+    (only_opened path _ _ c.args.options.cache is (c.in_ok-load.ensures.no_other tells))
+
+pub returns-in_err-ran-clause-opened : goal.returns-in_err-ran-clause-opened
+returns-in_err-ran-clause-opened g c = λ path is tells.
+    opened_failed path.now _ _ c.from_residual-in_err-ran.result c.from_residual-in_err-ran.ensures.0
+    (only_opened path _ _ c.args.options.cache is (c.in_ok-load.ensures.no_other tells))
+
+pub returns-in_err-keep_run-clause-opened : goal.returns-in_err-keep_run-clause-opened
+returns-in_err-keep_run-clause-opened g c = λ path is tells.
+    let old = g.C.Keeper.opened c.args.keeper.now in
+    opened_failed path.now _ _ c.from_residual-in_err-keep_run.result c.from_residual-in_err-keep_run.ensures.0
+    (subst (IsStartedAtMost path.now old) (sym (c.in_err-keep_run.ensures.same_names tells))
+    (only_opened path _ _ c.args.options.cache is (c.in_ok-load.ensures.no_other tells)))
+
+pub returns-clause-opened : goal.returns-clause-opened
+returns-clause-opened g c = λ path is tells.
+    let old = g.C.Keeper.opened c.args.keeper.now in
+    subst (IsOpenedWith _ path.now old) (sym (c.in_ok-keep_run.ensures.same_names tells))
+    (opened_by_file path _ _ g.C.Keeper.tells (g.C.Keeper.held c.args.keeper.now) c.in_ok-load.field-0.load
+    c.args.options.cache is c.in_ok-load.field-0.file c.in_ok-ran.ran.status _ c.in_ok-load.ensures.opened
+    c.in_ok-keep_run.ensures.status (c.in_ok-load.ensures.started tells))

@@ -1,8 +1,9 @@
-use Rattle.std.proofs.Common.{map, Err, refl, subst}
+use Rattle.std.proofs.Common.{map, inr, Err, refl, subst}
 use Rattle.mw_drive.specs.HeldFiles.{IsKeptOf}
 use Rattle.mw_drive.specs.ProgramRuns.{evaluated, cache_of}
 use Rattle.mw_drive.specs.Works.{mode_of, run_text}
 use Rattle.mw_drive.proofs.HeldFiles.{held_failed, held_refused}
+use Rattle.mw_drive.proofs.OpenedFiles.{opened_refused}
 use Rattle.mw_drive.proofs.RunFaults.{bad_maps}
 use Rattle.mw_drive.proofs.SourceWritten.{written_nothing, refusal_written, resolved, few_items, types_written}
 use Rattle.mw_drive.proofs.SourceWritten.{run_written, erased_written, linked_written, may_be_linked, few_nodes}
@@ -126,3 +127,13 @@ returns-in-Run-clause-bad g c =
     (mode_of c.in-Run.options.shown) c.in-Run.options.shown _ d c.in-Ok-check.ensures.typable
     c.in-Ok-check.ensures.small refl (h tells))
     c.write_run.ensures.bad)
+
+pub returns-in-Err-Refused-clause-opened : goal.returns-in-Err-Refused-clause-opened
+returns-in-Err-Refused-clause-opened g c = λ path is tells.
+    opened_refused path.now _ _ c.write_refusal.result c.in-Err-Refused.refusal c.write_refusal.ensures.status
+    (inr refl)
+
+pub returns-in-Err-Refused-check-clause-opened : goal.returns-in-Err-Refused-check-clause-opened
+returns-in-Err-Refused-check-clause-opened g c = λ path is tells.
+    opened_refused path.now _ _ c.write_refusal-in-Err-Refused-check.result c.in-Err-Refused-check.refusal
+    c.write_refusal-in-Err-Refused-check.ensures.status (inr refl)
