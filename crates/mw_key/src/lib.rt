@@ -6,7 +6,7 @@ pub mod fault;
 mod form;
 mod hash;
 pub mod laws;
-mod number;
+pub mod number;
 mod read;
 mod reader;
 pub mod version;

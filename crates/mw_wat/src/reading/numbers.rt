@@ -1,52 +1,15 @@
 // Numbers in words.
 
-ghost use Rattle.std.specs.Prelude.{◌≡◌, ◌≤◌, ◌^◌, suc, length, take, drop, IfSome, IfNone, true, false};
+ghost use Rattle.std.specs.Prelude.{◌≡◌, suc, length, take, drop, IfSome, IfNone, true, false};
 ghost use Rattle.std.specs.Int.{w32, w64};
 ghost use Rattle.std.specs.Str.{bytes_eq};
-ghost use Rattle.mw_key.specs.Numbers.{below, integer_of, is_digit, natural_of, negative, number_in};
+ghost use Rattle.mw_key.specs.Numbers.{below, natural_of};
 ghost use Rattle.mw_wat.specs.Instructions.{as_constant, as_keyed, fits_some};
 ghost use Rattle.mw_wat.specs.Reading.{as_number};
 ghost use Rattle.mw_wat.specs.Cursors.{token_of};
 
 use crate::reading::lexer::Token;
-
-fn is_digit(byte: u8) -> bool
-    ensures { result ≡ is_digit byte }
-{
-    byte.is_ascii_digit()
-}
-
-/// The number of at most 2^63 that the digits spell.
-#[tactic(auto, using(mw_key::proofs::Digits::number_digit, mw_key::proofs::Digits::number_big, mw_key::proofs::Digits::number_other, mw_key::proofs::Digits::number_all))]
-fn number(digits: &[u8]) -> Option<u64>
-    ensures value { result ≡ number_in 0 digits.now }
-    ensures at_most { IfSome result (λ n. n ≤ 2 ^ 63) }
-{
-    let mut value: u64 = 0;
-    for (n, byte) in digits.iter().enumerate() {
-        if !is_digit(*byte) {
-            return None;
-        }
-        let digit = u64::from(*byte - b'0');
-        if value > (9_223_372_036_854_775_808 - digit) / 10 {
-            return None;
-        }
-        value = 10 * value + digit;
-    }
-    Some(value)
-}
-
-/// The number of at most 2^63 that the word spells with no leading zero.
-fn natural_of(word: &[u8]) -> Option<u64>
-    ensures value { result ≡ natural_of word.now }
-    ensures at_most { IfSome result (λ n. n ≤ 2 ^ 63) }
-{
-    match word {
-        [] => None,
-        [b'0', _, ..] => None,
-        _ => number(word),
-    }
-}
+use mw_key::number::{integer_of, natural_of};
 
 /// The number of at most this much that the word spells.
 fn number_of(word: &[u8], most: u32) -> Option<u32>
@@ -55,27 +18,6 @@ fn number_of(word: &[u8], most: u32) -> Option<u32>
     match natural_of(word) {
         Some(n) if n <= u64::from(most) => Some(n as u32),
         _ => None,
-    }
-}
-
-/// The negative integer of this absolute value, if there is one.
-fn negative(number: Option<u64>) -> Option<i64>
-    requires { IfSome number (λ n. n ≤ 2 ^ 63) }
-    ensures { result ≡ negative number }
-{
-    match number {
-        Some(n) if n > 0 => Some(-1 - (n - 1) as i64),
-        _ => None,
-    }
-}
-
-/// The integer that the word spells, with no leading zero and no sign but before a negative one.
-fn integer_of(word: &[u8]) -> Option<i64>
-    ensures { result ≡ integer_of word.now }
-{
-    match word {
-        [b'-', digits @ ..] => negative(natural_of(digits)),
-        _ => i64::try_from(natural_of(word)?).ok(),
     }
 }
 
