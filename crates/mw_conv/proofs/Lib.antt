@@ -1,3 +1,4 @@
+pub mod Asked
 pub mod Free
 pub mod Heaps
 pub mod Agrees

@@ -15,6 +15,7 @@ pub mod RunLemmas
 pub mod RunFaults
 pub mod BadRecords
 pub mod HeldFiles
+pub mod OpenedFiles
 pub mod Statuses
 pub mod Verdicts
 pub mod Reported

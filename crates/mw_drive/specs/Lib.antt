@@ -10,6 +10,7 @@ pub mod ItemOutcomes
 pub mod Honest
 pub mod RunFaults
 pub mod HeldFiles
+pub mod OpenedFiles
 pub mod BadRecords
 pub mod Extents
 pub mod Running

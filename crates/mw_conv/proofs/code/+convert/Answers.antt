@@ -8,6 +8,7 @@ use Rattle.mw_ir.specs.Views.{ir_of, ir_func_of}
 use Rattle.mw_conv.specs.Convert.{funs, code}
 use Rattle.mw_conv.specs.Contexts.{place_at, code_in, AreAdded}
 use Rattle.mw_conv.specs.Finding.{all_found, EndsWith}
+use Rattle.mw_conv.proofs.Asked.{asked}
 use Rattle.mw_conv.proofs.Contexts.{pushed, one_more, popped}
 use Rattle.mw_conv.proofs.Ends.{ends_left, ends_right, two_taken, two_added}
 use Rattle.std.proofs.lemmas.List.{map-append}
@@ -47,25 +48,13 @@ closure_of-code_of-requires t c =
     c.in_ok-inner.ensures in
     let z = size_is c.args.recursive (expression_of c.args.body.now) in
     let w = within_is c.args.recursive (length c.args.context.now.items) in
-    let u = funs_is c.args.recursive (expression_of c.args.body.now) in (
-      omega arith,
-      (
-        rw n (closed_is c.args.recursive (expression_of c.args.body.now) (length c.args.context.now.items)
-            c.requires.closed),
-        (
-          omega arith,
-          (
-            omega arith,
-            (
-              omega arith,
-              the_rest c.args.recursive (expression_of c.args.body.now) (length c.args.context.now.items)
-                  (length c.in_ok-inner.inner.items) c.args.found.now.items c.pop.new.self.items c.in-Some.field-0
-                  c.requires.found c.in-Some.ensures.items n,
-            ),
-          ),
-        ),
-      ),
-    )
+    let u = funs_is c.args.recursive (expression_of c.args.body.now) in
+    asked (omega arith)
+    (rw n (closed_is c.args.recursive (expression_of c.args.body.now) (length c.args.context.now.items)
+    c.requires.closed)) (omega arith) (omega arith) (omega arith)
+    (the_rest c.args.recursive (expression_of c.args.body.now) (length c.args.context.now.items)
+    (length c.in_ok-inner.inner.items) c.args.found.now.items c.pop.new.self.items c.in-Some.field-0
+    c.requires.found c.in-Some.ensures.items n)
 
 pub closure_of-overflow_cast-free : goal.closure_of-overflow_cast-free
 closure_of-overflow_cast-free t c =
@@ -120,55 +109,26 @@ code_of-returns-in-Rec-clause-code t c = rw (c.in-Rec.is, ← c.deref-in-Rec.ens
     (ok_map c.closure_of-in-Rec.result _ _ (λ x h. h c.args.slot) c.closure_of-in-Rec.ensures.code)
 
 pub if_of-two_of-requires : goal.if_of-two_of-requires
-if_of-two_of-requires t c = (
-  omega arith,
-  (
-    (c.requires.closed.1, c.requires.closed.2),
-    (omega arith, (omega arith, (omega arith, ends_right _ _ _ c.requires.found))),
-  ),
-)
+if_of-two_of-requires t c =
+    asked (omega arith) (c.requires.closed.1, c.requires.closed.2) (omega arith) (omega arith) (omega arith)
+    (ends_right _ _ _ c.requires.found)
 
 pub if_of-box_of-requires : goal.if_of-box_of-requires
 if_of-box_of-requires t c =
     let k = ap length c.in_ok-yes.ensures.same in
-    let e = expression_of c.args.condition.now in (
-      omega arith,
-      (
-        subst (λ n. ClosedBelow n e) (sym k) c.requires.closed.0,
-        (
-          omega arith,
-          (
-            omega arith,
-            (
-              omega (arith, c.in_ok-yes.ensures.left),
-              subst (λ n. EndsWith c.two_of.new.found.items (all_found e n)) (sym k)
-                  (ends_left _ _ _ _ c.requires.found c.in_ok-yes.ensures.found),
-            ),
-          ),
-        ),
-      ),
-    )
+    let e = expression_of c.args.condition.now in
+    asked (omega arith) (subst (λ n. ClosedBelow n e) (sym k) c.requires.closed.0) (omega arith) (omega arith)
+    (omega (arith, c.in_ok-yes.ensures.left))
+    (subst (λ n. EndsWith c.two_of.new.found.items (all_found e n)) (sym k)
+    (ends_left _ _ _ _ c.requires.found c.in_ok-yes.ensures.found))
 
 pub let_of-box_of-requires : goal.let_of-box_of-requires
 let_of-box_of-requires t c =
     let k = one_more c.args.context.now.items c.push.new.self.items _ c.in_ok-push.ensures.items in
-    let e = expression_of c.args.body.now in (
-      omega arith,
-      (
-        subst (λ n. ClosedBelow n e) (sym k) c.requires.closed.1,
-        (
-          omega arith,
-          (
-            omega arith,
-            (
-              omega arith,
-              subst (λ n. EndsWith c.args.found.now.items (all_found e n)) (sym k)
-                  (ends_right _ _ _ c.requires.found),
-            ),
-          ),
-        ),
-      ),
-    )
+    let e = expression_of c.args.body.now in
+    asked (omega arith) (subst (λ n. ClosedBelow n e) (sym k) c.requires.closed.1) (omega arith) (omega arith)
+    (omega arith)
+    (subst (λ n. EndsWith c.args.found.now.items (all_found e n)) (sym k) (ends_right _ _ _ c.requires.found))
 
 pub let_of-box_of-requires-2 : goal.let_of-box_of-requires-2
 let_of-box_of-requires-2 t c =
@@ -180,23 +140,10 @@ let_of-box_of-requires-2 t c =
     let k = ap length (popped c.args.context.now.items c.box_of.new.context.items c.pop-slot.new.self.items _ _ q j
     c.pop-slot.ensures.rest) in
     let f = subst (λ n. c.args.found.now.items ≡ c.box_of.new.found.items ++ all_found (expression_of c.args.body.now)
-    n) m c.in_ok-body.ensures.found in (
-      omega arith,
-      (
-        subst (λ n. ClosedBelow n e) (sym k) c.requires.closed.0,
-        (
-          omega arith,
-          (
-            omega arith,
-            (
-              omega (arith, c.in_ok-body.ensures.left),
-              subst (λ n. EndsWith c.box_of.new.found.items (all_found e n))
-                  (sym k) (ends_left _ _ _ _ c.requires.found f),
-            ),
-          ),
-        ),
-      ),
-    )
+    n) m c.in_ok-body.ensures.found in
+    asked (omega arith) (subst (λ n. ClosedBelow n e) (sym k) c.requires.closed.0) (omega arith) (omega arith)
+    (omega (arith, c.in_ok-body.ensures.left))
+    (subst (λ n. EndsWith c.box_of.new.found.items (all_found e n)) (sym k) (ends_left _ _ _ _ c.requires.found f))
 
 pub two_of-box_of-requires : goal.two_of-box_of-requires
 two_of-box_of-requires t c =
@@ -205,23 +152,11 @@ two_of-box_of-requires t c =
 pub two_of-box_of-requires-2 : goal.two_of-box_of-requires-2
 two_of-box_of-requires-2 t c =
     let k = ap length c.in_ok-second.ensures.same in
-    let e = expression_of c.args.first.now in (
-      omega arith,
-      (
-        subst (λ n. ClosedBelow n e) (sym k) c.requires.closed.0,
-        (
-          omega arith,
-          (
-            omega arith,
-            (
-              omega (arith, c.in_ok-second.ensures.left),
-              subst (λ n. EndsWith c.box_of.new.found.items (all_found e n))
-                  (sym k) (ends_left _ _ _ _ c.requires.found c.in_ok-second.ensures.found),
-            ),
-          ),
-        ),
-      ),
-    )
+    let e = expression_of c.args.first.now in
+    asked (omega arith) (subst (λ n. ClosedBelow n e) (sym k) c.requires.closed.0) (omega arith) (omega arith)
+    (omega (arith, c.in_ok-second.ensures.left))
+    (subst (λ n. EndsWith c.box_of.new.found.items (all_found e n)) (sym k)
+    (ends_left _ _ _ _ c.requires.found c.in_ok-second.ensures.found))
 
 pub code_of-two_of-requires : goal.code_of-two_of-requires
 code_of-two_of-requires t c =
@@ -229,55 +164,28 @@ code_of-two_of-requires t c =
     (expression_of c.deref-in-App-2.result.now) =
     rw (c.in-App.is, ← c.deref-in-App.ensures, ← c.deref-in-App-2.ensures) refl in
     let z = ap size e in
-    let u = ap funs e in (
-      omega arith,
-      (
-        subst (λ x. ClosedBelow (length c.args.context.now.items) x) e c.requires.closed,
-        (
-          omega arith,
-          (
-            omega arith,
-            (
-              omega arith,
-              subst (λ x. EndsWith c.args.found.now.items (all_found x (length c.args.context.now.items))) e
-                  c.requires.found,
-            ),
-          ),
-        ),
-      ),
-    )
+    let u = ap funs e in
+    asked (omega arith) (subst (λ x. ClosedBelow (length c.args.context.now.items) x) e c.requires.closed) (omega arith)
+    (omega arith) (omega arith)
+    (subst (λ x. EndsWith c.args.found.now.items (all_found x (length c.args.context.now.items))) e
+    c.requires.found)
 
 pub code_of-returns-in_ok-first-in-App-clause-left : goal.code_of-returns-in_ok-first-in-App-clause-left
 code_of-returns-in_ok-first-in-App-clause-left t c =
-    let e : expression_of c.args.term.now ≡ app (expression_of c.deref-in-App.result.now)
-    (expression_of c.deref-in-App-2.result.now) =
-    rw (c.in-App.is, ← c.deref-in-App.ensures, ← c.deref-in-App-2.ensures) refl in
-    subst (λ x. c.args.left.now ≡ c.two_of.new.left + funs x) (sym e) c.in_ok-first-in-App.ensures.left
+    rw (c.in-App.is, ← c.deref-in-App.ensures, ← c.deref-in-App-2.ensures) c.in_ok-first-in-App.ensures.left
 
 pub code_of-returns-in_ok-first-in-App-clause-found : goal.code_of-returns-in_ok-first-in-App-clause-found
 code_of-returns-in_ok-first-in-App-clause-found t c =
-    let e : expression_of c.args.term.now ≡ app (expression_of c.deref-in-App.result.now)
-    (expression_of c.deref-in-App-2.result.now) =
-    rw (c.in-App.is, ← c.deref-in-App.ensures, ← c.deref-in-App-2.ensures) refl in
-    subst (λ x. c.args.found.now.items ≡ c.two_of.new.found.items ++ all_found x (length c.args.context.now.items))
-    (sym e) c.in_ok-first-in-App.ensures.found
+    rw (c.in-App.is, ← c.deref-in-App.ensures, ← c.deref-in-App-2.ensures) c.in_ok-first-in-App.ensures.found
 
 pub code_of-returns-in_ok-first-in-App-clause-code : goal.code_of-returns-in_ok-first-in-App-clause-code
 code_of-returns-in_ok-first-in-App-clause-code t c =
-    let e : expression_of c.args.term.now ≡ app (expression_of c.deref-in-App.result.now)
-    (expression_of c.deref-in-App-2.result.now) =
-    rw (c.in-App.is, ← c.deref-in-App.ensures, ← c.deref-in-App-2.ensures) refl in
-    subst (λ x. i.app (ir_of c.in_ok-first-in-App.first.value) (ir_of c.in_ok-first-in-App.second.value)
-    ≡ code_in x c.two_of.new.left c.args.context.now.items c.args.slot) (sym e)
+    rw (c.in-App.is, ← c.deref-in-App.ensures, ← c.deref-in-App-2.ensures)
     (λ j. i.app (c.in_ok-first-in-App.ensures.first j) (c.in_ok-first-in-App.ensures.second j))
 
 pub code_of-returns-in_ok-first-in-App-clause-funcs : goal.code_of-returns-in_ok-first-in-App-clause-funcs
 code_of-returns-in_ok-first-in-App-clause-funcs t c =
-    let e : expression_of c.args.term.now ≡ app (expression_of c.deref-in-App.result.now)
-    (expression_of c.deref-in-App-2.result.now) =
-    rw (c.in-App.is, ← c.deref-in-App.ensures, ← c.deref-in-App-2.ensures) refl in
-    subst (λ x. AreAdded c.args.funcs.now c.two_of.new.funcs x c.two_of.new.left c.args.context.now.items) (sym e)
-    c.in_ok-first-in-App.ensures.funcs
+    rw (c.in-App.is, ← c.deref-in-App.ensures, ← c.deref-in-App-2.ensures) c.in_ok-first-in-App.ensures.funcs
 
 pub code_of-two_of-requires-in-Pair : goal.code_of-two_of-requires-in-Pair
 code_of-two_of-requires-in-Pair t c =
@@ -285,55 +193,28 @@ code_of-two_of-requires-in-Pair t c =
     (expression_of c.deref-in-Pair-2.result.now) =
     rw (c.in-Pair.is, ← c.deref-in-Pair.ensures, ← c.deref-in-Pair-2.ensures) refl in
     let z = ap size e in
-    let u = ap funs e in (
-      omega arith,
-      (
-        subst (λ x. ClosedBelow (length c.args.context.now.items) x) e c.requires.closed,
-        (
-          omega arith,
-          (
-            omega arith,
-            (
-              omega arith,
-              subst (λ x. EndsWith c.args.found.now.items (all_found x (length c.args.context.now.items))) e
-                  c.requires.found,
-            ),
-          ),
-        ),
-      ),
-    )
+    let u = ap funs e in
+    asked (omega arith) (subst (λ x. ClosedBelow (length c.args.context.now.items) x) e c.requires.closed) (omega arith)
+    (omega arith) (omega arith)
+    (subst (λ x. EndsWith c.args.found.now.items (all_found x (length c.args.context.now.items))) e
+    c.requires.found)
 
 pub code_of-returns-in_ok-first-in-Pair-clause-left : goal.code_of-returns-in_ok-first-in-Pair-clause-left
 code_of-returns-in_ok-first-in-Pair-clause-left t c =
-    let e : expression_of c.args.term.now ≡ pair (expression_of c.deref-in-Pair.result.now)
-    (expression_of c.deref-in-Pair-2.result.now) =
-    rw (c.in-Pair.is, ← c.deref-in-Pair.ensures, ← c.deref-in-Pair-2.ensures) refl in
-    subst (λ x. c.args.left.now ≡ c.two_of-in-Pair.new.left + funs x) (sym e) c.in_ok-first-in-Pair.ensures.left
+    rw (c.in-Pair.is, ← c.deref-in-Pair.ensures, ← c.deref-in-Pair-2.ensures) c.in_ok-first-in-Pair.ensures.left
 
 pub code_of-returns-in_ok-first-in-Pair-clause-found : goal.code_of-returns-in_ok-first-in-Pair-clause-found
 code_of-returns-in_ok-first-in-Pair-clause-found t c =
-    let e : expression_of c.args.term.now ≡ pair (expression_of c.deref-in-Pair.result.now)
-    (expression_of c.deref-in-Pair-2.result.now) =
-    rw (c.in-Pair.is, ← c.deref-in-Pair.ensures, ← c.deref-in-Pair-2.ensures) refl in
-    subst (λ x. c.args.found.now.items ≡ c.two_of-in-Pair.new.found.items
-    ++ all_found x (length c.args.context.now.items)) (sym e) c.in_ok-first-in-Pair.ensures.found
+    rw (c.in-Pair.is, ← c.deref-in-Pair.ensures, ← c.deref-in-Pair-2.ensures) c.in_ok-first-in-Pair.ensures.found
 
 pub code_of-returns-in_ok-first-in-Pair-clause-code : goal.code_of-returns-in_ok-first-in-Pair-clause-code
 code_of-returns-in_ok-first-in-Pair-clause-code t c =
-    let e : expression_of c.args.term.now ≡ pair (expression_of c.deref-in-Pair.result.now)
-    (expression_of c.deref-in-Pair-2.result.now) =
-    rw (c.in-Pair.is, ← c.deref-in-Pair.ensures, ← c.deref-in-Pair-2.ensures) refl in
-    subst (λ x. i.pair (ir_of c.in_ok-first-in-Pair.first.value) (ir_of c.in_ok-first-in-Pair.second.value)
-    ≡ code_in x c.two_of-in-Pair.new.left c.args.context.now.items c.args.slot) (sym e)
+    rw (c.in-Pair.is, ← c.deref-in-Pair.ensures, ← c.deref-in-Pair-2.ensures)
     (λ j. i.pair (c.in_ok-first-in-Pair.ensures.first j) (c.in_ok-first-in-Pair.ensures.second j))
 
 pub code_of-returns-in_ok-first-in-Pair-clause-funcs : goal.code_of-returns-in_ok-first-in-Pair-clause-funcs
 code_of-returns-in_ok-first-in-Pair-clause-funcs t c =
-    let e : expression_of c.args.term.now ≡ pair (expression_of c.deref-in-Pair.result.now)
-    (expression_of c.deref-in-Pair-2.result.now) =
-    rw (c.in-Pair.is, ← c.deref-in-Pair.ensures, ← c.deref-in-Pair-2.ensures) refl in
-    subst (λ x. AreAdded c.args.funcs.now c.two_of-in-Pair.new.funcs x c.two_of-in-Pair.new.left
-    c.args.context.now.items) (sym e) c.in_ok-first-in-Pair.ensures.funcs
+    rw (c.in-Pair.is, ← c.deref-in-Pair.ensures, ← c.deref-in-Pair-2.ensures) c.in_ok-first-in-Pair.ensures.funcs
 
 pub code_of-two_of-requires-in-Prim : goal.code_of-two_of-requires-in-Prim
 code_of-two_of-requires-in-Prim t c =
@@ -341,155 +222,82 @@ code_of-two_of-requires-in-Prim t c =
     (expression_of c.deref-in-Prim-2.result.now) =
     rw (c.in-Prim.is, ← c.deref-in-Prim.ensures, ← c.deref-in-Prim-2.ensures) refl in
     let z = ap size e in
-    let u = ap funs e in (
-      omega arith,
-      (
-        subst (λ x. ClosedBelow (length c.args.context.now.items) x) e c.requires.closed,
-        (
-          omega arith,
-          (
-            omega arith,
-            (
-              omega arith,
-              subst (λ x. EndsWith c.args.found.now.items (all_found x (length c.args.context.now.items))) e
-                  c.requires.found,
-            ),
-          ),
-        ),
-      ),
-    )
+    let u = ap funs e in
+    asked (omega arith) (subst (λ x. ClosedBelow (length c.args.context.now.items) x) e c.requires.closed) (omega arith)
+    (omega arith) (omega arith)
+    (subst (λ x. EndsWith c.args.found.now.items (all_found x (length c.args.context.now.items))) e
+    c.requires.found)
 
 pub code_of-returns-in_ok-first-in-Prim-clause-left : goal.code_of-returns-in_ok-first-in-Prim-clause-left
 code_of-returns-in_ok-first-in-Prim-clause-left t c =
-    let e : expression_of c.args.term.now ≡ prim c.in-Prim.p (expression_of c.deref-in-Prim.result.now)
-    (expression_of c.deref-in-Prim-2.result.now) =
-    rw (c.in-Prim.is, ← c.deref-in-Prim.ensures, ← c.deref-in-Prim-2.ensures) refl in
-    subst (λ x. c.args.left.now ≡ c.two_of-in-Prim.new.left + funs x) (sym e) c.in_ok-first-in-Prim.ensures.left
+    rw (c.in-Prim.is, ← c.deref-in-Prim.ensures, ← c.deref-in-Prim-2.ensures) c.in_ok-first-in-Prim.ensures.left
 
 pub code_of-returns-in_ok-first-in-Prim-clause-found : goal.code_of-returns-in_ok-first-in-Prim-clause-found
 code_of-returns-in_ok-first-in-Prim-clause-found t c =
-    let e : expression_of c.args.term.now ≡ prim c.in-Prim.p (expression_of c.deref-in-Prim.result.now)
-    (expression_of c.deref-in-Prim-2.result.now) =
-    rw (c.in-Prim.is, ← c.deref-in-Prim.ensures, ← c.deref-in-Prim-2.ensures) refl in
-    subst (λ x. c.args.found.now.items ≡ c.two_of-in-Prim.new.found.items
-    ++ all_found x (length c.args.context.now.items)) (sym e) c.in_ok-first-in-Prim.ensures.found
+    rw (c.in-Prim.is, ← c.deref-in-Prim.ensures, ← c.deref-in-Prim-2.ensures) c.in_ok-first-in-Prim.ensures.found
 
 pub code_of-returns-in_ok-first-in-Prim-clause-code : goal.code_of-returns-in_ok-first-in-Prim-clause-code
 code_of-returns-in_ok-first-in-Prim-clause-code t c =
-    let e : expression_of c.args.term.now ≡ prim c.in-Prim.p (expression_of c.deref-in-Prim.result.now)
-    (expression_of c.deref-in-Prim-2.result.now) =
-    rw (c.in-Prim.is, ← c.deref-in-Prim.ensures, ← c.deref-in-Prim-2.ensures) refl in
-    subst (λ x. i.prim c.in-Prim.p (ir_of c.in_ok-first-in-Prim.first.value) (ir_of c.in_ok-first-in-Prim.second.value)
-    ≡ code_in x c.two_of-in-Prim.new.left c.args.context.now.items c.args.slot) (sym e)
+    rw (c.in-Prim.is, ← c.deref-in-Prim.ensures, ← c.deref-in-Prim-2.ensures)
     (λ j. i.prim c.in-Prim.p (c.in_ok-first-in-Prim.ensures.first j) (c.in_ok-first-in-Prim.ensures.second j))
 
 pub code_of-returns-in_ok-first-in-Prim-clause-funcs : goal.code_of-returns-in_ok-first-in-Prim-clause-funcs
 code_of-returns-in_ok-first-in-Prim-clause-funcs t c =
-    let e : expression_of c.args.term.now ≡ prim c.in-Prim.p (expression_of c.deref-in-Prim.result.now)
-    (expression_of c.deref-in-Prim-2.result.now) =
-    rw (c.in-Prim.is, ← c.deref-in-Prim.ensures, ← c.deref-in-Prim-2.ensures) refl in
-    subst (λ x. AreAdded c.args.funcs.now c.two_of-in-Prim.new.funcs x c.two_of-in-Prim.new.left
-    c.args.context.now.items) (sym e) c.in_ok-first-in-Prim.ensures.funcs
+    rw (c.in-Prim.is, ← c.deref-in-Prim.ensures, ← c.deref-in-Prim-2.ensures) c.in_ok-first-in-Prim.ensures.funcs
 
 pub code_of-box_of-requires : goal.code_of-box_of-requires
 code_of-box_of-requires t c =
     let e : expression_of c.args.term.now ≡ fst (expression_of c.deref-in-Fst.result.now) =
     rw (c.in-Fst.is, ← c.deref-in-Fst.ensures) refl in
     let z = ap size e in
-    let u = ap funs e in (
-      omega arith,
-      (
-        subst (λ x. ClosedBelow (length c.args.context.now.items) x) e c.requires.closed,
-        (
-          omega arith,
-          (
-            omega arith,
-            (
-              omega arith,
-              subst (λ x. EndsWith c.args.found.now.items (all_found x (length c.args.context.now.items))) e
-                  c.requires.found,
-            ),
-          ),
-        ),
-      ),
-    )
+    let u = ap funs e in
+    asked (omega arith) (subst (λ x. ClosedBelow (length c.args.context.now.items) x) e c.requires.closed) (omega arith)
+    (omega arith) (omega arith)
+    (subst (λ x. EndsWith c.args.found.now.items (all_found x (length c.args.context.now.items))) e
+    c.requires.found)
 
 pub code_of-returns-in_ok-box_of-in-Fst-clause-left : goal.code_of-returns-in_ok-box_of-in-Fst-clause-left
 code_of-returns-in_ok-box_of-in-Fst-clause-left t c =
-    let e : expression_of c.args.term.now ≡ fst (expression_of c.deref-in-Fst.result.now) =
-    rw (c.in-Fst.is, ← c.deref-in-Fst.ensures) refl in
-    subst (λ x. c.args.left.now ≡ c.box_of.new.left + funs x) (sym e) c.in_ok-box_of-in-Fst.ensures.left
+    rw (c.in-Fst.is, ← c.deref-in-Fst.ensures) c.in_ok-box_of-in-Fst.ensures.left
 
 pub code_of-returns-in_ok-box_of-in-Fst-clause-found : goal.code_of-returns-in_ok-box_of-in-Fst-clause-found
 code_of-returns-in_ok-box_of-in-Fst-clause-found t c =
-    let e : expression_of c.args.term.now ≡ fst (expression_of c.deref-in-Fst.result.now) =
-    rw (c.in-Fst.is, ← c.deref-in-Fst.ensures) refl in
-    subst (λ x. c.args.found.now.items ≡ c.box_of.new.found.items ++ all_found x (length c.args.context.now.items))
-    (sym e) c.in_ok-box_of-in-Fst.ensures.found
+    rw (c.in-Fst.is, ← c.deref-in-Fst.ensures) c.in_ok-box_of-in-Fst.ensures.found
 
 pub code_of-returns-in_ok-box_of-in-Fst-clause-code : goal.code_of-returns-in_ok-box_of-in-Fst-clause-code
 code_of-returns-in_ok-box_of-in-Fst-clause-code t c =
-    let e : expression_of c.args.term.now ≡ fst (expression_of c.deref-in-Fst.result.now) =
-    rw (c.in-Fst.is, ← c.deref-in-Fst.ensures) refl in
-    subst (λ x. i.fst (ir_of c.in_ok-box_of-in-Fst.field-0.value) ≡ code_in x c.box_of.new.left c.args.context.now.items
-    c.args.slot) (sym e) (ap i.fst c.in_ok-box_of-in-Fst.ensures.code)
+    rw (c.in-Fst.is, ← c.deref-in-Fst.ensures) (ap i.fst c.in_ok-box_of-in-Fst.ensures.code)
 
 pub code_of-returns-in_ok-box_of-in-Fst-clause-funcs : goal.code_of-returns-in_ok-box_of-in-Fst-clause-funcs
 code_of-returns-in_ok-box_of-in-Fst-clause-funcs t c =
-    let e : expression_of c.args.term.now ≡ fst (expression_of c.deref-in-Fst.result.now) =
-    rw (c.in-Fst.is, ← c.deref-in-Fst.ensures) refl in
-    subst (λ x. AreAdded c.args.funcs.now c.box_of.new.funcs x c.box_of.new.left c.args.context.now.items) (sym e)
-    c.in_ok-box_of-in-Fst.ensures.funcs
+    rw (c.in-Fst.is, ← c.deref-in-Fst.ensures) c.in_ok-box_of-in-Fst.ensures.funcs
 
 pub code_of-box_of-requires-in-Snd : goal.code_of-box_of-requires-in-Snd
 code_of-box_of-requires-in-Snd t c =
     let e : expression_of c.args.term.now ≡ snd (expression_of c.deref-in-Snd.result.now) =
     rw (c.in-Snd.is, ← c.deref-in-Snd.ensures) refl in
     let z = ap size e in
-    let u = ap funs e in (
-      omega arith,
-      (
-        subst (λ x. ClosedBelow (length c.args.context.now.items) x) e c.requires.closed,
-        (
-          omega arith,
-          (
-            omega arith,
-            (
-              omega arith,
-              subst (λ x. EndsWith c.args.found.now.items (all_found x (length c.args.context.now.items))) e
-                  c.requires.found,
-            ),
-          ),
-        ),
-      ),
-    )
+    let u = ap funs e in
+    asked (omega arith) (subst (λ x. ClosedBelow (length c.args.context.now.items) x) e c.requires.closed) (omega arith)
+    (omega arith) (omega arith)
+    (subst (λ x. EndsWith c.args.found.now.items (all_found x (length c.args.context.now.items))) e
+    c.requires.found)
 
 pub code_of-returns-in_ok-box_of-in-Snd-clause-left : goal.code_of-returns-in_ok-box_of-in-Snd-clause-left
 code_of-returns-in_ok-box_of-in-Snd-clause-left t c =
-    let e : expression_of c.args.term.now ≡ snd (expression_of c.deref-in-Snd.result.now) =
-    rw (c.in-Snd.is, ← c.deref-in-Snd.ensures) refl in
-    subst (λ x. c.args.left.now ≡ c.box_of-in-Snd.new.left + funs x) (sym e) c.in_ok-box_of-in-Snd.ensures.left
+    rw (c.in-Snd.is, ← c.deref-in-Snd.ensures) c.in_ok-box_of-in-Snd.ensures.left
 
 pub code_of-returns-in_ok-box_of-in-Snd-clause-found : goal.code_of-returns-in_ok-box_of-in-Snd-clause-found
 code_of-returns-in_ok-box_of-in-Snd-clause-found t c =
-    let e : expression_of c.args.term.now ≡ snd (expression_of c.deref-in-Snd.result.now) =
-    rw (c.in-Snd.is, ← c.deref-in-Snd.ensures) refl in
-    subst (λ x. c.args.found.now.items ≡ c.box_of-in-Snd.new.found.items
-    ++ all_found x (length c.args.context.now.items)) (sym e) c.in_ok-box_of-in-Snd.ensures.found
+    rw (c.in-Snd.is, ← c.deref-in-Snd.ensures) c.in_ok-box_of-in-Snd.ensures.found
 
 pub code_of-returns-in_ok-box_of-in-Snd-clause-code : goal.code_of-returns-in_ok-box_of-in-Snd-clause-code
 code_of-returns-in_ok-box_of-in-Snd-clause-code t c =
-    let e : expression_of c.args.term.now ≡ snd (expression_of c.deref-in-Snd.result.now) =
-    rw (c.in-Snd.is, ← c.deref-in-Snd.ensures) refl in
-    subst (λ x. i.snd (ir_of c.in_ok-box_of-in-Snd.field-0.value) ≡ code_in x c.box_of-in-Snd.new.left
-    c.args.context.now.items c.args.slot) (sym e) (ap i.snd c.in_ok-box_of-in-Snd.ensures.code)
+    rw (c.in-Snd.is, ← c.deref-in-Snd.ensures) (ap i.snd c.in_ok-box_of-in-Snd.ensures.code)
 
 pub code_of-returns-in_ok-box_of-in-Snd-clause-funcs : goal.code_of-returns-in_ok-box_of-in-Snd-clause-funcs
 code_of-returns-in_ok-box_of-in-Snd-clause-funcs t c =
-    let e : expression_of c.args.term.now ≡ snd (expression_of c.deref-in-Snd.result.now) =
-    rw (c.in-Snd.is, ← c.deref-in-Snd.ensures) refl in
-    subst (λ x. AreAdded c.args.funcs.now c.box_of-in-Snd.new.funcs x c.box_of-in-Snd.new.left c.args.context.now.items)
-    (sym e) c.in_ok-box_of-in-Snd.ensures.funcs
+    rw (c.in-Snd.is, ← c.deref-in-Snd.ensures) c.in_ok-box_of-in-Snd.ensures.funcs
 
 pub code_of-let_of-requires : goal.code_of-let_of-requires
 code_of-let_of-requires t c =
@@ -497,23 +305,11 @@ code_of-let_of-requires t c =
     (expression_of c.deref-in-Let-2.result.now) =
     rw (c.in-Let.is, ← c.deref-in-Let.ensures, ← c.deref-in-Let-2.ensures) refl in
     let z = ap size e in
-    let u = ap funs e in (
-      omega arith,
-      (
-        subst (λ x. ClosedBelow (length c.args.context.now.items) x) e c.requires.closed,
-        (
-          omega arith,
-          (
-            omega arith,
-            (
-              omega arith,
-              subst (λ x. EndsWith c.args.found.now.items (all_found x (length c.args.context.now.items))) e
-                  c.requires.found,
-            ),
-          ),
-        ),
-      ),
-    )
+    let u = ap funs e in
+    asked (omega arith) (subst (λ x. ClosedBelow (length c.args.context.now.items) x) e c.requires.closed) (omega arith)
+    (omega arith) (omega arith)
+    (subst (λ x. EndsWith c.args.found.now.items (all_found x (length c.args.context.now.items))) e
+    c.requires.found)
 
 pub code_of-if_of-requires : goal.code_of-if_of-requires
 code_of-if_of-requires t c =
@@ -521,23 +317,11 @@ code_of-if_of-requires t c =
     (expression_of c.deref-in-If-2.result.now) (expression_of c.deref-in-If-3.result.now) =
     rw (c.in-If.is, ← c.deref-in-If.ensures, ← c.deref-in-If-2.ensures, ← c.deref-in-If-3.ensures) refl in
     let z = ap size e in
-    let u = ap funs e in (
-      omega arith,
-      (
-        subst (λ x. ClosedBelow (length c.args.context.now.items) x) e c.requires.closed,
-        (
-          omega arith,
-          (
-            omega arith,
-            (
-              omega arith,
-              subst (λ x. EndsWith c.args.found.now.items (all_found x (length c.args.context.now.items))) e
-                  c.requires.found,
-            ),
-          ),
-        ),
-      ),
-    )
+    let u = ap funs e in
+    asked (omega arith) (subst (λ x. ClosedBelow (length c.args.context.now.items) x) e c.requires.closed) (omega arith)
+    (omega arith) (omega arith)
+    (subst (λ x. EndsWith c.args.found.now.items (all_found x (length c.args.context.now.items))) e
+    c.requires.found)
 
 pub two_of-returns-clause-same : goal.two_of-returns-clause-same
 two_of-returns-clause-same t c = c.in_ok-first.ensures.same ∙ c.in_ok-second.ensures.same
@@ -665,92 +449,50 @@ code_of-closure_of-requires-in-Rec t c =
 
 pub code_of-returns-in-Rec-clause-left : goal.code_of-returns-in-Rec-clause-left
 code_of-returns-in-Rec-clause-left t c =
-    let e : expression_of c.args.term.now ≡ fix (expression_of c.deref-in-Rec.result.now) =
-    rw (c.in-Rec.is, ← c.deref-in-Rec.ensures) refl in
-    subst (λ x. IfOk c.closure_of-in-Rec.result (λ _. c.args.left.now ≡ c.closure_of-in-Rec.new.left + funs x)) (sym e)
-    c.closure_of-in-Rec.ensures.left
+    rw (c.in-Rec.is, ← c.deref-in-Rec.ensures) c.closure_of-in-Rec.ensures.left
 
 pub code_of-returns-in-Rec-clause-found : goal.code_of-returns-in-Rec-clause-found
 code_of-returns-in-Rec-clause-found t c =
-    let e : expression_of c.args.term.now ≡ fix (expression_of c.deref-in-Rec.result.now) =
-    rw (c.in-Rec.is, ← c.deref-in-Rec.ensures) refl in
-    subst (λ x. IfOk c.closure_of-in-Rec.result (λ _. c.args.found.now.items ≡ c.closure_of-in-Rec.new.found.items
-    ++ all_found x (length c.args.context.now.items))) (sym e) c.closure_of-in-Rec.ensures.found
+    rw (c.in-Rec.is, ← c.deref-in-Rec.ensures) c.closure_of-in-Rec.ensures.found
 
 pub code_of-returns-in-Rec-clause-funcs : goal.code_of-returns-in-Rec-clause-funcs
 code_of-returns-in-Rec-clause-funcs t c =
-    let e : expression_of c.args.term.now ≡ fix (expression_of c.deref-in-Rec.result.now) =
-    rw (c.in-Rec.is, ← c.deref-in-Rec.ensures) refl in
-    subst (λ x. IfOk c.closure_of-in-Rec.result
-    (λ _. AreAdded c.args.funcs.now c.closure_of-in-Rec.new.funcs x c.closure_of-in-Rec.new.left
-    c.args.context.now.items)) (sym e) c.closure_of-in-Rec.ensures.funcs
+    rw (c.in-Rec.is, ← c.deref-in-Rec.ensures) c.closure_of-in-Rec.ensures.funcs
 
 pub code_of-returns-in-Let-clause-left : goal.code_of-returns-in-Let-clause-left
 code_of-returns-in-Let-clause-left t c =
-    let e : expression_of c.args.term.now ≡ bind (expression_of c.deref-in-Let.result.now)
-    (expression_of c.deref-in-Let-2.result.now) =
-    rw (c.in-Let.is, ← c.deref-in-Let.ensures, ← c.deref-in-Let-2.ensures) refl in
-    subst (λ x. IfOk c.let_of.result (λ _. c.args.left.now ≡ c.let_of.new.left + funs x)) (sym e) c.let_of.ensures.left
+    rw (c.in-Let.is, ← c.deref-in-Let.ensures, ← c.deref-in-Let-2.ensures) c.let_of.ensures.left
 
 pub code_of-returns-in-Let-clause-found : goal.code_of-returns-in-Let-clause-found
 code_of-returns-in-Let-clause-found t c =
-    let e : expression_of c.args.term.now ≡ bind (expression_of c.deref-in-Let.result.now)
-    (expression_of c.deref-in-Let-2.result.now) =
-    rw (c.in-Let.is, ← c.deref-in-Let.ensures, ← c.deref-in-Let-2.ensures) refl in
-    subst (λ x. IfOk c.let_of.result (λ _. c.args.found.now.items ≡ c.let_of.new.found.items
-    ++ all_found x (length c.args.context.now.items))) (sym e) c.let_of.ensures.found
+    rw (c.in-Let.is, ← c.deref-in-Let.ensures, ← c.deref-in-Let-2.ensures) c.let_of.ensures.found
 
 pub code_of-returns-in-Let-clause-funcs : goal.code_of-returns-in-Let-clause-funcs
 code_of-returns-in-Let-clause-funcs t c =
-    let e : expression_of c.args.term.now ≡ bind (expression_of c.deref-in-Let.result.now)
-    (expression_of c.deref-in-Let-2.result.now) =
-    rw (c.in-Let.is, ← c.deref-in-Let.ensures, ← c.deref-in-Let-2.ensures) refl in
-    subst (λ x. IfOk c.let_of.result
-    (λ _. AreAdded c.args.funcs.now c.let_of.new.funcs x c.let_of.new.left c.args.context.now.items)) (sym e)
-    c.let_of.ensures.funcs
+    rw (c.in-Let.is, ← c.deref-in-Let.ensures, ← c.deref-in-Let-2.ensures) c.let_of.ensures.funcs
 
 pub code_of-returns-in-Let-clause-code : goal.code_of-returns-in-Let-clause-code
 code_of-returns-in-Let-clause-code t c =
-    let e : expression_of c.args.term.now ≡ bind (expression_of c.deref-in-Let.result.now)
-    (expression_of c.deref-in-Let-2.result.now) =
-    rw (c.in-Let.is, ← c.deref-in-Let.ensures, ← c.deref-in-Let-2.ensures) refl in
-    subst (λ x. IfOk c.let_of.result (λ r. ir_of r ≡ code_in x c.let_of.new.left c.args.context.now.items c.args.slot))
-    (sym e) c.let_of.ensures.code
+    rw (c.in-Let.is, ← c.deref-in-Let.ensures, ← c.deref-in-Let-2.ensures) c.let_of.ensures.code
 
 pub code_of-returns-in-Let-clause-same : goal.code_of-returns-in-Let-clause-same
 code_of-returns-in-Let-clause-same t c = c.let_of.ensures.same
 
 pub code_of-returns-in-If-clause-left : goal.code_of-returns-in-If-clause-left
 code_of-returns-in-If-clause-left t c =
-    let e : expression_of c.args.term.now ≡ cond (expression_of c.deref-in-If.result.now)
-    (expression_of c.deref-in-If-2.result.now) (expression_of c.deref-in-If-3.result.now) =
-    rw (c.in-If.is, ← c.deref-in-If.ensures, ← c.deref-in-If-2.ensures, ← c.deref-in-If-3.ensures) refl in
-    subst (λ x. IfOk c.if_of.result (λ _. c.args.left.now ≡ c.if_of.new.left + funs x)) (sym e) c.if_of.ensures.left
+    rw (c.in-If.is, ← c.deref-in-If.ensures, ← c.deref-in-If-2.ensures, ← c.deref-in-If-3.ensures) c.if_of.ensures.left
 
 pub code_of-returns-in-If-clause-found : goal.code_of-returns-in-If-clause-found
 code_of-returns-in-If-clause-found t c =
-    let e : expression_of c.args.term.now ≡ cond (expression_of c.deref-in-If.result.now)
-    (expression_of c.deref-in-If-2.result.now) (expression_of c.deref-in-If-3.result.now) =
-    rw (c.in-If.is, ← c.deref-in-If.ensures, ← c.deref-in-If-2.ensures, ← c.deref-in-If-3.ensures) refl in
-    subst (λ x. IfOk c.if_of.result (λ _. c.args.found.now.items ≡ c.if_of.new.found.items
-    ++ all_found x (length c.args.context.now.items))) (sym e) c.if_of.ensures.found
+    rw (c.in-If.is, ← c.deref-in-If.ensures, ← c.deref-in-If-2.ensures, ← c.deref-in-If-3.ensures) c.if_of.ensures.found
 
 pub code_of-returns-in-If-clause-funcs : goal.code_of-returns-in-If-clause-funcs
 code_of-returns-in-If-clause-funcs t c =
-    let e : expression_of c.args.term.now ≡ cond (expression_of c.deref-in-If.result.now)
-    (expression_of c.deref-in-If-2.result.now) (expression_of c.deref-in-If-3.result.now) =
-    rw (c.in-If.is, ← c.deref-in-If.ensures, ← c.deref-in-If-2.ensures, ← c.deref-in-If-3.ensures) refl in
-    subst (λ x. IfOk c.if_of.result
-    (λ _. AreAdded c.args.funcs.now c.if_of.new.funcs x c.if_of.new.left c.args.context.now.items)) (sym e)
-    c.if_of.ensures.funcs
+    rw (c.in-If.is, ← c.deref-in-If.ensures, ← c.deref-in-If-2.ensures, ← c.deref-in-If-3.ensures) c.if_of.ensures.funcs
 
 pub code_of-returns-in-If-clause-code : goal.code_of-returns-in-If-clause-code
 code_of-returns-in-If-clause-code t c =
-    let e : expression_of c.args.term.now ≡ cond (expression_of c.deref-in-If.result.now)
-    (expression_of c.deref-in-If-2.result.now) (expression_of c.deref-in-If-3.result.now) =
-    rw (c.in-If.is, ← c.deref-in-If.ensures, ← c.deref-in-If-2.ensures, ← c.deref-in-If-3.ensures) refl in
-    subst (λ x. IfOk c.if_of.result (λ r. ir_of r ≡ code_in x c.if_of.new.left c.args.context.now.items c.args.slot))
-    (sym e) c.if_of.ensures.code
+    rw (c.in-If.is, ← c.deref-in-If.ensures, ← c.deref-in-If-2.ensures, ← c.deref-in-If-3.ensures) c.if_of.ensures.code
 
 pub code_of-returns-in-If-clause-same : goal.code_of-returns-in-If-clause-same
 code_of-returns-in-If-clause-same t c = c.if_of.ensures.same
@@ -803,11 +545,9 @@ box_of-returns-in_err-code_of t c =
     record {
       same = no_ok c.from_residual.result _ n;
       left = no_ok c.from_residual.result _ n;
-      found =
-          no_ok c.from_residual.result _ n;
+      found = no_ok c.from_residual.result _ n;
       code = no_ok c.from_residual.result _ n;
-      funcs =
-          no_ok c.from_residual.result _ n;
+      funcs = no_ok c.from_residual.result _ n;
     }
 
 pub box_of-returns-in_err-new : goal.box_of-returns-in_err-new
@@ -818,8 +558,7 @@ box_of-returns-in_err-new t c =
       left = no_ok c.from_residual-in_err-new.result _ n;
       found = no_ok c.from_residual-in_err-new.result _ n;
       code = no_ok c.from_residual-in_err-new.result _ n;
-      funcs =
-          no_ok c.from_residual-in_err-new.result _ n;
+      funcs = no_ok c.from_residual-in_err-new.result _ n;
     }
 
 pub closure_of-returns-in_err-places : goal.closure_of-returns-in_err-places
@@ -828,8 +567,7 @@ closure_of-returns-in_err-places t c =
     record {
       left = no_ok c.from_residual.result _ n;
       found = no_ok c.from_residual.result _ n;
-      code =
-          no_ok c.from_residual.result _ n;
+      code = no_ok c.from_residual.result _ n;
       funcs = no_ok c.from_residual.result _ n;
     }
 
@@ -838,8 +576,7 @@ closure_of-returns-in_err-inner t c =
     let n = c.from_residual-in_err-inner.ensures.0 in
     record {
       left = no_ok c.from_residual-in_err-inner.result _ n;
-      found = no_ok c.from_residual-in_err-inner.result _
-          n;
+      found = no_ok c.from_residual-in_err-inner.result _ n;
       code = no_ok c.from_residual-in_err-inner.result _ n;
       funcs = no_ok c.from_residual-in_err-inner.result _ n;
     }
@@ -870,11 +607,9 @@ code_of-returns-in_err-first-in-App t c =
     record {
       same = no_ok c.from_residual.result _ n;
       left = no_ok c.from_residual.result _ n;
-      found =
-          no_ok c.from_residual.result _ n;
+      found = no_ok c.from_residual.result _ n;
       code = no_ok c.from_residual.result _ n;
-      funcs =
-          no_ok c.from_residual.result _ n;
+      funcs = no_ok c.from_residual.result _ n;
     }
 
 pub code_of-returns-in_err-first-in-Pair : goal.code_of-returns-in_err-first-in-Pair
@@ -882,13 +617,10 @@ code_of-returns-in_err-first-in-Pair t c =
     let n = c.from_residual-in_err-first-in-Pair.ensures.0 in
     record {
       same = no_ok c.from_residual-in_err-first-in-Pair.result _ n;
-      left =
-          no_ok c.from_residual-in_err-first-in-Pair.result _ n;
-      found = no_ok c.from_residual-in_err-first-in-Pair.result
-          _ n;
+      left = no_ok c.from_residual-in_err-first-in-Pair.result _ n;
+      found = no_ok c.from_residual-in_err-first-in-Pair.result _ n;
       code = no_ok c.from_residual-in_err-first-in-Pair.result _ n;
-      funcs =
-          no_ok c.from_residual-in_err-first-in-Pair.result _ n;
+      funcs = no_ok c.from_residual-in_err-first-in-Pair.result _ n;
     }
 
 pub code_of-returns-in_err-box_of-in-Fst : goal.code_of-returns-in_err-box_of-in-Fst
@@ -896,13 +628,10 @@ code_of-returns-in_err-box_of-in-Fst t c =
     let n = c.from_residual-in_err-box_of-in-Fst.ensures.0 in
     record {
       same = no_ok c.from_residual-in_err-box_of-in-Fst.result _ n;
-      left =
-          no_ok c.from_residual-in_err-box_of-in-Fst.result _ n;
-      found = no_ok c.from_residual-in_err-box_of-in-Fst.result
-          _ n;
+      left = no_ok c.from_residual-in_err-box_of-in-Fst.result _ n;
+      found = no_ok c.from_residual-in_err-box_of-in-Fst.result _ n;
       code = no_ok c.from_residual-in_err-box_of-in-Fst.result _ n;
-      funcs =
-          no_ok c.from_residual-in_err-box_of-in-Fst.result _ n;
+      funcs = no_ok c.from_residual-in_err-box_of-in-Fst.result _ n;
     }
 
 pub code_of-returns-in_err-box_of-in-Snd : goal.code_of-returns-in_err-box_of-in-Snd
@@ -910,13 +639,10 @@ code_of-returns-in_err-box_of-in-Snd t c =
     let n = c.from_residual-in_err-box_of-in-Snd.ensures.0 in
     record {
       same = no_ok c.from_residual-in_err-box_of-in-Snd.result _ n;
-      left =
-          no_ok c.from_residual-in_err-box_of-in-Snd.result _ n;
-      found = no_ok c.from_residual-in_err-box_of-in-Snd.result
-          _ n;
+      left = no_ok c.from_residual-in_err-box_of-in-Snd.result _ n;
+      found = no_ok c.from_residual-in_err-box_of-in-Snd.result _ n;
       code = no_ok c.from_residual-in_err-box_of-in-Snd.result _ n;
-      funcs =
-          no_ok c.from_residual-in_err-box_of-in-Snd.result _ n;
+      funcs = no_ok c.from_residual-in_err-box_of-in-Snd.result _ n;
     }
 
 pub code_of-returns-in_err-first-in-Prim : goal.code_of-returns-in_err-first-in-Prim
@@ -924,13 +650,10 @@ code_of-returns-in_err-first-in-Prim t c =
     let n = c.from_residual-in_err-first-in-Prim.ensures.0 in
     record {
       same = no_ok c.from_residual-in_err-first-in-Prim.result _ n;
-      left =
-          no_ok c.from_residual-in_err-first-in-Prim.result _ n;
-      found = no_ok c.from_residual-in_err-first-in-Prim.result
-          _ n;
+      left = no_ok c.from_residual-in_err-first-in-Prim.result _ n;
+      found = no_ok c.from_residual-in_err-first-in-Prim.result _ n;
       code = no_ok c.from_residual-in_err-first-in-Prim.result _ n;
-      funcs =
-          no_ok c.from_residual-in_err-first-in-Prim.result _ n;
+      funcs = no_ok c.from_residual-in_err-first-in-Prim.result _ n;
     }
 
 pub if_of-returns-in_err-yes : goal.if_of-returns-in_err-yes
@@ -939,11 +662,9 @@ if_of-returns-in_err-yes t c =
     record {
       same = no_ok c.from_residual.result _ n;
       left = no_ok c.from_residual.result _ n;
-      found =
-          no_ok c.from_residual.result _ n;
+      found = no_ok c.from_residual.result _ n;
       code = no_ok c.from_residual.result _ n;
-      funcs =
-          no_ok c.from_residual.result _ n;
+      funcs = no_ok c.from_residual.result _ n;
     }
 
 pub if_of-returns-in_err-condition : goal.if_of-returns-in_err-condition
@@ -951,12 +672,10 @@ if_of-returns-in_err-condition t c =
     let n = c.from_residual-in_err-condition.ensures.0 in
     record {
       same = no_ok c.from_residual-in_err-condition.result _ n;
-      left =
-          no_ok c.from_residual-in_err-condition.result _ n;
+      left = no_ok c.from_residual-in_err-condition.result _ n;
       found = no_ok c.from_residual-in_err-condition.result _ n;
       code = no_ok c.from_residual-in_err-condition.result _ n;
-      funcs = no_ok c.from_residual-in_err-condition.result
-          _ n;
+      funcs = no_ok c.from_residual-in_err-condition.result _ n;
     }
 
 pub let_of-returns-in_err-push : goal.let_of-returns-in_err-push
@@ -965,11 +684,9 @@ let_of-returns-in_err-push t c =
     record {
       same = no_ok c.from_residual.result _ n;
       left = no_ok c.from_residual.result _ n;
-      found =
-          no_ok c.from_residual.result _ n;
+      found = no_ok c.from_residual.result _ n;
       code = no_ok c.from_residual.result _ n;
-      funcs =
-          no_ok c.from_residual.result _ n;
+      funcs = no_ok c.from_residual.result _ n;
     }
 
 pub let_of-returns-in_err-body : goal.let_of-returns-in_err-body
@@ -988,12 +705,10 @@ let_of-returns-in_err-definition t c =
     let n = c.from_residual-in_err-definition.ensures.0 in
     record {
       same = no_ok c.from_residual-in_err-definition.result _ n;
-      left =
-          no_ok c.from_residual-in_err-definition.result _ n;
+      left = no_ok c.from_residual-in_err-definition.result _ n;
       found = no_ok c.from_residual-in_err-definition.result _ n;
       code = no_ok c.from_residual-in_err-definition.result _ n;
-      funcs =
-          no_ok c.from_residual-in_err-definition.result _ n;
+      funcs = no_ok c.from_residual-in_err-definition.result _ n;
     }
 
 pub two_of-returns-in_err-second : goal.two_of-returns-in_err-second
@@ -1002,11 +717,9 @@ two_of-returns-in_err-second t c =
     record {
       same = no_ok c.from_residual.result _ n;
       left = no_ok c.from_residual.result _ n;
-      found =
-          no_ok c.from_residual.result _ n;
+      found = no_ok c.from_residual.result _ n;
       first = no_ok c.from_residual.result _ n;
-      second =
-          no_ok c.from_residual.result _ n;
+      second = no_ok c.from_residual.result _ n;
       funcs = no_ok c.from_residual.result _ n;
     }
 
