@@ -1,16 +1,19 @@
 #!/bin/sh
 # cache.sh: times `run --cache` over files that it makes: 32 MB and 64 MB of records of small kernels, and of few large
 # ones, each with a source of one small kernel, so that nearly all time is that of loading; then the source of
-# `sample 100`, all loaded, beside the same without a cache file. Each number is the least of some runs, of real time in
+# `sample 100`, all loaded, beside the same without a cache file. Beside each file stands what summing, decoding and
+# validating its records alone takes, by `mw_modules records`. Each number is the least of some runs, of real time in
 # seconds; memory is the most that a run took, by GNU time as /usr/bin/time. MB are of 1,048,576 bytes.
 set -u
 here=$(cd "$(dirname "$0")" && pwd)
 program="$here/../crates/metaml/out/metaml"
 [ -x "$program" ] || (cd "$here/../crates/metaml" && rt run >/dev/null)
-exec python3 - "$program" <<'END'
+modules="$here/../crates/mw_modules/out/mw_modules"
+[ -x "$modules" ] || (cd "$here/../crates/mw_modules" && rt run -- rows >/dev/null)
+exec python3 - "$program" "$modules" <<'END'
 import hashlib, os, shutil, subprocess, sys, tempfile, time
 
-program = sys.argv[1]
+program, modules = sys.argv[1:]
 work = tempfile.mkdtemp()
 MB = 1_048_576
 FRONT = bytes.fromhex(
@@ -85,11 +88,13 @@ def over_files(make, source):
     for size in (32, 64):
         path, count = file_of(make, size)
         before = os.path.getsize(path)
+        least, _, counted = measured([modules, "records", path])
         spent, memory, written = measured([program, "run", "--cache", path, source])
         grown = os.path.getsize(path) - before
         print(f"{size} MB, {count} records of {make.__name__} kernels: {spent:.3f} s, "
             f"{memory / before:.2f} bytes of memory for each of the file (6 at most); "
-            f"{written.decode().split(chr(10))[-2]}; grew by {grown}", flush=True)
+            f"{written.decode().split(chr(10))[-2]}; grew by {grown}; {least:.3f} s for summing, decoding and validating "
+            f"{counted.decode().strip()} alone, {spent / least:.2f} times as long as that (2 at most)", flush=True)
         times.append(spent)
         os.unlink(path)
     print(f"  64 MB took {times[1] / times[0]:.2f} times as long as 32 MB (2.2 at most)", flush=True)

@@ -2,11 +2,15 @@
 //!
 //!     mw_modules verdict FILE    the verdict of a file: `valid`, `invalid`, or its first fault and its place
 //!     mw_modules rows FILE..     the verdict of each row of these files, under its name, and how many rows there were
+//!     mw_modules records FILE    how many records of a cache file are undamaged and have a valid module, up to the
+//!                                first that hasn't, to be timed
 #![tactic(auto)]
 
+mod records;
 mod rows;
 mod verdict;
 
+use crate::records::sound_records;
 use crate::rows::{Row, RowFault, row_of, stands_alone};
 use crate::verdict::{verdict, verdict_of_row};
 use std::process::ExitCode;
@@ -23,6 +27,14 @@ const MALFORMED: u8 = 3;
 fn print_verdict(rt: &(impl Files + Print + AllocGlobal), file: &str) -> anyhow::Result<()> {
     let bytes = fs::read(rt, file)?;
     println!(rt; "{}", verdict(rt.alloc(), bytes.as_slice())?.as_str())?;
+    Ok(())
+}
+
+/// Prints how many records of a file are sound.
+fn print_records(rt: &(impl Files + Print + AllocGlobal), file: &str) -> anyhow::Result<()> {
+    let bytes = fs::read(rt, file)?;
+    let count = sound_records(rt.alloc(), bytes.as_slice())?;
+    println!(rt; "{count} records")?;
     Ok(())
 }
 
@@ -82,9 +94,15 @@ fn main(rt: HostRuntime) -> anyhow::Result<ExitCode> {
         print_verdict(&rt, file.as_str())?;
         return Ok(ExitCode::from(0));
     }
+    if let (Some("records"), Some(file), 3) = (command, words.get(2), words.len()) {
+        print_records(&rt, file.as_str())?;
+        return Ok(ExitCode::from(0));
+    }
     if let (Some("rows"), Some(files)) = (command, words.as_slice().get(2..)) {
         return print_files(&rt, files);
     }
-    eprintln!(rt; "mw_modules: usage: mw_modules verdict FILE, or mw_modules rows FILE..")?;
+    eprintln!(rt;
+        "mw_modules: usage: mw_modules verdict FILE, mw_modules rows FILE.., or mw_modules records FILE"
+    )?;
     Ok(ExitCode::from(USAGE))
 }
