@@ -19,6 +19,7 @@ mod fresh;
 mod judge;
 pub mod laws;
 mod names;
+mod nodes;
 mod output;
 mod own;
 mod program;
