@@ -14,6 +14,8 @@ use Rattle.mw_infer.specs.ItemEquations.{Close}
 use Rattle.mw_infer.specs.Inferring.{item_unknowns, item_classifiers, item_closes, item_equations, AreFresh, least}
 use Rattle.mw_term.specs.Parts.{Place, let_place, kernel_place, main_place}
 use Rattle.mw_infer.specs.Checking.{IsFirstOpen, IsItemSolution}
+use Rattle.mw_infer.specs.Nodes.{node_numbers, facts_at}
+use Rattle.mw_infer.specs.Typings.{facts_of_part}
 use Rattle.mw_infer.specs.Numbering.{IsRenumbering}
 use Rattle.mw_infer.specs.Scoped.{has_scheme}
 use Rattle.mw_infer.specs.declared.output.Output.{Output}
@@ -42,8 +44,9 @@ abbrev pub IsFirstOpenAt : Substitution → List Close → ℕ → Type 0
 IsFirstOpenAt s xs at = (y : Close) × IsFirstOpen s xs y × (at ≡ y.at)
 
 abbrev pub Judges : List TopScheme → Place → Expression → Verdict → Type 0
-Judges schemes place e (Fine l) = (s : Substitution) × IsItemSolution schemes place e s
-    × AreFresh (after least s) (item_closes schemes e) × IsRenumbering (s.ty 0) (scheme_of l)
+Judges schemes place e (Fine j) = (s : Substitution) × IsItemSolution schemes place e s
+    × AreFresh (after least s) (item_closes schemes e) × IsRenumbering (s.ty 0) (scheme_of j.known)
+    × (facts_of_part j.nodes ≡ map (facts_at s) (node_numbers schemes 0 1 0 e))
 Judges schemes place e IllTyped = (k : ℕ) × FirstUnsolvable (item_unknowns schemes e) (item_classifiers schemes e)
     (item_equations schemes place e) k
 Judges schemes place e TooBig = (k : ℕ) × FirstTooBig (item_unknowns schemes e) (item_classifiers schemes e)

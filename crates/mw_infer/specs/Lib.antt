@@ -14,3 +14,4 @@ pub mod Progress
 pub mod Nodes
 pub mod NodeViews
 pub mod NodeWalks
+pub mod Typings
