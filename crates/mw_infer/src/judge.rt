@@ -81,11 +81,7 @@ fn emitted(
 }
 
 /// The numbers of an item's nodes.
-fn numbered(
-    alloc: Global,
-    names: &[TopScheme],
-    term: &Term,
-) -> Result<Vec<NodeNumbers>, AllocError>
+fn numbered(alloc: Global, names: &[TopScheme], term: &Term) -> Result<Vec<NodeNumbers>, AllocError>
     requires { CanJudge (tops_of names.now) (expression_of term.now) }
     ensures { IfOk result
         (λ nodes. map numbers_of nodes.items ≡ node_numbers (tops_of names.now) 0 1 0 (expression_of term.now)) }

@@ -27,6 +27,8 @@ mod own;
 mod program;
 mod renumber;
 mod scope;
+#[cfg(test)]
+mod tests;
 pub mod typed;
 
 use crate::program::{Checked, types_of, whole};
