@@ -24,3 +24,5 @@ pub mod Answer
 pub mod Ordering
 pub mod Deciding
 pub mod Resolved
+pub mod NodeLists
+pub mod NodesTold

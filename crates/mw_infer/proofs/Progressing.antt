@@ -20,7 +20,7 @@ use Rattle.mw_infer.specs.Judging.{CanJudge, Judges}
 use Rattle.mw_infer.specs.Progress.{AreModest}
 use Rattle.mw_infer.specs.Views.{scheme_of}
 use Rattle.mw_infer.specs.declared.judge.Verdict.TheVariants.{Fine}
-use Rattle.mw_infer.specs.declared.names.LetType.{LetType}
+use Rattle.mw_infer.specs.declared.judge.Judged.{Judged}
 use Rattle.mw_infer.proofs.Within.{Within-more}
 use Rattle.mw_infer.proofs.Items.{fresh-typable, most_general-scheme}
 use Rattle.mw_infer.proofs.SameInstances.{IsSchemeOf-renumbered}
@@ -137,9 +137,9 @@ can-judge names schemes e p m s lt = record {
 }
 
 -- a part that is judged fine has no fault
-pub fine-faultless : (x : Part) (schemes : List TopScheme) (l : LetType) → ArePrincipal x.names schemes
-    → IsSource x.term → Judges schemes x.place x.term (Fine l) → IsFaultless x
-fine-faultless x schemes l p source j = record {
+pub fine-faultless : (x : Part) (schemes : List TopScheme) (w : Judged) → ArePrincipal x.names schemes
+    → IsSource x.term → Judges schemes x.place x.term (Fine w) → IsFaultless x
+fine-faultless x schemes w p source j = record {
   schemes = schemes;
   principal = p;
   fine = (j.0, j.1.general, j.1.small);
@@ -147,12 +147,13 @@ fine-faultless x schemes l p source j = record {
 }
 
 -- and a let's type that is judged is its scheme
-pub fine-scheme : (names : List TopLevel) (schemes : List TopScheme) (e : Expression) (l : LetType)
-    → ArePrincipal names schemes → IsSource e → Judges schemes let_place e (Fine l) → IsSchemeOf names e (scheme_of l)
-fine-scheme names schemes e l p source j =
+pub fine-scheme : (names : List TopLevel) (schemes : List TopScheme) (e : Expression) (w : Judged)
+    → ArePrincipal names schemes → IsSource e → Judges schemes let_place e (Fine w)
+    → IsSchemeOf names e (scheme_of w.known)
+fine-scheme names schemes e w p source j =
     IsSchemeOf-renumbered names e
     (record { unknowns = item_unknowns schemes e; classifiers = item_classifiers schemes e; type = j.0.ty 0 })
-    (scheme_of l) (most_general-scheme names schemes p.of e source j.0 j.1.general j.1.within j.2) j.3
+    (scheme_of w.known) (most_general-scheme names schemes p.of e source j.0 j.1.general j.1.within j.2) j.3
 
 pub modest-let : (schemes : List TopScheme) (s : Scheme) → AreModest schemes → s.unknowns ≤ 10000 → s.classifiers
     ≤ 10000 → AreModest (schemes ++ (let_scheme s ∷ []))

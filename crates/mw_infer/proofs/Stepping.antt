@@ -17,11 +17,10 @@ use Rattle.mw_infer.specs.Inferring.{AreSchemesOf}
 use Rattle.mw_term.specs.Stops.{IfRefused}
 use Rattle.mw_term.specs.Parts.{Part, part_of_item, part_of_main, IsPart, an_item, main, IsResolved}
 use Rattle.mw_infer.specs.Checking.{ArePrincipal, IsFaultless, IsFirstRefusal, AreFaultless, IsTypeOf, AreTypesOf}
-use Rattle.mw_infer.specs.Judging.{CanJudge, Judges}
-use Rattle.mw_infer.specs.Progress.{Progress, IsFaultOf, Steps, revealed_to, type_of_scheme}
+use Rattle.mw_infer.specs.Judging.{CanJudge}
+use Rattle.mw_infer.specs.Typings.{PartTypes}
+use Rattle.mw_infer.specs.Progress.{Progress, IsFaultOf, Steps, Ends, revealed_to, type_of_scheme}
 use Rattle.mw_infer.specs.Views.{scheme_of}
-use Rattle.mw_infer.specs.declared.judge.Verdict.TheVariants.{Fine}
-use Rattle.mw_infer.specs.declared.names.LetType.{LetType}
 use Rattle.mw_infer.proofs.Extended.{Extends, Typed-extended, Typed-back}
 use Rattle.mw_infer.proofs.Growing.{principal-first, principal-let, principal-kernel, principal-main, revealed}
 use Rattle.mw_infer.proofs.OneScheme.{low, last, low_or_last}
@@ -41,20 +40,20 @@ pub progress-first : (p : PureProgram) → Progress p 0 []
 progress-first p =
     record { principal = principal-first p.items; modest = tt; earlier = λ j x lt a. absurd (omega arith) }
 
-step-on : (p : PureProgram) (i : ℕ) (d : Definition) (schemes new : List TopScheme) → IsResolved p → slice_get p.items i
-    ≡ Some d → Progress p i schemes → Steps schemes d new → Progress p (suc i) new
-step-on p i (value e) schemes new w g h s =
+step-on : (p : PureProgram) (i : ℕ) (d : Definition) (schemes new : List TopScheme) (nodes : PartTypes) → IsResolved p
+    → slice_get p.items i ≡ Some d → Progress p i schemes → Steps schemes d new nodes → Progress p (suc i) new
+step-on p i (value e) schemes new nodes w g h s =
     let names = seen_by_item p.items i in
     let a : IsPart p i (part_of_item names (value e)) = an_item g in
     let source = scoped-source _ [] _ e (w.scoped i _ a) in
     let n = s.1.3 in
     rw s.2 (record {
-      principal = principal-let p.items i e schemes (scheme_of s.0) g h.principal
+      principal = principal-let p.items i e schemes (scheme_of s.0.known) g h.principal
           (fine-scheme names schemes e s.0 h.principal source s.1) n.in_order;
-      modest = modest-let schemes (scheme_of s.0) h.modest n.unknowns n.classifiers;
+      modest = modest-let schemes (scheme_of s.0.known) h.modest n.unknowns n.classifiers;
       earlier = earlier-next p i _ h.earlier a (fine-faultless _ schemes s.0 h.principal source s.1);
     })
-step-on p i (kernel k e) schemes new w g h s =
+step-on p i (kernel k e) schemes new nodes w g h s =
     let names = seen_by_item p.items i in
     let a : IsPart p i (part_of_item names (kernel k e)) = an_item g in
     let source = scoped-source _ [] _ e (w.scoped i _ a) in
@@ -64,10 +63,11 @@ step-on p i (kernel k e) schemes new w g h s =
       earlier = earlier-next p i _ h.earlier a (fine-faultless _ schemes s.0 h.principal source s.1);
     })
 
-pub progress-next : (p : PureProgram) (i : ℕ) (d : Definition) (schemes new : List TopScheme) → IsResolved p
-    → slice_get p.items i ≡ Some d → Progress p i schemes → Steps schemes d new → Progress p (i + 1) new
-progress-next p i d schemes new w g h s = let e : i + 1 ≡ suc i = omega arith in
-    rw e (step-on p i d schemes new w g h s)
+pub progress-next : (p : PureProgram) (i : ℕ) (d : Definition) (schemes new : List TopScheme) (nodes : PartTypes)
+    → IsResolved p → slice_get p.items i ≡ Some d → Progress p i schemes → Steps schemes d new nodes
+    → Progress p (i + 1) new
+progress-next p i d schemes new nodes w g h s = let e : i + 1 ≡ suc i = omega arith in
+    rw e (step-on p i d schemes new nodes w g h s)
 
 -- an item that is next can be judged, and its fault is the program's first refusal
 pub item-judged : (p : PureProgram) (i : ℕ) (d : Definition) (schemes : List TopScheme) → IsResolved p
@@ -137,7 +137,7 @@ main-refused p schemes r h f = record {
   earlier = h.earlier;
 }
 
-get-below : {A : Type 0} (xs : List A) (i : ℕ) (x : A) → slice_get xs i ≡ Some x → i < length xs
+pub get-below : {A : Type 0} (xs : List A) (i : ℕ) (x : A) → slice_get xs i ≡ Some x → i < length xs
 get-below [] i x e = absurd (cc)
 get-below (y ∷ xs) zero x e = omega arith
 get-below (y ∷ xs) (suc i) x e = omega (arith, get-below xs i x e)
@@ -150,14 +150,13 @@ all-faultless p schemes h f j x a = part-faultless a
     part-faultless (an_item {i = i} {d = d} g) = h.earlier i _ (get-below p.items i d g) (an_item g)
     part-faultless (main e) = f
 
-pub main-faultless : (p : PureProgram) (schemes : List TopScheme) (l : LetType) → IsResolved p
-    → Progress p (length p.items) schemes → Judges (revealed p.items schemes) (main_place p.result) p.body (Fine l)
-    → AreFaultless p
-main-faultless p schemes l w h j =
+pub main-faultless : (p : PureProgram) (schemes : List TopScheme) (nodes : PartTypes) → IsResolved p
+    → Progress p (length p.items) schemes → Ends (revealed p.items schemes) p.result p.body nodes → AreFaultless p
+main-faultless p schemes nodes w h j =
     let b : IsPart p (length p.items) (part_of_main p) = main refl in
     all-faultless p schemes h
-    (fine-faultless (part_of_main p) (revealed p.items schemes) l (principal-main p.items schemes h.principal)
-    (scoped-source _ [] _ p.body (w.scoped _ _ b)) j)
+    (fine-faultless (part_of_main p) (revealed p.items schemes) j.0 (principal-main p.items schemes h.principal)
+    (scoped-source _ [] _ p.body (w.scoped _ _ b)) j.1)
 
 -- a kernel item that is revealed
 set-same : (xs : List TopScheme) (n : ℕ) (items : List Definition) (e : Expression) → slice_get items n ≡ Some (value e)
@@ -300,14 +299,14 @@ types-of p schemes h q =
     part-type (main {i = i} e) t g = type-last schemes (ground_expression p.result) t
         (rw (e ∙ sym (length-main _ p.items schemes q.of)) at g)
 
-append-length : {A : Type 0} (xs : List A) (x : A) → length (xs ++ (x ∷ [])) ≡ length xs + 1
+pub append-length : {A : Type 0} (xs : List A) (x : A) → length (xs ++ (x ∷ [])) ≡ length xs + 1
 append-length [] x = omega arith
 append-length (y ∷ xs) x = let h = append-length xs x in omega (arith, h)
 
-pub steps-length : (schemes : List TopScheme) (d : Definition) (new : List TopScheme) → Steps schemes d new → length new
-    ≡ length schemes + 1
-steps-length schemes (value e) new s = ap length s.2 ∙ append-length schemes (let_scheme (scheme_of s.0))
-steps-length schemes (kernel k e) new s = ap length s.2 ∙ append-length schemes scheme_out_of_scope
+pub steps-length : (schemes : List TopScheme) (d : Definition) (new : List TopScheme) (nodes : PartTypes)
+    → Steps schemes d new nodes → length new ≡ length schemes + 1
+steps-length schemes (value e) new nodes s = ap length s.2 ∙ append-length schemes (let_scheme (scheme_of s.0.known))
+steps-length schemes (kernel k e) new nodes s = ap length s.2 ∙ append-length schemes scheme_out_of_scope
 
 pub if-refused : (s : Stop) (f g : Refusal → Type 0) → ((r : Refusal) → f r → g r) → IfRefused f s → IfRefused g s
 if-refused (Refused r) f g h x = h r x

@@ -9,7 +9,8 @@ use Rattle.mw_term.specs.Typing.{TopLevel, Typed}
 use Rattle.mw_term.specs.declared.refusal.Refusal.{Refusal}
 use Rattle.mw_term.specs.declared.refusal.Refusal.TheVariants.{IllTyped, TypeTooBig, NotClosed}
 use Rattle.mw_types.specs.Types.{TypeExpression, Substitution, after, closed_ty}
-use Rattle.mw_types.specs.Equations.{MostGeneral, IsSmall, TooBig, Fine, FirstUnsolvable, FirstTooBig}
+use Rattle.mw_types.specs.Equations.{MostGeneral, IsSmall, StaysWithin, TooBig, Fine, FirstUnsolvable}
+use Rattle.mw_types.specs.Equations.{FirstTooBig}
 use Rattle.mw_infer.specs.Schemes.{TopScheme, let_scheme, kernel_scheme, scheme_out_of_scope, IsInOrder}
 use Rattle.mw_types.specs.Expressions.{ground_expression, kernel_expression}
 use Rattle.mw_term.specs.Sources.{IsSource}
@@ -29,6 +30,12 @@ AreInOrder (scheme_out_of_scope ∷ schemes) = AreInOrder schemes
 pub record ArePrincipal (names : List TopLevel) (schemes : List TopScheme) : Type 0 where
   pub of : AreSchemesOf names names schemes
   pub in_order : AreInOrder schemes
+
+-- a most general solution of an item's equations, on its own numbers, in which no type is too big
+pub record IsItemSolution (schemes : List TopScheme) (place : Place) (e : Expression) (s : Substitution) : Type 0 where
+  pub general : MostGeneral (item_unknowns schemes e) (item_classifiers schemes e) (item_equations schemes place e) s
+  pub small : IsSmall (item_unknowns schemes e) s
+  pub within : StaysWithin (item_unknowns schemes e) (item_classifiers schemes e) s
 
 -- the first close that is not fresh on a substitution
 pub record IsFirstOpen (s : Substitution) (xs : List Close) (x : Close) : Type 0 where

@@ -3,7 +3,7 @@ use Rattle.std.specs.Prelude.{ℕ, ◌≡◌, ◌≤◌, ◌^◌, false, List, [
 use Rattle.mw_term.specs.Terms.{Expression, ground_of, kernel_type_of}
 use Rattle.mw_term.specs.Scoped.{IsScoped}
 use Rattle.mw_types.specs.Types.{Assignment, Substitution, after}
-use Rattle.mw_types.specs.Equations.{equations_of, MostGeneral, IsSmall, StaysWithin, FirstUnsolvable, FirstTooBig}
+use Rattle.mw_types.specs.Equations.{equations_of, FirstUnsolvable, FirstTooBig}
 use Rattle.mw_types.specs.Solutions.{Solution, substitution_of}
 use Rattle.mw_infer.specs.declared.judge.Verdict.{Verdict}
 use Rattle.mw_infer.specs.declared.judge.Verdict.TheVariants.{Fine, IllTyped, TooBig, NotClosed}
@@ -13,7 +13,9 @@ use Rattle.mw_infer.specs.Schemes.{TopScheme, AreOwn}
 use Rattle.mw_infer.specs.ItemEquations.{Close}
 use Rattle.mw_infer.specs.Inferring.{item_unknowns, item_classifiers, item_closes, item_equations, AreFresh, least}
 use Rattle.mw_term.specs.Parts.{Place, let_place, kernel_place, main_place}
-use Rattle.mw_infer.specs.Checking.{IsFirstOpen}
+use Rattle.mw_infer.specs.Checking.{IsFirstOpen, IsItemSolution}
+use Rattle.mw_infer.specs.Nodes.{node_numbers, facts_at}
+use Rattle.mw_infer.specs.Typings.{facts_of_part}
 use Rattle.mw_infer.specs.Numbering.{IsRenumbering}
 use Rattle.mw_infer.specs.Scoped.{has_scheme}
 use Rattle.mw_infer.specs.declared.output.Output.{Output}
@@ -41,15 +43,10 @@ least_of s = after least (substitution_of s)
 abbrev pub IsFirstOpenAt : Substitution → List Close → ℕ → Type 0
 IsFirstOpenAt s xs at = (y : Close) × IsFirstOpen s xs y × (at ≡ y.at)
 
--- a most general solution of an item's equations, on its own numbers, in which no type is too big
-pub record IsItemSolution (schemes : List TopScheme) (place : Place) (e : Expression) (s : Substitution) : Type 0 where
-  pub general : MostGeneral (item_unknowns schemes e) (item_classifiers schemes e) (item_equations schemes place e) s
-  pub small : IsSmall (item_unknowns schemes e) s
-  pub within : StaysWithin (item_unknowns schemes e) (item_classifiers schemes e) s
-
 abbrev pub Judges : List TopScheme → Place → Expression → Verdict → Type 0
-Judges schemes place e (Fine l) = (s : Substitution) × IsItemSolution schemes place e s
-    × AreFresh (after least s) (item_closes schemes e) × IsRenumbering (s.ty 0) (scheme_of l)
+Judges schemes place e (Fine j) = (s : Substitution) × IsItemSolution schemes place e s
+    × AreFresh (after least s) (item_closes schemes e) × IsRenumbering (s.ty 0) (scheme_of j.known)
+    × (facts_of_part j.nodes ≡ map (facts_at s) (node_numbers schemes 0 1 0 e))
 Judges schemes place e IllTyped = (k : ℕ) × FirstUnsolvable (item_unknowns schemes e) (item_classifiers schemes e)
     (item_equations schemes place e) k
 Judges schemes place e TooBig = (k : ℕ) × FirstTooBig (item_unknowns schemes e) (item_classifiers schemes e)

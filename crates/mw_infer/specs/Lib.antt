@@ -11,3 +11,7 @@ pub mod OwnParts
 pub mod Numbering
 pub mod Judging
 pub mod Progress
+pub mod Nodes
+pub mod NodeViews
+pub mod NodeWalks
+pub mod Typings

@@ -8,8 +8,7 @@ use Rattle.mw_types.specs.Types.{TypeExpression, Substitution, after}
 use Rattle.mw_infer.specs.Schemes.{TopScheme}
 use Rattle.mw_infer.specs.ItemEquations.{unknowns_of, classifiers_of}
 use Rattle.mw_infer.specs.Inferring.{item_closes, AreFresh, least}
-use Rattle.mw_infer.specs.Judging.{IsItemSolution}
-use Rattle.mw_infer.specs.Checking.{ArePrincipal}
+use Rattle.mw_infer.specs.Checking.{ArePrincipal, IsItemSolution}
 
 -- A node's numbers: the unknown of its type, then those of its further types, and its classifier unknown, if it has
 -- one. Further types are a function's argument, a recursive function itself and its argument, what a let binds, and, of
@@ -32,7 +31,7 @@ node_numbers tops u o c (truth b) = plain_node (u ∷ []) ∷ []
 node_numbers tops u o c (var i) = plain_node (u ∷ []) ∷ []
 node_numbers tops u o c (glob i) = plain_node (u ∷ []) ∷ []
 node_numbers tops u o c (fun e) = plain_node (u ∷ o ∷ []) ∷ node_numbers tops (o + 1) (o + 2) c e
-node_numbers tops u o c (fix e) = plain_node (u ∷ o + 1 ∷ o ∷ []) ∷ node_numbers tops (o + 2) (o + 3) c e
+node_numbers tops u o c (fix e) = plain_node (u ∷ (o + 1) ∷ o ∷ []) ∷ node_numbers tops (o + 2) (o + 3) c e
 node_numbers tops u o c (app f a) = plain_node (u ∷ []) ∷ (node_numbers tops o (o + 2) c f
     ++ node_numbers tops (o + 1) (o + 2 + unknowns_of tops f) (c + classifiers_of tops f) a)
 node_numbers tops u o c (bind d e) = plain_node (u ∷ o ∷ []) ∷ (node_numbers tops (o + 1) (o + 3) c d

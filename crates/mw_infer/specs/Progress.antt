@@ -1,19 +1,21 @@
 -- How far the check of a program has come.
-use Rattle.std.specs.Prelude.{ℕ, zero, suc, ◌≡◌, ◌≤◌, ◌<◌, List, [], ◌∷◌, ◌++◌}
-use Rattle.mw_term.specs.Terms.{Expression}
+use Rattle.std.specs.Prelude.{ℕ, zero, suc, ◌≡◌, ◌≤◌, ◌<◌, List, [], ◌∷◌, ◌++◌, length, Some, slice_get}
+use Rattle.mw_term.specs.Terms.{Expression, GroundType}
 use Rattle.mw_term.specs.Programs.{Definition, value, kernel, PureProgram}
 use Rattle.mw_term.specs.declared.refusal.Refusal.{Refusal}
 use Rattle.mw_types.specs.Types.{TypeExpression, int_ty, closed_ty}
 use Rattle.mw_term.specs.Typable.{seen_by_item}
 use Rattle.mw_infer.specs.Schemes.{TopScheme, let_scheme, kernel_scheme, scheme_out_of_scope}
 use Rattle.mw_types.specs.Expressions.{kernel_expression}
-use Rattle.mw_term.specs.Parts.{Place, let_place, kernel_place}
+use Rattle.mw_term.specs.Parts.{Place, let_place, kernel_place, main_place}
 use Rattle.mw_term.specs.Parts.{Part, part_of_item, IsPart}
 use Rattle.mw_infer.specs.Checking.{ArePrincipal, TypeFault, HasFault, IsFaultless, refusal_of}
 use Rattle.mw_infer.specs.Judging.{Judges}
+use Rattle.mw_infer.specs.Nodes.{NodeFacts, AreNodesOfPart}
+use Rattle.mw_infer.specs.Typings.{PartTypes}
 use Rattle.mw_infer.specs.Views.{scheme_of}
 use Rattle.mw_infer.specs.declared.judge.Verdict.TheVariants.{Fine}
-use Rattle.mw_infer.specs.declared.names.LetType.{LetType}
+use Rattle.mw_infer.specs.declared.judge.Judged.{Judged}
 
 -- each let's type has at most 10,000 unknowns and classifier unknowns
 abbrev pub AreModest : List TopScheme → Type 0
@@ -36,12 +38,22 @@ IsFaultOf schemes place e i r = (f : TypeFault) × HasFault schemes place e f ×
 abbrev pub IsFaultOfItem : List TopScheme → Definition → ℕ → Refusal → Type 0
 IsFaultOfItem schemes d i r = IsFaultOf schemes (part_of_item [] d).place (part_of_item [] d).term i r
 
--- after an item that is without fault there are these schemes
-abbrev pub Steps : List TopScheme → Definition → List TopScheme → Type 0
-Steps schemes (value e) new = (l : LetType) × Judges schemes let_place e (Fine l)
-    × (new ≡ schemes ++ (let_scheme (scheme_of l) ∷ []))
-Steps schemes (kernel k e) new = (l : LetType) × Judges schemes (kernel_place k) e (Fine l)
-    × (new ≡ schemes ++ (scheme_out_of_scope ∷ []))
+-- after an item that is without fault there are these schemes, and this is known of its nodes
+abbrev pub Steps : List TopScheme → Definition → List TopScheme → PartTypes → Type 0
+Steps schemes (value e) new nodes = (j : Judged) × Judges schemes let_place e (Fine j)
+    × (new ≡ schemes ++ (let_scheme (scheme_of j.known) ∷ [])) × (nodes ≡ j.nodes)
+Steps schemes (kernel k e) new nodes = (j : Judged) × Judges schemes (kernel_place k) e (Fine j)
+    × (new ≡ schemes ++ (scheme_out_of_scope ∷ [])) × (nodes ≡ j.nodes)
+
+-- of main, after which nothing is left to do
+abbrev pub Ends : List TopScheme → GroundType → Expression → PartTypes → Type 0
+Ends schemes g e nodes = (j : Judged) × Judges schemes (main_place g) e (Fine j) × (nodes ≡ j.nodes)
+
+-- these facts are of the nodes of the first i parts
+pub record AreNodesBefore (p : PureProgram) (i : ℕ) (parts : List (List NodeFacts)) : Type 0 where
+  pub count : length parts ≡ i
+  pub each : (j : ℕ) (x : Part) (facts : List NodeFacts) → j < i → IsPart p j x → slice_get parts j ≡ Some facts
+      → AreNodesOfPart x facts
 
 -- the schemes with those of the kernel items among the first n
 abbrev pub revealed_to : ℕ → List Definition → List TopScheme → List TopScheme

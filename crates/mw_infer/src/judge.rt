@@ -1,28 +1,39 @@
 // One item: its equations, their solution, and the tests of its closes.
 
-ghost use Rattle.std.specs.Prelude.{[], IfOk, OnOk};
+ghost use Rattle.std.specs.Prelude.{◌≡◌, [], map, IfOk, OnOk};
 ghost use Rattle.mw_term.specs.Terms.{expression_of};
 ghost use Rattle.mw_infer.specs.Emitting.{Adds};
 ghost use Rattle.mw_infer.specs.Inferring.{own_equations};
 ghost use Rattle.mw_infer.specs.Judging.{CanJudge, IsEmitted, Judges, place_of};
+ghost use Rattle.mw_infer.specs.Nodes.{node_numbers};
+ghost use Rattle.mw_infer.specs.NodeViews.{numbers_of};
 ghost use Rattle.mw_infer.specs.Views.{tops_of};
 
 use crate::build::{closed, ground_ty, kernel_ty};
 use crate::emit::{Setting, emit};
 use crate::fresh::first_open;
 use crate::names::{LetType, TopScheme};
+use crate::nodes::{NodeNumbers, Numbers, number};
 use crate::output::{Output, equate};
 use crate::own::Asked;
 use crate::renumber::let_type;
 use crate::scope::{Level, Scope};
+use crate::typed::PartNodes;
 use mw_term::Term;
 use mw_types::{Equations, Pairs, SolveFault, Ty, solve};
 use std::alloc::{AllocError, Global};
 
-/// What is judged of an item: its most general type, or its fault.
+/// What is known of an item without a fault: its most general type, and what its equations' solution says of its nodes.
+#[derive(Drop)]
+pub struct Judged {
+    pub known: LetType,
+    pub nodes: PartNodes,
+}
+
+/// What is judged of an item: its types, or its fault.
 #[derive(Drop)]
 pub enum Verdict {
-    Fine(LetType),
+    Fine(Judged),
     IllTyped,
     TooBig,
     /// With the offset of the `close`.
@@ -69,7 +80,22 @@ fn emitted(
     Ok(out)
 }
 
-/// The most general type of an item, or its fault.
+/// The numbers of an item's nodes.
+fn numbered(alloc: Global, names: &[TopScheme], term: &Term) -> Result<Vec<NodeNumbers>, AllocError>
+    requires { CanJudge (tops_of names.now) (expression_of term.now) }
+    ensures { IfOk result
+        (λ nodes. map numbers_of nodes.items ≡ node_numbers (tops_of names.now) 0 1 0 (expression_of term.now)) }
+{
+    let mut numbers = Numbers {
+        unknowns: 1,
+        classifiers: 0,
+        nodes: Vec::new(alloc),
+    };
+    number(term, names, 0, &mut numbers)?;
+    Ok(numbers.nodes)
+}
+
+/// The types of an item, or its fault.
 pub fn judge(
     alloc: Global,
     names: &[TopScheme],
@@ -96,7 +122,10 @@ pub fn judge(
             if let Some(at) = first_open(closes.as_slice(), &solved) {
                 return Ok(Verdict::NotClosed(at));
             }
-            Ok(Verdict::Fine(let_type(alloc, solved.ty(0), unknowns, classifiers)?))
+            let known = let_type(alloc, solved.ty(0), unknowns, classifiers)?;
+            let nodes = numbered(alloc, names, term)?;
+            let nodes = PartNodes { solved, nodes };
+            Ok(Verdict::Fine(Judged { known, nodes }))
         }
         Err(SolveFault::Unsolvable(_)) => Ok(Verdict::IllTyped),
         Err(SolveFault::TooBig(_)) => Ok(Verdict::TooBig),

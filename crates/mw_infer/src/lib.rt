@@ -11,6 +11,8 @@ ghost use Rattle.mw_term.specs.Typable.{Typable};
 ghost use Rattle.mw_term.specs.declared.refusal.Refusal.{Refusal};
 ghost use Rattle.mw_types.specs.Types.{type_of};
 ghost use Rattle.mw_infer.specs.Checking.{AreTypesOf, IsFirstRefusal, NoneTooBig, HasSmallKernels};
+ghost use Rattle.mw_infer.specs.Nodes.{AreNodesOf};
+ghost use Rattle.mw_infer.specs.Typings.{facts_of};
 ghost use Rattle.mw_term.specs.Parts.{IsResolved};
 
 mod build;
@@ -19,36 +21,41 @@ mod fresh;
 mod judge;
 pub mod laws;
 mod names;
+mod nodes;
 mod output;
 mod own;
 mod program;
 mod renumber;
 mod scope;
+#[cfg(test)]
+mod tests;
 pub mod typed;
 
-use crate::program::{types_of, whole};
-pub use crate::typed::Typed;
+use crate::program::{Checked, types_of, whole};
+pub use crate::typed::{NodeTypes, PartNodes, Typed};
 use mw_term::{Program, Stop};
 use std::alloc::Global;
 
-/// The most general types of a program's items and of main, where the program is typable and no type is too big; else
-/// its first refusal.
+/// The most general types of a program's items and of main, and what is known of each node of their terms, where the
+/// program is typable and no type is too big; else its first refusal.
 pub fn check(alloc: Global, program: &Program) -> Result<Typed, Stop>
     requires { IsResolved (program_of program.now) }
     ensures typable { IfOk result (λ _. Typable (program_of program.now)) }
     ensures small { IfOk result (λ _. NoneTooBig (program_of program.now)) }
     ensures runs { IfOk result (λ _. HasSmallTypes (program_of program.now)) }
     ensures kernels { IfOk result (λ _. HasSmallKernels (program_of program.now)) }
-    ensures types { IfOk result (λ typed. AreTypesOf (program_of program.now) (map type_of typed)) }
+    ensures types { IfOk result (λ typed. AreTypesOf (program_of program.now) (map type_of typed.types)) }
+    ensures nodes { IfOk result (λ typed. AreNodesOf (program_of program.now) (facts_of typed)) }
     ensures only { Typable (program_of program.now) → NoneTooBig (program_of program.now)
         → AnswersOrMemory (λ typed. Unit {0}) result }
     ensures refused { IfErr result (IfRefused (IsFirstRefusal (program_of program.now))) }
     ensures first { (r : Refusal) → IsFirstRefusal (program_of program.now) r → IsRefusalOrMemory result r }
 {
     match whole(alloc, program) {
-        Ok(names) => {
+        Ok(found) => {
+            let Checked { names, parts } = found;
             let types = types_of(alloc, names.as_slice(), &program.result)?;
-            Ok(Typed { types })
+            Ok(Typed { types, parts })
         }
         Err(stop) => Err(stop),
     }

@@ -283,7 +283,7 @@ fn named_scheme(
 }
 
 /// What the name at a place has.
-fn lookup<'n, 'p>(names: &'n [TopScheme<'p>], index: u32) -> Option<&'n TopScheme<'p>>
+pub fn lookup<'n, 'p>(names: &'n [TopScheme<'p>], index: u32) -> Option<&'n TopScheme<'p>>
     ensures { option_map (λ scheme. top_of scheme.now) result ≡ slice_get (tops_of names.now) index }
 {
     names.get(index as usize)

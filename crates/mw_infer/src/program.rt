@@ -1,6 +1,6 @@
 // The check of a program, item by item.
 
-ghost use Rattle.std.specs.Prelude.{◌≡◌, ◌∷◌, [], ◌++◌, length, map, IfErr, IfOk, OnOk};
+ghost use Rattle.std.specs.Prelude.{◌≡◌, ◌∷◌, [], ◌++◌, length, map, IfErr, IfOk};
 ghost use Rattle.mw_term.specs.Programs.{definition_of, program_of};
 ghost use Rattle.mw_term.specs.Stops.{IfRefused};
 ghost use Rattle.mw_term.specs.Terms.{expression_of, ground_of};
@@ -11,29 +11,39 @@ ghost use Rattle.mw_infer.specs.Checking.{AreFaultless, ArePrincipal, IsFirstRef
 ghost use Rattle.mw_term.specs.Parts.{IsResolved, part_of_item};
 ghost use Rattle.mw_term.specs.Parts.{main_place};
 ghost use Rattle.mw_infer.specs.Judging.{CanJudge, Judges, place_of};
-ghost use Rattle.mw_infer.specs.Progress.{IsFaultOf, IsFaultOfItem, Steps, revealed_to, type_of_scheme};
+ghost use Rattle.mw_infer.specs.Nodes.{AreNodesOf};
+ghost use Rattle.mw_infer.specs.Progress.{Ends, IsFaultOf, IsFaultOfItem, Steps, revealed_to, type_of_scheme};
+ghost use Rattle.mw_infer.specs.Typings.{facts_of_part};
 ghost use Rattle.mw_infer.specs.Views.{top_of, tops_of};
 ghost use Rattle.mw_infer.specs.declared.judge.Verdict.TheVariants.{Fine};
 
 use crate::build::{closed, ground_ty, kernel_ty};
-use crate::judge::{Verdict, judge};
-use crate::names::{LetType, TopScheme};
+use crate::judge::{Judged, Verdict, judge};
+use crate::names::TopScheme;
 use crate::own::Asked;
+use crate::typed::PartNodes;
 use mw_term::{Ground, Item, ItemKind, Program, Refusal, Stop, Term};
 use mw_types::Ty;
 use std::alloc::{AllocError, Global};
 
-/// The most general type of an item, or the refusal of the program for its fault.
+/// What main sees of the items, and what is known of the nodes of each part.
+#[derive(Drop)]
+pub struct Checked<'p> {
+    pub names: Vec<TopScheme<'p>>,
+    pub parts: Vec<PartNodes>,
+}
+
+/// The types of an item, or the refusal of the program for its fault.
 fn judged(
     alloc: Global,
     names: &[TopScheme],
     asked: &Asked,
     term: &Term,
     index: u32,
-) -> Result<LetType, Stop>
+) -> Result<Judged, Stop>
     requires { CanJudge (tops_of names.now) (expression_of term.now) }
-    ensures fine { IfOk result (λ l. Judges (tops_of names.now) (place_of asked.now) (expression_of term.now)
-        (Fine l)) }
+    ensures fine { IfOk result (λ j. Judges (tops_of names.now) (place_of asked.now) (expression_of term.now)
+        (Fine j)) }
     ensures refused { IfErr result (IfRefused (IsFaultOf (tops_of names.now) (place_of asked.now) (expression_of term.now) index)) }
 {
     match judge(alloc, names, asked, term)? {
@@ -44,23 +54,29 @@ fn judged(
     }
 }
 
-/// An item: what the items after it see of it is added.
-fn step(alloc: Global, names: &mut Vec<TopScheme>, item: &Item, index: u32) -> Result<(), Stop>
+/// An item: what the items after it see of it is added, and what is known of its nodes is given.
+fn step(
+    alloc: Global,
+    names: &mut Vec<TopScheme>,
+    item: &Item,
+    index: u32,
+) -> Result<PartNodes, Stop>
     requires { CanJudge (tops_of names.old.items) (part_of_item [] (definition_of item.now.kind)).term }
-    ensures ok { OnOk result (Steps (tops_of names.old.items) (definition_of item.now.kind) (tops_of names.new.items)) }
+    ensures ok { IfOk result
+        (λ nodes. Steps (tops_of names.old.items) (definition_of item.now.kind) (tops_of names.new.items) nodes) }
     ensures refused { IfErr result (IfRefused (IsFaultOfItem (tops_of names.old.items) (definition_of item.now.kind) index)) }
 {
     match &item.kind {
         ItemKind::Value(term) => {
-            let known = judged(alloc, names.as_slice(), &Asked::Anything, term, index)?;
+            let found = judged(alloc, names.as_slice(), &Asked::Anything, term, index)?;
+            let Judged { known, nodes } = found;
             names.push(TopScheme::Let(known))?;
-            Ok(())
+            Ok(nodes)
         }
         ItemKind::Kernel(kind, term) => {
-            let known = judged(alloc, names.as_slice(), &Asked::Kernel(kind), term, index)?;
-            drop(known);
+            let found = judged(alloc, names.as_slice(), &Asked::Kernel(kind), term, index)?;
             names.push(TopScheme::OutOfScope)?;
-            Ok(())
+            Ok(found.nodes)
         }
     }
 }
@@ -78,38 +94,41 @@ fn reveal<'p>(names: &mut Vec<TopScheme<'p>>, items: &'p [Item])
     }
 }
 
-/// Main, after whose check nothing is left to do.
+/// Main, after whose check nothing is left to do: what is known of its nodes.
 fn last(
     alloc: Global,
     names: &[TopScheme],
     ground: &Ground,
     body: &Term,
     index: u32,
-) -> Result<(), Stop>
+) -> Result<PartNodes, Stop>
     requires { CanJudge (tops_of names.now) (expression_of body.now) }
-    ensures fine { OnOk result ((l : LetType) × Judges (tops_of names.now) (main_place (ground_of ground.now))
-        (expression_of body.now) (Fine l)) }
+    ensures fine { IfOk result (Ends (tops_of names.now) (ground_of ground.now) (expression_of body.now)) }
     ensures refused { IfErr result
         (IfRefused (IsFaultOf (tops_of names.now) (main_place (ground_of ground.now)) (expression_of body.now) index)) }
 {
-    let known = judged(alloc, names, &Asked::Main(ground), body, index)?;
-    drop(known);
-    Ok(())
+    let found = judged(alloc, names, &Asked::Main(ground), body, index)?;
+    Ok(found.nodes)
 }
 
-/// What main sees of the items, where no part of the program has a fault; else the first refusal.
-pub fn whole<'p>(alloc: Global, program: &'p Program) -> Result<Vec<TopScheme<'p>>, Stop>
+/// What main sees of the items and what is known of each part, where no part of the program has a fault; else the first
+/// refusal.
+pub fn whole<'p>(alloc: Global, program: &'p Program) -> Result<Checked<'p>, Stop>
     requires { IsResolved (program_of program.now) }
     ensures faultless { IfOk result (λ _. AreFaultless (program_of program.now)) }
-    ensures principal { IfOk result (λ names. ArePrincipal (seen_by_main (program_of program.now).items) (tops_of names.items)) }
+    ensures principal { IfOk result
+        (λ whole. ArePrincipal (seen_by_main (program_of program.now).items) (tops_of whole.names.items)) }
+    ensures nodes { IfOk result
+        (λ whole. AreNodesOf (program_of program.now) (map facts_of_part whole.parts.items)) }
     ensures refused { IfErr result (IfRefused (IsFirstRefusal (program_of program.now))) }
 {
     let items = program.items.as_slice();
     let mut names = Vec::new(alloc);
+    let mut parts = Vec::new(alloc);
     for item in items {
         let index = names.len() as u32;
         match step(alloc, &mut names, item, index) {
-            Ok(()) => {}
+            Ok(nodes) => parts.push(nodes)?,
             Err(stop) => return Err(stop),
         }
     }
@@ -122,7 +141,10 @@ pub fn whole<'p>(alloc: Global, program: &'p Program) -> Result<Vec<TopScheme<'p
         &program.body,
         index,
     ) {
-        Ok(()) => Ok(names),
+        Ok(nodes) => {
+            parts.push(nodes)?;
+            Ok(Checked { names, parts })
+        }
         Err(stop) => Err(stop),
     }
 }

@@ -239,7 +239,8 @@ roots_inside {roots = roots} h = λ i d lt. let p = h.below i (omega (arith, h.r
 
 pub answers : (s : State) (names roots : List ℕ) (trees : List Ty) (n : ℕ) → n ≤ length s.parent.items
     → NamedTo s.classifier.items names (length s.classifier.items) → TreesTo s names roots trees n
-    → Answers n s (record { types = map (λ r. slice_index_or trees r int_tree) roots; classifiers = names })
+    → Answers n s
+    (record { types = map (λ r. slice_index_or trees r int_tree) roots; classifiers = names; roots = roots })
 answers s names roots trees n le d h = record {
   named = d;
   long = map_length (λ r. slice_index_or trees r int_tree) roots ∙ h.root_count;

@@ -7,10 +7,12 @@ use Rattle.mw_types.specs.declared.types.Ty.TheVariants.{Int}
 use Rattle.mw_types.specs.declared.types.SolveFault.{SolveFault}
 use Rattle.mw_types.specs.declared.types.SolveFault.TheVariants.{Unsolvable, TooBig, Memory}
 
--- the types by the numbers of the unknowns, and the classifiers' representatives by their numbers
+-- The types by the numbers of the unknowns, the classifiers' representatives by their numbers, and of each unknown the
+-- number of the tree that holds its type.
 pub record Solution : Type 0 where
   pub types : List Ty
   pub classifiers : List ℕ
+  pub roots : List ℕ
 
 -- the solution as a substitution
 abbrev pub substitution_of : Solution → Substitution

@@ -12,7 +12,8 @@ use std::alloc::{AllocError, Global};
 use std::marker::Model;
 
 /// A most general solution: a type for each unknown, which may hold unknowns again, and a representative for each
-/// classifier unknown. Contracts see both as lists.
+/// classifier unknown. A type that several unknowns have is held once, in a tree. Contracts see the types, the
+/// representatives and the trees' numbers as lists.
 #[derive(Debug, Drop)]
 pub struct Solved {
     // each unknown's representative, and the types of those that are their own
@@ -34,8 +35,9 @@ impl Model for Solved {
 
     ghost view = { λ s. record {
       types = map (λ r. slice_index_or s.trees.items r Int) s.roots.items;
-      classifiers =
-          s.names.items;
+      classifiers = s.names.items;
+      roots =
+          s.roots.items;
     } };
 
     ghost invariant = { λ s. All (λ r. r < length s.trees.items) s.roots.items };
@@ -48,6 +50,16 @@ impl Solved {
         ensures { slice_get self.now.types unknown ≡ Some result.now }
     {
         &self.trees[self.roots[unknown as usize]]
+    }
+
+    /// The number of the tree that holds an unknown's type: unknowns with one tree have one type. Takes no memory.
+    pub fn root(&self, unknown: u64) -> u64
+        requires { unknown < length self.now.types }
+        ensures root { slice_get self.now.roots unknown ≡ Some result }
+        ensures one { (v : ℕ) → slice_get self.now.roots v ≡ Some result
+            → slice_get self.now.types v ≡ slice_get self.now.types unknown }
+    {
+        self.roots[unknown as usize] as u64
     }
 
     /// A classifier unknown's representative. Takes no memory.

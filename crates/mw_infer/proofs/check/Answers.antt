@@ -1,6 +1,5 @@
-use Rattle.std.proofs.Common.{List}
-use Rattle.mw_types.specs.declared.types.Ty.{Ty}
 use Rattle.mw_term.specs.Programs.{program_of}
+use Rattle.mw_infer.specs.Typings.{Typing}
 use Rattle.mw_infer.specs.Views.{tops_of}
 use Rattle.mw_infer.proofs.Answer.{typable-answer, first-answer}
 use Rattle.mw_infer.proofs.Progressing.{resolved-written}
@@ -27,7 +26,7 @@ returns-in_ok-types-in-Ok-clause-kernels c = faultless-small_kernels (program_of
 
 pub returns-in_ok-types-in-Ok-clause-types : goal.returns-in_ok-types-in-Ok-clause-types
 returns-in_ok-types-in-Ok-clause-types c = rw (c.in_ok-types-in-Ok.ensures, c.as_slice.ensures.value)
-    (types-of (program_of c.args.program.now) (tops_of c.in-Ok.names.items) c.in-Ok.ensures.faultless
+    (types-of (program_of c.args.program.now) (tops_of c.in-Ok.found.names.items) c.in-Ok.ensures.faultless
     c.in-Ok.ensures.principal)
 
 pub returns-in_ok-types-in-Ok-clause-first : goal.returns-in_ok-types-in-Ok-clause-first
@@ -35,9 +34,9 @@ returns-in_ok-types-in-Ok-clause-first c = let p = program_of c.args.program.now
     λ r a. faultless-refused p (resolved-written p c.requires) r c.in-Ok.ensures.faultless a
 
 pub returns-in-Err-clause-only : goal.returns-in-Err-clause-only
-returns-in-Err-clause-only c = let p = program_of c.args.program.now in λ t n. typable-answer (List Ty) p c.in-Err.stop
+returns-in-Err-clause-only c = let p = program_of c.args.program.now in λ t n. typable-answer Typing p c.in-Err.stop
     (resolved-written p c.requires) c.in-Err.ensures.refused t n
 
 pub returns-in-Err-clause-first : goal.returns-in-Err-clause-first
-returns-in-Err-clause-first c = let p = program_of c.args.program.now in λ r a. first-answer (List Ty) p c.in-Err.stop r
+returns-in-Err-clause-first c = let p = program_of c.args.program.now in λ r a. first-answer Typing p c.in-Err.stop r
     (resolved-written p c.requires) c.in-Err.ensures.refused a

@@ -1,4 +1,4 @@
-use Rattle.std.proofs.Common.{[], ap, arith}
+use Rattle.std.proofs.Common.{[], map, ap, ◌∙◌, arith}
 use Rattle.mw_term.specs.Terms.{expression_of}
 use Rattle.mw_term.specs.Types.{live}
 use Rattle.mw_types.specs.Types.{type_of}
@@ -6,9 +6,12 @@ use Rattle.mw_types.specs.Solutions.{substitution_of}
 use Rattle.mw_types.specs.declared.types.Ty.TheVariants.{Int}
 use Rattle.mw_infer.specs.Inferring.{item_unknowns, item_classifiers}
 use Rattle.mw_infer.specs.Judging.{place_of}
+use Rattle.mw_infer.specs.Nodes.{facts_at}
+use Rattle.mw_infer.specs.NodeViews.{numbers_of}
 use Rattle.mw_infer.specs.Views.{tops_of}
 use Rattle.mw_infer.proofs.FirstOpen.{closes-below}
 use Rattle.mw_infer.proofs.Items.{item-within}
+use Rattle.mw_infer.proofs.NodeLists.{facts-told, numbers-within}
 use Rattle.mw_infer.proofs.Testing.{read}
 use Rattle.mw_infer.proofs.judge.judge.Goals as goal
 
@@ -53,5 +56,16 @@ returns-in-Ok c =
         within = rw (e.unknowns, e.classifiers) at c.in-Ok.ensures.within;
       },
       rw (c.as_slice.ensures.value, e.closes) at c.in_default.ensures,
-      rw p c.in_ok-let_type-in-Ok.ensures,
+      rw p c.in_ok-known-in-Ok.ensures,
+      facts-told c.in-Ok.solved (map numbers_of c.in_ok-nodes-in-Ok.nodes.items)
+          ∙ ap (map (facts_at (substitution_of c.in-Ok.solved))) c.in_ok-nodes-in-Ok.ensures,
     )
+
+pub invariant_of-nodes : goal.invariant_of-nodes
+invariant_of-nodes c =
+    let e = c.in_ok-out.ensures in
+    let tops = tops_of c.args.names.now in
+    let term = expression_of c.args.term.now in
+    rw (c.in-Ok.ensures.types, c.in-Ok.ensures.classifiers, e.unknowns, e.classifiers, c.in_ok-nodes-in-Ok.ensures)
+    (numbers-within tops (item_unknowns tops term) (item_classifiers tops term) 0 1 0 term (omega arith) (omega arith)
+    (omega arith))
