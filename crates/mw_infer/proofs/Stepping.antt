@@ -17,13 +17,13 @@ use Rattle.mw_infer.specs.Inferring.{AreSchemesOf}
 use Rattle.mw_term.specs.Stops.{IfRefused}
 use Rattle.mw_term.specs.Parts.{Part, part_of_item, part_of_main, IsPart, an_item, main, IsResolved}
 use Rattle.mw_infer.specs.Checking.{ArePrincipal, IsFaultless, IsFirstRefusal, AreFaultless, IsTypeOf, AreTypesOf}
+use Rattle.mw_types.proofs.InOrder.{low, last, low_or_last}
 use Rattle.mw_infer.specs.Judging.{CanJudge}
 use Rattle.mw_infer.specs.Typings.{PartTypes}
 use Rattle.mw_infer.specs.Progress.{Progress, IsFaultOf, Steps, Ends, revealed_to, type_of_scheme}
 use Rattle.mw_infer.specs.Views.{scheme_of}
 use Rattle.mw_infer.proofs.Extended.{Extends, Typed-extended, Typed-back}
 use Rattle.mw_infer.proofs.Growing.{principal-first, principal-let, principal-kernel, principal-main, revealed}
-use Rattle.mw_infer.proofs.OneScheme.{low, last, low_or_last}
 use Rattle.mw_infer.proofs.Progressing.{scoped-source, can-judge, fine-faultless, fine-scheme, modest-let, modest-none}
 use Rattle.mw_infer.proofs.Progressing.{modest-revealed}
 use Rattle.mw_infer.proofs.Refusals.{part-one}

@@ -15,7 +15,8 @@ use Rattle.mw_recheck.specs.Following.{AreSmall}
 use Rattle.mw_recheck.proofs.JudgedSound.{Decided}
 use Rattle.mw_recheck.proofs.JudgedPrograms.{program_found, program_there}
 
-decided : Decided
+-- what lines are asked is decided by functions
+pub decided : Decided
 decided = record {
   code = λ t. (code_absent t, absent_code t);
   making = making_decided;

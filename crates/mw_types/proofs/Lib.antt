@@ -16,3 +16,4 @@ pub mod Elimination
 pub mod Faults
 pub mod Rows
 pub mod Expressions
+pub mod InOrder

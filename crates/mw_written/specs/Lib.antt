@@ -1,0 +1,5 @@
+pub mod Readings
+pub mod Order
+pub mod Written
+pub mod WrittenLaws
+pub mod Examples
