@@ -4,5 +4,7 @@ pub mod NamedFirst
 pub mod OneNodes
 pub mod OneSection
 pub mod OneProgram
+pub mod Completing
+pub mod NewLines
 pub mod LineReadings
 pub mod Rows

@@ -1,19 +1,18 @@
 -- A program has one written certificate at most.
-use Rattle.std.proofs.Common.{◌≡◌, ℕ, zero, suc, ◌+◌, ◌<◌, List, [], ◌∷◌, length, Some, refl, sym, ap, ◌∙◌}
+use Rattle.std.proofs.Common.{◌≡◌, ℕ, zero, suc, ◌<◌, List, [], ◌∷◌, length, Some, refl, sym, ap, ◌∙◌}
 use Rattle.std.proofs.Common.{subst, arith}
 use Rattle.std.specs.Prelude.{slice_get}
-use Rattle.std.proofs.lemmas.Option.{slice_get_within, same_Some}
+use Rattle.std.proofs.lemmas.Option.{same_Some}
 use Rattle.mw_term.specs.Programs.{Definition, value as defines, kernel, PureProgram}
 use Rattle.mw_types.specs.Types.{TypeExpression}
 use Rattle.mw_types.specs.Expressions.{ground_expression}
 use Rattle.mw_types.proofs.InOrder.{low, last, low_or_last}
 use Rattle.mw_recheck.specs.Sections.{SectionLines}
 use Rattle.mw_recheck.specs.Texts.{certificate_text}
-use Rattle.mw_recheck.specs.Notes.{let_root, hidden}
 use Rattle.mw_recheck.specs.Certificates.{Certified, IsRootOf, defined_term, notes_for_item, notes_for_main}
-use Rattle.mw_written.specs.Written.{IsWrittenSection, IsMainRoot, IsWritten, IsCertificateOf}
+use Rattle.mw_written.specs.Written.{IsWrittenSection, IsMainRoot, IsWritten}
 use Rattle.mw_written.specs.WrittenLaws.{WrittenCertify, CertificatesAreOne}
-use Rattle.mw_written.proofs.OneSection.{AreOne, one_section}
+use Rattle.mw_written.proofs.OneSection.{one_section}
 
 there : {A : Type 0} (xs : List A) (i : ℕ) → i < length xs → (x : A) × (slice_get xs i ≡ Some x)
 there [] i h = absurd (omega arith)

@@ -2,13 +2,12 @@
 use Rattle.std.proofs.Common.{◌≡◌, List, [], Some, refl, sym, ap, ◌∙◌, subst}
 use Rattle.std.proofs.lemmas.Option.{same_Some}
 use Rattle.mw_term.specs.Terms.{Expression}
-use Rattle.mw_term.specs.Types.{live}
 use Rattle.mw_types.specs.Types.{TypeExpression}
-use Rattle.mw_lines.specs.TypeLines.{TypeLine, AreTypeLines}
+use Rattle.mw_lines.specs.TypeLines.{AreTypeLines}
 use Rattle.mw_lines.specs.Naming.{types_named}
 use Rattle.mw_lines.proofs.Naming.{one_list, lines_decided}
 use Rattle.mw_recheck.specs.Sections.{SectionLines}
-use Rattle.mw_recheck.specs.Notes.{TopNote, Noted}
+use Rattle.mw_recheck.specs.Notes.{TopNote}
 use Rattle.mw_recheck.specs.Certificates.{Certified}
 use Rattle.mw_recheck.specs.Deciding.{section_judged}
 use Rattle.mw_recheck.proofs.Decided.{decided}

@@ -1,33 +1,32 @@
 -- The worked examples: which certificates are the written ones.
-use Rattle.std.proofs.Common.{◌≡◌, ℕ, zero, suc, List, [], ◌∷◌, ◌++◌, length, get_or, Some, refl, sym, ap, ◌∙◌, subst}
+use Rattle.std.proofs.Common.{◌≡◌, ℕ, List, [], ◌∷◌, length, get_or, refl, sym, ap, subst}
 use Rattle.std.proofs.Common.{arith, pos, codes}
-use Rattle.std.specs.Prelude.{map, slice_get}
+use Rattle.std.specs.Prelude.{map}
 use Rattle.std.proofs.lemmas.Fmt.{decimal_digit}
 use Rattle.std.proofs.lemmas.Option.{same_Some}
 use Rattle.mw_term.specs.declared.term.Base.TheVariants.{Int}
 use Rattle.mw_term.specs.declared.term.Primitive.TheVariants.{Add}
 use Rattle.mw_term.specs.Terms.{Expression, GroundType, base, of_ground, num, var, fun, bind, prim, bracket, run, close}
-use Rattle.mw_term.specs.Types.{TermType, int_type, live, under}
+use Rattle.mw_term.specs.Types.{live, under}
 use Rattle.mw_term.specs.Programs.{PureProgram}
-use Rattle.mw_types.specs.Types.{TypeExpression, int_ty, unknown, function_ty, code_ty, closed_ty, Assignment, value}
+use Rattle.mw_types.specs.Types.{TypeExpression, int_ty, function_ty, code_ty, closed_ty, Assignment, value}
 use Rattle.mw_types.specs.Expressions.{ground_expression}
 use Rattle.mw_types.specs.Numbered.{an_int, seen, next, a_function, code_seen, a_closed}
-use Rattle.mw_lines.specs.TypeLines.{TypeLine, int_line, unknown_line, arrow_line, code_line, closed_line}
-use Rattle.mw_lines.specs.Naming.{types_named}
+use Rattle.mw_lines.specs.TypeLines.{int_line, unknown_line, arrow_line, code_line, closed_line}
 use Rattle.mw_lines.proofs.Naming.{one_list, lines_decided}
 use Rattle.mw_recheck.specs.Sections.{SectionLines}
-use Rattle.mw_recheck.specs.Texts.{certificate_text, IsCertificateText}
-use Rattle.mw_recheck.specs.Notes.{Notes, Noted, IsNodeLine}
+use Rattle.mw_recheck.specs.Texts.{certificate_text}
+use Rattle.mw_recheck.specs.Notes.{Notes, Noted}
 use Rattle.mw_recheck.specs.Certificates.{Certified, CertifiesBy}
 use Rattle.mw_recheck.specs.Examples.{sum_program, run_program}
 use Rattle.mw_recheck.proofs.Decided.{decided, found}
 use Rattle.mw_recheck.proofs.JudgedSections.{judged_certified}
-use Rattle.mw_written.specs.Readings.{Reading, a_type, a_classifier, type_counts, readings, section_readings}
+use Rattle.mw_written.specs.Readings.{Reading, a_type, a_classifier, type_counts, readings}
 use Rattle.mw_written.specs.Readings.{reading_value}
-use Rattle.mw_written.specs.Order.{AreNumbered, all_read, type_read, classifier_seen, classifier_next}
+use Rattle.mw_written.specs.Order.{all_read, type_read, classifier_seen, classifier_next}
 use Rattle.mw_written.specs.Written.{IsMostGeneral, IsWrittenSection, IsMainRoot, IsWritten, IsCertificateOf}
-use Rattle.mw_written.specs.Examples.{let_program, ExamplesAreWritten, IsAnother, OthersAreNotWritten}
-use Rattle.mw_written.proofs.LineReadings.{line_says, line_read}
+use Rattle.mw_written.specs.Examples.{let_program, ExamplesAreWritten, OthersAreNotWritten}
+use Rattle.mw_written.proofs.LineReadings.{line_read}
 use Rattle.mw_written.proofs.OneProgram.{certificates_one}
 
 -- the one section of a program without items

@@ -52,11 +52,12 @@ readings ts (count ∷ counts) (l ∷ nodes) = line_readings ts count l ++ readi
 abbrev pub section_readings : Expression → SectionLines → List Reading
 section_readings e x = readings (types_named x.types) (type_counts e) x.nodes
 
--- what an assignment makes of a reading
+-- A reading under an assignment: a finite type, or a classifier.
 pub data ReadingValue : Type 0 where
   type_value : (t : TermType) → ReadingValue
   classifier_value : (c : ℕ) → ReadingValue
 
+-- what an assignment makes of a reading
 abbrev pub reading_value : Assignment → Reading → ReadingValue
 reading_value b (a_type t) = type_value (value b t)
 reading_value b (a_classifier c) = classifier_value (b.classifier c)

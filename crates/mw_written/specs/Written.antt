@@ -27,6 +27,7 @@ pub record IsWrittenSection (tops : List TopNote) (e : Expression) (asked : Type
   pub numbered : AreNumbered 0 0 (section_readings e x)
   pub completed : AreCompleted (section_readings e x) (types_named x.types)
 
+-- what main's root type is asked
 abbrev pub IsMainRoot : PureProgram → TypeExpression → Type 0
 IsMainRoot p t = t ≡ ground_expression p.result
 

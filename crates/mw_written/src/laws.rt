@@ -1,11 +1,22 @@
 // Laws of the written certificate, which no program calls.
 
 ghost use Rattle.mw_written.specs.WrittenLaws.{WrittenCertify, CertificatesAreOne};
+ghost use Rattle.mw_written.specs.OrderLaws.{CompletedAreOrdered, NewLinesNameNewTypes};
 ghost use Rattle.mw_written.specs.Examples.{ExamplesAreWritten, OthersAreNotWritten};
 
 /// The written certificate of a program is a certificate of its typing.
 pub fn written_certify()
     ensures { WrittenCertify }
+{}
+
+/// Types in the order of reading are those that are read and those that stand in them, each once, after its parts.
+pub fn completed_are_ordered()
+    ensures { CompletedAreOrdered }
+{}
+
+/// A line more is new among type lines just where the type that it names is new among theirs.
+pub fn new_lines_name_new_types()
+    ensures { NewLinesNameNewTypes }
 {}
 
 /// A program has at most one written certificate.

@@ -1,0 +1,5 @@
+use Rattle.mw_written.proofs.Completing.{completed_ordered}
+use Rattle.mw_written.proofs.laws.completed_are_ordered.Goals as goal
+
+pub returns : goal.returns
+returns c = completed_ordered
