@@ -19,6 +19,7 @@ mod text;
 mod walk;
 
 use crate::program::follow;
+pub use crate::section::NodeLine;
 use crate::stop::Stop;
 use mw_term::Program;
 use std::alloc::{AllocError, Global};

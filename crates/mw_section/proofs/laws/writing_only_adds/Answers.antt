@@ -1,0 +1,5 @@
+use Rattle.mw_section.proofs.Continued.{only_adds}
+use Rattle.mw_section.proofs.laws.writing_only_adds.Goals as goal
+
+pub returns : goal.returns
+returns c = only_adds

@@ -1,0 +1,5 @@
+use Rattle.mw_section.proofs.Again.{once}
+use Rattle.mw_section.proofs.laws.written_once.Goals as goal
+
+pub returns : goal.returns
+returns c = once
