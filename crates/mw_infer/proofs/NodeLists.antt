@@ -11,7 +11,7 @@ use Rattle.mw_infer.specs.Schemes.{TopScheme}
 use Rattle.mw_infer.specs.ItemEquations.{unknowns_of, classifiers_of}
 use Rattle.mw_infer.specs.Nodes.{NodeNumbers, node_numbers, facts_at}
 use Rattle.mw_infer.specs.NodeViews.{numbers_of}
-use Rattle.mw_infer.specs.Typings.{NodeTyping, IsNodeWithin, AreNodesWithin, facts_of_part, nodes_of}
+use Rattle.mw_infer.specs.Typings.{AreNodesWithin, facts_of_part, nodes_of}
 
 pub node-within : (P : NodeNumbers → Type 0) (xs : List RustNodeNumbers) (i : ℕ) (x : RustNodeNumbers)
     → AllByRecursion P (map numbers_of xs) → i < length xs → x ≡ get_or xs i x → P (numbers_of x)
