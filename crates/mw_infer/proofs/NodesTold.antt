@@ -13,7 +13,7 @@ use Rattle.mw_infer.specs.Typings.{PartTypes, facts_of_part}
 use Rattle.mw_infer.specs.declared.judge.Judged.{Judged}
 use Rattle.mw_infer.specs.declared.judge.Verdict.TheVariants.{Fine}
 use Rattle.mw_infer.proofs.Growing.{principal-main, revealed}
-use Rattle.mw_infer.proofs.OneScheme.{low, last, low_or_last}
+use Rattle.mw_types.proofs.InOrder.{low, last, low_or_last}
 use Rattle.mw_infer.proofs.Refusals.{part-one}
 use Rattle.mw_infer.proofs.Stepping.{append-length, get-below}
 
