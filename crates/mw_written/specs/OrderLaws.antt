@@ -55,7 +55,8 @@ NewLinesNameNewTypes = (lines : List TypeLine) (ts : List TypeExpression) → Ar
 
 -- a type that is read again, after types that are ordered, adds nothing
 abbrev pub ReadAgainAddsNothing : Type 0
-ReadAgainAddsNothing = (ts : List TypeExpression) (t : TypeExpression) → AreOrdered ts → IsOneOf t ts → with_type ts t ≡ ts
+ReadAgainAddsNothing = (ts : List TypeExpression) (t : TypeExpression) → AreOrdered ts → IsOneOf t ts
+    → with_type ts t ≡ ts
 
 -- no code type stands under a code type
 abbrev pub HoldsNoNestedCode : TypeExpression → Type 0
