@@ -80,8 +80,8 @@ fn uncounted<C: Keeper, L: Ledger>(
     ensures found { IfOk result (λ m. IsTrue C.tells → IsMigrationHere (C.held keeper.old) m) }
     ensures same { IsTrue C.tells → C.held keeper.new ≡ C.held keeper.old }
     ensures started { OnOk result (IsTrue C.tells
-        → IsStartedWith file.path.now (C.opened keeper.old) (C.opened keeper.new)) }
-    ensures no_other { IsTrue C.tells → IsStartedAtMost file.path.now (C.opened keeper.old) (C.opened keeper.new) }
+        → IsStartedWith file.entry.path.now (C.opened keeper.old) (C.opened keeper.new)) }
+    ensures no_other { IsTrue C.tells → IsStartedAtMost file.entry.path.now (C.opened keeper.old) (C.opened keeper.new) }
     ensures blames { BlamesKeeper result (C.faults keeper.old) (C.faults keeper.new) }
     ensures count { C.faults keeper.old ≤ C.faults keeper.new }
 {
