@@ -1,0 +1,11 @@
+pub mod OneType
+pub mod Unifying
+pub mod Levels
+pub mod Counting
+pub mod Agreeing
+pub mod Refitting
+pub mod NoCode
+pub mod Parts
+pub mod RootSchemes
+pub mod SeesMore
+pub mod Certified
