@@ -7,5 +7,6 @@ pub mod Refitting
 pub mod NoCode
 pub mod Parts
 pub mod RootSchemes
+pub mod Numbers
 pub mod SeesMore
 pub mod Certified

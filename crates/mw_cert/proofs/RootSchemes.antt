@@ -9,7 +9,7 @@ use Rattle.mw_types.specs.Types.{Within, Assignment, value, nodes, apply, after}
 use Rattle.mw_types.specs.Numbered.{IsNumbered, an_int, a_bool, seen, next, a_pair, a_function, code_seen, code_next}
 use Rattle.mw_types.specs.Numbered.{a_closed}
 use Rattle.mw_types.proofs.Existence.{value_apply}
-use Rattle.mw_types.proofs.InOrder.{LowOrLast, low, last, low_or_last}
+use Rattle.mw_types.proofs.InOrder.{low, last, low_or_last}
 use Rattle.mw_types.proofs.Lists.{Is, same, other, is}
 use Rattle.mw_infer.specs.Inferring.{item_unknowns, item_classifiers, IsSchemeOf}
 use Rattle.mw_infer.specs.Nodes.{NodeFacts, AreNodesOfPart}
