@@ -6,5 +6,6 @@ pub mod OneSection
 pub mod OneProgram
 pub mod Completing
 pub mod NewLines
+pub mod TypesNamed
 pub mod LineReadings
 pub mod Rows

@@ -1,9 +1,9 @@
 -- What the order of completed types is worth.
 use Rattle.std.specs.Prelude.{ℕ, ◌≡◌, ◌<◌, ◌⊎◌, ◌↔◌, List, [], ◌∷◌, length, Some, slice_get}
 use Rattle.mw_types.specs.Types.{TypeExpression, int_ty, bool_ty, unknown, pair_ty, function_ty, code_ty, closed_ty}
-use Rattle.mw_lines.specs.TypeLines.{TypeLine, AreTypeLines, NamesType}
+use Rattle.mw_lines.specs.TypeLines.{TypeLine, HoldsNoCode, AreTypeLines, NamesType}
 use Rattle.mw_written.specs.Readings.{Reading, a_type, a_classifier}
-use Rattle.mw_written.specs.Order.{with_new, AreCompleted, with_line}
+use Rattle.mw_written.specs.Order.{with_new, with_type, AreCompleted, with_line}
 
 -- the first type is a part of the second
 abbrev pub IsPartOf : TypeExpression → TypeExpression → Type 0
@@ -52,3 +52,29 @@ abbrev pub NewLinesNameNewTypes : Type 0
 NewLinesNameNewTypes = (lines : List TypeLine) (ts : List TypeExpression) → AreTypeLines lines ts
     → (l : TypeLine) (t : TypeExpression) → NamesType ts (length ts) l t
     → AreTypeLines (with_line lines l) (with_new ts t)
+
+-- a type that is read again, after types that are ordered, adds nothing
+abbrev pub ReadAgainAddsNothing : Type 0
+ReadAgainAddsNothing = (ts : List TypeExpression) (t : TypeExpression) → AreOrdered ts → IsOneOf t ts
+    → with_type ts t ≡ ts
+
+-- no code type stands under a code type
+abbrev pub HoldsNoNestedCode : TypeExpression → Type 0
+HoldsNoNestedCode int_ty = Unit {0}
+HoldsNoNestedCode bool_ty = Unit {0}
+HoldsNoNestedCode (unknown u) = Unit {0}
+HoldsNoNestedCode (pair_ty s t) = HoldsNoNestedCode s × HoldsNoNestedCode t
+HoldsNoNestedCode (function_ty s t) = HoldsNoNestedCode s × HoldsNoNestedCode t
+HoldsNoNestedCode (code_ty c t) = HoldsNoCode t
+HoldsNoNestedCode (closed_ty t) = HoldsNoCode t
+
+-- and none in a type that is read
+abbrev pub ReadNoNestedCode : List Reading → Type 0
+ReadNoNestedCode [] = Unit {0}
+ReadNoNestedCode (a_type t ∷ rs) = HoldsNoNestedCode t × ReadNoNestedCode rs
+ReadNoNestedCode (a_classifier c ∷ rs) = ReadNoNestedCode rs
+
+-- then there are type lines that name the completed types
+abbrev pub CompletedAreNamed : Type 0
+CompletedAreNamed = (rs : List Reading) (ts : List TypeExpression) → AreCompleted rs ts → ReadNoNestedCode rs
+    → (lines : List TypeLine) × AreTypeLines lines ts
