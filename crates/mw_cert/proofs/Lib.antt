@@ -8,5 +8,6 @@ pub mod NoCode
 pub mod Parts
 pub mod RootSchemes
 pub mod Numbers
+pub mod Placing
 pub mod SeesMore
 pub mod Certified

@@ -21,7 +21,8 @@ use Rattle.mw_infer.specs.Inferring.{AreSchemesOf}
 use Rattle.mw_infer.specs.Nodes.{NodeNumbers, node_numbers, facts_at}
 use Rattle.mw_infer.proofs.Sound.{Solves-parts}
 use Rattle.mw_infer.proofs.Extending.{Solves-append}
-use Rattle.mw_cert.specs.Telling.{IsFlatUnderCode, AllFlatUnderCode, NodesFlatUnderCode}
+use Rattle.mw_section.specs.WritingLaws.{IsFormed as IsFormedExpression}
+use Rattle.mw_cert.specs.Telling.{AllFormed, NodesAreFormed}
 use Rattle.mw_cert.proofs.Levels.{AllAre, Levelled}
 use Rattle.mw_cert.proofs.Refitting.{FitsAt, Reaches, refit}
 
@@ -35,7 +36,7 @@ plain-no_code b (function_ty s t) h = (plain-no_code b s h.0, plain-no_code b t 
 plain-no_code b (code_ty c t) h = absurd h
 plain-no_code b (closed_ty t) h = absurd h
 
-formed-flat : (b : Assignment) (t : TypeExpression) → IsFormed (value b t) → IsFlatUnderCode t
+formed-flat : (b : Assignment) (t : TypeExpression) → IsFormed (value b t) → IsFormedExpression t
 formed-flat b int_ty h = tt
 formed-flat b bool_ty h = tt
 formed-flat b (unknown u) h = tt
@@ -44,7 +45,7 @@ formed-flat b (function_ty s t) h = (formed-flat b s h.0, formed-flat b t h.1)
 formed-flat b (code_ty c t) h = plain-no_code b t h
 formed-flat b (closed_ty t) h = plain-no_code b t h
 
-pub no_code-flat : (t : TypeExpression) → HoldsNoCode t → IsFlatUnderCode t
+pub no_code-flat : (t : TypeExpression) → HoldsNoCode t → IsFormedExpression t
 no_code-flat int_ty h = tt
 no_code-flat bool_ty h = tt
 no_code-flat (unknown u) h = tt
@@ -70,7 +71,7 @@ asked a d (main_place g) e h = (
 
 -- at level 1 the type holds no code, and at level 0 none under code
 abbrev pub IsLevelled : Substitution → Level → ℕ → Type 0
-IsLevelled s live u = IsFlatUnderCode (s.ty u)
+IsLevelled s live u = IsFormedExpression (s.ty u)
 IsLevelled s (under c) u = HoldsNoCode (s.ty u)
 
 -- the levels of a part's nodes are kept, in some sense from which these follow
@@ -106,19 +107,19 @@ keeps_levels tops schemes place e s known g =
     levelled b s d (under c) u e f = plain-no_code b (s.ty u) (rw e at f)
 
 -- so no code type stands under a code type in any type of a node
-nodes-append : (s : Substitution) (xs ys : List NodeNumbers) → NodesFlatUnderCode (map (facts_at s) xs)
-    → NodesFlatUnderCode (map (facts_at s) ys) → NodesFlatUnderCode (map (facts_at s) (xs ++ ys))
+nodes-append : (s : Substitution) (xs ys : List NodeNumbers) → NodesAreFormed (map (facts_at s) xs)
+    → NodesAreFormed (map (facts_at s) ys) → NodesAreFormed (map (facts_at s) (xs ++ ys))
 nodes-append s [] ys h k = k
 nodes-append s (x ∷ xs) ys h k = (h.0, nodes-append s xs ys h.1 k)
 
 module _ (schemes : List TopScheme) (s : Substitution) (R : Level → ℕ → Type 0)
-    (flat : (m : Level) (u : ℕ) → R m u → IsFlatUnderCode (s.ty u)) where
-  all-flat : (m : Level) (us : List ℕ) → AllAre R m us → AllFlatUnderCode (map s.ty us)
+    (flat : (m : Level) (u : ℕ) → R m u → IsFormedExpression (s.ty u)) where
+  all-flat : (m : Level) (us : List ℕ) → AllAre R m us → AllFormed (map s.ty us)
   all-flat m [] h = tt
   all-flat m (u ∷ us) h = (flat m u h.0, all-flat m us h.1)
 
   pub nodes-flat : (u o c : ℕ) (m : Level) (e : Expression) → Levelled R schemes u o c m e
-      → NodesFlatUnderCode (map (facts_at s) (node_numbers schemes u o c e))
+      → NodesAreFormed (map (facts_at s) (node_numbers schemes u o c e))
   nodes-flat u o c m (num z) h = (all-flat m (u ∷ []) h, tt)
   nodes-flat u o c m (truth z) h = (all-flat m (u ∷ []) h, tt)
   nodes-flat u o c m (var i) h = (all-flat m (u ∷ []) h, tt)

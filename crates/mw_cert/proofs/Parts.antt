@@ -15,7 +15,8 @@ use Rattle.mw_infer.specs.Schemes.{TopScheme}
 use Rattle.mw_infer.specs.ItemEquations.{equations}
 use Rattle.mw_infer.specs.Inferring.{item_unknowns, item_classifiers, item_closes, own_equations, item_equations}
 use Rattle.mw_infer.specs.Nodes.{NodeNumbers, NodeFacts, node_numbers, facts_at, AreNodesOfPart}
-use Rattle.mw_cert.specs.Telling.{Agreed, IsFlatUnderCode, NodesFlatUnderCode, NewNumbers, renaming, with_numbers}
+use Rattle.mw_section.specs.WritingLaws.{IsFormed as IsFormedExpression}
+use Rattle.mw_cert.specs.Telling.{Agreed, NodesAreFormed, NewNumbers, renaming, with_numbers}
 use Rattle.mw_cert.specs.Telling.{root_of}
 use Rattle.mw_cert.proofs.Unifying.{Unifies, Unifies-parts, general-unifies, fresh-unused, then, Unifies-then}
 use Rattle.mw_cert.proofs.Unifying.{AreUnused-renamed, no_code-renamed}
@@ -25,7 +26,7 @@ use Rattle.mw_cert.proofs.Refitting.{FitsAt}
 use Rattle.mw_cert.proofs.NoCode.{KeepsLevels, keeps_levels, no_code-flat, nodes-flat}
 
 module _ (r : NewNumbers) where
-  flat-renamed : (t : TypeExpression) → IsFlatUnderCode t → IsFlatUnderCode (apply (renaming r) t)
+  flat-renamed : (t : TypeExpression) → IsFormedExpression t → IsFormedExpression (apply (renaming r) t)
   flat-renamed int_ty h = tt
   flat-renamed bool_ty h = tt
   flat-renamed (unknown u) h = tt
@@ -115,12 +116,12 @@ module _ (x : Part) (facts : List NodeFacts) (h : AreNodesOfPart x facts) (r : N
   part-count = ap (λ z. length z) h.told ∙ length-map (node_numbers h.schemes 0 1 0 x.term) (facts_at h.solution)
       ∙ node_count h.schemes 0 1 0 x.term
 
-  pub part-flat : NodesFlatUnderCode (map (with_numbers r) facts)
+  pub part-flat : NodesAreFormed (map (with_numbers r) facts)
   part-flat = rw told-renamed (nodes-flat h.schemes renamed (FitsAt (item_unknowns h.schemes x.term) kept.by) flat 0 1 0
       live x.term kept.fits)
     where
       flat : (m : Level) (u : ℕ) → FitsAt (item_unknowns h.schemes x.term) kept.by m u
-          → IsFlatUnderCode (apply (renaming r) (h.solution.ty u))
+          → IsFormedExpression (apply (renaming r) (h.solution.ty u))
       flat live u f = flat-renamed r (h.solution.ty u) (kept.follows live u f)
       flat (under c) u f = flat-renamed r (h.solution.ty u) (no_code-flat (h.solution.ty u) (kept.follows (under c) u
           f))

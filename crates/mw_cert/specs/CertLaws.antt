@@ -6,7 +6,7 @@ use Rattle.mw_types.specs.Types.{TypeExpression, Assignment, value}
 use Rattle.mw_recheck.specs.Sections.{SectionLines}
 use Rattle.mw_recheck.specs.Certificates.{CertifiesBy}
 use Rattle.mw_infer.specs.Nodes.{NodeFacts, AreNodesOfPart, AreNodesOf}
-use Rattle.mw_cert.specs.Telling.{NodesFlatUnderCode, NewNumbers, with_numbers}
+use Rattle.mw_cert.specs.Telling.{NodesAreFormed, NewNumbers, with_numbers}
 use Rattle.mw_cert.specs.Writing.{AreSectionsOf}
 
 -- two types of which each assignment makes one type are one
@@ -17,7 +17,7 @@ EqualUnderAll = (s t : TypeExpression) → ((b : Assignment) → value b s ≡ v
 -- stand in type lines.
 abbrev pub NoCodeUnderCode : Type 0
 NoCodeUnderCode = (x : Part) (facts : List NodeFacts) (r : NewNumbers) → AreNodesOfPart x facts
-    → NodesFlatUnderCode (map (with_numbers r) facts)
+    → NodesAreFormed (map (with_numbers r) facts)
 
 -- Sections that tell what inference tells certify the program.
 abbrev pub InferredAreCertified : Type 0

@@ -2,10 +2,9 @@
 use Rattle.std.specs.Prelude.{ℕ, ◌≡◌, ◌+◌, List, [], ◌∷◌, ◌++◌, map, option_map, option_to_list, Some, slice_get}
 use Rattle.mw_term.specs.Terms.{Expression}
 use Rattle.mw_term.specs.Types.{live}
-use Rattle.mw_types.specs.Types.{TypeExpression, int_ty, bool_ty, unknown, pair_ty, function_ty, code_ty, closed_ty}
-use Rattle.mw_types.specs.Types.{Substitution, apply}
-use Rattle.mw_lines.specs.TypeLines.{HoldsNoCode}
+use Rattle.mw_types.specs.Types.{TypeExpression, int_ty, unknown, Substitution, apply}
 use Rattle.mw_recheck.specs.Notes.{Notes, AllNamed, TopNote, Noted}
+use Rattle.mw_section.specs.WritingLaws.{IsFormed}
 use Rattle.mw_infer.specs.Nodes.{NodeFacts}
 
 -- the line at place n names the types of a node and ends with its classifier
@@ -24,24 +23,14 @@ Tell p n (x ∷ facts) = IsLineOf p n x × Tell p (n + 1) facts
 abbrev pub Agreed : List TopNote → List NodeFacts → Expression → TypeExpression → Type 0
 Agreed tops facts e t = (p : Notes) → Tell p 0 facts → Noted p tops [] live 0 e t
 
--- no code type stands under a code type
-abbrev pub IsFlatUnderCode : TypeExpression → Type 0
-IsFlatUnderCode int_ty = Unit {0}
-IsFlatUnderCode bool_ty = Unit {0}
-IsFlatUnderCode (unknown u) = Unit {0}
-IsFlatUnderCode (pair_ty s t) = IsFlatUnderCode s × IsFlatUnderCode t
-IsFlatUnderCode (function_ty s t) = IsFlatUnderCode s × IsFlatUnderCode t
-IsFlatUnderCode (code_ty c t) = HoldsNoCode t
-IsFlatUnderCode (closed_ty t) = HoldsNoCode t
+-- no code type stands under a code type in any of these types, and in the types of any of these nodes
+abbrev pub AllFormed : List TypeExpression → Type 0
+AllFormed [] = Unit {0}
+AllFormed (t ∷ ts) = IsFormed t × AllFormed ts
 
--- nor in any of these types, nor in the types of any of these nodes
-abbrev pub AllFlatUnderCode : List TypeExpression → Type 0
-AllFlatUnderCode [] = Unit {0}
-AllFlatUnderCode (t ∷ ts) = IsFlatUnderCode t × AllFlatUnderCode ts
-
-abbrev pub NodesFlatUnderCode : List NodeFacts → Type 0
-NodesFlatUnderCode [] = Unit {0}
-NodesFlatUnderCode (x ∷ facts) = AllFlatUnderCode x.types × NodesFlatUnderCode facts
+abbrev pub NodesAreFormed : List NodeFacts → Type 0
+NodesAreFormed [] = Unit {0}
+NodesAreFormed (x ∷ facts) = AllFormed x.types × NodesAreFormed facts
 
 -- new numbers for unknowns and for classifiers, no two of which have one
 pub record NewNumbers : Type 0 where
