@@ -1,0 +1,13 @@
+pub mod OneType
+pub mod Unifying
+pub mod Levels
+pub mod Counting
+pub mod Agreeing
+pub mod Refitting
+pub mod NoCode
+pub mod Parts
+pub mod RootSchemes
+pub mod Numbers
+pub mod Placing
+pub mod SeesMore
+pub mod Certified
