@@ -9,5 +9,6 @@ pub mod Parts
 pub mod RootSchemes
 pub mod Numbers
 pub mod Placing
+pub mod ToldSection
 pub mod SeesMore
 pub mod Certified
