@@ -1,14 +1,13 @@
 -- To write a type again changes nothing.
-use Rattle.std.proofs.Common.{◌≡◌, ℕ, nat_eq, List, refl, ap, sym, ◌∙◌, subst}
+use Rattle.std.proofs.Common.{◌≡◌, ℕ, nat_eq, refl, ap, ◌∙◌, subst}
 use Rattle.mw_types.specs.Types.{TypeExpression, int_ty, bool_ty, unknown, pair_ty, function_ty, code_ty, closed_ty}
 use Rattle.mw_lines.specs.TypeLines.{TypeLine, int_line, bool_line, unknown_line, pair_line, arrow_line, code_line}
 use Rattle.mw_lines.specs.TypeLines.{closed_line}
 use Rattle.mw_lines.specs.Deciding.{same_line}
-use Rattle.mw_section.specs.Writing.{Writing, Written, type_written, classifier_written, line_written, place_of}
-use Rattle.mw_section.specs.Writing.{with_number, line_place, with_line}
+use Rattle.mw_section.specs.Writing.{Writing, Written, type_written, classifier_written, line_written}
 use Rattle.mw_section.specs.Writers.{unknown_written, IsWritten}
 use Rattle.mw_section.specs.WritingLaws.{IsContinued, WrittenOnce}
-use Rattle.mw_section.proofs.Places.{IsAt, place, added, place_of_is, with_number_is, line_place_is, with_line_is}
+use Rattle.mw_section.proofs.Places.{IsAt, place_of_is, with_number_is, line_place_is, with_line_is}
 use Rattle.mw_section.proofs.Places.{put_again}
 use Rattle.mw_section.proofs.Continued.{IsPlaced, placed, still_placed}
 

@@ -1,16 +1,16 @@
 -- What is written is at its place, and stays there where more is written.
-use Rattle.std.proofs.Common.{◌≡◌, ℕ, Bool, List, [], ◌∷◌, ◌++◌, nat_eq, refl, ap, sym, ◌∙◌, append_assoc, append-nil}
+use Rattle.std.proofs.Common.{◌≡◌, ℕ, Bool, List, [], ◌++◌, nat_eq, refl, ap, sym, ◌∙◌, append_assoc, append-nil}
 use Rattle.std.proofs.lemmas.Bool.{eq-eqb}
 use Rattle.mw_types.specs.Types.{TypeExpression, int_ty, bool_ty, unknown, pair_ty, function_ty, code_ty, closed_ty}
 use Rattle.mw_lines.specs.TypeLines.{TypeLine, int_line, bool_line, unknown_line, pair_line, arrow_line, code_line}
 use Rattle.mw_lines.specs.TypeLines.{closed_line}
 use Rattle.mw_lines.specs.Deciding.{same_line}
 use Rattle.mw_lines.proofs.Naming.{same_line-refl}
-use Rattle.mw_section.specs.Writing.{Writing, Written, type_written, classifier_written, line_written, place_of}
+use Rattle.mw_section.specs.Writing.{Writing, type_written, classifier_written, line_written, place_of}
 use Rattle.mw_section.specs.Writing.{with_number, line_place, with_line}
 use Rattle.mw_section.specs.Writers.{unknown_written}
 use Rattle.mw_section.specs.WritingLaws.{IsContinued, WritingOnlyAdds}
-use Rattle.mw_section.proofs.Places.{IsAt, place, added, place_of_is, with_number_is, line_place_is, with_line_is}
+use Rattle.mw_section.proofs.Places.{IsAt, place_of_is, with_number_is, line_place_is, with_line_is}
 use Rattle.mw_section.proofs.Places.{at_stays, at_put, put_behind}
 
 -- the type has its line at place p, its unknowns and classifiers have numbers, and so have its parts

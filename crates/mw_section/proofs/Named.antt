@@ -1,7 +1,6 @@
 -- The lines that are written name the types that were written.
-use Rattle.std.proofs.Common.{◌≡◌, ℕ, suc, ◌<◌, Bool, true, false, not, cond, List, [], ◌∷◌, ◌++◌, length, get_or, Some}
-use Rattle.std.proofs.Common.{refl, ap, sym, ◌∙◌, arith, subst}
-use Rattle.std.specs.Prelude.{slice_get}
+use Rattle.std.proofs.Common.{◌≡◌, ℕ, suc, ◌<◌, Bool, true, false, not, cond, List, [], ◌∷◌, length, get_or, Some}
+use Rattle.std.proofs.Common.{refl, ap, sym, ◌∙◌, arith}
 use Rattle.std.proofs.lemmas.Bool.{lt-ltb}
 use Rattle.std.proofs.lemmas.Option.{slice_get-get_or}
 use Rattle.mw_types.specs.Types.{TypeExpression, int_ty, bool_ty, unknown, pair_ty, function_ty, code_ty, closed_ty}
@@ -11,10 +10,11 @@ use Rattle.mw_lines.specs.TypeLines.{closed_line, HoldsNoCode, AreTypeLines}
 use Rattle.mw_lines.specs.Naming.{type_named, types_named}
 use Rattle.mw_lines.specs.Deciding.{same_line, is_among, has_parts, holds_code}
 use Rattle.mw_lines.proofs.Naming.{line_same, one_type, pushed, types_named-push, and-true, absent_code}
-use Rattle.mw_section.specs.Writing.{Writing, type_written, classifier_written, line_written, place_of, with_line}
-use Rattle.mw_section.specs.Writers.{unknown_written, IsWritten}
+use Rattle.mw_lines.proofs.Naming.{lines_decided}
+use Rattle.mw_section.specs.Writing.{Writing, type_written, classifier_written, line_written, place_of}
+use Rattle.mw_section.specs.Writers.{unknown_written}
 use Rattle.mw_section.specs.WritingLaws.{AreTyped, IsFormed, numbering, LinesAreTypeLines, LinesNameWritten}
-use Rattle.mw_section.proofs.Places.{IsAt, place, added, Met, is_known, is_new, met, place_of_is, with_line_is, element}
+use Rattle.mw_section.proofs.Places.{IsAt, place, Met, is_known, is_new, met, place_of_is, with_line_is, element}
 use Rattle.mw_section.proofs.Continued.{IsPlaced, placed, still_placed, continued_type}
 use Rattle.mw_section.proofs.Again.{placed_written}
 
@@ -137,8 +137,5 @@ typed (closed_ty t) w f y =
     typed_line (closed_line (type_written t w).place) a z
     (and-true _ _ (lt-ltb _ _ (is_part a t _ z (placed t w))) (is_content a t _ z (placed t w) f))
 
-no_lines : AreTypeLines [] (types_named [])
-no_lines = record { count = refl; each = λ i l t h g. absurd (cc); once = λ i j l h g. absurd (cc) }
-
 pub are_type_lines : LinesAreTypeLines
-are_type_lines = record { nothing = no_lines; type = typed; classifier = λ c w y. y }
+are_type_lines = record { nothing = (lines_decided []).0 refl; type = typed; classifier = λ c w y. y }

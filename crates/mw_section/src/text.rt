@@ -1,9 +1,10 @@
 // The bytes of certificates, as they are written.
 
-ghost use Rattle.std.specs.Prelude.{◌≡◌, ◌++◌, ◌∷◌, [], map, codes, IfOk};
+ghost use Rattle.std.specs.Prelude.{◌≡◌, ◌<◌, ◌^◌, ◌++◌, ◌∷◌, [], map, length, codes, IfOk};
 ghost use Rattle.std.specs.Fmt.{decimal};
 ghost use Rattle.std.specs.List.{flat_map};
 ghost use Rattle.mw_lines.specs.TypeLines.{line_of};
+ghost use Rattle.mw_recheck.specs.Sections.{FitsLine, FitNumbers, FitLines, FitNodes, FitsSection};
 ghost use Rattle.mw_recheck.specs.Texts.{numbers_text, type_text, types_text, nodes_text, section_text};
 ghost use Rattle.mw_recheck.specs.Answers.{numbers_of};
 
@@ -18,10 +19,13 @@ pub fn put_head(text: &mut Vec<u8>) -> Result<(), AllocError>
     put(text, b"cert1\n")
 }
 
-/// Puts the section of these type lines and node lines behind a text. The error is want of memory.
+/// Puts the section of these type lines and node lines behind a text. All their numbers and counts are below 2^64. The
+/// error is want of memory.
 pub fn put_section(text: &mut Vec<u8>, lines: &[Line], nodes: &[NodeLine]) -> Result<(), AllocError>
-    ensures { IfOk result (λ _. text.new.items ≡ text.old.items
+    ensures text { IfOk result (λ _. text.new.items ≡ text.old.items
         ++ section_text (record { types = map line_of lines.now; nodes = map numbers_of nodes.now })) }
+    ensures fits { IfOk result (λ _. FitsSection
+        (record { types = map line_of lines.now; nodes = map numbers_of nodes.now })) }
 {
     put_types(text, lines)?;
     put_nodes(text, nodes)
@@ -37,7 +41,10 @@ fn put(text: &mut Vec<u8>, more: &[u8]) -> Result<(), AllocError>
 
 /// Type lines behind their number.
 fn put_types(text: &mut Vec<u8>, lines: &[Line]) -> Result<(), AllocError>
-    ensures { IfOk result (λ _. text.new.items ≡ text.old.items ++ types_text (map line_of lines.now)) }
+    ensures text { IfOk result (λ _. text.new.items
+        ≡ text.old.items ++ types_text (map line_of lines.now)) }
+    ensures fits { IfOk result (λ _. FitLines (map line_of lines.now)) }
+    ensures count { IfOk result (λ _. length lines.now < 2 ^ 64) }
 {
     put(text, b"types ")?;
     put_one(text, lines.len() as u64)?;
@@ -46,7 +53,9 @@ fn put_types(text: &mut Vec<u8>, lines: &[Line]) -> Result<(), AllocError>
 
 /// Type lines.
 fn put_type_lines(text: &mut Vec<u8>, lines: &[Line]) -> Result<(), AllocError>
-    ensures { IfOk result (λ _. text.new.items ≡ text.old.items ++ flat_map type_text (map line_of lines.now)) }
+    ensures text { IfOk result (λ _. text.new.items
+        ≡ text.old.items ++ flat_map type_text (map line_of lines.now)) }
+    ensures fits { IfOk result (λ _. FitLines (map line_of lines.now)) }
 {
     for line in lines {
         put_type_line(text, *line)?;
@@ -56,7 +65,10 @@ fn put_type_lines(text: &mut Vec<u8>, lines: &[Line]) -> Result<(), AllocError>
 
 /// Node lines behind their number.
 fn put_nodes(text: &mut Vec<u8>, nodes: &[NodeLine]) -> Result<(), AllocError>
-    ensures { IfOk result (λ _. text.new.items ≡ text.old.items ++ nodes_text (map numbers_of nodes.now)) }
+    ensures text { IfOk result (λ _. text.new.items
+        ≡ text.old.items ++ nodes_text (map numbers_of nodes.now)) }
+    ensures fits { IfOk result (λ _. FitNodes (map numbers_of nodes.now)) }
+    ensures count { IfOk result (λ _. length nodes.now < 2 ^ 64) }
 {
     put(text, b"nodes ")?;
     put_one(text, nodes.len() as u64)?;
@@ -65,7 +77,9 @@ fn put_nodes(text: &mut Vec<u8>, nodes: &[NodeLine]) -> Result<(), AllocError>
 
 /// Node lines.
 fn put_node_lines(text: &mut Vec<u8>, nodes: &[NodeLine]) -> Result<(), AllocError>
-    ensures { IfOk result (λ _. text.new.items ≡ text.old.items ++ flat_map numbers_text (map numbers_of nodes.now)) }
+    ensures text { IfOk result (λ _. text.new.items
+        ≡ text.old.items ++ flat_map numbers_text (map numbers_of nodes.now)) }
+    ensures fits { IfOk result (λ _. FitNodes (map numbers_of nodes.now)) }
 {
     for node in nodes {
         put_node_line(text, *node)?;
@@ -75,7 +89,8 @@ fn put_node_lines(text: &mut Vec<u8>, nodes: &[NodeLine]) -> Result<(), AllocErr
 
 /// A type line.
 fn put_type_line(text: &mut Vec<u8>, line: Line) -> Result<(), AllocError>
-    ensures { IfOk result (λ _. text.new.items ≡ text.old.items ++ type_text (line_of line)) }
+    ensures text { IfOk result (λ _. text.new.items ≡ text.old.items ++ type_text (line_of line)) }
+    ensures fits { IfOk result (λ _. FitsLine (line_of line)) }
 {
     match line {
         Line::Int => put(text, b"int\n"),
@@ -105,7 +120,8 @@ fn put_type_line(text: &mut Vec<u8>, line: Line) -> Result<(), AllocError>
 
 /// A node line.
 fn put_node_line(text: &mut Vec<u8>, node: NodeLine) -> Result<(), AllocError>
-    ensures { IfOk result (λ _. text.new.items ≡ text.old.items ++ numbers_text (numbers_of node)) }
+    ensures text { IfOk result (λ _. text.new.items ≡ text.old.items ++ numbers_text (numbers_of node)) }
+    ensures fits { IfOk result (λ _. FitNumbers (numbers_of node)) }
 {
     match node {
         NodeLine::One(first) => put_one(text, first),
