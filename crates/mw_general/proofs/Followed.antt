@@ -10,17 +10,17 @@ use Rattle.mw_types.specs.Types.{TypeExpression, int_ty, bool_ty, pair_ty, funct
 use Rattle.mw_types.specs.Types.{value, after}
 use Rattle.mw_types.specs.Equations.{TypeEquation, AllWithin, Solves, Agree}
 use Rattle.mw_types.proofs.Existence.{value_apply}
-use Rattle.mw_types.proofs.Expressions.{level_of, value-base_expression, value-kernel_expression}
+use Rattle.mw_types.proofs.Expressions.{level_of, value-kernel_expression}
 use Rattle.mw_types.proofs.Expressions.{value-primitive_expression, Within-kernel_expression}
 use Rattle.mw_types.proofs.Verdicts.{value_agree}
 use Rattle.mw_infer.specs.Schemes.{TopScheme, let_scheme, kernel_scheme, scheme_out_of_scope, AreOwn}
 use Rattle.mw_infer.specs.ItemEquations.{Slot, plain_slot, quoted_slot, slot, unknowns_of, classifiers_of}
 use Rattle.mw_infer.specs.ItemEquations.{unknowns_of_name, classifiers_of_name, variable_equations, name_equations}
 use Rattle.mw_infer.specs.Inferring.{entry_of}
-use Rattle.mw_infer.specs.Nodes.{NodeNumbers, plain_node}
+use Rattle.mw_infer.specs.Nodes.{plain_node}
 use Rattle.mw_infer.proofs.Shifting.{from, value-shifted, Within-shifted}
 use Rattle.mw_infer.proofs.Within.{variable-within, AreOwn-at}
-use Rattle.mw_infer.proofs.Extending.{extended, extended-keeps, extended-ty, extended-classifier, Ready, Own}
+use Rattle.mw_infer.proofs.Extending.{extended, extended-keeps, extended-ty, extended-classifier, Ready}
 use Rattle.mw_recheck.specs.Notes.{Notes, BinderNote, plain_note, quoted_note, binder_note, TopNote, IsUse, Noted}
 use Rattle.mw_general.specs.Telling.{root_of, AreRootsOf}
 use Rattle.mw_general.proofs.Saying.{Says, said}

@@ -1,10 +1,10 @@
 -- Assignments of a term's numbers that go on along the term as its node lines read.
-use Rattle.std.proofs.Common.{◌≡◌, ℕ, ◌+◌, ◌≤◌, List, [], ◌∷◌, ◌++◌, length, Option, Some, None, refl, ap, sym, ◌∙◌}
+use Rattle.std.proofs.Common.{◌≡◌, ℕ, ◌+◌, ◌≤◌, List, [], ◌∷◌, ◌++◌, length, Option, Some, None, refl}
 use Rattle.std.proofs.Common.{arith, length-append}
 use Rattle.std.specs.Prelude.{IfSome, ◌<◌}
 use Rattle.std.specs.List.{AllByRecursion}
 use Rattle.mw_types.specs.Types.{Assignment}
-use Rattle.mw_types.specs.Equations.{TypeEquation, Agree}
+use Rattle.mw_types.specs.Equations.{TypeEquation}
 use Rattle.mw_recheck.specs.Notes.{Notes}
 use Rattle.mw_infer.specs.Nodes.{NodeNumbers}
 use Rattle.mw_infer.specs.Typings.{IsNodeWithin, AreNodesWithin}

@@ -1,5 +1,5 @@
 -- What is followed of a form's parts is followed of the form.
-use Rattle.std.proofs.Common.{◌≡◌, ℕ, ◌+◌, ◌<◌, List, [], ◌∷◌, ◌++◌, Option, Some, None, refl, ap, sym, ◌∙◌, arith}
+use Rattle.std.proofs.Common.{◌≡◌, ℕ, ◌+◌, ◌<◌, List, [], ◌∷◌, ◌++◌, refl, ap, sym, ◌∙◌, arith}
 use Rattle.mw_term.specs.declared.term.Base.{Base}
 use Rattle.mw_term.specs.declared.term.Primitive.{Primitive as Prim}
 use Rattle.mw_term.specs.Terms.{Expression, KernelType, fun, fix, app, bind, cond, pair, fst, snd, prim, bracket}
@@ -7,7 +7,6 @@ use Rattle.mw_term.specs.Terms.{escape, run, close, opened, size}
 use Rattle.mw_term.specs.Types.{TermType, int_type, bool_type, pair_type, function_type, code_type, closed_type, Level}
 use Rattle.mw_term.specs.Types.{live, under, Entry, entry, base_type, kernel_type, primitive_type}
 use Rattle.mw_types.specs.Types.{TypeExpression, unknown, pair_ty, Within, Assignment, value}
-use Rattle.mw_types.specs.Equations.{TypeEquation, AllWithin, Solves}
 use Rattle.mw_types.proofs.Expressions.{value-base_expression, value-kernel_expression, value-primitive_expression}
 use Rattle.mw_types.proofs.Expressions.{Within-base_expression, Within-kernel_expression, Within-primitive_expression}
 use Rattle.mw_infer.specs.Schemes.{TopScheme}

@@ -1,7 +1,6 @@
 -- What inference tells of a part is most general among the part's certificates.
-use Rattle.std.proofs.Common.{◌≡◌, ℕ, ◌+◌, List, [], map, refl, ap, sym, ◌∙◌, arith}
-use Rattle.mw_term.specs.Terms.{Expression, size}
-use Rattle.mw_term.specs.Types.{TermType, live}
+use Rattle.std.proofs.Common.{◌≡◌, ◌+◌, List, [], map, refl, ap, sym, ◌∙◌, zero-add, arith}
+use Rattle.mw_term.specs.Types.{live}
 use Rattle.mw_term.specs.Parts.{Part, Place, let_place, kernel_place, main_place}
 use Rattle.mw_types.specs.Types.{TypeExpression, Assignment, value, after}
 use Rattle.mw_types.specs.Equations.{Solves, Agree}
@@ -9,8 +8,8 @@ use Rattle.mw_types.proofs.Expressions.{value-ground_expression, value-kernel_ex
 use Rattle.mw_lines.proofs.Naming.{one_list}
 use Rattle.mw_infer.specs.ItemEquations.{unknowns_of, classifiers_of, equations}
 use Rattle.mw_infer.specs.Inferring.{own_equations}
-use Rattle.mw_infer.specs.Nodes.{NodeFacts, AreNodesOfPart, node_numbers, facts_at}
-use Rattle.mw_infer.proofs.Extending.{Solves-append, Agree-less}
+use Rattle.mw_infer.specs.Nodes.{NodeFacts, AreNodesOfPart, node_numbers}
+use Rattle.mw_infer.proofs.Extending.{Solves-append}
 use Rattle.mw_infer.proofs.Growing.{principal-own}
 use Rattle.mw_recheck.specs.Sections.{SectionLines}
 use Rattle.mw_recheck.specs.Notes.{TopNote, Notes}
@@ -20,7 +19,6 @@ use Rattle.mw_general.specs.Telling.{fact_readings, AreRootsOf, IsRootAt}
 use Rattle.mw_general.proofs.Values.{node_values, agree_same, same_values, told_values}
 use Rattle.mw_general.proofs.Saying.{say_values}
 use Rattle.mw_general.proofs.Counts.{counted}
-use Rattle.mw_general.proofs.Following.{Follows}
 use Rattle.mw_general.proofs.Forms.{Followed}
 use Rattle.mw_general.proofs.Followed.{followed}
 
@@ -49,8 +47,7 @@ inferred_general x facts h tops roots y t c asked b =
     (own_solved x.place z.grown.by b t gives asked) z.grown.solves in
     let r = h.solves.general.general z.grown.by solved in
     let same : Agree (1 + unknowns_of h.schemes x.term) (0 + classifiers_of h.schemes x.term) z.grown.by
-    (after r.0 h.solution) = Agree-less {k = 1 + unknowns_of h.schemes x.term} {l = classifiers_of h.schemes x.term} _ _ (omega arith)
-    (omega arith) r.1 in
+    (after r.0 h.solution) = rw (zero-add (classifiers_of h.schemes x.term)) r.1 in
     let told = ap (λ k. map (reading_value r.0) (fact_readings k)) h.told ∙ told_values r.0 h.solution nodes in
     let agreed = same_values z.grown.by (after r.0 h.solution) nodes (agree_same same nodes z.within) in
     let read = say_values p b z.grown.by 0 y.nodes nodes refl (let e = z.ends in let k = c.count in omega arith)

@@ -9,7 +9,7 @@ use Rattle.mw_recheck.specs.Notes.{Notes, IsNodeLine}
 use Rattle.mw_recheck.proofs.NodeLines.{drop_head}
 use Rattle.mw_infer.specs.Nodes.{NodeNumbers}
 use Rattle.mw_written.specs.Readings.{line_readings, readings, reading_value}
-use Rattle.mw_written.proofs.LineReadings.{line_says, line_read}
+use Rattle.mw_written.proofs.LineReadings.{line_read}
 use Rattle.mw_general.proofs.Values.{values_of, types_under, classifiers_under, node_values, line_valued}
 use Rattle.mw_general.proofs.Values.{AreSameNodes}
 

@@ -1,5 +1,5 @@
 -- What assignments make of what is read of nodes: of their numbers, and of the types and classifiers put for these.
-use Rattle.std.proofs.Common.{◌≡◌, ℕ, ◌<◌, ◌≤◌, List, [], ◌∷◌, ◌++◌, Option, Some, None, map, refl, ap, ◌∙◌, arith}
+use Rattle.std.proofs.Common.{◌≡◌, ℕ, ◌<◌, List, [], ◌∷◌, ◌++◌, Option, Some, None, map, refl, ap, ◌∙◌}
 use Rattle.std.specs.Prelude.{IfSome, option_map, option_to_list}
 use Rattle.std.specs.List.{AllByRecursion}
 use Rattle.std.proofs.lemmas.List.{map-append}
@@ -8,7 +8,7 @@ use Rattle.mw_types.specs.Types.{TypeExpression, Assignment, value, Substitution
 use Rattle.mw_types.specs.Equations.{Agree}
 use Rattle.mw_infer.specs.Nodes.{NodeNumbers, facts_at}
 use Rattle.mw_infer.specs.Typings.{AreNodesWithin}
-use Rattle.mw_written.specs.Readings.{Reading, a_type, a_classifier, ReadingValue, type_value, classifier_value}
+use Rattle.mw_written.specs.Readings.{a_type, a_classifier, ReadingValue, type_value, classifier_value}
 use Rattle.mw_written.specs.Readings.{reading_value}
 use Rattle.mw_written.proofs.LineReadings.{line_says}
 use Rattle.mw_general.specs.Telling.{fact_readings}
