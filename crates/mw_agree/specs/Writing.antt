@@ -5,7 +5,7 @@ use Rattle.mw_types.specs.Numbered.{IsNumbered}
 use Rattle.mw_lines.specs.TypeLines.{AreTypeLines}
 use Rattle.mw_recheck.specs.Sections.{SectionLines}
 use Rattle.mw_infer.specs.Nodes.{NodeFacts}
-use Rattle.mw_cert.specs.Telling.{Tell, NewNumbers, with_numbers, root_of}
+use Rattle.mw_agree.specs.Telling.{Tell, NewNumbers, with_numbers, root_of}
 
 -- the numbers that the type names stand in their order, from 0
 abbrev pub StartsInOrder : TypeExpression → Type 0

@@ -16,14 +16,14 @@ use Rattle.mw_infer.specs.ItemEquations.{equations}
 use Rattle.mw_infer.specs.Inferring.{item_unknowns, item_classifiers, item_closes, own_equations, item_equations}
 use Rattle.mw_infer.specs.Nodes.{NodeNumbers, NodeFacts, node_numbers, facts_at, AreNodesOfPart}
 use Rattle.mw_section.specs.WritingLaws.{IsFormed as IsFormedExpression}
-use Rattle.mw_cert.specs.Telling.{Agreed, NodesAreFormed, NewNumbers, renaming, with_numbers}
-use Rattle.mw_cert.specs.Telling.{root_of}
-use Rattle.mw_cert.proofs.Unifying.{Unifies, Unifies-parts, general-unifies, fresh-unused, then, Unifies-then}
-use Rattle.mw_cert.proofs.Unifying.{AreUnused-renamed, no_code-renamed}
-use Rattle.mw_cert.proofs.Counting.{node_count}
-use Rattle.mw_cert.proofs.Agreeing.{RootsOf, noted, apply-kernel, apply-ground}
-use Rattle.mw_cert.proofs.Refitting.{FitsAt}
-use Rattle.mw_cert.proofs.NoCode.{KeepsLevels, keeps_levels, no_code-flat, nodes-flat}
+use Rattle.mw_agree.specs.Telling.{Agreed, NodesAreFormed, NewNumbers, renaming, with_numbers}
+use Rattle.mw_agree.specs.Telling.{root_of}
+use Rattle.mw_agree.proofs.Unifying.{Unifies, Unifies-parts, general-unifies, fresh-unused, then, Unifies-then}
+use Rattle.mw_agree.proofs.Unifying.{AreUnused-renamed, no_code-renamed}
+use Rattle.mw_agree.proofs.Counting.{node_count}
+use Rattle.mw_agree.proofs.Agreeing.{RootsOf, noted, apply-kernel, apply-ground}
+use Rattle.mw_agree.proofs.Refitting.{FitsAt}
+use Rattle.mw_agree.proofs.NoCode.{KeepsLevels, keeps_levels, no_code-flat, nodes-flat}
 
 module _ (r : NewNumbers) where
   flat-renamed : (t : TypeExpression) → IsFormedExpression t → IsFormedExpression (apply (renaming r) t)

@@ -10,8 +10,8 @@ use Rattle.mw_lines.specs.Made.{IsNotIn}
 use Rattle.mw_recheck.specs.Notes.{BinderNote, plain_note, quoted_note, IsUnused}
 use Rattle.mw_infer.specs.ItemEquations.{Slot, plain_slot, quoted_slot, Close}
 use Rattle.mw_infer.specs.Inferring.{entry_of, AreFresh, least}
-use Rattle.mw_cert.specs.Telling.{NewNumbers, renaming}
-use Rattle.mw_cert.proofs.OneType.{labelled, one_type}
+use Rattle.mw_agree.specs.Telling.{NewNumbers, renaming}
+use Rattle.mw_agree.proofs.OneType.{labelled, one_type}
 
 -- both sides of each equation are one type after the substitution
 abbrev pub Unifies : Substitution → List TypeEquation → Type 0

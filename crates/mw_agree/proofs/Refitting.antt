@@ -26,7 +26,7 @@ use Rattle.mw_infer.proofs.Sound.{Solves-parts, Solves-three, no_wrong}
 use Rattle.mw_infer.proofs.Within.{SlotsBelow-more, LevelBelow-more, SlotBelow-slot}
 use Rattle.mw_infer.proofs.Extending.{extended, extended-keeps, extended-ty, extended-classifier, Agree-join}
 use Rattle.mw_infer.proofs.Extending.{Agree-less, Solves-append}
-use Rattle.mw_cert.proofs.Levels.{AllAre, Levelled}
+use Rattle.mw_agree.proofs.Levels.{AllAre, Levelled}
 
 -- an assignment that keeps what b says of the first o unknowns and the first c classifiers, and all that keep what it
 -- says of the first p and the first l do so

@@ -21,10 +21,10 @@ use Rattle.mw_infer.specs.Schemes.{Scheme, TopScheme, let_scheme, kernel_scheme,
 use Rattle.mw_infer.specs.ItemEquations.{Slot, plain_slot, quoted_slot, slot, wrong, unknowns_of, classifiers_of}
 use Rattle.mw_infer.specs.ItemEquations.{variable_equations, name_equations, equations, closes}
 use Rattle.mw_infer.specs.Nodes.{NodeNumbers, node_numbers, facts_at}
-use Rattle.mw_cert.specs.Telling.{IsLineOf, Tell}
-use Rattle.mw_cert.proofs.Unifying.{Unifies, Unifies-parts, note_of, AreUnused, AreUnused-parts}
-use Rattle.mw_cert.proofs.Levels.{AllAre, Levelled}
-use Rattle.mw_cert.proofs.Counting.{two, node_count}
+use Rattle.mw_agree.specs.Telling.{IsLineOf, Tell}
+use Rattle.mw_agree.proofs.Unifying.{Unifies, Unifies-parts, note_of, AreUnused, AreUnused-parts}
+use Rattle.mw_agree.proofs.Levels.{AllAre, Levelled}
+use Rattle.mw_agree.proofs.Counting.{two, node_count}
 
 -- a substitution changes no type without unknowns
 apply-base : (s : Substitution) (b : Base) → apply s (base_expression b) ≡ base_expression b

@@ -12,8 +12,8 @@ use Rattle.mw_section.proofs.Places.{IsAt, place, place_of_is}
 use Rattle.mw_section.proofs.Continued.{IsPlaced}
 use Rattle.mw_section.proofs.Again.{placed_written}
 use Rattle.mw_section.proofs.Named.{name_written}
-use Rattle.mw_cert.specs.Telling.{renaming}
-use Rattle.mw_cert.proofs.Numbers.{number_by, numbers_by}
+use Rattle.mw_agree.specs.Telling.{renaming}
+use Rattle.mw_agree.proofs.Numbers.{number_by, numbers_by}
 
 step : (b : Bool) (m n k : ℕ) → (m < n → k ≡ m) → cond b 0 (suc m) < suc n → cond b 0 (suc k) ≡ cond b 0 (suc m)
 step true m n k f h = refl

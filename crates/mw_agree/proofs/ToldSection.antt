@@ -10,9 +10,9 @@ use Rattle.mw_section.specs.Writers.{IsWritten}
 use Rattle.mw_section.specs.WritingLaws.{AreTyped}
 use Rattle.mw_section.proofs.Places.{IsAt}
 use Rattle.mw_infer.specs.Nodes.{NodeFacts}
-use Rattle.mw_cert.specs.Telling.{Tell, renaming, with_numbers}
-use Rattle.mw_cert.proofs.Numbers.{numbers_by}
-use Rattle.mw_cert.proofs.Placing.{place-number, named-by_place}
+use Rattle.mw_agree.specs.Telling.{Tell, renaming, with_numbers}
+use Rattle.mw_agree.proofs.Numbers.{numbers_by}
+use Rattle.mw_agree.proofs.Placing.{place-number, named-by_place}
 
 -- the types were written, and have their lines at these places
 abbrev pub AllWritten : Writing → List ℕ → List TypeExpression → Type 0

@@ -1,6 +1,6 @@
 // Laws of certificates and inference, which no program calls.
 
-ghost use Rattle.mw_cert.specs.CertLaws.{EqualUnderAll, NoCodeUnderCode, InferredAreCertified};
+ghost use Rattle.mw_agree.specs.CertLaws.{EqualUnderAll, NoCodeUnderCode, InferredAreCertified};
 
 /// Two types that are one under each assignment are one.
 pub fn equal_under_all()

@@ -20,13 +20,13 @@ use Rattle.mw_infer.proofs.Shifting.{let-of_scheme, kernel-of_scheme}
 use Rattle.mw_infer.proofs.Extended.{Extends, IsSchemeOf-extended}
 use Rattle.mw_infer.proofs.OneScheme.{one_scheme}
 use Rattle.mw_infer.proofs.Progressing.{scoped-source}
-use Rattle.mw_cert.specs.Telling.{with_numbers, root_of}
-use Rattle.mw_cert.specs.Writing.{IsSectionOf, AreSectionsOf}
-use Rattle.mw_cert.specs.CertLaws.{NoCodeUnderCode, InferredAreCertified}
-use Rattle.mw_cert.proofs.Agreeing.{RootsOf}
-use Rattle.mw_cert.proofs.Parts.{part-root, part-asked, part-count, part-flat, part-agreed}
-use Rattle.mw_cert.proofs.RootSchemes.{root-scheme}
-use Rattle.mw_cert.proofs.SeesMore.{item_sees, main_sees}
+use Rattle.mw_agree.specs.Telling.{with_numbers, root_of}
+use Rattle.mw_agree.specs.Writing.{IsSectionOf, AreSectionsOf}
+use Rattle.mw_agree.specs.CertLaws.{NoCodeUnderCode, InferredAreCertified}
+use Rattle.mw_agree.proofs.Agreeing.{RootsOf}
+use Rattle.mw_agree.proofs.Parts.{part-root, part-asked, part-count, part-flat, part-agreed}
+use Rattle.mw_agree.proofs.RootSchemes.{root-scheme}
+use Rattle.mw_agree.proofs.SeesMore.{item_sees, main_sees}
 
 -- the root of a section
 abbrev section_root : (facts : List NodeFacts) (x : SectionLines) → IsSectionOf facts x → TypeExpression

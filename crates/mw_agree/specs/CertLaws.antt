@@ -6,8 +6,8 @@ use Rattle.mw_types.specs.Types.{TypeExpression, Assignment, value}
 use Rattle.mw_recheck.specs.Sections.{SectionLines}
 use Rattle.mw_recheck.specs.Certificates.{CertifiesBy}
 use Rattle.mw_infer.specs.Nodes.{NodeFacts, AreNodesOfPart, AreNodesOf}
-use Rattle.mw_cert.specs.Telling.{NodesAreFormed, NewNumbers, with_numbers}
-use Rattle.mw_cert.specs.Writing.{AreSectionsOf}
+use Rattle.mw_agree.specs.Telling.{NodesAreFormed, NewNumbers, with_numbers}
+use Rattle.mw_agree.specs.Writing.{AreSectionsOf}
 
 -- two types of which each assignment makes one type are one
 abbrev pub EqualUnderAll : Type 0

@@ -15,7 +15,7 @@ use Rattle.mw_infer.specs.Inferring.{item_unknowns, item_classifiers, IsSchemeOf
 use Rattle.mw_infer.specs.Nodes.{NodeFacts, AreNodesOfPart}
 use Rattle.mw_infer.proofs.Items.{most_general-scheme}
 use Rattle.mw_infer.proofs.SameInstances.{IsSchemeOf-renumbered}
-use Rattle.mw_cert.specs.Telling.{NewNumbers, renaming}
+use Rattle.mw_agree.specs.Telling.{NewNumbers, renaming}
 
 -- the old number of a new one, among those below a count
 old : (ℕ → ℕ) → ℕ → ℕ → ℕ

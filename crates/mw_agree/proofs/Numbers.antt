@@ -1,7 +1,7 @@
 -- New numbers by lists: what is in a list has its place there, and all else comes behind.
 use Rattle.std.proofs.Common.{◌≡◌, ℕ, suc, Bool, true, false, cond, nat_eq, List, [], ◌∷◌, refl, sym, ◌∙◌, arith}
 use Rattle.std.proofs.lemmas.Bool.{eqb-true}
-use Rattle.mw_cert.specs.Telling.{NewNumbers}
+use Rattle.mw_agree.specs.Telling.{NewNumbers}
 
 abbrev pub number_by : List ℕ → ℕ → ℕ
 number_by [] u = u

@@ -1,5 +1,0 @@
-use Rattle.mw_cert.proofs.Certified.{inferred_certified as proof}
-use Rattle.mw_cert.proofs.laws.inferred_are_certified.Goals as goal
-
-pub returns : goal.returns
-returns c = proof

@@ -1,5 +1,0 @@
-use Rattle.mw_cert.proofs.Certified.{no_code_under_code as proof}
-use Rattle.mw_cert.proofs.laws.no_code_under_code.Goals as goal
-
-pub returns : goal.returns
-returns c = proof
