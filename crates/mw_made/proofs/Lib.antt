@@ -1,0 +1,10 @@
+pub mod Staying
+pub mod Typing
+pub mod Numbering
+pub mod Completing
+pub mod Reading
+pub mod Assigning
+pub mod Rooting
+pub mod OnePart
+pub mod Named
+pub mod Made
