@@ -1,5 +1,5 @@
 -- The notes of names are those of their schemes, where a let's root is its most general type.
-use Rattle.std.proofs.Common.{◌≡◌, ℕ, zero, suc, ◌+◌, ◌<◌, List, [], ◌∷◌, map, length, Some, refl, ap, arith}
+use Rattle.std.proofs.Common.{◌≡◌, ℕ, zero, suc, ◌<◌, List, [], ◌∷◌, length, Some, refl, ap, arith}
 use Rattle.std.specs.Prelude.{slice_get}
 use Rattle.mw_term.specs.Terms.{Expression}
 use Rattle.mw_term.specs.Programs.{Definition, value as defines, kernel}

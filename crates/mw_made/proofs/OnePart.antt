@@ -4,23 +4,21 @@ use Rattle.std.proofs.Common.{◌≡◌, ℕ, List, [], ◌∷◌, ◌++◌, map
 use Rattle.std.specs.Prelude.{option_to_list}
 use Rattle.std.proofs.lemmas.List.{length-map}
 use Rattle.mw_term.specs.Parts.{Part}
-use Rattle.mw_types.specs.Types.{TypeExpression, Assignment}
+use Rattle.mw_types.specs.Types.{TypeExpression}
 use Rattle.mw_types.specs.Numbered.{IsNumbered, an_int}
 use Rattle.mw_lines.specs.Naming.{types_named}
 use Rattle.mw_lines.proofs.Naming.{one_list}
-use Rattle.mw_recheck.specs.Sections.{SectionLines}
 use Rattle.mw_recheck.specs.Notes.{Notes, TopNote, Noted}
 use Rattle.mw_recheck.specs.Certificates.{Certified}
 use Rattle.mw_term.specs.Types.{live}
 use Rattle.mw_infer.specs.Nodes.{NodeFacts, AreNodesOfPart}
 use Rattle.mw_section.specs.Writing.{Writing, nothing_written}
-use Rattle.mw_section.specs.WritingLaws.{AreTyped}
 use Rattle.mw_section.proofs.Continued.{continued_same}
 use Rattle.mw_section.proofs.Named.{are_type_lines}
 use Rattle.mw_agree.specs.Telling.{Tell, with_numbers, first_type, root_of}
 use Rattle.mw_agree.specs.Writing.{StartsInOrder, IsSectionOf}
 use Rattle.mw_agree.proofs.ToldSection.{told-section}
-use Rattle.mw_written.specs.Readings.{Reading, a_type, a_classifier, type_counts, readings, section_readings, reading_value}
+use Rattle.mw_written.specs.Readings.{Reading, a_type, a_classifier, readings, section_readings, reading_value}
 use Rattle.mw_written.specs.Order.{AreNumbered, type_read, AreCompleted, with_readings}
 use Rattle.mw_written.specs.Written.{IsWrittenSection}
 use Rattle.mw_general.specs.Telling.{fact_readings, AreRootsOf, IsRootAt}
@@ -30,7 +28,7 @@ use Rattle.mw_made.proofs.Staying.{nodes_there, nodes_count}
 use Rattle.mw_made.proofs.Typing.{part_formed, part_typed}
 use Rattle.mw_made.proofs.Numbering.{numbers_of, facts_numbered}
 use Rattle.mw_made.proofs.Completing.{facts_completed}
-use Rattle.mw_made.proofs.Reading.{type_numbers, told_read, part_counts}
+use Rattle.mw_made.proofs.Reading.{told_read, part_counts}
 use Rattle.mw_made.proofs.Assigning.{earlier, facts_earlier}
 use Rattle.mw_made.proofs.Rooting.{root_told}
 

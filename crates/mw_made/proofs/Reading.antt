@@ -10,7 +10,7 @@ use Rattle.mw_recheck.specs.Notes.{Notes, IsNodeLine}
 use Rattle.mw_recheck.proofs.NodeLines.{drop_head}
 use Rattle.mw_infer.specs.Nodes.{NodeNumbers, NodeFacts, facts_at, node_numbers, AreNodesOfPart}
 use Rattle.mw_agree.specs.Telling.{IsLineOf, Tell, NewNumbers, renaming, with_numbers}
-use Rattle.mw_written.specs.Readings.{type_counts, line_readings, readings}
+use Rattle.mw_written.specs.Readings.{type_counts, readings}
 use Rattle.mw_written.proofs.LineReadings.{line_says, line_read}
 use Rattle.mw_general.specs.Telling.{fact_readings}
 use Rattle.mw_general.proofs.Saying.{counts_of}

@@ -12,7 +12,8 @@ use Rattle.mw_agree.specs.Telling.{AllFormed, NodesAreFormed, NewNumbers, renami
 use Rattle.mw_agree.proofs.Certified.{no_code_under_code}
 use Rattle.mw_made.specs.Making.{line_ended, node_written, nodes_written}
 
-pub typed_all : (ts : List TypeExpression) (w : Writing) → AllFormed ts → AreTyped w → AreTyped (all_written ts w).writing
+pub typed_all : (ts : List TypeExpression) (w : Writing) → AllFormed ts → AreTyped w
+    → AreTyped (all_written ts w).writing
 typed_all [] w f y = y
 typed_all (t ∷ ts) w f y = typed_all ts (type_written t w).writing f.1 (typed t w f.0 y)
 
