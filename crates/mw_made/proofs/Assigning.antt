@@ -8,9 +8,10 @@ use Rattle.mw_types.specs.Types.{Assignment, value, apply}
 use Rattle.mw_infer.specs.Nodes.{NodeFacts}
 use Rattle.mw_agree.specs.Telling.{renaming, with_numbers}
 use Rattle.mw_agree.proofs.Numbers.{number_by, numbers_by}
-use Rattle.mw_written.specs.Readings.{Reading, a_type, a_classifier, ReadingValue, type_value, classifier_value}
+use Rattle.mw_written.specs.Readings.{Reading, a_type, a_classifier, type_value, classifier_value}
 use Rattle.mw_written.specs.Readings.{reading_value}
 use Rattle.mw_general.specs.Telling.{fact_readings}
+use Rattle.mw_made.proofs.Lists.{same_list}
 
 -- the old number of a new one
 old : List ℕ → ℕ → ℕ
@@ -28,9 +29,6 @@ old_number : (xs : List ℕ) (u : ℕ) → old xs (number_by xs u) ≡ u
 unfolding old
 old_number [] u = refl
 old_number (x ∷ xs) u = old_behind x u (number_by xs u) xs (nat_eq x u) refl (old_number xs u)
-
-same_behind : (x y : ReadingValue) (xs ys : List ReadingValue) → x ≡ y → xs ≡ ys → x ∷ xs ≡ y ∷ ys
-same_behind x y xs ys p q = rw (p, q) refl
 
 module _ (us cs : List ℕ) (b : Assignment) where
   -- the assignment by old numbers
@@ -58,7 +56,7 @@ module _ (us cs : List ℕ) (b : Assignment) where
       ≡ map (reading_value b) (map (λ t. a_type t) ts ++ qs)
   types_earlier [] rs qs h = h
   types_earlier (t ∷ ts) rs qs h =
-      same_behind _ _ _ _ (ap (λ z. type_value z) (value_earlier t)) (types_earlier ts rs qs h)
+      same_list _ _ _ _ (ap (λ z. type_value z) (value_earlier t)) (types_earlier ts rs qs h)
 
   end_earlier : (c : Option ℕ) (rs qs : List Reading) → map (reading_value earlier) rs ≡ map (reading_value b) qs
       → map (reading_value earlier)
@@ -66,7 +64,7 @@ module _ (us cs : List ℕ) (b : Assignment) where
       ≡ map (reading_value b) (map (λ k. a_classifier k) (option_to_list c) ++ qs)
   end_earlier None rs qs h = h
   end_earlier (Some c) rs qs h =
-      same_behind _ _ _ _ (ap (λ z. classifier_value z) (classifier_earlier c)) h
+      same_list _ _ _ _ (ap (λ z. classifier_value z) (classifier_earlier c)) h
 
   pub facts_earlier : (facts : List NodeFacts)
       → map (reading_value earlier) (fact_readings (map (with_numbers (numbers_by us cs)) facts))

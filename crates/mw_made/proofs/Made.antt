@@ -29,14 +29,10 @@ use Rattle.mw_written.specs.Written.{IsWrittenSection, IsMainRoot}
 use Rattle.mw_general.specs.Telling.{AreRootsOf}
 use Rattle.mw_made.specs.Making.{section_of}
 use Rattle.mw_made.specs.MakingLaws.{MadeAreWritten}
+use Rattle.mw_made.proofs.Lists.{there}
 use Rattle.mw_made.proofs.Numbering.{numbers_of}
 use Rattle.mw_made.proofs.OnePart.{part_writing, part_starts, part_section, part_root, part_written}
 use Rattle.mw_made.proofs.Named.{item_notes, main_notes}
-
-there : {A : Type 0} (xs : List A) (i : ℕ) → i < length xs → (x : A) × (slice_get xs i ≡ Some x)
-there [] i h = absurd (omega arith)
-there (x ∷ xs) zero h = (x, refl)
-there (x ∷ xs) (suc i) h = there xs i (omega arith)
 
 -- the section at an index is made for the part there
 made_at : (parts : List (List NodeFacts)) (i : ℕ) (x : SectionLines) → slice_get (map section_of parts) i ≡ Some x
@@ -108,21 +104,21 @@ module _ (p : PureProgram) (parts : List (List NodeFacts)) (resolved : IsResolve
   item_written : (i : ℕ) (d : Definition) (facts : List NodeFacts) → slice_get p.items i ≡ Some d
       → slice_get parts i ≡ Some facts
       → IsWrittenSection (notes_for_item p.items right.roots i) (defined_term d) (IsRootOf d) (section_of facts)
-  item_written i (defines e) facts here there =
+  item_written i (defines e) facts here at_part =
       let part = part_of_item (seen_by_item p.items i) (defines e) in
-      let y = nodes.each i part facts (an_item here) there in
+      let y = nodes.each i part facts (an_item here) at_part in
       part_written part facts y (notes_for_item p.items right.roots i) (IsRootOf (defines e))
       (item_roots i y.schemes y.principal) (λ t q. tt)
-  item_written i (kernel k e) facts here there =
+  item_written i (kernel k e) facts here at_part =
       let part = part_of_item (seen_by_item p.items i) (kernel k e) in
-      let y = nodes.each i part facts (an_item here) there in
+      let y = nodes.each i part facts (an_item here) at_part in
       part_written part facts y (notes_for_item p.items right.roots i) (IsRootOf (kernel k e))
       (item_roots i y.schemes y.principal) (λ t q. q)
 
   main_written : (facts : List NodeFacts) → slice_get parts (length p.items) ≡ Some facts
       → IsWrittenSection (notes_for_main p.items right.roots) p.body (IsMainRoot p) (section_of facts)
-  main_written facts there =
-      let y = nodes.each (length p.items) (part_of_main p) facts (main refl) there in
+  main_written facts at_part =
+      let y = nodes.each (length p.items) (part_of_main p) facts (main refl) at_part in
       part_written (part_of_main p) facts y (notes_for_main p.items right.roots) (IsMainRoot p)
       (main_roots y.schemes y.principal) (λ t q. q)
 
