@@ -1,0 +1,5 @@
+pub mod Trees
+pub mod Lines
+pub mod Short
+pub mod Parts
+pub mod Examples
