@@ -1,6 +1,6 @@
 -- The program with a let that is used at two types is resolved.
-use Rattle.std.proofs.Common.{◌≡◌, ℕ, zero, suc, ◌^◌, ◌<◌, false, List, [], ◌∷◌, map, Some, refl, subst, arith}
-use Rattle.std.specs.Prelude.{slice_get, pos}
+use Rattle.std.proofs.Common.{◌≡◌, ℕ, zero, suc, ◌^◌, ◌<◌, false, [], map, Some, refl, subst, arith}
+use Rattle.std.specs.Prelude.{slice_get}
 use Rattle.std.proofs.lemmas.Option.{none-some, same_Some}
 use Rattle.mw_term.specs.Terms.{Expression, fun, var, size}
 use Rattle.mw_term.specs.Programs.{Definition, value, kernel, IsSyntacticValue}

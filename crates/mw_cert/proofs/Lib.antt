@@ -3,3 +3,4 @@ pub mod Lines
 pub mod Short
 pub mod Parts
 pub mod Examples
+pub mod Written

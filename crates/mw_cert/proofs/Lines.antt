@@ -1,6 +1,6 @@
 -- The lines of nodes, put together.
-use Rattle.std.proofs.Common.{◌≡◌, ℕ, ◌+◌, ◌≤◌, List, [], ◌∷◌, ◌++◌, length, Option, Some, None, refl, ap, sym, ◌∙◌, subst}
-use Rattle.std.proofs.Common.{arith, append-nil}
+use Rattle.std.proofs.Common.{◌≡◌, ℕ, ◌+◌, ◌≤◌, List, [], ◌∷◌, ◌++◌, length, Some, refl, ap, sym, ◌∙◌, subst}
+use Rattle.std.proofs.Common.{arith}
 use Rattle.std.specs.Prelude.{slice_get, option_to_list}
 use Rattle.std.proofs.lemmas.Option.{same_Some, none-some}
 use Rattle.mw_types.specs.Types.{TypeExpression}
@@ -32,14 +32,11 @@ types_are (a ∷ b ∷ c ∷ []) t h n = ap (λ z. z ∷ b ∷ c ∷ []) (same_S
 types_are (a ∷ b ∷ c ∷ d ∷ ts) t h n = absurd (omega arith)
 
 module _ (types : ℕ → TypeExpression) where
-  pub puts_none : (m : LineWriter) → PutsAll types [] m m []
-  puts_none m w h = (refl, h)
-
-  pub puts_one : (t : TypeExpression) (m n : LineWriter) (p : ℕ) → Puts types (type_written t) m n p
+  puts_one : (t : TypeExpression) (m n : LineWriter) (p : ℕ) → Puts types (type_written t) m n p
       → PutsAll types (t ∷ []) m n (p ∷ [])
   puts_one t m n p f w h = let a = f w h in (ap (λ q. q ∷ []) a.0, a.1)
 
-  pub puts_append : (ts us : List TypeExpression) (m n o : LineWriter) (ps qs : List ℕ) → PutsAll types ts m n ps
+  puts_append : (ts us : List TypeExpression) (m n o : LineWriter) (ps qs : List ℕ) → PutsAll types ts m n ps
       → PutsAll types us n o qs → PutsAll types (ts ++ us) m o (ps ++ qs)
   puts_append ts us m n o ps qs f g w h =
       let a = f w h in
@@ -48,14 +45,11 @@ module _ (types : ℕ → TypeExpression) where
       subst P (sym (all_append ts us w))
       (ap (λ xs. xs ++ qs) a.0 ∙ ap (λ xs. (all_written ts w).places ++ xs) b.0, b.1)
 
-  pub puts_first : (t : TypeExpression) (ts : List TypeExpression) (m n o : LineWriter) (p : ℕ) (ps : List ℕ)
+  puts_first : (t : TypeExpression) (ts : List TypeExpression) (m n o : LineWriter) (p : ℕ) (ps : List ℕ)
       → Puts types (type_written t) m n p → PutsAll types ts n o ps → PutsAll types (t ∷ ts) m o (p ∷ ps)
   puts_first t ts m n o p ps f g = puts_append (t ∷ []) ts m n o (p ∷ []) ps (puts_one t m n p f) g
 
   -- the end of a line
-  pub puts_no_end : (m : LineWriter) → PutsEnd types None m m []
-  puts_no_end m w places h = (append-nil places, h)
-
   pub puts_end : (c : ℕ) (m n : LineWriter) (k : ℕ) → Puts types (classifier_written c) m n k
       → PutsEnd types (Some c) m n (k ∷ [])
   puts_end c m n k f w places h = let a = f w h in (ap (λ q. places ++ q ∷ []) a.0, a.1)

@@ -1,7 +1,7 @@
 -- The sections of parts, node by node and one behind the other.
-use Rattle.std.proofs.Common.{◌≡◌, ℕ, zero, suc, ◌+◌, ◌≤◌, List, [], ◌∷◌, ◌++◌, map, length, drop, Some, refl, ap, sym}
-use Rattle.std.proofs.Common.{◌∙◌, subst, arith, append-nil, append_assoc, add-one}
-use Rattle.std.specs.Prelude.{slice_get, codes}
+use Rattle.std.proofs.Common.{◌≡◌, ℕ, ◌+◌, ◌≤◌, List, [], ◌∷◌, ◌++◌, map, length, drop, Some, refl, ap, sym}
+use Rattle.std.proofs.Common.{◌∙◌, subst, append-nil, append_assoc, add-one}
+use Rattle.std.specs.Prelude.{slice_get}
 use Rattle.std.specs.List.{flat_map}
 use Rattle.std.proofs.lemmas.List.{drop_all}
 use Rattle.mw_types.specs.Types.{TypeExpression}
@@ -11,7 +11,7 @@ use Rattle.mw_lines.specs.declared.lines.Line.{Line}
 use Rattle.mw_recheck.specs.Answers.{numbers_of}
 use Rattle.mw_recheck.specs.Sections.{SectionLines, FitsSection, FitSections}
 use Rattle.mw_recheck.specs.declared.section.NodeLine.{NodeLine}
-use Rattle.mw_recheck.specs.Texts.{section_text, certificate_text, IsCertificateText}
+use Rattle.mw_recheck.specs.Texts.{section_text, certificate_text}
 use Rattle.mw_recheck.proofs.NodeLines.{drop_get}
 use Rattle.mw_section.specs.Writing.{Writing, nothing_written}
 use Rattle.mw_section.specs.Writers.{IsWriting}
@@ -88,9 +88,6 @@ pub record StandsSoFar (parts : List (List NodeFacts)) (k : ℕ) (text : List �
   pub fits : FitSections (map section_of (drop k parts)) → FitSections (map section_of parts)
 
 module _ (parts : List (List NodeFacts)) where
-  pub none_stands : (text : List ℕ) → text ≡ [] ++ codes "cert1\n" → StandsSoFar parts 0 text
-  none_stands text e = record { text_of_all = rw e refl; fits = λ h. h }
-
   pub more_stands : (k : ℕ) (text new : List ℕ) (facts : List NodeFacts) → StandsSoFar parts k text
       → slice_get parts k ≡ Some facts → new ≡ text ++ section_text (section_of facts)
       → FitsSection (section_of facts) → StandsSoFar parts (k + 1) new
@@ -107,14 +104,3 @@ module _ (parts : List (List NodeFacts)) where
             ∙ subst P d r.text_of_all;
         fits = λ h. fit (f, h);
       }
-
-  pub all_stand : (k : ℕ) (text : List ℕ) → StandsSoFar parts k text → length parts ≤ k
-      → IsCertificateText text (map section_of parts)
-  all_stand k text r h =
-      let d : drop k parts ≡ [] = drop_all k parts h in
-      let P : List (List NodeFacts) → Type 0 = λ xs. text ++ flat_map section_text (map section_of xs)
-      ≡ certificate_text (map section_of parts) in
-      let Q : List (List NodeFacts) → Type 0 = λ xs. FitSections (map section_of xs)
-      → FitSections (map section_of parts) in
-      let fit = subst Q d r.fits in
-      record { fits = fit tt; text = sym (append-nil text) ∙ subst P d r.text_of_all }

@@ -4,7 +4,7 @@ use Rattle.std.proofs.Common.{refl, sym, subst, arith}
 use Rattle.std.specs.List.{AllByRecursion}
 use Rattle.std.specs.Prelude.{slice_get, option_map, option_to_list}
 use Rattle.std.proofs.lemmas.List.{length-map}
-use Rattle.std.proofs.lemmas.Option.{same_Some, none-some, slice_get_within, slice_get_cases}
+use Rattle.std.proofs.lemmas.Option.{same_Some, none-some, slice_get_within}
 use Rattle.mw_term.specs.Terms.{Expression, num, truth, var, glob, fun, fix, app, bind, cond, pair, fst, snd, prim}
 use Rattle.mw_term.specs.Terms.{bracket, escape, run, close, opened, lift, lift_b, done}
 use Rattle.mw_term.specs.Programs.{Definition, PureProgram}

@@ -6,7 +6,7 @@ use Rattle.std.proofs.lemmas.Bool.{eqb-true, eqb-false}
 use Rattle.std.proofs.lemmas.Option.{same_Some, none-some, slice_get-map}
 use Rattle.mw_types.specs.Types.{TypeExpression, int_ty}
 use Rattle.mw_types.specs.Solutions.{Solution}
-use Rattle.mw_infer.specs.Nodes.{NodeNumbers, NodeFacts}
+use Rattle.mw_infer.specs.Nodes.{NodeNumbers}
 use Rattle.mw_infer.specs.Typings.{PartTypes, Typing, NodeTyping, HoldsType, facts_of, facts_of_node, facts_of_part}
 use Rattle.mw_infer.specs.Typings.{nodes_of, nodes_at}
 use Rattle.mw_section.specs.Writing.{place_of}

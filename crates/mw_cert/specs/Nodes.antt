@@ -1,10 +1,10 @@
 -- What is known of the nodes of parts, as it is written.
-use Rattle.std.specs.Prelude.{ℕ, ◌≡◌, ◌+◌, ◌≤◌, List, [], ◌++◌, map, length, option_to_list, Option, Some, None}
+use Rattle.std.specs.Prelude.{ℕ, ◌≡◌, ◌+◌, ◌≤◌, List, ◌++◌, map, length, option_to_list, Option, Some, None}
 use Rattle.std.specs.Prelude.{slice_get}
 use Rattle.mw_types.specs.Types.{TypeExpression, int_ty}
 use Rattle.mw_types.specs.Solutions.{Solution, substitution_of}
 use Rattle.mw_infer.specs.Nodes.{NodeFacts}
-use Rattle.mw_infer.specs.Typings.{PartTypes, Typing, facts_of_node, nodes_at}
+use Rattle.mw_infer.specs.Typings.{Typing, facts_of_node, nodes_at}
 use Rattle.mw_section.specs.Writing.{Writing, place_of}
 use Rattle.mw_section.specs.WritingLaws.{all_written}
 use Rattle.mw_section.specs.Writers.{IsWriting}

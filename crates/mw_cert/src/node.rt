@@ -1,6 +1,6 @@
 // The lines of nodes.
 
-ghost use Rattle.std.specs.Prelude.{◌≡◌, ◌+◌, ◌<◌, ◌≤◌, ◌∷◌, ◌++◌, [], Some, length, option_to_list, slice_get, IfOk};
+ghost use Rattle.std.specs.Prelude.{◌≡◌, ◌+◌, ◌<◌, ◌≤◌, ◌∷◌, ◌++◌, Some, length, option_to_list, slice_get, IfOk};
 ghost use Rattle.mw_types.specs.Types.{type_of};
 ghost use Rattle.mw_recheck.specs.Answers.{numbers_of};
 ghost use Rattle.mw_infer.specs.Typings.{facts_of_node};

@@ -1,6 +1,6 @@
 // Programs whose written certificates are known by hand.
 
-ghost use Rattle.std.specs.Prelude.{◌≡◌, [], ◌∷◌, pos, IfOk};
+ghost use Rattle.std.specs.Prelude.{◌≡◌, IfOk};
 ghost use Rattle.mw_term.specs.Parts.{IsResolved};
 ghost use Rattle.mw_term.specs.Programs.{program_of};
 ghost use Rattle.mw_term.specs.Terms.{app, cond, expression_of, fun, var};

@@ -1,4 +1,4 @@
-use Rattle.std.proofs.Common.{◌<◌, length, arith}
+use Rattle.std.proofs.Common.{arith}
 use Rattle.mw_infer.specs.Typings.{facts_of}
 use Rattle.mw_cert.specs.Nodes.{facts_at_part}
 use Rattle.mw_cert.proofs.Trees.{part_facts}
