@@ -9,6 +9,7 @@ use std::alloc::{AllocError, Global};
 const LEAST: usize = 40;
 
 /// A record's module, the bytes that its digest sums, the digest, and what is after it.
+#[derive(Drop)]
 struct Parts<'a> {
     module: &'a [u8],
     body: &'a [u8],
