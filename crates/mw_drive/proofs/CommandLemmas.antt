@@ -6,14 +6,16 @@ use Rattle.mw_term.specs.Terms.{PureGroundValue}
 use Rattle.mw_console.specs.Texts.{Ending, answered, trapped, bounded, ending_status}
 use Rattle.mw_meaning.specs.declared.mode.Mode.{Mode}
 use Rattle.mw_meaning.specs.declared.mode.Mode.TheVariants.{Plain, Simple}
-use Rattle.mw_words.specs.Words.{PureCommand, PurePart, run, erased, link, sample, migrate, wat, check, IsNumber}
+use Rattle.mw_words.specs.Words.{PureCommand, PurePart, run, erased, link, sample, migrate, wat, check, cert, recheck}
+use Rattle.mw_words.specs.Words.{IsNumber}
 use Rattle.mw_words.specs.Words.{IsNumberOf, not_named, named_once, Makes, run_of, erased_of, link_of, migrate_of}
-use Rattle.mw_words.specs.Words.{Means, parts_command, sample_command, wat_command, check_command}
+use Rattle.mw_words.specs.Words.{Means, parts_command, sample_command, wat_command, check_command, cert_command}
+use Rattle.mw_words.specs.Words.{recheck_command}
 use Rattle.mw_words.proofs.LawLemmas.{one_command}
 use Rattle.mw_console.specs.declared.status.Status.{Status}
 use Rattle.mw_console.specs.declared.status.Status.TheVariants.{Answer, Trap, Refused, Bound, Read, Write, Cache}
 use Rattle.mw_console.specs.declared.status.Status.TheVariants.{Memory}
-use Rattle.mw_drive.specs.Works.{linking, writing, judging, migrating}
+use Rattle.mw_drive.specs.Works.{linking, writing, judging, migrating, certifying, rechecking}
 use Rattle.mw_drive.specs.Works.{Work, running, erasing, sampling, Meaning, ran, mode_of, run_text, IsMeaning}
 use Rattle.mw_drive.specs.Works.{of_refusal, of_types, of_program, status_of}
 use Rattle.mw_link.specs.Linked.{Kernel}
@@ -26,18 +28,22 @@ use Rattle.mw_drive.proofs.OneMeaning.{one_meaning}
 use Rattle.mw_drive.proofs.SimplifiedWorks.{simplified_run}
 use Rattle.mw_drive.specs.Honest.{IsHonestCache}
 use Rattle.mw_drive.specs.Extents.{whole, never, Kind, extent}
-use Rattle.mw_drive.specs.Running.{Outside, Sources, Wanted, source_file, module_file, most_of_module, files_of}
-use Rattle.mw_drive.specs.Running.{path_of}
+use Rattle.mw_drive.specs.Running.{Outside, Sources, Wanted, source_file, module_file, certificate_file}
+use Rattle.mw_drive.specs.Running.{most_of_module, most_of_certificate, files_of, path_of}
 use Rattle.mw_drive.specs.Running.{kind_with, Has, Lacks, HasAll, has_none, has_more, LacksFirst, lacks_first}
+use Rattle.mw_drive.specs.Running.{LacksSome, lacks_this, lacks_later, IsLast, alone, behind, IsUnread}
 use Rattle.mw_drive.specs.Running.{IsWork, run_works, erased_works, link_works, sample_works, migrate_works}
-use Rattle.mw_drive.specs.Running.{wat_works, check_works}
-use Rattle.mw_drive.specs.Running.{AsksOn, Asks, AsksOver, AsksMissing, AsksNoFile, AsksNoCache, HasHonestCache}
+use Rattle.mw_drive.specs.Running.{wat_works, check_works, cert_works, recheck_works}
+use Rattle.mw_drive.specs.Running.{AsksOn, Asks, AsksOver, AsksMissing, AsksLacking, AsksNoFile, AsksNoCache}
+use Rattle.mw_drive.specs.Running.{HasHonestCache}
 use Rattle.mw_drive.specs.Running.{kind_of}
 use Rattle.mw_drive.specs.Running.{IsFaithful, IsMemory, IsCarriedOut, mode_when}
 use Rattle.mw_drive.specs.Verdicts.{IsVerdictOn}
+use Rattle.mw_drive.specs.Certified.{IsCertified, IsTypingVerdict}
 use Rattle.mw_drive.proofs.Verdicts.{verdict_on}
+use Rattle.mw_drive.proofs.Certificates.{certificate_said, typing_on}
 use Rattle.mw_drive.proofs.Options.{some_is_none}
-use Rattle.mw_drive.proofs.RunLemmas.{all_or_first, whole_else}
+use Rattle.mw_drive.proofs.RunLemmas.{all_or_some, whole_else}
 
 -- want of memory before anything was written
 pub carried_memory : (kind : Kind) (work : Work) (e : _) (tells : Bool) (before : List ℕ)
@@ -58,6 +64,8 @@ sample_range command n (sample_command h) e = same_number h e
     same_number {k = k} h e = let same : k ≡ n = cc in rw (← same) (h.low, h.high)
 sample_range command n (wat_command file) e = absurd (cc)
 sample_range command n (check_command file) e = absurd (cc)
+sample_range command n (cert_command file) e = absurd (cc)
+sample_range command n (recheck_command first second) e = absurd (cc)
 sample_range command n (parts_command {word = word} {parts = parts} h m) e =
     absurd (makes_no_sample (subst (Makes word parts) e m))
 
@@ -72,6 +80,8 @@ pub run_workers : {words : List (List ℕ)} (command : PureCommand) (workers fue
 run_workers command workers fuel simplify cache file (sample_command h) e = absurd (cc)
 run_workers command workers fuel simplify cache file (wat_command is) e = absurd (cc)
 run_workers command workers fuel simplify cache file (check_command is) e = absurd (cc)
+run_workers command workers fuel simplify cache file (cert_command is) e = absurd (cc)
+run_workers command workers fuel simplify cache file (recheck_command first second) e = absurd (cc)
 run_workers command workers fuel simplify cache file (parts_command are m) e = of_run m e
   where
     of_run : {word : List ℕ} {parts : List PurePart} {c : PureCommand} → Makes word parts c
@@ -87,6 +97,8 @@ pub link_workers : {words : List (List ℕ)} (command : PureCommand) (workers fu
 link_workers command workers fuel file (sample_command h) e = absurd (cc)
 link_workers command workers fuel file (wat_command is) e = absurd (cc)
 link_workers command workers fuel file (check_command is) e = absurd (cc)
+link_workers command workers fuel file (cert_command is) e = absurd (cc)
+link_workers command workers fuel file (recheck_command first second) e = absurd (cc)
 link_workers command workers fuel file (parts_command are m) e = of_link m e
   where
     of_link : {word : List ℕ} {parts : List PurePart} {c : PureCommand} → Makes word parts c
@@ -139,7 +151,7 @@ pub record IsCalled (words : List (List ℕ)) (o : Outside) (command : PureComma
   pub carried : (contents : List (List ℕ)) (work : Work) → HasAll o.source (files_of command) contents
       → IsWork o command contents work → HasHonestCache o command
       → IsCarriedOut (kind_of command) work s sink_tells before after
-  pub reads : s ≡ Read → Rose_source ⊎ LacksFirst o.source (files_of command)
+  pub reads : s ≡ Read → Rose_source ⊎ LacksSome o.source (files_of command)
   pub writes : s ≡ Write → Rose_sink
   pub possible : extent (kind_of command) s ≡ never → ⊥
 
@@ -150,7 +162,7 @@ module _ {words : List (List ℕ)} {o : Outside} {command : PureCommand} {s : St
   same : (other : PureCommand) → Means words other → other ≡ command
   same other also = one_command words other command also called.means
 
-  has_on : (other : PureCommand) (contents : List (List ℕ)) → AsksOn words o other contents
+  pub has_on : (other : PureCommand) (contents : List (List ℕ)) → AsksOn words o other contents
       → HasAll o.source (files_of command) contents
   has_on other contents on = subst (λ c. HasAll o.source (files_of c) contents) (same other on.means) on.has
 
@@ -173,9 +185,9 @@ module _ {words : List (List ℕ)} {o : Outside} {command : PureCommand} {s : St
       whole_else (kind_of command) s called.possible (asked_carried work asked).said kept memory
       (λ r. not_read (called.reads r)) (λ w. sink (called.writes w))
     where
-      not_read : Rose_source ⊎ LacksFirst o.source (files_of command) → ⊥
+      not_read : Rose_source ⊎ LacksSome o.source (files_of command) → ⊥
       not_read (inl rose) = source rose
-      not_read (inr lacks) = all_or_first (has_on asked.command asked.contents asked.on) lacks
+      not_read (inr lacks) = all_or_some (has_on asked.command asked.contents asked.on) lacks
 
   pub asked_text : (work : Work) → Asks words o work → (Rose_source → ⊥) → (Rose_sink → ⊥) → (s ≡ Cache → ⊥)
       → (IsMemory s → ⊥)
@@ -219,20 +231,21 @@ module _ {words : List (List ℕ)} {o : Outside} {command : PureCommand} {s : St
   pub asked_no_cache : AsksNoCache words → IsNone (path_of command)
   asked_no_cache asked = subst (λ c. IsNone (path_of c)) (same asked.command asked.means) asked.none
 
-  pub asked_read : s ≡ Read → Rose_source ⊎ AsksMissing words o
+  pub asked_lacking : AsksLacking words o → LacksSome o.source (files_of command)
+  asked_lacking asked = subst (λ c. LacksSome o.source (files_of c)) (same asked.command asked.means) asked.lacks
+
+  pub asked_read : s ≡ Read → Rose_source ⊎ AsksLacking words o
   asked_read is = by_case (called.reads is)
     where
-      by_case : Rose_source ⊎ LacksFirst o.source (files_of command) → Rose_source ⊎ AsksMissing words o
+      by_case : Rose_source ⊎ LacksSome o.source (files_of command) → Rose_source ⊎ AsksLacking words o
       by_case (inl rose) = inl rose
       by_case (inr lacks) = inr (record { command = command; means = called.means; lacks = lacks })
 
-  pub asked_has : (other : PureCommand) (bytes : List ℕ) → AsksOn words o other (bytes ∷ [])
-      → HasAll o.source (files_of command) (bytes ∷ [])
-  asked_has other bytes on = has_on other (bytes ∷ []) on
-
-  pub asked_file : (other : PureCommand) (file : Wanted) (bytes : List ℕ) → AsksOn words o other (bytes ∷ [])
-      → files_of other ≡ file ∷ [] → files_of command ≡ file ∷ []
-  asked_file other file bytes on is = ap files_of (sym (same other on.means)) ∙ is
+  pub asked_last : (other : PureCommand) (contents : List (List ℕ)) (file : Wanted) (bytes : List ℕ)
+      → AsksOn words o other contents → IsLast file bytes (files_of other) contents
+      → IsLast file bytes (files_of command) contents
+  asked_last other contents file bytes on last =
+      subst (λ c. IsLast file bytes (files_of c) contents) (same other on.means) last
 
   -- what is kept of a work that is asked for
   pub asked_kept : (P : List (List ℕ) → Status → Type 0)
@@ -267,6 +280,27 @@ module _ {words : List (List ℕ)} {o : Outside} {command : PureCommand} {s : St
       (subst (λ c. IsCarriedOut (kind_of c) (judging (take most_of_module bytes)) s sink_tells before after) (sym is)
       (called.carried (bytes ∷ []) (judging (take most_of_module bytes)) (has_on (check f) (bytes ∷ []) on)
       (subst (λ c. IsWork o c (bytes ∷ []) (judging (take most_of_module bytes))) is check_works)
+      (subst (HasHonestCache o) is tt))).meaning
+
+  -- what is said of a source's typing that is asked for
+  pub asked_certificate : (f bytes : List ℕ) → AsksOn words o (cert f) (bytes ∷ []) → s ≡ Answer
+      → (text : List ℕ) × IsCertified bytes text × (IsTrue sink_tells → after ≡ before ++ text)
+  asked_certificate f bytes on =
+      let is = same (cert f) on.means in
+      certificate_said bytes
+      (subst (λ c. IsCarriedOut (kind_of c) (certifying bytes) s sink_tells before after) (sym is)
+      (called.carried (bytes ∷ []) (certifying bytes) (has_on (cert f) (bytes ∷ []) on)
+      (subst (λ c. IsWork o c (bytes ∷ []) (certifying bytes)) is cert_works) (subst (HasHonestCache o) is tt)))
+
+  pub asked_typing : (certificate f bytes text : List ℕ)
+      → AsksOn words o (recheck certificate f) (bytes ∷ text ∷ []) → IsTypingVerdict s text bytes
+  asked_typing certificate f bytes text on =
+      let is = same (recheck certificate f) on.means in
+      let work = rechecking (take most_of_certificate text) bytes in
+      typing_on text bytes s
+      (subst (λ c. IsCarriedOut (kind_of c) work s sink_tells before after) (sym is)
+      (called.carried (bytes ∷ text ∷ []) work (has_on (recheck certificate f) (bytes ∷ text ∷ []) on)
+      (subst (λ c. IsWork o c (bytes ∷ text ∷ []) work) is recheck_works)
       (subst (HasHonestCache o) is tt))).meaning
 
   -- a run that is asked for was carried out
@@ -351,6 +385,25 @@ pub check_on : {o : Outside} {file : List ℕ} (contents : List (List ℕ)) (wor
     → (bytes : List ℕ) × Has o.source (module_file file) bytes × (work ≡ judging (take most_of_module bytes))
 check_on contents work (has_more {bytes = bytes} has has_none) check_works = (bytes, has, refl)
 
+pub cert_on : {o : Outside} {file : List ℕ} (contents : List (List ℕ)) (work : Work)
+    → HasAll o.source (files_of (cert file)) contents → IsWork o (cert file) contents work
+    → (bytes : List ℕ) × Has o.source (source_file file) bytes × (work ≡ certifying bytes)
+cert_on contents work (has_more {bytes = bytes} has has_none) cert_works = (bytes, has, refl)
+
+-- the work on what two files hold
+pub record HasBoth (o : Sources) (certificate file : List ℕ) (work : Work) : Type 0 where
+  pub bytes : List ℕ
+  pub text : List ℕ
+  pub has_source : Has o (source_file file) bytes
+  pub has_text : Has o (certificate_file certificate) text
+  pub is_work : work ≡ rechecking (take most_of_certificate text) bytes
+
+pub recheck_on : {o : Outside} {certificate file : List ℕ} (contents : List (List ℕ)) (work : Work)
+    → HasAll o.source (files_of (recheck certificate file)) contents
+    → IsWork o (recheck certificate file) contents work → HasBoth o.source certificate file work
+recheck_on contents work (has_more {bytes = bytes} here (has_more {bytes = text} there has_none)) recheck_works =
+    record { bytes = bytes; text = text; has_source = here; has_text = there; is_work = refl }
+
 -- what is carried out of a work
 pub same_carried : {kind : Kind} {other : Work} {s : Status} {tells : Bool} {before after : List ℕ} (work : Work)
     → work ≡ other → IsCarriedOut kind other s tells before after → IsCarriedOut kind work s tells before after
@@ -364,25 +417,57 @@ pub file_carried : {o : Sources} {file : Wanted} {of : List ℕ → Work} {kind 
     → IsCarriedOut kind work s tells before after
 file_carried work on carried = same_carried work on.2 (carried on.0 on.1)
 
--- of one file
-most_of_one : {file other : Wanted} → file ∷ [] ≡ other ∷ [] → file.most ≡ other.most
-most_of_one {file} {other} is = let same : file ≡ other = cc in ap (λ (f : Wanted). f.most) same
+-- what is left of the last file, which is the only one, or the second one
+none_behind : {file : Wanted} {bytes : List ℕ} → IsLast file bytes [] [] → ⊥
+none_behind last = elim last [ ]
 
--- what is left of it
 pub one_left : {o : Sources} {file : Wanted} {Had_memory Was_read : Type 0} {left : List ℕ}
     → ((bytes : List ℕ) → Has o file bytes → Had_memory → Was_read → left ≡ drop file.most bytes)
-    → (other : Wanted) (bytes : List ℕ) → file ∷ [] ≡ other ∷ [] → HasAll o (file ∷ []) (bytes ∷ []) → Had_memory
-    → Was_read → left ≡ drop other.most bytes
-one_left h other bytes is (has_more has rest) memory read =
-    h bytes has memory read ∙ ap (λ n. drop n bytes) (most_of_one is)
+    → (contents : List (List ℕ)) (other : Wanted) (bytes : List ℕ) → HasAll o (file ∷ []) contents
+    → IsLast other bytes (file ∷ []) contents → Had_memory → Was_read → left ≡ drop other.most bytes
+one_left h contents other bytes (has_more has has_none) alone memory read = h bytes has memory read
+one_left h contents other bytes (has_more has has_none) (behind last) memory read = absurd (none_behind last)
 
-pub first_lacks : {o : Sources} {file : Wanted} {Rose_source : Type 0} → Rose_source ⊎ Lacks o file
-    → Rose_source ⊎ LacksFirst o (file ∷ [])
-first_lacks (inl rose) = inl rose
-first_lacks (inr lacks) = inr (lacks_first lacks)
+pub two_left : {o : Sources} {first second : Wanted} {Had_memory Was_read : Type 0} {left : List ℕ}
+    → ((bytes : List ℕ) → Has o second bytes → Had_memory → Was_read → left ≡ drop second.most bytes)
+    → (contents : List (List ℕ)) (other : Wanted) (bytes : List ℕ) → HasAll o (first ∷ second ∷ []) contents
+    → IsLast other bytes (first ∷ second ∷ []) contents → Had_memory → Was_read → left ≡ drop other.most bytes
+two_left h contents other bytes (has_more here there) (behind last) memory read =
+    one_left h _ other bytes there last memory read
 
-pub lacks_one : {o : Sources} {file : Wanted} → LacksFirst o (file ∷ []) → Lacks o file
+-- a file that is lacking is one of those that are read, and the other way round
+pub one_lacks : {o : Sources} {file : Wanted} {Rose_source : Type 0} → Rose_source ⊎ Lacks o file
+    → Rose_source ⊎ LacksSome o (file ∷ [])
+one_lacks (inl rose) = inl rose
+one_lacks (inr lacks) = inr (lacks_this lacks)
+
+pub two_lack : {o : Sources} {first second : Wanted} {Rose_source : Type 0}
+    → Rose_source ⊎ (Lacks o first ⊎ Lacks o second) → Rose_source ⊎ LacksSome o (first ∷ second ∷ [])
+two_lack (inl rose) = inl rose
+two_lack (inr (inl lacks)) = inr (lacks_this lacks)
+two_lack (inr (inr lacks)) = inr (lacks_later (lacks_this lacks))
+
+pub lacks_one : {o : Sources} {file : Wanted} {files : List Wanted} → LacksFirst o (file ∷ files) → Lacks o file
 lacks_one (lacks_first lacks) = lacks
+
+pub lacks_none : {A : Type 0} {o : Sources} → LacksSome o [] → A
+lacks_none lacks = absurd (elim lacks [ ])
+
+module _ (s : Status) (tells : Bool) (before after : List ℕ) where
+  -- then nothing is written
+  pub one_unread : {o : Sources} {file : Wanted} → (Lacks o file → s ≡ Read)
+      → (s ≡ Read → IsTrue tells → after ≡ before) → LacksSome o (file ∷ []) → IsUnread s tells before after
+  one_unread missing nothing (lacks_this lacks) =
+      let read = missing lacks in record { status = inl read; nothing = nothing read }
+  one_unread missing nothing (lacks_later lacks) = lacks_none lacks
+
+  pub two_unread : {o : Sources} {first second : Wanted} → (Lacks o first → s ≡ Read)
+      → (s ≡ Read → IsTrue tells → after ≡ before) → (Lacks o second → IsUnread s tells before after)
+      → LacksSome o (first ∷ second ∷ []) → IsUnread s tells before after
+  two_unread missing nothing lacking (lacks_this lacks) =
+      let read = missing lacks in record { status = inl read; nothing = nothing read }
+  two_unread missing nothing lacking (lacks_later (lacks_this lacks)) = lacking lacks
+  two_unread missing nothing lacking (lacks_later (lacks_later lacks)) = lacks_none lacks
 
 -- a cache file's name, and what is seen of it
 module _ {X Y : Type 0} (f : X → Y) where

@@ -13,7 +13,7 @@ use Rattle.mw_console.specs.Texts.{Ending, answered, trapped, bounded, ending_st
 use Rattle.mw_console.specs.declared.status.Status.{Status}
 use Rattle.mw_console.specs.declared.status.Status.TheVariants.{Answer, Trap, Usage, Refused, Bound}
 use Rattle.mw_console.specs.declared.status.Status.TheVariants.{Read as Unreadable, Write, Cache, Memory, BadCache}
-use Rattle.mw_console.specs.declared.status.Status.TheVariants.{BadModule, Invalid}
+use Rattle.mw_console.specs.declared.status.Status.TheVariants.{BadModule, Invalid, NotTyped}
 use Rattle.mw_keeping.specs.CacheFiles.{IsReadFile, IsOpened}
 use Rattle.mw_keeping.specs.KeptFiles.{IsKeptFile, HasGoodFront}
 use Rattle.mw_keeping.specs.declared.opening.CacheFile.{CacheFile}
@@ -147,6 +147,7 @@ held_front Write held after h = front_stays held after h
 held_front (BadCache d) held after h = front_stays held after h
 held_front BadModule held after h = front_stays held after h
 held_front Invalid held after h = front_stays held after h
+held_front NotTyped held after h = front_stays held after h
 
 migrated_file_front : (held after : List ℕ) → IsMigratedFile held after → HasGoodFront held after
 migrated_file_front held after h =
@@ -165,6 +166,7 @@ migrated_front Unreadable held after h = h
 migrated_front (BadCache d) held after h = h
 migrated_front BadModule held after h = h
 migrated_front Invalid held after h = h
+migrated_front NotTyped held after h = h
 
 pub held_of_run : {X : Type 0} (path : Option X) (s : Status) (held after : List ℕ) → IsHeldWith s held after
     → IsHeldBy (kind_with path) s held after

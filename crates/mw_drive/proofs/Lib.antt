@@ -18,6 +18,7 @@ pub mod HeldFiles
 pub mod OpenedFiles
 pub mod Statuses
 pub mod Verdicts
+pub mod Certificates
 pub mod Reported
 pub mod RunWritten
 pub mod ScopedTerms

@@ -22,7 +22,8 @@ use Rattle.mw_drive.specs.ProgramMeaning.{ProgramRun, items_run, ended, program_
 use Rattle.mw_drive.specs.LinkedPrograms.{in_one, link_run}
 use Rattle.mw_drive.specs.Works.{Work, mode_of, Meaning, IsAccepted, IsMeaning, of_refusal, of_types, of_program}
 use Rattle.mw_drive.specs.Works.{of_erased_refusal, of_erased, of_link_refusal, of_joined, of_unjoined, of_migration}
-use Rattle.mw_drive.specs.Works.{of_binary, of_bad_binary, of_module, of_bad_file}
+use Rattle.mw_drive.specs.Works.{of_binary, of_bad_binary, of_module, of_bad_file, of_untyped, of_certificate}
+use Rattle.mw_drive.specs.Works.{of_unread, of_recheck}
 use Rattle.mw_drive.specs.Works.{HasModule, HaveOneModule, HaveModules}
 use Rattle.mw_drive.proofs.LinkedPrograms.{linked_kernels}
 use Rattle.mw_drive.proofs.ProgramEnds.{Ends}
@@ -87,3 +88,7 @@ meaning_modules work m (of_binary is) = tt
 meaning_modules work m (of_bad_binary is) = tt
 meaning_modules work m (of_module wasm is judges) = tt
 meaning_modules work m (of_bad_file is) = tt
+meaning_modules work m (of_untyped h) = meaning_modules _ _ h
+meaning_modules work m (of_certificate p read accepted is) = tt
+meaning_modules work m (of_unread r) = tt
+meaning_modules work m (of_recheck p read is) = tt

@@ -32,12 +32,15 @@ use Rattle.mw_drive.specs.Works.{Meaning, running, mode_of, refused, ran, erased
 use Rattle.mw_drive.specs.Works.{of_types, of_program, of_erased_refusal, of_erased}
 use Rattle.mw_drive.specs.Works.{of_link_refusal, of_joined, of_unjoined, joined, unjoined}
 use Rattle.mw_drive.specs.Works.{of_migration, of_binary, of_bad_binary, of_module, of_bad_file}
-use Rattle.mw_drive.specs.Works.{migrated, judged, faulty}
+use Rattle.mw_drive.specs.Works.{of_untyped, of_certificate, of_unread, of_recheck, CertifiesWithin, Rechecks}
+use Rattle.mw_drive.specs.Works.{migrated, judged, faulty, certified, rechecked}
 use Rattle.mw_drive.specs.Works as meant
 use Rattle.mw_judge.specs.ModuleFiles.{Judges}
 use Rattle.mw_judge.proofs.FileLaws.{one_binary_module, never_bad_and_binary, one_binary_fault}
 use Rattle.mw_judge.proofs.FileLaws.{one_file_module, never_bad_and_file, one_file_fault}
 use Rattle.mw_keeping.proofs.Migrations.{one_migration}
+use Rattle.mw_written.specs.Written.{IsCertificateOf}
+use Rattle.mw_written.proofs.OneProgram.{certificates_one}
 use Rattle.mw_store.specs.Records.{Kept}
 use Rattle.mw_drive.specs.WorkLaws.{OneMeaning}
 use Rattle.mw_drive.proofs.SourceReadings.{same_program}
@@ -174,6 +177,16 @@ one_verdict true false wasm a b = absurd (b a)
 one_verdict false true wasm a b = absurd (a b)
 one_verdict false false wasm a b = refl
 
+-- a text certifies a program or it doesn't
+one_typing : (v w : Bool) (text : List ℕ) (p q : NamedProgram) → p ≡ q → Rechecks v text (unnamed p)
+    → Rechecks w text (unnamed q) → v ≡ w
+one_typing true true text p q same a b = refl
+one_typing true false text p q same a b =
+    absurd (b (subst (λ (x : NamedProgram). CertifiesWithin text (unnamed x)) same a))
+one_typing false true text p q same a b =
+    absurd (a (subst (λ (x : NamedProgram). CertifiesWithin text (unnamed x)) (sym same) b))
+one_typing false false text p q same a b = refl
+
 abbrev written_module : PureModule → Meaning
 written_module wasm = meant.written wasm
 
@@ -239,3 +252,16 @@ one_meaning work m n (of_bad_file {bytes = bytes} {fault = f} bad) (of_module wa
     absurd (never_bad_and_file bytes wasm f a bad)
 one_meaning work m n (of_bad_file {bytes = bytes} {fault = f} a) (of_bad_file {fault = g} b) =
     ap faulty (one_file_fault bytes f g a b)
+one_meaning work m n (of_untyped {r = r} {names = names} a) (of_untyped {r = q} {names = others} b) =
+    one_meaning _ (refused r names) (refused q others) a b
+one_meaning work m n (of_untyped a) (of_certificate q b g is) = absurd (erased_or_refused a q b g)
+one_meaning work m n (of_certificate p a f is) (of_untyped b) = absurd (erased_or_refused b p a f)
+one_meaning work m n (of_certificate {bytes = bytes} {text = text} p a f is) (of_certificate {text = other} q b g end) =
+    let here = subst (λ (x : NamedProgram). IsCertificateOf (unnamed x) text) (one_program bytes p q a b) is in
+    ap certified (certificates_one (unnamed q) text other here end)
+one_meaning work m n (of_unread {bytes = bytes} {r = r} a) (of_unread {r = q} b) =
+    ap (λ x. refused x []) (one_source_refusal bytes r q a b)
+one_meaning work m n (of_unread {bytes = bytes} {r = r} a) (of_recheck p b is) = absurd (read_or_refused bytes p r b a)
+one_meaning work m n (of_recheck {bytes = bytes} p a is) (of_unread {r = q} b) = absurd (read_or_refused bytes p q a b)
+one_meaning work m n (of_recheck {text = text} {bytes = bytes} {typed = v} p a is) (of_recheck {typed = w} q b end) =
+    ap rechecked (one_typing v w text p q (one_program bytes p q a b) is end)

@@ -12,7 +12,7 @@ use Rattle.mw_keeping.specs.declared.opening.CacheFile.TheVariants.{Absent, Unre
 use Rattle.mw_console.specs.declared.status.Status.{Status}
 use Rattle.mw_console.specs.declared.status.Status.TheVariants.{Answer, Trap, Usage, Refused, Bound}
 use Rattle.mw_console.specs.declared.status.Status.TheVariants.{Read as Unreadable, Write, Cache, Memory, BadCache}
-use Rattle.mw_console.specs.declared.status.Status.TheVariants.{BadModule, Invalid}
+use Rattle.mw_console.specs.declared.status.Status.TheVariants.{BadModule, Invalid, NotTyped}
 use Rattle.mw_drive.specs.declared.fault.RunFault.{RunFault}
 use Rattle.mw_drive.specs.declared.fault.RunFault.TheVariants.{Unwritten, Bad}
 use Rattle.mw_drive.specs.HeldFiles.{IsStatusAfter}
@@ -35,6 +35,7 @@ module _ (name : List ℕ) (old new : List (List ℕ)) where
   opened_once (BadCache d) h = inl h
   opened_once BadModule h = inl h
   opened_once Invalid h = inl h
+  opened_once NotTyped h = inl h
 
   -- a run that ends with a fault
   pub opened_failed : (r : Result Status RunFault) → IsErr r → IsStartedAtMost name old new

@@ -19,9 +19,9 @@ use Rattle.mw_console.specs.Texts.{Ending, answered, trapped, bounded, ending_st
 use Rattle.mw_drive.specs.NamedPrograms.{NamedProgram, unnamed}
 use Rattle.mw_console.specs.declared.status.Status.{Status}
 use Rattle.mw_console.specs.declared.status.Status.TheVariants.{Answer, Trap, Usage, Refused, Bound, Read, Write}
-use Rattle.mw_console.specs.declared.status.Status.TheVariants.{Cache, Memory, BadCache, BadModule, Invalid}
+use Rattle.mw_console.specs.declared.status.Status.TheVariants.{Cache, Memory, BadCache, BadModule, Invalid, NotTyped}
 use Rattle.mw_drive.specs.SourceReading.{IsRead, IsSmall, too_large, at_bytes, at_tokens, at_names}
-use Rattle.mw_drive.specs.Works.{joined, unjoined, migrated, written, judged, faulty}
+use Rattle.mw_drive.specs.Works.{joined, unjoined, migrated, written, judged, faulty, certified, rechecked}
 use Rattle.mw_drive.specs.Works.{Work, running, erasing, linking, Meaning, refused, ran, erased, IsMeaning, of_refusal}
 use Rattle.mw_drive.specs.Works.{of_types, of_program, of_erased_refusal, of_erased, of_link_refusal, of_joined}
 use Rattle.mw_drive.specs.Works.{of_unjoined, IsAccepted, mode_of, IsOutput, Reports}
@@ -33,8 +33,8 @@ use Rattle.mw_drive.specs.declared.source.Evaluation.{Evaluation}
 use Rattle.mw_drive.specs.declared.source.Evaluation.TheVariants.{Run, Erased, Linked}
 use Rattle.mw_drive.specs.Extents.{a_front, whole, unkept, all_or_nothing, unsaid, never}
 use Rattle.mw_drive.specs.Extents.{Kind, on_a_file, over_a_cache, on_a_number, on_a_cache, extent}
-use Rattle.mw_drive.specs.Running.{most_of_source, Sources, Wanted, Has, Lacks, HasAll, has_none, has_more, LacksFirst}
-use Rattle.mw_drive.specs.Running.{lacks_first, IsFaithful, IsMemory, IsCarriedOut, IsStatusOf, IsWritten, kind_with}
+use Rattle.mw_drive.specs.Running.{most_of_source, Sources, Wanted, Has, Lacks, HasAll, has_none, has_more, LacksSome}
+use Rattle.mw_drive.specs.Running.{lacks_this, lacks_later, IsFaithful, IsMemory, IsCarriedOut, IsStatusOf, IsWritten, kind_with}
 use Rattle.mw_drive.proofs.Options.{none_is_some, some_is_none}
 
 -- a source with a meaning is too large, and refused for it, or small
@@ -48,10 +48,10 @@ large_or_small (of_types p read fault) = inr read.small
 large_or_small (of_program p read accepted is) = inr read.small
 
 -- a front that is longer than any source means what the whole does
-small_front : (bytes : List ℕ) → IsSmall (take most_of_source bytes) → take most_of_source bytes ≡ bytes
+pub small_front : (bytes : List ℕ) → IsSmall (take most_of_source bytes) → take most_of_source bytes ≡ bytes
 small_front bytes small = let short = rw length-take at small in take_all most_of_source bytes (omega arith)
 
-large_whole : (bytes : List ℕ) → 1048576 < length (take most_of_source bytes) → 1048576 < length bytes
+pub large_whole : (bytes : List ℕ) → 1048576 < length (take most_of_source bytes) → 1048576 < length bytes
 large_whole bytes large = let long = rw length-take at large in omega arith
 
 pub means_whole : {bytes : List ℕ} {fuel : ℕ} {shown : Shown} {m : Meaning}
@@ -66,12 +66,12 @@ means_whole {bytes} {fuel} {shown} {m} d = by_size (large_or_small d)
     by_size (inr small) = subst (λ b. IsMeaning (running b fuel shown) m) (small_front bytes small) d
 
 -- a source that is read from such a front is read from the whole
-whole_read : {front bytes : List ℕ} {p : NamedProgram} → front ≡ take most_of_source bytes → IsRead front p
+pub whole_read : {front bytes : List ℕ} {p : NamedProgram} → front ≡ take most_of_source bytes → IsRead front p
     → IsRead bytes p
 whole_read {front} {bytes} {p} is read =
     let h = subst (λ b. IsRead b p) is read in subst (λ b. IsRead b p) (small_front bytes h.small) h
 
-whole_refused : {front bytes : List ℕ} {fuel : ℕ} {m : Meaning} → front ≡ take most_of_source bytes
+pub whole_refused : {front bytes : List ℕ} {fuel : ℕ} {m : Meaning} → front ≡ take most_of_source bytes
     → IsMeaning (running front fuel (Lines Plain)) m → IsMeaning (running bytes fuel (Lines Plain)) m
 whole_refused {fuel = fuel} {m = m} is h = means_whole (subst (λ b. IsMeaning (running b fuel (Lines Plain)) m) is h)
 
@@ -106,10 +106,11 @@ has_or_lacks {o} {file} {bytes} has lacks = both (file_of o.files file.name) has
     both None e n = absurd (cc)
     both (Some x) e n = absurd (cc)
 
-pub all_or_first : {o : Sources} {files : List Wanted} {contents : List (List ℕ)} → HasAll o files contents
-    → LacksFirst o files → ⊥
-all_or_first has_none lacks = elim lacks [ ]
-all_or_first (has_more has rest) (lacks_first lacks) = has_or_lacks has lacks
+pub all_or_some : {o : Sources} {files : List Wanted} {contents : List (List ℕ)} → HasAll o files contents
+    → LacksSome o files → ⊥
+all_or_some has_none lacks = elim lacks [ ]
+all_or_some (has_more has rest) (lacks_this lacks) = has_or_lacks has lacks
+all_or_some (has_more has rest) (lacks_later lacks) = all_or_some rest lacks
 
 pub output_of_report : {work : Work} {text : List ℕ} {s : Status} → Reports work text s → IsOutput work text
 output_of_report r = record { meaning = r.meaning; is_meaning = r.is_meaning; is_text = r.is_text }
@@ -132,6 +133,9 @@ whole_status kind (written wasm) = refl
 whole_status kind (judged true) = refl
 whole_status kind (judged false) = refl
 whole_status kind (faulty fault) = refl
+whole_status kind (certified text) = refl
+whole_status kind (rechecked true) = refl
+whole_status kind (rechecked false) = refl
 
 -- so a text that was written whole is faithful
 faithful_at : {work : Work} (kind : Kind) (before after : List ℕ) (m : Meaning) → IsMeaning work m
@@ -181,6 +185,8 @@ own_or_unkept path (migrated old added) s is = inl is
 own_or_unkept path (written wasm) s is = inl is
 own_or_unkept path (judged valid) s is = inl is
 own_or_unkept path (faulty fault) s is = inl is
+own_or_unkept path (certified text) s is = inl is
+own_or_unkept path (rechecked typed) s is = inl is
 
 module _ (path : Option (Bor (List ℕ))) (kind : Kind) (over : IsSome path → kind ≡ over_a_cache) {tells : Bool}
     (before after : List ℕ)
@@ -313,6 +319,7 @@ whole_else kind (Refused r) possible said kept memory read write = refl
 whole_else kind (Bound l) possible said kept memory read write = refl
 whole_else kind BadModule possible said kept memory read write = refl
 whole_else kind Invalid possible said kept memory read write = refl
+whole_else kind NotTyped possible said kept memory read write = refl
 whole_else kind Usage possible said kept memory read write = absurd (possible refl)
 whole_else kind Cache possible said kept memory read write = absurd (kept refl)
 whole_else on_a_file (BadCache d) possible said kept memory read write = absurd (possible refl)

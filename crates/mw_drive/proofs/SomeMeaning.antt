@@ -31,6 +31,12 @@ use Rattle.mw_drive.specs.Works.{IsMeaning, of_refusal, of_types, of_program, of
 use Rattle.mw_drive.specs.Works.{of_link_refusal}
 use Rattle.mw_drive.specs.Works.{migrating, writing, judging, migrated, written, judged, faulty}
 use Rattle.mw_drive.specs.Works.{of_migration, of_binary, of_bad_binary, of_module, of_bad_file}
+use Rattle.mw_drive.specs.Works.{certifying, rechecking, certified, rechecked, CertifiesWithin, of_untyped}
+use Rattle.mw_drive.specs.Works.{of_certificate, of_unread, of_recheck}
+use Rattle.mw_recheck.specs.Certificates.{Certifies}
+use Rattle.mw_recheck.proofs.Decided.{certifies_decided}
+use Rattle.mw_written.specs.Written.{IsCertificateOf}
+use Rattle.mw_cert.proofs.Accepted.{accepted_have_one}
 use Rattle.mw_wasm.specs.Syntax.{PureModule}
 use Rattle.mw_wasm.specs.Validity.{IsValid}
 use Rattle.mw_judge.specs.declared.fault.BadFile.{BadFile}
@@ -171,6 +177,29 @@ accepted_linked bytes fuel p read fine =
     let e = some_link fuel p fine.typable in
     (e.0, link_means p read fine e.0 e.1)
 
+accepted_certified : (bytes : List ℕ) (p : NamedProgram) → IsRead bytes p → IsAccepted (unnamed p)
+    → (m : Meaning) × IsMeaning (certifying bytes) m
+accepted_certified bytes p read fine =
+    let c = accepted_have_one (unnamed p) (is_resolved bytes p read) fine.typable fine.small in
+    (certified c.0, of_certificate p read fine c.1)
+
+-- whether a text certifies a program that is read
+rechecked_means : (text bytes : List ℕ) (p : NamedProgram) → IsRead bytes p → (length text ≤ 67108864)
+    ⊎ (67108864 < length text) → Certifies text (unnamed p) ⊎ (Certifies text (unnamed p) → ⊥)
+    → (m : Meaning) × IsMeaning (rechecking text bytes) m
+rechecked_means text bytes p read (inl within) (inl is) =
+    (rechecked true, of_recheck p read (record { within = within; certifies = is }))
+rechecked_means text bytes p read (inl within) (inr not) = (rechecked false, of_recheck p read (λ c. not c.certifies))
+rechecked_means text bytes p read (inr past) decided = (rechecked false, of_recheck p read (λ c. too_long c.within))
+  where
+    too_long : length text ≤ 67108864 → ⊥
+    too_long within = absurd (omega arith)
+
+recheck_means : (text bytes : List ℕ) → IsAnswered bytes → (m : Meaning) × IsMeaning (rechecking text bytes) m
+recheck_means text bytes (as_program p read) =
+    rechecked_means text bytes p read (at_most_or_above (length text) 67108864) (certifies_decided text (unnamed p))
+recheck_means text bytes (as_refusal r refusal) = (refused r [], of_unread refusal)
+
 binary_means : (bytes : List ℕ) → ((m : PureModule) × IsBinary bytes m) ⊎ ((f : BadFile) × IsBadBinary bytes f)
     → (m : Meaning) × IsMeaning (writing bytes) m
 binary_means bytes (inl is) = (written is.0, of_binary is.1)
@@ -199,3 +228,7 @@ some_meaning (migrating held) on = let m = some_migration held on.0 on.1 in
     (migrated m.0 (length m.1), of_migration m.2)
 some_meaning (writing bytes) on = binary_means bytes (binary_or_bad bytes on)
 some_meaning (judging bytes) on = module_means bytes (file_or_bad bytes on)
+some_meaning (certifying bytes) on =
+    answer_means bytes (certifying bytes) (λ r refusal. of_untyped {fuel = 0} (of_refusal refusal))
+    (λ p r read fault. of_untyped {fuel = 0} (of_types p read fault)) (accepted_certified bytes) (reading_answers bytes)
+some_meaning (rechecking text bytes) on = recheck_means text bytes (reading_answers bytes)

@@ -36,7 +36,8 @@ use Rattle.mw_drive.specs.LinkedPrograms.{in_one, link_run}
 use Rattle.mw_drive.specs.ProgramRuns.{evaluated, cache_of, IsEndOf, IsEnded, IsEndMeaning, IsUsual, IsWrittenRun}
 use Rattle.mw_drive.specs.ProgramRuns.{IsWrittenErased, IsWrittenLinked, IsWrittenMeaning}
 use Rattle.mw_drive.specs.Works.{Work, mode_of, IsAccepted, running, Meaning, refused, ran, erased, joined, unjoined}
-use Rattle.mw_drive.specs.Works.{migrated, written, judged, faulty, status_of, IsMeaning, of_refusal, of_types}
+use Rattle.mw_drive.specs.Works.{migrated, written, judged, faulty, certified, rechecked, status_of, IsMeaning}
+use Rattle.mw_drive.specs.Works.{of_refusal, of_types}
 use Rattle.mw_drive.specs.Works.{of_program, of_erased_refusal, of_erased, of_link_refusal}
 use Rattle.mw_drive.specs.WorkLaws.{IsOnFile}
 use Rattle.mw_drive.specs.Written.{Writes}
@@ -73,6 +74,8 @@ own_end path (migrated old added) s is = is
 own_end path (written wasm) s is = is
 own_end path (judged valid) s is = is
 own_end path (faulty fault) s is = is
+own_end path (certified text) s is = is
+own_end path (rechecked typed) s is = is
 
 module _ (bytes : List ℕ) (fuel : ℕ) (tells : Bool) where
   abbrev IsWritten : Evaluation → Result Status RunFault → (before after : List ℕ) → Type 0

@@ -7,7 +7,7 @@ use Rattle.mw_term.specs.declared.refusal.Refusal.{Refusal}
 use Rattle.mw_console.specs.Texts.{Ending, answered, trapped, bounded, ending_status}
 use Rattle.mw_console.specs.declared.status.Status.{Status}
 use Rattle.mw_console.specs.declared.status.Status.TheVariants.{Answer, Trap, Usage, Refused, Bound, Read, Write}
-use Rattle.mw_console.specs.declared.status.Status.TheVariants.{Cache, Memory, BadCache, BadModule, Invalid}
+use Rattle.mw_console.specs.declared.status.Status.TheVariants.{Cache, Memory, BadCache, BadModule, Invalid, NotTyped}
 use Rattle.mw_drive.specs.declared.fault.RunFault.{RunFault}
 use Rattle.mw_drive.specs.declared.fault.RunFault.TheVariants.{Unwritten, Bad}
 use Rattle.mw_drive.specs.Extents.{whole, Kind, on_a_file, over_a_cache, on_a_number, on_a_cache, extent}
@@ -188,6 +188,7 @@ module _ (s : Status) where
       kept_own (BadCache d) h = tt
       kept_own BadModule h = tt
       kept_own Invalid h = tt
+      kept_own NotTyped h = tt
 
       pub kept_status : (r : Result Status RunFault) → IsStatusOf r s → IsKeptOf texts r held after
           → IsKeptWith texts s held after

@@ -3,7 +3,7 @@ use Rattle.std.proofs.Common.{◌≡◌, Bool, true, false, List, ℕ, refl, sym
 use Rattle.mw_wasm.specs.Syntax.{PureModule}
 use Rattle.mw_console.specs.declared.status.Status.{Status}
 use Rattle.mw_console.specs.declared.status.Status.TheVariants.{Answer, Trap, Usage, Refused, Bound, Read, Write}
-use Rattle.mw_console.specs.declared.status.Status.TheVariants.{Cache, Memory, BadCache, BadModule, Invalid}
+use Rattle.mw_console.specs.declared.status.Status.TheVariants.{Cache, Memory, BadCache, BadModule, Invalid, NotTyped}
 use Rattle.mw_judge.specs.ModuleFiles.{IsFileOf, Judges}
 use Rattle.mw_judge.proofs.FileLaws.{never_bad_and_file}
 use Rattle.mw_drive.specs.Extents.{whole, on_a_file, extent}
@@ -43,3 +43,4 @@ verdict_on bytes s says = by_status s says
     by_status Cache says = tt
     by_status (Memory e) says = tt
     by_status (BadCache d) says = tt
+    by_status NotTyped says = tt

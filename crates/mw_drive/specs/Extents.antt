@@ -1,7 +1,7 @@
 -- How much was written when a command ended, as its status says.
 use Rattle.mw_console.specs.declared.status.Status.{Status}
 use Rattle.mw_console.specs.declared.status.Status.TheVariants.{Answer, Trap, Usage, Refused, Bound, Read, Write}
-use Rattle.mw_console.specs.declared.status.Status.TheVariants.{Cache, Memory, BadCache, BadModule, Invalid}
+use Rattle.mw_console.specs.declared.status.Status.TheVariants.{Cache, Memory, BadCache, BadModule, Invalid, NotTyped}
 
 -- nothing; a front of the output; all of it, with the status that is its own; all of it, where the cache file wasn't
 -- kept; all of it or nothing, as the cache file wasn't kept or wasn't read; or it isn't said, as a record of the cache
@@ -22,6 +22,7 @@ extent kind (Refused r) = whole
 extent kind (Bound l) = whole
 extent kind BadModule = whole
 extent kind Invalid = whole
+extent kind NotTyped = whole
 extent on_a_file Read = nothing
 extent over_a_cache Read = nothing
 extent on_a_number Read = never

@@ -8,7 +8,7 @@ use Rattle.mw_keeping.specs.declared.opening.CacheFile.{CacheFile}
 use Rattle.mw_keeping.specs.declared.opening.CacheFile.TheVariants as file
 use Rattle.mw_console.specs.declared.status.Status.{Status}
 use Rattle.mw_console.specs.declared.status.Status.TheVariants.{Answer, Trap, Usage, Refused, Bound, Read, Write}
-use Rattle.mw_console.specs.declared.status.Status.TheVariants.{Cache, Memory, BadCache, BadModule, Invalid}
+use Rattle.mw_console.specs.declared.status.Status.TheVariants.{Cache, Memory, BadCache, BadModule, Invalid, NotTyped}
 use Rattle.mw_drive.specs.declared.fault.RunFault.{RunFault}
 use Rattle.mw_drive.specs.declared.fault.RunFault.TheVariants.{Unwritten, Bad}
 use Rattle.mw_drive.specs.declared.items.Built.{Built}
@@ -29,6 +29,7 @@ IsHeldWith Write held after = after ≡ held
 IsHeldWith (BadCache d) held after = after ≡ held
 IsHeldWith BadModule held after = after ≡ held
 IsHeldWith Invalid held after = after ≡ held
+IsHeldWith NotTyped held after = after ≡ held
 
 -- What it holds after a migration: with an answer what counted of it, and behind that exactly the records that are
 -- added; where the lines weren't written, what it held; and else at least what counted.

@@ -15,4 +15,5 @@ pub mod BadRecords
 pub mod Extents
 pub mod Running
 pub mod Verdicts
+pub mod Certified
 pub mod SimplifiedPrograms

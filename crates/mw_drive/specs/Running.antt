@@ -8,9 +8,9 @@ use Rattle.mw_outside.specs.Lookup.{file_of}
 use Rattle.mw_outside.specs.declared.errors.WriteFault.TheVariants as fault
 use Rattle.mw_meaning.specs.declared.mode.Mode.{Mode}
 use Rattle.mw_meaning.specs.declared.mode.Mode.TheVariants.{Plain, Simple}
-use Rattle.mw_words.specs.Words.{PureCommand, run, erased, link, sample, migrate, wat, check, Means}
+use Rattle.mw_words.specs.Words.{PureCommand, run, erased, link, sample, migrate, wat, check, cert, recheck, Means}
 use Rattle.mw_console.specs.declared.status.Status.{Status}
-use Rattle.mw_console.specs.declared.status.Status.TheVariants.{Write, Memory, BadCache}
+use Rattle.mw_console.specs.declared.status.Status.TheVariants.{Read, Write, Memory, BadCache}
 use Rattle.mw_console.specs.Texts.{Ending}
 use Rattle.mw_drive.specs.declared.fault.RunFault.{RunFault}
 use Rattle.mw_drive.specs.declared.fault.RunFault.TheVariants.{Unwritten, Bad}
@@ -21,6 +21,7 @@ use Rattle.mw_link.specs.Linked.{Kernel}
 use Rattle.mw_drive.specs.Extents.{Extent, nothing, a_front, whole, unkept, all_or_nothing, unsaid, never}
 use Rattle.mw_drive.specs.Extents.{Kind, on_a_file, over_a_cache, on_a_number, on_a_cache, extent}
 use Rattle.mw_drive.specs.Works.{Work, running, erasing, linking, sampling, migrating, writing, judging, Meaning, ran}
+use Rattle.mw_drive.specs.Works.{certifying, rechecking}
 use Rattle.mw_drive.specs.Works.{IsMeaning, text_of, status_of, IsOutput, Reports}
 
 -- the files that the source has, if it tells them
@@ -40,23 +41,32 @@ sources tells files = record { tells = tells; files = files }
 abbrev pub outside : Bool → List NamedFile → Bool → List ℕ → Outside
 outside tells files keeps held = record { source = sources tells files; keeps = keeps; held = held }
 
--- reading a source ends with one byte more than the longest source has, and so does reading a module
+-- reading a source ends with one byte more than the longest source has, and so does reading a module or a certificate
 abbrev pub most_of_source : ℕ
 most_of_source = 1_048_577
 
 abbrev pub most_of_module : ℕ
 most_of_module = 67_108_865
 
+abbrev pub most_of_certificate : ℕ
+most_of_certificate = 67_108_865
+
 -- a file that a command reads: its name, and the most bytes of it that are read
 pub record Wanted : Type 0 where
   pub name : List ℕ
   pub most : ℕ
 
+abbrev pub wanted : List ℕ → ℕ → Wanted
+wanted name most = record { name = name; most = most }
+
 abbrev pub source_file : List ℕ → Wanted
-source_file name = record { name = name; most = most_of_source }
+source_file name = wanted name most_of_source
 
 abbrev pub module_file : List ℕ → Wanted
-module_file name = record { name = name; most = most_of_module }
+module_file name = wanted name most_of_module
+
+abbrev pub certificate_file : List ℕ → Wanted
+certificate_file name = wanted name most_of_certificate
 
 -- the files of a command, in the order in which they are read
 abbrev pub files_of : PureCommand → List Wanted
@@ -67,6 +77,8 @@ files_of (sample number) = []
 files_of (migrate cache) = []
 files_of (wat file) = module_file file ∷ []
 files_of (check file) = module_file file ∷ []
+files_of (cert file) = source_file file ∷ []
+files_of (recheck certificate file) = source_file file ∷ certificate_file certificate ∷ []
 
 -- the name of a command's cache file
 abbrev pub path_of : PureCommand → Option (List ℕ)
@@ -77,6 +89,8 @@ path_of (sample number) = None
 path_of (migrate cache) = Some cache
 path_of (wat file) = None
 path_of (check file) = None
+path_of (cert file) = None
+path_of (recheck certificate file) = None
 
 -- it tells that it has the file, of these bytes
 pub record Has (source : Sources) (file : Wanted) (bytes : List ℕ) : Type 0 where
@@ -99,6 +113,17 @@ pub data HasAll (source : Sources) : List Wanted → List (List ℕ) → Type 0 
 pub data LacksFirst (source : Sources) : List Wanted → Type 0 where
   lacks_first : {file : Wanted} {files : List Wanted} → Lacks source file → LacksFirst source (file ∷ files)
 
+-- it lacks one of the files
+pub data LacksSome (source : Sources) : List Wanted → Type 0 where
+  lacks_this : {file : Wanted} {files : List Wanted} → Lacks source file → LacksSome source (file ∷ files)
+  lacks_later : {file : Wanted} {files : List Wanted} → LacksSome source files → LacksSome source (file ∷ files)
+
+-- the file is the last of these, and holds these bytes
+pub data IsLast (file : Wanted) (bytes : List ℕ) : List Wanted → List (List ℕ) → Type 0 where
+  alone : IsLast file bytes (file ∷ []) (bytes ∷ [])
+  behind : {other : Wanted} {held : List ℕ} {files : List Wanted} {contents : List (List ℕ)}
+      → IsLast file bytes files contents → IsLast file bytes (other ∷ files) (held ∷ contents)
+
 -- how kernels' code is run, by whether it is to be simplified
 abbrev pub mode_when : Bool → Mode
 mode_when true = Simple
@@ -119,6 +144,9 @@ pub data IsWork (outside : Outside) : PureCommand → List (List ℕ) → Work �
   wat_works : {file bytes : List ℕ} → IsWork outside (wat file) (bytes ∷ []) (writing (take most_of_module bytes))
   check_works : {file bytes : List ℕ}
       → IsWork outside (check file) (bytes ∷ []) (judging (take most_of_module bytes))
+  cert_works : {file bytes : List ℕ} → IsWork outside (cert file) (bytes ∷ []) (certifying bytes)
+  recheck_works : {certificate file bytes text : List ℕ}
+      → IsWork outside (recheck certificate file) (bytes ∷ text ∷ []) (rechecking (take most_of_certificate text) bytes)
 
 -- the words mean this command, and the outside has its files, which hold these bytes
 pub record AsksOn (words : List (List ℕ)) (outside : Outside) (command : PureCommand)
@@ -152,6 +180,12 @@ pub record AsksMissing (words : List (List ℕ)) (outside : Outside) : Type 0 wh
   pub means : Means words command
   pub lacks : LacksFirst outside.source (files_of command)
 
+-- the words mean a command of whose files the outside lacks one
+pub record AsksLacking (words : List (List ℕ)) (outside : Outside) : Type 0 where
+  pub command : PureCommand
+  pub means : Means words command
+  pub lacks : LacksSome outside.source (files_of command)
+
 -- the words mean a command that reads no file
 pub record AsksNoFile (words : List (List ℕ)) : Type 0 where
   pub command : PureCommand
@@ -177,6 +211,8 @@ kind_of (sample number) = on_a_number
 kind_of (migrate cache) = on_a_cache
 kind_of (wat file) = on_a_file
 kind_of (check file) = on_a_file
+kind_of (cert file) = on_a_file
+kind_of (recheck certificate file) = on_a_file
 
 -- the text of a program that ran
 pub record IsRunText (work : Work) (text : List ℕ) : Type 0 where
@@ -210,6 +246,11 @@ pub record IsCarriedOut (kind : Kind) (work : Work) (s : Status) (tells : Bool) 
 -- the status is want of memory
 abbrev pub IsMemory : Status → Type 0
 IsMemory s = s ≡ Memory alloc_error
+
+-- a file was lacking: it couldn't be read, or there was no memory, and nothing was written
+pub record IsUnread (s : Status) (tells : Bool) (before after : List ℕ) : Type 0 where
+  pub status : (s ≡ Read) ⊎ IsMemory s
+  pub nothing : IsTrue tells → after ≡ before
 
 -- all of the output was written, or, as the cache file wasn't kept or wasn't read, all of it or nothing
 abbrev pub IsWritten : Extent → Type 0

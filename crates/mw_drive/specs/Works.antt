@@ -1,6 +1,6 @@
 -- A command, with the bytes of the file that it reads, is a work. A work has meanings, and a meaning has a text and a
 -- status.
-use Rattle.std.specs.Prelude.{ℕ, ◌≡◌, ◌+◌, List, [], ◌∷◌, ◌++◌, length, Some, Bool, true, false, codes}
+use Rattle.std.specs.Prelude.{ℕ, ◌≡◌, ◌≤◌, ◌+◌, List, [], ◌∷◌, ◌++◌, length, Some, Bool, true, false, codes}
 use Rattle.std.specs.List.{AllByRecursion, flat_map}
 use Rattle.mw_term.specs.declared.refusal.Refusal.{Refusal}
 use Rattle.sha2.specs.Sha256.{sha256}
@@ -16,14 +16,16 @@ use Rattle.mw_wasm.specs.BinaryModules.{Spells}
 use Rattle.mw_wasm.specs.Validity.{IsValid}
 use Rattle.mw_wasm.specs.Profile.{IsWithinProfile}
 use Rattle.mw_infer.specs.Checking.{IsFirstRefusal, NoneTooBig}
+use Rattle.mw_recheck.specs.Certificates.{Certifies}
+use Rattle.mw_written.specs.Written.{IsCertificateOf}
 use Rattle.mw_key.specs.declared.version.Version.TheVariants.{Two}
 use Rattle.mw_key.specs.CanonicalText.{canonical_text}
 use Rattle.mw_gen.specs.Generate.{two}
 use Rattle.mw_compile.specs.Emission.{emission}
 use Rattle.mw_console.specs.declared.status.Status.{Status}
-use Rattle.mw_console.specs.declared.status.Status.TheVariants.{Answer, Refused, BadModule, Invalid}
+use Rattle.mw_console.specs.declared.status.Status.TheVariants.{Answer, Refused, BadModule, Invalid, NotTyped}
 use Rattle.mw_console.specs.Texts.{Ending, kernel_text, digits_line, totals_text, migrated_text, refusal_line}
-use Rattle.mw_console.specs.Texts.{ending_line, ending_status}
+use Rattle.mw_console.specs.Texts.{ending_line, ending_status, typing_line}
 use Rattle.mw_sample.specs.Sample.{sample_text}
 use Rattle.mw_store.specs.Records.{Kept}
 use Rattle.mw_keeping.specs.Migrations.{IsMigration}
@@ -48,7 +50,8 @@ mode_of Totals = Plain
 
 -- the run of a source's bytes, with so many units of fuel for each evaluation, whose kernels are shown so; the
 -- evaluation of its erased program's main; the linking of its kernels; the migration of a cache file that holds these
--- bytes; the text of the module that bytes spell; or the verdict on the module that they spell, or are a text of
+-- bytes; the text of the module that bytes spell; the verdict on the module that they spell, or are a text of; the
+-- certificate of a source's typing; or whether a text certifies it
 pub data Work : Type 0 where
   running : (bytes : List ℕ) (fuel : ℕ) (shown : Shown) → Work
   erasing : (bytes : List ℕ) (fuel : ℕ) → Work
@@ -56,6 +59,8 @@ pub data Work : Type 0 where
   migrating : (held : List ℕ) → Work
   writing : (bytes : List ℕ) → Work
   judging : (bytes : List ℕ) → Work
+  certifying : (bytes : List ℕ) → Work
+  rechecking : (text bytes : List ℕ) → Work
 
 -- a sample is the run of the source that is made from a number, which shows totals
 abbrev pub sampling : ℕ → Work
@@ -63,8 +68,8 @@ sampling number = running (sample_text number) 1000000 Totals
 
 -- a refusal, with the names of the items where it speaks of one; the kernels that gave code, shown so, and an ending;
 -- the ending of an erased program; kernels in one module, or the ending before that; how many texts of a cache file are
--- of the old version, and how many records are added for them; a module; whether a module is valid; or why a file is no
--- module
+-- of the old version, and how many records are added for them; a module; whether a module is valid; why a file is no
+-- module; a certificate; or whether a text is one
 pub data Meaning : Type 0 where
   refused : (r : Refusal) (names : List (List ℕ)) → Meaning
   ran : (shown : Shown) (kernels : List Kernel) (e : Ending) → Meaning
@@ -75,16 +80,29 @@ pub data Meaning : Type 0 where
   written : (wasm : PureModule) → Meaning
   judged : (valid : Bool) → Meaning
   faulty : (fault : BadFile) → Meaning
+  certified : (text : List ℕ) → Meaning
+  rechecked : (typed : Bool) → Meaning
 
 -- a program has types, and no front of an item's equations is too big
 pub record IsAccepted (p : PureProgram) : Type 0 where
   pub typable : Typable p
   pub small : NoneTooBig p
 
+-- a text certifies a program's typing, and isn't longer than a certificate may be
+pub record CertifiesWithin (text : List ℕ) (p : PureProgram) : Type 0 where
+  pub within : length text ≤ 67_108_864
+  pub certifies : Certifies text p
+
+-- whether it does
+abbrev pub Rechecks : Bool → List ℕ → PureProgram → Type 0
+Rechecks true text p = CertifiesWithin text p
+Rechecks false text p = CertifiesWithin text p → ⊥
+
 -- The run of a source means the first refusal of its reading; else the first refusal of its types; else the run of its
 -- program. What is refused is refused with its erased program too, which else means how its main ends, and where its
 -- kernels are to be linked, which else means them in one module, or the ending before that: main isn't evaluated. A
--- file that is no module means its first fault.
+-- file that is no module means its first fault. The certificate of a source that isn't refused is the written one of its
+-- program; whether a text is a certificate is asked of a source that is read, whether or not its types are refused.
 pub data IsMeaning : Work → Meaning → Type 0 where
   of_refusal : {bytes : List ℕ} {fuel : ℕ} {shown : Shown} {r : Refusal} → IsRefused bytes r → IsMeaning
       (running bytes fuel shown) (refused r [])
@@ -117,6 +135,15 @@ pub data IsMeaning : Work → Meaning → Type 0 where
   of_module : {bytes : List ℕ} {valid : Bool} (wasm : PureModule) → IsFileOf bytes wasm → Judges valid wasm
       → IsMeaning (judging bytes) (judged valid)
   of_bad_file : {bytes : List ℕ} {fault : BadFile} → IsBadFile bytes fault → IsMeaning (judging bytes) (faulty fault)
+  of_untyped : {bytes : List ℕ} {fuel : ℕ} {r : Refusal} {names : List (List ℕ)} → IsMeaning
+      (running bytes fuel (Lines Plain)) (refused r names)
+      → IsMeaning (certifying bytes) (refused r names)
+  of_certificate : {bytes text : List ℕ} (p : NamedProgram) → IsRead bytes p → IsAccepted (unnamed p)
+      → IsCertificateOf (unnamed p) text → IsMeaning (certifying bytes) (certified text)
+  of_unread : {text bytes : List ℕ} {r : Refusal} → IsRefused bytes r
+      → IsMeaning (rechecking text bytes) (refused r [])
+  of_recheck : {text bytes : List ℕ} {typed : Bool} (p : NamedProgram) → IsRead bytes p
+      → Rechecks typed text (unnamed p) → IsMeaning (rechecking text bytes) (rechecked typed)
 
 -- the text of what is run of a kernel's code under the mode
 abbrev pub run_text : Mode → Kernel → List ℕ
@@ -142,7 +169,7 @@ shown_text (Lines mode) kernels = flat_map (kernel_lines mode) kernels
 shown_text Totals kernels = totals_text (length kernels) (module_bytes kernels)
 
 -- a refusal's line; what is shown of kernels and the line of the ending; the bytes of one module, on a line; two
--- numbers, each on a line; a module's text; or the line of a verdict or of a fault
+-- numbers, each on a line; a module's text; the line of a verdict or of a fault; or a certificate
 abbrev pub text_of : Meaning → List ℕ
 text_of (refused r names) = refusal_line names r
 text_of (ran shown kernels e) = shown_text shown kernels ++ ending_line e
@@ -153,6 +180,8 @@ text_of (migrated old added) = migrated_text old added
 text_of (written wasm) = canonical_module wasm
 text_of (judged valid) = verdict_line valid
 text_of (faulty fault) = bad_file_line fault
+text_of (certified text) = text
+text_of (rechecked typed) = typing_line typed
 
 abbrev pub status_of : Meaning → Status
 status_of (refused r names) = Refused r
@@ -165,6 +194,9 @@ status_of (written wasm) = Answer
 status_of (judged true) = Answer
 status_of (judged false) = Invalid
 status_of (faulty fault) = BadModule
+status_of (certified text) = Answer
+status_of (rechecked true) = Answer
+status_of (rechecked false) = NotTyped
 
 -- the text that belongs to a work
 pub record IsOutput (work : Work) (text : List ℕ) : Type 0 where

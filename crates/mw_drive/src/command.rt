@@ -1,13 +1,14 @@
 // The top call.
 
 ghost use Rattle.std.specs.Prelude.{◌≡◌, ◌↔◌, ◌≤◌, ◌⊎◌, ◌∷◌, ℕ, Bool, true, List, [], Option, IsTrue, IsSome, IsNone};
-ghost use Rattle.std.specs.Prelude.{map, take, drop, Some};
+ghost use Rattle.std.specs.Prelude.{◌++◌, map, take, drop, Some};
 ghost use denote.Ref.{Bor};
 ghost use Rattle.std.specs.String.{string_bytes};
 ghost use Rattle.mw_outside.specs.Count.{Rose};
 ghost use Rattle.mw_term.specs.Terms.{PureGroundValue};
 ghost use Rattle.mw_term.specs.declared.refusal.Refusal.{Refusal};
-ghost use Rattle.mw_words.specs.Words.{PureCommand, run, link, sample, check, IsUsage, Means, command_in};
+ghost use Rattle.mw_words.specs.Words.{PureCommand, run, link, sample, check, cert, recheck, IsUsage, Means};
+ghost use Rattle.mw_words.specs.Words.{command_in};
 ghost use Rattle.mw_console.specs.declared.status.Status.TheVariants.{Answer, Usage, Refused, Read, Write, Cache};
 ghost use Rattle.mw_console.specs.declared.status.Status.TheVariants.{BadCache};
 ghost use Rattle.mw_console.specs.Texts.{Ending, answered, ending_status};
@@ -18,6 +19,7 @@ ghost use Rattle.mw_drive.specs.Extents.{whole, never, Kind, on_a_number, extent
 ghost use Rattle.mw_drive.specs.HeldFiles.{IsHeldWith, IsHeldBy, IsKeptWith};
 ghost use Rattle.mw_drive.specs.OpenedFiles.{IsOpenedWith};
 ghost use Rattle.mw_drive.specs.Verdicts.{IsVerdictOn};
+ghost use Rattle.mw_drive.specs.Certified.{IsCertified, IsTypingVerdict};
 ghost use Rattle.mw_drive.specs.Honest.{IsHonestCache};
 ghost use Rattle.mw_drive.specs.Works.{Work, running, erasing, sampling, Meaning, ran, erased, IsMeaning, HaveModules};
 ghost use Rattle.mw_drive.specs.Works.{status_of, mode_of, run_text};
@@ -27,17 +29,20 @@ ghost use Rattle.mw_drive.specs.declared.shown.Shown.{Shown};
 ghost use Rattle.mw_drive.specs.declared.shown.Shown.TheVariants.{Lines};
 ghost use Rattle.mw_drive.specs.SimplifiedPrograms.{IsUnbounded};
 ghost use Rattle.mw_drive.specs.Running.{outside, sources, files_of, path_of, Wanted, source_file, Has, Lacks, HasAll};
-ghost use Rattle.mw_drive.specs.Running.{most_of_source, most_of_module, LacksFirst, IsWork, kind_of, kind_with};
-ghost use Rattle.mw_drive.specs.Running.{IsWritten};
-ghost use Rattle.mw_drive.specs.Running.{AsksOn, Asks, AsksOver, AsksMissing, AsksNoFile, AsksNoCache, HasHonestCache};
+ghost use Rattle.mw_drive.specs.Running.{most_of_source, most_of_module, LacksFirst, LacksSome, IsLast, IsWork};
+ghost use Rattle.mw_drive.specs.Running.{kind_of, kind_with, IsWritten, IsUnread};
+ghost use Rattle.mw_drive.specs.Running.{AsksOn, Asks, AsksOver, AsksMissing, AsksLacking, AsksNoFile, AsksNoCache};
+ghost use Rattle.mw_drive.specs.Running.{HasHonestCache};
 ghost use Rattle.mw_drive.specs.Running.{IsCarriedOut, IsFaithful, IsStatusOf, IsMemory, mode_when};
 
 use crate::fault::RunFault;
-use crate::inquiry::{Inquiry, inquire};
+use crate::inquiry::{Inquiry, MOST_OF_MODULE, inquire};
 use crate::migrated::migrate;
 use crate::program::RunOptions;
+use crate::reading::MOST_OF_SOURCE;
 use crate::shown::Shown;
 use crate::source::{Evaluation, write_source};
+use crate::typing::recheck;
 use crate::workplace::Workplace;
 use mw_compile::Entry;
 use mw_console::{SourceFault, Status, file_bytes};
@@ -50,9 +55,6 @@ use std::alloc::Global;
 use std::marker::Brand;
 use std::sync::ledger::Blank;
 use std::thread::Threads;
-
-/// One byte more than the longest source: reading ends with it.
-const MOST_OF_SOURCE: usize = 1_048_577;
 
 /// The units of fuel of a sample, and how many workers it has.
 const SAMPLE_FUEL: u64 = 1_000_000;
@@ -69,7 +71,9 @@ const SAMPLE_WORKERS: u32 = 4;
 /// modules; what is written depends neither on their number nor on what stands in the table. `migrate --cache PATH`
 /// adds records of the version that is made for those of the old one, and writes how many there are of both. `wat FILE`
 /// writes the text of the module that the file's bytes spell, and `check FILE` whether the module is valid that they
-/// spell, or are a text of; a file that is no module gets the line of its first fault.
+/// spell, or are a text of; a file that is no module gets the line of its first fault. `cert FILE` writes the
+/// certificate of the typing of the file's source, and `recheck CERT FILE` whether the first file certifies the typing
+/// of the second one's source.
 pub fn run<R: Threads + Sync, S: Source, K: Sink, C: Keeper, G: Gate>(
     rt: &R,
     alloc: Global,
@@ -140,19 +144,34 @@ pub fn run<R: Threads + Sync, S: Source, K: Sink, C: Keeper, G: Gate>(
         → AsksOn (map string_bytes words.now) (outside S.tells (S.told source.old) C.tells (C.held keeper.old))
         (check file) (bytes ∷ [])
         → IsVerdictOn result (take most_of_module bytes) }
-    // A file is read to its end, or to one byte more than the longest source or module has.
-    ensures left { (command : PureCommand) (file : Wanted) (bytes : List ℕ)
+    // An answer of `cert` says that the source is typed, and the text that was written is a certificate of it.
+    ensures certificate { (file bytes : List ℕ)
+        → AsksOn (map string_bytes words.now) (outside S.tells (S.told source.old) C.tells (C.held keeper.old))
+        (cert file) (bytes ∷ []) → result ≡ Answer
+        → (text : List ℕ) × IsCertified bytes text
+        × (IsTrue K.tells → K.written sink.new ≡ K.written sink.old ++ text) }
+    // An answer of `recheck` says that the source is typed and the text certifies it, and `NotTyped` that it doesn't.
+    ensures typed { (certificate file bytes text : List ℕ)
+        → AsksOn (map string_bytes words.now) (outside S.tells (S.told source.old) C.tells (C.held keeper.old))
+        (recheck certificate file) (bytes ∷ text ∷ [])
+        → IsTypingVerdict result text bytes }
+    // The last file is read to its end, or to one byte more than the longest source, module or certificate has.
+    ensures left { (command : PureCommand) (contents : List (List ℕ)) (file : Wanted) (bytes : List ℕ)
         → AsksOn (map string_bytes words.now) (outside S.tells (S.told source.old) C.tells (C.held keeper.old)) command
-        (bytes ∷ [])
-        → files_of command ≡ file ∷ []
+        contents
+        → IsLast file bytes (files_of command) contents
         → ¬ IsMemory result → ¬ (result ≡ Read) → S.left source.new ≡ drop file.most bytes }
     ensures usage { (result ≡ Usage) ↔ IsUsage (map string_bytes words.now) }
     ensures read { result ≡ Read
         → Rose (S.faults source.old) (S.faults source.new)
-        ⊎ AsksMissing (map string_bytes words.now) (outside S.tells (S.told source.old) C.tells (C.held keeper.old)) }
+        ⊎ AsksLacking (map string_bytes words.now) (outside S.tells (S.told source.old) C.tells (C.held keeper.old)) }
     ensures write { result ≡ Write → Rose (K.faults sink.old) (K.faults sink.new) }
     ensures missing { AsksMissing (map string_bytes words.now)
         (outside S.tells (S.told source.old) C.tells (C.held keeper.old)) → result ≡ Read }
+    // Where a file is lacking that isn't the first, there may be no memory to read those before it.
+    ensures lacking { AsksLacking (map string_bytes words.now)
+        (outside S.tells (S.told source.old) C.tells (C.held keeper.old))
+        → IsUnread result K.tells (K.written sink.old) (K.written sink.new) }
     ensures nothing { (result ≡ Usage) ⊎ (result ≡ Read) → IsTrue K.tells → K.written sink.new ≡ K.written sink.old }
     ensures unread { (result ≡ Usage) ⊎ AsksNoFile (map string_bytes words.now) → source.new ≡ source.old }
     ensures files { S.told source.new ≡ S.told source.old }
@@ -217,13 +236,16 @@ fn carry_out<R: Threads + Sync, S: Source, K: Sink, C: Keeper, G: Gate>(
         → HasHonestCache (outside S.tells (S.told source.old) C.tells (C.held keeper.old)) (command_in command.entry)
         → IsCarriedOut (kind_of (command_in command.entry)) work result K.tells (K.written sink.old)
         (K.written sink.new) }
-    ensures left { (file : Wanted) (bytes : List ℕ) → files_of (command_in command.entry) ≡ file ∷ []
-        → HasAll (sources S.tells (S.told source.old)) (files_of (command_in command.entry)) (bytes ∷ [])
+    ensures left { (contents : List (List ℕ)) (file : Wanted) (bytes : List ℕ)
+        → HasAll (sources S.tells (S.told source.old)) (files_of (command_in command.entry)) contents
+        → IsLast file bytes (files_of (command_in command.entry)) contents
         → ¬ IsMemory result → ¬ (result ≡ Read) → S.left source.new ≡ drop file.most bytes }
     ensures read { result ≡ Read → Rose (S.faults source.old) (S.faults source.new)
-        ⊎ LacksFirst (sources S.tells (S.told source.old)) (files_of (command_in command.entry)) }
+        ⊎ LacksSome (sources S.tells (S.told source.old)) (files_of (command_in command.entry)) }
     ensures missing { LacksFirst (sources S.tells (S.told source.old)) (files_of (command_in command.entry))
         → result ≡ Read }
+    ensures lacking { LacksSome (sources S.tells (S.told source.old)) (files_of (command_in command.entry))
+        → IsUnread result K.tells (K.written sink.old) (K.written sink.new) }
     ensures nothing { result ≡ Read → IsTrue K.tells → K.written sink.new ≡ K.written sink.old }
     ensures write { result ≡ Write → Rose (K.faults sink.old) (K.faults sink.new) }
     ensures possible { ¬ (extent (kind_of (command_in command.entry)) result ≡ never) }
@@ -289,8 +311,16 @@ fn carry_out<R: Threads + Sync, S: Source, K: Sink, C: Keeper, G: Gate>(
         }
         Command::Sample { number } => run_sample(alloc, place, sink, keeper, number),
         Command::Migrate { cache } => migrate(alloc, cache, sink, keeper),
-        Command::Wat { file } => inquire(alloc, source, sink, file, Inquiry::Text),
-        Command::Check { file } => inquire(alloc, source, sink, file, Inquiry::Verdict),
+        Command::Wat { file } => {
+            inquire(alloc, source, sink, file, MOST_OF_MODULE, Inquiry::Text)
+        }
+        Command::Check { file } => {
+            inquire(alloc, source, sink, file, MOST_OF_MODULE, Inquiry::Verdict)
+        }
+        Command::Cert { file } => {
+            inquire(alloc, source, sink, file, MOST_OF_SOURCE, Inquiry::Certificate)
+        }
+        Command::Recheck { cert, file } => recheck(alloc, source, sink, file, cert),
     }
 }
 

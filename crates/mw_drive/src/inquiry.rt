@@ -1,47 +1,53 @@
-// What is asked of the module in a file.
+// What is asked of a file: of the module in it, or of the typing of a source.
 
-ghost use Rattle.std.specs.Prelude.{◌≡◌, ◌≤◌, ◌⊎◌, ℕ, List, IsTrue, IfOk, drop, take};
+ghost use Rattle.std.specs.Prelude.{◌≡◌, ◌≤◌, ◌<◌, ◌⊎◌, ℕ, List, IsTrue, IfOk, drop, take};
 ghost use Rattle.mw_outside.specs.Count.{Rose};
 ghost use Rattle.mw_console.specs.declared.status.Status.TheVariants.{Read, Write, BadModule as Faulty};
 ghost use Rattle.mw_judge.specs.FileLines.{bad_file_line};
 ghost use Rattle.mw_drive.specs.Extents.{never, on_a_file, extent};
-ghost use Rattle.mw_drive.specs.Running.{sources, module_file, most_of_module, Has, Lacks, IsCarriedOut, IsMemory};
+ghost use Rattle.mw_drive.specs.Running.{sources, wanted, Has, Lacks, IsCarriedOut, IsMemory};
 ghost use Rattle.mw_drive.specs.Running.{IsWritten};
 ghost use Rattle.mw_drive.specs.Verdicts.{inquired};
 ghost use Rattle.mw_drive.specs.Works.{writing, judging, judged, status_of, Reports};
 
+use crate::typing::{certificate_of, typing_of};
 use mw_console::{SourceFault, Status, file_bytes, write_lines};
 use mw_judge::{BadFile, FileFault, binary_text, judge, put_bad_file, put_verdict};
 use mw_outside::{Sink, Source, WriteFault};
 use std::alloc::{AllocError, Global};
 
 /// One byte more than the longest file of a module: reading ends with it.
-const MOST_OF_MODULE: usize = 67_108_865;
+pub const MOST_OF_MODULE: usize = 67_108_865;
 
-/// What is asked of a module: its text, or whether it is valid.
+/// What is asked of a module: its text, or whether it is valid. What is asked of a source: the certificate of its
+/// typing, or whether this text certifies it.
 #[derive(Clone, Copy, Debug)]
-pub enum Inquiry {
+pub enum Inquiry<'t> {
     Text,
     Verdict,
+    Certificate,
+    Typing(&'t [u8]),
 }
 
-/// Reads a file and writes what is asked of the module in it, or the line of its first fault.
+/// Reads a file, to its end or so many bytes of it, and writes what is asked of it, or the line of its first fault.
 pub fn inquire<S: Source, K: Sink>(
     alloc: Global,
     source: &mut S,
     sink: &mut K,
     file: &str,
-    inquiry: Inquiry,
+    most: usize,
+    inquiry: Inquiry<'_>,
 ) -> Status
-    ensures work { (bytes : List ℕ) → Has (sources S.tells (S.told source.old)) (module_file file.now) bytes
-        → IsCarriedOut on_a_file (inquired inquiry (take most_of_module bytes)) result K.tells
+    requires some { 0 < most }
+    ensures work { (bytes : List ℕ) → Has (sources S.tells (S.told source.old)) (wanted file.now most) bytes
+        → IsCarriedOut on_a_file (inquired inquiry.entry (take most bytes)) result K.tells
         (K.written sink.old) (K.written sink.new) }
-    ensures left { (bytes : List ℕ) → Has (sources S.tells (S.told source.old)) (module_file file.now) bytes
-        → ¬ IsMemory result → ¬ (result ≡ Read) → S.left source.new ≡ drop most_of_module bytes }
+    ensures left { (bytes : List ℕ) → Has (sources S.tells (S.told source.old)) (wanted file.now most) bytes
+        → ¬ IsMemory result → ¬ (result ≡ Read) → S.left source.new ≡ drop most bytes }
     ensures read { result ≡ Read
         → Rose (S.faults source.old) (S.faults source.new)
-        ⊎ Lacks (sources S.tells (S.told source.old)) (module_file file.now) }
-    ensures missing { Lacks (sources S.tells (S.told source.old)) (module_file file.now) → result ≡ Read }
+        ⊎ Lacks (sources S.tells (S.told source.old)) (wanted file.now most) }
+    ensures missing { Lacks (sources S.tells (S.told source.old)) (wanted file.now most) → result ≡ Read }
     ensures nothing { result ≡ Read → IsTrue K.tells → K.written sink.new ≡ K.written sink.old }
     ensures write { result ≡ Write → Rose (K.faults sink.old) (K.faults sink.new) }
     ensures possible { ¬ (extent on_a_file result ≡ never) }
@@ -53,16 +59,21 @@ pub fn inquire<S: Source, K: Sink>(
     ensures source_count { S.faults source.old ≤ S.faults source.new }
     ensures sink_count { K.faults sink.old ≤ K.faults sink.new }
 {
-    match file_bytes(alloc, source, file, MOST_OF_MODULE) {
+    match file_bytes(alloc, source, file, most) {
         Ok(bytes) => write_answer(alloc, bytes.as_slice(), sink, inquiry),
         Err(SourceFault::Failed) => Status::Read,
         Err(SourceFault::Memory(error)) => Status::Memory(error),
     }
 }
 
-/// Writes what is asked of the module of these bytes, or the line of their first fault.
-fn write_answer<K: Sink>(alloc: Global, bytes: &[u8], sink: &mut K, inquiry: Inquiry) -> Status
-    ensures work { IsCarriedOut on_a_file (inquired inquiry bytes.now) result K.tells
+/// Writes what is asked of these bytes, or the line of their first fault.
+pub fn write_answer<K: Sink>(
+    alloc: Global,
+    bytes: &[u8],
+    sink: &mut K,
+    inquiry: Inquiry<'_>,
+) -> Status
+    ensures work { IsCarriedOut on_a_file (inquired inquiry.entry bytes.now) result K.tells
         (K.written sink.old) (K.written sink.new) }
     ensures unread { ¬ (result ≡ Read) }
     ensures write { result ≡ Write → Rose (K.faults sink.old) (K.faults sink.new) }
@@ -84,18 +95,20 @@ fn write_answer<K: Sink>(alloc: Global, bytes: &[u8], sink: &mut K, inquiry: Inq
 
 /// A text, and the status that says the same.
 #[derive(Drop)]
-struct Answer {
-    text: Vec<u8>,
-    status: Status,
+pub struct Answer {
+    pub text: Vec<u8>,
+    pub status: Status,
 }
 
-/// What is answered to what is asked of the module of these bytes.
-fn answer_of(alloc: Global, bytes: &[u8], inquiry: Inquiry) -> Result<Answer, AllocError>
-    ensures { IfOk result (λ a. Reports (inquired inquiry bytes.now) a.text.items a.status) }
+/// What is answered to what is asked of these bytes.
+fn answer_of(alloc: Global, bytes: &[u8], inquiry: Inquiry<'_>) -> Result<Answer, AllocError>
+    ensures { IfOk result (λ a. Reports (inquired inquiry.entry bytes.now) a.text.items a.status) }
 {
     match inquiry {
         Inquiry::Text => text_of(alloc, bytes),
         Inquiry::Verdict => verdict_of(alloc, bytes),
+        Inquiry::Certificate => certificate_of(alloc, bytes),
+        Inquiry::Typing(text) => typing_of(alloc, text, bytes),
     }
 }
 

@@ -4,7 +4,7 @@ ghost use Rattle.std.specs.Prelude.{◌≡◌, true, map};
 ghost use Rattle.std.specs.String.{string_bytes};
 ghost use Rattle.mw_outside.specs.Sure.{sure_files, sure_held};
 ghost use Rattle.mw_console.specs.declared.status.Status.TheVariants.{Read, Write, Cache};
-ghost use Rattle.mw_drive.specs.Running.{outside, AsksMissing};
+ghost use Rattle.mw_drive.specs.Running.{outside, AsksLacking};
 ghost use Rattle.mw_drive.specs.SimplifiedPrograms.{ProgramsEndAlike};
 ghost use Rattle.mw_drive.specs.WorkLaws.{OneMeaning, SomeMeaning, AnswersAreErased};
 
@@ -37,7 +37,7 @@ pub fn programs_end_alike()
 {}
 
 /// Over a source, a sink and a keeper that never fail no command ends with Write or Cache, and one ends with Read only
-/// where the source lacks its file.
+/// where the source lacks a file of it.
 pub fn sure_outside<R: Threads + Sync, G: Gate>(
     rt: &R,
     alloc: Global,
@@ -48,7 +48,7 @@ pub fn sure_outside<R: Threads + Sync, G: Gate>(
     gate: &G,
     table: &Table<Entry>,
 ) -> Status
-    ensures read { result ≡ Read → AsksMissing (map string_bytes words.now)
+    ensures read { result ≡ Read → AsksLacking (map string_bytes words.now)
         (outside true (sure_files source.old) true (sure_held keeper.old)) }
     ensures write { ¬ (result ≡ Write) }
     ensures cache { ¬ (result ≡ Cache) }

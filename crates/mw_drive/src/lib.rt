@@ -19,6 +19,7 @@ mod shown;
 mod source;
 #[cfg(test)]
 mod tests;
+mod typing;
 mod workplace;
 
 pub use crate::command::run;

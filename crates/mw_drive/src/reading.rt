@@ -12,6 +12,9 @@ use mw_scope::resolve;
 use mw_term::{Program, Stop};
 use std::alloc::Global;
 
+/// One byte more than the longest source: reading ends with it.
+pub const MOST_OF_SOURCE: usize = 1_048_577;
+
 /// The program of a source, or the first refusal of its bytes, tokens, names and levels.
 pub fn read(alloc: Global, bytes: &[u8]) -> Result<Program, Stop>
     ensures found { IfOk result (λ p. IsRead bytes.now (named_program_of p)) }

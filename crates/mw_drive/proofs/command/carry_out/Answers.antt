@@ -2,14 +2,17 @@ use Rattle.std.proofs.Common.{◌≡◌, inl, inr, ◌∙◌, List, ℕ, option_
 use denote.Ref.{Bor}
 use Rattle.mw_words.specs.Words.{word_in}
 use Rattle.mw_drive.specs.BadRecords.{HasBadRecordOf}
-use Rattle.mw_drive.specs.Works.{IsMeaning, ran}
+use Rattle.mw_drive.specs.Works.{IsMeaning, ran, certifying, rechecking}
+use Rattle.mw_drive.proofs.Certificates.{means_certified, means_rechecked, carried_as}
 use Rattle.mw_drive.specs.Extents.{extent, on_a_file, on_a_cache}
 use Rattle.mw_drive.specs.Running.{IsWritten}
 use Rattle.mw_drive.proofs.HeldFiles.{held_of_run}
 use Rattle.mw_drive.proofs.OpenedFiles.{named_path}
 use Rattle.mw_drive.specs.OpenedFiles.{IsOpenedWith}
 use Rattle.mw_drive.proofs.CommandLemmas.{run_on, erased_on, linked_on, sample_on, migrate_on, wat_on, check_on}
-use Rattle.mw_drive.proofs.CommandLemmas.{file_carried, same_carried, one_left, first_lacks, lacks_one, no_migrated_run}
+use Rattle.mw_drive.proofs.CommandLemmas.{cert_on, recheck_on, file_carried, same_carried, one_left, two_left}
+use Rattle.mw_drive.proofs.CommandLemmas.{one_lacks, two_lack, lacks_one, lacks_none, one_unread, two_unread}
+use Rattle.mw_drive.proofs.CommandLemmas.{no_migrated_run}
 use Rattle.mw_drive.proofs.CommandLemmas.{kind_mapped, carried_mapped, some_mapped, none_mapped, honest_mapped}
 use Rattle.mw_drive.proofs.Options.{none_is_some}
 use Rattle.mw_drive.proofs.command.carry_out.Goals as goal
@@ -24,7 +27,7 @@ pub returns-in-Run-clause-left : goal.returns-in-Run-clause-left
 returns-in-Run-clause-left g c = rw c.in-Run.is (one_left c.evaluate_file.ensures.left)
 
 pub returns-in-Run-clause-read : goal.returns-in-Run-clause-read
-returns-in-Run-clause-read g c = λ is. rw c.in-Run.is (first_lacks (c.evaluate_file.ensures.read is))
+returns-in-Run-clause-read g c = λ is. rw c.in-Run.is (one_lacks (c.evaluate_file.ensures.read is))
 
 pub returns-in-Run-clause-possible : goal.returns-in-Run-clause-possible
 returns-in-Run-clause-possible g c =
@@ -75,7 +78,7 @@ pub returns-in-Erased-clause-left : goal.returns-in-Erased-clause-left
 returns-in-Erased-clause-left g c = rw c.in-Erased.is (one_left c.evaluate_file-in-Erased.ensures.left)
 
 pub returns-in-Erased-clause-read : goal.returns-in-Erased-clause-read
-returns-in-Erased-clause-read g c = λ is. rw c.in-Erased.is (first_lacks (c.evaluate_file-in-Erased.ensures.read is))
+returns-in-Erased-clause-read g c = λ is. rw c.in-Erased.is (one_lacks (c.evaluate_file-in-Erased.ensures.read is))
 
 pub returns-in-Erased-clause-bad : goal.returns-in-Erased-clause-bad
 returns-in-Erased-clause-bad g c = rw c.in-Erased.is (λ digest contents work told has works.
@@ -92,7 +95,7 @@ pub returns-in-Link-clause-left : goal.returns-in-Link-clause-left
 returns-in-Link-clause-left g c = rw c.in-Link.is (one_left c.evaluate_file-in-Link.ensures.left)
 
 pub returns-in-Link-clause-read : goal.returns-in-Link-clause-read
-returns-in-Link-clause-read g c = λ is. rw c.in-Link.is (first_lacks (c.evaluate_file-in-Link.ensures.read is))
+returns-in-Link-clause-read g c = λ is. rw c.in-Link.is (one_lacks (c.evaluate_file-in-Link.ensures.read is))
 
 pub returns-in-Link-clause-bad : goal.returns-in-Link-clause-bad
 returns-in-Link-clause-bad g c = rw c.in-Link.is (λ digest contents work told has works.
@@ -133,7 +136,7 @@ pub returns-in-Wat-clause-left : goal.returns-in-Wat-clause-left
 returns-in-Wat-clause-left g c = rw c.in-Wat.is (one_left c.inquire.ensures.left)
 
 pub returns-in-Wat-clause-read : goal.returns-in-Wat-clause-read
-returns-in-Wat-clause-read g c = λ is. rw c.in-Wat.is (first_lacks (c.inquire.ensures.read is))
+returns-in-Wat-clause-read g c = λ is. rw c.in-Wat.is (one_lacks (c.inquire.ensures.read is))
 
 pub returns-in-Wat-clause-cache : goal.returns-in-Wat-clause-cache
 returns-in-Wat-clause-cache g c = λ is. absurd (c.inquire.ensures.possible (ap (extent on_a_file) is))
@@ -150,7 +153,7 @@ pub returns-in-Check-clause-left : goal.returns-in-Check-clause-left
 returns-in-Check-clause-left g c = rw c.in-Check.is (one_left c.inquire-in-Check.ensures.left)
 
 pub returns-in-Check-clause-read : goal.returns-in-Check-clause-read
-returns-in-Check-clause-read g c = λ is. rw c.in-Check.is (first_lacks (c.inquire-in-Check.ensures.read is))
+returns-in-Check-clause-read g c = λ is. rw c.in-Check.is (one_lacks (c.inquire-in-Check.ensures.read is))
 
 pub returns-in-Check-clause-cache : goal.returns-in-Check-clause-cache
 returns-in-Check-clause-cache g c = λ is. absurd (c.inquire-in-Check.ensures.possible (ap (extent on_a_file) is))
@@ -193,3 +196,90 @@ returns-in-Migrate-clause-opened g c = rw c.in-Migrate.is (λ path is tells.
     let same : c.in-Migrate.cache.now ≡ path = cc in
     subst (λ p. IsOpenedWith c.migrate.result p (g.C.Keeper.opened c.args.keeper.now)
     (g.C.Keeper.opened c.migrate.new.keeper)) same (c.migrate.ensures.opened tells))
+
+-- Where a file is lacking, nothing is written.
+pub returns-in-Run-clause-lacking : goal.returns-in-Run-clause-lacking
+returns-in-Run-clause-lacking g c =
+    rw c.in-Run.is (one_unread c.evaluate_file.result g.K.Sink.tells _ _ c.evaluate_file.ensures.missing
+    c.evaluate_file.ensures.nothing)
+
+pub returns-in-Erased-clause-lacking : goal.returns-in-Erased-clause-lacking
+returns-in-Erased-clause-lacking g c =
+    rw c.in-Erased.is (one_unread c.evaluate_file-in-Erased.result g.K.Sink.tells _ _
+    c.evaluate_file-in-Erased.ensures.missing c.evaluate_file-in-Erased.ensures.nothing)
+
+pub returns-in-Link-clause-lacking : goal.returns-in-Link-clause-lacking
+returns-in-Link-clause-lacking g c =
+    rw c.in-Link.is (one_unread c.evaluate_file-in-Link.result g.K.Sink.tells _ _
+    c.evaluate_file-in-Link.ensures.missing c.evaluate_file-in-Link.ensures.nothing)
+
+pub returns-in-Sample-clause-lacking : goal.returns-in-Sample-clause-lacking
+returns-in-Sample-clause-lacking g c = rw c.in-Sample.is (λ lacks. lacks_none lacks)
+
+pub returns-in-Migrate-clause-lacking : goal.returns-in-Migrate-clause-lacking
+returns-in-Migrate-clause-lacking g c = rw c.in-Migrate.is (λ lacks. lacks_none lacks)
+
+pub returns-in-Wat-clause-lacking : goal.returns-in-Wat-clause-lacking
+returns-in-Wat-clause-lacking g c =
+    rw c.in-Wat.is (one_unread c.inquire.result g.K.Sink.tells _ _ c.inquire.ensures.missing
+    c.inquire.ensures.nothing)
+
+pub returns-in-Check-clause-lacking : goal.returns-in-Check-clause-lacking
+returns-in-Check-clause-lacking g c =
+    rw c.in-Check.is (one_unread c.inquire-in-Check.result g.K.Sink.tells _ _ c.inquire-in-Check.ensures.missing
+    c.inquire-in-Check.ensures.nothing)
+
+-- The certificate of a source.
+pub returns-in-Cert-clause-work : goal.returns-in-Cert-clause-work
+returns-in-Cert-clause-work g c = rw c.in-Cert.is (λ contents work has works honest.
+    file_carried work (cert_on contents work has works) (λ bytes here.
+    carried_as (certifying bytes) (means_certified bytes) (c.inquire-in-Cert.ensures.work bytes here)))
+
+pub returns-in-Cert-clause-left : goal.returns-in-Cert-clause-left
+returns-in-Cert-clause-left g c = rw c.in-Cert.is (one_left c.inquire-in-Cert.ensures.left)
+
+pub returns-in-Cert-clause-read : goal.returns-in-Cert-clause-read
+returns-in-Cert-clause-read g c = λ is. rw c.in-Cert.is (one_lacks (c.inquire-in-Cert.ensures.read is))
+
+pub returns-in-Cert-clause-missing : goal.returns-in-Cert-clause-missing
+returns-in-Cert-clause-missing g c = λ lacks. c.inquire-in-Cert.ensures.missing (lacks_one (rw c.in-Cert.is at lacks))
+
+pub returns-in-Cert-clause-lacking : goal.returns-in-Cert-clause-lacking
+returns-in-Cert-clause-lacking g c =
+    rw c.in-Cert.is (one_unread c.inquire-in-Cert.result g.K.Sink.tells _ _ c.inquire-in-Cert.ensures.missing
+    c.inquire-in-Cert.ensures.nothing)
+
+pub returns-in-Cert-clause-cache : goal.returns-in-Cert-clause-cache
+returns-in-Cert-clause-cache g c = λ is. absurd (c.inquire-in-Cert.ensures.possible (ap (extent on_a_file) is))
+
+pub returns-in-Cert-clause-bad : goal.returns-in-Cert-clause-bad
+returns-in-Cert-clause-bad g c = λ digest contents work is. absurd
+    (c.inquire-in-Cert.ensures.possible (ap (extent on_a_file) is))
+
+-- A text and a source.
+pub returns-in-Recheck-clause-work : goal.returns-in-Recheck-clause-work
+returns-in-Recheck-clause-work g c = rw c.in-Recheck.is (λ contents work has works honest.
+    let on = recheck_on contents work has works in
+    same_carried work on.is_work (carried_as _ (means_rechecked _ on.bytes)
+    (c.recheck.ensures.work on.bytes on.text on.has_source on.has_text)))
+
+pub returns-in-Recheck-clause-left : goal.returns-in-Recheck-clause-left
+returns-in-Recheck-clause-left g c = rw c.in-Recheck.is (two_left c.recheck.ensures.left)
+
+pub returns-in-Recheck-clause-read : goal.returns-in-Recheck-clause-read
+returns-in-Recheck-clause-read g c = λ is. rw c.in-Recheck.is (two_lack (c.recheck.ensures.read is))
+
+pub returns-in-Recheck-clause-missing : goal.returns-in-Recheck-clause-missing
+returns-in-Recheck-clause-missing g c = λ lacks. c.recheck.ensures.missing (lacks_one (rw c.in-Recheck.is at lacks))
+
+pub returns-in-Recheck-clause-lacking : goal.returns-in-Recheck-clause-lacking
+returns-in-Recheck-clause-lacking g c =
+    rw c.in-Recheck.is (two_unread c.recheck.result g.K.Sink.tells _ _ c.recheck.ensures.missing
+    c.recheck.ensures.nothing c.recheck.ensures.lacking)
+
+pub returns-in-Recheck-clause-cache : goal.returns-in-Recheck-clause-cache
+returns-in-Recheck-clause-cache g c = λ is. absurd (c.recheck.ensures.possible (ap (extent on_a_file) is))
+
+pub returns-in-Recheck-clause-bad : goal.returns-in-Recheck-clause-bad
+returns-in-Recheck-clause-bad g c = λ digest contents work is. absurd
+    (c.recheck.ensures.possible (ap (extent on_a_file) is))

@@ -10,9 +10,9 @@ use Rattle.mw_words.specs.Words.{command_in}
 use Rattle.mw_keeping.proofs.KeptFiles.{front_stays}
 use Rattle.mw_drive.proofs.CommandLemmas.{IsCalled, sample_range, run_workers, link_workers, asked_text}
 use Rattle.mw_drive.proofs.CommandLemmas.{asked_status, asked_complete, asked_faults, asked_possible, asked_of}
-use Rattle.mw_drive.proofs.CommandLemmas.{asked_missing, asked_no_file}
-use Rattle.mw_drive.proofs.CommandLemmas.{asked_no_cache, asked_file, asked_verdict, asked_kept, asked_bad, asked_read}
-use Rattle.mw_drive.proofs.CommandLemmas.{asked_has, asked_erased, asked_simplified}
+use Rattle.mw_drive.proofs.CommandLemmas.{asked_missing, asked_lacking, asked_no_file, asked_no_cache, asked_last}
+use Rattle.mw_drive.proofs.CommandLemmas.{asked_verdict, asked_certificate, asked_typing, asked_kept, asked_bad}
+use Rattle.mw_drive.proofs.CommandLemmas.{asked_read, has_on, asked_erased, asked_simplified}
 use Rattle.mw_drive.proofs.HeldFiles.{front_of, kept_ending}
 use Rattle.mw_drive.proofs.ModuleLemmas.{meaning_modules}
 use Rattle.mw_drive.proofs.command.run.Given.{Over}
@@ -89,9 +89,22 @@ returns-in-Ok-clause-missing g c = λ asked. c.carry_out.ensures.missing
     (asked_missing (called g (goal.at.returns-in-Ok-clause-missing g c).After-carry_out) asked)
 
 pub returns-in-Ok-clause-left : goal.returns-in-Ok-clause-left
-returns-in-Ok-clause-left g c = λ other file bytes on is.
+returns-in-Ok-clause-left g c = λ other contents file bytes on last.
     let known = called g (goal.at.returns-in-Ok-clause-left g c).After-carry_out in
-    c.carry_out.ensures.left file bytes (asked_file known other file bytes on is) (asked_has known other bytes on)
+    c.carry_out.ensures.left contents file bytes (has_on known other contents on)
+    (asked_last known other contents file bytes on last)
+
+pub returns-in-Ok-clause-lacking : goal.returns-in-Ok-clause-lacking
+returns-in-Ok-clause-lacking g c = λ asked. c.carry_out.ensures.lacking
+    (asked_lacking (called g (goal.at.returns-in-Ok-clause-lacking g c).After-carry_out) asked)
+
+pub returns-in-Ok-clause-certificate : goal.returns-in-Ok-clause-certificate
+returns-in-Ok-clause-certificate g c =
+    asked_certificate (called g (goal.at.returns-in-Ok-clause-certificate g c).After-carry_out)
+
+pub returns-in-Ok-clause-typed : goal.returns-in-Ok-clause-typed
+returns-in-Ok-clause-typed g c =
+    asked_typing (called g (goal.at.returns-in-Ok-clause-typed g c).After-carry_out)
 
 pub returns-in-Ok-clause-judged : goal.returns-in-Ok-clause-judged
 returns-in-Ok-clause-judged g c =
