@@ -11,7 +11,7 @@ use Rattle.mw_words.proofs.LawLemmas.{few_number, few_switch, few_word}
 use Rattle.mw_words.proofs.Passing.{same_parts}
 
 -- the words of the commands that have no parts
-bare : List (List ℕ)
+abbrev pub bare : List (List ℕ)
 bare = codes "sample" ∷ codes "wat" ∷ codes "check" ∷ codes "cert" ∷ codes "recheck" ∷ []
 
 -- a word of none of them
