@@ -1,5 +1,5 @@
 -- The lines of the output.
-use Rattle.std.specs.Prelude.{ℕ, List, [], ◌++◌, get_or, codes, if◌then◌else◌}
+use Rattle.std.specs.Prelude.{ℕ, Bool, true, false, List, [], ◌++◌, get_or, codes, if◌then◌else◌}
 use Rattle.std.specs.Fmt.{signed_decimal, decimal}
 use Rattle.hex.specs.Hex.{encode_lower}
 use Rattle.mw_term.specs.Terms.{GroundType, KernelType, base, product, of_ground, to, PureGroundValue, int, bool, both}
@@ -119,6 +119,11 @@ totals_text kernels bytes = total_line (codes "kernels ") kernels ++ total_line 
 -- added for them
 abbrev pub migrated_text : (old added : ℕ) → List ℕ
 migrated_text old added = total_line (codes "old ") old ++ total_line (codes "added ") added
+
+-- the line that says whether a certificate is one of a source
+abbrev pub typing_line : Bool → List ℕ
+typing_line true = codes "typed\n"
+typing_line false = codes "not typed\n"
 
 -- the last line of the output
 abbrev pub ending_line : Ending → List ℕ

@@ -14,4 +14,5 @@ pub use crate::source::{SourceFault, file_bytes};
 pub use crate::status::Status;
 pub use crate::text::{
     put_answer, put_bound, put_kernel, put_migrated, put_module, put_refusal, put_totals, put_trap,
+    put_typing,
 };

@@ -33,10 +33,12 @@ pub enum Status {
     BadModule,
     /// All of it was written, and it says that the module isn't valid.
     Invalid,
+    /// All of the output was written, and it says that the certificate isn't one of the source.
+    NotTyped,
 }
 
 impl Status {
-    /// The exit code, from 0 to 11.
+    /// The exit code, from 0 to 12.
     pub fn code(&self) -> u8
         ensures { result ≡ code_of self.now }
     {
@@ -53,6 +55,7 @@ impl Status {
             Status::BadCache(_) => 9,
             Status::BadModule => 10,
             Status::Invalid => 11,
+            Status::NotTyped => 12,
         }
     }
 }

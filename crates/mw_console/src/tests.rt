@@ -1,4 +1,4 @@
-// The lines of a migration, written by hand.
+// The lines of a migration and of a recheck, written by hand.
 
 use super::*;
 use std::process::Abort;
@@ -23,6 +23,20 @@ fn migrations(rt: HostRuntime) -> Result<(), Fail> {
     for &(old, added, expected) in MIGRATIONS {
         let mut text = Vec::from_slice(alloc, b"before\n")?;
         put_migrated(alloc, &mut text, old, added)?;
+        assert_eq!(rt; text.as_slice(), expected);
+    }
+    Ok(())
+}
+
+/// The line of each answer of a recheck, behind what was written before.
+const TYPINGS: &[(bool, &[u8])] = &[(true, b"before\ntyped\n"), (false, b"before\nnot typed\n")];
+
+#[test]
+fn typings(rt: HostRuntime) -> Result<(), Fail> {
+    let alloc = rt.alloc();
+    for &(typed, expected) in TYPINGS {
+        let mut text = Vec::from_slice(alloc, b"before\n")?;
+        put_typing(&mut text, typed)?;
         assert_eq!(rt; text.as_slice(), expected);
     }
     Ok(())

@@ -8,7 +8,7 @@ ghost use Rattle.mw_term.specs.declared.program.Item.{Item as PureItem};
 ghost use Rattle.mw_console.specs.Texts.{answered, trapped, bounded, base_text, ground_text, left_text, kind_text};
 ghost use Rattle.mw_console.specs.Texts.{kernel_text, kernel_line, digits_line, limit_words, trap_words, ending_line};
 ghost use Rattle.mw_console.specs.Texts.{total_line, totals_text, migrated_text, name_at, in_line, at_line, named_line};
-ghost use Rattle.mw_console.specs.Texts.{refusal_line, value_text};
+ghost use Rattle.mw_console.specs.Texts.{refusal_line, typing_line, value_text};
 
 use mw_term::{Base, BaseValue, Ground, GroundValue, Item, KType, Limit, Refusal, TrapKind};
 use std::alloc::{AllocError, Global};
@@ -294,6 +294,17 @@ pub fn put_migrated(
 {
     put_total(alloc, text, b"old ", u64::from(old))?;
     put_total(alloc, text, b"added ", u64::from(added))
+}
+
+/// The line that says whether a certificate is one of a source.
+pub fn put_typing(text: &mut Vec<u8>, typed: bool) -> Result<(), AllocError>
+    ensures { IfOk result (λ _. text.new.items ≡ text.old.items ++ typing_line typed) }
+{
+    if typed {
+        put(text, b"typed\n")
+    } else {
+        put(text, b"not typed\n")
+    }
 }
 
 /// The line of a word and a number.

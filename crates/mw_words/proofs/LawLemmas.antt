@@ -6,7 +6,8 @@ use Rattle.mw_words.specs.Words.{apart, joined, PurePart, is_named, is_taken, pa
 use Rattle.mw_words.specs.Words.{not_named, named_once, IsSwitchOf, off, on, IsWordOf, without_word, with_word}
 use Rattle.mw_words.specs.Words.{IsFileOf}
 use Rattle.mw_words.specs.Words.{HasNoFile, PureCommand, sample, Makes, run_of, erased_of, link_of, migrate_of}
-use Rattle.mw_words.specs.Words.{parts_command, sample_command, wat_command, check_command}
+use Rattle.mw_words.specs.Words.{parts_command, sample_command, wat_command, check_command, cert_command}
+use Rattle.mw_words.specs.Words.{recheck_command}
 use Rattle.mw_words.specs.WordLaws.{OneCommand, EitherForm, AnyOrder}
 use Rattle.mw_words.proofs.OptionLemmas.{one_value}
 use Rattle.mw_words.proofs.PartLemmas.{same_number}
@@ -56,28 +57,24 @@ same_made {parts = parts} (link_of {name = a} o w u f) (link_of {name = b} o' w'
     cc
 same_made (migrate_of o d n) (migrate_of o' d' n') = let caches_same = one_word d d' in cc
 
--- a sample, a module's text and the verdict on it have no parts
-pub no_sample_parts : {parts : List PurePart} {c : PureCommand} → Makes (codes "sample") parts c → ⊥
-no_sample_parts m = elim m [ ]
-
-pub no_wat_parts : {parts : List PurePart} {c : PureCommand} → Makes (codes "wat") parts c → ⊥
-no_wat_parts m = elim m [ ]
-
-pub no_check_parts : {parts : List PurePart} {c : PureCommand} → Makes (codes "check") parts c → ⊥
-no_check_parts m = elim m [ ]
-
 pub one_command : OneCommand
 one_command words a b (parts_command {word = word} h m) (parts_command h' m') =
     same_made m (subst (λ (ps : List PurePart). Makes word ps b) (sym (same_parts h h')) m')
-one_command words a b (parts_command h m) (sample_command n) = absurd (no_sample_parts m)
-one_command words a b (parts_command h m) (wat_command f) = absurd (no_wat_parts m)
-one_command words a b (parts_command h m) (check_command f) = absurd (no_check_parts m)
-one_command words a b (sample_command n) (parts_command h m) = absurd (no_sample_parts m)
+one_command words a b (parts_command h m) (sample_command n) = elim m [ ]
+one_command words a b (parts_command h m) (wat_command f) = elim m [ ]
+one_command words a b (parts_command h m) (check_command f) = elim m [ ]
+one_command words a b (parts_command h m) (cert_command f) = elim m [ ]
+one_command words a b (parts_command h m) (recheck_command f g) = elim m [ ]
+one_command words a b (sample_command n) (parts_command h m) = elim m [ ]
 one_command words a b (sample_command n) (sample_command n') = ap sample (same_number refl n n')
-one_command words a b (wat_command f) (parts_command h m) = absurd (no_wat_parts m)
+one_command words a b (wat_command f) (parts_command h m) = elim m [ ]
 one_command words a b (wat_command f) (wat_command f') = refl
-one_command words a b (check_command f) (parts_command h m) = absurd (no_check_parts m)
+one_command words a b (check_command f) (parts_command h m) = elim m [ ]
 one_command words a b (check_command f) (check_command f') = refl
+one_command words a b (cert_command f) (parts_command h m) = elim m [ ]
+one_command words a b (cert_command f) (cert_command f') = refl
+one_command words a b (recheck_command f g) (parts_command h m) = elim m [ ]
+one_command words a b (recheck_command f g) (recheck_command f' g') = refl
 
 pub either_form : EitherForm
 either_form name value v rest r = (

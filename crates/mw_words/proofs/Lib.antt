@@ -1,4 +1,5 @@
 pub mod CacheExamples
+pub mod CertificateExamples
 pub mod ExampleLemmas
 pub mod Items
 pub mod LawLemmas

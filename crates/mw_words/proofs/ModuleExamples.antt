@@ -4,7 +4,7 @@ use Rattle.mw_words.specs.Words.{IsFileWord, wat_command, check_command}
 use Rattle.mw_words.specs.Examples.{WatFile, CheckFile, WatNoFile, WatTwoFiles, WatOption, WatEmpty, WatDashed}
 use Rattle.mw_words.specs.Examples.{CheckNoFile, CheckTwoFiles, CheckOption, CheckEmpty, CheckDashed}
 use Rattle.mw_words.proofs.PartLemmas.{no_file}
-use Rattle.mw_words.proofs.Usage.{no_wat, no_check}
+use Rattle.mw_words.proofs.Usage.{IsNoFile, no_wat, no_check}
 use Rattle.mw_words.proofs.ExampleLemmas.{f_named}
 
 pub wat_file : WatFile
@@ -14,13 +14,13 @@ pub check_file : CheckFile
 check_file = check_command f_named
 
 -- no word, two words and a word that names no file are no file alone
-none_alone : (word : List ℕ) → [] ≡ word ∷ [] → IsFileWord word → ⊥
+pub none_alone : IsNoFile []
 none_alone word e h = cc
 
-two_alone : (first second word : List ℕ) → first ∷ second ∷ [] ≡ word ∷ [] → IsFileWord word → ⊥
+pub two_alone : (first second : List ℕ) → IsNoFile (first ∷ second ∷ [])
 two_alone first second word e h = cc
 
-other_alone : (own : List ℕ) → (IsFileWord own → ⊥) → (word : List ℕ) → own ∷ [] ≡ word ∷ [] → IsFileWord word → ⊥
+pub other_alone : (own : List ℕ) → (IsFileWord own → ⊥) → IsNoFile (own ∷ [])
 other_alone own other word e h = let same : word ≡ own = cc in other (subst IsFileWord same h)
 
 dashed : IsFileWord (codes "-f") → ⊥

@@ -1,57 +1,45 @@
 -- Words that mean no command.
-use Rattle.std.proofs.Common.{◌≡◌, ℕ, ◌≤◌, List, [], ◌∷◌, Option, Some, codes, length, get_or, Bool, refl, sym}
-use Rattle.std.proofs.Common.{ap, subst, arith}
+use Rattle.std.proofs.Common.{◌≡◌, ℕ, ◌≤◌, List, [], ◌∷◌, Option, Some, codes, length, Bool, false, refl, sym}
+use Rattle.std.proofs.Common.{subst, arith}
+use Rattle.std.specs.Prelude.{bytes_eq}
+use Rattle.std.specs.List.{list_any}
 use Rattle.mw_words.specs.Words.{PurePart, PureCommand, HaveOnly, AreWorkersOf, AreUnitsOf, IsSwitchOf, IsWordOf}
 use Rattle.mw_words.specs.Words.{IsFileOf, HasNoFile, IsFileWord, AreParts, Makes, run_of, erased_of, link_of}
-use Rattle.mw_words.specs.Words.{migrate_of, parts_command, sample_command, wat_command, check_command, IsNumber}
-use Rattle.mw_words.specs.Words.{IsUsage, parts_named}
-use Rattle.mw_words.proofs.LawLemmas.{few_number, few_switch, few_word, no_sample_parts, no_wat_parts, no_check_parts}
+use Rattle.mw_words.specs.Words.{migrate_of, parts_command, sample_command, wat_command, check_command, cert_command}
+use Rattle.mw_words.specs.Words.{recheck_command, IsNumber, IsUsage, parts_named}
+use Rattle.mw_words.proofs.LawLemmas.{few_number, few_switch, few_word}
 use Rattle.mw_words.proofs.Passing.{same_parts}
 
--- a word other than those of the commands that have no parts
-abbrev pub IsOther : List ℕ → Type 0
-IsOther word = (word ≡ codes "sample" → ⊥) × (word ≡ codes "wat" → ⊥) × (word ≡ codes "check" → ⊥)
+-- the words of the commands that have no parts
+abbrev pub bare : List (List ℕ)
+bare = codes "sample" ∷ codes "wat" ∷ codes "check" ∷ codes "cert" ∷ codes "recheck" ∷ []
 
--- words of which the first bytes differ
-first_differs : (v w : List ℕ) → (get_or v 0 0 ≡ get_or w 0 0 → ⊥) → v ≡ w → ⊥
-first_differs v w other e = other (ap (λ (t : List ℕ). get_or t 0 0) e)
+-- a word of none of them
+abbrev pub IsOther : List ℕ → Type 0
+IsOther word = list_any (bytes_eq word) bare ≡ false
 
 pub run_is_other : IsOther (codes "run")
-run_is_other = (
-  first_differs _ _ (λ e. omega arith),
-  first_differs _ _ (λ e. omega arith),
-  first_differs _ _ (λ e. omega arith),
-)
+run_is_other = refl
 
 pub erased_is_other : IsOther (codes "erased")
-erased_is_other = (
-  first_differs _ _ (λ e. omega arith),
-  first_differs _ _ (λ e. omega arith),
-  first_differs _ _ (λ e. omega arith),
-)
+erased_is_other = refl
 
 pub link_is_other : IsOther (codes "link")
-link_is_other = (
-  first_differs _ _ (λ e. omega arith),
-  first_differs _ _ (λ e. omega arith),
-  first_differs _ _ (λ e. omega arith),
-)
+link_is_other = refl
 
 pub migrate_is_other : IsOther (codes "migrate")
-migrate_is_other = (
-  first_differs _ _ (λ e. omega arith),
-  first_differs _ _ (λ e. omega arith),
-  first_differs _ _ (λ e. omega arith),
-)
+migrate_is_other = refl
 
 -- words whose parts make no command
 pub no_command : {word : List ℕ} {words : List (List ℕ)} → IsOther word → ((parts : List PurePart)
     → AreParts words parts → (c : PureCommand) → Makes word parts c → ⊥)
     → IsUsage (word ∷ words)
 no_command other none c (parts_command h m) = none _ h c m
-no_command other none c (sample_command n) = other.0 refl
-no_command other none c (wat_command f) = other.1 refl
-no_command other none c (check_command f) = other.2 refl
+no_command other none c (sample_command n) = cc
+no_command other none c (wat_command f) = cc
+no_command other none c (check_command f) = cc
+no_command other none c (cert_command f) = cc
+no_command other none c (recheck_command f g) = cc
 
 -- where one list of the words' parts makes none, each does
 pub these_make_none : {words : List (List ℕ)} {read : List PurePart} (word : List ℕ) → AreParts words read
@@ -63,30 +51,47 @@ these_make_none word h none parts whole c makes = none c (subst (λ (ps : List P
 -- words after a sample that aren't a number alone
 pub no_sample : {words : List (List ℕ)} → ((word : List ℕ) (n : ℕ) → words ≡ word ∷ [] → IsNumber 100 word n → ⊥)
     → IsUsage (codes "sample" ∷ words)
-no_sample none c (parts_command h m) = no_sample_parts m
+no_sample none c (parts_command h m) = elim m [ ]
 no_sample none c (sample_command n) = none _ _ refl n
 
--- words after `wat` or `check` that aren't a file alone
-pub no_wat : {words : List (List ℕ)} → ((word : List ℕ) → words ≡ word ∷ [] → IsFileWord word → ⊥)
-    → IsUsage (codes "wat" ∷ words)
-no_wat none c (parts_command h m) = no_wat_parts m
+-- words that aren't a file alone
+abbrev pub IsNoFile : List (List ℕ) → Type 0
+IsNoFile words = (word : List ℕ) → words ≡ word ∷ [] → IsFileWord word → ⊥
+
+pub no_wat : {words : List (List ℕ)} → IsNoFile words → IsUsage (codes "wat" ∷ words)
+no_wat none c (parts_command h m) = elim m [ ]
 no_wat none c (wat_command f) = none _ refl f
 
-pub no_check : {words : List (List ℕ)} → ((word : List ℕ) → words ≡ word ∷ [] → IsFileWord word → ⊥)
-    → IsUsage (codes "check" ∷ words)
-no_check none c (parts_command h m) = no_check_parts m
+pub no_check : {words : List (List ℕ)} → IsNoFile words → IsUsage (codes "check" ∷ words)
+no_check none c (parts_command h m) = elim m [ ]
 no_check none c (check_command f) = none _ refl f
+
+pub no_cert : {words : List (List ℕ)} → IsNoFile words → IsUsage (codes "cert" ∷ words)
+no_cert none c (parts_command h m) = elim m [ ]
+no_cert none c (cert_command f) = none _ refl f
+
+-- words that aren't two files
+abbrev pub AreNoTwoFiles : List (List ℕ) → Type 0
+AreNoTwoFiles words = (first second : List ℕ) → words ≡ first ∷ second ∷ [] → IsFileWord first → IsFileWord second → ⊥
+
+pub no_recheck : {words : List (List ℕ)} → AreNoTwoFiles words → IsUsage (codes "recheck" ∷ words)
+no_recheck none c (parts_command h m) = elim m [ ]
+no_recheck none c (recheck_command f g) = none _ _ refl f g
 
 -- a word of no command
 pub unknown : {word : List ℕ} {words : List (List ℕ)} → (word ≡ codes "run" → ⊥) → (word ≡ codes "erased" → ⊥)
-    → (word ≡ codes "link" → ⊥) → (word ≡ codes "migrate" → ⊥) → IsOther word → IsUsage (word ∷ words)
-unknown r e l m other c (parts_command h (run_of o w u b d f)) = r refl
-unknown r e l m other c (parts_command h (erased_of o u f)) = e refl
-unknown r e l m other c (parts_command h (link_of o w u f)) = l refl
-unknown r e l m other c (parts_command h (migrate_of o d n)) = m refl
-unknown r e l m other c (sample_command n) = other.0 refl
-unknown r e l m other c (wat_command f) = other.1 refl
-unknown r e l m other c (check_command f) = other.2 refl
+    → (word ≡ codes "link" → ⊥) → (word ≡ codes "sample" → ⊥) → (word ≡ codes "migrate" → ⊥)
+    → (word ≡ codes "wat" → ⊥) → (word ≡ codes "check" → ⊥) → (word ≡ codes "cert" → ⊥)
+    → (word ≡ codes "recheck" → ⊥) → IsUsage (word ∷ words)
+unknown r e l s m w k d g c (parts_command h (run_of o v u b p f)) = r refl
+unknown r e l s m w k d g c (parts_command h (erased_of o u f)) = e refl
+unknown r e l s m w k d g c (parts_command h (link_of o v u f)) = l refl
+unknown r e l s m w k d g c (parts_command h (migrate_of o p n)) = m refl
+unknown r e l s m w k d g c (sample_command n) = s refl
+unknown r e l s m w k d g c (wat_command f) = w refl
+unknown r e l s m w k d g c (check_command f) = k refl
+unknown r e l s m w k d g c (cert_command f) = d refl
+unknown r e l s m w k d g c (recheck_command f f') = g refl
 
 -- of each option there is one at most
 pub workers_once : {parts : List PurePart} {n : ℕ} → AreWorkersOf parts n

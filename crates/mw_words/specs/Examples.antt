@@ -1,6 +1,6 @@
 -- Worked examples of words, as theorems.
 use Rattle.std.specs.Prelude.{[], ◌∷◌, true, false, Some, None, codes}
-use Rattle.mw_words.specs.Words.{run, erased, link, sample, migrate, wat, check, Means, IsUsage}
+use Rattle.mw_words.specs.Words.{run, erased, link, sample, migrate, wat, check, cert, recheck, Means, IsUsage}
 
 -- a file alone
 abbrev pub FileAlone : Type 0
@@ -108,6 +108,18 @@ WatFile = Means (codes "wat" ∷ codes "f" ∷ []) (wat (codes "f"))
 -- and the verdict on it
 abbrev pub CheckFile : Type 0
 CheckFile = Means (codes "check" ∷ codes "f" ∷ []) (check (codes "f"))
+
+-- the certificate of the typing of a source
+abbrev pub CertFile : Type 0
+CertFile = Means (codes "cert" ∷ codes "f" ∷ []) (cert (codes "f"))
+
+-- whether a file certifies the typing of another's source
+abbrev pub RecheckFiles : Type 0
+RecheckFiles = Means (codes "recheck" ∷ codes "c" ∷ codes "f" ∷ []) (recheck (codes "c") (codes "f"))
+
+-- or of its own
+abbrev pub RecheckSameFile : Type 0
+RecheckSameFile = Means (codes "recheck" ∷ codes "f" ∷ codes "f" ∷ []) (recheck (codes "f") (codes "f"))
 
 -- no word
 abbrev pub NoWord : Type 0
@@ -271,3 +283,55 @@ CheckEmpty = IsUsage (codes "check" ∷ codes "" ∷ [])
 -- and on one that begins with `-`
 abbrev pub CheckDashed : Type 0
 CheckDashed = IsUsage (codes "check" ∷ codes "-f" ∷ [])
+
+-- the certificate of no source
+abbrev pub CertNoFile : Type 0
+CertNoFile = IsUsage (codes "cert" ∷ [])
+
+-- of two
+abbrev pub CertTwoFiles : Type 0
+CertTwoFiles = IsUsage (codes "cert" ∷ codes "a" ∷ codes "b" ∷ [])
+
+-- by an option
+abbrev pub CertOption : Type 0
+CertOption = IsUsage (codes "cert" ∷ codes "--fuel=8" ∷ codes "f" ∷ [])
+
+-- of a file whose name is empty
+abbrev pub CertEmpty : Type 0
+CertEmpty = IsUsage (codes "cert" ∷ codes "" ∷ [])
+
+-- and of one that begins with `-`
+abbrev pub CertDashed : Type 0
+CertDashed = IsUsage (codes "cert" ∷ codes "-a" ∷ [])
+
+-- a recheck of no file
+abbrev pub RecheckNoFile : Type 0
+RecheckNoFile = IsUsage (codes "recheck" ∷ [])
+
+-- of one
+abbrev pub RecheckOneFile : Type 0
+RecheckOneFile = IsUsage (codes "recheck" ∷ codes "a" ∷ [])
+
+-- of three
+abbrev pub RecheckThreeFiles : Type 0
+RecheckThreeFiles = IsUsage (codes "recheck" ∷ codes "a" ∷ codes "b" ∷ codes "c" ∷ [])
+
+-- by an option
+abbrev pub RecheckOption : Type 0
+RecheckOption = IsUsage (codes "recheck" ∷ codes "--fuel" ∷ codes "1" ∷ codes "a" ∷ codes "b" ∷ [])
+
+-- by a certificate whose name is empty
+abbrev pub RecheckEmptyCert : Type 0
+RecheckEmptyCert = IsUsage (codes "recheck" ∷ codes "" ∷ codes "b" ∷ [])
+
+-- or begins with `-`
+abbrev pub RecheckDashedCert : Type 0
+RecheckDashedCert = IsUsage (codes "recheck" ∷ codes "-a" ∷ codes "b" ∷ [])
+
+-- and of a source whose name is empty
+abbrev pub RecheckEmptyFile : Type 0
+RecheckEmptyFile = IsUsage (codes "recheck" ∷ codes "a" ∷ codes "" ∷ [])
+
+-- or begins with `-`
+abbrev pub RecheckDashedFile : Type 0
+RecheckDashedFile = IsUsage (codes "recheck" ∷ codes "a" ∷ codes "-b" ∷ [])

@@ -7,12 +7,14 @@ use Rattle.std.specs.Map.{lookup}
 use Rattle.std.specs.Str.Parse.{IsNumeral, digits_value}
 use Rattle.mw_words.specs.declared.Command.{Command}
 use Rattle.mw_words.specs.declared.Command.TheVariants.{Run, Erased, Link, Sample, Migrate, Wat, Check}
+use Rattle.mw_words.specs.declared.Command.TheVariants.{Cert, Recheck}
 
 -- a command as pure data: the run of a file by so many workers with so many units of fuel, with the
 -- kernels' code simplified or as it was built, and with the path of a cache or none; the run of a file's
 -- erased program with so many units; the kernels of a file linked as one module, by so many workers with so
 -- many units; a source made from a number; the migration of the cache at a path; the text of the module in a
--- file; or the verdict on it
+-- file; the verdict on it; the certificate of the typing of a file's source; or whether the first file
+-- certifies the typing of the second file's source
 pub data PureCommand : Type 0 where
   run : (workers fuel : ℕ) (simplify : Bool) (cache : Option (List ℕ)) (file : List ℕ) → PureCommand
   erased : (fuel : ℕ) (file : List ℕ) → PureCommand
@@ -21,6 +23,8 @@ pub data PureCommand : Type 0 where
   migrate : (cache : List ℕ) → PureCommand
   wat : (file : List ℕ) → PureCommand
   check : (file : List ℕ) → PureCommand
+  cert : (file : List ℕ) → PureCommand
+  recheck : (cert file : List ℕ) → PureCommand
 
 -- the bytes of a word
 abbrev pub word_in : Bor (List ℕ) → List ℕ
@@ -34,6 +38,8 @@ command_in (Sample number) = sample number
 command_in (Migrate cache) = migrate cache.now
 command_in (Wat file) = wat file.now
 command_in (Check file) = check file.now
+command_in (Cert file) = cert file.now
+command_in (Recheck text file) = recheck text.now file.now
 
 -- a word that may name a file or a cache: not empty, and not beginning with `-`
 abbrev pub IsFileWord : List ℕ → Type 0
@@ -174,6 +180,11 @@ pub data Means : List (List ℕ) → PureCommand → Type 0 where
   wat_command : {word : List ℕ} → IsFileWord word → Means (codes "wat" ∷ word ∷ []) (wat word)
   -- check FILE
   check_command : {word : List ℕ} → IsFileWord word → Means (codes "check" ∷ word ∷ []) (check word)
+  -- cert FILE
+  cert_command : {word : List ℕ} → IsFileWord word → Means (codes "cert" ∷ word ∷ []) (cert word)
+  -- recheck CERT FILE
+  recheck_command : {first second : List ℕ} → IsFileWord first → IsFileWord second
+      → Means (codes "recheck" ∷ first ∷ second ∷ []) (recheck first second)
 
 -- the words mean no command
 abbrev pub IsUsage : List (List ℕ) → Type 0

@@ -1,4 +1,4 @@
-// What the words give of the options and the file of a command.
+// What the words give of the options and the files of a command.
 
 ghost use Rattle.std.specs.Prelude.{◌≡◌, ◌≤◌, [], ◌∷◌, List, ℕ, Bool, Option, length, map, option_map, option_to_list};
 ghost use Rattle.std.specs.Prelude.{IfOk, OnOk, OnErr};
@@ -118,6 +118,22 @@ pub fn lone_file(words: &[String]) -> Result<&str, WordsFault>
 {
     match words {
         [word] if names_file(word.as_str()) => Ok(word.as_str()),
+        _ => Err(WordsFault::Usage),
+    }
+}
+
+/// The two words, where each may name a file. Other numbers of words, and one that names no file, are refused.
+pub fn two_files(words: &[String]) -> Result<(&str, &str), WordsFault>
+    ensures alone { IfOk result (λ p. map string_bytes words.now ≡ p.0.now ∷ p.1.now ∷ []) }
+    ensures first_named { IfOk result (λ p. IsFileWord p.0.now) }
+    ensures second_named { IfOk result (λ p. IsFileWord p.1.now) }
+    ensures usage { OnErr result ((first second : List ℕ)
+        → map string_bytes words.now ≡ first ∷ second ∷ [] → IsFileWord first → ¬ IsFileWord second) }
+{
+    match words {
+        [first, second] if names_file(first.as_str()) && names_file(second.as_str()) => {
+            Ok((first.as_str(), second.as_str()))
+        }
         _ => Err(WordsFault::Usage),
     }
 }

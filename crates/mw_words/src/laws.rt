@@ -15,6 +15,10 @@ ghost use Rattle.mw_words.specs.Examples.{CheckDashed};
 ghost use Rattle.mw_words.specs.Examples.{LinkAlone, LinkApart, LinkJoined, LinkBehind, LinkAround, LinkNoFile};
 ghost use Rattle.mw_words.specs.Examples.{LinkTwoFiles, LinkSimplified, LinkCached, LinkNoWorker, LinkManyWorkers};
 ghost use Rattle.mw_words.specs.Examples.{LinkWorkersTwice, LinkFuelTwice};
+ghost use Rattle.mw_words.specs.Examples.{CertFile, RecheckFiles, RecheckSameFile, CertNoFile, CertTwoFiles};
+ghost use Rattle.mw_words.specs.Examples.{CertOption, CertEmpty, CertDashed, RecheckNoFile, RecheckOneFile};
+ghost use Rattle.mw_words.specs.Examples.{RecheckThreeFiles, RecheckOption, RecheckEmptyCert, RecheckDashedCert};
+ghost use Rattle.mw_words.specs.Examples.{RecheckEmptyFile, RecheckDashedFile};
 
 /// Words mean one command at most.
 pub fn one_command()
@@ -118,4 +122,28 @@ pub fn module_usage()
     ensures check_option { CheckOption }
     ensures check_empty { CheckEmpty }
     ensures check_dashed { CheckDashed }
+{}
+
+/// Words that mean a certificate or a recheck.
+pub fn certificate_commands()
+    ensures cert_file { CertFile }
+    ensures recheck_files { RecheckFiles }
+    ensures recheck_same_file { RecheckSameFile }
+{}
+
+/// Words that mean neither.
+pub fn certificate_usage()
+    ensures cert_no_file { CertNoFile }
+    ensures cert_two_files { CertTwoFiles }
+    ensures cert_option { CertOption }
+    ensures cert_empty { CertEmpty }
+    ensures cert_dashed { CertDashed }
+    ensures recheck_no_file { RecheckNoFile }
+    ensures recheck_one_file { RecheckOneFile }
+    ensures recheck_three_files { RecheckThreeFiles }
+    ensures recheck_option { RecheckOption }
+    ensures recheck_empty_cert { RecheckEmptyCert }
+    ensures recheck_dashed_cert { RecheckDashedCert }
+    ensures recheck_empty_file { RecheckEmptyFile }
+    ensures recheck_dashed_file { RecheckDashedFile }
 {}

@@ -5,6 +5,7 @@ ghost use Rattle.std.specs.Prelude.{◌∷◌, ℕ, List, map, IfOk, IfErr, OnEr
 ghost use Rattle.std.specs.String.{string_bytes};
 ghost use Rattle.mw_words.specs.Words.{AreParts, AreUnitsOf, Means, IsUsage, PurePart, command_in};
 
+mod files;
 mod given;
 pub mod laws;
 mod number;
@@ -12,7 +13,8 @@ mod part;
 #[cfg(test)]
 mod tests;
 
-use crate::given::{file_of, have_no_file, have_only, lone_file, number_of, switch_of, word_of};
+use crate::files::{read_cert, read_check, read_recheck, read_wat};
+use crate::given::{file_of, have_no_file, have_only, number_of, switch_of, word_of};
 use crate::number::number_up_to;
 
 /// The most workers of a run or a link, and how many there are where the words name none.
@@ -68,6 +70,15 @@ pub enum Command<'w> {
     Check {
         file: &'w str,
     },
+    /// The certificate of the typing of a file's source.
+    Cert {
+        file: &'w str,
+    },
+    /// Whether the first file certifies the typing of the second file's source.
+    Recheck {
+        cert: &'w str,
+        file: &'w str,
+    },
 }
 
 /// Why words mean no command.
@@ -91,6 +102,8 @@ pub fn read_words(words: &[String]) -> Result<Command<'_>, WordsFault>
         "migrate" => read_migrate(rest),
         "wat" => read_wat(rest),
         "check" => read_check(rest),
+        "cert" => read_cert(rest),
+        "recheck" => read_recheck(rest),
         _ => Err(WordsFault::Usage),
     }
 }
@@ -166,22 +179,4 @@ fn read_migrate(words: &[String]) -> Result<Command<'_>, WordsFault>
     let cache = word_of(words, "--cache")?.ok_or(WordsFault::Usage)?;
     have_no_file(words)?;
     Ok(Command::Migrate { cache })
-}
-
-/// The command that the words after `wat` mean.
-fn read_wat(words: &[String]) -> Result<Command<'_>, WordsFault>
-    ensures some { IfOk result (λ c. Means (codes "wat" ∷ map string_bytes words.now) (command_in c)) }
-    ensures usage { IfErr result (λ _. IsUsage (codes "wat" ∷ map string_bytes words.now)) }
-{
-    let file = lone_file(words)?;
-    Ok(Command::Wat { file })
-}
-
-/// The command that the words after `check` mean.
-fn read_check(words: &[String]) -> Result<Command<'_>, WordsFault>
-    ensures some { IfOk result (λ c. Means (codes "check" ∷ map string_bytes words.now) (command_in c)) }
-    ensures usage { IfErr result (λ _. IsUsage (codes "check" ∷ map string_bytes words.now)) }
-{
-    let file = lone_file(words)?;
-    Ok(Command::Check { file })
 }

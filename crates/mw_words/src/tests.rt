@@ -39,6 +39,8 @@ fn meaning<R: Abort + AllocGlobal>(rt: &R, words: &[&str]) -> Result<String, Fai
         Ok(Command::Migrate { cache }) => format!(in alloc; "migrate {cache}")?,
         Ok(Command::Wat { file }) => format!(in alloc; "wat {file}")?,
         Ok(Command::Check { file }) => format!(in alloc; "check {file}")?,
+        Ok(Command::Cert { file }) => format!(in alloc; "cert {file}")?,
+        Ok(Command::Recheck { cert, file }) => format!(in alloc; "recheck {file} by {cert}")?,
         Err(WordsFault::Usage) => String::from_str(alloc, "usage")?,
     };
     Ok(text)
@@ -180,6 +182,29 @@ const LINKS: &[(&[&str], &str)] = &[
         "link 64 10000000 f",
     ),
     (&["run", "link"], "run 4 1000000 link"),
+];
+
+/// The same, of certificates.
+const CERTIFICATES: &[(&[&str], &str)] = &[
+    (&["cert", "f"], "cert f"),
+    (&["cert", "cert"], "cert cert"),
+    (&["cert", "a b"], "cert a b"),
+    (&["cert", "f-"], "cert f-"),
+    (&["cert", "f=g"], "cert f=g"),
+    (&["cert", "\u{e9}"], "cert \u{e9}"),
+    (&["recheck", "c", "f"], "recheck f by c"),
+    (&["recheck", "f", "c"], "recheck c by f"),
+    (&["recheck", "f", "f"], "recheck f by f"),
+    (
+        &["recheck", "recheck", "recheck"],
+        "recheck recheck by recheck",
+    ),
+    (&["recheck", "c-", "f-"], "recheck f- by c-"),
+    (&["recheck", "a b", "c"], "recheck c by a b"),
+    (&["recheck", "a", "b=c"], "recheck b=c by a"),
+    (&["recheck", "\u{e9}", "f"], "recheck f by \u{e9}"),
+    (&["run", "cert"], "run 4 1000000 cert"),
+    (&["run", "recheck"], "run 4 1000000 recheck"),
 ];
 
 /// Words that mean nothing, for what stands around the options.
@@ -363,6 +388,59 @@ const NO_MODULES: &[&[&str]] = &[
     &["checks", "f"],
 ];
 
+/// Words that mean nothing, of certificates.
+const NO_CERTIFICATES: &[&[&str]] = &[
+    &["cert"],
+    &["cert", ""],
+    &["cert", "-"],
+    &["cert", "-f"],
+    &["cert", "--"],
+    &["cert", "--", "f"],
+    &["cert", "f", "g"],
+    &["cert", "f", ""],
+    &["cert", "", "f"],
+    &["cert", "--fuel=8"],
+    &["cert", "--fuel=8", "f"],
+    &["cert", "f", "--fuel", "8"],
+    &["cert", "--simplify", "f"],
+    &["cert", "f", "--simplify"],
+    &["cert", "--cache=c", "f"],
+    &["cert", "--workers", "2", "f"],
+    &["Cert", "f"],
+    &["certs", "f"],
+    &["cer", "f"],
+    &["recheck"],
+    &["recheck", ""],
+    &["recheck", "f"],
+    &["recheck", "-f"],
+    &["recheck", "c", "f", "g"],
+    &["recheck", "c", "f", ""],
+    &["recheck", "", "c", "f"],
+    &["recheck", "", "f"],
+    &["recheck", "c", ""],
+    &["recheck", "", ""],
+    &["recheck", "-", "f"],
+    &["recheck", "c", "-"],
+    &["recheck", "-c", "f"],
+    &["recheck", "c", "-f"],
+    &["recheck", "--", "c", "f"],
+    &["recheck", "--", "f"],
+    &["recheck", "c", "--"],
+    &["recheck", "--fuel", "1", "c", "f"],
+    &["recheck", "--fuel=1", "c", "f"],
+    &["recheck", "c", "--fuel=1", "f"],
+    &["recheck", "c", "f", "--fuel=1"],
+    &["recheck", "--fuel", "1"],
+    &["recheck", "--fuel=1", "f"],
+    &["recheck", "c", "--simplify"],
+    &["recheck", "--simplify", "c", "f"],
+    &["recheck", "--cache=c", "f"],
+    &["recheck", "--workers", "2", "c", "f"],
+    &["Recheck", "c", "f"],
+    &["rechecks", "c", "f"],
+    &["re", "c", "f"],
+];
+
 /// Words that mean nothing, of a link.
 const NO_LINKS: &[&[&str]] = &[
     &["link"],
@@ -500,6 +578,24 @@ fn module_commands(rt: HostRuntime) -> Result<(), Fail> {
 #[test]
 fn module_usage(rt: HostRuntime) -> Result<(), Fail> {
     for &words in NO_MODULES {
+        let text = meaning(&rt, words)?;
+        assert_eq!(rt; text.as_str(), "usage");
+    }
+    Ok(())
+}
+
+#[test]
+fn certificate_commands(rt: HostRuntime) -> Result<(), Fail> {
+    for &(words, expected) in CERTIFICATES {
+        let text = meaning(&rt, words)?;
+        assert_eq!(rt; text.as_str(), expected);
+    }
+    Ok(())
+}
+
+#[test]
+fn certificate_usage(rt: HostRuntime) -> Result<(), Fail> {
+    for &words in NO_CERTIFICATES {
         let text = meaning(&rt, words)?;
         assert_eq!(rt; text.as_str(), "usage");
     }

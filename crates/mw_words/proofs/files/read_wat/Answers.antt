@@ -1,7 +1,7 @@
 use Rattle.mw_words.specs.Words.{wat_command}
 use Rattle.mw_words.proofs.Items.{on_err}
 use Rattle.mw_words.proofs.Usage.{no_wat}
-use Rattle.mw_words.proofs.read_wat.Goals as goal
+use Rattle.mw_words.proofs.files.read_wat.Goals as goal
 
 pub returns-in_err-file-clause-usage : goal.returns-in_err-file-clause-usage
 returns-in_err-file-clause-usage c = on_err c.from_residual.result _ (no_wat c.in_err-file.ensures.usage)
