@@ -74,6 +74,7 @@ fn explain(rt: &(impl Eprint + AllocGlobal), status: &Status) -> std::io::Result
         | Status::Refused(_)
         | Status::Bound(_)
         | Status::BadModule
-        | Status::Invalid => Ok(()),
+        | Status::Invalid
+        | Status::NotTyped => Ok(()),
     }
 }
