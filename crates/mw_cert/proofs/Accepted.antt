@@ -1,6 +1,6 @@
 -- A typable program without a type that is too big has a written certificate: each part is without fault, so its
 -- equations have a small most general solution on their own numbers, whose section fits.
-use Rattle.std.proofs.Common.{◌≡◌, ℕ, zero, suc, ◌+◌, ◌<◌, ◌≤◌, ◌^◌, List, [], ◌∷◌, map, length, Some, refl, ap, subst}
+use Rattle.std.proofs.Common.{◌≡◌, ℕ, zero, suc, ◌+◌, ◌<◌, ◌^◌, List, [], ◌∷◌, map, length, Some, refl, ap, subst}
 use Rattle.std.proofs.Common.{arith}
 use Rattle.std.specs.List.{AllByRecursion}
 use Rattle.std.specs.Prelude.{slice_get}
@@ -10,11 +10,10 @@ use Rattle.mw_term.specs.Terms.{size}
 use Rattle.mw_term.specs.Programs.{PureProgram}
 use Rattle.mw_term.specs.Sources.{IsSource}
 use Rattle.mw_term.specs.Parts.{Part, IsPart, IsResolved}
-use Rattle.mw_term.specs.Typable.{Typable}
 use Rattle.mw_types.specs.Types.{Substitution, nodes}
 use Rattle.mw_types.specs.Equations.{MostGeneral, IsSmall, StaysWithin}
 use Rattle.mw_infer.specs.Inferring.{item_unknowns, item_classifiers, item_equations}
-use Rattle.mw_infer.specs.Checking.{IsFaultless, AreFaultless, NoneTooBig}
+use Rattle.mw_infer.specs.Checking.{IsFaultless, AreFaultless}
 use Rattle.mw_infer.specs.Nodes.{NodeNumbers, NodeFacts, node_numbers, facts_at, AreNodesOf, AreNodesOfPart}
 use Rattle.mw_infer.specs.Typings.{AreNodesWithin}
 use Rattle.mw_infer.proofs.Items.{item-within, typable-fresh}
@@ -129,9 +128,11 @@ module _ (p : PureProgram) (resolved : IsResolved p) (faultless : AreFaultless p
       let source = (resolved-written p resolved).sources i x.0 x.1 in
       let few = resolved.small i x.0 x.1 in (
         facts x.0 f source few,
-        (λ y a. subst (λ z. AreNodesOfPart z (facts x.0 f source few)) (part-one p x.1 a)
-            (are_nodes x.0 f source few)),
-        fits x.0 f source few,
+        (
+          λ y a. subst (λ z. AreNodesOfPart z (facts x.0 f source few)) (part-one p x.1 a)
+              (are_nodes x.0 f source few),
+          fits x.0 f source few,
+        ),
       )
 
   parts : (parts : List (List NodeFacts)) × AreNodesOf p parts × FitSections (map section_of parts)

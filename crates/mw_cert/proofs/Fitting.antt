@@ -1,62 +1,45 @@
 -- What is written for nodes of small types, of which there are few, fits a certificate's text: each node of a type adds
 -- at most a line and a number.
-use Rattle.std.proofs.Common.{◌≡◌, ℕ, suc, ◌+◌, ◌*◌, ◌<◌, ◌≤◌, ◌^◌, Bool, true, false, cond, nat_eq, List, [], ◌∷◌, ◌++◌}
-use Rattle.std.proofs.Common.{length, Option, Some, None, refl, ap, arith}
+use Rattle.std.proofs.Common.{ℕ, suc, ◌+◌, ◌*◌, ◌<◌, ◌≤◌, ◌^◌, nat_eq, List, [], ◌∷◌, ◌++◌}
+use Rattle.std.proofs.Common.{length, length-append, Option, Some, None, arith}
 use Rattle.mw_types.specs.Types.{TypeExpression, int_ty, bool_ty, unknown, pair_ty, function_ty, code_ty, closed_ty}
 use Rattle.mw_types.specs.Types.{nodes}
-use Rattle.mw_lines.specs.TypeLines.{TypeLine, int_line, bool_line, unknown_line, pair_line, arrow_line, code_line}
-use Rattle.mw_lines.specs.TypeLines.{closed_line}
+use Rattle.mw_lines.specs.TypeLines.{TypeLine, int_line, bool_line}
 use Rattle.mw_lines.specs.Deciding.{same_line}
-use Rattle.mw_recheck.specs.Sections.{SectionLines, FitsLine, FitNumbers, FitLines, FitNodes, FitsSection}
+use Rattle.mw_recheck.specs.Sections.{FitsLine, FitNumbers, FitLines, FitNodes, FitsSection}
 use Rattle.mw_infer.specs.Nodes.{NodeFacts}
 use Rattle.mw_section.specs.Writing.{Writing, Written, place_of, with_number, line_place, with_line, nothing_written}
 use Rattle.mw_section.specs.Writing.{line_written, classifier_written, type_written}
 use Rattle.mw_section.specs.WritingLaws.{all_written}
+use Rattle.mw_section.proofs.Places.{place_of_is, with_number_is, line_place_is, with_line_is, Met, is_known, is_new}
+use Rattle.mw_section.proofs.Places.{met}
 use Rattle.mw_made.specs.Making.{line_ended, node_written, nodes_written, section_of}
+use Rattle.mw_made.proofs.Staying.{nodes_count}
 
--- a number's place, and the numbers with it
-place_low : (n : ℕ) (ns : List ℕ) → place_of n ns ≤ length ns
-place_low n [] = omega arith
-place_low n (m ∷ ns) = here (nat_eq m n) (place_low n ns)
-  where
-    here : (b : Bool) → place_of n ns ≤ length ns → cond b 0 (suc (place_of n ns)) ≤ suc (length ns)
-    here true le = omega arith
-    here false le = omega arith
+-- what is put to others is one more at most, and its place is not behind them
+met_low : {A : Type 0} (x : A) (p : ℕ) (xs ys : List A) → Met x p xs ys
+    → (p ≤ length xs) × (length ys ≤ suc (length xs))
+met_low x p xs ys (is_known h e) = (omega arith, rw e (omega arith))
+met_low x p xs ys (is_new h e) = (omega arith, rw e (simp length-append (omega arith)))
 
-with_number_more : (n : ℕ) (ns : List ℕ) → length (with_number n ns) ≤ suc (length ns)
-with_number_more n [] = omega arith
-with_number_more n (m ∷ ns) = here (nat_eq m n) (with_number_more n ns)
-  where
-    here : (b : Bool) → length (with_number n ns) ≤ suc (length ns)
-        → length (cond b (m ∷ ns) (m ∷ with_number n ns)) ≤ suc (suc (length ns))
-    here true le = omega arith
-    here false le = omega arith
+number_low : (n : ℕ) (ns : List ℕ) → (place_of n ns ≤ length ns) × (length (with_number n ns) ≤ suc (length ns))
+number_low n ns = rw (place_of_is n ns, with_number_is n ns) (met_low n _ ns _ (met nat_eq n ns))
 
--- the same of lines
-line_place_low : (l : TypeLine) (ls : List TypeLine) → line_place l ls ≤ length ls
-line_place_low l [] = omega arith
-line_place_low l (k ∷ ls) = here (same_line k l) (line_place_low l ls)
-  where
-    here : (b : Bool) → line_place l ls ≤ length ls → cond b 0 (suc (line_place l ls)) ≤ suc (length ls)
-    here true le = omega arith
-    here false le = omega arith
+line_low : (l : TypeLine) (ls : List TypeLine) → (line_place l ls ≤ length ls)
+    × (length (with_line l ls) ≤ suc (length ls))
+line_low l ls = rw (line_place_is l ls, with_line_is l ls) (met_low l _ ls _ (met same_line l ls))
 
-with_line_more : (l : TypeLine) (ls : List TypeLine) → length (with_line l ls) ≤ suc (length ls)
-with_line_more l [] = omega arith
-with_line_more l (k ∷ ls) = here (same_line k l) (with_line_more l ls)
-  where
-    here : (b : Bool) → length (with_line l ls) ≤ suc (length ls)
-        → length (cond b (k ∷ ls) (k ∷ with_line l ls)) ≤ suc (suc (length ls))
-    here true le = omega arith
-    here false le = omega arith
+-- lines fit with one more that fits
+fit_behind : (ls : List TypeLine) (l : TypeLine) → FitLines ls → FitsLine l → FitLines (ls ++ l ∷ [])
+fit_behind [] l h f = (f, tt)
+fit_behind (k ∷ ls) l h f = (h.0, fit_behind ls l h.1 f)
 
-with_line_fit : (l : TypeLine) (ls : List TypeLine) → FitsLine l → FitLines ls → FitLines (with_line l ls)
-with_line_fit l [] f h = (f, tt)
-with_line_fit l (k ∷ ls) f h = here (same_line k l) (with_line_fit l ls f h.1)
-  where
-    here : (b : Bool) → FitLines (with_line l ls) → FitLines (cond b (k ∷ ls) (k ∷ with_line l ls))
-    here true g = h
-    here false g = (h.0, g)
+met_fit : (l : TypeLine) (p : ℕ) (ls ks : List TypeLine) → FitLines ls → FitsLine l → Met l p ls ks → FitLines ks
+met_fit l p ls ks h f (is_known lt e) = rw e h
+met_fit l p ls ks h f (is_new q e) = rw e (fit_behind ls l h f)
+
+line_fit : (l : TypeLine) (ls : List TypeLine) → FitLines ls → FitsLine l → FitLines (with_line l ls)
+line_fit l ls h f = rw (with_line_is l ls) (met_fit l _ ls _ h f (met same_line l ls))
 
 -- at most so many unknowns, classifiers and lines are written, and the numbers of the lines fit
 record IsFew (k : ℕ) (w : Writing) : Type 0 where
@@ -74,23 +57,21 @@ record Adds (k : ℕ) (a : Written) : Type 0 where
 adds_line : (k l : ℕ) (x : TypeLine) (w : Writing) → suc k ≤ l → FitsLine x → IsFew k w → Adds l (line_written x w)
 adds_line k l x w le f h =
     let c = h.count in
-    let p = line_place_low x w.lines in
-    let n = with_line_more x w.lines in
+    let n = line_low x w.lines in
     record {
       place = omega arith;
-      few = record { count = omega arith; fit = with_line_fit x w.lines f h.fit };
+      few = record { count = omega arith; fit = line_fit x w.lines h.fit f };
     }
 
 adds_unknown : (k : ℕ) (u : ℕ) (w : Writing) → IsFew k w
     → IsFew (suc k) (record { unknowns = with_number u w.unknowns; classifiers = w.classifiers; lines = w.lines })
 adds_unknown k u w h =
-    let c = h.count in let n = with_number_more u w.unknowns in record { count = omega arith; fit = h.fit }
+    let c = h.count in let n = number_low u w.unknowns in record { count = omega arith; fit = h.fit }
 
 adds_classifier : (k c : ℕ) (w : Writing) → IsFew k w → Adds (suc k) (classifier_written c w)
 adds_classifier k c w h =
     let e = h.count in
-    let p = place_low c w.classifiers in
-    let n = with_number_more c w.classifiers in
+    let n = number_low c w.classifiers in
     record { place = omega arith; few = record { count = omega arith; fit = h.fit } }
 
 -- a type's nodes add two each
@@ -100,7 +81,7 @@ adds_type k l int_ty w le lt h = adds_line k l int_line w (omega arith) tt h
 adds_type k l bool_ty w le lt h = adds_line k l bool_line w (omega arith) tt h
 adds_type k l (unknown u) w le lt h =
     let c = h.count in
-    let p = place_low u w.unknowns in
+    let p = number_low u w.unknowns in
     adds_line (suc k) l _ _ (omega arith) (omega arith) (adds_unknown k u w h)
 adds_type k l (pair_ty s t) w le lt h =
     let i = k + 2 * nodes s in
@@ -136,6 +117,7 @@ abbrev pub AreSmallNodes : List NodeFacts → Type 0
 AreSmallNodes [] = Unit {0}
 AreSmallNodes (x ∷ facts) = ((length x.types ≤ 3) × AreSmall x.types) × AreSmallNodes facts
 
+-- after a node's types, or its line: these numbers fit
 record AddsAll (k : ℕ) (places : List ℕ) (w : Writing) : Type 0 where
   places_fit : FitNumbers places
   few : IsFew k w
@@ -178,11 +160,7 @@ adds_nodes k l (x ∷ facts) w le lt s h =
     let c = adds_nodes (suc (k + 60000)) l facts _ (omega arith) lt s.1 b.few in
     record { lines_fit = (b.places_fit, c.lines_fit); few = c.few }
 
-line_count : (facts : List NodeFacts) (w : Writing) → length (nodes_written facts w).lines ≡ length facts
-line_count [] w = refl
-line_count (x ∷ facts) w = ap suc (line_count facts (node_written x w).writing)
-
--- so the section of at most 2^32 nodes fits
+-- so a section of less than 2^32 nodes fits
 pub section_fits : (facts : List NodeFacts) → AreSmallNodes facts → length facts < 2 ^ 32
     → FitsSection (section_of facts)
 section_fits facts s lt =
@@ -193,5 +171,5 @@ section_fits facts s lt =
       types = a.few.fit;
       nodes = a.lines_fit;
       type_count = omega arith;
-      node_count = omega (arith, line_count facts nothing_written);
+      node_count = omega (arith, nodes_count facts nothing_written);
     }

@@ -26,19 +26,16 @@ weight (function_type s t) = bump (weight s + weight t)
 weight (code_type c t) = code_weight (is c 1) (weight t)
 weight (closed_type t) = bump (weight t)
 
-bump_none : (n : ℕ) → bump n ≡ 0 → n ≡ 0
-bump_none zero h = refl
-bump_none (suc n) h = absurd (omega arith)
+pub one_none : (n : ℕ) → bump n ≡ 0 → n ≡ 0
+one_none zero h = refl
+one_none (suc n) h = absurd (omega arith)
 
 pub both_none : (x y : ℕ) → bump (x + y) ≡ 0 → (x ≡ 0) × (y ≡ 0)
-both_none x y h = let e = bump_none (x + y) h in (omega arith, omega arith)
-
-pub one_none : (x : ℕ) → bump x ≡ 0 → x ≡ 0
-one_none x h = bump_none x h
+both_none x y h = let e = one_none (x + y) h in (omega arith, omega arith)
 
 pub code_none : {c : ℕ} (d : Is c 1) (n : ℕ) → code_weight d n ≡ 0 → (c ≢ 1) × (n ≡ 0)
 code_none (same e) n h = absurd (omega arith)
-code_none (other f) n h = (f, bump_none n h)
+code_none (other f) n h = (f, one_none n h)
 
 -- nothing, or as much as this
 abbrev IsFar : ℕ → ℕ → Type 0
@@ -62,6 +59,7 @@ weaker : (k x : ℕ) → IsFar (suc k) x → IsFar k x
 weaker k x (inl e) = inl e
 weaker k x (inr le) = inr (omega arith)
 
+-- something, and no more than this, or not
 data Near (k x : ℕ) : Type 0 where
   near : 1 ≤ x → x ≤ k → Near k x
   far : IsFar (suc k) x → Near k x
@@ -93,6 +91,7 @@ chosen_far (near a b) t (inl e) = absurd (omega arith)
 chosen_far (near a b) t (inr le) = absurd (omega arith)
 chosen_far (far f) t h = refl
 
+-- the type without its parts of low weight
 abbrev cut : ℕ → TermType → TermType
 cut k int_type = int_type
 cut k bool_type = bool_type

@@ -1,5 +1,5 @@
 -- A most general solution of equations, on their own numbers.
-use Rattle.std.proofs.Common.{◌≡◌, ◌≢◌, ◌⊎◌, inl, inr, ℕ, zero, suc, ◌+◌, ◌≤◌, ◌<◌, List, refl, ap, sym, ◌∙◌, arith}
+use Rattle.std.proofs.Common.{◌≡◌, ◌≢◌, ◌⊎◌, inl, inr, ℕ, zero, suc, ◌<◌, List, refl, ap, sym, ◌∙◌, arith}
 use Rattle.mw_term.specs.Types.{TermType, int_type, code_type}
 use Rattle.mw_types.specs.Types.{TypeExpression, int_ty, bool_ty, unknown, pair_ty, function_ty, code_ty, closed_ty}
 use Rattle.mw_types.specs.Types.{Within, Assignment, value, nodes, Substitution, after, apply}
@@ -105,7 +105,8 @@ module _ (n m : ℕ) (s : Substitution) where
   all_named int_ty h = tt
   all_named bool_ty h = tt
   all_named (unknown v) h = unknown_named v h
-  all_named (pair_ty l r) h = (all_named l (λ b f. (both_none _ _ (h b f)).0), all_named r (λ b f. (both_none _ _ (h b f)).1))
+  all_named (pair_ty l r) h =
+      (all_named l (λ b f. (both_none _ _ (h b f)).0), all_named r (λ b f. (both_none _ _ (h b f)).1))
   all_named (function_ty l r) h =
       (all_named l (λ b f. (both_none _ _ (h b f)).0), all_named r (λ b f. (both_none _ _ (h b f)).1))
   all_named (code_ty c t) h = (classifier_named c t h, all_named t (λ b f. (code_none _ _ (h b f)).1))
