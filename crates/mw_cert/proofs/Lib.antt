@@ -4,3 +4,7 @@ pub mod Short
 pub mod Parts
 pub mod Examples
 pub mod Written
+pub mod Marking
+pub mod OwnNumbers
+pub mod Fitting
+pub mod Accepted
