@@ -2,5 +2,4 @@ pub mod Trees
 pub mod Lines
 pub mod Short
 pub mod Parts
-pub mod Examples
 pub mod Written

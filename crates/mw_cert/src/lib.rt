@@ -11,8 +11,6 @@ ghost use Rattle.mw_written.specs.Written.{IsCertificateOf};
 
 mod node;
 mod part;
-#[cfg(test)]
-mod tests;
 
 use crate::part::certificate;
 use mw_infer::Typed;
