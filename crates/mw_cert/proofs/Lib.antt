@@ -3,3 +3,7 @@ pub mod Lines
 pub mod Short
 pub mod Parts
 pub mod Written
+pub mod Marking
+pub mod OwnNumbers
+pub mod Fitting
+pub mod Accepted

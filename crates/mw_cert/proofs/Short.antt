@@ -17,10 +17,10 @@ use Rattle.mw_infer.specs.Nodes.{NodeNumbers, NodeFacts, AreNodesOf, AreNodesOfP
 use Rattle.mw_cert.specs.Nodes.{IsShort, AreShort, AllAreShort}
 
 -- a node's numbers are three at most
-abbrev FewNumbers : NodeNumbers → Type 0
+abbrev pub FewNumbers : NodeNumbers → Type 0
 FewNumbers n = length n.types + length (option_to_list n.classifier) ≤ 3
 
-abbrev AllFew : List NodeNumbers → Type 0
+abbrev pub AllFew : List NodeNumbers → Type 0
 AllFew ns = AllByRecursion FewNumbers ns
 
 few-append : (ns ms : List NodeNumbers) → AllFew ns → AllFew ms → AllFew (ns ++ ms)
@@ -28,7 +28,7 @@ few-append [] ms h k = k
 few-append (n ∷ ns) ms h k = (h.0, few-append ns ms h.1 k)
 
 module _ (tops : List TopScheme) where
-  numbers_few : (u o c : ℕ) (e : Expression) → AllFew (node_numbers tops u o c e)
+  pub numbers_few : (u o c : ℕ) (e : Expression) → AllFew (node_numbers tops u o c e)
   numbers_few u o c (num n) = (omega arith, tt)
   numbers_few u o c (truth b) = (omega arith, tt)
   numbers_few u o c (var i) = (omega arith, tt)
@@ -105,9 +105,12 @@ past_none [] i h = omega arith
 past_none (x ∷ xs) zero h = absurd (none-some x (sym h))
 past_none (x ∷ xs) (suc i) h = let l : length xs ≤ i = past_none xs i h in omega arith
 
+pub part_there : (p : PureProgram) (i : ℕ) → i < length p.items + 1 → (x : Part) × IsPart p i x
+part_there p i lt = part_at p i (slice_get p.items i) refl lt (past_none p.items i)
+
 pub nodes_short : (p : PureProgram) (parts : List (List NodeFacts)) → AreNodesOf p parts → AllAreShort parts
 nodes_short p parts h i facts e =
     let l : i < length parts = slice_get_within parts i facts e in
     let n = h.count in
-    let x = part_at p i (slice_get p.items i) refl (omega arith) (past_none p.items i) in
+    let x = part_there p i (omega arith) in
     part_short x.0 facts (h.each i x.0 facts x.1 e)

@@ -9,6 +9,7 @@ ghost use Rattle.mw_infer.specs.Nodes.{AreNodesOf};
 ghost use Rattle.mw_infer.specs.Typings.{facts_of};
 ghost use Rattle.mw_written.specs.Written.{IsCertificateOf};
 
+pub mod laws;
 mod node;
 mod part;
 

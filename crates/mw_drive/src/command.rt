@@ -318,7 +318,14 @@ fn carry_out<R: Threads + Sync, S: Source, K: Sink, C: Keeper, G: Gate>(
             inquire(alloc, source, sink, file, MOST_OF_MODULE, Inquiry::Verdict)
         }
         Command::Cert { file } => {
-            inquire(alloc, source, sink, file, MOST_OF_SOURCE, Inquiry::Certificate)
+            inquire(
+                alloc,
+                source,
+                sink,
+                file,
+                MOST_OF_SOURCE,
+                Inquiry::Certificate,
+            )
         }
         Command::Recheck { cert, file } => recheck(alloc, source, sink, file, cert),
     }

@@ -68,7 +68,12 @@ pub fn recheck<S: Source, K: Sink>(
         Err(SourceFault::Failed) => return Status::Read,
         Err(SourceFault::Memory(error)) => return Status::Memory(error),
     };
-    write_answer(alloc, bytes.as_slice(), sink, Inquiry::Typing(text.as_slice()))
+    write_answer(
+        alloc,
+        bytes.as_slice(),
+        sink,
+        Inquiry::Typing(text.as_slice()),
+    )
 }
 
 /// The certificate of the typing of a source with these bytes, or the line of its first refusal.
