@@ -9,8 +9,6 @@ mod kept;
 pub mod laws;
 mod migration;
 mod records;
-#[cfg(test)]
-mod tests;
 
 pub use crate::cache::Cache;
 pub use crate::got::Got;

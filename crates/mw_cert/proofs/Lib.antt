@@ -2,7 +2,6 @@ pub mod Trees
 pub mod Lines
 pub mod Short
 pub mod Parts
-pub mod Examples
 pub mod Written
 pub mod Marking
 pub mod OwnNumbers

@@ -12,8 +12,6 @@ ghost use Rattle.mw_written.specs.Written.{IsCertificateOf};
 pub mod laws;
 mod node;
 mod part;
-#[cfg(test)]
-mod tests;
 
 use crate::part::certificate;
 use mw_infer::Typed;

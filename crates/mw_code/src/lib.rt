@@ -10,8 +10,6 @@ mod place;
 mod read;
 mod reader;
 mod steps;
-#[cfg(test)]
-mod tests;
 
 pub use crate::fault::CodeFault;
 pub use crate::node::CodeNode;

@@ -5,8 +5,6 @@
 mod lines;
 mod source;
 mod status;
-#[cfg(test)]
-mod tests;
 mod text;
 
 pub use crate::lines::write_lines;

@@ -7,7 +7,5 @@ mod conversion;
 mod find;
 mod found;
 pub mod laws;
-#[cfg(test)]
-mod tests;
 
 pub use crate::conversion::convert;

@@ -17,8 +17,6 @@ mod ran;
 mod reading;
 mod shown;
 mod source;
-#[cfg(test)]
-mod tests;
 mod typing;
 mod workplace;
 

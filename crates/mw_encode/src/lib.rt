@@ -11,8 +11,6 @@ pub mod laws;
 mod opcodes;
 mod parts;
 mod sections;
-#[cfg(test)]
-mod tests;
 mod vectors;
 
 use crate::sections::{

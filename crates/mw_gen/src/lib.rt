@@ -23,8 +23,6 @@ pub mod laws;
 mod module;
 mod parts;
 mod tails;
-#[cfg(test)]
-mod tests;
 
 use crate::call::call_function;
 use crate::functions::{init_alone, put_all, put_functions, restarting_init};

@@ -5,8 +5,6 @@ mod fault;
 mod file;
 pub mod laws;
 mod lines;
-#[cfg(test)]
-mod tests;
 
 pub use crate::fault::{BadFile, FileFault};
 pub use crate::file::{binary_text, judge};

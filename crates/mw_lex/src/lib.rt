@@ -15,8 +15,6 @@ mod kind;
 pub mod laws;
 mod piece;
 mod step;
-#[cfg(test)]
-mod tests;
 mod text;
 pub mod token;
 

@@ -7,8 +7,6 @@ mod lines;
 mod made;
 mod marks;
 mod table;
-#[cfg(test)]
-mod tests;
 
 pub use lines::Line;
 pub use made::is_made;

@@ -11,4 +11,3 @@ pub mod Moved
 pub mod Generated
 pub mod Going
 pub mod Ending
-pub mod TestKernels

@@ -3,4 +3,3 @@ pub mod LinkLaw
 pub mod Moved
 pub mod Views
 pub mod Examples
-pub mod TestKernels

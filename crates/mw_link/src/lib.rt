@@ -6,8 +6,6 @@ mod exports;
 pub mod laws;
 mod linking;
 mod parts;
-#[cfg(test)]
-mod tests;
 
 pub use crate::count::functions;
 pub use crate::linking::link;

@@ -9,8 +9,6 @@ ghost use Rattle.mw_sample.specs.Sample.{kernel_line, call_text, main_line, samp
 use std::alloc::{AllocError, Global};
 
 pub mod laws;
-#[cfg(test)]
-mod tests;
 
 /// The source with so many kernels.
 pub fn sample(alloc: Global, kernels: u32) -> Result<Vec<u8>, AllocError>

@@ -5,8 +5,6 @@
 pub mod laws;
 mod numbers;
 mod table;
-#[cfg(test)]
-mod tests;
 mod text;
 mod writer;
 

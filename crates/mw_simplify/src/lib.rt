@@ -6,8 +6,6 @@ pub mod laws;
 mod leaf;
 mod put;
 mod simplifying;
-#[cfg(test)]
-mod tests;
 mod uses;
 
 pub use crate::simplifying::simplify;

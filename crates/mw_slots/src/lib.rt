@@ -6,8 +6,6 @@ mod named;
 mod receipt;
 mod refused;
 mod table;
-#[cfg(test)]
-mod tests;
 mod witness;
 
 pub use crate::named::{Make, Named};

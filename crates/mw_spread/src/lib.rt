@@ -3,8 +3,6 @@
 
 mod job;
 mod parallel;
-#[cfg(test)]
-mod tests;
 
 pub use crate::job::{Job, JobFault};
 pub use crate::parallel::spread;

@@ -5,8 +5,6 @@ pub mod laws;
 mod load;
 mod parts;
 mod record;
-#[cfg(test)]
-mod tests;
 mod whole;
 
 pub use crate::load::{FILE_LIMIT, Load, load_of};

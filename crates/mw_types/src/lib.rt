@@ -13,8 +13,6 @@ mod judging;
 pub mod laws;
 mod solving;
 mod state;
-#[cfg(test)]
-mod tests;
 pub mod types;
 mod walk;
 mod ways;

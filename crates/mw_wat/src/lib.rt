@@ -18,8 +18,6 @@ pub mod laws;
 mod names;
 mod pieces;
 mod reading;
-#[cfg(test)]
-mod tests;
 
 pub use crate::fault::WatFault;
 use crate::fields::{put_all, put_memories, put_tables};

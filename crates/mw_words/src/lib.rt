@@ -10,8 +10,6 @@ mod given;
 pub mod laws;
 mod number;
 mod part;
-#[cfg(test)]
-mod tests;
 
 use crate::files::{read_cert, read_check, read_recheck, read_wat};
 use crate::given::{file_of, have_no_file, have_only, number_of, switch_of, word_of};

@@ -1,5 +1,0 @@
-use Rattle.mw_code.specs.Reading.{IsDownward}
-use Rattle.mw_code.proofs.tests.grow.Given as goal
-
-abbrev pub invariant-loop : goal.invariant-loop
-invariant-loop l = IsDownward l.pool.items

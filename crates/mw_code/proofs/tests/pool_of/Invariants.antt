@@ -1,5 +1,0 @@
-use Rattle.mw_code.specs.Reading.{IsDownward}
-use Rattle.mw_code.proofs.tests.pool_of.Given as goal
-
-abbrev pub invariant-loop-node : goal.invariant-loop-node
-invariant-loop-node l = IsDownward l.pool.items

@@ -1,0 +1,106 @@
+// The texts of 7 in both versions, and what becomes of files that hold them.
+
+ghost use Rattle.std.specs.Prelude.{◌≡◌, ◌<◌};
+
+use mw_cache::{Migration, migration_of};
+use mw_compile::Steps;
+use mw_store::{load_of, record_of};
+use std::alloc::{AllocError, Global};
+use std::marker::Brand;
+use std::process::Abort;
+use std::sync::ledger::{Blank, Ledger};
+use std::test::Fail;
+
+/// The text of 7 at type int, of version One.
+const OLD: &[u8] = b"emit1 int i 7";
+
+/// The same of version Two.
+const NEW: &[u8] = b"emit2 int i 7";
+
+/// Its module, of 64 bytes, which is the same in both versions.
+const MODULE: &[u8] = &[
+    0x00, 0x61, 0x73, 0x6d, 0x01, 0x00, 0x00, 0x00, 0x01, 0x0b, 0x02, 0x60, 0x02, 0x7e, 0x7e, 0x01,
+    0x7e, 0x60, 0x00, 0x01, 0x7e, 0x03, 0x02, 0x01, 0x01, 0x04, 0x05, 0x01, 0x70, 0x01, 0x00, 0x00,
+    0x05, 0x04, 0x01, 0x01, 0x40, 0x40, 0x06, 0x06, 0x01, 0x7f, 0x01, 0x41, 0x00, 0x0b, 0x07, 0x08,
+    0x01, 0x04, 0x69, 0x6e, 0x69, 0x74, 0x00, 0x00, 0x0a, 0x06, 0x01, 0x04, 0x00, 0x42, 0x07, 0x0b,
+];
+
+/// Which texts a file holds, how many of them are of version One, and how many records are added for these.
+struct File {
+    has_old: bool,
+    has_new: bool,
+    old: u32,
+    added: usize,
+}
+
+const FILES: [File; 4] = [
+    File {
+        has_old: true,
+        has_new: false,
+        old: 1,
+        added: 1,
+    },
+    File {
+        has_old: true,
+        has_new: true,
+        old: 1,
+        added: 0,
+    },
+    File {
+        has_old: false,
+        has_new: true,
+        old: 0,
+        added: 0,
+    },
+    File {
+        has_old: false,
+        has_new: false,
+        old: 0,
+        added: 0,
+    },
+];
+
+/// The file's bytes.
+fn bytes_of(alloc: Global, file: &File) -> Result<Vec<u8>, AllocError> {
+    let mut bytes = Vec::new(alloc);
+    if file.has_old {
+        bytes.extend_from_slice(record_of(alloc, OLD, MODULE)?.as_slice())?;
+    }
+    if file.has_new {
+        bytes.extend_from_slice(record_of(alloc, NEW, MODULE)?.as_slice())?;
+    }
+    Ok(bytes)
+}
+
+/// What becomes of a file's texts of version One.
+fn migrated(alloc: Global, bytes: &[u8]) -> Result<Migration, AllocError> {
+    counted::<Brand>(alloc, bytes, Blank::new(1))
+}
+
+/// The same, with a count of emissions that begins here.
+fn counted<L: Ledger>(alloc: Global, bytes: &[u8], blank: Blank) -> Result<Migration, AllocError>
+    requires name { blank.name ≡ L.name }
+    requires parts { blank.parts ≡ L.parts }
+    requires some { 0 < L.parts }
+{
+    let mut steps = Steps::<L>::open(blank);
+    let load = load_of(alloc, bytes)?;
+    migration_of(alloc, &load, &mut steps)
+}
+
+/// A text of version One is counted, and the record of version Two is added where it isn't there.
+#[test]
+fn texts_of_version_one_migrate(rt: HostRuntime) -> Result<(), Fail> {
+    let alloc = rt.alloc();
+    let record_bytes = record_of(alloc, NEW, MODULE)?;
+    for file in FILES.as_slice() {
+        let bytes = bytes_of(alloc, file)?;
+        let migration = migrated(alloc, bytes.as_slice())?;
+        assert!(rt; migration.old == file.old);
+        assert!(rt; migration.records.len() == file.added);
+        if migration.records.len() == 1 {
+            assert!(rt; migration.records.get(0).as_slice() == record_bytes.as_slice());
+        }
+    }
+    Ok(())
+}

@@ -1,0 +1,324 @@
+// Graphs of code, and the terms that they are read back to.
+
+ghost use Rattle.std.specs.Prelude.{◌≡◌, ◌<◌, length, IfOk};
+ghost use Rattle.std.specs.Bool.{OnTrue};
+ghost use Rattle.mw_code.specs.Reading.{ArePartsBelow, IsDownward};
+
+use mw_code::node::CodeNode as Node;
+use mw_code::{CodeFault, Steps, read_back};
+use mw_region::{Id, Pool};
+use mw_term::{Prim, Term, depth, nodes};
+use std::alloc::{AllocError, Global};
+use std::marker::Brand;
+use std::sync::ledger::{Blank, Ledger};
+use std::test::Fail;
+
+const ZERO: Id = Id { place: 0 };
+
+const ONE: Id = Id { place: 1 };
+
+const TWO: Id = Id { place: 2 };
+
+const THREE: Id = Id { place: 3 };
+
+const SIX: Id = Id { place: 6 };
+
+// Whether each part of a node is below a place.
+fn are_parts_below(place: usize, node: Node) -> bool
+    ensures { OnTrue result (ArePartsBelow place node) }
+{
+    match node {
+        Node::Int(_) => true,
+        Node::Bool(_) => true,
+        Node::Var(_) => true,
+        Node::Fun(_, e) => e.place < place,
+        Node::Rec(_, _, e) => e.place < place,
+        Node::App(a, b) => a.place < place && b.place < place,
+        Node::Let(a, _, b) => a.place < place && b.place < place,
+        Node::If(c, a, b) => c.place < place && a.place < place && b.place < place,
+        Node::Pair(a, b) => a.place < place && b.place < place,
+        Node::Fst(e) => e.place < place,
+        Node::Snd(e) => e.place < place,
+        Node::Prim(_, a, b) => a.place < place && b.place < place,
+    }
+}
+
+// Adds a node whose parts are there.
+#[tactic(auto, using(mw_code::proofs::Adding::IsDownward_push))]
+fn add(pool: &mut Pool<Node>, node: Node) -> Result<Id, AllocError>
+    requires { IsDownward pool.old.items }
+    ensures down { IsDownward pool.new.items }
+    ensures here { IfOk result (λ id. id.place < length pool.new.items) }
+{
+    if !are_parts_below(pool.len(), node) {
+        return Err(AllocError);
+    }
+    pool.reserve(1)?;
+    Ok(pool.put(node))
+}
+
+// The nodes in a pool.
+#[tactic(auto, using(mw_code::proofs::Adding::IsDownward_none))]
+fn pool_of(alloc: Global, nodes: &[Node]) -> Result<Pool<Node>, AllocError>
+    ensures { IfOk result (λ pool. IsDownward pool.items) }
+{
+    let mut pool = Pool::new(alloc);
+    for node in nodes {
+        add(&mut pool, *node)?;
+    }
+    Ok(pool)
+}
+
+// What the last node of a pool is read back to, from no visits on.
+fn read_last<L: Ledger>(alloc: Global, pool: &Pool<Node>, blank: Blank) -> Result<Term, CodeFault>
+    requires down { IsDownward pool.now.items }
+    requires name { blank.name ≡ L.name }
+    requires parts { blank.parts ≡ L.parts }
+    requires some { 0 < L.parts }
+{
+    let place = pool.len().checked_sub(1).ok_or(AllocError)?;
+    let id = Id { place };
+    read_back(alloc, pool, id, &mut Steps::<L>::open(blank))
+}
+
+// What the last node of a pool is read back to.
+fn read(alloc: Global, pool: &Pool<Node>) -> Result<Term, CodeFault>
+    requires { IsDownward pool.now.items }
+{
+    read_last::<Brand>(alloc, pool, Blank::new(1))
+}
+
+// The fault.
+fn fault_shown(alloc: Global, fault: CodeFault) -> Result<String, AllocError> {
+    match fault {
+        CodeFault::Memory(fault) => Err(fault),
+        CodeFault::TooManyNodes => format!(in alloc; "too many nodes"),
+        CodeFault::TooDeepCode => format!(in alloc; "too deep"),
+    }
+}
+
+// The term, or the fault.
+fn shown(alloc: Global, pool: &Pool<Node>) -> Result<String, AllocError>
+    requires { IsDownward pool.now.items }
+{
+    match read(alloc, pool) {
+        Ok(term) => format!(in alloc; "{term:?}"),
+        Err(fault) => fault_shown(alloc, fault),
+    }
+}
+
+// The nodes and the depth of the term, or the fault.
+fn measured(alloc: Global, pool: &Pool<Node>) -> Result<String, AllocError>
+    requires { IsDownward pool.now.items }
+{
+    match read(alloc, pool) {
+        Ok(term) => {
+            let nodes = nodes(&term);
+            let depth = depth(&term);
+            format!(in alloc; "{nodes} {depth}")
+        }
+        Err(fault) => fault_shown(alloc, fault),
+    }
+}
+
+// Nodes, and the term of the last one.
+const GRAPHS: &[(&[Node], &str)] = &[
+    (&[Node::Int(-7)], "Int(-7)"),
+    (&[Node::Bool(true)], "Bool(true)"),
+    (&[Node::Var(5), Node::Fun(5, ZERO)], "Fun(Var(0))"),
+    (
+        &[
+            Node::Var(1),
+            Node::Var(2),
+            Node::App(ONE, ZERO),
+            Node::Rec(1, 2, TWO),
+        ],
+        "Rec(App(Var(1), Var(0)))",
+    ),
+    (
+        &[Node::Int(1), Node::Int(2), Node::App(ZERO, ONE)],
+        "App(Int(1), Int(2))",
+    ),
+    (
+        &[Node::Int(1), Node::Var(3), Node::Let(ZERO, 3, ONE)],
+        "Let(Int(1), Var(0))",
+    ),
+    (
+        &[
+            Node::Bool(true),
+            Node::Int(1),
+            Node::Int(2),
+            Node::If(ZERO, ONE, TWO),
+        ],
+        "If(Bool(true), Int(1), Int(2))",
+    ),
+    (
+        &[Node::Int(1), Node::Int(2), Node::Pair(ZERO, ONE)],
+        "Pair(Int(1), Int(2))",
+    ),
+    (&[Node::Int(1), Node::Fst(ZERO)], "Fst(Int(1))"),
+    (&[Node::Int(1), Node::Snd(ZERO)], "Snd(Int(1))"),
+    (
+        &[Node::Int(1), Node::Int(2), Node::Prim(Prim::Sub, ZERO, ONE)],
+        "Prim(Sub, Int(1), Int(2))",
+    ),
+    // A node by itself, and nodes that nothing names.
+    (
+        &[Node::Int(1), Node::Int(2), Node::Fst(ZERO), Node::Int(3)],
+        "Int(3)",
+    ),
+    // One node, three times.
+    (
+        &[Node::Int(1), Node::Pair(ZERO, ZERO), Node::App(ONE, ZERO)],
+        "App(Pair(Int(1), Int(1)), Int(1))",
+    ),
+    // One variable under one binder and under two.
+    (
+        &[
+            Node::Var(1),
+            Node::Fun(2, ZERO),
+            Node::App(ONE, ZERO),
+            Node::Fun(1, TWO),
+        ],
+        "Fun(App(Fun(Var(1)), Var(0)))",
+    ),
+    // One open function under a function, a definition and a recursive function.
+    (
+        &[
+            Node::Var(1),
+            Node::Fun(2, ZERO),
+            Node::Let(ZERO, 3, ONE),
+            Node::Rec(4, 5, ONE),
+            Node::Pair(TWO, THREE),
+            Node::Fun(1, Id { place: 4 }),
+        ],
+        "Fun(Pair(Let(Var(0), Fun(Var(2))), Rec(Fun(Var(3)))))",
+    ),
+    // Code whose binder has the number of one outside it.
+    (
+        &[
+            Node::Var(1),
+            Node::Fun(1, ZERO),
+            Node::App(ONE, ZERO),
+            Node::Fun(1, TWO),
+        ],
+        "Fun(App(Fun(Var(0)), Var(0)))",
+    ),
+    // A binder in place of another is not captured.
+    (
+        &[
+            Node::Var(1),
+            Node::Var(2),
+            Node::Pair(ZERO, ONE),
+            Node::Fun(2, TWO),
+            Node::Fun(1, THREE),
+        ],
+        "Fun(Fun(Pair(Var(1), Var(0))))",
+    ),
+    // What a definition binds is outside its scope, even under one number.
+    (
+        &[Node::Var(1), Node::Let(ZERO, 1, ZERO), Node::Fun(1, ONE)],
+        "Fun(Let(Var(0), Var(0)))",
+    ),
+    (
+        &[Node::Var(1), Node::Let(ZERO, 2, ZERO), Node::Fun(1, ONE)],
+        "Fun(Let(Var(0), Var(1)))",
+    ),
+    // The argument hides the own name of one number.
+    (&[Node::Var(1), Node::Rec(1, 1, ZERO)], "Rec(Var(0))"),
+    (
+        &[Node::Var(1), Node::Rec(2, 3, ZERO), Node::Fun(1, ONE)],
+        "Fun(Rec(Var(2)))",
+    ),
+];
+
+#[test]
+fn graphs(rt: HostRuntime) -> Result<(), Fail> {
+    for &(nodes, expected) in GRAPHS {
+        let pool = pool_of(rt.alloc(), nodes)?;
+        let term = shown(rt.alloc(), &pool)?;
+        assert_eq!(rt; term.as_str(), expected);
+    }
+    Ok(())
+}
+
+// How the last node is used by the next one.
+#[derive(Clone, Copy)]
+enum Step {
+    /// As its only part.
+    Once,
+    /// As both parts.
+    Twice,
+    /// Beside the node at a place.
+    Beside(Id),
+}
+
+// The next node of that kind, so many times.
+fn grow(pool: &mut Pool<Node>, step: Step, times: u32) -> Result<(), AllocError>
+    requires { IsDownward pool.old.items }
+    ensures { IsDownward pool.new.items }
+{
+    for _ in 0..times {
+        let last = Id {
+            place: pool.len().saturating_sub(1),
+        };
+        let node = match step {
+            Step::Once => Node::Fst(last),
+            Step::Twice => Node::Prim(Prim::Add, last, last),
+            Step::Beside(id) => Node::Pair(id, last),
+        };
+        add(pool, node)?;
+    }
+    Ok(())
+}
+
+// Steps with their times, from one literal; what the last node is read back to, or the nodes and the depth of its term.
+const LARGE: &[(&[(Step, u32)], &str)] = &[
+    (&[(Step::Once, 399)], "400 400"),
+    (&[(Step::Once, 400)], "too deep"),
+    (&[(Step::Once, 19_999)], "too deep"),
+    (&[(Step::Once, 20_000)], "too many nodes"),
+    (&[(Step::Once, 100_000)], "too many nodes"),
+    // 20,000 nodes, and one more.
+    (
+        &[(Step::Twice, 6), (Step::Beside(SIX), 155), (Step::Once, 33)],
+        "20000 195",
+    ),
+    (
+        &[(Step::Twice, 6), (Step::Beside(SIX), 155), (Step::Once, 34)],
+        "too many nodes",
+    ),
+    // Each node is shared.
+    (&[(Step::Twice, 13)], "16383 14"),
+    (&[(Step::Twice, 14)], "too many nodes"),
+    (&[(Step::Twice, 40)], "too many nodes"),
+    (&[(Step::Twice, 100_000)], "too many nodes"),
+    // What is shared is about as deep as the limit, or deeper.
+    (&[(Step::Twice, 10), (Step::Once, 389)], "2436 400"),
+    (&[(Step::Twice, 10), (Step::Once, 390)], "too deep"),
+    (&[(Step::Twice, 13), (Step::Once, 3_617)], "too deep"),
+    (&[(Step::Twice, 13), (Step::Once, 3_618)], "too many nodes"),
+    (&[(Step::Twice, 40), (Step::Once, 500)], "too many nodes"),
+    (&[(Step::Once, 500), (Step::Twice, 40)], "too many nodes"),
+];
+
+// A literal, and what steps add to it.
+fn large(alloc: Global, steps: &[(Step, u32)]) -> Result<Pool<Node>, AllocError>
+    ensures { IfOk result (λ pool. IsDownward pool.items) }
+{
+    let mut pool = pool_of(alloc, &[Node::Bool(true)])?;
+    for (step, times) in steps {
+        grow(&mut pool, *step, *times)?;
+    }
+    Ok(pool)
+}
+
+#[test]
+fn limits(rt: HostRuntime) -> Result<(), Fail> {
+    for &(steps, expected) in LARGE {
+        let pool = large(rt.alloc(), steps)?;
+        let answer = measured(rt.alloc(), &pool)?;
+        assert_eq!(rt; answer.as_str(), expected);
+    }
+    Ok(())
+}

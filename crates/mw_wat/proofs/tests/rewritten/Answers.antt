@@ -1,4 +1,0 @@
-use Rattle.mw_wat.proofs.tests.rewritten.Goals as goal
-
-pub write_wat-requires : goal.write_wat-requires
-write_wat-requires c = c.in_ok-wasm.ensures.read.0.2.has.profile
