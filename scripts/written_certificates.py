@@ -1,5 +1,5 @@
-"""The certificate that is written for a program, for the scripts that write rows: types are inferred by unification over
-terms as make_certificate_rows has them, and its lines are made by the rules of written certificates.
+"""The certificate that is written for a program, for the scripts that write rows: types are inferred by unification,
+over terms as make_certificate_rows has them, and lines are made of them by the rules of written certificates.
 
 In each section unknowns, and apart from them classifiers, are numbered from 0 in the order in which the node lines are
 read, a type from left to right with its classifier before its content. Types stand in the order in which that reading
