@@ -1,11 +1,12 @@
 #!/bin/sh
-# cert.sh [PROGRAM [OLDER]]: times certificates. `run` of a source of about 1 MB that is checked, and of an older program
-# beside it where one is named; `cert` of it, in at most twice the time of `run`, and `recheck` of that, in at most the
-# time of `run`. `recheck` of a source of one number with 1,000,000 lines `pair k k`, whose type has 2^1,000,000 nodes, in
-# at most 5 seconds, used and not; with 67,108,864 bytes of unknowns, in at most 700 MB. And pairs of files made to be
-# slow, of about 1 MB each: many uses of a let behind whose root many lines stand, and many closes under a name whose
-# type is code and has many lines below it. Each time is of the user, in seconds, the least of three runs, or of one
-# where it takes more than 10; memory is the most that a run took. MB are of 1,048,576 bytes.
+# cert.sh [PROGRAM [OLDER]]: times certificates. `run` of a source of about 1 MB that is checked, and of an older
+# program beside it where one is named; `cert` of it, in at most twice the time of `run`, and `recheck` of that, in at
+# most the time of `run`. `recheck` of a source of one number with 1,000,000 lines `pair k k`, whose type has
+# 2^1,000,000 nodes, in at most 5 seconds, used and not; with 67,108,864 bytes of unknowns, in at most 700 MB. And
+# pairs of files made to be slow, of about 1 MB each: many uses of a let below whose root many lines stand, many closes
+# under a name whose type is code and has many lines below it, and many uses of a let whose root has many classifiers.
+# Each time is of the user, in seconds, the least of three runs, or of one where it takes more than 10; memory is the
+# most that a run took. MB are of 1,048,576 bytes.
 set -u
 here=$(cd "$(dirname "$0")" && pwd)
 program=${1:-$here/../crates/metaml/out/metaml}
@@ -36,7 +37,7 @@ def once(words, output):
     return used.ru_utime, used.ru_maxrss * 1024, os.waitstatus_to_exitcode(status)
 
 def timed(name, words, status, said=None, most=None, room=None):
-    """Times runs, compares status and output, and gives the least time."""
+    """Times runs, compares status and output, and gives the least time of the user."""
     output = f"{work}/output"
     times, memory = [], 0
     while len(times) < 3 and (not times or times[0] <= 10):
@@ -101,6 +102,21 @@ def many_uses(lines, depth):
     nodes = [f"{depth + 2} 0"] + tree_nodes(["1"], depth, lambda level: level + 1)
     return source, "cert1\n" + first + section(types, nodes) + section(["int"], ["0"])
 
+def many_classifiers(height, depth):
+    """Uses, 2^depth of them, of a let whose root has 2^height classifiers, which all become one at each use."""
+    source = f"let f = fun x -> x ;; let g = fun z -> {tree('f', depth)} ;; main : int = 1"
+    types, level = ["int"] + [f"code {at} 0" for at in range(2**height)], list(range(1, 2**height + 1))
+    while len(level) > 1:
+        above = range(len(types), len(types) + len(level) // 2)
+        types += [f"pair {left} {right}" for left, right in zip(level[::2], level[1::2])]
+        level = list(above)
+    first = section(types + [f"arrow {level[0]} {level[0]}"], [f"{len(types)} {level[0]}", f"{level[0]}"])
+    types = ["int", "code 0 0"] + [f"pair {at} {at}" for at in range(1, height + 1)]
+    types += [f"arrow {height + 1} {height + 1}"]
+    types += [f"pair {at} {at}" for at in range(height + 2, height + 2 + depth)]
+    nodes = [f"{len(types)} 0"] + tree_nodes([f"{height + 2}"], depth, lambda level: height + 2 + level)
+    return source, "cert1\n" + first + section(types + [f"arrow 0 {len(types) - 1}"], nodes) + section(["int"], ["0"])
+
 def many_closes(lines, depth):
     """Closes, 2^depth of them, under a name whose type is code and has so many lines below it."""
     source = f"let g = fun c -> {tree('close.<1>.', depth)} ;; main : int = 1"
@@ -142,7 +158,8 @@ def main():
     timed(f"recheck: {os.path.getsize(cert)} bytes", [program, "recheck", cert, one], 0, b"typed\n", room=700 * MB)
     print("pairs of files made to be slow", flush=True)
     for name, (text, cert) in (("60,000 lines, 65,536 uses", many_uses(60_000, 16)),
-            ("60,000 lines, 32,768 closes", many_closes(60_000, 15))):
+            ("60,000 lines, 32,768 closes", many_closes(60_000, 15)),
+            ("16,384 classifiers, 65,536 uses", many_classifiers(14, 16))):
         text, cert = put("slow.metaml", text), put("slow.cert", cert)
         sizes = f"{os.path.getsize(text) / MB:.2f} and {os.path.getsize(cert) / MB:.2f} MB"
         timed(f"recheck: {name}, {sizes}", [program, "recheck", cert, text], 0, b"typed\n")
