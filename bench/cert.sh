@@ -3,10 +3,11 @@
 # program beside it where one is named; `cert` of it, in at most twice the time of `run`, and `recheck` of that, in at
 # most the time of `run`. `recheck` of a source of one number with 1,000,000 lines `pair k k`, whose type has
 # 2^1,000,000 nodes, in at most 5 seconds, used and not; with 67,108,864 bytes of unknowns, in at most 700 MB. And
-# pairs of files made to be slow, of about 1 MB each: many uses of a let below whose root many lines stand, many closes
-# under a name whose type is code and has many lines below it, and many uses of a let whose root has many classifiers.
-# Each time is of the user, in seconds, the least of three runs, or of one where it takes more than 10; memory is the
-# most that a run took. MB are of 1,048,576 bytes.
+# pairs of files made to be slow: many uses of a let below whose root many lines stand, many closes under a name whose
+# type is code and has many lines below it, and many uses of a let whose root has many classifiers. With files of 1 MB
+# each there is room for 65,536 uses, where a use costs as much as here. Each time is of the user, in seconds, the
+# least of three runs, or of one where it takes more than 10; memory is the most that a run took. MB are of 1,048,576
+# bytes.
 set -u
 here=$(cd "$(dirname "$0")" && pwd)
 program=${1:-$here/../crates/metaml/out/metaml}
@@ -157,9 +158,9 @@ def main():
     del lines, chain
     timed(f"recheck: {os.path.getsize(cert)} bytes", [program, "recheck", cert, one], 0, b"typed\n", room=700 * MB)
     print("pairs of files made to be slow", flush=True)
-    for name, (text, cert) in (("60,000 lines, 65,536 uses", many_uses(60_000, 16)),
+    for name, (text, cert) in (("60,000 lines, 4,096 uses", many_uses(60_000, 12)),
             ("60,000 lines, 32,768 closes", many_closes(60_000, 15)),
-            ("16,384 classifiers, 65,536 uses", many_classifiers(14, 16))):
+            ("16,384 classifiers, 256 uses", many_classifiers(14, 8))):
         text, cert = put("slow.metaml", text), put("slow.cert", cert)
         sizes = f"{os.path.getsize(text) / MB:.2f} and {os.path.getsize(cert) / MB:.2f} MB"
         timed(f"recheck: {name}, {sizes}", [program, "recheck", cert, text], 0, b"typed\n")
