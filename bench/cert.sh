@@ -46,8 +46,8 @@ def timed(name, words, status, said=None, most=None, room=None):
         times.append(spent)
         memory = max(memory, taken)
     bound = f" ({most:.2f} at most)" if most else ""
-    print(f"  {name:44} {min(times):8.2f} s{bound} {memory // MB:5} MB  {os.path.getsize(output)} bytes, status {ended}",
-        flush=True)
+    wrote = os.path.getsize(output)
+    print(f"  {name:44} {min(times):8.2f} s{bound} {memory // MB:5} MB  {wrote} bytes, status {ended}", flush=True)
     if ended != status or said is not None and bytes_of(output) != said:
         wrong(f"{name}: status {ended}")
     if most and min(times) > most:
@@ -77,7 +77,8 @@ def large_source():
         f, g = f"f{max(at - 1, 0)}", f"f{max(at - 2, 0)}"
         one = f"let p = (x, ({at}, true)) in let rec r n = if n = 0 then fst (snd p) else r (n - 1) + n * {at} in "
         one += f"if snd (snd p) then fst (r 3, {f}) else (fun y -> y - r y) (r 5)" if at > 1 else "r 3"
-        used = "".join(f"let a{k} = {f} (fun z -> (z, x)) + {g} (x, {k}) * {k} in " for k in range(17)) if at > 1 else ""
+        lets = (f"let a{k} = {f} (fun z -> (z, x)) + {g} (x, {k}) * {k} in " for k in range(17 * (at > 1)))
+        used = "".join(lets)
         items.append(f"let f{at} x = {used}{one} ;;\n")
     return "".join(items) + "main : int = 1\n"
 
