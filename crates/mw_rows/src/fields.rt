@@ -90,8 +90,8 @@ impl Kind {
     pub fn fields(self) -> &'static [&'static str] {
         match self {
             Kind::Run => &[
-                "source", "words", "reads", "piece", "writes", "keeps", "step", "held", "holds",
-                "shows", "beside",
+                "source", "cert", "words", "reads", "piece", "writes", "keeps", "step", "held",
+                "holds", "shows", "beside",
             ],
             Kind::Tree | Kind::Fronts | Kind::Program => &["source"],
             Kind::Verdicts => &["source", "next"],

@@ -4,14 +4,17 @@ use crate::fields::{Fault, Row, number_in};
 use mw_console::Status;
 use mw_drive::{run, table};
 use mw_outside::{Bytes, Calls, Files, MemKeeper, MemSink, MemSource, NamedFile, Pass};
-use std::alloc::Global;
+use std::alloc::{AllocError, Global};
 use std::thread::Threads;
 
 /// How many slots the table of modules has, which each run has anew.
 const SLOTS: u32 = 1_024;
 
-/// The name of the one file.
-const NAME: &str = "source.metaml";
+/// The name of the file with the row's source in it.
+const SOURCE: &str = "source.metaml";
+
+/// The name of the file with the row's certificate in it.
+const CERTIFICATE: &str = "cert";
 
 /// How a command ended: its status, what it wrote, and what the keeper held then.
 #[derive(Drop)]
@@ -30,22 +33,31 @@ fn calls(alloc: Global, row: &Row, name: &str) -> Result<Calls, Fault> {
     Ok(calls)
 }
 
-/// The one file, with the row's source in it.
-fn file_of(alloc: Global, row: &Row) -> Result<NamedFile, Fault> {
-    let bytes = Bytes::copied(alloc, row.bytes("source"))?;
-    let name = Bytes::copied(alloc, NAME.as_bytes())?;
+/// A file of this name, with these bytes in it.
+fn file_of(alloc: Global, name: &str, bytes: &[u8]) -> Result<NamedFile, AllocError> {
+    let bytes = Bytes::copied(alloc, bytes)?;
+    let name = Bytes::copied(alloc, name.as_bytes())?;
     Ok(NamedFile { name, bytes })
 }
 
-/// The source with its one file, of which it gives so many bytes at once.
+/// The files: the source's, and the certificate's where the row has one.
+fn files_of(alloc: Global, row: &Row) -> Result<Files, AllocError> {
+    let mut files = Files::new(alloc);
+    files.push(file_of(alloc, SOURCE, row.bytes("source"))?)?;
+    if row.has("cert") {
+        files.push(file_of(alloc, CERTIFICATE, row.bytes("cert"))?)?;
+    }
+    Ok(files)
+}
+
+/// The source with its files, of which it gives so many bytes at once.
 fn source_of(alloc: Global, row: &Row) -> Result<MemSource, Fault> {
     let piece = row.number("piece", 7)?;
     if piece == 0 {
         return Err(Fault::Malformed("a source that gives nothing"));
     }
     let failing = calls(alloc, row, "reads")?;
-    let mut files = Files::new(alloc);
-    files.push(file_of(alloc, row)?)?;
+    let files = files_of(alloc, row)?;
     if !files.names_differ() {
         return Err(Fault::Malformed("two files of one name"));
     }

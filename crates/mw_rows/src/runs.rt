@@ -1,12 +1,12 @@
 // Commands over a source in memory.
 //
-// `source` is the one file, `source.metaml`. `words` are the command's, with a blank between two; `''` is an empty one,
-// and `run source.metaml` stands there where the field doesn't. `reads`, `writes` and `keeps` number the calls of
-// source, sink and keeper that fail, from 0 on. The source gives `piece` bytes at once, 7 where the field isn't there,
-// and the sink takes `step` bytes, 10 where it isn't. The keeper holds the bytes `held`. `shows` says which lines are
-// printed. `beside` names the row before: where the same bytes were written, that is said in place of the lines. Where
-// the words name a cache file, what the keeper holds in the end stands after the lines, with all its bytes where
-// `holds` is `bytes`.
+// `source` is the file `source.metaml`, and `cert` the file `cert`, which is there where the field is. `words` are the
+// command's, with a blank between two; `''` is an empty one, and `run source.metaml` stands there where the field
+// doesn't. `reads`, `writes` and `keeps` number the calls of source, sink and keeper that fail, from 0 on. The source
+// gives `piece` bytes at once, 7 where the field isn't there, and the sink takes `step` bytes, 10 where it isn't. The
+// keeper holds the bytes `held`. `shows` says which lines are printed. `beside` names the row before: where the same
+// bytes were written, that is said in place of the lines. Where the words name a cache file, what the keeper holds in
+// the end stands after the lines, with all its bytes where `holds` is `bytes`.
 
 use crate::fields::{Fault, Row};
 use crate::outside::{Ended, end_of};
