@@ -12,8 +12,6 @@ mod console;
 #[cfg(test)]
 mod conv;
 #[cfg(test)]
-mod drive;
-#[cfg(test)]
 mod encode;
 #[cfg(test)]
 mod generate;
