@@ -6,6 +6,7 @@ import { execFileSync } from 'node:child_process';
 import { mkdtempSync, readFileSync, readdirSync, rmSync, writeFileSync } from 'node:fs';
 import { tmpdir } from 'node:os';
 import { join } from 'node:path';
+import { kernelType, shown, withMemory } from '../tools/types.mjs';
 import { kernelsIn, listedCalls } from './kernels.mjs';
 
 const program = 'crates/metaml/out/metaml';
@@ -42,11 +43,12 @@ function expression(type, leaves) {
   return `(${left}, ${expression(type[1], leaves)})`;
 }
 
-/** What node gives: the result of `init`, or of a call of the function that it gives. */
+/** What node gives, as the program writes answers: the result of `init`, or of a call of the function that it gives. */
 function givenByNode(kernel, leaves) {
-  const { init, call } = new WebAssembly.Instance(new WebAssembly.Module(kernel.bytes)).exports;
-  const value = init();
-  return call ? call(value, ...leaves) : value;
+  const { init, call, memory } = new WebAssembly.Instance(new WebAssembly.Module(withMemory(kernel.bytes))).exports;
+  const made = init();
+  const value = call ? call(made, ...leaves) : made;
+  return `answer ${shown(kernelType(kernel.type).result, value, new DataView(memory.buffer))}`;
 }
 
 /** What the program gives: the last line of its run on the example with a main that makes this call. */
@@ -83,9 +85,7 @@ for (const { line, path, name, leaves } of calls) {
     continue;
   }
   called.add(`${path} ${name}`);
-  const value = givenByNode(kernel, leaves);
-  const result = kernel.type.split(' -> ').pop();
-  const given = `answer ${result === 'bool' ? value === 1n : value}`;
+  const given = givenByNode(kernel, leaves);
   const wanted = givenByProgram(path, name, kernel.type, leaves, folder);
   if (given !== wanted) differs(`${line}: node gives "${given}", the program "${wanted}"`);
 }
