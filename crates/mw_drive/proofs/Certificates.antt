@@ -162,6 +162,14 @@ module _ {work : Work} (other : Work) (means : (m : Meaning) → IsMeaning work 
     said = c.said;
   }
 
+-- what was carried out of a text and a source, of those that are equal to them
+pub carried_of : {s : Status} {tells : Bool} {before after : List ℕ} {t u b d : List ℕ} → t ≡ u → b ≡ d
+    → IsCarriedOut on_a_file (rechecking t b) s tells before after
+    → IsCarriedOut on_a_file (rechecking u d) s tells before after
+carried_of {s} {tells} {before} {after} {t} {u} {b} {d} same equal c =
+    subst (λ x. IsCarriedOut on_a_file (rechecking x d) s tells before after) same
+    (subst (λ x. IsCarriedOut on_a_file (rechecking t x) s tells before after) equal c)
+
 -- What an answer of a certificate says.
 no_refusal : {r : Refusal} → Answer ≡ Refused r → ⊥
 no_refusal e = cc

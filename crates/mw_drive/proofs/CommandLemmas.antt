@@ -27,7 +27,7 @@ use Rattle.mw_drive.proofs.ErasedAnswers.{answers_are_erased}
 use Rattle.mw_drive.proofs.OneMeaning.{one_meaning}
 use Rattle.mw_drive.proofs.SimplifiedWorks.{simplified_run}
 use Rattle.mw_drive.specs.Honest.{IsHonestCache}
-use Rattle.mw_drive.specs.Extents.{whole, never, Kind, extent}
+use Rattle.mw_drive.specs.Extents.{whole, never, Kind, on_a_file, extent}
 use Rattle.mw_drive.specs.Running.{Outside, Sources, Wanted, source_file, module_file, certificate_file}
 use Rattle.mw_drive.specs.Running.{most_of_module, most_of_certificate, files_of, path_of}
 use Rattle.mw_drive.specs.Running.{kind_with, Has, Lacks, HasAll, has_none, has_more, LacksFirst, lacks_first}
@@ -50,6 +50,11 @@ pub carried_memory : (kind : Kind) (work : Work) (e : _) (tells : Bool) (before 
     → IsCarriedOut kind work (Memory e) tells before before
 carried_memory kind work e tells before =
     record { faithful = λ t. inl refl; meaning = λ c. absurd (cc); said = λ c. absurd (cc) }
+
+-- a file that wasn't read
+pub carried_read : (work : Work) (tells : Bool) (before : List ℕ) → IsCarriedOut on_a_file work Read tells before before
+carried_read work tells before =
+    record { faithful = λ t. refl; meaning = λ c. absurd (cc); said = λ c. absurd (cc) }
 
 -- parts make no sample
 makes_no_sample : {word : List ℕ} {parts : List PurePart} {n : ℕ} → Makes word parts (sample n) → ⊥

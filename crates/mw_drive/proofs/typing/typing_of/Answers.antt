@@ -1,0 +1,17 @@
+use Rattle.std.proofs.Common.{true, subst}
+use Rattle.mw_term.specs.Stops.{IfRefused}
+use Rattle.mw_drive.specs.SourceReading.{IsRefused}
+use Rattle.mw_drive.proofs.Certificates.{unread_typing}
+use Rattle.mw_drive.proofs.Reported.{ok_then}
+use Rattle.mw_drive.proofs.SourceWritten.{resolved}
+use Rattle.mw_drive.proofs.typing.typing_of.Goals as goal
+
+pub rechecked-requires : goal.rechecked-requires
+rechecked-requires c = resolved c.args.bytes.now 0 true c.in-Ok.program c.in-Ok.ensures.found
+
+pub returns-in-Err-Refused : goal.returns-in-Err-Refused
+returns-in-Err-Refused c =
+    let is = subst (IfRefused (IsRefused c.args.bytes.now)) c.in-Err-Refused.field-0-is
+    c.in-Err-Refused.ensures.refused in
+    ok_then _ _ c.refused.result (λ a h. unread_typing a.status c.in-Err-Refused.refusal is h.0 h.1)
+    c.refused.ensures
