@@ -170,6 +170,13 @@ erased_or_refused : {bytes : List ℕ} {fuel : ℕ} {r : Refusal} {names : List 
 erased_or_refused {bytes} (of_refusal {r = r} a) p b g = read_or_refused bytes p r b a
 erased_or_refused {bytes} (of_types {r = r} q a f) p b g = accepted_or_refused bytes q p r a b f g
 
+-- and it is refused with whatever units
+with_units : {bytes : List ℕ} {fuel : ℕ} {r : Refusal} {names : List (List ℕ)} (units : ℕ)
+    → IsMeaning (running bytes fuel (Lines Plain)) (refused r names)
+    → IsMeaning (running bytes units (Lines Plain)) (refused r names)
+with_units units (of_refusal a) = of_refusal a
+with_units units (of_types p a f) = of_types p a f
+
 -- a module is valid or not
 one_verdict : (v w : Bool) (wasm : PureModule) → Judges v wasm → Judges w wasm → v ≡ w
 one_verdict true true wasm a b = refl
@@ -252,8 +259,8 @@ one_meaning work m n (of_bad_file {bytes = bytes} {fault = f} bad) (of_module wa
     absurd (never_bad_and_file bytes wasm f a bad)
 one_meaning work m n (of_bad_file {bytes = bytes} {fault = f} a) (of_bad_file {fault = g} b) =
     ap faulty (one_file_fault bytes f g a b)
-one_meaning work m n (of_untyped {r = r} {names = names} a) (of_untyped {r = q} {names = others} b) =
-    one_meaning _ (refused r names) (refused q others) a b
+one_meaning work m n (of_untyped {fuel = fuel} {r = r} {names = names} a) (of_untyped {r = q} {names = others} b) =
+    one_meaning _ (refused r names) (refused q others) a (with_units fuel b)
 one_meaning work m n (of_untyped a) (of_certificate q b g is) = absurd (erased_or_refused a q b g)
 one_meaning work m n (of_certificate p a f is) (of_untyped b) = absurd (erased_or_refused b p a f)
 one_meaning work m n (of_certificate {bytes = bytes} {text = text} p a f is) (of_certificate {text = other} q b g end) =

@@ -1,7 +1,7 @@
 -- Each work has a meaning.
 use Rattle.std.proofs.Common.{◌≡◌, ◌≤◌, ◌<◌, ◌⊎◌, inl, inr, ℕ, List, [], ◌∷◌, map, length, Option, Some, None, true}
 use Rattle.std.proofs.Common.{false, refl, sym, ap, subst}
-use Rattle.mw_term.specs.Programs.{Definition}
+use Rattle.mw_term.specs.Programs.{Definition, PureProgram}
 use Rattle.mw_term.specs.Typable.{Typable}
 use Rattle.mw_term.specs.declared.refusal.Refusal.{Refusal}
 use Rattle.mw_term.specs.declared.refusal.Refusal.TheVariants.{Syntax, TooDeep, TooMany}
@@ -183,17 +183,24 @@ accepted_certified bytes p read fine =
     let c = accepted_have_one (unnamed p) (is_resolved bytes p read) fine.typable fine.small in
     (certified c.0, of_certificate p read fine c.1)
 
+-- texts that don't certify a program within the limit
+uncertified : (text : List ℕ) (p : PureProgram) → (Certifies text p → ⊥) → CertifiesWithin text p → ⊥
+uncertified text p not c = not c.certifies
+
+too_long : (text : List ℕ) (p : PureProgram) → 67108864 < length text → CertifiesWithin text p → ⊥
+too_long text p past c = let within = c.within in absurd (omega arith)
+
 -- whether a text certifies a program that is read
 rechecked_means : (text bytes : List ℕ) (p : NamedProgram) → IsRead bytes p → (length text ≤ 67108864)
     ⊎ (67108864 < length text) → Certifies text (unnamed p) ⊎ (Certifies text (unnamed p) → ⊥)
     → (m : Meaning) × IsMeaning (rechecking text bytes) m
 rechecked_means text bytes p read (inl within) (inl is) =
-    (rechecked true, of_recheck p read (record { within = within; certifies = is }))
-rechecked_means text bytes p read (inl within) (inr not) = (rechecked false, of_recheck p read (λ c. not c.certifies))
-rechecked_means text bytes p read (inr past) decided = (rechecked false, of_recheck p read (λ c. too_long c.within))
-  where
-    too_long : length text ≤ 67108864 → ⊥
-    too_long within = absurd (omega arith)
+    let c : CertifiesWithin text (unnamed p) = record { within = within; certifies = is } in
+    (rechecked true, of_recheck p read c)
+rechecked_means text bytes p read (inl within) (inr not) =
+    (rechecked false, of_recheck p read (uncertified text (unnamed p) not))
+rechecked_means text bytes p read (inr past) decided =
+    (rechecked false, of_recheck p read (too_long text (unnamed p) past))
 
 recheck_means : (text bytes : List ℕ) → IsAnswered bytes → (m : Meaning) × IsMeaning (rechecking text bytes) m
 recheck_means text bytes (as_program p read) =
