@@ -114,17 +114,17 @@ pub means_rechecked : (text bytes : List ℕ) (m : Meaning)
 means_rechecked text bytes m h = rechecked_front h bytes refl
 
 -- What was carried out of a work was carried out of another that means whatever it does.
-module _ {work : Work} (other : Work) (means : (m : Meaning) → IsMeaning work m → IsMeaning other m) {s : Status}
-    {before after : List ℕ} where
-  faithful_as : (x : Extent) → IsFaithful x work s before after → IsFaithful x other s before after
-  faithful_as nothing h = h
-  faithful_as a_front (inl same) = inl same
-  faithful_as a_front (inr (text, o, grows)) = inr (
+module _ {work : Work} (other : Work) (means : (m : Meaning) → IsMeaning work m → IsMeaning other m) where
+  faithful_as : (x : Extent) (s : Status) (before after : List ℕ) → IsFaithful x work s before after
+      → IsFaithful x other s before after
+  faithful_as nothing s before after h = h
+  faithful_as a_front s before after (inl same) = inl same
+  faithful_as a_front s before after (inr (text, o, grows)) = inr (
     text,
     record { meaning = o.meaning; is_meaning = means o.meaning o.is_meaning; is_text = o.is_text },
     grows,
   )
-  faithful_as whole (text, r, same) = (
+  faithful_as whole s before after (text, r, same) = (
     text,
     record {
       meaning = r.meaning;
@@ -134,7 +134,7 @@ module _ {work : Work} (other : Work) (means : (m : Meaning) → IsMeaning work 
     },
     same,
   )
-  faithful_as unkept (text, r, same) = (
+  faithful_as unkept s before after (text, r, same) = (
     text,
     record {
       shown = r.shown;
@@ -145,19 +145,19 @@ module _ {work : Work} (other : Work) (means : (m : Meaning) → IsMeaning work 
     },
     same,
   )
-  faithful_as all_or_nothing (inl same) = inl same
-  faithful_as all_or_nothing (inr (text, o, same)) = inr (
+  faithful_as all_or_nothing s before after (inl same) = inl same
+  faithful_as all_or_nothing s before after (inr (text, o, same)) = inr (
     text,
     record { meaning = o.meaning; is_meaning = means o.meaning o.is_meaning; is_text = o.is_text },
     same,
   )
-  faithful_as unsaid h = h
-  faithful_as never h = h
+  faithful_as unsaid s before after h = h
+  faithful_as never s before after h = h
 
-  pub carried_as : {kind : Kind} {tells : Bool} → IsCarriedOut kind work s tells before after
-      → IsCarriedOut kind other s tells before after
-  carried_as {kind} c = record {
-    faithful = λ t. faithful_as (extent kind s) (c.faithful t);
+  pub carried_as : {kind : Kind} {s : Status} {tells : Bool} {before after : List ℕ}
+      → IsCarriedOut kind work s tells before after → IsCarriedOut kind other s tells before after
+  carried_as {kind} {s} {tells} {before} {after} c = record {
+    faithful = λ t. faithful_as (extent kind s) s before after (c.faithful t);
     meaning = λ w. let m = c.meaning w in (m.0, means m.0 m.1, m.2);
     said = c.said;
   }
@@ -194,11 +194,12 @@ certificate_said bytes {s} {tells} {before} {after} c is =
           ∙ ap text_of (one_meaning (certifying bytes) f.1.meaning m.0 f.1.is_meaning m.1)),
     )
 
--- What is said of a text: it certifies the source, or it doesn't.
-fits_front : (text : List ℕ) → length (take most_of_certificate text) ≤ 67108864 → take most_of_certificate text ≡ text
+-- What is said of a text: it certifies the source, or it doesn't. Of a longer text a front is judged.
+pub fits_front : (text : List ℕ) → length (take most_of_certificate text) ≤ 67108864
+    → take most_of_certificate text ≡ text
 fits_front text within = let short = rw length-take at within in take_all most_of_certificate text (omega arith)
 
-fits_whole : (text : List ℕ) → length text ≤ 67108864 → take most_of_certificate text ≡ text
+pub fits_whole : (text : List ℕ) → length text ≤ 67108864 → take most_of_certificate text ≡ text
 fits_whole text within = take_all most_of_certificate text (omega (arith, within))
 
 typed_is_not : Answer ≡ NotTyped → ⊥
@@ -210,43 +211,44 @@ untyped_is_not e = cc
 unread_is_not : {r : Refusal} → NotTyped ≡ Refused r → ⊥
 unread_is_not e = cc
 
-typed_as : {text bytes : List ℕ} {m : Meaning} → IsMeaning (rechecking (take most_of_certificate text) bytes) m
-    → Answer ≡ status_of m → IsCertified bytes text
-typed_as (of_unread r) e = absurd (no_refusal e)
-typed_as {text} {bytes} (of_recheck {typed = true} p read is) e =
-    let certifies = subst (λ t. Certifies t (unnamed p)) (fits_front text is.within) is.certifies in
-    record {
-      program = p;
-      read = read;
-      typable = certified_are_typable text (unnamed p) (is_resolved bytes p read).values certifies;
-      certifies = certifies;
-    }
-typed_as (of_recheck {typed = false} p read is) e = absurd (typed_is_not e)
+module _ (front text bytes : List ℕ) (fits : length front ≤ 67108864 → front ≡ text)
+    (whole_fits : length text ≤ 67108864 → front ≡ text) where
+  typed_as : {m : Meaning} → IsMeaning (rechecking front bytes) m → Answer ≡ status_of m → IsCertified bytes text
+  typed_as (of_unread r) e = absurd (no_refusal e)
+  typed_as (of_recheck {typed = true} p read is) e =
+      let certifies = subst (λ t. Certifies t (unnamed p)) (fits is.within) is.certifies in
+      record {
+        program = p;
+        read = read;
+        typable = certified_are_typable text (unnamed p) (is_resolved bytes p read).values certifies;
+        certifies = certifies;
+      }
+  typed_as (of_recheck {typed = false} p read is) e = absurd (typed_is_not e)
 
-untyped_as : {text bytes : List ℕ} {m : Meaning} → IsMeaning (rechecking (take most_of_certificate text) bytes) m
-    → NotTyped ≡ status_of m → IsUncertified bytes text
-untyped_as (of_unread r) e = absurd (unread_is_not e)
-untyped_as (of_recheck {typed = true} p read is) e = absurd (untyped_is_not e)
-untyped_as {text} (of_recheck {typed = false} p read not) e = record {
-  program = p;
-  read = read;
-  uncertified = λ c. not (subst (λ t. CertifiesWithin t (unnamed p)) (sym (fits_whole text c.within)) c);
-}
+  untyped_as : {m : Meaning} → IsMeaning (rechecking front bytes) m → NotTyped ≡ status_of m
+      → IsUncertified bytes text
+  untyped_as (of_unread r) e = absurd (unread_is_not e)
+  untyped_as (of_recheck {typed = true} p read is) e = absurd (untyped_is_not e)
+  untyped_as (of_recheck {typed = false} p read not) e = record {
+    program = p;
+    read = read;
+    uncertified = λ c. not (subst (λ t. CertifiesWithin t (unnamed p)) (sym (whole_fits c.within)) c);
+  }
 
-pub typing_on : (text bytes : List ℕ) (s : Status)
-    → (extent on_a_file s ≡ whole
-    → (m : Meaning) × IsMeaning (rechecking (take most_of_certificate text) bytes) m × (s ≡ status_of m))
-    → IsTypingVerdict s text bytes
-typing_on text bytes Answer says = let m = says refl in typed_as m.1 m.2
-typing_on text bytes NotTyped says = let m = says refl in untyped_as m.1 m.2
-typing_on text bytes (Trap t) says = tt
-typing_on text bytes Usage says = tt
-typing_on text bytes (Refused r) says = tt
-typing_on text bytes (Bound l) says = tt
-typing_on text bytes Read says = tt
-typing_on text bytes Write says = tt
-typing_on text bytes Cache says = tt
-typing_on text bytes (Memory e) says = tt
-typing_on text bytes (BadCache d) says = tt
-typing_on text bytes BadModule says = tt
-typing_on text bytes Invalid says = tt
+  pub typing_on : (s : Status)
+      → (extent on_a_file s ≡ whole
+      → (m : Meaning) × IsMeaning (rechecking front bytes) m × (s ≡ status_of m))
+      → IsTypingVerdict s text bytes
+  typing_on Answer says = let m = says refl in typed_as m.1 m.2
+  typing_on NotTyped says = let m = says refl in untyped_as m.1 m.2
+  typing_on (Trap t) says = tt
+  typing_on Usage says = tt
+  typing_on (Refused r) says = tt
+  typing_on (Bound l) says = tt
+  typing_on Read says = tt
+  typing_on Write says = tt
+  typing_on Cache says = tt
+  typing_on (Memory e) says = tt
+  typing_on (BadCache d) says = tt
+  typing_on BadModule says = tt
+  typing_on Invalid says = tt

@@ -1,5 +1,6 @@
 -- From what a command's run gives to the clauses of the top call.
-use Rattle.std.proofs.Common.{◌≡◌, ◌≤◌, ◌⊎◌, inl, inr, ℕ, List, [], ◌∷◌, map, Bool, true, IsTrue, Option, Some, None}
+use Rattle.std.proofs.Common.{◌≡◌, ◌≤◌, ◌⊎◌, inl, inr, ℕ, List, [], ◌∷◌, ◌++◌, map, Bool, true, IsTrue, Option, Some}
+use Rattle.std.proofs.Common.{None}
 use Rattle.std.proofs.Common.{IsSome, IsNone, option_map, take, drop, refl, sym, ap, subst, ◌∙◌, arith}
 use Rattle.std.specs.Prelude.{codes}
 use Rattle.mw_term.specs.Terms.{PureGroundValue}
@@ -41,7 +42,7 @@ use Rattle.mw_drive.specs.Running.{IsFaithful, IsMemory, IsCarriedOut, mode_when
 use Rattle.mw_drive.specs.Verdicts.{IsVerdictOn}
 use Rattle.mw_drive.specs.Certified.{IsCertified, IsTypingVerdict}
 use Rattle.mw_drive.proofs.Verdicts.{verdict_on}
-use Rattle.mw_drive.proofs.Certificates.{certificate_said, typing_on}
+use Rattle.mw_drive.proofs.Certificates.{certificate_said, fits_front, fits_whole, typing_on}
 use Rattle.mw_drive.proofs.Options.{some_is_none}
 use Rattle.mw_drive.proofs.RunLemmas.{all_or_some, whole_else}
 
@@ -302,7 +303,7 @@ module _ {words : List (List ℕ)} {o : Outside} {command : PureCommand} {s : St
   asked_typing certificate f bytes text on =
       let is = same (recheck certificate f) on.means in
       let work = rechecking (take most_of_certificate text) bytes in
-      typing_on text bytes s
+      typing_on (take most_of_certificate text) text bytes (fits_front text) (fits_whole text) s
       (subst (λ c. IsCarriedOut (kind_of c) work s sink_tells before after) (sym is)
       (called.carried (bytes ∷ text ∷ []) work (has_on (recheck certificate f) (bytes ∷ text ∷ []) on)
       (subst (λ c. IsWork o c (bytes ∷ text ∷ []) work) is recheck_works)

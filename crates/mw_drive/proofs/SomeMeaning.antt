@@ -1,6 +1,6 @@
 -- Each work has a meaning.
 use Rattle.std.proofs.Common.{◌≡◌, ◌≤◌, ◌<◌, ◌⊎◌, inl, inr, ℕ, List, [], ◌∷◌, map, length, Option, Some, None, true}
-use Rattle.std.proofs.Common.{false, refl, sym, ap, subst}
+use Rattle.std.proofs.Common.{false, refl, sym, ap, subst, arith}
 use Rattle.mw_term.specs.Programs.{Definition, PureProgram}
 use Rattle.mw_term.specs.Typable.{Typable}
 use Rattle.mw_term.specs.declared.refusal.Refusal.{Refusal}

@@ -26,7 +26,7 @@ returns-in-Err-Memory-file_bytes-clause-work g c = λ bytes text here there.
 pub returns-clause-work : goal.returns-clause-work
 returns-clause-work g c = λ bytes text here there.
     let read = c.as_slice.ensures.value ∙ front_told c.in-Ok.bytes.items here c.in-Ok.ensures.ok in
-    let front = λ told. subst (λ files. IsFront most_of_certificate (file_of files c.args.certificate.now)
-    c.in-Ok-file_bytes.text.items) c.file_bytes.ensures.same_files (c.in-Ok-file_bytes.ensures.ok told) in
-    let held = c.as_slice-text.ensures.value ∙ front_told c.in-Ok-file_bytes.text.items there front in
+    let held = c.as_slice-2.ensures.value ∙ front_told c.in-Ok-file_bytes.text.items there
+    (λ told. subst (λ files. IsFront most_of_certificate (file_of files c.args.certificate.now)
+    c.in-Ok-file_bytes.text.items) c.file_bytes.ensures.same_files (c.in-Ok-file_bytes.ensures.ok told)) in
     carried_of held read c.write_answer.ensures.work
