@@ -197,6 +197,14 @@ returns-in-Migrate-clause-opened g c = rw c.in-Migrate.is (λ path is tells.
     subst (λ p. IsOpenedWith c.migrate.result p (g.C.Keeper.opened c.args.keeper.now)
     (g.C.Keeper.opened c.migrate.new.keeper)) same (c.migrate.ensures.opened tells))
 
+pub returns-in-Erased-clause-missing : goal.returns-in-Erased-clause-missing
+returns-in-Erased-clause-missing g c = λ lacks. c.evaluate_file-in-Erased.ensures.missing
+    (lacks_one (rw c.in-Erased.is at lacks))
+
+pub returns-in-Link-clause-missing : goal.returns-in-Link-clause-missing
+returns-in-Link-clause-missing g c = λ lacks. c.evaluate_file-in-Link.ensures.missing
+    (lacks_one (rw c.in-Link.is at lacks))
+
 -- Where a file is lacking, nothing is written.
 pub returns-in-Run-clause-lacking : goal.returns-in-Run-clause-lacking
 returns-in-Run-clause-lacking g c =
