@@ -16,8 +16,8 @@ use Rattle.mw_console.specs.Texts.{refusal_line, typing_line}
 use Rattle.mw_console.specs.declared.status.Status.{Status}
 use Rattle.mw_console.specs.declared.status.Status.TheVariants.{Answer, Trap, Usage, Refused, Bound, Read, Write}
 use Rattle.mw_console.specs.declared.status.Status.TheVariants.{Cache, Memory, BadCache, BadModule, Invalid, NotTyped}
-use Rattle.mw_drive.specs.NamedPrograms.{NamedProgram, unnamed, names_of, named_program_of}
-use Rattle.mw_drive.specs.SourceReading.{IsRead, IsRefused, too_large, at_bytes, at_tokens, at_names}
+use Rattle.mw_reading.specs.NamedPrograms.{NamedProgram, unnamed, names_of, named_program_of}
+use Rattle.mw_reading.specs.SourceReading.{IsRead, IsRefused, too_large, at_bytes, at_tokens, at_names}
 use Rattle.mw_drive.specs.Extents.{nothing, a_front, whole, unkept, all_or_nothing, unsaid, never, Extent, Kind}
 use Rattle.mw_drive.specs.Extents.{on_a_file, extent}
 use Rattle.mw_drive.specs.Running.{most_of_source, most_of_certificate, IsFaithful, IsCarriedOut}
@@ -27,8 +27,8 @@ use Rattle.mw_drive.specs.Works.{of_refusal, of_types, of_untyped, of_certificat
 use Rattle.mw_drive.specs.Works.{CertifiesWithin, Rechecks, text_of, status_of, Reports}
 use Rattle.mw_drive.proofs.OneMeaning.{one_meaning}
 use Rattle.mw_drive.proofs.RunLemmas.{whole_read, whole_refused, small_front, large_whole}
-use Rattle.mw_drive.proofs.ScopedTerms.{is_resolved}
-use Rattle.mw_drive.proofs.SourceReadings.{unnamed_program, names_of_program}
+use Rattle.mw_reading.proofs.ScopedTerms.{is_resolved}
+use Rattle.mw_reading.proofs.SourceReadings.{unnamed_program, names_of_program}
 
 -- What is answered is what the work means: a refusal of the reading, or of the types.
 pub unread_certificate : {bytes text : List ℕ} (s : Status) (r : Refusal) → IsRefused bytes r → s ≡ Refused r

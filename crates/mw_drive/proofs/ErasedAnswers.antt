@@ -8,8 +8,8 @@ use Rattle.mw_meaning.specs.Outcomes.{item_outcome, main_outcome, names_of_items
 use Rattle.mw_meaning.specs.ErasedPrograms.{ItemsCameTo, Answers, erased_outcome}
 use Rattle.mw_meaning.proofs.Agreement.{answers_agree}
 use Rattle.mw_console.specs.Texts.{Ending, answered}
-use Rattle.mw_drive.specs.NamedPrograms.{NamedItem, NamedProgram, unnamed}
-use Rattle.mw_drive.specs.SourceReading.{IsRead}
+use Rattle.mw_reading.specs.NamedPrograms.{NamedItem, NamedProgram, unnamed}
+use Rattle.mw_reading.specs.SourceReading.{IsRead}
 use Rattle.mw_drive.specs.declared.shown.Shown.{Shown}
 use Rattle.mw_link.specs.Linked.{Kernel}
 use Rattle.mw_drive.specs.ProgramMeaning.{ItemsRun, all_gave, one_ended, one_stuck, with_kernel, before_others}

@@ -13,10 +13,10 @@ use Rattle.mw_infer.specs.Checking.{IsWritten}
 use Rattle.mw_term.specs.Parts.{an_item, main}
 use Rattle.mw_infer.proofs.Progressing.{resolved-written}
 use Rattle.mw_console.specs.Texts.{Ending}
-use Rattle.mw_drive.specs.NamedPrograms.{NamedProgram, unnamed}
-use Rattle.mw_drive.specs.SourceReading.{IsRead}
+use Rattle.mw_reading.specs.NamedPrograms.{NamedProgram, unnamed}
+use Rattle.mw_reading.specs.SourceReading.{IsRead}
 use Rattle.mw_drive.specs.ProgramMeaning.{main_ending, erased_ending}
-use Rattle.mw_drive.proofs.ScopedTerms.{is_resolved}
+use Rattle.mw_reading.proofs.ScopedTerms.{is_resolved}
 
 source_items : (items : List Definition)
     → ((i : ℕ) (e : Expression) → slice_get items i ≡ Some (defines e) → IsSource e)

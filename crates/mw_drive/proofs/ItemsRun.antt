@@ -11,12 +11,12 @@ use Rattle.mw_tasks.specs.declared.outcome.ItemOutcome.TheVariants.{Code, Trap, 
 use Rattle.mw_tasks.specs.Phases.{Answers, EachKernel, AreOutcomesOf, AreBuiltAll, codes_in}
 use Rattle.mw_drive.specs.Honest.{IsMeant, AreMeant}
 use Rattle.mw_console.specs.Texts.{Ending}
-use Rattle.mw_drive.specs.NamedPrograms.{NamedItem, unnamed, named_program_of}
+use Rattle.mw_reading.specs.NamedPrograms.{NamedItem, unnamed, named_program_of}
 use Rattle.mw_link.specs.Linked.{Kernel}
 use Rattle.mw_drive.specs.ProgramMeaning.{ItemsRun, all_gave, one_ended, one_stuck, with_kernel, run_item}
 use Rattle.mw_drive.specs.ProgramMeaning.{run_items, items_run, codes_of}
 use Rattle.mw_drive.specs.ItemOutcomes.{outcome_in, item_run, outcomes_run, HasOneForEach, ArePlaced}
-use Rattle.mw_drive.proofs.SourceReadings.{unnamed_program}
+use Rattle.mw_reading.proofs.SourceReadings.{unnamed_program}
 
 abbrev pub definitions : List NamedItem → List Definition
 definitions items = map (λ (i : NamedItem). i.is) items

@@ -21,11 +21,9 @@ pub mod Verdicts
 pub mod Certificates
 pub mod Reported
 pub mod RunWritten
-pub mod ScopedTerms
 pub mod Showing
 pub mod SomeMeaning
 pub mod SoundKernels
-pub mod SourceReadings
 pub mod SourceWritten
 pub mod Taking
 pub mod ErasedEnds

@@ -22,8 +22,8 @@ use Rattle.mw_scope.specs.Scopes.{name_of}
 use Rattle.mw_scope.specs.Nameless.{NamelessItems, no_item, an_item, a_let, a_kernel}
 use Rattle.mw_link.specs.Linked.{Kernel, all_functions, count}
 use Rattle.mw_link.specs.LinkLaw.{IsLinkable, KernelsDiffer, AreLinkable, LiteralsOfAllFit}
-use Rattle.mw_drive.specs.NamedPrograms.{NamedItem, NamedProgram, unnamed}
-use Rattle.mw_drive.specs.SourceReading.{IsRead}
+use Rattle.mw_reading.specs.NamedPrograms.{NamedItem, NamedProgram, unnamed}
+use Rattle.mw_reading.specs.SourceReading.{IsRead}
 use Rattle.mw_drive.specs.ProgramMeaning.{ItemsRun, all_gave, one_ended, one_stuck, before_others}
 use Rattle.mw_drive.specs.ProgramMeaning.{run_item}
 use Rattle.mw_drive.specs.ProgramMeaning.{run_items, items_run}

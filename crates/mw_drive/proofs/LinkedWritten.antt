@@ -20,7 +20,7 @@ use Rattle.mw_console.specs.Texts.{Ending, answered}
 use Rattle.mw_console.specs.declared.status.Status.{Status}
 use Rattle.mw_console.specs.declared.status.Status.TheVariants.{Answer}
 use Rattle.mw_drive.specs.declared.fault.RunFault.{RunFault}
-use Rattle.mw_drive.specs.NamedPrograms.{named_program_of}
+use Rattle.mw_reading.specs.NamedPrograms.{named_program_of}
 use Rattle.mw_drive.specs.ProgramMeaning.{ItemsRun, items_run}
 use Rattle.mw_drive.specs.LinkedPrograms.{in_one, cut_short, link_run}
 use Rattle.mw_drive.specs.ItemOutcomes.{outcomes_run}
@@ -29,7 +29,7 @@ use Rattle.mw_drive.specs.Works.{Meaning, joined, unjoined, text_of, status_of}
 use Rattle.mw_drive.proofs.Faults.{front_written, no_answer, fault_is}
 use Rattle.mw_drive.proofs.LinkedPrograms.{some_link}
 use Rattle.mw_drive.proofs.RunWritten.{phase_is}
-use Rattle.mw_drive.proofs.SourceReadings.{unnamed_program}
+use Rattle.mw_reading.proofs.SourceReadings.{unnamed_program}
 
 -- an answer's status is that of an ending
 pub answer_ends : (s : Status) → s ≡ Answer → HasEnding s

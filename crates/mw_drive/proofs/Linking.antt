@@ -19,7 +19,7 @@ use Rattle.mw_link.specs.Views.{kernel_of as linkable_kernel}
 use Rattle.mw_link.specs.declared.parts.Linkable.{Linkable}
 use Rattle.mw_console.specs.Texts.{Ending}
 use Rattle.mw_drive.specs.declared.items.Built.{Built}
-use Rattle.mw_drive.specs.NamedPrograms.{NamedItem, item_of}
+use Rattle.mw_reading.specs.NamedPrograms.{NamedItem, item_of}
 use Rattle.mw_drive.specs.ProgramMeaning.{ItemsRun, all_gave, one_ended, one_stuck, with_kernel}
 use Rattle.mw_drive.specs.ItemOutcomes.{outcomes_run, item_run, IsCodeTaken, IsNextKernel, not_a_kernel, with_code}
 use Rattle.mw_drive.specs.ItemOutcomes.{without_code}

@@ -20,13 +20,13 @@ use Rattle.mw_drive.specs.declared.ending.End.{End}
 use Rattle.mw_drive.specs.declared.items.Built.{Built}
 use Rattle.mw_drive.specs.declared.items.ItemEnd.{ItemEnd}
 use Rattle.mw_drive.specs.declared.items.ItemEnd.TheVariants as item
-use Rattle.mw_drive.specs.NamedPrograms.{NamedItem, NamedProgram, item_of, named_program_of}
+use Rattle.mw_reading.specs.NamedPrograms.{NamedItem, NamedProgram, item_of, named_program_of}
 use Rattle.mw_drive.specs.ProgramMeaning.{ItemsRun, all_gave, one_ended}
 use Rattle.mw_drive.specs.ProgramRuns.{ending_of, kernel_of, kernels_of, IsBuilt}
 use Rattle.mw_drive.specs.ItemOutcomes.{item_run, outcomes_run, came_before, end_before, HasOneForEach, ArePlaced}
 use Rattle.mw_drive.specs.ItemOutcomes.{IfKernel}
 use Rattle.mw_drive.proofs.ItemsRun.{definitions, with_kernels, one_more, all_before, all_kernels}
-use Rattle.mw_drive.proofs.SourceReadings.{unnamed_program}
+use Rattle.mw_reading.proofs.SourceReadings.{unnamed_program}
 use Rattle.mw_drive.proofs.Taking.{drop_next, all_with}
 
 -- After so many items and so many outcomes, these kernels.

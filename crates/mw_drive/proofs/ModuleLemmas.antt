@@ -16,8 +16,8 @@ use Rattle.mw_link.proofs.Spelling.{linked_is_spelled}
 use Rattle.mw_link.proofs.Standing.{linked_means_all}
 use Rattle.mw_link.proofs.Valid.{linked_is_valid}
 use Rattle.mw_console.specs.Texts.{Ending}
-use Rattle.mw_drive.specs.NamedPrograms.{NamedProgram, unnamed}
-use Rattle.mw_drive.specs.SourceReading.{IsRead}
+use Rattle.mw_reading.specs.NamedPrograms.{NamedProgram, unnamed}
+use Rattle.mw_reading.specs.SourceReading.{IsRead}
 use Rattle.mw_drive.specs.ProgramMeaning.{ProgramRun, items_run, ended, program_run}
 use Rattle.mw_drive.specs.LinkedPrograms.{in_one, link_run}
 use Rattle.mw_drive.specs.Works.{Work, mode_of, Meaning, IsAccepted, IsMeaning, of_refusal, of_types, of_program}

@@ -22,8 +22,8 @@ use Rattle.mw_infer.proofs.Refusals.{refusal-one, typable-refused}
 use Rattle.mw_console.specs.Texts.{Ending}
 use Rattle.mw_meaning.specs.declared.mode.Mode.TheVariants.{Plain}
 use Rattle.mw_drive.specs.declared.shown.Shown.TheVariants.{Lines}
-use Rattle.mw_drive.specs.NamedPrograms.{NamedProgram, unnamed, names_of}
-use Rattle.mw_drive.specs.SourceReading.{IsRead, IsRefused, too_large, at_bytes, at_tokens, at_names}
+use Rattle.mw_reading.specs.NamedPrograms.{NamedProgram, unnamed, names_of}
+use Rattle.mw_reading.specs.SourceReading.{IsRead, IsRefused, too_large, at_bytes, at_tokens, at_names}
 use Rattle.mw_link.specs.Linked.{Kernel}
 use Rattle.mw_drive.specs.ProgramMeaning.{items_run, ended, program_run, erased_ending}
 use Rattle.mw_drive.specs.LinkedPrograms.{LinkRun, in_one, cut_short, link_run}
@@ -43,8 +43,8 @@ use Rattle.mw_written.specs.Written.{IsCertificateOf}
 use Rattle.mw_written.proofs.OneProgram.{certificates_one}
 use Rattle.mw_store.specs.Records.{Kept}
 use Rattle.mw_drive.specs.WorkLaws.{OneMeaning}
-use Rattle.mw_drive.proofs.SourceReadings.{same_program}
-use Rattle.mw_drive.proofs.ScopedTerms.{is_resolved}
+use Rattle.mw_reading.proofs.SourceReadings.{same_program}
+use Rattle.mw_reading.proofs.ScopedTerms.{is_resolved}
 
 -- tokens have one refusal at most, and none where they are a program
 one_refusal : (tokens : List PureToken) (n : ℕ) (r q : Refusal) → Refuses tokens n r → Refuses tokens n q → r ≡ q

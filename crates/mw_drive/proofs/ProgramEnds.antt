@@ -13,7 +13,7 @@ use Rattle.mw_meaning.specs.Outcomes.{main_outcome, names_of_items, names_of_mai
 use Rattle.mw_meaning.specs.OutcomeLaws.{ComesTo, AreCodesOf, HasGroundType}
 use Rattle.mw_meaning.proofs.ComingTo.{items_come_to_their_code, main_comes_to_its_value_after_items}
 use Rattle.mw_console.specs.Texts.{Ending}
-use Rattle.mw_drive.specs.NamedPrograms.{NamedItem, NamedProgram, unnamed}
+use Rattle.mw_reading.specs.NamedPrograms.{NamedItem, NamedProgram, unnamed}
 use Rattle.mw_link.specs.Linked.{Kernel}
 use Rattle.mw_drive.specs.ProgramMeaning.{ItemsRun, all_gave, one_ended, with_kernel, before_others, run_item}
 use Rattle.mw_drive.specs.ProgramMeaning.{run_items, items_run}

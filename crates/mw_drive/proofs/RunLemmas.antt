@@ -16,11 +16,11 @@ use Rattle.mw_drive.specs.declared.shown.Shown.TheVariants.{Lines}
 use Rattle.mw_link.specs.Linked.{Kernel}
 use Rattle.mw_console.specs.Reading.{IsFront}
 use Rattle.mw_console.specs.Texts.{Ending, answered, trapped, bounded, ending_status}
-use Rattle.mw_drive.specs.NamedPrograms.{NamedProgram, unnamed}
+use Rattle.mw_reading.specs.NamedPrograms.{NamedProgram, unnamed}
 use Rattle.mw_console.specs.declared.status.Status.{Status}
 use Rattle.mw_console.specs.declared.status.Status.TheVariants.{Answer, Trap, Usage, Refused, Bound, Read, Write}
 use Rattle.mw_console.specs.declared.status.Status.TheVariants.{Cache, Memory, BadCache, BadModule, Invalid, NotTyped}
-use Rattle.mw_drive.specs.SourceReading.{IsRead, IsSmall, too_large, at_bytes, at_tokens, at_names}
+use Rattle.mw_reading.specs.SourceReading.{IsRead, IsSmall, too_large, at_bytes, at_tokens, at_names}
 use Rattle.mw_drive.specs.Works.{joined, unjoined, migrated, written, judged, faulty, certified, rechecked}
 use Rattle.mw_drive.specs.Works.{Work, running, erasing, linking, Meaning, refused, ran, erased, IsMeaning, of_refusal}
 use Rattle.mw_drive.specs.Works.{of_types, of_program, of_erased_refusal, of_erased, of_link_refusal, of_joined}

@@ -17,7 +17,7 @@ use Rattle.mw_cache.specs.HonestFiles.{IsHonest}
 use Rattle.mw_tasks.specs.Phases.{AreOutcomesOf}
 use Rattle.mw_drive.specs.declared.items.Built.{Built}
 use Rattle.mw_drive.specs.declared.shown.Shown.{Shown}
-use Rattle.mw_drive.specs.NamedPrograms.{NamedProgram, unnamed, named_program_of}
+use Rattle.mw_reading.specs.NamedPrograms.{NamedProgram, unnamed, named_program_of}
 use Rattle.mw_link.specs.Linked.{Kernel}
 use Rattle.mw_drive.specs.ProgramMeaning.{main_after, ended, codes_of, ended_after, with_main, items_run}
 use Rattle.mw_drive.specs.ProgramMeaning.{program_run}
@@ -29,7 +29,7 @@ use Rattle.mw_drive.proofs.Fronts.{grows_after, whole_grows}
 use Rattle.mw_drive.proofs.Honest.{are_meant}
 use Rattle.mw_drive.proofs.ItemsRun.{run_is}
 use Rattle.mw_drive.proofs.ProgramEnds.{program_ends}
-use Rattle.mw_drive.proofs.SourceReadings.{unnamed_program}
+use Rattle.mw_reading.proofs.SourceReadings.{unnamed_program}
 
 -- what comes after kernels is an ending, where the run has one
 ending_after : (kernels others : List Kernel) (o : Option Ending) (d : Ending)

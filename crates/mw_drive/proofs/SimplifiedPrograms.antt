@@ -8,7 +8,7 @@ use Rattle.mw_meaning.specs.Outcomes.{Outcome, came_to, trapped as traps, bounde
 use Rattle.mw_meaning.specs.Outcomes.{item_outcome, main_outcome, names_of_items, names_of_main}
 use Rattle.mw_term.specs.Typable.{Typable}
 use Rattle.mw_console.specs.Texts.{Ending, answered, trapped, bounded}
-use Rattle.mw_drive.specs.NamedPrograms.{NamedItem, NamedProgram, unnamed}
+use Rattle.mw_reading.specs.NamedPrograms.{NamedItem, NamedProgram, unnamed}
 use Rattle.mw_link.specs.Linked.{Kernel}
 use Rattle.mw_drive.specs.ProgramMeaning.{ItemsRun, all_gave, one_ended, one_stuck, with_kernel, before_others}
 use Rattle.mw_drive.specs.ProgramMeaning.{run_item, run_items, items_run}

@@ -24,8 +24,8 @@ use Rattle.mw_scope.proofs.FaultlessPrograms.{faultless_program}
 use Rattle.mw_infer.specs.Checking.{IsFirstRefusal, NoneTooBig}
 use Rattle.mw_infer.proofs.Progressing.{resolved-written}
 use Rattle.mw_infer.proofs.Deciding.{checked_or_refused}
-use Rattle.mw_drive.specs.NamedPrograms.{NamedItem, NamedProgram, unnamed, names_of}
-use Rattle.mw_drive.specs.SourceReading.{IsSmall, IsRead, IsRefused, too_large, at_bytes, at_tokens, at_names}
+use Rattle.mw_reading.specs.NamedPrograms.{NamedItem, NamedProgram, unnamed, names_of}
+use Rattle.mw_reading.specs.SourceReading.{IsSmall, IsRead, IsRefused, too_large, at_bytes, at_tokens, at_names}
 use Rattle.mw_drive.specs.Works.{Work, running, erasing, linking, mode_of, Meaning, refused, ran, erased, IsAccepted}
 use Rattle.mw_drive.specs.Works.{IsMeaning, of_refusal, of_types, of_program, of_erased_refusal, of_erased}
 use Rattle.mw_drive.specs.Works.{of_link_refusal}
@@ -45,7 +45,7 @@ use Rattle.mw_judge.proofs.FileLaws.{binary_or_bad, file_or_bad}
 use Rattle.mw_judge.proofs.Deciding.{validity_is_decided}
 use Rattle.mw_keeping.proofs.Migrations.{some_migration}
 use Rattle.mw_drive.specs.WorkLaws.{SomeMeaning}
-use Rattle.mw_drive.proofs.ScopedTerms.{is_resolved}
+use Rattle.mw_reading.proofs.ScopedTerms.{is_resolved}
 use Rattle.mw_drive.proofs.ErasedEnds.{erased_ends, source_program}
 use Rattle.mw_drive.proofs.LinkedPrograms.{some_link, link_means}
 use Rattle.mw_drive.proofs.ProgramEnds.{program_ends}

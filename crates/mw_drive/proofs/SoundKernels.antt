@@ -18,12 +18,12 @@ use Rattle.mw_literals.specs.Literals.{HasShortProgram}
 use Rattle.mw_literals.proofs.SourceLiterals.{source_literals}
 use Rattle.mw_literals.proofs.BuiltLiterals.{built_literals}
 use Rattle.mw_link.specs.Linked.{Kernel}
-use Rattle.mw_drive.specs.NamedPrograms.{NamedProgram, unnamed}
-use Rattle.mw_drive.specs.SourceReading.{IsRead}
+use Rattle.mw_reading.specs.NamedPrograms.{NamedProgram, unnamed}
+use Rattle.mw_reading.specs.SourceReading.{IsRead}
 use Rattle.mw_drive.specs.ProgramMeaning.{items_run, program_run}
 use Rattle.mw_drive.specs.Works.{IsAccepted}
 use Rattle.mw_drive.proofs.ProgramEnds.{Ends, ItemsEnd, items_end_so, all_end}
-use Rattle.mw_drive.proofs.ScopedTerms.{is_resolved}
+use Rattle.mw_reading.proofs.ScopedTerms.{is_resolved}
 
 pub record IsSound (k : Kernel) : Type 0 where
   pub typed : HasKernelType k.code k.kind

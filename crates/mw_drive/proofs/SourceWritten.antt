@@ -24,8 +24,8 @@ use Rattle.mw_drive.specs.declared.source.Evaluation.{Evaluation}
 use Rattle.mw_drive.specs.declared.source.Evaluation.TheVariants.{Run, Erased, Linked}
 use Rattle.mw_drive.specs.declared.shown.Shown.{Shown}
 use Rattle.mw_drive.specs.declared.shown.Shown.TheVariants.{Lines}
-use Rattle.mw_drive.specs.NamedPrograms.{NamedProgram, unnamed, names_of, named_program_of}
-use Rattle.mw_drive.specs.SourceReading.{IsRead, IsRefused}
+use Rattle.mw_reading.specs.NamedPrograms.{NamedProgram, unnamed, names_of, named_program_of}
+use Rattle.mw_reading.specs.SourceReading.{IsRead, IsRefused}
 use Rattle.mw_drive.specs.declared.fault.RunFault.{RunFault}
 use Rattle.mw_drive.specs.declared.fault.RunFault.TheVariants.{Unwritten}
 use Rattle.mw_drive.specs.declared.program.RunOptions.{RunOptions}
@@ -49,8 +49,8 @@ use Rattle.mw_drive.proofs.Reported.{ok_then}
 use Rattle.mw_drive.proofs.Statuses.{ran_not_refused}
 use Rattle.mw_drive.specs.HeldFiles.{IsKeptOf}
 use Rattle.mw_drive.proofs.SomeMeaning.{some_meaning}
-use Rattle.mw_drive.proofs.SourceReadings.{unnamed_program, names_of_program}
-use Rattle.mw_drive.proofs.ScopedTerms.{is_resolved, small_program}
+use Rattle.mw_reading.proofs.SourceReadings.{unnamed_program, names_of_program}
+use Rattle.mw_reading.proofs.ScopedTerms.{is_resolved, small_program}
 
 -- what a run means that came to kernels
 record IsRunOf (bytes : List ℕ) (fuel : ℕ) (shown other : Shown) (kernels : List Kernel) (e : Ending) : Type 0 where

@@ -12,8 +12,8 @@ use Rattle.mw_tasks.specs.Phases.{EachKernel, AreBuiltAll, codes_in}
 use Rattle.mw_tasks.specs.RightRuns.{HasWrongRun, HasWrongItem}
 use Rattle.mw_tasks.specs.BadItems.{IsBadOfRuns}
 use Rattle.mw_drive.specs.declared.shown.Shown.{Shown}
-use Rattle.mw_drive.specs.NamedPrograms.{NamedProgram, unnamed}
-use Rattle.mw_drive.specs.SourceReading.{IsRead}
+use Rattle.mw_reading.specs.NamedPrograms.{NamedProgram, unnamed}
+use Rattle.mw_reading.specs.SourceReading.{IsRead}
 use Rattle.mw_drive.specs.Works.{Work, running, mode_of, IsAccepted}
 
 -- All kernel items came to code, and main begins a wrong run after these codes. The digest is that of a record whose

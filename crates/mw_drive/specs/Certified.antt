@@ -4,8 +4,8 @@ use Rattle.mw_term.specs.Typable.{Typable}
 use Rattle.mw_console.specs.declared.status.Status.{Status}
 use Rattle.mw_console.specs.declared.status.Status.TheVariants.{Answer, NotTyped}
 use Rattle.mw_recheck.specs.Certificates.{Certifies}
-use Rattle.mw_drive.specs.NamedPrograms.{NamedProgram, unnamed}
-use Rattle.mw_drive.specs.SourceReading.{IsRead}
+use Rattle.mw_reading.specs.NamedPrograms.{NamedProgram, unnamed}
+use Rattle.mw_reading.specs.SourceReading.{IsRead}
 use Rattle.mw_drive.specs.Works.{CertifiesWithin}
 
 -- the source is read as a program, which is typable, and whose typing the text certifies

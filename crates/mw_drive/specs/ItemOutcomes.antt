@@ -18,7 +18,7 @@ use Rattle.mw_console.specs.Texts.{Ending, answered, trapped, bounded, main_name
 use Rattle.mw_drive.specs.declared.items.Built.{Built}
 use Rattle.mw_drive.specs.declared.items.ItemEnd.{ItemEnd}
 use Rattle.mw_drive.specs.declared.items.ItemEnd.TheVariants as item
-use Rattle.mw_drive.specs.NamedPrograms.{NamedItem}
+use Rattle.mw_reading.specs.NamedPrograms.{NamedItem}
 use Rattle.mw_link.specs.Linked.{Kernel}
 use Rattle.mw_drive.specs.ProgramMeaning.{ItemsRun, all_gave, one_ended, one_stuck, with_kernel, before_others}
 use Rattle.mw_drive.specs.ProgramRuns.{ending_of, kernel_of}

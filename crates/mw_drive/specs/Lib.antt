@@ -1,5 +1,3 @@
-pub mod NamedPrograms
-pub mod SourceReading
 pub mod ProgramMeaning
 pub mod LinkedPrograms
 pub mod Works

@@ -9,7 +9,7 @@ use Rattle.mw_meaning.specs.Outcomes.{Outcome, came_to, trapped as traps, bounde
 use Rattle.mw_meaning.specs.Outcomes.{item_outcome, main_outcome, names_of_items, names_of_main}
 use Rattle.mw_link.specs.Linked.{Kernel}
 use Rattle.mw_console.specs.Texts.{Ending, answered, trapped, bounded, main_name}
-use Rattle.mw_drive.specs.NamedPrograms.{NamedItem, NamedProgram, unnamed}
+use Rattle.mw_reading.specs.NamedPrograms.{NamedItem, NamedProgram, unnamed}
 
 -- How kernel items go: all gave code; or these did, and the next one ended the program; or one is stuck, as none of a
 -- typable program is.

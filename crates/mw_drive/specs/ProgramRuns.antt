@@ -22,7 +22,7 @@ use Rattle.mw_drive.specs.declared.source.Evaluation.{Evaluation}
 use Rattle.mw_drive.specs.declared.source.Evaluation.TheVariants.{Run, Erased, Linked}
 use Rattle.mw_drive.specs.declared.shown.Shown.{Shown}
 use Rattle.mw_drive.specs.declared.shown.Shown.TheVariants.{Totals}
-use Rattle.mw_drive.specs.NamedPrograms.{NamedProgram}
+use Rattle.mw_reading.specs.NamedPrograms.{NamedProgram}
 use Rattle.mw_link.specs.Linked.{Kernel}
 use Rattle.mw_drive.specs.ProgramMeaning.{items_run, ended, program_run, erased_ending}
 use Rattle.mw_drive.specs.LinkedPrograms.{LinkRun, in_one, cut_short, unlinkable, link_run}

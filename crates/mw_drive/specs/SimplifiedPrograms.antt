@@ -4,7 +4,7 @@ use Rattle.std.specs.Prelude.{◌≡◌, ℕ, ◌≤◌, List}
 use Rattle.mw_term.specs.Typable.{Typable}
 use Rattle.mw_meaning.specs.declared.mode.Mode.TheVariants.{Plain, Simple}
 use Rattle.mw_console.specs.Texts.{Ending, answered, trapped, bounded}
-use Rattle.mw_drive.specs.NamedPrograms.{NamedProgram, unnamed}
+use Rattle.mw_reading.specs.NamedPrograms.{NamedProgram, unnamed}
 use Rattle.mw_link.specs.Linked.{Kernel}
 use Rattle.mw_drive.specs.ProgramMeaning.{ended, program_run}
 

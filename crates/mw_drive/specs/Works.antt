@@ -33,8 +33,8 @@ use Rattle.mw_wat.specs.CanonicalTexts.{canonical_text as canonical_module}
 use Rattle.mw_judge.specs.declared.fault.BadFile.{BadFile}
 use Rattle.mw_judge.specs.ModuleFiles.{IsBinary, IsFileOf, IsBadBinary, IsBadFile, Judges}
 use Rattle.mw_judge.specs.FileLines.{verdict_line, bad_file_line}
-use Rattle.mw_drive.specs.NamedPrograms.{NamedProgram, unnamed, names_of}
-use Rattle.mw_drive.specs.SourceReading.{IsRead, IsRefused}
+use Rattle.mw_reading.specs.NamedPrograms.{NamedProgram, unnamed, names_of}
+use Rattle.mw_reading.specs.SourceReading.{IsRead, IsRefused}
 use Rattle.mw_drive.specs.declared.shown.Shown.{Shown}
 use Rattle.mw_drive.specs.declared.shown.Shown.TheVariants.{Lines, Totals}
 use Rattle.mw_encode.specs.Encoding.{encoding}

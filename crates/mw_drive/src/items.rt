@@ -8,7 +8,7 @@ ghost use Rattle.mw_term.specs.Programs.{program_of};
 ghost use Rattle.mw_meaning.specs.declared.mode.Mode.{Mode};
 ghost use Rattle.mw_cache.specs.Gots.{CacheState};
 ghost use Rattle.mw_tasks.specs.Phases.{IfBuilt, IsPlaced};
-ghost use Rattle.mw_drive.specs.NamedPrograms.{named_program_of};
+ghost use Rattle.mw_reading.specs.NamedPrograms.{named_program_of};
 ghost use Rattle.mw_drive.specs.ProgramMeaning.{ItemsRun};
 ghost use Rattle.mw_drive.specs.ProgramRuns.{ending_of, kernels_of, IsBuilt};
 ghost use Rattle.mw_drive.specs.ItemOutcomes.{outcomes_run, run_with, came_before, end_before, HasOneForEach};

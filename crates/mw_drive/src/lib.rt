@@ -14,7 +14,6 @@ mod main_end;
 mod migrated;
 mod program;
 mod ran;
-mod reading;
 mod shown;
 mod source;
 mod typing;

@@ -16,7 +16,7 @@ ghost use Rattle.mw_link.specs.Linked.{Kernel};
 ghost use Rattle.mw_link.specs.LinkLaw.{AreLinkable};
 ghost use Rattle.mw_link.specs.Views.{kernels_of as kernels_in};
 ghost use Rattle.mw_console.specs.declared.status.Status.TheVariants.{Answer};
-ghost use Rattle.mw_drive.specs.NamedPrograms.{item_of, named_program_of};
+ghost use Rattle.mw_reading.specs.NamedPrograms.{item_of, named_program_of};
 ghost use Rattle.mw_drive.specs.ProgramMeaning.{all_gave, items_run};
 ghost use Rattle.mw_drive.specs.LinkedPrograms.{first_past, in_one, link_run, IsCutAt};
 ghost use Rattle.mw_drive.specs.ProgramRuns.{ending_of, kernels_of, HasEnding, IsWrittenLinked};

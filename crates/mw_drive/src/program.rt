@@ -11,7 +11,7 @@ ghost use Rattle.mw_infer.specs.Checking.{HasSmallKernels};
 ghost use Rattle.mw_console.specs.Texts.{Ending};
 ghost use Rattle.mw_console.specs.declared.status.Status.TheVariants.{Cache as Unkept};
 ghost use Rattle.mw_drive.specs.Honest.{IsHonestCache};
-ghost use Rattle.mw_drive.specs.NamedPrograms.{named_program_of};
+ghost use Rattle.mw_reading.specs.NamedPrograms.{named_program_of};
 ghost use Rattle.mw_link.specs.Linked.{Kernel};
 ghost use Rattle.mw_drive.specs.ProgramMeaning.{ended, program_run};
 ghost use Rattle.mw_drive.specs.ProgramRuns.{IsWrittenRun, IsEndOf, IsEnded};

@@ -11,7 +11,7 @@ ghost use Rattle.mw_slots.specs.Receipts.{IsOf};
 ghost use Rattle.mw_cache.specs.HonestFiles.{IsHonest};
 ghost use Rattle.mw_tasks.specs.Phases.{AreOutcomesOf, codes_in, AreBuiltAll};
 ghost use Rattle.mw_tasks.specs.BadItems.{IsBadOfRuns};
-ghost use Rattle.mw_drive.specs.NamedPrograms.{named_program_of};
+ghost use Rattle.mw_reading.specs.NamedPrograms.{named_program_of};
 ghost use Rattle.mw_drive.specs.ProgramRuns.{IsWrittenRun, IsRanTo, IsBuilt, HasEnding};
 ghost use Rattle.mw_drive.specs.BadRecords.{IsBadMain};
 ghost use Rattle.mw_drive.specs.RunFaults.{BlamesSink, IfBadRecord};

@@ -8,18 +8,18 @@ ghost use Rattle.mw_term.specs.declared.program.Item.{Item as PureItem};
 ghost use Rattle.mw_console.specs.Texts.{refusal_line};
 ghost use Rattle.mw_console.specs.declared.status.Status.TheVariants.{Read, Write, Refused};
 ghost use Rattle.mw_drive.specs.Extents.{never, on_a_file, extent};
-ghost use Rattle.mw_drive.specs.NamedPrograms.{named_program_of};
+ghost use Rattle.mw_reading.specs.NamedPrograms.{named_program_of};
 ghost use Rattle.mw_drive.specs.Running.{sources, source_file, certificate_file, most_of_source, most_of_certificate};
 ghost use Rattle.mw_drive.specs.Running.{Has, Lacks, IsCarriedOut, IsMemory, IsUnread, IsWritten};
-ghost use Rattle.mw_drive.specs.SourceReading.{IsRead};
+ghost use Rattle.mw_reading.specs.SourceReading.{IsRead};
 ghost use Rattle.mw_drive.specs.Works.{certifying, rechecking, rechecked, status_of, Rechecks, Reports};
 
 use crate::inquiry::{Answer, Inquiry, write_answer};
-use crate::reading::{MOST_OF_SOURCE, read};
 use mw_cert::{holds, write_cert};
 use mw_console::{SourceFault, Status, file_bytes, put_refusal, put_typing};
 use mw_infer::check;
 use mw_outside::{Sink, Source};
+use mw_reading::{MOST_OF_SOURCE, read};
 use mw_term::{Item, Program, Refusal, Stop};
 use std::alloc::{AllocError, Global};
 

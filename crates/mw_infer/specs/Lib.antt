@@ -15,3 +15,6 @@ pub mod Nodes
 pub mod NodeViews
 pub mod NodeWalks
 pub mod Typings
+pub mod Owners
+pub mod Failing
+pub mod Faults

@@ -6,6 +6,7 @@ ghost use Rattle.mw_types.specs.Types.{type_of, value};
 ghost use Rattle.mw_types.specs.Solutions.{substitution_of};
 ghost use Rattle.mw_infer.specs.Inferring.{AreFresh, entry_of, least};
 ghost use Rattle.mw_infer.specs.Emitting.{closes_of};
+ghost use Rattle.mw_infer.specs.Faults.{Holds, IsOpenHeld};
 ghost use Rattle.mw_infer.specs.Below.{ClosesBelow, SlotBelow, SlotsBelow};
 ghost use Rattle.mw_infer.specs.Judging.{IsFirstOpenAt, least_of};
 ghost use Rattle.mw_infer.specs.Views.{slot_of};
@@ -62,6 +63,36 @@ pub fn first_open(closes: &[Spot], solved: &Solved) -> Option<u32>
         let classifier = solved.classifier(spot.classifier);
         if !is_absent_from(spot.scope.as_slice(), solved, classifier) {
             return Some(spot.at);
+        }
+    }
+    None
+}
+
+/// The nearest binder in whose entry it stands, by the number of binders between, if there is one.
+fn holder(scope: &[Binder], solved: &Solved, classifier: u64) -> Option<usize>
+    requires { SlotsBelow (length solved.now.types) (length solved.now.classifiers) (map slot_of scope.now) }
+    ensures { MatchOption result
+        (IsAbsent classifier (map (entry_of (least_of solved.now)) (map slot_of scope.now)))
+        (Holds (substitution_of solved.now) classifier (map slot_of scope.now)) }
+{
+    for binder in 0..scope.len() {
+        if !is_absent_at(scope[binder], solved, classifier) {
+            return Some(binder);
+        }
+    }
+    None
+}
+
+/// The first `close` whose classifier stands in its environment: its offset, and the nearest binder that holds it.
+pub fn first_open_close(closes: &[Spot], solved: &Solved) -> Option<(u32, usize)>
+    requires { ClosesBelow (length solved.now.types) (length solved.now.classifiers) (closes_of closes.now) }
+    ensures { MatchOption result (AreFresh (least_of solved.now) (closes_of closes.now))
+        (λ found. IsOpenHeld (substitution_of solved.now) (closes_of closes.now) found.0 found.1) }
+{
+    for spot in closes {
+        let classifier = solved.classifier(spot.classifier);
+        if let Some(binder) = holder(spot.scope.as_slice(), solved, classifier) {
+            return Some((spot.at, binder));
         }
     }
     None

@@ -59,7 +59,7 @@ fn ask(alloc: Global, out: &mut Output, asked: &Asked) -> Result<(), AllocError>
 }
 
 /// The equations and closes of an item.
-fn emitted(
+pub fn emitted(
     alloc: Global,
     names: &[TopScheme],
     asked: &Asked,

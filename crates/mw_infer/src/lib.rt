@@ -17,6 +17,8 @@ ghost use Rattle.mw_term.specs.Parts.{IsResolved};
 
 mod build;
 mod emit;
+mod failing;
+mod faults;
 mod fresh;
 mod judge;
 pub mod laws;
@@ -24,6 +26,7 @@ mod names;
 mod nodes;
 mod output;
 mod own;
+mod owners;
 mod program;
 mod renumber;
 mod scope;
@@ -31,6 +34,8 @@ mod scope;
 mod tests;
 pub mod typed;
 
+pub use crate::failing::FailingPart;
+pub use crate::faults::{OpenClose, PartFault, first_fault};
 use crate::program::{Checked, types_of, whole};
 pub use crate::typed::{NodeTypes, PartNodes, Typed};
 use mw_term::{Program, Stop};

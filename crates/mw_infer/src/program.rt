@@ -1,6 +1,6 @@
 // The check of a program, item by item.
 
-ghost use Rattle.std.specs.Prelude.{◌≡◌, ◌∷◌, [], ◌++◌, length, map, IfErr, IfOk};
+ghost use Rattle.std.specs.Prelude.{◌≡◌, ◌∷◌, [], ◌++◌, length, map, IfErr, IfOk, OnErr};
 ghost use Rattle.mw_term.specs.Programs.{definition_of, program_of};
 ghost use Rattle.mw_term.specs.Stops.{IfRefused};
 ghost use Rattle.mw_term.specs.Terms.{expression_of, ground_of};
@@ -55,7 +55,7 @@ fn judged(
 }
 
 /// An item: what the items after it see of it is added, and what is known of its nodes is given.
-fn step(
+pub fn step(
     alloc: Global,
     names: &mut Vec<TopScheme>,
     item: &Item,
@@ -65,6 +65,7 @@ fn step(
     ensures ok { IfOk result
         (λ nodes. Steps (tops_of names.old.items) (definition_of item.now.kind) (tops_of names.new.items) nodes) }
     ensures refused { IfErr result (IfRefused (IsFaultOfItem (tops_of names.old.items) (definition_of item.now.kind) index)) }
+    ensures kept { OnErr result (names.new.items ≡ names.old.items) }
 {
     match &item.kind {
         ItemKind::Value(term) => {
@@ -82,7 +83,7 @@ fn step(
 }
 
 /// Shows main the kernel items.
-fn reveal<'p>(names: &mut Vec<TopScheme<'p>>, items: &'p [Item])
+pub fn reveal<'p>(names: &mut Vec<TopScheme<'p>>, items: &'p [Item])
     requires { length names.old.items ≡ length items.now }
     ensures { tops_of names.new.items ≡ revealed_to (length items.now) (map (λ item. definition_of item.kind) items.now)
         (tops_of names.old.items) }
@@ -151,7 +152,7 @@ pub fn whole<'p>(alloc: Global, program: &'p Program) -> Result<Checked<'p>, Sto
 
 /// The same type.
 #[cycle(copying)]
-fn copied(alloc: Global, ty: &Ty) -> Result<Ty, AllocError>
+pub fn copied(alloc: Global, ty: &Ty) -> Result<Ty, AllocError>
     ensures { IfOk result (λ copy. type_of copy ≡ type_of ty.now) }
 {
     match ty {

@@ -1,4 +1,4 @@
-use Rattle.mw_drive.specs.NamedPrograms.{named_program_of}
+use Rattle.mw_reading.specs.NamedPrograms.{named_program_of}
 use Rattle.mw_drive.proofs.Loops.{Reaches}
 use Rattle.mw_drive.proofs.items.items_end.Given as goal
 

@@ -1,6 +1,6 @@
 use Rattle.std.proofs.Common.{sym, ap, subst}
 use Rattle.std.specs.Vec.Iter.{into_iter_items}
-use Rattle.mw_drive.specs.NamedPrograms.{NamedItem, item_of}
+use Rattle.mw_reading.specs.NamedPrograms.{NamedItem, item_of}
 use Rattle.mw_drive.specs.ItemOutcomes.{IsNextKernel, not_a_kernel, with_code, without_code}
 use Rattle.mw_drive.proofs.linked.next_kernel.Goals as goal
 

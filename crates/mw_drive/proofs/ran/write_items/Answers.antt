@@ -4,7 +4,7 @@ use Rattle.std.specs.List.{AllByRecursion}
 use Rattle.mw_cache.specs.HonestFiles.{IsHonest}
 use Rattle.mw_console.specs.Texts.{Ending, ending_line}
 use Rattle.mw_tasks.specs.Phases.{codes_in}
-use Rattle.mw_drive.specs.NamedPrograms.{named_program_of}
+use Rattle.mw_reading.specs.NamedPrograms.{named_program_of}
 use Rattle.mw_drive.specs.ProgramMeaning.{all_gave, items_run, program_run, ended}
 use Rattle.mw_drive.specs.ItemOutcomes.{outcomes_run, run_with}
 use Rattle.mw_drive.specs.ProgramRuns.{ending_of, kernels_of, IsRanTo, IsBuilt}

@@ -1,6 +1,6 @@
 use Rattle.std.proofs.Common.{true, subst}
 use Rattle.mw_term.specs.Stops.{IfRefused}
-use Rattle.mw_drive.specs.SourceReading.{IsRefused}
+use Rattle.mw_reading.specs.SourceReading.{IsRefused}
 use Rattle.mw_drive.proofs.Certificates.{unread_certificate}
 use Rattle.mw_drive.proofs.Reported.{ok_then}
 use Rattle.mw_drive.proofs.SourceWritten.{resolved}

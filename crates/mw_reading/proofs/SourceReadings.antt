@@ -29,8 +29,8 @@ use Rattle.mw_scope.specs.Nameless.{IsNameless}
 use Rattle.mw_scope.specs.Faults.{faults_of, refusal_of, IsFirst}
 use Rattle.mw_scope.specs.Resolving.{KeepsNames, IsOfFirstFault}
 use Rattle.mw_grammar.proofs.Sparse.{few_nodes}
-use Rattle.mw_drive.specs.NamedPrograms.{NamedItem, NamedProgram, item_of, named_program_of, unnamed, names_of}
-use Rattle.mw_drive.specs.SourceReading.{IsSmall, IsRead, IsRefused, too_large, at_bytes, at_tokens, at_names}
+use Rattle.mw_reading.specs.NamedPrograms.{NamedItem, NamedProgram, item_of, named_program_of, unnamed, names_of}
+use Rattle.mw_reading.specs.SourceReading.{IsSmall, IsRead, IsRefused, too_large, at_bytes, at_tokens, at_names}
 
 -- what lexing promises of its answer
 abbrev pub Lexes : List ℕ → Result (List Token) Stop → Type 0

@@ -10,8 +10,8 @@ use Rattle.mw_scope.proofs.ScopedPrograms.{nameless_is_scoped}
 use Rattle.mw_scope.proofs.Sizes.{same_program}
 use Rattle.mw_term.specs.Parts.{IsResolved}
 use Rattle.mw_infer.proofs.Resolved as resolved
-use Rattle.mw_drive.specs.NamedPrograms.{NamedItem, NamedProgram, unnamed, names_of}
-use Rattle.mw_drive.specs.SourceReading.{IsRead}
+use Rattle.mw_reading.specs.NamedPrograms.{NamedItem, NamedProgram, unnamed, names_of}
+use Rattle.mw_reading.specs.SourceReading.{IsRead}
 
 pub small_program : (bytes : List ℕ) (p : NamedProgram) → IsRead bytes p → program_size (unnamed p) < 2 ^ 31
 small_program bytes p read =

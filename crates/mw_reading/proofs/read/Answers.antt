@@ -1,7 +1,7 @@
-use Rattle.mw_drive.proofs.SourceReadings.{refused_at_lexing, first_at_lexing, refused_at_parsing, first_at_parsing}
-use Rattle.mw_drive.proofs.SourceReadings.{read_program, only_program, few_nodes_read, refused_at_resolving}
-use Rattle.mw_drive.proofs.SourceReadings.{first_at_resolving}
-use Rattle.mw_drive.proofs.reading.read.Goals as goal
+use Rattle.mw_reading.proofs.SourceReadings.{refused_at_lexing, first_at_lexing, refused_at_parsing, first_at_parsing}
+use Rattle.mw_reading.proofs.SourceReadings.{read_program, only_program, few_nodes_read, refused_at_resolving}
+use Rattle.mw_reading.proofs.SourceReadings.{first_at_resolving}
+use Rattle.mw_reading.proofs.read.Goals as goal
 
 pub returns-in_err-tokens-clause-refused : goal.returns-in_err-tokens-clause-refused
 returns-in_err-tokens-clause-refused c =

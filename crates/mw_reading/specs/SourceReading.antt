@@ -11,7 +11,7 @@ use Rattle.mw_scope.specs.declared.fault.Fault.{Fault}
 use Rattle.mw_scope.specs.Scopes.{name_of}
 use Rattle.mw_scope.specs.Nameless.{IsNameless}
 use Rattle.mw_scope.specs.Faults.{faults_of, refusal_of, IsFirst as IsFirstOf}
-use Rattle.mw_drive.specs.NamedPrograms.{NamedProgram, unnamed, names_of}
+use Rattle.mw_reading.specs.NamedPrograms.{NamedProgram, unnamed, names_of}
 
 -- a source has at most 1,048,576 bytes
 abbrev pub IsSmall : List ℕ → Type 0

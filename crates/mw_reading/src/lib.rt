@@ -1,10 +1,11 @@
-// A source's bytes, read whole.
+//! Sources, read whole: the program of a source's bytes, or their first refusal.
+#![tactic(auto)]
 
 ghost use Rattle.std.specs.Prelude.{◌≡◌, IfOk, IfErr};
 ghost use Rattle.mw_term.specs.declared.refusal.Refusal.{Refusal};
 ghost use Rattle.mw_term.specs.Stops.{AnswersOrMemory, IfRefused, IsRefusalOrMemory};
-ghost use Rattle.mw_drive.specs.NamedPrograms.{NamedProgram, named_program_of};
-ghost use Rattle.mw_drive.specs.SourceReading.{IsRead, IsRefused};
+ghost use Rattle.mw_reading.specs.NamedPrograms.{NamedProgram, named_program_of};
+ghost use Rattle.mw_reading.specs.SourceReading.{IsRead, IsRefused};
 
 use mw_lex::lex;
 use mw_parse::parse;

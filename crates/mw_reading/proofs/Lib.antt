@@ -1,0 +1,2 @@
+pub mod ScopedTerms
+pub mod SourceReadings
