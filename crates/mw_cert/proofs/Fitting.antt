@@ -13,7 +13,7 @@ use Rattle.mw_section.specs.Writing.{line_written, classifier_written, type_writ
 use Rattle.mw_section.specs.WritingLaws.{all_written}
 use Rattle.mw_section.proofs.Places.{place_of_is, with_number_is, line_place_is, with_line_is, Met, is_known, is_new}
 use Rattle.mw_section.proofs.Places.{met}
-use Rattle.mw_made.specs.Making.{line_ended, node_written, nodes_written, section_of}
+use Rattle.mw_made.specs.Making.{line_ended, nodes_written, section_of}
 use Rattle.mw_made.proofs.Staying.{nodes_count}
 
 -- what is put to others is one more at most, and its place is not behind them

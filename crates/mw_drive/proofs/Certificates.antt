@@ -3,7 +3,6 @@ use Rattle.std.proofs.Common.{◌≡◌, ◌≤◌, inl, inr, ℕ, List, [], ◌
 use Rattle.std.proofs.Common.{sym, ap, subst, ◌∙◌, arith}
 use Rattle.std.proofs.lemmas.List.{take_all, length-take}
 use Rattle.mw_term.specs.Programs.{program_of}
-use Rattle.mw_term.specs.Parts.{IsResolved}
 use Rattle.mw_term.specs.Typable.{Typable}
 use Rattle.mw_term.specs.declared.program.Program.{Program}
 use Rattle.mw_term.specs.declared.program.Item.{Item}
@@ -16,7 +15,7 @@ use Rattle.mw_console.specs.Texts.{refusal_line, typing_line}
 use Rattle.mw_console.specs.declared.status.Status.{Status}
 use Rattle.mw_console.specs.declared.status.Status.TheVariants.{Answer, Trap, Usage, Refused, Bound, Read, Write}
 use Rattle.mw_console.specs.declared.status.Status.TheVariants.{Cache, Memory, BadCache, BadModule, Invalid, NotTyped}
-use Rattle.mw_reading.specs.NamedPrograms.{NamedProgram, unnamed, names_of, named_program_of}
+use Rattle.mw_reading.specs.NamedPrograms.{unnamed, names_of, named_program_of}
 use Rattle.mw_reading.specs.SourceReading.{IsRead, IsRefused, too_large, at_bytes, at_tokens, at_names}
 use Rattle.mw_drive.specs.Extents.{nothing, a_front, whole, unkept, all_or_nothing, unsaid, never, Extent, Kind}
 use Rattle.mw_drive.specs.Extents.{on_a_file, extent}

@@ -1,5 +1,5 @@
 -- With which names the keeper of a cache file was started, from what was opened.
-use Rattle.std.proofs.Common.{◌≡◌, inl, inr, ℕ, List, Option, Some, None, option_map, Bool, Result, Ok, Err, IsErr}
+use Rattle.std.proofs.Common.{◌≡◌, inl, ℕ, List, Option, Some, None, option_map, Bool, Result, Ok, Err, IsErr}
 use Rattle.std.proofs.Common.{IfOk, refl, sym, subst}
 use denote.Ref.{Bor}
 use Rattle.mw_term.specs.declared.refusal.Refusal.{Refusal}

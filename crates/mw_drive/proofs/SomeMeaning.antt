@@ -35,7 +35,6 @@ use Rattle.mw_drive.specs.Works.{certifying, rechecking, certified, rechecked, C
 use Rattle.mw_drive.specs.Works.{of_certificate, of_unread, of_recheck}
 use Rattle.mw_recheck.specs.Certificates.{Certifies}
 use Rattle.mw_recheck.proofs.Decided.{certifies_decided}
-use Rattle.mw_written.specs.Written.{IsCertificateOf}
 use Rattle.mw_cert.proofs.Accepted.{accepted_have_one}
 use Rattle.mw_wasm.specs.Syntax.{PureModule}
 use Rattle.mw_wasm.specs.Validity.{IsValid}

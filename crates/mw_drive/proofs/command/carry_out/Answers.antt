@@ -2,7 +2,7 @@ use Rattle.std.proofs.Common.{◌≡◌, inl, inr, ◌∙◌, List, ℕ, option_
 use denote.Ref.{Bor}
 use Rattle.mw_words.specs.Words.{word_in}
 use Rattle.mw_drive.specs.BadRecords.{HasBadRecordOf}
-use Rattle.mw_drive.specs.Works.{IsMeaning, ran, certifying, rechecking}
+use Rattle.mw_drive.specs.Works.{IsMeaning, ran, certifying}
 use Rattle.mw_drive.proofs.Certificates.{means_certified, means_rechecked, carried_as}
 use Rattle.mw_drive.specs.Extents.{extent, on_a_file, on_a_cache}
 use Rattle.mw_drive.specs.Running.{IsWritten}
