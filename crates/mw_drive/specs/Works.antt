@@ -101,8 +101,8 @@ Rechecks false text p = CertifiesWithin text p → ⊥
 -- The run of a source means the first refusal of its reading; else the first refusal of its types; else the run of its
 -- program. What is refused is refused with its erased program too, which else means how its main ends, and where its
 -- kernels are to be linked, which else means them in one module, or the ending before that: main isn't evaluated. A
--- file that is no module means its first fault. The certificate of a source that isn't refused is the written one of its
--- program; whether a text is a certificate is asked of a source that is read, whether or not its types are refused.
+-- file that is no module means its first fault. The certificate of a source that isn't refused is the written one of
+-- its program; whether a text is a certificate is asked of a source that is read, whether or not its types are refused.
 pub data IsMeaning : Work → Meaning → Type 0 where
   of_refusal : {bytes : List ℕ} {fuel : ℕ} {shown : Shown} {r : Refusal} → IsRefused bytes r → IsMeaning
       (running bytes fuel shown) (refused r [])
