@@ -55,8 +55,8 @@ impl PartNodes {
     }
 }
 
-/// The types of a node. A node of a function, of a recursive function, of a `let`, of a part of a pair, of a `close` and
-/// of an `open` has further types beside its own.
+/// The types of a node. A node of a function, of a recursive function, of a `let`, of a part of a pair, of a `close`
+/// and of an `open` has further types beside its own.
 #[derive(Drop)]
 pub struct NodeTypes<'a> {
     solved: &'a Solved,

@@ -52,7 +52,8 @@ impl Model for Running {
 
     ghost view = { λ r. running_state (arc_value r.module) r.instance r.function r.argument r.result };
 
-    ghost invariant = { λ r. IsRunnable (running_state (arc_value r.module) r.instance r.function r.argument r.result) };
+    ghost invariant = { λ r.
+        IsRunnable (running_state (arc_value r.module) r.instance r.function r.argument r.result) };
 }
 
 /// How a run of a kernel ends. The last number is the units left.
