@@ -4,7 +4,8 @@ import re
 import subprocess
 
 TOP = os.path.dirname(os.path.dirname(os.path.abspath(__file__)))
-EXPLAINER = [os.path.join(TOP, "scripts", "run_program"), "metaml_explain"]
+PROGRAM = os.environ.get("METAML_EXPLAIN")
+EXPLAINER = [PROGRAM] if PROGRAM else [os.path.join(TOP, "scripts", "run_program"), "metaml_explain"]
 ATOMS = (b"int", b"bool")
 ONE_PART = (b"closed",)
 TWO_PARTS = (b"pair", b"arrow")
@@ -131,11 +132,11 @@ def is_row(cell, wanted, found):
     return one in (wanted, b"any") and other in (found, b"any")
 
 
-def facts_of(program, path):
-    """What the program, by its words, says of the source; nothing where it can't be run or has nothing to say. That it is
-    being built is passed on."""
+def facts_of(path):
+    """What `metaml_explain` says of the source; nothing where it can't be run or has nothing to say. That it is being
+    built is passed on."""
     try:
-        with subprocess.Popen([*program, path], stdout=subprocess.PIPE, stderr=subprocess.PIPE) as running:
+        with subprocess.Popen([*EXPLAINER, path], stdout=subprocess.PIPE, stderr=subprocess.PIPE) as running:
             for line in running.stderr:
                 if b"building" in line:
                     os.write(2, line)
@@ -143,19 +144,3 @@ def facts_of(program, path):
     except OSError:
         return None
     return Facts(output) if running.returncode == 0 and re.match(rb"refusal \d+\n", output) else None
-
-
-def seen(ty, names):
-    """A type between the words of a sentence."""
-    return b"`" + written(ty, names) + b"`"
-
-
-def reason_of(facts, refusal):
-    """What is wrong there, after the words of the refusal."""
-    wanted, found = facts.type(b"left"), facts.type(b"right")
-    if wanted is None or found is None:
-        return refusal
-    names = Names(wanted, found)
-    if kinds(wanted, found) == (b"itself", b"itself"):
-        return refusal + b": a type would hold itself: " + seen(wanted, names) + b" and " + seen(found, names)
-    return refusal + b": here is " + seen(found, names) + b", and wanted is " + seen(wanted, names)
