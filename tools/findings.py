@@ -61,9 +61,7 @@ def item_at(source, name):
 def told_types(facts):
     """The type that is wanted and the one that is there, as people write them, by their names in JSON."""
     wanted, found = facts.type(b"left"), facts.type(b"right")
-    if wanted is None or found is None:
-        return {}
-    names = places.Names(wanted, found)
+    names = places.Names()
     return {"wanted": places.written(wanted, names), "found": places.written(found, names)}
 
 
@@ -73,8 +71,9 @@ def placed(path, source, number, reason):
     span = facts and facts.span(b"close" if number == b"14" else b"span")
     if not span:
         return None
-    finding = Finding(number, reason, source, span[0], span[1] - span[0], told_types(facts))
-    if finding.known:
+    finding = Finding(number, reason, source, span[0], span[1] - span[0])
+    if number == b"12":
+        finding.known = told_types(facts)
         finding.hint = hints.for_types(number, facts.type(b"left"), facts.type(b"right"))
     binder = facts.span(b"binder")
     if binder:

@@ -56,39 +56,21 @@ def parts(ty):
     return [part for part in ty[1:] if isinstance(part, tuple)]
 
 
-def holds(ty, other):
-    """Whether a type holds another one, or is it."""
-    return ty == other or any(holds(part, other) for part in parts(ty))
-
-
-def classifiers(ty):
-    """The classifiers of a type, from left to right, each once."""
-    own = [ty[1]] if ty[0] == b"code" else []
-    for part in parts(ty):
-        own += classifiers(part)
-    return list(dict.fromkeys(own))
-
-
 class Names:
-    """Names of unknowns, in the order in which they are written, and of classifiers where there is more than one."""
+    """Names of unknowns, in the order in which they are written."""
 
-    def __init__(self, *types):
+    def __init__(self):
         self.unknowns = {}
-        found = dict.fromkeys(number for ty in types for number in classifiers(ty))
-        self.classifiers = {number: b"#%d" % (place + 1) for place, number in enumerate(found)} if len(found) > 1 else {}
 
     def unknown(self, number):
         """The name of an unknown."""
         place = self.unknowns.setdefault(number, len(self.unknowns))
         return b"'" + (b"%c" % (97 + place) if place < 26 else b"t%d" % place)
 
-    def code(self, number):
-        """What stands behind the word `code` of a classifier."""
-        return self.classifiers.get(number, b"")
-
 
 def written(ty, names, tight=0):
-    """A type as people write it, in parentheses where what stands round it binds more tightly."""
+    """A type as people write it, in parentheses where what stands round it binds more tightly. Classifiers aren't named:
+    they are never why two types can't be one."""
     kind = ty[0]
     if kind in ATOMS:
         return kind
@@ -99,31 +81,31 @@ def written(ty, names, tight=0):
     elif kind == b"pair":
         text, own = written(ty[1], names, 2) + b" * " + written(ty[2], names, 2), 1
     elif kind == b"code":
-        text, own = b"code" + names.code(ty[1]) + b" of " + written(ty[2], names, 3), 2
+        text, own = b"code of " + written(ty[2], names, 3), 2
     else:
         text, own = b"closed code of " + written(ty[1], names, 3), 2
     return b"(" + text + b")" if own < tight else text
 
 
-def difference(left, right):
-    """The first parts of two types that differ, from outside."""
-    if left[0] != right[0] or left[0] in (*ATOMS, b"u"):
+def clash(left, right):
+    """The first parts of two types, from outside, that no unknown could make one; nothing where there are none."""
+    if b"u" in (left[0], right[0]):
+        return None
+    if left[0] != right[0]:
         return left, right
-    for one, other in zip(parts(left), parts(right)):
-        if one != other:
-            return difference(one, other)
-    return left, right
+    return next(filter(None, map(clash, parts(left), parts(right))), None)
 
 
-KINDS = {b"u": b"any", b"pair": b"pair", b"arrow": b"function", b"code": b"code", b"closed": b"closed code"}
+KINDS = {b"arrow": b"function", b"closed": b"closed code"}
 
 
 def kinds(wanted, found):
-    """What is wanted and what there is, in the words of the table of hints."""
-    if wanted[0] == b"u" and holds(found, wanted) or found[0] == b"u" and holds(wanted, found):
+    """What is wanted and what there is where they differ, in the words of the table of hints. Types that nothing but a
+    type that holds itself could make one are `itself`."""
+    differing = clash(wanted, found)
+    if differing is None:
         return b"itself", b"itself"
-    one, other = difference(wanted, found)
-    return KINDS.get(one[0], one[0]), KINDS.get(other[0], other[0])
+    return tuple(KINDS.get(ty[0], ty[0]) for ty in differing)
 
 
 def is_row(cell, wanted, found):
