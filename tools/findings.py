@@ -42,9 +42,20 @@ def show(file, source, at, reason, carets):
     return said
 
 
+def without_comments(source):
+    """The source with blanks in the place of its comments."""
+    return re.sub(rb"#[^\n]*", lambda comment: b" " * len(comment[0]), source) + b"\n"
+
+
+def item_names(source):
+    """The names of the items, in order."""
+    items = without_comments(source).split(b";;")[:-1]
+    return [re.match(rb"\s*(?:let\s+(?:rec\s+)?|kernel\s+)(\w+)", item)[1] for item in items]
+
+
 def item_at(source, name):
     """The offset of the item of this name: of the first token at the start of the text, or after a `;;`, that binds it."""
-    text = re.sub(rb"#[^\n]*", lambda comment: b" " * len(comment[0]), source) + b"\n"
+    text = without_comments(source)
     binds = rb"(let|let[ \t\r\n]+rec|kernel)[ \t\r\n]+" + re.escape(name) + rb"[^A-Za-z0-9_]"
     if name == b"main":
         binds += rb"|main[ \t\r\n]*:"

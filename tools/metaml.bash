@@ -1,4 +1,4 @@
-# Completion for bash of metaml, tools/explain and tools/kernels: source tools/metaml.bash
+# Completion for bash of metaml, tools/explain, tools/code and tools/kernels: source tools/metaml.bash
 
 _metaml() {
   local word=${COMP_WORDS[COMP_CWORD]} before=${COMP_WORDS[COMP_CWORD - 1]} command=${COMP_WORDS[1]}
@@ -29,11 +29,20 @@ _metaml() {
 _metaml_explain() {
   local word=${COMP_WORDS[COMP_CWORD]}
   case $word in
-    -*) mapfile -t COMPREPLY < <(compgen -W '--workers --fuel --simplify --cache --quiet --help --version' -- "$word") ;;
+    -*) mapfile -t COMPREPLY < <(compgen -W '--workers --fuel --simplify --cache --quiet --types --help --version' -- "$word") ;;
+    *) mapfile -t COMPREPLY < <(compgen -f -X '!*.metaml' -- "$word"; compgen -d -S / -- "$word") ;;
+  esac
+}
+
+_metaml_code() {
+  local word=${COMP_WORDS[COMP_CWORD]}
+  case $word in
+    -*) mapfile -t COMPREPLY < <(compgen -W '--workers --fuel --simplify --wat --help' -- "$word") ;;
     *) mapfile -t COMPREPLY < <(compgen -f -X '!*.metaml' -- "$word"; compgen -d -S / -- "$word") ;;
   esac
 }
 
 complete -o filenames -F _metaml metaml ./metaml
 complete -o filenames -F _metaml_explain explain tools/explain
+complete -o filenames -F _metaml_code code tools/code
 complete -d kernels tools/kernels
