@@ -26,3 +26,5 @@ pub mod Deciding
 pub mod Resolved
 pub mod NodeLists
 pub mod NodesTold
+pub mod Owned
+pub mod Holding

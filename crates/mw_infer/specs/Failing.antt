@@ -1,6 +1,6 @@
 -- A part of a program whose equations fail, and where.
 use Rattle.std.specs.Prelude.{ℕ, ◌≡◌, ◌+◌, ◌-◌, ◌<◌, ◌≤◌, ◌⊎◌, Bool, List, [], ◌∷◌, ◌++◌, take, length, Option, Some, None}
-use Rattle.std.specs.Prelude.{IfSome, slice_get, cond, leb, ltb, ◌&&◌}
+use Rattle.std.specs.Prelude.{IfSome, slice_get, cond, leb, ltb, ◌&&◌, false}
 use Rattle.mw_term.specs.Terms.{Expression}
 use Rattle.mw_term.specs.Parts.{Place}
 use Rattle.mw_types.specs.Types.{TypeExpression, Substitution, apply}
