@@ -10,7 +10,7 @@ use Rattle.mw_infer.specs.Faults.{Holds, IsOpenHeld}
 use Rattle.mw_infer.specs.Inferring.{entry_of, AreFresh, least}
 use Rattle.mw_infer.specs.ItemEquations.{Slot}
 use Rattle.mw_infer.specs.Views.{slot_of}
-use Rattle.mw_infer.proofs.Testing.{open-at}
+use Rattle.mw_infer.proofs.Testing.{first-at}
 
 slot-at : (xs : List Binder) (i : ℕ) (d : Binder) → i < length xs
     → slice_get (map slot_of xs) i ≡ Some (slot_of (slice_index_or xs i d))
@@ -34,7 +34,10 @@ pub open-held : (s : Substitution) (xs : List Spot) (i : ℕ) (x : Spot) (binder
     → AreFresh (after least s) (map close_of (take i xs))
     → Holds s (s.classifier x.classifier) (map slot_of x.scope.items) binder
     → IsOpenHeld s (map close_of xs) x.at binder
-open-held s xs i x binder lt e f h =
-    let o = open-at s xs i x lt e f (λ a. h.stands (absent-slot (s.classifier x.classifier) (after least s)
-    (map slot_of x.scope.items) binder h.slot h.bound a)) in
-    record { close = close_of x; first = o.1.0; place = refl; holds = h }
+open-held s xs i x binder lt e f h = record {
+  close = close_of x;
+  first = first-at s xs i x lt e f (λ a. h.stands (absent-slot (s.classifier x.classifier) (after least s)
+      (map slot_of x.scope.items) binder h.slot h.bound a));
+  place = refl;
+  holds = h;
+}

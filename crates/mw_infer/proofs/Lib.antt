@@ -27,4 +27,5 @@ pub mod Resolved
 pub mod NodeLists
 pub mod NodesTold
 pub mod Owned
+pub mod FirstFails
 pub mod Holding
