@@ -27,5 +27,7 @@ pub mod Resolved
 pub mod NodeLists
 pub mod NodesTold
 pub mod Owned
+pub mod Finding
+pub mod Copying
 pub mod FirstFails
 pub mod Holding
