@@ -1,18 +1,24 @@
 -- Some of a part's equations, one after another.
 use Rattle.std.proofs.Common.{◌≡◌, ℕ, zero, suc, ◌+◌, ◌<◌, Bool, true, false, cond, List, [], ◌∷◌, ◌++◌, take, length, get_or}
 use Rattle.std.proofs.Common.{Option, Some, refl, ap, sym, ◌∙◌, arith, IfSome}
-use Rattle.std.specs.Prelude.{slice_get, slice_index_or}
+use Rattle.std.specs.Prelude.{slice_get, slice_index_or, ◌-◌, Result, Ok, Err, IfOk}
 use Rattle.std.proofs.Math.Seq.{take-length}
-use Rattle.mw_types.specs.Types.{TypeExpression, Substitution, apply, Within}
-use Rattle.mw_types.specs.Equations.{TypeEquation, AllWithin, equation_of, equations_of}
+use Rattle.mw_types.specs.Types.{TypeExpression, Substitution, apply, Within, type_of}
+use Rattle.mw_types.specs.Equations.{TypeEquation, AllWithin, MostGeneral, equation_of, equations_of}
 use Rattle.mw_types.specs.declared.types.Equation.{Equation}
-use Rattle.mw_infer.specs.Failing.{is_among, without}
+use Rattle.mw_infer.specs.declared.failing.FailingPart.{FailingPart}
+use Rattle.mw_infer.specs.Failing.{AreSides, is_among, without}
 use Rattle.mw_infer.proofs.Emission.{equations_of-append}
 
 pub get-at : {A : Type 0} (xs : List A) (i : ℕ) (d : A) → i < length xs → slice_get xs i ≡ Some (slice_index_or xs i d)
 get-at [] i d lt = absurd (omega arith)
 get-at (x ∷ xs) zero d lt = refl
 get-at (x ∷ xs) (suc i) d lt = get-at xs i d (omega arith)
+
+some-at : {A : Type 0} (xs : List A) (i : ℕ) → i < length xs → (x : A) × (slice_get xs i ≡ Some x)
+some-at [] i lt = absurd (omega arith)
+some-at (x ∷ xs) zero lt = (x, refl)
+some-at (x ∷ xs) (suc i) lt = some-at xs i (omega arith)
 
 pub equations-length : (ps : List Equation) → length (equations_of ps) ≡ length ps
 equations-length [] = refl
@@ -72,13 +78,14 @@ module _ (first end : ℕ) where
       let w = without-next ns (equations_of ps) i n (equation_of x) g (equation-at ps i x lt e) in
       ap equations_of m ∙ equations_of-append old (copy ∷ []) ∙ rw (s, h, c) (sym (rw out at w))
 
-  pub rest-same : (ps : List Equation) (ns : List (Option ℕ)) (i : ℕ) (x : Equation) (n : Option ℕ)
-      (old : List Equation) → i < length ps → x ≡ get_or ps i x → slice_get ns i ≡ Some n → is_among first end n ≡ true
+  pub rest-same : (ps : List Equation) (ns : List (Option ℕ)) (i : ℕ) (n : Option ℕ) (old : List Equation)
+      → i < length ps → slice_get ns i ≡ Some n → is_among first end n ≡ true
       → equations_of old ≡ without first end (take i ns) (take i (equations_of ps))
       → equations_of old ≡ without first end (take (i + 1) ns) (take (i + 1) (equations_of ps))
-  rest-same ps ns i x n old lt e g out h =
+  rest-same ps ns i n old lt g out h =
       let s : i + 1 ≡ suc i = omega arith in
-      let w = without-next ns (equations_of ps) i n (equation_of x) g (equation-at ps i x lt e) in
+      let x = some-at (equations_of ps) i (omega (arith, equations-length ps)) in
+      let w = without-next ns (equations_of ps) i n x.0 g x.1 in
       h ∙ rw s (sym (rw out at w ∙ nothing _))
 
   pub rest-whole : (ns : List (Option ℕ)) (es : List TypeEquation) (i : ℕ) → i ≡ length ns → i ≡ length es
@@ -111,8 +118,17 @@ within-at n m [] i x h e = absurd (cc)
 within-at n m (y ∷ es) zero x h e = let p : y ≡ x = cc in rw (← p) h.0
 within-at n m (y ∷ es) (suc i) x h e = within-at n m es i x h.1 e
 
+pub equation-get : (ps : List Equation) (i : ℕ) (x : Equation) → slice_get ps i ≡ Some x
+    → slice_get (equations_of ps) i ≡ Some (equation_of x)
+equation-get [] i x e = absurd (cc)
+equation-get (p ∷ ps) zero x e = let q : p ≡ x = cc in ap (λ z. Some (equation_of z)) q
+equation-get (p ∷ ps) (suc i) x e = equation-get ps i x e
+
 -- both sides of the equation at a place
-pub sides-at : (s : Substitution) (es : List TypeEquation) (i : ℕ) (x : TypeEquation) (left right : TypeExpression)
-    → slice_get es i ≡ Some x → left ≡ apply s x.left → right ≡ apply s x.right
-    → IfSome (slice_get es i) (λ e. (left ≡ apply s e.left) × (right ≡ apply s e.right))
-sides-at s es i x left right e l r = rw e (l, r)
+pub sides-at : {A E : Type 0} (r : Result A E) (f g : A → TypeExpression) (x : FailingPart) (s : Substitution)
+    (e : Equation)
+    → MostGeneral x.equations.unknowns x.equations.classifiers (take (x.front - 1) (equations_of x.equations.pairs)) s
+    → slice_get x.equations.pairs (x.front - 1) ≡ Some e → IfOk r (λ p. f p ≡ apply s (type_of e.left))
+    → IfOk r (λ p. g p ≡ apply s (type_of e.right)) → IfOk r (λ p. AreSides x (f p) (g p))
+sides-at (Ok p) f g x s e m h l r = (s, m, rw (equation-get x.equations.pairs (x.front - 1) e h) (l, r))
+sides-at (Err z) f g x s e m h l r = tt

@@ -37,17 +37,14 @@ impl FailingPart {
         ensures { IfOk result (λ sides. AreSides self.now (type_of sides.0) (type_of sides.1)) }
     {
         let last = self.front - 1;
-        let pairs = self.equations.pairs.as_slice();
+        let pairs = &self.equations.pairs;
         let before = Equations {
             unknowns: self.equations.unknowns,
             classifiers: self.equations.classifiers,
-            pairs: front_copied(alloc, pairs, last)?,
+            pairs: front_copied(alloc, pairs.as_slice(), last)?,
         };
         match solve(alloc, &before) {
-            Ok(solved) => {
-                let left = applied(alloc, &solved, &pairs[last].left)?;
-                Ok((left, applied(alloc, &solved, &pairs[last].right)?))
-            }
+            Ok(solved) => applied_sides(alloc, &solved, pairs.get(last)),
             Err(SolveFault::Memory(error)) => Err(error),
             Err(_) => unreachable!(),
         }
@@ -137,6 +134,23 @@ fn copied_equation(alloc: Global, equation: &Equation) -> Result<Equation, Alloc
         left,
         right: copied(alloc, &equation.right)?,
     })
+}
+
+/// What a solution makes of both sides of an equation.
+fn applied_sides(
+    alloc: Global,
+    solved: &Solved,
+    equation: &Equation,
+) -> Result<(Ty, Ty), AllocError>
+    requires left { Within (length solved.now.types) (length solved.now.classifiers) (type_of equation.now.left) }
+    requires right { Within (length solved.now.types) (length solved.now.classifiers) (type_of equation.now.right) }
+    ensures left { IfOk result
+        (λ sides. type_of sides.0 ≡ apply (substitution_of solved.now) (type_of equation.now.left)) }
+    ensures right { IfOk result
+        (λ sides. type_of sides.1 ≡ apply (substitution_of solved.now) (type_of equation.now.right)) }
+{
+    let left = applied(alloc, solved, &equation.left)?;
+    Ok((left, applied(alloc, solved, &equation.right)?))
 }
 
 /// What a solution makes of a type.
