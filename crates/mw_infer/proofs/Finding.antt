@@ -27,14 +27,12 @@ fault-of schemes place e (Equations x) h = elim h.0.fails [
   | inl q ↦ (
     ill_typed,
     unsolvable {k = x.front} (rw (h.0.unknowns, h.0.classifiers, h.0.equations) at q),
-    refl,
-    q,
+    (refl, q),
   )
   | inr q ↦ (
     too_big,
     oversized {k = x.front} (rw (h.0.unknowns, h.0.classifiers, h.0.equations) at q),
-    refl,
-    q,
+    (refl, q),
   )
 ]
 fault-of schemes place e (Close x) h = (
