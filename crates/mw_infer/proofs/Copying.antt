@@ -1,16 +1,18 @@
 -- Some of a part's equations, one after another.
-use Rattle.std.proofs.Common.{◌≡◌, ℕ, zero, suc, ◌+◌, ◌<◌, Bool, true, false, cond, List, [], ◌∷◌, ◌++◌, take, length, get_or}
-use Rattle.std.proofs.Common.{Option, Some, refl, ap, sym, ◌∙◌, arith, IfSome}
+use Rattle.std.proofs.Common.{◌≡◌, ℕ, zero, suc, ◌+◌, ◌<◌, Bool, true, false, cond, List, [], ◌∷◌, ◌++◌, take, length}
+use Rattle.std.proofs.Common.{get_or, Option, Some, refl, ap, sym, ◌∙◌, arith}
 use Rattle.std.specs.Prelude.{slice_get, slice_index_or, ◌-◌, Result, Ok, Err, IfOk}
 use Rattle.std.proofs.Math.Seq.{take-length}
 use Rattle.mw_types.specs.Types.{TypeExpression, Substitution, apply, Within, type_of}
 use Rattle.mw_types.specs.Equations.{TypeEquation, AllWithin, MostGeneral, equation_of, equations_of}
 use Rattle.mw_types.specs.declared.types.Equation.{Equation}
+use Rattle.mw_types.proofs.Halving.{eqs_length}
 use Rattle.mw_infer.specs.declared.failing.FailingPart.{FailingPart}
 use Rattle.mw_infer.specs.Failing.{AreSides, is_among, without}
 use Rattle.mw_infer.proofs.Emission.{equations_of-append}
 
-pub get-at : {A : Type 0} (xs : List A) (i : ℕ) (d : A) → i < length xs → slice_get xs i ≡ Some (slice_index_or xs i d)
+pub get-at : {A : Type 0} (xs : List A) (i : ℕ) (d : A) → i < length xs
+    → slice_get xs i ≡ Some (slice_index_or xs i d)
 get-at [] i d lt = absurd (omega arith)
 get-at (x ∷ xs) zero d lt = refl
 get-at (x ∷ xs) (suc i) d lt = get-at xs i d (omega arith)
@@ -19,10 +21,6 @@ some-at : {A : Type 0} (xs : List A) (i : ℕ) → i < length xs → (x : A) × 
 some-at [] i lt = absurd (omega arith)
 some-at (x ∷ xs) zero lt = (x, refl)
 some-at (x ∷ xs) (suc i) lt = some-at xs i (omega arith)
-
-pub equations-length : (ps : List Equation) → length (equations_of ps) ≡ length ps
-equations-length [] = refl
-equations-length (p ∷ ps) = ap suc (equations-length ps)
 
 pub equation-at : (ps : List Equation) (i : ℕ) (x : Equation) → i < length ps → x ≡ get_or ps i x
     → slice_get (equations_of ps) i ≡ Some (equation_of x)
@@ -84,7 +82,7 @@ module _ (first end : ℕ) where
       → equations_of old ≡ without first end (take (i + 1) ns) (take (i + 1) (equations_of ps))
   rest-same ps ns i n old lt g out h =
       let s : i + 1 ≡ suc i = omega arith in
-      let x = some-at (equations_of ps) i (omega (arith, equations-length ps)) in
+      let x = some-at (equations_of ps) i (omega (arith, eqs_length ps)) in
       let w = without-next ns (equations_of ps) i n x.0 g x.1 in
       h ∙ rw s (sym (rw out at w ∙ nothing _))
 
@@ -95,8 +93,8 @@ module _ (first end : ℕ) where
       (ap (λ k. without first end ns (take k es)) q ∙ rw (take-length es) refl)
 
   -- they name their own numbers alone
-  within-cond : (n m : ℕ) (b : Bool) (x : TypeEquation) (xs : List TypeEquation) → Within n m x.left × Within n m x.right
-      → AllWithin n m xs → AllWithin n m (cond b xs (x ∷ xs))
+  within-cond : (n m : ℕ) (b : Bool) (x : TypeEquation) (xs : List TypeEquation)
+      → Within n m x.left × Within n m x.right → AllWithin n m xs → AllWithin n m (cond b xs (x ∷ xs))
   within-cond n m true x xs w h = h
   within-cond n m false x xs w h = (w, h)
 

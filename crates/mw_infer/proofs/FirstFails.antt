@@ -1,9 +1,9 @@
 -- The first front of a part's equations that fails.
-use Rattle.std.proofs.Common.{◌≡◌, ◌⊎◌, inl, inr, ℕ, zero, suc, ◌-◌, ◌<◌, ◌≤◌, List, [], ◌∷◌, length, take, ap, sym}
+use Rattle.std.proofs.Common.{◌≡◌, inl, inr, ℕ, zero, suc, ◌-◌, ◌<◌, ◌≤◌, List, [], ◌∷◌, length, take, ap, sym}
 use Rattle.std.proofs.Common.{◌∙◌, arith}
 use Rattle.mw_term.specs.Terms.{Expression}
 use Rattle.mw_term.specs.Parts.{Place}
-use Rattle.mw_types.specs.Equations.{TypeEquation, equations_of, Solves, Fine, FirstUnsolvable, FirstTooBig}
+use Rattle.mw_types.specs.Equations.{TypeEquation, equations_of, Solves, Fine}
 use Rattle.mw_types.specs.Types.{Assignment}
 use Rattle.mw_types.proofs.Smallest.{too_big_not_small}
 use Rattle.mw_types.specs.declared.types.Equations.{Equations}

@@ -1,5 +1,5 @@
 -- The binders that hold a classifier.
-use Rattle.std.proofs.Common.{◌≡◌, ℕ, zero, suc, ◌<◌, List, [], ◌∷◌, map, Some, refl, sym, subst, length, get_or, arith}
+use Rattle.std.proofs.Common.{◌≡◌, ℕ, zero, suc, ◌<◌, List, [], ◌∷◌, map, Some, refl, subst, length, get_or, arith}
 use Rattle.std.specs.Prelude.{slice_get, slice_index_or, take}
 use Rattle.mw_term.specs.Types.{IsAbsent, IsAbsentAt}
 use Rattle.mw_types.specs.Types.{Assignment, Substitution, after}

@@ -1,5 +1,5 @@
 -- A part has as many nodes of equations as equations, and no more nodes than unknowns.
-use Rattle.std.proofs.Common.{◌≡◌, ℕ, zero, suc, ◌+◌, ◌≤◌, false, List, [], ◌∷◌, ◌++◌, map, length, Option, Some, None}
+use Rattle.std.proofs.Common.{◌≡◌, ℕ, zero, suc, ◌+◌, ◌≤◌, List, [], ◌∷◌, ◌++◌, map, length, Option, Some, None}
 use Rattle.std.proofs.Common.{refl, ap, ◌∙◌, append_assoc, arith, length-append}
 use Rattle.std.specs.Prelude.{slice_get, replicate}
 use Rattle.std.proofs.lemmas.List.{length-map, length-replicate, map-append, replicate-append-replicate}
@@ -9,7 +9,7 @@ use Rattle.mw_term.specs.Types.{Level, live, under}
 use Rattle.mw_term.specs.Scoped.{IsScoped}
 use Rattle.mw_term.specs.Parts.{Place, let_place, kernel_place, main_place}
 use Rattle.mw_infer.specs.Schemes.{TopScheme, let_scheme, kernel_scheme, scheme_out_of_scope}
-use Rattle.mw_infer.specs.ItemEquations.{Slot, plain_slot, quoted_slot, slot, unknowns_of, variable_equations}
+use Rattle.mw_infer.specs.ItemEquations.{Slot, plain_slot, quoted_slot, slot, variable_equations}
 use Rattle.mw_infer.specs.ItemEquations.{name_equations, equations}
 use Rattle.mw_infer.specs.Inferring.{item_unknowns, item_equations}
 use Rattle.mw_infer.specs.Judging.{CanJudge}

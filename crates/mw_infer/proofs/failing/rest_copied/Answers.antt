@@ -1,6 +1,7 @@
 use Rattle.std.proofs.Common.{None, sym, ◌∙◌, arith}
 use Rattle.mw_types.specs.Equations.{equations_of}
-use Rattle.mw_infer.proofs.Copying.{get-at, equations-length, rest-more, rest-same, rest-whole}
+use Rattle.mw_types.proofs.Halving.{eqs_length}
+use Rattle.mw_infer.proofs.Copying.{get-at, rest-more, rest-same, rest-whole}
 use Rattle.mw_infer.proofs.failing.rest_copied.Goals as goal
 use Rattle.mw_infer.proofs.failing.rest_copied.Goals.{then-not-is_among+in_ok-copied_equation+in_ok-push}
 use Rattle.mw_infer.proofs.failing.rest_copied.Goals.{else-not-is_among}
@@ -19,5 +20,5 @@ loop-at-preserved c = elim c.if-not-is_among.branch [
 
 pub returns : goal.returns
 returns c =
-    c.loop-at.invariant ∙ rest-whole c.args.first c.args.end c.args.owners.now (equations_of c.args.pairs.now) c.loop-at.at
-    (omega arith) (omega (arith, equations-length c.args.pairs.now))
+    c.loop-at.invariant ∙ rest-whole c.args.first c.args.end c.args.owners.now (equations_of c.args.pairs.now)
+    c.loop-at.at (omega arith) (omega (arith, eqs_length c.args.pairs.now))

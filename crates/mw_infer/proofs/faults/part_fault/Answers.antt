@@ -1,4 +1,4 @@
-use Rattle.std.proofs.Common.{[], inl, inr, refl, ap, sym, arith}
+use Rattle.std.proofs.Common.{[], inl, inr, arith}
 use Rattle.mw_term.specs.Terms.{expression_of}
 use Rattle.mw_term.specs.Types.{live}
 use Rattle.mw_infer.specs.Inferring.{item_unknowns, item_classifiers}
@@ -46,17 +46,21 @@ failing_part-requires-in-Err-TooBig c =
 pub returns-in-Err-Unsolvable : goal.returns-in-Err-Unsolvable
 returns-in-Err-Unsolvable c =
     let e = c.in_ok-unknowns.ensures in
-    let f = c.in_ok-failing-in-Err-Unsolvable in
-    (fails-of (tops_of c.args.names.now) (place_of c.args.asked.now) (expression_of c.args.term.now) _ _ f.failing
-    c.requires e.unknowns e.classifiers e.equations
-    (inl (rw c.in-Err-Unsolvable.field-0-is at c.in-Err-Unsolvable.ensures.fault)) f.ensures.equations f.ensures.owners
-    f.ensures.front, f.ensures.part)
+    let f = c.in_ok-failing-in-Err-Unsolvable in (
+      fails-of (tops_of c.args.names.now) (place_of c.args.asked.now) (expression_of c.args.term.now) _ _ f.failing
+          c.requires e.unknowns e.classifiers e.equations
+          (inl (rw c.in-Err-Unsolvable.field-0-is at c.in-Err-Unsolvable.ensures.fault))
+          f.ensures.equations f.ensures.owners f.ensures.front,
+      f.ensures.part,
+    )
 
 pub returns : goal.returns
 returns c =
     let e = c.in_ok-unknowns.ensures in
-    let f = c.in_ok-failing-in-Err-TooBig in
-    (fails-of (tops_of c.args.names.now) (place_of c.args.asked.now) (expression_of c.args.term.now) _ _ f.failing
-    c.requires e.unknowns e.classifiers e.equations
-    (inr (rw c.in-Err-TooBig.field-0-is at c.in-Err-TooBig.ensures.fault)) f.ensures.equations f.ensures.owners
-    f.ensures.front, f.ensures.part)
+    let f = c.in_ok-failing-in-Err-TooBig in (
+      fails-of (tops_of c.args.names.now) (place_of c.args.asked.now) (expression_of c.args.term.now) _ _ f.failing
+          c.requires e.unknowns e.classifiers e.equations
+          (inr (rw c.in-Err-TooBig.field-0-is at c.in-Err-TooBig.ensures.fault))
+          f.ensures.equations f.ensures.owners f.ensures.front,
+      f.ensures.part,
+    )

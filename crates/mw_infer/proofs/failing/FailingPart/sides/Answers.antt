@@ -2,12 +2,13 @@ use Rattle.std.proofs.Common.{◌-◌, arith}
 use Rattle.mw_types.specs.Equations.{equation_of, equations_of}
 use Rattle.mw_types.specs.Solutions.{substitution_of}
 use Rattle.mw_types.specs.Types.{type_of}
-use Rattle.mw_infer.proofs.Copying.{equation-get, equations-length, sides-at, within-at, within-take}
+use Rattle.mw_types.proofs.Halving.{eqs_length}
+use Rattle.mw_infer.proofs.Copying.{equation-get, sides-at, within-at, within-take}
 use Rattle.mw_infer.proofs.failing.FailingPart.sides.Goals as goal
 
 pub front_copied-requires : goal.front_copied-requires
 front_copied-requires c =
-    rw c.as_slice.ensures (omega (arith, c.requires.low, equations-length c.args.self.now.equations.pairs))
+    rw c.as_slice.ensures (omega (arith, c.requires.low, eqs_length c.args.self.now.equations.pairs))
 
 pub solve-requires : goal.solve-requires
 solve-requires c = record {
@@ -17,7 +18,7 @@ solve-requires c = record {
 
 pub get-requires : goal.get-requires
 get-requires c =
-    omega (arith, c.requires.front, c.requires.low, equations-length c.args.self.now.equations.pairs)
+    omega (arith, c.requires.front, c.requires.low, eqs_length c.args.self.now.equations.pairs)
 
 pub applied_sides-requires-clause-left : goal.applied_sides-requires-clause-left
 applied_sides-requires-clause-left c =
