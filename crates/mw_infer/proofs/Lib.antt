@@ -26,3 +26,8 @@ pub mod Deciding
 pub mod Resolved
 pub mod NodeLists
 pub mod NodesTold
+pub mod Owned
+pub mod Finding
+pub mod Copying
+pub mod FirstFails
+pub mod Holding

@@ -7,6 +7,7 @@ use Rattle.mw_types.specs.Types.{Assignment, Substitution, after}
 use Rattle.mw_infer.specs.declared.output.Spot.{Spot}
 use Rattle.mw_infer.specs.declared.scope.Binder.{Binder}
 use Rattle.mw_infer.specs.Inferring.{entry_of, AreFresh, least}
+use Rattle.mw_infer.specs.Checking.{IsFirstOpen}
 use Rattle.mw_infer.specs.Emitting.{close_of}
 use Rattle.mw_infer.specs.Below.{SlotBelow, SlotsBelow, ClosesBelow}
 use Rattle.mw_infer.specs.Judging.{IsFirstOpenAt}
@@ -64,22 +65,23 @@ parted [] i x lt e = absurd (omega arith)
 parted (y ∷ xs) zero x lt e = ap (λ z. close_of z ∷ map close_of xs) (sym e)
 parted (y ∷ xs) (suc i) x lt e = ap (λ z. close_of y ∷ z) (parted xs i x (omega arith) e)
 
+pub first-at : (s : Substitution) (xs : List Spot) (i : ℕ) (x : Spot) → i < length xs → x ≡ get_or xs i x
+    → AreFresh (after least s) (map close_of (take i xs))
+    → (IsAbsent (s.classifier x.classifier) (map (entry_of (after least s)) (map slot_of x.scope.items)) → ⊥)
+    → IsFirstOpen s (map close_of xs) (close_of x)
+first-at s xs i x lt e h q = record {
+  earlier = map close_of (take i xs);
+  later = map close_of (drop (suc i) xs);
+  parts = parted xs i x lt e;
+  fresh = h;
+  stands = q;
+}
+
 pub open-at : (s : Substitution) (xs : List Spot) (i : ℕ) (x : Spot) → i < length xs → x ≡ get_or xs i x
     → AreFresh (after least s) (map close_of (take i xs))
     → (IsAbsent (s.classifier x.classifier) (map (entry_of (after least s)) (map slot_of x.scope.items)) → ⊥)
     → IsFirstOpenAt s (map close_of xs) x.at
-open-at s xs i x lt e h q = (
-  close_of x,
-  record {
-    earlier = map close_of (take i xs);
-    later = map close_of (drop (suc i) xs);
-    parts =
-        parted xs i x lt e;
-    fresh = h;
-    stands = q;
-  },
-  refl,
-)
+open-at s xs i x lt e h q = (close_of x, first-at s xs i x lt e h q, refl)
 
 pub read : {A : Type 0} (xs : List A) (i : ℕ) (d r : A) → slice_get xs i ≡ Some r → slice_index_or xs i d ≡ r
 read [] i d r e = absurd (cc)

@@ -1,10 +1,11 @@
 -- A part of a program whose equations fail, and where.
-use Rattle.std.specs.Prelude.{ℕ, ◌≡◌, ◌+◌, ◌-◌, ◌<◌, ◌≤◌, ◌⊎◌, Bool, List, [], ◌∷◌, ◌++◌, take, length, Option, Some, None}
-use Rattle.std.specs.Prelude.{IfSome, slice_get, cond, leb, ltb, ◌&&◌}
+use Rattle.std.specs.Prelude.{ℕ, ◌≡◌, ◌-◌, ◌<◌, ◌≤◌, ◌⊎◌, Bool, List, [], ◌∷◌, take, length, Option, Some, None}
+use Rattle.std.specs.Prelude.{IfSome, slice_get, cond, leb, ltb, ◌&&◌, false}
 use Rattle.mw_term.specs.Terms.{Expression}
 use Rattle.mw_term.specs.Parts.{Place}
 use Rattle.mw_types.specs.Types.{TypeExpression, Substitution, apply}
-use Rattle.mw_types.specs.Equations.{TypeEquation, equations_of, AllWithin, Fine, FirstUnsolvable, FirstTooBig, MostGeneral}
+use Rattle.mw_types.specs.Equations.{TypeEquation, equations_of, AllWithin, Fine, FirstUnsolvable, FirstTooBig}
+use Rattle.mw_types.specs.Equations.{MostGeneral}
 use Rattle.mw_infer.specs.Schemes.{TopScheme}
 use Rattle.mw_infer.specs.Inferring.{item_unknowns, item_classifiers, item_equations}
 use Rattle.mw_infer.specs.Owners.{item_owners}
@@ -14,7 +15,8 @@ use Rattle.mw_infer.specs.declared.failing.FailingPart.{FailingPart}
 abbrev pub FirstFails : ℕ → ℕ → List TypeEquation → ℕ → Type 0
 FirstFails n m es k = FirstUnsolvable n m es k ⊎ FirstTooBig n m es k
 
--- With the schemes of its names, the equations are those of a term at its place, each with its node, and these fail first.
+-- With the schemes of its names, the equations are those of a term at its place, each with its node, and of them these
+-- fail first.
 pub record FailsAt (schemes : List TopScheme) (place : Place) (e : Expression) (x : FailingPart) : Type 0 where
   pub unknowns : x.equations.unknowns ≡ item_unknowns schemes e
   pub classifiers : x.equations.classifiers ≡ item_classifiers schemes e

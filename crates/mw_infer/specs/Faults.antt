@@ -1,5 +1,5 @@
 -- The first fault of a program's types, and where it is.
-use Rattle.std.specs.Prelude.{ℕ, ◌≡◌, ◌+◌, ◌<◌, List, ◌++◌, ◌∷◌, map, Option, Some, None, Result, Ok, Err, slice_get}
+use Rattle.std.specs.Prelude.{ℕ, ◌≡◌, ◌<◌, List, Option, Some, None, Result, Ok, Err, slice_get}
 use Rattle.mw_term.specs.Terms.{Expression}
 use Rattle.mw_term.specs.Types.{IsAbsentAt}
 use Rattle.mw_term.specs.Programs.{PureProgram}
@@ -7,14 +7,13 @@ use Rattle.mw_term.specs.Parts.{Place, Part, IsPart}
 use Rattle.mw_term.specs.declared.refusal.Refusal.{Refusal}
 use Rattle.mw_term.specs.declared.refusal.Refusal.TheVariants.{IllTyped, TypeTooBig, NotClosed}
 use Rattle.mw_types.specs.Types.{Substitution, after}
-use Rattle.mw_types.specs.Equations.{Fine, FirstUnsolvable, FirstTooBig, equations_of}
+use Rattle.mw_types.specs.Equations.{FirstUnsolvable, FirstTooBig, equations_of}
 use Rattle.mw_infer.specs.Schemes.{TopScheme}
 use Rattle.mw_infer.specs.ItemEquations.{Slot, Close}
-use Rattle.mw_infer.specs.Inferring.{item_unknowns, item_classifiers, item_closes, item_equations, AreFresh, entry_of}
+use Rattle.mw_infer.specs.Inferring.{item_closes, AreFresh, entry_of}
 use Rattle.mw_infer.specs.Inferring.{least}
 use Rattle.mw_infer.specs.Checking.{ArePrincipal, IsFaultless, IsFirstOpen, IsItemSolution}
 use Rattle.mw_infer.specs.Failing.{FailsAt, IsWhole}
-use Rattle.mw_infer.specs.declared.failing.FailingPart.{FailingPart}
 use Rattle.mw_infer.specs.declared.faults.OpenClose.{OpenClose}
 use Rattle.mw_infer.specs.declared.faults.PartFault.{PartFault}
 use Rattle.mw_infer.specs.declared.faults.PartFault.TheVariants.{Equations, Close as Closes}

@@ -58,9 +58,9 @@ abbrev pub item_owners : Place → Expression → List (Option ℕ)
 item_owners place e = place_owners place ++ map (λ n. Some n) (equation_nodes false 0 e)
 
 -- so many nodes more were counted, and these are the nodes of the equations after those that were there
-pub record AddsOwners (old new : Owners) (count : ℕ) (nodes : List ℕ) : Type 0 where
+pub record AddsOwners (old new : Owners) (count : ℕ) (added : List ℕ) : Type 0 where
   pub next : new.next ≡ old.next + count
-  pub nodes : new.nodes.items ≡ old.nodes.items ++ map (λ n. Some n) nodes
+  pub nodes : new.nodes.items ≡ old.nodes.items ++ map (λ n. Some n) added
 
 -- those of a term
 abbrev pub AddsTermOwners : Owners → Owners → Bool → Expression → Type 0

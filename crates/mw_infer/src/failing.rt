@@ -1,8 +1,8 @@
 // A part of a program whose equations fail, and where.
 
-ghost use Rattle.std.specs.Prelude.{◌≡◌, ◌-◌, ◌↔◌, ℕ, IfOk, IsTrue, Some, length, slice_get};
+ghost use Rattle.std.specs.Prelude.{◌≡◌, ◌≤◌, ◌-◌, ◌↔◌, ℕ, IfOk, IsTrue, Some, length, slice_get, take};
 ghost use Rattle.mw_types.specs.Types.{Within, apply, type_of};
-ghost use Rattle.mw_types.specs.Equations.{Fine, equation_of, equations_of};
+ghost use Rattle.mw_types.specs.Equations.{AllWithin, Fine, equation_of, equations_of, said_of};
 ghost use Rattle.mw_types.specs.Solutions.{substitution_of};
 ghost use Rattle.mw_infer.specs.Failing.{AreSides, IsWhole, is_among as among, without};
 
@@ -37,21 +37,14 @@ impl FailingPart {
         ensures { IfOk result (λ sides. AreSides self.now (type_of sides.0) (type_of sides.1)) }
     {
         let last = self.front - 1;
-        let pairs = self.equations.pairs.as_slice();
-        let mut before = Pairs::new(alloc);
-        for at in 0..last {
-            before.push(copied_equation(alloc, &pairs[at])?)?;
-        }
+        let pairs = &self.equations.pairs;
         let before = Equations {
             unknowns: self.equations.unknowns,
             classifiers: self.equations.classifiers,
-            pairs: before,
+            pairs: front_copied(alloc, pairs.as_slice(), last)?,
         };
         match solve(alloc, &before) {
-            Ok(solved) => {
-                let left = applied(alloc, &solved, &pairs[last].left)?;
-                Ok((left, applied(alloc, &solved, &pairs[last].right)?))
-            }
+            Ok(solved) => applied_sides(alloc, &solved, pairs.get(last)),
             Err(SolveFault::Memory(error)) => Err(error),
             Err(_) => unreachable!(),
         }
@@ -69,23 +62,57 @@ impl FailingPart {
             (without first end self.now.owners.items (equations_of self.now.equations.pairs))) }
     {
         let pairs = self.equations.pairs.as_slice();
-        let mut left = Pairs::new(alloc);
-        for at in 0..pairs.len() {
-            if !is_among(first, end, self.owners[at]) {
-                left.push(copied_equation(alloc, &pairs[at])?)?;
-            }
-        }
-        let left = Equations {
+        let rest = Equations {
             unknowns: self.equations.unknowns,
             classifiers: self.equations.classifiers,
-            pairs: left,
+            pairs: rest_copied(alloc, pairs, self.owners.as_slice(), first, end)?,
         };
-        match solve(alloc, &left) {
-            Ok(_) => Ok(true),
-            Err(SolveFault::Memory(error)) => Err(error),
-            Err(_) => Ok(false),
+        is_fine(alloc, &rest)
+    }
+}
+
+/// Whether equations have a solution, and no too big one.
+fn is_fine(alloc: Global, equations: &Equations) -> Result<bool, AllocError>
+    requires { said_of equations.now AllWithin }
+    ensures { IfOk result (λ fine. IsTrue fine ↔ said_of equations.now Fine) }
+{
+    match solve(alloc, equations) {
+        Ok(_) => Ok(true),
+        Err(SolveFault::Memory(error)) => Err(error),
+        Err(_) => Ok(false),
+    }
+}
+
+/// Copies of the first so many equations.
+fn front_copied(alloc: Global, pairs: &[Equation], count: usize) -> Result<Pairs, AllocError>
+    requires { count ≤ length pairs.now }
+    ensures { IfOk result (λ front. equations_of front ≡ take count (equations_of pairs.now)) }
+{
+    let mut front = Pairs::new(alloc);
+    for at in 0..count {
+        front.push(copied_equation(alloc, &pairs[at])?)?;
+    }
+    Ok(front)
+}
+
+/// Copies of the equations that are of none of the nodes from `first` to the one before `end`.
+fn rest_copied(
+    alloc: Global,
+    pairs: &[Equation],
+    owners: &[Option<usize>],
+    first: usize,
+    end: usize,
+) -> Result<Pairs, AllocError>
+    requires { length owners.now ≡ length pairs.now }
+    ensures { IfOk result (λ rest. equations_of rest ≡ without first end owners.now (equations_of pairs.now)) }
+{
+    let mut rest = Pairs::new(alloc);
+    for at in 0..pairs.len() {
+        if !is_among(first, end, owners[at]) {
+            rest.push(copied_equation(alloc, &pairs[at])?)?;
         }
     }
+    Ok(rest)
 }
 
 /// Whether an equation is of one of the nodes from `first` to the one before `end`.
@@ -107,6 +134,23 @@ fn copied_equation(alloc: Global, equation: &Equation) -> Result<Equation, Alloc
         left,
         right: copied(alloc, &equation.right)?,
     })
+}
+
+/// What a solution makes of both sides of an equation.
+fn applied_sides(
+    alloc: Global,
+    solved: &Solved,
+    equation: &Equation,
+) -> Result<(Ty, Ty), AllocError>
+    requires left { Within (length solved.now.types) (length solved.now.classifiers) (type_of equation.now.left) }
+    requires right { Within (length solved.now.types) (length solved.now.classifiers) (type_of equation.now.right) }
+    ensures left { IfOk result
+        (λ sides. type_of sides.0 ≡ apply (substitution_of solved.now) (type_of equation.now.left)) }
+    ensures right { IfOk result
+        (λ sides. type_of sides.1 ≡ apply (substitution_of solved.now) (type_of equation.now.right)) }
+{
+    let left = applied(alloc, solved, &equation.left)?;
+    Ok((left, applied(alloc, solved, &equation.right)?))
 }
 
 /// What a solution makes of a type.

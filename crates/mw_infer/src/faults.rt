@@ -1,13 +1,14 @@
 // The first fault of a program's types, and where it is.
 
-ghost use Rattle.std.specs.Prelude.{◌≡◌, [], IfOk, IfSome};
+ghost use Rattle.std.specs.Prelude.{◌≡◌, ◌≤◌, ◌^◌, [], IfOk, IfSome};
 ghost use Rattle.mw_term.specs.Programs.{definition_of, program_of};
-ghost use Rattle.mw_term.specs.Terms.{expression_of, ground_of};
+ghost use Rattle.mw_term.specs.Terms.{expression_of, ground_of, size};
 ghost use Rattle.mw_term.specs.Parts.{IsResolved, main_place, part_of_item};
 ghost use Rattle.mw_term.specs.declared.refusal.Refusal.{Refusal};
 ghost use Rattle.mw_infer.specs.Checking.{IsFirstRefusal};
 ghost use Rattle.mw_infer.specs.Faults.{FaultyAt, IsFaultOfProgram, IsFaultOrMemory};
 ghost use Rattle.mw_infer.specs.Judging.{CanJudge, place_of};
+ghost use Rattle.mw_infer.specs.Owners.{item_owners};
 ghost use Rattle.mw_infer.specs.Views.{tops_of};
 
 use crate::failing::FailingPart;
@@ -128,14 +129,38 @@ fn part_fault(
             Some((at, binder)) => Ok(Some(PartFault::Close(OpenClose { part, at, binder }))),
         },
         Err(SolveFault::Memory(error)) => Err(error),
-        Err(SolveFault::Unsolvable(front)) | Err(SolveFault::TooBig(front)) => {
-            let owners = owners_of(alloc, asked, term)?;
-            Ok(Some(PartFault::Equations(FailingPart {
-                part,
-                equations,
-                owners,
-                front: front as usize,
-            })))
+        Err(SolveFault::Unsolvable(front)) => {
+            let failing = failing_part(alloc, asked, term, part, equations, front)?;
+            Ok(Some(PartFault::Equations(failing)))
+        }
+        Err(SolveFault::TooBig(front)) => {
+            let failing = failing_part(alloc, asked, term, part, equations, front)?;
+            Ok(Some(PartFault::Equations(failing)))
         }
     }
+}
+
+/// The part whose equations fail with this front.
+fn failing_part(
+    alloc: Global,
+    asked: &Asked,
+    term: &Term,
+    part: u32,
+    equations: Equations,
+    front: u64,
+) -> Result<FailingPart, AllocError>
+    requires { size (expression_of term.now) ≤ 2 ^ 63 }
+    ensures part { IfOk result (λ failing. failing.part ≡ part) }
+    ensures equations { IfOk result (λ failing. failing.equations ≡ equations) }
+    ensures owners { IfOk result
+        (λ failing. failing.owners.items ≡ item_owners (place_of asked.now) (expression_of term.now)) }
+    ensures front { IfOk result (λ failing. failing.front ≡ front) }
+{
+    let owners = owners_of(alloc, asked, term)?;
+    Ok(FailingPart {
+        part,
+        equations,
+        owners,
+        front: front as usize,
+    })
 }

@@ -1,0 +1,6 @@
+use Rattle.std.proofs.Common.{◌≡◌, take}
+use Rattle.mw_types.specs.Equations.{equations_of}
+use Rattle.mw_infer.proofs.failing.front_copied.Given as goal
+
+abbrev pub invariant-loop-at : goal.invariant-loop-at
+invariant-loop-at l = equations_of l.front ≡ take l.at (equations_of l.pairs)
