@@ -90,9 +90,9 @@ impl<'a> NodeTypes<'a> {
         self.solved.ty(self.numbers.own)
     }
 
-    /// A further type, from 0 on, if there is one: a function's argument, of a recursive function first its own type and
-    /// then its argument's, what a `let` binds, and the type that a part of a pair, a `close` or an `open` leaves open.
-    /// Takes no memory.
+    /// A further type, from 0 on, if there is one: a function's argument, of a recursive function first its own type
+    /// and then its argument's, what a `let` binds, and the type that a part of a pair, a `close` or an `open` leaves
+    /// open. Takes no memory.
     pub fn extra(&self, at: usize) -> Option<&'a Ty>
         ensures { option_map (λ ty. type_of ty.now) result ≡ slice_get (facts_of_node self.now).types (at + 1) }
     {

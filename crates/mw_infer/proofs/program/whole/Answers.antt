@@ -50,13 +50,14 @@ loop-item-preserved c =
     c.item-item.result (rw c.as_slice-items.ensures at c.loop-item-test.true)
     (rw c.as_slice-items.ensures at c.item-item.is) in
     let s = c.in-Ok.ensures.ok in
+    let nodes = c.in-Ok.nodes in
     record {
       progress = progress-next p i d (tops_of c.loop-item.names.items) (tops_of c.step.new.names.items) c.in-Ok.nodes
           c.requires g c.loop-item.invariant.progress s;
       names = sym (length-map c.step.new.names.items top_of) ∙ steps-length (tops_of c.loop-item.names.items) d
           (tops_of c.step.new.names.items) c.in-Ok.nodes s
           ∙ ap (λ n. n + 1) (length-map c.loop-item.names.items top_of ∙ c.loop-item.invariant.names);
-      told = rw (c.in_ok-push-in-Ok.ensures.items, map-append facts_of_part c.loop-item.parts.items (c.in-Ok.nodes ∷ []))
+      told = rw (c.in_ok-push-in-Ok.ensures.items, map-append facts_of_part c.loop-item.parts.items (nodes ∷ []))
           (told-next p i d (tops_of c.loop-item.names.items) (tops_of c.step.new.names.items) c.in-Ok.nodes
           (map facts_of_part c.loop-item.parts.items) g c.loop-item.invariant.progress s c.loop-item.invariant.told);
     }
