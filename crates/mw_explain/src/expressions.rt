@@ -1,5 +1,7 @@
 // Expressions, walked by descent as `mw_parse` reads them. `room` is the number of nodes that may still stand on a path.
 
+ghost use Rattle.std.specs.Prelude.{◌≡◌, ◌+◌, IfOk};
+
 use crate::arena::{Arena, Parts};
 use crate::forms::{Bound, Form, Span};
 use crate::reading::{
@@ -42,7 +44,9 @@ fn prefix_form(prefix: Prefix) -> Option<Form> {
 }
 
 /// The room below a node.
-fn below(room: u32) -> Result<u32, Lost> {
+fn below(room: u32) -> Result<u32, Lost>
+    ensures { IfOk result (λ left. left + 1 ≡ room) }
+{
     match room.checked_sub(1) {
         None => Err(Lost::NoTree),
         Some(room) => Ok(room),
