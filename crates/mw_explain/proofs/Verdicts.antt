@@ -1,6 +1,6 @@
 -- From the answers of reading, checking and telling to what explaining answers.
-use Rattle.std.proofs.Common.{◌≡◌, ℕ, List, Option, sym, subst}
-use Rattle.std.specs.Prelude.{IfSome}
+use Rattle.std.proofs.Common.{◌≡◌, ℕ, List, Option, Some, None, Result, Ok, Err, sym, subst}
+use Rattle.std.specs.Prelude.{IfOk, IfSome}
 use Rattle.mw_term.specs.Programs.{program_of}
 use Rattle.mw_term.specs.Parts.{IsResolved}
 use Rattle.mw_term.specs.Typable.{Typable}
@@ -12,7 +12,8 @@ use Rattle.mw_reading.specs.SourceReading.{IsRead, IsRefused}
 use Rattle.mw_reading.proofs.ScopedTerms.{is_resolved}
 use Rattle.mw_reading.proofs.SourceReadings.{unnamed_program}
 use Rattle.mw_explain.specs.Telling.{IsTold}
-use Rattle.mw_explain.specs.Verdicts.{IsSourceRefusal, at_reading, at_types, IsAccepted, Explains}
+use Rattle.mw_explain.specs.Verdicts.{IsSourceRefusal, at_reading, at_types, IsAccepted, Explains, IsVerdict}
+use Rattle.mw_explain.specs.Verdicts.{IsTypeVerdict}
 use Rattle.mw_explain.specs.declared.Explanation.{Explanation}
 use Rattle.mw_explain.specs.declared.telling.Told.{Told}
 
@@ -41,7 +42,7 @@ module _ (bytes : List ℕ) (p : Program) (found : IsRead bytes (named_program_o
   pub resolved : IsResolved (program_of p)
   resolved = subst IsResolved (unnamed_program p) (is_resolved bytes (named_program_of p) found)
 
-  pub accepted : Typable (program_of p) → NoneTooBig (program_of p) → IsAccepted bytes
+  accepted : Typable (program_of p) → NoneTooBig (program_of p) → IsAccepted bytes
   accepted typable small = record {
     program = named_program_of p;
     read = found;
@@ -55,14 +56,17 @@ module _ (bytes : List ℕ) (p : Program) (found : IsRead bytes (named_program_o
     told_of told h q read = subst (λ x. IfSome told (IsTold (unnamed x))) (only q read)
         (subst (λ x. IfSome told (IsTold x)) (sym (unnamed_program p)) h)
 
-    pub explains_types : (x : Explanation) → IsFirstRefusal (program_of p) x.refusal
-        → IfSome x.told (IsTold (program_of p))
-        → Explains bytes x
-    explains_types x first told = record {
+    -- a verdict on the types is one on the source
+    pub source_verdict : {E : Type 0} (answer : Result (Option Explanation) E)
+        → IfOk answer (IsTypeVerdict (program_of p))
+        → IfOk answer (IsVerdict bytes)
+    source_verdict (Ok None) h = accepted h.0 h.1
+    source_verdict (Ok (Some x)) h = record {
       refusal = at_types (named_program_of p) found
-          (subst (λ q. IsFirstRefusal q x.refusal) (sym (unnamed_program p)) first);
-      told = told_of x.told told;
+          (subst (λ q. IsFirstRefusal q x.refusal) (sym (unnamed_program p)) h.0);
+      told = told_of x.told h.1;
     }
+    source_verdict (Err e) h = tt
 
     -- the source's refusal is that of the types
     pub only_types : ((r : Refusal) → IsRefused bytes r → ⊥) → (r : Refusal) → IsSourceRefusal bytes r

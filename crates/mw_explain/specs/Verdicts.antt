@@ -1,5 +1,6 @@
 -- Which sources are accepted, and the first refusal of one that isn't.
 use Rattle.std.specs.Prelude.{ℕ, ◌≡◌, List, Option, Some, None, Result, Ok, Err, IfSome}
+use Rattle.mw_term.specs.Programs.{PureProgram}
 use Rattle.mw_term.specs.Typable.{Typable}
 use Rattle.mw_term.specs.declared.refusal.Refusal.{Refusal}
 use Rattle.mw_infer.specs.Checking.{IsFirstRefusal, NoneTooBig}
@@ -29,6 +30,11 @@ pub record Explains (bytes : List ℕ) (x : Explanation) : Type 0 where
 abbrev pub IsVerdict : List ℕ → Option Explanation → Type 0
 IsVerdict bytes None = IsAccepted bytes
 IsVerdict bytes (Some x) = Explains bytes x
+
+-- The same of a program's types: no explanation says that it has types, none of them too big.
+abbrev pub IsTypeVerdict : PureProgram → Option Explanation → Type 0
+IsTypeVerdict p None = Typable p × NoneTooBig p
+IsTypeVerdict p (Some x) = IsFirstRefusal p x.refusal × IfSome x.told (IsTold p)
 
 -- the answer has this refusal, or is want of memory
 abbrev pub RefusesOrMemory : {E : Type 0} → Refusal → Result (Option Explanation) E → Type 0

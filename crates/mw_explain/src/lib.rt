@@ -4,7 +4,10 @@
 
 ghost use Rattle.std.specs.Prelude.{IfOk};
 ghost use Rattle.mw_term.specs.declared.refusal.Refusal.{Refusal as PureRefusal};
-ghost use Rattle.mw_explain.specs.Verdicts.{IsSourceRefusal, RefusesOrMemory, IsVerdict};
+ghost use Rattle.mw_term.specs.Programs.{program_of};
+ghost use Rattle.mw_term.specs.Parts.{IsResolved};
+ghost use Rattle.mw_infer.specs.Checking.{IsFirstRefusal};
+ghost use Rattle.mw_explain.specs.Verdicts.{IsSourceRefusal, IsTypeVerdict, IsVerdict, RefusesOrMemory};
 
 mod arena;
 mod binders;
@@ -21,7 +24,7 @@ use crate::telling::tell;
 pub use crate::telling::{Told, Unclosed, Unmet};
 use mw_infer::check;
 use mw_reading::read;
-use mw_term::{Refusal, Stop};
+use mw_term::{Program, Refusal, Stop};
 use std::alloc::{AllocError, Global};
 
 /// A source's first refusal, and what is told of it.
@@ -37,21 +40,31 @@ pub fn explain(alloc: Global, bytes: &[u8]) -> Result<Option<Explanation>, Alloc
     ensures verdict { IfOk result (IsVerdict bytes.now) }
     ensures only { (r : PureRefusal) → IsSourceRefusal bytes.now r → RefusesOrMemory r result }
 {
-    let program = match read(alloc, bytes) {
-        Ok(program) => program,
-        Err(Stop::Memory(error)) => return Err(error),
+    match read(alloc, bytes) {
+        Ok(program) => explain_types(alloc, bytes, &program),
+        Err(Stop::Memory(error)) => Err(error),
         Err(Stop::Refused(refusal)) => {
-            return Ok(Some(Explanation {
-                refusal,
-                told: None,
-            }));
+            let told = None;
+            Ok(Some(Explanation { refusal, told }))
         }
-    };
-    match check(alloc, &program) {
+    }
+}
+
+/// Why a program with this source is refused for its types, if it is.
+fn explain_types(
+    alloc: Global,
+    bytes: &[u8],
+    program: &Program,
+) -> Result<Option<Explanation>, AllocError>
+    requires { IsResolved (program_of program.now) }
+    ensures verdict { IfOk result (IsTypeVerdict (program_of program.now)) }
+    ensures only { (r : PureRefusal) → IsFirstRefusal (program_of program.now) r → RefusesOrMemory r result }
+{
+    match check(alloc, program) {
         Ok(_) => Ok(None),
         Err(Stop::Memory(error)) => Err(error),
         Err(Stop::Refused(refusal)) => {
-            let told = tell(alloc, bytes, &program)?;
+            let told = tell(alloc, bytes, program)?;
             Ok(Some(Explanation { refusal, told }))
         }
     }
