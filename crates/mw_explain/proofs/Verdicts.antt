@@ -5,7 +5,10 @@ use Rattle.mw_term.specs.Programs.{program_of}
 use Rattle.mw_term.specs.Parts.{IsResolved}
 use Rattle.mw_term.specs.Typable.{Typable}
 use Rattle.mw_term.specs.declared.program.Program.{Program}
+use Rattle.mw_term.specs.Stops.{AnswersOrMemory, IsRefusalOrMemory}
 use Rattle.mw_term.specs.declared.refusal.Refusal.{Refusal}
+use Rattle.mw_term.specs.declared.refusal.Stop.{Stop}
+use Rattle.mw_term.specs.declared.refusal.Stop.TheVariants.{Refused}
 use Rattle.mw_infer.specs.Checking.{IsFirstRefusal, NoneTooBig}
 use Rattle.mw_reading.specs.NamedPrograms.{NamedProgram, named_program_of, unnamed}
 use Rattle.mw_reading.specs.SourceReading.{IsRead, IsRefused}
@@ -17,7 +20,24 @@ use Rattle.mw_explain.specs.Verdicts.{IsTypeVerdict}
 use Rattle.mw_explain.specs.declared.Explanation.{Explanation}
 use Rattle.mw_explain.specs.declared.telling.Told.{Told}
 
+-- an answer that stops with a refusal has this one
+pub same_refusal : {A : Type 0} (answer : Result A Stop) (stop : Stop) (refusal r : Refusal) → answer ≡ Err stop
+    → stop ≡ Refused refusal
+    → IsRefusalOrMemory answer r
+    → refusal ≡ r
+same_refusal {A = A} answer stop refusal r e f k =
+    subst (λ s. IsRefusalOrMemory {A = A} (Err s) r) f (subst (λ x. IsRefusalOrMemory {A = A} x r) e k)
+
 -- Where the source isn't read.
+
+-- it is no program's
+pub never_read : (answer : Result Program Stop) (stop : Stop) (refusal : Refusal) (p : NamedProgram) → answer ≡ Err stop
+    → stop ≡ Refused refusal
+    → AnswersOrMemory (λ q. named_program_of q ≡ p) answer
+    → ⊥
+never_read answer stop refusal p e f k =
+    subst (λ s. AnswersOrMemory {A = Program} (λ q. named_program_of q ≡ p) (Err s)) f
+    (subst (AnswersOrMemory {A = Program} (λ q. named_program_of q ≡ p)) e k)
 
 -- its refusal is the source's one
 pub only_reading : (bytes : List ℕ) (refusal r : Refusal) → ((q : Refusal) → IsRefused bytes q → refusal ≡ q)
@@ -28,10 +48,10 @@ only_reading bytes refusal r first none (at_reading h) = first r h
 only_reading bytes refusal r first none (at_types p read h) = absurd (none p read)
 
 -- nothing is told of types
-pub explains_reading : (bytes : List ℕ) (x : Explanation) → IsRefused bytes x.refusal
+pub explains_reading : (bytes : List ℕ) (refusal : Refusal) → IsRefused bytes refusal
     → ((p : NamedProgram) → IsRead bytes p → ⊥)
-    → Explains bytes x
-explains_reading bytes x is none = record {
+    → Explains bytes record { refusal = refusal; told = None }
+explains_reading bytes refusal is none = record {
   refusal = at_reading is;
   told = λ p read. absurd (none p read);
 }

@@ -1,8 +1,8 @@
-use Rattle.std.proofs.Common.{◌≡◌, Err, subst}
-use Rattle.mw_term.specs.Stops.{AnswersOrMemory, IfRefused, IsRefusalOrMemory}
-use Rattle.mw_reading.specs.NamedPrograms.{named_program_of}
+use Rattle.std.proofs.Common.{subst}
+use Rattle.mw_term.specs.Stops.{IfRefused}
 use Rattle.mw_reading.specs.SourceReading.{IsRefused}
-use Rattle.mw_explain.proofs.Verdicts.{explains_reading, only_reading, only_types, resolved, source_verdict}
+use Rattle.mw_explain.proofs.Verdicts.{explains_reading, never_read, only_reading, only_types, resolved}
+use Rattle.mw_explain.proofs.Verdicts.{same_refusal, source_verdict}
 use Rattle.mw_explain.proofs.explain.Goals as goal
 
 pub explain_types-requires : goal.explain_types-requires
@@ -20,16 +20,15 @@ returns-in-Ok-clause-only c =
 
 pub returns-in-Err-Refused-clause-verdict : goal.returns-in-Err-Refused-clause-verdict
 returns-in-Err-Refused-clause-verdict c =
-    explains_reading c.args.bytes.now _
+    let e = c.in-Err-Refused.refusal-is in
+    rw e (explains_reading c.args.bytes.now c.in-Err-Refused.refusal
     (subst (IfRefused (IsRefused c.args.bytes.now)) c.in-Err-Refused.field-0-is c.in-Err-Refused.ensures.refused)
-    (λ p read. subst (λ s. AnswersOrMemory (λ q. named_program_of q ≡ p) (Err s)) c.in-Err-Refused.field-0-is
-        (c.in-Err-Refused.ensures.only p read))
+    (λ p read. never_read c.read.result _ _ p c.in-Err-Refused.is c.in-Err-Refused.field-0-is (c.read.ensures.only p read)))
 
 pub returns-in-Err-Refused-clause-only : goal.returns-in-Err-Refused-clause-only
 returns-in-Err-Refused-clause-only c =
-    λ r h. only_reading c.args.bytes.now _ r
-    (λ q k. subst (λ s. IsRefusalOrMemory (Err s) q) c.in-Err-Refused.field-0-is
-        (c.in-Err-Refused.ensures.first q k))
-    (λ p read. subst (λ s. AnswersOrMemory (λ q. named_program_of q ≡ p) (Err s)) c.in-Err-Refused.field-0-is
-        (c.in-Err-Refused.ensures.only p read))
-    h
+    let e = c.in-Err-Refused.refusal-is in
+    λ r h. rw e (only_reading c.args.bytes.now c.in-Err-Refused.refusal r
+    (λ q k. same_refusal c.read.result _ _ q c.in-Err-Refused.is c.in-Err-Refused.field-0-is (c.read.ensures.first q k))
+    (λ p read. never_read c.read.result _ _ p c.in-Err-Refused.is c.in-Err-Refused.field-0-is (c.read.ensures.only p read))
+    h)
