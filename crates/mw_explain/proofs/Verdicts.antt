@@ -1,6 +1,6 @@
 -- From the answers of reading, checking and telling to what explaining answers.
 use Rattle.std.proofs.Common.{◌≡◌, ℕ, List, Option, Some, None, Result, Ok, Err, sym, subst}
-use Rattle.std.specs.Prelude.{IfOk, IfSome}
+use Rattle.std.specs.Prelude.{IfOk, IsSomeAnd}
 use Rattle.mw_term.specs.Programs.{program_of}
 use Rattle.mw_term.specs.Parts.{IsResolved}
 use Rattle.mw_term.specs.Typable.{Typable}
@@ -71,10 +71,10 @@ module _ (bytes : List ℕ) (p : Program) (found : IsRead bytes (named_program_o
   }
 
   module _ (only : (q : NamedProgram) → IsRead bytes q → named_program_of p ≡ q) where
-    told_of : (told : Option Told) → IfSome told (IsTold (program_of p)) → (q : NamedProgram) → IsRead bytes q
-        → IfSome told (IsTold (unnamed q))
-    told_of told h q read = subst (λ x. IfSome told (IsTold (unnamed x))) (only q read)
-        (subst (λ x. IfSome told (IsTold x)) (sym (unnamed_program p)) h)
+    told_of : (told : Option Told) → IsSomeAnd told (IsTold (program_of p)) → (q : NamedProgram) → IsRead bytes q
+        → IsSomeAnd told (IsTold (unnamed q))
+    told_of told h q read = subst (λ x. IsSomeAnd told (IsTold (unnamed x))) (only q read)
+        (subst (λ x. IsSomeAnd told (IsTold x)) (sym (unnamed_program p)) h)
 
     -- a verdict on the types is one on the source
     pub source_verdict : {E : Type 0} (answer : Result (Option Explanation) E)

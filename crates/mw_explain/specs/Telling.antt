@@ -1,5 +1,5 @@
 -- What is told of a fault of a program's types.
-use Rattle.std.specs.Prelude.{◌≡◌}
+use Rattle.std.specs.Prelude.{◌≡◌, Option, Some, None, Result, Ok, Err}
 use Rattle.mw_term.specs.Programs.{PureProgram}
 use Rattle.mw_types.specs.Types.{type_of}
 use Rattle.mw_infer.specs.Failing.{AreSides}
@@ -21,3 +21,9 @@ pub record IsTold (p : PureProgram) (told : Told) : Type 0 where
   pub fault : PartFault
   pub is_fault : IsFaultOfProgram p fault
   pub tells : Tells fault told
+
+-- the answer tells something, or is want of memory
+abbrev pub TellsOrMemory : {E : Type 0} → Result (Option Told) E → Type 0
+TellsOrMemory (Ok (Some told)) = Unit {0}
+TellsOrMemory (Ok None) = ⊥
+TellsOrMemory (Err e) = Unit {0}

@@ -1,5 +1,5 @@
 -- Which sources are accepted, and the first refusal of one that isn't.
-use Rattle.std.specs.Prelude.{ℕ, ◌≡◌, List, Option, Some, None, Result, Ok, Err, IfSome}
+use Rattle.std.specs.Prelude.{ℕ, ◌≡◌, List, Option, Some, None, Result, Ok, Err, IsSomeAnd}
 use Rattle.mw_term.specs.Programs.{PureProgram}
 use Rattle.mw_term.specs.Typable.{Typable}
 use Rattle.mw_term.specs.declared.refusal.Refusal.{Refusal}
@@ -21,10 +21,10 @@ pub record IsAccepted (bytes : List ℕ) : Type 0 where
   pub typable : Typable (unnamed program)
   pub small : NoneTooBig (unnamed program)
 
--- an explanation has the source's first refusal, and what it tells of types is of the program's first fault
+-- an explanation has the source's first refusal, and where that is of types it tells of the program's first fault
 pub record Explains (bytes : List ℕ) (x : Explanation) : Type 0 where
   pub refusal : IsSourceRefusal bytes x.refusal
-  pub told : (p : NamedProgram) → IsRead bytes p → IfSome x.told (IsTold (unnamed p))
+  pub told : (p : NamedProgram) → IsRead bytes p → IsSomeAnd x.told (IsTold (unnamed p))
 
 -- no explanation says that the source is accepted
 abbrev pub IsVerdict : List ℕ → Option Explanation → Type 0
@@ -34,7 +34,7 @@ IsVerdict bytes (Some x) = Explains bytes x
 -- The same of a program's types: no explanation says that it has types, none of them too big.
 abbrev pub IsTypeVerdict : PureProgram → Option Explanation → Type 0
 IsTypeVerdict p None = Typable p × NoneTooBig p
-IsTypeVerdict p (Some x) = IsFirstRefusal p x.refusal × IfSome x.told (IsTold p)
+IsTypeVerdict p (Some x) = IsFirstRefusal p x.refusal × IsSomeAnd x.told (IsTold p)
 
 -- the answer has this refusal, or is want of memory
 abbrev pub RefusesOrMemory : {E : Type 0} → Refusal → Result (Option Explanation) E → Type 0

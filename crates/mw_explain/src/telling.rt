@@ -3,9 +3,11 @@
 ghost use Rattle.std.specs.Prelude.{IfOk, IfSome};
 ghost use Rattle.mw_term.specs.Programs.{program_of};
 ghost use Rattle.mw_term.specs.Parts.{IsResolved};
+ghost use Rattle.mw_term.specs.declared.refusal.Refusal.{Refusal};
+ghost use Rattle.mw_infer.specs.Checking.{IsFirstRefusal};
 ghost use Rattle.mw_infer.specs.Failing.{IsWhole};
 ghost use Rattle.mw_infer.specs.declared.faults.PartFault.TheVariants.{Close as Closes, Equations as Fails};
-ghost use Rattle.mw_explain.specs.Telling.{IsTold, Tells};
+ghost use Rattle.mw_explain.specs.Telling.{IsTold, Tells, TellsOrMemory};
 ghost use Rattle.mw_explain.specs.declared.telling.Told.TheVariants.{Close, Types};
 
 use crate::binders::{close_at, name_around};
@@ -127,7 +129,8 @@ fn tell_unclosed(open: &OpenClose, nodes: &[Node]) -> Told
 /// What is told of the types of a program with this source, where it is refused for them.
 pub fn tell(alloc: Global, bytes: &[u8], program: &Program) -> Result<Option<Told>, AllocError>
     requires { IsResolved (program_of program.now) }
-    ensures { IfOk result (λ found. IfSome found (IsTold (program_of program.now))) }
+    ensures told { IfOk result (λ found. IfSome found (IsTold (program_of program.now))) }
+    ensures some { (r : Refusal) → IsFirstRefusal (program_of program.now) r → TellsOrMemory result }
 {
     match first_fault(alloc, program)? {
         None => Ok(None),
