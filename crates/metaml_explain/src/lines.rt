@@ -68,8 +68,16 @@ fn put_type(text: &mut String, ty: &Ty) -> Result<(), AllocError> {
             text.push_str(" u")?;
             put_number(text, *number)
         }
-        Ty::Pair(left, right) => put_pair(text, " pair", left, right),
-        Ty::Arrow(from, to) => put_pair(text, " arrow", from, to),
+        Ty::Pair(left, right) => {
+            text.push_str(" pair")?;
+            put_type(text, left)?;
+            put_type(text, right)
+        }
+        Ty::Arrow(from, to) => {
+            text.push_str(" arrow")?;
+            put_type(text, from)?;
+            put_type(text, to)
+        }
         Ty::Code(classifier, content) => {
             text.push_str(" code")?;
             put_number(text, *classifier)?;
@@ -80,13 +88,6 @@ fn put_type(text: &mut String, ty: &Ty) -> Result<(), AllocError> {
             put_type(text, content)
         }
     }
-}
-
-/// Appends a word, and the two parts of a type.
-fn put_pair(text: &mut String, word: &str, left: &Ty, right: &Ty) -> Result<(), AllocError> {
-    text.push_str(word)?;
-    put_type(text, left)?;
-    put_type(text, right)
 }
 
 /// Appends a line of a word and a type.

@@ -1,2 +1,1 @@
 mod Verdicts
-mod Tellings

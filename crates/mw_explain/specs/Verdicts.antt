@@ -1,11 +1,12 @@
 -- Which sources are accepted, and the first refusal of one that isn't.
-use Rattle.std.specs.Prelude.{ℕ, ◌≡◌, List, Option, Some, None, Result, Ok, Err, IsSomeAnd}
+use Rattle.std.specs.Prelude.{ℕ, ◌≡◌, List, Option, Some, None, Result, Ok, Err, IfSome, IsSomeAnd}
 use Rattle.mw_term.specs.Programs.{PureProgram}
 use Rattle.mw_term.specs.Typable.{Typable}
 use Rattle.mw_term.specs.declared.refusal.Refusal.{Refusal}
 use Rattle.mw_infer.specs.Checking.{IsFirstRefusal, NoneTooBig}
 use Rattle.mw_reading.specs.NamedPrograms.{NamedProgram, unnamed}
 use Rattle.mw_reading.specs.SourceReading.{IsRead, IsRefused}
+use Rattle.mw_explain.specs.Placing.{ArePlaced}
 use Rattle.mw_explain.specs.Telling.{IsTold}
 use Rattle.mw_explain.specs.declared.Explanation.{Explanation}
 
@@ -41,3 +42,8 @@ abbrev pub RefusesOrMemory : {E : Type 0} → Refusal → Result (Option Explana
 RefusesOrMemory r (Ok (Some x)) = x.refusal ≡ r
 RefusesOrMemory r (Ok None) = ⊥
 RefusesOrMemory r (Err e) = Unit {0}
+
+-- each place that an explanation tells lies within so many bytes
+abbrev pub HavePlaces : ℕ → Option Explanation → Type 0
+HavePlaces n None = Unit {0}
+HavePlaces n (Some x) = IfSome x.told (ArePlaced n)

@@ -2,17 +2,18 @@
 //! what could be changed, and which variable keeps code open.
 #![tactic(auto)]
 
-ghost use Rattle.std.specs.Prelude.{IfOk};
+ghost use Rattle.std.specs.Prelude.{length, IfOk};
 ghost use Rattle.mw_term.specs.declared.refusal.Refusal.{Refusal as PureRefusal};
 ghost use Rattle.mw_term.specs.Programs.{program_of};
 ghost use Rattle.mw_term.specs.Parts.{IsResolved};
 ghost use Rattle.mw_infer.specs.Checking.{IsFirstRefusal};
-ghost use Rattle.mw_explain.specs.Verdicts.{IsSourceRefusal, IsTypeVerdict, IsVerdict, RefusesOrMemory};
+ghost use Rattle.mw_explain.specs.Verdicts.{HavePlaces, IsSourceRefusal, IsTypeVerdict, IsVerdict, RefusesOrMemory};
 
 mod arena;
 mod binders;
 mod expressions;
 mod forms;
+mod placing;
 mod reading;
 mod repairs;
 mod spans;
@@ -38,6 +39,7 @@ pub struct Explanation {
 /// Why a source with these bytes is refused, if it is.
 pub fn explain(alloc: Global, bytes: &[u8]) -> Result<Option<Explanation>, AllocError>
     ensures verdict { IfOk result (IsVerdict bytes.now) }
+    ensures placed { IfOk result (HavePlaces (length bytes.now)) }
     ensures only { (r : PureRefusal) → IsSourceRefusal bytes.now r → RefusesOrMemory r result }
 {
     match read(alloc, bytes) {
@@ -58,6 +60,7 @@ fn explain_types(
 ) -> Result<Option<Explanation>, AllocError>
     requires { IsResolved (program_of program.now) }
     ensures verdict { IfOk result (IsTypeVerdict (program_of program.now)) }
+    ensures placed { IfOk result (HavePlaces (length bytes.now)) }
     ensures only { (r : PureRefusal) → IsFirstRefusal (program_of program.now) r → RefusesOrMemory r result }
 {
     match check(alloc, program) {

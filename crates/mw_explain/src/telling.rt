@@ -1,17 +1,19 @@
 // What is told of a program that is refused for its types.
 
-ghost use Rattle.std.specs.Prelude.{IfOk, IfSome};
+ghost use Rattle.std.specs.Prelude.{length, IfOk, IfSome};
 ghost use Rattle.mw_term.specs.Programs.{program_of};
 ghost use Rattle.mw_term.specs.Parts.{IsResolved};
 ghost use Rattle.mw_term.specs.declared.refusal.Refusal.{Refusal};
 ghost use Rattle.mw_infer.specs.Checking.{IsFirstRefusal};
 ghost use Rattle.mw_infer.specs.Failing.{IsWhole};
 ghost use Rattle.mw_infer.specs.declared.faults.PartFault.TheVariants.{Close as Closes, Equations as Fails};
+ghost use Rattle.mw_explain.specs.Placing.{ArePlaced};
 ghost use Rattle.mw_explain.specs.Telling.{IsTold, Tells, TellsOrMemory};
 ghost use Rattle.mw_explain.specs.declared.telling.Told.TheVariants.{Close, Types};
 
 use crate::binders::{close_at, name_around};
 use crate::forms::{Node, Span};
+use crate::placing::{all_within, within};
 use crate::repairs::repairs;
 use crate::spans::{PartSpans, fits, spans};
 use mw_infer::{FailingPart, OpenClose, PartFault, first_fault};
@@ -97,15 +99,22 @@ fn place(nodes: &[Node], at: usize) -> Option<Span> {
 }
 
 /// What is told of equations that fail. What the part's place asks is asked of the whole.
-fn tell_unmet(alloc: Global, failing: &FailingPart, nodes: &[Node]) -> Result<Told, AllocError>
+fn tell_unmet(
+    alloc: Global,
+    failing: &FailingPart,
+    nodes: &[Node],
+    length: usize,
+) -> Result<Told, AllocError>
     requires { IsWhole failing.now }
-    ensures { IfOk result (Tells (Fails failing.now)) }
+    ensures tells { IfOk result (Tells (Fails failing.now)) }
+    ensures placed { IfOk result (ArePlaced length) }
 {
     let (left, right) = failing.sides(alloc)?;
     let repairs = repairs(alloc, failing, nodes)?;
+    let repairs = all_within(alloc, repairs.as_slice(), length)?;
     Ok(Told::Types(Unmet {
         part: failing.part,
-        span: place(nodes, failing.node().unwrap_or(0)),
+        span: within(place(nodes, failing.node().unwrap_or(0)), length),
         left,
         right,
         repairs,
@@ -113,16 +122,20 @@ fn tell_unmet(alloc: Global, failing: &FailingPart, nodes: &[Node]) -> Result<To
 }
 
 /// What is told of a `close`.
-fn tell_unclosed(open: &OpenClose, nodes: &[Node]) -> Told
-    ensures { Tells (Closes open.now) result }
+fn tell_unclosed(open: &OpenClose, nodes: &[Node], length: usize) -> Told
+    ensures tells { Tells (Closes open.now) result }
+    ensures placed { ArePlaced length result }
 {
     let found = close_at(nodes, open.at);
     Told::Close(Unclosed {
         part: open.part,
         at: open.at,
         binder: open.binder,
-        span: found.and_then(|at| place(nodes, at)),
-        name: found.and_then(|at| name_around(nodes, at, open.binder)),
+        span: within(found.and_then(|at| place(nodes, at)), length),
+        name: within(
+            found.and_then(|at| name_around(nodes, at, open.binder)),
+            length,
+        ),
     })
 }
 
@@ -131,16 +144,17 @@ pub fn tell(alloc: Global, bytes: &[u8], program: &Program) -> Result<Option<Tol
     requires { IsResolved (program_of program.now) }
     ensures told { IfOk result (λ found. IfSome found (IsTold (program_of program.now))) }
     ensures some { (r : Refusal) → IsFirstRefusal (program_of program.now) r → TellsOrMemory result }
+    ensures placed { IfOk result (λ found. IfSome found (ArePlaced (length bytes.now))) }
 {
     match first_fault(alloc, program)? {
         None => Ok(None),
         Some(PartFault::Equations(failing)) => {
             let part = part_nodes(alloc, bytes, program, failing.part)?;
-            Ok(Some(tell_unmet(alloc, &failing, part.nodes.as_slice())?))
+            Ok(Some(tell_unmet(alloc, &failing, part.nodes.as_slice(), bytes.len())?))
         }
         Some(PartFault::Close(open)) => {
             let part = part_nodes(alloc, bytes, program, open.part)?;
-            Ok(Some(tell_unclosed(&open, part.nodes.as_slice())))
+            Ok(Some(tell_unclosed(&open, part.nodes.as_slice(), bytes.len())))
         }
     }
 }
