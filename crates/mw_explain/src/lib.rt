@@ -64,7 +64,10 @@ fn explain_types(
     ensures only { (r : PureRefusal) → IsFirstRefusal (program_of program.now) r → RefusesOrMemory r result }
 {
     match check(alloc, program) {
-        Ok(_) => Ok(None),
+        Ok(typed) => {
+            drop(typed);
+            Ok(None)
+        }
         Err(Stop::Memory(error)) => Err(error),
         Err(Stop::Refused(refusal)) => {
             let told = tell(alloc, bytes, program)?;
