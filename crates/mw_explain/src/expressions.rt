@@ -1,4 +1,5 @@
-// Expressions, walked by descent as `mw_parse` reads them. `room` is the number of nodes that may still stand on a path.
+// Expressions, walked by descent as `mw_parse` reads them. `room` is the number of nodes that may still stand on a
+// path.
 
 ghost use Rattle.std.specs.Prelude.{◌≡◌, ◌+◌, IfOk};
 
