@@ -122,18 +122,18 @@ fn tell_unmet(
 }
 
 /// What is told of a `close`.
-fn tell_unclosed(open: &OpenClose, nodes: &[Node], length: usize) -> Told
-    ensures tells { Tells (Closes open.now) result }
+fn tell_unclosed(close: &OpenClose, nodes: &[Node], length: usize) -> Told
+    ensures tells { Tells (Closes close.now) result }
     ensures placed { ArePlaced length result }
 {
-    let found = close_at(nodes, open.at);
+    let found = close_at(nodes, close.at);
     Told::Close(Unclosed {
-        part: open.part,
-        at: open.at,
-        binder: open.binder,
+        part: close.part,
+        at: close.at,
+        binder: close.binder,
         span: within(found.and_then(|at| place(nodes, at)), length),
         name: within(
-            found.and_then(|at| name_around(nodes, at, open.binder)),
+            found.and_then(|at| name_around(nodes, at, close.binder)),
             length,
         ),
     })
@@ -152,9 +152,9 @@ pub fn tell(alloc: Global, bytes: &[u8], program: &Program) -> Result<Option<Tol
             let part = part_nodes(alloc, bytes, program, failing.part)?;
             Ok(Some(tell_unmet(alloc, &failing, part.nodes.as_slice(), bytes.len())?))
         }
-        Some(PartFault::Close(open)) => {
-            let part = part_nodes(alloc, bytes, program, open.part)?;
-            Ok(Some(tell_unclosed(&open, part.nodes.as_slice(), bytes.len())))
+        Some(PartFault::Close(close)) => {
+            let part = part_nodes(alloc, bytes, program, close.part)?;
+            Ok(Some(tell_unclosed(&close, part.nodes.as_slice(), bytes.len())))
         }
     }
 }

@@ -24,7 +24,7 @@ returns-in-Err-Refused-clause-verdict c =
     rw e (explains_reading c.args.bytes.now c.in-Err-Refused.refusal
     (subst (IfRefused (IsRefused c.args.bytes.now)) c.in-Err-Refused.field-0-is c.in-Err-Refused.ensures.refused)
     (λ p read. never_read c.read.result _ _ p c.in-Err-Refused.is c.in-Err-Refused.field-0-is
-        (c.read.ensures.only p read)))
+    (c.read.ensures.only p read)))
 
 pub returns-in-Err-Refused-clause-only : goal.returns-in-Err-Refused-clause-only
 returns-in-Err-Refused-clause-only c =
@@ -32,5 +32,5 @@ returns-in-Err-Refused-clause-only c =
     λ r h. rw e (only_reading c.args.bytes.now c.in-Err-Refused.refusal r
     (λ q k. same_refusal c.read.result _ _ q c.in-Err-Refused.is c.in-Err-Refused.field-0-is (c.read.ensures.first q k))
     (λ p read. never_read c.read.result _ _ p c.in-Err-Refused.is c.in-Err-Refused.field-0-is
-        (c.read.ensures.only p read))
+    (c.read.ensures.only p read))
     h)
