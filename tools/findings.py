@@ -118,12 +118,17 @@ def found(path, source, number, reason):
     return Finding(number, reason, hint=hints.at_place(number, b"", b"", False))
 
 
+def short(text):
+    """A type's text, without its end if it is long."""
+    return text if len(text) <= 100 else text[:97] + b"..."
+
+
 def further(known):
     """What is said behind the reason of what more is known."""
     if "binder" in known:
         return b": `%s`, bound at %d:%d, may stand in this code" % tuple(known.values())
     if "found" in known:
-        return b": here is `%s`, and wanted is `%s`" % (known["found"], known["wanted"])
+        return b": here is `%s`, and wanted is `%s`" % (short(known["found"]), short(known["wanted"]))
     return b""
 
 

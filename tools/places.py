@@ -2,6 +2,7 @@
 import os
 import re
 import subprocess
+import tempfile
 
 TOP = os.path.dirname(os.path.dirname(os.path.abspath(__file__)))
 PROGRAM = os.environ.get("METAML_EXPLAIN")
@@ -118,11 +119,13 @@ def facts_of(path):
     """What `metaml_explain` says of the source; nothing where it can't be run or has nothing to say. That it is being
     built is passed on."""
     try:
-        with subprocess.Popen([*EXPLAINER, path], stdout=subprocess.PIPE, stderr=subprocess.PIPE) as running:
-            for line in running.stderr:
-                if b"building" in line:
-                    os.write(2, line)
-            output = running.stdout.read()
+        with tempfile.TemporaryFile() as output:
+            with subprocess.Popen([*EXPLAINER, path], stdout=output, stderr=subprocess.PIPE) as running:
+                for line in running.stderr:
+                    if b"building" in line:
+                        os.write(2, line)
+            output.seek(0)
+            said = output.read()
     except OSError:
         return None
-    return Facts(output) if running.returncode == 0 and re.match(rb"refusal \d+\n", output) else None
+    return Facts(said) if running.returncode == 0 and re.match(rb"refusal \d+\n", said) else None
