@@ -85,7 +85,7 @@ def placed(path, source, number, reason):
     finding = Finding(number, reason, source, span[0], span[1] - span[0])
     if number == b"12":
         finding.known = told_types(facts)
-        finding.hint = hints.for_types(number, facts.type(b"left"), facts.type(b"right"))
+        finding.hint = hints.for_types(number, facts.type(b"left"), facts.type(b"right"), places.marks(source, *span))
     binder = facts.span(b"binder")
     if binder:
         line, column = line_and_column(source, binder[0])

@@ -72,7 +72,7 @@ def at_place(number, before, after, at_end):
     return first_row(number, lambda cell: fits(cell, before, after, at_end))
 
 
-def for_types(number, wanted, found):
-    """The hint for two types that don't meet."""
+def for_types(number, wanted, found, marked):
+    """The hint for two types that don't meet, at a place of which this is marked."""
     words = places.kinds(wanted, found)
-    return first_row(number, lambda cell: places.is_row(cell, *words))
+    return first_row(number, lambda cell: places.is_row(cell, *words, marked))

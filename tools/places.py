@@ -109,10 +109,26 @@ def kinds(wanted, found):
     return tuple(KINDS.get(ty[0], ty[0]) for ty in differing)
 
 
-def is_row(cell, wanted, found):
-    """Whether a row's first cell, `wanted` and `found` with a comma between, is of these two."""
-    one, _, other = cell.replace(b"`", b"").partition(b", ")
-    return one in (wanted, b"any") and other in (found, b"any")
+def marks(source, first, end):
+    """What of a place the table of hints may ask for: its first word, `main` for main's whole expression, and
+    `an inner let` for a name that a `let` inside the item binds and that was used before."""
+    found = {source[first:end].split(maxsplit=1)[0]}
+    item = source[source.rfind(b";;", 0, first) + 2 if b";;" in source[:first] else 0:first]
+    if re.search(rb"\bmain\s*:[^=]*=[\s(]*\Z", item) and not source[end:].strip(b") \t\r\n"):
+        found.add(b"main")
+    name = source[first:end]
+    used = rb"\b" + re.escape(name) + rb"\b"
+    if re.fullmatch(rb"[A-Za-z_]\w*", name) and re.search(rb"(?s)\S.*\blet\s+(rec\s+)?" + used + b".*" + used, item):
+        found.add(b"an inner let")
+    return found
+
+
+def is_row(cell, wanted, found, marked):
+    """Whether a row's first cell, `wanted` and `found` with a comma between, and behind `at` what is marked, is of
+    these."""
+    types, _, mark = cell.replace(b"`", b"").partition(b" at ")
+    one, _, other = types.partition(b", ")
+    return one in (wanted, b"any") and other in (found, b"any") and (not mark or mark in marked)
 
 
 def facts_of(path):
