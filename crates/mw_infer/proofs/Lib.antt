@@ -4,6 +4,7 @@ pub mod Sound
 pub mod SmallRuns
 pub mod Within
 pub mod Extending
+pub mod Shortened
 pub mod Complete
 pub mod Renamed
 pub mod Split

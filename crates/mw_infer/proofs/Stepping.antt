@@ -10,7 +10,7 @@ use Rattle.mw_term.specs.declared.refusal.Refusal.{Refusal}
 use Rattle.mw_term.specs.declared.refusal.Stop.{Stop}
 use Rattle.mw_term.specs.declared.refusal.Stop.TheVariants.{Refused, Memory}
 use Rattle.mw_types.specs.Types.{TypeExpression}
-use Rattle.mw_infer.specs.Schemes.{TopScheme, let_scheme, kernel_scheme, scheme_out_of_scope}
+use Rattle.mw_infer.specs.Schemes.{TopScheme, let_scheme, kernel_scheme, scheme_out_of_scope, type_of_scheme}
 use Rattle.mw_types.specs.Expressions.{ground_expression}
 use Rattle.mw_term.specs.Parts.{main_place}
 use Rattle.mw_infer.specs.Inferring.{AreSchemesOf}
@@ -20,7 +20,7 @@ use Rattle.mw_infer.specs.Checking.{ArePrincipal, IsFaultless, IsFirstRefusal, A
 use Rattle.mw_types.proofs.InOrder.{low, last, low_or_last}
 use Rattle.mw_infer.specs.Judging.{CanJudge}
 use Rattle.mw_infer.specs.Typings.{PartTypes}
-use Rattle.mw_infer.specs.Progress.{Progress, IsFaultOf, Steps, Ends, revealed_to, type_of_scheme}
+use Rattle.mw_infer.specs.Progress.{Progress, IsFaultOf, Steps, Ends, revealed_to}
 use Rattle.mw_infer.specs.Views.{scheme_of}
 use Rattle.mw_infer.proofs.Extended.{Extends, Typed-extended, Typed-back}
 use Rattle.mw_infer.proofs.Growing.{principal-first, principal-let, principal-kernel, principal-main, revealed}

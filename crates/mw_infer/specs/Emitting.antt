@@ -4,14 +4,15 @@ use Rattle.mw_term.specs.Terms.{Expression}
 use Rattle.mw_term.specs.Types.{Level, live}
 use Rattle.mw_term.specs.Scoped.{IsScoped}
 use Rattle.mw_types.specs.Types.{Within}
-use Rattle.mw_types.specs.Equations.{TypeEquation, equations_of}
+use Rattle.mw_types.specs.Equations.{TypeEquation}
 use Rattle.mw_infer.specs.declared.output.Spot.{Spot}
 use Rattle.mw_infer.specs.declared.output.Output.{Output}
-use Rattle.mw_infer.specs.Schemes.{TopScheme, let_scheme, kernel_scheme, scheme_out_of_scope}
+use Rattle.mw_infer.specs.Schemes.{TopScheme, let_scheme, kernel_scheme, scheme_out_of_scope, AreOwn}
 use Rattle.mw_infer.specs.ItemEquations.{Slot, Close, unknowns_of_name, classifiers_of_name, name_equations}
 use Rattle.mw_infer.specs.ItemEquations.{unknowns_of, classifiers_of, equations, closes}
 use Rattle.mw_infer.specs.Scoped.{is_quoted, is_quoted_slot, has_scheme}
-use Rattle.mw_infer.specs.Views.{slot_of}
+use Rattle.mw_infer.specs.Sharing.{meaning}
+use Rattle.mw_infer.specs.Views.{slot_of, tops_of}
 
 -- the views of one close and of several
 abbrev pub close_of : Spot → Close
@@ -20,12 +21,17 @@ close_of s = record { at = s.at; classifier = s.classifier; scope = map slot_of 
 abbrev pub closes_of : List Spot → List Close
 closes_of xs = map close_of xs
 
+-- the equations that were emitted
+abbrev pub meant : Output → List TypeEquation
+meant out = map (meaning (tops_of out.names.now)) out.equations.items
+
 -- so many new unknowns and classifier unknowns, and these equations and closes after those that were there
 pub record Adds (old new : Output) (n m : ℕ) (es : List TypeEquation) (xs : List Close) : Type 0 where
   pub unknowns : new.unknowns ≡ old.unknowns + n
   pub classifiers : new.classifiers ≡ old.classifiers + m
-  pub equations : equations_of new.pairs ≡ equations_of old.pairs ++ es
+  pub equations : meant new ≡ meant old ++ es
   pub closes : closes_of new.closes.items ≡ closes_of old.closes.items ++ xs
+  pub names : new.names ≡ old.names
 
 -- those of a term
 abbrev pub AddsTerm : Output → Output → List TopScheme → ℕ → List Slot → Level → Expression → Type 0
@@ -58,3 +64,5 @@ pub record CanEmit (old : Output) (tops : List TopScheme) (g : List Slot) (m : L
   pub room : HasRoom old (unknowns_of tops e) (classifiers_of tops e)
   pub scoped : IsScoped (map has_scheme tops) (map is_quoted_slot g) (is_quoted m) e
   pub low : AreLow tops
+  pub own : AreOwn tops
+  pub names : tops_of old.names.now ≡ tops

@@ -3,7 +3,7 @@ use Rattle.std.specs.Prelude.{ℕ, ◌≡◌, ◌≤◌, ◌^◌, false, List, [
 use Rattle.mw_term.specs.Terms.{Expression, ground_of, kernel_type_of}
 use Rattle.mw_term.specs.Scoped.{IsScoped}
 use Rattle.mw_types.specs.Types.{Assignment, Substitution, after}
-use Rattle.mw_types.specs.Equations.{equations_of, FirstUnsolvable, FirstTooBig}
+use Rattle.mw_types.specs.Equations.{FirstUnsolvable, FirstTooBig}
 use Rattle.mw_types.specs.Solutions.{Solution, substitution_of}
 use Rattle.mw_infer.specs.declared.judge.Verdict.{Verdict}
 use Rattle.mw_infer.specs.declared.judge.Verdict.TheVariants.{Fine, IllTyped, TooBig, NotClosed}
@@ -20,6 +20,7 @@ use Rattle.mw_infer.specs.Numbering.{IsRenumbering}
 use Rattle.mw_infer.specs.Scoped.{has_scheme}
 use Rattle.mw_infer.specs.declared.output.Output.{Output}
 use Rattle.mw_infer.specs.Emitting.{AreLow, closes_of}
+use Rattle.mw_infer.specs.Sharing.{meaning}
 use Rattle.mw_infer.specs.Views.{scheme_of}
 
 abbrev pub place_of : Asked → Place
@@ -58,5 +59,5 @@ Judges schemes place e (NotClosed at) = (s : Substitution) × IsItemSolution sch
 pub record IsEmitted (schemes : List TopScheme) (place : Place) (e : Expression) (out : Output) : Type 0 where
   pub unknowns : out.unknowns ≡ item_unknowns schemes e
   pub classifiers : out.classifiers ≡ item_classifiers schemes e
-  pub equations : equations_of out.pairs ≡ item_equations schemes place e
+  pub equations : map (meaning schemes) out.equations.items ≡ item_equations schemes place e
   pub closes : closes_of out.closes.items ≡ item_closes schemes e

@@ -3,6 +3,7 @@ pub mod ItemEquations
 pub mod Below
 pub mod Inferring
 pub mod Scoped
+pub mod Sharing
 pub mod Checking
 pub mod InferenceLaws
 pub mod Views

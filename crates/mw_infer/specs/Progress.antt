@@ -3,10 +3,8 @@ use Rattle.std.specs.Prelude.{ℕ, zero, suc, ◌≡◌, ◌≤◌, ◌<◌, Lis
 use Rattle.mw_term.specs.Terms.{Expression, GroundType}
 use Rattle.mw_term.specs.Programs.{Definition, value, kernel, PureProgram}
 use Rattle.mw_term.specs.declared.refusal.Refusal.{Refusal}
-use Rattle.mw_types.specs.Types.{TypeExpression, int_ty, closed_ty}
 use Rattle.mw_term.specs.Typable.{seen_by_item}
 use Rattle.mw_infer.specs.Schemes.{TopScheme, let_scheme, kernel_scheme, scheme_out_of_scope}
-use Rattle.mw_types.specs.Expressions.{kernel_expression}
 use Rattle.mw_term.specs.Parts.{Place, let_place, kernel_place, main_place}
 use Rattle.mw_term.specs.Parts.{Part, part_of_item, IsPart}
 use Rattle.mw_infer.specs.Checking.{ArePrincipal, TypeFault, HasFault, IsFaultless, refusal_of}
@@ -62,9 +60,3 @@ revealed_to (suc n) [] schemes = schemes
 revealed_to (suc n) (d ∷ items) [] = []
 revealed_to (suc n) (value e ∷ items) (s ∷ schemes) = s ∷ revealed_to n items schemes
 revealed_to (suc n) (kernel k e ∷ items) (s ∷ schemes) = kernel_scheme k ∷ revealed_to n items schemes
-
--- the type of a name
-abbrev pub type_of_scheme : TopScheme → TypeExpression
-type_of_scheme (let_scheme s) = s.type
-type_of_scheme (kernel_scheme k) = closed_ty (kernel_expression k)
-type_of_scheme scheme_out_of_scope = int_ty

@@ -3,6 +3,7 @@ use Rattle.std.specs.Prelude.{ℕ, ◌+◌, List, [], ◌∷◌}
 use Rattle.mw_term.specs.Terms.{KernelType}
 use Rattle.mw_types.specs.Types.{TypeExpression, int_ty, bool_ty, unknown, pair_ty, function_ty, code_ty, closed_ty}
 use Rattle.mw_types.specs.Types.{Within}
+use Rattle.mw_types.specs.Expressions.{kernel_expression}
 use Rattle.mw_types.specs.Numbered.{IsNumbered}
 
 -- a let's most general type: it names the first so many unknowns and the first so many classifier unknowns
@@ -37,3 +38,9 @@ shifted o c (pair_ty s t) = pair_ty (shifted o c s) (shifted o c t)
 shifted o c (function_ty s t) = function_ty (shifted o c s) (shifted o c t)
 shifted o c (code_ty d t) = code_ty (c + d) (shifted o c t)
 shifted o c (closed_ty t) = closed_ty (shifted o c t)
+
+-- the type of a name
+abbrev pub type_of_scheme : TopScheme → TypeExpression
+type_of_scheme (let_scheme s) = s.type
+type_of_scheme (kernel_scheme k) = closed_ty (kernel_expression k)
+type_of_scheme scheme_out_of_scope = int_ty

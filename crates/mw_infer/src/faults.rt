@@ -19,6 +19,7 @@ use crate::output::Output;
 use crate::own::Asked;
 use crate::owners::owners_of;
 use crate::program::{reveal, step};
+use crate::sharing::in_full;
 use mw_term::{Item, ItemKind, Program, Stop, Term};
 use mw_types::{Equations, SolveFault, solve};
 use std::alloc::{AllocError, Global};
@@ -51,9 +52,10 @@ pub fn first_fault(alloc: Global, program: &Program) -> Result<Option<PartFault>
 {
     let items = program.items.as_slice();
     let mut names = Vec::new(alloc);
+    let mut marks = Vec::new(alloc);
     for item in items {
         let index = names.len() as u32;
-        match step(alloc, &mut names, item, index) {
+        match step(alloc, &mut names, item, index, &mut marks) {
             Ok(_) => {}
             Err(Stop::Memory(error)) => return Err(error),
             Err(Stop::Refused(_)) => return item_fault(alloc, names.as_slice(), item, index),
@@ -115,9 +117,11 @@ fn part_fault(
     let Output {
         unknowns,
         classifiers,
-        pairs,
+        equations,
         closes,
+        ..
     } = emitted(alloc, names, asked, term)?;
+    let pairs = in_full(alloc, names, equations)?;
     let equations = Equations {
         unknowns,
         classifiers,

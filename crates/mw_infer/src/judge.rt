@@ -18,9 +18,10 @@ use crate::output::{Output, equate};
 use crate::own::Asked;
 use crate::renumber::let_type;
 use crate::scope::{Level, Scope};
+use crate::sharing::shared;
 use crate::typed::PartNodes;
 use mw_term::Term;
-use mw_types::{Equations, Pairs, SolveFault, Ty, solve};
+use mw_types::{Equations, SolveFault, Ty, solve};
 use std::alloc::{AllocError, Global};
 
 /// What is known of an item without a fault: its most general type, and what its equations' solution says of its nodes.
@@ -59,20 +60,21 @@ fn ask(alloc: Global, out: &mut Output, asked: &Asked) -> Result<(), AllocError>
 }
 
 /// The equations and closes of an item.
-pub fn emitted(
+pub fn emitted<'n, 'p>(
     alloc: Global,
-    names: &[TopScheme],
+    names: &'n [TopScheme<'p>],
     asked: &Asked,
     term: &Term,
-) -> Result<Output, AllocError>
+) -> Result<Output<'n, 'p>, AllocError>
     requires { CanJudge (tops_of names.now) (expression_of term.now) }
     ensures { IfOk result (IsEmitted (tops_of names.now) (place_of asked.now) (expression_of term.now)) }
 {
     let mut out = Output {
         unknowns: 1,
         classifiers: 0,
-        pairs: Pairs::new(alloc),
+        equations: Vec::new(alloc),
         closes: Vec::new(alloc),
+        names,
     };
     ask(alloc, &mut out, asked)?;
     let setting = Setting { alloc, names };
@@ -101,6 +103,7 @@ pub fn judge(
     names: &[TopScheme],
     asked: &Asked,
     term: &Term,
+    marks: &mut Vec<usize>,
 ) -> Result<Verdict, AllocError>
     requires { CanJudge (tops_of names.now) (expression_of term.now) }
     ensures { IfOk result (Judges (tops_of names.now) (place_of asked.now) (expression_of term.now)) }
@@ -109,9 +112,12 @@ pub fn judge(
     let Output {
         unknowns,
         classifiers,
-        pairs,
+        equations,
         closes,
+        ..
     } = out;
+    marks.push(0)?;
+    let pairs = shared(alloc, names, equations, marks)?;
     let equations = Equations {
         unknowns,
         classifiers,

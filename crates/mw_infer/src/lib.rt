@@ -30,6 +30,7 @@ mod owners;
 mod program;
 mod renumber;
 mod scope;
+mod sharing;
 #[cfg(test)]
 mod tests;
 pub mod typed;

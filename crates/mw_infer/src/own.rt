@@ -1,6 +1,6 @@
 // The equations of one node, after which those of its parts come.
 
-ghost use Rattle.std.specs.Prelude.{◌≡◌, [], ◌∷◌, OnOk, Some, slice_get};
+ghost use Rattle.std.specs.Prelude.{◌≡◌, ◌↔◌, [], ◌∷◌, IsTrue, OnOk, Some, slice_get};
 ghost use Rattle.std.specs.Option.{option_map};
 ghost use Rattle.mw_term.specs.Terms.{kernel_type_of};
 ghost use Rattle.mw_types.specs.Types.{type_of};
@@ -12,11 +12,13 @@ ghost use Rattle.mw_infer.specs.ItemEquations.{open_equations, pair_equations};
 ghost use Rattle.mw_infer.specs.ItemEquations.{primitive_equations, recursion_equations, run_equations};
 ghost use Rattle.mw_infer.specs.ItemEquations.{second_equations, variable_equations};
 ghost use Rattle.mw_infer.specs.Emitting.{Adds, AddsName, AreLow, HasRoom, HasRoomForName};
+ghost use Rattle.mw_infer.specs.Schemes.{AreOwn};
+ghost use Rattle.mw_infer.specs.Sharing.{IsWhole};
 ghost use Rattle.mw_infer.specs.Views.{level_at, slot_of, top_of, tops_of};
 
 use crate::build::{base_ty, closed, code, function, kernel_ty, pair, shift};
 use crate::names::TopScheme;
-use crate::output::{Output, equate};
+use crate::output::{Output, equate, equate_use};
 use crate::scope::{Binder, Level};
 use mw_term::{Base, Ground, KType, Prim};
 use mw_types::Ty;
@@ -282,6 +284,37 @@ fn named_scheme(
     }
 }
 
+/// Whether nothing is left open in what a name has.
+fn is_whole(named: &TopScheme) -> bool
+    ensures { IsTrue result ↔ IsWhole (top_of named.now) }
+{
+    match named {
+        TopScheme::Let(scheme) => scheme.unknowns == 0 && scheme.classifiers == 0,
+        TopScheme::Kernel(_) => true,
+        TopScheme::OutOfScope => false,
+    }
+}
+
+/// A name of type `own`, by its number.
+fn used(
+    alloc: Global,
+    named: &TopScheme,
+    out: &mut Output,
+    own: u64,
+    name: u32,
+) -> Result<(), AllocError>
+    requires room { HasRoomForName out.old (Some (top_of named.now)) }
+    requires low { AreLow (top_of named.now ∷ []) }
+    requires own { AreOwn (top_of named.now ∷ []) }
+    requires name { Some (top_of named.now) ≡ slice_get (tops_of out.old.names.now) name }
+    ensures { OnOk result (AddsName out.old out.new own (Some (top_of named.now))) }
+{
+    if is_whole(named) {
+        return equate_use(out, own, name);
+    }
+    named_scheme(alloc, named, out, own)
+}
+
 /// What the name at a place has.
 pub fn lookup<'n, 'p>(names: &'n [TopScheme<'p>], index: u32) -> Option<&'n TopScheme<'p>>
     ensures { option_map (λ scheme. top_of scheme.now) result ≡ slice_get (tops_of names.now) index }
@@ -299,10 +332,12 @@ pub fn name(
 ) -> Result<(), AllocError>
     requires room { HasRoomForName out.old (slice_get (tops_of names.now) index) }
     requires low { AreLow (tops_of names.now) }
+    requires own { AreOwn (tops_of names.now) }
+    requires names { tops_of out.old.names.now ≡ tops_of names.now }
     ensures { OnOk result (AddsName out.old out.new own (slice_get (tops_of names.now) index)) }
 {
     match lookup(names, index) {
-        Some(scheme) => named_scheme(alloc, scheme, out, own),
+        Some(scheme) => used(alloc, scheme, out, own, index),
         None => equate(out, Ty::Int, Ty::Bool),
     }
 }

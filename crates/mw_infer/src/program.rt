@@ -12,7 +12,8 @@ ghost use Rattle.mw_term.specs.Parts.{IsResolved, part_of_item};
 ghost use Rattle.mw_term.specs.Parts.{main_place};
 ghost use Rattle.mw_infer.specs.Judging.{CanJudge, Judges, place_of};
 ghost use Rattle.mw_infer.specs.Nodes.{AreNodesOf};
-ghost use Rattle.mw_infer.specs.Progress.{Ends, IsFaultOf, IsFaultOfItem, Steps, revealed_to, type_of_scheme};
+ghost use Rattle.mw_infer.specs.Progress.{Ends, IsFaultOf, IsFaultOfItem, Steps, revealed_to};
+ghost use Rattle.mw_infer.specs.Schemes.{type_of_scheme};
 ghost use Rattle.mw_infer.specs.Typings.{facts_of_part};
 ghost use Rattle.mw_infer.specs.Views.{top_of, tops_of};
 ghost use Rattle.mw_infer.specs.declared.judge.Verdict.TheVariants.{Fine};
@@ -40,13 +41,14 @@ fn judged(
     asked: &Asked,
     term: &Term,
     index: u32,
+    marks: &mut Vec<usize>,
 ) -> Result<Judged, Stop>
     requires { CanJudge (tops_of names.now) (expression_of term.now) }
     ensures fine { IfOk result (λ j. Judges (tops_of names.now) (place_of asked.now) (expression_of term.now)
         (Fine j)) }
     ensures refused { IfErr result (IfRefused (IsFaultOf (tops_of names.now) (place_of asked.now) (expression_of term.now) index)) }
 {
-    match judge(alloc, names, asked, term)? {
+    match judge(alloc, names, asked, term, marks)? {
         Verdict::Fine(known) => Ok(known),
         Verdict::IllTyped => Err(Stop::Refused(Refusal::IllTyped(index))),
         Verdict::TooBig => Err(Stop::Refused(Refusal::TypeTooBig(index))),
@@ -60,6 +62,7 @@ pub fn step(
     names: &mut Vec<TopScheme>,
     item: &Item,
     index: u32,
+    marks: &mut Vec<usize>,
 ) -> Result<PartNodes, Stop>
     requires { CanJudge (tops_of names.old.items) (part_of_item [] (definition_of item.now.kind)).term }
     ensures ok { IfOk result
@@ -69,13 +72,27 @@ pub fn step(
 {
     match &item.kind {
         ItemKind::Value(term) => {
-            let found = judged(alloc, names.as_slice(), &Asked::Anything, term, index)?;
+            let found = judged(
+                alloc,
+                names.as_slice(),
+                &Asked::Anything,
+                term,
+                index,
+                marks,
+            )?;
             let Judged { known, nodes } = found;
             names.push(TopScheme::Let(known))?;
             Ok(nodes)
         }
         ItemKind::Kernel(kind, term) => {
-            let found = judged(alloc, names.as_slice(), &Asked::Kernel(kind), term, index)?;
+            let found = judged(
+                alloc,
+                names.as_slice(),
+                &Asked::Kernel(kind),
+                term,
+                index,
+                marks,
+            )?;
             names.push(TopScheme::OutOfScope)?;
             Ok(found.nodes)
         }
@@ -102,13 +119,14 @@ fn last(
     ground: &Ground,
     body: &Term,
     index: u32,
+    marks: &mut Vec<usize>,
 ) -> Result<PartNodes, Stop>
     requires { CanJudge (tops_of names.now) (expression_of body.now) }
     ensures fine { IfOk result (Ends (tops_of names.now) (ground_of ground.now) (expression_of body.now)) }
     ensures refused { IfErr result
         (IfRefused (IsFaultOf (tops_of names.now) (main_place (ground_of ground.now)) (expression_of body.now) index)) }
 {
-    let found = judged(alloc, names, &Asked::Main(ground), body, index)?;
+    let found = judged(alloc, names, &Asked::Main(ground), body, index, marks)?;
     Ok(found.nodes)
 }
 
@@ -126,9 +144,10 @@ pub fn whole<'p>(alloc: Global, program: &'p Program) -> Result<Checked<'p>, Sto
     let items = program.items.as_slice();
     let mut names = Vec::new(alloc);
     let mut parts = Vec::new(alloc);
+    let mut marks = Vec::new(alloc);
     for item in items {
         let index = names.len() as u32;
-        match step(alloc, &mut names, item, index) {
+        match step(alloc, &mut names, item, index, &mut marks) {
             Ok(nodes) => parts.push(nodes)?,
             Err(stop) => return Err(stop),
         }
@@ -141,6 +160,7 @@ pub fn whole<'p>(alloc: Global, program: &'p Program) -> Result<Checked<'p>, Sto
         &program.result,
         &program.body,
         index,
+        &mut marks,
     ) {
         Ok(nodes) => {
             parts.push(nodes)?;
@@ -182,7 +202,7 @@ fn boxed_copy(alloc: Global, ty: &Ty) -> Result<Box<Ty>, AllocError>
 }
 
 /// The type of a name.
-fn scheme_ty(alloc: Global, known: &TopScheme) -> Result<Ty, AllocError>
+pub fn scheme_ty(alloc: Global, known: &TopScheme) -> Result<Ty, AllocError>
     ensures { IfOk result (λ ty. type_of ty ≡ type_of_scheme (top_of known.now)) }
 {
     match known {

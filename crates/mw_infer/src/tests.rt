@@ -90,7 +90,10 @@ fn a_recursive_function_has_its_own_type_first(rt: HostRuntime) -> Result<(), Fa
     let test = operation(alloc, Prim::Le, Term::Var(0), Term::Int(0))?;
     let body = choice(alloc, test, Term::Bool(true), again)?;
     let term = recursive(alloc, body)?;
-    let nodes = fine(&rt, judge(alloc, &[], &Asked::Anything, &term)?);
+    let nodes = fine(
+        &rt,
+        judge(alloc, &[], &Asked::Anything, &term, &mut Vec::new(alloc))?,
+    );
     assert_eq!(rt;
         all_shown(alloc, &nodes)?.as_str(),
         "Arrow(Int, Bool) Some(Arrow(Int, Bool)) Some(Int)
@@ -127,7 +130,10 @@ fn uses_of_a_let_have_types_of_their_own(rt: HostRuntime) -> Result<(), Fail> {
     let yes = bracketed(alloc, Term::Int(1))?;
     let test = applied(alloc, Term::Glob(0), Term::Bool(true))?;
     let term = choice(alloc, test, yes, no)?;
-    let nodes = fine(&rt, judge(alloc, &names, &Asked::Anything, &term)?);
+    let nodes = fine(
+        &rt,
+        judge(alloc, &names, &Asked::Anything, &term, &mut Vec::new(alloc))?,
+    );
     assert_eq!(rt;
         all_shown(alloc, &nodes)?.as_str(),
         "Code(0, Int) None None

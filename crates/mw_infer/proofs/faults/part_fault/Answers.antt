@@ -1,4 +1,4 @@
-use Rattle.std.proofs.Common.{[], inl, inr, arith}
+use Rattle.std.proofs.Common.{[], inl, inr, ◌∙◌, arith}
 use Rattle.mw_term.specs.Terms.{expression_of}
 use Rattle.mw_term.specs.Types.{live}
 use Rattle.mw_infer.specs.Inferring.{item_unknowns, item_classifiers}
@@ -14,7 +14,7 @@ pub solve-requires : goal.solve-requires
 solve-requires c =
     let e = c.in_ok-unknowns.ensures in
     record {
-      within = rw (e.unknowns, e.classifiers, e.equations)
+      within = rw (e.unknowns, e.classifiers, c.in_ok-pairs.ensures, e.equations)
           (item-within (tops_of c.args.names.now) (place_of c.args.asked.now) (expression_of c.args.term.now)
           c.requires.own);
     }
@@ -48,7 +48,7 @@ returns-in-Err-Unsolvable c =
     let e = c.in_ok-unknowns.ensures in
     let f = c.in_ok-failing-in-Err-Unsolvable in (
       fails-of (tops_of c.args.names.now) (place_of c.args.asked.now) (expression_of c.args.term.now) _ _ f.failing
-          c.requires e.unknowns e.classifiers e.equations
+          c.requires e.unknowns e.classifiers (c.in_ok-pairs.ensures ∙ e.equations)
           (inl (rw c.in-Err-Unsolvable.field-0-is at c.in-Err-Unsolvable.ensures.fault))
           f.ensures.equations f.ensures.owners f.ensures.front,
       f.ensures.part,
@@ -59,7 +59,7 @@ returns c =
     let e = c.in_ok-unknowns.ensures in
     let f = c.in_ok-failing-in-Err-TooBig in (
       fails-of (tops_of c.args.names.now) (place_of c.args.asked.now) (expression_of c.args.term.now) _ _ f.failing
-          c.requires e.unknowns e.classifiers e.equations
+          c.requires e.unknowns e.classifiers (c.in_ok-pairs.ensures ∙ e.equations)
           (inr (rw c.in-Err-TooBig.field-0-is at c.in-Err-TooBig.ensures.fault))
           f.ensures.equations f.ensures.owners f.ensures.front,
       f.ensures.part,

@@ -12,6 +12,7 @@ use Rattle.mw_infer.specs.Views.{tops_of}
 use Rattle.mw_infer.proofs.FirstOpen.{closes-below}
 use Rattle.mw_infer.proofs.Items.{item-within}
 use Rattle.mw_infer.proofs.NodeLists.{facts-told, numbers-within}
+use Rattle.mw_infer.proofs.Shortened.{big-alike, general-alike, unsolvable-alike}
 use Rattle.mw_infer.proofs.Testing.{read}
 use Rattle.mw_infer.proofs.judge.judge.Goals as goal
 
@@ -19,9 +20,9 @@ pub solve-requires : goal.solve-requires
 solve-requires c =
     let e = c.in_ok-out.ensures in
     record {
-      within = rw (e.unknowns, e.classifiers, e.equations)
-          (item-within (tops_of c.args.names.now) (place_of c.args.asked.now) (expression_of c.args.term.now)
-          c.requires.own);
+      within = rw (e.unknowns, e.classifiers) (c.in_ok-pairs.ensures.within _ _
+          (rw e.equations (item-within (tops_of c.args.names.now) (place_of c.args.asked.now)
+          (expression_of c.args.term.now) c.requires.own)));
     }
 
 pub first_open-requires : goal.first_open-requires
@@ -45,13 +46,47 @@ let_type-requires-clause-within c =
     let p = ap (λ t. type_of t) (read c.in-Ok.solved.types 0 Int c.ty.result.now c.ty.ensures) in
     rw p at (c.in-Ok.ensures.within.types 0 (rw e.unknowns (omega arith)))
 
+pub let_type-requires-clause-small : goal.let_type-requires-clause-small
+let_type-requires-clause-small c =
+    let e = c.in_ok-out.ensures in
+    let p = ap (λ t. type_of t) (read c.in-Ok.solved.types 0 Int c.ty.result.now c.ty.ensures) in
+    rw p at (c.in-Ok.ensures.small 0 (rw e.unknowns (omega arith)))
+
+pub returns-in-Err-Unsolvable : goal.returns-in-Err-Unsolvable
+returns-in-Err-Unsolvable c = let e = c.in_ok-out.ensures in (
+  _,
+  rw (e.unknowns, e.classifiers, e.equations) at
+      (unsolvable-alike c.in_ok-pairs.ensures (rw c.in-Err-Unsolvable.field-0-is at c.in-Err-Unsolvable.ensures.fault)),
+)
+
+pub returns-in-Err-TooBig : goal.returns-in-Err-TooBig
+returns-in-Err-TooBig c = let e = c.in_ok-out.ensures in (
+  _,
+  rw (e.unknowns, e.classifiers, e.equations) at
+      (big-alike c.in_ok-pairs.ensures (rw c.in-Err-TooBig.field-0-is at c.in-Err-TooBig.ensures.fault)),
+)
+
+pub returns-in-Some : goal.returns-in-Some
+returns-in-Some c =
+    let e = c.in_ok-out.ensures in (
+      substitution_of c.in-Ok.solved,
+      record {
+        general = rw (e.unknowns, e.classifiers, e.equations) at
+            (general-alike c.in_ok-pairs.ensures c.in-Ok.ensures.most_general);
+        small = rw e.unknowns at c.in-Ok.ensures.small;
+        within = rw (e.unknowns, e.classifiers) at c.in-Ok.ensures.within;
+      },
+      rw (c.as_slice.ensures.value, e.closes) at c.in-Some.ensures,
+    )
+
 pub returns-in-Ok : goal.returns-in-Ok
 returns-in-Ok c =
     let e = c.in_ok-out.ensures in
     let p = ap (λ t. type_of t) (read c.in-Ok.solved.types 0 Int c.ty.result.now c.ty.ensures) in (
       substitution_of c.in-Ok.solved,
       record {
-        general = rw (e.unknowns, e.classifiers, e.equations) at c.in-Ok.ensures.most_general;
+        general = rw (e.unknowns, e.classifiers, e.equations) at
+            (general-alike c.in_ok-pairs.ensures c.in-Ok.ensures.most_general);
         small = rw e.unknowns at c.in-Ok.ensures.small;
         within = rw (e.unknowns, e.classifiers) at c.in-Ok.ensures.within;
       },

@@ -1,6 +1,6 @@
 use Rattle.std.proofs.Common.{◌≡◌, map, take}
 use Rattle.mw_types.specs.Types.{type_of}
-use Rattle.mw_infer.specs.Progress.{type_of_scheme}
+use Rattle.mw_infer.specs.Schemes.{type_of_scheme}
 use Rattle.mw_infer.specs.Views.{tops_of}
 use Rattle.mw_infer.proofs.program.types_of.Given as goal
 
