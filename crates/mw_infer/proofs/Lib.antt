@@ -16,6 +16,7 @@ pub mod Refusals
 pub mod Growing
 pub mod Emission
 pub mod Testing
+pub mod Knowing
 pub mod Renumbering
 pub mod SameInstances
 pub mod Progressing

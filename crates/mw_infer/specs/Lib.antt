@@ -9,6 +9,7 @@ pub mod InferenceLaws
 pub mod Views
 pub mod Emitting
 pub mod OwnParts
+pub mod Known
 pub mod Numbering
 pub mod Judging
 pub mod Progress

@@ -125,7 +125,7 @@ pub fn judge(
     };
     match solve(alloc, &equations) {
         Ok(solved) => {
-            if let Some(at) = first_open(closes.as_slice(), &solved) {
+            if let Some(at) = first_open(alloc, closes.as_slice(), &solved, unknowns)? {
                 return Ok(Verdict::NotClosed(at));
             }
             let known = let_type(alloc, solved.ty(0), unknowns, classifiers)?;

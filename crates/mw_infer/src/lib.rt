@@ -21,6 +21,7 @@ mod failing;
 mod faults;
 mod fresh;
 mod judge;
+mod known;
 pub mod laws;
 mod names;
 mod nodes;

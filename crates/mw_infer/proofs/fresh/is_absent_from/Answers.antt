@@ -5,8 +5,8 @@ use Rattle.mw_infer.specs.Inferring.{least}
 use Rattle.mw_infer.proofs.Testing.{binder-below, absent-at, absent-more, not_true}
 use Rattle.mw_infer.proofs.fresh.is_absent_from.Goals as goal
 
-pub is_absent_at-requires : goal.is_absent_at-requires
-is_absent_at-requires c = binder-below _ _ c.args.scope.now c.loop-binder.binder-index _ c.requires
+pub is_absent_at-requires-clause-inside : goal.is_absent_at-requires-clause-inside
+is_absent_at-requires-clause-inside c = binder-below _ _ c.args.scope.now c.loop-binder.binder-index _ c.requires.inside
     c.loop-binder-test.true
 
 pub returns-then-not-is_absent_at : goal.returns-then-not-is_absent_at

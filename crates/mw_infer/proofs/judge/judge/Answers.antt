@@ -76,7 +76,7 @@ returns-in-Some c =
         small = rw e.unknowns at c.in-Ok.ensures.small;
         within = rw (e.unknowns, e.classifiers) at c.in-Ok.ensures.within;
       },
-      rw (c.as_slice.ensures.value, e.closes) at c.in-Some.ensures,
+      rw (c.as_slice.ensures.value, e.closes) at (rw c.in-Some.is at c.in_ok-at-in-Ok.ensures),
     )
 
 pub returns-in-Ok : goal.returns-in-Ok
@@ -90,7 +90,7 @@ returns-in-Ok c =
         small = rw e.unknowns at c.in-Ok.ensures.small;
         within = rw (e.unknowns, e.classifiers) at c.in-Ok.ensures.within;
       },
-      rw (c.as_slice.ensures.value, e.closes) at c.in_default.ensures,
+      rw (c.as_slice.ensures.value, e.closes) at (rw c.in_default.is at c.in_ok-at-in-Ok.ensures),
       rw p c.in_ok-known-in-Ok.ensures,
       facts-told c.in-Ok.solved (map numbers_of c.in_ok-nodes-in-Ok.nodes.items)
           ∙ ap (map (facts_at (substitution_of c.in-Ok.solved))) c.in_ok-nodes-in-Ok.ensures,
