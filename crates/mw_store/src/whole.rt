@@ -12,7 +12,7 @@ ghost use Rattle.mw_store.specs.Whole.{HasKernelModule, NoKernelModule, IsFoundI
 
 use crate::parts::{Parts, parts_of};
 use mw_decode::{DecodeFault, decode};
-use mw_key::{TextFault, digest, read_text};
+use mw_key::{TextFault, digest, read_type};
 use mw_meaning::has_shape;
 use mw_term::KType;
 use mw_validate::{Valid, ValidFault, validate};
@@ -100,8 +100,8 @@ fn type_of_text(alloc: Global, text: &[u8]) -> Result<Option<KType>, AllocError>
     ensures { IfOk result (λ found. MatchOption found (NoText text.now)
         (λ kind. IsTyped text.now (kernel_type_of kind))) }
 {
-    match read_text(alloc, text) {
-        Ok((_, _, kind)) => Ok(Some(kind)),
+    match read_type(alloc, text) {
+        Ok(kind) => Ok(Some(kind)),
         Err(TextFault::BadText) => Ok(None),
         Err(TextFault::Memory(error)) => Err(error),
     }
