@@ -3,7 +3,7 @@ use denote.Param.Send.{IsSend, IsSync, sendable, shr_sync, view_sync}
 use denote.Param.SendFields.{as_row_sync, declared_sync, variants_send, variants_sync}
 use denote.Ref.{NamedLft}
 use denote.RattleType.{RattleType}
-use Rattle.std.proofs.Crossing.{crosses, Vec-sync, Arc-sync}
+use Rattle.std.proofs.Crossing.{Vec-sync}
 use Rattle.std.specs.contracts.alloc.Global as Heap
 use Rattle.std.specs.contracts.impls.GlobalAllocator.TheImpl.{ghosts}
 use Rattle.std.specs.contracts.vec.Vec as Vec
@@ -26,7 +26,8 @@ use Rattle.mw_slots.proofs.Sending.{receipt_send, receipt_sync, no_room_send, no
 use Rattle.mw_cache.specs.contracts.cache.Cache as Cache
 use Rattle.mw_cache.specs.contracts.got.Got as Got
 use Rattle.mw_store.specs.contracts.load.Load as Load
-use Rattle.mw_store.specs.contracts.load.LoadedModule as LoadedModule
+use Rattle.mw_store.specs.contracts.loaded.LoadedModule as LoadedModule
+use Rattle.mw_store.proofs.Sending.{loaded_sync}
 
 pub got_send : IsSend Entry.the_row → IsSync Entry.the_row → IsSend Got.the_row
 got_send a b = variants_send Got.enum (
@@ -53,12 +54,6 @@ cache_sync s y l a =
     let inside : IsSync (Cache.TheInside.the_row a) = declared_sync (Cache.TheInside.the_type a)
     (search (t, shr_sync, sendable) depth 20, (l, tt)) in
     search (inside, view_sync) depth 20
-
-loaded_sync : IsSend Valid.the_row → IsSync Valid.the_row → IsSync LoadedModule.the_row
-loaded_sync s y = declared_sync LoadedModule.the_type (
-  search (sendable, crosses) depth 20,
-  (Arc-sync Valid.the_row s y, tt),
-)
 
 group_sync : IsSync Group.the_row
 group_sync = declared_sync Group.the_type (search sendable, (search sendable, tt))

@@ -3,6 +3,8 @@ use Rattle.std.specs.Prelude.{◌≡◌, ℕ, ◌<◌, List, [], map, length, sl
 use Rattle.std.specs.Arc.{arc_value}
 use Rattle.mw_slots.specs.Receipts.{Known, IsOf, IsFetched}
 use Rattle.mw_slots.specs.Refusals.{HasNoRoom}
+use Rattle.mw_wasm.specs.BinaryModules.{Spells}
+use Rattle.mw_wasm.specs.Views.{module_of}
 use Rattle.mw_wasm.specs.declared.modules.Module.{Module}
 use Rattle.mw_key.specs.CanonicalText.{home}
 use Rattle.mw_store.specs.Loads.{Loaded as LoadedRecord, LoadState}
@@ -74,8 +76,9 @@ HasBytes cache (Loaded at) bytes = (l : LoadedRecord) × (slice_get cache.load.r
 HasBytes cache (Stored r) bytes = bytes ≡ r.entry.bytes
 HasBytes cache (Own n) bytes = bytes ≡ (arc_value n.own).bytes
 
--- the module
+-- the module, which of a loaded record is the one that its bytes spell
 abbrev pub HasWasm : CacheState → Got → Module → Type 0
-HasWasm cache (Loaded at) wasm = (l : LoadedRecord) × (slice_get cache.load.records at ≡ Some l) × (wasm ≡ l.wasm)
+HasWasm cache (Loaded at) wasm = (l : LoadedRecord) × (slice_get cache.load.records at ≡ Some l)
+    × Spells l.bytes (module_of wasm)
 HasWasm cache (Stored r) wasm = wasm ≡ r.entry.wasm
 HasWasm cache (Own n) wasm = wasm ≡ (arc_value n.own).wasm

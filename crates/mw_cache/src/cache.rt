@@ -235,21 +235,21 @@ impl<'t> Cache<'t> {
     }
 
     /// The module. It is valid and has the shape that a run at the text's type needs, and stands for the text's code,
-    /// unless a record was loaded that has another module. Takes no memory.
-    pub fn module<'a>(&'a self, got: &'a Got) -> &'a Arc<Valid>
+    /// unless a record was loaded that has another module. That of a loaded record is decoded when it is first asked
+    /// for. The error is want of memory.
+    pub fn module(&self, alloc: Global, got: &Got) -> Result<Arc<Valid>, AllocError>
         requires { IsHere self.now got.now }
-        ensures wasm { HasWasm self.now got.now (arc_value result.now) }
-        ensures shape { (v : Version) (c : Expression) (k : KernelType)
-            → IsTextOf (text_in self.now got.now) v c k
-            → HasShape (module_of (arc_value result.now)) k }
-        ensures stands { (c : Expression) (k : KernelType) → IsTextOf (text_in self.now got.now) Two c k
-            → IsRight self.now.load (text_in self.now got.now)
-            → StandsFor (module_of (arc_value result.now)) c k }
+        ensures wasm { IfOk result (λ m. HasWasm self.now got.now (arc_value m)) }
+        ensures shape { IfOk result (λ m. (v : Version) (c : Expression) (k : KernelType)
+            → IsTextOf (text_in self.now got.now) v c k → HasShape (module_of (arc_value m)) k) }
+        ensures stands { IfOk result (λ m. (c : Expression) (k : KernelType)
+            → IsTextOf (text_in self.now got.now) Two c k → IsRight self.now.load (text_in self.now got.now)
+            → StandsFor (module_of (arc_value m)) c k) }
     {
         match got {
-            Got::Loaded(at) => self.load.module(*at),
-            Got::Stored(receipt) => self.table.read(receipt).module(),
-            Got::Own(none) => (*none.own).module(),
+            Got::Loaded(at) => self.load.module(alloc, *at),
+            Got::Stored(receipt) => Arc::try_clone(self.table.read(receipt).module()),
+            Got::Own(none) => Arc::try_clone((*none.own).module()),
         }
     }
 }

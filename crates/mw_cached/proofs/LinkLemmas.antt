@@ -61,7 +61,7 @@ got_linked cache (Loaded n) c k wasm text typed is stands at same =
       here = is.1;
       is_text = subst (λ t. IsTextOf t Two c k) (text_here cache.load n is.0 is.1) text;
       typed = typed;
-      wasm_is = sym is.2;
+      spelled = is.2;
       stands = stands;
     }
 got_linked cache (Stored r) c k wasm text typed is stands at same = absurd (cc)

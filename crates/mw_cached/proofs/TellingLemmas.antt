@@ -41,7 +41,9 @@ stray_record load c k wasm at link stray = record {
   kind = k;
   is_text = link.is_text;
   typed = link.typed;
-  stray = subst (λ w. IsStray (module_of w) k) (sym link.wasm_is) stray;
+  wasm = module_of wasm;
+  spelled = link.spelled;
+  stray = stray;
   digest_is = ap sha256 (sym (text_here load at link.loaded link.here));
 }
 

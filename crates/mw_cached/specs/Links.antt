@@ -5,6 +5,7 @@ use Rattle.mw_term.specs.Typable.{HasKernelType}
 use Rattle.mw_meaning.specs.declared.mode.Mode.{Mode}
 use Rattle.mw_meaning.specs.Simplification.{in_mode}
 use Rattle.mw_meaning.specs.StandingFor.{StandsFor}
+use Rattle.mw_wasm.specs.BinaryModules.{Spells}
 use Rattle.mw_wasm.specs.declared.modules.Module.{Module}
 use Rattle.mw_wasm.specs.Views.{module_of}
 use Rattle.mw_key.specs.CanonicalText.{IsTextOf, canonical_text}
@@ -33,14 +34,14 @@ loaded_from _ = None
 abbrev pub IsRightIn : LoadState → Mode → Expression → KernelType → Type 0
 IsRightIn load mode c k = IsRight load (canonical_text Two (in_mode mode c) k)
 
--- The record of the number has this module and the text of the code and type. Where it is right, the module stands for
--- the code.
+-- The record of the number has the text of the code and type, and its bytes spell this module. Where it is right, the
+-- module stands for the code.
 pub record IsLinkedTo (load : LoadState) (c : Expression) (k : KernelType) (wasm : Module) (at : ℕ) : Type 0 where
   pub loaded : LoadedRecord
   pub here : slice_get load.records at ≡ Some loaded
   pub is_text : IsTextOf loaded.text Two c k
   pub typed : HasKernelType c k
-  pub wasm_is : loaded.wasm ≡ wasm
+  pub spelled : Spells loaded.bytes (module_of wasm)
   pub stands : IsRight load (canonical_text Two c k) → StandsFor (module_of wasm) c k
 
 -- the same of the record that a module was loaded from, if it was

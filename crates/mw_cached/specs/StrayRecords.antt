@@ -4,7 +4,8 @@ use Rattle.sha2.specs.Sha256.{sha256}
 use Rattle.mw_term.specs.Terms.{Expression, KernelType}
 use Rattle.mw_term.specs.Typable.{HasKernelType}
 use Rattle.mw_meaning.specs.Shapes.{IsStray}
-use Rattle.mw_wasm.specs.Views.{module_of}
+use Rattle.mw_wasm.specs.BinaryModules.{Spells}
+use Rattle.mw_wasm.specs.Syntax.{PureModule}
 use Rattle.mw_key.specs.CanonicalText.{IsTextOf}
 use Rattle.mw_key.specs.declared.version.Version.TheVariants.{Two}
 use Rattle.mw_store.specs.Loads.{Loaded, LoadState}
@@ -15,7 +16,8 @@ use Rattle.mw_machine.specs.declared.kernels.KernelFault.TheVariants as kernel
 use Rattle.mw_cached.specs.declared.fault.FunctionFault.{FunctionFault}
 use Rattle.mw_cached.specs.declared.fault.FunctionFault.TheVariants as faults
 
--- A record was loaded that has this digest: its text is that of code at its type, and its module is stray for the type.
+-- A record was loaded that has this digest: its text is that of code at its type, and the module that its bytes spell
+-- is stray for the type.
 pub record IsStrayRecord (load : LoadState) (digest : List ℕ) : Type 0 where
   pub at : ℕ
   pub loaded : Loaded
@@ -24,7 +26,9 @@ pub record IsStrayRecord (load : LoadState) (digest : List ℕ) : Type 0 where
   pub kind : KernelType
   pub is_text : IsTextOf loaded.text Two code kind
   pub typed : HasKernelType code kind
-  pub stray : IsStray (module_of loaded.wasm) kind
+  pub wasm : PureModule
+  pub spelled : Spells loaded.bytes wasm
+  pub stray : IsStray wasm kind
   pub digest_is : sha256 loaded.text ≡ digest
 
 -- Bad comes only of such a record, with its digest.

@@ -105,10 +105,10 @@ impl<'a, 't> CachedFunctions<'a, 't> {
         ensures mode { self.new.functions.mode ≡ self.old.functions.mode }
         ensures cache { self.new.cache ≡ self.old.cache }
     {
-        let module = self.cache.cache().module(got);
+        let wasm = self.cache.cache().module(alloc, got)?;
         let answer = self
             .functions
-            .run(alloc, module, record_of(got), code, kind, fuel);
+            .run(alloc, &wasm, record_of(got), code, kind, fuel);
         self.tell(answer)
     }
 

@@ -11,3 +11,4 @@ pub mod FoundTexts
 pub mod Answered
 pub mod Written
 pub mod Lengths
+pub mod Passed

@@ -4,6 +4,8 @@ use Rattle.std.specs.Prelude.{◌≡◌, ℕ, zero, suc, ℤ, ◌==◌, List, []
 use Rattle.std.specs.Borrow.{Bor}
 use Rattle.std.specs.List.{slice_split}
 use Rattle.mw_term.specs.Terms.{Expression, GroundType, KernelType, base, product, of_ground, to, num, truth, var, cond}
+use Rattle.mw_term.specs.Terms.{kernel_type_of}
+use Rattle.mw_term.specs.declared.term.KType.{KType}
 use Rattle.mw_key.specs.Forms.{version_of, type_form_of, form_of, under_one, under_two, code_of_one, code_of_two}
 use Rattle.mw_key.specs.Numbers.{natural_of, integer_of, below}
 use Rattle.mw_key.specs.declared.version.Version.{Version}
@@ -122,3 +124,19 @@ abbrev pub Finds : {T A : Type 0} → (T → A) → Result T TextFault → (List
     → Type 0
 Finds view (Ok x) find old new = find (words_left old.rest) old.nodes ≡ Some (view x, words_left new.rest, new.nodes)
 Finds view (Err fault) find old new = fault ≡ BadText → find (words_left old.rest) old.nodes ≡ None
+
+-- what is left after a thing that is found, and how many nodes may still come
+abbrev pub past : {A : Type 0} → Found A → Option (List (List ℕ) × ℕ)
+past None = None
+past (Some found) = Some (found.1, found.2)
+
+-- what a call that passes over words answers: what is left after a thing that is found, or that there is none
+abbrev pub Passes : {A : Type 0} → Result (Unit {0}) TextFault → (List (List ℕ) → ℕ → Found A) → Reader → Reader
+    → Type 0
+Passes (Ok x) find old new = past (find (words_left old.rest) old.nodes) ≡ Some (words_left new.rest, new.nodes)
+Passes (Err fault) find old new = fault ≡ BadText → past (find (words_left old.rest) old.nodes) ≡ None
+
+-- what a call that reads a whole text for its type answers
+abbrev pub AnswersType : Result KType TextFault → Option (Version × Expression × KernelType) → Type 0
+AnswersType (Ok kind) spelt = (v : Version) × (c : Expression) × (spelt ≡ Some (v, c, kernel_type_of kind))
+AnswersType (Err fault) spelt = fault ≡ BadText → spelt ≡ None

@@ -7,6 +7,7 @@ mod form;
 mod hash;
 pub mod laws;
 pub mod number;
+mod passing;
 mod read;
 mod reader;
 pub mod version;
@@ -14,6 +15,7 @@ mod write;
 
 pub use crate::fault::TextFault;
 pub use crate::hash::{digest, start_of};
+pub use crate::passing::read_type;
 pub use crate::read::read_text;
 pub use crate::version::Version;
 pub use crate::write::text_of;

@@ -18,13 +18,13 @@ use std::alloc::Global;
 type Read<T> = Result<T, TextFault>;
 
 /// How many nodes a kernel type may have, and so how deep it may nest.
-const MOST_TYPE_NODES: u32 = 10_000;
+pub(crate) const MOST_TYPE_NODES: u32 = 10_000;
 
 /// How many nodes code may have.
-const MOST_CODE_NODES: u32 = 20_000;
+pub(crate) const MOST_CODE_NODES: u32 = 20_000;
 
 /// How deep code may nest.
-const MOST_DEPTH: u32 = 400;
+pub(crate) const MOST_DEPTH: u32 = 400;
 
 /// The version, code and type whose canonical text the bytes are. `BadText` comes where they are none, and `Memory`
 /// where memory runs out. Words are read one after another, and no further than to the first that can't stand there.
@@ -64,7 +64,7 @@ fn whole_text(alloc: Global, reader: &mut Reader) -> Read<(Version, Term, KType)
 }
 
 /// A kernel type.
-fn kernel_type(alloc: Global, reader: &mut Reader) -> Read<KType>
+pub(crate) fn kernel_type(alloc: Global, reader: &mut Reader) -> Read<KType>
     ensures { Finds kernel_type_of result (find_kernel_type MOST_TYPE_NODES) reader.old reader.new }
 {
     match reader.type_form()? {

@@ -9,18 +9,15 @@ use Rattle.std.specs.List.{position_from}
 use Rattle.std.specs.Map.{keys_of}
 use Rattle.std.specs.Str.{bytes_eq}
 use Rattle.std.proofs.lemmas.Iterator.Adapters.{position_from-zero}
-use Rattle.std.proofs.lemmas.Option.{slice_get-map}
+use Rattle.std.proofs.lemmas.Option.{slice_get-map, slice_get_within, get_or_from_slice_get}
+use Rattle.std.specs.List.{All}
 use Rattle.mw_store.specs.Entries.{record_in}
-use Rattle.mw_store.specs.Records.{Kept, record_bytes}
+use Rattle.mw_store.specs.Records.{Kept, record_bytes, IsWhole}
 use Rattle.mw_store.specs.Loading.{TakesFound}
 use Rattle.std.proofs.lemmas.List.{map-append}
-use Rattle.mw_key.specs.CanonicalText.{IsTextOf}
-use Rattle.mw_wasm.specs.declared.modules.Module.{Module}
-use Rattle.mw_wasm.specs.Views.{module_of}
-use Rattle.mw_store.specs.Records.{HasModule}
-use Rattle.mw_store.specs.Whole.{HasKernelModule}
+use Rattle.mw_wasm.specs.Profile.{IsWithinFileLimit}
 use Rattle.mw_store.specs.Loads.{LoadState, Loaded, IsLoaded, kept_of, is_among, with_record}
-use Rattle.mw_store.specs.declared.load.LoadedModule.{LoadedModule}
+use Rattle.mw_store.specs.declared.loaded.LoadedModule.{LoadedModule}
 
 -- a record is at its entry's place
 pub at_place : (es : List (Vec ℕ Global × LoadedModule)) (at : ℕ) (e : Vec ℕ Global × LoadedModule)
@@ -121,19 +118,19 @@ one_more es e rs r are is =
     (record_in e ∷ [])
     ∙ ap (λ ls. map kept_of ls ++ kept_of (record_in e) ∷ []) are ∙ ap (λ k. map kept_of rs ++ k ∷ []) is
 
-pub loaded_is : (l : Loaded) (text bytes : List ℕ) (wasm : Module) → l.text ≡ text → l.bytes ≡ bytes → l.wasm ≡ wasm
-    → HasKernelModule text bytes wasm → IsLoaded l
-loaded_is l text bytes wasm t b w has =
-    let typed = subst (λ x. IsTextOf x has.1.0 has.1.1 has.0) (sym t) has.1.2 in
-    let one = subst (λ x. HasModule x has.0 (module_of wasm)) (sym b) has.2 in
-    record {
-      version = has.1.0;
-      code = has.1.1;
-      kind = has.0;
-      is_text = typed;
-      has_module = subst
-          (λ x. HasModule l.bytes has.0 (module_of x)) (sym w) one;
-    }
+pub loaded_is : (l : Loaded) (text bytes : List ℕ) → l.text ≡ text → l.bytes ≡ bytes
+    → IsWhole (record { text = text; bytes = bytes }) → IsWithinFileLimit bytes → IsLoaded l
+loaded_is l text bytes t b whole within = record {
+  whole = subst (λ r. IsWhole r) (λ i. record { text = sym t i; bytes = sym b i }) whole;
+  within = subst (λ bs. IsWithinFileLimit bs) (sym b) within;
+}
+
+-- each entry's record is loaded
+pub loaded_at : (es : List (Vec ℕ Global × LoadedModule)) (at : ℕ) (e : Vec ℕ Global × LoadedModule)
+    → All (λ x. IsLoaded (record_in x)) es → Some e ≡ slice_get es at → IsLoaded (record_in e)
+loaded_at es at e all here =
+    subst (λ x. IsLoaded (record_in x)) (get_or_from_slice_get es at e e (sym here))
+    (all at e (slice_get_within es at e (sym here)))
 
 -- a record of an old text is counted, and one of a new text is kept as well
 pub takes_old : (old new : LoadState) (r : Kept) (at : ℕ) → new.good ≡ old.good + length (record_bytes r)

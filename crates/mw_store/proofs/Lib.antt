@@ -4,3 +4,4 @@ pub mod Shaped
 pub mod Wholes
 pub mod Loading
 pub mod Entries
+pub mod Sending

@@ -3,8 +3,6 @@ use Rattle.std.proofs.Common.{◌≡◌, ℕ, ◌+◌, ◌<◌, List, ◌++◌, 
 use Rattle.std.proofs.lemmas.List.{length-append}
 use Rattle.sha2.specs.Sha256.{sha256}
 use Rattle.sha2.proofs.Facts256.{length-sha256}
-use Rattle.mw_wasm.specs.declared.modules.Module.{Module}
-use Rattle.mw_wasm.specs.Views.{module_of}
 use Rattle.mw_store.specs.Records.{Kept, four, body_of, record_bytes, IsWhole}
 use Rattle.mw_store.specs.Loads.{Begins}
 use Rattle.mw_store.specs.Parts.{IsCutFrom, kept_in}
@@ -69,21 +67,20 @@ pub no_module : (p : Parts) (bytes : List ℕ) → IsCutFrom p bytes → NoKerne
     → Begins bytes r → ⊥
 no_module p bytes c none r begun =
     let whole = subst IsWhole ((parts_are p bytes c r begun).0) begun.0 in
-    none whole.kind whole.wasm (whole.version, whole.code, whole.is_text) whole.has_module
+    none whole.wasm (whole.kind, (whole.version, whole.code, whole.is_text), whole.has_module)
 
 -- and else one does
-pub whole_begins : (p : Parts) (bytes : List ℕ) (wasm : Module) → IsCutFrom p bytes → p.digest.now ≡ sha256 p.body.now
-    → HasKernelModule p.text.now p.module.now wasm → Begins bytes (kept_in p)
-whole_begins p bytes wasm c right has = (
+pub whole_begins : (p : Parts) (bytes : List ℕ) → IsCutFrom p bytes → p.digest.now ≡ sha256 p.body.now
+    → HasKernelModule p.text.now p.module.now → Begins bytes (kept_in p)
+whole_begins p bytes c right has = (
   record {
     short = c.short_module;
-    version = has.1.0;
-    code = has.1.1;
-    kind = has.0;
-    is_text = has.1.2;
-    wasm =
-        module_of wasm;
-    has_module = has.2;
+    version = has.1.1.0;
+    code = has.1.1.1;
+    kind = has.1.0;
+    is_text = has.1.1.2;
+    wasm = has.0;
+    has_module = has.1.2;
   },
   (
     c.rest,

@@ -3,7 +3,7 @@ use Rattle.std.specs.Prelude.{◌≡◌, ℕ, ◌+◌, ◌<◌, ◌≤◌, List,
 use Rattle.std.specs.List.{AllByRecursion}
 use Rattle.mw_store.specs.Records.{Kept, record_bytes, file_of, IsWhole}
 use Rattle.mw_store.specs.Loads.{Begins, LoadState, kept_of, with_record, firsts, file_limit}
-use Rattle.mw_store.specs.Whole.{kept_in, HasKernelModule}
+use Rattle.mw_store.specs.Whole.{kept_in}
 use Rattle.mw_store.specs.declared.whole.Found.{Found}
 
 -- the load is of whole records that begin the bytes
@@ -22,7 +22,7 @@ NoneBegins bytes good = (r : Kept) → Begins (drop good bytes) r → file_limit
 
 -- a record that may be counted after so many bytes
 pub record LoadsUpTo (f : Found) (good : ℕ) : Type 0 where
-  pub has_module : HasKernelModule f.text.now f.bytes.now f.module
+  pub whole : IsWhole (kept_in f)
   pub within : good + length (record_bytes (kept_in f)) ≤ file_limit
 
 -- a record more was counted

@@ -2,12 +2,8 @@
 use Rattle.std.specs.Prelude.{◌≡◌, ℕ, ◌+◌, ◌<◌, ◌≤◌, List, [], ◌∷◌, ◌++◌, length, map, fold, Bool, if◌then◌else◌}
 use Rattle.std.specs.List.{list_any}
 use Rattle.std.specs.Str.{bytes_eq}
-use Rattle.mw_term.specs.Terms.{Expression, KernelType}
-use Rattle.mw_key.specs.CanonicalText.{IsTextOf}
-use Rattle.mw_key.specs.declared.version.Version.{Version}
-use Rattle.mw_wasm.specs.declared.modules.Module.{Module}
-use Rattle.mw_wasm.specs.Views.{module_of}
-use Rattle.mw_store.specs.Records.{Kept, record_bytes, file_of, HasModule, IsWhole}
+use Rattle.mw_wasm.specs.Profile.{IsWithinFileLimit}
+use Rattle.mw_store.specs.Records.{Kept, record_bytes, file_of, IsWhole}
 
 -- a cache file has at most so many bytes
 abbrev pub file_limit : ℕ
@@ -41,22 +37,19 @@ with_record rs r = if is_among r.text rs then rs else rs ++ r ∷ []
 abbrev pub firsts : List Kept → List Kept
 firsts rs = fold with_record [] rs
 
--- a record that was loaded, with the module that its bytes spell
+-- a record that was loaded
 pub record Loaded : Type 0 where
   pub text : List ℕ
   pub bytes : List ℕ
-  pub wasm : Module
 
 abbrev pub kept_of : Loaded → Kept
 kept_of l = record { text = l.text; bytes = l.bytes }
 
--- the text is that of some code at some type, and the module has the shape for the type
+-- The text is that of some code at some type, and the bytes spell a module for this type. They can be decoded again,
+-- since they aren't longer than what is decoded.
 pub record IsLoaded (l : Loaded) : Type 0 where
-  pub version : Version
-  pub code : Expression
-  pub kind : KernelType
-  pub is_text : IsTextOf l.text version code kind
-  pub has_module : HasModule l.bytes kind (module_of l.wasm)
+  pub whole : IsWhole (kept_of l)
+  pub within : IsWithinFileLimit l.bytes
 
 -- what contracts see of a load: the first record of each text, in file order, and the length of the records that count
 pub record LoadState : Type 0 where

@@ -3,6 +3,7 @@
 
 pub mod laws;
 mod load;
+mod loaded;
 mod parts;
 mod record;
 mod whole;

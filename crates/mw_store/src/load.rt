@@ -6,10 +6,14 @@ ghost use Rattle.std.specs.Arc.{arc_value};
 ghost use Rattle.std.specs.Str.{bytes_eq};
 ghost use Rattle.mw_term.specs.Terms.{expression_of, kernel_type_of};
 ghost use Rattle.mw_key.specs.CanonicalText.{IsTextOf};
-ghost use Rattle.mw_store.specs.Loads.{Loaded, IsLoaded, IsLoadOf, kept_of, file_limit};
+ghost use Rattle.mw_wasm.specs.Profile.{IsWithinFileLimit};
+ghost use Rattle.mw_wasm.specs.Views.{module_of};
+ghost use Rattle.mw_store.specs.Records.{IsWhole};
+ghost use Rattle.mw_store.specs.Loads.{Loaded, IsLoadOf, kept_of, file_limit};
 ghost use Rattle.mw_store.specs.Loading.{IsLoadedTo, NoneBegins, TakesFound, LoadsUpTo};
-ghost use Rattle.mw_store.specs.Whole.{kept_in, HasKernelModule};
+ghost use Rattle.mw_store.specs.Whole.{kept_in, IsKernelModule};
 
+use crate::loaded::LoadedModule;
 use crate::whole::{Found, whole_record};
 use indexmap::IndexMap;
 use mw_key::{TextFault, Version, read_text};
@@ -21,13 +25,6 @@ use std::sync::Arc;
 
 /// A cache file has at most so many bytes that are read.
 pub const FILE_LIMIT: usize = 67_108_864;
-
-/// A module that was loaded, with its bytes.
-#[derive(Drop)]
-pub struct LoadedModule {
-    bytes: Vec<u8>,
-    module: Arc<Valid>,
-}
 
 /// The records of a cache file that count, the first of each text, in file order.
 #[derive(Drop)]
@@ -107,20 +104,20 @@ impl Load {
         ensures { (l : Loaded) × (slice_get self.now.records at ≡ Some l) × (result.now ≡ l.bytes) }
     {
         match self.records.get_index(at as usize) {
-            Some((_, loaded)) => loaded.bytes.as_slice(),
+            Some((_, loaded)) => loaded.bytes(),
             None => unreachable!(),
         }
     }
 
     /// The module of the text at a place, which its bytes spell. It is valid, and has the shape that a run at the
-    /// text's type needs. Takes no memory.
-    pub fn module(&self, at: u32) -> &Arc<Valid>
+    /// text's type needs. It is decoded when it is first asked for, and kept from then on. The error is want of memory.
+    pub fn module(&self, alloc: Global, at: u32) -> Result<Arc<Valid>, AllocError>
         requires { at < length self.now.records }
         ensures { (l : Loaded) × (slice_get self.now.records at ≡ Some l)
-            × (arc_value result.now ≡ l.wasm) × IsLoaded l }
+            × IfOk result (λ m. IsKernelModule l.text l.bytes (module_of (arc_value m))) }
     {
         match self.records.get_index(at as usize) {
-            Some((_, loaded)) => &loaded.module,
+            Some((_, loaded)) => loaded.module(alloc),
             None => unreachable!(),
         }
     }
@@ -175,22 +172,15 @@ impl Load {
     fn insert(&mut self, alloc: Global, found: Found<'_>) -> Result<(), AllocError>
         requires more { length self.old.records < self.old.good }
         requires other { position (λ l. bytes_eq found.text.now l.text) self.old.records ≡ None }
-        requires has_module { HasKernelModule found.text.now found.bytes.now found.module }
+        requires whole { IsWhole (kept_in found) }
+        requires within { IsWithinFileLimit found.bytes.now }
         ensures records { OnOk result (map kept_of self.new.records
             ≡ map kept_of self.old.records ++ kept_in found.entry ∷ []) }
         ensures good { self.new.good ≡ self.old.good }
     {
-        let Found {
-            text,
-            bytes,
-            module,
-        } = found;
-        let key = Vec::from_slice(alloc, text)?;
-        let loaded = LoadedModule {
-            bytes: Vec::from_slice(alloc, bytes)?,
-            module: Arc::new(alloc, module)?,
-        };
-        self.records.insert(key, loaded)?;
+        let text = Vec::from_slice(alloc, found.text)?;
+        let loaded = LoadedModule::new(alloc, found.bytes)?;
+        self.records.insert(text, loaded)?;
         Ok(())
     }
 }

@@ -1,34 +1,28 @@
 // Whole records.
 
-ghost use Rattle.std.specs.Prelude.{◌≡◌, ◌≤◌, ◌+◌, ◌<◌, ◌^◌, ℕ, length, Bool, IfOk, IfSome, IsNone, MatchBool, ◌≢◌};
-ghost use Rattle.std.specs.Prelude.{MatchOption};
+ghost use Rattle.std.specs.Prelude.{◌≡◌, ◌≤◌, ◌+◌, ℕ, length, IfOk, MatchBool, ◌≢◌, MatchOption};
 ghost use Rattle.sha2.specs.Sha256.{sha256};
-ghost use Rattle.mw_term.specs.Terms.{Expression, KernelType, kernel_type_of};
-ghost use Rattle.mw_key.specs.CanonicalText.{IsTextOf};
-ghost use Rattle.mw_key.specs.declared.version.Version.{Version};
+ghost use Rattle.mw_term.specs.Terms.{kernel_type_of};
 ghost use Rattle.mw_wasm.specs.Profile.{IsWithinFileLimit};
 ghost use Rattle.mw_wasm.specs.Views.{module_of};
-ghost use Rattle.mw_meaning.specs.Shapes.{HasShape};
 ghost use Rattle.mw_store.specs.Records.{record_bytes};
 ghost use Rattle.mw_store.specs.Loads.{file_limit};
-ghost use Rattle.mw_store.specs.Parts.{IsCutFrom};
 ghost use Rattle.mw_store.specs.Whole.{kept_in, IsTyped, NoText, IsSound, NoModule, HasModuleOf, NoModuleOf};
 ghost use Rattle.mw_store.specs.Whole.{HasKernelModule, NoKernelModule, IsFoundIn};
 
 use crate::parts::{Parts, parts_of};
 use mw_decode::{DecodeFault, decode};
-use mw_key::{TextFault, digest, read_text};
+use mw_key::{TextFault, digest, read_type};
 use mw_meaning::has_shape;
 use mw_term::KType;
 use mw_validate::{Valid, ValidFault, validate};
 use std::alloc::{AllocError, Global};
 
-/// A whole record: its text, its module's bytes, and the module that they spell.
+/// A whole record: its text, and its module's bytes.
 #[derive(Drop)]
 pub(crate) struct Found<'a> {
     pub(crate) text: &'a [u8],
     pub(crate) bytes: &'a [u8],
-    pub(crate) module: Valid,
 }
 
 /// The whole record that begins these bytes, where it isn't longer than the room.
@@ -50,14 +44,13 @@ pub(crate) fn whole_record(
         return Ok(None);
     }
     let Parts { text, module, .. } = parts;
-    match kernel_module(alloc, text, module)? {
-        None => Ok(None),
-        Some(valid) => Ok(Some(Found {
-            text,
-            bytes: module,
-            module: valid,
-        })),
+    if !has_kernel_module(alloc, text, module)? {
+        return Ok(None);
     }
+    Ok(Some(Found {
+        text,
+        bytes: module,
+    }))
 }
 
 impl Parts<'_> {
@@ -77,41 +70,28 @@ impl Parts<'_> {
     }
 }
 
-/// The module that the bytes spell, where the text is canonical, and the module is valid and has the shape for the
-/// text's type.
-fn kernel_module(alloc: Global, text: &[u8], bytes: &[u8]) -> Result<Option<Valid>, AllocError>
+/// Whether the text is canonical, and the bytes spell a valid module of the shape for the text's type. The module is let
+/// go: it is decoded again if it is asked for.
+fn has_kernel_module(alloc: Global, text: &[u8], bytes: &[u8]) -> Result<bool, AllocError>
     requires limit { IsWithinFileLimit bytes.now }
-    ensures { IfOk result (λ found. MatchOption found (NoKernelModule text.now bytes.now)
-        (HasKernelModule text.now bytes.now)) }
+    ensures { IfOk result (λ has. MatchBool has (HasKernelModule text.now bytes.now)
+        (NoKernelModule text.now bytes.now)) }
 {
     match type_of_text(alloc, text)? {
-        Some(kind) => shaped_module(alloc, bytes, &kind),
-        None => Ok(None),
+        Some(kind) => has_module_of(alloc, bytes, &kind),
+        None => Ok(false),
     }
 }
 
-/// The module that the bytes spell, where it is valid and has the shape for the type.
-fn shaped_module(alloc: Global, bytes: &[u8], kind: &KType) -> Result<Option<Valid>, AllocError>
+/// Whether the bytes spell a valid module of the shape for the type.
+fn has_module_of(alloc: Global, bytes: &[u8], kind: &KType) -> Result<bool, AllocError>
     requires limit { IsWithinFileLimit bytes.now }
     ensures { let k = kernel_type_of kind.now in
-        IfOk result (λ found. MatchOption found (NoModuleOf bytes.now k) (HasModuleOf bytes.now k)) }
+        IfOk result (λ has. MatchBool has (HasModuleOf bytes.now k) (NoModuleOf bytes.now k)) }
 {
-    match valid_module(alloc, bytes)? {
-        Some(valid) => Ok(where_shaped(valid, kind)),
-        None => Ok(None),
-    }
-}
-
-/// The module, where it has the shape for the type.
-fn where_shaped(valid: Valid, kind: &KType) -> Option<Valid>
-    ensures some { IfSome result (λ same. (same ≡ valid)
-        × HasShape (module_of valid) (kernel_type_of kind.now)) }
-    ensures none { IsNone result → HasShape (module_of valid) (kernel_type_of kind.now) → ⊥ }
-{
-    if has_shape(valid.module(), kind) {
-        Some(valid)
-    } else {
-        None
+    match sound_module(alloc, bytes)? {
+        Some(valid) => Ok(has_shape(valid.module(), kind)),
+        None => Ok(false),
     }
 }
 
@@ -120,15 +100,15 @@ fn type_of_text(alloc: Global, text: &[u8]) -> Result<Option<KType>, AllocError>
     ensures { IfOk result (λ found. MatchOption found (NoText text.now)
         (λ kind. IsTyped text.now (kernel_type_of kind))) }
 {
-    match read_text(alloc, text) {
-        Ok((_, _, kind)) => Ok(Some(kind)),
+    match read_type(alloc, text) {
+        Ok(kind) => Ok(Some(kind)),
         Err(TextFault::BadText) => Ok(None),
         Err(TextFault::Memory(error)) => Err(error),
     }
 }
 
 /// The module that the bytes spell within the profile, where it is valid.
-fn valid_module(alloc: Global, bytes: &[u8]) -> Result<Option<Valid>, AllocError>
+pub(crate) fn sound_module(alloc: Global, bytes: &[u8]) -> Result<Option<Valid>, AllocError>
     requires limit { IsWithinFileLimit bytes.now }
     ensures { IfOk result (λ found. MatchOption found (NoModule bytes.now)
         (λ valid. IsSound bytes.now (module_of valid))) }

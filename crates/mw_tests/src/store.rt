@@ -155,3 +155,17 @@ fn loads_what_counts(rt: HostRuntime) -> Result<(), Fail> {
     }
     Ok(())
 }
+
+/// A loaded module is the same when it is asked for again.
+#[test]
+fn loaded_modules_stay(rt: HostRuntime) -> Result<(), Fail> {
+    let record_bytes = record_of(rt.alloc(), TEXT, MODULE)?;
+    let load = load_of(rt.alloc(), record_bytes.as_slice())?;
+    assert!(rt; load.count() == 1);
+    for _ in 0..2 {
+        let wasm = load.module(rt.alloc(), 0)?;
+        assert!(rt; wasm.module().types.len() == 2);
+        assert!(rt; wasm.module().funcs.len() == 1);
+    }
+    Ok(())
+}

@@ -1,5 +1,5 @@
 use Rattle.std.proofs.Common.{subst, arith}
-use Rattle.std.specs.Prelude.{MatchOption}
+use Rattle.std.specs.Prelude.{MatchBool}
 use Rattle.mw_store.specs.Whole.{HasKernelModule, NoKernelModule}
 use Rattle.mw_store.proofs.Wholes.{too_long, damaged, no_module, whole_begins, parts_length}
 use Rattle.mw_store.proofs.whole.whole_record.Goals as goal
@@ -13,26 +13,21 @@ pub returns-then-not-is_undamaged : goal.returns-then-not-is_undamaged
 returns-then-not-is_undamaged c = λ r begun.
     absurd (damaged c.in-Some.parts c.args.bytes.now c.in-Some.ensures.some c.if-not-is_undamaged.ensures r begun)
 
-pub returns-in-None : goal.returns-in-None
-returns-in-None c = λ r begun.
-    let parts = c.in-Some.parts in
-    let none = subst
-    (λ o. MatchOption o (NoKernelModule parts.text.now parts.module.now)
-    (HasKernelModule parts.text.now parts.module.now))
-    c.in-None.is c.in_ok-kernel_module.ensures in
+pub returns-then-not-branch : goal.returns-then-not-branch
+returns-then-not-branch c = λ r begun.
+    let parts = c.in-Some.parts in let text = parts.text.now in let wasm = parts.module.now in
+    let none = subst (λ b. MatchBool b (HasKernelModule text wasm) (NoKernelModule text wasm)) c.if-not-branch.true
+    c.in_ok-has_kernel_module.ensures in
     absurd (no_module parts c.args.bytes.now c.in-Some.ensures.some none r begun)
 
-pub returns-in-Some-2 : goal.returns-in-Some-2
-returns-in-Some-2 c =
-    let parts = c.in-Some.parts in let cut = c.in-Some.ensures.some in
-    let has = subst
-    (λ o. MatchOption o (NoKernelModule parts.text.now parts.module.now)
-    (HasKernelModule parts.text.now parts.module.now))
-    c.in-Some-2.is c.in_ok-kernel_module.ensures in
+pub returns : goal.returns
+returns c =
+    let parts = c.in-Some.parts in let text = parts.text.now in let wasm = parts.module.now in
+    let cut = c.in-Some.ensures.some in
+    let has = subst (λ b. MatchBool b (HasKernelModule text wasm) (NoKernelModule text wasm)) c.if-not-branch.false
+    c.in_ok-has_kernel_module.ensures in
     let size = c.len.ensures in let short = c.if-len-room.false in let long =
     parts_length parts c.args.bytes.now cut in (
-      whole_begins parts c.args.bytes.now c.in-Some-2.valid cut c.if-not-is_undamaged.ensures has,
-      omega
-          (arith, size, short, long),
-      has,
+      whole_begins parts c.args.bytes.now cut c.if-not-is_undamaged.ensures has,
+      omega (arith, size, short, long),
     )

@@ -22,7 +22,7 @@ run-answer-requires-clause-shape c =
     let text = subst (λ (s : CachedState). IsTextOf (text_in s.cache.cache c.args.got.now) Two
     (in_mode s.functions.mode (expression_of c.args.code.now)) kind) (sym c.self.view_is) c.requires.text in
     record {
-      shape = c.module-module.ensures.shape Two code kind
+      shape = c.in_ok-wasm.ensures.shape Two code kind
           (subst (λ x. IsTextOf (text_in x c.args.got.now) Two code kind) (sym c.cache.ensures) text);
       literals = text.kernel.literals;
     }
@@ -32,25 +32,25 @@ invariant_of-self c =
     let load = c.self.inside.cache.now.cache.load in
     let code = expression_of c.args.code.now in
     let kind = kernel_type_of c.args.kind.now in
-    let wasm = arc_value c.module-module.result.now in
+    let wasm = arc_value c.in_ok-wasm.wasm in
     let linked = all_linked load c.self.inside.functions.mode (told c.run-answer.result) code kind
     (kept_as (canonical_text Two code kind) wasm c.record_of.result) c.self.inside.functions.functions
     c.run-answer.new.self.functions c.run-answer.ensures.kept c.run-answer.ensures.functions
     (run_linked _ _ c.cache.result.now c.args.got.now code kind wasm c.record_of.result c.self.view_is c.cache.ensures
-    c.record_of.ensures c.requires.runnable.typed c.requires.text c.module-module.ensures.wasm
-    c.module-module.ensures.stands) c.self.invariant in
+    c.record_of.ensures c.requires.runnable.typed c.requires.text c.in_ok-wasm.ensures.wasm
+    c.in_ok-wasm.ensures.stands) c.self.invariant in
     subst (λ m. All (IsLinked load m) c.run-answer.new.self.functions) (sym c.run-answer.ensures.mode) linked
 
 pub returns-clause-stray : goal.returns-clause-stray
 returns-clause-stray c =
     let kind = kernel_type_of c.args.kind.now in
-    let wasm = arc_value c.module-module.result.now in
+    let wasm = arc_value c.in_ok-wasm.wasm in
     subst (λ (s : CachedState). BadIsStrayRecord s.cache.cache.load c.tell.result) c.self.view_is
     (stray_is_told c.self.inside.cache.now.cache.load c.run-answer.result c.tell.result
     (in_mode c.self.inside.functions.mode (expression_of c.args.code.now)) kind wasm c.record_of.result c.tell.ensures
     (run_linked _ _ c.cache.result.now c.args.got.now (expression_of c.args.code.now) kind wasm c.record_of.result
     c.self.view_is c.cache.ensures c.record_of.ensures c.requires.runnable.typed c.requires.text
-    c.module-module.ensures.wasm c.module-module.ensures.stands) c.run-answer.ensures.stray)
+    c.in_ok-wasm.ensures.wasm c.in_ok-wasm.ensures.stands) c.run-answer.ensures.stray)
 
 pub returns-clause-means : goal.returns-clause-means
 returns-clause-means c = λ right.
@@ -58,13 +58,13 @@ returns-clause-means c = λ right.
     let mode = c.self.inside.functions.mode in
     let code = expression_of c.args.code.now in
     let kind = kernel_type_of c.args.kind.now in
-    let wasm = arc_value c.module-module.result.now in
+    let wasm = arc_value c.in_ok-wasm.wasm in
     let answer = told c.run-answer.result in
     let right' = subst (λ (s : CachedState). IsRightIn s.cache.cache.load s.functions.mode code kind)
     (sym c.self.view_is) right in
     let link = run_linked _ _ c.cache.result.now c.args.got.now code kind wasm c.record_of.result c.self.view_is
-    c.cache.ensures c.record_of.ensures c.requires.runnable.typed c.requires.text c.module-module.ensures.wasm
-    c.module-module.ensures.stands in
+    c.cache.ensures c.record_of.ensures c.requires.runnable.typed c.requires.text c.in_ok-wasm.ensures.wasm
+    c.in_ok-wasm.ensures.stands in
     as_told (λ a. AnswersRun c.args.self.now.functions.mode a code kind c.args.fuel) load c.run-answer.result
     c.tell.result c.tell.ensures (λ d h. h)
     (subst (λ (s : CachedState). AnswersRun s.functions.mode answer code kind c.args.fuel) c.self.view_is

@@ -2,7 +2,7 @@ use Rattle.std.proofs.Common.{◌≡◌, ℕ, Vec, Global, subst, Some}
 use Rattle.std.specs.Prelude.{slice_get}
 use Rattle.mw_term.specs.Terms.{expression_of, kernel_type_of}
 use Rattle.mw_key.specs.CanonicalText.{IsTextOf}
-use Rattle.mw_store.specs.declared.load.LoadedModule.{LoadedModule}
+use Rattle.mw_store.specs.declared.loaded.LoadedModule.{LoadedModule}
 use Rattle.mw_store.specs.Entries.{record_in}
 use Rattle.mw_store.proofs.Entries.{at_place}
 use Rattle.mw_store.proofs.load.Load.kernel.Goals as goal

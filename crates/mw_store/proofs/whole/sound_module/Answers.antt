@@ -1,7 +1,7 @@
 use Rattle.std.proofs.Common.{subst, sym}
 use Rattle.mw_wasm.specs.Views.{module_of}
 use Rattle.mw_store.specs.Whole.{IsSound}
-use Rattle.mw_store.proofs.whole.valid_module.Goals as goal
+use Rattle.mw_store.proofs.whole.sound_module.Goals as goal
 
 pub returns-in-Ok-validate : goal.returns-in-Ok-validate
 returns-in-Ok-validate c =

@@ -3,7 +3,7 @@ use Rattle.std.specs.Prelude.{MatchOption}
 use Rattle.mw_term.specs.Terms.{kernel_type_of}
 use Rattle.mw_store.specs.Whole.{IsTyped, NoText}
 use Rattle.mw_store.proofs.Shaped.{typed_in}
-use Rattle.mw_store.proofs.whole.kernel_module.Goals as goal
+use Rattle.mw_store.proofs.whole.has_kernel_module.Goals as goal
 
 pub returns-in-Some : goal.returns-in-Some
 returns-in-Some c =
@@ -12,4 +12,4 @@ returns-in-Some c =
     (λ o. MatchOption o (NoText text) (λ kind. IsTyped text (kernel_type_of kind))) c.in-Some.is
     c.in_ok-kind.ensures in
     typed_in text c.args.bytes.now
-    (kernel_type_of c.in-Some.kind) c.shaped_module.result typed c.shaped_module.ensures
+    (kernel_type_of c.in-Some.kind) c.has_module_of.result typed c.has_module_of.ensures
