@@ -46,14 +46,16 @@ loaded_shape l m is v c k text =
     subst (λ t. HasShape m t) (one_text l.text is.1.0 v is.1.1 c is.0 k is.1.2 text).2 is.2.shape
 
 -- where the bytes are the emission, the module is the emitted one
-loaded_stands : (l : LoadedRecord) (m : PureModule) → IsKernelModule l.text l.bytes m → (c : Expression) (k : KernelType)
+loaded_stands : (l : LoadedRecord) (m : PureModule) → IsKernelModule l.text l.bytes m
+    → (c : Expression) (k : KernelType)
     → IsTextOf l.text Two c k → IsEmissionOf l.bytes l.text → StandsFor m c k
 loaded_stands l m is c k text right =
     let bytes : l.bytes ≡ emission (version_of Two) c k = one_emission l.text l.bytes (emission
     (version_of Two) c k) right
     record { version = Two; code = c; kind = k; is_text = text; is_emission = refl } in
     let e = each_emission l.text Two c k text in
-    let same = one_module (emission (version_of Two) c k) m _ (subst (λ bs. Spells bs m) bytes is.2.spelled) e.spelled in
+    let same = one_module (emission (version_of Two) c k) m _ (subst (λ bs. Spells bs m) bytes is.2.spelled)
+    e.spelled in
     subst (λ x. StandsFor x c k) (sym same) e.stands
 
 module _ {E Z : Type 0} (found : Result (Arc Module Z) E) where

@@ -106,7 +106,8 @@ Adds-three {a = a} {es = es} {fs = fs} {gs = gs} {xs = xs} {ys = ys} {zs = zs} x
   equations = z.equations ∙ rw (y.equations, x.equations, u)
       (append_assoc (meant a ++ es) fs gs ∙ append_assoc (meant a) es (fs ++ gs));
   closes = z.closes ∙ rw (y.closes, x.closes, v)
-      (append_assoc (map close_of a.closes.items ++ xs) ys zs ∙ append_assoc (map close_of a.closes.items) xs (ys ++ zs));
+      (append_assoc (map close_of a.closes.items ++ xs) ys zs ∙ append_assoc (map close_of a.closes.items) xs
+      (ys ++ zs));
   names = z.names ∙ y.names ∙ x.names;
 }
 
@@ -133,7 +134,8 @@ Adds-pair {old = old} {p = p} {q = q} tops u g m f a x y z =
     let e : q.classifiers ≡ old.classifiers + classifiers_of tops f = omega (arith, c, y.classifiers) in
     Adds-three x y z (omega arith) (omega arith) (rw (b, c, d, e) refl) (rw (b, c, d, e) refl)
 
-pub Adds-prim : {old p q new : Output} (tops : List TopScheme) (u : ℕ) (g : List Slot) (m : Level) (r : Primitive) (f a : Expression)
+pub Adds-prim : {old p q new : Output} (tops : List TopScheme) (u : ℕ) (g : List Slot) (m : Level) (r : Primitive)
+    (f a : Expression)
     → AddsOwn old p tops u g m (prim r f a) → AddsTerm p q tops old.unknowns g m f
     → AddsTerm q new tops (old.unknowns + 1) g m a → AddsTerm old new tops u g m (prim r f a)
 Adds-prim {old = old} {p = p} {q = q} tops u g m r f a x y z =

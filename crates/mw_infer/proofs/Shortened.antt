@@ -113,8 +113,11 @@ pub shared-more : (tops : List TopScheme) (long short : List TypeEquation) (old 
     → Alike (long ++ (use_equation tops own name ∷ [])) (short ++ (equation_of e ∷ []))
     × AreUses tops (long ++ (use_equation tops own name ∷ [])) new
 shared-more tops long short old new own name e h u (inl p) =
-    rw (p.0, p.1)
-    (alike-same long short (use_equation tops own name) h, uses-more tops long old (record { name = name; own = own }) u)
+    rw (p.0, p.1) (
+      alike-same long short (use_equation tops own name) h,
+      uses-more tops long old (record { name = name; own = own })
+          u,
+    )
 shared-more tops long short old new own name e h u (inr p) =
     let first : ℕ = p.0 in
     let g = p.1.is in
@@ -233,7 +236,8 @@ pub adds-use : (old new : Output) (u name : ℕ) (x : TopScheme) → IsWhole x �
     → Some x ≡ slice_get (tops_of old.names.now) name
     → Adds old new 0 0 (use_equation (tops_of old.names.now) u name ∷ []) [] → AddsName old new u (Some x)
 adds-use old new u name x w h g a =
-    let e : use_equation (tops_of old.names.now) u name ∷ [] ≡ name_equations u old.unknowns old.classifiers live (Some x)
+    let e : use_equation (tops_of old.names.now) u name ∷ [] ≡ name_equations u old.unknowns old.classifiers live
+    (Some x)
     = ap (λ s. equation (unknown u) (type_at s) ∷ []) (sym g) ∙ sym (whole-use u old.unknowns old.classifiers x w h) in
     let p = none-open x w in
     subst (λ n. Adds old new n (classifiers_of_name (Some x))

@@ -39,7 +39,8 @@ past_three f (Some x) next last = past_two (f x.0) (next x.1 x.2) last
 some_past : {A : Type 0} (x : Found A) (ws : List (List ℕ)) (n : ℕ) → past x ≡ Some (ws, n)
     → (a : A) × (x ≡ Some (a, ws, n))
 some_past None ws n h = absurd (cc)
-some_past (Some x) ws n h = (x.0, λ i. Some (x.0, (same_Some (x.1, x.2) (ws, n) h i).0, (same_Some (x.1, x.2) (ws, n) h i).1))
+some_past (Some x) ws n h =
+    (x.0, λ i. Some (x.0, (same_Some (x.1, x.2) (ws, n) h i).0, (same_Some (x.1, x.2) (ws, n) h i).1))
 
 none_past : {A : Type 0} (x : Found A) → past x ≡ None → x ≡ None
 none_past None h = refl

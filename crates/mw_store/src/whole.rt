@@ -70,8 +70,8 @@ impl Parts<'_> {
     }
 }
 
-/// Whether the text is canonical, and the bytes spell a valid module of the shape for the text's type. The module is let
-/// go: it is decoded again if it is asked for.
+/// Whether the text is canonical, and the bytes spell a valid module of the shape for the text's type. The module is
+/// let go: it is decoded again if it is asked for.
 fn has_kernel_module(alloc: Global, text: &[u8], bytes: &[u8]) -> Result<bool, AllocError>
     requires limit { IsWithinFileLimit bytes.now }
     ensures { IfOk result (λ has. MatchBool has (HasKernelModule text.now bytes.now)

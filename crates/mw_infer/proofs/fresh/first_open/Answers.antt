@@ -12,7 +12,8 @@ classifier-classifier-requires c =
 
 pub is_absent_from-requires-clause-inside : goal.is_absent_from-requires-clause-inside
 is_absent_from-requires-clause-inside c =
-    rw c.as_slice-scope.ensures.value (spot-below _ _ c.args.closes.now c.loop-spot.spot-index c.spot-item.result c.requires
+    rw c.as_slice-scope.ensures.value (spot-below _ _ c.args.closes.now c.loop-spot.spot-index c.spot-item.result
+    c.requires
     c.loop-spot-test.true c.spot-item.is).1
 
 pub returns-then-not-is_absent_from : goal.returns-then-not-is_absent_from

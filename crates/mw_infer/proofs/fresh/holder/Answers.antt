@@ -7,7 +7,8 @@ use Rattle.mw_infer.proofs.Testing.{binder-below, absent-more, not_true}
 use Rattle.mw_infer.proofs.fresh.holder.Goals as goal
 
 pub is_absent_at-requires-clause-inside : goal.is_absent_at-requires-clause-inside
-is_absent_at-requires-clause-inside c = binder-below _ _ c.args.scope.now c.loop-binder.binder _ c.requires c.loop-binder-test.true
+is_absent_at-requires-clause-inside c = binder-below _ _ c.args.scope.now c.loop-binder.binder _ c.requires
+    c.loop-binder-test.true
 
 pub returns-then-not-is_absent_at : goal.returns-then-not-is_absent_at
 returns-then-not-is_absent_at c = held-at (substitution_of c.args.solved.now) c.args.classifier c.args.scope.now

@@ -8,7 +8,8 @@ pub returns-in-Ok : goal.returns-in-Ok
 returns-in-Ok c =
     typed_whole (words_left c.args.reader.now.rest) _ _ c.in_ok-_version._version (kernel_type_of c.in_ok-kind.kind) _ _
     (rw c.allow.ensures.rest at (rw c.allow.ensures.nodes at c.in_ok-_version.ensures)) c.in_ok-kind.ensures _ _
-    (rw c.allow-2.ensures.rest at (rw c.allow-2.ensures.nodes at c.in-Ok.ensures)) (c.is_at_end.ensures.0 c.if-is_at_end.true)
+    (rw c.allow-2.ensures.rest at (rw c.allow-2.ensures.nodes at c.in-Ok.ensures))
+    (c.is_at_end.ensures.0 c.if-is_at_end.true)
 
 pub returns-in-Ok-2 : goal.returns-in-Ok-2
 returns-in-Ok-2 c = λ bad.
