@@ -2,6 +2,7 @@ pub mod Counts
 pub mod LastTokens
 pub mod ByteTests
 pub mod Tables
+pub mod Lengths
 pub mod Ranges
 pub mod Fronts
 pub mod Runs

@@ -56,6 +56,13 @@ reserved_test entry = starts_word entry.0 && (nat_le (length entry.0) 64 && not 
 three : (a b c : Bool) → (a && (b && c)) ≡ true → (a ≡ true) × (b ≡ true) × (c ≡ true)
 three a b c e = let p = and_parts a (b && c) e in let q = and_parts b c p.1 in (p.0, q.0, q.1)
 
+-- a reserved word has 2 to 6 bytes
+pub reserved_size : (text : List ℕ) (s : Symbol) → reserved text ≡ Some s → (2 ≤ length text) × (length text ≤ 6)
+reserved_size text s e =
+    let p = and_parts (nat_le 2 (length text)) (nat_le (length text) 6)
+    (looked_up (λ entry. nat_le 2 (length entry.0) && nat_le (length entry.0) 6) reserved_words text s refl e) in
+    (leb-true 2 (length text) p.0, leb-true (length text) 6 p.1)
+
 mark_parts : (text : List ℕ) (s : Symbol) → mark text ≡ Some s → (starts_mark text ≡ true)
     × (nat_le (length text) 2 ≡ true) × (not (is_number s) ≡ true)
 mark_parts text s e = three (starts_mark text) (nat_le (length text) 2) (not (is_number s))

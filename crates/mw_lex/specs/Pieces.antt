@@ -72,6 +72,11 @@ front (b ∷ bytes) =
     (if b == 35 then comment bytes else
     (if is_word_byte b then run (count is_word_byte (b ∷ bytes)) else a_mark (b ∷ bytes)))
 
+-- the entries of a table whose texts have this length
+abbrev pub of_length : ℕ → List (List ℕ × Symbol) → List (List ℕ × Symbol)
+of_length n [] = []
+of_length n (entry ∷ entries) = if length entry.0 == n then entry ∷ of_length n entries else of_length n entries
+
 -- the code's values as plain data
 abbrev pub kind_seen : Option Kind → Option Symbol
 kind_seen None = None

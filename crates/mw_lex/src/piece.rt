@@ -5,7 +5,7 @@ ghost use Rattle.mw_lex.specs.Texts.{mark};
 ghost use Rattle.mw_lex.specs.Pieces.{seen, comment, short_mark, a_mark, front, IsWithin};
 
 use crate::byte::{comment_length, is_blank, is_word_byte, word_length};
-use crate::text::mark;
+use crate::text::{mark_of_one, mark_of_two};
 use crate::token::Kind;
 
 /// A part of the bytes, with its length.
@@ -40,7 +40,7 @@ fn comment(bytes: &[u8]) -> Piece
 fn short_mark(byte: u8) -> Piece
     ensures { seen result ≡ short_mark (mark (byte ∷ [])) }
 {
-    match mark(&[byte]) {
+    match mark_of_one(byte) {
         Some(kind) => Piece::Mark(kind, 1),
         None => Piece::Strange(0),
     }
@@ -53,7 +53,7 @@ fn a_mark(bytes: &[u8]) -> Piece
     match bytes {
         [] => Piece::Strange(0),
         [only] => short_mark(*only),
-        [first, second, ..] => match mark(&[*first, *second]) {
+        [first, second, ..] => match mark_of_two(*first, *second) {
             Some(kind) => Piece::Mark(kind, 2),
             None => short_mark(*first),
         },
