@@ -79,6 +79,11 @@ front_is b bytes = by_tests (is_blank b) refl (b == 35) refl (is_word_byte b) re
     by_tests false e false f true g = at_run g
     by_tests false e false f false g = at_mark e (eqb-false b 35 f) g
 
+pub blank_front : (b : ℕ) (bytes : List ℕ) → is_blank b ≡ true → front (b ∷ bytes) ≡ gap 1
+blank_front b bytes e = ap (λ t. if t then gap 1 else
+    (if b == 35 then comment bytes else
+    (if is_word_byte b then run (count is_word_byte (b ∷ bytes)) else a_mark (b ∷ bytes)))) e
+
 -- what each answer means, at an offset
 abbrev pub Means : ℕ → List ℕ → Seen → Type 0
 Means at bytes (gap n) = Reads at bytes [] (at + n) (drop n bytes) × (0 < n) × (n ≤ length bytes)

@@ -1,5 +1,6 @@
 -- From one piece to the next.
 use Rattle.std.proofs.Common.{◌≡◌, ◌⊎◌, inl, inr, zero, suc, nat_lt, true, false, refl, ap, ◌∙◌, ℕ, ◌+◌, ◌<◌, ◌≤◌, List}
+use Rattle.std.proofs.Common.{get_or, drop-cons}
 use Rattle.std.proofs.Common.{[], ◌∷◌, ◌++◌, length, take, drop, sym, subst, append-nil, arith, Bool, Result, Ok, Err}
 use Rattle.std.proofs.lemmas.Bool.{ltb-true, ltb-false}
 use Rattle.std.proofs.lemmas.List.{drop-drop, drop_all, take-append-drop, length-drop, length-take-le}
@@ -15,11 +16,11 @@ use Rattle.mw_term.specs.declared.refusal.Stop.TheVariants.{Refused, Memory}
 use Rattle.mw_term.specs.Stops.{IfRefused}
 use Rattle.mw_lex.specs.Lexing.{IsOfLexing}
 use Rattle.mw_lex.specs.Pieces.{Seen, gap, marked, run, strange, front, run_answer, next_to_last, last, opens_literal}
-use Rattle.mw_lex.specs.Pieces.{Gives}
+use Rattle.mw_lex.specs.Pieces.{Gives, is_blank}
 use Rattle.mw_lex.specs.Steps.{IsRead}
 use Rattle.mw_lex.proofs.Tables.{mark_in_range}
 use Rattle.mw_lex.proofs.Ranges.{range_push}
-use Rattle.mw_lex.proofs.Fronts.{Means, means}
+use Rattle.mw_lex.proofs.Fronts.{Means, means, blank_front}
 use Rattle.mw_lex.proofs.Runs.{RunMeans, run_means}
 
 pub reads_on : {at mid stop : ℕ} {bytes rest end : List ℕ} {front back : List PureToken} → Reads at bytes front mid rest
@@ -81,6 +82,10 @@ module _ (bytes : List ℕ) (at : ℕ) (tokens : List PureToken) (h : IsRead byt
               (subst (λ r. Reads 0 bytes (tokens ++ []) (at + n) r) (drop-drop n at bytes) whole);
           in_range = h.in_range;
         }
+
+    pub blank_read : is_blank (get_or bytes at 0) ≡ true → IsRead bytes (at + 1) tokens
+    blank_read e = step_gap 1 (ap front (drop-cons bytes at 0 below)
+        ∙ blank_front (get_or bytes at 0) (drop (suc at) bytes) e)
 
     pub step_mark : (s : Symbol) (n : ℕ) → front (drop at bytes) ≡ marked s n
         → IsRead bytes (at + n) (tokens ++ token at (at + n) s ∷ [])

@@ -8,6 +8,7 @@ ghost use Rattle.mw_lex.specs.Reading.{AreTokens, IsFirstFault};
 ghost use Rattle.mw_lex.specs.Lexing.{IsOfLexing};
 ghost use Rattle.mw_lex.specs.Steps.{IsRead};
 
+use crate::byte::is_blank;
 use crate::kind::{opens_literal, run_kind};
 use crate::piece::{Piece, front};
 use crate::token::{Kind, Token, Tokens};
@@ -23,8 +24,7 @@ fn add(tokens: &mut Tokens, kind: Kind, start: usize, end: usize) -> Result<(), 
         kind,
         start: start as u32,
         end: end as u32,
-    })?;
-    Ok(())
+    })
 }
 
 /// Reads the piece at an offset, and answers the offset after it.
@@ -54,8 +54,8 @@ pub fn step(alloc: Global, bytes: &[u8], at: usize, tokens: &mut Tokens) -> Resu
     }
 }
 
-/// The tokens of all the bytes.
-#[tactic(auto, using(crate::proofs::StepsOn::start_read, crate::proofs::StepsOn::all_read))]
+/// The tokens of all the bytes. Single blanks, the most frequent pieces, take no step.
+#[tactic(auto, using(crate::proofs::StepsOn::start_read, crate::proofs::StepsOn::all_read, crate::proofs::StepsOn::blank_read))]
 pub fn pieces(alloc: Global, bytes: &[u8]) -> Result<Tokens, Stop>
     requires { length bytes.now ≤ 2 ^ 20 }
     ensures found { IfOk result (λ v. AreTokens bytes.now (tokens_of v)) }
@@ -65,7 +65,11 @@ pub fn pieces(alloc: Global, bytes: &[u8]) -> Result<Tokens, Stop>
     let mut tokens = Tokens::new(alloc);
     let mut at = 0;
     while at < bytes.len() {
-        at = step(alloc, bytes, at, &mut tokens)?;
+        if is_blank(bytes[at]) {
+            at += 1;
+        } else {
+            at = step(alloc, bytes, at, &mut tokens)?;
+        }
     }
     Ok(tokens)
 }

@@ -14,7 +14,7 @@ fn is(text: &[u8], other: &[u8]) -> bool
     ensures { result ≡ bytes_eq text.now other.now }
 {
     match (text, other) {
-        ([first, text @ ..], [second, other @ ..]) => *first == *second && text == other,
+        ([first, ..], [second, ..]) => *first == *second && text == other,
         _ => text.len() == other.len(),
     }
 }
