@@ -68,16 +68,9 @@ pub fn front(bytes: &[u8]) -> Piece
 {
     match bytes {
         [] => Piece::Strange(0),
-        [byte, rest @ ..] => {
-            if is_blank(*byte) {
-                Piece::Gap(1)
-            } else if *byte == b'#' {
-                comment(rest)
-            } else if is_word_byte(*byte) {
-                Piece::Run(word_length(bytes))
-            } else {
-                a_mark(bytes)
-            }
-        }
+        [byte, ..] if is_blank(*byte) => Piece::Gap(1),
+        [b'#', rest @ ..] => comment(rest),
+        [byte, ..] if is_word_byte(*byte) => Piece::Run(word_length(bytes)),
+        _ => a_mark(bytes),
     }
 }
