@@ -14,7 +14,7 @@ use Rattle.mw_types.specs.Walks.{AllSized}
 use Rattle.mw_types.specs.Stands.{Names}
 use Rattle.mw_types.specs.declared.types.Equation.{Equation}
 use Rattle.mw_types.specs.declared.state.State.{State}
-use Rattle.mw_types.specs.declared.judging.Verdict.TheVariants.{Fine, Unsolvable, TooBig}
+use Rattle.mw_types.specs.declared.judging.Verdict.TheVariants.{Fine, Clash, Cycle, TooBig}
 use Rattle.mw_types.proofs.Lists.{same, other, is}
 use Rattle.mw_types.proofs.Smallest.{grows, least, least_size}
 use Rattle.mw_types.proofs.Reps.{rep, names, answer, answer_sound, answer_general, answer_size}
@@ -168,7 +168,7 @@ take_one (y ∷ xs) zero x e = let p : y ≡ x = cc in rw p refl
 take_one (y ∷ xs) (suc i) x e = let q : suc i + 1 ≡ suc (i + 1) = omega arith in
     rw q (ap (λ es. equation_of y ∷ es) (take_one xs i x e))
 
-take_all : (xs : List Equation) (i : ℕ) → length xs ≤ i → take i xs ≡ xs
+pub take_all : (xs : List Equation) (i : ℕ) → length xs ≤ i → take i xs ≡ xs
 take_all [] zero le = refl
 take_all [] (suc i) le = refl
 take_all (y ∷ xs) zero le = absurd (omega arith)
@@ -200,11 +200,6 @@ item_stated n m k xs i x s t u v l r e w g h p q z f =
     (one_stated n m (equations_of (take i xs)) (equation_of x) s t u v l r (left_within k n m m xs i x e refl w g)
     (right_within k n m m xs i x e refl w g) h p q z f)
 
-pub all_stated : (n m k : ℕ) (xs : List Equation) (i : ℕ) (s : State) → n ≡ k → length xs ≤ i
-    → Stated n m (equations_of (take i xs)) s → Stated k m (equations_of xs) s
-all_stated n m k xs i s e le h = subst (λ ys. Stated k m (equations_of ys) s) (take_all xs i le)
-    (subst (λ j. Stated j m (equations_of (take i xs)) s) e h)
-
 within_snoc : (n m : ℕ) (es : List TypeEquation) (e : TypeEquation) → AllWithin n m es → Within n m e.left
     → Within n m e.right → AllWithin n m (es ++ e ∷ [])
 within_snoc n m [] e w l r = ((l, r), tt)
@@ -224,8 +219,11 @@ small_more xs i x lt e le h u ul = elim (is u i) [
   | other n ↦ h u (omega (arith, n, ul))
 ]
 
-pub unsolvable_not_fine : Unsolvable ≢ Fine
-unsolvable_not_fine e = absurd (cc)
+pub clash_not_fine : Clash ≢ Fine
+clash_not_fine e = absurd (cc)
+
+pub cycle_not_fine : Cycle ≢ Fine
+cycle_not_fine e = absurd (cc)
 
 pub too_big_not_fine : TooBig ≢ Fine
 too_big_not_fine e = absurd (cc)

@@ -32,6 +32,11 @@ found_size s marks x r n d m l lt e =
     let z = m.done r n (get_or_default marks r New d (let q = m.count in omega arith) ∙ e) in
     record { type = z.type; stands = λ k. leads_stands l (z.stands k); count = z.count }
 
+pub sized_up : (s : State) (x p n : ℕ) → x < length s.parent.items → p ≡ slice_index_or s.parent.items x 0 → p ≢ x
+    → Sized s p n → Sized s x n
+sized_up s x p n lt e o z =
+    record { type = z.type; stands = λ k. s_up lt e o (z.stands k); count = z.count }
+
 pub found_root : (s : State) (marks : List Mark) (x r : ℕ) (d : Mark) → Marked s marks → Leads s.parent.items x r
     → r < length s.parent.items → slice_index_or s.parent.items r 0 ≡ r → ((n : ℕ) → slice_index_or marks r d ≢ Done n)
     → RootOf s marks x r
@@ -365,20 +370,6 @@ set_not_new (z ∷ ms) zero zero n h = n
 set_not_new (z ∷ ms) zero (suc y) n h = h
 set_not_new (z ∷ ms) (suc x) zero n h = h
 set_not_new (z ∷ ms) (suc x) (suc y) n h = set_not_new ms x y n h
-
-append_new : (ms : List Mark) → ((x : ℕ) → slice_index_or ms x New ≡ New) → (x : ℕ) → slice_index_or (ms ++ New ∷ []) x
-    New ≡ New
-append_new [] f zero = refl
-append_new [] f (suc x) = refl
-append_new (m ∷ ms) f zero = f zero
-append_new (m ∷ ms) f (suc x) = append_new ms (λ y. f (suc y)) x
-
-pub one_new : (n : ℕ) (ms ns : List Mark) → ns ≡ ms ++ New ∷ [] → AllNew n ms → AllNew (n + 1) ns
-one_new n ms ns e a =
-    rw e (record { long = omega (arith, length-append ms (New ∷ []), a.long); new = append_new ms a.new })
-
-pub no_new : AllNew 0 []
-no_new = record { long = refl; new = λ x. refl }
 
 get_left : (xs : List ℕ) (y i : ℕ) → i < length xs → slice_index_or (xs ++ y ∷ []) i 0 ≡ slice_index_or xs i 0
 get_left [] y i lt = absurd (omega arith)

@@ -94,6 +94,13 @@ pub record Sound (s : State) : Type 0 where
       (slice_index_or s.shape.items i Free)
   pub waiting : WaitsInside (length s.parent.items) s.waiting.items
 
+-- the second state's lists are the first's
+pub record IsCopy (s t : State) : Type 0 where
+  pub parent : t.parent.items ≡ s.parent.items
+  pub shape : t.shape.items ≡ s.shape.items
+  pub classifier : t.classifier.items ≡ s.classifier.items
+  pub waiting : t.waiting.items ≡ s.waiting.items
+
 abbrev pub ExtraInside : ℕ → ℕ → Met → Type 0
 ExtraInside n m Clash = Unit {0}
 ExtraInside n m (Keep h) = Inside n m h

@@ -1,9 +1,9 @@
 // One front of equations: solvable, unsolvable, or with too big a most general solution.
 
-ghost use Rattle.std.specs.Prelude.{ℕ, ◌≡◌, ◌<◌, ◌≤◌, [], length, take, IfOk, IsTrue, ◌↔◌};
+ghost use Rattle.std.specs.Prelude.{ℕ, [], ◌≡◌, ◌<◌, ◌≤◌, length, take, IfNone, IfOk, IfSome};
 ghost use Rattle.mw_types.specs.Equations.{equations_of, AllWithin};
 ghost use Rattle.mw_types.specs.Answering.{Ready};
-ghost use Rattle.mw_types.specs.Judged.{Judges, Blank};
+ghost use Rattle.mw_types.specs.Judged.{Blank, ClashesBetween, JudgesFront, StatesFront};
 ghost use Rattle.mw_types.specs.Types.{Assignment};
 ghost use Rattle.mw_types.specs.Holds.{Sound, Means, nodes_in, classifiers_in};
 
@@ -13,48 +13,120 @@ use crate::types::Equation;
 use crate::walk::sizes;
 use std::alloc::{AllocError, Global};
 
-/// What a front is.
+/// What a front is. A front without a solution clashes where some node is to have two shapes, and is else a cycle: some
+/// type is to hold itself.
 #[derive(Clone, Copy)]
 pub enum Verdict {
     Fine,
-    Unsolvable,
+    Clash,
+    Cycle,
     TooBig,
 }
 
-/// Judges equations, in a state that has a node for each unknown and says nothing yet.
+/// How many equations a front has, and what it is.
+#[derive(Clone, Copy)]
+pub struct Judgement {
+    pub end: usize,
+    pub verdict: Verdict,
+}
+
+/// Judges equations, in a state that has a node for each unknown and says nothing yet; where one of them clashes with
+/// those before it, the first front that has a clash.
 pub fn judge(
     alloc: Global,
     state: &mut State,
     equations: &[Equation],
-) -> Result<Verdict, AllocError>
+) -> Result<Judgement, AllocError>
     requires sound { Sound state.old }
     requires blank { (a : Assignment) → Means state.old a }
+    requires settled { state.old.waiting.items ≡ [] }
     requires inside { AllWithin (nodes_in state.old) (classifiers_in state.old) (equations_of equations.now) }
-    ensures judged { IfOk result (λ verdict. Judges (nodes_in state.old) (equations_of equations.now) verdict) }
-    ensures ready { IfOk result (λ found. found ≡ Verdict.Fine → Ready (nodes_in state.old) (classifiers_in state.old)
-        (equations_of equations.now) state.new) }
+    ensures judged { IfOk result (λ front. JudgesFront (nodes_in state.old) equations.now front) }
+    ensures within { IfOk result (λ front. front.end ≤ length equations.now) }
+    ensures ready { IfOk result (λ front. front.verdict ≡ Verdict.Fine
+        → Ready (nodes_in state.old) (classifiers_in state.old) (equations_of equations.now) state.new) }
 {
     let unknowns = state.parent.len();
-    for equation in equations {
-        let left = add(state, &equation.left, unknowns)?;
-        let right = add(state, &equation.right, unknowns)?;
-        postpone(state, Pending { left, right })?;
-    }
-    if !settle(state)? {
-        return Ok(Verdict::Unsolvable);
+    judge_longer(alloc, state, equations, unknowns, 0, equations.len())
+}
+
+/// Judges a front in a state that says what a shorter one says; where an equation between them clashes with those before
+/// it, the first front that has a clash.
+pub fn judge_longer(
+    alloc: Global,
+    state: &mut State,
+    equations: &[Equation],
+    unknowns: usize,
+    shorter: usize,
+    end: usize,
+) -> Result<Judgement, AllocError>
+    requires stated { StatesFront unknowns (classifiers_in state.old) equations.now shorter state.old }
+    requires inside { AllWithin unknowns (classifiers_in state.old) (equations_of equations.now) }
+    requires order { shorter ≤ end }
+    requires end { end ≤ length equations.now }
+    ensures judged { IfOk result (λ front. JudgesFront unknowns equations.now front) }
+    ensures within { IfOk result (λ front. front.end ≤ end) }
+    ensures longer { IfOk result (λ front. shorter < end → shorter < front.end) }
+    ensures whole { IfOk result (λ front. front.verdict ≡ Verdict.Fine → front.end ≡ end) }
+    ensures ready { IfOk result (λ front. front.verdict ≡ Verdict.Fine
+        → Ready unknowns (classifiers_in state.old) (equations_of (take end equations.now)) state.new) }
+{
+    if let Some(clash) = extend(state, equations, unknowns, shorter, end)? {
+        return Ok(Judgement {
+            end: clash,
+            verdict: Verdict::Clash,
+        });
     }
     flatten(state);
     match sizes(alloc, state)? {
-        None => Ok(Verdict::Unsolvable),
+        None => Ok(Judgement {
+            end,
+            verdict: Verdict::Cycle,
+        }),
         Some(all) => {
             for index in 0..unknowns {
                 if all[index] > 10000 {
-                    return Ok(Verdict::TooBig);
+                    return Ok(Judgement {
+                        end,
+                        verdict: Verdict::TooBig,
+                    });
                 }
             }
-            Ok(Verdict::Fine)
+            Ok(Judgement {
+                end,
+                verdict: Verdict::Fine,
+            })
         }
     }
+}
+
+// Adds the equations between two fronts, and settles each before the next; the first front that clashes, if one does.
+fn extend(
+    state: &mut State,
+    equations: &[Equation],
+    unknowns: usize,
+    shorter: usize,
+    end: usize,
+) -> Result<Option<usize>, AllocError>
+    requires stated { StatesFront unknowns (classifiers_in state.old) equations.now shorter state.old }
+    requires inside { AllWithin unknowns (classifiers_in state.old) (equations_of equations.now) }
+    requires order { shorter ≤ end }
+    requires end { end ≤ length equations.now }
+    ensures stated { IfOk result (λ clash. IfNone clash
+        (StatesFront unknowns (classifiers_in state.old) equations.now end state.new)) }
+    ensures clash { IfOk result (λ clash. IfSome clash
+        (λ front. ClashesBetween equations.now shorter end front)) }
+{
+    for index in shorter..end {
+        let equation = &equations[index];
+        let left = add(state, &equation.left, unknowns)?;
+        let right = add(state, &equation.right, unknowns)?;
+        postpone(state, Pending { left, right })?;
+        if !settle(state)? {
+            return Ok(Some(index + 1));
+        }
+    }
+    Ok(None)
 }
 
 /// A node for each unknown, of which nothing is said.
@@ -74,20 +146,4 @@ pub fn blank(alloc: Global, unknowns: usize, classifiers: usize) -> Result<State
         node(&mut state, Shape::Free)?;
     }
     Ok(state)
-}
-
-/// Judges a front of equations.
-pub fn front(
-    alloc: Global,
-    equations: &[Equation],
-    end: usize,
-    unknowns: usize,
-    classifiers: usize,
-) -> Result<Verdict, AllocError>
-    requires inside { AllWithin unknowns classifiers (equations_of equations.now) }
-    requires end { end ≤ length equations.now }
-    ensures { IfOk result (λ verdict. Judges unknowns (take end (equations_of equations.now)) verdict) }
-{
-    let mut state = blank(alloc, unknowns, classifiers)?;
-    judge(alloc, &mut state, &equations[..end])
 }

@@ -44,10 +44,10 @@ pub fn solve(alloc: Global, equations: &Equations) -> Result<Solved, SolveFault>
     let classifiers = equations.classifiers as usize;
     let pairs = equations.pairs.as_slice();
     let mut state = blank(alloc, unknowns, classifiers)?;
-    let verdict = judge(alloc, &mut state, pairs)?;
-    if is_fine(verdict) {
+    let whole = judge(alloc, &mut state, pairs)?;
+    if is_fine(whole.verdict) {
         Ok(answer(alloc, &state, unknowns)?)
     } else {
-        Err(first_fault(alloc, pairs, unknowns, classifiers, verdict)?)
+        Err(first_fault(alloc, pairs, unknowns, classifiers, whole)?)
     }
 }

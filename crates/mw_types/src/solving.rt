@@ -1,43 +1,62 @@
 // The first fault of equations.
 
-ghost use Rattle.std.specs.Prelude.{◌≡◌, ◌≢◌, IfOk, IsTrue, ◌↔◌};
+ghost use Rattle.std.specs.Prelude.{◌≡◌, ◌≢◌, ◌<◌, ◌≤◌, ◌+◌, length, IfOk, IsTrue, ◌↔◌};
 ghost use Rattle.mw_types.specs.Equations.{AllWithin, equations_of};
-ghost use Rattle.mw_types.specs.Judged.{Judges, Faults};
+ghost use Rattle.mw_types.specs.Judged.{JudgesFront, Faults};
 
-use crate::judging::{Verdict, front};
+use crate::judging::{Judgement, Verdict, blank, judge_longer};
+use crate::state::copy;
 use crate::types::{Equation, SolveFault};
 use std::alloc::{AllocError, Global};
 
-/// The first fault of equations that have one, by halving.
+/// The first fault of equations that have one, by halving: the state of the longest front that is known to be fine is
+/// kept, and each front that is tried begins with a copy of it.
 pub fn first_fault(
     alloc: Global,
     equations: &[Equation],
     unknowns: usize,
     classifiers: usize,
-    whole: Verdict,
+    faulty: Judgement,
 ) -> Result<SolveFault, AllocError>
     requires inside { AllWithin unknowns classifiers (equations_of equations.now) }
-    requires judged { Judges unknowns (equations_of equations.now) whole }
-    requires faulty { whole ≢ Verdict.Fine }
+    requires judged { JudgesFront unknowns equations.now faulty }
+    requires within { faulty.end ≤ length equations.now }
+    requires fault { faulty.verdict ≢ Verdict.Fine }
     ensures { IfOk result (λ fault. Faults unknowns (equations_of equations.now) fault) }
 {
-    let mut verdict = whole;
+    let mut state = blank(alloc, unknowns, classifiers)?;
     let mut low = 0;
-    let mut high = equations.len();
-    while high - low > 1 {
-        let middle = low + (high - low) / 2;
-        let other = front(alloc, equations, middle, unknowns, classifiers)?;
-        if is_fine(other) {
+    let mut high = faulty;
+    while high.end - low > 1 {
+        let middle = between(low, high);
+        let mut longer = copy(alloc, &state)?;
+        let front = judge_longer(alloc, &mut longer, equations, unknowns, low, middle)?;
+        if is_fine(front.verdict) {
+            state = longer;
             low = middle;
         } else {
-            high = middle;
-            verdict = other;
+            high = front;
         }
     }
-    match verdict {
+    let length = high.end as u64;
+    match high.verdict {
         Verdict::Fine => unreachable!(),
-        Verdict::Unsolvable => Ok(SolveFault::Unsolvable(high as u64)),
-        Verdict::TooBig => Ok(SolveFault::TooBig(high as u64)),
+        Verdict::Clash => Ok(SolveFault::Unsolvable(length)),
+        Verdict::Cycle => Ok(SolveFault::Unsolvable(length)),
+        Verdict::TooBig => Ok(SolveFault::TooBig(length)),
+    }
+}
+
+// The front to be tried between a fine one and a longer one with a fault: the last before a clash, which is mostly the
+// first fault, and else the middle.
+fn between(low: usize, high: Judgement) -> usize
+    requires apart { low + 1 < high.end }
+    ensures above { low < result }
+    ensures below { result < high.end }
+{
+    match high.verdict {
+        Verdict::Clash => high.end - 1,
+        _ => low + (high.end - low) / 2,
     }
 }
 
@@ -47,7 +66,8 @@ pub fn is_fine(verdict: Verdict) -> bool
 {
     match verdict {
         Verdict::Fine => true,
-        Verdict::Unsolvable => false,
+        Verdict::Clash => false,
+        Verdict::Cycle => false,
         Verdict::TooBig => false,
     }
 }

@@ -3,11 +3,11 @@
 ghost use Rattle.std.specs.Prelude.{ℕ, ◌+◌, ◌*◌, ◌≡◌, ◌≢◌, [], ◌≤◌, ◌<◌, length, slice_index_or, IfOk, IsTrue, IsFalse};
 ghost use Rattle.mw_types.specs.Forest.{Low, Leads};
 ghost use Rattle.mw_types.specs.Holds.{Meeting, shape_at, Inside, ExtraInside, kept, Sound, Step, Linked, Never};
-ghost use Rattle.mw_types.specs.Holds.{weight, more, work};
+ghost use Rattle.mw_types.specs.Holds.{IsCopy, weight, more, work};
 ghost use Rattle.mw_types.specs.Shorter.{Found};
 
 use crate::ways::find_halving;
-use std::alloc::AllocError;
+use std::alloc::{AllocError, Global};
 
 /// What is known of a class: nothing, or its outermost constructor and the nodes below it.
 #[derive(Clone, Copy)]
@@ -45,6 +45,18 @@ pub struct State {
     pub shape: Vec<Shape>,
     pub classifier: Vec<usize>,
     pub waiting: Vec<Pending>,
+}
+
+/// A state that says the same, in memory of its own.
+pub fn copy(alloc: Global, state: &State) -> Result<State, AllocError>
+    ensures { IfOk result (λ made. IsCopy state.now made) }
+{
+    Ok(State {
+        parent: Vec::from_slice(alloc, state.parent.as_slice())?,
+        shape: Vec::from_slice(alloc, state.shape.as_slice())?,
+        classifier: Vec::from_slice(alloc, state.classifier.as_slice())?,
+        waiting: Vec::from_slice(alloc, state.waiting.as_slice())?,
+    })
 }
 
 /// The representative of a node's class.

@@ -1,9 +1,9 @@
 // The sizes of the types that nodes stand for, where the classes have no cycle.
 
-ghost use Rattle.std.specs.Prelude.{ℕ, ◌≡◌, ◌≢◌, ◌<◌, length, slice_index_or, IfSome, IfNone, IfOk, IsTrue, IsFalse};
-ghost use Rattle.std.specs.Prelude.{◌↔◌};
+ghost use Rattle.std.specs.Prelude.{ℕ, [], ◌≡◌, ◌≢◌, ◌<◌, length, slice_index_or, IfSome, IfNone, IfOk, IsTrue};
+ghost use Rattle.std.specs.Prelude.{IsFalse, ◌↔◌};
 ghost use Rattle.mw_types.specs.Holds.{Sound, Never};
-ghost use Rattle.mw_types.specs.Walks.{Sized, Marked, Finds, Looks, Walk, fresh, AllSized, AllNew};
+ghost use Rattle.mw_types.specs.Walks.{Sized, SomeSized, Marked, Finds, Looks, Walk, fresh, AllSized, AllNew};
 
 use crate::state::{Shape, State, find};
 use std::alloc::{AllocError, Global};
@@ -93,21 +93,23 @@ fn is_open(mark: Mark) -> bool
     }
 }
 
-/// Does whatever is below a class; `false` where there is a cycle.
+/// Does whatever is below a class, over a path that is empty before and after; `false` where there is a cycle.
 pub fn visit(
-    alloc: Global,
     state: &State,
     marks: &mut Vec<Mark>,
+    path: &mut Vec<usize>,
     start: usize,
 ) -> Result<bool, AllocError>
     requires sound { Sound state.now }
     requires marked { Marked state.now marks.old.items }
     requires shut { (x : ℕ) → slice_index_or marks.old.items x Mark.New ≢ Mark.Open }
+    requires empty { path.old.items ≡ [] }
     requires inside { start < length state.now.parent.items }
     requires root { slice_index_or state.now.parent.items start 0 ≡ start }
     ensures marked { IfOk result (λ fine. IsTrue fine → Marked state.now marks.new.items) }
     ensures met { IfOk result (λ fine. IsTrue fine → slice_index_or marks.new.items start Mark.New ≢ Mark.New) }
     ensures shut { IfOk result (λ fine. IsTrue fine → (x : ℕ) → slice_index_or marks.new.items x Mark.New ≢ Mark.Open) }
+    ensures empty { IfOk result (λ fine. IsTrue fine → path.new.items ≡ []) }
     ensures none { IfOk result (λ fine. IsFalse fine → Never state.now (λ a. Unit {0})) }
 {
     match marks[start] {
@@ -115,7 +117,6 @@ pub fn visit(
         Mark::Open => return Ok(true),
         Mark::New => {}
     }
-    let mut path = Vec::new(alloc);
     marks[start] = Mark::Open;
     path.push(start)?;
     while let Some(top) = path.pop() {
@@ -141,10 +142,41 @@ fn new_marks(alloc: Global, count: usize) -> Result<Vec<Mark>, AllocError>
     ensures { IfOk result (λ marks. AllNew count marks.items) }
 {
     let mut marks = Vec::new(alloc);
-    for _index in 0..count {
-        marks.push(Mark::New)?;
-    }
+    marks.resize(count, Mark::New)?;
     Ok(marks)
+}
+
+// The size of a node, of which 10,001 and more is 10,001, after those of lower nodes; `None` where there is a cycle.
+fn next_size(
+    state: &State,
+    marks: &mut Vec<Mark>,
+    path: &mut Vec<usize>,
+    lower: &[u64],
+    node: usize,
+) -> Result<Option<u64>, AllocError>
+    requires sound { Sound state.now }
+    requires lower { SomeSized state.now marks.old.items lower.now node }
+    requires empty { path.old.items ≡ [] }
+    requires inside { node < length state.now.parent.items }
+    ensures sized { IfOk result (λ found. IfSome found (λ size. Sized state.now node size)) }
+    ensures marked { IfOk result (λ found. IfSome found (λ _. Marked state.now marks.new.items)) }
+    ensures shut { IfOk result (λ found. IfSome found
+        (λ _. (x : ℕ) → slice_index_or marks.new.items x Mark.New ≢ Mark.Open)) }
+    ensures empty { IfOk result (λ found. IfSome found (λ _. path.new.items ≡ [])) }
+    ensures none { IfOk result (λ found. IfNone found (Never state.now (λ a. Unit {0}))) }
+{
+    let up = state.parent[node];
+    if up != node {
+        return Ok(Some(lower[up]));
+    }
+    if !visit(state, marks, path, node)? {
+        return Ok(None);
+    }
+    match marks[node] {
+        Mark::Done(size) => Ok(Some(size)),
+        Mark::New => Ok(None),
+        Mark::Open => Ok(None),
+    }
 }
 
 /// Each node's size, of which 10,001 and more is 10,001; `None` where there is a cycle, and so no solution.
@@ -154,16 +186,12 @@ pub fn sizes(alloc: Global, state: &State) -> Result<Option<Vec<u64>>, AllocErro
     ensures none { IfOk result (λ found. IfNone found (Never state.now (λ a. Unit {0}))) }
 {
     let mut marks = new_marks(alloc, state.parent.len())?;
-    let mut all = Vec::new(alloc);
+    let mut path = Vec::new(alloc);
+    let mut all = Vec::with_capacity(alloc, state.parent.len())?;
     for node in 0..state.parent.len() {
-        let root = find(state.parent.as_slice(), node);
-        if !visit(alloc, state, &mut marks, root)? {
-            return Ok(None);
-        }
-        match marks[root] {
-            Mark::Done(size) => all.push(size)?,
-            Mark::New => return Ok(None),
-            Mark::Open => return Ok(None),
+        match next_size(state, &mut marks, &mut path, all.as_slice(), node)? {
+            None => return Ok(None),
+            Some(size) => all.push(size)?,
         }
     }
     Ok(Some(all))

@@ -11,14 +11,14 @@ pub answer-requires-clause-room : goal.answer-requires-clause-room
 answer-requires-clause-room c names u lt =
     let r = ready_at c.in_ok-state.ensures.node_count c.in_ok-state.ensures.classifier_count
     (ap equations_of c.as_slice-pairs.ensures)
-    (c.in_ok-verdict.ensures.ready (c.is_fine.ensures.0 c.if-is_fine.true)) in
+    (c.in_ok-whole.ensures.ready (c.is_fine.ensures.0 c.if-is_fine.true)) in
     room c.judge.new.state r.sizes c.args.equations.now.unknowns r.stated.long r.all r.small names u lt
 
 pub returns-then-is_fine-clause-most_general : goal.returns-then-is_fine-clause-most_general
 returns-then-is_fine-clause-most_general c =
     let r = ready_at c.in_ok-state.ensures.node_count c.in_ok-state.ensures.classifier_count
     (ap equations_of c.as_slice-pairs.ensures)
-    (c.in_ok-verdict.ensures.ready (c.is_fine.ensures.0 c.if-is_fine.true)) in
+    (c.in_ok-whole.ensures.ready (c.is_fine.ensures.0 c.if-is_fine.true)) in
     most_general c.args.equations.now.unknowns c.args.equations.now.classifiers
     (equations_of c.args.equations.now.pairs) c.judge.new.state c.requires.within r c.in_ok-answer.field-0
     c.in_ok-answer.ensures
@@ -27,7 +27,7 @@ pub returns-then-is_fine-clause-small : goal.returns-then-is_fine-clause-small
 returns-then-is_fine-clause-small c =
     let r = ready_at c.in_ok-state.ensures.node_count c.in_ok-state.ensures.classifier_count
     (ap equations_of c.as_slice-pairs.ensures)
-    (c.in_ok-verdict.ensures.ready (c.is_fine.ensures.0 c.if-is_fine.true)) in
+    (c.in_ok-whole.ensures.ready (c.is_fine.ensures.0 c.if-is_fine.true)) in
     is_small c.args.equations.now.unknowns c.args.equations.now.classifiers (equations_of c.args.equations.now.pairs)
     c.judge.new.state c.requires.within r c.in_ok-answer.field-0 c.in_ok-answer.ensures
 
@@ -35,7 +35,7 @@ pub returns-then-is_fine-clause-within : goal.returns-then-is_fine-clause-within
 returns-then-is_fine-clause-within c =
     let r = ready_at c.in_ok-state.ensures.node_count c.in_ok-state.ensures.classifier_count
     (ap equations_of c.as_slice-pairs.ensures)
-    (c.in_ok-verdict.ensures.ready (c.is_fine.ensures.0 c.if-is_fine.true)) in
+    (c.in_ok-whole.ensures.ready (c.is_fine.ensures.0 c.if-is_fine.true)) in
     stays_within c.args.equations.now.unknowns c.args.equations.now.classifiers
     (equations_of c.args.equations.now.pairs) c.judge.new.state c.requires.within r c.in_ok-answer.field-0
     c.in_ok-answer.ensures
@@ -103,37 +103,37 @@ returns-in_err-state-clause-too_big c = λ k h. rw (from_memory c.from_residual.
 pub returns-in_err-state-clause-fault : goal.returns-in_err-state-clause-fault
 returns-in_err-state-clause-fault c = rw (from_memory c.from_residual.ensures.1) tt
 
-pub returns-in_err-verdict-clause-most_general : goal.returns-in_err-verdict-clause-most_general
-returns-in_err-verdict-clause-most_general c = no_answer _ c.from_residual-in_err-verdict.result
-    c.from_residual-in_err-verdict.ensures.0
+pub returns-in_err-whole-clause-most_general : goal.returns-in_err-whole-clause-most_general
+returns-in_err-whole-clause-most_general c = no_answer _ c.from_residual-in_err-whole.result
+    c.from_residual-in_err-whole.ensures.0
 
-pub returns-in_err-verdict-clause-small : goal.returns-in_err-verdict-clause-small
-returns-in_err-verdict-clause-small c = no_answer _ c.from_residual-in_err-verdict.result
-    c.from_residual-in_err-verdict.ensures.0
+pub returns-in_err-whole-clause-small : goal.returns-in_err-whole-clause-small
+returns-in_err-whole-clause-small c = no_answer _ c.from_residual-in_err-whole.result
+    c.from_residual-in_err-whole.ensures.0
 
-pub returns-in_err-verdict-clause-within : goal.returns-in_err-verdict-clause-within
-returns-in_err-verdict-clause-within c = no_answer _ c.from_residual-in_err-verdict.result
-    c.from_residual-in_err-verdict.ensures.0
+pub returns-in_err-whole-clause-within : goal.returns-in_err-whole-clause-within
+returns-in_err-whole-clause-within c = no_answer _ c.from_residual-in_err-whole.result
+    c.from_residual-in_err-whole.ensures.0
 
-pub returns-in_err-verdict-clause-types : goal.returns-in_err-verdict-clause-types
-returns-in_err-verdict-clause-types c = no_answer _ c.from_residual-in_err-verdict.result
-    c.from_residual-in_err-verdict.ensures.0
+pub returns-in_err-whole-clause-types : goal.returns-in_err-whole-clause-types
+returns-in_err-whole-clause-types c = no_answer _ c.from_residual-in_err-whole.result
+    c.from_residual-in_err-whole.ensures.0
 
-pub returns-in_err-verdict-clause-classifiers : goal.returns-in_err-verdict-clause-classifiers
-returns-in_err-verdict-clause-classifiers c = no_answer _ c.from_residual-in_err-verdict.result
-    c.from_residual-in_err-verdict.ensures.0
+pub returns-in_err-whole-clause-classifiers : goal.returns-in_err-whole-clause-classifiers
+returns-in_err-whole-clause-classifiers c = no_answer _ c.from_residual-in_err-whole.result
+    c.from_residual-in_err-whole.ensures.0
 
-pub returns-in_err-verdict-clause-fine : goal.returns-in_err-verdict-clause-fine
-returns-in_err-verdict-clause-fine c = λ h. rw (from_memory c.from_residual-in_err-verdict.ensures.1) tt
+pub returns-in_err-whole-clause-fine : goal.returns-in_err-whole-clause-fine
+returns-in_err-whole-clause-fine c = λ h. rw (from_memory c.from_residual-in_err-whole.ensures.1) tt
 
-pub returns-in_err-verdict-clause-unsolvable : goal.returns-in_err-verdict-clause-unsolvable
-returns-in_err-verdict-clause-unsolvable c = λ k h. rw (from_memory c.from_residual-in_err-verdict.ensures.1) tt
+pub returns-in_err-whole-clause-unsolvable : goal.returns-in_err-whole-clause-unsolvable
+returns-in_err-whole-clause-unsolvable c = λ k h. rw (from_memory c.from_residual-in_err-whole.ensures.1) tt
 
-pub returns-in_err-verdict-clause-too_big : goal.returns-in_err-verdict-clause-too_big
-returns-in_err-verdict-clause-too_big c = λ k h. rw (from_memory c.from_residual-in_err-verdict.ensures.1) tt
+pub returns-in_err-whole-clause-too_big : goal.returns-in_err-whole-clause-too_big
+returns-in_err-whole-clause-too_big c = λ k h. rw (from_memory c.from_residual-in_err-whole.ensures.1) tt
 
-pub returns-in_err-verdict-clause-fault : goal.returns-in_err-verdict-clause-fault
-returns-in_err-verdict-clause-fault c = rw (from_memory c.from_residual-in_err-verdict.ensures.1) tt
+pub returns-in_err-whole-clause-fault : goal.returns-in_err-whole-clause-fault
+returns-in_err-whole-clause-fault c = rw (from_memory c.from_residual-in_err-whole.ensures.1) tt
 
 pub returns-in_err-answer-clause-most_general : goal.returns-in_err-answer-clause-most_general
 returns-in_err-answer-clause-most_general c = no_answer _ c.from_residual-in_err-answer.result
@@ -205,6 +205,9 @@ judge-requires-clause-sound c = c.in_ok-state.ensures.sound
 pub judge-requires-clause-blank : goal.judge-requires-clause-blank
 judge-requires-clause-blank c = c.in_ok-state.ensures.means
 
+pub judge-requires-clause-settled : goal.judge-requires-clause-settled
+judge-requires-clause-settled c = c.in_ok-state.ensures.settled
+
 pub judge-requires-clause-inside : goal.judge-requires-clause-inside
 judge-requires-clause-inside c = rw (
   c.in_ok-state.ensures.node_count,
@@ -216,14 +219,14 @@ pub answer-requires-clause-sound : goal.answer-requires-clause-sound
 answer-requires-clause-sound c =
     let r = ready_at c.in_ok-state.ensures.node_count c.in_ok-state.ensures.classifier_count
     (ap equations_of c.as_slice-pairs.ensures)
-    (c.in_ok-verdict.ensures.ready (c.is_fine.ensures.0 c.if-is_fine.true)) in
+    (c.in_ok-whole.ensures.ready (c.is_fine.ensures.0 c.if-is_fine.true)) in
     r.stated.sound
 
 pub answer-requires-clause-unknowns : goal.answer-requires-clause-unknowns
 answer-requires-clause-unknowns c =
     let r = ready_at c.in_ok-state.ensures.node_count c.in_ok-state.ensures.classifier_count
     (ap equations_of c.as_slice-pairs.ensures)
-    (c.in_ok-verdict.ensures.ready (c.is_fine.ensures.0 c.if-is_fine.true)) in
+    (c.in_ok-whole.ensures.ready (c.is_fine.ensures.0 c.if-is_fine.true)) in
     r.stated.long
 
 pub returns-then-is_fine-clause-types : goal.returns-then-is_fine-clause-types
@@ -233,7 +236,7 @@ pub returns-then-is_fine-clause-classifiers : goal.returns-then-is_fine-clause-c
 returns-then-is_fine-clause-classifiers c =
     let r = ready_at c.in_ok-state.ensures.node_count c.in_ok-state.ensures.classifier_count
     (ap equations_of c.as_slice-pairs.ensures)
-    (c.in_ok-verdict.ensures.ready (c.is_fine.ensures.0 c.if-is_fine.true)) in
+    (c.in_ok-whole.ensures.ready (c.is_fine.ensures.0 c.if-is_fine.true)) in
     c.in_ok-answer.ensures.named.long ∙ r.stated.classifier_count
 
 pub returns-then-is_fine-clause-fine : goal.returns-then-is_fine-clause-fine
@@ -246,10 +249,13 @@ pub first_fault-requires-clause-inside : goal.first_fault-requires-clause-inside
 first_fault-requires-clause-inside c = rw c.as_slice-pairs.ensures c.requires.within
 
 pub first_fault-requires-clause-judged : goal.first_fault-requires-clause-judged
-first_fault-requires-clause-judged c = rw c.in_ok-state.ensures.node_count at c.in_ok-verdict.ensures.judged
+first_fault-requires-clause-judged c = rw c.in_ok-state.ensures.node_count at c.in_ok-whole.ensures.judged
 
-pub first_fault-requires-clause-faulty : goal.first_fault-requires-clause-faulty
-first_fault-requires-clause-faulty c = λ e. true≢false (sym (c.is_fine.ensures.1 e) ∙ c.if-is_fine.false)
+pub first_fault-requires-clause-within : goal.first_fault-requires-clause-within
+first_fault-requires-clause-within c = c.in_ok-whole.ensures.within
+
+pub first_fault-requires-clause-fault : goal.first_fault-requires-clause-fault
+first_fault-requires-clause-fault c = λ e. true≢false (sym (c.is_fine.ensures.1 e) ∙ c.if-is_fine.false)
 
 pub returns-clause-most_general : goal.returns-clause-most_general
 returns-clause-most_general c = tt

@@ -1,4 +1,4 @@
-use Rattle.std.proofs.Common.{◌≡◌, refl, subst, ◌∙◌, arith}
+use Rattle.std.proofs.Common.{◌≡◌, refl, ap, subst, ◌∙◌, arith}
 use Rattle.mw_types.specs.Judged.{Blank}
 use Rattle.mw_types.proofs.Halving.{class_blank, none_blank}
 use Rattle.mw_types.proofs.Steps.{no_answer}
@@ -13,6 +13,7 @@ loop-unknown-preserved c = record {
   sound = c.in_ok-node.ensures.grew.sound;
   node_count = omega (arith, c.in_ok-node.ensures.one, c.loop-unknown.invariant.node_count);
   classifier_count = c.in_ok-node.ensures.grew.classifier_count ∙ c.loop-unknown.invariant.classifier_count;
+  settled = ap (λ v. v.items) c.in_ok-node.ensures.waiting ∙ c.loop-unknown.invariant.settled;
   means = λ a. c.in_ok-node.ensures.free refl a (c.loop-unknown.invariant.means a);
 }
 

@@ -100,8 +100,8 @@ pub index_mut-requires : goal.index_mut-requires
 index_mut-requires c = omega (arith, c.requires.inside, c.requires.marked.count)
 
 pub loop-top-init : goal.loop-top-init
-loop-top-init c = start_walk c.args.state.now c.args.marks.now.items c.new-path.result.items c.push.new.self.items
-    c.args.start c.requires.marked c.requires.shut c.requires.inside c.requires.root c.new-path.ensures.items
+loop-top-init c = start_walk c.args.state.now c.args.marks.now.items c.args.path.now.items c.push.new.self.items
+    c.args.start c.requires.marked c.requires.shut c.requires.inside c.requires.root c.requires.empty
     c.in_ok-push.ensures.items
 
 pub inspect-requires-clause-sound : goal.inspect-requires-clause-sound
@@ -134,6 +134,12 @@ returns-clause-shut c = λ t. all_shut c.args.state.now c.loop-top.marks.items c
 
 pub returns-clause-none : goal.returns-clause-none
 returns-clause-none c = λ f. absurd (true≢false f)
+
+pub returns-in-Done-clause-empty : goal.returns-in-Done-clause-empty
+returns-in-Done-clause-empty c = λ t. c.requires.empty
+
+pub returns-in-Open-clause-empty : goal.returns-in-Open-clause-empty
+returns-in-Open-clause-empty c = λ t. c.requires.empty
 
 pub returns-in_err-push-clause-marked : goal.returns-in_err-push-clause-marked
 returns-in_err-push-clause-marked c = no_answer _ c.from_residual.result c.from_residual.ensures.0
