@@ -266,12 +266,6 @@ pub as_type : {s t : State} {i : ℕ} {T U : TypeExpression} → T ≡ U → Gre
     → Grew s t (λ a. a.ty i ≡ value a T)
 as_type e g = map_grew (λ a x. x ∙ sym (ap (value a) e)) g
 
-pub free_grew : (s t : State) (h : Shape) → Sound s → h ≡ Free
-    → t.parent.items ≡ s.parent.items ++ length s.parent.items ∷ [] → t.shape.items ≡ s.shape.items ++ h ∷ []
-    → t.classifier.items ≡ s.classifier.items → t.waiting.items ≡ s.waiting.items
-    → (a : Assignment) → Means s a → Means t a
-free_grew s t h p z e f g w a k = node_means s t h p e f g w a k (rw z tt)
-
 -- a node that has a shape
 pub node_shaped : (ps : List ℕ) (hs : List Shape) (h : Shape) → length hs ≡ length ps → h ≢ Free → (n : ℕ)
     → IsShaped n ps hs → IsShaped n (ps ++ length ps ∷ []) (hs ++ h ∷ [])

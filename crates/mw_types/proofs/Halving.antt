@@ -1,16 +1,16 @@
 -- The first faulty front by halving.
-use Rattle.std.proofs.Common.{length-append, ◌≡◌, ◌≢◌, ◌⊎◌, inl, inr, ℕ, zero, suc, ◌+◌, ◌≤◌, List, [], ◌∷◌, ◌++◌, take, length, refl}
+use Rattle.std.proofs.Common.{length-append, ◌≡◌, ◌≢◌, ◌⊎◌, inl, inr, ℕ, zero, suc, ◌+◌, ◌-◌, ◌≤◌, List, [], ◌∷◌, ◌++◌, take, length, refl}
 use Rattle.std.proofs.Common.{ap, sym, subst, ◌∙◌, arith}
-use Rattle.std.specs.Prelude.{slice_index_or}
+use Rattle.std.specs.Prelude.{slice_index_or, replicate}
 use Rattle.mw_term.specs.Types.{int_type}
 use Rattle.mw_types.specs.Equations.{TypeEquation, equations_of, equation_of}
 use Rattle.mw_types.specs.Answering.{Ready}
 use Rattle.mw_types.specs.Fronts.{Small, UnsolvableAt, TooBigAt}
-use Rattle.mw_types.specs.Judged.{Judges, JudgesFront, Halved, Blank, Stated, StatesFront}
-use Rattle.mw_types.specs.Holds.{Inside, IsCopy}
+use Rattle.mw_types.specs.Judged.{AreAlone, Judges, JudgesFront, Halved, Blank, Stated, StatesFront}
+use Rattle.mw_types.specs.Holds.{IsCopy}
 use Rattle.mw_types.specs.declared.state.State.{State}
 use Rattle.mw_types.specs.declared.state.Shape.{Shape}
-use Rattle.mw_types.specs.declared.state.Shape.TheVariants.{Free, Int, Bool, Pair, Arrow, Code, Closed}
+use Rattle.mw_types.specs.declared.state.Shape.TheVariants.{Free}
 use Rattle.mw_types.specs.declared.types.Equation.{Equation}
 use Rattle.mw_types.specs.declared.judging.Judgement.{Judgement}
 use Rattle.mw_types.specs.declared.judging.Verdict.{Verdict}
@@ -157,70 +157,47 @@ first_too_big n xs low high v h le lt e =
       fault = j.1;
     }
 
-class_more : (n m k : ℕ) (h : Shape) → m ≤ k → Inside n m h → Inside n k h
-class_more n m k Free le h = tt
-class_more n m k Int le h = tt
-class_more n m k Bool le h = tt
-class_more n m k (Pair l r) le h = h
-class_more n m k (Arrow l r) le h = h
-class_more n m k (Code c t) le h = (omega arith, h.1)
-class_more n m k (Closed t) le h = h
+free_at : (n i : ℕ) → slice_index_or (replicate n Free) i Free ≡ Free
+free_at zero i = refl
+free_at (suc n) zero = refl
+free_at (suc n) (suc i) = free_at n i
 
--- one more classifier unknown
-pub class_blank : (n m : ℕ) (s t : State) → Blank n m s → t.parent.items ≡ s.parent.items → t.shape.items
-    ≡ s.shape.items → t.waiting.items ≡ s.waiting.items → t.classifier.items ≡ s.classifier.items ++ m ∷ []
-    → Blank n (m + 1) t
-class_blank n m s t b e f w g = record {
-  sound = record {
-    low = rw e b.sound.low;
-    low_classifiers = rw g (λ i lt. elim (is i m) [
-      | same q ↦ rw (get_last s.classifier.items m 0 i (q ∙ sym b.classifier_count)) (omega arith)
-      | other o ↦ rw (get_left s.classifier.items m 0 i (omega (arith, len, b.classifier_count)))
-          (b.sound.low_classifiers i (omega (arith, len, b.classifier_count)))
-    ]);
-    lengths = rw (e, f) b.sound.lengths;
-    bare = rw (e, f) b.sound.bare;
-    inside = rw (e, f, g) (λ i. class_more _ (length s.classifier.items) _ (slice_index_or s.shape.items i Free)
-        (omega (arith, len)) (b.sound.inside i));
-    waiting = rw (e, w) b.sound.waiting;
-  };
-  node_count = ap length e ∙ b.node_count;
-  classifier_count = rw g (omega (arith, len, b.classifier_count));
-  settled = w ∙ b.settled;
-  means = λ a. let k = b.means a in record {
-    types = rw e k.types;
-    classifiers = rw g (λ i lt. elim (is i m) [
-      | same q ↦ rw (get_last s.classifier.items m 0 i (q ∙ sym b.classifier_count), q) refl
-      | other o ↦ rw (get_left s.classifier.items m 0 i (omega (arith, len, b.classifier_count)))
-          (k.classifiers i (omega (arith, len, b.classifier_count)))
-    ]);
-    shapes = rw f k.shapes;
-    waits = rw w k.waits;
-  };
-}
-  where
-    len : length (s.classifier.items ++ m ∷ []) ≡ length s.classifier.items + 1
-    len = length-append s.classifier.items (m ∷ [])
+free_length : (n : ℕ) → length (replicate n Free) ≡ n
+free_length zero = refl
+free_length (suc n) = ap suc (free_length n)
 
--- a state of no nodes
-pub none_blank : (s : State) → s.parent.items ≡ [] → s.shape.items ≡ [] → s.classifier.items ≡ [] → s.waiting.items ≡ []
-    → Blank 0 0 s
-none_blank s p h c w = record {
+pub all_free : (n k : ℕ) (hs : List Shape) → k ≡ 0 → hs ≡ take n [] ++ replicate (n - k) Free → hs ≡ replicate n Free
+all_free zero k hs f g = let e : zero - k ≡ zero = omega arith in rw e at g
+all_free (suc n) k hs f g = let e : suc n - k ≡ suc n = omega arith in rw e at g
+
+pub one_alone : (n : ℕ) (ps qs : List ℕ) → qs ≡ ps ++ n ∷ [] → AreAlone n ps → AreAlone (n + 1) qs
+one_alone n ps qs e a = rw e (record {
+  long = omega (arith, length-append ps (n ∷ []), a.long);
+  own = λ i lt. elim (is i n) [
+    | same q ↦ get_last ps n 0 i (q ∙ sym a.long) ∙ sym q
+    | other o ↦ get_left ps n 0 i (omega (arith, a.long)) ∙ a.own i (omega arith)
+  ];
+})
+
+-- a state in which each class is of one node or classifier unknown and has no shape
+pub all_blank : (n m : ℕ) (s : State) → AreAlone n s.parent.items → AreAlone m s.classifier.items → s.shape.items
+    ≡ replicate n Free → s.waiting.items ≡ [] → Blank n m s
+all_blank n m s p c h w = record {
   sound = record {
-    low = rw p (λ i lt. absurd (omega arith));
-    low_classifiers = rw c (λ i lt. absurd (omega arith));
-    lengths = rw (p, h) refl;
-    bare = rw p (λ i lt. absurd (omega arith));
-    inside = λ i. rw h tt;
+    low = λ i lt. let e = p.own i (omega (arith, p.long)) in omega arith;
+    low_classifiers = λ i lt. let e = c.own i (omega (arith, c.long)) in omega arith;
+    lengths = ap length h ∙ free_length n ∙ sym p.long;
+    bare = λ i lt o. rw h (free_at n i);
+    inside = λ i. rw (h, free_at n i) tt;
     waiting = rw w tt;
   };
-  node_count = ap length p;
-  classifier_count = ap length c;
+  node_count = p.long;
+  classifier_count = c.long;
   settled = w;
   means = λ a. record {
-    types = rw p (λ i lt. absurd (omega arith));
-    classifiers = rw c (λ i lt. absurd (omega arith));
-    shapes = λ i. rw h tt;
+    types = λ i lt. rw (p.own i (omega (arith, p.long))) refl;
+    classifiers = λ i lt. rw (c.own i (omega (arith, c.long))) refl;
+    shapes = λ i. rw (h, free_at n i) tt;
     waits = rw w tt;
   };
 }

@@ -1,5 +1,5 @@
 -- A front's verdict.
-use Rattle.std.specs.Prelude.{ℕ, ◌≡◌, ◌≢◌, ◌<◌, ◌≤◌, List, [], length, take}
+use Rattle.std.specs.Prelude.{ℕ, ◌≡◌, ◌≢◌, ◌<◌, ◌≤◌, List, [], length, slice_index_or, take}
 use Rattle.mw_types.specs.Equations.{TypeEquation, Solves, Solvable, Agree, equations_of}
 use Rattle.mw_types.specs.Fronts.{Small, UnsolvableAt, TooBigAt}
 use Rattle.mw_types.specs.Types.{Assignment}
@@ -51,6 +51,11 @@ pub record Blank (n m : ℕ) (s : State) : Type 0 where
   pub classifier_count : length s.classifier.items ≡ m
   pub settled : s.waiting.items ≡ []
   pub means : (a : Assignment) → Means s a
+
+-- so many parents, each of itself
+pub record AreAlone (count : ℕ) (ps : List ℕ) : Type 0 where
+  pub long : length ps ≡ count
+  pub own : (i : ℕ) → i < count → slice_index_or ps i 0 ≡ i
 
 -- the first fault
 abbrev pub Faults : ℕ → List TypeEquation → SolveFault → Type 0

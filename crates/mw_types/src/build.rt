@@ -1,9 +1,9 @@
 // Types as nodes of a state.
 
-ghost use Rattle.std.specs.Prelude.{ℕ, ◌+◌, ◌≡◌, ◌≢◌, ◌<◌, ◌≤◌, length, IfOk};
+ghost use Rattle.std.specs.Prelude.{◌+◌, ◌≡◌, ◌≢◌, ◌<◌, ◌≤◌, length, IfOk};
 ghost use Rattle.mw_types.specs.Grows.{Grew};
-ghost use Rattle.mw_types.specs.Types.{Assignment, value, type_of, Within};
-ghost use Rattle.mw_types.specs.Holds.{StaysShaped, Sound, Inside, Meets, Means};
+ghost use Rattle.mw_types.specs.Types.{value, type_of, Within};
+ghost use Rattle.mw_types.specs.Holds.{StaysShaped, Sound, Inside, Meets};
 
 use crate::state::{Shape, State};
 use crate::types::Ty;
@@ -16,8 +16,6 @@ pub fn node(state: &mut State, shape: Shape) -> Result<usize, AllocError>
     ensures grew { IfOk result (λ i. Grew state.old state.new (λ a. Meets shape (a.ty i) a)) }
     ensures inside { IfOk result (λ i. i < length state.new.parent.items) }
     ensures one { IfOk result (λ _. length state.new.parent.items ≡ length state.old.parent.items + 1) }
-    ensures waiting { IfOk result (λ _. state.new.waiting ≡ state.old.waiting) }
-    ensures free { IfOk result (λ _. shape ≡ Shape.Free → (a : Assignment) → Means state.old a → Means state.new a) }
     ensures shaped { IfOk result (λ _. shape ≢ Shape.Free → StaysShaped state.old state.new) }
 {
     let next = state.parent.len();

@@ -3,11 +3,11 @@
 ghost use Rattle.std.specs.Prelude.{ℕ, [], ◌≡◌, ◌<◌, ◌≤◌, length, take, IfNone, IfOk, IfSome};
 ghost use Rattle.mw_types.specs.Equations.{equations_of, AllWithin};
 ghost use Rattle.mw_types.specs.Answering.{Ready};
-ghost use Rattle.mw_types.specs.Judged.{Blank, ClashesBetween, JudgesFront, StatesFront};
+ghost use Rattle.mw_types.specs.Judged.{AreAlone, Blank, ClashesBetween, JudgesFront, StatesFront};
 ghost use Rattle.mw_types.specs.Types.{Assignment};
 ghost use Rattle.mw_types.specs.Holds.{Sound, Means, nodes_in, classifiers_in};
 
-use crate::build::{add, node};
+use crate::build::add;
 use crate::state::{Pending, Shape, State, flatten, postpone, settle};
 use crate::types::Equation;
 use crate::walk::sizes;
@@ -133,17 +133,25 @@ fn extend(
 pub fn blank(alloc: Global, unknowns: usize, classifiers: usize) -> Result<State, AllocError>
     ensures { IfOk result (λ state. Blank unknowns classifiers state) }
 {
-    let mut state = State {
-        parent: Vec::new(alloc),
-        shape: Vec::new(alloc),
-        classifier: Vec::new(alloc),
+    let parent = alone(alloc, unknowns)?;
+    let classifier = alone(alloc, classifiers)?;
+    let mut shape = Vec::new(alloc);
+    shape.resize(unknowns, Shape::Free)?;
+    Ok(State {
+        parent,
+        shape,
+        classifier,
         waiting: Vec::new(alloc),
-    };
-    for classifier in 0..classifiers {
-        state.classifier.push(classifier)?;
+    })
+}
+
+// The parents of classes of one each.
+fn alone(alloc: Global, count: usize) -> Result<Vec<usize>, AllocError>
+    ensures { IfOk result (λ parent. AreAlone count parent.items) }
+{
+    let mut parent = Vec::with_capacity(alloc, count)?;
+    for number in 0..count {
+        parent.push(number)?;
     }
-    for _unknown in 0..unknowns {
-        node(&mut state, Shape::Free)?;
-    }
-    Ok(state)
+    Ok(parent)
 }

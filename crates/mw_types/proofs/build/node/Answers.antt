@@ -1,5 +1,5 @@
 use Rattle.std.proofs.Common.{◌≡◌, refl, ap, ◌∙◌, ◌++◌, ◌∷◌, [], arith, length}
-use Rattle.mw_types.proofs.Growing.{node_grew, grew_at, free_grew, node_shaped_at}
+use Rattle.mw_types.proofs.Growing.{node_grew, grew_at, node_shaped_at}
 use Rattle.mw_types.proofs.build.node.Goals as goal
 
 pub returns-clause-grew : goal.returns-clause-grew
@@ -9,13 +9,6 @@ returns-clause-grew c = grew_at c.args.shape (length c.args.state.now.parent.ite
     (c.in_ok-push.ensures.items ∙ ap (λ n. c.args.state.now.parent.items ++ n ∷ [])
     (let e : c.len-next.result ≡ length c.args.state.now.parent.items = omega (arith, c.len-next.ensures) in e))
     c.in_ok-push-2.ensures.items refl refl)
-
-pub returns-clause-free : goal.returns-clause-free
-returns-clause-free c z =
-    free_grew c.args.state.now (record c.args.state.now { parent = c.push.new.self; shape = c.push-2.new.self })
-    c.args.shape c.requires.sound z (c.in_ok-push.ensures.items ∙ ap (λ n. c.args.state.now.parent.items ++ n ∷ [])
-    (let e : c.len-next.result ≡ length c.args.state.now.parent.items = omega (arith, c.len-next.ensures) in e))
-    c.in_ok-push-2.ensures.items refl refl
 
 pub returns-clause-shaped : goal.returns-clause-shaped
 returns-clause-shaped c f = node_shaped_at c.args.state.now.parent.items _ c.args.state.now.shape.items _ c.args.shape
