@@ -1,7 +1,6 @@
 -- A front's verdict, from what the parts say.
-use Rattle.std.proofs.Common.{◌≡◌, ◌≢◌, ℕ, zero, suc, ◌+◌, ◌≤◌, ◌<◌, min, List, [], ◌∷◌, ◌++◌, take, length, refl, ap}
+use Rattle.std.proofs.Common.{◌≡◌, ℕ, zero, suc, ◌+◌, ◌≤◌, ◌<◌, min, List, [], ◌∷◌, ◌++◌, take, length, refl, ap}
 use Rattle.std.proofs.Common.{sym, subst, ◌∙◌, arith}
-use Rattle.std.proofs.lemmas.List.{get_or_default}
 use Rattle.std.specs.Prelude.{slice_index_or, slice_get, Some}
 use Rattle.mw_types.specs.Equations.{TypeEquation, Solves, Solvable, Agree, AllWithin, equations_of, equation_of}
 use Rattle.mw_types.specs.Fronts.{Small}
@@ -14,8 +13,6 @@ use Rattle.mw_types.specs.Walks.{AllSized}
 use Rattle.mw_types.specs.Stands.{Names}
 use Rattle.mw_types.specs.declared.types.Equation.{Equation}
 use Rattle.mw_types.specs.declared.state.State.{State}
-use Rattle.mw_types.specs.declared.judging.Verdict.TheVariants.{Fine, Clash, Cycle, TooBig}
-use Rattle.mw_types.proofs.Lists.{same, other, is}
 use Rattle.mw_types.proofs.Smallest.{grows, least, least_size}
 use Rattle.mw_types.proofs.Reps.{rep, names, answer, answer_sound, answer_general, answer_size}
 
@@ -210,20 +207,3 @@ pub within_more : (n m : ℕ) (xs : List Equation) (i : ℕ) (x : Equation) → 
     → AllWithin n m (equations_of (take (i + 1) xs))
 within_more n m xs i x g w l r =
     rw (take_one xs i x g) (within_snoc n m (equations_of (take i xs)) (equation_of x) w l r)
-
--- one more unknown is small
-pub small_more : (xs : List ℕ) (i x : ℕ) → i < length xs → x ≡ slice_index_or xs i x → x ≤ 10000
-    → ((u : ℕ) → u < i → slice_index_or xs u 0 ≤ 10000) → (u : ℕ) → u < i + 1 → slice_index_or xs u 0 ≤ 10000
-small_more xs i x lt e le h u ul = elim (is u i) [
-  | same q ↦ rw q (let p = get_or_default xs i x 0 lt in omega (arith, p, e, le))
-  | other n ↦ h u (omega (arith, n, ul))
-]
-
-pub clash_not_fine : Clash ≢ Fine
-clash_not_fine e = absurd (cc)
-
-pub cycle_not_fine : Cycle ≢ Fine
-cycle_not_fine e = absurd (cc)
-
-pub too_big_not_fine : TooBig ≢ Fine
-too_big_not_fine e = absurd (cc)

@@ -8,7 +8,6 @@ use Rattle.mw_types.specs.Forest.{Leads, here, up}
 use Rattle.mw_types.specs.Holds.{Means, Sound, Never}
 use Rattle.mw_types.specs.Stands.{Stands, s_up, s_pair, s_arrow, s_code, s_closed}
 use Rattle.mw_types.specs.Walks.{Sized, Marked, Above, RootOf, Lower, AllAbove, AllBelow, Falls, In, Walk, fresh}
-use Rattle.mw_types.specs.Walks.{AllNew, SomeSized, AllSized}
 use Rattle.mw_types.specs.declared.state.Shape.{Shape}
 use Rattle.mw_types.specs.declared.state.Shape.TheVariants.{Free, Pair, Arrow, Code, Closed}
 use Rattle.mw_types.specs.declared.state.State.{State}
@@ -321,10 +320,6 @@ fresh_open (New ∷ ms) (suc x) lt e = omega (arith, fresh_open ms x (omega arit
 fresh_open (Open ∷ ms) (suc x) lt e = fresh_open ms x (omega arith) e
 fresh_open (Done k ∷ ms) (suc x) lt e = fresh_open ms x (omega arith) e
 
-pub mark_read : (marks : List Mark) (x : ℕ) (d : Mark) → x < length marks → slice_index_or marks x d
-    ≡ slice_index_or marks x New
-mark_read marks x d lt = get_or_default marks x d New lt
-
 pub top_in : (s : State) (marks : List Mark) (all path : List ℕ) (x : ℕ) → Walk s marks all → all ≡ path ++ x ∷ []
     → (x < length s.parent.items) × (slice_index_or s.parent.items x 0 ≡ x)
 top_in s marks all path x w e = w.roots x (rw e (in_last x x path refl))
@@ -370,40 +365,3 @@ set_not_new (z ∷ ms) zero zero n h = n
 set_not_new (z ∷ ms) zero (suc y) n h = h
 set_not_new (z ∷ ms) (suc x) zero n h = h
 set_not_new (z ∷ ms) (suc x) (suc y) n h = set_not_new ms x y n h
-
-get_left : (xs : List ℕ) (y i : ℕ) → i < length xs → slice_index_or (xs ++ y ∷ []) i 0 ≡ slice_index_or xs i 0
-get_left [] y i lt = absurd (omega arith)
-get_left (x ∷ xs) y zero lt = refl
-get_left (x ∷ xs) y (suc i) lt = get_left xs y i (omega arith)
-
-get_last : (xs : List ℕ) (y i : ℕ) → i ≡ length xs → slice_index_or (xs ++ y ∷ []) i 0 ≡ y
-get_last [] y zero e = refl
-get_last [] y (suc i) e = absurd (omega arith)
-get_last (x ∷ xs) y zero e = absurd (omega arith)
-get_last (x ∷ xs) y (suc i) e = get_last xs y i (omega arith)
-
-pub start_sized : (s : State) (marks : List Mark) → AllNew (length s.parent.items) marks → SomeSized s marks [] 0
-start_sized s marks a = record {
-  marked = record { count = a.long; done = λ x n e. let p = a.new x in absurd (cc) };
-  shut = λ x e. let p = a.new x in absurd (cc);
-  long = refl;
-  each = λ i lt. absurd (omega arith);
-}
-
-pub one_sized : (s : State) (marks : List Mark) (xs ys : List ℕ) (i y : ℕ) → Marked s marks
-    → ((x : ℕ) → slice_index_or marks x New ≢ Open) → length xs ≡ i
-    → ((k : ℕ) → k < i → Sized s k (slice_index_or xs k 0)) → ys ≡ xs ++ y ∷ [] → Sized s i y
-    → SomeSized s marks ys (i + 1)
-one_sized s marks xs ys i y m h l f e z = record {
-  marked = m;
-  shut = h;
-  long = rw e (omega (arith, length-append xs (y ∷ [])));
-  each = λ k lt. elim (is k i) [
-    | same q ↦ rw (e, get_last xs y k (omega arith), q) z
-    | other n ↦ rw (e, get_left xs y k (omega arith)) (f k (omega arith))
-  ];
-}
-
-pub all_sized : (s : State) (marks : List Mark) (xs : List ℕ) (n : ℕ) → n ≡ length s.parent.items
-    → SomeSized s marks xs n → AllSized s xs
-all_sized s marks xs n e h = record { count = h.long ∙ e; each = λ i lt. h.each i (omega arith) }

@@ -50,8 +50,8 @@ pub fn judge(
     judge_longer(alloc, state, equations, unknowns, 0, equations.len())
 }
 
-/// Judges a front in a state that says what a shorter one says; where an equation between them clashes with those before
-/// it, the first front that has a clash.
+/// Judges a front in a state that says what a shorter one says; where an equation between them clashes with those
+/// before it, the first front that has a clash.
 pub fn judge_longer(
     alloc: Global,
     state: &mut State,

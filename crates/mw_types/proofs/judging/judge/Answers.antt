@@ -24,7 +24,8 @@ returns-clause-ready c =
     let m = length c.args.state.now.classifier.items in
     let e : c.len-unknowns.result ≡ length c.args.state.now.parent.items = omega (arith, c.len-unknowns.ensures) in
     if_ok c.judge_longer.result
-    (λ front r f. subst (λ es. Ready (length c.args.state.now.parent.items) m (equations_of es) c.judge_longer.new.state)
+    (λ front r f. subst
+    (λ es. Ready (length c.args.state.now.parent.items) m (equations_of es) c.judge_longer.new.state)
     (take_all xs (length xs) (omega arith))
     (subst (λ n. Ready n m (equations_of (take (length xs) xs)) c.judge_longer.new.state) e (r f)))
     c.judge_longer.ensures.ready
