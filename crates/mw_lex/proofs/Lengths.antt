@@ -1,5 +1,6 @@
 -- Tables by the lengths of their texts.
-use Rattle.std.proofs.Common.{◌≡◌, ◌≢◌, ℕ, ◌==◌, List, [], ◌∷◌, length, refl, ap, sym, ◌∙◌, Bool, true, false, cond, Option}
+use Rattle.std.proofs.Common.{◌≡◌, ◌≢◌, ℕ, ◌==◌, List, [], ◌∷◌, length, refl, ap, sym, ◌∙◌, Bool, true, false, cond}
+use Rattle.std.proofs.Common.{Option}
 use Rattle.std.proofs.Common.{Some, None, if◌then◌else◌, arith}
 use Rattle.std.proofs.lemmas.Bool.{false≢true, eq-eqb}
 use Rattle.std.proofs.lemmas.Slice.Eq.{bytes_eq-Decides}
@@ -25,7 +26,8 @@ by_length : (n : ℕ) (text : List ℕ) (entries : List (List ℕ × Symbol)) �
 by_length n text [] e = refl
 by_length n text (entry ∷ entries) e = by_test (by_length n text entries e) (length entry.0 == n) refl
   where
-    by_test : lookup (bytes_eq text) entries ≡ lookup (bytes_eq text) (of_length n entries) → (t : Bool) → (length entry.0 == n) ≡ t
+    by_test : lookup (bytes_eq text) entries ≡ lookup (bytes_eq text) (of_length n entries) → (t : Bool)
+        → (length entry.0 == n) ≡ t
         → cond (bytes_eq text entry.0) (Some entry.1) (lookup (bytes_eq text) entries)
         ≡ lookup (bytes_eq text) (if t then entry ∷ of_length n entries else of_length n entries)
     by_test more true f = ap (λ o. cond (bytes_eq text entry.0) (Some entry.1) o) more
