@@ -59,7 +59,7 @@ fn ask(alloc: Global, out: &mut Output, asked: &Asked) -> Result<(), AllocError>
     }
 }
 
-/// The equations and closes of an item.
+/// The equations and closes of an item. There is room for an equation for each node.
 pub fn emitted<'n, 'p>(
     alloc: Global,
     names: &'n [TopScheme<'p>],
@@ -72,7 +72,7 @@ pub fn emitted<'n, 'p>(
     let mut out = Output {
         unknowns: 1,
         classifiers: 0,
-        equations: Vec::new(alloc),
+        equations: Vec::with_capacity(alloc, mw_term::nodes(term) as usize)?,
         closes: Vec::new(alloc),
         names,
     };
@@ -91,7 +91,7 @@ fn numbered(alloc: Global, names: &[TopScheme], term: &Term) -> Result<Vec<NodeN
     let mut numbers = Numbers {
         unknowns: 1,
         classifiers: 0,
-        nodes: Vec::new(alloc),
+        nodes: Vec::with_capacity(alloc, mw_term::nodes(term) as usize)?,
     };
     number(term, names, 0, &mut numbers)?;
     Ok(numbers.nodes)

@@ -32,8 +32,6 @@ mod program;
 mod renumber;
 mod scope;
 mod sharing;
-#[cfg(test)]
-mod tests;
 pub mod typed;
 
 pub use crate::failing::FailingPart;

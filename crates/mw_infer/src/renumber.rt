@@ -22,7 +22,7 @@ pub fn unseen(alloc: Global, numbers: u64) -> Result<Numbering, AllocError>
     ensures count { IfOk result (λ x. x.count ≡ 0) }
     ensures places { IfOk result (λ x. length x.places.items ≡ numbers) }
 {
-    let mut places = Vec::new(alloc);
+    let mut places = Vec::with_capacity(alloc, numbers as usize)?;
     for _number in 0..numbers {
         places.push(u64::MAX)?;
     }

@@ -5,4 +5,3 @@ pub mod KernelMeanings
 pub mod Straying
 pub mod Invoking
 pub mod Answering
-pub mod TestModules

@@ -7,8 +7,6 @@ pub mod laws;
 mod outcome;
 mod reading;
 mod running;
-#[cfg(test)]
-mod tests;
 
 pub use crate::fault::RunFault;
 pub use crate::running::{Began, Running};

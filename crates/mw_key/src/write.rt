@@ -27,6 +27,7 @@ pub fn text_of(alloc: Global, code: &Term, kind: &KType) -> Result<Vec<u8>, Allo
 }
 
 /// More text.
+#[inline(always)]
 fn put(text: &mut Vec<u8>, more: &[u8]) -> Result<(), AllocError>
     ensures { IfOk result (λ _. text.new.items ≡ text.old.items ++ more.now) }
 {

@@ -1,2 +1,2 @@
-pub mod Certified
+pub mod KernelModules
 pub mod LinkedKernels

@@ -18,6 +18,8 @@ mod generate;
 #[cfg(test)]
 mod judge;
 #[cfg(test)]
+mod kernel;
+#[cfg(test)]
 mod leb;
 #[cfg(test)]
 mod lex;

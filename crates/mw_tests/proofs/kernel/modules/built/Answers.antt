@@ -13,8 +13,8 @@ use Rattle.mw_wasm.specs.Views.{code_of, element_of, module_of, segment_of}
 use Rattle.mw_wasm.proofs.ValidSteps.{on, heads}
 use Rattle.mw_validate.specs.Kept.{IsKept}
 use Rattle.mw_exec.specs.Instancing.{first_store}
-use Rattle.mw_kernel.specs.TestModules.{test_module, call_body, IsInitCode, HasTestShapes}
-use Rattle.mw_kernel.proofs.tests.modules.built.Goals as goal
+use Rattle.mw_tests.specs.KernelModules.{test_module, call_body, IsInitCode, HasTestShapes}
+use Rattle.mw_tests.proofs.kernel.modules.built.Goals as goal
 
 abbrev t : ValType
 t = I64

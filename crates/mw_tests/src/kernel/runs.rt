@@ -4,8 +4,8 @@ ghost use Rattle.std.specs.Prelude.{◌≡◌, IfOk, IfSome};
 ghost use Rattle.mw_term.specs.declared.term.Base.TheVariants.{Int};
 ghost use Rattle.mw_term.specs.Terms.{base as base_type};
 
-use crate::tests::modules::{Init, built};
-use crate::{Began, RunFault, Running};
+use crate::kernel::modules::{Init, built};
+use mw_kernel::{Began, RunFault, Running};
 use mw_machine::Ran;
 use mw_term::{Base, BaseValue, Ground, GroundValue, KType, copied_ground};
 use std::alloc::{AllocError, Global};

@@ -10,8 +10,8 @@ use Rattle.mw_wasm.specs.Validity.{Context, of_end, of_unreachable, of_const_i32
 use Rattle.mw_wasm.specs.Validity.{context_of}
 use Rattle.mw_wasm.specs.Views.{code_of}
 use Rattle.mw_wasm.proofs.ValidSteps.{on}
-use Rattle.mw_kernel.specs.TestModules.{test_module, IsInitCode}
-use Rattle.mw_kernel.proofs.tests.modules.init_code.Goals as goal
+use Rattle.mw_tests.specs.KernelModules.{test_module, IsInitCode}
+use Rattle.mw_tests.proofs.kernel.modules.init_code.Goals as goal
 
 word_typed : (n : ℕ) → IsInitCode (next (const_i64 n) end)
 word_typed n = on [] [] (I64 ∷ []) of_const_i64 of_end

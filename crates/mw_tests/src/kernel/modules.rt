@@ -7,8 +7,8 @@ ghost use Rattle.mw_wasm.specs.declared.numbers.NumOp.TheVariants as number;
 ghost use Rattle.mw_wasm.specs.declared.numbers.StoreOp.TheVariants as store_op;
 ghost use Rattle.mw_wasm.specs.Syntax.{const_i32, const_i64, numeric, store, unreachable, end, next};
 ghost use Rattle.mw_wasm.specs.Views.{code_of, export_of, function_of, module_of, segment_of};
-ghost use Rattle.mw_kernel.specs.TestModules.{IsInitCode, call_body, test_types, test_functions, test_exports};
-ghost use Rattle.mw_kernel.specs.TestModules.{test_segments, HasTestShapes};
+ghost use Rattle.mw_tests.specs.KernelModules.{IsInitCode, call_body, test_types, test_functions, test_exports};
+ghost use Rattle.mw_tests.specs.KernelModules.{test_segments, HasTestShapes};
 
 use mw_validate::Valid;
 use mw_wasm::{
