@@ -10,12 +10,14 @@ use mw_term::{Base, Ground, KType};
 use mw_types::Ty;
 use std::alloc::{AllocError, Global};
 
+#[inline(always)]
 pub fn pair(alloc: Global, left: Ty, right: Ty) -> Result<Ty, AllocError>
     ensures { IfOk result (λ ty. type_of ty ≡ pair_ty (type_of left) (type_of right)) }
 {
     Ok(Ty::Pair(Box::new(alloc, left)?, Box::new(alloc, right)?))
 }
 
+#[inline(always)]
 pub fn function(alloc: Global, from: Ty, to: Ty) -> Result<Ty, AllocError>
     ensures { IfOk result (λ ty. type_of ty ≡ function_ty (type_of from) (type_of to)) }
 {
@@ -109,6 +111,7 @@ pub fn shift(alloc: Global, ty: &Ty, unknowns: u64, classifiers: u64) -> Result<
 }
 
 /// The same, in a box.
+#[inline(always)]
 #[cycle(shifting)]
 fn boxed_shift(
     alloc: Global,

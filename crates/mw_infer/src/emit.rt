@@ -88,6 +88,7 @@ pub fn emit(
 }
 
 /// The equations and closes that a node has of its own, which come before those of its parts.
+#[inline(always)]
 fn emit_own(
     term: &Term,
     setting: &Setting,

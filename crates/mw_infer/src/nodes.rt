@@ -98,6 +98,7 @@ fn quoted_wide(own: u64, first: u64, classifier: u64) -> NodeNumbers
 }
 
 /// Adds a node, and makes so many numbers taken.
+#[inline(always)]
 fn add(
     numbers: &mut Numbers,
     node: NodeNumbers,

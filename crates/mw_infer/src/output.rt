@@ -40,6 +40,7 @@ pub struct Output<'n, 'p> {
 }
 
 /// Makes two types one.
+#[inline(always)]
 pub fn equate(out: &mut Output, left: Ty, right: Ty) -> Result<(), AllocError>
     ensures { OnOk result (Adds out.old out.new 0 0 (equation (type_of left) (type_of right) ∷ []) []) }
 {

@@ -138,6 +138,7 @@ fn word_of(primitive: Prim) -> &'static [u8]
 }
 
 /// The integer in decimal, with a sign where it is negative.
+#[inline(always)]
 fn put_signed_decimal(text: &mut Vec<u8>, number: i64) -> Result<(), AllocError>
     ensures { IfOk result (λ _. text.new.items ≡ text.old.items ++ signed_decimal number) }
 {

@@ -10,6 +10,7 @@ use crate::types::Ty;
 use std::alloc::AllocError;
 
 /// One more node, of a shape.
+#[inline(always)]
 pub fn node(state: &mut State, shape: Shape) -> Result<usize, AllocError>
     requires sound { Sound state.old }
     requires inside { Inside (length state.old.parent.items) (length state.old.classifier.items) shape }
@@ -25,6 +26,7 @@ pub fn node(state: &mut State, shape: Shape) -> Result<usize, AllocError>
 }
 
 /// The node of a type.
+#[inline(always)]
 pub fn add(state: &mut State, ty: &Ty, unknowns: usize) -> Result<usize, AllocError>
     requires sound { Sound state.old }
     requires inside { Within unknowns (length state.old.classifier.items) (type_of ty.now) }

@@ -143,6 +143,7 @@ fn seek(state: &mut State, node: usize) -> usize
 }
 
 // Makes two representatives one class.
+#[inline(always)]
 fn link(state: &mut State, low: usize, high: usize) -> Result<bool, AllocError>
     requires sound { Sound state.old }
     requires below { low < high }
