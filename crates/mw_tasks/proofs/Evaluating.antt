@@ -17,9 +17,10 @@ use Rattle.mw_machine.specs.declared.outcome.Outcome.{Outcome}
 use Rattle.mw_machine.specs.declared.outcome.Outcome.TheVariants as o
 use Rattle.mw_machine.specs.CodesInPlace.{built_program}
 use Rattle.mw_machine.proofs.BuiltPrograms.{names_of_main-built, built_items_are}
+use Rattle.mw_machine.proofs.Naming.{names_for_items}
 use Rattle.mw_machine.specs.Begun.{Begins}
-use Rattle.mw_machine.specs.Evaluations.{Part, item, main, term_of, Evaluation, runs_of, IsPart, item_part, main_part}
-use Rattle.mw_machine.specs.Evaluations.{HasNames, item_names, main_names}
+use Rattle.mw_machine.specs.Evaluations.{Part, item, main, term_of, Evaluation, runs_of, IsPart, HasNames, item_names}
+use Rattle.mw_machine.specs.Evaluations.{main_names}
 use Rattle.mw_machine.specs.KernelCalls.{AreSound, prices}
 use Rattle.mw_machine.specs.TurnAnswers.{IsReady, IsTypedOutcome, DriveKeeps, DriveMeans}
 use Rattle.mw_machine.specs.Underway.{IsUnderway, IsMeant}
@@ -30,11 +31,10 @@ use Rattle.mw_tasks.specs.TaskOutcomes.{IsKernelItem}
 pub item_has_names : (p : PureProgram) (i : ℕ) → IsKernelItem p i → HasNames p (item i) (names_of_items p.items)
 item_has_names p i h = item_names i h.0 h.1 h.2 (names_of_items_are_values p.items i)
 
--- the names of each part of a program have values
-pub named : (p : PureProgram) (part : Part) (e : Expression) → IsPart p part e → (names : List Value)
-    × HasNames p part names
-named p _ e (item_part i k q) = (names_of_items p.items, item_names i k e q (names_of_items_are_values p.items i))
-named p _ _ (main_part codes b) = (names_of_main p.items codes, main_names codes b)
+-- the names of an item have values
+pub named : (p : PureProgram) (i : ℕ) (e : Expression) → IsPart p (item i) e → (names : List Value)
+    × HasNames p (item i) names
+named p i e is = (names_of_items p.items, names_for_items p i e is)
 
 -- the fault that `?` answers is the one that came
 pub err_is : {A E : Type 0} (result : Result A E) (f : E) → IsErrAnd result (λ g. g ≡ f) → result ≡ Err f

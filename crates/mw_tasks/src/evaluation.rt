@@ -1,6 +1,6 @@
 // Whole evaluations of a program's terms.
 
-ghost use Rattle.std.specs.Prelude.{◌≡◌, ◌≤◌, ◌+◌, Ok, false, List, IfOk, IfErr};
+ghost use Rattle.std.specs.Prelude.{ℕ, ◌≡◌, ◌≤◌, ◌+◌, Ok, false, List, IfOk, IfErr};
 ghost use Rattle.mw_term.specs.Terms.{Value, expression_of};
 ghost use Rattle.mw_term.specs.Programs.{program_of};
 ghost use Rattle.mw_term.specs.Typable.{Typable};
@@ -9,7 +9,7 @@ ghost use Rattle.mw_meaning.specs.Outcomes.{names_of_main};
 ghost use Rattle.mw_meaning.specs.OutcomeLaws.{AreCodesOf};
 ghost use Rattle.mw_meaning.specs.StagedMeaning.{staged, runs};
 ghost use Rattle.mw_machine.specs.KernelCalls.{AreSound, IsNewlyBad, prices};
-ghost use Rattle.mw_machine.specs.Evaluations.{Part, main, IsPart, HasNames, term_of};
+ghost use Rattle.mw_machine.specs.Evaluations.{item, main, IsPart, HasNames, term_of};
 ghost use Rattle.mw_machine.specs.CodesInPlace.{expressions_of};
 ghost use Rattle.mw_machine.specs.TurnAnswers.{IsTypedOutcome, IfOpenEnd};
 ghost use Rattle.mw_tasks.specs.Endings.{EndsAs};
@@ -25,7 +25,7 @@ pub(crate) struct Ended {
     pub(crate) outcome: Outcome,
 }
 
-/// Evaluates the parts of a program that have this term to their end, with so many units.
+/// Evaluates the kernel items of a program that have this term to their end, with so many units.
 pub(crate) fn evaluate<K: Kernels>(
     alloc: Global,
     program: &Program,
@@ -35,26 +35,26 @@ pub(crate) fn evaluate<K: Kernels>(
 ) -> Result<Ended, KernelFault>
     requires typable { Typable (program_of program.now) }
     requires small { HasSmallTypes (program_of program.now) }
-    requires body { (part : Part) × IsPart (program_of program.now) part (expression_of body.now) }
+    requires body { (i : ℕ) × IsPart (program_of program.now) (item i) (expression_of body.now) }
     requires open { K.stopped kernels.old ≡ false }
-    ensures means { (part : Part) (names : List Value) → IsPart (program_of program.now) part (expression_of body.now)
-        → HasNames (program_of program.now) part names
-        → AreSound (K.sound kernels.old) (runs (K.mode kernels.old) names fuel (term_of (program_of program.now) part))
-        → EndsAs result (staged (K.mode kernels.old) names fuel (term_of (program_of program.now) part)) }
-    ensures cost { (part : Part) (names : List Value) → IsPart (program_of program.now) part (expression_of body.now)
-        → HasNames (program_of program.now) part names
-        → AreSound (K.sound kernels.old) (runs (K.mode kernels.old) names fuel (term_of (program_of program.now) part))
+    ensures means { let p = program_of program.now in (i : ℕ) (names : List Value)
+        → IsPart p (item i) (expression_of body.now) → HasNames p (item i) names
+        → AreSound (K.sound kernels.old) (runs (K.mode kernels.old) names fuel (term_of p (item i)))
+        → EndsAs result (staged (K.mode kernels.old) names fuel (term_of p (item i))) }
+    ensures cost { let p = program_of program.now in (i : ℕ) (names : List Value)
+        → IsPart p (item i) (expression_of body.now) → HasNames p (item i) names
+        → AreSound (K.sound kernels.old) (runs (K.mode kernels.old) names fuel (term_of p (item i)))
         → IfOk result (λ _. K.cost kernels.new ≤ K.cost kernels.old
-        + prices (K.price kernels.old) (runs (K.mode kernels.old) names fuel (term_of (program_of program.now) part))) }
-    ensures typed { IfOk result (λ ended. (part : Part) → IsPart (program_of program.now) part (expression_of body.now)
-        → IsTypedOutcome (program_of program.now) part ended.outcome ended.machine) }
+        + prices (K.price kernels.old) (runs (K.mode kernels.old) names fuel (term_of p (item i)))) }
+    ensures typed { let p = program_of program.now in IfOk result (λ ended. (i : ℕ)
+        → IsPart p (item i) (expression_of body.now) → IsTypedOutcome p (item i) ended.outcome ended.machine) }
     ensures open { IfOk result (λ ended. IfOpenEnd (Ok ended.outcome) (K.stopped kernels.new ≡ false)) }
     ensures bad { IfErr result (λ fault. IsNewlyBad fault (K.bad kernels.old) (K.bad kernels.new)
         (K.digest kernels.new)) }
     ensures count { K.bad kernels.old ≤ K.bad kernels.new }
     ensures hands { K.keeps kernels.old kernels.new }
 {
-    let mut machine = Machine::start(alloc, program, body, fuel)?;
+    let mut machine = Machine::start_item(alloc, program, body, fuel)?;
     let outcome = machine.drive(alloc, program, kernels)?;
     Ok(Ended { machine, outcome })
 }
