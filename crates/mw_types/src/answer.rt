@@ -79,8 +79,8 @@ pub fn answer(alloc: Global, state: &State, unknowns: usize) -> Result<Solved, A
     ensures { IfOk result (λ answer. Answers unknowns state.now answer) }
 {
     let names = names_of(alloc, state.classifier.as_slice())?;
-    let mut roots = Vec::new(alloc);
-    let mut trees = Vec::new(alloc);
+    let mut roots = Vec::with_capacity(alloc, unknowns)?;
+    let mut trees = Vec::with_capacity(alloc, unknowns)?;
     for unknown in 0..unknowns {
         trees.push(own_tree(alloc, state, names.as_slice(), unknown)?)?;
         roots.push(find(state.parent.as_slice(), unknown))?;
@@ -97,7 +97,7 @@ fn names_of(alloc: Global, parent: &[usize]) -> Result<Vec<u64>, AllocError>
     requires low { Low parent.now }
     ensures { IfOk result (λ names. NamedTo parent.now names.items (length parent.now)) }
 {
-    let mut names = Vec::new(alloc);
+    let mut names = Vec::with_capacity(alloc, parent.len())?;
     for class in 0..parent.len() {
         names.push(name(parent, names.as_slice(), class))?;
     }

@@ -8,7 +8,7 @@ pub names_of-requires : goal.names_of-requires
 names_of-requires c = record { low = rw c.as_slice.ensures.value c.requires.sound.low_classifiers }
 
 pub loop-unknown-init : goal.loop-unknown-init
-loop-unknown-init c = rw (c.new-roots.ensures.items, c.new-trees.ensures.items)
+loop-unknown-init c = rw (c.in_ok-roots.ensures.items, c.in_ok-trees.ensures.items)
     (no_trees c.args.state.now c.in_ok-names.names.items)
 
 pub own_tree-requires-clause-sound : goal.own_tree-requires-clause-sound

@@ -5,7 +5,7 @@ use Rattle.mw_types.proofs.Steps.{no_answer}
 use Rattle.mw_types.proofs.answer.names_of.Goals as goal
 
 pub loop-class-init : goal.loop-class-init
-loop-class-init c = rw c.new-names.ensures.items (no_names c.args.parent.now)
+loop-class-init c = rw c.in_ok-names.ensures.items (no_names c.args.parent.now)
 
 pub name-requires-clause-named : goal.name-requires-clause-named
 name-requires-clause-named c = rw c.as_slice.ensures.value c.loop-class.invariant
@@ -16,7 +16,7 @@ loop-class-preserved c =
     c.requires.low (omega arith) c.loop-class.invariant (rw c.as_slice.ensures.value at c.name.ensures))
 
 pub returns-in_err-push : goal.returns-in_err-push
-returns-in_err-push c = no_answer _ c.from_residual.result c.from_residual.ensures.0
+returns-in_err-push c = no_answer _ c.from_residual-in_err-push.result c.from_residual-in_err-push.ensures.0
 
 pub name-requires-clause-low : goal.name-requires-clause-low
 name-requires-clause-low c = c.requires.low
