@@ -1,9 +1,9 @@
 -- Places of top-level names.
 use Rattle.std.proofs.Common.{◌≡◌, ℕ, suc, Bool, true, false, cond, List, [], ◌∷◌, ◌++◌, length, Option, Some, None}
 use Rattle.std.proofs.Common.{refl, ap, sym, ◌∙◌}
-use Rattle.std.specs.Option.{option_or, option_map}
+use Rattle.std.specs.Option.{option_or, option_map, IsSome}
 use Rattle.std.specs.Str.{bytes_eq}
-use Rattle.std.specs.Map.{lookup}
+use Rattle.std.specs.Map.{lookup, set_value}
 use Rattle.std.proofs.lemmas.Slice.Eq.{bytes_eq-Decides}
 use Rattle.std.proofs.lemmas.Option.{none-some}
 use Rattle.indexmap.specs.IndexMap.{insert_entry}
@@ -49,7 +49,32 @@ lookup-insert {K} {V} eq bytes is (e ∷ es) key v x =
     ] in
     rw (is key e.0) (by (bytes_eq (bytes key) (bytes e.0)) refl)
 
--- and of a name that had no entry
+-- what is looked up after a write to the entry of a name
+pub lookup-write : {K V : Type 0} (bytes : K → List ℕ) (es : List (K × V)) (name : List ℕ) (v : V) (x : List ℕ)
+    → IsSome (lookup (λ k. bytes_eq name (bytes k)) es)
+    → lookup (λ k. bytes_eq x (bytes k)) (set_value (λ k. bytes_eq name (bytes k)) es v) ≡ cond (bytes_eq x name)
+    (Some v) (lookup (λ k. bytes_eq x (bytes k)) es)
+lookup-write bytes [] name v x here = absurd (cc here)
+lookup-write {K} {V} bytes (e ∷ es) name v x here =
+    let look : (List ℕ) → List (K × V) → Option V = λ y l. lookup (λ k. bytes_eq y (bytes k)) l in
+    let rest = lookup-write bytes es name v x in
+    let decides = bytes_eq-Decides name (bytes e.0) in
+    let P : Bool → Type 0 = λ t. bytes_eq name (bytes e.0) ≡ t → IsSome (cond t (Some e.1) (look name es))
+    → look x (cond t ((e.0, v) ∷ es) (e ∷ set_value (λ k. bytes_eq name (bytes k)) es v)) ≡ cond (bytes_eq x name)
+    (Some v) (look x (e ∷ es)) in
+    let both : bytes_eq name (bytes e.0) ≡ false → bytes_eq x (bytes e.0) ≡ true → bytes_eq x name ≡ true
+    → ⊥ = λ h there this.
+    let same : name ≡ bytes e.0 = sym ((bytes_eq-Decides x name).0 this)
+    ∙ (bytes_eq-Decides x (bytes e.0)).0 there in absurd (cc (sym (decides.1 same) ∙ h))
+    in
+    let by : (t : Bool) → P t = λ t. elim t as P [
+      | true ↦ λ h there. rw (decides.0 h) (same_entry (bytes_eq x (bytes e.0)) v e.1 (look x es))
+      | false ↦ λ h there. other_entry (bytes_eq x (bytes e.0)) (bytes_eq x name) v e.1 (look x es) _ (both h)
+          (rest there)
+    ] in
+    by (bytes_eq name (bytes e.0)) refl here
+
+-- the place of a name that had no entry
 pub place_added : (was now : Option ℕ) (b : Bool) (at : ℕ) → (b ≡ true → was ≡ None) → now ≡ cond b (Some at) was
     → now ≡ option_or was (cond b (Some at) None)
 place_added None now b at h e = e

@@ -36,7 +36,7 @@ impl Binders {
         self.nearest.get(name.as_slice()).copied().flatten()
     }
 
-    /// Makes a binder, or none, the nearest of a name.
+    /// Makes a binder, or none, the nearest of a name. The name is copied where the map doesn't have it yet.
     fn bind(
         &mut self,
         alloc: Global,
@@ -46,6 +46,10 @@ impl Binders {
         ensures bound { OnOk result (binder_at self.new ≡ rebound (binder_at self.old) name.now bound) }
         ensures count { self.new.count ≡ self.old.count }
     {
+        if let Some(nearest) = self.nearest.get_mut(name.as_slice()) {
+            *nearest = bound;
+            return Ok(());
+        }
         let key = Vec::from_slice(alloc, name.as_slice())?;
         self.nearest.insert(key, bound)?;
         Ok(())
