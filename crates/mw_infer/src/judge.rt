@@ -59,7 +59,7 @@ fn ask(alloc: Global, out: &mut Output, asked: &Asked) -> Result<(), AllocError>
     }
 }
 
-/// The equations and closes of an item. There is room for an equation for each node.
+/// The equations and closes of an item. There is room for two equations a node, which are enough for most.
 pub fn emitted<'n, 'p>(
     alloc: Global,
     names: &'n [TopScheme<'p>],
@@ -72,7 +72,7 @@ pub fn emitted<'n, 'p>(
     let mut out = Output {
         unknowns: 1,
         classifiers: 0,
-        equations: Vec::with_capacity(alloc, mw_term::nodes(term) as usize)?,
+        equations: Vec::with_capacity(alloc, mw_term::nodes(term).saturating_mul(2) as usize)?,
         closes: Vec::new(alloc),
         names,
     };
