@@ -1,8 +1,8 @@
 pub mod Agreeing
 pub mod BadItems
-pub mod Dealing
 pub mod Endings
 pub mod Gathering
 pub mod Phases
 pub mod RightRuns
+pub mod Taking
 pub mod TaskOutcomes

@@ -1,6 +1,7 @@
 // The phase of the kernel items.
 
-ghost use Rattle.std.specs.Prelude.{◌≡◌, ◌≤◌, ◌+◌, All, IfOk, IfErr};
+ghost use Rattle.std.specs.Prelude.{◌≡◌, ◌≤◌, ◌+◌, All, IfOk, IfErr, min};
+ghost use Rattle.std.specs.List.{range_with_len};
 ghost use Rattle.mw_term.specs.Programs.{program_of};
 ghost use Rattle.mw_term.specs.SmallTypes.{HasSmallTypes};
 ghost use Rattle.mw_term.specs.Typable.{Typable};
@@ -16,9 +17,9 @@ ghost use Rattle.mw_tasks.specs.RightRuns.{AreRightItems, price_of_items};
 use crate::agreeing::agree_all;
 use crate::gathering::gathered;
 use crate::job::Evaluation;
-use crate::laws::{done_crosses, evaluations_cross};
+use crate::laws::{evaluations_cross, taken_crosses};
 use crate::outcome::Outcomes;
-use crate::turns::{numbers_below, share_count, taken_in_turn};
+use crate::places::in_order;
 use mw_cache::Cache;
 use mw_compile::Entry;
 use mw_meaning::Mode;
@@ -27,6 +28,7 @@ use mw_slots::Receipts;
 use mw_spread::{JobFault, spread};
 use mw_term::{ItemKind, Program};
 use std::alloc::{AllocError, Global};
+use std::sync::atomic::AtomicU64;
 use std::thread::Threads;
 
 /// What the kernel items of a program came to, all of them, in order; receipts of the modules that were asked for, one
@@ -38,9 +40,8 @@ pub struct Phase {
     pub emitted: u64,
 }
 
-/// Evaluates each kernel item of a program, with so many units, by so many workers at most, over a cache. The items are
-/// dealt out to the workers in turn. The error is want of memory, or the digest of a loaded record whose module is
-/// stray.
+/// Evaluates each kernel item of a program, with so many units, by so many workers at most, over a cache. A worker that
+/// is free takes the next item. The error is want of memory, or the digest of a loaded record whose module is stray.
 pub fn kernels_phase<R: Threads + Sync, G: Gate>(
     rt: &R,
     alloc: Global,
@@ -68,21 +69,21 @@ pub fn kernels_phase<R: Threads + Sync, G: Gate>(
     ensures bad { IfErr result
         (λ fault. IfBad fault (IsBadOfItems mode (program_of program.now) fuel cache.now.load)) }
 {
-    done_crosses();
+    taken_crosses();
     evaluations_cross();
     let numbers = kernel_numbers(alloc, program)?;
-    let shares = share_count(numbers.len(), workers);
-    let below = numbers_below(alloc, shares)?;
+    let at_work = worker_numbers(alloc, workers, numbers.len())?;
+    let next = AtomicU64::new(0);
     let job = Evaluation {
         program,
         numbers: numbers.as_slice(),
-        shares,
+        next: &next,
         fuel,
         mode,
         cache,
     };
-    let queues = spread(rt, alloc, workers, below.as_slice(), &job, gate)?;
-    let all = taken_in_turn(alloc, queues)?;
+    let taken = spread(rt, alloc, workers, at_work.as_slice(), &job, gate)?;
+    let all = in_order(alloc, &job, taken)?;
     let phase = gathered(alloc, all)?;
     agree_all(cache, phase.outcomes.as_slice());
     Ok(phase)
@@ -98,6 +99,17 @@ fn kernel_numbers(alloc: Global, program: &Program) -> Result<Vec<usize>, AllocE
             ItemKind::Kernel(_, _) => numbers.push(at)?,
             ItemKind::Value(_) => {}
         }
+    }
+    Ok(numbers)
+}
+
+/// The numbers of the workers that are needed, from 0 on: of these workers at most, and never more than items.
+fn worker_numbers(alloc: Global, workers: u32, items: usize) -> Result<Vec<usize>, AllocError>
+    ensures { IfOk result (λ numbers. numbers.items ≡ range_with_len 0 (min items workers)) }
+{
+    let mut numbers = Vec::new(alloc);
+    for number in 0..items.min(workers as usize) {
+        numbers.push(number)?;
     }
     Ok(numbers)
 }

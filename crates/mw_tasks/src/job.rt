@@ -1,7 +1,6 @@
-// One kernel item's work.
+// A worker's part of the evaluation: the kernel items that it takes.
 
 ghost use Rattle.std.specs.Prelude.{◌≡◌, ◌+◌, ◌≤◌, ◌<◌, [], ◌∷◌, ◌++◌, false, All, IfOk, IfErr, OnOk};
-ghost use Rattle.std.specs.List.{AllZip};
 ghost use Rattle.mw_term.specs.Terms.{kernel_type_of};
 ghost use Rattle.mw_term.specs.Programs.{program_of};
 ghost use Rattle.mw_term.specs.SmallTypes.{HasSmallTypes};
@@ -17,7 +16,7 @@ ghost use Rattle.mw_tasks.specs.TaskOutcomes.{IsKernelItem, IsItemAnswer, IfItsC
 ghost use Rattle.mw_tasks.specs.Phases.{IsTask, IsDoneAt};
 ghost use Rattle.mw_tasks.specs.BadItems.{IsBadOfItems};
 ghost use Rattle.mw_tasks.specs.RightRuns.{AreRightRuns, unloaded_price};
-ghost use Rattle.mw_tasks.specs.Dealing.{every};
+ghost use Rattle.mw_tasks.specs.Taking.{IsTakenIn};
 
 use crate::kernel_item::evaluate_item;
 use crate::outcome::{Evaluated, ItemOutcome};
@@ -30,17 +29,17 @@ use mw_slots::Receipts;
 use mw_spread::{Job, JobFault};
 use mw_term::{ItemKind, KType, Program};
 use std::alloc::{AllocError, Global};
-use std::collections::VecDeque;
 use std::marker::Brand;
+use std::sync::atomic::{AtomicU64, Ordering};
 use std::sync::ledger::{Blank, Ledger};
 
-/// The evaluation of a program's kernel items over a cache, in so many shares. The kernel items, whose numbers among
-/// all items these are, are dealt out to the shares in turn.
+/// The evaluation of a program's kernel items over a cache. `numbers` are those of the kernel items among all items;
+/// `next` is how many of them have been taken by workers, or more.
 #[derive(Drop)]
 pub struct Evaluation<'a, 't> {
     pub program: &'a Program,
     pub numbers: &'a [usize],
-    pub shares: usize,
+    pub next: &'a AtomicU64,
     pub fuel: u64,
     pub mode: Mode,
     pub cache: &'a Cache<'t>,
@@ -54,61 +53,61 @@ pub struct Done {
     pub emitted: u64,
 }
 
+/// What the kernel item that a worker took came to, and its place among the kernel items.
+#[derive(Drop)]
+pub struct Taken {
+    pub at: usize,
+    pub done: Done,
+}
+
 impl<'a, 't> Job<usize> for Evaluation<'a, 't> {
-    type Out = VecDeque<Done>;
+    type Out = Vec<Taken>;
 
-    ghost takes = { λ job _. (1 ≤ job.shares) × All (IsTask (program_of job.program.now)) job.numbers.now };
+    ghost takes = { λ job _. All (IsTask (program_of job.program.now)) job.numbers.now };
 
-    ghost gives = { λ job share dones. AllZip
-        (IsDoneAt job.mode (program_of job.program.now) job.fuel job.cache.now)
-        (every share job.shares job.numbers.now) dones.items };
+    ghost gives = { λ job _ taken. All (IsTakenIn job) taken.items };
 
     ghost bad = { λ job _.
         IsBadOfItems job.mode (program_of job.program.now) job.fuel job.cache.now.load };
 
-    fn work(&self, alloc: Global, item: &usize) -> Result<VecDeque<Done>, JobFault> {
-        evaluated_each(alloc, self, *item)
+    fn work(&self, alloc: Global, _worker: &usize) -> Result<Vec<Taken>, JobFault> {
+        taken_by_one(alloc, self)
     }
 }
 
-/// Evaluates each kernel item of a share, the shares being counted from 0.
-fn evaluated_each(
-    alloc: Global,
-    job: &Evaluation<'_, '_>,
-    share: usize,
-) -> Result<VecDeque<Done>, JobFault>
-    requires shares { 1 ≤ job.now.shares }
-    requires tasks { All (IsTask (program_of job.now.program.now)) job.now.numbers.now }
-    ensures gives { IfOk result (λ dones. AllZip
-        (IsDoneAt job.now.mode (program_of job.now.program.now) job.now.fuel job.now.cache.now)
-        (every share job.now.shares job.now.numbers.now) dones.items) }
+/// Takes kernel items one after the other, for as long as one is left, and evaluates each.
+fn taken_by_one(alloc: Global, job: &Evaluation<'_, '_>) -> Result<Vec<Taken>, JobFault>
+    requires { All (IsTask (program_of job.now.program.now)) job.now.numbers.now }
+    ensures gives { IfOk result (λ taken. All (IsTakenIn job.now) taken.items) }
     ensures bad { IfErr result (λ fault. IfBad fault
         (IsBadOfItems job.now.mode (program_of job.now.program.now) job.now.fuel job.now.cache.now.load)) }
 {
-    let mut dones = VecDeque::new(alloc);
-    let mut before = share;
-    for number in job.numbers {
-        if before > 0 {
-            before -= 1;
-            continue;
-        }
+    let mut taken = Vec::new(alloc);
+    for _turn in 0..job.numbers.len() {
+        let at = job.next.fetch_add(1, Ordering::SeqCst) as usize;
+        let Some(number) = job.numbers.get(at) else {
+            break;
+        };
         let done = evaluated_alone(alloc, job, *number)?;
-        add_done(&mut dones, done)?;
-        before = job.shares - 1;
+        add_taken(&mut taken, at, done)?;
     }
-    Ok(dones)
+    Ok(taken)
 }
 
-/// Adds what an item came to.
-fn add_done(dones: &mut VecDeque<Done>, done: Done) -> Result<(), AllocError>
-    ensures { OnOk result (dones.new.items ≡ dones.old.items ++ done ∷ []) }
+/// Adds what the item at a place came to.
+fn add_taken(taken: &mut Vec<Taken>, at: usize, done: Done) -> Result<(), AllocError>
+    ensures { OnOk result (taken.new.items ≡ taken.old.items ++ record { at = at; done = done } ∷ []) }
 {
-    dones.push_back(done)?;
+    taken.push(Taken { at, done })?;
     Ok(())
 }
 
 /// Evaluates a kernel item, where nobody else counts its emissions.
-fn evaluated_alone(alloc: Global, job: &Evaluation<'_, '_>, number: usize) -> Result<Done, JobFault>
+pub(crate) fn evaluated_alone(
+    alloc: Global,
+    job: &Evaluation<'_, '_>,
+    number: usize,
+) -> Result<Done, JobFault>
     requires task { IsTask (program_of job.now.program.now) number }
     ensures done { IfOk result (IsDoneAt job.now.mode
         (program_of job.now.program.now) job.now.fuel job.now.cache.now number) }

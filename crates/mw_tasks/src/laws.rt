@@ -4,6 +4,7 @@ ghost use denote.Param.Send.{IsSend, IsSync};
 ghost use denote.Ref.{NamedLft};
 ghost use Rattle.mw_tasks.specs.contracts.job.Done as done;
 ghost use Rattle.mw_tasks.specs.contracts.job.Evaluation as evaluation;
+ghost use Rattle.mw_tasks.specs.contracts.job.Taken as taken;
 
 use mw_cache::laws::{caches_cross, gots_cross};
 use mw_term::laws::{programs_cross, terms_cross};
@@ -14,6 +15,13 @@ pub fn done_crosses()
 {
     gots_cross();
     terms_cross();
+}
+
+/// What a worker took may be sent to other threads.
+pub fn taken_crosses()
+    ensures { IsSend taken.the_row }
+{
+    done_crosses();
 }
 
 /// The evaluation of a program's items may be shared with other threads.

@@ -12,7 +12,7 @@ mod job;
 mod kernel_item;
 pub mod laws;
 pub mod outcome;
-mod turns;
+mod places;
 
 pub use crate::entry::evaluate_main;
 pub use crate::entry_phase::{MainEnd, main_phase};

@@ -1,10 +1,10 @@
-use Rattle.std.proofs.Common.{◌≡◌, sym, ◌∙◌}
-use Rattle.std.specs.List.{AllZip}
+use Rattle.std.proofs.Common.{◌≡◌, ◌∙◌}
+use Rattle.std.specs.List.{All, AllZip}
 use denote.Param.Send.{arg_sync, param_sync}
 use Rattle.mw_term.specs.Programs.{program_of}
 use Rattle.mw_meaning.specs.Outcomes.{names_of_items}
 use Rattle.mw_tasks.specs.Phases.{IsDoneAt, kernel_numbers}
-use Rattle.mw_tasks.proofs.Dealing.{turned_zip, some_below, no_share}
+use Rattle.mw_tasks.proofs.Placing.{IsTakenFrom, all_right}
 use Rattle.mw_tasks.proofs.AllItems.{numbered_tasks, all_outcomes, all_answered, all_received, all_of_table}
 use Rattle.mw_tasks.proofs.AllItems.{all_emitted}
 use Rattle.mw_tasks.proofs.items_phase.kernels_phase.Given.{Over}
@@ -16,29 +16,33 @@ numbers_are : (g : Over) (c : After-gathered g) → c.as_slice.result.now ≡ ke
     (program_of c.args.program.now).items
 numbers_are g c = c.as_slice.ensures.value ∙ c.in_ok-numbers.ensures
 
--- what is taken in turn is what the work on each of them gave
+-- and what is in order is what the work on each of them gave
 done : (g : Over) (c : After-gathered g)
     → AllZip (IsDoneAt c.args.mode (program_of c.args.program.now) c.args.fuel c.args.cache.now) c.as_slice.result.now
     c.in_ok-all.all.items
-done g c =
-    turned_zip (IsDoneAt c.args.mode (program_of c.args.program.now) c.args.fuel c.args.cache.now)
-    (λ queue. queue.items) c.share_count-shares.result
-    c.as_slice.result.now c.as_slice-2.result.now c.in_ok-queues.queues.items c.in_ok-all.all.items
-    (no_share c.as_slice.result.now _ _ _
-    (c.len.ensures ∙ sym c.as_slice.ensures.len) c.share_count-shares.ensures c.requires.workers)
-    (c.as_slice-2.ensures.value ∙ c.in_ok-below.ensures) c.in_ok-queues.ensures.outputs c.in_ok-all.ensures
+done g c = c.in_ok-all.ensures.done
 
 pub spread-requires-sync-J : goal.spread-requires-sync-J
 spread-requires-sync-J g c = search (c.evaluations_cross.ensures, arg_sync, param_sync)
 
 pub spread-requires-clause-items : goal.spread-requires-clause-items
-spread-requires-clause-items g c = λ κs long k d less. (
-  some_below c.as_slice-2.result.now c.share_count-shares.result k
-      (c.as_slice-2.ensures.value ∙ c.in_ok-below.ensures) less,
-  numbered_tasks
-      (program_of c.args.program.now) c.requires.typable c.requires.small c.requires.kernels c.as_slice.result.now
-      (c.as_slice.ensures.value ∙ c.in_ok-numbers.ensures),
-)
+spread-requires-clause-items g c = λ κs long k d less.
+    numbered_tasks
+    (program_of c.args.program.now) c.requires.typable c.requires.small c.requires.kernels c.as_slice.result.now
+    (c.as_slice.ensures.value ∙ c.in_ok-numbers.ensures)
+
+pub in_order-requires-clause-tasks : goal.in_order-requires-clause-tasks
+in_order-requires-clause-tasks g c =
+    numbered_tasks
+    (program_of c.args.program.now) c.requires.typable c.requires.small c.requires.kernels c.as_slice.result.now
+    (c.as_slice.ensures.value ∙ c.in_ok-numbers.ensures)
+
+pub in_order-requires-clause-taken : goal.in_order-requires-clause-taken
+in_order-requires-clause-taken g c =
+    all_right (λ some. All
+    (IsTakenFrom (IsDoneAt c.args.mode (program_of c.args.program.now) c.args.fuel c.args.cache.now)
+    c.as_slice.result.now) some.items)
+    c.as_slice-2.result.now c.in_ok-taken.taken.items c.in_ok-taken.ensures.outputs
 
 pub agree_all-requires : goal.agree_all-requires
 agree_all-requires g c =
