@@ -1,6 +1,6 @@
 // The module of a loaded record, which is decoded when it is asked for.
 
-ghost use Rattle.std.specs.Prelude.{◌≡◌, IfOk, IfSome};
+ghost use Rattle.std.specs.Prelude.{◌≡◌, IfOk, IfSome, IsSome};
 ghost use Rattle.std.specs.Arc.{arc_value};
 ghost use Rattle.mw_wasm.specs.BinaryModules.{Spells};
 ghost use Rattle.mw_wasm.specs.Profile.{IsWithinFileLimit};
@@ -37,7 +37,8 @@ impl Model for Decoded {
 impl Decoded {
     /// The module, where these are the bytes that spell it. Takes no memory.
     fn spelled_by(&self, bytes: &[u8]) -> Option<&Arc<Valid>>
-        ensures { IfSome result (λ m. Spells bytes.now (module_of (arc_value m.now))) }
+        ensures spells { IfSome result (λ m. Spells bytes.now (module_of (arc_value m.now))) }
+        ensures found { self.now ≡ bytes.now → IsSome result }
     {
         if self.bytes.as_slice() == bytes {
             Some(&self.module)
