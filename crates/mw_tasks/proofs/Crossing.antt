@@ -1,4 +1,5 @@
--- What an item came to and what a worker took go to other threads, and the evaluation of a program's items may be shared with them.
+-- What an item came to and what a worker took go to other threads, and the evaluation of a program's items may be
+-- shared with them.
 use denote.Param.Send.{IsSend, IsSync, sendable, shr_sync}
 use denote.Param.SendFields.{declared_send, declared_sync, variants_send}
 use denote.Ref.{NamedLft}
