@@ -36,7 +36,12 @@ const CERTIFICATES: &[(&str, &str)] = &[
 ];
 
 /// That the written certificate of a source is this text, and that it holds.
-fn has_certificate<R: Abort>(rt: &R, alloc: Global, source: &str, wanted: &str) -> Result<(), Fail> {
+fn has_certificate<R: Abort>(
+    rt: &R,
+    alloc: Global,
+    source: &str,
+    wanted: &str,
+) -> Result<(), Fail> {
     let program = read(alloc, source.as_bytes())?;
     let typed = check(alloc, &program)?;
     let bytes = write_cert(alloc, &program, &typed)?;
