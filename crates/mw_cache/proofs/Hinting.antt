@@ -40,14 +40,6 @@ price_skips hints at r more text here ne =
     let next : suc at ≡ at + 1 = omega arith in
     skips hints at r more text here ne ∙ ap (λ n. price_beside (texts_of (drop n hints) ++ more) text) next
 
--- past all hints the price is that beside the others
-pub price_of_others : (hints : List (Known Emitted)) (at : ℕ) (more : List (List ℕ)) (text : List ℕ) → length hints ≤ at
-    → price_beside (texts_of (drop at hints) ++ more) text ≡ price_beside more text
-price_of_others [] zero more text h = refl
-price_of_others [] (suc at) more text h = refl
-price_of_others (x ∷ hints) zero more text h = absurd (omega arith)
-price_of_others (x ∷ hints) (suc at) more text h = price_of_others hints at more text (omega arith)
-
 -- beside the loaded texts an emission is the price, unless the text was loaded
 loaded_price : (ls : List Loaded) (text : List ℕ)
     → (price_beside (map (λ l. l.text) ls) text ≡ 1) ⊎ ((at : ℕ) × (l : Loaded) × (slice_get ls at

@@ -29,13 +29,6 @@ get_last : (rs : List (Known Emitted)) (x : Known Emitted) → slice_get (rs ++ 
 get_last [] x = refl
 get_last (y ∷ rs) x = get_last rs x
 
-pub slot_pushed : (rs after : List (Known Emitted)) (x r : Known Emitted) → after ≡ rs ++ x ∷ [] → x ≡ r
-    → HasSlot after r.slot
-slot_pushed rs after x r is same = rw is (length rs, x, get_last rs x, ap_slot same)
-  where
-    ap_slot : x ≡ r → x.slot ≡ r.slot
-    ap_slot q = cc
-
 pub slot_stays : (before after : List (Known Emitted)) (x : Known Emitted) (slot : ℕ) → Added before after x
     → HasSlot before slot → HasSlot after slot
 slot_stays before after x slot (inl same) h = rw same h

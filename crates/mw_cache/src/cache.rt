@@ -82,10 +82,12 @@ impl<'t> Cache<'t> {
         requires limits { within_limits (expression_of code.now) ≡ true }
         requires nodes { kernel_nodes (kernel_type_of kind.now) ≤ 10000 }
         requires hint { IfSome hint (λ h. IsOf self.now.cells h.now) }
-        ensures text { IfOk result (λ r. IsTextOf (text_in self.now r.0) Two (expression_of code.now)
+        ensures text { IfOk result
+            (λ r. IsTextOf (text_in self.now r.0) Two (expression_of code.now)
             (kernel_type_of kind.now)) }
         ensures here { IfOk result (λ r. IsHere self.now r.0) }
-        ensures loaded { let text = canonical_text Two (expression_of code.now) (kernel_type_of kind.now) in
+        ensures loaded { let text =
+            canonical_text Two (expression_of code.now) (kernel_type_of kind.now) in
             IfOk result (λ r. IsLoadedGot r.0 ↔ IsLoadedText self.now.load text) }
         ensures answered { IfSome hint.entry (λ h. IsFetched entry_text home self.now.cells h.now)
             → IfOk result (λ r. IsAnswered self.now r.0) }
@@ -110,7 +112,8 @@ impl<'t> Cache<'t> {
         hint: Option<&Receipt<Entry>>,
         steps: &mut Steps<L>,
     ) -> Result<(Got, bool), AllocError>
-        requires written { IsTextOf text.now Two (expression_of code.now) (kernel_type_of kind.now) }
+        requires written { IsTextOf text.now Two (expression_of code.now)
+            (kernel_type_of kind.now) }
         requires hint { IfSome hint (λ h. IsOf self.now.cells h.now) }
         ensures text { IfOk result (λ r. text_in self.now r.0 ≡ text.now) }
         ensures here { IfOk result (λ r. IsHere self.now r.0) }
@@ -203,7 +206,8 @@ impl<'t> Cache<'t> {
     /// Whether a receipt is of a text. Takes no memory.
     pub fn is_of_text(&self, receipt: &Receipt<Entry>, text: &[u8]) -> bool
         requires { IsOf self.now.cells receipt.now }
-        ensures { MatchBool result (receipt.now.entry.text ≡ text.now) (receipt.now.entry.text ≢ text.now) }
+        ensures { MatchBool result (receipt.now.entry.text ≡ text.now)
+            (receipt.now.entry.text ≢ text.now) }
     {
         self.table.read(receipt).name() == text
     }

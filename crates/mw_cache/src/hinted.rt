@@ -81,10 +81,12 @@ impl<'a, 't> HintedCache<'a, 't> {
         requires closed { IsClosed (expression_of code.now) }
         requires limits { within_limits (expression_of code.now) ≡ true }
         requires nodes { kernel_nodes (kernel_type_of kind.now) ≤ 10000 }
-        ensures text { IfOk result (λ r. IsTextOf (text_in self.now.cache r.0) Two (expression_of code.now)
+        ensures text { IfOk result
+            (λ r. IsTextOf (text_in self.now.cache r.0) Two (expression_of code.now)
             (kernel_type_of kind.now)) }
         ensures here { IfOk result (λ r. IsHere self.now.cache r.0) }
-        ensures loaded { let text = canonical_text Two (expression_of code.now) (kernel_type_of kind.now) in
+        ensures loaded { let text =
+            canonical_text Two (expression_of code.now) (kernel_type_of kind.now) in
             IfOk result (λ r. IsLoadedGot r.0 ↔ IsLoadedText self.now.cache.load text) }
         ensures answered { IfOk result (λ r. IsAnswered self.now.cache r.0) }
         ensures spent { IfOk result (λ r. steps.new ≡ steps.old + (if r.1 then 1 else 0)) }

@@ -57,7 +57,8 @@ impl KeptReceipts {
     /// record has none.
     pub fn keep_got(&mut self, alloc: Global, got: &Got) -> Result<(), AllocError>
         ensures kept { IfOk result (λ _. IsReceived self.new got.now) }
-        ensures table { (cache : CacheState) → IsHere cache got.now → All (IsOf cache.cells) self.old
+        ensures table { (cache : CacheState) → IsHere cache got.now
+            → All (IsOf cache.cells) self.old
             → All (IsOf cache.cells) self.new }
     {
         match got {

@@ -169,7 +169,8 @@ impl Cache<'_> {
 /// The records of modules, in the order of their texts.
 fn records_of(alloc: Global, modules: &BTreeMap<&[u8], &[u8]>) -> Result<Records, AllocError>
     requires { AllByRecursion IsShort (map kept_at modules.now.entries) }
-    ensures written { IfOk result (λ records. records ≡ map record_bytes (map kept_at modules.now.entries)) }
+    ensures written { IfOk result
+        (λ records. records ≡ map record_bytes (map kept_at modules.now.entries)) }
     ensures rise { IfOk result (λ _. IsStrictlySortedBy (slice_cmp nat_cmp)
         (map (λ k. k.text) (map kept_at modules.now.entries))) }
 {

@@ -18,7 +18,8 @@ use std::alloc::AllocError;
 /// is of no further use then.
 pub fn put_node(writer: &mut LineWriter, node: &NodeTypes) -> Result<NodeLine, AllocError>
     requires { IsShort (facts_of_node node.now) }
-    ensures { IfOk result (λ line. PutsNode (type_of_tree node.now.solution) (facts_of_node node.now)
+    ensures { IfOk result
+        (λ line. PutsNode (type_of_tree node.now.solution) (facts_of_node node.now)
         writer.old writer.new (numbers_of line)) }
 {
     let own = put_type(writer, node, 0, node.ty())?;
@@ -36,7 +37,8 @@ fn put_type(
     ty: &Ty,
 ) -> Result<u64, AllocError>
     requires { slice_get (facts_of_node node.now).types at ≡ Some (type_of ty.now) }
-    ensures { IfOk result (λ place. Puts (type_of_tree node.now.solution) (type_written (type_of ty.now))
+    ensures { IfOk result
+        (λ place. Puts (type_of_tree node.now.solution) (type_written (type_of ty.now))
         writer.old writer.new place) }
 {
     match node.tree(at) {

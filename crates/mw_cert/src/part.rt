@@ -18,7 +18,8 @@ pub fn certificate(alloc: Global, typed: &Typed, count: usize) -> Result<Vec<u8>
     requires count { length typed.now.parts ≡ count }
     requires few { count ≤ 2 ^ 32 }
     requires short { AllAreShort (facts_of typed.now) }
-    ensures exact { IfOk result (λ bytes. IsCertificateText bytes.items (map section_of (facts_of typed.now))) }
+    ensures exact { IfOk result
+        (λ bytes. IsCertificateText bytes.items (map section_of (facts_of typed.now))) }
 {
     let mut text = Vec::new(alloc);
     put_head(&mut text)?;

@@ -32,7 +32,8 @@ pub fn emit<L: Ledger>(
     requires closed { IsClosed (expression_of code.now) }
     requires limits { within_limits (expression_of code.now) ≡ true }
     requires nodes { kernel_nodes (kernel_type_of kind.now) ≤ 10000 }
-    ensures entry { IfOk result (λ entry. IsEntryOf entry (expression_of code.now) (kernel_type_of kind.now)) }
+    ensures entry { IfOk result
+        (λ entry. IsEntryOf entry (expression_of code.now) (kernel_type_of kind.now)) }
     ensures step { steps.new ≡ steps.old + 1 }
 {
     steps.tick();
@@ -49,7 +50,8 @@ pub fn emit_named<L: Ledger>(
     steps: &mut Steps<L>,
 ) -> Result<Entry, AllocError>
     requires text { IsTextOf text.now Two (expression_of code.now) (kernel_type_of kind.now) }
-    ensures entry { IfOk result (λ entry. IsEntryOf entry (expression_of code.now) (kernel_type_of kind.now)) }
+    ensures entry { IfOk result
+        (λ entry. IsEntryOf entry (expression_of code.now) (kernel_type_of kind.now)) }
     ensures step { steps.new ≡ steps.old + 1 }
 {
     steps.tick();
@@ -61,7 +63,8 @@ pub fn emit_named<L: Ledger>(
 /// The entry of code whose text this is.
 fn entry_of(alloc: Global, text: Vec<u8>, code: &Term, kind: &KType) -> Result<Entry, AllocError>
     requires { IsTextOf text.items Two (expression_of code.now) (kernel_type_of kind.now) }
-    ensures { IfOk result (λ entry. IsEntryOf entry (expression_of code.now) (kernel_type_of kind.now)) }
+    ensures { IfOk result
+        (λ entry. IsEntryOf entry (expression_of code.now) (kernel_type_of kind.now)) }
 {
     let converted = convert(alloc, code)?;
     let wasm = generate(alloc, &converted, kind)?;

@@ -10,10 +10,13 @@ use mw_outside::{Sink, WriteFault, write_whole};
 /// Writes a text, each line with its line feed as one piece. After an error a front of it was written. A
 /// line that fails ends the writing: where the sink's count of faults rose, the answer is `Failed`.
 pub fn write_lines<K: Sink>(sink: &mut K, text: &[u8]) -> Result<(), WriteFault>
-    ensures ok { OnOk result (IsTrue K.tells → K.written sink.new ≡ K.written sink.old ++ text.now) }
-    ensures front { OnErr result (IsTrue K.tells → GrowsByFront (K.written sink.old) (K.written sink.new) text.now) }
+    ensures ok { OnOk result
+        (IsTrue K.tells → K.written sink.new ≡ K.written sink.old ++ text.now) }
+    ensures front { OnErr result
+        (IsTrue K.tells → GrowsByFront (K.written sink.old) (K.written sink.new) text.now) }
     ensures same_count { OnOk result (K.faults sink.new ≡ K.faults sink.old) }
-    ensures memory { IsErrOf result (fault.Memory alloc_error) → K.faults sink.new ≡ K.faults sink.old }
+    ensures memory { IsErrOf result (fault.Memory alloc_error)
+        → K.faults sink.new ≡ K.faults sink.old }
     ensures failed { IsErrOf result fault.Failed → Rose (K.faults sink.old) (K.faults sink.new) }
     ensures count { K.faults sink.old ≤ K.faults sink.new }
 {

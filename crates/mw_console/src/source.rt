@@ -50,11 +50,13 @@ pub fn file_bytes<S: Source>(
         → IsFront most (file_of (S.told source.old) name.now) bytes.items) }
     ensures rest { IfOk result (λ _. IsTrue S.tells
         → IsRest most (file_of (S.told source.old) name.now) (S.left source.new)) }
-    ensures missing { LacksFile S.tells (S.told source.old) name.now → IsErrOf result SourceFault.Failed }
+    ensures missing { LacksFile S.tells (S.told source.old) name.now
+        → IsErrOf result SourceFault.Failed }
     ensures failed { IsErrOf result SourceFault.Failed
         → Rose (S.faults source.old) (S.faults source.new) ⊎ LacksFile S.tells (S.told source.old) name.now }
     ensures same_count { OnOk result (S.faults source.new ≡ S.faults source.old) }
-    ensures memory { IsErrOf result (SourceFault.Memory alloc_error) → S.faults source.new ≡ S.faults source.old }
+    ensures memory { IsErrOf result (SourceFault.Memory alloc_error)
+        → S.faults source.new ≡ S.faults source.old }
     ensures same_files { S.told source.new ≡ S.told source.old }
     ensures count { S.faults source.old ≤ S.faults source.new }
 {

@@ -42,7 +42,8 @@ fn name_of(items: &[Item], index: u32) -> &[u8]
 
 /// A line that ends with an item's name.
 fn put_in(text: &mut Vec<u8>, first: &[u8], words: &[u8], name: &[u8]) -> Result<(), AllocError>
-    ensures { IfOk result (λ _. text.new.items ≡ text.old.items ++ named_line first.now words.now name.now) }
+    ensures { IfOk result
+        (λ _. text.new.items ≡ text.old.items ++ named_line first.now words.now name.now) }
 {
     put(text, first)?;
     put(text, words)?;
@@ -102,7 +103,8 @@ pub fn put_kernel(
     key: &[u8],
     bytes: &[u8],
 ) -> Result<(), AllocError>
-    ensures { IfOk result (λ _. text.new.items ≡ text.old.items ++ kernel_text name.now (kernel_type_of kind.now)
+    ensures { IfOk result
+        (λ _. text.new.items ≡ text.old.items ++ kernel_text name.now (kernel_type_of kind.now)
         key.now bytes.now) }
 {
     put_name(text, name, kind)?;
@@ -112,14 +114,16 @@ pub fn put_kernel(
 
 /// The line of a module's bytes, in hexadecimal digits.
 pub fn put_module(text: &mut Vec<u8>, bytes: &[u8]) -> Result<(), AllocError>
-    ensures { IfOk result (λ _. text.new.items ≡ text.old.items ++ digits_line (codes "module ") bytes.now) }
+    ensures { IfOk result
+        (λ _. text.new.items ≡ text.old.items ++ digits_line (codes "module ") bytes.now) }
 {
     put_digits(text, b"module ", bytes)
 }
 
 /// The line of a kernel's name and type.
 fn put_name(text: &mut Vec<u8>, name: &[u8], kind: &KType) -> Result<(), AllocError>
-    ensures { IfOk result (λ _. text.new.items ≡ text.old.items ++ kernel_line name.now (kernel_type_of kind.now)) }
+    ensures { IfOk result
+        (λ _. text.new.items ≡ text.old.items ++ kernel_line name.now (kernel_type_of kind.now)) }
 {
     put(text, b"kernel ")?;
     put(text, name)?;
@@ -152,7 +156,8 @@ fn put_hex(text: &mut Vec<u8>, bytes: &[u8]) -> Result<(), AllocError>
 
 /// A kernel type.
 fn put_kind(text: &mut Vec<u8>, kind: &KType) -> Result<(), AllocError>
-    ensures { IfOk result (λ _. text.new.items ≡ text.old.items ++ kind_text (kernel_type_of kind.now)) }
+    ensures { IfOk result
+        (λ _. text.new.items ≡ text.old.items ++ kind_text (kernel_type_of kind.now)) }
 {
     match kind {
         KType::Ground(ground) => put_ground(text, ground),
@@ -167,7 +172,8 @@ fn put_kind(text: &mut Vec<u8>, kind: &KType) -> Result<(), AllocError>
 /// A ground type.
 #[cycle(ground)]
 fn put_ground(text: &mut Vec<u8>, ground: &Ground) -> Result<(), AllocError>
-    ensures { IfOk result (λ _. text.new.items ≡ text.old.items ++ ground_text (ground_of ground.now)) }
+    ensures { IfOk result
+        (λ _. text.new.items ≡ text.old.items ++ ground_text (ground_of ground.now)) }
 {
     match ground {
         Ground::Base(base) => put(text, base_word(*base)),
@@ -182,7 +188,8 @@ fn put_ground(text: &mut Vec<u8>, ground: &Ground) -> Result<(), AllocError>
 /// The left part of a pair, in parentheses where it is a pair itself.
 #[cycle(ground)]
 fn put_left(text: &mut Vec<u8>, ground: &Ground) -> Result<(), AllocError>
-    ensures { IfOk result (λ _. text.new.items ≡ text.old.items ++ left_text (ground_of ground.now)) }
+    ensures { IfOk result
+        (λ _. text.new.items ≡ text.old.items ++ left_text (ground_of ground.now)) }
 {
     match ground {
         Ground::Base(base) => put(text, base_word(*base)),
@@ -208,7 +215,8 @@ fn base_word(base: Base) -> &'static [u8]
 
 /// The line of an answer.
 pub fn put_answer(alloc: Global, text: &mut Vec<u8>, value: &GroundValue) -> Result<(), AllocError>
-    ensures { IfOk result (λ _. text.new.items ≡ text.old.items ++ ending_line (answered (ground_value_of value.now))) }
+    ensures { IfOk result
+        (λ _. text.new.items ≡ text.old.items ++ ending_line (answered (ground_value_of value.now))) }
 {
     put(text, b"answer ")?;
     put_value(alloc, text, value)?;
@@ -217,7 +225,8 @@ pub fn put_answer(alloc: Global, text: &mut Vec<u8>, value: &GroundValue) -> Res
 
 /// A value: a number, a truth value, or a pair of values.
 fn put_value(alloc: Global, text: &mut Vec<u8>, value: &GroundValue) -> Result<(), AllocError>
-    ensures { IfOk result (λ _. text.new.items ≡ text.old.items ++ value_text (ground_value_of value.now)) }
+    ensures { IfOk result
+        (λ _. text.new.items ≡ text.old.items ++ value_text (ground_value_of value.now)) }
 {
     match value {
         GroundValue::Base(value) => put_base(alloc, text, *value),
@@ -233,7 +242,8 @@ fn put_value(alloc: Global, text: &mut Vec<u8>, value: &GroundValue) -> Result<(
 
 /// A number or a truth value.
 fn put_base(alloc: Global, text: &mut Vec<u8>, value: BaseValue) -> Result<(), AllocError>
-    ensures { IfOk result (λ _. text.new.items ≡ text.old.items ++ value_text (base_value_of value)) }
+    ensures { IfOk result
+        (λ _. text.new.items ≡ text.old.items ++ value_text (base_value_of value)) }
 {
     match value {
         BaseValue::Int(number) => {
@@ -247,14 +257,16 @@ fn put_base(alloc: Global, text: &mut Vec<u8>, value: BaseValue) -> Result<(), A
 
 /// The line of a bound that the item of this name, or main, met.
 pub fn put_bound(text: &mut Vec<u8>, limit: Limit, name: &[u8]) -> Result<(), AllocError>
-    ensures { IfOk result (λ _. text.new.items ≡ text.old.items ++ ending_line (bounded limit name.now)) }
+    ensures { IfOk result
+        (λ _. text.new.items ≡ text.old.items ++ ending_line (bounded limit name.now)) }
 {
     put_in(text, b"bound ", limit_word(limit), name)
 }
 
 /// The line of a trap of the item of this name, or of main.
 pub fn put_trap(text: &mut Vec<u8>, trap: TrapKind, name: &[u8]) -> Result<(), AllocError>
-    ensures { IfOk result (λ _. text.new.items ≡ text.old.items ++ ending_line (trapped trap name.now)) }
+    ensures { IfOk result
+        (λ _. text.new.items ≡ text.old.items ++ ending_line (trapped trap name.now)) }
 {
     put_in(text, b"trap ", trap_word(trap), name)
 }

@@ -22,13 +22,6 @@ ends_left fs rest gs hs e f =
           (sym f ∙ (e.is ∙ sym (append_assoc e.front gs hs)));
     }
 
--- three lists
-pub ends_last : (fs gs hs ks : List Found) → EndsWith fs (gs ++ (hs ++ ks)) → EndsWith fs ks
-ends_last fs gs hs ks e = ends_right fs hs ks (ends_right fs gs (hs ++ ks) e)
-
-pub ends_middle : (fs rest gs hs ks : List Found) → EndsWith fs (gs ++ (hs ++ ks)) → fs ≡ rest ++ ks → EndsWith rest hs
-ends_middle fs rest gs hs ks e f = ends_left fs rest hs ks (ends_right fs gs (hs ++ ks) e) f
-
 pub ends_first : (fs rest more gs hs ks : List Found) → EndsWith fs (gs ++ (hs ++ ks)) → fs ≡ rest ++ ks
     → rest ≡ more ++ hs → EndsWith more gs
 ends_first fs rest more gs hs ks e f g =

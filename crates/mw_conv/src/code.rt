@@ -29,12 +29,15 @@ pub(crate) fn code_of(
     requires slots { slot + size (expression_of term.now) < 2 ^ 32 }
     requires binders { length context.old.items + 2 * size (expression_of term.now) < 2 ^ 32 }
     requires left { funs (expression_of term.now) ≤ left.old }
-    requires found { EndsWith found.old.items (found_in (expression_of term.now) context.old.items) }
+    requires found { EndsWith found.old.items
+        (found_in (expression_of term.now) context.old.items) }
     ensures same { IfOk result (λ _. context.new.items ≡ context.old.items) }
     ensures left { IfOk result (λ _. left.old ≡ left.new + funs (expression_of term.now)) }
-    ensures found { IfOk result (λ _. found.old.items ≡ found.new.items ++ found_in (expression_of term.now)
+    ensures found { IfOk result
+        (λ _. found.old.items ≡ found.new.items ++ found_in (expression_of term.now)
         context.old.items) }
-    ensures code { IfOk result (λ r. ir_of r ≡ code_in (expression_of term.now) left.new context.old.items slot) }
+    ensures code { IfOk result
+        (λ r. ir_of r ≡ code_in (expression_of term.now) left.new context.old.items slot) }
     ensures funcs { IfOk result
         (λ _. AreAdded funcs.old funcs.new (expression_of term.now) left.new context.old.items) }
 {
@@ -79,12 +82,15 @@ fn box_of(
     requires slots { slot + size (expression_of term.now) < 2 ^ 32 }
     requires binders { length context.old.items + 2 * size (expression_of term.now) < 2 ^ 32 }
     requires left { funs (expression_of term.now) ≤ left.old }
-    requires found { EndsWith found.old.items (found_in (expression_of term.now) context.old.items) }
+    requires found { EndsWith found.old.items
+        (found_in (expression_of term.now) context.old.items) }
     ensures same { IfOk result (λ _. context.new.items ≡ context.old.items) }
     ensures left { IfOk result (λ _. left.old ≡ left.new + funs (expression_of term.now)) }
-    ensures found { IfOk result (λ _. found.old.items ≡ found.new.items ++ found_in (expression_of term.now)
+    ensures found { IfOk result
+        (λ _. found.old.items ≡ found.new.items ++ found_in (expression_of term.now)
         context.old.items) }
-    ensures code { IfOk result (λ r. ir_of r.value ≡ code_in (expression_of term.now) left.new context.old.items slot) }
+    ensures code { IfOk result
+        (λ r. ir_of r.value ≡ code_in (expression_of term.now) left.new context.old.items slot) }
     ensures funcs { IfOk result
         (λ _. AreAdded funcs.old funcs.new (expression_of term.now) left.new context.old.items) }
 {
@@ -106,9 +112,12 @@ fn two_of(
     found: &mut Vec<Found>,
     funcs: &mut IrFuncs,
 ) -> Result<(Box<Ir>, Box<Ir>), AllocError>
-    requires closed { ClosedBelow (length context.old.items) (pair (expression_of first.now) (expression_of second.now)) }
-    requires slots { slot + size (pair (expression_of first.now) (expression_of second.now)) < 2 ^ 32 }
-    requires binders { length context.old.items + 2 * size (pair (expression_of first.now) (expression_of second.now))
+    requires closed { ClosedBelow (length context.old.items)
+        (pair (expression_of first.now) (expression_of second.now)) }
+    requires slots { slot + size (pair (expression_of first.now) (expression_of second.now))
+        < 2 ^ 32 }
+    requires binders { length context.old.items
+        + 2 * size (pair (expression_of first.now) (expression_of second.now))
         < 2 ^ 32 }
     requires left { funs (pair (expression_of first.now) (expression_of second.now)) ≤ left.old }
     requires found { EndsWith found.old.items
@@ -119,7 +128,8 @@ fn two_of(
     ensures found { IfOk result
         (λ _. found.old.items ≡ found.new.items ++ found_in (pair (expression_of first.now) (expression_of second.now))
         context.old.items) }
-    ensures first { IfOk result (λ r. ir_of r.0.value ≡ code_in (expression_of first.now) left.new context.old.items
+    ensures first { IfOk result
+        (λ r. ir_of r.0.value ≡ code_in (expression_of first.now) left.new context.old.items
         slot) }
     ensures second { IfOk result
         (λ r. ir_of r.1.value ≡ code_in (expression_of second.now) (left.new + funs (expression_of first.now))
@@ -145,9 +155,12 @@ fn let_of(
     found: &mut Vec<Found>,
     funcs: &mut IrFuncs,
 ) -> Result<Ir, AllocError>
-    requires closed { ClosedBelow (length context.old.items) (bind (expression_of definition.now) (expression_of body.now)) }
-    requires slots { slot + size (bind (expression_of definition.now) (expression_of body.now)) < 2 ^ 32 }
-    requires binders { length context.old.items + 2 * size (bind (expression_of definition.now) (expression_of body.now)) < 2 ^ 32 }
+    requires closed { ClosedBelow (length context.old.items)
+        (bind (expression_of definition.now) (expression_of body.now)) }
+    requires slots { slot + size (bind (expression_of definition.now) (expression_of body.now))
+        < 2 ^ 32 }
+    requires binders { length context.old.items
+        + 2 * size (bind (expression_of definition.now) (expression_of body.now)) < 2 ^ 32 }
     requires left { funs (bind (expression_of definition.now) (expression_of body.now)) ≤ left.old }
     requires found { EndsWith found.old.items
         (found_in (bind (expression_of definition.now) (expression_of body.now)) context.old.items) }
@@ -157,7 +170,8 @@ fn let_of(
     ensures found { IfOk result
         (λ _. found.old.items ≡ found.new.items
         ++ found_in (bind (expression_of definition.now) (expression_of body.now)) context.old.items) }
-    ensures code { IfOk result (λ r. ir_of r ≡ code_in (bind (expression_of definition.now) (expression_of body.now))
+    ensures code { IfOk result
+        (λ r. ir_of r ≡ code_in (bind (expression_of definition.now) (expression_of body.now))
         left.new context.old.items slot) }
     ensures funcs { IfOk result
         (λ _. AreAdded funcs.old funcs.new (bind (expression_of definition.now) (expression_of body.now)) left.new
@@ -185,11 +199,13 @@ fn if_of(
 ) -> Result<Ir, AllocError>
     requires closed { ClosedBelow (length context.old.items)
         (cond (expression_of condition.now) (expression_of yes.now) (expression_of no.now)) }
-    requires slots { slot + size (cond (expression_of condition.now) (expression_of yes.now) (expression_of no.now))
+    requires slots { slot
+        + size (cond (expression_of condition.now) (expression_of yes.now) (expression_of no.now))
         < 2 ^ 32 }
     requires binders { length context.old.items
         + 2 * size (cond (expression_of condition.now) (expression_of yes.now) (expression_of no.now)) < 2 ^ 32 }
-    requires left { funs (cond (expression_of condition.now) (expression_of yes.now) (expression_of no.now))
+    requires left { funs
+        (cond (expression_of condition.now) (expression_of yes.now) (expression_of no.now))
         ≤ left.old }
     requires found { EndsWith found.old.items
         (found_in (cond (expression_of condition.now) (expression_of yes.now) (expression_of no.now))
@@ -226,17 +242,23 @@ fn closure_of(
     found: &mut Vec<Found>,
     funcs: &mut IrFuncs,
 ) -> Result<Ir, AllocError>
-    requires closed { ClosedBelow (length context.now.items) (function recursive (expression_of body.now)) }
-    requires binders { length context.now.items + 2 * size (function recursive (expression_of body.now)) < 2 ^ 32 }
+    requires closed { ClosedBelow (length context.now.items)
+        (function recursive (expression_of body.now)) }
+    requires binders { length context.now.items
+        + 2 * size (function recursive (expression_of body.now)) < 2 ^ 32 }
     requires left { funs (function recursive (expression_of body.now)) ≤ left.old }
-    requires found { EndsWith found.old.items (found_in (function recursive (expression_of body.now)) context.now.items) }
-    ensures left { IfOk result (λ _. left.old ≡ left.new + funs (function recursive (expression_of body.now))) }
+    requires found { EndsWith found.old.items
+        (found_in (function recursive (expression_of body.now)) context.now.items) }
+    ensures left { IfOk result
+        (λ _. left.old ≡ left.new + funs (function recursive (expression_of body.now))) }
     ensures found { IfOk result
         (λ _. found.old.items ≡ found.new.items ++ found_in (function recursive (expression_of body.now))
         context.now.items) }
-    ensures code { IfOk result (λ r. (slot : ℕ) → ir_of r ≡ code_in (function recursive (expression_of body.now))
+    ensures code { IfOk result
+        (λ r. (slot : ℕ) → ir_of r ≡ code_in (function recursive (expression_of body.now))
         left.new context.now.items slot) }
-    ensures funcs { IfOk result (λ _. AreAdded funcs.old funcs.new (function recursive (expression_of body.now))
+    ensures funcs { IfOk result
+        (λ _. AreAdded funcs.old funcs.new (function recursive (expression_of body.now))
         left.new context.now.items) }
 {
     let Some(Found { slots, free }) = found.pop() else {
@@ -273,7 +295,8 @@ fn inner_context(
 ) -> Result<Vec<Place>, AllocError>
     requires few { length levels.now < 2 ^ 32 }
     requires within { All (λ l. l < length context.now.items) levels.now }
-    ensures { IfOk result (λ r. r.items ≡ freeing context.now.items levels.now 0 ++ own_places recursive) }
+    ensures { IfOk result
+        (λ r. r.items ≡ freeing context.now.items levels.now 0 ++ own_places recursive) }
 {
     let mut inner = Vec::from_slice(alloc, context.as_slice())?;
     for at in 0..levels.len() {

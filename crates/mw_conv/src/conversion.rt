@@ -20,10 +20,14 @@ use std::alloc::{AllocError, Global};
 pub fn convert(alloc: Global, code: &Term) -> Result<Converted, AllocError>
     requires closed { IsClosed (expression_of code.now) }
     requires limits { within_limits (expression_of code.now) ≡ true }
-    ensures functions { IfOk result (λ r. map ir_func_of r.funcs ≡ converted_functions (expression_of code.now)) }
-    ensures body { IfOk result (λ r. ir_func_of r.body ≡ converted_outside (expression_of code.now)) }
-    ensures meaning { IfOk result (λ r. MeansAs (map ir_func_of r.funcs) (ir_func_of r.body) (expression_of code.now)) }
-    ensures converted { IfOk result (λ r. IsConverted (map ir_func_of r.funcs) (ir_func_of r.body)) }
+    ensures functions { IfOk result
+        (λ r. map ir_func_of r.funcs ≡ converted_functions (expression_of code.now)) }
+    ensures body { IfOk result
+        (λ r. ir_func_of r.body ≡ converted_outside (expression_of code.now)) }
+    ensures meaning { IfOk result
+        (λ r. MeansAs (map ir_func_of r.funcs) (ir_func_of r.body) (expression_of code.now)) }
+    ensures converted { IfOk result
+        (λ r. IsConverted (map ir_func_of r.funcs) (ir_func_of r.body)) }
     ensures literals { IfOk result (λ _. LiteralsFit (expression_of code.now)) }
 {
     let mut found = Vec::new(alloc);

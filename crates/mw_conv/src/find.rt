@@ -26,7 +26,8 @@ pub(crate) fn find(
     requires { length marks.old.items + under + 2 * size (expression_of term.now) < 2 ^ 32 }
     ensures marks { IfOk result
         (λ _. marks.new.items ≡ joined marks.old.items (λ i. occurs (expression_of term.now) (under + i))) }
-    ensures found { IfOk result (λ _. found.new.items ≡ found.old.items ++ all_found (expression_of term.now)
+    ensures found { IfOk result
+        (λ _. found.new.items ≡ found.old.items ++ all_found (expression_of term.now)
         (length marks.old.items + under)) }
     ensures length { IfOk result (λ _. length marks.new.items ≡ length marks.old.items) }
     ensures slots { IfOk result (λ slots. slots ≡ lets (expression_of term.now)) }
@@ -79,7 +80,8 @@ fn find_function(
     requires { length marks.old.items + under + own + 2 * size (expression_of body.now) < 2 ^ 32 }
     ensures marks { IfOk result
         (λ _. marks.new.items ≡ joined marks.old.items (λ i. occurs (expression_of body.now) (own + (under + i)))) }
-    ensures found { IfOk result (λ _. found.new.items ≡ found.old.items ++ found_with (expression_of body.now) own
+    ensures found { IfOk result
+        (λ _. found.new.items ≡ found.old.items ++ found_with (expression_of body.now) own
         (length marks.old.items + under)) }
     ensures length { IfOk result (λ _. length marks.new.items ≡ length marks.old.items) }
     ensures slots { IfOk result (λ slots. slots ≡ 0) }

@@ -95,7 +95,8 @@ pub fn decode(alloc: Global, bytes: &[u8]) -> Result<Module, DecodeFault>
     ensures spelled { IfOk result
         (λ m. Spells bytes.now (module_of m) × IsWithinProfile (module_of m)) }
     ensures few { IfOk result (λ m. (length m.elements < 2 ^ 32) × (length m.segments < 2 ^ 32)) }
-    ensures read { (m : PureModule) → IsWithinFileLimit bytes.now → Spells bytes.now m → IsWithinProfile m
+    ensures read { (m : PureModule) → IsWithinFileLimit bytes.now → Spells bytes.now m
+        → IsWithinProfile m
         → Decodes result (Ok m) }
 {
     if bytes.len() > 67_108_864 {

@@ -106,7 +106,8 @@ pub fn run<R: Threads + Sync, S: Source, K: Sink, C: Keeper, G: Gate>(
         → Asks (map string_bytes words.now) (outside S.tells (S.told source.old) C.tells (C.held keeper.old)) work
         → (meaning : Meaning) → IsMeaning work meaning → HaveModules meaning }
     // An answer of a run is any answer of the erased program, whatever the units of either.
-    ensures erasure { (workers fuel m : ℕ) (simplify : Bool) (cache : Option (List ℕ)) (file bytes : List ℕ)
+    ensures erasure { (workers fuel m : ℕ) (simplify : Bool) (cache : Option (List ℕ))
+        (file bytes : List ℕ)
         (w : PureGroundValue)
         → AsksOn (map string_bytes words.now) (outside S.tells (S.told source.old) C.tells (C.held keeper.old))
         (run workers fuel simplify cache file) (bytes ∷ [])
@@ -116,7 +117,8 @@ pub fn run<R: Threads + Sync, S: Source, K: Sink, C: Keeper, G: Gate>(
         (ran (Lines (mode_when simplify)) kernels (answered w)) }
     // Where the run with the kernels' code as it was built ends with an answer or a trap, the run with simplified code
     // ends so too.
-    ensures simplified { (workers fuel : ℕ) (cache : Option (List ℕ)) (file bytes : List ℕ) (kernels : List Kernel)
+    ensures simplified { (workers fuel : ℕ) (cache : Option (List ℕ)) (file bytes : List ℕ)
+        (kernels : List Kernel)
         (e : Ending)
         → AsksOn (map string_bytes words.now) (outside S.tells (S.told source.old) C.tells (C.held keeper.old))
         (run workers fuel true cache file) (bytes ∷ [])
@@ -156,7 +158,8 @@ pub fn run<R: Threads + Sync, S: Source, K: Sink, C: Keeper, G: Gate>(
         (recheck certificate file) (bytes ∷ text ∷ [])
         → IsTypingVerdict result text bytes }
     // The last file is read to its end, or to one byte more than the longest source, module or certificate has.
-    ensures left { (command : PureCommand) (contents : List (List ℕ)) (file : Wanted) (bytes : List ℕ)
+    ensures left { (command : PureCommand) (contents : List (List ℕ)) (file : Wanted)
+        (bytes : List ℕ)
         → AsksOn (map string_bytes words.now) (outside S.tells (S.told source.old) C.tells (C.held keeper.old)) command
         contents
         → IsLast file bytes (files_of command) contents
@@ -172,22 +175,27 @@ pub fn run<R: Threads + Sync, S: Source, K: Sink, C: Keeper, G: Gate>(
     ensures lacking { AsksLacking (map string_bytes words.now)
         (outside S.tells (S.told source.old) C.tells (C.held keeper.old))
         → IsUnread result K.tells (K.written sink.old) (K.written sink.new) }
-    ensures nothing { (result ≡ Usage) ⊎ (result ≡ Read) → IsTrue K.tells → K.written sink.new ≡ K.written sink.old }
-    ensures unread { (result ≡ Usage) ⊎ AsksNoFile (map string_bytes words.now) → source.new ≡ source.old }
+    ensures nothing { (result ≡ Usage) ⊎ (result ≡ Read) → IsTrue K.tells
+        → K.written sink.new ≡ K.written sink.old }
+    ensures unread { (result ≡ Usage) ⊎ AsksNoFile (map string_bytes words.now)
+        → source.new ≡ source.old }
     ensures files { S.told source.new ≡ S.told source.old }
     // Only a command with a cache file touches the keeper, and that only where the source was read and accepted.
-    ensures untouched { (result ≡ Usage) ⊎ (result ≡ Read) ⊎ AsksNoCache (map string_bytes words.now)
+    ensures untouched { (result ≡ Usage) ⊎ (result ≡ Read)
+        ⊎ AsksNoCache (map string_bytes words.now)
         → keeper.new ≡ keeper.old }
     ensures unkept_refusal { (r : Refusal) → result ≡ Refused r → keeper.new ≡ keeper.old }
     // The keeper is started with the name of the command's cache file alone, and once where a whole text's own status
     // came.
-    ensures opened { (command : PureCommand) → Means (map string_bytes words.now) command → (path : List ℕ)
+    ensures opened { (command : PureCommand) → Means (map string_bytes words.now) command
+        → (path : List ℕ)
         → path_of command ≡ Some path → IsTrue C.tells
         → IsOpenedWith result path (C.opened keeper.old) (C.opened keeper.new) }
     // What counted of the cache file is never lost, whatever the status, and whatever failed.
     ensures front { IsTrue C.tells → HasGoodFront (C.held keeper.old) (C.held keeper.new) }
     // The status says what the cache file holds: what it held, or what counted of that and records behind it.
-    ensures held { (command : PureCommand) → Means (map string_bytes words.now) command → IsSome (path_of command)
+    ensures held { (command : PureCommand) → Means (map string_bytes words.now) command
+        → IsSome (path_of command)
         → IsTrue C.tells → IsHeldBy (kind_of command) result (C.held keeper.old) (C.held keeper.new) }
     // The text of each kernel that is printed was loaded, or its record is kept, unless there was no more room.
     ensures kept { (work : Work) → (asked : Asks (map string_bytes words.now)
@@ -202,7 +210,8 @@ pub fn run<R: Threads + Sync, S: Source, K: Sink, C: Keeper, G: Gate>(
         → extent (kind_of command) result ≡ whole
         → C.faults keeper.new ≡ C.faults keeper.old }
     // A bad record is told only where there is one, and a record that isn't honest has the text of one of the runs.
-    ensures bad { (digest : List ℕ) (work : Work) → result ≡ BadCache digest → AsksOver (map string_bytes words.now)
+    ensures bad { (digest : List ℕ) (work : Work) → result ≡ BadCache digest
+        → AsksOver (map string_bytes words.now)
         (outside S.tells (S.told source.old) C.tells (C.held keeper.old)) work
         → IsTrue C.tells → IsBadOf work (C.held keeper.old) digest }
     ensures source_count { S.faults source.old ≤ S.faults source.new }
@@ -225,10 +234,13 @@ fn carry_out<R: Threads + Sync, S: Source, K: Sink, C: Keeper, G: Gate>(
     sink: &mut K,
     keeper: &mut C,
 ) -> Status
-    requires range { (number : ℕ) → command_in command ≡ sample number → (1 ≤ number) × (number ≤ 100) }
-    requires workers { (workers fuel : ℕ) (simplify : Bool) (cache : Option (List ℕ)) (file : List ℕ)
+    requires range { (number : ℕ) → command_in command ≡ sample number
+        → (1 ≤ number) × (number ≤ 100) }
+    requires workers { (workers fuel : ℕ) (simplify : Bool) (cache : Option (List ℕ))
+        (file : List ℕ)
         → command_in command ≡ run workers fuel simplify cache file → 1 ≤ workers }
-    requires linkers { (workers fuel : ℕ) (file : List ℕ) → command_in command ≡ link workers fuel file → 1 ≤ workers }
+    requires linkers { (workers fuel : ℕ) (file : List ℕ)
+        → command_in command ≡ link workers fuel file → 1 ≤ workers }
     ensures work { (contents : List (List ℕ)) (work : Work)
         → HasAll (sources S.tells (S.told source.old)) (files_of (command_in command.entry)) contents
         → IsWork (outside S.tells (S.told source.old) C.tells (C.held keeper.old))
@@ -242,9 +254,11 @@ fn carry_out<R: Threads + Sync, S: Source, K: Sink, C: Keeper, G: Gate>(
         → ¬ IsMemory result → ¬ (result ≡ Read) → S.left source.new ≡ drop file.most bytes }
     ensures read { result ≡ Read → Rose (S.faults source.old) (S.faults source.new)
         ⊎ LacksSome (sources S.tells (S.told source.old)) (files_of (command_in command.entry)) }
-    ensures missing { LacksFirst (sources S.tells (S.told source.old)) (files_of (command_in command.entry))
+    ensures missing { LacksFirst (sources S.tells (S.told source.old))
+        (files_of (command_in command.entry))
         → result ≡ Read }
-    ensures lacking { LacksSome (sources S.tells (S.told source.old)) (files_of (command_in command.entry))
+    ensures lacking { LacksSome (sources S.tells (S.told source.old))
+        (files_of (command_in command.entry))
         → IsUnread result K.tells (K.written sink.old) (K.written sink.new) }
     ensures nothing { result ≡ Read → IsTrue K.tells → K.written sink.new ≡ K.written sink.old }
     ensures write { result ≡ Write → Rose (K.faults sink.old) (K.faults sink.new) }
@@ -255,9 +269,11 @@ fn carry_out<R: Threads + Sync, S: Source, K: Sink, C: Keeper, G: Gate>(
         → (S.faults source.new ≡ S.faults source.old) × (K.faults sink.new ≡ K.faults sink.old) }
     ensures unread { files_of (command_in command.entry) ≡ [] → source.new ≡ source.old }
     ensures files { S.told source.new ≡ S.told source.old }
-    ensures untouched { (result ≡ Read) ⊎ IsNone (path_of (command_in command.entry)) → keeper.new ≡ keeper.old }
+    ensures untouched { (result ≡ Read) ⊎ IsNone (path_of (command_in command.entry))
+        → keeper.new ≡ keeper.old }
     ensures refused { (r : Refusal) → result ≡ Refused r → keeper.new ≡ keeper.old }
-    ensures opened { (path : List ℕ) → path_of (command_in command.entry) ≡ Some path → IsTrue C.tells
+    ensures opened { (path : List ℕ) → path_of (command_in command.entry) ≡ Some path
+        → IsTrue C.tells
         → IsOpenedWith result path (C.opened keeper.old) (C.opened keeper.new) }
     ensures held { IsSome (path_of (command_in command.entry)) → IsTrue C.tells
         → IsHeldBy (kind_of (command_in command.entry)) result (C.held keeper.old) (C.held keeper.new) }
@@ -272,7 +288,8 @@ fn carry_out<R: Threads + Sync, S: Source, K: Sink, C: Keeper, G: Gate>(
     ensures cache { result ≡ Cache → Rose (C.faults keeper.old) (C.faults keeper.new) }
     ensures sound { extent (kind_of (command_in command.entry)) result ≡ whole
         → C.faults keeper.new ≡ C.faults keeper.old }
-    ensures bad { (digest : List ℕ) (contents : List (List ℕ)) (work : Work) → result ≡ BadCache digest
+    ensures bad { (digest : List ℕ) (contents : List (List ℕ)) (work : Work)
+        → result ≡ BadCache digest
         → HasAll (sources S.tells (S.told source.old)) (files_of (command_in command.entry)) contents
         → IsWork (outside S.tells (S.told source.old) C.tells (C.held keeper.old))
         (command_in command.entry) contents work → HasBadRecordOf work C.tells (C.held keeper.old) digest }
@@ -361,7 +378,8 @@ fn evaluate_file<R: Threads + Sync, S: Source, K: Sink, C: Keeper, G: Gate>(
     ensures read { result ≡ Read
         → Rose (S.faults source.old) (S.faults source.new)
         ⊎ Lacks (sources S.tells (S.told source.old)) (source_file file.now) }
-    ensures missing { Lacks (sources S.tells (S.told source.old)) (source_file file.now) → result ≡ Read }
+    ensures missing { Lacks (sources S.tells (S.told source.old)) (source_file file.now)
+        → result ≡ Read }
     ensures nothing { result ≡ Read → IsTrue K.tells → K.written sink.new ≡ K.written sink.old }
     ensures write { result ≡ Write → Rose (K.faults sink.old) (K.faults sink.new) }
     ensures possible { ¬ (extent (kind_with (cache_of evaluation.entry)) result ≡ never) }
@@ -370,7 +388,8 @@ fn evaluate_file<R: Threads + Sync, S: Source, K: Sink, C: Keeper, G: Gate>(
     ensures memory { IsMemory result
         → (S.faults source.new ≡ S.faults source.old) × (K.faults sink.new ≡ K.faults sink.old) }
     ensures files { S.told source.new ≡ S.told source.old }
-    ensures untouched { (result ≡ Read) ⊎ IsNone (cache_of evaluation.entry) → keeper.new ≡ keeper.old }
+    ensures untouched { (result ≡ Read) ⊎ IsNone (cache_of evaluation.entry)
+        → keeper.new ≡ keeper.old }
     ensures refused { (r : Refusal) → result ≡ Refused r → keeper.new ≡ keeper.old }
     ensures opened { (path : Bor (List ℕ)) → cache_of evaluation.entry ≡ Some path → IsTrue C.tells
         → IsOpenedWith result path.now (C.opened keeper.old) (C.opened keeper.new) }
@@ -419,10 +438,12 @@ fn run_sample<R: Threads + Sync, K: Sink, C: Keeper, G: Gate>(
 ) -> Status
     requires some { 1 ≤ number }
     requires within_limit { number ≤ 100 }
-    ensures work { IsCarriedOut on_a_number (sampling number) result K.tells (K.written sink.old) (K.written sink.new) }
+    ensures work { IsCarriedOut on_a_number (sampling number) result K.tells (K.written sink.old)
+        (K.written sink.new) }
     ensures write { result ≡ Write → Rose (K.faults sink.old) (K.faults sink.new) }
     ensures possible { ¬ (extent on_a_number result ≡ never) }
-    ensures unfailed { IsWritten (extent on_a_number result) → K.faults sink.new ≡ K.faults sink.old }
+    ensures unfailed { IsWritten (extent on_a_number result)
+        → K.faults sink.new ≡ K.faults sink.old }
     ensures memory { IsMemory result → K.faults sink.new ≡ K.faults sink.old }
     ensures untouched { keeper.new ≡ keeper.old }
     ensures sink_count { K.faults sink.old ≤ K.faults sink.new }

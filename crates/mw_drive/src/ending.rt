@@ -20,7 +20,8 @@ pub enum End<'p> {
 
 /// The last line, and the status that says the same.
 fn put_end(alloc: Global, text: &mut Vec<u8>, end: &End<'_>) -> Result<Status, AllocError>
-    ensures text { IfOk result (λ _. text.new.items ≡ text.old.items ++ ending_line (ending_of end.now)) }
+    ensures text { IfOk result
+        (λ _. text.new.items ≡ text.old.items ++ ending_line (ending_of end.now)) }
     ensures status { IfOk result (λ status. status ≡ ending_status (ending_of end.now)) }
 {
     match end {
@@ -42,7 +43,8 @@ fn put_end(alloc: Global, text: &mut Vec<u8>, end: &End<'_>) -> Result<Status, A
 /// Writes the last line. The status says the same.
 pub fn write_end<K: Sink>(alloc: Global, sink: &mut K, end: &End<'_>) -> Result<Status, WriteFault>
     ensures status { IfOk result (λ status. status ≡ ending_status (ending_of end.now)) }
-    ensures writes { Writes result K.tells (K.written sink.old) (K.written sink.new) (ending_line (ending_of end.now)) }
+    ensures writes { Writes result K.tells (K.written sink.old) (K.written sink.new)
+        (ending_line (ending_of end.now)) }
     ensures blames { Blames result (K.faults sink.old) (K.faults sink.new) }
     ensures count { K.faults sink.old ≤ K.faults sink.new }
 {

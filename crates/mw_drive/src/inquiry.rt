@@ -39,15 +39,18 @@ pub fn inquire<S: Source, K: Sink>(
     inquiry: Inquiry<'_>,
 ) -> Status
     requires some { 0 < most }
-    ensures work { (bytes : List ℕ) → Has (sources S.tells (S.told source.old)) (wanted file.now most) bytes
+    ensures work { (bytes : List ℕ)
+        → Has (sources S.tells (S.told source.old)) (wanted file.now most) bytes
         → IsCarriedOut on_a_file (inquired inquiry.entry (take most bytes)) result K.tells
         (K.written sink.old) (K.written sink.new) }
-    ensures left { (bytes : List ℕ) → Has (sources S.tells (S.told source.old)) (wanted file.now most) bytes
+    ensures left { (bytes : List ℕ)
+        → Has (sources S.tells (S.told source.old)) (wanted file.now most) bytes
         → ¬ IsMemory result → ¬ (result ≡ Read) → S.left source.new ≡ drop most bytes }
     ensures read { result ≡ Read
         → Rose (S.faults source.old) (S.faults source.new)
         ⊎ Lacks (sources S.tells (S.told source.old)) (wanted file.now most) }
-    ensures missing { Lacks (sources S.tells (S.told source.old)) (wanted file.now most) → result ≡ Read }
+    ensures missing { Lacks (sources S.tells (S.told source.old)) (wanted file.now most)
+        → result ≡ Read }
     ensures nothing { result ≡ Read → IsTrue K.tells → K.written sink.new ≡ K.written sink.old }
     ensures write { result ≡ Write → Rose (K.faults sink.old) (K.faults sink.new) }
     ensures possible { ¬ (extent on_a_file result ≡ never) }

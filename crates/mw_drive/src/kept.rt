@@ -41,14 +41,16 @@ pub fn keep_run<C: Keeper>(
     ensures status { IfOk result (λ s. IsStatusAfter file ran.now.status s) }
     ensures untouched { file ≡ Absent → keeper.new ≡ keeper.old }
     ensures unread { file ≡ Unread → keeper.new ≡ keeper.old }
-    ensures kept { (count : ℕ) → file ≡ Read count → IfOk result (λ s. (s ≡ Unkept → ⊥) → IsTrue C.tells
+    ensures kept { (count : ℕ) → file ≡ Read count
+        → IfOk result (λ s. (s ≡ Unkept → ⊥) → IsTrue C.tells
         → IsKeptFile (C.held keeper.old) (C.held keeper.new) (texts_built cache.now ran.now.built.items)) }
     ensures front { (count : ℕ) → file ≡ Read count → IsTrue C.tells
         → HasGoodFront (C.held keeper.old) (C.held keeper.new) }
     ensures same_names { IsTrue C.tells → C.opened keeper.new ≡ C.opened keeper.old }
     ensures unkept { IfOk result (λ s. s ≡ Unkept → (ran.now.status ≡ Unkept) ⊎ (file ≡ Unread)
         ⊎ Rose (C.faults keeper.old) (C.faults keeper.new)) }
-    ensures unfailed { IfOk result (λ s. (s ≡ Unkept → ⊥) → C.faults keeper.new ≡ C.faults keeper.old) }
+    ensures unfailed { IfOk result
+        (λ s. (s ≡ Unkept → ⊥) → C.faults keeper.new ≡ C.faults keeper.old) }
     ensures rises { C.faults keeper.old ≤ C.faults keeper.new }
 {
     match file {

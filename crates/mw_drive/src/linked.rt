@@ -62,7 +62,8 @@ pub fn write_linked<R: Threads + Sync, K: Sink, G: Gate>(
     requires kernels { HasSmallKernels (program_of program) }
     requires linkable { (kernels : List Kernel)
         → link_run (items_run Plain fuel (named_program_of program)) ≡ in_one kernels → AreLinkable kernels }
-    ensures run { IsWrittenLinked fuel (named_program_of program) result K.tells (K.written sink.old)
+    ensures run { IsWrittenLinked fuel (named_program_of program) result K.tells
+        (K.written sink.old)
         (K.written sink.new) }
     ensures ended { IfOk result HasEnding }
     ensures blames { BlamesSink result (K.faults sink.old) (K.faults sink.new) }
@@ -94,7 +95,8 @@ fn cut_short<'p>(
     outcomes: &'p Outcomes,
 ) -> Result<Option<End<'p>>, AllocError>
     requires each { HasOneForEach (program_of program.now).items outcomes.now }
-    requires placed { (cache : CacheState) × ArePlaced Plain cache (program_of program.now).items outcomes.now }
+    requires placed { (cache : CacheState)
+        × ArePlaced Plain cache (program_of program.now).items outcomes.now }
     ensures cut { let run = outcomes_run (named_program_of program.now).items outcomes.now in
         IfOk result (λ end. IsCutAt (option_map ending_of end) run) }
 {
@@ -110,7 +112,8 @@ fn cut_short<'p>(
 
 /// The name of the first kernel with which there are more functions than one module may have.
 fn first_past<'p>(built: &[Built<'p>]) -> Option<&'p [u8]>
-    requires limits { AllByRecursion (λ (b : Built). within_limits (expression_of b.code.now) ≡ true) built.now }
+    requires limits { AllByRecursion
+        (λ (b : Built). within_limits (expression_of b.code.now) ≡ true) built.now }
     ensures { first_past [] (kernels_of built.now) ≡ option_map (λ name. name.now) result }
 {
     let mut sum: u32 = 0;
@@ -152,7 +155,8 @@ fn linkables(
 
 /// The kernel of an item that is one, with the next outcome, if that is code.
 fn next_kernel(item: Item, left: &mut IntoIter<ItemOutcome>) -> Option<Linkable>
-    ensures { IsNextKernel (item_of item) (into_iter_items left.old) result (into_iter_items left.new) }
+    ensures { IsNextKernel (item_of item) (into_iter_items left.old) result
+        (into_iter_items left.new) }
 {
     let (name, kind) = kernel_of(item)?;
     let code = next_code(left)?;

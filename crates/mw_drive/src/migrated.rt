@@ -30,14 +30,17 @@ pub fn migrate<K: Sink, C: Keeper>(
     sink: &mut K,
     keeper: &mut C,
 ) -> Status
-    ensures work { IsTrue C.tells → IsCarriedOut on_a_cache (migrating (C.held keeper.old)) result K.tells
+    ensures work { IsTrue C.tells
+        → IsCarriedOut on_a_cache (migrating (C.held keeper.old)) result K.tells
         (K.written sink.old) (K.written sink.new) }
     ensures write { result ≡ Write → Rose (K.faults sink.old) (K.faults sink.new) }
     ensures possible { ¬ (extent on_a_cache result ≡ never) }
     ensures accepted { (r : Refusal) → ¬ (result ≡ Refused r) }
-    ensures unfailed { IsWritten (extent on_a_cache result) → K.faults sink.new ≡ K.faults sink.old }
+    ensures unfailed { IsWritten (extent on_a_cache result)
+        → K.faults sink.new ≡ K.faults sink.old }
     ensures memory { IsMemory result → K.faults sink.new ≡ K.faults sink.old }
-    ensures opened { IsTrue C.tells → IsOpenedWith result path.now (C.opened keeper.old) (C.opened keeper.new) }
+    ensures opened { IsTrue C.tells
+        → IsOpenedWith result path.now (C.opened keeper.old) (C.opened keeper.new) }
     ensures held { IsTrue C.tells → IsMigratedWith result (C.held keeper.old) (C.held keeper.new) }
     ensures cache { result ≡ Cache → Rose (C.faults keeper.old) (C.faults keeper.new) }
     ensures sound { extent on_a_cache result ≡ whole → C.faults keeper.new ≡ C.faults keeper.old }
@@ -81,7 +84,8 @@ fn uncounted<C: Keeper, L: Ledger>(
     ensures same { IsTrue C.tells → C.held keeper.new ≡ C.held keeper.old }
     ensures started { OnOk result (IsTrue C.tells
         → IsStartedWith file.entry.path.now (C.opened keeper.old) (C.opened keeper.new)) }
-    ensures no_other { IsTrue C.tells → IsStartedAtMost file.entry.path.now (C.opened keeper.old) (C.opened keeper.new) }
+    ensures no_other { IsTrue C.tells
+        → IsStartedAtMost file.entry.path.now (C.opened keeper.old) (C.opened keeper.new) }
     ensures blames { BlamesKeeper result (C.faults keeper.old) (C.faults keeper.new) }
     ensures count { C.faults keeper.old ≤ C.faults keeper.new }
 {
@@ -96,7 +100,8 @@ fn write_numbers<K: Sink>(
     old: u32,
     added: u32,
 ) -> Result<(), WriteFault>
-    ensures writes { Writes result K.tells (K.written sink.old) (K.written sink.new) (migrated_text old added) }
+    ensures writes { Writes result K.tells (K.written sink.old) (K.written sink.new)
+        (migrated_text old added) }
     ensures blames { Blames result (K.faults sink.old) (K.faults sink.new) }
     ensures count { K.faults sink.old ≤ K.faults sink.new }
 {

@@ -83,8 +83,10 @@ pub fn write_run<R: Threads + Sync, K: Sink, C: Keeper, G: Gate, L: Ledger>(
         IsSome options.entry.cache → IsHonestCache C.tells (C.held keeper.old) options.entry.cache
         → (kernels : List Kernel) (e : Ending) → program_run mode fuel p ≡ ended kernels e
         → IsKeptOf (map (run_text mode) kernels) result (C.held keeper.old) (C.held keeper.new) }
-    ensures unkept { IfOk result (λ s. s ≡ Unkept → Rose (C.faults keeper.old) (C.faults keeper.new)) }
-    ensures unfailed { IfOk result (λ s. (s ≡ Unkept → ⊥) → C.faults keeper.new ≡ C.faults keeper.old) }
+    ensures unkept { IfOk result
+        (λ s. s ≡ Unkept → Rose (C.faults keeper.old) (C.faults keeper.new)) }
+    ensures unfailed { IfOk result
+        (λ s. (s ≡ Unkept → ⊥) → C.faults keeper.new ≡ C.faults keeper.old) }
     ensures rises { C.faults keeper.old ≤ C.faults keeper.new }
     ensures bad { let p = program_of program.now in let mode = mode_of options.entry.shown in
         IfErr result (IfBadRecord (HasBadRecord mode p fuel C.tells (C.held keeper.old))) }

@@ -61,12 +61,14 @@ pub fn write_items<'p, K: Sink, L: Ledger>(
     requires small { HasSmallTypes (program_of program.now) }
     requires few { length program.now.items < 2 ^ 32 }
     requires totals { shown ≡ Totals → IsHonest cache.now.load }
-    requires phase { AreOutcomesOf (mode_of shown) (program_of program.now) fuel cache.now phase.now.outcomes }
+    requires phase { AreOutcomesOf (mode_of shown) (program_of program.now) fuel cache.now
+        phase.now.outcomes }
     ensures run { let p = named_program_of program.now in
         IsHonest cache.now.load
         → IsWrittenRun IsRanTo shown fuel p result K.tells (K.written sink.old) (K.written sink.new) }
     ensures ended { IfOk result (λ r. HasEnding r.status) }
-    ensures built { IfOk result (λ r. AllByRecursion (IsBuilt (mode_of shown) cache.now) r.built.items) }
+    ensures built { IfOk result
+        (λ r. AllByRecursion (IsBuilt (mode_of shown) cache.now) r.built.items) }
     ensures table { IfOk result (λ r. All (IsOf cache.now.cells) r.stored) }
     ensures blames { BlamesSink result (K.faults sink.old) (K.faults sink.new) }
     ensures count { K.faults sink.old ≤ K.faults sink.new }

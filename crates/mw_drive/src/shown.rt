@@ -68,7 +68,8 @@ fn write_all<K: Sink>(
     kernels: &[Built<'_>],
 ) -> Result<(), WriteFault>
     requires here { AllByRecursion (HasModuleHere cache.now) kernels.now }
-    ensures writes { IsHonest cache.now.load → (mode : Mode) → AllByRecursion (IsBuilt mode cache.now) kernels.now
+    ensures writes { IsHonest cache.now.load → (mode : Mode)
+        → AllByRecursion (IsBuilt mode cache.now) kernels.now
         → let text = flat_map (kernel_lines mode) (kernels_of kernels.now) in
         Writes result K.tells (K.written sink.old) (K.written sink.new) text }
     ensures blames { Blames result (K.faults sink.old) (K.faults sink.new) }

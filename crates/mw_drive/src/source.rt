@@ -57,7 +57,8 @@ pub fn write_source<R: Threads + Sync, K: Sink, C: Keeper, G: Gate, L: Ledger>(
     requires parts { blank.parts ≡ L.parts }
     requires some { 0 < L.parts }
     requires possible { IsPossible evaluation }
-    ensures meaning { let work = evaluated evaluation.entry bytes.now fuel in let path = cache_of evaluation.entry in
+    ensures meaning { let work = evaluated evaluation.entry bytes.now fuel in
+        let path = cache_of evaluation.entry in
         IsHonestCache C.tells (C.held keeper.old) path
         → IsWrittenMeaning path work result K.tells (K.written sink.old) (K.written sink.new) }
     ensures ended { IfOk result (IsEndedSource (cache_of evaluation.entry)) }
@@ -74,8 +75,10 @@ pub fn write_source<R: Threads + Sync, K: Sink, C: Keeper, G: Gate, L: Ledger>(
         → (shown : Shown) (kernels : List Kernel) (e : Ending)
         → IsMeaning (evaluated evaluation.entry bytes.now fuel) (ran shown kernels e)
         → IsKeptOf (map (run_text (mode_of shown)) kernels) result (C.held keeper.old) (C.held keeper.new) }
-    ensures unkept { IfOk result (λ s. s ≡ Unkept → Rose (C.faults keeper.old) (C.faults keeper.new)) }
-    ensures unfailed { IfOk result (λ s. (s ≡ Unkept → ⊥) → C.faults keeper.new ≡ C.faults keeper.old) }
+    ensures unkept { IfOk result
+        (λ s. s ≡ Unkept → Rose (C.faults keeper.old) (C.faults keeper.new)) }
+    ensures unfailed { IfOk result
+        (λ s. (s ≡ Unkept → ⊥) → C.faults keeper.new ≡ C.faults keeper.old) }
     ensures rises { C.faults keeper.old ≤ C.faults keeper.new }
     ensures bad { let work = evaluated evaluation.entry bytes.now fuel in
         IfErr result (IfBadRecord (HasBadRecordOf work C.tells (C.held keeper.old))) }

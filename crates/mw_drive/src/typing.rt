@@ -35,16 +35,19 @@ pub fn recheck<S: Source, K: Sink>(
     file: &str,
     certificate: &str,
 ) -> Status
-    ensures work { (bytes text : List ℕ) → Has (sources S.tells (S.told source.old)) (source_file file.now) bytes
+    ensures work { (bytes text : List ℕ)
+        → Has (sources S.tells (S.told source.old)) (source_file file.now) bytes
         → Has (sources S.tells (S.told source.old)) (certificate_file certificate.now) text
         → IsCarriedOut on_a_file (rechecking (take most_of_certificate text) (take most_of_source bytes)) result
         K.tells (K.written sink.old) (K.written sink.new) }
-    ensures left { (text : List ℕ) → Has (sources S.tells (S.told source.old)) (certificate_file certificate.now) text
+    ensures left { (text : List ℕ)
+        → Has (sources S.tells (S.told source.old)) (certificate_file certificate.now) text
         → ¬ IsMemory result → ¬ (result ≡ Read) → S.left source.new ≡ drop most_of_certificate text }
     ensures read { result ≡ Read → Rose (S.faults source.old) (S.faults source.new)
         ⊎ (Lacks (sources S.tells (S.told source.old)) (source_file file.now)
         ⊎ Lacks (sources S.tells (S.told source.old)) (certificate_file certificate.now)) }
-    ensures missing { Lacks (sources S.tells (S.told source.old)) (source_file file.now) → result ≡ Read }
+    ensures missing { Lacks (sources S.tells (S.told source.old)) (source_file file.now)
+        → result ≡ Read }
     ensures lacking { Lacks (sources S.tells (S.told source.old)) (certificate_file certificate.now)
         → IsUnread result K.tells (K.written sink.old) (K.written sink.new) }
     ensures nothing { result ≡ Read → IsTrue K.tells → K.written sink.new ≡ K.written sink.old }

@@ -15,9 +15,6 @@ spelled_first s = record { bytes = s.spell.front; spell = s.spell.first }
 pub spelled_second : {P Q : List ℕ → Type 0} → Spelled (P then Q) → Spelled Q
 spelled_second s = record { bytes = s.spell.back; spell = s.spell.second }
 
-pub spelled_inside : {P : List ℕ → Type 0} → Spelled (sized P) → Spelled P
-spelled_inside s = record { bytes = s.spell.content; spell = s.spell.inside }
-
 pub spelled_count : {A : Type 0} (P : A → Piece) (xs : List A) → Spelled (vector P xs) → length xs < 2 ^ 32
 spelled_count P xs s = unsigned_below s.spell.front 32 (length xs) s.spell.first
 
@@ -61,11 +58,6 @@ pub rest_end : {A : Type 0} (P : A → Piece) (f : A → List ℕ) (xs : List A)
     → Rest P f (drop k xs) out whole → out ≡ whole
 rest_end P f xs k out whole h r = let e : drop k xs ≡ [] = drop_past xs k h in let w : out ++ [] ≡ whole =
     rw e at r.written in sym (append-nil out) ∙ w
-
--- a vector, after its count
-pub vector_start : {A : Type 0} (P : A → Piece) (f : A → List ℕ) (xs : List A) (old out : List ℕ)
-    → Spelled (vector P xs) → out ≡ old ++ number (length xs) → Rest P f xs out (old ++ vector_bytes f xs)
-vector_start P f xs old out s e = record { spelled = spelled_second s; written = rw (e, append_assoc) refl }
 
 -- items that are seen through a view
 pub viewed_items : {A B : Type 0} (P : B → Piece) (v : A → B) (xs : List A) (bytes : List ℕ) → items P (map v xs) bytes
@@ -112,10 +104,6 @@ section_vector id P xs h s = elim s.spell [
       omega arith)
   | inr p ↦ record { bytes = p.second.content; spell = p.second.inside }
 ]
-
-pub section_none : {A : Type 0} (id : ℕ) (f : A → List ℕ) (xs : List A) → length xs ≡ 0 → section_bytes id f xs ≡ []
-section_none id f [] h = refl
-section_none id f (x ∷ xs) h = absurd (omega arith)
 
 pub section_some : {A : Type 0} (id : ℕ) (f : A → List ℕ) (xs : List A) → 0 < length xs → section_bytes id f xs ≡ id
     ∷ sized_bytes (vector_bytes f xs)

@@ -46,7 +46,8 @@ fn put_opening(out: &mut Vec<u8>, opcode: u8, kind: Option<ValType>) -> Result<(
 /// Appends a branch by a table.
 fn put_branches(out: &mut Vec<u8>, labels: &Indices, label: u32) -> Result<(), AllocError>
     requires { length labels.now < 2 ^ 32 }
-    ensures { OnOk result (out.new.items ≡ out.old.items ++ 14 ∷ (vector_bytes number labels.now ++ number label)) }
+    ensures { OnOk result
+        (out.new.items ≡ out.old.items ++ 14 ∷ (vector_bytes number labels.now ++ number label)) }
 {
     put_byte(out, 0x0e)?;
     put_indices(out, labels)?;
@@ -65,7 +66,8 @@ fn put_indirect_call(out: &mut Vec<u8>, kind: u32) -> Result<(), AllocError>
 #[tactic(auto, using(crate::proofs::Pieces::spelled_first))]
 pub fn put_expression(out: &mut Vec<u8>, instructions: &Instrs) -> Result<(), AllocError>
     requires { Spelled (code (code_of instructions.now)) }
-    ensures { OnOk result (out.new.items ≡ out.old.items ++ expression_bytes (code_of instructions.now)) }
+    ensures { OnOk result
+        (out.new.items ≡ out.old.items ++ expression_bytes (code_of instructions.now)) }
 {
     put_code(out, instructions)?;
     put_byte(out, 0x0b)
@@ -110,7 +112,8 @@ pub fn put_code(out: &mut Vec<u8>, instructions: &Instrs) -> Result<(), AllocErr
 #[cycle(put)]
 fn put_instruction(out: &mut Vec<u8>, one: &Instr) -> Result<(), AllocError>
     requires { Spelled (instruction (instruction_of one.now)) }
-    ensures { OnOk result (out.new.items ≡ out.old.items ++ instruction_bytes (instruction_of one.now)) }
+    ensures { OnOk result
+        (out.new.items ≡ out.old.items ++ instruction_bytes (instruction_of one.now)) }
 {
     match one {
         Instr::Unreachable => put_byte(out, 0x00),

@@ -74,7 +74,8 @@ pub trait Encoded {
 /// Appends a vector of value types.
 pub fn put_value_types(out: &mut Vec<u8>, types: &ValTypes) -> Result<(), AllocError>
     requires { length types.now < 2 ^ 32 }
-    ensures { OnOk result (out.new.items ≡ out.old.items ++ vector_bytes value_type_bytes types.now) }
+    ensures { OnOk result
+        (out.new.items ≡ out.old.items ++ vector_bytes value_type_bytes types.now) }
 {
     put_count(out, types.len())?;
     let list = types.as_slice();
@@ -210,7 +211,8 @@ fn is_same(a: ValType, b: ValType) -> bool
 }
 
 fn put_run(out: &mut Vec<u8>, count: u32, kind: ValType) -> Result<(), AllocError>
-    ensures { OnOk result (out.new.items ≡ out.old.items ++ run_bytes (record { count = count; kind = kind })) }
+    ensures { OnOk result
+        (out.new.items ≡ out.old.items ++ run_bytes (record { count = count; kind = kind })) }
 {
     put_u32(out, count)?;
     put_byte(out, byte_of_type(kind))
@@ -220,7 +222,8 @@ fn put_run(out: &mut Vec<u8>, count: u32, kind: ValType) -> Result<(), AllocErro
 fn put_runs(out: &mut Vec<u8>, list: &[ValType]) -> Result<usize, AllocError>
     requires { length list.now < 2 ^ 32 }
     ensures number { IfOk result (λ n. n ≡ length (runs_of list.now)) }
-    ensures bytes { OnOk result (out.new.items ≡ out.old.items ++ flat_map run_bytes (runs_of list.now)) }
+    ensures bytes { OnOk result
+        (out.new.items ≡ out.old.items ++ flat_map run_bytes (runs_of list.now)) }
 {
     if list.len() == 0 {
         return Ok(0);

@@ -50,7 +50,8 @@ fn put_section(out: &mut Vec<u8>, id: u8, content: &[u8]) -> Result<(), AllocErr
 /// Appends a vector of items.
 fn put_all<T: Encoded>(alloc: Global, out: &mut Vec<u8>, list: &[T]) -> Result<(), AllocError>
     requires { Spelled (vector T.spelled (map T.seen list.now)) }
-    ensures { OnOk result (out.new.items ≡ out.old.items ++ vector_bytes T.bytes (map T.seen list.now)) }
+    ensures { OnOk result
+        (out.new.items ≡ out.old.items ++ vector_bytes T.bytes (map T.seen list.now)) }
 {
     put_count(out, list.len())?;
     for one in list {
@@ -67,8 +68,10 @@ fn put_items<T: Encoded>(
     list: &[T],
 ) -> Result<(), AllocError>
     requires spelled { Spelled (section id T.spelled (map T.seen list.now)) }
-    requires small { 0 < length list.now → length (vector_bytes T.bytes (map T.seen list.now)) < 2 ^ 32 }
-    ensures { OnOk result (out.new.items ≡ out.old.items ++ section_bytes id T.bytes (map T.seen list.now)) }
+    requires small { 0 < length list.now → length (vector_bytes T.bytes (map T.seen list.now))
+        < 2 ^ 32 }
+    ensures { OnOk result
+        (out.new.items ≡ out.old.items ++ section_bytes id T.bytes (map T.seen list.now)) }
 {
     if list.len() == 0 {
         return Ok(());
@@ -81,7 +84,8 @@ fn put_items<T: Encoded>(
 /// Appends the section of the types.
 pub fn put_types(alloc: Global, out: &mut Vec<u8>, list: &FuncTypes) -> Result<(), AllocError>
     requires { Spelled (section 1 function_type list.now) }
-    ensures { OnOk result (out.new.items ≡ out.old.items ++ section_bytes 1 function_type_bytes list.now) }
+    ensures { OnOk result
+        (out.new.items ≡ out.old.items ++ section_bytes 1 function_type_bytes list.now) }
 {
     put_items(alloc, out, 1, list.as_slice())
 }
@@ -116,7 +120,8 @@ pub fn put_kinds(alloc: Global, out: &mut Vec<u8>, list: &Funcs) -> Result<(), A
 /// Appends the section of the globals.
 pub fn put_globals(alloc: Global, out: &mut Vec<u8>, list: &Globals) -> Result<(), AllocError>
     requires { Spelled (section 6 global (map global_of list.now)) }
-    ensures { OnOk result (out.new.items ≡ out.old.items ++ section_bytes 6 global_bytes (map global_of list.now)) }
+    ensures { OnOk result
+        (out.new.items ≡ out.old.items ++ section_bytes 6 global_bytes (map global_of list.now)) }
 {
     put_items(alloc, out, 6, list.as_slice())
 }
@@ -124,7 +129,8 @@ pub fn put_globals(alloc: Global, out: &mut Vec<u8>, list: &Globals) -> Result<(
 /// Appends the section of the exports.
 pub fn put_exports(alloc: Global, out: &mut Vec<u8>, list: &Exports) -> Result<(), AllocError>
     requires { Spelled (section 7 export (map export_of list.now)) }
-    ensures { OnOk result (out.new.items ≡ out.old.items ++ section_bytes 7 export_bytes (map export_of list.now)) }
+    ensures { OnOk result
+        (out.new.items ≡ out.old.items ++ section_bytes 7 export_bytes (map export_of list.now)) }
 {
     put_items(alloc, out, 7, list.as_slice())
 }
@@ -132,7 +138,8 @@ pub fn put_exports(alloc: Global, out: &mut Vec<u8>, list: &Exports) -> Result<(
 /// Appends the section of the element segments.
 pub fn put_elements(alloc: Global, out: &mut Vec<u8>, list: &Elements) -> Result<(), AllocError>
     requires { Spelled (section 9 element (map element_of list.now)) }
-    ensures { OnOk result (out.new.items ≡ out.old.items ++ section_bytes 9 element_bytes (map element_of list.now)) }
+    ensures { OnOk result
+        (out.new.items ≡ out.old.items ++ section_bytes 9 element_bytes (map element_of list.now)) }
 {
     put_items(alloc, out, 9, list.as_slice())
 }
@@ -149,7 +156,8 @@ pub fn put_bodies(alloc: Global, out: &mut Vec<u8>, list: &Funcs) -> Result<(), 
 /// Appends the section of the data segments.
 pub fn put_segments(alloc: Global, out: &mut Vec<u8>, list: &Segments) -> Result<(), AllocError>
     requires { Spelled (section 11 data_segment (map segment_of list.now)) }
-    ensures { OnOk result (out.new.items ≡ out.old.items ++ section_bytes 11 segment_bytes (map segment_of list.now)) }
+    ensures { OnOk result
+        (out.new.items ≡ out.old.items ++ section_bytes 11 segment_bytes (map segment_of list.now)) }
 {
     put_items(alloc, out, 11, list.as_slice())
 }
@@ -161,7 +169,8 @@ pub fn put_table_section(
     one: Option<Limits>,
 ) -> Result<(), AllocError>
     requires { Spelled (section 4 table (at_most_one one)) }
-    ensures { OnOk result (out.new.items ≡ out.old.items ++ section_bytes 4 table_bytes (at_most_one one)) }
+    ensures { OnOk result
+        (out.new.items ≡ out.old.items ++ section_bytes 4 table_bytes (at_most_one one)) }
 {
     match one {
         None => Ok(()),
@@ -181,7 +190,8 @@ pub fn put_memory_section(
     one: Option<Limits>,
 ) -> Result<(), AllocError>
     requires { Spelled (section 5 limits (at_most_one one)) }
-    ensures { OnOk result (out.new.items ≡ out.old.items ++ section_bytes 5 limits_bytes (at_most_one one)) }
+    ensures { OnOk result
+        (out.new.items ≡ out.old.items ++ section_bytes 5 limits_bytes (at_most_one one)) }
 {
     let Some(limits) = one else {
         return Ok(());

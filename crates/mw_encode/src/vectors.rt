@@ -42,7 +42,8 @@ pub fn put_indexed(out: &mut Vec<u8>, byte: u8, index: u32) -> Result<(), AllocE
 
 /// Appends a byte and two numbers.
 pub fn put_pair(out: &mut Vec<u8>, byte: u8, first: u32, second: u32) -> Result<(), AllocError>
-    ensures { OnOk result (out.new.items ≡ out.old.items ++ byte ∷ (number first ++ number second)) }
+    ensures { OnOk result
+        (out.new.items ≡ out.old.items ++ byte ∷ (number first ++ number second)) }
 {
     put_indexed(out, byte, first)?;
     put_u32(out, second)

@@ -150,10 +150,6 @@ segment_inside ss size i s none lt f = leb-true (offset_of (code_of s.offset) + 
     (fits_from (ends_in (offset_of (code_of s.offset)) (length s.bytes) size)
     (no_item (segment_test size) ss i s none lt f))
 
--- items written into a list from a place on
-pub pasted_first : {X : Type 0} (old : List X) (at : ℕ) (xs : List X) → old ≡ paste old at xs 0
-pasted_first old at xs = paste-zero old at xs
-
 pub pasted_more : {X : Type 0} (old now ys : List X) (at i : ℕ) (xs : List X) (x d : X) → now ≡ paste old at xs i
     → at + length xs ≤ length old → i < length xs → x ≡ get_or xs i d → ys ≡ set now (at + i) x
     → ys ≡ paste old at xs (i + 1)
@@ -164,14 +160,6 @@ pasted_more old now ys at i xs x d e le lt f g =
   where
     next_place : (i : ℕ) → i + 1 ≡ suc i
     next_place i = omega arith
-
-pub pasted_all : {X : Type 0} (old now : List X) (at i : ℕ) (xs : List X) → now ≡ paste old at xs i → length xs ≤ i
-    → i ≤ length xs → now ≡ take at old ++ xs ++ drop (at + length xs) old
-pasted_all old now at i xs e le ge =
-    e ∙ (ap (λ k. paste old at xs k) same ∙ ap (λ ys. take at old ++ ys ++ drop (at + length xs) old) (take-length xs))
-  where
-    same : i ≡ length xs
-    same = omega arith
 
 module _ {X : Type 0} (ys : List X) (at : ℕ) (xs : List X) (le : at + length xs ≤ length ys) where
   pub length_placed : length (take at ys ++ xs ++ drop (at + length xs) ys) ≡ length ys
@@ -274,10 +262,6 @@ pub record PlacingSegments (size i : ℕ) (ss : List Segment) (old now : List �
       ≡ with_segments (memory_of pages now) (map segment_of (drop i ss))
   pub short : length now ≤ size
 
-pub segments_first : (size : ℕ) (ss : List Segment) (old : List ℕ) → length old ≤ size
-    → PlacingSegments size 0 ss old old
-segments_first size ss old le = record { placed = λ pages. refl; short = le }
-
 pub segments_more : (size i : ℕ) (ss : List Segment) (s : Segment) (old now new : List ℕ)
     → PlacingSegments size i ss old now → i < length ss → s ≡ get_or ss i s → IsPlaced (offset_of (code_of s.offset))
     s.bytes now new → length new ≤ size → PlacingSegments size (i + 1) ss old new
@@ -287,14 +271,6 @@ segments_more size i ss s old now new p lt e is le = record {
       ∙ ap (λ m. with_segments m (map segment_of (drop (i + 1) ss))) (segment_memory s now new pages is));
   short = le;
 }
-
-pub segments_all : (size i : ℕ) (ss : List Segment) (old now : List ℕ) → PlacingSegments size i ss old now
-    → length ss ≤ i → ArePlaced ss old now
-segments_all size i ss old now p le =
-    record {
-      memory = λ pages. p.placed pages ∙ ap (λ xs. with_segments (memory_of pages now) (map segment_of xs))
-          (nothing_left ss i le);
-    }
 
 -- the element segments before a place are written
 pub record PlacingElements (i : ℕ) (es : List Element) (old now : List (Option ℕ)) : Type 0 where
@@ -320,11 +296,6 @@ elements_more i es e old now new p lt f le is = record {
       ∙ (length_placed now (offset_of (code_of e.offset)) (map (λ f. Some f) e.funcs)
       (omega (arith, length-map e.funcs (λ f. Some f), p.long)) ∙ p.long));
 }
-
-pub elements_all : (i : ℕ) (es : List Element) (old now : List (Option ℕ)) → PlacingElements i es old now
-    → length es ≤ i → now ≡ with_elements old (map element_of es)
-elements_all i es old now p le =
-    sym (p.placed ∙ ap (λ xs. with_elements now (map element_of xs)) (nothing_left es i le))
 
 pub mapped_globals : (gs : List GlobalVar) → map first_value (map global_of gs) ≡ map value_of_global gs
 mapped_globals [] = refl

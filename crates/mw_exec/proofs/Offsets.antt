@@ -54,8 +54,3 @@ pub only_constants : (code : List Instr) (x : Instr) → slice_get code 0 ≡ So
     → IsConstantOf I32 (list_code code) → ⊥
 only_constants [] x e none h = h
 only_constants (y ∷ code) x e none h = not_other y (list_code code) (λ n f. none n (sym (same e) ∙ f)) h
-
--- a constant expression isn't empty
-pub constant_has_one : (code : List Instr) → IsConstantOf I32 (list_code code) → 0 < length code
-constant_has_one [] h = absurd (h)
-constant_has_one (y ∷ code) h = omega arith

@@ -19,14 +19,6 @@ here test xs i x h e = drop-cons xs i x h ∙ ap (λ y. y ∷ drop (suc i) xs) (
 next_place : (i : ℕ) → suc i ≡ i + 1
 next_place i = omega arith
 
-pub none_before_next : {X : Type 0} (test : X → Bool) (xs : List X) (i : ℕ) (x : X) → i < length xs → x ≡ get_or xs i x
-    → test x ≡ false → NoneBefore test xs i → NoneBefore test xs (i + 1)
-none_before_next test xs i x h e f n = record {
-  from =
-      ap (λ j. position_from test (i + 1) (drop j xs)) (sym (next_place i))
-      ∙ (sym (ap (λ ys. position_from test i ys) (here test xs i x h e) ∙ rw f refl) ∙ n.from);
-}
-
 pub first_is_here : {X : Type 0} (test : X → Bool) (xs : List X) (i : ℕ) (x : X) → i < length xs → x ≡ get_or xs i x
     → test x ≡ true → NoneBefore test xs i → Some i ≡ position test xs
 first_is_here test xs i x h e t n =

@@ -29,7 +29,8 @@ pub fn push_locals(
     arguments: &[Value],
     further: &[ValType],
 ) -> Result<(), AllocError>
-    ensures { IfOk result (λ _. locals.new.items ≡ locals.old.items ++ arguments.now ++ map zero_value further.now) }
+    ensures { IfOk result
+        (λ _. locals.new.items ≡ locals.old.items ++ arguments.now ++ map zero_value further.now) }
 {
     locals.extend_from_slice(arguments)?;
     for t in further {
@@ -55,7 +56,8 @@ pub fn enter_function<'m>(
 ) -> Result<Turn, AllocError>
     requires formed { IsFormed state.old }
     requires one { length kind.now.results ≤ 1 }
-    ensures { IfOk result (λ t. RuleIn (entered_by (function_of function.now) kind.now state.old) state.old.fuel t
+    ensures { IfOk result
+        (λ t. RuleIn (entered_by (function_of function.now) kind.now state.old) state.old.fuel t
         state.new) }
 {
     let count = kind.params.len();
@@ -92,7 +94,8 @@ pub fn enter_function<'m>(
 pub fn call<'m>(wasm: &'m Module, state: &mut State<'m>, f: u32) -> Result<Turn, AllocError>
     requires formed { IsFormed state.old }
     requires few { AllByRecursion FewResults wasm.now.types }
-    ensures { IfOk result (λ t. RunsIn (module_of wasm.now) (called_by f state.old) state.old.fuel t state.new) }
+    ensures { IfOk result
+        (λ t. RunsIn (module_of wasm.now) (called_by f state.old) state.old.fuel t state.new) }
 {
     if (f as usize) < wasm.funcs.len() {
         let function = wasm.funcs.get(f as usize);

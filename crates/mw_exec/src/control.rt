@@ -29,7 +29,8 @@ pub fn block<'m>(
     body: &'m Instrs,
 ) -> Result<Turn, AllocError>
     requires { IsFormed state.old }
-    ensures { IfOk result (λ u. (m : PureModule) (h : WasmHeld) → TurnsBy m (block_instruction t (code_of body.now)) h
+    ensures { IfOk result
+        (λ u. (m : PureModule) (h : WasmHeld) → TurnsBy m (block_instruction t (code_of body.now)) h
         state.old u state.new) }
 {
     enter(state, Kind::Block(t.is_some()), body)?;
@@ -44,7 +45,8 @@ pub fn repeat<'m>(
     body: &'m Instrs,
 ) -> Result<Turn, AllocError>
     requires { IsFormed state.old }
-    ensures { IfOk result (λ u. (m : PureModule) (h : WasmHeld) → TurnsBy m (loop_instruction t (code_of body.now)) h
+    ensures { IfOk result
+        (λ u. (m : PureModule) (h : WasmHeld) → TurnsBy m (loop_instruction t (code_of body.now)) h
         state.old u state.new) }
 {
     enter(state, Kind::Loop(t), body)?;
@@ -79,7 +81,8 @@ pub fn choose<'m>(
 #[inline(always)]
 pub fn jump<'m>(state: &mut State<'m>, l: u32) -> Result<Turn, AllocError>
     requires { IsFormed state.old }
-    ensures { IfOk result (λ u. (m : PureModule) (h : WasmHeld) → TurnsBy m (br l) h state.old u state.new) }
+    ensures { IfOk result
+        (λ u. (m : PureModule) (h : WasmHeld) → TurnsBy m (br l) h state.old u state.new) }
 {
     branch(state, l)
 }
@@ -88,7 +91,8 @@ pub fn jump<'m>(state: &mut State<'m>, l: u32) -> Result<Turn, AllocError>
 #[inline(always)]
 pub fn jump_if<'m>(state: &mut State<'m>, l: u32) -> Result<Turn, AllocError>
     requires { IsFormed state.old }
-    ensures { IfOk result (λ u. (m : PureModule) (h : WasmHeld) → TurnsBy m (br_if l) h state.old u state.new) }
+    ensures { IfOk result
+        (λ u. (m : PureModule) (h : WasmHeld) → TurnsBy m (br_if l) h state.old u state.new) }
 {
     let height = state.height;
     let Some(n) = pop_i32(&mut state.stack, height) else {
@@ -101,7 +105,8 @@ pub fn jump_if<'m>(state: &mut State<'m>, l: u32) -> Result<Turn, AllocError>
 #[inline(always)]
 pub fn return_now<'m>(state: &mut State<'m>) -> Result<Turn, AllocError>
     requires { IsFormed state.old }
-    ensures { IfOk result (λ u. (m : PureModule) (h : WasmHeld) → TurnsBy m return_instruction h state.old u
+    ensures { IfOk result
+        (λ u. (m : PureModule) (h : WasmHeld) → TurnsBy m return_instruction h state.old u
         state.new) }
 {
     give_back(state)
@@ -112,7 +117,8 @@ pub fn return_now<'m>(state: &mut State<'m>) -> Result<Turn, AllocError>
 pub fn call_now<'m>(wasm: &'m Module, state: &mut State<'m>, f: u32) -> Result<Turn, AllocError>
     requires formed { IsFormed state.old }
     requires few { AllByRecursion FewResults wasm.now.types }
-    ensures { IfOk result (λ u. (h : WasmHeld) → TurnsBy (module_of wasm.now) (call_instruction f) h state.old u
+    ensures { IfOk result
+        (λ u. (h : WasmHeld) → TurnsBy (module_of wasm.now) (call_instruction f) h state.old u
         state.new) }
 {
     call(wasm, state, f)
@@ -129,7 +135,8 @@ pub fn control<'m>(
     requires formed { IsFormed state.old }
     requires few { AllByRecursion FewResults wasm.now.types }
     requires control { IsControl (instruction_of instruction.now) }
-    ensures { IfOk result (λ u. TurnsBy (module_of wasm.now) (instruction_of instruction.now) held.now state.old u
+    ensures { IfOk result
+        (λ u. TurnsBy (module_of wasm.now) (instruction_of instruction.now) held.now state.old u
         state.new) }
 {
     match instruction {

@@ -41,7 +41,8 @@ fn index_of(exports: &[Export], name: &[u8]) -> Option<u32>
 
 /// The function that an export gives, where this is its name.
 fn function_under(export: &Export, name: &[u8]) -> Option<u32>
-    ensures { (other : Option ℕ) → function_or (pointwise nat_eq export.now.name name.now) export.now.what other
+    ensures { (other : Option ℕ)
+        → function_or (pointwise nat_eq export.now.name name.now) export.now.what other
         ≡ found_or result other }
 {
     match export.what {

@@ -89,7 +89,8 @@ fn first_pages(wasm: &Module) -> u32
 /// Functions are written into a table from a place on.
 fn place_functions(table: &mut Vec<Option<u32>>, at: usize, funcs: &[u32])
     requires { at + length funcs.now ≤ length table.old.items }
-    ensures { table.new.items ≡ take at table.old.items ++ map (λ f. Some f) funcs.now ++ drop (at + length funcs.now)
+    ensures { table.new.items ≡ take at table.old.items ++ map (λ f. Some f) funcs.now
+        ++ drop (at + length funcs.now)
         table.old.items }
 {
     for i in 0..funcs.len() {
@@ -112,7 +113,8 @@ fn place_elements(table: &mut Vec<Option<u32>>, elements: &[Element])
 /// Bytes are written from a place on.
 fn place_bytes(bytes: &mut Vec<u8>, at: usize, segment: &[u8])
     requires { at + length segment.now ≤ length bytes.old.items }
-    ensures { bytes.new.items ≡ take at bytes.old.items ++ segment.now ++ drop (at + length segment.now)
+    ensures { bytes.new.items ≡ take at bytes.old.items ++ segment.now
+        ++ drop (at + length segment.now)
         bytes.old.items }
 {
     for i in 0..segment.len() {

@@ -48,7 +48,8 @@ impl Instance {
     /// that doesn't fit is the fault, and otherwise all are written.
     pub fn new(alloc: Global, module: Arc<Valid>) -> Result<Instance, InstanceFault>
         ensures of { IfOk result (λ instance. instance.wasm ≡ arc_value «module») }
-        ensures begins { IfOk result (λ instance. BeginsAs (arc_value «module») (store_in instance)) }
+        ensures begins { IfOk result
+            (λ instance. BeginsAs (arc_value «module») (store_in instance)) }
         ensures fault { IfErr result (λ fault. Refuses fault (arc_value «module»)) }
     {
         if let Some(fault) = first_fault(module.module()) {
@@ -60,7 +61,8 @@ impl Instance {
 
     /// The type of the function that is exported under a name. Takes no memory.
     pub fn export(&self, name: &[u8]) -> Option<&FuncType>
-        ensures some { IfSome result (λ t. (g : WasmFunc) × IsFunctionAt self.now.wasm name.now g t.now) }
+        ensures some { IfSome result
+            (λ t. (g : WasmFunc) × IsFunctionAt self.now.wasm name.now g t.now) }
         ensures none { IfNone result (exported (module_of self.now.wasm) name.now ≡ None) }
     {
         let (_, kind) = function_named(self.module.module(), name)?;
@@ -78,7 +80,8 @@ impl Instance {
     ) -> Result<Ended, AllocError>
         requires can { CanInvoke self.old.wasm name.now args.now }
         ensures same { self.new.wasm ≡ self.old.wasm }
-        ensures ends { IfOk result (λ end. (f : ℕ) → exported (module_of self.old.wasm) name.now ≡ Some f
+        ensures ends { IfOk result
+            (λ end. (f : ℕ) → exported (module_of self.old.wasm) name.now ≡ Some f
             → EndsAs end (store_in self.new) (invoked (module_of self.old.wasm) (store_in self.old) f args.now fuel)) }
     {
         let Some(f) = function_index(self.module.module(), name) else {

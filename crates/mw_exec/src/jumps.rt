@@ -45,7 +45,8 @@ fn keep(stack: &mut Vec<Value>, from: usize, to: usize, one: bool) -> Result<(),
 fn again<'m>(state: &mut State<'m>, waiting: Waiting<'m>) -> Result<Turn, AllocError>
     requires formed { IsFormedWith waiting state.old }
     requires kind { IsLoop waiting.kind }
-    ensures { IfOk result (λ t. (from : ℕ) → Rule (inmost_branch from state.old (around_with waiting.entry state.old))
+    ensures { IfOk result
+        (λ t. (from : ℕ) → Rule (inmost_branch from state.old (around_with waiting.entry state.old))
         state.old.fuel t state.new) }
 {
     if state.fuel == 0 {
@@ -70,7 +71,9 @@ fn behind<'m>(
     requires kind { waiting.kind ≡ Kind.Block one }
     requires order { state.old.height ≤ from }
     requires long { from ≤ length state.old.stack.items }
-    ensures { IfOk result (λ t. Rule (inmost_branch from state.old (around_with waiting.entry state.old)) state.old.fuel
+    ensures { IfOk result
+        (λ t. Rule (inmost_branch from state.old (around_with waiting.entry state.old))
+        state.old.fuel
         t state.new) }
 {
     let height = state.height;
@@ -92,9 +95,13 @@ fn from_body<'m>(
     requires kind { waiting.kind ≡ Kind.Frame one outside }
     requires order { state.old.height ≤ from }
     requires long { from ≤ length state.old.stack.items }
-    ensures branched { IfOk result (λ t. Rule (inmost_branch from state.old (around_with waiting.entry state.old)) state.old.fuel t
+    ensures branched { IfOk result
+        (λ t. Rule (inmost_branch from state.old (around_with waiting.entry state.old))
+        state.old.fuel t
         state.new) }
-    ensures returned { IfOk result (λ t. Rule (inmost_return from state.old (around_with waiting.entry state.old)) state.old.fuel t
+    ensures returned { IfOk result
+        (λ t. Rule (inmost_return from state.old (around_with waiting.entry state.old))
+        state.old.fuel t
         state.new) }
 {
     let height = state.height;
@@ -111,7 +118,8 @@ fn take_branch<'m>(state: &mut State<'m>, from: usize) -> Result<Turn, AllocErro
     requires formed { IsFormed state.old }
     requires order { state.old.height ≤ from }
     requires long { from ≤ length state.old.stack.items }
-    ensures { IfOk result (λ t. Rule (inmost_branch from state.old (around_of state.old)) state.old.fuel t state.new) }
+    ensures { IfOk result
+        (λ t. Rule (inmost_branch from state.old (around_of state.old)) state.old.fuel t state.new) }
 {
     match state.waiting.pop() {
         None => Ok(Turn::Lost),

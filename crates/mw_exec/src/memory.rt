@@ -227,7 +227,8 @@ pub fn load(
 ) -> Result<Outcome, AllocError>
     requires long { height ≤ length stack.old.items }
     requires held { IsHeld held.now }
-    ensures comes { IfOk result (λ o. ActsAligned o (λ align. load_instruction op align offset) held.now held.now height
+    ensures comes { IfOk result
+        (λ o. ActsAligned o (λ align. load_instruction op align offset) held.now held.now height
         stack.old stack.new) }
     ensures kept { IfOk result (λ _. Kept height stack.old.items stack.new.items) }
 {
@@ -339,7 +340,8 @@ pub fn store(
 ) -> Result<Outcome, AllocError>
     requires long { height ≤ length stack.old.items }
     requires held { IsHeld held.old }
-    ensures comes { IfOk result (λ o. ActsAligned o (λ align. store_instruction op align offset) held.old held.new
+    ensures comes { IfOk result
+        (λ o. ActsAligned o (λ align. store_instruction op align offset) held.old held.new
         height stack.old stack.new) }
     ensures kept { IfOk result (λ _. Kept height stack.old.items stack.new.items) }
     ensures held { IsHeld held.new }
@@ -397,7 +399,8 @@ pub fn grow(
 ) -> Result<Outcome, AllocError>
     requires long { height ≤ length stack.old.items }
     requires held { IsHeld held.old }
-    ensures comes { IfOk result (λ o. ActsOnStoreIn o (module_of wasm.now) memory_grow held.old held.new height
+    ensures comes { IfOk result
+        (λ o. ActsOnStoreIn o (module_of wasm.now) memory_grow held.old held.new height
         stack.old stack.new) }
     ensures kept { IfOk result (λ _. Kept height stack.old.items stack.new.items) }
     ensures held { IsHeld held.new }

@@ -54,7 +54,8 @@ fn takes_two(op: IntOp) -> bool
 #[inline(always)]
 pub fn number(stack: &mut Vec<Value>, height: usize, op: NumOp) -> Result<Outcome, AllocError>
     requires { height ≤ length stack.old.items }
-    ensures comes { IfOk result (λ o. ActsOnOperands o (numeric_instruction op) height stack.old stack.new) }
+    ensures comes { IfOk result
+        (λ o. ActsOnOperands o (numeric_instruction op) height stack.old stack.new) }
     ensures kept { IfOk result (λ o. Kept height stack.old.items stack.new.items) }
 {
     match op {
@@ -70,7 +71,8 @@ pub fn number(stack: &mut Vec<Value>, height: usize, op: NumOp) -> Result<Outcom
 #[inline(always)]
 fn integer32(stack: &mut Vec<Value>, height: usize, o: IntOp) -> Result<Outcome, AllocError>
     requires { height ≤ length stack.old.items }
-    ensures comes { IfOk result (λ r. ActsOnOperands r (numeric_instruction (numbers.I32 o)) height stack.old
+    ensures comes { IfOk result
+        (λ r. ActsOnOperands r (numeric_instruction (numbers.I32 o)) height stack.old
         stack.new) }
     ensures kept { IfOk result (λ _. Kept height stack.old.items stack.new.items) }
 {
@@ -81,7 +83,8 @@ fn integer32(stack: &mut Vec<Value>, height: usize, o: IntOp) -> Result<Outcome,
 #[inline(always)]
 fn integer64(stack: &mut Vec<Value>, height: usize, o: IntOp) -> Result<Outcome, AllocError>
     requires { height ≤ length stack.old.items }
-    ensures comes { IfOk result (λ r. ActsOnOperands r (numeric_instruction (numbers.I64 o)) height stack.old
+    ensures comes { IfOk result
+        (λ r. ActsOnOperands r (numeric_instruction (numbers.I64 o)) height stack.old
         stack.new) }
     ensures kept { IfOk result (λ _. Kept height stack.old.items stack.new.items) }
 {
@@ -99,7 +102,8 @@ fn integer(
 ) -> Result<Outcome, AllocError>
     requires long { height ≤ length stack.old.items }
     requires operands { operands_of op ≡ operands_at (kind_of o) t }
-    ensures comes { IfOk result (λ o. ActsOnOperands o (numeric_instruction op) height stack.old stack.new) }
+    ensures comes { IfOk result
+        (λ o. ActsOnOperands o (numeric_instruction op) height stack.old stack.new) }
     ensures kept { IfOk result (λ o. Kept height stack.old.items stack.new.items) }
 {
     if takes_two(o) {
@@ -114,7 +118,8 @@ fn integer(
 fn one(stack: &mut Vec<Value>, height: usize, op: NumOp, t: ValType) -> Result<Outcome, AllocError>
     requires long { height ≤ length stack.old.items }
     requires operands { operands_of op ≡ t ∷ [] }
-    ensures comes { IfOk result (λ o. ActsOnOperands o (numeric_instruction op) height stack.old stack.new) }
+    ensures comes { IfOk result
+        (λ o. ActsOnOperands o (numeric_instruction op) height stack.old stack.new) }
     ensures kept { IfOk result (λ o. Kept height stack.old.items stack.new.items) }
 {
     let Some(x) = pop_of(stack, height, t) else {
@@ -128,7 +133,8 @@ fn one(stack: &mut Vec<Value>, height: usize, op: NumOp, t: ValType) -> Result<O
 fn two(stack: &mut Vec<Value>, height: usize, op: NumOp, t: ValType) -> Result<Outcome, AllocError>
     requires long { height ≤ length stack.old.items }
     requires operands { operands_of op ≡ t ∷ t ∷ [] }
-    ensures comes { IfOk result (λ o. ActsOnOperands o (numeric_instruction op) height stack.old stack.new) }
+    ensures comes { IfOk result
+        (λ o. ActsOnOperands o (numeric_instruction op) height stack.old stack.new) }
     ensures kept { IfOk result (λ o. Kept height stack.old.items stack.new.items) }
 {
     let Some(y) = pop_of(stack, height, t) else {

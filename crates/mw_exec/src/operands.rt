@@ -26,7 +26,8 @@ pub fn pop(stack: &mut Vec<Value>, height: usize) -> Option<Value>
 #[inline(always)]
 pub fn pop_i32(stack: &mut Vec<Value>, height: usize) -> Option<u32>
     requires { height ≤ length stack.old.items }
-    ensures some { IfSome result (λ n. Popped height stack.old.items stack.new.items (value.I32 n)) }
+    ensures some { IfSome result
+        (λ n. Popped height stack.old.items stack.new.items (value.I32 n)) }
     ensures none { IfNone result (LacksI32 (above height stack.old.items)) }
     ensures kept { Kept height stack.old.items stack.new.items }
 {

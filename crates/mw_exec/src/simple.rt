@@ -36,7 +36,9 @@ pub fn simple(
     requires long { height ≤ length stack.old.items }
     requires local { base ≤ length locals.old.items }
     requires held { IsHeld held.old }
-    ensures simply { IfOk result (λ o. SimplyActs o wasm.now instruction.now held.old held.new base locals.old locals.new height
+    ensures simply { IfOk result
+        (λ o. SimplyActs o wasm.now instruction.now held.old held.new base locals.old locals.new
+        height
         stack.old stack.new) }
     ensures kept { IfOk result (λ _. Kept height stack.old.items stack.new.items) }
     ensures local { IfOk result (λ _. Kept base locals.old.items locals.new.items) }
@@ -78,7 +80,8 @@ pub fn simple(
 fn constant(stack: &mut Vec<Value>, height: usize, operand: Value) -> Result<Outcome, AllocError>
     requires { height ≤ length stack.old.items }
     ensures on { IfOk result (λ o. o ≡ Outcome.On) }
-    ensures top { IfOk result (λ _. above height stack.new.items ≡ operand ∷ above height stack.old.items) }
+    ensures top { IfOk result
+        (λ _. above height stack.new.items ≡ operand ∷ above height stack.old.items) }
     ensures kept { IfOk result (λ _. Kept height stack.old.items stack.new.items) }
 {
     push(stack, operand)?;
@@ -95,7 +98,8 @@ fn local_get(
 ) -> Result<Outcome, AllocError>
     requires long { height ≤ length stack.old.items }
     requires local { base ≤ length locals.now.items }
-    ensures comes { IfOk result (λ o. ActsOnLocals o (local_get_instruction x) base locals.now locals.now height
+    ensures comes { IfOk result
+        (λ o. ActsOnLocals o (local_get_instruction x) base locals.now locals.now height
         stack.old stack.new) }
     ensures kept { IfOk result (λ _. Kept height stack.old.items stack.new.items) }
 {
@@ -119,7 +123,8 @@ fn local_set(
 ) -> Outcome
     requires long { height ≤ length stack.old.items }
     requires local { base ≤ length locals.old.items }
-    ensures comes { ActsOnLocals result (local_set_instruction x) base locals.old locals.new height stack.old
+    ensures comes { ActsOnLocals result (local_set_instruction x) base locals.old locals.new height
+        stack.old
         stack.new }
     ensures kept { Kept height stack.old.items stack.new.items }
     ensures local { Kept base locals.old.items locals.new.items }
@@ -146,7 +151,8 @@ fn local_tee(
 ) -> Result<Outcome, AllocError>
     requires long { height ≤ length stack.old.items }
     requires local { base ≤ length locals.old.items }
-    ensures simply { IfOk result (λ o. SimplyOnLocals o (local_tee_instruction x) base locals.old locals.new height stack.old
+    ensures simply { IfOk result
+        (λ o. SimplyOnLocals o (local_tee_instruction x) base locals.old locals.new height stack.old
         stack.new) }
     ensures kept { IfOk result (λ _. Kept height stack.old.items stack.new.items) }
     ensures local { IfOk result (λ _. Kept base locals.old.items locals.new.items) }
@@ -171,7 +177,8 @@ fn global_get(
     x: u32,
 ) -> Result<Outcome, AllocError>
     requires { height ≤ length stack.old.items }
-    ensures comes { IfOk result (λ o. ActsOnStore o (global_get_instruction x) held.now held.now height stack.old
+    ensures comes { IfOk result
+        (λ o. ActsOnStore o (global_get_instruction x) held.now held.now height stack.old
         stack.new) }
     ensures kept { IfOk result (λ _. Kept height stack.old.items stack.new.items) }
 {
@@ -187,7 +194,8 @@ fn global_get(
 fn global_set(held: &mut Held, stack: &mut Vec<Value>, height: usize, x: u32) -> Outcome
     requires long { height ≤ length stack.old.items }
     requires held { IsHeld held.old }
-    ensures comes { ActsOnStore result (global_set_instruction x) held.old held.new height stack.old stack.new }
+    ensures comes { ActsOnStore result (global_set_instruction x) held.old held.new height stack.old
+        stack.new }
     ensures kept { Kept height stack.old.items stack.new.items }
     ensures held { IsHeld held.new }
     ensures halted { IfHalted result (store_of held.new ≡ store_of held.old) }
@@ -216,7 +224,8 @@ fn drop_value(stack: &mut Vec<Value>, height: usize) -> Outcome
 
 fn select(stack: &mut Vec<Value>, height: usize) -> Result<Outcome, AllocError>
     requires { height ≤ length stack.old.items }
-    ensures comes { IfOk result (λ o. ActsOnOperands o select_instruction height stack.old stack.new) }
+    ensures comes { IfOk result
+        (λ o. ActsOnOperands o select_instruction height stack.old stack.new) }
     ensures kept { IfOk result (λ _. Kept height stack.old.items stack.new.items) }
 {
     let Some(n) = pop_i32(stack, height) else {

@@ -24,7 +24,8 @@ pub fn jump_by_table<'m>(
     l: u32,
 ) -> Result<Turn, AllocError>
     requires { IsFormed state.old }
-    ensures { IfOk result (λ u. (m : PureModule) (h : WasmHeld) → TurnsBy m (br_table labels.now l) h state.old u
+    ensures { IfOk result
+        (λ u. (m : PureModule) (h : WasmHeld) → TurnsBy m (br_table labels.now l) h state.old u
         state.new) }
 {
     let height = state.height;
@@ -84,7 +85,8 @@ pub fn call_indirect_now<'m>(
 ) -> Result<Turn, AllocError>
     requires formed { IsFormed state.old }
     requires few { AllByRecursion FewResults wasm.now.types }
-    ensures { IfOk result (λ u. TurnsBy (module_of wasm.now) (call_indirect_instruction t) held.now state.old u
+    ensures { IfOk result
+        (λ u. TurnsBy (module_of wasm.now) (call_indirect_instruction t) held.now state.old u
         state.new) }
 {
     let height = state.height;

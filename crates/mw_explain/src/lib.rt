@@ -61,7 +61,8 @@ fn explain_types(
     requires { IsResolved (program_of program.now) }
     ensures verdict { IfOk result (IsTypeVerdict (program_of program.now)) }
     ensures placed { IfOk result (HavePlaces (length bytes.now)) }
-    ensures only { (r : PureRefusal) → IsFirstRefusal (program_of program.now) r → RefusesOrMemory r result }
+    ensures only { (r : PureRefusal) → IsFirstRefusal (program_of program.now) r
+        → RefusesOrMemory r result }
 {
     match check(alloc, program) {
         Ok(typed) => {

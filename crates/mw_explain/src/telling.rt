@@ -143,7 +143,8 @@ fn tell_unclosed(close: &OpenClose, nodes: &[Node], length: usize) -> Told
 pub fn tell(alloc: Global, bytes: &[u8], program: &Program) -> Result<Option<Told>, AllocError>
     requires { IsResolved (program_of program.now) }
     ensures told { IfOk result (λ found. IfSome found (IsTold (program_of program.now))) }
-    ensures some { (r : Refusal) → IsFirstRefusal (program_of program.now) r → TellsOrMemory result }
+    ensures some { (r : Refusal) → IsFirstRefusal (program_of program.now) r
+        → TellsOrMemory result }
     ensures placed { IfOk result (λ found. IfSome found (ArePlaced (length bytes.now))) }
 {
     match first_fault(alloc, program)? {

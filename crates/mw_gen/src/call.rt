@@ -53,7 +53,8 @@ fn put_argument(out: &mut Instrs, kind: &Ground, first: u32, spare: u32) -> Resu
 fn put_call(out: &mut Instrs, kind: &Ground, spare: u32) -> Result<(), AllocError>
     requires nodes { ground_nodes (ground_of kind.now) ≤ 10000 }
     requires spare { spare < 1000000000 }
-    ensures { IfOk result (λ _. Appends out.old out.new (code_list (call_of (ground_of kind.now)) 0 spare)) }
+    ensures { IfOk result
+        (λ _. Appends out.old out.new (code_list (call_of (ground_of kind.now)) 0 spare)) }
 {
     out.push(Instr::LocalGet(0))?;
     let _next = put_argument(out, kind, 1, spare)?;

@@ -127,7 +127,8 @@ pub fn restarting_code(
 
 /// Appends the choice between two lists of instructions by the operand.
 pub fn put_choice(out: &mut Instrs, then: Instrs, otherwise: Instrs) -> Result<(), AllocError>
-    ensures { IfOk result (λ _. Appends out.old out.new (choice_list (code_of then) (code_of otherwise))) }
+    ensures { IfOk result
+        (λ _. Appends out.old out.new (choice_list (code_of then) (code_of otherwise))) }
 {
     out.push(Instr::Num(NumOp::Wrap))?;
     out.push(Instr::If(Some(ValType::I64), then, otherwise))

@@ -40,12 +40,14 @@ const PAGES: u32 = 64;
 pub fn generate(alloc: Global, converted: &Converted, kind: &KType) -> Result<Module, AllocError>
     requires converted { IsConverted (functions_in converted.now) (outer_in converted.now) }
     requires nodes { kernel_nodes (kernel_type_of kind.now) ≤ 10000 }
-    ensures generated { IfOk result (λ wasm. module_of wasm ≡ generated two converted.now (kernel_type_of kind.now)) }
+    ensures generated { IfOk result
+        (λ wasm. module_of wasm ≡ generated two converted.now (kernel_type_of kind.now)) }
     ensures spelled { IfOk result (λ wasm. Spelled (wasm_module (module_of wasm))) }
     ensures profile { IfOk result (λ wasm. IsWithinProfile (module_of wasm)) }
     ensures valid { IfOk result (λ wasm. IsValid (module_of wasm)) }
     ensures shape { IfOk result (λ wasm. HasShape (module_of wasm) (kernel_type_of kind.now)) }
-    ensures means { IfOk result (λ wasm. DoesConverted (module_of wasm) converted.now (kernel_type_of kind.now)) }
+    ensures means { IfOk result
+        (λ wasm. DoesConverted (module_of wasm) converted.now (kernel_type_of kind.now)) }
 {
     whole_module(alloc, converted, kind)
 }
@@ -84,7 +86,8 @@ pub fn module_with(
 fn whole_module(alloc: Global, converted: &Converted, kind: &KType) -> Result<Module, AllocError>
     requires converted { IsConverted (functions_in converted.now) (outer_in converted.now) }
     requires nodes { kernel_nodes (kernel_type_of kind.now) ≤ 10000 }
-    ensures { IfOk result (λ wasm. module_of wasm ≡ generated two converted.now (kernel_type_of kind.now)) }
+    ensures { IfOk result
+        (λ wasm. module_of wasm ≡ generated two converted.now (kernel_type_of kind.now)) }
 {
     let count = converted.funcs.len() as u32;
     let types = types(alloc, kind)?;
@@ -133,7 +136,8 @@ pub fn generate_part(
 /// The function `call`, where the type is a function's.
 fn call_part(alloc: Global, kind: &KType) -> Result<Option<Func>, AllocError>
     requires nodes { kernel_nodes (kernel_type_of kind.now) ≤ 10000 }
-    ensures { IfOk result (λ call. option_map function_of call ≡ call_for (kernel_type_of kind.now)) }
+    ensures { IfOk result
+        (λ call. option_map function_of call ≡ call_for (kernel_type_of kind.now)) }
 {
     match kind {
         KType::Ground(_) => Ok(None),

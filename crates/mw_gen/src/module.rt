@@ -60,7 +60,8 @@ pub fn put_call_type(alloc: Global, types: &mut FuncTypes, kind: &KType) -> Resu
 /// The types of closures' functions, of `init` and, for a function, of `call`.
 pub fn types(alloc: Global, kind: &KType) -> Result<FuncTypes, AllocError>
     requires { kernel_nodes (kernel_type_of kind.now) ≤ 10000 }
-    ensures { IfOk result (λ types. types ≡ closure_type ∷ init_type ∷ more_types (kernel_type_of kind.now)) }
+    ensures { IfOk result
+        (λ types. types ≡ closure_type ∷ init_type ∷ more_types (kernel_type_of kind.now)) }
 {
     let mut types = first_types(alloc)?;
     put_call_type(alloc, &mut types, kind)?;
@@ -103,7 +104,8 @@ fn name(alloc: Global, letters: [u8; 4]) -> Result<Octets, AllocError>
 /// The exports: `init`, which is function `count`, and for a function `call`, the next.
 pub fn exports(alloc: Global, kind: &KType, count: u32) -> Result<Exports, AllocError>
     requires { count ≤ 20000 }
-    ensures { IfOk result (λ exports. map export_of exports ≡ all_exports (kernel_type_of kind.now) count (count + 1)) }
+    ensures { IfOk result
+        (λ exports. map export_of exports ≡ all_exports (kernel_type_of kind.now) count (count + 1)) }
 {
     let mut exports = Exports::new(alloc);
     exports.push(Export {

@@ -145,7 +145,8 @@ fn put_local_stored(out: &mut Instrs, local: u32, offset: u32) -> Result<(), All
 
 /// Appends a comparison of the operands, whose answer becomes 64 bits wide.
 fn put_comparison(out: &mut Instrs, op: IntOp) -> Result<(), AllocError>
-    ensures { IfOk result (λ _. Appends out.old out.new (numeric (number.I64 op) ∷ numeric number.ExtendU ∷ [])) }
+    ensures { IfOk result
+        (λ _. Appends out.old out.new (numeric (number.I64 op) ∷ numeric number.ExtendU ∷ [])) }
 {
     out.push(Instr::Num(NumOp::I64(op)))?;
     out.push(Instr::Num(NumOp::ExtendU))

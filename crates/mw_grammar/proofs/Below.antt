@@ -41,12 +41,7 @@ pub read_reads : (m : Nonterminal) {n : Nonterminal} (b : ℕ) (go : Meaning m �
 unfolding reading
 read_reads m b go a ts = refl
 
--- a part that was read, or not
-pub read_part : (m : Nonterminal) {n : Nonterminal} (b : ℕ) (go : Meaning m → Form n) (a : Heights)
-    (ts mid : List PureToken) (u : Meaning m) (h : ℕ) → full b m ts ≡ ok u h mid → reading b (reads m go) a ts
-    ≡ reading b (go u) (so_far (beside a h)) mid
 unfolding reading
-read_part m b go a ts mid u h e = ap (λ x. and_then x λ v h mid. run full b (go v) (so_far (beside a h)) mid) e
 
 pub part_fails : (m : Nonterminal) {n : Nonterminal} (e : Fault) (b : ℕ) (go : Meaning m → Form n) (a : Heights)
     (ts : List PureToken) → Fails e (full b m ts) → Fails e (reading b (reads m go) a ts)

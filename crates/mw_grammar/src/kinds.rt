@@ -96,7 +96,8 @@ fn part_type(alloc: Global, tokens: &[Token], room: u32) -> Read<Ground>
 #[cycle(grounds)]
 fn paren_ground(alloc: Global, tokens: &[Token], room: u32) -> Read<Ground>
     requires { room ≤ 200 }
-    ensures gives { GivesRead ground_of result (reading room paren_form none_yet (tokens_of tokens.now)) }
+    ensures gives { GivesRead ground_of result
+        (reading room paren_form none_yet (tokens_of tokens.now)) }
     ensures height { IfOk result (λ x. x.1 ≤ room) }
 {
     let (ground, height, mid) = ground_type(alloc, tokens, room)?;

@@ -63,9 +63,11 @@ fn is_next(next: Next, kind: &Kind) -> bool
 #[tactic(auto, using(crate::proofs::Below::low_in, crate::proofs::Below::low_out), unfolding(crate::specs::Descent::reading))]
 pub fn after<'a>(next: Next, tokens: &'a [Token]) -> Option<&'a [Token]>
     ensures none_expected { IfNone result (Lack (expected_of next) (tokens_of tokens.now)) }
-    ensures expected { IfSome result (λ rest. Have (expected_of next) (tokens_of tokens.now) (tokens_of rest.now)) }
+    ensures expected { IfSome result
+        (λ rest. Have (expected_of next) (tokens_of tokens.now) (tokens_of rest.now)) }
     ensures none_goes_on { IfNone result (EndBefore (expected_of next) (tokens_of tokens.now)) }
-    ensures goes_on { IfSome result (λ rest. GoOn (expected_of next) (tokens_of tokens.now) (tokens_of rest.now)) }
+    ensures goes_on { IfSome result
+        (λ rest. GoOn (expected_of next) (tokens_of tokens.now) (tokens_of rest.now)) }
     ensures too_deep { IfSome result (λ rest. GoTooDeep (expected_of next) (tokens_of tokens.now)) }
 {
     match tokens {

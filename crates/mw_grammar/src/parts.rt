@@ -214,7 +214,8 @@ pub fn joined(
     left: Box<Tree>,
     right: Box<Tree>,
 ) -> Result<Box<Tree>, AllocError>
-    ensures { IfOk result (λ t. tree_in t ≡ operated (op_of operator) (tree_in left) (tree_in right)) }
+    ensures { IfOk result
+        (λ t. tree_in t ≡ operated (op_of operator) (tree_in left) (tree_in right)) }
 {
     boxed(alloc, operated_tree(operator, left, right))
 }

@@ -51,7 +51,8 @@ pub fn next_operator(row: Row, tokens: &[Token]) -> Option<(Operator, &[Token])>
 #[tactic(auto, using(crate::proofs::Below::low_in, crate::proofs::Below::low_out), unfolding(crate::specs::Descent::reading))]
 pub fn next_comparison(tokens: &[Token]) -> Option<(Prim, &[Token])>
     ensures none { IfNone result (CompareNone (tokens_of tokens.now)) }
-    ensures goes_on { IfSome result (λ r. CompareBy r.0 (tokens_of tokens.now) (tokens_of r.1.now)) }
+    ensures goes_on { IfSome result
+        (λ r. CompareBy r.0 (tokens_of tokens.now) (tokens_of r.1.now)) }
     ensures too_deep { IfSome result (λ r. CompareTooDeep (tokens_of tokens.now)) }
 {
     match tokens {

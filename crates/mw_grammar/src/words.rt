@@ -70,7 +70,8 @@ pub fn name_of(token: &Token) -> Option<&Name>
     ensures none_rec { IfNone result (rec_by (token_of token.now) ≡ refuses) }
     ensures none_rec_item { IfNone result (rec_item (token_of token.now) ≡ refuses) }
     ensures none_kernel { IfNone result (kernel_by (token_of token.now) ≡ refuses) }
-    ensures none_parameter { IfNone result ((m : PureMark) → parameter_by m (token_of token.now) ≡ refuses) }
+    ensures none_parameter { IfNone result
+        ((m : PureMark) → parameter_by m (token_of token.now) ≡ refuses) }
 {
     match &token.kind {
         Kind::Word(name) => Some(name),

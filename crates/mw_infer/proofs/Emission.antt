@@ -48,28 +48,6 @@ Adds-then {a = a} {es = es} {fs = fs} {xs = xs} {ys = ys} p q = record {
   names = q.names ∙ p.names;
 }
 
--- one more equation
-pub Adds-and : {a b d : Output} {n m : ℕ} {es fs : List TypeEquation} {xs : List Close} → Adds a b n m es xs
-    → Adds b d 0 0 fs [] → Adds a d n m (es ++ fs) xs
-Adds-and {a = a} {es = es} {fs = fs} {xs = xs} p q = record {
-  unknowns = omega (arith, p.unknowns, q.unknowns);
-  classifiers = omega (arith, p.classifiers, q.classifiers);
-  equations = q.equations ∙ rw p.equations (append_assoc (meant a) es fs);
-  closes = q.closes ∙ sym (nothing _) ∙ p.closes;
-  names = q.names ∙ p.names;
-}
-
-pub Adds-numbers : (old new : Output) (n m : ℕ) → new.unknowns ≡ old.unknowns + n → new.classifiers ≡ old.classifiers
-    + m → new.equations.items ≡ old.equations.items → new.closes.items ≡ old.closes.items → new.names ≡ old.names
-    → Adds old new n m [] []
-Adds-numbers old new n m u c p q t = record {
-  unknowns = u;
-  classifiers = c;
-  equations = rw (t, p) (nothing (meant old));
-  closes = rw q (nothing (map close_of old.closes.items));
-  names = t;
-}
-
 pub AreLow-at : (tops : List TopScheme) (i : ℕ) (x : TopScheme) → AreLow tops → Some x ≡ slice_get tops i
     → AreLow (x ∷ [])
 AreLow-at [] i x h e = absurd (cc)

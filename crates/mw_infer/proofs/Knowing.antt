@@ -38,17 +38,6 @@ collects-function s r q t u a b = record {
   holds = (holds-more r q t b.kept a.holds, b.holds);
 }
 
-true-anyway : (x y : Bool) → IsTrue y → IsTrue (cond x true y)
-true-anyway true y h = refl
-true-anyway false y h = h
-
-pub collects-code : (s r q : BTreeSet ℕ) (c : ℕ) (t : TypeExpression) → Updates nat_cmp s r c true → Collects r q t
-    → Collects s q (code_ty c t)
-collects-code s r q c t a b = record {
-  kept = λ d h. b.kept d (a.0 d ∙ true-anyway _ _ h);
-  holds = (b.kept c a.1, b.holds);
-}
-
 other : (s : BTreeSet ℕ) (d c : ℕ) → d ≡ c → IsTrue (contains nat_cmp s d) → contains nat_cmp s c ≡ false → ⊥
 other s d c p h e = not_true (subst (λ x. IsTrue x) (ap (λ x. contains nat_cmp s x) p ∙ e) h)
 

@@ -156,18 +156,3 @@ Renumbers-closed p q k l t r a = record {
 -- a list in which nothing was seen
 pub record AllNone (xs : List ℕ) : Type 0 where
   pub each : (u : ℕ) → number_in xs u ≡ none
-
-pub AllNone-empty : AllNone []
-AllNone-empty = record { each = λ u. refl }
-
-pub AllNone-more : (xs : List ℕ) → AllNone xs → AllNone (xs ++ (none ∷ []))
-AllNone-more xs h = record { each = go xs h.each }
-  where
-    go : (xs : List ℕ) → ((u : ℕ) → number_in xs u ≡ none) → (u : ℕ) → number_in (xs ++ (none ∷ [])) u ≡ none
-    go [] h zero = refl
-    go [] h (suc u) = refl
-    go (x ∷ xs) h zero = h zero
-    go (x ∷ xs) h (suc u) = go xs (λ v. h (suc v)) u
-
-pub IsOrder-none : (x : Numbering) → AllNone x.places.items → IsOrder x
-IsOrder-none x h = record { low = λ u n. absurd (n (h.each u)); one = λ u v n e. absurd (n (h.each u)) }

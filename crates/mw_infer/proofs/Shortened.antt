@@ -32,11 +32,6 @@ within-both : (n m : ℕ) (es fs : List TypeEquation) → AllWithin n m es → A
 within-both n m [] fs h q = q
 within-both n m (e ∷ es) fs h q = (h.0, within-both n m es fs h.1 q)
 
-pub none-alike : Alike [] []
-none-alike = record { count = refl; solved = none; within = λ n m h. h } where
-  none : (k : ℕ) (a : Assignment) → Solves a (take k []) ↔ Solves a (take k [])
-  none k a = ((λ h. h), (λ h. h))
-
 -- of all equations
 pub alike-all : (long short : List TypeEquation) → Alike long short → (a : Assignment) → Solves a long ↔ Solves a short
 alike-all long short h a =

@@ -122,7 +122,8 @@ fn boxed_shift(
     requires within { Within (2 ^ 63) (2 ^ 63) (type_of ty.now) }
     requires unknowns { unknowns ≤ 2 ^ 63 }
     requires classifiers { classifiers ≤ 2 ^ 63 }
-    ensures { IfOk result (λ moved. type_of moved.value ≡ shifted unknowns classifiers (type_of ty.now)) }
+    ensures { IfOk result
+        (λ moved. type_of moved.value ≡ shifted unknowns classifiers (type_of ty.now)) }
 {
     let moved = shift(alloc, ty, unknowns, classifiers)?;
     Ok(Box::new(alloc, moved)?)

@@ -45,7 +45,8 @@ pub fn emit(
 ) -> Result<(), AllocError>
     requires { CanEmit out.old (tops_of setting.now.names.now) (slots_of scope.now) (level_at level)
         (expression_of term.now) }
-    ensures { OnOk result (AddsTerm out.old out.new (tops_of setting.now.names.now) own (slots_of scope.now)
+    ensures { OnOk result
+        (AddsTerm out.old out.new (tops_of setting.now.names.now) own (slots_of scope.now)
         (level_at level) (expression_of term.now)) }
 {
     let o = out.unknowns;
@@ -99,7 +100,8 @@ fn emit_own(
 ) -> Result<(), AllocError>
     requires { CanEmit out.old (tops_of setting.now.names.now) (slots_of scope.now) (level_at level)
         (expression_of term.now) }
-    ensures { OnOk result (AddsOwn out.old out.new (tops_of setting.now.names.now) own (slots_of scope.now)
+    ensures { OnOk result
+        (AddsOwn out.old out.new (tops_of setting.now.names.now) own (slots_of scope.now)
         (level_at level) (expression_of term.now)) }
 {
     let alloc = setting.alloc;
@@ -146,7 +148,8 @@ fn close(
     scope: &Scope,
 ) -> Result<(), AllocError>
     requires { HasRoom out.old 2 1 }
-    ensures { OnOk result (Adds out.old out.new 2 1 (close_equations own out.old.unknowns out.old.classifiers)
+    ensures { OnOk result
+        (Adds out.old out.new 2 1 (close_equations own out.old.unknowns out.old.classifiers)
         (record { at = at; classifier = out.old.classifiers; scope = slots_of scope.now } ∷ [])) }
 {
     let classifier = out.classifiers;

@@ -58,7 +58,8 @@ impl FailingPart {
         end: usize,
     ) -> Result<bool, AllocError>
         requires { IsWhole self.now }
-        ensures { IfOk result (λ fine. IsTrue fine ↔ Fine self.now.equations.unknowns self.now.equations.classifiers
+        ensures { IfOk result
+            (λ fine. IsTrue fine ↔ Fine self.now.equations.unknowns self.now.equations.classifiers
             (without first end self.now.owners.items (equations_of self.now.equations.pairs))) }
     {
         let pairs = self.equations.pairs.as_slice();
@@ -104,7 +105,8 @@ fn rest_copied(
     end: usize,
 ) -> Result<Pairs, AllocError>
     requires { length owners.now ≡ length pairs.now }
-    ensures { IfOk result (λ rest. equations_of rest ≡ without first end owners.now (equations_of pairs.now)) }
+    ensures { IfOk result
+        (λ rest. equations_of rest ≡ without first end owners.now (equations_of pairs.now)) }
 {
     let mut rest = Pairs::new(alloc);
     for at in 0..pairs.len() {
@@ -142,8 +144,10 @@ fn applied_sides(
     solved: &Solved,
     equation: &Equation,
 ) -> Result<(Ty, Ty), AllocError>
-    requires left { Within (length solved.now.types) (length solved.now.classifiers) (type_of equation.now.left) }
-    requires right { Within (length solved.now.types) (length solved.now.classifiers) (type_of equation.now.right) }
+    requires left { Within (length solved.now.types) (length solved.now.classifiers)
+        (type_of equation.now.left) }
+    requires right { Within (length solved.now.types) (length solved.now.classifiers)
+        (type_of equation.now.right) }
     ensures left { IfOk result
         (λ sides. type_of sides.0 ≡ apply (substitution_of solved.now) (type_of equation.now.left)) }
     ensures right { IfOk result
@@ -157,7 +161,8 @@ fn applied_sides(
 #[cycle(applying)]
 fn applied(alloc: Global, solved: &Solved, ty: &Ty) -> Result<Ty, AllocError>
     requires { Within (length solved.now.types) (length solved.now.classifiers) (type_of ty.now) }
-    ensures { IfOk result (λ made. type_of made ≡ apply (substitution_of solved.now) (type_of ty.now)) }
+    ensures { IfOk result
+        (λ made. type_of made ≡ apply (substitution_of solved.now) (type_of ty.now)) }
 {
     match ty {
         Ty::Int => Ok(Ty::Int),
@@ -183,7 +188,8 @@ fn applied(alloc: Global, solved: &Solved, ty: &Ty) -> Result<Ty, AllocError>
 #[cycle(applying)]
 fn boxed_applied(alloc: Global, solved: &Solved, ty: &Ty) -> Result<Box<Ty>, AllocError>
     requires { Within (length solved.now.types) (length solved.now.classifiers) (type_of ty.now) }
-    ensures { IfOk result (λ made. type_of made.value ≡ apply (substitution_of solved.now) (type_of ty.now)) }
+    ensures { IfOk result
+        (λ made. type_of made.value ≡ apply (substitution_of solved.now) (type_of ty.now)) }
 {
     let made = applied(alloc, solved, ty)?;
     Ok(Box::new(alloc, made)?)

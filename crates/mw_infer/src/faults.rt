@@ -47,8 +47,10 @@ pub struct OpenClose {
 /// The fault for which a program is refused for its types, if it is.
 pub fn first_fault(alloc: Global, program: &Program) -> Result<Option<PartFault>, AllocError>
     requires { IsResolved (program_of program.now) }
-    ensures found { IfOk result (λ found. IfSome found (IsFaultOfProgram (program_of program.now))) }
-    ensures first { (r : Refusal) → IsFirstRefusal (program_of program.now) r → IsFaultOrMemory r result }
+    ensures found { IfOk result
+        (λ found. IfSome found (IsFaultOfProgram (program_of program.now))) }
+    ensures first { (r : Refusal) → IsFirstRefusal (program_of program.now) r
+        → IsFaultOrMemory r result }
 {
     let items = program.items.as_slice();
     let mut names = Vec::new(alloc);
@@ -74,7 +76,8 @@ fn item_fault(
     part: u32,
 ) -> Result<Option<PartFault>, AllocError>
     requires { CanJudge (tops_of names.now) (part_of_item [] (definition_of item.now.kind)).term }
-    ensures { IfOk result (FaultyAt (tops_of names.now) (part_of_item [] (definition_of item.now.kind)).place
+    ensures { IfOk result
+        (FaultyAt (tops_of names.now) (part_of_item [] (definition_of item.now.kind)).place
         (part_of_item [] (definition_of item.now.kind)).term part) }
 {
     match &item.kind {
@@ -112,7 +115,8 @@ fn part_fault(
     part: u32,
 ) -> Result<Option<PartFault>, AllocError>
     requires { CanJudge (tops_of names.now) (expression_of term.now) }
-    ensures { IfOk result (FaultyAt (tops_of names.now) (place_of asked.now) (expression_of term.now) part) }
+    ensures { IfOk result
+        (FaultyAt (tops_of names.now) (place_of asked.now) (expression_of term.now) part) }
 {
     let Output {
         unknowns,

@@ -52,9 +52,11 @@ fn is_absent_at(
     known: &[Option<BTreeSet<u64>>],
     classifier: u64,
 ) -> bool
-    requires inside { SlotBelow (length solved.now.types) (length solved.now.classifiers) (slot_of binder) }
+    requires inside { SlotBelow (length solved.now.types) (length solved.now.classifiers)
+        (slot_of binder) }
     requires known { Knows solved.now known.now }
-    ensures { IsTrue result ↔ IsAbsentAt classifier (entry_of (least_of solved.now) (slot_of binder)) }
+    ensures { IsTrue result
+        ↔ IsAbsentAt classifier (entry_of (least_of solved.now) (slot_of binder)) }
 {
     match binder {
         Binder::Plain(u) => is_absent_in(u, solved, known, classifier),
@@ -71,9 +73,11 @@ fn is_absent_from(
     known: &[Option<BTreeSet<u64>>],
     classifier: u64,
 ) -> bool
-    requires inside { SlotsBelow (length solved.now.types) (length solved.now.classifiers) (map slot_of scope.now) }
+    requires inside { SlotsBelow (length solved.now.types) (length solved.now.classifiers)
+        (map slot_of scope.now) }
     requires known { Knows solved.now known.now }
-    ensures { IsTrue result ↔ IsAbsent classifier (map (entry_of (least_of solved.now)) (map slot_of scope.now)) }
+    ensures { IsTrue result
+        ↔ IsAbsent classifier (map (entry_of (least_of solved.now)) (map slot_of scope.now)) }
 {
     for binder in scope {
         if !is_absent_at(*binder, solved, known, classifier) {
@@ -91,8 +95,10 @@ pub fn first_open(
     solved: &Solved,
     trees: u64,
 ) -> Result<Option<u32>, AllocError>
-    requires { ClosesBelow (length solved.now.types) (length solved.now.classifiers) (closes_of closes.now) }
-    ensures { IfOk result (λ found. MatchOption found (AreFresh (least_of solved.now) (closes_of closes.now))
+    requires { ClosesBelow (length solved.now.types) (length solved.now.classifiers)
+        (closes_of closes.now) }
+    ensures { IfOk result
+        (λ found. MatchOption found (AreFresh (least_of solved.now) (closes_of closes.now))
         (IsFirstOpenAt (substitution_of solved.now) (closes_of closes.now))) }
 {
     let trees = if closes.is_empty() { 0 } else { trees };
@@ -110,7 +116,8 @@ pub fn first_open(
 
 /// The nearest binder in whose entry it stands, by the number of binders between, if there is one.
 fn holder(scope: &[Binder], solved: &Solved, classifier: u64) -> Option<usize>
-    requires { SlotsBelow (length solved.now.types) (length solved.now.classifiers) (map slot_of scope.now) }
+    requires { SlotsBelow (length solved.now.types) (length solved.now.classifiers)
+        (map slot_of scope.now) }
     ensures { MatchOption result
         (IsAbsent classifier (map (entry_of (least_of solved.now)) (map slot_of scope.now)))
         (Holds (substitution_of solved.now) classifier (map slot_of scope.now)) }
@@ -125,7 +132,8 @@ fn holder(scope: &[Binder], solved: &Solved, classifier: u64) -> Option<usize>
 
 /// The first `close` whose classifier stands in its environment: its offset, and the nearest binder that holds it.
 pub fn first_open_close(closes: &[Spot], solved: &Solved) -> Option<(u32, usize)>
-    requires { ClosesBelow (length solved.now.types) (length solved.now.classifiers) (closes_of closes.now) }
+    requires { ClosesBelow (length solved.now.types) (length solved.now.classifiers)
+        (closes_of closes.now) }
     ensures { MatchOption result (AreFresh (least_of solved.now) (closes_of closes.now))
         (λ found. IsOpenHeld (substitution_of solved.now) (closes_of closes.now) found.0 found.1) }
 {

@@ -67,7 +67,8 @@ pub fn emitted<'n, 'p>(
     term: &Term,
 ) -> Result<Output<'n, 'p>, AllocError>
     requires { CanJudge (tops_of names.now) (expression_of term.now) }
-    ensures { IfOk result (IsEmitted (tops_of names.now) (place_of asked.now) (expression_of term.now)) }
+    ensures { IfOk result
+        (IsEmitted (tops_of names.now) (place_of asked.now) (expression_of term.now)) }
 {
     let mut out = Output {
         unknowns: 1,
@@ -106,7 +107,8 @@ pub fn judge(
     marks: &mut Vec<usize>,
 ) -> Result<Verdict, AllocError>
     requires { CanJudge (tops_of names.now) (expression_of term.now) }
-    ensures { IfOk result (Judges (tops_of names.now) (place_of asked.now) (expression_of term.now)) }
+    ensures { IfOk result
+        (Judges (tops_of names.now) (place_of asked.now) (expression_of term.now)) }
 {
     let out = emitted(alloc, names, asked, term)?;
     let Output {

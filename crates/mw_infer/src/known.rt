@@ -59,7 +59,8 @@ fn learn(
     solved: &Solved,
     known: &mut Vec<Option<BTreeSet<u64>>>,
 ) -> Result<(), AllocError>
-    requires inside { SlotBelow (length solved.now.types) (length solved.now.classifiers) (slot_of binder) }
+    requires inside { SlotBelow (length solved.now.types) (length solved.now.classifiers)
+        (slot_of binder) }
     requires known { Knows solved.now known.old.items }
     ensures { OnOk result (Knows solved.now known.new.items) }
 {
@@ -82,7 +83,8 @@ pub fn learn_all(
     solved: &Solved,
     known: &mut Vec<Option<BTreeSet<u64>>>,
 ) -> Result<(), AllocError>
-    requires inside { SlotsBelow (length solved.now.types) (length solved.now.classifiers) (map slot_of scope.now) }
+    requires inside { SlotsBelow (length solved.now.types) (length solved.now.classifiers)
+        (map slot_of scope.now) }
     requires known { Knows solved.now known.old.items }
     ensures { OnOk result (Knows solved.now known.new.items) }
 {

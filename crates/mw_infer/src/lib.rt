@@ -49,12 +49,14 @@ pub fn check(alloc: Global, program: &Program) -> Result<Typed, Stop>
     ensures small { IfOk result (λ _. NoneTooBig (program_of program.now)) }
     ensures runs { IfOk result (λ _. HasSmallTypes (program_of program.now)) }
     ensures kernels { IfOk result (λ _. HasSmallKernels (program_of program.now)) }
-    ensures types { IfOk result (λ typed. AreTypesOf (program_of program.now) (map type_of typed.types)) }
+    ensures types { IfOk result
+        (λ typed. AreTypesOf (program_of program.now) (map type_of typed.types)) }
     ensures nodes { IfOk result (λ typed. AreNodesOf (program_of program.now) (facts_of typed)) }
     ensures only { Typable (program_of program.now) → NoneTooBig (program_of program.now)
         → AnswersOrMemory (λ typed. Unit {0}) result }
     ensures refused { IfErr result (IfRefused (IsFirstRefusal (program_of program.now))) }
-    ensures first { (r : Refusal) → IsFirstRefusal (program_of program.now) r → IsRefusalOrMemory result r }
+    ensures first { (r : Refusal) → IsFirstRefusal (program_of program.now) r
+        → IsRefusalOrMemory result r }
 {
     match whole(alloc, program) {
         Ok(found) => {

@@ -106,7 +106,8 @@ fn add(
     classifiers: u64,
 ) -> Result<(), AllocError>
     requires { HasSpace numbers.old unknowns classifiers }
-    ensures { OnOk result (AddsNodes numbers.old numbers.new unknowns classifiers (numbers_of node ∷ [])) }
+    ensures { OnOk result
+        (AddsNodes numbers.old numbers.new unknowns classifiers (numbers_of node ∷ [])) }
 {
     numbers.nodes.push(node)?;
     numbers.unknowns += unknowns;
@@ -145,7 +146,8 @@ fn number_own(
     numbers: &mut Numbers,
 ) -> Result<(), AllocError>
     requires { CanNumber numbers.old (tops_of names.now) (expression_of term.now) }
-    ensures { OnOk result (AddsOwnNode numbers.old numbers.new (tops_of names.now) own (expression_of term.now)) }
+    ensures { OnOk result
+        (AddsOwnNode numbers.old numbers.new (tops_of names.now) own (expression_of term.now)) }
 {
     let o = numbers.unknowns;
     let c = numbers.classifiers;
@@ -174,7 +176,8 @@ pub fn number(
     numbers: &mut Numbers,
 ) -> Result<(), AllocError>
     requires { CanNumber numbers.old (tops_of names.now) (expression_of term.now) }
-    ensures { OnOk result (AddsTermNodes numbers.old numbers.new (tops_of names.now) own (expression_of term.now)) }
+    ensures { OnOk result
+        (AddsTermNodes numbers.old numbers.new (tops_of names.now) own (expression_of term.now)) }
 {
     let o = numbers.unknowns;
     number_own(term, names, own, numbers)?;

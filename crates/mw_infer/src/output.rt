@@ -42,7 +42,8 @@ pub struct Output<'n, 'p> {
 /// Makes two types one.
 #[inline(always)]
 pub fn equate(out: &mut Output, left: Ty, right: Ty) -> Result<(), AllocError>
-    ensures { OnOk result (Adds out.old out.new 0 0 (equation (type_of left) (type_of right) ∷ []) []) }
+    ensures { OnOk result
+        (Adds out.old out.new 0 0 (equation (type_of left) (type_of right) ∷ []) []) }
 {
     out.equations
         .push(Emitted::Written(Equation { left, right }))?;
@@ -51,7 +52,8 @@ pub fn equate(out: &mut Output, left: Ty, right: Ty) -> Result<(), AllocError>
 
 /// Makes an unknown one with the type of a name that has nothing open, by the name's number. The type isn't copied.
 pub fn equate_use(out: &mut Output, own: u64, name: u32) -> Result<(), AllocError>
-    ensures { OnOk result (Adds out.old out.new 0 0 (use_equation (tops_of out.old.names.now) own name ∷ []) []) }
+    ensures { OnOk result
+        (Adds out.old out.new 0 0 (use_equation (tops_of out.old.names.now) own name ∷ []) []) }
 {
     out.equations.push(Emitted::NameUse(own, name))?;
     Ok(())

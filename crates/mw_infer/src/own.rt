@@ -69,7 +69,8 @@ pub fn recursive(alloc: Global, out: &mut Output, own: u64) -> Result<(), AllocE
 /// An application of type `own`.
 pub fn application(alloc: Global, out: &mut Output, own: u64) -> Result<(), AllocError>
     requires { HasRoom out.old 2 0 }
-    ensures { OnOk result (Adds out.old out.new 2 0 (application_equations own out.old.unknowns) []) }
+    ensures { OnOk result
+        (Adds out.old out.new 2 0 (application_equations own out.old.unknowns) []) }
 {
     let o = out.unknowns;
     take(out, 2, 0);
@@ -146,7 +147,8 @@ fn primitive_ty(prim: Prim) -> Ty
 /// A primitive of type `own`.
 pub fn operation(out: &mut Output, own: u64, prim: Prim) -> Result<(), AllocError>
     requires { HasRoom out.old 2 0 }
-    ensures { OnOk result (Adds out.old out.new 2 0 (primitive_equations own out.old.unknowns prim) []) }
+    ensures { OnOk result
+        (Adds out.old out.new 2 0 (primitive_equations own out.old.unknowns prim) []) }
 {
     let o = out.unknowns;
     take(out, 2, 0);
@@ -158,7 +160,8 @@ pub fn operation(out: &mut Output, own: u64, prim: Prim) -> Result<(), AllocErro
 /// A bracket of type `own`.
 pub fn bracket(alloc: Global, out: &mut Output, own: u64) -> Result<(), AllocError>
     requires { HasRoom out.old 1 1 }
-    ensures { OnOk result (Adds out.old out.new 1 1 (bracket_equations own out.old.unknowns out.old.classifiers) []) }
+    ensures { OnOk result
+        (Adds out.old out.new 1 1 (bracket_equations own out.old.unknowns out.old.classifiers) []) }
 {
     let o = out.unknowns;
     let c = out.classifiers;
@@ -170,7 +173,8 @@ pub fn bracket(alloc: Global, out: &mut Output, own: u64) -> Result<(), AllocErr
 /// An escape of type `own` under a classifier unknown.
 pub fn escape(alloc: Global, out: &mut Output, own: u64, classifier: u64) -> Result<(), AllocError>
     requires { HasRoom out.old 1 0 }
-    ensures { OnOk result (Adds out.old out.new 1 0 (escape_equations own out.old.unknowns classifier) []) }
+    ensures { OnOk result
+        (Adds out.old out.new 1 0 (escape_equations own out.old.unknowns classifier) []) }
 {
     let o = out.unknowns;
     take(out, 1, 0);
@@ -181,7 +185,8 @@ pub fn escape(alloc: Global, out: &mut Output, own: u64, classifier: u64) -> Res
 /// A run of type `own` at a kernel type.
 pub fn run(alloc: Global, out: &mut Output, own: u64, kind: &KType) -> Result<(), AllocError>
     requires { HasRoom out.old 1 0 }
-    ensures { OnOk result (Adds out.old out.new 1 0 (run_equations own out.old.unknowns (kernel_type_of kind.now)) []) }
+    ensures { OnOk result
+        (Adds out.old out.new 1 0 (run_equations own out.old.unknowns (kernel_type_of kind.now)) []) }
 {
     let o = out.unknowns;
     take(out, 1, 0);
@@ -195,7 +200,8 @@ pub fn run(alloc: Global, out: &mut Output, own: u64, kind: &KType) -> Result<()
 /// A `close` of type `own`.
 pub fn close(alloc: Global, out: &mut Output, own: u64) -> Result<(), AllocError>
     requires { HasRoom out.old 2 1 }
-    ensures { OnOk result (Adds out.old out.new 2 1 (close_equations own out.old.unknowns out.old.classifiers) []) }
+    ensures { OnOk result
+        (Adds out.old out.new 2 1 (close_equations own out.old.unknowns out.old.classifiers) []) }
 {
     let o = out.unknowns;
     let c = out.classifiers;
@@ -209,7 +215,8 @@ pub fn close(alloc: Global, out: &mut Output, own: u64) -> Result<(), AllocError
 /// An `open` of type `own`.
 pub fn open(alloc: Global, out: &mut Output, own: u64) -> Result<(), AllocError>
     requires { HasRoom out.old 2 1 }
-    ensures { OnOk result (Adds out.old out.new 2 1 (open_equations own out.old.unknowns out.old.classifiers) []) }
+    ensures { OnOk result
+        (Adds out.old out.new 2 1 (open_equations own out.old.unknowns out.old.classifiers) []) }
 {
     let o = out.unknowns;
     let c = out.classifiers;
@@ -223,7 +230,8 @@ pub fn open(alloc: Global, out: &mut Output, own: u64) -> Result<(), AllocError>
 /// A `lift` or `liftb` of type `own`, at a base type.
 pub fn lift(alloc: Global, out: &mut Output, own: u64, base: Base) -> Result<(), AllocError>
     requires { HasRoom out.old 1 1 }
-    ensures { OnOk result (Adds out.old out.new 1 1 (lift_equations own out.old.unknowns out.old.classifiers base) []) }
+    ensures { OnOk result
+        (Adds out.old out.new 1 1 (lift_equations own out.old.unknowns out.old.classifiers base) []) }
 {
     let o = out.unknowns;
     let c = out.classifiers;
@@ -317,7 +325,8 @@ fn used(
 
 /// What the name at a place has.
 pub fn lookup<'n, 'p>(names: &'n [TopScheme<'p>], index: u32) -> Option<&'n TopScheme<'p>>
-    ensures { option_map (λ scheme. top_of scheme.now) result ≡ slice_get (tops_of names.now) index }
+    ensures { option_map (λ scheme. top_of scheme.now) result
+        ≡ slice_get (tops_of names.now) index }
 {
     names.get(index as usize)
 }

@@ -52,7 +52,8 @@ fn own(term: &Term, is_quoted: bool, owners: &mut Owners) -> Result<(), AllocErr
 /// The nodes of the equations of a term at level 0 or 1.
 fn own_all(term: &Term, is_quoted: bool, owners: &mut Owners) -> Result<(), AllocError>
     requires { HasNumbers owners.old (expression_of term.now) }
-    ensures { OnOk result (AddsTermOwners owners.old owners.new is_quoted (expression_of term.now)) }
+    ensures { OnOk result
+        (AddsTermOwners owners.old owners.new is_quoted (expression_of term.now)) }
 {
     own(term, is_quoted, owners)?;
     match term {

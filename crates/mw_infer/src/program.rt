@@ -44,9 +44,12 @@ fn judged(
     marks: &mut Vec<usize>,
 ) -> Result<Judged, Stop>
     requires { CanJudge (tops_of names.now) (expression_of term.now) }
-    ensures fine { IfOk result (λ j. Judges (tops_of names.now) (place_of asked.now) (expression_of term.now)
+    ensures fine { IfOk result
+        (λ j. Judges (tops_of names.now) (place_of asked.now) (expression_of term.now)
         (Fine j)) }
-    ensures refused { IfErr result (IfRefused (IsFaultOf (tops_of names.now) (place_of asked.now) (expression_of term.now) index)) }
+    ensures refused { IfErr result
+        (IfRefused (IsFaultOf (tops_of names.now) (place_of asked.now) (expression_of term.now)
+        index)) }
 {
     match judge(alloc, names, asked, term, marks)? {
         Verdict::Fine(known) => Ok(known),
@@ -64,10 +67,12 @@ pub fn step(
     index: u32,
     marks: &mut Vec<usize>,
 ) -> Result<PartNodes, Stop>
-    requires { CanJudge (tops_of names.old.items) (part_of_item [] (definition_of item.now.kind)).term }
+    requires { CanJudge (tops_of names.old.items)
+        (part_of_item [] (definition_of item.now.kind)).term }
     ensures ok { IfOk result
         (λ nodes. Steps (tops_of names.old.items) (definition_of item.now.kind) (tops_of names.new.items) nodes) }
-    ensures refused { IfErr result (IfRefused (IsFaultOfItem (tops_of names.old.items) (definition_of item.now.kind) index)) }
+    ensures refused { IfErr result
+        (IfRefused (IsFaultOfItem (tops_of names.old.items) (definition_of item.now.kind) index)) }
     ensures kept { OnErr result (names.new.items ≡ names.old.items) }
 {
     match &item.kind {
@@ -102,7 +107,8 @@ pub fn step(
 /// Shows main the kernel items.
 pub fn reveal<'p>(names: &mut Vec<TopScheme<'p>>, items: &'p [Item])
     requires { length names.old.items ≡ length items.now }
-    ensures { tops_of names.new.items ≡ revealed_to (length items.now) (map (λ item. definition_of item.kind) items.now)
+    ensures { tops_of names.new.items
+        ≡ revealed_to (length items.now) (map (λ item. definition_of item.kind) items.now)
         (tops_of names.old.items) }
 {
     for at in 0..items.len() {
@@ -122,7 +128,8 @@ fn last(
     marks: &mut Vec<usize>,
 ) -> Result<PartNodes, Stop>
     requires { CanJudge (tops_of names.now) (expression_of body.now) }
-    ensures fine { IfOk result (Ends (tops_of names.now) (ground_of ground.now) (expression_of body.now)) }
+    ensures fine { IfOk result
+        (Ends (tops_of names.now) (ground_of ground.now) (expression_of body.now)) }
     ensures refused { IfErr result
         (IfRefused (IsFaultOf (tops_of names.now) (main_place (ground_of ground.now)) (expression_of body.now) index)) }
 {

@@ -55,7 +55,8 @@ pub fn renumber(
     classifiers: &mut Numbering,
 ) -> Result<Ty, AllocError>
     requires { CanRenumber unknowns.old classifiers.old (type_of ty.now) }
-    ensures { IfOk result (λ r. Renumbers unknowns.old classifiers.old unknowns.new classifiers.new (type_of ty.now)
+    ensures { IfOk result
+        (λ r. Renumbers unknowns.old classifiers.old unknowns.new classifiers.new (type_of ty.now)
         (type_of r)) }
 {
     match ty {
@@ -93,7 +94,8 @@ fn boxed(
     classifiers: &mut Numbering,
 ) -> Result<Box<Ty>, AllocError>
     requires { CanRenumber unknowns.old classifiers.old (type_of ty.now) }
-    ensures { IfOk result (λ r. Renumbers unknowns.old classifiers.old unknowns.new classifiers.new (type_of ty.now)
+    ensures { IfOk result
+        (λ r. Renumbers unknowns.old classifiers.old unknowns.new classifiers.new (type_of ty.now)
         (type_of r.value)) }
 {
     let ty = renumber(alloc, ty, unknowns, classifiers)?;

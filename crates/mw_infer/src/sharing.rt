@@ -61,7 +61,8 @@ fn mark_use(
     name: u32,
     own: u64,
 ) -> Result<(), AllocError>
-    ensures { IfOk result (λ _. firsts.new.items ≡ firsts.old.items ++ (record { name = name; own = own } ∷ [])) }
+    ensures { IfOk result
+        (λ _. firsts.new.items ≡ firsts.old.items ++ (record { name = name; own = own } ∷ [])) }
 {
     let place = firsts.len();
     firsts.push(FirstUse { name, own })?;
@@ -80,7 +81,8 @@ fn use_shared(
     own: u64,
     name: u32,
 ) -> Result<Equation, AllocError>
-    ensures { IfOk result (SharesUse (tops_of names.now) firsts.old.items firsts.new.items own name) }
+    ensures { IfOk result
+        (SharesUse (tops_of names.now) firsts.old.items firsts.new.items own name) }
 {
     if let Some(first) = first_use(firsts.as_slice(), marks.as_slice(), name) {
         return Ok(Equation {
@@ -100,7 +102,8 @@ pub fn shared(
     emitted: Vec<Emitted>,
     marks: &mut Vec<usize>,
 ) -> Result<Pairs, AllocError>
-    ensures { IfOk result (λ pairs. Alike (map (meaning (tops_of names.now)) emitted.items) (equations_of pairs)) }
+    ensures { IfOk result
+        (λ pairs. Alike (map (meaning (tops_of names.now)) emitted.items) (equations_of pairs)) }
 {
     let mut pairs = Pairs::new(alloc);
     let mut firsts = Vec::new(alloc);
@@ -122,7 +125,8 @@ pub fn in_full(
     names: &[TopScheme],
     emitted: Vec<Emitted>,
 ) -> Result<Pairs, AllocError>
-    ensures { IfOk result (λ pairs. equations_of pairs ≡ map (meaning (tops_of names.now)) emitted.items) }
+    ensures { IfOk result
+        (λ pairs. equations_of pairs ≡ map (meaning (tops_of names.now)) emitted.items) }
 {
     let mut pairs = Pairs::new(alloc);
     for one in emitted {

@@ -94,7 +94,8 @@ impl<'a> NodeTypes<'a> {
     /// and then its argument's, what a `let` binds, and the type that a part of a pair, a `close` or an `open` leaves
     /// open. Takes no memory.
     pub fn extra(&self, at: usize) -> Option<&'a Ty>
-        ensures { option_map (λ ty. type_of ty.now) result ≡ slice_get (facts_of_node self.now).types (at + 1) }
+        ensures { option_map (λ ty. type_of ty.now) result
+            ≡ slice_get (facts_of_node self.now).types (at + 1) }
     {
         match further(&self.numbers, at) {
             Some(unknown) => Some(self.solved.ty(unknown)),
@@ -143,7 +144,8 @@ fn further(numbers: &NodeNumbers, at: usize) -> Option<u64>
 
 /// The unknown of the node's type, at 0, or of a further type, from 1 on, if there is one.
 fn unknown_at(numbers: &NodeNumbers, at: usize) -> Option<u64>
-    ensures { result ≡ slice_get (numbers.now.own ∷ further_of numbers.now.first numbers.now.second) at }
+    ensures { result
+        ≡ slice_get (numbers.now.own ∷ further_of numbers.now.first numbers.now.second) at }
 {
     if at == 0 {
         Some(numbers.own)

@@ -29,7 +29,8 @@ pub fn keep<C: Keeper>(
     requires table { All (IsOf cache.now.cells) receipts.now }
     requires here { All (λ g. IsHere cache.now g.now) gots.now }
     requires read { IsTrue C.tells → IsReadFile (C.held keeper.old) count cache.now.load }
-    ensures kept { let texts = texts_of receipts.now ++ map (λ g. text_in cache.now g.now) gots.now in
+    ensures kept { let texts =
+        texts_of receipts.now ++ map (λ g. text_in cache.now g.now) gots.now in
         OnOk result (IsTrue C.tells → IsKeptFile (C.held keeper.old) (C.held keeper.new) texts) }
     ensures front { IsTrue C.tells → HasGoodFront (C.held keeper.old) (C.held keeper.new) }
     ensures same_names { IsTrue C.tells → C.opened keeper.new ≡ C.opened keeper.old }
@@ -68,9 +69,11 @@ pub(crate) fn append_fitting<C: Keeper>(
     room: usize,
     records: &Records,
 ) -> Result<(), KeepFault>
-    ensures fitting { OnOk result ((ks : List Kept) → records.now ≡ map record_bytes ks → IsTrue C.tells
+    ensures fitting { OnOk result
+        ((ks : List Kept) → records.now ≡ map record_bytes ks → IsTrue C.tells
         → C.held keeper.new ≡ C.held keeper.old ++ file_of (fitting room ks)) }
-    ensures front { IsTrue C.tells → (rest : List ℕ) × (C.held keeper.new ≡ C.held keeper.old ++ rest) }
+    ensures front { IsTrue C.tells
+        → (rest : List ℕ) × (C.held keeper.new ≡ C.held keeper.old ++ rest) }
     ensures same_names { IsTrue C.tells → C.opened keeper.new ≡ C.opened keeper.old }
     ensures blames { BlamesKeeper result (C.faults keeper.old) (C.faults keeper.new) }
     ensures rises { C.faults keeper.old ≤ C.faults keeper.new }

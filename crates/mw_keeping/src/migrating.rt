@@ -43,7 +43,8 @@ pub fn migration<C: Keeper, L: Ledger>(
     ensures same { IsTrue C.tells → C.held keeper.new ≡ C.held keeper.old }
     ensures started { OnOk result (IsTrue C.tells
         → IsStartedWith path.now (C.opened keeper.old) (C.opened keeper.new)) }
-    ensures no_other { IsTrue C.tells → IsStartedAtMost path.now (C.opened keeper.old) (C.opened keeper.new) }
+    ensures no_other { IsTrue C.tells
+        → IsStartedAtMost path.now (C.opened keeper.old) (C.opened keeper.new) }
     ensures blames { BlamesKeeper result (C.faults keeper.old) (C.faults keeper.new) }
     ensures count { C.faults keeper.old ≤ C.faults keeper.new }
 {
@@ -66,7 +67,8 @@ pub fn migration<C: Keeper, L: Ledger>(
 pub fn keep_migration<C: Keeper>(keeper: &mut C, migration: &FileMigration) -> Result<(), KeepFault>
     requires { IsTrue C.tells → IsMigrationHere (C.held keeper.old) migration.now }
     ensures same_names { IsTrue C.tells → C.opened keeper.new ≡ C.opened keeper.old }
-    ensures kept { OnOk result (IsTrue C.tells → IsMigratedFile (C.held keeper.old) (C.held keeper.new)) }
+    ensures kept { OnOk result
+        (IsTrue C.tells → IsMigratedFile (C.held keeper.old) (C.held keeper.new)) }
     ensures front { IsTrue C.tells → HasGoodFront (C.held keeper.old) (C.held keeper.new) }
     ensures blames { BlamesKeeper result (C.faults keeper.old) (C.faults keeper.new) }
     ensures rises { C.faults keeper.old ≤ C.faults keeper.new }
@@ -78,7 +80,8 @@ pub fn keep_migration<C: Keeper>(keeper: &mut C, migration: &FileMigration) -> R
 
 /// How many of the records, from the first on, have room for all of their bytes.
 fn fitting_count(room: usize, records: &Records) -> usize
-    ensures fitting { (ks : List Kept) → records.now ≡ map record_bytes ks → result ≡ length (fitting room ks) }
+    ensures fitting { (ks : List Kept) → records.now ≡ map record_bytes ks
+        → result ≡ length (fitting room ks) }
     ensures most { result ≤ length records.now }
 {
     let mut left = room;

@@ -32,13 +32,16 @@ pub fn open_cache<C: Keeper>(
     keeper: &mut C,
     path: Option<&str>,
 ) -> Result<Opened, AllocError>
-    ensures opened { IfOk result (λ o. IsOpened C.tells (C.held keeper.old) path.entry o.file o.load) }
+    ensures opened { IfOk result
+        (λ o. IsOpened C.tells (C.held keeper.old) path.entry o.file o.load) }
     ensures same { IsTrue C.tells → C.held keeper.new ≡ C.held keeper.old }
     ensures started { IfOk result (λ o. IsTrue C.tells
         → IsStartedFor path.entry o.file (C.opened keeper.old) (C.opened keeper.new)) }
-    ensures no_other { IsTrue C.tells → IsNoOtherStarted path.entry (C.opened keeper.old) (C.opened keeper.new) }
+    ensures no_other { IsTrue C.tells
+        → IsNoOtherStarted path.entry (C.opened keeper.old) (C.opened keeper.new) }
     ensures untouched { IsNone path.entry → keeper.new ≡ keeper.old }
-    ensures blames { IfOk result (λ o. BlamesOpening o.file (C.faults keeper.old) (C.faults keeper.new)) }
+    ensures blames { IfOk result
+        (λ o. BlamesOpening o.file (C.faults keeper.old) (C.faults keeper.new)) }
     ensures count { C.faults keeper.old ≤ C.faults keeper.new }
 {
     let Some(path) = path else {
@@ -69,11 +72,13 @@ pub(crate) fn read_cache<C: Keeper>(
     keeper: &mut C,
     path: &str,
 ) -> Result<Vec<u8>, KeepFault>
-    ensures ok { IfOk result (λ bytes. IsTrue C.tells → bytes.items ≡ take file_limit (C.held keeper.old)) }
+    ensures ok { IfOk result
+        (λ bytes. IsTrue C.tells → bytes.items ≡ take file_limit (C.held keeper.old)) }
     ensures same { IsTrue C.tells → C.held keeper.new ≡ C.held keeper.old }
     ensures started { OnOk result (IsTrue C.tells
         → IsStartedWith path.now (C.opened keeper.old) (C.opened keeper.new)) }
-    ensures no_other { IsTrue C.tells → IsStartedAtMost path.now (C.opened keeper.old) (C.opened keeper.new) }
+    ensures no_other { IsTrue C.tells
+        → IsStartedAtMost path.now (C.opened keeper.old) (C.opened keeper.new) }
     ensures blames { BlamesKeeper result (C.faults keeper.old) (C.faults keeper.new) }
     ensures count { C.faults keeper.old ≤ C.faults keeper.new }
 {

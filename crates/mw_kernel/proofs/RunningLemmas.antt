@@ -32,21 +32,6 @@ use Rattle.mw_kernel.proofs.Units.{invoked_leaves}
 use Rattle.mw_kernel.proofs.WordEnds.{argument_types}
 use Rattle.mw_kernel.proofs.AnswerLemmas.{answer_is_call, store_after, first_is_store, start_left, call_left}
 
--- `init` on the instance that a module begins as
-pub init_gives : (w wasm : Module) (st : Store) → w ≡ wasm → IsValid (module_of wasm)
-    → Exports (module_of wasm) (codes "init") init_type → instantiated (module_of wasm)
-    ≡ Ok (first_store (module_of wasm)) → st ≡ first_store (module_of wasm)
-    → GivesWord w st (codes "init") []
-init_gives w wasm st e valid init begins s = record {
-  type = init_type;
-  valid = subst (λ w. IsValid (module_of w)) (sym e) valid;
-  store = subst (λ w. IsStoreOf (module_of w) st) (sym e)
-      (subst (IsStoreOf (module_of wasm)) (sym s) (first_is_store (module_of wasm) valid begins));
-  is_there = subst (λ w. Exports (module_of w) (codes "init") init_type) (sym e) init;
-  fit = refl;
-  word = refl;
-}
-
 same_store : {r : Result Store Unfit} {s t : Store} → r ≡ Ok s → r ≡ Ok t → t ≡ s
 same_store e f = cc
 

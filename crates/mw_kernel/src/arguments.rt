@@ -16,7 +16,8 @@ pub fn arguments_of(
     function: u64,
     argument: &GroundValue,
 ) -> Result<Vec<Value>, AllocError>
-    ensures values { IfOk result (λ args. args.items ≡ I64 function ∷ leaves (ground_value (ground_value_of argument.now))) }
+    ensures values { IfOk result
+        (λ args. args.items ≡ I64 function ∷ leaves (ground_value (ground_value_of argument.now))) }
     ensures fits { IfOk result (λ _. FitsWords (ground_value_of argument.now)) }
 {
     let mut args = Vec::new(alloc);
@@ -27,7 +28,8 @@ pub fn arguments_of(
 
 /// Adds the leaves of a value at the end.
 fn push_leaves(args: &mut Vec<Value>, value: &GroundValue) -> Result<(), AllocError>
-    ensures pushed { OnOk result (args.new.items ≡ args.old.items ++ leaves (ground_value (ground_value_of value.now))) }
+    ensures pushed { OnOk result
+        (args.new.items ≡ args.old.items ++ leaves (ground_value (ground_value_of value.now))) }
     ensures fits { OnOk result (FitsWords (ground_value_of value.now)) }
 {
     match value {

@@ -56,19 +56,23 @@ pub fn invoke_word(
 ) -> Result<Outcome, AllocError>
     requires { GivesWord instance.old.wasm (store_in instance.old) name.now args.now }
     ensures same { instance.new.wasm ≡ instance.old.wasm }
-    ensures ends { IfOk result (λ outcome. (f : ℕ) → exported (module_of instance.old.wasm) name.now ≡ Some f
+    ensures ends { IfOk result
+        (λ outcome. (f : ℕ) → exported (module_of instance.old.wasm) name.now ≡ Some f
         → EndsAsOutcome outcome (store_in instance.new)
         (invoked (module_of instance.old.wasm) (store_in instance.old) f args.now fuel)) }
-    ensures store { IfOk result (λ outcome. LeavesStore outcome (module_of instance.old.wasm) (store_in instance.new)) }
+    ensures store { IfOk result
+        (λ outcome. LeavesStore outcome (module_of instance.old.wasm) (store_in instance.new)) }
 {
     Ok(outcome_of(instance.invoke(alloc, name, args, fuel)?))
 }
 
 /// The instance that a module begins as, whose segments fit.
 pub fn first_instance(alloc: Global, wasm: &Arc<Valid>) -> Result<Instance, AllocError>
-    requires { instantiated (module_of (arc_value wasm.now)) ≡ Ok (first_store (module_of (arc_value wasm.now))) }
+    requires { instantiated (module_of (arc_value wasm.now))
+        ≡ Ok (first_store (module_of (arc_value wasm.now))) }
     ensures of { IfOk result (λ instance. instance.wasm ≡ arc_value wasm.now) }
-    ensures store { IfOk result (λ instance. store_in instance ≡ first_store (module_of (arc_value wasm.now))) }
+    ensures store { IfOk result
+        (λ instance. store_in instance ≡ first_store (module_of (arc_value wasm.now))) }
     ensures valid { IsValid (module_of (arc_value wasm.now)) }
 {
     // The module is a valid one.
@@ -91,7 +95,8 @@ pub fn ready_instance(
         ≡ Ok (first_store (module_of (arc_value wasm.now))) }
     requires held { IsInstanceOf (arc_value wasm.now) held }
     ensures of { IfOk result (λ instance. instance.wasm ≡ arc_value wasm.now) }
-    ensures store { IfOk result (λ instance. store_in instance ≡ store_held (arc_value wasm.now) held) }
+    ensures store { IfOk result
+        (λ instance. store_in instance ≡ store_held (arc_value wasm.now) held) }
 {
     match held {
         Some(instance) => Ok(instance),

@@ -19,7 +19,8 @@ pub fn read_value(
     word: u64,
 ) -> Result<Option<GroundValue>, AllocError>
     requires { (store_in instance.now).memory.pages ≤ 65536 }
-    ensures { IfOk result (λ value. IsReadAt (ground_of ground.now) value word (store_in instance.now).memory) }
+    ensures { IfOk result
+        (λ value. IsReadAt (ground_of ground.now) value word (store_in instance.now).memory) }
 {
     match ground {
         Ground::Base(base) => Ok(base_value(*base, word)),

@@ -79,7 +79,8 @@ impl Running {
         fuel: u64,
     ) -> Result<Began, RunFault>
         requires shape { HasShape (module_of (arc_value «module».now)) (kernel_type_of kind.now) }
-        ensures answers { AnswersStart result (arc_value «module».now) (kernel_type_of kind.now) fuel }
+        ensures answers { AnswersStart result (arc_value «module».now) (kernel_type_of kind.now)
+            fuel }
         ensures types { HasStartType result (kernel_type_of kind.now) }
         ensures left { StartLeavesAtMost result fuel }
         ensures means { MeansStart result (arc_value «module».now) (kernel_type_of kind.now) fuel }
@@ -103,7 +104,8 @@ impl Running {
         ensures types { HasCallType result self.old.result }
         ensures left { CallLeavesAtMost result fuel }
         ensures means { MeansCall result self.old (ground_value_of argument.now) fuel }
-        ensures store { StoreAfterCall result self.old self.new (ground_value_of argument.now) fuel }
+        ensures store { StoreAfterCall result self.old self.new (ground_value_of argument.now)
+            fuel }
         ensures keeps { KeepsOn result self.old self.new }
         ensures stray { BadCallIsStray result self.old }
         ensures plays { PlaysOn result self.old self.new }
@@ -118,7 +120,8 @@ impl Running {
     fn invoke(&mut self, alloc: Global, argument: &GroundValue, fuel: u64) -> Result<Ran, RunFault>
         requires argument { HasGroundType self.old.argument (ground_value_of argument.now) }
         ensures answers { AnswersCall result self.old (ground_value_of argument.now) fuel }
-        ensures store { StoreAfterCall result self.old self.new (ground_value_of argument.now) fuel }
+        ensures store { StoreAfterCall result self.old self.new (ground_value_of argument.now)
+            fuel }
         ensures same { IsSameFunction self.old self.new }
         ensures fits { FitsUnlessMemory result (ground_value_of argument.now) }
         ensures runnable { IsRunnable self.old }

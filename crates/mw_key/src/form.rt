@@ -90,7 +90,8 @@ impl TwoParts {
 
     /// Code of this form and parts.
     pub fn of(self, first: Box<Term>, second: Box<Term>) -> Term
-        ensures { expression_of result ≡ code_of_two self (expression_of first.value) (expression_of second.value) }
+        ensures { expression_of result
+            ≡ code_of_two self (expression_of first.value) (expression_of second.value) }
     {
         match self {
             TwoParts::App => Term::App(first, second),

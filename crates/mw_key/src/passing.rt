@@ -18,7 +18,8 @@ use std::alloc::Global;
 pub fn read_type(alloc: Global, bytes: &[u8]) -> Result<KType, TextFault>
     ensures read { IfOk result (λ kind. (v : PureVersion) × (c : Expression)
         × IsTextOf bytes.now v c (kernel_type_of kind)) }
-    ensures refused { result ≡ Err TextFault.BadText → (v : PureVersion) (c : Expression) (k : KernelType)
+    ensures refused { result ≡ Err TextFault.BadText
+        → (v : PureVersion) (c : Expression) (k : KernelType)
         → IsTextOf bytes.now v c k → ⊥ }
 {
     whole_type(alloc, &mut Reader::new(bytes))

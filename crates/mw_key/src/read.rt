@@ -29,8 +29,10 @@ pub(crate) const MOST_DEPTH: u32 = 400;
 /// The version, code and type whose canonical text the bytes are. `BadText` comes where they are none, and `Memory`
 /// where memory runs out. Words are read one after another, and no further than to the first that can't stand there.
 pub fn read_text(alloc: Global, bytes: &[u8]) -> Result<(Version, Term, KType), TextFault>
-    ensures read { IfOk result (λ t. IsTextOf bytes.now t.0 (expression_of t.1) (kernel_type_of t.2)) }
-    ensures refused { result ≡ Err TextFault.BadText → (v : PureVersion) (c : Expression) (k : KernelType)
+    ensures read { IfOk result
+        (λ t. IsTextOf bytes.now t.0 (expression_of t.1) (kernel_type_of t.2)) }
+    ensures refused { result ≡ Err TextFault.BadText
+        → (v : PureVersion) (c : Expression) (k : KernelType)
         → IsTextOf bytes.now v c k → ⊥ }
     ensures found { (v : PureVersion) (c : Expression) (k : KernelType) → IsTextOf bytes.now v c k
         → MatchResult result (λ t. (t.0 ≡ v) × (expression_of t.1 ≡ c) × (kernel_type_of t.2 ≡ k))
@@ -124,7 +126,8 @@ fn code(alloc: Global, reader: &mut Reader, depth: u32, binders: u32) -> Read<Te
 #[cycle(code)]
 fn code_of(alloc: Global, reader: &mut Reader, form: Form, depth: u32, binders: u32) -> Read<Term>
     requires room { binders + 2 * depth ≤ 998 }
-    ensures { Finds expression_of result (code_parts (find_code depth) form binders) reader.old reader.new }
+    ensures { Finds expression_of result (code_parts (find_code depth) form binders) reader.old
+        reader.new }
 {
     match form {
         Form::Int => Ok(Term::Int(reader.integer()?)),
@@ -151,7 +154,8 @@ fn code_of(alloc: Global, reader: &mut Reader, form: Form, depth: u32, binders: 
 #[cycle(code)]
 fn boxed(alloc: Global, reader: &mut Reader, depth: u32, binders: u32) -> Read<Box<Term>>
     requires room { binders + 2 * depth ≤ 1000 }
-    ensures { Finds (λ code. expression_of code.value) result (find_code depth binders) reader.old reader.new }
+    ensures { Finds (λ code. expression_of code.value) result (find_code depth binders) reader.old
+        reader.new }
 {
     Ok(Box::new(alloc, code(alloc, reader, depth, binders)?)?)
 }

@@ -54,7 +54,8 @@ impl<'a> Reader<'a> {
     /// The next word, which ends before the next space.
     #[tactic(auto, using(crate::proofs::Words::split_here, crate::proofs::Words::split_whole))]
     fn next_word(&mut self) -> Option<&'a [u8]>
-        ensures some { IfSome result (λ w. words_left self.old.rest ≡ w.now ∷ words_left self.new.rest) }
+        ensures some { IfSome result
+            (λ w. words_left self.old.rest ≡ w.now ∷ words_left self.new.rest) }
         ensures none { IfNone result (words_left self.old.rest ≡ []) }
         ensures nodes { self.new.nodes ≡ self.old.nodes }
     {

@@ -37,7 +37,8 @@ fn put(text: &mut Vec<u8>, more: &[u8]) -> Result<(), AllocError>
 
 /// The words of a kernel type.
 fn put_kernel_type(text: &mut Vec<u8>, kind: &KType) -> Result<(), AllocError>
-    ensures { IfOk result (λ _. text.new.items ≡ text.old.items ++ kernel_words (kernel_type_of kind.now)) }
+    ensures { IfOk result
+        (λ _. text.new.items ≡ text.old.items ++ kernel_words (kernel_type_of kind.now)) }
 {
     match kind {
         KType::Ground(ground) => put_ground(text, ground),
@@ -51,7 +52,8 @@ fn put_kernel_type(text: &mut Vec<u8>, kind: &KType) -> Result<(), AllocError>
 
 /// The words of a ground type.
 fn put_ground(text: &mut Vec<u8>, ground: &Ground) -> Result<(), AllocError>
-    ensures { IfOk result (λ _. text.new.items ≡ text.old.items ++ ground_words (ground_of ground.now)) }
+    ensures { IfOk result
+        (λ _. text.new.items ≡ text.old.items ++ ground_words (ground_of ground.now)) }
 {
     match ground {
         Ground::Base(Base::Int) => put(text, b" int"),
@@ -67,7 +69,8 @@ fn put_ground(text: &mut Vec<u8>, ground: &Ground) -> Result<(), AllocError>
 /// The words of code; what is no code has none.
 #[cycle(code)]
 fn put_code(text: &mut Vec<u8>, code: &Term) -> Result<(), AllocError>
-    ensures text { IfOk result (λ _. text.new.items ≡ text.old.items ++ code_words (expression_of code.now)) }
+    ensures text { IfOk result
+        (λ _. text.new.items ≡ text.old.items ++ code_words (expression_of code.now)) }
     ensures literals { IfOk result (λ _. LiteralsFit (expression_of code.now)) }
 {
     match code {
@@ -112,9 +115,11 @@ fn put_one(text: &mut Vec<u8>, word: &[u8], code: &Term) -> Result<(), AllocErro
 /// A word and the words of code and of more code.
 #[cycle(code)]
 fn put_two(text: &mut Vec<u8>, word: &[u8], first: &Term, second: &Term) -> Result<(), AllocError>
-    ensures text { IfOk result (λ _. text.new.items ≡ text.old.items ++ words_of_two word.now (expression_of first.now)
+    ensures text { IfOk result
+        (λ _. text.new.items ≡ text.old.items ++ words_of_two word.now (expression_of first.now)
         (expression_of second.now)) }
-    ensures literals { IfOk result (λ _. LiteralsFit (expression_of first.now) × LiteralsFit (expression_of second.now)) }
+    ensures literals { IfOk result
+        (λ _. LiteralsFit (expression_of first.now) × LiteralsFit (expression_of second.now)) }
 {
     put(text, word)?;
     put_code(text, first)?;

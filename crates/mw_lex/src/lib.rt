@@ -38,7 +38,8 @@ pub fn lex(alloc: Global, bytes: &[u8]) -> Result<Tokens, Stop>
     ensures char { (at : ℕ) → result ≡ Err (Refused (Char at)) → IsFirstFault bytes.now (Char at) }
     ensures only_char { (at : ℕ) → IsSmall bytes.now → IsFirstFault bytes.now (Char at)
         → IsRefusalOrMemory result (Char at) }
-    ensures number { (at : ℕ) → result ≡ Err (Refused (Number at)) → IsFirstFault bytes.now (Number at) }
+    ensures number { (at : ℕ) → result ≡ Err (Refused (Number at))
+        → IsFirstFault bytes.now (Number at) }
     ensures only_number { (at : ℕ) → IsSmall bytes.now → IsFirstFault bytes.now (Number at)
         → IsRefusalOrMemory result (Number at) }
     ensures name { (at : ℕ) → result ≡ Err (Refused (Name at)) → IsFirstFault bytes.now (Name at) }

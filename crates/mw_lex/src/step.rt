@@ -18,7 +18,8 @@ use std::alloc::{AllocError, Global};
 // Adds a token with its offsets.
 fn add(tokens: &mut Tokens, kind: Kind, start: usize, end: usize) -> Result<(), AllocError>
     requires { (start < 2 ^ 32) × (end < 2 ^ 32) }
-    ensures { OnOk result (tokens_of tokens.new ≡ tokens_of tokens.old ++ token start end (symbol_of kind) ∷ []) }
+    ensures { OnOk result
+        (tokens_of tokens.new ≡ tokens_of tokens.old ++ token start end (symbol_of kind) ∷ []) }
 {
     tokens.push(Token {
         kind,

@@ -26,13 +26,6 @@ pub record AreBlank (places : List (Option ℕ)) (count : ℕ) : Type 0 where
   pub long : length places ≡ count
   pub none : (k : ℕ) → get_or places k None ≡ None
 
--- images when nothing is found
-blank_at : (xs : List (Option ℕ)) (k : ℕ) (d : Option ℕ) → ((k : ℕ) → get_or xs k None ≡ None) → k < length xs
-    → get_or xs k d ≡ None
-blank_at [] k d h n = absurd (omega arith)
-blank_at (x ∷ xs) zero d h n = h zero
-blank_at (x ∷ xs) (suc k) d h n = blank_at xs k d (λ k. h (suc k)) (omega arith)
-
 pub no_blanks : AreBlank [] 0
 no_blanks = record { long = refl; none = λ k. refl }
 

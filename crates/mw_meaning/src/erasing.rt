@@ -23,7 +23,8 @@ pub enum NewName {
 fn deeper(names: &[NewName], depth: u32, binders: u32) -> u32
     requires binds { binders ≤ 2 }
     requires room { HasRoom names.now depth 1 }
-    ensures same { (x : PlainTerm) → renamed (naming_of names.now) result x ≡ renamed (naming_of names.now)
+    ensures same { (x : PlainTerm) → renamed (naming_of names.now) result x
+        ≡ renamed (naming_of names.now)
         (depth + binders) x }
     ensures most { result ≤ depth + binders }
 {

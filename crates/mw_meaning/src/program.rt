@@ -46,7 +46,8 @@ fn kernel_count(items: &[Item]) -> u32
 /// What the next item's name becomes, put last.
 fn put_name(names: &mut Vec<NewName>, count: Count, kind: &ItemKind) -> Result<Count, AllocError>
     requires { count.lets + 1 < 2 ^ 32 }
-    ensures next { IfOk result (λ next. IsNext (definition_of kind.now) names.old.items names.new.items count.lets
+    ensures next { IfOk result
+        (λ next. IsNext (definition_of kind.now) names.old.items names.new.items count.lets
         count.behind next.lets next.behind) }
     ensures lets { IfOk result (λ next. next.lets ≤ count.lets + 1) }
 {
@@ -91,9 +92,11 @@ fn put_let(
     names: &[NewName],
 ) -> Result<(), AllocError>
     requires { HasRoom names.now 0 (definition_size (definition_of item.now.kind)) }
-    ensures lets { IfOk result (λ _. definitions lets.new ≡ definitions lets.old ++ lets_of (naming_of names.now)
+    ensures lets { IfOk result
+        (λ _. definitions lets.new ≡ definitions lets.old ++ lets_of (naming_of names.now)
         (definition_of item.now.kind ∷ [])) }
-    ensures named { IfOk result (λ _. item_names lets.new ≡ item_names lets.old ++ let_names (item.now ∷ [])) }
+    ensures named { IfOk result
+        (λ _. item_names lets.new ≡ item_names lets.old ++ let_names (item.now ∷ [])) }
 {
     match &item.kind {
         ItemKind::Kernel(_, _) => Ok(()),
@@ -108,7 +111,8 @@ fn put_let(
 /// The lets among the items, erased.
 fn erased_lets(alloc: Global, items: &[Item], names: &[NewName]) -> Result<Items, AllocError>
     requires { HaveRoom names.now (definitions items.now) }
-    ensures lets { IfOk result (λ lets. definitions lets ≡ lets_of (naming_of names.now) (definitions items.now)) }
+    ensures lets { IfOk result
+        (λ lets. definitions lets ≡ lets_of (naming_of names.now) (definitions items.now)) }
     ensures named { IfOk result (λ lets. item_names lets ≡ let_names items.now) }
 {
     let mut lets = Items::new(alloc);
@@ -147,7 +151,8 @@ fn inside(
     body: Box<Term>,
 ) -> Result<Box<Term>, AllocError>
     requires { HaveRoom names.now (definitions items.now) }
-    ensures { IfOk result (λ t. expression_of t.value ≡ inside_terms (naming_of names.now) (definitions items.now)
+    ensures { IfOk result
+        (λ t. expression_of t.value ≡ inside_terms (naming_of names.now) (definitions items.now)
         (expression_of body.value)) }
 {
     let mut inner = body;
@@ -167,7 +172,8 @@ pub fn erase_program(alloc: Global, program: &Program) -> Result<Program, AllocE
     requires nodes { program_size (program_of program.now) < 2 ^ 31 }
     ensures erased { IfOk result (λ p. program_of p ≡ erased_program (program_of program.now)) }
     ensures named { IfOk result (λ p. item_names p.items ≡ let_names program.now.items) }
-    ensures typable { IfOk result (λ p. IsSourceProgram (program_of program.now) → Typable (program_of program.now)
+    ensures typable { IfOk result
+        (λ p. IsSourceProgram (program_of program.now) → Typable (program_of program.now)
         → Typable (program_of p)) }
     ensures unstaged { IfOk result (λ p. IsWithoutStaging (program_of p)) }
 {

@@ -43,7 +43,8 @@ fn exports_init(wasm: &Module) -> bool
 
 /// Whether `call` is exported, as a function of its type for an argument.
 fn exports_call(wasm: &Module, argument: &Ground) -> bool
-    ensures { let exports = Exports (module_of wasm.now) (codes "call") (call_type (ground_of argument.now)) in
+    ensures { let exports =
+        Exports (module_of wasm.now) (codes "call") (call_type (ground_of argument.now)) in
         MatchBool result exports (exports → ⊥) }
 {
     match exported_type(wasm, b"call") {

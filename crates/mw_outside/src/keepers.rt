@@ -23,12 +23,15 @@ pub trait Keeper {
 
     /// Names the file. The bytes held stay. After an error no file was named.
     fn start(&mut self, name: &str) -> Result<(), KeepFault>
-        ensures named { OnOk result (IsTrue tells → opened self.new ≡ opened self.old ++ name.now ∷ []) }
+        ensures named { OnOk result
+            (IsTrue tells → opened self.new ≡ opened self.old ++ name.now ∷ []) }
         ensures unnamed { OnErr result (IsTrue tells → opened self.new ≡ opened self.old) }
         ensures kept { IsTrue tells → held self.new ≡ held self.old }
         ensures same_count { OnOk result (faults self.new ≡ faults self.old) }
-        ensures memory_count { IsErrOf result (KeepFault.Memory alloc_error) → faults self.new ≡ faults self.old }
-        ensures failed { IsErrOf result KeepFault.Failed → Rose (faults self.old) (faults self.new) }
+        ensures memory_count { IsErrOf result (KeepFault.Memory alloc_error)
+            → faults self.new ≡ faults self.old }
+        ensures failed { IsErrOf result KeepFault.Failed
+            → Rose (faults self.old) (faults self.new) }
         ensures count { faults self.old ≤ faults self.new };
 
     /// The first `most` bytes held, or all where there are fewer, in memory of `alloc`. The bytes held stay.
@@ -38,8 +41,10 @@ pub trait Keeper {
         ensures bound { IfOk result (λ bytes. vec_len bytes ≤ most) }
         ensures kept { IsTrue tells → held self.new ≡ held self.old }
         ensures same_count { OnOk result (faults self.new ≡ faults self.old) }
-        ensures memory_count { IsErrOf result (KeepFault.Memory alloc_error) → faults self.new ≡ faults self.old }
-        ensures failed { IsErrOf result KeepFault.Failed → Rose (faults self.old) (faults self.new) }
+        ensures memory_count { IsErrOf result (KeepFault.Memory alloc_error)
+            → faults self.new ≡ faults self.old }
+        ensures failed { IsErrOf result KeepFault.Failed
+            → Rose (faults self.old) (faults self.new) }
         ensures count { faults self.old ≤ faults self.new };
 
     /// Keeps the front of this length, which is at most that of the bytes held. An error changes nothing.
@@ -49,8 +54,10 @@ pub trait Keeper {
         ensures ok { OnOk result (IsTrue tells → held self.new ≡ take length (held self.old)) }
         ensures err { OnErr result (IsTrue tells → held self.new ≡ held self.old) }
         ensures same_count { OnOk result (faults self.new ≡ faults self.old) }
-        ensures memory_count { IsErrOf result (KeepFault.Memory alloc_error) → faults self.new ≡ faults self.old }
-        ensures failed { IsErrOf result KeepFault.Failed → Rose (faults self.old) (faults self.new) }
+        ensures memory_count { IsErrOf result (KeepFault.Memory alloc_error)
+            → faults self.new ≡ faults self.old }
+        ensures failed { IsErrOf result KeepFault.Failed
+            → Rose (faults self.old) (faults self.new) }
         ensures count { faults self.old ≤ faults self.new };
 
     /// Adds the bytes after those held. After `Failed` a front of the piece may have been added; for want
@@ -58,10 +65,14 @@ pub trait Keeper {
     fn append(&mut self, bytes: &[u8]) -> Result<(), KeepFault>
         ensures same_names { IsTrue tells → opened self.new ≡ opened self.old }
         ensures ok { OnOk result (IsTrue tells → held self.new ≡ held self.old ++ bytes.now) }
-        ensures front { OnErr result (IsTrue tells → GrowsByFront (held self.old) (held self.new) bytes.now) }
-        ensures memory { IsErrOf result (KeepFault.Memory alloc_error) → IsTrue tells → held self.new ≡ held self.old }
+        ensures front { OnErr result
+            (IsTrue tells → GrowsByFront (held self.old) (held self.new) bytes.now) }
+        ensures memory { IsErrOf result (KeepFault.Memory alloc_error) → IsTrue tells
+            → held self.new ≡ held self.old }
         ensures same_count { OnOk result (faults self.new ≡ faults self.old) }
-        ensures memory_count { IsErrOf result (KeepFault.Memory alloc_error) → faults self.new ≡ faults self.old }
-        ensures failed { IsErrOf result KeepFault.Failed → Rose (faults self.old) (faults self.new) }
+        ensures memory_count { IsErrOf result (KeepFault.Memory alloc_error)
+            → faults self.new ≡ faults self.old }
+        ensures failed { IsErrOf result KeepFault.Failed
+            → Rose (faults self.old) (faults self.new) }
         ensures count { faults self.old ≤ faults self.new };
 }

@@ -20,14 +20,19 @@ pub fn read_up_to<S: Source>(
 ) -> Result<Vec<u8>, ReadStop>
     requires started { S.IsStarted source.old }
     requires some { 0 < most }
-    ensures ok { IfOk result (λ bytes. IsTrue S.tells → bytes.items ≡ take most (S.left source.old)) }
-    ensures moved { IfOk result (λ bytes. IsTrue S.tells → S.left source.old ≡ bytes.items ++ S.left source.new) }
-    ensures left { OnOk result (IsTrue S.tells → S.left source.new ≡ drop most (S.left source.old)) }
+    ensures ok { IfOk result
+        (λ bytes. IsTrue S.tells → bytes.items ≡ take most (S.left source.old)) }
+    ensures moved { IfOk result
+        (λ bytes. IsTrue S.tells → S.left source.old ≡ bytes.items ++ S.left source.new) }
+    ensures left { OnOk result
+        (IsTrue S.tells → S.left source.new ≡ drop most (S.left source.old)) }
     ensures bound { IfOk result (λ bytes. vec_len bytes ≤ most) }
     ensures rest { IsTrue S.tells → IsEndWithin most (S.left source.new) (S.left source.old) }
     ensures same_count { OnOk result (S.faults source.new ≡ S.faults source.old) }
-    ensures memory { IsErrOf result (ReadStop.Memory alloc_error) → S.faults source.new ≡ S.faults source.old }
-    ensures failed { IsErrOf result ReadStop.Failed → Rose (S.faults source.old) (S.faults source.new) }
+    ensures memory { IsErrOf result (ReadStop.Memory alloc_error)
+        → S.faults source.new ≡ S.faults source.old }
+    ensures failed { IsErrOf result ReadStop.Failed
+        → Rose (S.faults source.old) (S.faults source.new) }
     ensures still_ready { S.IsStarted source.new }
     ensures same_files { S.told source.new ≡ S.told source.old }
     ensures count { S.faults source.old ≤ S.faults source.new }

@@ -62,10 +62,12 @@ impl Source for MemSource {
 
     /// Starts a file. The call fails exactly by plan, and is `Missing` where no file has the name.
     fn start(&mut self, name: &str) -> Result<(), StartFault>
-        ensures by_plan { IsErrOf result StartFault.Failed ↔ IsTrue (fails_next (source_plan self.old)) }
+        ensures by_plan { IsErrOf result StartFault.Failed
+            ↔ IsTrue (fails_next (source_plan self.old)) }
         ensures plan { source_plan self.new ≡ after_call (source_plan self.old) }
         ensures step { source_step self.new ≡ source_step self.old }
-        ensures found { OnOk result (file_of (files_of self.old) name.now ≡ Some (left_of self.new)) }
+        ensures found { OnOk result
+            (file_of (files_of self.old) name.now ≡ Some (left_of self.new)) }
         ensures ready { OnOk result (IsUnderWay self.new) }
         ensures same_count { OnOk result (fault_count (source_plan self.new)
             ≡ fault_count (source_plan self.old)) }
@@ -94,7 +96,8 @@ impl Source for MemSource {
         ensures size { IfOk result (λ count. count
             ≡ min (source_step self.old) (min (length (left_of self.old)) (length into.old))) }
         ensures bound { IfOk result (λ count. count ≤ length into.new) }
-        ensures moved { IfOk result (λ count. left_of self.old ≡ take count into.new ++ left_of self.new) }
+        ensures moved { IfOk result
+            (λ count. left_of self.old ≡ take count into.new ++ left_of self.new) }
         ensures end { IfOk result (λ count. count ≡ 0 → left_of self.old ≡ []) }
         ensures same_count { OnOk result (fault_count (source_plan self.new)
             ≡ fault_count (source_plan self.old)) }
@@ -160,7 +163,8 @@ impl Sink for MemSink {
     /// Writes the piece, or a step of it. The call fails exactly by plan.
     fn write(&mut self, bytes: &[u8]) -> Result<usize, WriteFault>
         requires { 0 < length bytes.now }
-        ensures by_plan { IsErrOf result WriteFault.Failed ↔ IsTrue (fails_next (sink_plan self.old)) }
+        ensures by_plan { IsErrOf result WriteFault.Failed
+            ↔ IsTrue (fails_next (sink_plan self.old)) }
         ensures plan { sink_plan self.new ≡ after_call (sink_plan self.old) }
         ensures step { sink_step self.new ≡ sink_step self.old }
         ensures size { IfOk result (λ count. count ≡ min (sink_step self.old) (length bytes.now)) }
@@ -239,7 +243,8 @@ impl Keeper for MemKeeper {
 
     /// Takes any name. The call is `Failed` exactly by plan, and else fails only for want of memory.
     fn start(&mut self, name: &str) -> Result<(), KeepFault>
-        ensures by_plan { IsErrOf result KeepFault.Failed ↔ IsTrue (fails_next (keeper_plan self.old)) }
+        ensures by_plan { IsErrOf result KeepFault.Failed
+            ↔ IsTrue (fails_next (keeper_plan self.old)) }
         ensures plan { keeper_plan self.new ≡ after_call (keeper_plan self.old) }
         ensures named { OnOk result (opened_of self.new ≡ opened_of self.old ++ name.now ∷ []) }
         ensures unnamed { OnErr result (opened_of self.new ≡ opened_of self.old) }
@@ -261,7 +266,8 @@ impl Keeper for MemKeeper {
     /// The first `most` bytes held. The call is `Failed` exactly by plan, and else fails only for want of
     /// memory.
     fn read_all(&mut self, alloc: Global, most: usize) -> Result<Vec<u8>, KeepFault>
-        ensures by_plan { IsErrOf result KeepFault.Failed ↔ IsTrue (fails_next (keeper_plan self.old)) }
+        ensures by_plan { IsErrOf result KeepFault.Failed
+            ↔ IsTrue (fails_next (keeper_plan self.old)) }
         ensures plan { keeper_plan self.new ≡ after_call (keeper_plan self.old) }
         ensures ok { IfOk result (λ bytes. bytes.items ≡ take most (held_of self.old)) }
         ensures kept { held_of self.new ≡ held_of self.old }
@@ -282,7 +288,8 @@ impl Keeper for MemKeeper {
 
     /// Keeps the front of this length. The call fails exactly by plan, and changes nothing then.
     fn cut(&mut self, length: usize) -> Result<(), KeepFault>
-        ensures by_plan { IsErrOf result KeepFault.Failed ↔ IsTrue (fails_next (keeper_plan self.old)) }
+        ensures by_plan { IsErrOf result KeepFault.Failed
+            ↔ IsTrue (fails_next (keeper_plan self.old)) }
         ensures plan { keeper_plan self.new ≡ after_call (keeper_plan self.old) }
         ensures sure { IsOkUnless result KeepFault.Failed }
         ensures ok { OnOk result (held_of self.new ≡ take length (held_of self.old)) }
@@ -303,7 +310,8 @@ impl Keeper for MemKeeper {
     /// Adds the bytes. The call is `Failed` exactly by plan, and else fails only for want of memory;
     /// nothing is added then.
     fn append(&mut self, bytes: &[u8]) -> Result<(), KeepFault>
-        ensures by_plan { IsErrOf result KeepFault.Failed ↔ IsTrue (fails_next (keeper_plan self.old)) }
+        ensures by_plan { IsErrOf result KeepFault.Failed
+            ↔ IsTrue (fails_next (keeper_plan self.old)) }
         ensures plan { keeper_plan self.new ≡ after_call (keeper_plan self.old) }
         ensures ok { OnOk result (held_of self.new ≡ held_of self.old ++ bytes.now) }
         ensures err { OnErr result (held_of self.new ≡ held_of self.old) }

@@ -23,10 +23,13 @@ pub trait Sink {
         requires { 0 < length bytes.now }
         ensures some { IfOk result (λ count. 0 < count) }
         ensures bound { IfOk result (λ count. count ≤ length bytes.now) }
-        ensures ok { IfOk result (λ count. IsTrue tells → written self.new ≡ written self.old ++ take count bytes.now) }
+        ensures ok { IfOk result
+            (λ count. IsTrue tells → written self.new ≡ written self.old ++ take count bytes.now) }
         ensures err { OnErr result (IsTrue tells → written self.new ≡ written self.old) }
         ensures same_count { OnOk result (faults self.new ≡ faults self.old) }
-        ensures memory { IsErrOf result (WriteFault.Memory alloc_error) → faults self.new ≡ faults self.old }
-        ensures failed { IsErrOf result WriteFault.Failed → Rose (faults self.old) (faults self.new) }
+        ensures memory { IsErrOf result (WriteFault.Memory alloc_error)
+            → faults self.new ≡ faults self.old }
+        ensures failed { IsErrOf result WriteFault.Failed
+            → Rose (faults self.old) (faults self.new) }
         ensures count { faults self.old ≤ faults self.new };
 }

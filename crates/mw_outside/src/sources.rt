@@ -28,12 +28,15 @@ pub trait Source {
     /// Starts the file of this name at its front. `Missing` says that there is none, or that the source
     /// failed; `Failed` that it failed. After an error what was started before goes on.
     fn start(&mut self, name: &str) -> Result<(), StartFault>
-        ensures found { OnOk result (IsTrue tells → file_of (told self.old) name.now ≡ Some (left self.new)) }
+        ensures found { OnOk result
+            (IsTrue tells → file_of (told self.old) name.now ≡ Some (left self.new)) }
         ensures ready { OnOk result (IsStarted self.new) }
         ensures same_count { OnOk result (faults self.new ≡ faults self.old) }
-        ensures missing { IsErrOf result StartFault.Missing → Rose (faults self.old) (faults self.new)
+        ensures missing { IsErrOf result StartFault.Missing
+            → Rose (faults self.old) (faults self.new)
             ⊎ LacksFile tells (told self.old) name.now }
-        ensures failed { IsErrOf result StartFault.Failed → Rose (faults self.old) (faults self.new) }
+        ensures failed { IsErrOf result StartFault.Failed
+            → Rose (faults self.old) (faults self.new) }
         ensures still_ready { OnErr result (IsStarted self.old → IsStarted self.new) }
         ensures still_left { OnErr result (IsTrue tells → left self.new ≡ left self.old) }
         ensures same_files { told self.new ≡ told self.old }
@@ -45,7 +48,8 @@ pub trait Source {
         requires started { IsStarted self.old }
         requires room { 0 < length into.old }
         ensures bound { IfOk result (λ count. count ≤ length into.new) }
-        ensures moved { IfOk result (λ count. IsTrue tells → left self.old ≡ take count into.new ++ left self.new) }
+        ensures moved { IfOk result
+            (λ count. IsTrue tells → left self.old ≡ take count into.new ++ left self.new) }
         ensures end { IfOk result (λ count. IsTrue tells → count ≡ 0 → left self.old ≡ []) }
         ensures same_count { OnOk result (faults self.new ≡ faults self.old) }
         ensures failed { OnErr result (Rose (faults self.old) (faults self.new)) }

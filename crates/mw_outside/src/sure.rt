@@ -67,7 +67,8 @@ impl Source for SureSource {
         ensures missing { IsErr result ↔ IsNone (file_of (sure_files self.old) name.now) }
         ensures sure { IsOkUnless result StartFault.Missing }
         ensures step { sure_source_step self.new ≡ sure_source_step self.old }
-        ensures found { OnOk result (file_of (sure_files self.old) name.now ≡ Some (sure_left self.new)) }
+        ensures found { OnOk result
+            (file_of (sure_files self.old) name.now ≡ Some (sure_left self.new)) }
         ensures ready { OnOk result (IsSureUnderWay self.new) }
         ensures still_ready { OnErr result (IsSureUnderWay self.old → IsSureUnderWay self.new) }
         ensures still_left { OnErr result (sure_left self.new ≡ sure_left self.old) }
@@ -152,7 +153,8 @@ impl Sink for SureSink {
         requires { 0 < length bytes.now }
         ensures sure { IsOkUnless result (WriteFault.Memory alloc_error) }
         ensures step { sure_sink_step self.new ≡ sure_sink_step self.old }
-        ensures size { IfOk result (λ count. count ≡ min (sure_sink_step self.old) (length bytes.now)) }
+        ensures size { IfOk result
+            (λ count. count ≡ min (sure_sink_step self.old) (length bytes.now)) }
         ensures some { IfOk result (λ count. 0 < count) }
         ensures ok { IfOk result (λ count. sure_written self.new
             ≡ sure_written self.old ++ take count bytes.now) }

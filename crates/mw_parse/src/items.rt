@@ -38,7 +38,8 @@ fn item_tree(alloc: Global, tokens: &[Token], room: u32) -> Read<SurfaceItem>
 
 fn let_item(alloc: Global, tokens: &[Token], room: u32) -> Read<SurfaceItem>
     requires { room ≤ 200 }
-    ensures gives { GivesRead item_of result (reading room (pick let_by) none_yet (tokens_of tokens.now)) }
+    ensures gives { GivesRead item_of result
+        (reading room (pick let_by) none_yet (tokens_of tokens.now)) }
     ensures height { IfOk result (λ x. x.1 ≤ room) }
 {
     let ((placed, definition), height, rest) = binding(alloc, tokens, room)?;
@@ -52,7 +53,8 @@ fn let_item(alloc: Global, tokens: &[Token], room: u32) -> Read<SurfaceItem>
 
 fn kernel_item(alloc: Global, tokens: &[Token], room: u32) -> Read<SurfaceItem>
     requires { room ≤ 200 }
-    ensures gives { GivesRead item_of result (reading room (pick kernel_by) none_yet (tokens_of tokens.now)) }
+    ensures gives { GivesRead item_of result
+        (reading room (pick kernel_by) none_yet (tokens_of tokens.now)) }
     ensures height { IfOk result (λ x. x.1 ≤ room) }
 {
     let (placed, mid) = placed_name(alloc, tokens)?;

@@ -76,10 +76,12 @@ pub fn parse(alloc: Global, tokens: &Tokens, length: u32) -> Result<Surface, Sto
     requires in_order { AreInOrder (tokens_of tokens.now) length }
     requires in_range { HaveNumbersInRange (tokens_of tokens.now) }
     ensures found { IfOk result (λ s. IsProgram (tokens_of tokens.now) (surface_of s)) }
-    ensures only { (v : PureSurface) → IsProgram (tokens_of tokens.now) v → AnswersOrMemory (λ s. surface_of s ≡ v)
+    ensures only { (v : PureSurface) → IsProgram (tokens_of tokens.now) v
+        → AnswersOrMemory (λ s. surface_of s ≡ v)
         result }
     ensures refused { IfErr result (IfRefused (Refuses (tokens_of tokens.now) length)) }
-    ensures first { (r : PureRefusal) → Refuses (tokens_of tokens.now) length r → IsRefusalOrMemory result r }
+    ensures first { (r : PureRefusal) → Refuses (tokens_of tokens.now) length r
+        → IsRefusalOrMemory result r }
     ensures shallow { IfOk result (λ s. IsShallow (surface_of s)) }
     ensures sparse { IfOk result (λ s. IsSparse (tokens_of tokens.now) (surface_of s)) }
 {

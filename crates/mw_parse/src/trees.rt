@@ -46,7 +46,8 @@ enum Connective {
 /// After `(` and `-`.
 #[tactic(auto, using(mw_grammar::proofs::Below::read_full, mw_grammar::proofs::Below::read_gives, mw_grammar::proofs::Below::read_refuses))]
 fn literal(alloc: Global, tokens: &[Token]) -> Read<Box<Tree>>
-    ensures gives { (b : ℕ) → GivesRead tree_in result (reading b (pick minus_by) none_yet (tokens_of tokens.now)) }
+    ensures gives { (b : ℕ)
+        → GivesRead tree_in result (reading b (pick minus_by) none_yet (tokens_of tokens.now)) }
     ensures height { IfOk result (λ x. x.1 ≡ 0) }
 {
     match in_hand(tokens) {
@@ -91,7 +92,8 @@ fn atom_inside<'t>(
     room: u32,
 ) -> Read<'t, Box<Tree>>
     requires { room ≤ 200 }
-    ensures gives { GivesRead tree_in result (reading room (atom_form atom.entry at) none_yet (tokens_of tokens.now)) }
+    ensures gives { GivesRead tree_in result
+        (reading room (atom_form atom.entry at) none_yet (tokens_of tokens.now)) }
     ensures height { IfOk result (λ x. x.1 ≤ room) }
 {
     match atom {
@@ -105,7 +107,8 @@ fn atom_inside<'t>(
 #[cycle(trees)]
 fn bracketed(alloc: Global, at: u32, tokens: &[Token], room: u32) -> Read<Box<Tree>>
     requires { room ≤ 200 }
-    ensures gives { GivesRead tree_in result (reading room (bracket_form at) none_yet (tokens_of tokens.now)) }
+    ensures gives { GivesRead tree_in result
+        (reading room (bracket_form at) none_yet (tokens_of tokens.now)) }
     ensures height { IfOk result (λ x. x.1 ≤ room) }
 {
     let (tree, height, mid) = expr_tree(alloc, tokens, room)?;
@@ -118,7 +121,8 @@ fn bracketed(alloc: Global, at: u32, tokens: &[Token], room: u32) -> Read<Box<Tr
 #[cycle(trees)]
 fn escaped(alloc: Global, at: u32, tokens: &[Token], room: u32) -> Read<Box<Tree>>
     requires { room ≤ 200 }
-    ensures gives { GivesRead tree_in result (reading room (escape_form at) none_yet (tokens_of tokens.now)) }
+    ensures gives { GivesRead tree_in result
+        (reading room (escape_form at) none_yet (tokens_of tokens.now)) }
     ensures height { IfOk result (λ x. x.1 ≤ room) }
 {
     let (tree, height, rest) = atom_tree(alloc, tokens, room)?;
@@ -128,7 +132,8 @@ fn escaped(alloc: Global, at: u32, tokens: &[Token], room: u32) -> Read<Box<Tree
 #[cycle(trees)]
 fn in_parens(alloc: Global, tokens: &[Token], room: u32) -> Read<Box<Tree>>
     requires { room ≤ 200 }
-    ensures gives { GivesRead tree_in result (reading room (pick paren_by) none_yet (tokens_of tokens.now)) }
+    ensures gives { GivesRead tree_in result
+        (reading room (pick paren_by) none_yet (tokens_of tokens.now)) }
     ensures height { IfOk result (λ x. x.1 ≤ room) }
 {
     match in_hand(tokens) {
@@ -145,7 +150,8 @@ fn in_parens(alloc: Global, tokens: &[Token], room: u32) -> Read<Box<Tree>>
 #[cycle(trees)]
 fn grouped(alloc: Global, tokens: &[Token], room: u32) -> Read<Box<Tree>>
     requires { room ≤ 200 }
-    ensures gives { GivesRead tree_in result (reading room group_form none_yet (tokens_of tokens.now)) }
+    ensures gives { GivesRead tree_in result
+        (reading room group_form none_yet (tokens_of tokens.now)) }
     ensures height { IfOk result (λ x. x.1 ≤ room) }
 {
     let (tree, height, mid) = expr_tree(alloc, tokens, room)?;
@@ -203,7 +209,8 @@ fn head_tree(alloc: Global, tokens: &[Token], room: u32) -> Read<Box<Tree>>
 #[cycle(trees)]
 fn head_inside(alloc: Global, head: Head, at: u32, tokens: &[Token], room: u32) -> Read<Box<Tree>>
     requires { room ≤ 200 }
-    ensures gives { GivesRead tree_in result (reading room (head_form head at) none_yet (tokens_of tokens.now)) }
+    ensures gives { GivesRead tree_in result
+        (reading room (head_form head at) none_yet (tokens_of tokens.now)) }
     ensures height { IfOk result (λ x. x.1 ≤ room) }
 {
     match head {
@@ -218,7 +225,8 @@ fn head_inside(alloc: Global, head: Head, at: u32, tokens: &[Token], room: u32) 
 #[cycle(trees)]
 fn running(alloc: Global, at: u32, tokens: &[Token], room: u32) -> Read<Box<Tree>>
     requires { room ≤ 200 }
-    ensures gives { GivesRead tree_in result (reading room (run_form at) none_yet (tokens_of tokens.now)) }
+    ensures gives { GivesRead tree_in result
+        (reading room (run_form at) none_yet (tokens_of tokens.now)) }
     ensures height { IfOk result (λ x. x.1 ≤ room) }
 {
     match after(Next::Left, tokens) {
@@ -247,7 +255,8 @@ fn running(alloc: Global, at: u32, tokens: &[Token], room: u32) -> Read<Box<Tree
 #[cycle(trees)]
 fn operand_tree(alloc: Global, row: Row, tokens: &[Token], room: u32) -> Read<Box<Tree>>
     requires { room ≤ 200 }
-    ensures gives { GivesRead tree_in result (full room (tree (operand (row_of row))) (tokens_of tokens.now)) }
+    ensures gives { GivesRead tree_in result
+        (full room (tree (operand (row_of row))) (tokens_of tokens.now)) }
     ensures height { IfOk result (λ x. x.1 ≤ room) }
 {
     match row {
@@ -260,7 +269,8 @@ fn operand_tree(alloc: Global, row: Row, tokens: &[Token], room: u32) -> Read<Bo
 #[cycle(trees)]
 fn right_tree(alloc: Global, row: Row, tokens: &[Token], room: u32) -> Read<Box<Tree>>
     requires { room ≤ 200 }
-    ensures gives { GivesRead tree_in result (full room (tree (right (row_of row))) (tokens_of tokens.now)) }
+    ensures gives { GivesRead tree_in result
+        (full room (tree (right (row_of row))) (tokens_of tokens.now)) }
     ensures height { IfOk result (λ x. x.1 ≤ room) }
 {
     match row {
@@ -273,7 +283,8 @@ fn right_tree(alloc: Global, row: Row, tokens: &[Token], room: u32) -> Read<Box<
 #[cycle(trees)]
 fn row_tree(alloc: Global, row: Row, tokens: &[Token], room: u32) -> Read<Box<Tree>>
     requires { room ≤ 200 }
-    ensures gives { GivesRead tree_in result (full room (tree (leveled (row_of row))) (tokens_of tokens.now)) }
+    ensures gives { GivesRead tree_in result
+        (full room (tree (leveled (row_of row))) (tokens_of tokens.now)) }
     ensures height { IfOk result (λ x. x.1 ≤ room) }
 {
     let (left, height, mid) = operand_tree(alloc, row, tokens, room)?;
@@ -358,7 +369,8 @@ fn connective_operand(
     room: u32,
 ) -> Read<Box<Tree>>
     requires { room ≤ 200 }
-    ensures gives { GivesRead tree_in result (full room (tree (operand_of connective)) (tokens_of tokens.now)) }
+    ensures gives { GivesRead tree_in result
+        (full room (tree (operand_of connective)) (tokens_of tokens.now)) }
     ensures height { IfOk result (λ x. x.1 ≤ room) }
 {
     match connective {
@@ -375,7 +387,8 @@ fn connected_tree(
     room: u32,
 ) -> Read<Box<Tree>>
     requires { room ≤ 200 }
-    ensures gives { GivesRead tree_in result (full room (tree (level_of connective)) (tokens_of tokens.now)) }
+    ensures gives { GivesRead tree_in result
+        (full room (tree (level_of connective)) (tokens_of tokens.now)) }
     ensures height { IfOk result (λ x. x.1 ≤ room) }
 {
     let (left, height, mid) = connective_operand(alloc, connective, tokens, room)?;
@@ -424,7 +437,8 @@ pub fn expr_tree(alloc: Global, tokens: &[Token], room: u32) -> Read<Box<Tree>>
 #[cycle(trees)]
 fn function_tree(alloc: Global, tokens: &[Token], room: u32) -> Read<Box<Tree>>
     requires { room ≤ 200 }
-    ensures gives { GivesRead tree_in result (reading room function_form none_yet (tokens_of tokens.now)) }
+    ensures gives { GivesRead tree_in result
+        (reading room function_form none_yet (tokens_of tokens.now)) }
     ensures height { IfOk result (λ x. x.1 ≤ room) }
 {
     let (function, height, rest) = parameter_tree(alloc, Mark::Arrow, tokens, room)?;
@@ -434,7 +448,8 @@ fn function_tree(alloc: Global, tokens: &[Token], room: u32) -> Read<Box<Tree>>
 #[cycle(trees)]
 fn conditional(alloc: Global, tokens: &[Token], room: u32) -> Read<Box<Tree>>
     requires { room ≤ 200 }
-    ensures gives { GivesRead tree_in result (reading room condition_form none_yet (tokens_of tokens.now)) }
+    ensures gives { GivesRead tree_in result
+        (reading room condition_form none_yet (tokens_of tokens.now)) }
     ensures height { IfOk result (λ x. x.1 ≤ room) }
 {
     let (test, height, mid) = expr_tree(alloc, tokens, room)?;
@@ -495,7 +510,8 @@ pub fn placed_name(alloc: Global, tokens: &[Token]) -> Result<(Placed, &[Token])
 #[cycle(trees)]
 fn bound_tree(alloc: Global, tokens: &[Token], room: u32) -> Read<Box<Tree>>
     requires { room ≤ 200 }
-    ensures gives { GivesRead tree_in result (reading room (pick let_in_by) none_yet (tokens_of tokens.now)) }
+    ensures gives { GivesRead tree_in result
+        (reading room (pick let_in_by) none_yet (tokens_of tokens.now)) }
     ensures height { IfOk result (λ x. x.1 ≤ room) }
 {
     let ((placed, definition), height, rest) = binding(alloc, tokens, room)?;
@@ -507,7 +523,8 @@ fn bound_tree(alloc: Global, tokens: &[Token], room: u32) -> Read<Box<Tree>>
 pub fn binding(alloc: Global, tokens: &[Token], room: u32) -> Read<(Placed, Defined)>
     requires { room ≤ 200 }
     ensures inner { GivesBound room result let_in_by (tokens_of tokens.now) }
-    ensures top { GivesRead bound_item result (reading room (pick let_by) none_yet (tokens_of tokens.now)) }
+    ensures top { GivesRead bound_item result
+        (reading room (pick let_by) none_yet (tokens_of tokens.now)) }
     ensures height { IfOk result (λ x. x.1 ≤ room) }
 {
     match in_hand(tokens) {
@@ -529,7 +546,8 @@ pub fn binding(alloc: Global, tokens: &[Token], room: u32) -> Read<(Placed, Defi
 fn recursive(alloc: Global, tokens: &[Token], room: u32) -> Read<(Placed, Defined)>
     requires { room ≤ 200 }
     ensures inner { GivesBound room result rec_by (tokens_of tokens.now) }
-    ensures top { GivesRead bound_item result (reading room (pick rec_item) none_yet (tokens_of tokens.now)) }
+    ensures top { GivesRead bound_item result
+        (reading room (pick rec_item) none_yet (tokens_of tokens.now)) }
     ensures height { IfOk result (λ x. x.1 ≤ room) }
 {
     let (placed, mid) = placed_name(alloc, tokens)?;
@@ -549,7 +567,8 @@ fn scoped(
     room: u32,
 ) -> Read<Box<Tree>>
     requires { (height ≤ room) × (room ≤ 200) }
-    ensures gives { GivesRead tree_in result (reading room (scope_form (bind name (tree_in definition))) (so_far height)
+    ensures gives { GivesRead tree_in result
+        (reading room (scope_form (bind name (tree_in definition))) (so_far height)
         (tokens_of tokens.now)) }
     ensures height { IfOk result (λ x. x.1 ≤ room) }
 {
@@ -566,7 +585,8 @@ fn scoped(
 #[cycle(trees)]
 pub fn parameter_tree(alloc: Global, mark: Mark, tokens: &[Token], room: u32) -> Read<Function>
     requires { room ≤ 200 }
-    ensures gives { GivesRead function_in result (full room (parameter (mark_in mark)) (tokens_of tokens.now)) }
+    ensures gives { GivesRead function_in result
+        (full room (parameter (mark_in mark)) (tokens_of tokens.now)) }
     ensures height { IfOk result (λ x. x.1 ≤ room) }
 {
     match in_hand(tokens) {
@@ -590,7 +610,8 @@ pub fn parameter_tree(alloc: Global, mark: Mark, tokens: &[Token], room: u32) ->
 #[cycle(trees)]
 pub fn body_tree(alloc: Global, mark: Mark, tokens: &[Token], room: u32) -> Read<Defined>
     requires { room ≤ 200 }
-    ensures gives { GivesRead definition_in result (full room (body (mark_in mark)) (tokens_of tokens.now)) }
+    ensures gives { GivesRead definition_in result
+        (full room (body (mark_in mark)) (tokens_of tokens.now)) }
     ensures height { IfOk result (λ x. x.1 ≤ room) }
 {
     match in_hand(tokens) {

@@ -19,7 +19,8 @@ pub const MOST_OF_SOURCE: usize = 1_048_577;
 /// The program of a source, or the first refusal of its bytes, tokens, names and levels.
 pub fn read(alloc: Global, bytes: &[u8]) -> Result<Program, Stop>
     ensures found { IfOk result (λ p. IsRead bytes.now (named_program_of p)) }
-    ensures only { (p : NamedProgram) → IsRead bytes.now p → AnswersOrMemory (λ q. named_program_of q ≡ p) result }
+    ensures only { (p : NamedProgram) → IsRead bytes.now p
+        → AnswersOrMemory (λ q. named_program_of q ≡ p) result }
     ensures refused { IfErr result (IfRefused (IsRefused bytes.now)) }
     ensures first { (r : Refusal) → IsRefused bytes.now r → IsRefusalOrMemory result r }
 {

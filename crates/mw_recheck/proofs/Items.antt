@@ -58,16 +58,9 @@ abbrev pub notes_after : List Root → List Definition → List ℕ → Option (
 notes_after roots items bytes =
     roots_at (tops_of false roots) items bytes >>= λ r. Some (tops_of true roots ++ notes_for_main items r.0, r.1)
 
-pub notes_start : (items : List Definition) (bytes : List ℕ) → notes_after [] items bytes ≡ main_notes_at [] items bytes
-notes_start items bytes = refl
-
 nil_right : (xs : List TopNote) → xs ++ [] ≡ xs
 nil_right [] = refl
 nil_right (x ∷ xs) = ap (λ l. x ∷ l) (nil_right xs)
-
-pub notes_end : (roots : List Root) (items : List Definition) (bytes : List ℕ) → items ≡ []
-    → notes_after roots items bytes ≡ Some (tops_of true roots, bytes)
-notes_end roots items bytes e = rw e (ap (λ l. Some (l, bytes)) (nil_right (tops_of true roots)))
 
 map_last : {A B : Type 0} (f : A → B) (xs : List A) (y : A) → map f (xs ++ y ∷ []) ≡ map f xs ++ f y ∷ []
 map_last f [] y = refl
@@ -96,22 +89,6 @@ roots_after tops d items x = if is_root d x.0 then (roots_at (tops ++ note_seen 
 
 abbrev noted : List TopNote → List Definition → List TypeExpression × List ℕ → Option (List TopNote × List ℕ)
 noted before items r = Some (before ++ notes_for_main items r.0, r.1)
-
--- no item has its section there
-pub notes_stop : (roots : List Root) (d : Definition) (items : List Definition) (bytes : List ℕ)
-    → item_at (tops_of false roots) d bytes ≡ None
-    → notes_after roots (d ∷ items) bytes ≡ None
-notes_stop roots d items bytes h = of (root_at (tops_of false roots) (defined_term d) bytes) h
-  where
-    of : (o : Option (TypeExpression × List ℕ)) → (o >>= item_after d) ≡ None
-        → ((o >>= roots_after (tops_of false roots) d items) >>= noted (tops_of true roots) (d ∷ items)) ≡ None
-    of None h = refl
-    of (Some x) h = by_root (is_root d x.0) refl h
-      where
-        by_root : (b : Bool) → is_root d x.0 ≡ b → item_after d x ≡ None
-            → (roots_after (tops_of false roots) d items x >>= noted (tops_of true roots) (d ∷ items)) ≡ None
-        by_root true e h = absurd (let q = rw e at h in cc)
-        by_root false e h = rw e refl
 
 module _ (roots more : List Root) (root : Root) (d : Definition) (items : List Definition) (rest : List ℕ)
     (m : more ≡ roots ++ root ∷ []) where

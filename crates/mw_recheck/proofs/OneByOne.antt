@@ -23,11 +23,6 @@ nil_right : {A : Type 0} (xs : List A) → xs ++ [] ≡ xs
 nil_right [] = refl
 nil_right (x ∷ xs) = ap (λ l. x ∷ l) (nil_right xs)
 
-pub lines_end : (before : List TypeLine) (n : ℕ) (bytes : List ℕ) → n ≡ 0
-    → lines_after before n bytes ≡ Some (before, bytes)
-lines_end before zero bytes e = ap (λ l. Some (l, bytes)) (nil_right before)
-lines_end before (suc n) bytes e = absurd (omega (arith, e))
-
 -- no line stands there
 pub lines_stop : (before : List TypeLine) (n : ℕ) (bytes : List ℕ) → 0 < n → type_line_at bytes ≡ None
     → lines_after before n bytes ≡ None
@@ -85,18 +80,6 @@ lines_step before (suc n) k bytes l rest q e f =
 -- node lines after those that were read
 abbrev pub nodes_after : List (List ℕ) → ℕ → List ℕ → Option (List (List ℕ) × List ℕ)
 nodes_after before n bytes = node_lines_at n bytes >>= λ t. Some (before ++ t.0, t.1)
-
-pub nodes_start : (n : ℕ) (bytes : List ℕ) → nodes_after [] n bytes ≡ node_lines_at n bytes
-nodes_start n bytes = of (node_lines_at n bytes)
-  where
-    of : (o : Option Nodes) → ◌>>=◌ {A = Nodes} {B = Nodes} o (λ t. Some (t.0, t.1)) ≡ o
-    of (Some t) = refl
-    of None = refl
-
-pub nodes_end : (before : List (List ℕ)) (n : ℕ) (bytes : List ℕ) → n ≡ 0
-    → nodes_after before n bytes ≡ Some (before, bytes)
-nodes_end before zero bytes e = ap (λ l. Some (l, bytes)) (nil_right before)
-nodes_end before (suc n) bytes e = absurd (omega (arith, e))
 
 pub nodes_stop : (before : List (List ℕ)) (n : ℕ) (bytes : List ℕ) → 0 < n → numbers_at 3 bytes ≡ None
     → nodes_after before n bytes ≡ None

@@ -180,38 +180,6 @@ module _ (ls : List TypeLine) (tops : List TopNote) (g : List PlacedBinder) (m :
       judged_by_parts e nodes ∙ bind_some (own_at ls m e nodes) _ (x, ns) o
       ∙ bind_some (parts_judged ls tops g m e x ns) (ending e x) (p, rest) q ∙ rw a refl
 
--- what the root's line has when it is taken
-pub own_fits : (ls : List TypeLine) (m : Level) (e : Expression) (nodes : List (List ℕ)) (x : NodeLine × List (List ℕ))
-    → Some x ≡ own_at ls m e nodes
-    → all_fit ls m (form_of e) x.0 ≡ true
-own_fits ls m e nodes x h =
-    let y = bound (next_node (form_of e) nodes) _ x (sym h) in
-    let c = chosen (may_stand m e && all_fit ls m (form_of e) y.0.0) y.0 x y.2 in
-    let b = and-both (may_stand m e) (all_fit ls m (form_of e) y.0.0) c.0 in
-    rw (sym (ap (λ z. z.0) c.1)) b.1
-
-fit_within : (ls : List TypeLine) (m : Level) (i : ℕ) → fits ls m i ≡ true → i < length ls
-fit_within ls live i h = lt_true i (length ls) h
-fit_within ls (under a) i h = lt_true i (length ls) (and-both (nat_lt i (length ls)) _ h).0
-
-pub own_within : (ls : List TypeLine) (m : Level) (f : Form) (x : NodeLine) → all_fit ls m f x ≡ true
-    → x.own < length ls
-own_within ls m one_type x h = fit_within ls m x.own h
-own_within ls m two_types x h = fit_within ls m x.own (and-both _ (fits ls m x.second) h).0
-own_within ls m three_types x h = fit_within ls m x.own (and-both _ (fits ls m x.second && fits ls m x.third) h).0
-own_within ls m type_and_classifier x h = fit_within ls m x.own h
-own_within ls m two_types_and_classifier x h = fit_within ls m x.own (and-both _ (fits ls m x.second) h).0
-
-pub second_within : (ls : List TypeLine) (m : Level) (x : NodeLine) → all_fit ls m two_types x ≡ true
-    → x.second < length ls
-second_within ls m x h = fit_within ls m x.second (and-both (fits ls m x.own) _ h).1
-
-pub two_within : (ls : List TypeLine) (m : Level) (x : NodeLine) → all_fit ls m three_types x ≡ true
-    → (x.second < length ls) × (x.third < length ls)
-two_within ls m x h =
-    let b = and-both (fits ls m x.second) (fits ls m x.third) (and-both (fits ls m x.own) _ h).1 in
-    (fit_within ls m x.second b.0, fit_within ls m x.third b.1)
-
 pub within_more : (ls : List TypeLine) (m : Level) (i : ℕ) (g : List PlacedBinder) → i < length ls → AreWithin ls g
     → AreWithin ls (placed m i ∷ g)
 within_more ls live i g h w = (h, w)

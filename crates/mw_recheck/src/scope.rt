@@ -56,7 +56,8 @@ fn find(scope: &Scope, number: u32) -> Option<Binder>
 
 /// Whether a variable's binder stands at this level, and its type at this place.
 pub fn is_bound(scope: &Scope, number: u32, level: Level, place: usize) -> bool
-    ensures { result ≡ same_binder (slice_get (binders_of scope.now) number) (placed (level_at level) place) }
+    ensures { result
+        ≡ same_binder (slice_get (binders_of scope.now) number) (placed (level_at level) place) }
 {
     match (find(scope, number), level) {
         (Some(Binder::Plain(own)), Level::Live) => own == place,

@@ -110,7 +110,8 @@ pub fn types(alloc: Global, bytes: &[u8]) -> Result<(TypeLines, &[u8]), Stop>
 
 /// So many node lines at the front, and what is behind them.
 fn node_lines(alloc: Global, count: u64, bytes: &[u8]) -> Result<(Vec<NodeLine>, &[u8]), Stop>
-    ensures { Gives (λ x. (map numbers_of x.0.items, x.1.now)) result (node_lines_at count bytes.now) }
+    ensures { Gives (λ x. (map numbers_of x.0.items, x.1.now)) result
+        (node_lines_at count bytes.now) }
 {
     let mut nodes = Vec::new(alloc);
     let mut rest = bytes;

@@ -31,7 +31,8 @@ pub fn judge<'n>(
     requires roots { AreRoots setting.now.roots.now }
     requires within { AreWithin (lines_of setting.now.types.now) (binders_of scope.now) }
     ensures within { IfOk result (λ x. x.0 < length (lines_of setting.now.types.now)) }
-    ensures judged { Gives (λ x. (x.0, map numbers_of x.1.now)) result (judged (lines_of setting.now.types.now)
+    ensures judged { Gives (λ x. (x.0, map numbers_of x.1.now)) result
+        (judged (lines_of setting.now.types.now)
         (tops_of setting.now.kernels setting.now.roots.now) (binders_of scope.now) (level_at level)
         (expression_of term.now) (map numbers_of nodes.now)) }
 {

@@ -43,7 +43,8 @@ fn boxed_base_value(
     base: &Base,
     word: &str,
 ) -> Result<Option<Box<GroundValue>>, AllocError>
-    ensures { IfOk result (λ o. IfSome o (λ v. HasGroundType (base_of base.now) (ground_value_of v.value))) }
+    ensures { IfOk result
+        (λ o. IfSome o (λ v. HasGroundType (base_of base.now) (ground_value_of v.value))) }
 {
     match base_value(base, word) {
         Some(value) => Ok(Some(Box::new(alloc, value)?)),
@@ -57,7 +58,8 @@ fn value(
     ground: &Ground,
     words: &mut Vec<&str>,
 ) -> Result<Option<Box<GroundValue>>, AllocError>
-    ensures { IfOk result (λ o. IfSome o (λ v. HasGroundType (ground_of ground.now) (ground_value_of v.value))) }
+    ensures { IfOk result
+        (λ o. IfSome o (λ v. HasGroundType (ground_of ground.now) (ground_value_of v.value))) }
 {
     match ground {
         Ground::Base(base) => match words.pop() {
@@ -97,7 +99,8 @@ fn argument_and_units(
     argument: &Ground,
     text: &str,
 ) -> Result<(Box<GroundValue>, u64), Fault>
-    ensures { IfOk result (λ r. HasGroundType (ground_of argument.now) (ground_value_of r.0.value)) }
+    ensures { IfOk result
+        (λ r. HasGroundType (ground_of argument.now) (ground_value_of r.0.value)) }
 {
     let mut words = words_backwards(alloc, text)?;
     let Some(value) = value(alloc, argument, &mut words)? else {

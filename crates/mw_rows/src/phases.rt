@@ -235,7 +235,8 @@ fn main_after<L: Ledger>(
     requires some { 0 < L.parts }
     requires typable { Typable (program_of program.now) }
     requires small { HasSmallTypes (program_of program.now) }
-    requires phase { AreOutcomesOf plan.now.mode (program_of program.now) plan.now.fuel cache.now phase.now.outcomes }
+    requires phase { AreOutcomesOf plan.now.mode (program_of program.now) plan.now.fuel cache.now
+        phase.now.outcomes }
     requires built { AreBuiltAll phase.now.outcomes }
 {
     let mut steps = Steps::<L>::open(blank);

@@ -29,7 +29,8 @@ pub fn sample(alloc: Global, kernels: u32) -> Result<Vec<u8>, AllocError>
 fn put_kernels(text: &mut String, kernels: u32) -> Result<(), AllocError>
     requires some { 1 ≤ kernels }
     requires within_limit { kernels ≤ 100 }
-    ensures { IfOk result (λ _. string_bytes text.new ≡ string_bytes text.old ++ flat_map kernel_line
+    ensures { IfOk result
+        (λ _. string_bytes text.new ≡ string_bytes text.old ++ flat_map kernel_line
         (range_with_len 1 kernels)) }
 {
     for number in 1..=kernels {
@@ -41,7 +42,8 @@ fn put_kernels(text: &mut String, kernels: u32) -> Result<(), AllocError>
 /// The line of one kernel.
 fn put_kernel(text: &mut String, number: u32) -> Result<(), AllocError>
     requires { number ≤ 100 }
-    ensures { IfOk result (λ _. string_bytes text.new ≡ string_bytes text.old ++ kernel_line number) }
+    ensures { IfOk result
+        (λ _. string_bytes text.new ≡ string_bytes text.old ++ kernel_line number) }
 {
     let ones = 90 * number;
     write!(
@@ -54,7 +56,8 @@ fn put_kernel(text: &mut String, number: u32) -> Result<(), AllocError>
 fn put_main(text: &mut String, kernels: u32) -> Result<(), AllocError>
     requires some { 1 ≤ kernels }
     requires within_limit { kernels ≤ 100 }
-    ensures { IfOk result (λ _. string_bytes text.new ≡ string_bytes text.old ++ main_line kernels) }
+    ensures { IfOk result
+        (λ _. string_bytes text.new ≡ string_bytes text.old ++ main_line kernels) }
 {
     text.push_str("main : int = ")?;
     put_call(text, 1)?;

@@ -33,10 +33,6 @@ kept_of_all s names middle first knows items body =
     body ∙ ap (λ tops. kept middle (faults_in tops [] Live s.body)) (all_known s knows) in
     kept_two None middle first (faults_of_items [] s.items) (faults_in (items_of s.items) [] Live s.body) items here
 
-pub body_named : (s : PureSurface) (names : Names) → Knows names s.items → named (place_at names.all) [] Live s.body
-    ≡ named (items_of s.items) [] Live s.body
-body_named s names knows = ap (λ tops. named tops [] Live s.body) (all_known s knows)
-
 pub no_fault_found : (s : PureSurface) → None ≡ kept None (faults_of s) → faults_of s ≡ []
 no_fault_found s e = none_kept (faults_of s) (sym e)
 

@@ -91,15 +91,6 @@ one_more all before x rest done made names names' start first first' p name defi
           (faults_of_items (before ++ x ∷ []) rest)) ∙ p.faults_so_far);
     }
 
--- what the end of the walk says
-pub at_end_names : {all before : List PureItem} {done : List Item} {names : Names} {start first : Option Fault}
-    → Progress all before [] done names start first → names_of done ≡ map name_of all
-at_end_names p = sym (append-nil _) ∙ p.names_so_far
-
-pub at_end_definitions : {all before : List PureItem} {done : List Item} {names : Names} {start first : Option Fault}
-    → Progress all before [] done names start first → definitions_of done ≡ named_items [] all
-at_end_definitions p = sym (append-nil _) ∙ p.definitions_so_far
-
 -- the item at a place of the list is walked
 pub at_place : (list : List SurfaceItem) (i : ℕ) (x : SurfaceItem) → i < length list → x ≡ get_or list i x
     → (done : List Item) (made : Item) (names names' : Names) (start first first' : Option Fault) (index : ℕ)

@@ -43,7 +43,8 @@ impl Binders {
         name: &Name,
         bound: Option<(u32, Level)>,
     ) -> Result<(), AllocError>
-        ensures bound { OnOk result (binder_at self.new ≡ rebound (binder_at self.old) name.now bound) }
+        ensures bound { OnOk result
+            (binder_at self.new ≡ rebound (binder_at self.old) name.now bound) }
         ensures count { self.new.count ≡ self.old.count }
     {
         if let Some(nearest) = self.nearest.get_mut(name.as_slice()) {
@@ -82,7 +83,8 @@ impl Binders {
         hidden: Option<(u32, Level)>,
     ) -> Result<(), AllocError>
         requires { 0 < self.old.count }
-        ensures bound { OnOk result (binder_at self.new ≡ rebound (binder_at self.old) name.now hidden) }
+        ensures bound { OnOk result
+            (binder_at self.new ≡ rebound (binder_at self.old) name.now hidden) }
         ensures count { OnOk result (suc self.new.count ≡ self.old.count) }
     {
         self.bind(alloc, name, hidden)?;

@@ -43,8 +43,10 @@ pub fn outer_term(
     first: &mut Option<Fault>,
 ) -> Result<Term, AllocError>
     requires { surface_depth (tree_of tree.now) ≤ 200 }
-    ensures term { IfOk result (λ t. expression_of t ≡ named (place_at tops.now) [] Live (tree_of tree.now)) }
-    ensures faults { OnOk result (first.new ≡ kept first.old (faults_in (place_at tops.now) [] Live (tree_of tree.now))) }
+    ensures term { IfOk result
+        (λ t. expression_of t ≡ named (place_at tops.now) [] Live (tree_of tree.now)) }
+    ensures faults { OnOk result
+        (first.new ≡ kept first.old (faults_in (place_at tops.now) [] Live (tree_of tree.now))) }
 {
     let mut binders = Binders::new(alloc);
     term(alloc, tops, &mut binders, Level::Live, tree, first)
@@ -52,7 +54,8 @@ pub fn outer_term(
 
 /// Keeps the fault of a name that an earlier item has, if one has it.
 fn keep_name(all: &TopNames, name: &Placed, first: &mut Option<Fault>)
-    ensures { first.new ≡ kept first.old (faults_of_name (place_at all.now name.now.name) name.now.at) }
+    ensures { first.new
+        ≡ kept first.old (faults_of_name (place_at all.now name.now.name) name.now.at) }
 {
     if all.find(&name.name).is_some() {
         keep(first, Fault::Twice(name.at));
@@ -76,7 +79,8 @@ fn kind(
     first: &mut Option<Fault>,
 ) -> Result<ItemKind, AllocError>
     requires { surface_depth (bound_tree (item_of item.now)) ≤ 200 }
-    ensures definition { IfOk result (λ kind. definition_of kind ≡ named_item (place_at names.now.lets) (item_of item.now)) }
+    ensures definition { IfOk result
+        (λ kind. definition_of kind ≡ named_item (place_at names.now.lets) (item_of item.now)) }
     ensures faults { OnOk result
         (first.new
         ≡ kept first.old (faults_of_item (place_at names.now.lets) (place_at names.now.all) (item_of item.now))) }
@@ -115,7 +119,8 @@ fn item(
 ) -> Result<Item, AllocError>
     requires { surface_depth (bound_tree (item_of item.now)) ≤ 200 }
     ensures name { IfOk result (λ i. i.name ≡ name_of (item_of item.now)) }
-    ensures definition { IfOk result (λ i. definition_of i.kind ≡ named_item (place_at names.old.lets) (item_of item.now)) }
+    ensures definition { IfOk result
+        (λ i. definition_of i.kind ≡ named_item (place_at names.old.lets) (item_of item.now)) }
     ensures faults { OnOk result
         (first.new
         ≡ kept first.old (faults_of_item (place_at names.old.lets) (place_at names.old.all) (item_of item.now))) }
@@ -142,9 +147,12 @@ pub fn items(
     requires none { Knows names.old [] }
     requires count { length list.now ≤ 1000 }
     requires shallow { AreShallow (map item_of list.now) }
-    ensures names { IfOk result (λ items. map (λ i. i.name) items ≡ map name_of (map item_of list.now)) }
-    ensures definitions { IfOk result (λ items. map (λ i. definition_of i.kind) items ≡ named_items [] (map item_of list.now)) }
-    ensures faults { OnOk result (first.new ≡ kept first.old (faults_of_items [] (map item_of list.now))) }
+    ensures names { IfOk result
+        (λ items. map (λ i. i.name) items ≡ map name_of (map item_of list.now)) }
+    ensures definitions { IfOk result
+        (λ items. map (λ i. definition_of i.kind) items ≡ named_items [] (map item_of list.now)) }
+    ensures faults { OnOk result
+        (first.new ≡ kept first.old (faults_of_items [] (map item_of list.now))) }
     ensures known { OnOk result (Knows names.new (map item_of list.now)) }
 {
     let mut done = Items::new(alloc);

@@ -37,7 +37,8 @@ pub fn resolve(alloc: Global, surface: &Surface) -> Result<Program, Stop>
     ensures found { IfOk result (λ p. IsNameless (surface_of surface.now) (program_of p)) }
     ensures names { IfOk result (KeepsNames (surface_of surface.now)) }
     ensures nodes { IfOk result (λ p. program_size (program_of p) < 2 ^ 31) }
-    ensures only { (p : PureProgram) → IsNameless (surface_of surface.now) p → AnswersOrMemory (λ q. program_of q ≡ p)
+    ensures only { (p : PureProgram) → IsNameless (surface_of surface.now) p
+        → AnswersOrMemory (λ q. program_of q ≡ p)
         result }
     ensures refused { IfErr result (IfRefused (IsOfFirstFault (surface_of surface.now))) }
     ensures first { (f : Fault) → IsFirst (faults_of (surface_of surface.now)) f

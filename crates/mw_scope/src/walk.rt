@@ -23,8 +23,10 @@ fn used_name(
     name: &Placed,
     first: &mut Option<Fault>,
 ) -> Term
-    ensures term { expression_of result ≡ named_here tops.now binders.now level (used name.now.name name.now.at) }
-    ensures faults { first.new ≡ kept first.old (faults_here tops.now binders.now level (used name.now.name name.now.at)) }
+    ensures term { expression_of result
+        ≡ named_here tops.now binders.now level (used name.now.name name.now.at) }
+    ensures faults { first.new
+        ≡ kept first.old (faults_here tops.now binders.now level (used name.now.name name.now.at)) }
 {
     match binders.find(&name.name) {
         Some((number, bound)) => {
@@ -55,8 +57,10 @@ pub fn term(
     first: &mut Option<Fault>,
 ) -> Result<Term, AllocError>
     requires { HasRoom binders.old (tree_of tree.now) }
-    ensures term { IfOk result (λ t. expression_of t ≡ named_here tops.now binders.old level (tree_of tree.now)) }
-    ensures faults { OnOk result (first.new ≡ kept first.old (faults_here tops.now binders.old level (tree_of tree.now))) }
+    ensures term { IfOk result
+        (λ t. expression_of t ≡ named_here tops.now binders.old level (tree_of tree.now)) }
+    ensures faults { OnOk result
+        (first.new ≡ kept first.old (faults_here tops.now binders.old level (tree_of tree.now))) }
     ensures binders { OnOk result (SameBinders binders.old binders.new) }
 {
     match tree {
@@ -100,8 +104,10 @@ fn boxed(
     first: &mut Option<Fault>,
 ) -> Result<Box<Term>, AllocError>
     requires { HasRoom binders.old (tree_of tree.now) }
-    ensures term { IfOk result (λ t. expression_of t.value ≡ named_here tops.now binders.old level (tree_of tree.now)) }
-    ensures faults { OnOk result (first.new ≡ kept first.old (faults_here tops.now binders.old level (tree_of tree.now))) }
+    ensures term { IfOk result
+        (λ t. expression_of t.value ≡ named_here tops.now binders.old level (tree_of tree.now)) }
+    ensures faults { OnOk result
+        (first.new ≡ kept first.old (faults_here tops.now binders.old level (tree_of tree.now))) }
     ensures binders { OnOk result (SameBinders binders.old binders.new) }
 {
     let term = term(alloc, tops, binders, level, tree, first)?;
@@ -120,8 +126,10 @@ fn binding(
 ) -> Result<Term, AllocError>
     requires room { HasRoom binders.old (tree_of tree.now) }
     requires form { Binds (tree_of tree.now) }
-    ensures term { IfOk result (λ t. expression_of t ≡ named_here tops.now binders.old level (tree_of tree.now)) }
-    ensures faults { OnOk result (first.new ≡ kept first.old (faults_here tops.now binders.old level (tree_of tree.now))) }
+    ensures term { IfOk result
+        (λ t. expression_of t ≡ named_here tops.now binders.old level (tree_of tree.now)) }
+    ensures faults { OnOk result
+        (first.new ≡ kept first.old (faults_here tops.now binders.old level (tree_of tree.now))) }
     ensures binders { OnOk result (SameBinders binders.old binders.new) }
 {
     match tree {
@@ -162,8 +170,10 @@ fn staged(
 ) -> Result<Term, AllocError>
     requires room { HasRoom binders.old (tree_of tree.now) }
     requires form { IsStaging (tree_of tree.now) }
-    ensures term { IfOk result (λ t. expression_of t ≡ named_here tops.now binders.old level (tree_of tree.now)) }
-    ensures faults { OnOk result (first.new ≡ kept first.old (faults_here tops.now binders.old level (tree_of tree.now))) }
+    ensures term { IfOk result
+        (λ t. expression_of t ≡ named_here tops.now binders.old level (tree_of tree.now)) }
+    ensures faults { OnOk result
+        (first.new ≡ kept first.old (faults_here tops.now binders.old level (tree_of tree.now))) }
     ensures binders { OnOk result (SameBinders binders.old binders.new) }
 {
     match tree {

@@ -89,7 +89,8 @@ impl Script {
         requires { (s t : GroundType) × (kernel_type_of kind.now ≡ to s t) }
         ensures types { IsRunAt result (kernel_type_of kind.now) (length (functions_of self.old)) }
         ensures left { LeavesAtMost result fuel }
-        ensures functions { functions_of self.new ≡ kept_after result (expression_of code.now) (kernel_type_of kind.now)
+        ensures functions { functions_of self.new
+            ≡ kept_after result (expression_of code.now) (kernel_type_of kind.now)
             (functions_of self.old) }
         ensures rest { IsSameRest self.old self.new }
         ensures memory { IsNoBad result }
@@ -124,7 +125,8 @@ impl Script {
     fn run_answer(&mut self, code: &Term, kind: &KType, fuel: u64) -> Result<Ran, KernelFault>
         ensures types { IsRunAt result (kernel_type_of kind.now) (length (functions_of self.old)) }
         ensures left { LeavesAtMost result fuel }
-        ensures functions { functions_of self.new ≡ kept_after result (expression_of code.now) (kernel_type_of kind.now)
+        ensures functions { functions_of self.new
+            ≡ kept_after result (expression_of code.now) (kernel_type_of kind.now)
             (functions_of self.old) }
         ensures stopped { self.new.stopped ≡ self.old.stopped }
         ensures count { self.old.next ≤ self.new.next }
@@ -148,7 +150,8 @@ impl Script {
         fuel: u64,
     ) -> Result<Ran, KernelFault>
         requires here { which < length self.old.kept.items }
-        ensures types { (c : Expression) (k : KernelType) → slice_get (functions_of self.old) which ≡ Some (c, k)
+        ensures types { (c : Expression) (k : KernelType) → slice_get (functions_of self.old) which
+            ≡ Some (c, k)
             → IsCallAt result k }
         ensures left { LeavesAtMost result fuel }
         ensures functions { functions_of self.new ≡ functions_of self.old }
@@ -167,7 +170,8 @@ impl Script {
 
 /// The value of a ground type that a reply is.
 fn value_of(alloc: Global, reply: Reply, ground: &Ground) -> Result<Option<GroundValue>, AllocError>
-    ensures { IfOk result (λ o. IfSome o (λ value. HasGroundType (ground_of ground.now) (ground_value_of value))) }
+    ensures { IfOk result
+        (λ o. IfSome o (λ value. HasGroundType (ground_of ground.now) (ground_value_of value))) }
 {
     Ok(match (reply, ground) {
         (Reply::Number(n), Ground::Base(Base::Int)) => Some(GroundValue::Base(BaseValue::Int(n))),
@@ -187,7 +191,8 @@ fn value_of(alloc: Global, reply: Reply, ground: &Ground) -> Result<Option<Groun
 
 /// A number, where the type is that of numbers.
 fn value_of_number(n: i64, ground: &Ground) -> Option<GroundValue>
-    ensures { IfSome result (λ value. HasGroundType (ground_of ground.now) (ground_value_of value)) }
+    ensures { IfSome result
+        (λ value. HasGroundType (ground_of ground.now) (ground_value_of value)) }
 {
     match ground {
         Ground::Base(Base::Int) => Some(GroundValue::Base(BaseValue::Int(n))),

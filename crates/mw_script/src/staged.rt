@@ -63,7 +63,8 @@ fn driven<K: Kernels>(
     machine: &mut Machine,
     kernels: &mut K,
 ) -> Result<Outcome, KernelFault>
-    requires { IsReady (program_of program.now) (K.kept kernels.old) (K.stopped kernels.old) machine.old }
+    requires { IsReady (program_of program.now) (K.kept kernels.old) (K.stopped kernels.old)
+        machine.old }
     ensures { HasItsCode machine.new result }
 {
     match machine.drive(alloc, program, kernels) {

@@ -120,7 +120,8 @@ fn put_type_line(text: &mut Vec<u8>, line: Line) -> Result<(), AllocError>
 
 /// A node line.
 fn put_node_line(text: &mut Vec<u8>, node: NodeLine) -> Result<(), AllocError>
-    ensures text { IfOk result (λ _. text.new.items ≡ text.old.items ++ numbers_text (numbers_of node)) }
+    ensures text { IfOk result
+        (λ _. text.new.items ≡ text.old.items ++ numbers_text (numbers_of node)) }
     ensures fits { IfOk result (λ _. FitNumbers (numbers_of node)) }
 {
     match node {
@@ -135,7 +136,8 @@ fn put_node_line(text: &mut Vec<u8>, node: NodeLine) -> Result<(), AllocError>
 
 /// Two numbers to the end of their line.
 fn put_two(text: &mut Vec<u8>, first: u64, second: u64) -> Result<(), AllocError>
-    ensures { IfOk result (λ _. text.new.items ≡ text.old.items ++ numbers_text (first ∷ second ∷ [])) }
+    ensures { IfOk result
+        (λ _. text.new.items ≡ text.old.items ++ numbers_text (first ∷ second ∷ [])) }
 {
     put_before_blank(text, first)?;
     put_one(text, second)

@@ -207,7 +207,8 @@ impl<E: Named + Drop> Table<E> {
         requires make { (entry : E) → M.gives make.old name.now entry → E.name_of entry ≡ name.now }
         ensures receipt { IfOk result (λ r. IsFirst E.name_of self.now start name.now r) }
         ensures fetched { IfOk result (λ r. IsFetched E.name_of E.home self.now r) }
-        ensures refused { IfErr result (λ e. IfNoRoom e (HasNoRoom E.name_of self.now start name.now)) }
+        ensures refused { IfErr result
+            (λ e. IfNoRoom e (HasNoRoom E.name_of self.now start name.now)) }
         ensures maker { (make.new ≡ make.old) ⊎ M.leaves make.old name.now make.new }
     {
         let mut passed = Vec::with_capacity(alloc, WINDOW)?;

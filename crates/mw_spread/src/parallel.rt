@@ -82,8 +82,10 @@ fn pieces<R: Threads + Sync, I: Sync, J: Job<I>, G: Gate>(
             requires count { 1 ≤ low }
             requires fits { first + low ≤ 2 ^ 32 }
             requires items { All (J.takes job.now) front.now }
-            ensures outputs { IfOk result (λ outs. AllZip (J.gives job.entry.now) front.entry.now outs.items) }
-            ensures bad { IfErr result (λ fault. IfBad fault (OfSome (J.bad job.entry.now) front.entry.now)) }
+            ensures outputs { IfOk result
+                (λ outs. AllZip (J.gives job.entry.now) front.entry.now outs.items) }
+            ensures bad { IfErr result
+                (λ fault. IfBad fault (OfSome (J.bad job.entry.now) front.entry.now)) }
         { pieces(rt, alloc, first, low, front, job, gate) },
         move || -> Result<Vec<J::Out>, JobFault>
             requires shared { IsSync R.row × IsSync I.row × IsSync J.row × IsSync G.row }
@@ -91,8 +93,10 @@ fn pieces<R: Threads + Sync, I: Sync, J: Job<I>, G: Gate>(
             requires count { 1 ≤ high }
             requires fits { next + high ≤ 2 ^ 32 }
             requires items { All (J.takes job.now) back.now }
-            ensures outputs { IfOk result (λ outs. AllZip (J.gives job.entry.now) back.entry.now outs.items) }
-            ensures bad { IfErr result (λ fault. IfBad fault (OfSome (J.bad job.entry.now) back.entry.now)) }
+            ensures outputs { IfOk result
+                (λ outs. AllZip (J.gives job.entry.now) back.entry.now outs.items) }
+            ensures bad { IfErr result
+                (λ fault. IfBad fault (OfSome (J.bad job.entry.now) back.entry.now)) }
         { pieces(rt, alloc, next, high, back, job, gate) },
     );
     let mut all = left?;

@@ -52,11 +52,6 @@ record_same r s u v rt rb st sb h =
     (length-sha256 (body_of r) ∙ sym (length-sha256 (body_of s))) d.1 in
     (λ i. record { text = c.0 i; bytes = d.0 i }, f.1)
 
--- a whole record that begins bytes is the only one
-pub begun_same : (bytes : List ℕ) (r s : Kept) → Begins bytes r → Begins bytes s → r ≡ s
-begun_same bytes r s h g =
-    (record_same r s h.1.0 g.1.0 (short_of r h.0) h.0.short (short_of s g.0) g.0.short (sym h.1.1 ∙ g.1.1)).0
-
 counts_same : (past : ℕ) (bytes : List ℕ) (rs ss : List Kept) → Counts past bytes rs → Counts past bytes ss → rs ≡ ss
 counts_same past bytes [] [] h g = refl
 counts_same past bytes [] (s ∷ ss) h g = let more = h s (g.0, (g.2.0, g.2.1)) in let less = g.1 in absurd

@@ -23,9 +23,6 @@ one_type text k l h g = (one_text text h.0 g.0 h.1 g.1 k l h.2 g.2).2
 pub none_typed : (text bytes : List ℕ) → NoText text → NoKernelModule text bytes
 none_typed text bytes none = λ m has. none has.1.0 has.1.1 has.0 has.1.2
 
-pub none_sound : (bytes : List ℕ) (k : KernelType) → NoModule bytes → NoModuleOf bytes k
-none_sound bytes k none = λ m has. none m (record { spelled = has.spelled; profile = has.profile; valid = has.valid })
-
 shaped : (bytes : List ℕ) (k : KernelType) (m : PureModule) → IsSound bytes m → HasShape m k → HasModule bytes k m
 shaped bytes k m sound shape =
     record { spelled = sound.spelled; profile = sound.profile; valid = sound.valid; shape = shape }

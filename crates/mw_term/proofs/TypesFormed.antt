@@ -53,10 +53,6 @@ Fits-second : (m : Level) (s t : TermType) → Fits m (pair_type s t) → Fits m
 Fits-second live s t h = h.1
 Fits-second (under a) s t h = h.1
 
-Fits-argument : (m : Level) (s t : TermType) → Fits m (function_type s t) → Fits m s
-Fits-argument live s t h = h.0
-Fits-argument (under a) s t h = h.0
-
 Fits-result : (m : Level) (s t : TermType) → Fits m (function_type s t) → Fits m t
 Fits-result live s t h = h.1
 Fits-result (under a) s t h = h.1

@@ -111,7 +111,8 @@ fn boxed_copies(
     second: &Term,
 ) -> Result<(Box<Term>, Box<Term>), AllocError>
     ensures first { IfOk result (λ copies. expression_of copies.0.value ≡ expression_of first.now) }
-    ensures second { IfOk result (λ copies. expression_of copies.1.value ≡ expression_of second.now) }
+    ensures second { IfOk result
+        (λ copies. expression_of copies.1.value ≡ expression_of second.now) }
 {
     let first = boxed_copy(alloc, first)?;
     let second = boxed_copy(alloc, second)?;

@@ -8,21 +8,6 @@ use Rattle.mw_types.specs.Shorter.{Shorter, Found}
 use Rattle.mw_types.proofs.Lists.{same, other, is, get_other, get_here, set_length}
 use Rattle.mw_types.proofs.Link.{low_set, same_set, same_unset, set_same, halve_to, halve_from}
 
-pub start_shorter : (ps : List ℕ) (from : ℕ) → Low ps → from < length ps → Shorter ps ps from from
-start_shorter ps from l lt = record {
-  low = l;
-  long = refl;
-  inside = lt;
-  roots = λ i e. e;
-  roots_from = λ i il e. e;
-  types_to = λ v s. s;
-  types_from = λ v s. s;
-  types_at = λ v s. refl;
-  classes_to = λ v s. s;
-  classes_from = λ v s. s;
-  classes_at = λ v s. refl;
-}
-
 pub step_shorter : (ps qs : List ℕ) (from at up : ℕ) → Shorter ps qs from at → slice_index_or qs at 0 ≢ at
     → up ≡ slice_index_or qs (slice_index_or qs at 0) 0 → Shorter ps (slice_set qs at up) from up × (up < at)
 step_shorter ps qs from at up h n e = (

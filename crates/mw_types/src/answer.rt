@@ -118,7 +118,8 @@ fn name(parent: &[usize], names: &[u64], class: usize) -> u64
 // The type that a node stands for, where it is its own representative. Another's tree is never looked at.
 fn own_tree(alloc: Global, state: &State, names: &[u64], node: usize) -> Result<Ty, AllocError>
     requires sound { Sound state.now }
-    requires named { NamedTo state.now.classifier.items names.now (length state.now.classifier.items) }
+    requires named { NamedTo state.now.classifier.items names.now
+        (length state.now.classifier.items) }
     requires inside { node < length state.now.parent.items }
     requires room { HasRoom state.now names.now node 10000 }
     ensures { IfOk result (λ ty. slice_index_or state.now.parent.items node 0 ≡ node
@@ -139,7 +140,8 @@ fn tree(
     room: usize,
 ) -> Result<Ty, AllocError>
     requires sound { Sound state.now }
-    requires named { NamedTo state.now.classifier.items names.now (length state.now.classifier.items) }
+    requires named { NamedTo state.now.classifier.items names.now
+        (length state.now.classifier.items) }
     requires inside { node < length state.now.parent.items }
     requires room { HasRoom state.now names.now node room }
     ensures { IfOk result (λ ty. StandsFor state.now names.now node (type_of ty)) }

@@ -13,10 +13,12 @@ use std::alloc::AllocError;
 #[inline(always)]
 pub fn node(state: &mut State, shape: Shape) -> Result<usize, AllocError>
     requires sound { Sound state.old }
-    requires inside { Inside (length state.old.parent.items) (length state.old.classifier.items) shape }
+    requires inside { Inside (length state.old.parent.items) (length state.old.classifier.items)
+        shape }
     ensures grew { IfOk result (λ i. Grew state.old state.new (λ a. Meets shape (a.ty i) a)) }
     ensures inside { IfOk result (λ i. i < length state.new.parent.items) }
-    ensures one { IfOk result (λ _. length state.new.parent.items ≡ length state.old.parent.items + 1) }
+    ensures one { IfOk result
+        (λ _. length state.new.parent.items ≡ length state.old.parent.items + 1) }
     ensures shaped { IfOk result (λ _. shape ≢ Shape.Free → StaysShaped state.old state.new) }
 {
     let next = state.parent.len();
@@ -31,7 +33,8 @@ pub fn add(state: &mut State, ty: &Ty, unknowns: usize) -> Result<usize, AllocEr
     requires sound { Sound state.old }
     requires inside { Within unknowns (length state.old.classifier.items) (type_of ty.now) }
     requires room { unknowns ≤ length state.old.parent.items }
-    ensures grew { IfOk result (λ i. Grew state.old state.new (λ a. a.ty i ≡ value a (type_of ty.now))) }
+    ensures grew { IfOk result
+        (λ i. Grew state.old state.new (λ a. a.ty i ≡ value a (type_of ty.now))) }
     ensures inside { IfOk result (λ i. i < length state.new.parent.items) }
     ensures shaped { IfOk result (λ _. StaysShaped state.old state.new) }
 {

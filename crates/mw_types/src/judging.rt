@@ -40,7 +40,8 @@ pub fn judge(
     requires sound { Sound state.old }
     requires blank { (a : Assignment) → Means state.old a }
     requires settled { state.old.waiting.items ≡ [] }
-    requires inside { AllWithin (nodes_in state.old) (classifiers_in state.old) (equations_of equations.now) }
+    requires inside { AllWithin (nodes_in state.old) (classifiers_in state.old)
+        (equations_of equations.now) }
     ensures judged { IfOk result (λ front. JudgesFront (nodes_in state.old) equations.now front) }
     ensures within { IfOk result (λ front. front.end ≤ length equations.now) }
     ensures ready { IfOk result (λ front. front.verdict ≡ Verdict.Fine
@@ -60,7 +61,8 @@ pub fn judge_longer(
     shorter: usize,
     end: usize,
 ) -> Result<Judgement, AllocError>
-    requires stated { StatesFront unknowns (classifiers_in state.old) equations.now shorter state.old }
+    requires stated { StatesFront unknowns (classifiers_in state.old) equations.now shorter
+        state.old }
     requires inside { AllWithin unknowns (classifiers_in state.old) (equations_of equations.now) }
     requires order { shorter ≤ end }
     requires end { end ≤ length equations.now }
@@ -108,7 +110,8 @@ fn extend(
     shorter: usize,
     end: usize,
 ) -> Result<Option<usize>, AllocError>
-    requires stated { StatesFront unknowns (classifiers_in state.old) equations.now shorter state.old }
+    requires stated { StatesFront unknowns (classifiers_in state.old) equations.now shorter
+        state.old }
     requires inside { AllWithin unknowns (classifiers_in state.old) (equations_of equations.now) }
     requires order { shorter ≤ end }
     requires end { end ≤ length equations.now }

@@ -28,16 +28,20 @@ use std::alloc::Global;
 /// has no solution, or whose most general solution has a type of over 10,000 nodes.
 pub fn solve(alloc: Global, equations: &Equations) -> Result<Solved, SolveFault>
     requires within { said_of equations.now AllWithin }
-    ensures most_general { IfOk result (λ solved. said_of equations.now MostGeneral (substitution_of solved)) }
-    ensures small { IfOk result (λ solved. IsSmall equations.now.unknowns (substitution_of solved)) }
+    ensures most_general { IfOk result
+        (λ solved. said_of equations.now MostGeneral (substitution_of solved)) }
+    ensures small { IfOk result
+        (λ solved. IsSmall equations.now.unknowns (substitution_of solved)) }
     ensures within { IfOk result
         (λ solved. StaysWithin equations.now.unknowns equations.now.classifiers (substitution_of solved)) }
     ensures types { IfOk result (λ solved. length solved.types ≡ equations.now.unknowns) }
-    ensures classifiers { IfOk result (λ solved. length solved.classifiers ≡ equations.now.classifiers) }
+    ensures classifiers { IfOk result
+        (λ solved. length solved.classifiers ≡ equations.now.classifiers) }
     ensures fine { said_of equations.now Fine → IsSolvedOrMemory result }
     ensures unsolvable { (k : ℕ) → said_of equations.now FirstUnsolvable k
         → IsFaultOrMemory result (SolveFault.Unsolvable k) }
-    ensures too_big { (k : ℕ) → said_of equations.now FirstTooBig k → IsFaultOrMemory result (SolveFault.TooBig k) }
+    ensures too_big { (k : ℕ) → said_of equations.now FirstTooBig k
+        → IsFaultOrMemory result (SolveFault.TooBig k) }
     ensures fault { IfErr result (λ fault. said_of equations.now FirstFault fault) }
 {
     let unknowns = equations.unknowns as usize;

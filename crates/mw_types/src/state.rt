@@ -112,7 +112,8 @@ pub fn merge(state: &mut State, i: usize, j: usize) -> Result<bool, AllocError>
     requires sound { Sound state.old }
     requires left { i < length state.old.parent.items }
     requires right { j < length state.old.parent.items }
-    ensures same { IfOk result (λ fine. IsTrue fine → Step state.old state.new (λ a. a.ty i ≡ a.ty j)) }
+    ensures same { IfOk result
+        (λ fine. IsTrue fine → Step state.old state.new (λ a. a.ty i ≡ a.ty j)) }
     ensures none { IfOk result (λ fine. IsFalse fine → Never state.old (λ a. a.ty i ≡ a.ty j)) }
     ensures work { IfOk result (λ fine. work state.new ≤ work state.old) }
 {
@@ -134,7 +135,8 @@ fn seek(state: &mut State, node: usize) -> usize
     ensures found { Found state.old state.new node result }
     ensures inside { result < length state.new.parent.items }
     ensures root { slice_index_or state.new.parent.items result 0 ≡ result }
-    ensures roots { (i : ℕ) → slice_index_or state.old.parent.items i 0 ≡ i → slice_index_or state.new.parent.items i 0
+    ensures roots { (i : ℕ) → slice_index_or state.old.parent.items i 0 ≡ i
+        → slice_index_or state.new.parent.items i 0
         ≡ i }
     ensures work { work state.new ≡ work state.old }
     ensures waiting { state.new.waiting ≡ state.old.waiting }
@@ -150,8 +152,10 @@ fn link(state: &mut State, low: usize, high: usize) -> Result<bool, AllocError>
     requires inside { high < length state.old.parent.items }
     requires low_root { slice_index_or state.old.parent.items low 0 ≡ low }
     requires high_root { slice_index_or state.old.parent.items high 0 ≡ high }
-    ensures same { IfOk result (λ fine. IsTrue fine → Step state.old state.new (λ a. a.ty low ≡ a.ty high)) }
-    ensures none { IfOk result (λ fine. IsFalse fine → Never state.old (λ a. a.ty low ≡ a.ty high)) }
+    ensures same { IfOk result
+        (λ fine. IsTrue fine → Step state.old state.new (λ a. a.ty low ≡ a.ty high)) }
+    ensures none { IfOk result
+        (λ fine. IsFalse fine → Never state.old (λ a. a.ty low ≡ a.ty high)) }
     ensures work { IfOk result (λ fine. work state.new ≤ work state.old) }
 {
     let met = meet(state.shape[low], state.shape[high]);
@@ -184,9 +188,12 @@ fn put(state: &mut State, low: usize, high: usize, met: Met)
     requires low_root { slice_index_or state.old.parent.items low 0 ≡ low }
     requires high_root { slice_index_or state.old.parent.items high 0 ≡ high }
     requires meeting { Meeting (shape_at state.old low) (shape_at state.old high) met }
-    requires extra { ExtraInside (length state.old.parent.items) (length state.old.classifier.items) met }
-    requires lighter { 3 * weight (kept met) + more met ≤ 3 * (weight (shape_at state.old low) + weight (shape_at state.old high)) }
-    requires shaped { met ≢ Met.Clash → shape_at state.old low ≢ Shape.Free → kept met ≢ Shape.Free }
+    requires extra { ExtraInside (length state.old.parent.items) (length state.old.classifier.items)
+        met }
+    requires lighter { 3 * weight (kept met) + more met
+        ≤ 3 * (weight (shape_at state.old low) + weight (shape_at state.old high)) }
+    requires shaped { met ≢ Met.Clash → shape_at state.old low ≢ Shape.Free
+        → kept met ≢ Shape.Free }
     ensures linked { Linked state.old state.new low high met }
     ensures work { work state.new + more met ≤ work state.old }
 {
@@ -213,7 +220,8 @@ pub fn postpone(state: &mut State, wait: Pending) -> Result<(), AllocError>
     requires sound { Sound state.old }
     requires left { wait.left < length state.old.parent.items }
     requires right { wait.right < length state.old.parent.items }
-    ensures step { IfOk result (λ _. Step state.old state.new (λ a. a.ty wait.left ≡ a.ty wait.right)) }
+    ensures step { IfOk result
+        (λ _. Step state.old state.new (λ a. a.ty wait.left ≡ a.ty wait.right)) }
     ensures work { IfOk result (λ _. work state.new ≡ work state.old + 1) }
 {
     state.waiting.push(wait)?;

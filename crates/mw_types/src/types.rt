@@ -43,7 +43,8 @@ pub struct Equations {
 impl Equations {
     /// Whether each unknown and each classifier unknown in the list has a number below its bound.
     pub fn is_within(&self) -> bool
-        ensures { IsTrue result ↔ AllWithin self.now.unknowns self.now.classifiers (equations_of self.now.pairs) }
+        ensures { IsTrue result
+            ↔ AllWithin self.now.unknowns self.now.classifiers (equations_of self.now.pairs) }
     {
         for equation in self.pairs.as_slice() {
             if !names_within(&equation.left, self.unknowns, self.classifiers) {

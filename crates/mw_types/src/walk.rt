@@ -107,8 +107,10 @@ pub fn visit(
     requires inside { start < length state.now.parent.items }
     requires root { slice_index_or state.now.parent.items start 0 ≡ start }
     ensures marked { IfOk result (λ fine. IsTrue fine → Marked state.now marks.new.items) }
-    ensures met { IfOk result (λ fine. IsTrue fine → slice_index_or marks.new.items start Mark.New ≢ Mark.New) }
-    ensures shut { IfOk result (λ fine. IsTrue fine → (x : ℕ) → slice_index_or marks.new.items x Mark.New ≢ Mark.Open) }
+    ensures met { IfOk result
+        (λ fine. IsTrue fine → slice_index_or marks.new.items start Mark.New ≢ Mark.New) }
+    ensures shut { IfOk result
+        (λ fine. IsTrue fine → (x : ℕ) → slice_index_or marks.new.items x Mark.New ≢ Mark.Open) }
     ensures empty { IfOk result (λ fine. IsTrue fine → path.new.items ≡ []) }
     ensures none { IfOk result (λ fine. IsFalse fine → Never state.now (λ a. Unit {0})) }
 {

@@ -70,7 +70,8 @@ pub fn last_in<'m>(
     frames: &[Frame<'m>],
     instruction: &'m Instr,
 ) -> Option<Effect<'m>>
-    ensures { IsLast result (last_pops (context_at within.now frames.now) (instruction_of instruction.now)) }
+    ensures { IsLast result
+        (last_pops (context_at within.now frames.now) (instruction_of instruction.now)) }
 {
     match instruction {
         Instr::Unreachable => Some(Effect {

@@ -96,7 +96,8 @@ fn label_of_frame(frame: &Frame<'_>) -> &'static [ValType]
 /// The types that a branch to a label takes.
 #[tactic(auto, using(crate::proofs::Labels::inner_label, crate::proofs::Labels::last_label, crate::proofs::Labels::no_label))]
 pub fn label<'m>(within: &Surroundings<'m>, frames: &[Frame<'m>], l: u32) -> Option<&'m [ValType]>
-    ensures some { IfSome result (λ ts. slice_get (labels_at within.now frames.now) l ≡ Some ts.now) }
+    ensures some { IfSome result
+        (λ ts. slice_get (labels_at within.now frames.now) l ≡ Some ts.now) }
     ensures none { IfNone result (slice_get (labels_at within.now frames.now) l ≡ None) }
 {
     let depth = frames.len();

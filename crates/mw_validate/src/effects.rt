@@ -39,7 +39,8 @@ pub fn effect_in<'m>(
     frames: &[Frame<'m>],
     instruction: &'m Instr,
 ) -> Option<Effect<'m>>
-    ensures { IsEffect result (effect_here (context_at within.now frames.now) (instruction_of instruction.now)) }
+    ensures { IsEffect result
+        (effect_here (context_at within.now frames.now) (instruction_of instruction.now)) }
 {
     match instruction {
         Instr::Nop => Some(effect_of(&[], &[])),

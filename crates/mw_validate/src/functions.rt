@@ -17,7 +17,8 @@ fn failing_instruction(
     wasm: &Module,
     function: &Func,
 ) -> Result<Option<u32>, AllocError>
-    ensures { IfOk result (λ at. NoneWhere at (PassesBody (module_of wasm.now) (function_of function.now))) }
+    ensures { IfOk result
+        (λ at. NoneWhere at (PassesBody (module_of wasm.now) (function_of function.now))) }
 {
     let types = wasm.types.as_slice();
     if function.kind as usize >= types.len() {
@@ -40,7 +41,8 @@ pub fn first_failing_function(
     wasm: &Module,
     functions: &[Func],
 ) -> Result<Option<(usize, u32)>, AllocError>
-    ensures { IfOk result (λ at. FirstFailing (λ f. PassesBody (module_of wasm.now) (function_of f)) functions.now at) }
+    ensures { IfOk result
+        (λ at. FirstFailing (λ f. PassesBody (module_of wasm.now) (function_of f)) functions.now at) }
 {
     for i in 0..functions.len() {
         match failing_instruction(alloc, wasm, &functions[i]) {

@@ -91,7 +91,8 @@ pub fn pops(list: &mut OperandList, types: &[ValType]) -> bool
 /// An operand on top.
 #[tactic(auto, using(crate::proofs::OperandLists::pushed))]
 pub fn push(list: &mut OperandList, operand: Option<ValType>) -> Result<(), AllocError>
-    ensures { IfOk result (λ _. operands_of list.new ≡ push_here (operand_of operand) (operands_of list.old)) }
+    ensures { IfOk result
+        (λ _. operands_of list.new ≡ push_here (operand_of operand) (operands_of list.old)) }
 {
     list.items.push(operand)?;
     Ok(())
@@ -100,7 +101,8 @@ pub fn push(list: &mut OperandList, operand: Option<ValType>) -> Result<(), Allo
 /// Operands of these types, the last one on top.
 #[tactic(auto, using(crate::proofs::OperandLists::pushes_one, crate::proofs::OperandLists::pushes_all))]
 pub fn pushes(list: &mut OperandList, types: &[ValType]) -> Result<(), AllocError>
-    ensures { IfOk result (λ _. operands_of list.new ≡ pushes_here types.now (operands_of list.old)) }
+    ensures { IfOk result
+        (λ _. operands_of list.new ≡ pushes_here types.now (operands_of list.old)) }
 {
     for i in 0..types.len() {
         push(list, Some(types[i]))?;
@@ -110,7 +112,8 @@ pub fn pushes(list: &mut OperandList, types: &[ValType]) -> Result<(), AllocErro
 
 /// One type that both operands may be: none where there is none.
 pub fn join(a: Option<ValType>, b: Option<ValType>) -> Option<Option<ValType>>
-    ensures some { IfSome result (λ t. joined_here (operand_of a) (operand_of b) ≡ Some (operand_of t)) }
+    ensures some { IfSome result
+        (λ t. joined_here (operand_of a) (operand_of b) ≡ Some (operand_of t)) }
     ensures none { IfNone result (joined_here (operand_of a) (operand_of b) ≡ None) }
 {
     match a {

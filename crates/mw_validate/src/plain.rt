@@ -29,7 +29,8 @@ fn take_all(list: &mut OperandList, effect: &Effect<'_>) -> bool
 }
 
 fn go_on(list: &mut OperandList, effect: &Effect<'_>) -> Result<bool, AllocError>
-    ensures { IfOk result (λ b. Leaves b (goes_on (effect_of effect.now) (operands_of list.old)) list.new) }
+    ensures { IfOk result
+        (λ b. Leaves b (goes_on (effect_of effect.now) (operands_of list.old)) list.new) }
 {
     if !take_all(list, effect) {
         return Ok(false);
@@ -59,7 +60,8 @@ pub fn plain<'m>(
     list: &mut OperandList,
 ) -> Result<bool, AllocError>
     requires { IsPlain (instruction_of instruction.now) }
-    ensures { IfOk result (λ b. Leaves b (after_in within.now frames.now instruction.now list.old) list.new) }
+    ensures { IfOk result
+        (λ b. Leaves b (after_in within.now frames.now instruction.now list.old) list.new) }
 {
     match effect_in(within, frames, instruction) {
         Some(effect) => go_on(list, &effect),

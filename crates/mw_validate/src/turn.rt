@@ -114,7 +114,8 @@ pub fn first_failing<'m>(
     within: &Surroundings<'m>,
     body: &'m Instrs,
 ) -> Result<Option<u32>, AllocError>
-    ensures { IfOk result (λ at. is_none at ≡ body_passes (context_in within.now) (code_of body.now)) }
+    ensures { IfOk result
+        (λ at. is_none at ≡ body_passes (context_in within.now) (code_of body.now)) }
 {
     let mut state = Checking {
         frames: Vec::new(alloc),

@@ -13,10 +13,6 @@ pub types_above : (vs : List Value) (below taken : List ValType) → OperandsAre
     → map type_of_value vs ≡ reverse taken ++ reverse below
 types_above vs below taken o = o.types ∙ reverse-append below taken
 
-pub types_of_ins : (vs : List Value) (ins below taken : List ValType) → OperandsAreTyped vs ins → ins ≡ below ++ taken
-    → map type_of_value vs ≡ reverse taken ++ reverse below
-types_of_ins vs ins below taken o e = o.types ∙ (ap reverse e ∙ reverse-append below taken)
-
 pub operands_below : (vs : List Value) (below : List ValType) → map type_of_value vs ≡ reverse below
     → OperandsAreTyped vs (below ++ [])
 operands_below vs below e = record { types = e ∙ ap reverse (sym (append-nil below)) }

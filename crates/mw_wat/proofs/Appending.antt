@@ -66,13 +66,6 @@ mutual
   opened_append (name bytes ∷ xs) ys e = after (spelled (name bytes)) xs ys (spaced_append xs ys e)
   opened_append (octets bytes ∷ xs) ys e = after (spelled (octets bytes)) xs ys (spaced_append xs ys e)
 
--- many parts
-pub spaced_each : {A : Type 0} (f : A → List Lexeme) → ((x : A) → ends_open false (f x) ≡ false) → (xs : List A)
-    → spaced (flat_map f xs) ≡ flat_map (λ x. spaced (f x)) xs
-spaced_each f g [] = refl
-spaced_each f g (x ∷ xs) = spaced_append (f x) (flat_map f xs) (g x) ∙ ap (λ t. spaced (f x) ++ t)
-    (spaced_each f g xs)
-
 pub spaced_map : {A : Type 0} (f : A → Lexeme) → ((x : A) → is_left (f x) ≡ false) → (xs : List A) → spaced
     (map f xs) ≡ flat_map (λ x. spaced (f x ∷ [])) xs
 spaced_map f g [] = refl

@@ -214,11 +214,6 @@ module _ (room : ℕ) (p : Place) (ts rest : Tokens) where
       step_word w (Some (alone r)) e k
       ∙ ap (λ v. and_then (skip r v) λ i us. got (one i) us) n.1
 
-pub step_full : (room : ℕ) (p : Place) (ts rest : Tokens) (w : List ℕ) (o : Opener) → next ts ≡ got (word w) rest
-    → Some (opens o) ≡ meaning w → room ≡ 0 → step instructions room p ts ≡ bad ts
-step_full zero p ts rest w o e k z = step_word zero p ts rest w (Some (opens o)) e k
-step_full (suc room) p ts rest w o e k z = absurd (omega arith)
-
 pub step_opens : (room : ℕ) (p : Place) (ts rest : Tokens) (w : List ℕ) (o : Opener) → next ts ≡ got (word w) rest
     → Some (opens o) ≡ meaning w → room ≢ 0
     → step instructions room p ts ≡ and_then (behind_opener (room - 1) o rest) λ i us. got (one i) us

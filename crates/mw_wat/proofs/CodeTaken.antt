@@ -490,9 +490,6 @@ record OneBack (room : ℕ) (i : Instruction) (ts rest : Tokens) : Type 0 where
   said : Said ts (instruction i) rest
   low : depth_of i ≤ room
 
-list_at : Code → Mark → Listed
-list_at c m = record { code = c; mark = m }
-
 nothing_back : (room : ℕ) (p : Place) (m : Mark) (at : ℕ) (t : PureToken) (ts : Tokens) (l : Listed) (rest : Tokens)
     → token_of (marking m) ≡ t → IsKnown (marking m) → MayEnd (onward p) m → HasSome p end → nothing m
     (token at t ts) ≡ got l rest → ListBack room p (token at t ts) l rest

@@ -56,18 +56,6 @@ pub peek_ended : {A : Type 0} (f : PureToken → Reader A) (ts us : Tokens) → 
 peek_ended f (stop at) us e = let s : stop at ≡ us = cc in ap bad s
 peek_ended f (token at t rest) us e = absurd (cc)
 
-pub peek_next : {A : Type 0} (f : PureToken → Reader A) (ts : Tokens) (t : PureToken) (rest : Tokens)
-    → next ts ≡ got t rest → peek f ts ≡ f t ts
-peek_next f ts t rest e =
-    let n = next_is ts t rest e in
-    rw n.1 refl
-
-pub skip_next : {A : Type 0} (r : Reader A) (ts : Tokens) (t : PureToken) (rest : Tokens)
-    → next ts ≡ got t rest → skip r ts ≡ r rest
-skip_next r ts t rest e =
-    let n = next_is ts t rest e in
-    rw n.1 refl
-
 pub opened_here : (ts rest : Tokens) → next ts ≡ got left rest → is_opened ts ≡ got true rest
 opened_here ts rest e = let n = next_is ts left rest e in rw n.1 refl
 

@@ -80,15 +80,6 @@ pub record FieldsLeft {X A : Type 0} (view : X → A) (w : List ℕ) (field : Re
   pub enough : count ts < bound
   pub told : with_fields (map view list) (fields_up_to bound w field going ts) ≡ total
 
-pub fields_begin : {X A : Type 0} (view : X → A) (w : List ℕ) (field : Reader A) (list : List X) (going : Bool)
-    (ts : Tokens) → list ≡ [] → FieldsLeft view w field list going ts (fields w field going ts)
-fields_begin view w field list going ts e = record {
-  bound = suc (count ts);
-  enough = omega arith;
-  told = ap (λ l. with_fields (map view l) (fields_up_to (suc (count ts)) w field going ts)) e
-      ∙ with_none (fields w field going ts);
-}
-
 module _ {X A : Type 0} (view : X → A) (w : List ℕ) (field : Reader A) (list : List X) (going : Bool) (ts : Tokens)
     (total : Read (Fields A)) (left : FieldsLeft view w field list going ts total) where
   unrolled : (k : ℕ) → left.bound ≡ suc k → going ≡ true

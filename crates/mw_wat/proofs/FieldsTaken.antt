@@ -398,10 +398,6 @@ string_back t.right x e = absurd (none-some x e)
 string_back (t.word w) x e = absurd (none-some x e)
 string_back (t.string bytes) x e = (ap t.string (sym (same_Some bytes x e)), tt)
 
--- the word of a kind, and the number behind it
-kind_lexemes : (k : ℕ → Exported) → Type 0
-kind_lexemes k = (w : List ℕ) × ((x : ℕ) → lexemes.exported (k x) ≡ word w ∷ number x ∷ [])
-
 kind_word : (ts : Tokens) (k : ℕ → Exported) (rest : Tokens) → one_of as_kind ts ≡ got k rest → (w : List ℕ)
     × ((x : ℕ) → lexemes.exported (k x) ≡ word w ∷ number x ∷ []) × Said ts (word w ∷ []) rest
 kind_word (stop at) k rest e = absurd (no_got (stop at) rest k e)

@@ -1,5 +1,4 @@
 pub mod Rows
-pub mod WithinProfile
 pub mod Appending
 pub mod InstructionTexts
 pub mod FieldTexts

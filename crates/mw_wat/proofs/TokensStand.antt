@@ -40,11 +40,6 @@ pub counted : {ts rest : Tokens} (xs : List Lexeme) → Stands ts xs rest → co
 counted {ts = ts} [] here = omega arith
 counted {rest = rest} (_ ∷ xs) (there {at = at} {i = x} {ts = ts} r s) = omega (arith, counted {ts = ts} xs s)
 
--- one reader behind another
-pub then_got : {A B : Type 0} (r : Reader A) (f : A → Reader B) (ts : Tokens) {x : A} {mid : Tokens}
-    → r ts ≡ got x mid → (r >>= f) ts ≡ f x mid
-then_got r f ts e = ap (λ q. and_then q f) e
-
 -- single tokens
 pub number_means : (most n : ℕ) → n ≤ most → n < 2 ^ 32 → as_number most (token_of (number n)) ≡ Some n
 number_means most n p q = below_from (suc most) n (omega arith) (omega arith)
@@ -79,11 +74,6 @@ printable (b ∷ bytes) a = rw (le-leb 0x20 b a.0.0, le-leb b 0x7E a.0.1) (print
 pub type_means : (t : ValType) → as_type (token_of (word (type_name t))) ≡ Some t
 type_means I32 = refl
 type_means I64 = refl
-
--- one token
-pub one_got : {A : Type 0} (means : PureToken → Option A) {x : A} {i : Lexeme} {ts rest : Tokens} → means
-    (token_of i) ≡ Some x → Stands ts (i ∷ []) rest → one_of means ts ≡ got x rest
-one_got means {i = i} e (there {at = at} {ts = ts} r here) = rw e refl
 
 -- a list of tokens of one kind, up to one of another
 pub some_got : {A : Type 0} (means : PureToken → Option A) (f : A → Lexeme)

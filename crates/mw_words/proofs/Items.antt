@@ -34,11 +34,6 @@ pub some_listed : {A B : Type 0} (f : A → B) (o : Option A) → is_some o ≡ 
 some_listed f None e = cc
 some_listed f (Some x) e = omega arith
 
--- what holds of an answer, and what follows from it
-pub on_none : {T : Type 0} (o : Option T) (P : Type 0) → P → IfNone o P
-on_none None P h = h
-on_none (Some x) P h = tt
-
 pub on_err : {T E : Type 0} (r : Result T E) (P : Type 0) → P → IfErr r (λ _. P)
 on_err (Ok x) P h = tt
 on_err (Err e) P h = h

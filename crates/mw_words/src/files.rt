@@ -9,7 +9,8 @@ use crate::{Command, WordsFault};
 
 /// The command that the words after `wat` mean.
 pub fn read_wat(words: &[String]) -> Result<Command<'_>, WordsFault>
-    ensures some { IfOk result (λ c. Means (codes "wat" ∷ map string_bytes words.now) (command_in c)) }
+    ensures some { IfOk result
+        (λ c. Means (codes "wat" ∷ map string_bytes words.now) (command_in c)) }
     ensures usage { IfErr result (λ _. IsUsage (codes "wat" ∷ map string_bytes words.now)) }
 {
     let file = lone_file(words)?;
@@ -18,7 +19,8 @@ pub fn read_wat(words: &[String]) -> Result<Command<'_>, WordsFault>
 
 /// The command that the words after `check` mean.
 pub fn read_check(words: &[String]) -> Result<Command<'_>, WordsFault>
-    ensures some { IfOk result (λ c. Means (codes "check" ∷ map string_bytes words.now) (command_in c)) }
+    ensures some { IfOk result
+        (λ c. Means (codes "check" ∷ map string_bytes words.now) (command_in c)) }
     ensures usage { IfErr result (λ _. IsUsage (codes "check" ∷ map string_bytes words.now)) }
 {
     let file = lone_file(words)?;
@@ -27,7 +29,8 @@ pub fn read_check(words: &[String]) -> Result<Command<'_>, WordsFault>
 
 /// The command that the words after `cert` mean.
 pub fn read_cert(words: &[String]) -> Result<Command<'_>, WordsFault>
-    ensures some { IfOk result (λ c. Means (codes "cert" ∷ map string_bytes words.now) (command_in c)) }
+    ensures some { IfOk result
+        (λ c. Means (codes "cert" ∷ map string_bytes words.now) (command_in c)) }
     ensures usage { IfErr result (λ _. IsUsage (codes "cert" ∷ map string_bytes words.now)) }
 {
     let file = lone_file(words)?;
@@ -36,7 +39,8 @@ pub fn read_cert(words: &[String]) -> Result<Command<'_>, WordsFault>
 
 /// The command that the words after `recheck` mean.
 pub fn read_recheck(words: &[String]) -> Result<Command<'_>, WordsFault>
-    ensures some { IfOk result (λ c. Means (codes "recheck" ∷ map string_bytes words.now) (command_in c)) }
+    ensures some { IfOk result
+        (λ c. Means (codes "recheck" ∷ map string_bytes words.now) (command_in c)) }
     ensures usage { IfErr result (λ _. IsUsage (codes "recheck" ∷ map string_bytes words.now)) }
 {
     let (cert, file) = two_files(words)?;

@@ -108,7 +108,8 @@ pub fn read_words(words: &[String]) -> Result<Command<'_>, WordsFault>
 
 /// The command that the words after `run` mean.
 fn read_run(words: &[String]) -> Result<Command<'_>, WordsFault>
-    ensures some { IfOk result (λ c. Means (codes "run" ∷ map string_bytes words.now) (command_in c)) }
+    ensures some { IfOk result
+        (λ c. Means (codes "run" ∷ map string_bytes words.now) (command_in c)) }
     ensures usage { IfErr result (λ _. IsUsage (codes "run" ∷ map string_bytes words.now)) }
 {
     have_only(words, &["--workers", "--fuel", "--simplify", "--cache"])?;
@@ -123,7 +124,8 @@ fn read_run(words: &[String]) -> Result<Command<'_>, WordsFault>
 
 /// The command that the words after `erased` mean.
 fn read_erased(words: &[String]) -> Result<Command<'_>, WordsFault>
-    ensures some { IfOk result (λ c. Means (codes "erased" ∷ map string_bytes words.now) (command_in c)) }
+    ensures some { IfOk result
+        (λ c. Means (codes "erased" ∷ map string_bytes words.now) (command_in c)) }
     ensures usage { IfErr result (λ _. IsUsage (codes "erased" ∷ map string_bytes words.now)) }
 {
     have_only(words, &["--fuel"])?;
@@ -135,7 +137,8 @@ fn read_erased(words: &[String]) -> Result<Command<'_>, WordsFault>
 
 /// The command that the words after `link` mean.
 fn read_link(words: &[String]) -> Result<Command<'_>, WordsFault>
-    ensures some { IfOk result (λ c. Means (codes "link" ∷ map string_bytes words.now) (command_in c)) }
+    ensures some { IfOk result
+        (λ c. Means (codes "link" ∷ map string_bytes words.now) (command_in c)) }
     ensures usage { IfErr result (λ _. IsUsage (codes "link" ∷ map string_bytes words.now)) }
 {
     have_only(words, &["--workers", "--fuel"])?;
@@ -158,7 +161,8 @@ fn fuel_of(words: &[String]) -> Result<u64, WordsFault>
 
 /// The command that the words after `sample` mean.
 fn read_sample(words: &[String]) -> Result<Command<'_>, WordsFault>
-    ensures some { IfOk result (λ c. Means (codes "sample" ∷ map string_bytes words.now) (command_in c)) }
+    ensures some { IfOk result
+        (λ c. Means (codes "sample" ∷ map string_bytes words.now) (command_in c)) }
     ensures usage { IfErr result (λ _. IsUsage (codes "sample" ∷ map string_bytes words.now)) }
 {
     let [word] = words else {
@@ -170,7 +174,8 @@ fn read_sample(words: &[String]) -> Result<Command<'_>, WordsFault>
 
 /// The command that the words after `migrate` mean.
 fn read_migrate(words: &[String]) -> Result<Command<'_>, WordsFault>
-    ensures some { IfOk result (λ c. Means (codes "migrate" ∷ map string_bytes words.now) (command_in c)) }
+    ensures some { IfOk result
+        (λ c. Means (codes "migrate" ∷ map string_bytes words.now) (command_in c)) }
     ensures usage { IfErr result (λ _. IsUsage (codes "migrate" ∷ map string_bytes words.now)) }
 {
     have_only(words, &["--cache"])?;

@@ -20,7 +20,8 @@ pub fn typing_kept()
     ensures closed_code_is_closed { (mode : Mode) → ClosedCodeIsClosed (outside mode) AnyState }
     ensures runs_are_typed { (mode : Mode) → RunsAreTyped (outside mode) AnyState (λ s. s) }
     ensures staged_runs_are_typed { StagedRunsAreTyped }
-    ensures runs_of_code_are_typed { (mode : Mode) → RunsOfCodeAreTyped (outside mode) AnyState (λ s. s) }
+    ensures runs_of_code_are_typed { (mode : Mode)
+        → RunsOfCodeAreTyped (outside mode) AnyState (λ s. s) }
     ensures lets_have_their_values { (mode : Mode) → LetsHaveTheirValues (outside mode) }
     ensures kernels_never_stuck { (mode : Mode) → KernelsNeverStuck (outside mode) AnyState }
     ensures kernels_give_their_code { (mode : Mode) → KernelsGiveTheirCode (outside mode) AnyState }
@@ -34,7 +35,8 @@ pub fn typing_kept()
     ensures replied_code_is_typed { CodeIsTyped answering AreTypedReplies }
     ensures replied_closed_code_is_closed { ClosedCodeIsClosed answering AreTypedReplies }
     ensures replied_runs_are_typed { RunsAreTyped answering AreTypedReplies (λ s. s.begun) }
-    ensures replied_runs_of_code_are_typed { RunsOfCodeAreTyped answering AreTypedReplies (λ s. s.begun) }
+    ensures replied_runs_of_code_are_typed { RunsOfCodeAreTyped answering AreTypedReplies
+        (λ s. s.begun) }
     ensures replied_lets_have_their_values { LetsHaveTheirValues answering }
     ensures replied_kernels_never_stuck { KernelsNeverStuck answering AreTypedReplies }
     ensures replied_kernels_give_their_code { KernelsGiveTheirCode answering AreTypedReplies }

@@ -33,7 +33,8 @@ pub trait TextField: Drop {
 /// Whether another field is opened, or the module is closed.
 #[tactic(auto, using(crate::proofs::CursorReaders::single_laws))]
 pub fn next_field(cursor: Cursor) -> Read<bool>
-    ensures { Gives (λ x. got x.0 (tokens_at x.1)) result (next_field_here (tokens_at cursor.entry)) }
+    ensures { Gives (λ x. got x.0 (tokens_at x.1)) result
+        (next_field_here (tokens_at cursor.entry)) }
 {
     let (token, rest) = next_token(cursor)?;
     match token {

@@ -186,7 +186,8 @@ fn front(bytes: &[u8]) -> Option<(Token, &[u8])>
 /// The token that comes next.
 #[tactic(auto, using(crate::proofs::CursorTokens::next_laws))]
 pub fn next_token(cursor: Cursor) -> Read<Token>
-    ensures { Gives (λ x. got (token_of x.0) (tokens_at x.1)) result (next (tokens_at cursor.entry)) }
+    ensures { Gives (λ x. got (token_of x.0) (tokens_at x.1)) result
+        (next (tokens_at cursor.entry)) }
 {
     match front(without_blanks(cursor.left)) {
         Some((token, left)) => Ok((

@@ -79,7 +79,8 @@ fn bits_of_64(integer: Option<i64>) -> Option<u64>
 
 /// What stands in the word behind this front.
 pub fn behind<'a>(word: &'a [u8], front: &[u8]) -> Option<&'a [u8]>
-    ensures some { IfSome result (λ rest. (bytes_eq (take (length front.now) word.now) front.now ≡ true)
+    ensures some { IfSome result
+        (λ rest. (bytes_eq (take (length front.now) word.now) front.now ≡ true)
         × (rest.now ≡ drop (length front.now) word.now)) }
     ensures none { IfNone result (bytes_eq (take (length front.now) word.now) front.now ≡ false) }
 {

@@ -73,7 +73,8 @@ fn function(alloc: Global, cursor: Cursor) -> Read<Func>
 
 /// Limits, whose minimum is at most this.
 fn limits(cursor: Cursor, most: u32) -> Read<Limits>
-    ensures { Gives (λ x. got x.0 (tokens_at x.1)) result (limits_here most (tokens_at cursor.entry)) }
+    ensures { Gives (λ x. got x.0 (tokens_at x.1)) result
+        (limits_here most (tokens_at cursor.entry)) }
 {
     let (min, rest) = at_most(cursor, most)?;
     let (max, rest) = maximum(rest)?;

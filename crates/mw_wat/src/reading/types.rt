@@ -183,7 +183,8 @@ fn with_params(alloc: Global, cursor: Cursor) -> Read<FuncType>
 /// What stands behind `func`, with its `)`.
 #[tactic(auto, using(crate::proofs::CursorReaders::choice_laws))]
 fn signature(alloc: Global, cursor: Cursor) -> Read<FuncType>
-    ensures { Gives (λ x. got x.0 (tokens_at x.1)) result (signature_here (tokens_at cursor.entry)) }
+    ensures { Gives (λ x. got x.0 (tokens_at x.1)) result
+        (signature_here (tokens_at cursor.entry)) }
 {
     let (opened, rest) = if_opened(cursor)?;
     if opened {
