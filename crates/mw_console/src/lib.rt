@@ -8,7 +8,7 @@ mod status;
 mod text;
 
 pub use crate::lines::write_lines;
-pub use crate::source::{SourceFault, file_bytes};
+pub use crate::source::file_bytes;
 pub use crate::status::Status;
 pub use crate::text::{
     put_answer, put_bound, put_kernel, put_migrated, put_module, put_refusal, put_totals, put_trap,

@@ -44,9 +44,9 @@ use crate::source::{Evaluation, write_source};
 use crate::typing::recheck;
 use crate::workplace::Workplace;
 use mw_compile::Entry;
-use mw_console::{SourceFault, Status, file_bytes};
+use mw_console::{Status, file_bytes};
 use mw_meaning::Mode;
-use mw_outside::{Gate, Keeper, Sink, Source, WriteFault};
+use mw_outside::{Gate, Keeper, ReadStop, Sink, Source, WriteFault};
 use mw_reading::MOST_OF_SOURCE;
 use mw_sample::sample;
 use mw_slots::Table;
@@ -413,8 +413,8 @@ fn evaluate_file<R: Threads + Sync, S: Source, K: Sink, C: Keeper, G: Gate>(
 {
     let bytes = match file_bytes(alloc, source, file, MOST_OF_SOURCE) {
         Ok(bytes) => bytes,
-        Err(SourceFault::Failed) => return Status::Read,
-        Err(SourceFault::Memory(error)) => return Status::Memory(error),
+        Err(ReadStop::Failed) => return Status::Read,
+        Err(ReadStop::Memory(error)) => return Status::Memory(error),
     };
     status_of(write_source::<R, K, C, G, Brand>(
         alloc,

@@ -11,9 +11,9 @@ ghost use Rattle.mw_drive.specs.Verdicts.{inquired};
 ghost use Rattle.mw_drive.specs.Works.{writing, judging, judged, status_of, Reports};
 
 use crate::typing::{certificate_of, typing_of};
-use mw_console::{SourceFault, Status, file_bytes, write_lines};
+use mw_console::{Status, file_bytes, write_lines};
 use mw_judge::{BadFile, FileFault, binary_text, judge, put_bad_file, put_verdict};
-use mw_outside::{Sink, Source, WriteFault};
+use mw_outside::{ReadStop, Sink, Source, WriteFault};
 use std::alloc::{AllocError, Global};
 
 /// One byte more than the longest file of a module: reading ends with it.
@@ -64,8 +64,8 @@ pub fn inquire<S: Source, K: Sink>(
 {
     match file_bytes(alloc, source, file, most) {
         Ok(bytes) => write_answer(alloc, bytes.as_slice(), sink, inquiry),
-        Err(SourceFault::Failed) => Status::Read,
-        Err(SourceFault::Memory(error)) => Status::Memory(error),
+        Err(ReadStop::Failed) => Status::Read,
+        Err(ReadStop::Memory(error)) => Status::Memory(error),
     }
 }
 

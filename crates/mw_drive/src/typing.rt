@@ -16,9 +16,9 @@ ghost use Rattle.mw_drive.specs.Works.{certifying, rechecking, rechecked, status
 
 use crate::inquiry::{Answer, Inquiry, write_answer};
 use mw_cert::{holds, write_cert};
-use mw_console::{SourceFault, Status, file_bytes, put_refusal, put_typing};
+use mw_console::{Status, file_bytes, put_refusal, put_typing};
 use mw_infer::check;
-use mw_outside::{Sink, Source};
+use mw_outside::{ReadStop, Sink, Source};
 use mw_reading::{MOST_OF_SOURCE, read};
 use mw_term::{Item, Program, Refusal, Stop};
 use std::alloc::{AllocError, Global};
@@ -63,13 +63,13 @@ pub fn recheck<S: Source, K: Sink>(
 {
     let bytes = match file_bytes(alloc, source, file, MOST_OF_SOURCE) {
         Ok(bytes) => bytes,
-        Err(SourceFault::Failed) => return Status::Read,
-        Err(SourceFault::Memory(error)) => return Status::Memory(error),
+        Err(ReadStop::Failed) => return Status::Read,
+        Err(ReadStop::Memory(error)) => return Status::Memory(error),
     };
     let text = match file_bytes(alloc, source, certificate, MOST_OF_CERTIFICATE) {
         Ok(text) => text,
-        Err(SourceFault::Failed) => return Status::Read,
-        Err(SourceFault::Memory(error)) => return Status::Memory(error),
+        Err(ReadStop::Failed) => return Status::Read,
+        Err(ReadStop::Memory(error)) => return Status::Memory(error),
     };
     write_answer(
         alloc,

@@ -34,7 +34,7 @@ pub enum KeepFault {
     Memory(AllocError),
 }
 
-/// Why a file wasn't read to its end: the outside failed, or there was no memory.
+/// Why a file wasn't read to its end: the outside has no such file or failed, or there was no memory.
 #[derive(Clone, Copy, Debug, PartialEq, Eq)]
 pub enum ReadStop {
     Failed,
@@ -95,6 +95,16 @@ impl From<ReadFault> for ReadStop {
     ghost from_gives = { λ _ stop. stop ≡ Failed };
 
     fn from(_: ReadFault) -> ReadStop {
+        ReadStop::Failed
+    }
+}
+
+impl From<StartFault> for ReadStop {
+    ghost use Rattle.mw_outside.specs.declared.errors.ReadStop.TheVariants.{Failed};
+
+    ghost from_gives = { λ _ stop. stop ≡ Failed };
+
+    fn from(_: StartFault) -> ReadStop {
         ReadStop::Failed
     }
 }
