@@ -182,13 +182,13 @@ call_keeps (ran.Trap t) c k old new loaded is same type keeps plays open' = absu
 call_keeps (ran.Bound l) c k old new loaded is same type keeps plays open' = absurd (cc)
 
 -- the same of the other clauses of a run
-pub run_at : (which : ℕ) (b : Began) (k : KernelType) → HasStartType (Ok b) k → IsRunAt (Ok (ran_of which b)) k which
-run_at which (began.Value v left) (of_ground t) h = h
-run_at which (began.Value v left) (to s t) h = absurd h
-run_at which (began.Function r left) (of_ground t) h = absurd h
-run_at which (began.Function r left) (to s t) h = refl
-run_at which (began.Trap u) k h = tt
-run_at which (began.Bound l) k h = tt
+pub run_typed : (which : ℕ) (b : Began) (k : KernelType) → HasStartType (Ok b) k → IsRunAt (Ok (ran_of which b)) k which
+run_typed which (began.Value v left) (of_ground t) h = h
+run_typed which (began.Value v left) (to s t) h = absurd h
+run_typed which (began.Function r left) (of_ground t) h = absurd h
+run_typed which (began.Function r left) (to s t) h = refl
+run_typed which (began.Trap u) k h = tt
+run_typed which (began.Bound l) k h = tt
 
 -- the function that a run gives is the code's
 function_of_start : (r : RunningState) (rest : ℕ) (c : Expression) (k : KernelType) (units : ℕ)

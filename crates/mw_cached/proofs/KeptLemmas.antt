@@ -4,19 +4,16 @@ use Rattle.std.proofs.Common.{None, map, refl, sym, subst, ap, ◌∙◌, slice_
 use Rattle.std.specs.Prelude.{IsSome}
 use Rattle.std.specs.List.{All}
 use Rattle.std.proofs.lemmas.List.Elements.{All-push, All-head, All-tail}
-use Rattle.mw_term.specs.Terms.{Expression, KernelType}
-use Rattle.mw_term.specs.Limits.{LiteralsFit}
-use Rattle.mw_key.specs.CanonicalText.{canonical_text}
-use Rattle.mw_key.specs.declared.version.Version.TheVariants.{Two}
-use Rattle.mw_key.proofs.FoundTexts.{text_from}
+use Rattle.mw_term.specs.Terms.{Expression, KernelType, expression_of, kernel_type_of}
+use Rattle.mw_term.specs.declared.term.KType.{KType}
+use Rattle.mw_term.specs.declared.term.Term.{Term}
 use Rattle.mw_meaning.specs.declared.mode.Mode.{Mode}
 use Rattle.mw_meaning.specs.Simplification.{in_mode}
 use Rattle.mw_meaning.specs.StandingFor.{StandsFor}
 use Rattle.mw_wasm.specs.Views.{module_of}
-use Rattle.mw_machine.specs.KernelCalls.{IsRunnable}
 use Rattle.mw_kernel.specs.RunningStates.{RunningState}
 use Rattle.mw_cached.specs.declared.function.Function.{Function}
-use Rattle.mw_cached.specs.FunctionStates.{Kept, run_at, run_read, run_of_kept, MeansItsCode}
+use Rattle.mw_cached.specs.FunctionStates.{Kept, kept_as, run_of_kept, MeansItsCode}
 use Rattle.mw_cached.specs.KeptFunctions.{IsKeptFor, IsKept, kept_of}
 
 -- what holds of each item and of one that may be added holds of each after it
@@ -56,7 +53,7 @@ kept_run (f ∷ fs) (suc i) r here =
 -- the same of the run at a place
 pub run_of_item : (fs : List Function) (i : ℕ) (f : Function) (r : Expression × KernelType)
     → slice_get (map run_of_kept (map (λ f. kept_of f) fs)) i ≡ Some r → f ≡ slice_index_or fs i f
-    → run_at f.text.items ≡ r
+    → run_of_kept (kept_of f) ≡ r
 run_of_item fs i f r here is =
     let run = kept_run (map (λ f. kept_of f) fs) i r here in
     ap run_of_kept (kept_of_item fs i f run.function run.here is) ∙ run.is
@@ -73,28 +70,13 @@ of_either P None made read = made refl
 of_either P (Some n) made read = read refl
 
 pub kept_stands : (mode : Mode) (f : Function) → IsKept mode f → MeansItsCode mode (kept_of f)
-    → StandsFor (module_of f.running.wasm) (in_mode mode (run_at f.text.items).0) (run_at f.text.items).1
+    → StandsFor (module_of f.running.wasm) (in_mode mode (expression_of f.code.value)) (kernel_type_of f.kind.value)
 kept_stands mode f kept sound = of_either _ f.loaded kept.emitted sound
 
--- the same of equal code, type, function and record
-pub kept_of_same : (c d : Expression) (k j : KernelType) (r s : RunningState) (n m : Option ℕ) → d ≡ c → j ≡ k → s ≡ r
-    → m ≡ n → IsKeptFor c k r n → IsKeptFor d j s m
-kept_of_same c d k j r s n m p q e i h = subst (λ d. IsKeptFor d j s m) (sym p)
-    (subst (λ j. IsKeptFor c j s m) (sym q) (subst (λ s. IsKeptFor c k s m) (sym e)
-    (subst (λ m. IsKeptFor c k r m) (sym i) h)))
-
--- the text of what may be run spells it
-pub run_of_text : (bytes : List ℕ) (c : Expression) (k : KernelType) → IsRunnable c k → LiteralsFit c
-    → bytes ≡ canonical_text Two c k → run_at bytes ≡ (c, k)
-unfolding run_at
-run_of_text bytes c k may fits is =
-    ap run_read (text_from bytes Two c k record {
-      kernel = record {
-        code = may.typed.is_code;
-        closed = may.typed.closed;
-        literals = fits;
-        limits = may.limits;
-        nodes = may.nodes;
-      };
-      text = is;
-    })
+-- the same of the function that a run gave
+pub kept_of_run : (mode : Mode) (f : Function) (code : Term) (kind : KType) (r : RunningState) (loaded : Option ℕ)
+    → f.running ≡ r → kept_of f ≡ kept_as code kind r.wasm loaded
+    → IsKeptFor (in_mode mode (expression_of code)) (kernel_type_of kind) r loaded → IsKept mode f
+kept_of_run mode f code kind r loaded running is h =
+    subst (λ (g : Kept). IsKeptFor (in_mode mode (run_of_kept g).0) (run_of_kept g).1 f.running g.loaded) (sym is)
+    (subst (λ r. IsKeptFor (in_mode mode (expression_of code)) (kernel_type_of kind) r loaded) (sym running) h)

@@ -1,6 +1,6 @@
 -- Kept functions are linked to the records that their modules were loaded from.
-use Rattle.std.proofs.Common.{◌≡◌, ℕ, zero, suc, List, [], ◌∷◌, ◌++◌, Option, Some, None, Result, Ok, Err, map, refl}
-use Rattle.std.proofs.Common.{sym, ap, ◌∙◌, subst, slice_get}
+use Rattle.std.proofs.Common.{◌≡◌, ℕ, zero, suc, List, [], ◌∷◌, Option, Some, None, Result, Ok, Err, map, refl}
+use Rattle.std.proofs.Common.{sym, subst, slice_get}
 use Rattle.std.specs.Prelude.{IsSome, get_or}
 use Rattle.std.specs.List.{All}
 use Rattle.std.proofs.lemmas.List.Elements.{All-push}
@@ -22,7 +22,6 @@ use Rattle.mw_cache.specs.Gots.{CacheState, text_in, text_at, IsRight, HasWasm}
 use Rattle.mw_machine.specs.declared.kernels.Ran.{Ran}
 use Rattle.mw_machine.specs.declared.kernels.Ran.TheVariants as ran
 use Rattle.mw_machine.specs.declared.kernels.KernelFault.{KernelFault}
-use Rattle.mw_machine.specs.KernelCalls.{kept_after}
 use Rattle.mw_cached.specs.FunctionStates.{Kept, run_of_kept, with_function, MeansItsCode}
 use Rattle.mw_cached.proofs.KeptLemmas.{kept_run}
 use Rattle.mw_cached.specs.Links.{CachedState, loaded_from, IsLinkedTo, IsLinkedFrom, IsLinked, IsRightIn}
@@ -83,30 +82,16 @@ run_linked own old given got c k wasm from same cache is typed text has stands =
     (subst (λ x. HasWasm x got wasm) cache has)
     (right_stands cache' given got (in_mode mode c) k wasm cache here stands))
 
--- the run of a function that was added is the run that gave it
-last_run : (fs : List Kept) (f : Kept) (r : Expression × KernelType)
-    → map run_of_kept (fs ++ f ∷ []) ≡ map run_of_kept fs ++ r ∷ [] → r ≡ run_of_kept f
-last_run [] f r e = cc
-last_run (x ∷ fs) f r e = last_run fs f r (cc)
-
 -- after a run each kept function is linked
-pub all_linked : (load : LoadState) (mode : Mode) (answer : Result Ran KernelFault) (c : Expression) (k : KernelType)
-    (f : Kept) (fs after : List Kept) → after ≡ with_function answer f fs
-    → map run_of_kept after ≡ kept_after answer c k (map run_of_kept fs)
-    → IsLinkedFrom load (in_mode mode c) k f.wasm f.loaded → All (IsLinked load mode) fs
+pub all_linked : (load : LoadState) (mode : Mode) (answer : Result Ran KernelFault) (f : Kept) (fs after : List Kept)
+    → after ≡ with_function answer f fs → IsLinked load mode f → All (IsLinked load mode) fs
     → All (IsLinked load mode) after
-all_linked load mode (Ok (ran.Function which left)) c k f fs after is runs link all =
-    let run = last_run fs f (c, k) (ap (map run_of_kept) (sym is) ∙ runs) in
-    subst (All (IsLinked load mode)) (sym is) (All-push (IsLinked load mode) fs f all
-    (subst (λ (r : Expression × KernelType). IsLinkedFrom load (in_mode mode r.0) r.1 f.wasm f.loaded) run link))
-all_linked load mode (Ok (ran.Value v left)) c k f fs after is runs link all =
-    subst (All (IsLinked load mode)) (sym is) all
-all_linked load mode (Ok (ran.Trap t)) c k f fs after is runs link all =
-    subst (All (IsLinked load mode)) (sym is) all
-all_linked load mode (Ok (ran.Bound l)) c k f fs after is runs link all =
-    subst (All (IsLinked load mode)) (sym is) all
-all_linked load mode (Err fault) c k f fs after is runs link all =
-    subst (All (IsLinked load mode)) (sym is) all
+all_linked load mode (Ok (ran.Function which left)) f fs after is link all =
+    subst (All (IsLinked load mode)) (sym is) (All-push (IsLinked load mode) fs f all link)
+all_linked load mode (Ok (ran.Value v left)) f fs after is link all = subst (All (IsLinked load mode)) (sym is) all
+all_linked load mode (Ok (ran.Trap t)) f fs after is link all = subst (All (IsLinked load mode)) (sym is) all
+all_linked load mode (Ok (ran.Bound l)) f fs after is link all = subst (All (IsLinked load mode)) (sym is) all
+all_linked load mode (Err fault) f fs after is link all = subst (All (IsLinked load mode)) (sym is) all
 
 -- the kept function of a run, which is linked
 pub record IsLinkedRun (own : CachedState) (which : ℕ) (r : Expression × KernelType) : Type 0 where

@@ -1,54 +1,42 @@
 // A function that a run gave.
 
-ghost use Rattle.std.specs.Prelude.{◌≡◌, false, IfOk};
+ghost use Rattle.std.specs.Prelude.{◌≡◌, false};
 ghost use Rattle.mw_term.specs.Terms.{expression_of, kernel_type_of, ground_value_of};
 ghost use Rattle.mw_meaning.specs.declared.mode.Mode.{Mode};
-ghost use Rattle.mw_machine.specs.KernelCalls.{IsRunnable, IsArgumentOf, IsCallAt, LeavesAtMost, AnswersCall, ends_all};
-ghost use Rattle.mw_key.specs.CanonicalText.{canonical_text};
-ghost use Rattle.mw_key.specs.declared.version.Version.TheVariants.{Two};
+ghost use Rattle.mw_machine.specs.KernelCalls.{IsArgumentOf, IsCallAt, LeavesAtMost, AnswersCall, ends_all};
 ghost use Rattle.mw_cached.specs.Answers.{told, BadIsStray};
-ghost use Rattle.mw_cached.specs.FunctionStates.{run_at, kept_as, MeansItsCode};
+ghost use Rattle.mw_cached.specs.FunctionStates.{kept_as, MeansItsCode};
 ghost use Rattle.mw_cached.specs.KeptFunctions.{IsKept, kept_of};
 
 use crate::fault::{FunctionFault, fault_of};
 use mw_kernel::Running;
-use mw_key::text_of;
 use mw_machine::Ran;
 use mw_term::{GroundValue, KType, Term};
-use std::alloc::{AllocError, Global};
+use std::alloc::Global;
+use std::snapshot::Snapshot;
 
-/// A function that a run gave in some mode, with the text of the run's code, as it was built, and of its type. Its
-/// module was loaded from the record of a number, or is the emission of what was run.
+/// A function that a run gave in some mode, with the run's code, as it was built, and its type, which contracts alone
+/// see. Its module was loaded from the record of a number, or is the emission of what was run.
 #[derive(Drop)]
 pub struct Function {
-    pub text: Vec<u8>,
+    pub code: Snapshot<Term>,
+    pub kind: Snapshot<KType>,
     pub running: Running,
     pub loaded: Option<u32>,
 }
 
 impl Function {
-    /// The function that a run of the code at the type gave.
-    pub fn of(
-        alloc: Global,
-        code: &Term,
-        kind: &KType,
-        running: Running,
-        loaded: Option<u32>,
-    ) -> Result<Function, AllocError>
-        requires runnable { IsRunnable (expression_of code.now) (kernel_type_of kind.now) }
-        ensures run { IfOk result (λ function. run_at function.text.items
-            ≡ (expression_of code.now, kernel_type_of kind.now)) }
-        ensures running { IfOk result (λ function. function.running ≡ running) }
-        ensures kept { IfOk result (λ function. kept_of function
-            ≡ kept_as (canonical_text Two (expression_of code.now) (kernel_type_of kind.now))
-            running.wasm loaded) }
+    /// The function that a run of the code at the type gave. Takes no memory.
+    pub fn of(code: &Term, kind: &KType, running: Running, loaded: Option<u32>) -> Function
+        ensures running { result.running ≡ running }
+        ensures kept { kept_of result ≡ kept_as code.now kind.now running.wasm loaded }
     {
-        let text = text_of(alloc, code, kind)?;
-        Ok(Function {
-            text,
+        Function {
+            code: Snapshot::of(code),
+            kind: Snapshot::of(kind),
             running,
             loaded,
-        })
+        }
     }
 
     /// Calls the function, in the mode in which it is kept. After a value it is kept as it was.
@@ -59,15 +47,15 @@ impl Function {
         fuel: u64,
     ) -> Result<Ran, FunctionFault>
         requires kept { (mode : Mode) × IsKept mode self.old }
-        requires argument { IsArgumentOf (run_at self.old.text.items).1
+        requires argument { IsArgumentOf (kernel_type_of self.old.kind.value)
             (ground_value_of argument.now) }
-        ensures types { IsCallAt (told result) (run_at self.old.text.items).1 }
+        ensures types { IsCallAt (told result) (kernel_type_of self.old.kind.value) }
         ensures left { LeavesAtMost (told result) fuel }
         ensures means { (mode : Mode) → IsKept mode self.old → MeansItsCode mode (kept_of self.old)
-            → AnswersCall mode (told result) (run_at self.old.text.items).0
-            (run_at self.old.text.items).1 (ground_value_of argument.now) fuel }
+            → AnswersCall mode (told result) (expression_of self.old.code.value)
+            (kernel_type_of self.old.kind.value) (ground_value_of argument.now) fuel }
         ensures stray { BadIsStray result self.old.running.wasm self.old.loaded
-            (run_at self.old.text.items).1 }
+            (kernel_type_of self.old.kind.value) }
         ensures kept { kept_of self.new ≡ kept_of self.old }
         ensures keeps { ends_all (told result) ≡ false
             → (mode : Mode) → IsKept mode self.old → IsKept mode self.new }

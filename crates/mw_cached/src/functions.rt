@@ -6,8 +6,6 @@ ghost use Rattle.mw_term.specs.Terms.{Expression, KernelType, expression_of, ker
 ghost use Rattle.mw_meaning.specs.Simplification.{in_mode};
 ghost use Rattle.mw_meaning.specs.StandingFor.{StandsFor};
 ghost use Rattle.mw_wasm.specs.Views.{module_of};
-ghost use Rattle.mw_key.specs.CanonicalText.{canonical_text};
-ghost use Rattle.mw_key.specs.declared.version.Version.TheVariants.{Two};
 ghost use Rattle.mw_machine.specs.KernelCalls.{IsRunnable, IsCallable, IsRunAt, IsCallAt, LeavesAtMost, AnswersRun};
 ghost use Rattle.mw_machine.specs.KernelCalls.{AnswersCall, kept_after, ends_all};
 ghost use Rattle.mw_cached.specs.Answers.{told, BadIsStray};
@@ -26,7 +24,7 @@ use std::marker::Model;
 use std::sync::Arc;
 
 /// A running instance for each function that a run gave. Contracts see how code is run, whether the functions are
-/// stopped, and of each the text of its code and type, its module, and the record that this was loaded from.
+/// stopped, and of each its code and type, its module, and the record that this was loaded from.
 #[derive(Drop)]
 pub struct Functions {
     mode: Mode,
@@ -37,13 +35,15 @@ pub struct Functions {
 impl Model for Functions {
     ghost use Rattle.std.specs.Prelude.{◌≡◌, false, map, All};
     ghost use Rattle.std.specs.Coded.{codes};
+    ghost use Rattle.mw_term.specs.contracts.term.Ground as ground;
+    ghost use Rattle.mw_term.specs.contracts.term.Term as term;
     ghost use Rattle.mw_wasm.specs.contracts.instructions.Instr as instr;
     ghost use Rattle.mw_cached.specs.FunctionStates.{FunctionState};
     ghost use Rattle.mw_cached.specs.KeptFunctions.{IsKept, kept_of};
 
     ghost Value = { FunctionState };
 
-    ghost coded = { Prim.hlevel (codes, instr.the_row.coded) };
+    ghost coded = { Prim.hlevel (codes, ground.the_row.coded, term.the_row.coded, instr.the_row.coded) };
 
     ghost view = { λ s. record {
       mode = s.mode;
@@ -103,8 +103,7 @@ impl Functions {
             ≡ kept_after (told result) (expression_of code.now) (kernel_type_of kind.now)
             (functions_of self.old) }
         ensures kept { self.new.functions ≡ with_function (told result)
-            (kept_as (canonical_text Two (expression_of code.now) (kernel_type_of kind.now))
-            (arc_value «module».now) loaded)
+            (kept_as code.now kind.now (arc_value «module».now) loaded)
             self.old.functions }
         ensures stopped { self.new.stopped ≡ self.old.stopped }
         ensures mode { self.new.mode ≡ self.old.mode }
@@ -113,7 +112,7 @@ impl Functions {
             Ok(Began::Value(value, left)) => Ok(Ran::Value(value, left)),
             Ok(Began::Function(running, left)) => {
                 let which = self.functions.len();
-                let function = Function::of(alloc, code, kind, running, loaded)?;
+                let function = Function::of(code, kind, running, loaded);
                 self.functions.push(function).map_err(AllocError::from)?;
                 Ok(Ran::Function(which, left))
             }

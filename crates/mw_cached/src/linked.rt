@@ -33,12 +33,14 @@ pub struct CachedFunctions<'a, 't> {
 impl<'a, 't> Model for CachedFunctions<'a, 't> {
     ghost use Rattle.std.specs.Prelude.{All};
     ghost use Rattle.std.specs.Coded.{codes};
+    ghost use Rattle.mw_term.specs.contracts.term.Ground as ground;
+    ghost use Rattle.mw_term.specs.contracts.term.Term as term;
     ghost use Rattle.mw_wasm.specs.contracts.instructions.Instr as instr;
     ghost use Rattle.mw_cached.specs.Links.{CachedState, IsLinked};
 
     ghost Value = { CachedState };
 
-    ghost coded = { Prim.hlevel (codes, instr.the_row.coded) };
+    ghost coded = { Prim.hlevel (codes, ground.the_row.coded, term.the_row.coded, instr.the_row.coded) };
 
     ghost view = { λ s. record { cache = s.cache.now; functions = s.functions } };
 

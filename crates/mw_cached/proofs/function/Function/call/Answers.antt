@@ -1,6 +1,5 @@
-use Rattle.mw_term.specs.Terms.{ground_value_of}
+use Rattle.mw_term.specs.Terms.{expression_of, kernel_type_of, ground_value_of}
 use Rattle.mw_meaning.specs.Simplification.{in_mode}
-use Rattle.mw_cached.specs.FunctionStates.{run_at}
 use Rattle.mw_cached.proofs.EmittingLemmas.{call_meant, call_keeps}
 use Rattle.mw_cached.proofs.FaultLemmas.{may_fault, call_is_not_bad, fault_answers, call_is_stray}
 use Rattle.mw_cached.proofs.KeptLemmas.{kept_stands}
@@ -15,17 +14,18 @@ fault_of-requires c =
 
 pub returns-in-Ok-clause-means : goal.returns-in-Ok-clause-means
 returns-in-Ok-clause-means c = λ mode kept sound.
-    let run = run_at c.args.self.now.text.items in
+    let code = expression_of c.args.self.now.code.value in
+    let kind = kernel_type_of c.args.self.now.kind.value in
     let is = kept.means (kept_stands mode c.args.self.now kept sound) in
-    call_meant mode run.0 run.1 c.args.self.now.running kept.code kept.literals kept.type is
+    call_meant mode code kind c.args.self.now.running kept.code kept.literals kept.type is
     (ground_value_of c.args.argument.now) c.args.fuel c.in-Ok.ran c.in-Ok.ensures.fits
     (c.in-Ok.ensures.means is.function is.words is.keeps)
 
 pub returns-in-Ok-clause-keeps : goal.returns-in-Ok-clause-keeps
 returns-in-Ok-clause-keeps c = λ open' mode kept.
-    let run = run_at c.args.self.now.text.items in
-    call_keeps c.in-Ok.ran (in_mode mode run.0) run.1 c.args.self.now.running c.call.new.self c.args.self.now.loaded
-    kept
+    let code = expression_of c.args.self.now.code.value in
+    let kind = kernel_type_of c.args.self.now.kind.value in
+    call_keeps c.in-Ok.ran (in_mode mode code) kind c.args.self.now.running c.call.new.self c.args.self.now.loaded kept
     c.in-Ok.ensures.same c.in-Ok.ensures.types c.in-Ok.ensures.keeps c.in-Ok.ensures.plays open'
 
 pub returns-in-Err-clause-means : goal.returns-in-Err-clause-means
@@ -38,4 +38,4 @@ pub returns-in-Err-clause-stray : goal.returns-in-Err-clause-stray
 returns-in-Err-clause-stray c =
     let kept = c.requires.kept.1 in
     call_is_stray c.fault_of.result c.in-Err.fault c.args.self.now.loaded c.args.self.now.running
-    (run_at c.args.self.now.text.items).1 kept.type kept.plays c.fault_of.ensures c.in-Err.ensures.stray
+    (kernel_type_of c.args.self.now.kind.value) kept.type kept.plays c.fault_of.ensures c.in-Err.ensures.stray

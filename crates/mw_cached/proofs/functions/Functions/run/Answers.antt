@@ -9,10 +9,9 @@ use Rattle.mw_machine.specs.KernelCalls.{IsRunAt}
 use Rattle.mw_kernel.specs.declared.running.Began.TheVariants as began
 use Rattle.mw_kernel.specs.KernelAnswers.{HasStartType}
 use Rattle.mw_cached.specs.KeptFunctions.{IsKept, kept_of}
-use Rattle.mw_cached.specs.FunctionStates.{run_at}
-use Rattle.mw_cached.proofs.EmittingLemmas.{run_answers, run_at as run_typed, run_keeps}
+use Rattle.mw_cached.proofs.EmittingLemmas.{run_answers, run_typed, run_keeps}
 use Rattle.mw_cached.proofs.FaultLemmas.{may_fault, start_is_not_bad, fault_answers, start_is_stray}
-use Rattle.mw_cached.proofs.KeptLemmas.{all_pushed, of_either, kept_of_same}
+use Rattle.mw_cached.proofs.KeptLemmas.{all_pushed, of_either, kept_of_run}
 use Rattle.mw_cached.proofs.functions.Functions.run.Goals as goal
 
 pub returns-in-Ok-Value-clause-means : goal.returns-in-Ok-Value-clause-means
@@ -29,15 +28,13 @@ invariant_of-self-in-Ok-Function c = λ open'.
     let own = c.args.self.now.mode in
     let mode = c.self.inside.mode in
     let same = ap (λ s. s.mode) c.self.view_is in
-    let function = c.in_ok-function-in-Ok-Function.function in
-    let is = c.in_ok-function-in-Ok-Function.ensures in
+    let function = c.of-function.result in
+    let is = c.of-function.ensures in
     let start = c.in-Ok-Function.ensures in
     all_pushed (IsKept mode) (is_ok c.push.result) c.self.inside.functions.items c.push.new.self.items function
     c.push.ensures.items (c.self.invariant open')
     (subst (λ m. IsKept m function) (sym same)
-    (kept_of_same (in_mode own code) (in_mode own (run_at function.text.items).0) kind
-    (run_at function.text.items).1 c.in-Ok-Function.running function.running c.args.loaded function.loaded
-    (ap (λ r. in_mode own r.0) is.run) (ap (λ r. r.1) is.run) is.running (ap (λ f. f.loaded) is.kept)
+    (kept_of_run own function c.args.code.now c.args.kind.now c.in-Ok-Function.running c.args.loaded is.running is.kept
     (run_keeps _ c.in-Ok-Function.running c.in-Ok-Function.left (arc_value c.args.module.now)
     (in_mode own code) kind c.args.fuel c.args.loaded c.in-Ok-Function.field-0-is
     (keeps_kernel_type own code kind c.requires.runnable.typed) c.requires.shape.literals

@@ -3,7 +3,7 @@ use Rattle.std.specs.List.{All}
 use Rattle.std.specs.Arc.{arc_value}
 use Rattle.mw_term.specs.Terms.{expression_of, kernel_type_of}
 use Rattle.mw_meaning.specs.Simplification.{in_mode}
-use Rattle.mw_key.specs.CanonicalText.{IsTextOf, canonical_text}
+use Rattle.mw_key.specs.CanonicalText.{IsTextOf}
 use Rattle.mw_key.specs.declared.version.Version.TheVariants.{Two}
 use Rattle.mw_cache.specs.Gots.{text_in}
 use Rattle.mw_machine.specs.KernelCalls.{AnswersRun, kept_after}
@@ -33,9 +33,9 @@ invariant_of-self c =
     let code = expression_of c.args.code.now in
     let kind = kernel_type_of c.args.kind.now in
     let wasm = arc_value c.in_ok-wasm.wasm in
-    let linked = all_linked load c.self.inside.functions.mode (told c.run-answer.result) code kind
-    (kept_as (canonical_text Two code kind) wasm c.record_of.result) c.self.inside.functions.functions
-    c.run-answer.new.self.functions c.run-answer.ensures.kept c.run-answer.ensures.functions
+    let linked = all_linked load c.self.inside.functions.mode (told c.run-answer.result)
+    (kept_as c.args.code.now c.args.kind.now wasm c.record_of.result) c.self.inside.functions.functions
+    c.run-answer.new.self.functions c.run-answer.ensures.kept
     (run_linked _ _ c.cache.result.now c.args.got.now code kind wasm c.record_of.result c.self.view_is c.cache.ensures
     c.record_of.ensures c.requires.runnable.typed c.requires.text c.in_ok-wasm.ensures.wasm
     c.in_ok-wasm.ensures.stands) c.self.invariant in
