@@ -22,7 +22,7 @@ fn start(
     program: &Program,
     item: Option<usize>,
     fuel: u64,
-) -> Result<Option<Machine>, AllocError>
+) -> Result<Option<Machine<'static>>, AllocError>
     requires typable { Typable (program_of program.now) }
     requires small { HasSmallTypes (program_of program.now) }
     ensures { IfOk result (λ o. IfSome o (IsStarted (program_of program.now))) }
@@ -41,7 +41,7 @@ fn start_item(
     program: &Program,
     place: usize,
     fuel: u64,
-) -> Result<Option<Machine>, AllocError>
+) -> Result<Option<Machine<'static>>, AllocError>
     requires typable { Typable (program_of program.now) }
     requires small { HasSmallTypes (program_of program.now) }
     ensures { IfOk result (λ o. IfSome o (IsStarted (program_of program.now))) }

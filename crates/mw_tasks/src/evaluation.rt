@@ -20,8 +20,8 @@ use std::alloc::Global;
 
 /// A machine at the end of an evaluation, and how it ended.
 #[derive(Drop)]
-pub(crate) struct Ended {
-    pub(crate) machine: Machine,
+pub(crate) struct Ended<'c> {
+    pub(crate) machine: Machine<'c>,
     pub(crate) outcome: Outcome,
 }
 
@@ -32,7 +32,7 @@ pub(crate) fn evaluate<K: Kernels>(
     body: &Term,
     fuel: u64,
     kernels: &mut K,
-) -> Result<Ended, KernelFault>
+) -> Result<Ended<'static>, KernelFault>
     requires typable { Typable (program_of program.now) }
     requires small { HasSmallTypes (program_of program.now) }
     requires body { (i : ℕ) × IsPart (program_of program.now) (item i) (expression_of body.now) }
@@ -60,13 +60,13 @@ pub(crate) fn evaluate<K: Kernels>(
 }
 
 /// Evaluates main of a program to its end, with so many units, where its kernel items came to these codes, in order.
-pub(crate) fn evaluate_with_codes<K: Kernels>(
+pub(crate) fn evaluate_with_codes<'c, K: Kernels>(
     alloc: Global,
     program: &Program,
-    codes: &[&Term],
+    codes: &[&'c Term],
     fuel: u64,
     kernels: &mut K,
-) -> Result<Ended, KernelFault>
+) -> Result<Ended<'c>, KernelFault>
     requires typable { Typable (program_of program.now) }
     requires small { HasSmallTypes (program_of program.now) }
     requires codes { AreCodesOf (program_of program.now).items (expressions_of codes.now) }
