@@ -38,7 +38,8 @@ pub(crate) fn count_nodes<L: Ledger>(
 ) -> Result<bool, AllocError>
     requires down { IsDownward pool.now.items }
     requires here { id.place < length pool.now.items }
-    ensures count { IfOk result (λ whole. AreCounted whole (size_at pool.now.items id.place) budget.old budget.new) }
+    ensures count { IfOk result
+        (λ whole. AreCounted whole (size_at pool.now.items id.place) budget.old budget.new) }
     ensures visits { steps.new + budget.new ≡ steps.old + budget.old }
 {
     let mut left = Vec::new(alloc);

@@ -29,10 +29,12 @@ pub fn evaluate_main<K: Kernels>(
     requires small { HasSmallTypes (program_of program.now) }
     requires codes { AreCodesOf (program_of program.now).items (expressions_of codes.now) }
     requires open { K.stopped kernels.old ≡ false }
-    ensures means { let names = names_of_main (program_of program.now).items (expressions_of codes.now) in
+    ensures means { let names =
+        names_of_main (program_of program.now).items (expressions_of codes.now) in
         AreSound (K.sound kernels.old) (runs (K.mode kernels.old) names fuel (program_of program.now).body)
         → IsMainOutcome result (main_outcome (K.mode kernels.old) names fuel (program_of program.now).body) }
-    ensures cost { let names = names_of_main (program_of program.now).items (expressions_of codes.now) in
+    ensures cost { let names =
+        names_of_main (program_of program.now).items (expressions_of codes.now) in
         AreSound (K.sound kernels.old) (runs (K.mode kernels.old) names fuel (program_of program.now).body)
         → IfOk result (λ _. K.cost kernels.new ≤ K.cost kernels.old
         + prices (K.price kernels.old) (runs (K.mode kernels.old) names fuel (program_of program.now).body)) }

@@ -62,7 +62,8 @@ pub fn main_phase<L: Ledger>(
         let names = names_of_main p.items (codes_in phase.now.outcomes) in
         AreRightRuns mode cache.now.load (runs mode names fuel p.body)
         → IfOk result (λ end. IsMainAnswer end.outcome (main_outcome mode names fuel p.body)) }
-    ensures typed { IfOk result (λ end. IfGiven end.outcome (HasGroundType (program_of program.now).result)) }
+    ensures typed { IfOk result
+        (λ end. IfGiven end.outcome (HasGroundType (program_of program.now).result)) }
     ensures spent { let p = program_of program.now in
         let names = names_of_main p.items (codes_in phase.now.outcomes) in
         AreRightRuns mode cache.now.load (runs mode names fuel p.body)
@@ -170,7 +171,8 @@ fn add_stored(
     stored: &mut Receipts<Entry>,
 ) -> Result<(), AllocError>
     requires { IfBuilt outcome.now (λ c got. IsAnswered cache.now got) }
-    ensures texts { IfOk result (λ _. texts_of stored.new ≡ texts_of stored.old ++ stored_texts (outcome.now ∷ [])) }
+    ensures texts { IfOk result
+        (λ _. texts_of stored.new ≡ texts_of stored.old ++ stored_texts (outcome.now ∷ [])) }
     ensures fetched { All (IsFetched entry_text home cache.now.cells) stored.old
         → IfOk result (λ _. All (IsFetched entry_text home cache.now.cells) stored.new) }
 {
@@ -189,7 +191,8 @@ fn add_receipt(
     stored: &mut Receipts<Entry>,
 ) -> Result<(), AllocError>
     requires { IsAnswered cache.now got.now }
-    ensures texts { IfOk result (λ _. texts_of stored.new ≡ texts_of stored.old ++ stored_text got.now) }
+    ensures texts { IfOk result
+        (λ _. texts_of stored.new ≡ texts_of stored.old ++ stored_text got.now) }
     ensures fetched { All (IsFetched entry_text home cache.now.cells) stored.old
         → IfOk result (λ _. All (IsFetched entry_text home cache.now.cells) stored.new) }
 {

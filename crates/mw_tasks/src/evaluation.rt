@@ -48,7 +48,8 @@ pub(crate) fn evaluate<K: Kernels>(
         + prices (K.price kernels.old) (runs (K.mode kernels.old) names fuel (term_of p (item i)))) }
     ensures typed { let p = program_of program.now in IfOk result (λ ended. (i : ℕ)
         → IsPart p (item i) (expression_of body.now) → IsTypedOutcome p (item i) ended.outcome ended.machine) }
-    ensures open { IfOk result (λ ended. IfOpenEnd (Ok ended.outcome) (K.stopped kernels.new ≡ false)) }
+    ensures open { IfOk result
+        (λ ended. IfOpenEnd (Ok ended.outcome) (K.stopped kernels.new ≡ false)) }
     ensures bad { IfErr result (λ fault. IsNewlyBad fault (K.bad kernels.old) (K.bad kernels.new)
         (K.digest kernels.new)) }
     ensures count { K.bad kernels.old ≤ K.bad kernels.new }
@@ -71,16 +72,19 @@ pub(crate) fn evaluate_with_codes<'c, K: Kernels>(
     requires small { HasSmallTypes (program_of program.now) }
     requires codes { AreCodesOf (program_of program.now).items (expressions_of codes.now) }
     requires open { K.stopped kernels.old ≡ false }
-    ensures means { let names = names_of_main (program_of program.now).items (expressions_of codes.now) in
+    ensures means { let names =
+        names_of_main (program_of program.now).items (expressions_of codes.now) in
         AreSound (K.sound kernels.old) (runs (K.mode kernels.old) names fuel (program_of program.now).body)
         → EndsAs result (staged (K.mode kernels.old) names fuel (program_of program.now).body) }
-    ensures cost { let names = names_of_main (program_of program.now).items (expressions_of codes.now) in
+    ensures cost { let names =
+        names_of_main (program_of program.now).items (expressions_of codes.now) in
         AreSound (K.sound kernels.old) (runs (K.mode kernels.old) names fuel (program_of program.now).body)
         → IfOk result (λ _. K.cost kernels.new ≤ K.cost kernels.old
         + prices (K.price kernels.old) (runs (K.mode kernels.old) names fuel (program_of program.now).body)) }
     ensures typed { IfOk result (λ ended.
         IsTypedOutcome (program_of program.now) main ended.outcome ended.machine) }
-    ensures open { IfOk result (λ ended. IfOpenEnd (Ok ended.outcome) (K.stopped kernels.new ≡ false)) }
+    ensures open { IfOk result
+        (λ ended. IfOpenEnd (Ok ended.outcome) (K.stopped kernels.new ≡ false)) }
     ensures bad { IfErr result (λ fault. IsNewlyBad fault (K.bad kernels.old) (K.bad kernels.new)
         (K.digest kernels.new)) }
     ensures count { K.bad kernels.old ≤ K.bad kernels.new }

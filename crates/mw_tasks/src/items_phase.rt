@@ -60,7 +60,8 @@ pub fn kernels_phase<R: Threads + Sync, G: Gate>(
     ensures outcomes { IfOk result
         (λ phase. AreOutcomesOf mode (program_of program.now) fuel cache.now phase.outcomes) }
     ensures slots { IfOk result (λ phase. AllHaveOneModule phase.outcomes) }
-    ensures stored { IfOk result (λ phase. All (λ o. IfBuilt o (λ c got. IsReceived phase.stored got)) phase.outcomes) }
+    ensures stored { IfOk result
+        (λ phase. All (λ o. IfBuilt o (λ c got. IsReceived phase.stored got)) phase.outcomes) }
     ensures table { IfOk result (λ phase. All (IsOf cache.now.cells) phase.stored) }
     ensures emitted { let items = (program_of program.now).items in
         AreRightItems mode (program_of program.now) fuel cache.now.load
@@ -91,7 +92,8 @@ pub fn kernels_phase<R: Threads + Sync, G: Gate>(
 
 /// The numbers of the kernel items among all items, in order.
 fn kernel_numbers(alloc: Global, program: &Program) -> Result<Vec<usize>, AllocError>
-    ensures { IfOk result (λ numbers. numbers.items ≡ kernel_numbers 0 (program_of program.now).items) }
+    ensures { IfOk result
+        (λ numbers. numbers.items ≡ kernel_numbers 0 (program_of program.now).items) }
 {
     let mut numbers = Vec::new(alloc);
     for at in 0..program.items.len() {

@@ -96,7 +96,8 @@ fn taken_by_one(alloc: Global, job: &Evaluation<'_, '_>) -> Result<Vec<Taken>, J
 
 /// Adds what the item at a place came to.
 fn add_taken(taken: &mut Vec<Taken>, at: usize, done: Done) -> Result<(), AllocError>
-    ensures { OnOk result (taken.new.items ≡ taken.old.items ++ record { at = at; done = done } ∷ []) }
+    ensures { OnOk result
+        (taken.new.items ≡ taken.old.items ++ record { at = at; done = done } ∷ []) }
 {
     taken.push(Taken { at, done })?;
     Ok(())

@@ -38,7 +38,8 @@ fn measured(read: Result<Term, CodeFault>) -> Result<Evaluated, AllocError>
 /// The code that an evaluation ended with, measured.
 fn measured_code(alloc: Global, machine: &Machine, id: Id) -> Result<Evaluated, AllocError>
     requires code { EndedWithCode machine.now id }
-    ensures { IfOk result (λ outcome. (c : Expression) → HasCode machine.now id c → IsMeasured outcome c) }
+    ensures { IfOk result
+        (λ outcome. (c : Expression) → HasCode machine.now id c → IsMeasured outcome c) }
 {
     measured(machine.code(alloc, id))
 }
