@@ -41,8 +41,7 @@ pub read_reads : (m : Nonterminal) {n : Nonterminal} (b : ℕ) (go : Meaning m �
 unfolding reading
 read_reads m b go a ts = refl
 
-unfolding reading
-
+-- a part that was not read
 pub part_fails : (m : Nonterminal) {n : Nonterminal} (e : Fault) (b : ℕ) (go : Meaning m → Form n) (a : Heights)
     (ts : List PureToken) → Fails e (full b m ts) → Fails e (reading b (reads m go) a ts)
 unfolding reading
