@@ -1,15 +1,13 @@
 // The texts of 7 in both versions, and what becomes of files that hold them.
 
-ghost use Rattle.std.specs.Prelude.{◌≡◌, ◌<◌};
+ghost use Rattle.std.specs.Prelude.{◌≡◌, ◌<◌, ◌^◌, length};
 
 use mw_cache::{Migration, migration_of};
 use mw_compile::Steps;
 use mw_store::{load_of, record_of};
 use std::alloc::{AllocError, Global};
 use std::marker::Brand;
-use std::process::Abort;
 use std::sync::ledger::{Blank, Ledger};
-use std::test::Fail;
 
 /// The text of 7 at type int, of version One.
 const OLD: &[u8] = b"emit1 int i 7";
@@ -60,14 +58,22 @@ const FILES: [File; 4] = [
     },
 ];
 
+/// Adds the record of a text.
+fn add_record(alloc: Global, bytes: &mut Vec<u8>, text: &[u8]) -> Result<(), AllocError>
+    requires { length text.now < 2 ^ 32 }
+{
+    let record_bytes = record_of(alloc, text, MODULE)?;
+    bytes.extend_from_slice(record_bytes.as_slice())
+}
+
 /// The file's bytes.
 fn bytes_of(alloc: Global, file: &File) -> Result<Vec<u8>, AllocError> {
     let mut bytes = Vec::new(alloc);
     if file.has_old {
-        bytes.extend_from_slice(record_of(alloc, OLD, MODULE)?.as_slice())?;
+        add_record(alloc, &mut bytes, OLD)?;
     }
     if file.has_new {
-        bytes.extend_from_slice(record_of(alloc, NEW, MODULE)?.as_slice())?;
+        add_record(alloc, &mut bytes, NEW)?;
     }
     Ok(bytes)
 }
@@ -88,19 +94,36 @@ fn counted<L: Ledger>(alloc: Global, bytes: &[u8], blank: Blank) -> Result<Migra
     migration_of(alloc, &load, &mut steps)
 }
 
+/// Whether these bytes are the record of version Two.
+fn is_new_record(alloc: Global, bytes: &[u8]) -> Result<bool, AllocError> {
+    let record_bytes = record_of(alloc, NEW, MODULE)?;
+    Ok(record_bytes.as_slice() == bytes)
+}
+
+/// Whether a migration has so many texts, and so many records to be added, each of which is that of version Two.
+fn is_right(alloc: Global, migration: &Migration, file: &File) -> Result<bool, AllocError> {
+    if migration.old != file.old || migration.records.len() != file.added {
+        return Ok(false);
+    }
+    if migration.records.len() == 1 {
+        return is_new_record(alloc, migration.records.get(0).as_slice());
+    }
+    Ok(true)
+}
+
+/// Whether a file's migration is right.
+fn migrates(alloc: Global, file: &File) -> Result<bool, AllocError> {
+    let bytes = bytes_of(alloc, file)?;
+    let migration = migrated(alloc, bytes.as_slice())?;
+    is_right(alloc, &migration, file)
+}
+
 /// A text of version One is counted, and the record of version Two is added where it isn't there.
 #[test]
-fn texts_of_version_one_migrate(rt: HostRuntime) -> Result<(), Fail> {
-    let alloc = rt.alloc();
-    let record_bytes = record_of(alloc, NEW, MODULE)?;
+fn texts_of_version_one_migrate(rt: HostRuntime) -> Result<(), AllocError> {
     for file in FILES.as_slice() {
-        let bytes = bytes_of(alloc, file)?;
-        let migration = migrated(alloc, bytes.as_slice())?;
-        assert!(rt; migration.old == file.old);
-        assert!(rt; migration.records.len() == file.added);
-        if migration.records.len() == 1 {
-            assert!(rt; migration.records.get(0).as_slice() == record_bytes.as_slice());
-        }
+        let fine = migrates(rt.alloc(), file)?;
+        assert!(rt; fine, "old {}, new {}", file.has_old, file.has_new);
     }
     Ok(())
 }

@@ -11,7 +11,6 @@ use mw_term::{Prim, Term, depth, nodes};
 use std::alloc::{AllocError, Global};
 use std::marker::Brand;
 use std::sync::ledger::{Blank, Ledger};
-use std::test::Fail;
 
 const ZERO: Id = Id { place: 0 };
 
@@ -232,11 +231,16 @@ const GRAPHS: &[(&[Node], &str)] = &[
     ),
 ];
 
+// What the last node is read back to, or the fault.
+fn graph_shown(alloc: Global, nodes: &[Node]) -> Result<String, AllocError> {
+    let pool = pool_of(alloc, nodes)?;
+    shown(alloc, &pool)
+}
+
 #[test]
-fn graphs(rt: HostRuntime) -> Result<(), Fail> {
+fn graphs(rt: HostRuntime) -> Result<(), AllocError> {
     for &(nodes, expected) in GRAPHS {
-        let pool = pool_of(rt.alloc(), nodes)?;
-        let term = shown(rt.alloc(), &pool)?;
+        let term = graph_shown(rt.alloc(), nodes)?;
         assert_eq!(rt; term.as_str(), expected);
     }
     Ok(())
@@ -313,11 +317,16 @@ fn large(alloc: Global, steps: &[(Step, u32)]) -> Result<Pool<Node>, AllocError>
     Ok(pool)
 }
 
+// What the last node is read back to, by nodes and depth, or the fault.
+fn large_measured(alloc: Global, steps: &[(Step, u32)]) -> Result<String, AllocError> {
+    let pool = large(alloc, steps)?;
+    measured(alloc, &pool)
+}
+
 #[test]
-fn limits(rt: HostRuntime) -> Result<(), Fail> {
+fn limits(rt: HostRuntime) -> Result<(), AllocError> {
     for &(steps, expected) in LARGE {
-        let pool = large(rt.alloc(), steps)?;
-        let answer = measured(rt.alloc(), &pool)?;
+        let answer = large_measured(rt.alloc(), steps)?;
         assert_eq!(rt; answer.as_str(), expected);
     }
     Ok(())

@@ -1,8 +1,7 @@
 // The lines of a migration and of a recheck, written by hand.
 
 use mw_console::{put_migrated, put_typing};
-use std::process::Abort;
-use std::test::Fail;
+use std::alloc::{AllocError, Global};
 
 /// The numbers of a migration, and its two lines behind what was written before.
 const MIGRATIONS: &[(u32, u32, &[u8])] = &[
@@ -17,12 +16,16 @@ const MIGRATIONS: &[(u32, u32, &[u8])] = &[
     ),
 ];
 
+fn migration(alloc: Global, old: u32, added: u32) -> Result<Vec<u8>, AllocError> {
+    let mut text = Vec::from_slice(alloc, b"before\n")?;
+    put_migrated(alloc, &mut text, old, added)?;
+    Ok(text)
+}
+
 #[test]
-fn migrations(rt: HostRuntime) -> Result<(), Fail> {
-    let alloc = rt.alloc();
+fn migrations(rt: HostRuntime) -> Result<(), AllocError> {
     for &(old, added, expected) in MIGRATIONS {
-        let mut text = Vec::from_slice(alloc, b"before\n")?;
-        put_migrated(alloc, &mut text, old, added)?;
+        let text = migration(rt.alloc(), old, added)?;
         assert_eq!(rt; text.as_slice(), expected);
     }
     Ok(())
@@ -31,12 +34,16 @@ fn migrations(rt: HostRuntime) -> Result<(), Fail> {
 /// The line of each answer of a recheck, behind what was written before.
 const TYPINGS: &[(bool, &[u8])] = &[(true, b"before\ntyped\n"), (false, b"before\nnot typed\n")];
 
+fn typing(alloc: Global, typed: bool) -> Result<Vec<u8>, AllocError> {
+    let mut text = Vec::from_slice(alloc, b"before\n")?;
+    put_typing(&mut text, typed)?;
+    Ok(text)
+}
+
 #[test]
-fn typings(rt: HostRuntime) -> Result<(), Fail> {
-    let alloc = rt.alloc();
+fn typings(rt: HostRuntime) -> Result<(), AllocError> {
     for &(typed, expected) in TYPINGS {
-        let mut text = Vec::from_slice(alloc, b"before\n")?;
-        put_typing(&mut text, typed)?;
+        let text = typing(rt.alloc(), typed)?;
         assert_eq!(rt; text.as_slice(), expected);
     }
     Ok(())

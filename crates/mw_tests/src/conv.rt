@@ -83,12 +83,21 @@ const LETS: &str = "Converted { funcs: Sequence { items: [\
     Let(0, Let(0, Int(1), Get(Slot(0))), \
     Let(1, Get(Slot(0)), App(Closure(0, Sequence { items: [Slot(1)] }), Get(Slot(0))))) } }";
 
+fn nested_printed(alloc: Global) -> Result<String, AllocError> {
+    let code = nested(alloc)?;
+    printed(alloc, &code)
+}
+
+fn lets_printed(alloc: Global) -> Result<String, AllocError> {
+    let code = lets(alloc)?;
+    printed(alloc, &code)
+}
+
 #[test]
 fn conversions(rt: HostRuntime) -> Result<(), AllocError> {
-    let alloc = rt.alloc();
-    let cases = [(nested(alloc)?, NESTED), (lets(alloc)?, LETS)];
-    for (code, wanted) in &cases {
-        assert_eq!(rt; printed(alloc, code)?.as_str(), *wanted);
-    }
+    let text = nested_printed(rt.alloc())?;
+    assert_eq!(rt; text.as_str(), NESTED);
+    let text = lets_printed(rt.alloc())?;
+    assert_eq!(rt; text.as_str(), LETS);
     Ok(())
 }

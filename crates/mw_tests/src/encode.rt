@@ -19,12 +19,13 @@ ghost use Rattle.mw_wasm.specs.ExampleModules.{
 ghost use Rattle.mw_wasm.specs.Syntax.{const_i64, end, next};
 ghost use Rattle.mw_wasm.specs.Views.{code_of, element_of, export_of, function_of, global_of, module_of};
 
+use crate::parts::{func_type, octets, value_types};
 use mw_encode::encode;
 use mw_wasm::laws::format::{example_a_is_spelled, example_b_is_spelled};
 use mw_wasm::{
     Element, Elements, Export, Exported, Exports, Func, FuncType, FuncTypes, Funcs, GlobalVar,
-    Globals, Indices, Instr, Instrs, IntOp, Limits, LoadOp, Module, NumOp, Octets, Segments,
-    StoreOp, ValType, ValTypes,
+    Globals, Indices, Instr, Instrs, IntOp, Limits, LoadOp, Module, NumOp, Segments, StoreOp,
+    ValType, ValTypes,
 };
 use std::alloc::{AllocError, Global};
 
@@ -32,22 +33,14 @@ use std::alloc::{AllocError, Global};
 fn closure(alloc: Global) -> Result<FuncType, AllocError>
     ensures { IfOk result (λ t. t ≡ closure_type) }
 {
-    let mut params = ValTypes::new(alloc);
-    params.push(ValType::I64)?;
-    params.push(ValType::I64)?;
-    let mut results = ValTypes::new(alloc);
-    results.push(ValType::I64)?;
-    Ok(FuncType { params, results })
+    func_type(alloc, &[ValType::I64, ValType::I64], &[ValType::I64])
 }
 
 /// () -> i64.
 fn init(alloc: Global) -> Result<FuncType, AllocError>
     ensures { IfOk result (λ t. t ≡ init_type) }
 {
-    let params = ValTypes::new(alloc);
-    let mut results = ValTypes::new(alloc);
-    results.push(ValType::I64)?;
-    Ok(FuncType { params, results })
+    func_type(alloc, &[], &[ValType::I64])
 }
 
 fn zero(alloc: Global) -> Result<Instrs, AllocError>
@@ -83,15 +76,44 @@ fn heap(alloc: Global) -> Result<GlobalVar, AllocError>
 fn init_export(alloc: Global, index: u32) -> Result<Export, AllocError>
     ensures { IfOk result (λ e. export_of e ≡ record { name = init_name; what = exported.Func index }) }
 {
-    let mut name = Octets::new(alloc);
-    name.push(b'i')?;
-    name.push(b'n')?;
-    name.push(b'i')?;
-    name.push(b't')?;
     Ok(Export {
-        name,
+        name: octets(alloc, b"init")?,
         what: Exported::Func(index),
     })
+}
+
+fn types_a(alloc: Global) -> Result<FuncTypes, AllocError>
+    ensures { IfOk result (λ types. types ≡ example_a.types) }
+{
+    let mut types = FuncTypes::new(alloc);
+    types.push(closure(alloc)?)?;
+    types.push(init(alloc)?)?;
+    Ok(types)
+}
+
+fn functions_a(alloc: Global) -> Result<Funcs, AllocError>
+    ensures { IfOk result (λ list. map function_of list ≡ example_a.funcs) }
+{
+    let mut funcs = Funcs::new(alloc);
+    funcs.push(seven(alloc)?)?;
+    Ok(funcs)
+}
+
+/// The one global variable of both modules.
+fn heap_global(alloc: Global) -> Result<Globals, AllocError>
+    ensures { IfOk result (λ list. map global_of list ≡ heap_top ∷ []) }
+{
+    let mut globals = Globals::new(alloc);
+    globals.push(heap(alloc)?)?;
+    Ok(globals)
+}
+
+fn exports_a(alloc: Global) -> Result<Exports, AllocError>
+    ensures { IfOk result (λ list. map export_of list ≡ example_a.exports) }
+{
+    let mut exports = Exports::new(alloc);
+    exports.push(init_export(alloc, 0)?)?;
+    Ok(exports)
 }
 
 /// The module whose `init` answers 7.
@@ -100,18 +122,9 @@ fn built_a(alloc: Global) -> Result<Module, AllocError>
     ensures elements { IfOk result (λ m. m.elements ≡ []) }
     ensures segments { IfOk result (λ m. m.segments ≡ []) }
 {
-    let mut types = FuncTypes::new(alloc);
-    types.push(closure(alloc)?)?;
-    types.push(init(alloc)?)?;
-    let mut funcs = Funcs::new(alloc);
-    funcs.push(seven(alloc)?)?;
-    let mut globals = Globals::new(alloc);
-    globals.push(heap(alloc)?)?;
-    let mut exports = Exports::new(alloc);
-    exports.push(init_export(alloc, 0)?)?;
     Ok(Module {
-        types,
-        funcs,
+        types: types_a(alloc)?,
+        funcs: functions_a(alloc)?,
         table: Some(Limits {
             min: 0,
             max: Some(0),
@@ -120,8 +133,8 @@ fn built_a(alloc: Global) -> Result<Module, AllocError>
             min: 64,
             max: Some(64),
         }),
-        globals,
-        exports,
+        globals: heap_global(alloc)?,
+        exports: exports_a(alloc)?,
         elements: Elements::new(alloc),
         segments: Segments::new(alloc),
     })
@@ -180,11 +193,7 @@ fn call_closure(alloc: Global) -> Result<Instrs, AllocError>
 fn call_locals(alloc: Global) -> Result<ValTypes, AllocError>
     ensures { IfOk result (λ types. types ≡ I64 ∷ I64 ∷ I32 ∷ []) }
 {
-    let mut types = ValTypes::new(alloc);
-    types.push(ValType::I64)?;
-    types.push(ValType::I64)?;
-    types.push(ValType::I32)?;
-    Ok(types)
+    value_types(alloc, &[ValType::I64, ValType::I64, ValType::I32])
 }
 
 fn functions_b(alloc: Global) -> Result<Funcs, AllocError>
@@ -212,15 +221,10 @@ fn functions_b(alloc: Global) -> Result<Funcs, AllocError>
 fn exports_b(alloc: Global) -> Result<Exports, AllocError>
     ensures { IfOk result (λ list. map export_of list ≡ example_b.exports) }
 {
-    let mut name = Octets::new(alloc);
-    name.push(b'c')?;
-    name.push(b'a')?;
-    name.push(b'l')?;
-    name.push(b'l')?;
     let mut exports = Exports::new(alloc);
     exports.push(init_export(alloc, 1)?)?;
     exports.push(Export {
-        name,
+        name: octets(alloc, b"call")?,
         what: Exported::Func(2),
     })?;
     Ok(exports)
@@ -240,20 +244,22 @@ fn elements_b(alloc: Global) -> Result<Elements, AllocError>
     Ok(elements)
 }
 
+fn types_b(alloc: Global) -> Result<FuncTypes, AllocError>
+    ensures { IfOk result (λ types. types ≡ example_b.types) }
+{
+    let mut types = types_a(alloc)?;
+    types.push(closure(alloc)?)?;
+    Ok(types)
+}
+
 /// The module whose `call` answers the cube of its argument.
 fn built_b(alloc: Global) -> Result<Module, AllocError>
     ensures same { IfOk result (λ m. module_of m ≡ example_b) }
     ensures elements { IfOk result (λ m. length m.elements ≡ 1) }
     ensures segments { IfOk result (λ m. m.segments ≡ []) }
 {
-    let mut types = FuncTypes::new(alloc);
-    types.push(closure(alloc)?)?;
-    types.push(init(alloc)?)?;
-    types.push(closure(alloc)?)?;
-    let mut globals = Globals::new(alloc);
-    globals.push(heap(alloc)?)?;
     Ok(Module {
-        types,
+        types: types_b(alloc)?,
         funcs: functions_b(alloc)?,
         table: Some(Limits {
             min: 1,
@@ -263,7 +269,7 @@ fn built_b(alloc: Global) -> Result<Module, AllocError>
             min: 64,
             max: Some(64),
         }),
-        globals,
+        globals: heap_global(alloc)?,
         exports: exports_b(alloc)?,
         elements: elements_b(alloc)?,
         segments: Segments::new(alloc),
@@ -290,20 +296,28 @@ const B: &[u8] = &[
     0x00, 0x00, 0x20, 0x04, 0x24, 0x00, 0x0b,
 ];
 
+fn encoded_a(alloc: Global) -> Result<Vec<u8>, AllocError> {
+    let built = built_a(alloc)?;
+    example_a_is_spelled();
+    encode(alloc, &built)
+}
+
 #[test]
 fn constant_module_has_64_bytes(rt: HostRuntime) -> Result<(), AllocError> {
-    let built = built_a(rt.alloc())?;
-    example_a_is_spelled();
-    let bytes = encode(rt.alloc(), &built)?;
+    let bytes = encoded_a(rt.alloc())?;
     assert_eq!(rt; bytes.as_slice(), A);
     Ok(())
 }
 
+fn encoded_b(alloc: Global) -> Result<Vec<u8>, AllocError> {
+    let built = built_b(alloc)?;
+    example_b_is_spelled();
+    encode(alloc, &built)
+}
+
 #[test]
 fn cube_module_has_151_bytes(rt: HostRuntime) -> Result<(), AllocError> {
-    let built = built_b(rt.alloc())?;
-    example_b_is_spelled();
-    let bytes = encode(rt.alloc(), &built)?;
+    let bytes = encoded_b(rt.alloc())?;
     assert_eq!(rt; bytes.as_slice(), B);
     Ok(())
 }

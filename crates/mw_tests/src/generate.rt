@@ -15,6 +15,7 @@ use mw_gen::{Part, generate, generate_part};
 use mw_ir::{Converted, Ir, IrFunc, IrFuncs, Place, Places};
 use mw_term::{Base, Ground, KType, Prim};
 use std::alloc::{AllocError, Global};
+use std::process::Abort;
 
 /// `7`, converted.
 fn seven(alloc: Global) -> Converted
@@ -199,24 +200,40 @@ const PART_OF_DOWN: &str = "Sequence { items: [\
     Num(I32(Add)), GlobalSet(0), LocalSet(0), LocalGet(0)] } }\n\
     None";
 
-/// Parts whose functions were worked out by hand.
-fn parts(alloc: Global) -> Result<[(String, &'static str); 3], AllocError> {
-    let int = KType::Ground(Ground::Base(Base::Int));
-    let int_to_int = KType::Fun(Ground::Base(Base::Int), Ground::Base(Base::Int));
-    let seven = printed_part(alloc, &seven(alloc), &int, 3)?;
-    let first = printed_part(alloc, &first_of_two(alloc)?, &int_to_int, 99_999)?;
-    let down = printed_part(alloc, &down(alloc)?, &int, 2)?;
-    Ok([
-        (seven, PART_OF_SEVEN),
-        (first, PART_OF_FIRST),
-        (down, PART_OF_DOWN),
-    ])
+fn part_of_seven(alloc: Global) -> Result<String, AllocError> {
+    let converted = seven(alloc);
+    printed_part(
+        alloc,
+        &converted,
+        &KType::Ground(Ground::Base(Base::Int)),
+        3,
+    )
+}
+
+fn part_of_first(alloc: Global) -> Result<String, AllocError> {
+    let converted = first_of_two(alloc)?;
+    let kind = KType::Fun(Ground::Base(Base::Int), Ground::Base(Base::Int));
+    printed_part(alloc, &converted, &kind, 99_999)
+}
+
+fn part_of_down(alloc: Global) -> Result<String, AllocError> {
+    let converted = down(alloc)?;
+    printed_part(
+        alloc,
+        &converted,
+        &KType::Ground(Ground::Base(Base::Int)),
+        2,
+    )
+}
+
+fn assert_text(rt: &impl Abort, found: String, wanted: &str) {
+    assert_eq!(rt; found.as_str(), wanted);
 }
 
 #[test]
 fn parts_behind_other_functions(rt: HostRuntime) -> Result<(), AllocError> {
-    for (got, want) in parts(rt.alloc())? {
-        assert_eq!(rt; got.as_str(), want);
-    }
+    assert_text(&rt, part_of_seven(rt.alloc())?, PART_OF_SEVEN);
+    assert_text(&rt, part_of_first(rt.alloc())?, PART_OF_FIRST);
+    assert_text(&rt, part_of_down(rt.alloc())?, PART_OF_DOWN);
     Ok(())
 }

@@ -3,6 +3,7 @@
 use mw_decode::BadModule;
 use mw_judge::{BadFile, FileFault, binary_text, judge, put_bad_file, put_verdict};
 use std::alloc::{AllocError, Global};
+use std::process::Abort;
 
 const BYTES: &[u8] = &[
     0x00, 0x61, 0x73, 0x6d, 0x01, 0x00, 0x00, 0x00, 0x01, 0x0b, 0x02, 0x60, 0x02, 0x7e, 0x7e, 0x01,
@@ -34,16 +35,26 @@ const INVALID: &str = "(module
 )
 ";
 
+/// The line of a file that isn't judged.
+fn line_of(alloc: Global, bad: BadFile) -> Result<Vec<u8>, AllocError> {
+    let mut line = Vec::new(alloc);
+    put_bad_file(alloc, &mut line, bad)?;
+    Ok(line)
+}
+
 /// The line of a fault, where memory is there.
 fn fault_line(alloc: Global, fault: FileFault) -> Result<Vec<u8>, AllocError> {
     match fault {
-        FileFault::Bad(bad) => {
-            let mut line = Vec::new(alloc);
-            put_bad_file(alloc, &mut line, bad)?;
-            Ok(line)
-        }
+        FileFault::Bad(bad) => line_of(alloc, bad),
         FileFault::Memory(error) => Err(error),
     }
+}
+
+/// The line of a verdict.
+fn verdict_line(alloc: Global, valid: bool) -> Result<Vec<u8>, AllocError> {
+    let mut line = Vec::new(alloc);
+    put_verdict(&mut line, valid)?;
+    Ok(line)
 }
 
 /// The text of a binary module, or the line of its fault.
@@ -57,11 +68,7 @@ fn written(alloc: Global, bytes: &[u8]) -> Result<Vec<u8>, AllocError> {
 /// The line of the verdict on a file, or of its fault.
 fn judged(alloc: Global, bytes: &[u8]) -> Result<Vec<u8>, AllocError> {
     match judge(alloc, bytes) {
-        Ok(valid) => {
-            let mut line = Vec::new(alloc);
-            put_verdict(&mut line, valid)?;
-            Ok(line)
-        }
+        Ok(valid) => verdict_line(alloc, valid),
         Err(fault) => fault_line(alloc, fault),
     }
 }
@@ -74,39 +81,44 @@ fn shortened(bytes: &[u8]) -> &[u8] {
     }
 }
 
+fn assert_written<R: Abort + AllocGlobal>(
+    rt: &R,
+    bytes: &[u8],
+    wanted: &str,
+) -> Result<(), AllocError> {
+    let answer = written(rt.alloc(), bytes)?;
+    assert_eq!(rt; answer.as_slice(), wanted.as_bytes());
+    Ok(())
+}
+
 #[test]
 fn binary_modules_are_written(rt: HostRuntime) -> Result<(), AllocError> {
-    let text = written(rt.alloc(), BYTES)?;
-    assert_eq!(rt; text.as_slice(), TEXT.as_bytes());
-    let faults = [
-        (shortened(BYTES), "short at 63\n"),
-        (TEXT.as_bytes(), "bad magic\n"),
-        ("".as_bytes(), "bad magic\n"),
-    ];
-    for (bytes, line) in faults {
-        let answer = written(rt.alloc(), bytes)?;
-        assert_eq!(rt; answer.as_slice(), line.as_bytes());
-    }
+    assert_written(&rt, BYTES, TEXT)?;
+    assert_written(&rt, shortened(BYTES), "short at 63\n")?;
+    assert_written(&rt, TEXT.as_bytes(), "bad magic\n")?;
+    assert_written(&rt, b"", "bad magic\n")
+}
+
+fn assert_judged<R: Abort + AllocGlobal>(
+    rt: &R,
+    bytes: &[u8],
+    line: &str,
+) -> Result<(), AllocError> {
+    let answer = judged(rt.alloc(), bytes)?;
+    assert_eq!(rt; answer.as_slice(), line.as_bytes());
     Ok(())
 }
 
 #[test]
 fn files_are_judged(rt: HostRuntime) -> Result<(), AllocError> {
-    let files = [
-        (BYTES, "valid\n"),
-        (TEXT.as_bytes(), "valid\n"),
-        (INVALID.as_bytes(), "invalid\n"),
-        (shortened(BYTES), "short at 63\n"),
-        ("".as_bytes(), "bad text at 0\n"),
-    ];
-    for (bytes, line) in files {
-        let answer = judged(rt.alloc(), bytes)?;
-        assert_eq!(rt; answer.as_slice(), line.as_bytes());
-    }
-    Ok(())
+    assert_judged(&rt, BYTES, "valid\n")?;
+    assert_judged(&rt, TEXT.as_bytes(), "valid\n")?;
+    assert_judged(&rt, INVALID.as_bytes(), "invalid\n")?;
+    assert_judged(&rt, shortened(BYTES), "short at 63\n")?;
+    assert_judged(&rt, b"", "bad text at 0\n")
 }
 
-const LINES: [(BadFile, &str); 8] = [
+const LINES: &[(BadFile, &str)] = &[
     (BadFile::Module(BadModule::Magic), "bad magic\n"),
     (BadFile::Module(BadModule::Section(0)), "bad section at 0\n"),
     (BadFile::Module(BadModule::Size(9)), "bad size at 9\n"),
@@ -128,9 +140,8 @@ const LINES: [(BadFile, &str); 8] = [
 
 #[test]
 fn faults_have_lines(rt: HostRuntime) -> Result<(), AllocError> {
-    for (fault, line) in LINES {
-        let mut text = Vec::new(rt.alloc());
-        put_bad_file(rt.alloc(), &mut text, fault)?;
+    for &(fault, line) in LINES {
+        let text = line_of(rt.alloc(), fault)?;
         assert_eq!(rt; text.as_slice(), line.as_bytes());
     }
     Ok(())

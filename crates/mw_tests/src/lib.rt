@@ -28,6 +28,8 @@ mod lines;
 #[cfg(test)]
 mod link;
 #[cfg(test)]
+mod parts;
+#[cfg(test)]
 mod sample;
 #[cfg(test)]
 mod section;

@@ -10,6 +10,7 @@ ghost use Rattle.mw_link.specs.Views.{kernel_of, kernels_of};
 use mw_link::{Linkable, functions, link};
 use mw_term::{Base, Ground, KType, Name, Prim, Term};
 use std::alloc::{AllocError, Global};
+use std::process::Abort;
 
 /// A name.
 fn name_of(alloc: Global, letters: &[u8]) -> Result<Name, AllocError>
@@ -231,19 +232,17 @@ const NAMES: &[u8] = &[
     0x42, 0x07, 0x0b, 0x08, 0x00, 0x41, 0x00, 0x24, 0x00, 0x42, 0x07, 0x0b,
 ];
 
+fn assert_bytes(rt: &impl Abort, found: Vec<u8>, wanted: &[u8]) {
+    assert_eq!(rt; found.as_slice(), wanted);
+}
+
 #[test]
 fn modules_of_kernels(rt: HostRuntime) -> Result<(), AllocError> {
-    let alloc = rt.alloc();
-    let modules = [
-        (none_linked(alloc)?, NONE),
-        (seven_linked(alloc)?, SEVEN),
-        (two_linked(alloc)?, TWO),
-        (copies_linked(alloc)?, COPIES),
-        (names_linked(alloc)?, NAMES),
-    ];
-    for (bytes, want) in modules {
-        assert_eq!(rt; bytes.as_slice(), want);
-    }
+    assert_bytes(&rt, none_linked(rt.alloc())?, NONE);
+    assert_bytes(&rt, seven_linked(rt.alloc())?, SEVEN);
+    assert_bytes(&rt, two_linked(rt.alloc())?, TWO);
+    assert_bytes(&rt, copies_linked(rt.alloc())?, COPIES);
+    assert_bytes(&rt, names_linked(rt.alloc())?, NAMES);
     Ok(())
 }
 
@@ -254,39 +253,55 @@ fn identity(alloc: Global) -> Result<Box<Term>, AllocError>
     boxed(alloc, Term::Fun(boxed(alloc, Term::Var(0))?))
 }
 
-/// Forms around identities, and how many functions they have.
-fn one_in(alloc: Global) -> Result<[(u32, u32); 5], AllocError> {
-    let body = Term::Fun(identity(alloc)?);
-    let recursive = Term::Rec(identity(alloc)?);
-    let first = Term::Fst(identity(alloc)?);
-    let second = Term::Snd(identity(alloc)?);
-    Ok([
-        (functions(&Term::Int(7)), 0),
-        (functions(&body), 2),
-        (functions(&recursive), 2),
-        (functions(&first), 1),
-        (functions(&second), 1),
-    ])
+// How many functions each form around identities has.
+
+fn in_fun(alloc: Global) -> Result<u32, AllocError> {
+    let code = Term::Fun(identity(alloc)?);
+    Ok(functions(&code))
 }
 
-/// Forms around two or three identities, and how many functions they have.
-fn several_in(alloc: Global) -> Result<[(u32, u32); 5], AllocError> {
-    let applied = Term::App(identity(alloc)?, identity(alloc)?);
-    let bound = Term::Let(identity(alloc)?, identity(alloc)?);
-    let chosen = Term::If(identity(alloc)?, identity(alloc)?, identity(alloc)?);
-    let paired = Term::Pair(identity(alloc)?, identity(alloc)?);
-    let summed = Term::Prim(Prim::Add, identity(alloc)?, identity(alloc)?);
-    Ok([
-        (functions(&applied), 2),
-        (functions(&bound), 2),
-        (functions(&chosen), 3),
-        (functions(&paired), 2),
-        (functions(&summed), 2),
-    ])
+fn in_rec(alloc: Global) -> Result<u32, AllocError> {
+    let code = Term::Rec(identity(alloc)?);
+    Ok(functions(&code))
 }
 
-/// `let rec f n = fun x -> x in f`, which has two functions.
-fn nested(alloc: Global) -> Result<u32, AllocError> {
+fn in_fst(alloc: Global) -> Result<u32, AllocError> {
+    let code = Term::Fst(identity(alloc)?);
+    Ok(functions(&code))
+}
+
+fn in_snd(alloc: Global) -> Result<u32, AllocError> {
+    let code = Term::Snd(identity(alloc)?);
+    Ok(functions(&code))
+}
+
+fn in_app(alloc: Global) -> Result<u32, AllocError> {
+    let code = Term::App(identity(alloc)?, identity(alloc)?);
+    Ok(functions(&code))
+}
+
+fn in_let(alloc: Global) -> Result<u32, AllocError> {
+    let code = Term::Let(identity(alloc)?, identity(alloc)?);
+    Ok(functions(&code))
+}
+
+fn in_if(alloc: Global) -> Result<u32, AllocError> {
+    let code = Term::If(identity(alloc)?, identity(alloc)?, identity(alloc)?);
+    Ok(functions(&code))
+}
+
+fn in_pair(alloc: Global) -> Result<u32, AllocError> {
+    let code = Term::Pair(identity(alloc)?, identity(alloc)?);
+    Ok(functions(&code))
+}
+
+fn in_prim(alloc: Global) -> Result<u32, AllocError> {
+    let code = Term::Prim(Prim::Add, identity(alloc)?, identity(alloc)?);
+    Ok(functions(&code))
+}
+
+/// `let rec f n = fun x -> x in f`.
+fn in_rec_in_let(alloc: Global) -> Result<u32, AllocError> {
     let recursive = boxed(alloc, Term::Rec(identity(alloc)?))?;
     let code = Term::Let(recursive, boxed(alloc, Term::Var(0))?);
     Ok(functions(&code))
@@ -295,12 +310,21 @@ fn nested(alloc: Global) -> Result<u32, AllocError> {
 #[test]
 fn functions_are_counted(rt: HostRuntime) -> Result<(), AllocError> {
     let alloc = rt.alloc();
-    for (count, want) in one_in(alloc)? {
-        assert_eq!(rt; count, want);
+    let counts = [
+        (functions(&Term::Int(7)), 0),
+        (in_fun(alloc)?, 2),
+        (in_rec(alloc)?, 2),
+        (in_fst(alloc)?, 1),
+        (in_snd(alloc)?, 1),
+        (in_app(alloc)?, 2),
+        (in_let(alloc)?, 2),
+        (in_if(alloc)?, 3),
+        (in_pair(alloc)?, 2),
+        (in_prim(alloc)?, 2),
+        (in_rec_in_let(alloc)?, 2),
+    ];
+    for (count, wanted) in counts {
+        assert_eq!(rt; count, wanted);
     }
-    for (count, want) in several_in(alloc)? {
-        assert_eq!(rt; count, want);
-    }
-    assert_eq!(rt; nested(alloc)?, 2);
     Ok(())
 }

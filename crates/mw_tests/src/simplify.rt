@@ -24,20 +24,35 @@ fn computed(alloc: Global, p: Prim, a: Term, b: Term) -> Result<Box<Term>, Alloc
     boxed(alloc, Term::Prim(p, a, b))
 }
 
+/// `if a = 5 then x * a else 1 / 0`.
+fn choice(alloc: Global) -> Result<Box<Term>, AllocError>
+    ensures { IfOk result (λ code. expression_of code.value
+        ≡ cond (prim Eq (var 1) (num (pos 5))) (prim Mul (var 2) (var 1)) (prim Div (num (pos 1)) (num (pos 0)))) }
+{
+    let test = computed(alloc, Prim::Eq, Term::Var(1), Term::Int(5))?;
+    let product = computed(alloc, Prim::Mul, Term::Var(2), Term::Var(1))?;
+    let trap = computed(alloc, Prim::Div, Term::Int(1), Term::Int(0))?;
+    boxed(alloc, Term::If(test, product, trap))
+}
+
+/// `(x, x)`.
+fn both(alloc: Global) -> Result<Box<Term>, AllocError>
+    ensures { IfOk result (λ code. expression_of code.value ≡ pair (var 1) (var 1)) }
+{
+    let first = boxed(alloc, Term::Var(1))?;
+    let second = boxed(alloc, Term::Var(1))?;
+    boxed(alloc, Term::Pair(first, second))
+}
+
 /// `let b = (x, x) in if a = 5 then x * a else 1 / 0`.
 fn inner(alloc: Global) -> Result<Box<Term>, AllocError>
     ensures { IfOk result
         (λ code. expression_of code.value ≡ bind (pair (var 1) (var 1))
         (cond (prim Eq (var 1) (num (pos 5))) (prim Mul (var 2) (var 1)) (prim Div (num (pos 1)) (num (pos 0))))) }
 {
-    let product = computed(alloc, Prim::Mul, Term::Var(2), Term::Var(1))?;
-    let trap = computed(alloc, Prim::Div, Term::Int(1), Term::Int(0))?;
-    let test = computed(alloc, Prim::Eq, Term::Var(1), Term::Int(5))?;
-    let choice = boxed(alloc, Term::If(test, product, trap))?;
-    let first = boxed(alloc, Term::Var(1))?;
-    let second = boxed(alloc, Term::Var(1))?;
-    let both = boxed(alloc, Term::Pair(first, second))?;
-    boxed(alloc, Term::Let(both, choice))
+    let definition = both(alloc)?;
+    let rest = choice(alloc)?;
+    boxed(alloc, Term::Let(definition, rest))
 }
 
 /// `fun x -> let a = 2 + 3 in let b = (x, x) in if a = 5 then x * a else 1 / 0`.

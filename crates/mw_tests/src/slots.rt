@@ -6,7 +6,6 @@ ghost use Rattle.mw_slots.specs.Receipts.{IsOf};
 use mw_slots::{Make, Named, NoRoom, Receipt, Receipts, Refused, Table};
 use std::alloc::{AllocError, Global};
 use std::sync::{Arc, Wait};
-use std::test::Fail;
 use std::thread;
 use std::thread::Threads;
 
@@ -157,32 +156,75 @@ fn has_no_memory(answer: &Result<Receipt<Word>, Refused<Word>>) -> bool {
     }
 }
 
+/// Whether a maker's word of this name gets this slot, and is read there.
+fn is_made_at(
+    alloc: Global,
+    table: &Table<Word>,
+    home: u8,
+    number: u8,
+    slot: u32,
+    maker: &mut Maker,
+) -> Result<bool, Refused<Word>> {
+    let receipt = fetched(alloc, table, home, number, maker)?;
+    Ok(is_at(alloc, table, &receipt, slot, &[home, number])?)
+}
+
+/// Whether a word of this name is in this slot, and is read there.
+fn is_found_at(
+    alloc: Global,
+    table: &Table<Word>,
+    home: u8,
+    number: u8,
+    slot: u32,
+) -> Result<bool, Refused<Word>> {
+    let receipt = fetched(alloc, table, home, number, &mut NoMaker)?;
+    Ok(is_at(alloc, table, &receipt, slot, &[home, number])?)
+}
+
+/// Whether sixteen names get the slots of their window.
+fn are_made(
+    alloc: Global,
+    table: &Table<Word>,
+    window: &Window,
+    maker: &mut Maker,
+) -> Result<bool, Refused<Word>> {
+    let mut fine = true;
+    for number in 0..16u8 {
+        let slot = window.places[number as usize];
+        fine = fine && is_made_at(alloc, table, window.home, number, slot, maker)?;
+    }
+    Ok(fine)
+}
+
+/// Whether they are there afterwards.
+fn are_found(alloc: Global, table: &Table<Word>, window: &Window) -> Result<bool, Refused<Word>> {
+    let mut fine = true;
+    for number in 0..16u8 {
+        let slot = window.places[number as usize];
+        fine = fine && is_found_at(alloc, table, window.home, number, slot)?;
+    }
+    Ok(fine)
+}
+
+/// Whether a name more finds no room.
+fn is_too_many(alloc: Global, table: &Table<Word>, window: &Window, maker: &mut Maker) -> bool {
+    let answer = fetched(alloc, table, window.home, 16, maker);
+    has_no_room(&answer, window, &[window.home, 16])
+}
+
 /// Whether sixteen names get the slots of their window, a name more finds no room, and the sixteen are read as before.
 fn fills(alloc: Global, window: &Window) -> Result<bool, Refused<Word>>
     requires { 16 ≤ window.now.slots }
 {
     let table = Table::new(alloc, window.slots)?;
     let mut maker = Maker { made: 0 };
-    let mut fine = true;
-    for number in 0..16u8 {
-        let receipt = fetched(alloc, &table, window.home, number, &mut maker)?;
-        let place = window.places[number as usize];
-        fine = fine && is_at(alloc, &table, &receipt, place, &[window.home, number])?;
-    }
-    fine = fine && maker.made == 16;
-    let none = fetched(alloc, &table, window.home, 16, &mut maker);
-    fine = fine && has_no_room(&none, window, &[window.home, 16]);
-    fine = fine && maker.made == 17;
-    for number in 0..16u8 {
-        let receipt = fetched(alloc, &table, window.home, number, &mut NoMaker)?;
-        let place = window.places[number as usize];
-        fine = fine && is_at(alloc, &table, &receipt, place, &[window.home, number])?;
-    }
-    Ok(fine)
+    let made = are_made(alloc, &table, window, &mut maker)? && maker.made == 16;
+    let full = is_too_many(alloc, &table, window, &mut maker) && maker.made == 17;
+    Ok(made && full && are_found(alloc, &table, window)?)
 }
 
 #[test]
-fn full_window_has_no_room(rt: HostRuntime) -> Result<(), Fail> {
+fn full_window_has_no_room(rt: HostRuntime) -> Result<(), AllocError> {
     for window in WINDOWS {
         assert!(rt; window.slots >= 16);
         assert!(rt;
@@ -204,7 +246,7 @@ fn refused(alloc: Global) -> Result<bool, Refused<Word>> {
 }
 
 #[test]
-fn refused_memory_fills_nothing(rt: HostRuntime) -> Result<(), Fail> {
+fn refused_memory_fills_nothing(rt: HostRuntime) -> Result<(), AllocError> {
     assert!(rt; matches!(refused(rt.alloc()), Ok(true)));
     Ok(())
 }
@@ -238,25 +280,46 @@ fn two_ask<R: Threads + Wait>(
     })
 }
 
-/// Whether two threads get one slot for each name, and each name is read afterwards.
-fn agree<R: Threads + Wait>(rt: &R, alloc: Global) -> Result<bool, Refused<Word>> {
-    let table = Table::new(alloc, 1024)?;
-    let (one, two) = two_ask(rt, alloc, &table)?;
+/// Whether a name's slot is that of its receipt in both lists, and the name is read there.
+fn is_in_both(
+    alloc: Global,
+    table: &Table<Word>,
+    one: &Receipts<Word>,
+    two: &Receipts<Word>,
+    number: u8,
+) -> Result<bool, Refused<Word>> {
+    let receipt = fetched(alloc, table, 200, number, &mut NoMaker)?;
+    let at = number as usize;
+    let listed = at < one.len() && at < two.len();
+    let same = listed
+        && one.get(at).slot() == receipt.slot()
+        && two.get(at).slot() == receipt.slot();
+    Ok(same && table.read(&receipt).name() == [200, number].as_slice())
+}
+
+/// Whether both lists have one slot for each of the eight names.
+fn are_in_both(
+    alloc: Global,
+    table: &Table<Word>,
+    one: &Receipts<Word>,
+    two: &Receipts<Word>,
+) -> Result<bool, Refused<Word>> {
     let mut fine = one.len() == 8 && two.len() == 8;
     for number in 0..8u8 {
-        let at = number as usize;
-        let receipt = fetched(alloc, &table, 200, number, &mut NoMaker)?;
-        if at < one.len() && at < two.len() {
-            fine = fine && one.get(at).slot() == receipt.slot();
-            fine = fine && two.get(at).slot() == receipt.slot();
-        }
-        fine = fine && table.read(&receipt).name() == [200, number].as_slice();
+        fine = fine && is_in_both(alloc, table, one, two, number)?;
     }
     Ok(fine)
 }
 
+/// Whether two threads get one slot for each name, and each name is read afterwards.
+fn agree<R: Threads + Wait>(rt: &R, alloc: Global) -> Result<bool, Refused<Word>> {
+    let table = Table::new(alloc, 1024)?;
+    let (one, two) = two_ask(rt, alloc, &table)?;
+    are_in_both(alloc, &table, &one, &two)
+}
+
 #[test]
-fn two_threads_have_one_slot(rt: HostRuntime) -> Result<(), Fail> {
+fn two_threads_have_one_slot(rt: HostRuntime) -> Result<(), AllocError> {
     for round in 0..100u32 {
         assert!(rt; matches!(agree(&rt, rt.alloc()), Ok(true)), "round {round}");
     }

@@ -1,8 +1,8 @@
 // The record of the constant 7, and what is loaded of files that hold it. Its digest was worked out by another program.
 
-use mw_store::{load_of, record_of};
+use mw_store::{Load, load_of, record_of};
+use std::alloc::{AllocError, Global};
 use std::process::Abort;
-use std::test::Fail;
 
 /// The text of 7 at type int, of version 1.
 const TEXT: &[u8] = b"emit1 int i 7";
@@ -34,7 +34,7 @@ struct File {
     good: usize,
 }
 
-const FILES: [File; 9] = [
+const FILES: &[File] = &[
     File {
         records: 0,
         cut: 0,
@@ -109,26 +109,37 @@ const FILES: [File; 9] = [
     },
 ];
 
-/// The file's bytes.
-fn bytes_of<R: Abort + AllocGlobal>(rt: &R, file: &File) -> Result<Vec<u8>, Fail> {
-    let alloc = rt.alloc();
-    let mut bytes = Vec::new(alloc);
-    for _ in 0..file.records {
-        bytes.extend_from_slice(record_of(alloc, TEXT, MODULE)?.as_slice())?;
+/// Adds so many records of 7.
+fn add_records(alloc: Global, bytes: &mut Vec<u8>, count: usize) -> Result<(), AllocError> {
+    for _ in 0..count {
+        let record_bytes = record_of(alloc, TEXT, MODULE)?;
+        bytes.extend_from_slice(record_bytes.as_slice())?;
     }
+    Ok(())
+}
+
+/// Cuts and changes bytes as those of the file are.
+fn spoil<R: Abort>(rt: &R, bytes: &mut Vec<u8>, file: &File) {
     assert!(rt; file.cut <= bytes.len());
     bytes.truncate(bytes.len() - file.cut);
     if let Some(at) = file.changed {
         assert!(rt; at < bytes.len());
         bytes[at] ^= 1;
     }
+}
+
+/// The file's bytes.
+fn bytes_of<R: Abort + AllocGlobal>(rt: &R, file: &File) -> Result<Vec<u8>, AllocError> {
+    let mut bytes = Vec::new(rt.alloc());
+    add_records(rt.alloc(), &mut bytes, file.records)?;
+    spoil(rt, &mut bytes, file);
     bytes.extend_from_slice(file.behind)?;
     Ok(bytes)
 }
 
 /// The record of 7 has 117 bytes: both lengths, text, module and digest.
 #[test]
-fn record_of_seven(rt: HostRuntime) -> Result<(), Fail> {
+fn record_of_seven(rt: HostRuntime) -> Result<(), AllocError> {
     let record_bytes = record_of(rt.alloc(), TEXT, MODULE)?;
     let bytes = record_bytes.as_slice();
     assert!(rt; bytes.len() == 117);
@@ -139,33 +150,54 @@ fn record_of_seven(rt: HostRuntime) -> Result<(), Fail> {
     Ok(())
 }
 
+/// What is loaded of a file.
+fn loaded<R: Abort + AllocGlobal>(rt: &R, file: &File) -> Result<Load, AllocError> {
+    let bytes = bytes_of(rt, file)?;
+    load_of(rt.alloc(), bytes.as_slice())
+}
+
+/// Whether the record of 7 counts alone, with its text and its module.
+fn has_seven(load: &Load) -> bool {
+    load.count() == 1
+        && load.find(TEXT) == Some(0)
+        && load.text(0) == TEXT
+        && load.bytes(0) == MODULE
+}
+
 /// What is loaded of each file.
 #[test]
-fn loads_what_counts(rt: HostRuntime) -> Result<(), Fail> {
-    for file in FILES.as_slice() {
-        let bytes = bytes_of(&rt, file)?;
-        let load = load_of(rt.alloc(), bytes.as_slice())?;
+fn loads_what_counts(rt: HostRuntime) -> Result<(), AllocError> {
+    for file in FILES {
+        let load = loaded(&rt, file)?;
         assert!(rt; load.count() == file.count);
         assert!(rt; load.good() == file.good);
-        if load.count() == 1 {
-            assert!(rt; load.find(TEXT) == Some(0));
-            assert!(rt; load.text(0) == TEXT);
-            assert!(rt; load.bytes(0) == MODULE);
-        }
+        assert!(rt; has_seven(&load) == (file.count == 1));
     }
     Ok(())
 }
 
+fn load_of_seven(alloc: Global) -> Result<Load, AllocError> {
+    let record_bytes = record_of(alloc, TEXT, MODULE)?;
+    load_of(alloc, record_bytes.as_slice())
+}
+
+/// Whether the module that is given has two types and one function; false where there is none.
+fn gives_module(alloc: Global, load: &Load) -> bool {
+    if load.count() != 1 {
+        return false;
+    }
+    match load.module(alloc, 0) {
+        Ok(wasm) => wasm.module().types.len() == 2 && wasm.module().funcs.len() == 1,
+        Err(_) => false,
+    }
+}
+
 /// A loaded module is the same when it is asked for again.
 #[test]
-fn loaded_modules_stay(rt: HostRuntime) -> Result<(), Fail> {
-    let record_bytes = record_of(rt.alloc(), TEXT, MODULE)?;
-    let load = load_of(rt.alloc(), record_bytes.as_slice())?;
-    assert!(rt; load.count() == 1);
-    for _ in 0..2 {
-        let wasm = load.module(rt.alloc(), 0)?;
-        assert!(rt; wasm.module().types.len() == 2);
-        assert!(rt; wasm.module().funcs.len() == 1);
+fn loaded_modules_stay(rt: HostRuntime) -> Result<(), AllocError> {
+    let load = load_of_seven(rt.alloc())?;
+    for time in 0..2u8 {
+        assert!(rt; gives_module(rt.alloc(), &load), "time {time}");
     }
     Ok(())
 }

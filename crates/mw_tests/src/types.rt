@@ -1,9 +1,9 @@
 // Equations whose answers are known by hand.
 
-use mw_types::{Equation, Equations, Pairs, SolveFault, Ty, solve};
+ghost use Rattle.std.specs.Prelude.{◌≤◌, length};
+
+use mw_types::{Equation, Equations, Pairs, SolveFault, Solved, Ty, solve};
 use std::alloc::{AllocError, Global};
-use std::process::Abort;
-use std::test::Fail;
 
 fn pair(alloc: Global, left: Ty, right: Ty) -> Result<Ty, AllocError> {
     Ok(Ty::Pair(Box::new(alloc, left)?, Box::new(alloc, right)?))
@@ -70,45 +70,58 @@ fn show(alloc: Global, text: &mut String, ty: &Ty) -> Result<(), AllocError> {
     }
 }
 
-/// The types of all unknowns, then the classifiers; or the fault.
-fn answer<R: Abort + AllocGlobal>(
-    rt: &R,
+/// The types of so many unknowns, then so many classifiers.
+fn put_solution(
+    alloc: Global,
+    text: &mut String,
+    solved: &Solved,
     unknowns: u64,
     classifiers: u64,
-    pairs: Pairs,
-) -> Result<String, Fail> {
-    let alloc = rt.alloc();
-    let equations = Equations {
-        unknowns,
-        classifiers,
-        pairs,
-    };
-    assert!(rt; equations.is_within());
+) -> Result<(), AllocError>
+    requires types { unknowns ≤ length solved.now.types }
+    requires classifiers { classifiers ≤ length solved.now.classifiers }
+{
+    for unknown in 0..unknowns {
+        show(alloc, text, solved.ty(unknown))?;
+        text.push_str(" ")?;
+    }
+    for number in 0..classifiers {
+        let name = solved.classifier(number);
+        text.push_str(format!(in alloc; "{name} ")?.as_str())?;
+    }
+    Ok(())
+}
+
+fn fault_shown(alloc: Global, fault: SolveFault) -> Result<String, AllocError> {
+    match fault {
+        SolveFault::Unsolvable(k) => format!(in alloc; "unsolvable {k}"),
+        SolveFault::TooBig(k) => format!(in alloc; "too big {k}"),
+        SolveFault::Memory(error) => Err(error),
+    }
+}
+
+/// The types of all unknowns, then the classifiers; or the fault.
+fn answer(alloc: Global, equations: &Equations) -> Result<String, AllocError> {
     let mut text = String::new(alloc);
-    match solve(alloc, &equations) {
-        Ok(solved) => {
-            for unknown in 0..unknowns {
-                show(alloc, &mut text, solved.ty(unknown))?;
-                text.push_str(" ")?;
-            }
-            for number in 0..classifiers {
-                let name = solved.classifier(number);
-                text.push_str(format!(in alloc; "{name} ")?.as_str())?;
-            }
-        }
-        Err(SolveFault::Unsolvable(k)) => {
-            text.push_str(format!(in alloc; "unsolvable {k}")?.as_str())?;
-        }
-        Err(SolveFault::TooBig(k)) => {
-            text.push_str(format!(in alloc; "too big {k}")?.as_str())?;
-        }
-        Err(SolveFault::Memory(_)) => text.push_str("memory")?,
+    if !equations.is_within() {
+        text.push_str("past a bound")?;
+        return Ok(text);
+    }
+    match solve(alloc, equations) {
+        Ok(solved) => put_solution(
+            alloc,
+            &mut text,
+            &solved,
+            equations.unknowns,
+            equations.classifiers,
+        )?,
+        Err(fault) => return fault_shown(alloc, fault),
     }
     Ok(text)
 }
 
 /// Thirteen doublings, the last of which gives the first unknown 16,383 nodes.
-fn doublings(alloc: Global, pairs: &mut Pairs) -> Result<(), AllocError> {
+fn put_doublings(alloc: Global, pairs: &mut Pairs) -> Result<(), AllocError> {
     for unknown in 0..13 {
         let right = pair(alloc, Ty::Unknown(unknown + 1), Ty::Unknown(unknown + 1))?;
         put(pairs, unknown, right)?;
@@ -118,7 +131,7 @@ fn doublings(alloc: Global, pairs: &mut Pairs) -> Result<(), AllocError> {
 
 /// Gives unknown 0 a type of 10,000 nodes: from unknown 17, which is int, pairs of one type and `closed` lead to 3, 7,
 /// 8, 17, 18, 37, 38, 77, 155, 311, 623, 624, 1,249, 2,499, 4,999, 9,999 and 10,000 nodes.
-fn ten_thousand(alloc: Global, pairs: &mut Pairs) -> Result<(), AllocError> {
+fn put_ten_thousand(alloc: Global, pairs: &mut Pairs) -> Result<(), AllocError> {
     for unknown in 0..17 {
         let below = unknown + 1;
         let right = if matches!(unknown, 0 | 5 | 10 | 12 | 14) {
@@ -131,103 +144,130 @@ fn ten_thousand(alloc: Global, pairs: &mut Pairs) -> Result<(), AllocError> {
     put(pairs, 17, Ty::Int)
 }
 
-/// Equations, the numbers of their unknowns and classifiers, and the wanted answer.
-#[derive(Drop)]
-struct Case {
-    unknowns: u64,
-    classifiers: u64,
-    pairs: Pairs,
-    wanted: &'static str,
+fn put_free(alloc: Global, pairs: &mut Pairs) -> Result<(), AllocError> {
+    put(pairs, 0, arrow(alloc, Ty::Unknown(1), Ty::Unknown(2))?)?;
+    put(pairs, 1, Ty::Unknown(2))
 }
 
-fn add(
-    cases: &mut Vec<Case>,
+fn put_codes(alloc: Global, pairs: &mut Pairs) -> Result<(), AllocError> {
+    for unknown in 0..3 {
+        put(pairs, unknown, code(alloc, unknown, Ty::Int)?)?;
+    }
+    put(pairs, 1, Ty::Unknown(2))?;
+    put(pairs, 0, Ty::Unknown(2))
+}
+
+fn put_cycle(alloc: Global, pairs: &mut Pairs) -> Result<(), AllocError> {
+    put(pairs, 0, code(alloc, 0, Ty::Unknown(1))?)?;
+    put(pairs, 1, pair(alloc, Ty::Unknown(0), Ty::Bool)?)?;
+    put(pairs, 0, Ty::Int)
+}
+
+fn put_clash(alloc: Global, pairs: &mut Pairs) -> Result<(), AllocError> {
+    put(pairs, 0, pair(alloc, Ty::Int, Ty::Bool)?)?;
+    put(pairs, 0, arrow(alloc, Ty::Int, Ty::Bool)?)
+}
+
+/// A type with a part that it is itself.
+fn put_inside_itself(alloc: Global, pairs: &mut Pairs) -> Result<(), AllocError> {
+    put(pairs, 13, pair(alloc, Ty::Unknown(13), Ty::Int)?)
+}
+
+/// Lists of equations.
+#[derive(Clone, Copy)]
+enum List {
+    Empty,
+    Free,
+    Codes,
+    Cycle,
+    Clash,
+    /// A type is too big before one would be inside itself.
+    BigFirst,
+    /// The other way round.
+    BigLater,
+    /// A type of 10,000 nodes, and one of one more.
+    Higher,
+}
+
+fn put_list(alloc: Global, pairs: &mut Pairs, list: List) -> Result<(), AllocError> {
+    match list {
+        List::Empty => Ok(()),
+        List::Free => put_free(alloc, pairs),
+        List::Codes => put_codes(alloc, pairs),
+        List::Cycle => put_cycle(alloc, pairs),
+        List::Clash => put_clash(alloc, pairs),
+        List::BigFirst => {
+            put_doublings(alloc, pairs)?;
+            put_inside_itself(alloc, pairs)
+        }
+        List::BigLater => {
+            put_inside_itself(alloc, pairs)?;
+            put_doublings(alloc, pairs)
+        }
+        List::Higher => {
+            put_ten_thousand(alloc, pairs)?;
+            put(pairs, 18, closed(alloc, Ty::Unknown(0))?)
+        }
+    }
+}
+
+/// Equations, the numbers of their unknowns and classifiers, and the wanted answer.
+const CASES: &[(List, u64, u64, &str)] = &[
+    (List::Empty, 1, 1, "u0 0 "),
+    (List::Free, 3, 0, "(u1 -> u1) u1 u1 "),
+    (List::Codes, 3, 4, "<int>'0 <int>'0 <int>'0 0 0 0 3 "),
+    (List::Cycle, 2, 1, "unsolvable 2"),
+    (List::Clash, 1, 0, "unsolvable 2"),
+    (List::BigFirst, 14, 0, "too big 13"),
+    (List::BigLater, 14, 0, "unsolvable 1"),
+    (List::Higher, 19, 0, "too big 19"),
+];
+
+fn equations_of(
+    alloc: Global,
+    list: List,
     unknowns: u64,
     classifiers: u64,
-    pairs: Pairs,
-    wanted: &'static str,
-) -> Result<(), Fail> {
-    cases.push(Case {
+) -> Result<Equations, AllocError> {
+    let mut pairs = Pairs::new(alloc);
+    put_list(alloc, &mut pairs, list)?;
+    Ok(Equations {
         unknowns,
         classifiers,
         pairs,
-        wanted,
-    })?;
-    Ok(())
-}
-
-fn solved_cases(alloc: Global, cases: &mut Vec<Case>) -> Result<(), Fail> {
-    add(cases, 1, 1, Pairs::new(alloc), "u0 0 ")?;
-
-    let mut free = Pairs::new(alloc);
-    put(&mut free, 0, arrow(alloc, Ty::Unknown(1), Ty::Unknown(2))?)?;
-    put(&mut free, 1, Ty::Unknown(2))?;
-    add(cases, 3, 0, free, "(u1 -> u1) u1 u1 ")?;
-
-    let mut codes = Pairs::new(alloc);
-    for unknown in 0..3 {
-        put(&mut codes, unknown, code(alloc, unknown, Ty::Int)?)?;
-    }
-    put(&mut codes, 1, Ty::Unknown(2))?;
-    put(&mut codes, 0, Ty::Unknown(2))?;
-    add(cases, 3, 4, codes, "<int>'0 <int>'0 <int>'0 0 0 0 3 ")
-}
-
-fn faulty_cases(alloc: Global, cases: &mut Vec<Case>) -> Result<(), Fail> {
-    let mut cycle = Pairs::new(alloc);
-    put(&mut cycle, 0, code(alloc, 0, Ty::Unknown(1))?)?;
-    put(&mut cycle, 1, pair(alloc, Ty::Unknown(0), Ty::Bool)?)?;
-    put(&mut cycle, 0, Ty::Int)?;
-    add(cases, 2, 1, cycle, "unsolvable 2")?;
-
-    let mut clash = Pairs::new(alloc);
-    put(&mut clash, 0, pair(alloc, Ty::Int, Ty::Bool)?)?;
-    put(&mut clash, 0, arrow(alloc, Ty::Int, Ty::Bool)?)?;
-    add(cases, 1, 0, clash, "unsolvable 2")?;
-
-    let mut behind = Pairs::new(alloc);
-    doublings(alloc, &mut behind)?;
-    put(&mut behind, 13, pair(alloc, Ty::Unknown(13), Ty::Int)?)?;
-    add(cases, 14, 0, behind, "too big 13")?;
-
-    let mut before = Pairs::new(alloc);
-    put(&mut before, 13, pair(alloc, Ty::Unknown(13), Ty::Int)?)?;
-    doublings(alloc, &mut before)?;
-    add(cases, 14, 0, before, "unsolvable 1")?;
-
-    let mut higher = Pairs::new(alloc);
-    ten_thousand(alloc, &mut higher)?;
-    put(&mut higher, 18, closed(alloc, Ty::Unknown(0))?)?;
-    add(cases, 19, 0, higher, "too big 19")
+    })
 }
 
 #[test]
-fn answers_are_as_by_hand(rt: HostRuntime) -> Result<(), Fail> {
-    let alloc = rt.alloc();
-    let mut cases = Vec::new(alloc);
-    solved_cases(alloc, &mut cases)?;
-    faulty_cases(alloc, &mut cases)?;
-    for case in cases {
-        let text = answer(&rt, case.unknowns, case.classifiers, case.pairs)?;
-        assert_eq!(rt; text.as_str(), case.wanted);
+fn answers_are_as_by_hand(rt: HostRuntime) -> Result<(), AllocError> {
+    for &(list, unknowns, classifiers, wanted) in CASES {
+        let equations = equations_of(rt.alloc(), list, unknowns, classifiers)?;
+        let text = answer(rt.alloc(), &equations)?;
+        assert_eq!(rt; text.as_str(), wanted);
     }
     Ok(())
 }
 
-#[test]
-fn ten_thousand_nodes_fit(rt: HostRuntime) -> Result<(), Fail> {
-    let alloc = rt.alloc();
+/// The nodes of the type that unknown 0 is given; 0 where there is no solution.
+fn nodes_of_first(alloc: Global) -> Result<u64, AllocError> {
     let mut pairs = Pairs::new(alloc);
-    ten_thousand(alloc, &mut pairs)?;
+    put_ten_thousand(alloc, &mut pairs)?;
     let equations = Equations {
         unknowns: 18,
         classifiers: 0,
         pairs,
     };
-    assert!(rt; equations.is_within());
-    match solve(alloc, &equations) {
-        Ok(solved) => assert_eq!(rt; nodes(solved.ty(0)), 10000),
-        Err(_) => assert!(rt; false),
+    if !equations.is_within() {
+        return Ok(0);
     }
+    match solve(alloc, &equations) {
+        Ok(solved) => Ok(nodes(solved.ty(0))),
+        Err(_) => Ok(0),
+    }
+}
+
+#[test]
+fn ten_thousand_nodes_fit(rt: HostRuntime) -> Result<(), AllocError> {
+    assert_eq!(rt; nodes_of_first(rt.alloc())?, 10_000);
     Ok(())
 }

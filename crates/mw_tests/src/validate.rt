@@ -44,14 +44,6 @@ fn module(alloc: Global, results: u8, pages: u32, body: Instrs) -> Result<Module
     })
 }
 
-fn code(alloc: Global, instructions: Vec<Instr>) -> Result<Instrs, AllocError> {
-    let mut body = Instrs::new(alloc);
-    for instruction in instructions {
-        body.push(instruction)?;
-    }
-    Ok(body)
-}
-
 /// The fault of a module of one function, if it isn't valid.
 fn fault(
     alloc: Global,
@@ -66,42 +58,78 @@ fn fault(
     }
 }
 
+/// The fault of a function that begins with `unreachable`.
+fn fault_of_limits(alloc: Global, results: u8, pages: u32) -> Result<Option<Invalid>, AllocError> {
+    let mut body = Instrs::new(alloc);
+    body.push(Instr::Unreachable)?;
+    fault(alloc, results, pages, body)
+}
+
+/// How many results and pages there are, and the fault.
+const LIMITS: &[(u8, u32, Option<Invalid>)] = &[
+    (0, 65_536, None),
+    (
+        0,
+        65_537,
+        Some(Invalid::Part {
+            section: 5,
+            index: 0,
+        }),
+    ),
+    (1, 0, None),
+    (
+        2,
+        0,
+        Some(Invalid::Part {
+            section: 1,
+            index: 0,
+        }),
+    ),
+];
+
 #[test]
 fn limits_are_those_of_the_standard(rt: HostRuntime) -> Result<(), AllocError> {
-    let memory = Invalid::Part {
-        section: 5,
-        index: 0,
-    };
-    let types = Invalid::Part {
-        section: 1,
-        index: 0,
-    };
-    for (results, pages, expected) in [
-        (0, 65_536, None),
-        (0, 65_537, Some(memory)),
-        (1, 0, None),
-        (2, 0, Some(types)),
-    ] {
-        let body = code(rt.alloc(), vec![in rt.alloc(); Instr::Unreachable]?)?;
-        let found = fault(rt.alloc(), results, pages, body)?;
+    for &(results, pages, expected) in LIMITS {
+        let found = fault_of_limits(rt.alloc(), results, pages)?;
         assert_eq!(rt; found, expected, "at {results} results, {pages} pages");
     }
     Ok(())
 }
 
+/// Instructions behind which nothing is reached.
+fn put_dead(body: &mut Instrs) -> Result<(), AllocError> {
+    body.push(Instr::Unreachable)?;
+    body.push(Instr::Select)?;
+    body.push(Instr::Drop)
+}
+
 #[test]
 fn unreached_operands_are_any(rt: HostRuntime) -> Result<(), AllocError> {
-    let dead = vec![in rt.alloc(); Instr::Unreachable, Instr::Select, Instr::Drop]?;
-    let found = fault(rt.alloc(), 0, 0, code(rt.alloc(), dead)?)?;
+    let mut body = Instrs::new(rt.alloc());
+    put_dead(&mut body)?;
+    let found = fault(rt.alloc(), 0, 0, body)?;
     assert_eq!(rt; found, None);
     Ok(())
 }
 
+/// A block in which an operand is missing.
+fn faulty_block(alloc: Global) -> Result<Instr, AllocError> {
+    let mut inner = Instrs::new(alloc);
+    inner.push(Instr::Drop)?;
+    Ok(Instr::Block(None, inner))
+}
+
+/// The fault of a function with an instruction before that block.
+fn fault_of_block(alloc: Global) -> Result<Option<Invalid>, AllocError> {
+    let mut outer = Instrs::new(alloc);
+    outer.push(Instr::Nop)?;
+    outer.push(faulty_block(alloc)?)?;
+    fault(alloc, 0, 0, outer)
+}
+
 #[test]
 fn instructions_are_counted_inside_blocks_too(rt: HostRuntime) -> Result<(), AllocError> {
-    let inner = code(rt.alloc(), vec![in rt.alloc(); Instr::Drop]?)?;
-    let outer = vec![in rt.alloc(); Instr::Nop, Instr::Block(None, inner)]?;
-    let found = fault(rt.alloc(), 0, 0, code(rt.alloc(), outer)?)?;
+    let found = fault_of_block(rt.alloc())?;
     assert_eq!(rt; found, Some(Invalid::Body { func: 0, instr: 2 }));
     Ok(())
 }

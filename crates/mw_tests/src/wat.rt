@@ -70,16 +70,19 @@ offset=4294967295 exp=12 i64.store offset=4294967295 exp=13 i32.store8 offset=42
 offset=4294967295 exp=15 i64.store8 offset=4294967295 exp=16 i64.store16 offset=4294967295 exp=17 \
 i64.store32 offset=4294967295 exp=18)\n)\n";
 
+const CANONICAL: &[&[u8]] = &[CONSTANT, CUBE, WORDS, b"(module\n)\n"];
+
 #[test]
 fn canonical_texts_are_read(rt: HostRuntime) -> Result<(), Fail> {
-    for text in [CONSTANT, CUBE, WORDS, b"(module\n)\n"] {
-        assert_eq!(rt; rewritten(rt.alloc(), text)?.as_slice(), text);
+    for &text in CANONICAL {
+        let found = rewritten(rt.alloc(), text)?;
+        assert_eq!(rt; found.as_slice(), text);
     }
     Ok(())
 }
 
 /// Texts, and the canonical texts of the same modules.
-const SPELLINGS: [(&str, &str); 5] = [
+const SPELLINGS: &[(&str, &str)] = &[
     ("(module)", "(module\n)\n"),
     ("\t\r\n ( module ) ", "(module\n)\n"),
     (
@@ -98,17 +101,15 @@ const SPELLINGS: [(&str, &str); 5] = [
 
 #[test]
 fn other_spellings_are_read(rt: HostRuntime) -> Result<(), Fail> {
-    for (text, canonical) in SPELLINGS {
-        assert_eq!(rt;
-            rewritten(rt.alloc(), text.as_bytes())?.as_slice(),
-            canonical.as_bytes()
-        );
+    for &(text, canonical) in SPELLINGS {
+        let found = rewritten(rt.alloc(), text.as_bytes())?;
+        assert_eq!(rt; found.as_slice(), canonical.as_bytes());
     }
     Ok(())
 }
 
 /// Texts of no module, and their first bad places.
-const REFUSED: [(&str, u32); 46] = [
+const REFUSED: &[(&str, u32)] = &[
     ("", 0),
     ("(modul)", 1),
     ("(module", 7),
@@ -158,51 +159,54 @@ const REFUSED: [(&str, u32); 46] = [
 ];
 
 #[test]
-fn refused_texts_have_places(rt: HostRuntime) -> Result<(), Fail> {
-    for (text, at) in REFUSED {
-        assert_eq!(rt; bad_place(rt.alloc(), text.as_bytes())?, Some(at), "{text}");
+fn refused_texts_have_places(rt: HostRuntime) -> Result<(), AllocError> {
+    for &(text, at) in REFUSED {
+        let found = bad_place(rt.alloc(), text.as_bytes())?;
+        assert_eq!(rt; found, Some(at), "{text}");
     }
     Ok(())
 }
 
-/// A function in which blocks stand this deep.
-fn nested(alloc: Global, depth: u32) -> Result<Vec<u8>, AllocError> {
-    let mut text = Vec::from_slice(alloc, b"(module (func (type 0)")?;
-    for _ in 0..depth {
-        text.extend_from_slice(b" block")?;
+/// Puts a piece so many times.
+fn put_times(text: &mut Vec<u8>, piece: &[u8], times: u32) -> Result<(), AllocError> {
+    for _ in 0..times {
+        text.extend_from_slice(piece)?;
     }
-    for _ in 0..depth {
-        text.extend_from_slice(b" end")?;
-    }
-    text.extend_from_slice(b"))")?;
-    Ok(text)
+    Ok(())
 }
 
-/// A function with this many further locals.
-fn with_locals(alloc: Global, count: u32) -> Result<Vec<u8>, AllocError> {
-    let mut text = Vec::from_slice(alloc, b"(module (func (type 0) (local")?;
-    for _ in 0..count {
-        text.extend_from_slice(b" i32")?;
-    }
-    text.extend_from_slice(b")))")?;
-    Ok(text)
+/// Puts a function in which blocks stand this deep.
+fn put_nested(text: &mut Vec<u8>, depth: u32) -> Result<(), AllocError> {
+    text.extend_from_slice(b"(module (func (type 0)")?;
+    put_times(text, b" block", depth)?;
+    put_times(text, b" end", depth)?;
+    text.extend_from_slice(b"))")
+}
+
+/// Puts a function with this many further locals.
+fn put_with_locals(text: &mut Vec<u8>, count: u32) -> Result<(), AllocError> {
+    text.extend_from_slice(b"(module (func (type 0) (local")?;
+    put_times(text, b" i32", count)?;
+    text.extend_from_slice(b")))")
+}
+
+fn nested_place(alloc: Global, depth: u32) -> Result<Option<u32>, AllocError> {
+    let mut text = Vec::new(alloc);
+    put_nested(&mut text, depth)?;
+    bad_place(alloc, text.as_slice())
+}
+
+fn locals_place(alloc: Global, count: u32) -> Result<Option<u32>, AllocError> {
+    let mut text = Vec::new(alloc);
+    put_with_locals(&mut text, count)?;
+    bad_place(alloc, text.as_slice())
 }
 
 #[test]
-fn limits_are_kept(rt: HostRuntime) -> Result<(), Fail> {
-    let alloc = rt.alloc();
-    assert_eq!(rt; bad_place(alloc, nested(alloc, 500)?.as_slice())?, None);
-    assert_eq!(rt;
-        bad_place(alloc, nested(alloc, 501)?.as_slice())?,
-        Some(3023)
-    );
-    assert_eq!(rt;
-        bad_place(alloc, with_locals(alloc, 50_000)?.as_slice())?,
-        None
-    );
-    assert_eq!(rt;
-        bad_place(alloc, with_locals(alloc, 50_001)?.as_slice())?,
-        Some(200_030)
-    );
+fn limits_are_kept(rt: HostRuntime) -> Result<(), AllocError> {
+    assert_eq!(rt; nested_place(rt.alloc(), 500)?, None);
+    assert_eq!(rt; nested_place(rt.alloc(), 501)?, Some(3023));
+    assert_eq!(rt; locals_place(rt.alloc(), 50_000)?, None);
+    assert_eq!(rt; locals_place(rt.alloc(), 50_001)?, Some(200_030));
     Ok(())
 }

@@ -1,49 +1,93 @@
 // Words beside the commands that they mean, found by hand.
 
 use mw_words::{Command, WordsFault, read_words};
+use std::alloc::{AllocError, Global};
 use std::process::Abort;
-use std::test::Fail;
+
+/// A run as text.
+fn run_shown(
+    alloc: Global,
+    word: &str,
+    workers: u32,
+    fuel: u64,
+    file: &str,
+    cache: Option<&str>,
+) -> Result<String, AllocError> {
+    match cache {
+        None => format!(in alloc; "{word} {workers} {fuel} {file}"),
+        Some(path) => format!(in alloc; "{word} {workers} {fuel} {file} by {path}"),
+    }
+}
+
+/// A command that no run of a source is, as text.
+fn file_shown(alloc: Global, word: &str, file: &str) -> Result<String, AllocError> {
+    format!(in alloc; "{word} {file}")
+}
+
+/// A command as text.
+fn shown(alloc: Global, command: Command) -> Result<String, AllocError> {
+    match command {
+        Command::Run {
+            workers,
+            fuel,
+            simplify,
+            cache,
+            file,
+        } => {
+            let word = if simplify { "simplify" } else { "run" };
+            run_shown(alloc, word, workers, fuel, file, cache)
+        }
+        Command::Erased { fuel, file } => format!(in alloc; "erased {fuel} {file}"),
+        Command::Link {
+            workers,
+            fuel,
+            file,
+        } => run_shown(alloc, "link", workers, fuel, file, None),
+        Command::Sample { number } => format!(in alloc; "sample {number}"),
+        Command::Migrate { cache } => file_shown(alloc, "migrate", cache),
+        Command::Wat { file } => file_shown(alloc, "wat", file),
+        Command::Check { file } => file_shown(alloc, "check", file),
+        Command::Cert { file } => file_shown(alloc, "cert", file),
+        Command::Recheck { cert, file } => format!(in alloc; "recheck {file} by {cert}"),
+    }
+}
+
+fn owned(alloc: Global, words: &[&str]) -> Result<Vec<String>, AllocError> {
+    let mut all = Vec::new(alloc);
+    for word in words {
+        all.push(String::from_str(alloc, word)?)?;
+    }
+    Ok(all)
+}
 
 /// What words mean, as text.
-fn meaning<R: Abort + AllocGlobal>(rt: &R, words: &[&str]) -> Result<String, Fail> {
-    let alloc = rt.alloc();
-    let mut owned = Vec::new(alloc);
-    for word in words {
-        owned.push(String::from_str(alloc, word)?)?;
+fn meaning(alloc: Global, words: &[&str]) -> Result<String, AllocError> {
+    let words = owned(alloc, words)?;
+    match read_words(words.as_slice()) {
+        Ok(command) => shown(alloc, command),
+        Err(WordsFault::Usage) => String::from_str(alloc, "usage"),
     }
-    let text = match read_words(owned.as_slice()) {
-        Ok(
-            Command::Run {
-                workers,
-                fuel,
-                simplify,
-                cache,
-                file,
-            },
-        ) => {
-            let word = if simplify { "simplify" } else { "run" };
-            match cache {
-                None => format!(in alloc; "{word} {workers} {fuel} {file}")?,
-                Some(path) => format!(in alloc; "{word} {workers} {fuel} {file} by {path}")?,
-            }
-        }
-        Ok(Command::Erased { fuel, file }) => format!(in alloc; "erased {fuel} {file}")?,
-        Ok(
-            Command::Link {
-                workers,
-                fuel,
-                file,
-            },
-        ) => format!(in alloc; "link {workers} {fuel} {file}")?,
-        Ok(Command::Sample { number }) => format!(in alloc; "sample {number}")?,
-        Ok(Command::Migrate { cache }) => format!(in alloc; "migrate {cache}")?,
-        Ok(Command::Wat { file }) => format!(in alloc; "wat {file}")?,
-        Ok(Command::Check { file }) => format!(in alloc; "check {file}")?,
-        Ok(Command::Cert { file }) => format!(in alloc; "cert {file}")?,
-        Ok(Command::Recheck { cert, file }) => format!(in alloc; "recheck {file} by {cert}")?,
-        Err(WordsFault::Usage) => String::from_str(alloc, "usage")?,
-    };
-    Ok(text)
+}
+
+/// The words of each row mean what stands beside them.
+fn assert_meanings<R: Abort + AllocGlobal>(
+    rt: &R,
+    rows: &[(&[&str], &str)],
+) -> Result<(), AllocError> {
+    for &(words, expected) in rows {
+        let text = meaning(rt.alloc(), words)?;
+        assert_eq!(rt; text.as_str(), expected);
+    }
+    Ok(())
+}
+
+/// The words of no row mean anything.
+fn assert_usage<R: Abort + AllocGlobal>(rt: &R, rows: &[&[&str]]) -> Result<(), AllocError> {
+    for &words in rows {
+        let text = meaning(rt.alloc(), words)?;
+        assert_eq!(rt; text.as_str(), "usage", "{words:?}");
+    }
+    Ok(())
 }
 
 /// Words, and what they mean.
@@ -528,76 +572,39 @@ const NO_VALUES: &[&[&str]] = &[
 ];
 
 #[test]
-fn commands(rt: HostRuntime) -> Result<(), Fail> {
-    for &(words, expected) in RUNS {
-        let text = meaning(&rt, words)?;
-        assert_eq!(rt; text.as_str(), expected);
-    }
-    Ok(())
+fn commands(rt: HostRuntime) -> Result<(), AllocError> {
+    assert_meanings(&rt, RUNS)
 }
 
 #[test]
-fn usage(rt: HostRuntime) -> Result<(), Fail> {
-    for &words in NO_COMMANDS {
-        let text = meaning(&rt, words)?;
-        assert_eq!(rt; text.as_str(), "usage");
-    }
-    for &words in OF_EACH_COMMAND {
-        let text = meaning(&rt, words)?;
-        assert_eq!(rt; text.as_str(), "usage");
-    }
-    for &words in NO_VALUES {
-        let text = meaning(&rt, words)?;
-        assert_eq!(rt; text.as_str(), "usage");
-    }
-    Ok(())
+fn usage(rt: HostRuntime) -> Result<(), AllocError> {
+    assert_usage(&rt, NO_COMMANDS)?;
+    assert_usage(&rt, OF_EACH_COMMAND)?;
+    assert_usage(&rt, NO_VALUES)
 }
 
 #[test]
-fn links(rt: HostRuntime) -> Result<(), Fail> {
-    for &(words, expected) in LINKS {
-        let text = meaning(&rt, words)?;
-        assert_eq!(rt; text.as_str(), expected);
-    }
-    for &words in NO_LINKS {
-        let text = meaning(&rt, words)?;
-        assert_eq!(rt; text.as_str(), "usage");
-    }
-    Ok(())
+fn links(rt: HostRuntime) -> Result<(), AllocError> {
+    assert_meanings(&rt, LINKS)?;
+    assert_usage(&rt, NO_LINKS)
 }
 
 #[test]
-fn module_commands(rt: HostRuntime) -> Result<(), Fail> {
-    for &(words, expected) in MODULES {
-        let text = meaning(&rt, words)?;
-        assert_eq!(rt; text.as_str(), expected);
-    }
-    Ok(())
+fn module_commands(rt: HostRuntime) -> Result<(), AllocError> {
+    assert_meanings(&rt, MODULES)
 }
 
 #[test]
-fn module_usage(rt: HostRuntime) -> Result<(), Fail> {
-    for &words in NO_MODULES {
-        let text = meaning(&rt, words)?;
-        assert_eq!(rt; text.as_str(), "usage");
-    }
-    Ok(())
+fn module_usage(rt: HostRuntime) -> Result<(), AllocError> {
+    assert_usage(&rt, NO_MODULES)
 }
 
 #[test]
-fn certificate_commands(rt: HostRuntime) -> Result<(), Fail> {
-    for &(words, expected) in CERTIFICATES {
-        let text = meaning(&rt, words)?;
-        assert_eq!(rt; text.as_str(), expected);
-    }
-    Ok(())
+fn certificate_commands(rt: HostRuntime) -> Result<(), AllocError> {
+    assert_meanings(&rt, CERTIFICATES)
 }
 
 #[test]
-fn certificate_usage(rt: HostRuntime) -> Result<(), Fail> {
-    for &words in NO_CERTIFICATES {
-        let text = meaning(&rt, words)?;
-        assert_eq!(rt; text.as_str(), "usage");
-    }
-    Ok(())
+fn certificate_usage(rt: HostRuntime) -> Result<(), AllocError> {
+    assert_usage(&rt, NO_CERTIFICATES)
 }

@@ -10,10 +10,11 @@ ghost use Rattle.mw_wasm.specs.Views.{code_of, export_of, function_of, module_of
 ghost use Rattle.mw_tests.specs.KernelModules.{IsInitCode, call_body, test_types, test_functions, test_exports};
 ghost use Rattle.mw_tests.specs.KernelModules.{test_segments, HasTestShapes};
 
+use crate::parts::{func_type, octets};
 use mw_validate::Valid;
 use mw_wasm::{
-    Elements, Export, Exported, Exports, Func, FuncType, FuncTypes, Funcs, Globals, Instr, Instrs,
-    IntOp, Limits, LoadOp, Module, NumOp, Octets, Segment, Segments, StoreOp, ValType, ValTypes,
+    Elements, Export, Exported, Exports, Func, FuncTypes, Funcs, Globals, Instr, Instrs, IntOp,
+    Limits, LoadOp, Module, NumOp, Segment, Segments, StoreOp, ValType, ValTypes,
 };
 use std::alloc::{AllocError, Global};
 use std::sync::Arc;
@@ -102,22 +103,9 @@ fn call_code(alloc: Global) -> Result<Instrs, AllocError>
 fn types(alloc: Global) -> Result<FuncTypes, AllocError>
     ensures { IfOk result (λ types. types ≡ test_types) }
 {
-    let mut first = ValTypes::new(alloc);
-    first.push(ValType::I64)?;
-    let mut second = ValTypes::new(alloc);
-    second.push(ValType::I64)?;
-    let mut params = ValTypes::new(alloc);
-    params.push(ValType::I64)?;
-    params.push(ValType::I64)?;
     let mut types = FuncTypes::new(alloc);
-    types.push(FuncType {
-        params: ValTypes::new(alloc),
-        results: first,
-    })?;
-    types.push(FuncType {
-        params,
-        results: second,
-    })?;
+    types.push(func_type(alloc, &[], &[ValType::I64])?)?;
+    types.push(func_type(alloc, &[ValType::I64, ValType::I64], &[ValType::I64])?)?;
     Ok(types)
 }
 
@@ -136,16 +124,6 @@ fn funcs(alloc: Global, init: Instrs) -> Result<Funcs, AllocError>
         body: call_code(alloc)?,
     })?;
     Ok(funcs)
-}
-
-fn octets(alloc: Global, bytes: &[u8]) -> Result<Octets, AllocError>
-    ensures { IfOk result (λ octets. octets ≡ bytes.now) }
-{
-    let mut octets = Octets::new(alloc);
-    for byte in bytes {
-        octets.push(*byte)?;
-    }
-    Ok(octets)
 }
 
 fn exports(alloc: Global) -> Result<Exports, AllocError>
@@ -174,17 +152,21 @@ fn segment(alloc: Global, at: u32, bytes: &[u8]) -> Result<Segment, AllocError>
     })
 }
 
+/// The words 1, 2, 32 and 32.
+const WORDS: &[u8] = &[
+    1, 0, 0, 0, 0, 0, 0, 0, 2, 0, 0, 0, 0, 0, 0, 0, 32, 0, 0, 0, 0, 0, 0, 0, 32, 0, 0, 0, 0, 0, 0,
+    0,
+];
+
+/// The words 3 and 0.
+const LAST_WORDS: &[u8] = &[3, 0, 0, 0, 0, 0, 0, 0, 0, 0, 0, 0, 0, 0, 0, 0];
+
 fn segments(alloc: Global) -> Result<Segments, AllocError>
     ensures { IfOk result (λ segments. map segment_of segments ≡ test_segments) }
 {
-    let words = [
-        1, 0, 0, 0, 0, 0, 0, 0, 2, 0, 0, 0, 0, 0, 0, 0, 32, 0, 0, 0, 0, 0, 0, 0, 32, 0, 0, 0, 0, 0,
-        0, 0,
-    ];
-    let last = [3, 0, 0, 0, 0, 0, 0, 0, 0, 0, 0, 0, 0, 0, 0, 0];
     let mut segments = Segments::new(alloc);
-    segments.push(segment(alloc, 16, &words)?)?;
-    segments.push(segment(alloc, 65_520, &last)?)?;
+    segments.push(segment(alloc, 16, WORDS)?)?;
+    segments.push(segment(alloc, 65_520, LAST_WORDS)?)?;
     Ok(segments)
 }
 
