@@ -52,7 +52,8 @@ fn zero(alloc: Global) -> Result<Instrs, AllocError>
 }
 
 fn seven(alloc: Global) -> Result<Func, AllocError>
-    ensures { IfOk result (λ f. function_of f ≡ record { kind = 1; locals = []; body = next (const_i64 7) end }) }
+    ensures { IfOk result
+        (λ f. function_of f ≡ record { kind = 1; locals = []; body = next (const_i64 7) end }) }
 {
     let mut body = Instrs::new(alloc);
     body.push(Instr::ConstI64(7))?;
@@ -74,7 +75,8 @@ fn heap(alloc: Global) -> Result<GlobalVar, AllocError>
 }
 
 fn init_export(alloc: Global, index: u32) -> Result<Export, AllocError>
-    ensures { IfOk result (λ e. export_of e ≡ record { name = init_name; what = exported.Func index }) }
+    ensures { IfOk result
+        (λ e. export_of e ≡ record { name = init_name; what = exported.Func index }) }
 {
     Ok(Export {
         name: octets(alloc, b"init")?,

@@ -36,7 +36,8 @@ fn seven(alloc: Global, name: &[u8]) -> Result<Linkable, AllocError>
 
 /// A primitive on code.
 fn computed(alloc: Global, p: Prim, a: Term, b: Term) -> Result<Term, AllocError>
-    ensures { IfOk result (λ code. expression_of code ≡ prim p (expression_of a) (expression_of b)) }
+    ensures { IfOk result
+        (λ code. expression_of code ≡ prim p (expression_of a) (expression_of b)) }
 {
     Ok(Term::Prim(p, Box::new(alloc, a)?, Box::new(alloc, b)?))
 }

@@ -17,7 +17,8 @@ fn boxed(alloc: Global, term: Term) -> Result<Box<Term>, AllocError>
 }
 
 fn computed(alloc: Global, p: Prim, a: Term, b: Term) -> Result<Box<Term>, AllocError>
-    ensures { IfOk result (λ code. expression_of code.value ≡ prim p (expression_of a) (expression_of b)) }
+    ensures { IfOk result
+        (λ code. expression_of code.value ≡ prim p (expression_of a) (expression_of b)) }
 {
     let a = boxed(alloc, a)?;
     let b = boxed(alloc, b)?;

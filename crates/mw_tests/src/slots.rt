@@ -100,7 +100,8 @@ fn fetched<M: Make<Word>>(
     maker: &mut M,
 ) -> Result<Receipt<Word>, Refused<Word>>
     requires takes { M.takes maker.old (home ∷ number ∷ []) }
-    requires gives { (word : _) → M.gives maker.old (home ∷ number ∷ []) word → word.text.items ≡ home ∷ number ∷ [] }
+    requires gives { (word : _) → M.gives maker.old (home ∷ number ∷ []) word
+        → word.text.items ≡ home ∷ number ∷ [] }
     ensures { IfOk result (λ receipt. IsOf table.now receipt) }
 {
     table.fetch(alloc, &[home, number], u32::from(home), maker)

@@ -142,7 +142,8 @@ fn exports(alloc: Global) -> Result<Exports, AllocError>
 }
 
 fn segment(alloc: Global, at: u32, bytes: &[u8]) -> Result<Segment, AllocError>
-    ensures { IfOk result (λ s. segment_of s ≡ record { offset = next (const_i32 at) end; bytes = bytes.now }) }
+    ensures { IfOk result
+        (λ s. segment_of s ≡ record { offset = next (const_i32 at) end; bytes = bytes.now }) }
 {
     let mut offset = Instrs::new(alloc);
     offset.push(Instr::ConstI32(at))?;
