@@ -2,6 +2,7 @@
 
 ghost use Rattle.std.specs.Prelude.{◌≡◌, ◌+◌, ◌≤◌, true, false, IfSome, IfOk, MatchBool, ◌≢◌, ◌↔◌, if◌then◌else◌};
 ghost use Rattle.std.specs.Arc.{arc_value};
+ghost use Rattle.sha2.specs.Sha256.{sha256};
 ghost use Rattle.mw_term.specs.Terms.{Expression, KernelType, expression_of, kernel_type_of};
 ghost use Rattle.mw_term.specs.Closed.{IsClosed, IsCode};
 ghost use Rattle.mw_term.specs.Limits.{within_limits, kernel_nodes};
@@ -19,7 +20,7 @@ ghost use Rattle.mw_wasm.specs.Views.{module_of};
 use crate::emitter::Emitter;
 use crate::got::Got;
 use mw_compile::{Entry, Steps};
-use mw_key::{start_of, text_of};
+use mw_key::{digest, start_in, text_of};
 use mw_slots::laws::one_slot;
 use mw_slots::{Named, Receipt, Refused, Table};
 use mw_store::Load;
@@ -155,13 +156,15 @@ impl<'t> Cache<'t> {
         ensures spent { IfOk result (λ r. steps.new ≡ steps.old + (if r.1 then 1 else 0)) }
         ensures most { (steps.old ≤ steps.new) × (steps.new ≤ steps.old + 1) }
     {
+        let digest = digest(text);
         let mut emitter = Emitter {
+            digest: &digest,
             code,
             kind,
             steps,
             spent: false,
         };
-        match self.table.fetch(alloc, text, start_of(text), &mut emitter) {
+        match self.table.fetch(alloc, text, start_in(&digest), &mut emitter) {
             Ok(receipt) => Ok((Got::Stored(receipt), emitter.spent)),
             Err(Refused::NoRoom(none)) => Ok((Got::Own(none), emitter.spent)),
             Err(Refused::Memory(error)) => Err(error),
@@ -221,6 +224,18 @@ impl<'t> Cache<'t> {
             Got::Loaded(at) => self.load.text(*at),
             Got::Stored(receipt) => self.table.read(receipt).text(),
             Got::Own(none) => (*none.own).text(),
+        }
+    }
+
+    /// The text's SHA-256. Takes no memory.
+    pub fn digest(&self, got: &Got) -> [u8; 32]
+        requires { IsHere self.now got.now }
+        ensures { result ≡ sha256 (text_in self.now got.now) }
+    {
+        match got {
+            Got::Loaded(at) => digest(self.load.text(*at)),
+            Got::Stored(receipt) => *self.table.read(receipt).digest(),
+            Got::Own(none) => *(*none.own).digest(),
         }
     }
 

@@ -7,7 +7,7 @@ ghost use Rattle.mw_cache.specs.Migrating.{AddsAnew, IsMigrationOf};
 
 use crate::records::{RecordBytes, Records};
 use mw_compile::{Steps, emit_named};
-use mw_key::{Version, text_of};
+use mw_key::{Version, digest, text_of};
 use mw_store::{Load, record_of};
 use mw_term::{KType, Term};
 use std::alloc::{AllocError, Global};
@@ -67,7 +67,8 @@ fn add_anew<L: Ledger>(
     if load.find(text.as_slice()).is_some() {
         return Ok(());
     }
-    let entry = emit_named(alloc, text.as_slice(), code, kind, steps)?;
+    let digest = digest(text.as_slice());
+    let entry = emit_named(alloc, text.as_slice(), &digest, code, kind, steps)?;
     let items = record_of(alloc, entry.text(), entry.bytes())?;
     records.push(RecordBytes { items })
 }

@@ -1,6 +1,7 @@
 // Emission.
 
 ghost use Rattle.std.specs.Prelude.{◌≡◌, ◌+◌, ◌≤◌, true, IfOk};
+ghost use Rattle.sha2.specs.Sha256.{sha256};
 ghost use Rattle.mw_term.specs.Terms.{expression_of, kernel_type_of};
 ghost use Rattle.mw_term.specs.Closed.{IsClosed, IsCode};
 ghost use Rattle.mw_term.specs.Limits.{within_limits, kernel_nodes};
@@ -13,7 +14,7 @@ use crate::steps::Steps;
 use mw_conv::convert;
 use mw_encode::encode;
 use mw_gen::generate;
-use mw_key::text_of;
+use mw_key::{digest, text_of};
 use mw_term::{KType, Term};
 use mw_validate::Valid;
 use std::alloc::{AllocError, Global};
@@ -38,18 +39,21 @@ pub fn emit<L: Ledger>(
 {
     steps.tick();
     let text = text_of(alloc, code, kind)?;
-    entry_of(alloc, text, code, kind)
+    let digest = digest(text.as_slice());
+    entry_of(alloc, text, digest, code, kind)
 }
 
-/// The same entry, where its text was written before: the text is copied. One emission is counted.
+/// The same entry, where its text was written before and its digest is known: they are copied. One emission is counted.
 pub fn emit_named<L: Ledger>(
     alloc: Global,
     text: &[u8],
+    digest: &[u8; 32],
     code: &Term,
     kind: &KType,
     steps: &mut Steps<L>,
 ) -> Result<Entry, AllocError>
     requires text { IsTextOf text.now Two (expression_of code.now) (kernel_type_of kind.now) }
+    requires digest { digest.now ≡ sha256 text.now }
     ensures entry { IfOk result
         (λ entry. IsEntryOf entry (expression_of code.now) (kernel_type_of kind.now)) }
     ensures step { steps.new ≡ steps.old + 1 }
@@ -57,12 +61,19 @@ pub fn emit_named<L: Ledger>(
     steps.tick();
     let mut copy = Vec::with_capacity(alloc, text.len())?;
     copy.extend_from_slice(text)?;
-    entry_of(alloc, copy, code, kind)
+    entry_of(alloc, copy, *digest, code, kind)
 }
 
-/// The entry of code whose text this is.
-fn entry_of(alloc: Global, text: Vec<u8>, code: &Term, kind: &KType) -> Result<Entry, AllocError>
-    requires { IsTextOf text.items Two (expression_of code.now) (kernel_type_of kind.now) }
+/// The entry of code whose text this is, with its digest.
+fn entry_of(
+    alloc: Global,
+    text: Vec<u8>,
+    digest: [u8; 32],
+    code: &Term,
+    kind: &KType,
+) -> Result<Entry, AllocError>
+    requires text { IsTextOf text.items Two (expression_of code.now) (kernel_type_of kind.now) }
+    requires digest { digest ≡ sha256 text.items }
     ensures { IfOk result
         (λ entry. IsEntryOf entry (expression_of code.now) (kernel_type_of kind.now)) }
 {
@@ -71,6 +82,7 @@ fn entry_of(alloc: Global, text: Vec<u8>, code: &Term, kind: &KType) -> Result<E
     let bytes = encode(alloc, &wasm)?;
     Ok(Entry {
         text,
+        digest,
         bytes,
         module: Arc::new(alloc, Valid::sure(wasm))?,
     })

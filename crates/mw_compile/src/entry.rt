@@ -2,6 +2,7 @@
 
 ghost use Rattle.std.specs.Prelude.{◌≡◌};
 ghost use Rattle.std.specs.Arc.{arc_value};
+ghost use Rattle.sha2.specs.Sha256.{sha256};
 ghost use Rattle.mw_key.specs.CanonicalText.{home};
 ghost use Rattle.mw_compile.specs.Entries.{IsEntry};
 
@@ -14,8 +15,10 @@ use std::sync::Arc;
 #[derive(Drop)]
 pub struct Entry {
     pub(crate) text: Vec<u8>,
+    pub(crate) digest: [u8; 32],
     pub(crate) bytes: Vec<u8>,
     pub(crate) module: Arc<Valid>,
+    ghost digested: { digest ≡ sha256 text.items },
 }
 
 impl Model for Entry {
@@ -40,6 +43,13 @@ impl Entry {
         ensures kept { IsEntry self.now }
     {
         self.text.as_slice()
+    }
+
+    /// The text's SHA-256. Takes no memory.
+    pub fn digest(&self) -> &[u8; 32]
+        ensures { result.now ≡ sha256 self.now.text }
+    {
+        &self.digest
     }
 
     /// The module's bytes. Takes no memory.

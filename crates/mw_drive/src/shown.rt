@@ -13,7 +13,6 @@ ghost use Rattle.mw_drive.specs.Written.{Writes, Blames};
 use crate::items::Built;
 use mw_cache::Cache;
 use mw_console::{put_kernel, put_totals, write_lines};
-use mw_key::digest;
 use mw_meaning::Mode;
 use mw_outside::{Sink, WriteFault};
 use std::alloc::Global;
@@ -95,9 +94,8 @@ fn write_kernel<K: Sink>(
     ensures blames { Blames result (K.faults sink.old) (K.faults sink.new) }
     ensures count { K.faults sink.old ≤ K.faults sink.new }
 {
-    let text = cache.text(kernel.got);
     let bytes = cache.bytes(kernel.got);
-    let key = digest(text);
+    let key = cache.digest(kernel.got);
     let mut lines = Vec::new(alloc);
     put_kernel(&mut lines, kernel.name, kernel.kind, &key, bytes)?;
     write_lines(sink, lines.as_slice())

@@ -1,6 +1,7 @@
 // Digests of texts.
 
-ghost use Rattle.std.specs.Prelude.{◌≡◌};
+ghost use Rattle.std.specs.Prelude.{◌≡◌, take};
+ghost use Rattle.std.specs.Int.{w32, from_le_bytes};
 ghost use Rattle.sha2.specs.Sha256.{sha256};
 ghost use Rattle.mw_key.specs.CanonicalText.{home};
 
@@ -18,6 +19,13 @@ pub fn digest(text: &[u8]) -> [u8; 32]
 pub fn start_of(text: &[u8]) -> u32
     ensures { result ≡ home text.now }
 {
-    let [first, second, third, fourth, ..] = digest(text);
+    start_in(&digest(text))
+}
+
+/// Where the name of the text of a digest begins to be looked for. It takes no memory.
+pub fn start_in(digest: &[u8; 32]) -> u32
+    ensures { result ≡ from_le_bytes w32 (take 4 digest.now) }
+{
+    let [first, second, third, fourth, ..] = *digest;
     u32::from_le_bytes([first, second, third, fourth])
 }

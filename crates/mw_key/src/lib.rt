@@ -14,7 +14,7 @@ pub mod version;
 mod write;
 
 pub use crate::fault::TextFault;
-pub use crate::hash::{digest, start_of};
+pub use crate::hash::{digest, start_in, start_of};
 pub use crate::passing::read_type;
 pub use crate::read::read_text;
 pub use crate::version::Version;

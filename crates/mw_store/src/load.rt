@@ -83,6 +83,9 @@ impl Load {
     pub fn find(&self, text: &[u8]) -> Option<u32>
         ensures { result ≡ position (λ l. bytes_eq text.now l.text) self.now.records }
     {
+        if self.records.is_empty() {
+            return None;
+        }
         let at = self.records.get_index_of(text)?;
         Some(at as u32)
     }

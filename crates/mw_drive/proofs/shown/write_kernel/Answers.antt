@@ -1,5 +1,4 @@
 use Rattle.std.proofs.Common.{◌≡◌, ◌++◌, ap, ◌∙◌, subst}
-use Rattle.sha2.specs.Sha256.{sha256}
 use Rattle.mw_term.specs.Terms.{kernel_type_of}
 use Rattle.mw_console.specs.Texts.{kernel_text}
 use Rattle.mw_drive.specs.Works.{kernel_lines}
@@ -15,7 +14,7 @@ returns-clause-writes g c honest mode built =
     let kernel = c.args.kernel.now in
     let lines =
     its_lines mode c.args.cache.now kernel built _ c.bytes-bytes.result.now
-    (c.digest-key.ensures ∙ ap sha256 c.text-text.ensures)
+    c.digest-key.ensures
     (c.bytes-bytes.ensures.emission (honest_text c.args.cache.now.load honest _)) in
     let told =
     kernel_text kernel.name.now (kernel_type_of kernel.kind.now) c.digest-key.result c.bytes-bytes.result.now in
