@@ -7,7 +7,8 @@ use mw_region::{Id, Pool};
 use std::marker::Model;
 use std::sync::ledger::{Blank, Book, Ledger, Share};
 
-/// How many nodes were visited. It takes no bytes, and each look at a node of a pool adds one.
+/// How many nodes were visited. It takes no bytes, and each look at a node of a pool
+/// adds one, and so does each part of code that was there before.
 #[derive(Drop)]
 pub struct Steps<L: Ledger> {
     book: Book<L>,
@@ -37,12 +38,19 @@ impl<L: Ledger> Steps<L> {
     }
 
     /// The node at a place, which is visited.
-    pub(crate) fn visit(&mut self, pool: &Pool<CodeNode>, id: Id) -> CodeNode
+    pub(crate) fn visit<'c>(&mut self, pool: &Pool<CodeNode<'c>>, id: Id) -> CodeNode<'c>
         requires { id.place < length pool.now.items }
         ensures node { slice_get pool.now.items id.place ≡ Some result }
         ensures step { self.new ≡ self.old + 1 }
     {
         self.book.add(&mut self.share, 1);
         *pool.get(id)
+    }
+
+    /// So many parts of code that was there before, which are visited.
+    pub(crate) fn visit_parts(&mut self, parts: u32)
+        ensures { self.new ≡ self.old + parts }
+    {
+        self.book.add(&mut self.share, u64::from(parts));
     }
 }
