@@ -23,8 +23,8 @@ const THREE: Id = Id { place: 3 };
 const SIX: Id = Id { place: 6 };
 
 // Whether each part of a node is below a place.
-fn are_parts_below(place: usize, node: Node) -> bool
-    ensures { OnTrue result (ArePartsBelow place node) }
+fn are_parts_below(place: usize, node: Node<'_>) -> bool
+    ensures { OnTrue result (ArePartsBelow place node.entry) }
 {
     match node {
         Node::Int(_) => true,
@@ -39,12 +39,13 @@ fn are_parts_below(place: usize, node: Node) -> bool
         Node::Fst(e) => e.place < place,
         Node::Snd(e) => e.place < place,
         Node::Prim(_, a, b) => a.place < place && b.place < place,
+        Node::Built(_) => true,
     }
 }
 
 // Adds a node whose parts are there.
 #[tactic(auto, using(mw_code::proofs::Adding::IsDownward_push))]
-fn add(pool: &mut Pool<Node>, node: Node) -> Result<Id, AllocError>
+fn add<'c>(pool: &mut Pool<Node<'c>>, node: Node<'c>) -> Result<Id, AllocError>
     requires { IsDownward pool.old.items }
     ensures down { IsDownward pool.new.items }
     ensures here { IfOk result (λ id. id.place < length pool.new.items) }
@@ -58,7 +59,7 @@ fn add(pool: &mut Pool<Node>, node: Node) -> Result<Id, AllocError>
 
 // The nodes in a pool.
 #[tactic(auto, using(mw_code::proofs::Adding::IsDownward_none))]
-fn pool_of(alloc: Global, nodes: &[Node]) -> Result<Pool<Node>, AllocError>
+fn pool_of<'c>(alloc: Global, nodes: &[Node<'c>]) -> Result<Pool<Node<'c>>, AllocError>
     ensures { IfOk result (λ pool. IsDownward pool.items) }
 {
     let mut pool = Pool::new(alloc);
@@ -69,7 +70,11 @@ fn pool_of(alloc: Global, nodes: &[Node]) -> Result<Pool<Node>, AllocError>
 }
 
 // What the last node of a pool is read back to, from no visits on.
-fn read_last<L: Ledger>(alloc: Global, pool: &Pool<Node>, blank: Blank) -> Result<Term, CodeFault>
+fn read_last<L: Ledger>(
+    alloc: Global,
+    pool: &Pool<Node<'_>>,
+    blank: Blank,
+) -> Result<Term, CodeFault>
     requires down { IsDownward pool.now.items }
     requires name { blank.name ≡ L.name }
     requires parts { blank.parts ≡ L.parts }
@@ -81,7 +86,7 @@ fn read_last<L: Ledger>(alloc: Global, pool: &Pool<Node>, blank: Blank) -> Resul
 }
 
 // What the last node of a pool is read back to.
-fn read(alloc: Global, pool: &Pool<Node>) -> Result<Term, CodeFault>
+fn read(alloc: Global, pool: &Pool<Node<'_>>) -> Result<Term, CodeFault>
     requires { IsDownward pool.now.items }
 {
     read_last::<Brand>(alloc, pool, Blank::new(1))
@@ -97,7 +102,7 @@ fn fault_shown(alloc: Global, fault: CodeFault) -> Result<String, AllocError> {
 }
 
 // The term, or the fault.
-fn shown(alloc: Global, pool: &Pool<Node>) -> Result<String, AllocError>
+fn shown(alloc: Global, pool: &Pool<Node<'_>>) -> Result<String, AllocError>
     requires { IsDownward pool.now.items }
 {
     match read(alloc, pool) {
@@ -107,7 +112,7 @@ fn shown(alloc: Global, pool: &Pool<Node>) -> Result<String, AllocError>
 }
 
 // The nodes and the depth of the term, or the fault.
-fn measured(alloc: Global, pool: &Pool<Node>) -> Result<String, AllocError>
+fn measured(alloc: Global, pool: &Pool<Node<'_>>) -> Result<String, AllocError>
     requires { IsDownward pool.now.items }
 {
     match read(alloc, pool) {
@@ -121,7 +126,7 @@ fn measured(alloc: Global, pool: &Pool<Node>) -> Result<String, AllocError>
 }
 
 // Nodes, and the term of the last one.
-const GRAPHS: &[(&[Node], &str)] = &[
+const GRAPHS: &[(&[Node<'static>], &str)] = &[
     (&[Node::Int(-7)], "Int(-7)"),
     (&[Node::Bool(true)], "Bool(true)"),
     (&[Node::Var(5), Node::Fun(5, ZERO)], "Fun(Var(0))"),
@@ -232,7 +237,7 @@ const GRAPHS: &[(&[Node], &str)] = &[
 ];
 
 // What the last node is read back to, or the fault.
-fn graph_shown(alloc: Global, nodes: &[Node]) -> Result<String, AllocError> {
+fn graph_shown(alloc: Global, nodes: &[Node<'_>]) -> Result<String, AllocError> {
     let pool = pool_of(alloc, nodes)?;
     shown(alloc, &pool)
 }
@@ -258,7 +263,7 @@ enum Step {
 }
 
 // The next node of that kind, so many times.
-fn grow(pool: &mut Pool<Node>, step: Step, times: u32) -> Result<(), AllocError>
+fn grow(pool: &mut Pool<Node<'_>>, step: Step, times: u32) -> Result<(), AllocError>
     requires { IsDownward pool.old.items }
     ensures { IsDownward pool.new.items }
 {
@@ -306,11 +311,15 @@ const LARGE: &[(&[(Step, u32)], &str)] = &[
     (&[(Step::Once, 500), (Step::Twice, 40)], "too many nodes"),
 ];
 
-// A literal, and what steps add to it.
-fn large(alloc: Global, steps: &[(Step, u32)]) -> Result<Pool<Node>, AllocError>
+// A node, and what steps add to it.
+fn large<'c>(
+    alloc: Global,
+    first: Node<'c>,
+    steps: &[(Step, u32)],
+) -> Result<Pool<Node<'c>>, AllocError>
     ensures { IfOk result (λ pool. IsDownward pool.items) }
 {
-    let mut pool = pool_of(alloc, &[Node::Bool(true)])?;
+    let mut pool = pool_of(alloc, &[first])?;
     for (step, times) in steps {
         grow(&mut pool, *step, *times)?;
     }
@@ -318,16 +327,75 @@ fn large(alloc: Global, steps: &[(Step, u32)]) -> Result<Pool<Node>, AllocError>
 }
 
 // What the last node is read back to, by nodes and depth, or the fault.
-fn large_measured(alloc: Global, steps: &[(Step, u32)]) -> Result<String, AllocError> {
-    let pool = large(alloc, steps)?;
+fn large_measured(
+    alloc: Global,
+    first: Node<'_>,
+    steps: &[(Step, u32)],
+) -> Result<String, AllocError> {
+    let pool = large(alloc, first, steps)?;
     measured(alloc, &pool)
 }
 
 #[test]
 fn limits(rt: HostRuntime) -> Result<(), AllocError> {
     for &(steps, expected) in LARGE {
-        let answer = large_measured(rt.alloc(), steps)?;
+        let answer = large_measured(rt.alloc(), Node::Bool(true), steps)?;
         assert_eq!(rt; answer.as_str(), expected);
     }
+    Ok(())
+}
+
+// A literal under so many first projections.
+fn wrapped(alloc: Global, times: u32) -> Result<Term, AllocError> {
+    let mut term = Term::Bool(true);
+    for _ in 0..times {
+        term = Term::Fst(Box::new(alloc, term)?);
+    }
+    Ok(term)
+}
+
+// The projections of code that was there before, steps with their times from it, and the nodes and the depth.
+const BUILT: &[(u32, &[(Step, u32)], &str)] = &[
+    (0, &[], "1 1"),
+    (399, &[], "400 400"),
+    (400, &[], "too deep"),
+    (19_999, &[], "too deep"),
+    (20_000, &[], "too many nodes"),
+    (299, &[(Step::Once, 100)], "400 400"),
+    (299, &[(Step::Once, 101)], "too deep"),
+    (299, &[(Step::Once, 19_700)], "too deep"),
+    (299, &[(Step::Once, 19_701)], "too many nodes"),
+    // It is shared.
+    (299, &[(Step::Twice, 6)], "19263 306"),
+    (299, &[(Step::Twice, 7)], "too many nodes"),
+    (299, &[(Step::Twice, 6), (Step::Once, 94)], "19357 400"),
+    (299, &[(Step::Twice, 6), (Step::Once, 95)], "too deep"),
+    // 20,000 nodes, and one more.
+    (76, &[(Step::Twice, 8), (Step::Once, 33)], "20000 118"),
+    (76, &[(Step::Twice, 8), (Step::Once, 34)], "too many nodes"),
+];
+
+#[test]
+fn built_limits(rt: HostRuntime) -> Result<(), AllocError> {
+    for &(times, steps, expected) in BUILT {
+        let term = wrapped(rt.alloc(), times)?;
+        let answer = large_measured(rt.alloc(), Node::Built(&term), steps)?;
+        assert_eq!(rt; answer.as_str(), expected);
+    }
+    Ok(())
+}
+
+#[test]
+fn built_under_binders(rt: HostRuntime) -> Result<(), AllocError> {
+    let identity = Term::Fun(Box::new(rt.alloc(), Term::Var(0))?);
+    let nodes = [
+        Node::Built(&identity),
+        Node::Var(1),
+        Node::App(ZERO, ONE),
+        Node::Fun(1, TWO),
+        Node::Pair(ZERO, THREE),
+    ];
+    let term = graph_shown(rt.alloc(), &nodes)?;
+    assert_eq!(rt; term.as_str(), "Pair(Fun(Var(0)), Fun(App(Fun(Var(0)), Var(0))))");
     Ok(())
 }
