@@ -1,6 +1,5 @@
 use Rattle.std.proofs.Common.{refl, sym, ◌∙◌}
-use Rattle.mw_exec.specs.Turns.{around_with}
-use Rattle.mw_exec.proofs.Leaving.{taken_formed, branch_taken, branch_from_any, branch_lost}
+use Rattle.mw_exec.proofs.Leaving.{taken_formed, branch_taken, branch_lost}
 use Rattle.mw_exec.proofs.jumps.take_branch.Goals as goal
 
 pub returns-in-None : goal.returns-in-None
@@ -58,8 +57,7 @@ returns-in-Loop c = branch_taken c.again.result c.in-Some.waiting c.args.from c.
       code = refl;
       fuel = refl;
     }
-    (branch_from_any c.again.result c.args.from (record c.args.state.now { waiting = c.pop.new.self }) c.again.new.state
-    (around_with c.in-Some.waiting (record c.args.state.now { waiting = c.pop.new.self })) c.again.ensures)
+    (c.again.ensures c.args.from)
 
 pub returns-in-Block : goal.returns-in-Block
 returns-in-Block c = branch_taken c.behind.result c.in-Some.waiting c.args.from c.args.state.now
