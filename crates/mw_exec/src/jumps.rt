@@ -1,13 +1,14 @@
 // Branches, returns and the ends of code.
 
-ghost use Rattle.std.specs.Prelude.{◌≡◌, ◌≤◌, ◌∷◌, ◌++◌, [], ℕ, zero, suc, List, length, take, drop, reverse};
+ghost use Rattle.std.specs.Prelude.{◌≡◌, true, false, ◌≤◌, ◌∷◌, ◌++◌, [], ℕ, zero, suc, List, length, take, drop};
+ghost use Rattle.std.specs.Prelude.{reverse};
 ghost use Rattle.std.specs.Prelude.{IfNone, IfSome};
 ghost use Rattle.mw_wasm.specs.declared.values.Value.{Value as WasmValue};
 ghost use Rattle.mw_wasm.specs.Store.{Store};
 ghost use Rattle.mw_wasm.specs.Redex.{leave as leave_rule, branch as branch_rule, return_from};
-ghost use Rattle.mw_exec.specs.Lists.{above, HasRoom};
+ghost use Rattle.mw_exec.specs.Lists.{above};
 ghost use Rattle.mw_exec.specs.Views.{IsFormed, count_of, own_locals, operands, around_of};
-ghost use Rattle.mw_exec.specs.Turns.{IsFormedWith, IsLoop, Rule, IfOn, Moves, inmost_branch, inmost_return};
+ghost use Rattle.mw_exec.specs.Turns.{IsFormedWith, IsInLoop, Rule, IfOn, Moves, inmost_branch, inmost_return};
 ghost use Rattle.mw_exec.specs.Turns.{branch_from, left, returned, around_with};
 
 use crate::labels::{restore, unwind};
@@ -36,21 +37,35 @@ fn keep(stack: &mut Vec<Value>, from: usize, to: usize, one: bool)
     }
 }
 
-/// A branch to the inmost label, a loop's: its body is in hand again, at its beginning.
+/// Whether the inmost thing that waits is a loop's label.
 #[inline(always)]
-fn again<'m>(state: &mut State<'m>, waiting: Waiting<'m>) -> Turn
-    requires formed { IsFormedWith waiting state.old }
-    requires kind { IsLoop waiting.kind }
-    requires room { HasRoom state.old.waiting }
+fn is_in_loop(state: &State<'_>) -> bool
+    ensures yes { result ≡ true → IsInLoop state.now }
+    ensures no { result ≡ false → IsInLoop state.now → ⊥ }
+{
+    let count = state.waiting.len();
+    if count == 0 {
+        return false;
+    }
+    match state.waiting[count - 1].kind {
+        Kind::Block(_) => false,
+        Kind::Loop(_) => true,
+        Kind::Frame(_, _) => false,
+    }
+}
+
+/// A branch to the inmost label, a loop's: its body is in hand again, at its beginning, and the label stays.
+#[inline(always)]
+fn again(state: &mut State<'_>) -> Turn
+    requires formed { IsFormed state.old }
+    requires inside { IsInLoop state.old }
     ensures { (from : ℕ)
-        → Rule (inmost_branch from state.old (around_with waiting.entry state.old)) state.old.fuel
-        result state.new }
+        → Rule (inmost_branch from state.old (around_of state.old)) state.old.fuel result state.new }
 {
     if state.fuel == 0 {
         return Turn::Spent;
     }
     state.fuel -= 1;
-    state.waiting.push_reserved(waiting);
     state.stack.truncate(state.height);
     state.at = 0;
     Turn::On
@@ -107,10 +122,13 @@ fn take_branch<'m>(state: &mut State<'m>, from: usize) -> Turn
     ensures { Rule (inmost_branch from state.old (around_of state.old)) state.old.fuel result
         state.new }
 {
+    if is_in_loop(state) {
+        return again(state);
+    }
     match state.waiting.pop() {
         None => Turn::Lost,
         Some(waiting) => match waiting.kind {
-            Kind::Loop(_) => again(state, waiting),
+            Kind::Loop(_) => unreachable!(),
             Kind::Block(one) => behind(state, waiting, from, one),
             Kind::Frame(one, outside) => from_body(state, waiting, from, one, outside),
         },
