@@ -5,7 +5,7 @@ use Rattle.std.proofs.Common.{inr}
 use Rattle.std.specs.Prelude.{slice_get, not, position, nat_le, ◌&&◌, if◌then◌else◌}
 use Rattle.std.specs.List.{position_from, AllByRecursion}
 use Rattle.std.proofs.Math.Path.{fun_ext}
-use Rattle.std.proofs.Math.Seq.{paste, paste-zero, paste-suc, drop-cons, take-length}
+use Rattle.std.proofs.Math.Seq.{paste, paste-suc, drop-cons, take-length}
 use Rattle.std.proofs.Math.Seq.{get_or-append_right}
 use Rattle.std.proofs.lemmas.Bool.{lt-ltb, le-ltb, le-leb, lt-leb, leb-true, cases_lt}
 use Rattle.std.proofs.lemmas.List.{length-append, length-take, length-map, get_or_append_left, get_or-take, get_or-drop}

@@ -1,5 +1,5 @@
 -- The offset that a constant expression gives.
-use Rattle.std.proofs.Common.{◌≡◌, ℕ, List, [], ◌∷◌, length, ◌<◌, refl, sym, ◌∙◌, ap, Some, subst, arith}
+use Rattle.std.proofs.Common.{◌≡◌, ℕ, List, [], ◌∷◌, refl, sym, ◌∙◌, ap, Some, subst}
 use Rattle.std.specs.Prelude.{slice_get}
 use Rattle.mw_wasm.specs.declared.instructions.Instr.{Instr}
 use Rattle.mw_wasm.specs.declared.instructions.Instr as instr

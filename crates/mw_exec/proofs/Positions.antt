@@ -1,5 +1,5 @@
 -- The first place at which a test passes, found from the left.
-use Rattle.std.proofs.Common.{◌≡◌, ◌≤◌, ◌<◌, ℕ, zero, suc, ◌+◌, Bool, true, false, List, [], ◌∷◌, length, refl, sym}
+use Rattle.std.proofs.Common.{◌≡◌, ◌≤◌, ◌<◌, ℕ, zero, suc, ◌+◌, Bool, true, List, [], ◌∷◌, length, refl, sym}
 use Rattle.std.proofs.Common.{◌∙◌, ap, drop-cons, Some, None, arith}
 use Rattle.std.specs.Prelude.{drop, get_or, position}
 use Rattle.std.specs.List.{position_from}

@@ -79,35 +79,32 @@ pub fn choose<'m>(
 
 /// A branch.
 #[inline(always)]
-pub fn jump<'m>(state: &mut State<'m>, l: u32) -> Result<Turn, AllocError>
+pub fn jump<'m>(state: &mut State<'m>, l: u32) -> Turn
     requires { IsFormed state.old }
-    ensures { IfOk result
-        (λ u. (m : PureModule) (h : WasmHeld) → TurnsBy m (br l) h state.old u state.new) }
+    ensures { (m : PureModule) (h : WasmHeld) → TurnsBy m (br l) h state.old result state.new }
 {
     branch(state, l)
 }
 
 /// A branch where the last operand isn't 0.
 #[inline(always)]
-pub fn jump_if<'m>(state: &mut State<'m>, l: u32) -> Result<Turn, AllocError>
+pub fn jump_if<'m>(state: &mut State<'m>, l: u32) -> Turn
     requires { IsFormed state.old }
-    ensures { IfOk result
-        (λ u. (m : PureModule) (h : WasmHeld) → TurnsBy m (br_if l) h state.old u state.new) }
+    ensures { (m : PureModule) (h : WasmHeld) → TurnsBy m (br_if l) h state.old result state.new }
 {
     let height = state.height;
     let Some(n) = pop_i32(&mut state.stack, height) else {
-        return Ok(Turn::Lost);
+        return Turn::Lost;
     };
-    if n == 0 { Ok(Turn::On) } else { jump(state, l) }
+    if n == 0 { Turn::On } else { jump(state, l) }
 }
 
 /// A return.
 #[inline(always)]
-pub fn return_now<'m>(state: &mut State<'m>) -> Result<Turn, AllocError>
+pub fn return_now<'m>(state: &mut State<'m>) -> Turn
     requires { IsFormed state.old }
-    ensures { IfOk result
-        (λ u. (m : PureModule) (h : WasmHeld) → TurnsBy m return_instruction h state.old u
-        state.new) }
+    ensures { (m : PureModule) (h : WasmHeld) → TurnsBy m return_instruction h state.old result
+        state.new }
 {
     give_back(state)
 }
@@ -143,10 +140,10 @@ pub fn control<'m>(
         Instr::Block(t, body) => block(state, *t, body),
         Instr::Loop(t, body) => repeat(state, *t, body),
         Instr::If(t, a, b) => choose(state, *t, a, b),
-        Instr::Br(l) => jump(state, *l),
-        Instr::BrIf(l) => jump_if(state, *l),
-        Instr::BrTable(labels, l) => jump_by_table(state, labels.as_slice(), *l),
-        Instr::Return => return_now(state),
+        Instr::Br(l) => Ok(jump(state, *l)),
+        Instr::BrIf(l) => Ok(jump_if(state, *l)),
+        Instr::BrTable(labels, l) => Ok(jump_by_table(state, labels.as_slice(), *l)),
+        Instr::Return => Ok(return_now(state)),
         Instr::Call(f) => call_now(wasm, state, *f),
         Instr::CallIndirect(t) => call_indirect_now(wasm, held, state, *t),
         Instr::Unreachable => unreachable!(),

@@ -1,85 +1,90 @@
 // Branches, returns and the ends of code.
 
-ghost use Rattle.std.specs.Prelude.{◌≡◌, ◌≤◌, ◌∷◌, ◌++◌, [], ℕ, zero, suc, List, length, take, drop, reverse, IfOk};
+ghost use Rattle.std.specs.Prelude.{◌≡◌, true, false, ◌≤◌, ◌∷◌, ◌++◌, [], ℕ, zero, suc, List, length, take, drop};
+ghost use Rattle.std.specs.Prelude.{reverse};
 ghost use Rattle.std.specs.Prelude.{IfNone, IfSome};
 ghost use Rattle.mw_wasm.specs.declared.values.Value.{Value as WasmValue};
 ghost use Rattle.mw_wasm.specs.Store.{Store};
 ghost use Rattle.mw_wasm.specs.Redex.{leave as leave_rule, branch as branch_rule, return_from};
 ghost use Rattle.mw_exec.specs.Lists.{above};
 ghost use Rattle.mw_exec.specs.Views.{IsFormed, count_of, own_locals, operands, around_of};
-ghost use Rattle.mw_exec.specs.Turns.{IsFormedWith, IsLoop, Rule, IfOn, Moves, inmost_branch, inmost_return};
+ghost use Rattle.mw_exec.specs.Turns.{IsFormedWith, IsInLoop, Rule, IfOn, Moves, inmost_branch, inmost_return};
 ghost use Rattle.mw_exec.specs.Turns.{branch_from, left, returned, around_with};
 
 use crate::labels::{restore, unwind};
-use crate::operands::{pop, push};
+use crate::operands::{pop, put};
 use crate::state::{Kind, State, Turn, Waiting};
 use mw_wasm::Value;
-use std::alloc::AllocError;
 
 /// The last operand above a height, where one is kept, stands where all operands from another height on stood.
 #[inline(always)]
-fn keep(stack: &mut Vec<Value>, from: usize, to: usize, one: bool) -> Result<(), AllocError>
+fn keep(stack: &mut Vec<Value>, from: usize, to: usize, one: bool)
     requires order { to ≤ from }
     requires long { from ≤ length stack.old.items }
-    ensures { IfOk result
-        (λ _. stack.new.items ≡ take to stack.old.items ++ reverse (take (count_of one) (above from stack.old.items))) }
+    ensures { stack.new.items ≡ take to stack.old.items
+        ++ reverse (take (count_of one) (above from stack.old.items)) }
 {
     if !one {
         stack.truncate(to);
-        return Ok(());
+        return;
     }
     match pop(stack, from) {
         Some(operand) => {
             stack.truncate(to);
-            push(stack, operand)
+            put(stack, operand);
         }
-        None => {
-            stack.truncate(to);
-            Ok(())
-        }
+        None => stack.truncate(to),
     }
 }
 
-/// A branch to the inmost label, a loop's: its body is in hand again, at its beginning.
+/// Whether the inmost thing that waits is a loop's label.
 #[inline(always)]
-fn again<'m>(state: &mut State<'m>, waiting: Waiting<'m>) -> Result<Turn, AllocError>
-    requires formed { IsFormedWith waiting state.old }
-    requires kind { IsLoop waiting.kind }
-    ensures { IfOk result
-        (λ t. (from : ℕ) → Rule (inmost_branch from state.old (around_with waiting.entry state.old))
-        state.old.fuel t state.new) }
+fn is_in_loop(state: &State<'_>) -> bool
+    ensures yes { result ≡ true → IsInLoop state.now }
+    ensures no { result ≡ false → IsInLoop state.now → ⊥ }
+{
+    let count = state.waiting.len();
+    if count == 0 {
+        return false;
+    }
+    match state.waiting[count - 1].kind {
+        Kind::Block(_) => false,
+        Kind::Loop(_) => true,
+        Kind::Frame(_, _) => false,
+    }
+}
+
+/// A branch to the inmost label, a loop's: its body is in hand again, at its beginning, and the label stays.
+#[inline(always)]
+fn again(state: &mut State<'_>) -> Turn
+    requires formed { IsFormed state.old }
+    requires inside { IsInLoop state.old }
+    ensures { (from : ℕ)
+        → Rule (inmost_branch from state.old (around_of state.old)) state.old.fuel result state.new }
 {
     if state.fuel == 0 {
-        return Ok(Turn::Spent);
+        return Turn::Spent;
     }
     state.fuel -= 1;
-    state.waiting.push(waiting)?;
     state.stack.truncate(state.height);
     state.at = 0;
-    Ok(Turn::On)
+    Turn::On
 }
 
 /// A branch to the inmost label, a block's.
 #[inline(always)]
-fn behind<'m>(
-    state: &mut State<'m>,
-    waiting: Waiting<'m>,
-    from: usize,
-    one: bool,
-) -> Result<Turn, AllocError>
+fn behind<'m>(state: &mut State<'m>, waiting: Waiting<'m>, from: usize, one: bool) -> Turn
     requires formed { IsFormedWith waiting state.old }
     requires kind { waiting.kind ≡ Kind.Block one }
     requires order { state.old.height ≤ from }
     requires long { from ≤ length state.old.stack.items }
-    ensures { IfOk result
-        (λ t. Rule (inmost_branch from state.old (around_with waiting.entry state.old))
-        state.old.fuel
-        t state.new) }
+    ensures { Rule (inmost_branch from state.old (around_with waiting.entry state.old))
+        state.old.fuel result state.new }
 {
     let height = state.height;
-    keep(&mut state.stack, from, height, one)?;
+    keep(&mut state.stack, from, height, one);
     restore(state, waiting);
-    Ok(Turn::On)
+    Turn::On
 }
 
 /// A branch to the inmost label, a function's.
@@ -90,41 +95,40 @@ fn from_body<'m>(
     from: usize,
     one: bool,
     outside: usize,
-) -> Result<Turn, AllocError>
+) -> Turn
     requires formed { IsFormedWith waiting state.old }
     requires kind { waiting.kind ≡ Kind.Frame one outside }
     requires order { state.old.height ≤ from }
     requires long { from ≤ length state.old.stack.items }
-    ensures branched { IfOk result
-        (λ t. Rule (inmost_branch from state.old (around_with waiting.entry state.old))
-        state.old.fuel t
-        state.new) }
-    ensures returned { IfOk result
-        (λ t. Rule (inmost_return from state.old (around_with waiting.entry state.old))
-        state.old.fuel t
-        state.new) }
+    ensures branched { Rule (inmost_branch from state.old (around_with waiting.entry state.old))
+        state.old.fuel result state.new }
+    ensures returned { Rule (inmost_return from state.old (around_with waiting.entry state.old))
+        state.old.fuel result state.new }
 {
     let height = state.height;
-    keep(&mut state.stack, from, height, one)?;
+    keep(&mut state.stack, from, height, one);
     state.locals.truncate(state.base);
     restore(state, waiting);
     state.base = outside;
-    Ok(Turn::On)
+    Turn::On
 }
 
 /// A branch to the inmost label, with the operands from a height on.
 #[inline(always)]
-fn take_branch<'m>(state: &mut State<'m>, from: usize) -> Result<Turn, AllocError>
+fn take_branch<'m>(state: &mut State<'m>, from: usize) -> Turn
     requires formed { IsFormed state.old }
     requires order { state.old.height ≤ from }
     requires long { from ≤ length state.old.stack.items }
-    ensures { IfOk result
-        (λ t. Rule (inmost_branch from state.old (around_of state.old)) state.old.fuel t state.new) }
+    ensures { Rule (inmost_branch from state.old (around_of state.old)) state.old.fuel result
+        state.new }
 {
+    if is_in_loop(state) {
+        return again(state);
+    }
     match state.waiting.pop() {
-        None => Ok(Turn::Lost),
+        None => Turn::Lost,
         Some(waiting) => match waiting.kind {
-            Kind::Loop(_) => again(state, waiting),
+            Kind::Loop(_) => unreachable!(),
             Kind::Block(one) => behind(state, waiting, from, one),
             Kind::Frame(one, outside) => from_body(state, waiting, from, one, outside),
         },
@@ -133,13 +137,13 @@ fn take_branch<'m>(state: &mut State<'m>, from: usize) -> Result<Turn, AllocErro
 
 /// A branch.
 #[inline(always)]
-pub fn branch<'m>(state: &mut State<'m>, label: u32) -> Result<Turn, AllocError>
+pub fn branch<'m>(state: &mut State<'m>, label: u32) -> Turn
     requires { IsFormed state.old }
-    ensures { IfOk result (λ t. Rule (branch_from label state.old) state.old.fuel t state.new) }
+    ensures { Rule (branch_from label state.old) state.old.fuel result state.new }
 {
     let from = state.height;
     if !unwind(state, label) {
-        return Ok(Turn::Lost);
+        return Turn::Lost;
     }
     take_branch(state, from)
 }
@@ -173,9 +177,9 @@ pub fn leave<'m>(state: &mut State<'m>) -> Turn
 
 /// A return.
 #[inline(always)]
-pub fn give_back<'m>(state: &mut State<'m>) -> Result<Turn, AllocError>
+pub fn give_back<'m>(state: &mut State<'m>) -> Turn
     requires { IsFormed state.old }
-    ensures { IfOk result (λ t. Rule (returned state.old) state.old.fuel t state.new) }
+    ensures { Rule (returned state.old) state.old.fuel result state.new }
 {
     let from = state.height;
     while let Some(waiting) = state.waiting.pop() {
@@ -185,5 +189,5 @@ pub fn give_back<'m>(state: &mut State<'m>) -> Result<Turn, AllocError>
             Kind::Frame(one, outside) => return from_body(state, waiting, from, one, outside),
         }
     }
-    Ok(Turn::Lost)
+    Turn::Lost
 }

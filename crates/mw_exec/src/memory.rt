@@ -12,7 +12,7 @@ ghost use Rattle.mw_exec.specs.Instancing.{word_at};
 ghost use Rattle.mw_exec.specs.Views.{store_of, memory_of, IsHeld, IsReached, IsWritten};
 
 use crate::held::Held;
-use crate::operands::{pop_i32, pop_of, push};
+use crate::operands::{pop_i32, pop_of, put};
 use crate::outcome::Outcome;
 use mw_wasm::{LoadOp, Module, StoreOp, Trap, ValType, Value};
 use std::alloc::AllocError;
@@ -218,29 +218,24 @@ fn value_at(bytes: &[u8], at: u64, op: LoadOp) -> Value
 }
 
 /// A load.
-pub fn load(
-    held: &Held,
-    stack: &mut Vec<Value>,
-    height: usize,
-    op: LoadOp,
-    offset: u32,
-) -> Result<Outcome, AllocError>
+pub fn load(held: &Held, stack: &mut Vec<Value>, height: usize, op: LoadOp, offset: u32) -> Outcome
     requires long { height ≤ length stack.old.items }
     requires held { IsHeld held.now }
-    ensures comes { IfOk result
-        (λ o. ActsAligned o (λ align. load_instruction op align offset) held.now held.now height
-        stack.old stack.new) }
-    ensures kept { IfOk result (λ _. Kept height stack.old.items stack.new.items) }
+    ensures comes { ActsAligned result (λ align. load_instruction op align offset) held.now held.now
+        height
+        stack.old
+        stack.new }
+    ensures kept { Kept height stack.old.items stack.new.items }
 {
     let Some(n) = pop_i32(stack, height) else {
-        return Ok(Outcome::Lost);
+        return Outcome::Lost;
     };
     let at = n as u64 + offset as u64;
     if at + size_of_load(op) > held.pages as u64 * PAGE {
-        return Ok(Outcome::Trap(Trap::OutOfBounds));
+        return Outcome::Trap(Trap::OutOfBounds);
     }
-    push(stack, value_at(held.bytes.as_slice(), at, op))?;
-    Ok(Outcome::On)
+    put(stack, value_at(held.bytes.as_slice(), at, op));
+    Outcome::On
 }
 
 /// How many bytes a store writes.
@@ -391,31 +386,25 @@ fn most_pages_of(wasm: &Module) -> u32
 }
 
 /// More pages, where they are allowed.
-pub fn grow(
-    wasm: &Module,
-    held: &mut Held,
-    stack: &mut Vec<Value>,
-    height: usize,
-) -> Result<Outcome, AllocError>
+pub fn grow(wasm: &Module, held: &mut Held, stack: &mut Vec<Value>, height: usize) -> Outcome
     requires long { height ≤ length stack.old.items }
     requires held { IsHeld held.old }
-    ensures comes { IfOk result
-        (λ o. ActsOnStoreIn o (module_of wasm.now) memory_grow held.old held.new height
-        stack.old stack.new) }
-    ensures kept { IfOk result (λ _. Kept height stack.old.items stack.new.items) }
+    ensures comes { ActsOnStoreIn result (module_of wasm.now) memory_grow held.old held.new height
+        stack.old
+        stack.new }
+    ensures kept { Kept height stack.old.items stack.new.items }
     ensures held { IsHeld held.new }
-    ensures halted { IfOk result (λ o. IfHalted o (store_of held.new ≡ store_of held.old)) }
-    ensures refused { IfErr result (λ _. store_of held.new ≡ store_of held.old) }
+    ensures halted { IfHalted result (store_of held.new ≡ store_of held.old) }
 {
     let Some(n) = pop_i32(stack, height) else {
-        return Ok(Outcome::Lost);
+        return Outcome::Lost;
     };
     let most = most_pages_of(wasm);
     if n <= most && held.pages <= most - n {
-        push(stack, Value::I32(held.pages))?;
+        put(stack, Value::I32(held.pages));
         held.pages += n;
-        return Ok(Outcome::On);
+        return Outcome::On;
     }
-    push(stack, Value::I32(0xffff_ffff))?;
-    Ok(Outcome::On)
+    put(stack, Value::I32(0xffff_ffff));
+    Outcome::On
 }

@@ -1,16 +1,15 @@
 // Numeric instructions.
 
-ghost use Rattle.std.specs.Prelude.{◌≡◌, ◌≤◌, ◌∷◌, [], length, IfOk};
+ghost use Rattle.std.specs.Prelude.{◌≡◌, ◌≤◌, ◌∷◌, [], length};
 ghost use Rattle.mw_wasm.specs.declared.numbers.NumOp.TheVariants as numbers;
 ghost use Rattle.mw_wasm.specs.Syntax.{numeric as numeric_instruction};
 ghost use Rattle.mw_wasm.specs.NumericTypes.{kind_of, operands_at, operands_of, OperandsFit};
-ghost use Rattle.mw_exec.specs.Lists.{Kept};
+ghost use Rattle.mw_exec.specs.Lists.{HasRoom, Kept};
 ghost use Rattle.mw_exec.specs.Acts.{ActsOnOperands, Computes, takes_two_of};
 
-use crate::operands::{pop_of, push};
+use crate::operands::{pop_of, put};
 use crate::outcome::Outcome;
 use mw_wasm::{IntOp, NumOp, ValType, Value, numeric};
-use std::alloc::AllocError;
 
 /// Whether an operation on integers has two operands.
 #[inline(always)]
@@ -52,11 +51,10 @@ fn takes_two(op: IntOp) -> bool
 
 /// A numeric instruction.
 #[inline(always)]
-pub fn number(stack: &mut Vec<Value>, height: usize, op: NumOp) -> Result<Outcome, AllocError>
+pub fn number(stack: &mut Vec<Value>, height: usize, op: NumOp) -> Outcome
     requires { height ≤ length stack.old.items }
-    ensures comes { IfOk result
-        (λ o. ActsOnOperands o (numeric_instruction op) height stack.old stack.new) }
-    ensures kept { IfOk result (λ o. Kept height stack.old.items stack.new.items) }
+    ensures comes { ActsOnOperands result (numeric_instruction op) height stack.old stack.new }
+    ensures kept { Kept height stack.old.items stack.new.items }
 {
     match op {
         NumOp::I32(o) => integer32(stack, height, o),
@@ -69,42 +67,33 @@ pub fn number(stack: &mut Vec<Value>, height: usize, op: NumOp) -> Result<Outcom
 
 /// An operation on integers of 32 bits.
 #[inline(always)]
-fn integer32(stack: &mut Vec<Value>, height: usize, o: IntOp) -> Result<Outcome, AllocError>
+fn integer32(stack: &mut Vec<Value>, height: usize, o: IntOp) -> Outcome
     requires { height ≤ length stack.old.items }
-    ensures comes { IfOk result
-        (λ r. ActsOnOperands r (numeric_instruction (numbers.I32 o)) height stack.old
-        stack.new) }
-    ensures kept { IfOk result (λ _. Kept height stack.old.items stack.new.items) }
+    ensures comes { ActsOnOperands result (numeric_instruction (numbers.I32 o)) height stack.old
+        stack.new }
+    ensures kept { Kept height stack.old.items stack.new.items }
 {
     integer(stack, height, NumOp::I32(o), o, ValType::I32)
 }
 
 /// An operation on integers of 64 bits.
 #[inline(always)]
-fn integer64(stack: &mut Vec<Value>, height: usize, o: IntOp) -> Result<Outcome, AllocError>
+fn integer64(stack: &mut Vec<Value>, height: usize, o: IntOp) -> Outcome
     requires { height ≤ length stack.old.items }
-    ensures comes { IfOk result
-        (λ r. ActsOnOperands r (numeric_instruction (numbers.I64 o)) height stack.old
-        stack.new) }
-    ensures kept { IfOk result (λ _. Kept height stack.old.items stack.new.items) }
+    ensures comes { ActsOnOperands result (numeric_instruction (numbers.I64 o)) height stack.old
+        stack.new }
+    ensures kept { Kept height stack.old.items stack.new.items }
 {
     integer(stack, height, NumOp::I64(o), o, ValType::I64)
 }
 
 /// An operation on integers of a width.
 #[inline(always)]
-fn integer(
-    stack: &mut Vec<Value>,
-    height: usize,
-    op: NumOp,
-    o: IntOp,
-    t: ValType,
-) -> Result<Outcome, AllocError>
+fn integer(stack: &mut Vec<Value>, height: usize, op: NumOp, o: IntOp, t: ValType) -> Outcome
     requires long { height ≤ length stack.old.items }
     requires operands { operands_of op ≡ operands_at (kind_of o) t }
-    ensures comes { IfOk result
-        (λ o. ActsOnOperands o (numeric_instruction op) height stack.old stack.new) }
-    ensures kept { IfOk result (λ o. Kept height stack.old.items stack.new.items) }
+    ensures comes { ActsOnOperands result (numeric_instruction op) height stack.old stack.new }
+    ensures kept { Kept height stack.old.items stack.new.items }
 {
     if takes_two(o) {
         two(stack, height, op, t)
@@ -115,56 +104,49 @@ fn integer(
 
 /// An operation with one operand.
 #[inline(always)]
-fn one(stack: &mut Vec<Value>, height: usize, op: NumOp, t: ValType) -> Result<Outcome, AllocError>
+fn one(stack: &mut Vec<Value>, height: usize, op: NumOp, t: ValType) -> Outcome
     requires long { height ≤ length stack.old.items }
     requires operands { operands_of op ≡ t ∷ [] }
-    ensures comes { IfOk result
-        (λ o. ActsOnOperands o (numeric_instruction op) height stack.old stack.new) }
-    ensures kept { IfOk result (λ o. Kept height stack.old.items stack.new.items) }
+    ensures comes { ActsOnOperands result (numeric_instruction op) height stack.old stack.new }
+    ensures kept { Kept height stack.old.items stack.new.items }
 {
     let Some(x) = pop_of(stack, height, t) else {
-        return Ok(Outcome::Lost);
+        return Outcome::Lost;
     };
     computed(stack, height, op, x, x)
 }
 
 /// An operation with two operands.
 #[inline(always)]
-fn two(stack: &mut Vec<Value>, height: usize, op: NumOp, t: ValType) -> Result<Outcome, AllocError>
+fn two(stack: &mut Vec<Value>, height: usize, op: NumOp, t: ValType) -> Outcome
     requires long { height ≤ length stack.old.items }
     requires operands { operands_of op ≡ t ∷ t ∷ [] }
-    ensures comes { IfOk result
-        (λ o. ActsOnOperands o (numeric_instruction op) height stack.old stack.new) }
-    ensures kept { IfOk result (λ o. Kept height stack.old.items stack.new.items) }
+    ensures comes { ActsOnOperands result (numeric_instruction op) height stack.old stack.new }
+    ensures kept { Kept height stack.old.items stack.new.items }
 {
     let Some(y) = pop_of(stack, height, t) else {
-        return Ok(Outcome::Lost);
+        return Outcome::Lost;
     };
     let Some(x) = pop_of(stack, height, t) else {
-        return Ok(Outcome::Lost);
+        return Outcome::Lost;
     };
     computed(stack, height, op, x, y)
 }
 
 /// The result on the stack.
 #[inline(always)]
-fn computed(
-    stack: &mut Vec<Value>,
-    height: usize,
-    op: NumOp,
-    x: Value,
-    y: Value,
-) -> Result<Outcome, AllocError>
+fn computed(stack: &mut Vec<Value>, height: usize, op: NumOp, x: Value, y: Value) -> Outcome
     requires long { height ≤ length stack.old.items }
     requires fit { OperandsFit op x y }
-    ensures comes { IfOk result (λ o. Computes o op x y height stack.old stack.new) }
-    ensures kept { IfOk result (λ o. Kept height stack.old.items stack.new.items) }
+    requires room { HasRoom stack.old }
+    ensures comes { Computes result op x y height stack.old stack.new }
+    ensures kept { Kept height stack.old.items stack.new.items }
 {
     match numeric(op, x, y) {
         Ok(value) => {
-            push(stack, value)?;
-            Ok(Outcome::On)
+            put(stack, value);
+            Outcome::On
         }
-        Err(trap) => Ok(Outcome::Trap(trap)),
+        Err(trap) => Outcome::Trap(trap),
     }
 }

@@ -3,7 +3,7 @@
 ghost use Rattle.std.specs.Prelude.{◌≡◌, ◌≤◌, ◌++◌, ◌∷◌, [], true, false, length, IfSome, IfNone, IfOk};
 ghost use Rattle.mw_wasm.specs.declared.values.Value.TheVariants as value;
 ghost use Rattle.mw_wasm.specs.NumericTypes.{type_of_value};
-ghost use Rattle.mw_exec.specs.Lists.{above, Kept, Popped, Empty, LacksI32, LacksType};
+ghost use Rattle.mw_exec.specs.Lists.{above, HasRoom, Kept, Popped, Empty, LacksI32, LacksType};
 
 use mw_wasm::{ValType, Value};
 use std::alloc::AllocError;
@@ -13,6 +13,7 @@ use std::alloc::AllocError;
 pub fn pop(stack: &mut Vec<Value>, height: usize) -> Option<Value>
     requires { height ≤ length stack.old.items }
     ensures some { IfSome result (λ v. Popped height stack.old.items stack.new.items v) }
+    ensures room { IfSome result (λ _. HasRoom stack.new) }
     ensures none { IfNone result (Empty height stack.old.items stack.new.items) }
 {
     if height < stack.len() {
@@ -28,6 +29,7 @@ pub fn pop_i32(stack: &mut Vec<Value>, height: usize) -> Option<u32>
     requires { height ≤ length stack.old.items }
     ensures some { IfSome result
         (λ n. Popped height stack.old.items stack.new.items (value.I32 n)) }
+    ensures room { IfSome result (λ _. HasRoom stack.new) }
     ensures none { IfNone result (LacksI32 (above height stack.old.items)) }
     ensures kept { Kept height stack.old.items stack.new.items }
 {
@@ -62,6 +64,7 @@ pub fn pop_of(stack: &mut Vec<Value>, height: usize, t: ValType) -> Option<Value
     requires { height ≤ length stack.old.items }
     ensures some { IfSome result (λ v. Popped height stack.old.items stack.new.items v) }
     ensures typed { IfSome result (λ v. type_of_value v ≡ t) }
+    ensures room { IfSome result (λ _. HasRoom stack.new) }
     ensures none { IfNone result (LacksType t (above height stack.old.items)) }
     ensures kept { Kept height stack.old.items stack.new.items }
 {
@@ -84,4 +87,13 @@ pub fn push(stack: &mut Vec<Value>, operand: Value) -> Result<(), AllocError>
 {
     stack.push(operand)?;
     Ok(())
+}
+
+/// One operand more, where there is room for it, as there is once one was taken.
+#[inline(always)]
+pub fn put(stack: &mut Vec<Value>, operand: Value)
+    requires { HasRoom stack.old }
+    ensures { stack.new.items ≡ stack.old.items ++ operand ∷ [] }
+{
+    stack.push_reserved(operand);
 }

@@ -17,7 +17,7 @@ ghost use Rattle.mw_exec.specs.Views.{store_of, IsHeld};
 use crate::held::Held;
 use crate::memory::{grow, load, store};
 use crate::numbers::number;
-use crate::operands::{pop, pop_i32, push};
+use crate::operands::{pop, pop_i32, push, put};
 use crate::outcome::Outcome;
 use mw_wasm::{Instr, Module, Trap, Value};
 use std::alloc::AllocError;
@@ -49,20 +49,20 @@ pub fn simple(
     match instruction {
         Instr::LocalGet(x) => local_get(stack, height, locals, base, *x),
         Instr::LocalSet(x) => Ok(local_set(stack, height, locals, base, *x)),
-        Instr::LocalTee(x) => local_tee(stack, height, locals, base, *x),
+        Instr::LocalTee(x) => Ok(local_tee(stack, height, locals, base, *x)),
         Instr::ConstI32(n) => constant(stack, height, Value::I32(*n)),
         Instr::ConstI64(n) => constant(stack, height, Value::I64(*n)),
-        Instr::Num(op) => number(stack, height, *op),
-        Instr::Load(op, _, offset) => load(held, stack, height, *op, *offset),
+        Instr::Num(op) => Ok(number(stack, height, *op)),
+        Instr::Load(op, _, offset) => Ok(load(held, stack, height, *op, *offset)),
         Instr::Store(op, _, offset) => store(held, stack, height, *op, *offset),
         Instr::GlobalGet(x) => global_get(held, stack, height, *x),
         Instr::GlobalSet(x) => Ok(global_set(held, stack, height, *x)),
         Instr::Drop => Ok(drop_value(stack, height)),
-        Instr::Select => select(stack, height),
+        Instr::Select => Ok(select(stack, height)),
         Instr::Nop => Ok(Outcome::On),
         Instr::Unreachable => Ok(Outcome::Trap(Trap::Unreachable)),
         Instr::MemorySize => constant(stack, height, Value::I32(held.pages)),
-        Instr::MemoryGrow => grow(wasm, held, stack, height),
+        Instr::MemoryGrow => Ok(grow(wasm, held, stack, height)),
         Instr::Block(_, _) => Ok(Outcome::Other),
         Instr::Loop(_, _) => Ok(Outcome::Other),
         Instr::If(_, _, _) => Ok(Outcome::Other),
@@ -148,25 +148,26 @@ fn local_tee(
     locals: &mut Vec<Value>,
     base: usize,
     x: u32,
-) -> Result<Outcome, AllocError>
+) -> Outcome
     requires long { height ≤ length stack.old.items }
     requires local { base ≤ length locals.old.items }
-    ensures simply { IfOk result
-        (λ o. SimplyOnLocals o (local_tee_instruction x) base locals.old locals.new height stack.old
-        stack.new) }
-    ensures kept { IfOk result (λ _. Kept height stack.old.items stack.new.items) }
-    ensures local { IfOk result (λ _. Kept base locals.old.items locals.new.items) }
+    ensures simply { SimplyOnLocals result (local_tee_instruction x) base locals.old locals.new
+        height
+        stack.old
+        stack.new }
+    ensures kept { Kept height stack.old.items stack.new.items }
+    ensures local { Kept base locals.old.items locals.new.items }
 {
     let Some(operand) = pop(stack, height) else {
-        return Ok(Outcome::Lost);
+        return Outcome::Lost;
     };
-    push(stack, operand)?;
+    put(stack, operand);
     let count = locals.len() - base;
     if (x as usize) < count {
         locals[base + x as usize] = operand;
-        Ok(Outcome::On)
+        Outcome::On
     } else {
-        Ok(Outcome::Lost)
+        Outcome::Lost
     }
 }
 
@@ -222,22 +223,21 @@ fn drop_value(stack: &mut Vec<Value>, height: usize) -> Outcome
     }
 }
 
-fn select(stack: &mut Vec<Value>, height: usize) -> Result<Outcome, AllocError>
+fn select(stack: &mut Vec<Value>, height: usize) -> Outcome
     requires { height ≤ length stack.old.items }
-    ensures comes { IfOk result
-        (λ o. ActsOnOperands o select_instruction height stack.old stack.new) }
-    ensures kept { IfOk result (λ _. Kept height stack.old.items stack.new.items) }
+    ensures comes { ActsOnOperands result select_instruction height stack.old stack.new }
+    ensures kept { Kept height stack.old.items stack.new.items }
 {
     let Some(n) = pop_i32(stack, height) else {
-        return Ok(Outcome::Lost);
+        return Outcome::Lost;
     };
     let Some(b) = pop(stack, height) else {
-        return Ok(Outcome::Lost);
+        return Outcome::Lost;
     };
     let Some(a) = pop(stack, height) else {
-        return Ok(Outcome::Lost);
+        return Outcome::Lost;
     };
     let chosen = if n == 0 { b } else { a };
-    push(stack, chosen)?;
-    Ok(Outcome::On)
+    put(stack, chosen);
+    Outcome::On
 }

@@ -18,19 +18,14 @@ use mw_wasm::{FuncType, Module, Trap, ValType};
 use std::alloc::AllocError;
 
 /// A branch to the label at the place that the last operand names, or to another.
-pub fn jump_by_table<'m>(
-    state: &mut State<'m>,
-    labels: &'m [u32],
-    l: u32,
-) -> Result<Turn, AllocError>
+pub fn jump_by_table<'m>(state: &mut State<'m>, labels: &'m [u32], l: u32) -> Turn
     requires { IsFormed state.old }
-    ensures { IfOk result
-        (λ u. (m : PureModule) (h : WasmHeld) → TurnsBy m (br_table labels.now l) h state.old u
-        state.new) }
+    ensures { (m : PureModule) (h : WasmHeld) → TurnsBy m (br_table labels.now l) h state.old result
+        state.new }
 {
     let height = state.height;
     let Some(n) = pop_i32(&mut state.stack, height) else {
-        return Ok(Turn::Lost);
+        return Turn::Lost;
     };
     if (n as usize) < labels.len() {
         branch(state, labels[n as usize])

@@ -1,6 +1,7 @@
-use Rattle.std.proofs.Common.{ap, ◌∙◌}
+use Rattle.std.proofs.Common.{ap, sym, ◌∙◌}
+use Rattle.mw_wasm.specs.Syntax.{br_table}
 use Rattle.mw_wasm.specs.Views.{instruction_of, module_of, block_is, loop_is, cond_is}
-use Rattle.mw_exec.proofs.TurnRules.{control_at}
+use Rattle.mw_exec.proofs.TurnRules.{control_at, turns_at}
 use Rattle.mw_exec.proofs.control.control.Goals as goal
 
 pub returns-in-Block : goal.returns-in-Block
@@ -19,16 +20,22 @@ returns-in-If c = control_at c.choose.result (module_of c.args.wasm.now) c.args.
     (ap instruction_of c.in-If.is ∙ cond_is c.in-If.t c.in-If.a c.in-If.b) c.choose.ensures
 
 pub returns-in-Br : goal.returns-in-Br
-returns-in-Br c = control_at c.jump.result (module_of c.args.wasm.now) c.args.held.now
+returns-in-Br c = turns_at c.jump.result (module_of c.args.wasm.now) c.args.held.now
     (instruction_of c.args.instruction.now) _ c.args.state.now c.jump.new.state (ap instruction_of c.in-Br.is)
     c.jump.ensures
 
 pub returns-in-BrIf : goal.returns-in-BrIf
-returns-in-BrIf c = control_at c.jump_if.result (module_of c.args.wasm.now) c.args.held.now
+returns-in-BrIf c = turns_at c.jump_if.result (module_of c.args.wasm.now) c.args.held.now
     (instruction_of c.args.instruction.now) _ c.args.state.now c.jump_if.new.state (ap instruction_of c.in-BrIf.is)
     c.jump_if.ensures
 
 pub returns-in-Return : goal.returns-in-Return
-returns-in-Return c = control_at c.return_now.result (module_of c.args.wasm.now) c.args.held.now
+returns-in-Return c = turns_at c.return_now.result (module_of c.args.wasm.now) c.args.held.now
     (instruction_of c.args.instruction.now) _ c.args.state.now c.return_now.new.state (ap instruction_of c.in-Return.is)
     c.return_now.ensures
+
+pub returns-in-BrTable : goal.returns-in-BrTable
+returns-in-BrTable c = turns_at c.jump_by_table.result (module_of c.args.wasm.now) c.args.held.now
+    (instruction_of c.args.instruction.now) _ c.args.state.now c.jump_by_table.new.state
+    (ap instruction_of c.in-BrTable.is ∙ ap (λ ls. br_table ls c.in-BrTable.l) (sym c.as_slice.ensures))
+    c.jump_by_table.ensures

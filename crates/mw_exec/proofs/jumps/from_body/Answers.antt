@@ -5,7 +5,7 @@ use Rattle.mw_exec.proofs.jumps.from_body.Goals as goal
 pub returns-clause-branched : goal.returns-clause-branched
 returns-clause-branched c = frame_rule c.args.waiting c.args.from c.args.one c.args.outside c.args.state.now _
     c.requires.formed c.requires.kind c.restore.ensures.fuel record {
-      stack = c.restore.ensures.stack ∙ c.in_ok-keep.ensures;
+      stack = c.restore.ensures.stack ∙ c.keep.ensures;
       code = c.restore.ensures.code;
       place = c.restore.ensures.at;
       height = c.restore.ensures.height;
@@ -17,7 +17,7 @@ returns-clause-branched c = frame_rule c.args.waiting c.args.from c.args.one c.a
 pub returns-clause-returned : goal.returns-clause-returned
 returns-clause-returned c = return_rule c.args.waiting c.args.from c.args.one c.args.outside c.args.state.now _
     c.requires.formed c.requires.kind c.restore.ensures.fuel record {
-      stack = c.restore.ensures.stack ∙ c.in_ok-keep.ensures;
+      stack = c.restore.ensures.stack ∙ c.keep.ensures;
       code = c.restore.ensures.code;
       place = c.restore.ensures.at;
       height = c.restore.ensures.height;

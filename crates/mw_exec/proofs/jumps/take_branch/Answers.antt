@@ -1,24 +1,10 @@
 use Rattle.std.proofs.Common.{refl, sym, ◌∙◌}
-use Rattle.mw_exec.specs.Turns.{around_with}
-use Rattle.mw_exec.proofs.Leaving.{taken_formed, branch_taken, branch_from_any, branch_lost}
+use Rattle.mw_exec.proofs.Leaving.{taken_formed, branch_taken, branch_lost}
 use Rattle.mw_exec.proofs.jumps.take_branch.Goals as goal
 
 pub returns-in-None : goal.returns-in-None
 returns-in-None c = branch_lost c.args.from c.args.state.now _
     (sym c.args.state.now.waiting.ok.0 ∙ c.in-None.ensures.cases.0)
-
-pub again-requires-clause-formed : goal.again-requires-clause-formed
-again-requires-clause-formed c = taken_formed c.in-Some.waiting c.args.state.now
-    (record c.args.state.now { waiting = c.pop.new.self }) c.requires.formed record {
-      waiting = c.in-Some.ensures.items;
-      stack = refl;
-      height = refl;
-      locals = refl;
-      base = refl;
-      code = refl;
-      fuel =
-          refl;
-    }
 
 pub behind-requires-clause-formed : goal.behind-requires-clause-formed
 behind-requires-clause-formed c = taken_formed c.in-Some.waiting c.args.state.now
@@ -46,20 +32,8 @@ from_body-requires-clause-formed c = taken_formed c.in-Some.waiting c.args.state
           refl;
     }
 
-pub returns-in-Loop : goal.returns-in-Loop
-returns-in-Loop c = branch_taken c.again.result c.in-Some.waiting c.args.from c.args.state.now
-    (record c.args.state.now { waiting = c.pop.new.self }) c.again.new.state
-    record {
-      waiting = c.in-Some.ensures.items;
-      stack = refl;
-      height = refl;
-      locals = refl;
-      base = refl;
-      code = refl;
-      fuel = refl;
-    }
-    (branch_from_any c.again.result c.args.from (record c.args.state.now { waiting = c.pop.new.self }) c.again.new.state
-    (around_with c.in-Some.waiting (record c.args.state.now { waiting = c.pop.new.self })) c.again.ensures)
+pub returns-then-is_in_loop : goal.returns-then-is_in_loop
+returns-then-is_in_loop c = c.again.ensures c.args.from
 
 pub returns-in-Block : goal.returns-in-Block
 returns-in-Block c = branch_taken c.behind.result c.in-Some.waiting c.args.from c.args.state.now

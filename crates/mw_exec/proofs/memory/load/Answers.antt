@@ -27,7 +27,7 @@ returns-clause-comes c m align ls =
           (c.args.held.now.pages * 65536) (omega (arith, c.size_of_load.ensures.is)),
     )
     (ap (λ vs. gives (store_of c.args.held.now) ls vs None)
-    (sym (ap (above c.args.height) c.in_ok-push.ensures
+    (sym (ap (above c.args.height) c.put.ensures
     ∙ (above_pushed c.args.height c.pop_i32.new.stack.items c.value_at.result c.in-Some.ensures.kept.long
     ∙ ap (λ v. v ∷ above c.args.height c.pop_i32.new.stack.items)
     (c.value_at.ensures
@@ -38,6 +38,6 @@ returns-clause-comes c m align ls =
     c.args.held.now.bytes.items)))))))
 
 pub returns-clause-kept : goal.returns-clause-kept
-returns-clause-kept c = kept_then c.args.height c.args.stack.now.items c.pop_i32.new.stack.items c.push.new.stack.items
-    c.in-Some.ensures.kept (kept_pushed c.args.height c.pop_i32.new.stack.items c.push.new.stack.items c.value_at.result
-    c.in-Some.ensures.kept.long c.in_ok-push.ensures)
+returns-clause-kept c = kept_then c.args.height c.args.stack.now.items c.pop_i32.new.stack.items c.put.new.stack.items
+    c.in-Some.ensures.kept (kept_pushed c.args.height c.pop_i32.new.stack.items c.put.new.stack.items c.value_at.result
+    c.in-Some.ensures.kept.long c.put.ensures)

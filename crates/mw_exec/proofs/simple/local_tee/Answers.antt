@@ -11,9 +11,9 @@ returns-in_default-clause-simply c m st = tee_none m st c.args.x (drop c.args.ba
 pub returns-then-x-count-clause-simply : goal.returns-then-x-count-clause-simply
 returns-then-x-count-clause-simply c m st =
     tee_on m st c.args.base c.args.x c.args.locals.now.items _ (above c.args.height c.args.stack.now.items)
-    (above c.args.height c.pop.new.stack.items) (above c.args.height c.push.new.stack.items) c.in-Some.operand
+    (above c.args.height c.pop.new.stack.items) (above c.args.height c.put.new.stack.items) c.in-Some.operand
     (omega (arith, c.args.locals.now.ok.0)) c.in-Some.ensures.some.top refl
-    (ap (λ us. above c.args.height us) c.in_ok-push.ensures ∙ above_pushed c.args.height c.pop.new.stack.items
+    (ap (λ us. above c.args.height us) c.put.ensures ∙ above_pushed c.args.height c.pop.new.stack.items
     c.in-Some.operand c.in-Some.ensures.some.kept.long)
 
 pub returns-else-x-count-clause-simply : goal.returns-else-x-count-clause-simply

@@ -6,7 +6,7 @@ use Rattle.mw_wasm.specs.Act.{constant}
 use Rattle.mw_wasm.specs.Views.{instruction_of, module_of}
 use Rattle.mw_exec.specs.declared.outcome.Outcome.TheVariants as outcome
 use Rattle.mw_exec.specs.Views.{store_of}
-use Rattle.mw_exec.proofs.ArmRules.{arm, arm_st, arm_ls, arm_in, arm_held, arm_aligned, arm_const, arm_size, arm_simply}
+use Rattle.mw_exec.proofs.ArmRules.{arm, arm_st, arm_held, arm_aligned, arm_const, arm_size, arm_simply}
 use Rattle.mw_exec.proofs.ArmRules.{is_control}
 use Rattle.mw_exec.proofs.simple.simple.Goals as goal
 
@@ -33,15 +33,15 @@ returns-in-ConstI64-clause-simply c = arm_const c.constant-in-ConstI64.result (m
     c.constant-in-ConstI64.ensures.top
 
 pub returns-in-Num-clause-simply : goal.returns-in-Num-clause-simply
-returns-in-Num-clause-simply c = arm_ls c.number.result (module_of c.args.wasm.now)
-    (instruction_of c.args.instruction.now) _ (store_of c.args.held.now) _ c.args.height c.args.stack.now
-    c.number.new.stack (ap instruction_of c.in-Num.is) refl c.number.ensures.comes
+returns-in-Num-clause-simply c = arm c.number.result (module_of c.args.wasm.now)
+    (instruction_of c.args.instruction.now) _ (store_of c.args.held.now) _ _ _ _ _ (ap instruction_of c.in-Num.is) refl
+    (c.number.ensures.comes (module_of c.args.wasm.now) (store_of c.args.held.now) _)
 
 pub returns-in-Load-clause-simply : goal.returns-in-Load-clause-simply
-returns-in-Load-clause-simply c = arm_aligned c.load.result (module_of c.args.wasm.now)
-    (instruction_of c.args.instruction.now) (λ align. load c.in-Load.op align c.in-Load.offset) c.in-Load.field-1
-    c.args.held.now c.args.held.now _ c.args.height c.args.stack.now c.load.new.stack (ap instruction_of c.in-Load.is)
-    refl c.load.ensures.comes
+returns-in-Load-clause-simply c = arm c.load.result (module_of c.args.wasm.now)
+    (instruction_of c.args.instruction.now) (load c.in-Load.op c.in-Load.field-1 c.in-Load.offset)
+    (store_of c.args.held.now) _ _ _ _ _ (ap instruction_of c.in-Load.is) refl
+    (c.load.ensures.comes (module_of c.args.wasm.now) c.in-Load.field-1 _)
 
 pub returns-in-Store-clause-simply : goal.returns-in-Store-clause-simply
 returns-in-Store-clause-simply c = arm_aligned c.store.result (module_of c.args.wasm.now)
@@ -65,9 +65,9 @@ returns-in-Drop-clause-simply c = arm c.drop_value.result (module_of c.args.wasm
     (c.drop_value.ensures.comes (module_of c.args.wasm.now) (store_of c.args.held.now) _)
 
 pub returns-in-Select-clause-simply : goal.returns-in-Select-clause-simply
-returns-in-Select-clause-simply c = arm_ls c.select.result (module_of c.args.wasm.now)
-    (instruction_of c.args.instruction.now) _ (store_of c.args.held.now) _ c.args.height c.args.stack.now
-    c.select.new.stack (ap instruction_of c.in-Select.is) refl c.select.ensures.comes
+returns-in-Select-clause-simply c = arm c.select.result (module_of c.args.wasm.now)
+    (instruction_of c.args.instruction.now) _ (store_of c.args.held.now) _ _ _ _ _ (ap instruction_of c.in-Select.is)
+    refl (c.select.ensures.comes (module_of c.args.wasm.now) (store_of c.args.held.now) _)
 
 pub returns-in-Nop-clause-simply : goal.returns-in-Nop-clause-simply
 returns-in-Nop-clause-simply c = arm outcome.On (module_of c.args.wasm.now) (instruction_of c.args.instruction.now) nop
@@ -84,9 +84,9 @@ returns-in-MemorySize-clause-simply c = arm_size c.constant-in-MemorySize.result
     c.constant-in-MemorySize.ensures.on c.constant-in-MemorySize.ensures.top
 
 pub returns-in-MemoryGrow-clause-simply : goal.returns-in-MemoryGrow-clause-simply
-returns-in-MemoryGrow-clause-simply c = arm_in c.grow.result (module_of c.args.wasm.now)
-    (instruction_of c.args.instruction.now) memory_grow c.args.held.now c.grow.new.held _ c.args.height c.args.stack.now
-    c.grow.new.stack (ap instruction_of c.in-MemoryGrow.is) refl c.grow.ensures.comes
+returns-in-MemoryGrow-clause-simply c = arm c.grow.result (module_of c.args.wasm.now)
+    (instruction_of c.args.instruction.now) memory_grow (store_of c.args.held.now) _ _ (store_of c.grow.new.held) _ _
+    (ap instruction_of c.in-MemoryGrow.is) refl (c.grow.ensures.comes _)
 
 pub returns-in-LocalTee-clause-simply : goal.returns-in-LocalTee-clause-simply
 returns-in-LocalTee-clause-simply c = arm_simply c.local_tee.result (module_of c.args.wasm.now)
