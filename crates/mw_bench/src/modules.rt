@@ -9,6 +9,7 @@ use mw_wasm::{
 };
 use std::alloc::{AllocError, Global};
 
+/// A module whose runs are timed.
 #[derive(Clone, Copy, Drop)]
 pub enum Timed {
     /// A loop of ten simple instructions.

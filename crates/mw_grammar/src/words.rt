@@ -35,6 +35,7 @@ pub enum First {
     Other,
 }
 
+/// How an expression that begins with this token goes on.
 pub fn first_word(token: &Token) -> First
     ensures { IsFirst (token_of token.now) result }
 {
@@ -54,6 +55,7 @@ pub enum Named<'a> {
     Other,
 }
 
+/// What follows a `let`, or stands where a parameter may: a name, `rec` or neither.
 pub fn name_or_rec(token: &Token) -> Named<'_>
     ensures { IsNamed (token_of token.now) result }
 {
@@ -97,6 +99,7 @@ pub enum Atom<'a> {
     Escape,
 }
 
+/// The atom that begins with this token, if one does.
 pub fn atom_word(token: &Token) -> Option<Atom<'_>>
     ensures { IsAtom (token_of token.now) result }
 {
@@ -131,6 +134,7 @@ pub enum Head {
     Run,
 }
 
+/// The prefix or atom that begins with this token, if one does.
 pub fn head_word(token: &Token) -> Option<Head>
     ensures { IsHead (token_of token.now) result }
 {
@@ -154,6 +158,7 @@ pub enum Inside {
     Other,
 }
 
+/// What stands behind a left parenthesis: a minus sign, or something else.
 pub fn inside_word(token: &Token) -> Inside
     ensures { IsInside (token_of token.now) result }
 {
@@ -182,6 +187,7 @@ pub enum Close {
     Other,
 }
 
+/// What ends an expression in parentheses, or a pair's first part.
 pub fn closing(token: &Token) -> Close
     ensures { IsClose (token_of token.now) result }
 {
@@ -227,6 +233,7 @@ fn equal_body(token: &Token) -> Body
     }
 }
 
+/// What stands where a mark or one more parameter is to come before a body.
 pub fn body_word(mark: Mark, token: &Token) -> Body
     ensures { IsBody mark (token_of token.now) result }
 {
@@ -244,6 +251,7 @@ pub enum Start {
     Other,
 }
 
+/// Whether an item or main begins with this token.
 pub fn start_word(token: &Token) -> Start
     ensures { IsStart (token_of token.now) result }
 {
@@ -263,6 +271,7 @@ pub enum ItemWord {
     Other,
 }
 
+/// Which kind of item begins with this token.
 pub fn item_word(token: &Token) -> ItemWord
     ensures { IsItem (token_of token.now) result }
 {

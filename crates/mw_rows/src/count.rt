@@ -32,6 +32,7 @@ fn place(kind: Kind) -> usize {
 }
 
 impl Counts {
+    /// No rows yet.
     pub fn none() -> Counts {
         Counts { by_kind: [0; 17] }
     }

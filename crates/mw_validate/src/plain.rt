@@ -72,6 +72,7 @@ pub fn plain<'m>(
     }
 }
 
+/// An operand of any type is taken away. Answers whether there was one.
 #[tactic(auto, using(crate::proofs::ByEffect::dropped_one, crate::proofs::ByEffect::dropped_none))]
 pub fn drop_one(list: &mut OperandList) -> bool
     ensures { Leaves result (dropped (operands_of list.old)) list.new }
