@@ -12,3 +12,4 @@ pub mod Closures
 pub mod Ranges
 pub mod Conversions
 pub mod Finds
+pub mod Converting

@@ -7,7 +7,7 @@ use Rattle.std.proofs.lemmas.List.{length-replicate, set_at, set_past}
 use Rattle.mw_term.specs.Terms as x
 use Rattle.mw_term.specs.Terms.{Expression, size}
 use Rattle.mw_meaning.specs.KernelMeaning.{occurs}
-use Rattle.mw_conv.specs.declared.found.Found.{Found}
+use Rattle.mw_conv.specs.declared.found.FoundFunction.{FoundFunction}
 use Rattle.mw_conv.specs.Convert.{kept, lets}
 use Rattle.mw_conv.specs.Finding.{joined, marked, marking, levels, all_found, function_found}
 
@@ -146,7 +146,7 @@ function_marks e own u bs m0 m1 m2 f g h =
     h ∙ ap (λ ls. marking bs ls) (function_levels e own (length bs + u) m0 m1 f g)
     ∙ marking_joined bs u (λ i. occurs e (own + i))
 
-pub function_is_found : (e : Expression) (own d : ℕ) (f0 f1 f2 : List Found) (slots : ℕ) (free : List ℕ)
+pub function_is_found : (e : Expression) (own d : ℕ) (f0 f1 f2 : List FoundFunction) (slots : ℕ) (free : List ℕ)
     (m0 m1 : List Bool) → m0 ≡ replicate d false → m1 ≡ joined m0 (λ i. occurs e (own + i))
     → f1 ≡ f0 ++ all_found e (length m0 + own) → slots ≡ lets e → free ≡ marked m1 0
     → f2 ≡ f1 ++ record { slots = slots; free = free } ∷ []
