@@ -1,7 +1,7 @@
 -- A function with an own name or without: what its conversion takes from that of its body.
 use Rattle.std.proofs.Common.{◌≡◌, ℕ, suc, ◌+◌, ◌<◌, ◌≤◌, Bool, true, false, List, [], ◌∷◌, ◌++◌, length, map, reverse}
 use Rattle.std.proofs.Common.{refl, ap, ◌∙◌, sym, subst, arith, append_assoc, length-append}
-use Rattle.std.specs.Prelude.{◌||◌, slice_index_or, Result, Ok, Err, IsErr, IfOk}
+use Rattle.std.specs.Prelude.{◌||◌, slice_index_or, Result, Ok, Err, IfOk}
 use Rattle.std.proofs.lemmas.Bool.{eqb-true}
 use Rattle.std.proofs.lemmas.List.{reverse-append}
 use Rattle.mw_term.specs.Terms as x
@@ -179,7 +179,3 @@ function_added r e ps inner ls k left n free slots body old new f g h i c m o b 
 pub ok_map : {A E : Type 0} (r : Result A E) (P R : A → Type 0) → ((x : A) → P x → R x) → IfOk r P → IfOk r R
 ok_map (Ok x) P R f p = f x p
 ok_map (Err e) P R f p = tt
-
-pub no_ok : {A E : Type 0} (r : Result A E) (P : A → Type 0) → IsErr r → IfOk r P
-no_ok (Ok x) P f = absurd (cc)
-no_ok (Err e) P f = tt

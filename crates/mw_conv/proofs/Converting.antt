@@ -1,5 +1,5 @@
 -- The converter before and after the parts of a term.
-use Rattle.std.proofs.Common.{◌≡◌, ℕ, suc, ◌+◌, ◌-◌, ◌*◌, ◌^◌, ◌<◌, ◌≤◌, Bool, List, [], ◌∷◌, ◌++◌, length, map, reverse}
+use Rattle.std.proofs.Common.{◌≡◌, ℕ, suc, ◌+◌, ◌-◌, ◌*◌, ◌^◌, ◌<◌, ◌≤◌, Bool, List, [], ◌∷◌, ◌++◌, length, map}
 use Rattle.std.proofs.Common.{take, get_or, refl, ap, ◌∙◌, sym, subst, arith, append-nil}
 use Rattle.std.specs.Global.{Vec}
 use Rattle.std.proofs.lemmas.List.{map-append, get_or_default}
@@ -15,13 +15,13 @@ use Rattle.mw_ir.specs.declared.code.Ir.{Ir as Code}
 use Rattle.mw_ir.specs.Views.{ir_of, ir_func_of}
 use Rattle.mw_conv.specs.declared.code.Converter.{Converter}
 use Rattle.mw_conv.specs.declared.found.FoundFunction.{FoundFunction}
-use Rattle.mw_conv.specs.Contexts.{found_in, code_in, AreAdded, place_at}
-use Rattle.mw_conv.specs.Convert.{funs, code, functions}
+use Rattle.mw_conv.specs.Contexts.{found_in}
+use Rattle.mw_conv.specs.Convert.{funs}
 use Rattle.mw_conv.specs.Converting.{CanConvert, Converts}
 use Rattle.mw_conv.specs.Finding.{EndsWith, all_found, function, levels, freeing, places, own_places}
-use Rattle.mw_conv.proofs.Contexts.{pushed, one_more, popped, place_read}
-use Rattle.mw_conv.proofs.Ends.{ends_left, ends_right, two_taken, two_added}
-use Rattle.mw_conv.proofs.Closures.{outer_free, the_found, the_rest, found_again, all_within, few, inner_within}
+use Rattle.mw_conv.proofs.Contexts.{one_more, popped, place_read}
+use Rattle.mw_conv.proofs.Ends.{ends_left, ends_right}
+use Rattle.mw_conv.proofs.Closures.{outer_free, the_found, the_rest, found_again, few, inner_within}
 use Rattle.mw_conv.proofs.Closures.{closure_is, function_added, funs_is, size_is, closed_is, within_is}
 
 -- a part, after another part behind it was converted
@@ -66,35 +66,18 @@ pub can_condition : (b m : Converter) (c e f : Expression) (s : ℕ) (q : Ir) �
 can_condition b m c e f s q h = can_next b m c (x.pair e f) s s q h.closed.0 (omega (arith, h.slots))
     (omega (arith, h.binders)) h.left h.found
 
--- two parts one after the other
-pub two_converted : (b m a : Converter) (e f : Expression) (s : ℕ) (p q : Ir) → Converts b m f s q
-    → Converts m a e s p → Converts b a (x.pair e f) s (i.pair p q)
-two_converted b m a e f s p q h g =
-    let p' = subst (λ ps. p ≡ code_in e a.left ps s) h.same g.code in
-    let q' = subst (λ k. q ≡ code_in f k b.context.items s) g.left h.code in
-    record {
-      same = g.same ∙ h.same;
-      left = omega (arith, h.left, g.left);
-      found = two_taken _ _ _ _ _ h.found
-          (subst (λ ps. m.found.items ≡ a.found.items ++ found_in e ps) h.same g.found);
-      code = λ j. i.pair (p' j) (q' j);
-      funcs = two_added (map ir_func_of b.funcs) _ _ (functions e a.left (length b.context.items)) _
-          (h.funcs ∙ (λ j. map ir_func_of b.funcs ++ reverse (functions f (g.left j) (length b.context.items))))
-          (subst (λ ps. AreAdded m.funcs a.funcs e a.left ps) h.same g.funcs);
-    }
-
 -- a variable, at its place
 pub var_converted : (b : Converter) (n s k : ℕ) (p : Place) → CanConvert b (x.var n) s → k ≡ length b.context.items
     → p ≡ get_or b.context.items (k - 1 - n) p → Converts b b (x.var n) s (i.get p)
 var_converted b n s k p c l e =
-  let lt : n < length b.context.items = c.closed in record {
-  same = refl;
-  left = omega arith;
-  found = sym (append-nil b.found.items);
-  code = ap i.get (e ∙ (get_or_default b.context.items (k - 1 - n) p Argument (omega arith)
-      ∙ (ap (λ k. get_or b.context.items (k - 1 - n) Argument) l ∙ sym (place_read b.context.items n lt))));
-  funcs = sym (append-nil (map ir_func_of b.funcs));
-}
+    let lt : n < length b.context.items = c.closed in record {
+      same = refl;
+      left = omega arith;
+      found = sym (append-nil b.found.items);
+      code = ap i.get (e ∙ (get_or_default b.context.items (k - 1 - n) p Argument (omega arith)
+          ∙ (ap (λ k. get_or b.context.items (k - 1 - n) Argument) l ∙ sym (place_read b.context.items n lt))));
+      funcs = sym (append-nil (map ir_func_of b.funcs));
+    }
 
 -- the body of a let, where its slot is in scope
 pub can_body : (b : Converter) (ps : Vec Place) (d e : Expression) (s : ℕ)
@@ -130,27 +113,6 @@ can_definition b m ps qs d e s q f h g c =
       binders = subst (λ ps. length ps + 2 * size d < 2 ^ 32) (sym g) (omega (arith, c.binders));
       left = omega (arith, c.left, h.left);
       found = subst (λ ps. EndsWith m.found.items (found_in d ps)) (sym g) (ends_left _ _ _ _ c.found found);
-    }
-
-pub let_converted : (b m a : Converter) (ps qs : Vec Place) (d e : Expression) (s : ℕ) (p q : Ir)
-    → ps.items ≡ b.context.items ++ Slot s ∷ [] → Converts (record b { context = ps }) m e (s + 1) q
-    → qs.items ≡ b.context.items → Converts (record m { context = qs }) a d s p
-    → Converts b a (x.bind d e) s (i.bind s p q)
-let_converted b m a ps qs d e s p q f h g l =
-    let n = one_more b.context.items ps.items _ f in
-    let r = ap place_at f ∙ pushed b.context.items (Slot s) in
-    let t : s + 1 ≡ suc s = omega arith in
-    let p' = subst (λ ps. p ≡ code_in d a.left ps s) g l.code in
-    let q' = h.code ∙ (λ j. code e (l.left j) (n j) (t j) (r j)) in
-    record {
-      same = l.same ∙ g;
-      left = omega (arith, h.left, l.left);
-      found = two_taken _ _ _ _ _ (subst (λ n. b.found.items ≡ m.found.items ++ all_found e n) n h.found)
-          (subst (λ ps. m.found.items ≡ a.found.items ++ found_in d ps) g l.found);
-      code = λ j. i.bind s (p' j) (q' j);
-      funcs = two_added (map ir_func_of b.funcs) _ _ (functions d a.left (length b.context.items)) _
-          (h.funcs ∙ (λ j. map ir_func_of b.funcs ++ reverse (functions e (l.left j) (n j))))
-          (subst (λ ps. AreAdded m.funcs a.funcs d a.left ps) g l.funcs);
     }
 
 -- the levels of a function that was taken

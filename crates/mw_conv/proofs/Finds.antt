@@ -1,5 +1,6 @@
 -- The finder before and after the parts of a term.
-use Rattle.std.proofs.Common.{◌≡◌, ℕ, suc, ◌+◌, Bool, true, false, List, [], ◌∷◌, ◌++◌, length, max, replicate, refl, ap}
+use Rattle.std.proofs.Common.{◌≡◌, ℕ, suc, ◌+◌, Bool, true, false, List, [], ◌∷◌, ◌++◌, length, max, replicate, refl}
+use Rattle.std.proofs.Common.{ap}
 use Rattle.std.proofs.Common.{◌∙◌, sym, arith, append_assoc, append-nil}
 use Rattle.std.specs.Global.{Vec}
 use Rattle.mw_term.specs.declared.term.Primitive.{Primitive as Prim}

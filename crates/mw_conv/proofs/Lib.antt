@@ -1,4 +1,3 @@
-pub mod Asked
 pub mod Free
 pub mod Heaps
 pub mod Agrees

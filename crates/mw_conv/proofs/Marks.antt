@@ -49,14 +49,10 @@ joined_again [] p q = refl
 joined_again (b ∷ bs) p q = rw (joined_length bs p, or_assoc b (p (length bs)) (q (length bs)), joined_again bs p q)
     refl
 
--- two walks, and three
+-- two walks
 pub joined_twice : (m0 m1 m2 : List Bool) (p q : ℕ → Bool) → m1 ≡ joined m0 p → m2 ≡ joined m1 q
     → m2 ≡ joined m0 (λ i. p i || q i)
 joined_twice m0 m1 m2 p q e f = f ∙ ap (λ m. joined m q) e ∙ joined_again m0 p q
-
-pub joined_thrice : (m0 m1 m2 m3 : List Bool) (p q r : ℕ → Bool) → m1 ≡ joined m0 p → m2 ≡ joined m1 q
-    → m3 ≡ joined m2 r → m3 ≡ joined m0 (λ i. p i || (q i || r i))
-joined_thrice m0 m1 m2 m3 p q r e f g = joined_twice m0 m1 m3 p (λ i. q i || r i) e (joined_twice m1 m2 m3 q r f g)
 
 -- one variable
 pub set_joined : (bs : List Bool) (n u v : ℕ) → n ≡ length bs → u ≤ v → v - u < n → set bs (n - 1 - (v - u)) true

@@ -1,9 +1,8 @@
 -- What is found of the functions of a term, before it is converted. The level of a variable is the number of binders
 -- outside its own, so that the outermost has level 0.
-use Rattle.std.specs.Prelude.{ℕ, zero, suc, ◌+◌, Bool, true, false, ◌||◌, List, [], ◌∷◌, ◌++◌, length, set, get_or, ◌≡◌}
+use Rattle.std.specs.Prelude.{ℕ, zero, suc, Bool, true, false, ◌||◌, List, [], ◌∷◌, ◌++◌, length, set, get_or, ◌≡◌}
 use Rattle.mw_term.specs.Terms as x
 use Rattle.mw_term.specs.Terms.{Expression}
-use Rattle.mw_meaning.specs.KernelMeaning.{occurs}
 use Rattle.mw_ir.specs.declared.place.Place.{Place}
 use Rattle.mw_ir.specs.declared.place.Place.TheVariants.{Argument, Own, Free}
 use Rattle.mw_conv.specs.declared.found.FoundFunction.{FoundFunction}

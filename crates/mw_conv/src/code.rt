@@ -1,7 +1,7 @@
 // The code of a term whose functions were found.
 
 ghost use Rattle.std.specs.Prelude.{◌≡◌, ◌^◌, ◌<◌, ◌++◌, ℕ, [], All, length, IfOk};
-ghost use Rattle.mw_term.specs.Terms.{Expression, expression_of, pair, bind, cond};
+ghost use Rattle.mw_term.specs.Terms.{expression_of, pair, bind, cond};
 ghost use Rattle.mw_ir.specs.Ir as i;
 ghost use Rattle.mw_ir.specs.Views.{ir_of};
 ghost use Rattle.mw_conv.specs.Converting.{CanConvert, Converts};
@@ -74,8 +74,10 @@ impl Converter {
                 let (first, second) = self.convert_two(a, b, slot)?;
                 Ok(Ir::Prim(*p, first, second))
             }
-            Term::Glob(_) | Term::Bracket(_) | Term::Escape(_) | Term::OpenCode(_) => Ok(Ir::Int(0)),
-            Term::Run(_, _) | Term::CloseCode(_, _) | Term::Lift(_) | Term::LiftB(_) => Ok(Ir::Int(0)),
+            // No code has these.
+            Term::Glob(_) | Term::Bracket(_) | Term::Escape(_) => Ok(Ir::Int(0)),
+            Term::Run(_, _) | Term::CloseCode(_, _) | Term::OpenCode(_) => Ok(Ir::Int(0)),
+            Term::Lift(_) | Term::LiftB(_) => Ok(Ir::Int(0)),
         }
     }
 
@@ -96,9 +98,10 @@ impl Converter {
         second: &Term,
         slot: u32,
     ) -> Result<(Box<Ir>, Box<Ir>), AllocError>
-        requires { CanConvert self.old (pair (expression_of first.now) (expression_of second.now)) slot }
-        ensures { let both : Expression = pair (expression_of first.now) (expression_of second.now) in
-            IfOk result (λ r. Converts self.old self.new both slot
+        requires { CanConvert self.old
+            (pair (expression_of first.now) (expression_of second.now)) slot }
+        ensures { IfOk result (λ r. Converts self.old self.new
+            (pair (expression_of first.now) (expression_of second.now)) slot
             (i.pair (ir_of r.0.value) (ir_of r.1.value))) }
     {
         let second = self.convert_boxed(second, slot)?;
@@ -111,8 +114,8 @@ impl Converter {
     fn convert_let(&mut self, definition: &Term, body: &Term, slot: u32) -> Result<Ir, AllocError>
         requires { CanConvert self.old
             (bind (expression_of definition.now) (expression_of body.now)) slot }
-        ensures { let whole : Expression = bind (expression_of definition.now) (expression_of body.now) in
-            IfOk result (λ r. Converts self.old self.new whole slot (ir_of r)) }
+        ensures { IfOk result (λ r. Converts self.old self.new
+            (bind (expression_of definition.now) (expression_of body.now)) slot (ir_of r)) }
     {
         self.context.push(Place::Slot(slot))?;
         let body = self.convert_boxed(body, slot + 1)?;
@@ -130,9 +133,11 @@ impl Converter {
         slot: u32,
     ) -> Result<Ir, AllocError>
         requires { CanConvert self.old
-            (cond (expression_of condition.now) (expression_of yes.now) (expression_of no.now)) slot }
-        ensures { let whole : Expression = cond (expression_of condition.now) (expression_of yes.now)
-            (expression_of no.now) in IfOk result (λ r. Converts self.old self.new whole slot (ir_of r)) }
+            (cond (expression_of condition.now) (expression_of yes.now) (expression_of no.now))
+            slot }
+        ensures { IfOk result (λ r. Converts self.old self.new
+            (cond (expression_of condition.now) (expression_of yes.now) (expression_of no.now))
+            slot (ir_of r)) }
     {
         let (yes, no) = self.convert_two(yes, no, slot)?;
         let condition = self.convert_boxed(condition, slot)?;
@@ -143,8 +148,8 @@ impl Converter {
     #[cycle(convert)]
     fn convert_function(&mut self, body: &Term, recursive: bool) -> Result<Ir, AllocError>
         requires { CanConvert self.old (function recursive (expression_of body.now)) 0 }
-        ensures { let whole : Expression = function recursive (expression_of body.now) in
-            (slot : ℕ) → IfOk result (λ r. Converts self.old self.new whole slot (ir_of r)) }
+        ensures { (slot : ℕ) → IfOk result (λ r. Converts self.old self.new
+            (function recursive (expression_of body.now)) slot (ir_of r)) }
     {
         let Some(FoundFunction { slots, free }) = self.found.pop() else {
             unreachable!()

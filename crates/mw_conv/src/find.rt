@@ -3,7 +3,7 @@
 #![tactic(auto, using(crate::proofs::Marks::unmarked, crate::proofs::Marks::lets_few))]
 
 ghost use Rattle.std.specs.Prelude.{◌≡◌, ◌+◌, ◌*◌, ◌^◌, ◌<◌, ◌≤◌, ◌==◌, ◌++◌, length, false, replicate, IfOk};
-ghost use Rattle.mw_term.specs.Terms.{Expression, expression_of, size, pair};
+ghost use Rattle.mw_term.specs.Terms.{expression_of, size, pair};
 ghost use Rattle.mw_term.specs.Limits.{LiteralsFit};
 ghost use Rattle.mw_conv.specs.Convert.{lets};
 ghost use Rattle.mw_conv.specs.Finding.{joined, marked, marking, all_found, function, own_places};
@@ -44,7 +44,8 @@ impl Finder {
     /// have marks, and then under `under` more. Answers how many slots its lets need.
     #[cycle(find)]
     fn find(&mut self, term: &Term, under: u32) -> Result<u32, AllocError>
-        requires { length self.old.marks.items + under + 2 * size (expression_of term.now) < 2 ^ 32 }
+        requires { length self.old.marks.items + under + 2 * size (expression_of term.now)
+            < 2 ^ 32 }
         ensures { IfOk result
             (λ slots. Finds self.old self.new (expression_of term.now) under slots) }
     {
@@ -53,12 +54,14 @@ impl Finder {
                 let _number = *n;
                 Ok(0)
             }
+            Term::Bool(_) => Ok(0),
             Term::Var(i) => {
                 mark_variable(&mut self.marks, under, *i);
                 Ok(0)
             }
             Term::Fun(e) => self.find_function(e, false, under),
             Term::Rec(e) => self.find_function(e, true, under),
+            Term::App(f, a) => self.find_two(f, a, under),
             Term::Let(d, e) => {
                 let first = self.find(d, under)?;
                 let second = self.find(e, under + 1)?;
@@ -69,12 +72,11 @@ impl Finder {
                 let rest = self.find_two(a, b, under)?;
                 Ok(first.max(rest))
             }
-            Term::App(a, b) => self.find_two(a, b, under),
             Term::Pair(a, b) => self.find_two(a, b, under),
-            Term::Prim(_, a, b) => self.find_two(a, b, under),
             Term::Fst(e) => self.find(e, under),
             Term::Snd(e) => self.find(e, under),
-            Term::Bool(_) => Ok(0),
+            Term::Prim(_, a, b) => self.find_two(a, b, under),
+            // No code has these.
             Term::Glob(_) => Ok(0),
             Term::Bracket(_) => Ok(0),
             Term::Escape(_) => Ok(0),
@@ -90,8 +92,8 @@ impl Finder {
     fn find_two(&mut self, first: &Term, second: &Term, under: u32) -> Result<u32, AllocError>
         requires { length self.old.marks.items + under
             + 2 * size (pair (expression_of first.now) (expression_of second.now)) < 2 ^ 32 }
-        ensures { let both : Expression = pair (expression_of first.now) (expression_of second.now) in
-            IfOk result (λ slots. Finds self.old self.new both under slots) }
+        ensures { IfOk result (λ slots. Finds self.old self.new
+            (pair (expression_of first.now) (expression_of second.now)) under slots) }
     {
         let first = self.find(first, under)?;
         let second = self.find(second, under)?;
@@ -103,8 +105,8 @@ impl Finder {
     fn find_function(&mut self, body: &Term, recursive: bool, under: u32) -> Result<u32, AllocError>
         requires { length self.old.marks.items + under
             + 2 * size (function recursive (expression_of body.now)) < 2 ^ 32 }
-        ensures { let whole : Expression = function recursive (expression_of body.now) in
-            IfOk result (λ slots. Finds self.old self.new whole under slots) }
+        ensures { IfOk result (λ slots. Finds self.old self.new
+            (function recursive (expression_of body.now)) under slots) }
     {
         let inner = no_marks(self.alloc, self.marks.len() + under as usize)?;
         let outer = mem::replace(&mut self.marks, inner);

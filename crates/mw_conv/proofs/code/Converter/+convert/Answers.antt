@@ -29,7 +29,8 @@ pub convert_let-convert_boxed-requires-2 : goal.convert_let-convert_boxed-requir
 convert_let-convert_boxed-requires-2 t c = (
   omega arith,
   can_definition c.args.self.now _ c.push.new.self _ _ _ _ _ c.in_ok-push.ensures.items c.in_ok-body.ensures
-      (slot_taken c.args.self.now _ c.push.new.self c.pop-slot.new.self _ _ _ _ c.in_ok-push.ensures.items c.in_ok-body.ensures
+      (slot_taken c.args.self.now _ c.push.new.self c.pop-slot.new.self _ _ _ _ c.in_ok-push.ensures.items
+      c.in_ok-body.ensures
       c.pop-slot.ensures.rest (omega arith)) c.requires,
 )
 
@@ -39,7 +40,8 @@ convert_function-places_of-requires t c =
 
 pub convert_function-inner_context-requires-clause-few : goal.convert_function-inner_context-requires-clause-few
 convert_function-inner_context-requires-clause-few t c =
-    few_levels _ _ _ _ c.requires (taken_levels _ _ _ _ _ _ c.requires c.in-Some.ensures.items c.as_slice-levels.ensures)
+    few_levels _ _ _ _ c.requires
+    (taken_levels _ _ _ _ _ _ c.requires c.in-Some.ensures.items c.as_slice-levels.ensures)
 
 pub convert_function-inner_context-requires-clause-within :
     goal.convert_function-inner_context-requires-clause-within
@@ -66,5 +68,6 @@ convert_function-returns t c = λ slot. function_converted c.args.recursive (exp
     c.args.self.now c.convert.new.self c.in-Some.field-0 c.pop.new.self c.replace-outer.new.dest c.replace-outer.result
     c.as_slice-levels.result.now c.in_ok-places.places _ slot c.in_ok-body.body c.push.new.self c.requires
     c.in-Some.ensures.items c.as_slice-levels.ensures
-    (ap (λ ps. ps.items) c.replace-outer.ensures.after ∙ c.in_ok-inner.ensures) c.in_ok-places.ensures c.in_ok-body.ensures
+    (ap (λ ps. ps.items) c.replace-outer.ensures.after ∙ c.in_ok-inner.ensures) c.in_ok-places.ensures
+    c.in_ok-body.ensures
     (ap (λ ps. ps.items) c.replace-outer.ensures.value) refl c.in_ok-push.ensures.ok

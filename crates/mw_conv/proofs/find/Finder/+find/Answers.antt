@@ -38,17 +38,19 @@ find-returns-in-LiftB t c = rw c.in-LiftB.is (nothing_found _ _ _ (λ i. refl) (
 
 pub find-returns-in-App : goal.find-returns-in-App
 find-returns-in-App t c = rw (c.in-App.is, ← c.deref-in-App.ensures, ← c.deref-in-App-2.ensures)
-    (ok_map _ _ _ (app_found _ _ _ _ _) c.find_two-in-App.ensures)
+    (ok_map _ _ _ (app_found _ _ _ _ _) c.find_two.ensures)
 
 pub find-returns-in-Prim : goal.find-returns-in-Prim
 find-returns-in-Prim t c = rw (c.in-Prim.is, ← c.deref-in-Prim.ensures, ← c.deref-in-Prim-2.ensures)
     (ok_map _ _ _ (prim_found _ _ _ _ _ _) c.find_two-in-Prim.ensures)
 
 pub find-returns-in-Fst : goal.find-returns-in-Fst
-find-returns-in-Fst t c = rw (c.in-Fst.is, ← c.deref-in-Fst.ensures) (ok_map _ _ _ (fst_found _ _ _ _) c.find-in-Fst.ensures)
+find-returns-in-Fst t c = rw (c.in-Fst.is, ← c.deref-in-Fst.ensures)
+    (ok_map _ _ _ (fst_found _ _ _ _) c.find-in-Fst.ensures)
 
 pub find-returns-in-Snd : goal.find-returns-in-Snd
-find-returns-in-Snd t c = rw (c.in-Snd.is, ← c.deref-in-Snd.ensures) (ok_map _ _ _ (snd_found _ _ _ _) c.find-in-Snd.ensures)
+find-returns-in-Snd t c = rw (c.in-Snd.is, ← c.deref-in-Snd.ensures)
+    (ok_map _ _ _ (snd_found _ _ _ _) c.find-in-Snd.ensures)
 
 pub find-returns-in_ok-second-in-Let : goal.find-returns-in_ok-second-in-Let
 find-returns-in_ok-second-in-Let t c =
