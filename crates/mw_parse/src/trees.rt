@@ -1,6 +1,8 @@
 // Expressions, by descent. `room` is the number of nodes that may still stand on a path; each function answers what it
 // made, the height of its nodes and the tokens left, and says of which form. Trees are passed on in boxes.
 
+#![tactic(auto, using(mw_grammar::proofs::Below::read_full, mw_grammar::proofs::Below::read_gives, mw_grammar::proofs::Below::read_refuses, mw_grammar::proofs::Below::read_reads, mw_grammar::proofs::Below::part_fails, mw_grammar::proofs::Below::fails_then, mw_grammar::proofs::Below::raise_ok, mw_grammar::proofs::Below::fails_raise))]
+
 ghost use Rattle.std.specs.Prelude.{◌≡◌, ◌<◌, ◌≤◌, ℕ, IfOk};
 ghost use Rattle.mw_lex.specs.Tokens.{tokens_of};
 ghost use Rattle.mw_grammar.specs.SurfaceTrees.{bind};
