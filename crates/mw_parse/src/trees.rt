@@ -46,7 +46,6 @@ enum Connective {
 }
 
 /// After `(` and `-`.
-#[tactic(auto, using(mw_grammar::proofs::Below::read_full, mw_grammar::proofs::Below::read_gives, mw_grammar::proofs::Below::read_refuses))]
 fn literal(alloc: Global, tokens: &[Token]) -> Read<Box<Tree>>
     ensures gives { (b : ℕ)
         → GivesRead tree_in result (reading b (pick minus_by) none_yet (tokens_of tokens.now)) }
@@ -283,6 +282,7 @@ fn right_tree(alloc: Global, row: Row, tokens: &[Token], room: u32) -> Read<Box<
 }
 
 #[cycle(trees)]
+#[tactic(auto, using(mw_grammar::proofs::Below::read_full, mw_grammar::proofs::Below::read_gives, mw_grammar::proofs::Below::read_refuses, mw_grammar::proofs::Below::read_reads, mw_grammar::proofs::Below::part_fails, mw_grammar::proofs::Below::fails_then, mw_grammar::proofs::Below::raise_ok, mw_grammar::proofs::Below::fails_raise, mw_grammar::proofs::Below::read_more))]
 fn row_tree(alloc: Global, row: Row, tokens: &[Token], room: u32) -> Read<Box<Tree>>
     requires { room ≤ 200 }
     ensures gives { GivesRead tree_in result
@@ -294,6 +294,7 @@ fn row_tree(alloc: Global, row: Row, tokens: &[Token], room: u32) -> Read<Box<Tr
 }
 
 #[cycle(trees)]
+#[tactic(auto, using(mw_grammar::proofs::Below::read_full, mw_grammar::proofs::Below::read_gives, mw_grammar::proofs::Below::read_refuses, mw_grammar::proofs::Below::read_reads, mw_grammar::proofs::Below::part_fails, mw_grammar::proofs::Below::fails_then, mw_grammar::proofs::Below::raise_ok, mw_grammar::proofs::Below::fails_raise, mw_grammar::proofs::Below::follow_none, mw_grammar::proofs::Below::follow_deep, mw_grammar::proofs::Below::follow_on))]
 fn more_trees(
     alloc: Global,
     row: Row,
@@ -382,6 +383,7 @@ fn connective_operand(
 }
 
 #[cycle(trees)]
+#[tactic(auto, using(crate::proofs::Connectives::read_connected, mw_grammar::proofs::Below::read_gives, mw_grammar::proofs::Below::read_reads, mw_grammar::proofs::Below::part_fails, mw_grammar::proofs::Below::raise_ok, mw_grammar::proofs::Below::fails_raise))]
 fn connected_tree(
     alloc: Global,
     connective: Connective,

@@ -5,9 +5,8 @@ use Rattle.mw_grammar.specs.Forms.{disjunction_form, passed_form}
 use Rattle.mw_grammar.specs.Descent.{none_yet, ok, full, reading}
 use Rattle.mw_grammar.specs.Levels.{row_of}
 use Rattle.mw_grammar.specs.Boxes.{tree_in}
-use Rattle.mw_grammar.proofs.Below.{read_full, read_gives, read_refuses, read_reads, part_fails, fails_then, raise_ok}
-use Rattle.mw_grammar.proofs.Below.{fails_raise, read_more, follow_none, follow_deep, follow_on, next_goes, gives_as}
-use Rattle.mw_parse.proofs.Connectives.{read_connected, passed, passed_more}
+use Rattle.mw_grammar.proofs.Below.{read_full, read_reads, read_more, follow_on, gives_as}
+use Rattle.mw_parse.proofs.Connectives.{passed, passed_more}
 use Rattle.mw_parse.proofs.trees.+trees.Goals as goal
 
 pub more_trees-returns-else-height-room-clause-gives : goal.more_trees-returns-else-height-room-clause-gives
@@ -15,106 +14,6 @@ more_trees-returns-else-height-room-clause-gives t c =
     gives_as (λ x. ok (tree_in x.0) x.1 (tokens_of x.2.now)) c.next_operand.result _ _
     (follow_on c.args.room (row_of c.args.row) (tree_in c.args.left) c.args.height (tokens_of c.args.tokens.now) _ _
     c.in-Some.ensures (omega arith)) c.next_operand.ensures.gives
-
-pub more_trees-returns-in-None-clause-gives : goal.more_trees-returns-in-None-clause-gives
-more_trees-returns-in-None-clause-gives t c =
-    grind (
-      arith,
-      read_full,
-      read_gives,
-      read_refuses,
-      read_reads,
-      part_fails,
-      fails_then,
-      raise_ok,
-      fails_raise,
-      follow_none,
-      follow_deep,
-      follow_on,
-    )
-
-pub more_trees-returns-then-height-room-clause-gives : goal.more_trees-returns-then-height-room-clause-gives
-more_trees-returns-then-height-room-clause-gives t c =
-    grind (
-      arith,
-      read_full,
-      read_gives,
-      read_refuses,
-      read_reads,
-      part_fails,
-      fails_then,
-      raise_ok,
-      fails_raise,
-      follow_none,
-      follow_deep,
-      follow_on,
-    )
-
-pub next_operand-returns-in_err-right-clause-gives : goal.next_operand-returns-in_err-right-clause-gives
-next_operand-returns-in_err-right-clause-gives t c =
-    grind (
-      arith,
-      read_full,
-      read_gives,
-      read_refuses,
-      read_reads,
-      part_fails,
-      fails_then,
-      raise_ok,
-      fails_raise,
-      next_goes,
-    )
-
-pub next_operand-returns-in_err-tree-clause-gives : goal.next_operand-returns-in_err-tree-clause-gives
-next_operand-returns-in_err-tree-clause-gives t c =
-    grind (
-      arith,
-      read_full,
-      read_gives,
-      read_refuses,
-      read_reads,
-      part_fails,
-      fails_then,
-      raise_ok,
-      fails_raise,
-      next_goes,
-    )
-
-pub row_tree-returns-in_err-left-clause-gives : goal.row_tree-returns-in_err-left-clause-gives
-row_tree-returns-in_err-left-clause-gives t c =
-    grind (
-      arith,
-      read_full,
-      read_gives,
-      read_refuses,
-      read_reads,
-      part_fails,
-      fails_then,
-      raise_ok,
-      fails_raise,
-      read_more,
-    )
-
-pub connected_tree-returns-in_err-left-clause-gives : goal.connected_tree-returns-in_err-left-clause-gives
-connected_tree-returns-in_err-left-clause-gives t c =
-    grind (arith, read_connected, read_gives, read_reads, part_fails, raise_ok, fails_raise)
-
-pub connected_tree-returns-then-height-room-clause-gives : goal.connected_tree-returns-then-height-room-clause-gives
-connected_tree-returns-then-height-room-clause-gives t c =
-    grind (arith, read_connected, read_gives, read_reads, part_fails, raise_ok, fails_raise)
-
-pub connected_tree-returns-in_err-right-in-Some-clause-gives :
-    goal.connected_tree-returns-in_err-right-in-Some-clause-gives
-connected_tree-returns-in_err-right-in-Some-clause-gives t c =
-    grind (arith, read_connected, read_gives, read_reads, part_fails, raise_ok, fails_raise)
-
-pub connected_tree-returns-in-None-clause-gives : goal.connected_tree-returns-in-None-clause-gives
-connected_tree-returns-in-None-clause-gives t c =
-    grind (arith, read_connected, read_gives, read_reads, part_fails, raise_ok, fails_raise)
-
-pub connected_tree-returns-in_ok-tree-in-Some-clause-gives : goal.connected_tree-returns-in_ok-tree-in-Some-clause-gives
-connected_tree-returns-in_ok-tree-in-Some-clause-gives t c =
-    grind (arith, read_connected, read_gives, read_reads, part_fails, raise_ok, fails_raise)
 
 pub head_tree-returns-in-None-head_word-clause-gives : goal.head_tree-returns-in-None-head_word-clause-gives
 head_tree-returns-in-None-head_word-clause-gives t c =
