@@ -1,7 +1,7 @@
 -- A function with an own name or without: what its conversion takes from that of its body.
 use Rattle.std.proofs.Common.{◌≡◌, ℕ, suc, ◌+◌, ◌<◌, ◌≤◌, Bool, true, false, List, [], ◌∷◌, ◌++◌, length, map, reverse}
 use Rattle.std.proofs.Common.{refl, ap, ◌∙◌, sym, subst, arith, append_assoc, length-append}
-use Rattle.std.specs.Prelude.{◌||◌, slice_index_or, Result, Ok, Err, IsErr, IfOk}
+use Rattle.std.specs.Prelude.{◌||◌, slice_index_or, Result, Ok, Err, IfOk}
 use Rattle.std.proofs.lemmas.Bool.{eqb-true}
 use Rattle.std.proofs.lemmas.List.{reverse-append}
 use Rattle.mw_term.specs.Terms as x
@@ -10,7 +10,7 @@ use Rattle.mw_term.specs.Closed.{ClosedBelow}
 use Rattle.mw_meaning.specs.KernelMeaning.{occurs}
 use Rattle.mw_ir.specs.declared.place.Place.{Place}
 use Rattle.mw_ir.specs.Ir.{Ir, closure, IrFunc}
-use Rattle.mw_conv.specs.declared.found.Found.{Found}
+use Rattle.mw_conv.specs.declared.found.FoundFunction.{FoundFunction}
 use Rattle.mw_conv.specs.Contexts.{place_at}
 use Rattle.mw_conv.specs.Convert.{free_list, fun_free, fix_free, fun_places, fix_places, funs, lets, code, functions}
 use Rattle.mw_conv.specs.Convert.{function_of}
@@ -111,19 +111,19 @@ body_is false e ps k c = code_same e k (suc (length ps)) 0 _ _
     (λ i o. in_function e ps i (occurs_below e (suc (length ps)) i c o) o)
 
 -- what was taken is the function's, and what is left ends with the functions within it
-pub the_found : (r : Bool) (e : Expression) (d : ℕ) (fs rest : List Found) (f : Found)
+pub the_found : (r : Bool) (e : Expression) (d : ℕ) (fs rest : List FoundFunction) (f : FoundFunction)
     → EndsWith fs (all_found (function r e) d) → fs ≡ rest ++ f ∷ [] → f ≡ function_found e d (outer_free r e)
 the_found r e d fs rest f ends q = taken_is fs rest (all_found e (within r d)) f _
     (subst (λ gs. EndsWith fs gs) (found_is r e d) ends) q
 
-pub the_rest : (r : Bool) (e : Expression) (d n : ℕ) (fs rest : List Found) (f : Found)
+pub the_rest : (r : Bool) (e : Expression) (d n : ℕ) (fs rest : List FoundFunction) (f : FoundFunction)
     → EndsWith fs (all_found (function r e) d) → fs ≡ rest ++ f ∷ [] → n ≡ within r d → EndsWith rest (all_found e n)
 the_rest r e d n fs rest f ends q m =
     let g = the_found r e d fs rest f ends q in
     rw m (ends_left fs rest (all_found e (within r d)) (f ∷ [])
     (subst (λ gs. EndsWith fs gs) (found_is r e d ∙ ap (λ g. all_found e (within r d) ++ g ∷ []) (sym g)) ends) q)
 
-pub found_again : (r : Bool) (e : Expression) (d n : ℕ) (fs rest more : List Found) (f : Found)
+pub found_again : (r : Bool) (e : Expression) (d n : ℕ) (fs rest more : List FoundFunction) (f : FoundFunction)
     → EndsWith fs (all_found (function r e) d) → fs ≡ rest ++ f ∷ [] → n ≡ within r d → rest ≡ more ++ all_found e n
     → fs ≡ more ++ all_found (function r e) d
 found_again r e d n fs rest more f ends q m h =
@@ -179,7 +179,3 @@ function_added r e ps inner ls k left n free slots body old new f g h i c m o b 
 pub ok_map : {A E : Type 0} (r : Result A E) (P R : A → Type 0) → ((x : A) → P x → R x) → IfOk r P → IfOk r R
 ok_map (Ok x) P R f p = f x p
 ok_map (Err e) P R f p = tt
-
-pub no_ok : {A E : Type 0} (r : Result A E) (P : A → Type 0) → IsErr r → IfOk r P
-no_ok (Ok x) P f = absurd (cc)
-no_ok (Err e) P f = tt

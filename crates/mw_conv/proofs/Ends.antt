@@ -1,20 +1,13 @@
--- Lists of what was found, from their ends, and of the functions that are added.
-use Rattle.std.proofs.Common.{◌≡◌, List, [], ◌∷◌, ◌++◌, ℕ, ◌+◌, length, map, reverse, ap, ◌∙◌, sym, append_assoc}
-use Rattle.std.proofs.lemmas.List.{append_cancel_right, same_from_push, reverse-append}
-use Rattle.mw_term.specs.Terms.{Expression, pair}
-use Rattle.mw_ir.specs.declared.code.IrFunc.{IrFunc as Function}
-use Rattle.mw_ir.specs.declared.place.Place.{Place}
-use Rattle.mw_ir.specs.Ir.{IrFunc}
-use Rattle.mw_ir.specs.Views.{ir_func_of}
-use Rattle.mw_conv.specs.Convert.{funs, functions}
-use Rattle.mw_conv.specs.Contexts.{AreAdded}
-use Rattle.mw_conv.specs.declared.found.Found.{Found}
+-- Lists of what was found, from their ends.
+use Rattle.std.proofs.Common.{◌≡◌, List, [], ◌∷◌, ◌++◌, ◌∙◌, sym, append_assoc}
+use Rattle.std.proofs.lemmas.List.{append_cancel_right, same_from_push}
+use Rattle.mw_conv.specs.declared.found.FoundFunction.{FoundFunction}
 use Rattle.mw_conv.specs.Finding.{EndsWith}
 
-pub ends_right : (fs gs hs : List Found) → EndsWith fs (gs ++ hs) → EndsWith fs hs
+pub ends_right : (fs gs hs : List FoundFunction) → EndsWith fs (gs ++ hs) → EndsWith fs hs
 ends_right fs gs hs e = record { front = e.front ++ gs; is = e.is ∙ sym (append_assoc e.front gs hs) }
 
-pub ends_left : (fs rest gs hs : List Found) → EndsWith fs (gs ++ hs) → fs ≡ rest ++ hs → EndsWith rest gs
+pub ends_left : (fs rest gs hs : List FoundFunction) → EndsWith fs (gs ++ hs) → fs ≡ rest ++ hs → EndsWith rest gs
 ends_left fs rest gs hs e f =
     record {
       front = e.front;
@@ -22,29 +15,8 @@ ends_left fs rest gs hs e f =
           (sym f ∙ (e.is ∙ sym (append_assoc e.front gs hs)));
     }
 
-pub ends_first : (fs rest more gs hs ks : List Found) → EndsWith fs (gs ++ (hs ++ ks)) → fs ≡ rest ++ ks
-    → rest ≡ more ++ hs → EndsWith more gs
-ends_first fs rest more gs hs ks e f g =
-    ends_left fs more gs (hs ++ ks) e (f ∙ (ap (λ z. z ++ ks) g ∙ append_assoc more hs ks))
-
 -- the last one taken
-pub taken_is : (fs rest gs : List Found) (x y : Found) → EndsWith fs (gs ++ y ∷ []) → fs ≡ rest ++ x ∷ [] → x ≡ y
+pub taken_is : (fs rest gs : List FoundFunction) (x y : FoundFunction) → EndsWith fs (gs ++ y ∷ []) → fs ≡ rest ++ x
+    ∷ [] → x ≡ y
 taken_is fs rest gs x y e f =
     (same_from_push rest (e.front ++ gs) x y (sym f ∙ (e.is ∙ sym (append_assoc e.front gs (y ∷ []))))).1
-
--- what two terms take, and the functions that they add, those of the second first
-pub two_taken : (fs rest more gs hs : List Found) → fs ≡ rest ++ hs → rest ≡ more ++ gs → fs ≡ more ++ (gs ++ hs)
-two_taken fs rest more gs hs e f = e ∙ (ap (λ z. z ++ hs) f ∙ append_assoc more gs hs)
-
-pub two_added : (old mid new : List Function) (e f : Expression) (k : ℕ) (ps : List Place)
-    → AreAdded old mid f (k + funs e) ps → AreAdded mid new e k ps → AreAdded old new (pair e f) k ps
-two_added old mid new e f k ps g h =
-    h ∙ (ap (λ z. z ++ reverse es) g
-    ∙ (append_assoc (map ir_func_of old) (reverse fs) (reverse es) ∙ ap (λ z. map ir_func_of old ++ z)
-    (sym (reverse-append es fs))))
-  where
-    es : List IrFunc
-    es = functions e k (length ps)
-
-    fs : List IrFunc
-    fs = functions f (k + funs e) (length ps)

@@ -1,4 +1,3 @@
-pub mod Asked
 pub mod Free
 pub mod Heaps
 pub mod Agrees
@@ -12,3 +11,4 @@ pub mod Closures
 pub mod Ranges
 pub mod Conversions
 pub mod Finds
+pub mod Converting

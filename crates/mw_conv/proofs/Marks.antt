@@ -7,7 +7,7 @@ use Rattle.std.proofs.lemmas.List.{length-replicate, set_at, set_past}
 use Rattle.mw_term.specs.Terms as x
 use Rattle.mw_term.specs.Terms.{Expression, size}
 use Rattle.mw_meaning.specs.KernelMeaning.{occurs}
-use Rattle.mw_conv.specs.declared.found.Found.{Found}
+use Rattle.mw_conv.specs.declared.found.FoundFunction.{FoundFunction}
 use Rattle.mw_conv.specs.Convert.{kept, lets}
 use Rattle.mw_conv.specs.Finding.{joined, marked, marking, levels, all_found, function_found}
 
@@ -49,14 +49,10 @@ joined_again [] p q = refl
 joined_again (b ∷ bs) p q = rw (joined_length bs p, or_assoc b (p (length bs)) (q (length bs)), joined_again bs p q)
     refl
 
--- two walks, and three
+-- two walks
 pub joined_twice : (m0 m1 m2 : List Bool) (p q : ℕ → Bool) → m1 ≡ joined m0 p → m2 ≡ joined m1 q
     → m2 ≡ joined m0 (λ i. p i || q i)
 joined_twice m0 m1 m2 p q e f = f ∙ ap (λ m. joined m q) e ∙ joined_again m0 p q
-
-pub joined_thrice : (m0 m1 m2 m3 : List Bool) (p q r : ℕ → Bool) → m1 ≡ joined m0 p → m2 ≡ joined m1 q
-    → m3 ≡ joined m2 r → m3 ≡ joined m0 (λ i. p i || (q i || r i))
-joined_thrice m0 m1 m2 m3 p q r e f g = joined_twice m0 m1 m3 p (λ i. q i || r i) e (joined_twice m1 m2 m3 q r f g)
 
 -- one variable
 pub set_joined : (bs : List Bool) (n u v : ℕ) → n ≡ length bs → u ≤ v → v - u < n → set bs (n - 1 - (v - u)) true
@@ -146,7 +142,7 @@ function_marks e own u bs m0 m1 m2 f g h =
     h ∙ ap (λ ls. marking bs ls) (function_levels e own (length bs + u) m0 m1 f g)
     ∙ marking_joined bs u (λ i. occurs e (own + i))
 
-pub function_is_found : (e : Expression) (own d : ℕ) (f0 f1 f2 : List Found) (slots : ℕ) (free : List ℕ)
+pub function_is_found : (e : Expression) (own d : ℕ) (f0 f1 f2 : List FoundFunction) (slots : ℕ) (free : List ℕ)
     (m0 m1 : List Bool) → m0 ≡ replicate d false → m1 ≡ joined m0 (λ i. occurs e (own + i))
     → f1 ≡ f0 ++ all_found e (length m0 + own) → slots ≡ lets e → free ≡ marked m1 0
     → f2 ≡ f1 ++ record { slots = slots; free = free } ∷ []

@@ -6,7 +6,7 @@ use Rattle.mw_ir.specs.declared.place.Place.{Place}
 use Rattle.mw_ir.specs.declared.place.Place.TheVariants.{Argument}
 use Rattle.mw_ir.specs.Ir.{Ir}
 use Rattle.mw_ir.specs.Views.{ir_func_of}
-use Rattle.mw_conv.specs.declared.found.Found.{Found}
+use Rattle.mw_conv.specs.declared.found.FoundFunction.{FoundFunction}
 use Rattle.mw_conv.specs.Convert.{code, functions}
 use Rattle.mw_conv.specs.Finding.{all_found}
 
@@ -15,7 +15,7 @@ abbrev pub place_at : List Place → ℕ → Place
 place_at ps i = get_or (reverse ps) i Argument
 
 -- what was found of the functions of a term in a context
-abbrev pub found_in : Expression → List Place → List Found
+abbrev pub found_in : Expression → List Place → List FoundFunction
 found_in e ps = all_found e (length ps)
 
 -- the code of a term in a context, where k is the next function's number and s the next slot

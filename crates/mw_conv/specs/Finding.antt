@@ -1,12 +1,11 @@
 -- What is found of the functions of a term, before it is converted. The level of a variable is the number of binders
 -- outside its own, so that the outermost has level 0.
-use Rattle.std.specs.Prelude.{ℕ, zero, suc, ◌+◌, Bool, true, false, ◌||◌, List, [], ◌∷◌, ◌++◌, length, set, get_or, ◌≡◌}
+use Rattle.std.specs.Prelude.{ℕ, zero, suc, Bool, true, false, ◌||◌, List, [], ◌∷◌, ◌++◌, length, set, get_or, ◌≡◌}
 use Rattle.mw_term.specs.Terms as x
 use Rattle.mw_term.specs.Terms.{Expression}
-use Rattle.mw_meaning.specs.KernelMeaning.{occurs}
 use Rattle.mw_ir.specs.declared.place.Place.{Place}
 use Rattle.mw_ir.specs.declared.place.Place.TheVariants.{Argument, Own, Free}
-use Rattle.mw_conv.specs.declared.found.Found.{Found}
+use Rattle.mw_conv.specs.declared.found.FoundFunction.{FoundFunction}
 use Rattle.mw_conv.specs.Convert.{kept, fun_free, fix_free, lets}
 
 -- marks by level: those that are there, and one at each variable with p; the last level is that of variable 0
@@ -39,11 +38,11 @@ abbrev pub places : List Place → List ℕ → List Place
 places ps [] = []
 places ps (l ∷ ls) = get_or ps l Argument ∷ places ps ls
 
-abbrev pub function_found : Expression → ℕ → (ℕ → Bool) → Found
+abbrev pub function_found : Expression → ℕ → (ℕ → Bool) → FoundFunction
 function_found e d p = record { slots = lets e; free = levels d p 0 }
 
 -- what is found of the functions of a term under d binders, of each after those within it
-abbrev pub all_found : Expression → ℕ → List Found
+abbrev pub all_found : Expression → ℕ → List FoundFunction
 all_found (x.fun e) d = all_found e (suc d) ++ function_found e d (fun_free e) ∷ []
 all_found (x.fix e) d = all_found e (suc (suc d)) ++ function_found e d (fix_free e) ∷ []
 all_found (x.app f a) d = all_found f d ++ all_found a d
@@ -55,14 +54,9 @@ all_found (x.snd e) d = all_found e d
 all_found (x.prim p a b) d = all_found a d ++ all_found b d
 all_found _ d = []
 
--- what is found of a function under d binders, which binds its own variables: of those within its body, and then of
--- itself
-abbrev pub found_with : Expression → (own d : ℕ) → List Found
-found_with e own d = all_found e (d + own) ++ function_found e d (λ i. occurs e (own + i)) ∷ []
-
 -- the list ends with these
-pub record EndsWith (fs gs : List Found) : Type 0 where
-  pub front : List Found
+pub record EndsWith (fs gs : List FoundFunction) : Type 0 where
+  pub front : List FoundFunction
   pub is : fs ≡ front ++ gs
 
 -- a function, with an own name or without

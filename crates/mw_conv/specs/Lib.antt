@@ -4,3 +4,5 @@ pub mod Represents
 pub mod Agreement
 pub mod Contexts
 pub mod Finding
+pub mod Found
+pub mod Converting

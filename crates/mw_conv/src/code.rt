@@ -1,276 +1,170 @@
 // The code of a term whose functions were found.
 
-ghost use Rattle.std.specs.Prelude.{◌≡◌, ◌+◌, ◌*◌, ◌^◌, ◌<◌, ◌≤◌, ◌++◌, ℕ, All, length, IfOk};
-ghost use Rattle.mw_term.specs.Terms.{expression_of, size, pair, bind, cond};
-ghost use Rattle.mw_term.specs.Closed.{ClosedBelow};
+ghost use Rattle.std.specs.Prelude.{◌≡◌, ◌^◌, ◌<◌, ◌++◌, ℕ, [], All, length, IfOk};
+ghost use Rattle.mw_term.specs.Terms.{expression_of, pair, bind, cond};
+ghost use Rattle.mw_ir.specs.Ir as i;
 ghost use Rattle.mw_ir.specs.Views.{ir_of};
-ghost use Rattle.mw_conv.specs.Convert.{funs};
-ghost use Rattle.mw_conv.specs.Contexts.{found_in, code_in, AreAdded};
-ghost use Rattle.mw_conv.specs.Finding.{function, own_places, freeing, places, EndsWith};
+ghost use Rattle.mw_conv.specs.Converting.{CanConvert, Converts};
+ghost use Rattle.mw_conv.specs.Finding.{function, own_places, freeing, places};
 
-use crate::found::{Found, Levels};
+use crate::found::{FoundFunction, Levels};
 use mw_ir::{Ir, IrFunc, IrFuncs, Place, Places};
 use mw_term::Term;
 use std::alloc::{AllocError, Global};
+use std::mem;
 
-/// The code of a term, which takes what was found of its functions and adds them to `funcs`, the last one first. `left`
-/// is the number of functions that aren't added yet.
-#[cycle(convert)]
-pub(crate) fn code_of(
-    alloc: Global,
-    term: &Term,
-    slot: u32,
-    context: &mut Vec<Place>,
-    left: &mut u32,
-    found: &mut Vec<Found>,
-    funcs: &mut IrFuncs,
-) -> Result<Ir, AllocError>
-    requires closed { ClosedBelow (length context.old.items) (expression_of term.now) }
-    requires slots { slot + size (expression_of term.now) < 2 ^ 32 }
-    requires binders { length context.old.items + 2 * size (expression_of term.now) < 2 ^ 32 }
-    requires left { funs (expression_of term.now) ≤ left.old }
-    requires found { EndsWith found.old.items
-        (found_in (expression_of term.now) context.old.items) }
-    ensures same { IfOk result (λ _. context.new.items ≡ context.old.items) }
-    ensures left { IfOk result (λ _. left.old ≡ left.new + funs (expression_of term.now)) }
-    ensures found { IfOk result
-        (λ _. found.old.items ≡ found.new.items ++ found_in (expression_of term.now)
-        context.old.items) }
-    ensures code { IfOk result
-        (λ r. ir_of r ≡ code_in (expression_of term.now) left.new context.old.items slot) }
-    ensures funcs { IfOk result
-        (λ _. AreAdded funcs.old funcs.new (expression_of term.now) left.new context.old.items) }
-{
-    match term {
-        Term::Int(n) => Ok(Ir::Int(*n)),
-        Term::Bool(b) => Ok(Ir::Bool(*b)),
-        Term::Var(i) => Ok(Ir::Get(context[context.len() - 1 - *i as usize])),
-        Term::Fun(e) => closure_of(alloc, e, false, context, left, found, funcs),
-        Term::Rec(e) => closure_of(alloc, e, true, context, left, found, funcs),
-        Term::App(f, a) => {
-            let (first, second) = two_of(alloc, f, a, slot, context, left, found, funcs)?;
-            Ok(Ir::App(first, second))
+/// What turns the terms of a kernel into code, from right to left.
+#[derive(Drop)]
+pub(crate) struct Converter {
+    pub(crate) alloc: Global,
+    /// The places of the variables in scope, the outermost first.
+    pub(crate) context: Vec<Place>,
+    /// How many functions aren't added yet.
+    pub(crate) left: u32,
+    /// What was found of those functions, the next one last.
+    pub(crate) found: Vec<FoundFunction>,
+    /// The functions that were added, the last one of the code first.
+    pub(crate) funcs: IrFuncs,
+}
+
+impl Converter {
+    /// What converts a kernel whose functions are these, before it begins.
+    pub(crate) fn new(alloc: Global, found: Vec<FoundFunction>) -> Converter
+        requires { length found.items < 2 ^ 32 }
+        ensures context { result.context.items ≡ [] }
+        ensures left { result.left ≡ length found.items }
+        ensures found { result.found ≡ found }
+        ensures funcs { result.funcs ≡ [] }
+    {
+        Converter {
+            alloc,
+            context: Vec::new(alloc),
+            left: found.len() as u32,
+            found,
+            funcs: IrFuncs::new(alloc),
         }
-        Term::Let(d, e) => let_of(alloc, d, e, slot, context, left, found, funcs),
-        Term::If(c, a, b) => if_of(alloc, c, a, b, slot, context, left, found, funcs),
-        Term::Pair(a, b) => {
-            let (first, second) = two_of(alloc, a, b, slot, context, left, found, funcs)?;
-            Ok(Ir::Pair(first, second))
-        }
-        Term::Fst(e) => Ok(Ir::Fst(box_of(alloc, e, slot, context, left, found, funcs)?)),
-        Term::Snd(e) => Ok(Ir::Snd(box_of(alloc, e, slot, context, left, found, funcs)?)),
-        Term::Prim(p, a, b) => {
-            let (first, second) = two_of(alloc, a, b, slot, context, left, found, funcs)?;
-            Ok(Ir::Prim(*p, first, second))
-        }
-        Term::Glob(_) | Term::Bracket(_) | Term::Escape(_) | Term::OpenCode(_) => Ok(Ir::Int(0)),
-        Term::Run(_, _) | Term::CloseCode(_, _) | Term::Lift(_) | Term::LiftB(_) => Ok(Ir::Int(0)),
     }
-}
 
-#[cycle(convert)]
-fn box_of(
-    alloc: Global,
-    term: &Term,
-    slot: u32,
-    context: &mut Vec<Place>,
-    left: &mut u32,
-    found: &mut Vec<Found>,
-    funcs: &mut IrFuncs,
-) -> Result<Box<Ir>, AllocError>
-    requires closed { ClosedBelow (length context.old.items) (expression_of term.now) }
-    requires slots { slot + size (expression_of term.now) < 2 ^ 32 }
-    requires binders { length context.old.items + 2 * size (expression_of term.now) < 2 ^ 32 }
-    requires left { funs (expression_of term.now) ≤ left.old }
-    requires found { EndsWith found.old.items
-        (found_in (expression_of term.now) context.old.items) }
-    ensures same { IfOk result (λ _. context.new.items ≡ context.old.items) }
-    ensures left { IfOk result (λ _. left.old ≡ left.new + funs (expression_of term.now)) }
-    ensures found { IfOk result
-        (λ _. found.old.items ≡ found.new.items ++ found_in (expression_of term.now)
-        context.old.items) }
-    ensures code { IfOk result
-        (λ r. ir_of r.value ≡ code_in (expression_of term.now) left.new context.old.items slot) }
-    ensures funcs { IfOk result
-        (λ _. AreAdded funcs.old funcs.new (expression_of term.now) left.new context.old.items) }
-{
-    Ok(Box::new(
-        alloc,
-        code_of(alloc, term, slot, context, left, found, funcs)?,
-    )?)
-}
+    /// The code of a term whose first let takes this slot.
+    #[cycle(convert)]
+    pub(crate) fn convert(&mut self, term: &Term, slot: u32) -> Result<Ir, AllocError>
+        requires { CanConvert self.old (expression_of term.now) slot }
+        ensures { IfOk result
+            (λ r. Converts self.old self.new (expression_of term.now) slot (ir_of r)) }
+    {
+        match term {
+            Term::Int(n) => Ok(Ir::Int(*n)),
+            Term::Bool(b) => Ok(Ir::Bool(*b)),
+            Term::Var(i) => Ok(Ir::Get(self.context[self.context.len() - 1 - *i as usize])),
+            Term::Fun(e) => self.convert_function(e, false),
+            Term::Rec(e) => self.convert_function(e, true),
+            Term::App(f, a) => {
+                let (first, second) = self.convert_two(f, a, slot)?;
+                Ok(Ir::App(first, second))
+            }
+            Term::Let(d, e) => self.convert_let(d, e, slot),
+            Term::If(c, a, b) => self.convert_if(c, a, b, slot),
+            Term::Pair(a, b) => {
+                let (first, second) = self.convert_two(a, b, slot)?;
+                Ok(Ir::Pair(first, second))
+            }
+            Term::Fst(e) => Ok(Ir::Fst(self.convert_boxed(e, slot)?)),
+            Term::Snd(e) => Ok(Ir::Snd(self.convert_boxed(e, slot)?)),
+            Term::Prim(p, a, b) => {
+                let (first, second) = self.convert_two(a, b, slot)?;
+                Ok(Ir::Prim(*p, first, second))
+            }
+            // No code has these.
+            Term::Glob(_) | Term::Bracket(_) | Term::Escape(_) => Ok(Ir::Int(0)),
+            Term::Run(_, _) | Term::CloseCode(_, _) | Term::OpenCode(_) => Ok(Ir::Int(0)),
+            Term::Lift(_) | Term::LiftB(_) => Ok(Ir::Int(0)),
+        }
+    }
 
-/// The code of two terms, one after the other, where the functions of the second are added first.
-#[cycle(convert)]
-fn two_of(
-    alloc: Global,
-    first: &Term,
-    second: &Term,
-    slot: u32,
-    context: &mut Vec<Place>,
-    left: &mut u32,
-    found: &mut Vec<Found>,
-    funcs: &mut IrFuncs,
-) -> Result<(Box<Ir>, Box<Ir>), AllocError>
-    requires closed { ClosedBelow (length context.old.items)
-        (pair (expression_of first.now) (expression_of second.now)) }
-    requires slots { slot + size (pair (expression_of first.now) (expression_of second.now))
-        < 2 ^ 32 }
-    requires binders { length context.old.items
-        + 2 * size (pair (expression_of first.now) (expression_of second.now))
-        < 2 ^ 32 }
-    requires left { funs (pair (expression_of first.now) (expression_of second.now)) ≤ left.old }
-    requires found { EndsWith found.old.items
-        (found_in (pair (expression_of first.now) (expression_of second.now)) context.old.items) }
-    ensures same { IfOk result (λ _. context.new.items ≡ context.old.items) }
-    ensures left { IfOk result
-        (λ _. left.old ≡ left.new + funs (pair (expression_of first.now) (expression_of second.now))) }
-    ensures found { IfOk result
-        (λ _. found.old.items ≡ found.new.items ++ found_in (pair (expression_of first.now) (expression_of second.now))
-        context.old.items) }
-    ensures first { IfOk result
-        (λ r. ir_of r.0.value ≡ code_in (expression_of first.now) left.new context.old.items
-        slot) }
-    ensures second { IfOk result
-        (λ r. ir_of r.1.value ≡ code_in (expression_of second.now) (left.new + funs (expression_of first.now))
-        context.old.items slot) }
-    ensures funcs { IfOk result
-        (λ _. AreAdded funcs.old funcs.new (pair (expression_of first.now) (expression_of second.now)) left.new
-        context.old.items) }
-{
-    let second = box_of(alloc, second, slot, context, left, found, funcs)?;
-    let first = box_of(alloc, first, slot, context, left, found, funcs)?;
-    Ok((first, second))
-}
+    #[cycle(convert)]
+    fn convert_boxed(&mut self, term: &Term, slot: u32) -> Result<Box<Ir>, AllocError>
+        requires { CanConvert self.old (expression_of term.now) slot }
+        ensures { IfOk result
+            (λ r. Converts self.old self.new (expression_of term.now) slot (ir_of r.value)) }
+    {
+        Ok(Box::new(self.alloc, self.convert(term, slot)?)?)
+    }
 
-/// The code of a let, whose slot is a place in its body alone.
-#[cycle(convert)]
-fn let_of(
-    alloc: Global,
-    definition: &Term,
-    body: &Term,
-    slot: u32,
-    context: &mut Vec<Place>,
-    left: &mut u32,
-    found: &mut Vec<Found>,
-    funcs: &mut IrFuncs,
-) -> Result<Ir, AllocError>
-    requires closed { ClosedBelow (length context.old.items)
-        (bind (expression_of definition.now) (expression_of body.now)) }
-    requires slots { slot + size (bind (expression_of definition.now) (expression_of body.now))
-        < 2 ^ 32 }
-    requires binders { length context.old.items
-        + 2 * size (bind (expression_of definition.now) (expression_of body.now)) < 2 ^ 32 }
-    requires left { funs (bind (expression_of definition.now) (expression_of body.now)) ≤ left.old }
-    requires found { EndsWith found.old.items
-        (found_in (bind (expression_of definition.now) (expression_of body.now)) context.old.items) }
-    ensures same { IfOk result (λ _. context.new.items ≡ context.old.items) }
-    ensures left { IfOk result
-        (λ _. left.old ≡ left.new + funs (bind (expression_of definition.now) (expression_of body.now))) }
-    ensures found { IfOk result
-        (λ _. found.old.items ≡ found.new.items
-        ++ found_in (bind (expression_of definition.now) (expression_of body.now)) context.old.items) }
-    ensures code { IfOk result
-        (λ r. ir_of r ≡ code_in (bind (expression_of definition.now) (expression_of body.now))
-        left.new context.old.items slot) }
-    ensures funcs { IfOk result
-        (λ _. AreAdded funcs.old funcs.new (bind (expression_of definition.now) (expression_of body.now)) left.new
-        context.old.items) }
-{
-    context.push(Place::Slot(slot))?;
-    let body = box_of(alloc, body, slot + 1, context, left, found, funcs)?;
-    let _slot = context.pop();
-    let definition = box_of(alloc, definition, slot, context, left, found, funcs)?;
-    Ok(Ir::Let(slot, definition, body))
-}
+    /// The code of two terms, where the functions of the second are added first.
+    #[cycle(convert)]
+    fn convert_two(
+        &mut self,
+        first: &Term,
+        second: &Term,
+        slot: u32,
+    ) -> Result<(Box<Ir>, Box<Ir>), AllocError>
+        requires { CanConvert self.old
+            (pair (expression_of first.now) (expression_of second.now)) slot }
+        ensures { IfOk result (λ r. Converts self.old self.new
+            (pair (expression_of first.now) (expression_of second.now)) slot
+            (i.pair (ir_of r.0.value) (ir_of r.1.value))) }
+    {
+        let second = self.convert_boxed(second, slot)?;
+        let first = self.convert_boxed(first, slot)?;
+        Ok((first, second))
+    }
 
-/// The code of an if.
-#[cycle(convert)]
-fn if_of(
-    alloc: Global,
-    condition: &Term,
-    yes: &Term,
-    no: &Term,
-    slot: u32,
-    context: &mut Vec<Place>,
-    left: &mut u32,
-    found: &mut Vec<Found>,
-    funcs: &mut IrFuncs,
-) -> Result<Ir, AllocError>
-    requires closed { ClosedBelow (length context.old.items)
-        (cond (expression_of condition.now) (expression_of yes.now) (expression_of no.now)) }
-    requires slots { slot
-        + size (cond (expression_of condition.now) (expression_of yes.now) (expression_of no.now))
-        < 2 ^ 32 }
-    requires binders { length context.old.items
-        + 2 * size (cond (expression_of condition.now) (expression_of yes.now) (expression_of no.now)) < 2 ^ 32 }
-    requires left { funs
-        (cond (expression_of condition.now) (expression_of yes.now) (expression_of no.now))
-        ≤ left.old }
-    requires found { EndsWith found.old.items
-        (found_in (cond (expression_of condition.now) (expression_of yes.now) (expression_of no.now))
-        context.old.items) }
-    ensures same { IfOk result (λ _. context.new.items ≡ context.old.items) }
-    ensures left { IfOk result
-        (λ _. left.old ≡ left.new
-        + funs (cond (expression_of condition.now) (expression_of yes.now) (expression_of no.now))) }
-    ensures found { IfOk result
-        (λ _. found.old.items ≡ found.new.items
-        ++ found_in (cond (expression_of condition.now) (expression_of yes.now) (expression_of no.now))
-        context.old.items) }
-    ensures code { IfOk result
-        (λ r. ir_of r ≡ code_in (cond (expression_of condition.now) (expression_of yes.now) (expression_of no.now))
-        left.new context.old.items slot) }
-    ensures funcs { IfOk result
-        (λ _. AreAdded funcs.old funcs.new
-        (cond (expression_of condition.now) (expression_of yes.now) (expression_of no.now)) left.new
-        context.old.items) }
-{
-    let (yes, no) = two_of(alloc, yes, no, slot, context, left, found, funcs)?;
-    let condition = box_of(alloc, condition, slot, context, left, found, funcs)?;
-    Ok(Ir::If(condition, yes, no))
-}
+    /// The code of a let, whose slot is a place in its body alone.
+    #[cycle(convert)]
+    fn convert_let(&mut self, definition: &Term, body: &Term, slot: u32) -> Result<Ir, AllocError>
+        requires { CanConvert self.old
+            (bind (expression_of definition.now) (expression_of body.now)) slot }
+        ensures { IfOk result (λ r. Converts self.old self.new
+            (bind (expression_of definition.now) (expression_of body.now)) slot (ir_of r)) }
+    {
+        self.context.push(Place::Slot(slot))?;
+        let body = self.convert_boxed(body, slot + 1)?;
+        let _slot = self.context.pop();
+        let definition = self.convert_boxed(definition, slot)?;
+        Ok(Ir::Let(slot, definition, body))
+    }
 
-/// The closure of a function, which is added after those within it.
-#[cycle(convert)]
-fn closure_of(
-    alloc: Global,
-    body: &Term,
-    recursive: bool,
-    context: &Vec<Place>,
-    left: &mut u32,
-    found: &mut Vec<Found>,
-    funcs: &mut IrFuncs,
-) -> Result<Ir, AllocError>
-    requires closed { ClosedBelow (length context.now.items)
-        (function recursive (expression_of body.now)) }
-    requires binders { length context.now.items
-        + 2 * size (function recursive (expression_of body.now)) < 2 ^ 32 }
-    requires left { funs (function recursive (expression_of body.now)) ≤ left.old }
-    requires found { EndsWith found.old.items
-        (found_in (function recursive (expression_of body.now)) context.now.items) }
-    ensures left { IfOk result
-        (λ _. left.old ≡ left.new + funs (function recursive (expression_of body.now))) }
-    ensures found { IfOk result
-        (λ _. found.old.items ≡ found.new.items ++ found_in (function recursive (expression_of body.now))
-        context.now.items) }
-    ensures code { IfOk result
-        (λ r. (slot : ℕ) → ir_of r ≡ code_in (function recursive (expression_of body.now))
-        left.new context.now.items slot) }
-    ensures funcs { IfOk result
-        (λ _. AreAdded funcs.old funcs.new (function recursive (expression_of body.now))
-        left.new context.now.items) }
-{
-    let Some(Found { slots, free }) = found.pop() else {
-        unreachable!()
-    };
-    let places = places_of(alloc, context, free.as_slice())?;
-    let mut inner = inner_context(alloc, context, free.as_slice(), recursive)?;
-    let body = code_of(alloc, body, 0, &mut inner, left, found, funcs)?;
-    *left -= 1;
-    let free = free.len() as u32;
-    funcs.push(IrFunc { free, slots, body })?;
-    Ok(Ir::Closure(*left, places))
+    #[cycle(convert)]
+    fn convert_if(
+        &mut self,
+        condition: &Term,
+        yes: &Term,
+        no: &Term,
+        slot: u32,
+    ) -> Result<Ir, AllocError>
+        requires { CanConvert self.old
+            (cond (expression_of condition.now) (expression_of yes.now) (expression_of no.now))
+            slot }
+        ensures { IfOk result (λ r. Converts self.old self.new
+            (cond (expression_of condition.now) (expression_of yes.now) (expression_of no.now))
+            slot (ir_of r)) }
+    {
+        let (yes, no) = self.convert_two(yes, no, slot)?;
+        let condition = self.convert_boxed(condition, slot)?;
+        Ok(Ir::If(condition, yes, no))
+    }
+
+    /// The closure of a function, which is added after those within it. It takes no slot.
+    #[cycle(convert)]
+    fn convert_function(&mut self, body: &Term, recursive: bool) -> Result<Ir, AllocError>
+        requires { CanConvert self.old (function recursive (expression_of body.now)) 0 }
+        ensures { (slot : ℕ) → IfOk result (λ r. Converts self.old self.new
+            (function recursive (expression_of body.now)) slot (ir_of r)) }
+    {
+        let Some(FoundFunction { slots, free }) = self.found.pop() else {
+            unreachable!()
+        };
+        let levels = free.as_slice();
+        let places = places_of(self.alloc, &self.context, levels)?;
+        let inner = inner_context(self.alloc, &self.context, levels, recursive)?;
+        let outer = mem::replace(&mut self.context, inner);
+        let body = self.convert(body, 0)?;
+        self.context = outer;
+        self.left -= 1;
+        let free = levels.len() as u32;
+        self.funcs.push(IrFunc { free, slots, body })?;
+        Ok(Ir::Closure(self.left, places))
+    }
 }
 
 /// The places of these levels in a context.

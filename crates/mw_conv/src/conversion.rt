@@ -9,9 +9,9 @@ ghost use Rattle.mw_ir.specs.Ranges.{IsConverted};
 ghost use Rattle.mw_conv.specs.Agreement.{MeansAs};
 ghost use Rattle.mw_conv.specs.Convert.{converted_functions, converted_outside};
 
-use crate::code::code_of;
+use crate::code::Converter;
 use crate::find::find;
-use mw_ir::{Converted, IrFunc, IrFuncs};
+use mw_ir::{Converted, IrFunc};
 use mw_term::Term;
 use std::alloc::{AllocError, Global};
 
@@ -30,19 +30,10 @@ pub fn convert(alloc: Global, code: &Term) -> Result<Converted, AllocError>
         (λ r. IsConverted (map ir_func_of r.funcs) (ir_func_of r.body)) }
     ensures literals { IfOk result (λ _. LiteralsFit (expression_of code.now)) }
 {
-    let mut found = Vec::new(alloc);
-    let slots = find(alloc, code, 0, &mut Vec::new(alloc), &mut found)?;
-    let mut funcs = IrFuncs::new(alloc);
-    let mut left = found.len() as u32;
-    let body = code_of(
-        alloc,
-        code,
-        0,
-        &mut Vec::new(alloc),
-        &mut left,
-        &mut found,
-        &mut funcs,
-    )?;
+    let (found, slots) = find(alloc, code)?;
+    let mut converter = Converter::new(alloc, found);
+    let body = converter.convert(code, 0)?;
+    let mut funcs = converter.funcs;
     funcs.reverse();
     let body = IrFunc {
         free: 0,

@@ -1,98 +1,129 @@
 // One walk over a term, which finds the free variables of each function and the slots that its lets need.
 
-#![tactic(auto, using(crate::proofs::Marks::unmarked, crate::proofs::Marks::joined_twice, crate::proofs::Marks::joined_thrice, crate::proofs::Marks::lets_few))]
+#![tactic(auto, using(crate::proofs::Marks::unmarked, crate::proofs::Marks::lets_few))]
 
-ghost use Rattle.std.specs.Prelude.{◌≡◌, ◌+◌, ◌-◌, ◌*◌, ◌^◌, ◌<◌, ◌≤◌, ◌==◌, ◌++◌, length, false, set, replicate, IfOk};
-ghost use Rattle.mw_term.specs.Terms.{expression_of, size};
+ghost use Rattle.std.specs.Prelude.{◌≡◌, ◌+◌, ◌*◌, ◌^◌, ◌<◌, ◌≤◌, ◌==◌, ◌++◌, length, false, replicate, IfOk};
+ghost use Rattle.mw_term.specs.Terms.{expression_of, size, pair};
 ghost use Rattle.mw_term.specs.Limits.{LiteralsFit};
-ghost use Rattle.mw_meaning.specs.KernelMeaning.{occurs};
 ghost use Rattle.mw_conv.specs.Convert.{lets};
-ghost use Rattle.mw_conv.specs.Finding.{joined, marked, marking, all_found, found_with};
+ghost use Rattle.mw_conv.specs.Finding.{joined, marked, marking, all_found, function, own_places};
+ghost use Rattle.mw_conv.specs.Found.{Finds};
 
-use crate::found::{Found, Levels};
+use crate::found::{FoundFunction, Levels};
 use mw_term::Term;
 use std::alloc::{AllocError, Global};
+use std::mem;
 
-/// Finds the functions of a term, of each after those within it, and marks the variables that occur in it. The term
-/// stands under the binders that have marks, and then under `under` more. Answers how many slots its lets need.
-#[cycle(find)]
-pub(crate) fn find(
-    alloc: Global,
-    term: &Term,
-    under: u32,
-    marks: &mut Vec<bool>,
-    found: &mut Vec<Found>,
-) -> Result<u32, AllocError>
-    requires { length marks.old.items + under + 2 * size (expression_of term.now) < 2 ^ 32 }
-    ensures marks { IfOk result
-        (λ _. marks.new.items ≡ joined marks.old.items (λ i. occurs (expression_of term.now) (under + i))) }
-    ensures found { IfOk result
-        (λ _. found.new.items ≡ found.old.items ++ all_found (expression_of term.now)
-        (length marks.old.items + under)) }
-    ensures length { IfOk result (λ _. length marks.new.items ≡ length marks.old.items) }
-    ensures slots { IfOk result (λ slots. slots ≡ lets (expression_of term.now)) }
-    ensures literals { IfOk result (λ _. LiteralsFit (expression_of term.now)) }
+/// What finds the functions in the terms of a kernel, of each after those within it.
+#[derive(Drop)]
+pub(crate) struct Finder {
+    pub(crate) alloc: Global,
+    /// Which variables that are bound outside the term at hand occur in the function at hand, by level.
+    pub(crate) marks: Vec<bool>,
+    pub(crate) found: Vec<FoundFunction>,
+}
+
+/// The functions in closed code, of each after those within it, and how many slots its lets need outside them.
+pub(crate) fn find(alloc: Global, code: &Term) -> Result<(Vec<FoundFunction>, u32), AllocError>
+    requires { 2 * size (expression_of code.now) < 2 ^ 32 }
+    ensures found { IfOk result (λ r. r.0.items ≡ all_found (expression_of code.now) 0) }
+    ensures slots { IfOk result (λ r. r.1 ≡ lets (expression_of code.now)) }
+    ensures literals { IfOk result (λ _. LiteralsFit (expression_of code.now)) }
 {
-    match term {
-        Term::Int(n) => {
-            let _number = *n;
-            Ok(0)
+    let mut finder = Finder {
+        alloc,
+        marks: Vec::new(alloc),
+        found: Vec::new(alloc),
+    };
+    let slots = finder.find(code, 0)?;
+    Ok((finder.found, slots))
+}
+
+impl Finder {
+    /// Finds the functions of a term, and marks the variables that occur in it. The term stands under the binders that
+    /// have marks, and then under `under` more. Answers how many slots its lets need.
+    #[cycle(find)]
+    fn find(&mut self, term: &Term, under: u32) -> Result<u32, AllocError>
+        requires { length self.old.marks.items + under + 2 * size (expression_of term.now)
+            < 2 ^ 32 }
+        ensures { IfOk result
+            (λ slots. Finds self.old self.new (expression_of term.now) under slots) }
+    {
+        match term {
+            Term::Int(n) => {
+                let _number = *n;
+                Ok(0)
+            }
+            Term::Bool(_) => Ok(0),
+            Term::Var(i) => {
+                mark_variable(&mut self.marks, under, *i);
+                Ok(0)
+            }
+            Term::Fun(e) => self.find_function(e, false, under),
+            Term::Rec(e) => self.find_function(e, true, under),
+            Term::App(f, a) => self.find_two(f, a, under),
+            Term::Let(d, e) => {
+                let first = self.find(d, under)?;
+                let second = self.find(e, under + 1)?;
+                Ok(first.max(second + 1))
+            }
+            Term::If(c, a, b) => {
+                let first = self.find(c, under)?;
+                let rest = self.find_two(a, b, under)?;
+                Ok(first.max(rest))
+            }
+            Term::Pair(a, b) => self.find_two(a, b, under),
+            Term::Fst(e) => self.find(e, under),
+            Term::Snd(e) => self.find(e, under),
+            Term::Prim(_, a, b) => self.find_two(a, b, under),
+            // No code has these.
+            Term::Glob(_) => Ok(0),
+            Term::Bracket(_) => Ok(0),
+            Term::Escape(_) => Ok(0),
+            Term::Run(_, _) => Ok(0),
+            Term::CloseCode(_, _) => Ok(0),
+            Term::OpenCode(_) => Ok(0),
+            Term::Lift(_) => Ok(0),
+            Term::LiftB(_) => Ok(0),
         }
-        Term::Var(i) => {
-            mark_variable(marks, under, *i);
-            Ok(0)
-        }
-        Term::Fun(e) => find_function(alloc, e, 1, under, marks, found),
-        Term::Rec(e) => find_function(alloc, e, 2, under, marks, found),
-        Term::Let(d, e) => {
-            let first = find(alloc, d, under, marks, found)?;
-            let second = find(alloc, e, under + 1, marks, found)?;
-            Ok(first.max(second + 1))
-        }
-        Term::If(c, a, b) => {
-            let first = find(alloc, c, under, marks, found)?;
-            let second = find(alloc, a, under, marks, found)?;
-            let third = find(alloc, b, under, marks, found)?;
-            Ok(first.max(second.max(third)))
-        }
-        Term::App(a, b) | Term::Pair(a, b) | Term::Prim(_, a, b) => {
-            let first = find(alloc, a, under, marks, found)?;
-            let second = find(alloc, b, under, marks, found)?;
-            Ok(first.max(second))
-        }
-        Term::Fst(e) | Term::Snd(e) => find(alloc, e, under, marks, found),
-        Term::Bool(_) | Term::Glob(_) | Term::Bracket(_) | Term::Escape(_) => Ok(0),
-        Term::Run(_, _) | Term::CloseCode(_, _) => Ok(0),
-        Term::OpenCode(_) | Term::Lift(_) | Term::LiftB(_) => Ok(0),
+    }
+
+    #[cycle(find)]
+    fn find_two(&mut self, first: &Term, second: &Term, under: u32) -> Result<u32, AllocError>
+        requires { length self.old.marks.items + under
+            + 2 * size (pair (expression_of first.now) (expression_of second.now)) < 2 ^ 32 }
+        ensures { IfOk result (λ slots. Finds self.old self.new
+            (pair (expression_of first.now) (expression_of second.now)) under slots) }
+    {
+        let first = self.find(first, under)?;
+        let second = self.find(second, under)?;
+        Ok(first.max(second))
+    }
+
+    /// Finds a function after those within it. It needs no slot outside.
+    #[cycle(find)]
+    fn find_function(&mut self, body: &Term, recursive: bool, under: u32) -> Result<u32, AllocError>
+        requires { length self.old.marks.items + under
+            + 2 * size (function recursive (expression_of body.now)) < 2 ^ 32 }
+        ensures { IfOk result (λ slots. Finds self.old self.new
+            (function recursive (expression_of body.now)) under slots) }
+    {
+        let inner = no_marks(self.alloc, self.marks.len() + under as usize)?;
+        let outer = mem::replace(&mut self.marks, inner);
+        let slots = self.find(body, own_variables(recursive))?;
+        let inner = mem::replace(&mut self.marks, outer);
+        let free = marked_levels(self.alloc, &inner)?;
+        mark_all(&mut self.marks, free.as_slice());
+        self.found.push(FoundFunction { slots, free })?;
+        Ok(0)
     }
 }
 
-/// The same of a function, which binds `own` variables in its body. It needs no slot outside.
-#[cycle(find)]
-fn find_function(
-    alloc: Global,
-    body: &Term,
-    own: u32,
-    under: u32,
-    marks: &mut Vec<bool>,
-    found: &mut Vec<Found>,
-) -> Result<u32, AllocError>
-    requires { length marks.old.items + under + own + 2 * size (expression_of body.now) < 2 ^ 32 }
-    ensures marks { IfOk result
-        (λ _. marks.new.items ≡ joined marks.old.items (λ i. occurs (expression_of body.now) (own + (under + i)))) }
-    ensures found { IfOk result
-        (λ _. found.new.items ≡ found.old.items ++ found_with (expression_of body.now) own
-        (length marks.old.items + under)) }
-    ensures length { IfOk result (λ _. length marks.new.items ≡ length marks.old.items) }
-    ensures slots { IfOk result (λ slots. slots ≡ 0) }
-    ensures literals { IfOk result (λ _. LiteralsFit (expression_of body.now)) }
+/// How many variables a function binds in its body.
+fn own_variables(recursive: bool) -> u32
+    ensures { result ≡ length (own_places recursive) }
 {
-    let mut inner = no_marks(alloc, marks.len() + under as usize)?;
-    let slots = find(alloc, body, own, &mut inner, found)?;
-    let free = marked_levels(alloc, &inner)?;
-    mark_all(marks, free.as_slice());
-    found.push(Found { slots, free })?;
-    Ok(0)
+    if recursive { 2 } else { 1 }
 }
 
 /// So many levels without marks.

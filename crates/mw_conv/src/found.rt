@@ -1,6 +1,6 @@
 // What is found of a function.
 
-ghost use Rattle.std.specs.Prelude.{◌≡◌, ◌<◌, [], ◌∷◌, ◌++◌, length, OnOk, OnErr, slice_get, Some};
+ghost use Rattle.std.specs.Prelude.{◌≡◌, ◌<◌, [], ◌∷◌, ◌++◌, OnOk, OnErr, slice_get, Some};
 
 use std::alloc::{AllocError, Global};
 use std::marker::Model;
@@ -13,7 +13,7 @@ pub(crate) struct Levels {
 
 /// A function: how many slots its lets need, and the levels of its free variables, the outermost first.
 #[derive(Debug, Drop)]
-pub(crate) struct Found {
+pub(crate) struct FoundFunction {
     pub(crate) slots: u32,
     pub(crate) free: Levels,
 }
@@ -34,13 +34,6 @@ impl Levels {
         Levels {
             inner: Vec::new(alloc),
         }
-    }
-
-    /// The number of levels.
-    pub(crate) fn len(&self) -> usize
-        ensures { result ≡ length self.now }
-    {
-        self.inner.len()
     }
 
     /// All levels.

@@ -1,6 +1,8 @@
 // Expressions, by descent. `room` is the number of nodes that may still stand on a path; each function answers what it
 // made, the height of its nodes and the tokens left, and says of which form. Trees are passed on in boxes.
 
+#![tactic(auto, using(mw_grammar::proofs::Below::read_full, mw_grammar::proofs::Below::read_gives, mw_grammar::proofs::Below::read_refuses, mw_grammar::proofs::Below::read_reads, mw_grammar::proofs::Below::part_fails, mw_grammar::proofs::Below::fails_then, mw_grammar::proofs::Below::raise_ok, mw_grammar::proofs::Below::fails_raise))]
+
 ghost use Rattle.std.specs.Prelude.{◌≡◌, ◌<◌, ◌≤◌, ℕ, IfOk};
 ghost use Rattle.mw_lex.specs.Tokens.{tokens_of};
 ghost use Rattle.mw_grammar.specs.SurfaceTrees.{bind};
@@ -44,7 +46,6 @@ enum Connective {
 }
 
 /// After `(` and `-`.
-#[tactic(auto, using(mw_grammar::proofs::Below::read_full, mw_grammar::proofs::Below::read_gives, mw_grammar::proofs::Below::read_refuses))]
 fn literal(alloc: Global, tokens: &[Token]) -> Read<Box<Tree>>
     ensures gives { (b : ℕ)
         → GivesRead tree_in result (reading b (pick minus_by) none_yet (tokens_of tokens.now)) }
@@ -281,6 +282,7 @@ fn right_tree(alloc: Global, row: Row, tokens: &[Token], room: u32) -> Read<Box<
 }
 
 #[cycle(trees)]
+#[tactic(auto, using(mw_grammar::proofs::Below::read_full, mw_grammar::proofs::Below::read_gives, mw_grammar::proofs::Below::read_refuses, mw_grammar::proofs::Below::read_reads, mw_grammar::proofs::Below::part_fails, mw_grammar::proofs::Below::fails_then, mw_grammar::proofs::Below::raise_ok, mw_grammar::proofs::Below::fails_raise, mw_grammar::proofs::Below::read_more))]
 fn row_tree(alloc: Global, row: Row, tokens: &[Token], room: u32) -> Read<Box<Tree>>
     requires { room ≤ 200 }
     ensures gives { GivesRead tree_in result
@@ -292,6 +294,7 @@ fn row_tree(alloc: Global, row: Row, tokens: &[Token], room: u32) -> Read<Box<Tr
 }
 
 #[cycle(trees)]
+#[tactic(auto, using(mw_grammar::proofs::Below::read_full, mw_grammar::proofs::Below::read_gives, mw_grammar::proofs::Below::read_refuses, mw_grammar::proofs::Below::read_reads, mw_grammar::proofs::Below::part_fails, mw_grammar::proofs::Below::fails_then, mw_grammar::proofs::Below::raise_ok, mw_grammar::proofs::Below::fails_raise, mw_grammar::proofs::Below::follow_none, mw_grammar::proofs::Below::follow_deep, mw_grammar::proofs::Below::follow_on))]
 fn more_trees(
     alloc: Global,
     row: Row,
@@ -380,6 +383,7 @@ fn connective_operand(
 }
 
 #[cycle(trees)]
+#[tactic(auto, using(crate::proofs::Connectives::read_connected, mw_grammar::proofs::Below::read_gives, mw_grammar::proofs::Below::read_reads, mw_grammar::proofs::Below::part_fails, mw_grammar::proofs::Below::raise_ok, mw_grammar::proofs::Below::fails_raise))]
 fn connected_tree(
     alloc: Global,
     connective: Connective,
