@@ -23,7 +23,8 @@ use Rattle.mw_machine.specs.declared.kernels.Ran.TheVariants as ran
 use Rattle.mw_machine.specs.KernelCalls.{IsMeantBy, AnswersRun, AnswersCall, IsRunAt, ends_all}
 use Rattle.mw_kernel.specs.declared.running.Began.{Began}
 use Rattle.mw_kernel.specs.declared.running.Began.TheVariants as began
-use Rattle.mw_kernel.specs.KernelAnswers.{FitsWords, kernel_value, HasStartType, HasCallType, IsSameFunction}
+use Rattle.mw_kernel.specs.KernelAnswers.{FitsWords, HasStartType, HasCallType, IsSameFunction}
+use Rattle.mw_meaning.specs.GroundValues.{kernel_value}
 use Rattle.mw_kernel.specs.KernelMeanings.{IsSameValue, HasShortIntegers, IsBeganFrom, IsRanFrom, IsCallMeant}
 use Rattle.mw_kernel.specs.KernelMeanings.{MeansStart, Keeps, KeepsOn}
 use Rattle.mw_kernel.specs.RunningStates.{RunningState}

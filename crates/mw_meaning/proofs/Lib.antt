@@ -1,3 +1,4 @@
+pub mod GroundValues
 pub mod KernelFixedPoint
 pub mod StagedFixedPoint
 pub mod Outsides
@@ -10,6 +11,7 @@ pub mod SettingValues
 pub mod RepliesTyped
 pub mod EvaluationTyping
 pub mod Simplifying
+pub mod SimplifiedNodes
 pub mod Replacing
 pub mod SimplifyingKept
 pub mod ComingTo

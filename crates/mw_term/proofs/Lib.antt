@@ -1,3 +1,4 @@
+pub mod EachNode
 pub mod Sources
 pub mod Substituting
 pub mod Swapping
