@@ -15,7 +15,7 @@ use Rattle.mw_meaning.specs.Simplification.{in_mode}
 use Rattle.mw_meaning.specs.StandingFor.{StandsFor}
 use Rattle.mw_meaning.specs.StagedMeaning.{gives as answers, Runs, run_of, run_ended, call_of, call_ended}
 use Rattle.mw_meaning.specs.StagedMeaning.{ground_result, kernel_argument, argument_words}
-use Rattle.mw_meaning.proofs.SimplifyingKept.{keeps_kernel_type}
+use Rattle.mw_meaning.proofs.SimplificationTyping.{keeps_kernel_type}
 use Rattle.mw_wasm.specs.declared.modules.Module.{Module}
 use Rattle.mw_wasm.specs.Views.{module_of}
 use Rattle.mw_machine.specs.declared.kernels.Ran.{Ran}

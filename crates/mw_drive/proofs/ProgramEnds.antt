@@ -12,7 +12,7 @@ use Rattle.mw_meaning.specs.Outcomes.{Outcome, came_to, trapped, bounded, stuck 
 use Rattle.mw_meaning.specs.Outcomes.{main_outcome, names_of_items, names_of_main}
 use Rattle.mw_meaning.specs.OutcomeLaws.{ComesTo, AreCodesOf}
 use Rattle.mw_meaning.specs.GroundValues.{HasGroundType}
-use Rattle.mw_meaning.proofs.ComingTo.{items_come_to_their_code, main_comes_to_its_value_after_items}
+use Rattle.mw_meaning.proofs.Outcomes.{items_come_to_their_code, main_comes_to_its_value_after_items}
 use Rattle.mw_console.specs.Texts.{Ending}
 use Rattle.mw_reading.specs.NamedPrograms.{NamedItem, NamedProgram, unnamed}
 use Rattle.mw_link.specs.Linked.{Kernel}

@@ -30,7 +30,7 @@ use Rattle.mw_meaning.specs.StandingFor.{CallsAnswer, CallsAfter, MeansKernel, S
 use Rattle.mw_meaning.specs.Shapes.{IsWordOf, in_init}
 use Rattle.mw_meaning.proofs.KernelTyping.{KernelSafe, Has, none, kernel_call_safe, safe_makes}
 use Rattle.mw_meaning.proofs.GroundValues.{ground-typed}
-use Rattle.mw_meaning.proofs.Straying.{word_of, answers_no_stray, kernel_safe, one_number, standing_is_not_stray}
+use Rattle.mw_meaning.proofs.StrayModules.{word_of, answers_no_stray, kernel_safe, one_number, standing_is_not_stray}
 use Rattle.mw_machine.specs.declared.kernels.Ran.{Ran}
 use Rattle.mw_machine.specs.declared.kernels.Ran.TheVariants as ran
 use Rattle.mw_kernel.specs.declared.fault.RunFault.{RunFault}

@@ -7,7 +7,7 @@ use Rattle.mw_term.specs.Terms.{fix, app, bind, cond, pair, fst, snd, prim, brac
 use Rattle.mw_term.specs.Terms.{lift_b, done, int, bool, both, function, recursive, code, kept, size}
 use Rattle.mw_term.specs.declared.term.Primitive.{Primitive as Prim}
 use Rattle.mw_term.specs.Substitution.{substitute, shift_value}
-use Rattle.mw_term.proofs.Substituting.{size-substitute}
+use Rattle.mw_term.proofs.Substitution.{size-substitute}
 use Rattle.mw_meaning.specs.declared.mode.Mode.{Mode}
 use Rattle.mw_meaning.specs.Arithmetic.{PrimitiveResult, number, fact, trapped, compute}
 use Rattle.mw_meaning.specs.KernelMeaning.{Ended, gives as made, stops as ends, kernel_meaning}

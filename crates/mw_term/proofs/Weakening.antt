@@ -9,13 +9,13 @@ use Rattle.mw_term.specs.Typing.{t_cond, t_pair, t_fst, t_snd, t_prim, t_bracket
 use Rattle.mw_term.specs.Typing.{t_lift, t_lift_b, t_done, Valued, v_int, v_bool, v_pair, v_function, v_recursive}
 use Rattle.mw_term.specs.Typing.{v_code, v_closed, v_kept}
 use Rattle.mw_term.proofs.EachNode.{each-shift}
-use Rattle.mw_term.proofs.Closing.{shift-closed, shift-closed_value}
+use Rattle.mw_term.proofs.ClosedTerms.{shift-closed, shift-closed_value}
 use Rattle.mw_term.proofs.TypedClosed.{Typed-closed, Valued-closed}
-use Rattle.mw_term.proofs.Renaming.{rename_type, rename_level, rename_all, rename_entry-entry, rename_type-plain}
-use Rattle.mw_term.proofs.Renaming.{IsPlain-rename_type, IsFormed-rename_type, Fits-rename_type}
-use Rattle.mw_term.proofs.Renaming.{rename_type-kernel_type, rename_type-primitive_type, same, rename_type-same}
-use Rattle.mw_term.proofs.Renaming.{rename_level-same, rename_all-same, rename_all-apart, changed, changed-here}
-use Rattle.mw_term.proofs.Renaming.{changed-apart, top_of, IsAbsent-above, insert, get-insert}
+use Rattle.mw_term.proofs.Classifiers.{rename_type, rename_level, rename_all, rename_entry-entry, rename_type-plain}
+use Rattle.mw_term.proofs.Classifiers.{IsPlain-rename_type, IsFormed-rename_type, Fits-rename_type}
+use Rattle.mw_term.proofs.Classifiers.{rename_type-kernel_type, rename_type-primitive_type, same, rename_type-same}
+use Rattle.mw_term.proofs.Classifiers.{rename_level-same, rename_all-same, rename_all-apart, changed, changed-here}
+use Rattle.mw_term.proofs.Classifiers.{changed-apart, top_of, IsAbsent-above, insert, get-insert}
 
 module _ (tops : List TopLevel) where
   mutual
