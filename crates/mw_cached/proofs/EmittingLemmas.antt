@@ -15,7 +15,7 @@ use Rattle.mw_meaning.specs.Simplification.{in_mode}
 use Rattle.mw_meaning.specs.StandingFor.{StandsFor}
 use Rattle.mw_meaning.specs.StagedMeaning.{gives as answers, Runs, run_of, run_ended, call_of, call_ended}
 use Rattle.mw_meaning.specs.StagedMeaning.{ground_result, kernel_argument, argument_words}
-use Rattle.mw_meaning.proofs.SimplifyingKept.{keeps_kernel_type}
+use Rattle.mw_meaning.proofs.SimplificationTyping.{keeps_kernel_type}
 use Rattle.mw_wasm.specs.declared.modules.Module.{Module}
 use Rattle.mw_wasm.specs.Views.{module_of}
 use Rattle.mw_machine.specs.declared.kernels.Ran.{Ran}
@@ -23,7 +23,8 @@ use Rattle.mw_machine.specs.declared.kernels.Ran.TheVariants as ran
 use Rattle.mw_machine.specs.KernelCalls.{IsMeantBy, AnswersRun, AnswersCall, IsRunAt, ends_all}
 use Rattle.mw_kernel.specs.declared.running.Began.{Began}
 use Rattle.mw_kernel.specs.declared.running.Began.TheVariants as began
-use Rattle.mw_kernel.specs.KernelAnswers.{FitsWords, kernel_value, HasStartType, HasCallType, IsSameFunction}
+use Rattle.mw_kernel.specs.KernelAnswers.{FitsWords, HasStartType, HasCallType, IsSameFunction}
+use Rattle.mw_meaning.specs.GroundValues.{kernel_value}
 use Rattle.mw_kernel.specs.KernelMeanings.{IsSameValue, HasShortIntegers, IsBeganFrom, IsRanFrom, IsCallMeant}
 use Rattle.mw_kernel.specs.KernelMeanings.{MeansStart, Keeps, KeepsOn}
 use Rattle.mw_kernel.specs.RunningStates.{RunningState}

@@ -10,7 +10,7 @@ use Rattle.mw_term.specs.Typable.{HasKernelType}
 use Rattle.mw_meaning.specs.declared.mode.Mode.{Mode}
 use Rattle.mw_meaning.specs.Simplification.{in_mode}
 use Rattle.mw_meaning.specs.StandingFor.{StandsFor}
-use Rattle.mw_meaning.proofs.SimplifyingKept.{keeps_kernel_type}
+use Rattle.mw_meaning.proofs.SimplificationTyping.{keeps_kernel_type}
 use Rattle.mw_wasm.specs.declared.modules.Module.{Module}
 use Rattle.mw_wasm.specs.Views.{module_of}
 use Rattle.mw_key.specs.CanonicalText.{IsTextOf, canonical_text}

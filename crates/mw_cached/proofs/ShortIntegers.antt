@@ -9,7 +9,8 @@ use Rattle.mw_meaning.specs.StagedMeaning.{kernel_argument, call_of}
 use Rattle.mw_literals.specs.Literals.{HasShortKernelValue}
 use Rattle.mw_literals.proofs.KernelLiterals.{EndsShort, meaning_short, call_short}
 use Rattle.mw_literals.proofs.SimplifiedLiterals.{code_short}
-use Rattle.mw_kernel.specs.KernelAnswers.{kernel_value, FitsWords}
+use Rattle.mw_kernel.specs.KernelAnswers.{FitsWords}
+use Rattle.mw_meaning.specs.GroundValues.{kernel_value}
 use Rattle.mw_kernel.specs.KernelMeanings.{HasShortIntegers}
 
 -- the value that code with literals of 64 bits gives

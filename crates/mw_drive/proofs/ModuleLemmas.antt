@@ -4,7 +4,7 @@ use Rattle.std.specs.List.{AllByRecursion}
 use Rattle.mw_meaning.specs.declared.mode.Mode.{Mode}
 use Rattle.mw_meaning.specs.declared.mode.Mode.TheVariants.{Plain}
 use Rattle.mw_meaning.specs.Simplification.{in_mode}
-use Rattle.mw_meaning.proofs.SimplifyingKept.{keeps_kernel_type, stays_within_limits}
+use Rattle.mw_meaning.proofs.SimplificationTyping.{keeps_kernel_type, stays_within_limits}
 use Rattle.mw_gen.specs.Generate.{two}
 use Rattle.mw_gen.specs.Emission.{emitted}
 use Rattle.mw_encode.proofs.BestModules.{encoding_shortest}

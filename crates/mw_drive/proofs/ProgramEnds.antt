@@ -10,15 +10,15 @@ use Rattle.mw_term.specs.Limits.{within_limits}
 use Rattle.mw_meaning.specs.declared.mode.Mode.{Mode}
 use Rattle.mw_meaning.specs.Outcomes.{Outcome, came_to, trapped, bounded, stuck as no_outcome, item_outcome}
 use Rattle.mw_meaning.specs.Outcomes.{main_outcome, names_of_items, names_of_main}
-use Rattle.mw_meaning.specs.OutcomeLaws.{ComesTo, AreCodesOf, HasGroundType}
-use Rattle.mw_meaning.proofs.ComingTo.{items_come_to_their_code, main_comes_to_its_value_after_items}
+use Rattle.mw_meaning.specs.OutcomeLaws.{ComesTo, AreCodesOf}
+use Rattle.mw_meaning.specs.GroundValues.{HasGroundType}
+use Rattle.mw_meaning.proofs.Outcomes.{items_come_to_their_code, main_comes_to_its_value_after_items}
 use Rattle.mw_console.specs.Texts.{Ending}
 use Rattle.mw_reading.specs.NamedPrograms.{NamedItem, NamedProgram, unnamed}
 use Rattle.mw_link.specs.Linked.{Kernel}
 use Rattle.mw_drive.specs.ProgramMeaning.{ItemsRun, all_gave, one_ended, with_kernel, before_others, run_item}
-use Rattle.mw_drive.specs.ProgramMeaning.{run_items, items_run}
-use Rattle.mw_drive.specs.ProgramMeaning.{main_ending, main_after, ProgramRun, ended, codes_of, ended_after, with_main}
-use Rattle.mw_drive.specs.ProgramMeaning.{program_run}
+use Rattle.mw_drive.specs.ProgramMeaning.{run_items, items_run, main_ending, main_after, ProgramRun, ended, codes_of}
+use Rattle.mw_drive.specs.ProgramMeaning.{ended_after, with_main, program_run}
 
 -- the run ends, and each of its kernels has a property
 pub record Ends (P : Kernel → Type 0) (r : ProgramRun) : Type 0 where

@@ -9,7 +9,7 @@ use Rattle.mw_term.specs.Limits.{within_limits, kernel_nodes, LiteralsFit}
 use Rattle.mw_meaning.specs.declared.mode.Mode.{Mode}
 use Rattle.mw_meaning.specs.Outcomes.{Outcome, came_to, item_outcome, names_of_items}
 use Rattle.mw_meaning.specs.OutcomeLaws.{ComesTo}
-use Rattle.mw_meaning.proofs.ComingTo.{items_come_to_their_code}
+use Rattle.mw_meaning.proofs.Outcomes.{items_come_to_their_code}
 use Rattle.mw_infer.proofs.Deciding.{typable_faultless}
 use Rattle.mw_infer.proofs.SmallRuns.{faultless-small_kernels}
 use Rattle.mw_infer.proofs.Progressing.{resolved-written}

@@ -9,7 +9,8 @@ use Rattle.mw_term.specs.Terms.{KernelTerm, KernelValue, Value, GroundType, base
 use Rattle.mw_meaning.specs.KernelMeaning as k
 use Rattle.mw_meaning.specs.KernelMeaning.{kernel_evaluation}
 use Rattle.mw_meaning.specs.StagedMeaning.{kernel_argument, argument_words}
-use Rattle.mw_meaning.specs.StandingFor.{IsArgument, leaves}
+use Rattle.mw_meaning.specs.StandingFor.{leaves}
+use Rattle.mw_meaning.specs.GroundValues.{IsArgument}
 use Rattle.mw_meaning.proofs.KernelFixedPoint.{kernel_evaluation-is}
 use Rattle.mw_ir.specs.Ir.{IrFunc, Frame, word_of_truth}
 use Rattle.mw_conv.specs.Represents.{s_int, s_bool}

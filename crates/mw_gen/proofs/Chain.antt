@@ -7,7 +7,8 @@ use Rattle.mw_meaning.specs.Arithmetic.{trap, bound, stuck}
 use Rattle.mw_meaning.specs.KernelMeaning as k
 use Rattle.mw_meaning.specs.KernelMeaning.{kernel_evaluation, kernel_meaning, labelled}
 use Rattle.mw_meaning.specs.StagedMeaning.{kernel_argument, argument_words, call_of as kept_call}
-use Rattle.mw_meaning.specs.StandingFor.{IsArgument, leaves}
+use Rattle.mw_meaning.specs.StandingFor.{leaves}
+use Rattle.mw_meaning.specs.GroundValues.{IsArgument}
 use Rattle.mw_wasm.specs.Syntax.{PureModule}
 use Rattle.mw_wasm.specs.Store.{Memory}
 use Rattle.mw_wasm.specs.Execution.{End, ended}

@@ -10,10 +10,11 @@ use Rattle.mw_meaning.specs.Arithmetic.{Reason, trap, bound, stuck}
 use Rattle.mw_meaning.specs.KernelMeaning as k
 use Rattle.mw_meaning.specs.KernelMeaning.{kernel_meaning}
 use Rattle.mw_meaning.specs.StagedMeaning.{kernel_argument, argument_words, call_of}
-use Rattle.mw_meaning.specs.StandingFor.{AnswersAs, IsArgument, Call, AreCalls, IfEnded, CallsAnswer, CallsAfter}
-use Rattle.mw_meaning.specs.StandingFor.{CallsMean, StandsFor}
+use Rattle.mw_meaning.specs.StandingFor.{AnswersAs, Call, AreCalls, IfEnded, CallsAnswer, CallsAfter, CallsMean}
+use Rattle.mw_meaning.specs.StandingFor.{StandsFor}
+use Rattle.mw_meaning.specs.GroundValues.{IsArgument}
 use Rattle.mw_meaning.specs.TypingLaws.{KernelIsNotStuck}
-use Rattle.mw_meaning.proofs.Straying.{argument_typed}
+use Rattle.mw_meaning.proofs.GroundValues.{ground-typed}
 use Rattle.mw_meaning.proofs.KernelTyping.{none, Has as TypedValue, KernelSafe, closed_code_safe, kernel_call_safe}
 use Rattle.mw_meaning.proofs.KernelTyping.{kernel_meaning_never_stuck}
 use Rattle.mw_wasm.specs.Syntax.{PureModule}
@@ -130,7 +131,7 @@ calls_going c s t typed n f l words e w m a =
     let has : TypedValue [] [] none (kernel_type (to s t)) f =
     value_safe (kernel_meaning n 0 c) f l words (closed_code_safe c 0 (kernel_type (to s t)) n 0 typed.is_code
     typed.typed) e in
-    not_stuck (kernel_call_safe [] [] none s t f words w m [] has.0 has.1 (argument_typed s w a))
+    not_stuck (kernel_call_safe [] [] none s t f words w m [] has.0 has.1 (ground-typed _ s w a))
 
 -- Typed code, whose functions stand in t from number o on: an end of `init` answers as the code does, and then each
 -- list of calls.

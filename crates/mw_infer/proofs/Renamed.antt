@@ -7,10 +7,10 @@ use Rattle.mw_term.specs.Typing.{TopLevel, Typed, t_num, t_truth, t_var, t_let, 
 use Rattle.mw_term.specs.Typing.{t_cond, t_pair, t_fst, t_snd, t_prim, t_bracket, t_escape, t_run, t_close, t_open}
 use Rattle.mw_term.specs.Typing.{t_lift, t_lift_b, t_done, Valued, v_int, v_bool, v_pair, v_function, v_recursive}
 use Rattle.mw_term.specs.Typing.{v_code, v_closed, v_kept}
-use Rattle.mw_term.proofs.Renaming.{rename_type, rename_level, rename_entry, rename_all, rename_entry-entry}
-use Rattle.mw_term.proofs.Renaming.{rename_type-plain, IsPlain-rename_type, IsFormed-rename_type, Fits-rename_type}
-use Rattle.mw_term.proofs.Renaming.{rename_type-kernel_type, rename_type-primitive_type, rename_all-apart, changed}
-use Rattle.mw_term.proofs.Renaming.{changed-here, changed-apart, top_of, IsAbsent-above}
+use Rattle.mw_term.proofs.Classifiers.{rename_type, rename_level, rename_entry, rename_all, rename_entry-entry}
+use Rattle.mw_term.proofs.Classifiers.{rename_type-plain, IsPlain-rename_type, IsFormed-rename_type, Fits-rename_type}
+use Rattle.mw_term.proofs.Classifiers.{rename_type-kernel_type, rename_type-primitive_type, rename_all-apart, changed}
+use Rattle.mw_term.proofs.Classifiers.{changed-here, changed-apart, top_of, IsAbsent-above}
 
 get-renamed : (r : ℕ → ℕ) (g : List Entry) (i : ℕ) (x : Entry) → slice_get g i ≡ Some x → slice_get (rename_all r g) i
     ≡ Some (rename_entry r x)

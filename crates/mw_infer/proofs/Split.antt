@@ -3,7 +3,7 @@
 use Rattle.std.proofs.Common.{◌≡◌, ℕ, zero, suc, ◌+◌, ◌*◌, List, [], ◌∷◌, map, refl, ap, arith}
 use Rattle.mw_term.specs.Types.{TermType, int_type, bool_type, pair_type, function_type, code_type, closed_type}
 use Rattle.mw_term.specs.Types.{IsAbsentIn, IsAbsent}
-use Rattle.mw_term.proofs.Renaming.{rename_type}
+use Rattle.mw_term.proofs.Classifiers.{rename_type}
 use Rattle.mw_types.specs.Types.{TypeExpression, int_ty, bool_ty, unknown, pair_ty, function_ty, code_ty, closed_ty}
 use Rattle.mw_types.specs.Types.{Assignment, value, Substitution, after}
 use Rattle.mw_infer.specs.ItemEquations.{Slot, plain_slot, quoted_slot, Close}

@@ -23,14 +23,14 @@ use Rattle.mw_wasm.specs.Syntax.{PureModule}
 use Rattle.mw_wasm.specs.Views.{module_of}
 use Rattle.mw_meaning.specs.Arithmetic.{trap, bound, stuck}
 use Rattle.mw_meaning.specs.KernelMeaning.{Ended, gives, stops, kernel_meaning}
-use Rattle.mw_meaning.specs.OutcomeLaws.{HasGroundType}
+use Rattle.mw_meaning.specs.GroundValues.{HasGroundType, IsArgument, kernel_value}
 use Rattle.mw_meaning.specs.StagedMeaning.{kernel_argument, argument_words, call_of}
-use Rattle.mw_meaning.specs.StandingFor.{IsWord, truth_number, AnswersAs, IsArgument, Call, AreCalls, IfEnded}
+use Rattle.mw_meaning.specs.StandingFor.{IsWord, truth_number, AnswersAs, Call, AreCalls, IfEnded}
 use Rattle.mw_meaning.specs.StandingFor.{CallsAnswer, CallsAfter, MeansKernel, StandsFor}
 use Rattle.mw_meaning.specs.Shapes.{IsWordOf, in_init}
 use Rattle.mw_meaning.proofs.KernelTyping.{KernelSafe, Has, none, kernel_call_safe, safe_makes}
-use Rattle.mw_meaning.proofs.Straying.{word_of, answers_no_stray, argument_typed, kernel_safe, one_number}
-use Rattle.mw_meaning.proofs.Straying.{standing_is_not_stray}
+use Rattle.mw_meaning.proofs.GroundValues.{ground-typed}
+use Rattle.mw_meaning.proofs.StrayModules.{word_of, answers_no_stray, kernel_safe, one_number, standing_is_not_stray}
 use Rattle.mw_machine.specs.declared.kernels.Ran.{Ran}
 use Rattle.mw_machine.specs.declared.kernels.Ran.TheVariants as ran
 use Rattle.mw_kernel.specs.declared.fault.RunFault.{RunFault}
@@ -38,7 +38,7 @@ use Rattle.mw_kernel.specs.declared.fault.RunFault.TheVariants as fault
 use Rattle.mw_kernel.specs.declared.running.Began.{Began}
 use Rattle.mw_kernel.specs.declared.running.Began.TheVariants as began
 use Rattle.mw_kernel.specs.RunningStates.{RunningState, IsRunnable, store_of}
-use Rattle.mw_kernel.specs.KernelAnswers.{kernel_value, EndsWithValue, EndsByTrap, EndsAtBound, IsKeptAs, IsBeganAs}
+use Rattle.mw_kernel.specs.KernelAnswers.{EndsWithValue, EndsByTrap, EndsAtBound, IsKeptAs, IsBeganAs}
 use Rattle.mw_kernel.specs.KernelAnswers.{IsStartOf, IsCallOf, AnswersStart, AnswersCall, call_end, IsStoreAfter}
 use Rattle.mw_kernel.specs.KernelAnswers.{StoreAfterCall, IsSameFunction, FitsWords, FitsUnlessMemory}
 use Rattle.mw_kernel.specs.KernelMeanings.{IsSameValue, Keeps, IsBeganFrom, IsRanFrom, IsStartMeant, IsCallMeant}
@@ -286,7 +286,7 @@ module _ (r : RunningState) (runnable : IsRunnable r) (v : PureGroundValue) (has
 
   safe : FitsWords v → KernelSafe units (Has [] [] none (ground_type r.result)) a
   safe fits = kernel_call_safe [] [] none r.argument r.result f words (ground_value v) units [] keeps.closed keeps.typed
-      (argument_typed r.argument (ground_value v) (is_argument r.argument v has fits))
+      (ground-typed _ r.argument (ground_value v) (is_argument r.argument v has fits))
 
   at_answer : (answer : Result Ran RunFault) → FitsUnlessMemory answer v
       → IsCallOf answer r.result (call_end r runnable.call.index v units) → IsCallMeant answer a

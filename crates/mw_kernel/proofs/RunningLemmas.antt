@@ -4,7 +4,7 @@ use Rattle.std.proofs.Common.{subst, arith}
 use Rattle.std.specs.Prelude.{codes}
 use Rattle.mw_term.specs.Terms.{GroundType, KernelType, PureGroundValue, ground_value}
 use Rattle.mw_term.specs.declared.value.Limit.TheVariants.{Fuel, Heap, KernelSize}
-use Rattle.mw_meaning.specs.OutcomeLaws.{HasGroundType}
+use Rattle.mw_meaning.specs.GroundValues.{HasGroundType}
 use Rattle.mw_meaning.specs.Shapes.{Exports, HasShape, call_type, init_type}
 use Rattle.mw_meaning.specs.StandingFor.{leaves}
 use Rattle.mw_wasm.specs.declared.modules.Module.{Module}

@@ -1,10 +1,10 @@
 -- Bad answers come of stray modules, and functions that are in play stay so.
 use Rattle.std.proofs.Common.{◌≡◌, ℕ, [], ◌∷◌, Result, Ok, Err, refl, sym, ap, subst}
 use Rattle.mw_term.specs.Terms.{GroundType, KernelType, PureGroundValue, of_ground, to, ground_value, ground_value_of}
-use Rattle.mw_meaning.specs.OutcomeLaws.{HasGroundType}
+use Rattle.mw_meaning.specs.GroundValues.{HasGroundType}
 use Rattle.mw_meaning.specs.Plays.{HasPlayed}
 use Rattle.mw_meaning.specs.Shapes.{HasShape, in_init}
-use Rattle.mw_meaning.proofs.Playing.{plays_begin, plays_on, stray_play}
+use Rattle.mw_meaning.proofs.Plays.{plays_begin, plays_on, stray_play}
 use Rattle.mw_wasm.specs.declared.modules.Module.{Module}
 use Rattle.mw_wasm.specs.declared.values.Value.TheVariants.{I32, I64}
 use Rattle.mw_wasm.specs.Execution.{End, ended, trapped, spent, lost}

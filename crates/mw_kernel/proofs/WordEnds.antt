@@ -6,9 +6,9 @@ use Rattle.mw_term.specs.Terms.{GroundType, PureGroundValue, base, product, int,
 use Rattle.mw_term.specs.declared.term.Base.TheVariants.{Int, Bool as Truth}
 use Rattle.mw_term.specs.declared.value.Limit.TheVariants.{Fuel, Heap, KernelSize}
 use Rattle.mw_term.specs.declared.value.TrapKind.TheVariants as kind
-use Rattle.mw_meaning.specs.OutcomeLaws.{HasGroundType}
+use Rattle.mw_meaning.specs.GroundValues.{HasGroundType, IsArgument}
 use Rattle.mw_meaning.specs.Shapes.{leaf_count}
-use Rattle.mw_meaning.specs.StandingFor.{IsArgument, leaves}
+use Rattle.mw_meaning.specs.StandingFor.{leaves}
 use Rattle.mw_wasm.specs.declared.modules.Func.{Func}
 use Rattle.mw_wasm.specs.declared.modules.Module.{Module}
 use Rattle.mw_wasm.specs.declared.values.Trap.{Trap}
@@ -183,12 +183,7 @@ leaf_types (base Int) (int z) h = refl
 leaf_types (base Truth) (bool b) h = refl
 leaf_types (product s t) (both v w) h = map_both (leaves (ground_value v)) (leaves (ground_value w))
     ∙ (rw (leaf_types s v h.0, leaf_types t w h.1) refl ∙ sym (replicate_sum (leaf_count s) (leaf_count t) i64))
-leaf_types (base Int) (bool b) h = absurd h
-leaf_types (base Int) (both v w) h = absurd h
-leaf_types (base Truth) (int z) h = absurd h
-leaf_types (base Truth) (both v w) h = absurd h
-leaf_types (product s t) (int z) h = absurd h
-leaf_types (product s t) (bool b) h = absurd h
+leaf_types _ _ h = absurd h
 
 pub argument_types : (s : GroundType) (v : PureGroundValue) (r : ℕ) (args : List WasmValue) → HasGroundType s v
     → args ≡ I64 r ∷ leaves (ground_value v) → map type_of_value args ≡ i64 ∷ replicate (leaf_count s) i64
@@ -200,9 +195,4 @@ pub is_argument : (s : GroundType) (v : PureGroundValue) → HasGroundType s v �
 is_argument (base Int) (int z) h f = f
 is_argument (base Truth) (bool b) h f = tt
 is_argument (product s t) (both v w) h f = (is_argument s v h.0 f.0, is_argument t w h.1 f.1)
-is_argument (base Int) (bool b) h f = absurd h
-is_argument (base Int) (both v w) h f = absurd h
-is_argument (base Truth) (int z) h f = absurd h
-is_argument (base Truth) (both v w) h f = absurd h
-is_argument (product s t) (int z) h f = absurd h
-is_argument (product s t) (bool b) h f = absurd h
+is_argument _ _ h f = absurd h

@@ -7,9 +7,9 @@ use Rattle.mw_term.specs.declared.value.Limit.{Limit}
 use Rattle.mw_term.specs.declared.value.Limit.TheVariants.{Fuel, Heap}
 use Rattle.mw_term.specs.declared.value.TrapKind.{TrapKind}
 use Rattle.mw_term.specs.declared.value.TrapKind.TheVariants as kind
-use Rattle.mw_meaning.specs.OutcomeLaws.{HasGroundType}
+use Rattle.mw_meaning.specs.GroundValues.{HasGroundType, IsArgument}
 use Rattle.mw_meaning.specs.Shapes.{IsWordOf, IsWordOfKernel, IsStrayEnd}
-use Rattle.mw_meaning.specs.StandingFor.{IsWord, IsArgument, leaves}
+use Rattle.mw_meaning.specs.StandingFor.{IsWord, leaves}
 use Rattle.mw_wasm.specs.declared.modules.Module.{Module}
 use Rattle.mw_wasm.specs.declared.values.Value.TheVariants.{I64}
 use Rattle.mw_wasm.specs.declared.values.Trap.TheVariants as traps
@@ -24,12 +24,6 @@ use Rattle.mw_kernel.specs.declared.fault.RunFault.TheVariants as fault
 use Rattle.mw_kernel.specs.declared.running.Began.{Began}
 use Rattle.mw_kernel.specs.declared.running.Began.TheVariants as began
 use Rattle.mw_kernel.specs.RunningStates.{RunningState, store_of}
-
--- a ground value as a kernel has it
-abbrev pub kernel_value : PureGroundValue → KernelValue
-kernel_value (int n) = int n
-kernel_value (bool b) = bool b
-kernel_value (both v w) = both (kernel_value v) (kernel_value w)
 
 -- the integers of a ground value have 64 bits
 abbrev pub FitsWords : PureGroundValue → Type 0

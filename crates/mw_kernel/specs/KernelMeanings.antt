@@ -21,7 +21,7 @@ use Rattle.mw_kernel.specs.declared.fault.RunFault.TheVariants as fault
 use Rattle.mw_kernel.specs.declared.running.Began.{Began}
 use Rattle.mw_kernel.specs.declared.running.Began.TheVariants as began
 use Rattle.mw_kernel.specs.RunningStates.{RunningState, store_of}
-use Rattle.mw_kernel.specs.KernelAnswers.{kernel_value}
+use Rattle.mw_meaning.specs.GroundValues.{kernel_value}
 
 -- The value is the kernel's: its integers are those of 64 bits with the same words, and so the same where the kernel's
 -- have 64 bits.

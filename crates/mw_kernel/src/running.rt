@@ -3,7 +3,7 @@
 ghost use Rattle.std.specs.Prelude.{◌≡◌, ◌≤◌};
 ghost use Rattle.std.specs.Arc.{arc_value};
 ghost use Rattle.mw_term.specs.Terms.{ground_of, ground_value_of, kernel_type_of};
-ghost use Rattle.mw_meaning.specs.OutcomeLaws.{HasGroundType};
+ghost use Rattle.mw_meaning.specs.GroundValues.{HasGroundType};
 ghost use Rattle.mw_meaning.specs.Shapes.{HasShape};
 ghost use Rattle.mw_wasm.specs.Views.{module_of};
 ghost use Rattle.mw_wasm.specs.Validity.{IsValid};

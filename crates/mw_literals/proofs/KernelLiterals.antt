@@ -7,20 +7,19 @@ use Rattle.std.proofs.Math.Nat.{div-le_self, div-lt_self}
 use Rattle.std.proofs.lemmas.Bool.{eqb-false}
 use Rattle.std.proofs.lemmas.Int.{SFits-int_wrap}
 use Rattle.mw_term.specs.Terms.{Expression, KernelTerm, KernelValue, num, truth, var, fun, fix, app, bind, cond, pair}
-use Rattle.mw_term.specs.Terms.{fst, snd}
-use Rattle.mw_term.specs.Terms.{prim, done, int, bool, both, function, recursive}
+use Rattle.mw_term.specs.Terms.{fst, snd, prim, done, int, bool, both, function, recursive}
 use Rattle.mw_term.specs.declared.term.Primitive.{Primitive as Prim}
 use Rattle.mw_term.specs.declared.term.Primitive.TheVariants.{Add, Sub, Mul, Div, Mod, Eq, Lt, Le}
 use Rattle.mw_term.specs.declared.value.TrapKind.TheVariants.{Overflow}
 use Rattle.mw_term.specs.Substitution.{instantiate, pick}
 use Rattle.mw_meaning.specs.Arithmetic.{PrimitiveResult, number, fact, trapped, compute, quotient, remainder}
 use Rattle.mw_meaning.specs.KernelMeaning.{Ended, gives, stops, and_then, taking, with_room, spending, entered, chosen}
-use Rattle.mw_meaning.specs.KernelMeaning.{first_of_two, second_of_two}
-use Rattle.mw_meaning.specs.KernelMeaning.{result_of, computed, kernel_step, kernel_evaluation, kernel_meaning}
-use Rattle.mw_meaning.specs.KernelMeaning.{kernel_size, labelled}
+use Rattle.mw_meaning.specs.KernelMeaning.{first_of_two, second_of_two, result_of, computed, kernel_step}
+use Rattle.mw_meaning.specs.KernelMeaning.{kernel_evaluation, kernel_meaning, kernel_size, labelled}
 use Rattle.mw_meaning.specs.StagedMeaning.{call_of}
 use Rattle.mw_meaning.proofs.KernelFixedPoint.{AtMost, fill_size, kernel_evaluation-is, kernel_evaluation_at_most}
 use Rattle.mw_meaning.proofs.Inductions.{kernel_induction}
+use Rattle.mw_meaning.proofs.SimplifiedNodes.{IfNumber}
 use Rattle.mw_literals.specs.Literals.{HasShortLiterals, HasShortKernelTerm, HasShortKernelValue}
 
 -- labels keep literals
@@ -67,9 +66,7 @@ instantiate_short (done w) k v x y = x
 
 -- a primitive's number has 64 bits
 abbrev pub IsShortResult : PrimitiveResult → Type 0
-IsShortResult (number z) = FitsSigned w64 z
-IsShortResult (fact b) = Unit {0}
-IsShortResult (trapped t) = Unit {0}
+IsShortResult r = IfNumber (FitsSigned w64) r
 
 negated : (r a : ℕ) → r ≤ suc a → mag (neg_ℤ (pos r)) ≤ a
 negated zero a le = omega arith

@@ -1,5 +1,4 @@
 pub mod KernelLiterals
-pub mod SubstitutedLiterals
 pub mod SimplifiedLiterals
 pub mod StagedLiterals
 pub mod SourceLiterals

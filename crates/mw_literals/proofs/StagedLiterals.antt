@@ -2,32 +2,29 @@
 use Rattle.std.proofs.Common.{◌≡◌, ℕ, zero, suc, ◌≤◌, ◌<◌, Bool, true, false, List, [], Option, Some, None, refl, arith}
 use Rattle.std.specs.Prelude.{slice_get}
 use Rattle.mw_term.specs.Limits.{within_limits}
-use Rattle.mw_term.specs.Terms.{Expression, Value, KernelValue, KernelType, of_ground, to}
-use Rattle.mw_term.specs.Terms.{num, truth, var, glob, fun, fix, app, bind, cond, pair, fst, snd, prim}
-use Rattle.mw_term.specs.Terms.{bracket, escape, run, close, opened, lift, lift_b, done, int, bool, both, function}
-use Rattle.mw_term.specs.Terms.{recursive, code, kept, size}
+use Rattle.mw_term.specs.Terms.{Expression, Value, KernelValue, KernelType, of_ground, to, num, truth, var, glob, fun}
+use Rattle.mw_term.specs.Terms.{fix, app, bind, cond, pair, fst, snd, prim, bracket, escape, run, close, opened, lift}
+use Rattle.mw_term.specs.Terms.{lift_b, done, int, bool, both, function, recursive, code, kept, size}
 use Rattle.mw_term.specs.declared.term.Primitive.{Primitive as Prim}
 use Rattle.mw_term.specs.Substitution.{substitute, shift_value}
-use Rattle.mw_term.proofs.Substituting.{size-substitute}
+use Rattle.mw_term.proofs.Substitution.{size-substitute}
 use Rattle.mw_meaning.specs.declared.mode.Mode.{Mode}
 use Rattle.mw_meaning.specs.Arithmetic.{PrimitiveResult, number, fact, trapped, compute}
 use Rattle.mw_meaning.specs.KernelMeaning.{Ended, gives as made, stops as ends, kernel_meaning}
 use Rattle.mw_meaning.specs.Simplification.{in_mode}
 use Rattle.mw_meaning.specs.StagedMeaning.{Answer, gives, stops, and_then, Level, live, quoted, ResultAt, Runs}
 use Rattle.mw_meaning.specs.StagedMeaning.{value_or_stuck, spends, applied, chosen, first_of_two, second_of_two}
-use Rattle.mw_meaning.specs.StagedMeaning.{result_of}
-use Rattle.mw_meaning.specs.StagedMeaning.{computed, lifted, lifted_b, spliced, measured, measured_run, live_step}
-use Rattle.mw_meaning.specs.StagedMeaning.{quoted_step, evaluation}
-use Rattle.mw_meaning.specs.StagedMeaning.{kernel_argument, ground_result, argument_words, run_ended, call_ended}
-use Rattle.mw_meaning.specs.StagedMeaning.{run_of, call_of, outside, staged}
+use Rattle.mw_meaning.specs.StagedMeaning.{result_of, computed, lifted, lifted_b, spliced, measured, measured_run}
+use Rattle.mw_meaning.specs.StagedMeaning.{live_step, quoted_step, evaluation, kernel_argument, ground_result}
+use Rattle.mw_meaning.specs.StagedMeaning.{argument_words, run_ended, call_ended, run_of, call_of, outside, staged}
 use Rattle.mw_meaning.specs.TypingLaws.{IfGives}
 use Rattle.mw_meaning.proofs.Inductions.{staged_induction}
 use Rattle.mw_meaning.proofs.Outsides.{fair, staged_is}
 use Rattle.mw_meaning.proofs.StagedFixedPoint.{AtMost, evaluation_at_most}
-use Rattle.mw_literals.specs.Literals.{HasShortLiterals, HasShortValue, HasShortKernelValue}
+use Rattle.mw_literals.specs.Literals.{short_rule, HasShortLiterals, HasShortValue, HasShortKernelValue}
 use Rattle.mw_literals.proofs.KernelLiterals.{IsShortResult, compute_short, EndsShort, meaning_short, call_short}
 use Rattle.mw_literals.proofs.SimplifiedLiterals.{in_mode_short}
-use Rattle.mw_literals.proofs.SubstitutedLiterals.{shift_value_short, substitute_short}
+use Rattle.mw_term.proofs.EachNode.{each-shift_value, each-substitute}
 
 -- what an evaluation gives at a level is short
 abbrev pub IsShortAt : (m : Level) → ResultAt m → Type 0
@@ -185,11 +182,12 @@ module _ (mode : Mode) (names : List Value) (short_names : AreShortNames names) 
       → HasShortValue u → HasShortValue w
       → Keeps HasShortValue (applied (outside mode names) u w m s (λ l e. evaluation (outside mode names) live l s e))
   applied_short n m s (function e) w le below x y = spending_short n m s _ le λ k lt.
-      below k _ lt s (substitute_short e zero w x y)
+      below k _ lt s (each-substitute short_rule e zero w x y)
   applied_short n m s (recursive e) w le below x y =
       let itself = shift_value (recursive e) zero in
-      let entered = substitute_short e 1 itself x (shift_value_short (recursive e) zero x) in
-      spending_short n m s _ le λ k lt. below k _ lt s (substitute_short (substitute e 1 itself) zero w entered y)
+      let entered = each-substitute short_rule e 1 itself x (each-shift_value short_rule (recursive e) zero x) in
+      spending_short n m s _ le λ k lt.
+      below k _ lt s (each-substitute short_rule (substitute e 1 itself) zero w entered y)
   applied_short n m s (kept k f h) w le below x y =
       let called = called_short f h (kernel_argument w) (argument_words w) m x (argument_short w y) in
       call_ended_short (call_of f h (kernel_argument w) (argument_words w) m) s called
@@ -223,7 +221,7 @@ module _ (mode : Mode) (names : List Value) (short_names : AreShortNames names) 
   live_short n (bind d e) below parts s x =
       then_keeps (most live n s d) (parts live n d (omega arith) (omega arith) s x.0) λ v m s le y.
       parts live m (substitute e zero v) le (omega (arith, size-substitute e zero v)) s
-      (substitute_short e zero v x.1 y)
+      (each-substitute short_rule e zero v x.1 y)
   live_short n (cond c a b) below parts s x =
       then_keeps (most live n s c) (parts live n c (omega arith) (omega arith) s x.0) λ v m s le y.
       chosen_short v a b s _ (parts live m a le (omega arith) s x.1) (parts live m b le (omega arith) s x.2)

@@ -136,9 +136,6 @@ module _ (tops names : List TopLevel) (r : Naming) (IsLet : ℕ → Type 0)
   at_entries {g} {x} {y} {z} {w} {e = e} {t = t} q p h = subst (λ x. Typed names (x ∷ w ∷ g) live e t) q
       (subst (λ z. Typed names (x ∷ z ∷ g) live e t) p h)
 
-  at_type : {g : List Entry} {e : Expression} {s t : TermType} → s ≡ t → Typed names g live e s → Typed names g live e t
-  at_type {g} {e} q h = subst (λ t. Typed names g live e t) q h
-
   pub erased_typed : {g : List Entry} {m : Level} {e : Expression} {t : TermType} (k : List Entry) (P : ℕ → Type 0)
       → ((i : ℕ) (t : KernelType) → P i → slice_get tops i ≡ Some (kernel_item t) → KernelStays r k i t) → IsSource e
       → AllNames P (plain e) → Typed tops g m e t → Typed names (plain_entries g ++ k) live

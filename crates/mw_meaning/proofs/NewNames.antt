@@ -143,11 +143,6 @@ pub kernel_room : (names : List NewName) (i d n : ℕ) → slice_get names i ≡
 kernel_room [] i d n h r = absurd (cc)
 kernel_room (x ∷ names) i d n h r = let p = kernel_most (x ∷ names) i n h in omega arith
 
--- less of a term, not further in, has room too
-pub room-less : (names : List NewName) (d e z y : ℕ) → e + 2 * y ≤ d + 2 * z → HasRoom names d z → HasRoom names e y
-room-less [] d e z y le r = tt
-room-less (x ∷ names) d e z y le r = omega arith
-
 -- no kernel has more kernels behind it than there are
 most_behind-new_names : (items : List Definition) (l : ℕ) → most_behind (new_names items l) ≤ kernels_in items
 most_behind-new_names [] l = omega arith

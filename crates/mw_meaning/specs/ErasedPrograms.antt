@@ -1,8 +1,8 @@
 -- The erased program: its lets are the program's, numbered among themselves, and its kernels are lets round main.
-use Rattle.std.specs.Prelude.{ℕ, zero, suc, ◌+◌, ◌<◌, ◌≡◌, length, map, List, [], ◌∷◌}
+use Rattle.std.specs.Prelude.{ℕ, zero, suc, ◌+◌, ◌<◌, ◌≡◌, false, length, map, List, [], ◌∷◌}
 use Rattle.std.specs.List.{flat_map}
-use Rattle.mw_term.specs.Terms.{Expression, Value, PureGroundValue, num, truth, var, glob, fun, fix, app, bind, cond}
-use Rattle.mw_term.specs.Terms.{pair, fst, snd, prim}
+use Rattle.mw_term.specs.Terms.{Expression, Value, PureGroundValue}
+use Rattle.mw_term.specs.EachNode.{NodeRule, EachNode}
 use Rattle.mw_term.specs.Sources.{IsSource}
 use Rattle.mw_term.specs.Programs.{Definition, value as defines, kernel, PureProgram}
 use Rattle.mw_term.specs.declared.program.Item.{Item}
@@ -89,22 +89,18 @@ pub record IsSourceProgram (p : PureProgram) : Type 0 where
   pub items : AreSourceItems p.items
   pub body : IsSource p.body
 
--- no form of staging
+-- no form of staging, in a term as it is written
+abbrev pub plain_rule : NodeRule
+plain_rule = record {
+  integer = λ n. Unit {0};
+  name = λ i. Unit {0};
+  kept_function = λ f. ⊥;
+  has_staging = false;
+  has_values = false;
+}
+
 abbrev pub HasNoStaging : Expression → Type 0
-HasNoStaging (num n) = Unit {0}
-HasNoStaging (truth b) = Unit {0}
-HasNoStaging (var i) = Unit {0}
-HasNoStaging (glob i) = Unit {0}
-HasNoStaging (fun e) = HasNoStaging e
-HasNoStaging (fix e) = HasNoStaging e
-HasNoStaging (app f a) = HasNoStaging f × HasNoStaging a
-HasNoStaging (bind d e) = HasNoStaging d × HasNoStaging e
-HasNoStaging (cond c a b) = HasNoStaging c × HasNoStaging a × HasNoStaging b
-HasNoStaging (pair a b) = HasNoStaging a × HasNoStaging b
-HasNoStaging (fst e) = HasNoStaging e
-HasNoStaging (snd e) = HasNoStaging e
-HasNoStaging (prim p a b) = HasNoStaging a × HasNoStaging b
-HasNoStaging _ = ⊥
+HasNoStaging e = EachNode plain_rule e
 
 -- P holds of each name in the term
 abbrev pub AllNames : (ℕ → Type 0) → PlainTerm → Type 0

@@ -1,5 +1,6 @@
 pub mod Arithmetic
 pub mod KernelMeaning
+pub mod GroundValues
 pub mod Simplification
 pub mod StagedMeaning
 pub mod Outcomes

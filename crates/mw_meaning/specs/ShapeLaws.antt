@@ -7,7 +7,8 @@ use Rattle.mw_wasm.specs.Syntax.{PureModule}
 use Rattle.mw_wasm.specs.Store.{Store}
 use Rattle.mw_wasm.specs.Execution.{ended}
 use Rattle.mw_wasm.specs.Instances.{exported, instantiated, invoked}
-use Rattle.mw_meaning.specs.StandingFor.{StandsFor, IsArgument, leaves}
+use Rattle.mw_meaning.specs.StandingFor.{StandsFor, leaves}
+use Rattle.mw_meaning.specs.GroundValues.{IsArgument}
 use Rattle.mw_meaning.specs.Shapes.{leaf_count, IsWordOf, IsStrayEnd, IsStray}
 use Rattle.mw_meaning.specs.Plays.{HasPlayed}
 

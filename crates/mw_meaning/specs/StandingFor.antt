@@ -1,13 +1,13 @@
 -- When a module of WebAssembly means a kernel's code.
-use Rattle.std.specs.Prelude.{ℕ, ◌+◌, ◌≡◌, FitsSigned, Bool, true, false, IsTrue, List, [], ◌∷◌, ◌++◌, Some, Ok, codes}
+use Rattle.std.specs.Prelude.{ℕ, ◌+◌, ◌≡◌, Bool, true, false, IsTrue, List, [], ◌∷◌, ◌++◌, Some, Ok, codes}
 use Rattle.std.specs.Int.{w64, cast_unsigned}
-use Rattle.mw_term.specs.Terms.{Expression, Value, KernelValue, KernelType, GroundType, base, product, of_ground, to}
-use Rattle.mw_term.specs.Terms.{int, bool, both, function, recursive}
-use Rattle.mw_term.specs.declared.term.Base.TheVariants.{Int, Bool as Truth}
+use Rattle.mw_term.specs.Terms.{Expression, Value, KernelValue, KernelType, GroundType, of_ground, to, int, bool}
+use Rattle.mw_term.specs.Terms.{both, function, recursive}
 use Rattle.mw_term.specs.declared.value.TrapKind.TheVariants as kind
 use Rattle.mw_term.specs.declared.value.Limit.TheVariants.{Fuel, Heap}
 use Rattle.mw_term.specs.Typable.{HasKernelType}
 use Rattle.mw_meaning.specs.Arithmetic.{trap, bound}
+use Rattle.mw_meaning.specs.GroundValues.{IsArgument}
 use Rattle.mw_meaning.specs.KernelMeaning.{Ended, gives, stops, kernel_meaning}
 use Rattle.mw_meaning.specs.StagedMeaning.{kernel_argument, argument_words, call_of}
 use Rattle.mw_wasm.specs.declared.values.Value.{Value as WasmValue}
@@ -47,13 +47,6 @@ AnswersAs (stops (trap kind.Overflow)) (trapped traps.Overflow st) = Unit {0}
 AnswersAs (stops (bound Heap)) (trapped traps.OutOfBounds st) = Unit {0}
 AnswersAs (stops (bound Fuel)) spent = Unit {0}
 AnswersAs _ _ = ⊥
-
--- an argument of a ground type, with integers of 64 bits
-abbrev pub IsArgument : GroundType → Value → Type 0
-IsArgument (base Int) (int z) = FitsSigned w64 z
-IsArgument (base Truth) (bool b) = Unit {0}
-IsArgument (product s t) (both v w) = IsArgument s v × IsArgument t w
-IsArgument _ _ = ⊥
 
 -- the leaves of an argument, from left to right
 abbrev pub leaves : Value → List WasmValue

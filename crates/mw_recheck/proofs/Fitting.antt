@@ -4,7 +4,7 @@ use Rattle.std.specs.Prelude.{slice_get}
 use Rattle.mw_term.specs.Types.{Level, live, under, Entry, value as at_live, quoted, entry}
 use Rattle.mw_term.specs.FlatTypes.{flat_type, formed_type}
 use Rattle.mw_term.proofs.FlatTypes.{fitted}
-use Rattle.mw_term.proofs.Renaming.{changed, changed-apart}
+use Rattle.mw_term.proofs.Classifiers.{changed, changed-apart}
 use Rattle.mw_types.specs.Types.{TypeExpression, int_ty, bool_ty, unknown, pair_ty, function_ty, code_ty, closed_ty}
 use Rattle.mw_types.specs.Types.{Assignment, value}
 use Rattle.mw_types.proofs.Expressions.{level_of}

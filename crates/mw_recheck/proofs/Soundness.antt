@@ -8,7 +8,7 @@ use Rattle.mw_term.specs.Typing.{TopLevel, let_item, kernel_item, Typed, t_num, 
 use Rattle.mw_term.specs.Typing.{t_fix, t_app, t_bind, t_cond, t_pair, t_fst, t_snd, t_prim, t_bracket, t_escape, t_run}
 use Rattle.mw_term.specs.Typing.{t_close, t_open, t_lift, t_lift_b}
 use Rattle.mw_term.proofs.TypesFormed.{IsPlain-kernel_type}
-use Rattle.mw_term.proofs.Renaming.{top_of, IsAbsent-above, changed-here}
+use Rattle.mw_term.proofs.Classifiers.{top_of, IsAbsent-above, changed-here}
 use Rattle.mw_term.specs.FlatTypes.{formed_type}
 use Rattle.mw_term.proofs.FlatTypes.{IsPlain-flat_type, flat_type-plain, formed_type-plain}
 use Rattle.mw_term.proofs.FlatTypes.{fitted, fitted-pair, fitted-function, fitted-plain, fitted-primitive}

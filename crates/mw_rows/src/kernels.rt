@@ -6,7 +6,7 @@
 
 ghost use Rattle.std.specs.Prelude.{◌≡◌, ◌<◌, IfOk, IfSome};
 ghost use Rattle.mw_term.specs.Terms.{base as base_of, expression_of, ground_of, ground_value_of, kernel_type_of};
-ghost use Rattle.mw_meaning.specs.OutcomeLaws.{HasGroundType};
+ghost use Rattle.mw_meaning.specs.GroundValues.{HasGroundType};
 ghost use Rattle.mw_key.specs.CanonicalText.{IsKernel};
 ghost use Rattle.mw_kernel.specs.KernelAnswers.{HasStartType};
 

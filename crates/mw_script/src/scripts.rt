@@ -3,7 +3,7 @@
 ghost use Rattle.std.specs.Prelude.{◌≡◌, ◌≤◌, ◌<◌, length, false, IfOk, IfSome, slice_get, Some};
 ghost use Rattle.mw_term.specs.Terms.{Expression, GroundType, KernelType, to, expression_of, kernel_type_of, ground_of};
 ghost use Rattle.mw_term.specs.Terms.{ground_value_of};
-ghost use Rattle.mw_meaning.specs.OutcomeLaws.{HasGroundType};
+ghost use Rattle.mw_meaning.specs.GroundValues.{HasGroundType};
 ghost use Rattle.mw_machine.specs.KernelCalls.{IsRunAt, IsCallAt, LeavesAtMost, kept_after, ends_all};
 ghost use Rattle.mw_script.specs.Replies.{IsValueAt, IsStop, IsNoBad, IfBad, IsNoted};
 

@@ -11,8 +11,8 @@ use Rattle.mw_term.specs.Programs.{kernel, PureProgram}
 use Rattle.mw_term.specs.Typable.{HasKernelType}
 use Rattle.std.specs.Prelude.{slice_get}
 use Rattle.mw_meaning.specs.Arithmetic.{trap, bound}
-use Rattle.mw_meaning.specs.Outcomes.{ground_in, code_outcome, value_outcome, measured_code}
-use Rattle.mw_meaning.specs.OutcomeLaws.{HasGroundType}
+use Rattle.mw_meaning.specs.Outcomes.{code_outcome, value_outcome, measured_code}
+use Rattle.mw_meaning.specs.GroundValues.{as_ground, HasGroundType}
 use Rattle.mw_meaning.specs.StagedMeaning.{Answer, gives, stops, Runs}
 use Rattle.mw_region.specs.declared.pool.Id.{Id}
 use Rattle.mw_machine.specs.declared.machine.Machine.{Machine}
@@ -29,6 +29,7 @@ use Rattle.mw_tasks.specs.declared.outcome.MainOutcome.TheVariants as m
 use Rattle.mw_tasks.specs.declared.evaluation.Ended.{Ended}
 use Rattle.mw_tasks.specs.Endings.{EndsAs, IsMeasured}
 use Rattle.mw_tasks.specs.TaskOutcomes.{IsItemAnswer, IsItemOutcome, IsMainAnswer, IsMainOutcome, IfCode, IsCodeOf}
+use Rattle.mw_meaning.proofs.GroundValues.{as_ground-value}
 use Rattle.mw_tasks.proofs.Evaluating.{err_is}
 
 -- the outcome of a kernel item, and of main
@@ -48,15 +49,9 @@ bound_as : (a : Answer Runs Value) (n : Machine) (l : Limit) → IsOutcome (o.Bo
 bound_as (stops (bound b) s) n l h = (h, h)
 bound_as _ n l h = absurd h
 
--- a ground value is the one that its value is
-ground_in_value : (v : PureGroundValue) → ground_in (ground_value v) ≡ Some v
-ground_in_value (int n) = refl
-ground_in_value (bool b) = refl
-ground_in_value (both v w) = rw (ground_in_value v, ground_in_value w) refl
-
 value_as : (a : Answer Runs Value) (n : Machine) (v : GroundValue) → IsOutcome (o.Value v) n a
     → IsMainAnswer (m.Value v) (value_outcome a)
-value_as (gives w left s) n v h = rw (h.0, ground_in_value (ground_value_of v)) refl
+value_as (gives w left s) n v h = rw (h.0, as_ground-value (ground_value_of v)) refl
 value_as (stops why s) n v h = absurd h
 
 -- an evaluation ended with this outcome

@@ -7,9 +7,10 @@ use Rattle.mw_term.specs.Programs.{PureProgram}
 use Rattle.mw_meaning.specs.declared.mode.Mode.{Mode}
 use Rattle.mw_meaning.specs.declared.mode.Mode.TheVariants.{Plain}
 use Rattle.mw_meaning.specs.Outcomes.{names_of_items, names_of_main}
-use Rattle.mw_meaning.specs.OutcomeLaws.{AreCodesOf, HasGroundType}
+use Rattle.mw_meaning.specs.OutcomeLaws.{AreCodesOf}
+use Rattle.mw_meaning.specs.GroundValues.{HasGroundType}
 use Rattle.mw_meaning.specs.StagedMeaning.{Runs, staged, runs}
-use Rattle.mw_meaning.proofs.ComingTo.{names_of_items_are_values}
+use Rattle.mw_meaning.proofs.Outcomes.{names_of_items_are_values}
 use Rattle.mw_machine.specs.declared.kernels.KernelFault.{KernelFault}
 use Rattle.mw_machine.specs.declared.kernels.KernelFault.TheVariants as fault
 use Rattle.mw_machine.specs.declared.machine.Machine.{Machine}

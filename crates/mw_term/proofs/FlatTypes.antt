@@ -5,7 +5,7 @@ use Rattle.mw_term.specs.declared.term.Primitive.TheVariants.{Add, Sub, Mul, Div
 use Rattle.mw_term.specs.Types.{TermType, int_type, bool_type, pair_type, function_type, code_type, closed_type}
 use Rattle.mw_term.specs.Types.{Level, live, under, IsPlain, IsFormed, IsAbsentIn, primitive_type}
 use Rattle.mw_term.specs.FlatTypes.{flat_type, formed_type}
-use Rattle.mw_term.proofs.Renaming.{rename_type}
+use Rattle.mw_term.proofs.Classifiers.{rename_type}
 use Rattle.mw_term.proofs.MovedCode.{IsFormed-plain}
 
 pub IsPlain-flat_type : (t : TermType) → IsPlain (flat_type t)

@@ -1,44 +1,21 @@
 -- One more binder in the environment, with classifiers renamed.
 use Rattle.std.proofs.Common.{ℕ, zero, suc, List, [], ◌∷◌, Some, ap, ◌∙◌, arith}
-use Rattle.mw_term.specs.Terms.{Expression, Value, to, num, truth, var, glob, fun, fix, app, bind, cond, pair, fst, snd}
-use Rattle.mw_term.specs.Terms.{prim, bracket, escape, run, close, opened, lift, lift_b, done}
+use Rattle.mw_term.specs.Terms.{Expression, Value, to}
 use Rattle.mw_term.specs.Substitution.{shift, shift_value}
-use Rattle.mw_term.specs.Closed.{IsCode}
+use Rattle.mw_term.specs.Closed.{code_rule}
 use Rattle.mw_term.specs.Types.{TermType, function_type, Level, Entry}
 use Rattle.mw_term.specs.Typing.{TopLevel, Typed, t_num, t_truth, t_var, t_let, t_kernel, t_fun, t_fix, t_app, t_bind}
 use Rattle.mw_term.specs.Typing.{t_cond, t_pair, t_fst, t_snd, t_prim, t_bracket, t_escape, t_run, t_close, t_open}
 use Rattle.mw_term.specs.Typing.{t_lift, t_lift_b, t_done, Valued, v_int, v_bool, v_pair, v_function, v_recursive}
 use Rattle.mw_term.specs.Typing.{v_code, v_closed, v_kept}
-use Rattle.mw_term.proofs.Closing.{shift-closed, shift-closed_value}
+use Rattle.mw_term.proofs.EachNode.{each-shift}
+use Rattle.mw_term.proofs.ClosedTerms.{shift-closed, shift-closed_value}
 use Rattle.mw_term.proofs.TypedClosed.{Typed-closed, Valued-closed}
-use Rattle.mw_term.proofs.Renaming.{rename_type, rename_level, rename_all, rename_entry-entry, rename_type-plain}
-use Rattle.mw_term.proofs.Renaming.{IsPlain-rename_type, IsFormed-rename_type, Fits-rename_type}
-use Rattle.mw_term.proofs.Renaming.{rename_type-kernel_type, rename_type-primitive_type, same, rename_type-same}
-use Rattle.mw_term.proofs.Renaming.{rename_level-same, rename_all-same, rename_all-apart, changed, changed-here}
-use Rattle.mw_term.proofs.Renaming.{changed-apart, top_of, IsAbsent-above, insert, get-insert}
-
-pub IsCode-shift : (e : Expression) (k : ℕ) → IsCode e → IsCode (shift e k)
-IsCode-shift (num n) k h = h
-IsCode-shift (truth b) k h = h
-IsCode-shift (var i) k h = h
-IsCode-shift (fun e) k h = IsCode-shift e (suc k) h
-IsCode-shift (fix e) k h = IsCode-shift e (suc (suc k)) h
-IsCode-shift (app f a) k h = (IsCode-shift f k h.0, IsCode-shift a k h.1)
-IsCode-shift (bind d e) k h = (IsCode-shift d k h.0, IsCode-shift e (suc k) h.1)
-IsCode-shift (cond c a b) k h = (IsCode-shift c k h.0, IsCode-shift a k h.1, IsCode-shift b k h.2)
-IsCode-shift (pair a b) k h = (IsCode-shift a k h.0, IsCode-shift b k h.1)
-IsCode-shift (fst e) k h = IsCode-shift e k h
-IsCode-shift (snd e) k h = IsCode-shift e k h
-IsCode-shift (prim p a b) k h = (IsCode-shift a k h.0, IsCode-shift b k h.1)
-IsCode-shift (glob i) k h = absurd h
-IsCode-shift (bracket e) k h = absurd h
-IsCode-shift (escape e) k h = absurd h
-IsCode-shift (run q e) k h = absurd h
-IsCode-shift (close at e) k h = absurd h
-IsCode-shift (opened e) k h = absurd h
-IsCode-shift (lift e) k h = absurd h
-IsCode-shift (lift_b e) k h = absurd h
-IsCode-shift (done v) k h = absurd h
+use Rattle.mw_term.proofs.Classifiers.{rename_type, rename_level, rename_all, rename_entry-entry, rename_type-plain}
+use Rattle.mw_term.proofs.Classifiers.{IsPlain-rename_type, IsFormed-rename_type, Fits-rename_type}
+use Rattle.mw_term.proofs.Classifiers.{rename_type-kernel_type, rename_type-primitive_type, same, rename_type-same}
+use Rattle.mw_term.proofs.Classifiers.{rename_level-same, rename_all-same, rename_all-apart, changed, changed-here}
+use Rattle.mw_term.proofs.Classifiers.{changed-apart, top_of, IsAbsent-above, insert, get-insert}
 
 module _ (tops : List TopLevel) where
   mutual
@@ -92,7 +69,7 @@ module _ (tops : List TopLevel) where
     Valued-shift r k x (v_function {s = s} p h) = v_function (IsFormed-rename_type r s p) (Typed-shift r (suc k) x h)
     Valued-shift r k x (v_recursive {s = s} {t = u} p h) = v_recursive (IsFormed-rename_type r (function_type s u) p)
         (Typed-shift r (suc (suc k)) x h)
-    Valued-shift r k x (v_code {c = e} {t = t} p c h) = v_code (IsPlain-rename_type r t p) (IsCode-shift e k c)
+    Valued-shift r k x (v_code {c = e} {t = t} p c h) = v_code (IsPlain-rename_type r t p) (each-shift code_rule e k c)
         (Typed-shift r k x h)
     Valued-shift r k x (v_closed {c = d} {t = t} p c h) =
         rw (rename_type-plain r t p, shift-closed d zero k (omega arith) (Typed-closed zero (omega arith) h))

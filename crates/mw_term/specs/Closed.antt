@@ -1,8 +1,9 @@
 -- Which variables a term may use.
-use Rattle.std.specs.Prelude.{ℕ, zero, suc, ◌<◌}
+use Rattle.std.specs.Prelude.{ℕ, zero, suc, ◌<◌, false}
 use Rattle.mw_term.specs.Terms.{Expression, Value, num, truth, var, glob, fun, fix, app, bind, cond, pair, fst, snd}
 use Rattle.mw_term.specs.Terms.{prim, bracket, escape, run, close, opened, lift, lift_b, done, int, bool, both}
 use Rattle.mw_term.specs.Terms.{function, recursive, code, kept}
+use Rattle.mw_term.specs.EachNode.{NodeRule, EachNode}
 
 -- every free variable of the term is below k
 abbrev mutual
@@ -43,25 +44,14 @@ abbrev pub IsClosed : Expression → Type 0
 IsClosed e = ClosedBelow zero e
 
 -- code: the forms from literals to primitives, with no top-level name, staging form or value in them
+abbrev pub code_rule : NodeRule
+code_rule = record {
+  integer = λ n. Unit {0};
+  name = λ i. ⊥;
+  kept_function = λ f. ⊥;
+  has_staging = false;
+  has_values = false;
+}
+
 abbrev pub IsCode : Expression → Type 0
-IsCode (num n) = Unit {0}
-IsCode (truth b) = Unit {0}
-IsCode (var i) = Unit {0}
-IsCode (glob i) = ⊥
-IsCode (fun e) = IsCode e
-IsCode (fix e) = IsCode e
-IsCode (app f a) = IsCode f × IsCode a
-IsCode (bind d e) = IsCode d × IsCode e
-IsCode (cond c a b) = IsCode c × IsCode a × IsCode b
-IsCode (pair a b) = IsCode a × IsCode b
-IsCode (fst e) = IsCode e
-IsCode (snd e) = IsCode e
-IsCode (prim p a b) = IsCode a × IsCode b
-IsCode (bracket e) = ⊥
-IsCode (escape e) = ⊥
-IsCode (run t e) = ⊥
-IsCode (close at e) = ⊥
-IsCode (opened e) = ⊥
-IsCode (lift e) = ⊥
-IsCode (lift_b e) = ⊥
-IsCode (done v) = ⊥
+IsCode e = EachNode code_rule e

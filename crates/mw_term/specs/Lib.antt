@@ -1,4 +1,5 @@
 pub mod Terms
+pub mod EachNode
 pub mod Sources
 pub mod Programs
 pub mod Substitution

@@ -1,4 +1,4 @@
-use Rattle.mw_meaning.proofs.Shaping.{WordsBefore}
+use Rattle.mw_meaning.proofs.Shapes.{WordsBefore}
 use Rattle.mw_meaning.proofs.shape.are_words.Given as goal
 
 abbrev pub invariant-loop-kind : goal.invariant-loop-kind

@@ -3,7 +3,7 @@ use Rattle.std.specs.Prelude.{slice_get}
 use Rattle.std.proofs.lemmas.Option.{slice_get_read}
 use Rattle.mw_wasm.specs.Instances.{exported_among}
 use Rattle.mw_wasm.specs.Views.{export_of}
-use Rattle.mw_meaning.proofs.Shaping.{exports-read}
+use Rattle.mw_meaning.proofs.Shapes.{exports-read}
 use Rattle.mw_meaning.proofs.shape.exported_type.Goals as goal
 
 pub returns : goal.returns

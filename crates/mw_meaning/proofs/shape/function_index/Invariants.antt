@@ -1,4 +1,4 @@
-use Rattle.mw_meaning.proofs.Shaping.{Seeking}
+use Rattle.mw_meaning.proofs.Shapes.{Seeking}
 use Rattle.mw_meaning.proofs.shape.function_index.Given as goal
 
 abbrev pub invariant-loop-export : goal.invariant-loop-export

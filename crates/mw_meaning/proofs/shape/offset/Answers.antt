@@ -1,5 +1,5 @@
 use Rattle.std.proofs.Common.{◌∙◌}
-use Rattle.mw_meaning.proofs.Shaping.{offset-one, offset-others, offset-i32, offset-i64, offset-none}
+use Rattle.mw_meaning.proofs.Shapes.{offset-one, offset-others, offset-i32, offset-i64, offset-none}
 use Rattle.mw_meaning.proofs.shape.offset.Goals as goal
 
 pub returns-then-len-ne1 : goal.returns-then-len-ne1

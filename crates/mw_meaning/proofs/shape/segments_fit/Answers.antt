@@ -1,5 +1,5 @@
 use Rattle.std.proofs.Common.{true, false, refl, sym, ◌∙◌}
-use Rattle.mw_meaning.proofs.Shaping.{instance_fits}
+use Rattle.mw_meaning.proofs.Shapes.{instance_fits}
 use Rattle.mw_meaning.proofs.shape.segments_fit.Goals as goal
 
 pub returns-then-all_elements_fit : goal.returns-then-all_elements_fit

@@ -1,4 +1,4 @@
-use Rattle.mw_term.proofs.Substituting.{size-shift}
+use Rattle.mw_term.proofs.Substitution.{size-shift}
 use Rattle.mw_term.proofs.laws.shift_keeps_size.Goals as goal
 
 pub returns : goal.returns

@@ -1,4 +1,4 @@
-use Rattle.mw_term.proofs.Closing.{ClosedBelow-shift}
+use Rattle.mw_term.proofs.ClosedTerms.{ClosedBelow-shift}
 use Rattle.mw_term.proofs.laws.shift_raises_free.Goals as goal
 
 pub returns : goal.returns

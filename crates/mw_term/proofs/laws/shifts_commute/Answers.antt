@@ -1,4 +1,4 @@
-use Rattle.mw_term.proofs.Substituting.{shift-shift}
+use Rattle.mw_term.proofs.Substitution.{shift-shift}
 use Rattle.mw_term.proofs.laws.shifts_commute.Goals as goal
 
 pub returns : goal.returns

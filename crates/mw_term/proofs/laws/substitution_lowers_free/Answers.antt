@@ -1,4 +1,4 @@
-use Rattle.mw_term.proofs.Closing.{ClosedBelow-substitute}
+use Rattle.mw_term.proofs.ClosedTerms.{ClosedBelow-substitute}
 use Rattle.mw_term.proofs.laws.substitution_lowers_free.Goals as goal
 
 pub returns : goal.returns

@@ -1,4 +1,4 @@
-use Rattle.mw_term.proofs.Substituting.{substitute-shift}
+use Rattle.mw_term.proofs.Substitution.{substitute-shift}
 use Rattle.mw_term.proofs.laws.substitution_undoes_shift.Goals as goal
 
 pub returns : goal.returns

@@ -3,7 +3,7 @@ use Rattle.std.proofs.lemmas.List.{length-map}
 use Rattle.std.specs.Arc.{arc_value}
 use Rattle.mw_term.specs.Terms.{expression_of, kernel_type_of}
 use Rattle.mw_meaning.specs.Simplification.{in_mode}
-use Rattle.mw_meaning.proofs.SimplifyingKept.{keeps_kernel_type}
+use Rattle.mw_meaning.proofs.SimplificationTyping.{keeps_kernel_type}
 use Rattle.mw_machine.specs.declared.kernels.Ran.TheVariants as ran
 use Rattle.mw_machine.specs.KernelCalls.{IsRunAt}
 use Rattle.mw_kernel.specs.declared.running.Began.TheVariants as began

@@ -3,7 +3,7 @@ use Rattle.std.specs.Arc.{arc_value}
 use Rattle.mw_term.specs.Terms.{ground_of, ground_value_of}
 use Rattle.mw_wasm.specs.Views.{module_of}
 use Rattle.mw_exec.specs.InstanceStates.{store_in}
-use Rattle.mw_meaning.specs.OutcomeLaws.{HasGroundType}
+use Rattle.mw_meaning.specs.GroundValues.{HasGroundType}
 use Rattle.mw_kernel.specs.RunningStates.{RunningState, store_held}
 use Rattle.mw_kernel.specs.KernelAnswers.{AnswersCall, StoreAfterCall}
 use Rattle.mw_kernel.specs.Invoking.{LeavesStore}

@@ -1,4 +1,4 @@
-use Rattle.mw_meaning.proofs.Playing.{plays_begin}
+use Rattle.mw_meaning.proofs.Plays.{plays_begin}
 use Rattle.mw_meaning.proofs.laws.standing.plays_begin.Goals as goal
 
 pub returns : goal.returns

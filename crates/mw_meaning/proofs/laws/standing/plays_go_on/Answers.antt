@@ -1,4 +1,4 @@
-use Rattle.mw_meaning.proofs.Playing.{plays_on}
+use Rattle.mw_meaning.proofs.Plays.{plays_on}
 use Rattle.mw_meaning.proofs.laws.standing.plays_go_on.Goals as goal
 
 pub returns : goal.returns

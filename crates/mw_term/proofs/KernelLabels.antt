@@ -4,7 +4,7 @@ use Rattle.mw_term.specs.Terms.{Expression, Value, KernelTerm, KernelValue, num,
 use Rattle.mw_term.specs.Terms.{pair, fst, snd, prim, done, int, bool, both, function, recursive}
 use Rattle.mw_term.specs.Substitution.{pick, shift, shift_value, substitute, substitute_value, instantiate}
 use Rattle.mw_term.specs.Unlabelled.{unlabelled, unlabelled_value, KernelClosedBelow, IsClosedKernelValue}
-use Rattle.mw_term.proofs.Closing.{raised-below, pick-below}
+use Rattle.mw_term.proofs.ClosedTerms.{raised-below, pick-below}
 
 -- closed values are neither shifted nor changed by a substitution
 mutual

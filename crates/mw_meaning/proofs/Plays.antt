@@ -7,11 +7,12 @@ use Rattle.mw_wasm.specs.Syntax.{PureModule}
 use Rattle.mw_wasm.specs.Store.{Store}
 use Rattle.mw_wasm.specs.Execution.{ended}
 use Rattle.mw_wasm.specs.Instances.{invoked}
-use Rattle.mw_meaning.specs.StandingFor.{Call, AreCalls, IsArgument, leaves}
+use Rattle.mw_meaning.specs.StandingFor.{Call, AreCalls, leaves}
+use Rattle.mw_meaning.specs.GroundValues.{IsArgument}
 use Rattle.mw_meaning.specs.Shapes.{IsWordOf, IsStrayEnd, EndStray, here, later, in_call}
 use Rattle.mw_meaning.specs.Plays.{CallsEnd, none, one_more}
 use Rattle.mw_meaning.specs.ShapeLaws.{PlaysBegin, PlaysGoOn, PlaysEndStray}
-use Rattle.mw_meaning.proofs.Straying.{one_number}
+use Rattle.mw_meaning.proofs.StrayModules.{one_number}
 
 -- one call more
 pub are_calls_on : (s : GroundType) (calls : List Call) (c : Call) → AreCalls s calls → IsArgument s c.argument

@@ -1,14 +1,14 @@
 -- A module that stands for code of its kernel type is not stray.
 use Rattle.std.proofs.Common.{◌≡◌, ℕ, inl, inr, true, false, List, [], ◌∷◌, Some, Ok, refl, subst, arith, length-append}
 use Rattle.std.specs.Prelude.{codes}
-use Rattle.mw_term.specs.Terms.{Expression, Value, KernelValue, GroundType, KernelType, base, product, of_ground, to}
+use Rattle.mw_term.specs.Terms.{Expression, KernelValue, GroundType, KernelType, base, product, of_ground, to}
 use Rattle.mw_term.specs.Terms.{int, bool, both, function, recursive}
 use Rattle.mw_term.specs.declared.term.Base.TheVariants.{Int, Bool as Truth}
 use Rattle.mw_term.specs.declared.value.TrapKind.TheVariants as kind
 use Rattle.mw_term.specs.declared.value.Limit.TheVariants.{Fuel, Heap, KernelSize}
 use Rattle.mw_term.specs.Types.{ground_type, kernel_type}
 use Rattle.mw_term.specs.Unlabelled.{unlabelled_value, IsClosedKernelValue}
-use Rattle.mw_term.specs.Typing.{Valued, v_int, v_bool, v_pair}
+use Rattle.mw_term.specs.Typing.{Valued, v_pair}
 use Rattle.mw_term.specs.Typable.{HasKernelType}
 use Rattle.mw_wasm.specs.declared.values.Value.TheVariants.{I64}
 use Rattle.mw_wasm.specs.declared.values.Trap.TheVariants as traps
@@ -20,10 +20,12 @@ use Rattle.mw_meaning.specs.Arithmetic.{trap, bound, stuck}
 use Rattle.mw_meaning.specs.KernelMeaning.{Ended, gives, stops, kernel_meaning}
 use Rattle.mw_meaning.specs.StagedMeaning.{kernel_argument, argument_words, call_of}
 use Rattle.mw_meaning.specs.TypingLaws.{IfMakes}
-use Rattle.mw_meaning.specs.StandingFor.{IsWord, AnswersAs, IsArgument, leaves, Call, AreCalls, IfEnded, CallsAnswer}
-use Rattle.mw_meaning.specs.StandingFor.{CallsAfter, MeansKernel}
+use Rattle.mw_meaning.specs.StandingFor.{IsWord, AnswersAs, leaves, Call, AreCalls, IfEnded, CallsAnswer, CallsAfter}
+use Rattle.mw_meaning.specs.StandingFor.{MeansKernel}
+use Rattle.mw_meaning.specs.GroundValues.{IsArgument}
 use Rattle.mw_meaning.specs.Shapes.{IsWordOf, IsWordOfKernel, IsStrayEnd, EndStray, here, later, in_init, in_call}
 use Rattle.mw_meaning.specs.ShapeLaws.{StandingIsNotStray, LeavesAreCounted}
+use Rattle.mw_meaning.proofs.GroundValues.{ground-typed}
 use Rattle.mw_meaning.proofs.KernelTyping.{KernelSafe, Has, none, closed_code_safe, kernel_call_safe, safe_makes}
 
 -- the word of a value of a ground type may be one of the type
@@ -61,19 +63,12 @@ answers_no_stray P (stops (bound Heap)) (trapped traps.OutOfBounds st) f h x = x
 answers_no_stray P (stops (bound Fuel)) spent f h x = x
 answers_no_stray P _ _ f h x = absurd h
 
--- an argument of a ground type is a value of it
-pub argument_typed : (s : GroundType) (v : Value) → IsArgument s v → Valued [] [] v (ground_type s)
-argument_typed (base Int) (int z) h = v_int
-argument_typed (base Truth) (bool b) h = v_bool
-argument_typed (product s t) (both v w) h = v_pair (argument_typed s v h.0) (argument_typed t w h.1)
-argument_typed _ _ h = absurd h
-
 module _ (m : PureModule) (s t : GroundType) (f : KernelValue) (words : ℕ) (shut : IsClosedKernelValue f)
     (typed : Valued [] [] (unlabelled_value f) (kernel_type (to s t))) (g r : ℕ) where
   call_words : (c : Call) → IsArgument s c.argument
       → IfMakes (Words (IsWordOf t)) (call_of f words (kernel_argument c.argument) (argument_words c.argument) c.units)
   call_words c h = safe_makes (λ v p n memory. word_of t v n memory p.1)
-      (kernel_call_safe [] [] none s t f words c.argument c.units [] shut typed (argument_typed s c.argument h))
+      (kernel_call_safe [] [] none s t f words c.argument c.units [] shut typed (ground-typed _ s c.argument h))
 
   calls_no_stray : (calls : List Call) (st : Store) → AreCalls s calls → CallsAnswer m g r f words calls st
       → EndStray m g r t calls st → ⊥
