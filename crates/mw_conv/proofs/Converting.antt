@@ -70,12 +70,14 @@ can_condition b m c e f s q h = can_next b m c (x.pair e f) s s q h.closed.0 (om
 pub var_converted : (b : Converter) (n s k : ℕ) (p : Place) → CanConvert b (x.var n) s → k ≡ length b.context.items
     → p ≡ get_or b.context.items (k - 1 - n) p → Converts b b (x.var n) s (i.get p)
 var_converted b n s k p c l e =
-    let lt : n < length b.context.items = c.closed in record {
+    let lt : n < length b.context.items = c.closed in
+    let first = get_or_default b.context.items (k - 1 - n) p Argument (omega arith) in
+    let read = ap (λ k. get_or b.context.items (k - 1 - n) Argument) l ∙ sym (place_read b.context.items n lt) in
+    record {
       same = refl;
       left = omega arith;
       found = sym (append-nil b.found.items);
-      code = ap i.get (e ∙ (get_or_default b.context.items (k - 1 - n) p Argument (omega arith)
-          ∙ (ap (λ k. get_or b.context.items (k - 1 - n) Argument) l ∙ sym (place_read b.context.items n lt))));
+      code = ap i.get (e ∙ (first ∙ read));
       funcs = sym (append-nil (map ir_func_of b.funcs));
     }
 

@@ -17,8 +17,8 @@ pub record CanConvert (before : Converter) (e : Expression) (slot : ℕ) : Type 
   pub left : funs e ≤ before.left
   pub found : EndsWith before.found.items (found_in e before.context.items)
 
--- The code of the term is in scope as before, its functions were taken and added, and the numbers of those that are
--- left stay.
+-- The variables in scope are as before, the functions of the term were taken from those that were found and added, so
+-- many fewer are left, and this is the code.
 pub record Converts (before after : Converter) (e : Expression) (slot : ℕ) (r : Ir) : Type 0 where
   pub same : after.context.items ≡ before.context.items
   pub left : before.left ≡ after.left + funs e

@@ -23,7 +23,7 @@ convert-requires c =
     let e = expression_of c.args.code.now in
     can_begin _ e c.requires.closed (size_small e c.requires.limits) c.new-converter.ensures.context
     (c.new-converter.ensures.left ∙ (ap length c.in_ok-found.ensures.found ∙ found_length e 0))
-    ((ap (λ fs. fs.items) c.new-converter.ensures.found) ∙ c.in_ok-found.ensures.found)
+    (ap (λ fs. fs.items) c.new-converter.ensures.found ∙ c.in_ok-found.ensures.found)
 
 pub returns : goal.returns
 returns c =
@@ -31,9 +31,8 @@ returns c =
     let l = c.new-converter.ensures.left ∙ (ap length c.in_ok-found.ensures.found ∙ found_length e 0) in
     let t = functions_are c.new-converter.result c.convert.new.self e _ _ c.new-converter.ensures.context l
     c.new-converter.ensures.funcs c.in_ok-body.ensures c.reverse.ensures in
-    let f = outside_is c.new-converter.result c.convert.new.self e _ c.in_ok-found.slots c.new-converter.ensures.context
-    l
-    c.in_ok-body.ensures c.in_ok-found.ensures.slots in
+    let f = outside_is c.new-converter.result c.convert.new.self e _ c.in_ok-found.slots
+    c.new-converter.ensures.context l c.in_ok-body.ensures c.in_ok-found.ensures.slots in
     record {
       functions = t;
       body = f;
