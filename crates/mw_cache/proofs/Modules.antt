@@ -18,7 +18,7 @@ use Rattle.mw_meaning.specs.Shapes.{HasShape}
 use Rattle.mw_meaning.specs.StandingFor.{StandsFor}
 use Rattle.mw_store.specs.Loads.{Loaded as LoadedRecord, LoadState}
 use Rattle.mw_store.specs.Whole.{IsKernelModule}
-use Rattle.mw_compile.specs.Emission.{emission, version_of, IsEmissionOf}
+use Rattle.mw_compile.specs.Emission.{emission, IsEmissionOf}
 use Rattle.mw_compile.specs.Entries.{Emitted, IsEntry}
 use Rattle.mw_compile.proofs.Entering.{entry_is, each_emission, one_emission}
 use Rattle.mw_cache.specs.declared.got.Got.{Got}
@@ -50,11 +50,11 @@ loaded_stands : (l : LoadedRecord) (m : PureModule) → IsKernelModule l.text l.
     → (c : Expression) (k : KernelType)
     → IsTextOf l.text Two c k → IsEmissionOf l.bytes l.text → StandsFor m c k
 loaded_stands l m is c k text right =
-    let bytes : l.bytes ≡ emission (version_of Two) c k = one_emission l.text l.bytes (emission
-    (version_of Two) c k) right
+    let bytes : l.bytes ≡ emission Two c k = one_emission l.text l.bytes (emission
+    Two c k) right
     record { version = Two; code = c; kind = k; is_text = text; is_emission = refl } in
     let e = each_emission l.text Two c k text in
-    let same = one_module (emission (version_of Two) c k) m _ (subst (λ bs. Spells bs m) bytes is.2.spelled)
+    let same = one_module (emission Two c k) m _ (subst (λ bs. Spells bs m) bytes is.2.spelled)
     e.spelled in
     subst (λ x. StandsFor x c k) (sym same) e.stands
 

@@ -5,12 +5,12 @@ use Rattle.mw_key.specs.CanonicalText.{IsTextOf, canonical_text}
 use Rattle.mw_key.specs.declared.version.Version.TheVariants.{One, Two}
 use Rattle.mw_store.specs.Records.{Kept, record_bytes}
 use Rattle.mw_store.specs.Loads.{Loaded, LoadState}
-use Rattle.mw_compile.specs.Emission.{emission, version_of}
+use Rattle.mw_compile.specs.Emission.{emission}
 use Rattle.mw_cache.specs.Gots.{IsLoadedText}
 
 -- the text of code at a type in version Two, with its emission
 abbrev pub anew : Expression → KernelType → Kept
-anew c k = record { text = canonical_text Two c k; bytes = emission (version_of Two) c k }
+anew c k = record { text = canonical_text Two c k; bytes = emission Two c k }
 
 -- Of these loaded records, so many have a text of version One, and these records are added for them, in the same order.
 -- A record of version Two adds none. One of version One adds that of the same code and type in version Two, unless this

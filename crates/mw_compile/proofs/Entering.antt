@@ -14,14 +14,15 @@ use Rattle.mw_wasm.specs.Views.{module_of, element_of, segment_of}
 use Rattle.mw_encode.specs.Encoding.{encoding}
 use Rattle.mw_encode.proofs.BestModules.{encoding_shortest}
 use Rattle.mw_validate.specs.Kept.{IsKept}
-use Rattle.mw_gen.specs.Generate.{Version, two, elements_of}
+use Rattle.mw_key.specs.declared.version.Version.{Version}
+use Rattle.mw_gen.specs.Generate.{elements_of}
 use Rattle.mw_gen.specs.Emission.{emitted}
 use Rattle.mw_key.specs.declared.version.Version.TheVariants.{Two}
 use Rattle.mw_key.specs.CanonicalText.{IsTextOf}
 use Rattle.mw_key.proofs.FoundTexts.{one_text}
 use Rattle.mw_key.proofs.Lengths.{short_text}
 use Rattle.mw_gen.proofs.Whole.{emission_holds}
-use Rattle.mw_compile.specs.Emission.{emission, version_of}
+use Rattle.mw_compile.specs.Emission.{emission}
 use Rattle.mw_compile.specs.EmissionLaws.{IsEmission, EmissionHolds, OneEmission}
 use Rattle.mw_compile.specs.Entries.{Emitted, IsEntry, IsEntryOf}
 
@@ -55,14 +56,14 @@ emission_of v c k closed literals limits nodes =
 pub each_emission : EmissionHolds
 each_emission text v c k is =
     let q = is.kernel in
-    emission_of (version_of v) c k q.closed q.literals q.limits q.nodes
+    emission_of v c k q.closed q.literals q.limits q.nodes
 
 pub one_emission : OneEmission
 one_emission text first second x y =
     let same = one_text text x.version y.version x.code y.code x.kind y.kind x.is_text y.is_text in
-    x.is_emission ∙ (ap (λ v. emission (version_of v) x.code x.kind) same.0
-    ∙ (ap (λ c. emission (version_of y.version) c x.kind) same.1
-    ∙ (ap (λ k. emission (version_of y.version) y.code k) same.2 ∙ sym y.is_emission)))
+    x.is_emission ∙ (ap (λ v. emission v x.code x.kind) same.0
+    ∙ (ap (λ c. emission y.version c x.kind) same.1
+    ∙ (ap (λ k. emission y.version y.code k) same.2 ∙ sym y.is_emission)))
 
 -- an emitted module has at most one element segment, and no data segment
 few_elements : (n : ℕ) → length (elements_of n) < 2 ^ 32
@@ -81,20 +82,20 @@ generated_kept v c k wasm valid e = record {
 
 -- the entry of code at a type, of its text, its module and the module's bytes
 pub entry_of : (c : Expression) (k : KernelType) (wasm whole : Module) (text bytes : List ℕ) → IsTextOf text Two c k
-    → module_of wasm ≡ emitted two c k → bytes ≡ encoding (module_of wasm) → whole ≡ wasm
+    → module_of wasm ≡ emitted Two c k → bytes ≡ encoding (module_of wasm) → whole ≡ wasm
     → IsEntryOf record { text = text; bytes = bytes; wasm = whole } c k
 entry_of c k wasm whole text bytes is_text e exact is =
     let x = is_text.kernel in
-    let whole_is : module_of whole ≡ emitted two c k = ap module_of is ∙ e in
-    let exactly : bytes ≡ emission two c k = exact ∙ ap encoding e in
+    let whole_is : module_of whole ≡ emitted Two c k = ap module_of is ∙ e in
+    let exactly : bytes ≡ emission Two c k = exact ∙ ap encoding e in
     record {
       is_text = is_text;
       short = short_text text Two c k is_text;
       module_is = whole_is;
       emission_is = exactly;
       is = subst (λ bs. IsEmission bs (module_of whole) c k) (sym exactly)
-          (subst (λ m. IsEmission (emission two c k) m c k) (sym whole_is)
-          (emission_of two c k x.closed x.literals x.limits x.nodes));
+          (subst (λ m. IsEmission (emission Two c k) m c k) (sym whole_is)
+          (emission_of Two c k x.closed x.literals x.limits x.nodes));
     }
 
 pub entry_kept : (e : Emitted) (c : Expression) (k : KernelType) → IsEntryOf e c k → IsEntry e

@@ -7,10 +7,10 @@ use Rattle.mw_wasm.specs.Syntax.{PureModule}
 use Rattle.mw_wasm.specs.BinaryModules.{Spells}
 use Rattle.mw_wasm.specs.Profile.{IsWithinProfile}
 use Rattle.mw_wasm.specs.Validity.{IsValid}
-use Rattle.mw_key.specs.declared.version.Version.{Version as TextVersion}
+use Rattle.mw_key.specs.declared.version.Version.{Version}
 use Rattle.mw_key.specs.CanonicalText.{IsTextOf}
 use Rattle.mw_gen.specs.Emission.{emitted}
-use Rattle.mw_compile.specs.Emission.{emission, version_of, IsEmissionOf}
+use Rattle.mw_compile.specs.Emission.{emission, IsEmissionOf}
 
 -- The bytes, fewer than 2^32, spell the module, which is within the profile's limits and valid, has the shape that a
 -- run of
@@ -25,8 +25,8 @@ pub record IsEmission (bytes : List ℕ) (m : PureModule) (c : Expression) (k : 
 
 -- of each text, in either version, for its code and its type
 abbrev pub EmissionHolds : Type 0
-EmissionHolds = (text : List ℕ) (v : TextVersion) (c : Expression) (k : KernelType) → IsTextOf text v c k
-    → IsEmission (emission (version_of v) c k) (emitted (version_of v) c k) c k
+EmissionHolds = (text : List ℕ) (v : Version) (c : Expression) (k : KernelType) → IsTextOf text v c k
+    → IsEmission (emission v c k) (emitted v c k) c k
 
 -- a text has one emission
 abbrev pub OneEmission : Type 0

@@ -5,7 +5,6 @@ use Rattle.mw_wasm.specs.declared.modules.Module.{Module}
 use Rattle.mw_wasm.specs.Views.{module_of}
 use Rattle.mw_key.specs.declared.version.Version.TheVariants.{Two}
 use Rattle.mw_key.specs.CanonicalText.{IsTextOf}
-use Rattle.mw_gen.specs.Generate.{two}
 use Rattle.mw_gen.specs.Emission.{emitted}
 use Rattle.mw_compile.specs.Emission.{emission, IsEmissionOf}
 use Rattle.mw_compile.specs.EmissionLaws.{IsEmission}
@@ -22,8 +21,8 @@ pub record Emitted : Type 0 where
 pub record IsEntryOf (e : Emitted) (c : Expression) (k : KernelType) : Type 0 where
   pub is_text : IsTextOf e.text Two c k
   pub short : length e.text < 2 ^ 32
-  pub module_is : module_of e.wasm ≡ emitted two c k
-  pub emission_is : e.bytes ≡ emission two c k
+  pub module_is : module_of e.wasm ≡ emitted Two c k
+  pub emission_is : e.bytes ≡ emission Two c k
   pub is : IsEmission e.bytes (module_of e.wasm) c k
 
 -- it is the entry of some code and type, and its bytes are the emission of its text

@@ -5,7 +5,7 @@ use Rattle.mw_meaning.specs.declared.mode.Mode.{Mode}
 use Rattle.mw_meaning.specs.declared.mode.Mode.TheVariants.{Plain}
 use Rattle.mw_meaning.specs.Simplification.{in_mode}
 use Rattle.mw_meaning.proofs.SimplificationTyping.{keeps_kernel_type, stays_within_limits}
-use Rattle.mw_gen.specs.Generate.{two}
+use Rattle.mw_key.specs.declared.version.Version.TheVariants.{Two}
 use Rattle.mw_gen.specs.Emission.{emitted}
 use Rattle.mw_encode.proofs.BestModules.{encoding_shortest}
 use Rattle.mw_compile.proofs.Entering.{emission_of}
@@ -34,10 +34,10 @@ has_module : (mode : Mode) (k : Kernel) → IsSound k → HasModule mode k
 has_module mode k sound =
     let d = in_mode mode k.code in
     let e =
-    emission_of two d k.kind (keeps_kernel_type mode k.code k.kind sound.typed).closed
+    emission_of Two d k.kind (keeps_kernel_type mode k.code k.kind sound.typed).closed
     (simplified_literals mode k.code sound.typed.is_code sound.literals)
     (stays_within_limits mode k.code sound.limits) sound.nodes in
-    record { wasm = emitted two d k.kind; spelled = e.spelled; valid = e.valid; stands = e.stands }
+    record { wasm = emitted Two d k.kind; spelled = e.spelled; valid = e.valid; stands = e.stands }
 
 have_modules : (mode : Mode) (ks : List Kernel) → AllByRecursion IsSound ks → AllByRecursion (HasModule mode) ks
 have_modules mode [] sound = tt

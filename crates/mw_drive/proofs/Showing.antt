@@ -12,7 +12,6 @@ use Rattle.mw_meaning.specs.Simplification.{in_mode}
 use Rattle.mw_outside.specs.Count.{GrowsByFront}
 use Rattle.mw_term.specs.Terms.{expression_of, kernel_type_of}
 use Rattle.mw_key.specs.declared.version.Version.TheVariants.{Two}
-use Rattle.mw_gen.specs.Generate.{two}
 use Rattle.mw_compile.specs.Emission.{emission, IsEmissionOf}
 use Rattle.mw_compile.proofs.Entering.{emission_of, one_emission}
 use Rattle.mw_cache.specs.Gots.{CacheState, text_in}
@@ -38,7 +37,7 @@ modules_here mode cache (b ∷ built) h = (h.0.here, modules_here mode cache bui
 module _ (mode : Mode) (cache : CacheState) (b : Built) (h : IsBuilt mode cache b) where
   -- the bytes of its module are the emission of what is run of its code
   emitted_bytes : (bytes : List ℕ) → IsEmissionOf bytes (text_in cache b.got.now)
-      → bytes ≡ emission two (in_mode mode (expression_of b.code.now)) (kernel_type_of b.kind.now)
+      → bytes ≡ emission Two (in_mode mode (expression_of b.code.now)) (kernel_type_of b.kind.now)
   emitted_bytes bytes is =
       one_emission (text_in cache b.got.now) bytes _ is record
       { version = Two; code = _; kind = _; is_text = h.text; is_emission = refl }
@@ -58,7 +57,7 @@ module _ (cache : CacheState) (b : Built) (h : IsBuilt Plain cache b) (bytes : L
   size_small =
       let q = h.text.kernel in
       let e =
-      emission_of two (expression_of b.code.now) (kernel_type_of b.kind.now) q.closed q.literals q.limits q.nodes in
+      emission_of Two (expression_of b.code.now) (kernel_type_of b.kind.now) q.closed q.literals q.limits q.nodes in
       let same = ap length (emitted_bytes Plain cache b h bytes is) in
       omega (arith, same, e.short)
 

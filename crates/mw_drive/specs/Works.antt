@@ -20,7 +20,6 @@ use Rattle.mw_recheck.specs.Certificates.{Certifies}
 use Rattle.mw_written.specs.Written.{IsCertificateOf}
 use Rattle.mw_key.specs.declared.version.Version.TheVariants.{Two}
 use Rattle.mw_key.specs.CanonicalText.{canonical_text}
-use Rattle.mw_gen.specs.Generate.{two}
 use Rattle.mw_compile.specs.Emission.{emission}
 use Rattle.mw_console.specs.declared.status.Status.{Status}
 use Rattle.mw_console.specs.declared.status.Status.TheVariants.{Answer, Refused, BadModule, Invalid, NotTyped}
@@ -156,12 +155,12 @@ key_of c k = sha256 (canonical_text Two c k)
 -- the lines of a kernel: what is printed is the key and the module of the code that is run under the mode
 abbrev pub kernel_lines : Mode → Kernel → List ℕ
 kernel_lines mode k = kernel_text k.name k.kind (key_of (in_mode mode k.code) k.kind)
-    (emission two (in_mode mode k.code) k.kind)
+    (emission Two (in_mode mode k.code) k.kind)
 
 -- the bytes of the modules together
 abbrev pub module_bytes : List Kernel → ℕ
 module_bytes [] = 0
-module_bytes (k ∷ kernels) = length (emission two k.code k.kind) + module_bytes kernels
+module_bytes (k ∷ kernels) = length (emission Two k.code k.kind) + module_bytes kernels
 
 -- what is written of the kernels that gave code, in order: their lines, or their totals
 abbrev pub shown_text : Shown → List Kernel → List ℕ
@@ -215,7 +214,7 @@ pub record Reports (work : Work) (text : List ℕ) (s : Status) : Type 0 where
 -- type.
 pub record HasModule (mode : Mode) (k : Kernel) : Type 0 where
   pub wasm : PureModule
-  pub spelled : Spells (emission two (in_mode mode k.code) k.kind) wasm
+  pub spelled : Spells (emission Two (in_mode mode k.code) k.kind) wasm
   pub valid : IsValid wasm
   pub stands : StandsFor wasm (in_mode mode k.code) k.kind
 

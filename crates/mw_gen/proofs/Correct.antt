@@ -27,7 +27,8 @@ use Rattle.mw_ir.specs.Ir.{also, Ir, IrFunc, Frame, inside, with_slot, read, rea
 use Rattle.mw_ir.specs.Ir.{function_at}
 use Rattle.mw_conv.specs.Represents.{Grows}
 use Rattle.mw_conv.proofs.Heaps.{grows_same, grows_on, grows_append, load_grows}
-use Rattle.mw_gen.specs.Generate.{Version, wants_spare, tail_wants_spare, spare_count, address_code, expression_code}
+use Rattle.mw_key.specs.declared.version.Version.{Version}
+use Rattle.mw_gen.specs.Generate.{wants_spare, tail_wants_spare, spare_count, address_code, expression_code}
 use Rattle.mw_gen.specs.Generate.{tail_code, is_own, application_code, body_wants_spare, body_code, is_loop}
 use Rattle.mw_gen.specs.Generate.{function_for, counting, closure_type, module_with}
 use Rattle.mw_gen.proofs.Slots.{slots_needed}

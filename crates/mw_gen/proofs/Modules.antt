@@ -14,7 +14,8 @@ use Rattle.mw_wasm.specs.Validity.{NamesDiffer, IsValid, of_end, of_next, of_glo
 use Rattle.mw_wasm.specs.Validity.{of_local_set, of_const_i32}
 use Rattle.mw_ir.specs.Ir.{Ir, IrFunc}
 use Rattle.mw_meaning.specs.Shapes.{leaf_count, init_type, call_type}
-use Rattle.mw_gen.specs.Generate.{Version, wants_spare, tail_wants_spare, spare_count, is_loop, body_wants_spare}
+use Rattle.mw_key.specs.declared.version.Version.{Version}
+use Rattle.mw_gen.specs.Generate.{wants_spare, tail_wants_spare, spare_count, is_loop, body_wants_spare}
 use Rattle.mw_gen.specs.Generate.{body_code, function_for, init_function, call_of, argument_of, counting, elements_of}
 use Rattle.mw_gen.specs.Generate.{more_types, more_functions, closure_type, expression_code, restarting, call_numbered}
 use Rattle.mw_gen.specs.Generate.{module_with}

@@ -14,7 +14,8 @@ use Rattle.mw_ir.specs.Ir as i
 use Rattle.mw_ir.specs.Ir.{Ir, IrFunc}
 use Rattle.mw_ir.specs.Ranges.{ir_size, ir_depth, total_size, IsPlace, IsOuterPlace, HasFree, IsInRange, IsProper}
 use Rattle.mw_ir.specs.Ranges.{IsConverted}
-use Rattle.mw_gen.specs.Generate.{Version, module_with}
+use Rattle.mw_key.specs.declared.version.Version.{Version}
+use Rattle.mw_gen.specs.Generate.{module_with}
 use Rattle.mw_gen.proofs.Slots.{slots_needed}
 use Rattle.mw_gen.specs.Listing.{IsShort, IsShortPlace, AllShort}
 use Rattle.mw_gen.proofs.Words.{get_within}

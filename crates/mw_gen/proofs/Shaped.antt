@@ -3,7 +3,8 @@ use Rattle.std.proofs.Common.{ℕ, suc, [], List, length, refl}
 use Rattle.mw_term.specs.Terms.{KernelType, of_ground, to}
 use Rattle.mw_meaning.specs.Shapes.{HasShape, HasCall}
 use Rattle.mw_ir.specs.Ir.{Ir, IrFunc}
-use Rattle.mw_gen.specs.Generate.{Version, init_function, call_function, more_functions, module_with}
+use Rattle.mw_key.specs.declared.version.Version.{Version}
+use Rattle.mw_gen.specs.Generate.{init_function, call_function, more_functions, module_with}
 use Rattle.mw_gen.proofs.Stores.{store_at}
 use Rattle.mw_gen.proofs.Correct.{table_of}
 use Rattle.mw_gen.proofs.Invoke.{init_at, call_at}

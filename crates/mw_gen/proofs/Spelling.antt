@@ -15,7 +15,8 @@ use Rattle.mw_wasm.specs.BinaryModules.{data_segment, section, wasm_module}
 use Rattle.mw_wasm.specs.Syntax.{Function, Exporting, ElementSegment, next, end, const_i32}
 use Rattle.mw_ir.specs.Ir.{Ir, IrFunc}
 use Rattle.mw_meaning.specs.Shapes.{leaf_count, init_type, call_type}
-use Rattle.mw_gen.specs.Generate.{Version, wants_spare, spare_count, is_loop, body_wants_spare, function_for}
+use Rattle.mw_key.specs.declared.version.Version.{Version}
+use Rattle.mw_gen.specs.Generate.{wants_spare, spare_count, is_loop, body_wants_spare, function_for}
 use Rattle.mw_gen.specs.Generate.{init_function, call_function, call_of, argument_of, counting, elements_of, more_types}
 use Rattle.mw_gen.specs.Generate.{more_functions, more_exports, closure_type, module_with}
 use Rattle.mw_gen.proofs.Slots.{slots_needed}

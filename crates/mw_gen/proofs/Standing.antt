@@ -29,7 +29,8 @@ use Rattle.mw_ir.specs.Ranges.{IsConverted}
 use Rattle.mw_conv.specs.Represents.{Has, Stands}
 use Rattle.mw_conv.proofs.Correct.{Value as Valued, has_self}
 use Rattle.mw_meaning.specs.Shapes.{leaf_count}
-use Rattle.mw_gen.specs.Generate.{Version, call_of as apply_to, init_function, call_function, more_functions}
+use Rattle.mw_key.specs.declared.version.Version.{Version}
+use Rattle.mw_gen.specs.Generate.{call_of as apply_to, init_function, call_function, more_functions}
 use Rattle.mw_gen.specs.Generation.{call_frame}
 use Rattle.mw_gen.specs.Emission.{emitted}
 use Rattle.mw_gen.proofs.Words.{bits, Small, Keeps}

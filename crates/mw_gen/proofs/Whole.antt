@@ -3,16 +3,17 @@ use Rattle.std.proofs.Common.{◌≡◌, ap, ◌∙◌, arith}
 use Rattle.mw_term.specs.Terms.{Expression, KernelType}
 use Rattle.mw_ir.specs.declared.code.Converted.{Converted}
 use Rattle.mw_conv.specs.Convert.{converted_functions, converted_outside}
+use Rattle.mw_key.specs.declared.version.Version.{Version}
 use Rattle.mw_gen.specs.Emission.{emitted}
-use Rattle.mw_gen.specs.EmissionLaw.{EmissionHolds}
-use Rattle.mw_gen.specs.Generate.{Version, module_with}
+use Rattle.mw_gen.specs.EmissionLaw.{EmittedModulesAreRight}
+use Rattle.mw_gen.specs.Generate.{module_with}
 use Rattle.mw_gen.specs.Generated.{functions_in, outer_in, generated}
 use Rattle.mw_conv.proofs.Ranges.{is_converted}
 use Rattle.mw_gen.proofs.Ranges.{converted_valid, converted_profile, converted_spelled}
 use Rattle.mw_gen.proofs.Shaped.{module_shaped}
 use Rattle.mw_gen.proofs.Standing.{stands}
 
-pub emission_holds : EmissionHolds
+pub emission_holds : EmittedModulesAreRight
 emission_holds v c k closed literals few flat nodes =
     let t = converted_functions c in
     let o = converted_outside c in

@@ -9,7 +9,7 @@ use Rattle.mw_wasm.specs.Syntax.{PureModule}
 use Rattle.mw_wasm.specs.BinaryModules.{wasm_module}
 use Rattle.mw_wasm.specs.Validity.{IsValid}
 use Rattle.mw_wasm.specs.Profile.{IsWithinProfile}
-use Rattle.mw_gen.specs.Generate.{Version}
+use Rattle.mw_key.specs.declared.version.Version.{Version}
 use Rattle.mw_gen.specs.Emission.{emitted}
 
 -- some bytes spell it, fewer than 2^32
@@ -20,7 +20,7 @@ pub record SpelledShort (P : List ℕ → Type 0) : Type 0 where
 
 -- Fewer than 2^32 bytes spell the module; it is valid and within the profile's limits, has the shape that a run of the
 -- kernel type needs, and stands for the code.
-pub record IsEmission (m : PureModule) (c : Expression) (k : KernelType) : Type 0 where
+pub record IsRightModule (m : PureModule) (c : Expression) (k : KernelType) : Type 0 where
   pub spelled : SpelledShort (wasm_module m)
   pub valid : IsValid m
   pub profile : IsWithinProfile m
@@ -29,6 +29,6 @@ pub record IsEmission (m : PureModule) (c : Expression) (k : KernelType) : Type 
 
 -- in either version, of closed code within the limits of kernels, whose literals have 64 bits, at a type of at most
 -- 10,000 nodes
-abbrev pub EmissionHolds : Type 0
-EmissionHolds = (v : Version) (c : Expression) (k : KernelType) → IsClosed c → LiteralsFit c → size c ≤ 20000
-    → depth_of c ≤ 400 → kernel_nodes k ≤ 10000 → IsEmission (emitted v c k) c k
+abbrev pub EmittedModulesAreRight : Type 0
+EmittedModulesAreRight = (v : Version) (c : Expression) (k : KernelType) → IsClosed c → LiteralsFit c → size c ≤ 20000
+    → depth_of c ≤ 400 → kernel_nodes k ≤ 10000 → IsRightModule (emitted v c k) c k

@@ -8,7 +8,9 @@ use Rattle.mw_ir.specs.declared.place.Place.TheVariants.{Argument, Own}
 use Rattle.mw_ir.specs.Ir as i
 use Rattle.mw_conv.specs.Convert.{converted_functions}
 use Rattle.mw_encode.specs.Encoding.{function_code_bytes}
-use Rattle.mw_gen.specs.Generate.{Version, one, two, function_for}
+use Rattle.mw_key.specs.declared.version.Version.{Version}
+use Rattle.mw_key.specs.declared.version.Version.TheVariants.{One, Two}
+use Rattle.mw_gen.specs.Generate.{function_for}
 use Rattle.mw_gen.specs.Emission.{emitted}
 
 abbrev pub int_kernel : KernelType
@@ -47,7 +49,7 @@ entries v c = map (λ f. function_code_bytes (function_for v f)) (converted_func
 
 -- in version 1 the self tail call is a call, by way of two further locals
 abbrev pub SelfTailCallIsACall : Type 0
-SelfTailCallIsACall = entries one down
+SelfTailCallIsACall = entries One down
     ≡ (0x27 ∷ 0x01 ∷ 0x02 ∷ 0x7E ∷ 0x20 ∷ 0x01 ∷ 0x42 ∷ 0x00 ∷ 0x51 ∷ 0xAD ∷ 0xA7 ∷ 0x04 ∷ 0x7E ∷ 0x42 ∷ 0x00 ∷ 0x05
     ∷ 0x20 ∷ 0x00 ∷ 0x20 ∷ 0x01 ∷ 0x42 ∷ 0x01 ∷ 0x7D ∷
     0x21 ∷ 0x03 ∷ 0x22 ∷ 0x02 ∷ 0x20 ∷ 0x03 ∷ 0x20 ∷ 0x02 ∷ 0xA7 ∷ 0x28 ∷ 0x02 ∷ 0x00 ∷ 0x11 ∷ 0x00 ∷ 0x00 ∷ 0x0B ∷ 0x0B
@@ -55,6 +57,6 @@ SelfTailCallIsACall = entries one down
 
 -- in version 2 it is a branch to a loop, and there are no further locals
 abbrev pub SelfTailCallIsABranch : Type 0
-SelfTailCallIsABranch = entries two down
+SelfTailCallIsABranch = entries Two down
     ≡ (0x1B ∷ 0x00 ∷ 0x03 ∷ 0x7E ∷ 0x20 ∷ 0x01 ∷ 0x42 ∷ 0x00 ∷ 0x51 ∷ 0xAD ∷ 0xA7 ∷ 0x04 ∷ 0x7E ∷ 0x42 ∷ 0x00 ∷ 0x05 ∷
     0x20 ∷ 0x01 ∷ 0x42 ∷ 0x01 ∷ 0x7D ∷ 0x21 ∷ 0x01 ∷ 0x0C ∷ 0x01 ∷ 0x0B ∷ 0x0B ∷ 0x0B ∷ []) ∷ []

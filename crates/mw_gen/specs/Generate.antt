@@ -19,15 +19,11 @@ use Rattle.mw_wasm.specs.Syntax.{Code, end, next, loop, cond, br, call_indirect,
 use Rattle.mw_wasm.specs.Syntax.{global_get, global_set, load, store, const_i32, const_i64, numeric, Function, Global}
 use Rattle.mw_wasm.specs.Syntax.{Exporting, ElementSegment, PureModule}
 use Rattle.mw_ir.specs.declared.place.Place.TheVariants.{Argument, Own, Slot, Free}
+use Rattle.mw_key.specs.declared.version.Version.{Version}
+use Rattle.mw_key.specs.declared.version.Version.TheVariants.{One, Two}
 use Rattle.mw_ir.specs.Ir as i
 use Rattle.mw_ir.specs.declared.place.Place.{Place}
 use Rattle.mw_ir.specs.Ir.{Ir, IrFunc}
-
--- In version 1 each application becomes a call. In version 2 a self tail call of a recursive function becomes a branch
--- to a loop.
-pub data Version : Type 0 where
-  one : Version
-  two : Version
 
 -- the heap's end moved by m bytes
 abbrev pub raising_code : ℕ → Code → Code
@@ -157,8 +153,8 @@ spare_count false = 0
 
 -- whether a function with this body is a loop
 abbrev pub is_loop : Version → Ir → Bool
-is_loop one e = false
-is_loop two e = has_self_tail_call e
+is_loop One e = false
+is_loop Two e = has_self_tail_call e
 
 -- of a function's body, which is a loop or not: whether it wants spare locals, and its code
 abbrev pub body_wants_spare : Bool → Ir → Bool

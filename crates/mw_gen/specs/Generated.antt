@@ -5,7 +5,8 @@ use Rattle.mw_wasm.specs.Syntax.{PureModule}
 use Rattle.mw_ir.specs.declared.code.Converted.{Converted}
 use Rattle.mw_ir.specs.Ir.{IrFunc}
 use Rattle.mw_ir.specs.Views.{ir_func_of}
-use Rattle.mw_gen.specs.Generate.{Version, module_with}
+use Rattle.mw_key.specs.declared.version.Version.{Version}
+use Rattle.mw_gen.specs.Generate.{module_with}
 use Rattle.mw_gen.specs.Generation.{MeansConverted}
 
 -- its functions, and the code outside them

@@ -15,7 +15,8 @@ use Rattle.mw_meaning.specs.Shapes.{leaf_count}
 use Rattle.mw_ir.specs.Ir as i
 use Rattle.mw_ir.specs.Ir.{Ir, IrFunc, Frame, means, outside}
 use Rattle.mw_ir.specs.Ranges.{IsConverted}
-use Rattle.mw_gen.specs.Generate.{Version, call_of, module_with}
+use Rattle.mw_key.specs.declared.version.Version.{Version}
+use Rattle.mw_gen.specs.Generate.{call_of, module_with}
 use Rattle.mw_gen.specs.Keeping.{Small, Keeps, word, store_at, table_of}
 
 abbrev pub trap_of : TrapKind → Trap

@@ -5,15 +5,8 @@ ghost use Rattle.mw_wasm.specs.declared.values.ValType.TheVariants.{I64};
 ghost use Rattle.mw_wasm.specs.Views.{code_of, function_of};
 ghost use Rattle.mw_ir.specs.Ranges.{ir_depth};
 ghost use Rattle.mw_ir.specs.Views.{ir_func_of, ir_of};
-ghost use Rattle.mw_gen.specs.Generate.{
-  function_for,
-  init_function as init_with,
-  restarting,
-  loop_code,
-  has_self_tail_call,
-  spare_count,
-  two,
-};
+ghost use Rattle.mw_key.specs.declared.version.Version.TheVariants.{Two};
+ghost use Rattle.mw_gen.specs.Generate.{function_for, init_function as init_with, restarting, loop_code, has_self_tail_call, spare_count, };
 ghost use Rattle.mw_gen.specs.Listing.{AllShort, IsShort};
 ghost use Rattle.mw_gen.specs.Parts.{moved, moved_function};
 
@@ -63,7 +56,7 @@ fn plain_function(alloc: Global, func: &IrFunc, from: u32) -> Result<Func, Alloc
     requires slots { func.now.slots ≤ 400 }
     requires plain { has_self_tail_call (ir_of func.now.body) ≡ false }
     ensures { IfOk result (λ r. function_of r
-        ≡ function_for two (moved_function from (ir_func_of func.now))) }
+        ≡ function_for Two (moved_function from (ir_func_of func.now))) }
 {
     let locals = words(alloc, func.slots + spare_locals(uses(&func.body)))?;
     let body = code_alone(alloc, &func.body, from, 2, 2 + func.slots)?;
@@ -82,7 +75,7 @@ fn looping_function(alloc: Global, func: &IrFunc, from: u32) -> Result<Func, All
     requires depth { ir_depth (ir_of func.now.body) ≤ 400 }
     requires looping { has_self_tail_call (ir_of func.now.body) ≡ true }
     ensures { IfOk result (λ r. function_of r
-        ≡ function_for two (moved_function from (ir_func_of func.now))) }
+        ≡ function_for Two (moved_function from (ir_func_of func.now))) }
 {
     let locals = words(alloc, func.slots + spare_locals(tail_uses(&func.body)))?;
     let body = loop_alone(alloc, &func.body, from, 2 + func.slots)?;
@@ -99,7 +92,7 @@ fn function(alloc: Global, func: &IrFunc, from: u32) -> Result<Func, AllocError>
     requires slots { func.now.slots ≤ 400 }
     requires depth { ir_depth (ir_of func.now.body) ≤ 400 }
     ensures { IfOk result (λ r. function_of r
-        ≡ function_for two (moved_function from (ir_func_of func.now))) }
+        ≡ function_for Two (moved_function from (ir_func_of func.now))) }
 {
     if loops(&func.body) {
         looping_function(alloc, func, from)
@@ -117,7 +110,7 @@ pub fn put_functions(
 ) -> Result<(), AllocError>
     requires { AllShort (map ir_func_of funcs.now) }
     ensures { IfOk result (λ _. map function_of out.new ≡ map function_of out.old
-        ++ map (function_for two) (map (moved_function from) (map ir_func_of funcs.now))) }
+        ++ map (function_for Two) (map (moved_function from) (map ir_func_of funcs.now))) }
 {
     let list = funcs.as_slice();
     for func in list {
@@ -165,7 +158,7 @@ pub fn restarting_init(alloc: Global, outer: &IrFunc, from: u32) -> Result<Func,
 pub fn put_all(alloc: Global, out: &mut Funcs, funcs: &IrFuncs) -> Result<(), AllocError>
     requires { AllShort (map ir_func_of funcs.now) }
     ensures { IfOk result (λ _. map function_of out.new
-        ≡ map function_of out.old ++ map (function_for two) (map ir_func_of funcs.now)) }
+        ≡ map function_of out.old ++ map (function_for Two) (map ir_func_of funcs.now)) }
 {
     put_functions(alloc, out, funcs, 0)
 }

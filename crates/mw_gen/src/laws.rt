@@ -1,6 +1,6 @@
 // Laws of the definitions, which no program calls.
 
-ghost use Rattle.mw_gen.specs.EmissionLaw.{EmissionHolds};
+ghost use Rattle.mw_gen.specs.EmissionLaw.{EmittedModulesAreRight};
 ghost use Rattle.mw_gen.specs.Examples.{
   CubeIsEmitted,
   SelfTailCallIsABranch,
@@ -12,7 +12,7 @@ ghost use Rattle.mw_gen.specs.Generation.{GenerationKeepsMeaning};
 /// In both versions some bytes spell an emitted module, it is valid and within the profile's limits, has the shape of
 /// its kernel type, and stands for its code.
 pub fn emission_holds()
-    ensures { EmissionHolds }
+    ensures { EmittedModulesAreRight }
 {}
 
 /// In both versions the reduction of a generated module does what the converted code means.

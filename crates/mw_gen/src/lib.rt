@@ -12,7 +12,8 @@ ghost use Rattle.mw_wasm.specs.Profile.{IsWithinProfile};
 ghost use Rattle.mw_wasm.specs.Validity.{IsValid};
 ghost use Rattle.mw_wasm.specs.Views.{export_of, function_of, module_of};
 ghost use Rattle.std.specs.Option.{option_map};
-ghost use Rattle.mw_gen.specs.Generate.{function_for, init_function as init_with, restarting, two};
+ghost use Rattle.mw_key.specs.declared.version.Version.TheVariants.{Two};
+ghost use Rattle.mw_gen.specs.Generate.{function_for, init_function as init_with, restarting};
 ghost use Rattle.mw_gen.specs.Parts.{call_for, module_in, moved, moved_function};
 ghost use Rattle.mw_gen.specs.Generated.{DoesConverted, functions_in, generated, outer_in};
 
@@ -41,7 +42,7 @@ pub fn generate(alloc: Global, converted: &Converted, kind: &KType) -> Result<Mo
     requires converted { IsConverted (functions_in converted.now) (outer_in converted.now) }
     requires nodes { kernel_nodes (kernel_type_of kind.now) ≤ 10000 }
     ensures generated { IfOk result
-        (λ wasm. module_of wasm ≡ generated two converted.now (kernel_type_of kind.now)) }
+        (λ wasm. module_of wasm ≡ generated Two converted.now (kernel_type_of kind.now)) }
     ensures spelled { IfOk result (λ wasm. Spelled (wasm_module (module_of wasm))) }
     ensures profile { IfOk result (λ wasm. IsWithinProfile (module_of wasm)) }
     ensures valid { IfOk result (λ wasm. IsValid (module_of wasm)) }
@@ -87,7 +88,7 @@ fn whole_module(alloc: Global, converted: &Converted, kind: &KType) -> Result<Mo
     requires converted { IsConverted (functions_in converted.now) (outer_in converted.now) }
     requires nodes { kernel_nodes (kernel_type_of kind.now) ≤ 10000 }
     ensures { IfOk result
-        (λ wasm. module_of wasm ≡ generated two converted.now (kernel_type_of kind.now)) }
+        (λ wasm. module_of wasm ≡ generated Two converted.now (kernel_type_of kind.now)) }
 {
     let count = converted.funcs.len() as u32;
     let types = types(alloc, kind)?;
@@ -117,7 +118,7 @@ pub fn generate_part(
     requires nodes { kernel_nodes (kernel_type_of kind.now) ≤ 10000 }
     requires base { base ≤ 100000 }
     ensures funcs { IfOk result (λ part. map function_of part.funcs
-        ≡ map (function_for two) (map (moved_function base) (functions_in converted.now))) }
+        ≡ map (function_for Two) (map (moved_function base) (functions_in converted.now))) }
     ensures init { IfOk result (λ part. function_of part.init
         ≡ restarting (init_with (outer_in converted.now).slots
         (moved base (outer_in converted.now).body))) }
@@ -150,7 +151,7 @@ fn all_functions(alloc: Global, converted: &Converted, kind: &KType) -> Result<F
     requires converted { IsConverted (functions_in converted.now) (outer_in converted.now) }
     requires nodes { kernel_nodes (kernel_type_of kind.now) ≤ 10000 }
     ensures { IfOk result
-        (λ funcs. map function_of funcs ≡ (generated two converted.now (kernel_type_of kind.now)).funcs) }
+        (λ funcs. map function_of funcs ≡ (generated Two converted.now (kernel_type_of kind.now)).funcs) }
 {
     let mut funcs = Funcs::new(alloc);
     put_all(alloc, &mut funcs, &converted.funcs)?;

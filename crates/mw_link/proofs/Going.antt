@@ -17,7 +17,8 @@ use Rattle.mw_wasm.specs.Syntax.{Function, Exporting}
 use Rattle.mw_meaning.specs.Shapes.{init_type}
 use Rattle.mw_conv.specs.Convert.{functions, funs}
 use Rattle.mw_conv.proofs.Scopes.{functions_length}
-use Rattle.mw_gen.specs.Generate.{closure_type, function_for, more_types, two}
+use Rattle.mw_key.specs.declared.version.Version.TheVariants.{Two}
+use Rattle.mw_gen.specs.Generate.{closure_type, function_for, more_types}
 use Rattle.mw_gen.proofs.Stores.{append_none}
 use Rattle.mw_link.specs.Linked.{Kernel, calls, count, init_name, call_exports, exports_from, all_functions, call_types}
 use Rattle.mw_link.specs.Linked.{call_of_type, init_from, outer_functions}
@@ -29,8 +30,8 @@ limits_kept c a b = rw (le-leb _ _ a, le-leb _ _ b) refl
 
 -- the lists so far, and what is to come of the kernels left, are the lists of all
 pub record Going (all left : List Kernel) (inner outer : List Function) (types : List FuncType) : Type 0 where
-  pub inner_is : inner ++ map (function_for two) (all_functions (length inner) left)
-      ≡ map (function_for two) (all_functions 0 all)
+  pub inner_is : inner ++ map (function_for Two) (all_functions (length inner) left)
+      ≡ map (function_for Two) (all_functions 0 all)
   pub outer_is : outer ++ outer_functions (length inner) (length types) left ≡ outer_functions 0 2 all
   pub types_are : types ++ call_types left ≡ closure_type ∷ init_type ∷ call_types all
   pub linkable : AllByRecursion IsLinkable left
@@ -49,19 +50,19 @@ going_first all are = record {
 -- one kernel more
 pub going_on : (all : List Kernel) (p : Kernel) (left : List Kernel) (inner outer : List Function)
     (types : List FuncType) → LiteralsFit p.code → Going all (p ∷ left) inner outer types
-    → Going all left (inner ++ map (function_for two) (functions p.code (length inner) 0))
+    → Going all left (inner ++ map (function_for Two) (functions p.code (length inner) 0))
     (outer ++ init_from (length inner) p.code ∷ call_of_type (length types) p.kind) (types ++ more_types p.kind)
 going_on all p left inner outer types fit g =
-    let n : length (inner ++ map (function_for two) (functions p.code (length inner) 0)) ≡ length inner + funs p.code =
+    let n : length (inner ++ map (function_for Two) (functions p.code (length inner) 0)) ≡ length inner + funs p.code =
     length-append inner _ ∙ ap (λ k. length inner + k)
-    (length-map (functions p.code (length inner) 0) (function_for two)
+    (length-map (functions p.code (length inner) 0) (function_for Two)
     ∙ functions_length p.code (length inner) 0) in
     let m : length (types ++ more_types p.kind) ≡ length types + calls p.kind =
     length-append types (more_types p.kind) ∙ ap (λ k. length types + k) (types_length p.kind) in
     record {
       inner_is =
           rw n (append_assoc inner _ _ ∙ (ap (λ z. inner ++ z)
-          (sym (map-append (function_for two) (functions p.code (length inner) 0)
+          (sym (map-append (function_for Two) (functions p.code (length inner) 0)
           (all_functions (length inner + funs p.code) left))) ∙ g.inner_is));
       outer_is = rw (n, m) (append_assoc outer _ _ ∙ g.outer_is);
       types_are = append_assoc types _ _ ∙ g.types_are;
@@ -71,7 +72,7 @@ going_on all p left inner outer types fit g =
 
 -- when none is left
 pub going_done : (all : List Kernel) (inner outer : List Function) (types : List FuncType)
-    → Going all [] inner outer types → (inner ≡ map (function_for two) (all_functions 0 all))
+    → Going all [] inner outer types → (inner ≡ map (function_for Two) (all_functions 0 all))
     × (outer ≡ outer_functions 0 2 all) × (types ≡ closure_type ∷ init_type ∷ call_types all) × LiteralsOfAllFit all
 going_done all inner outer types g = (
   sym (append_none inner) ∙ g.inner_is,
@@ -99,9 +100,9 @@ going_few all left inner outer types are g =
     (let e = ap length g.inner_is in omega (
       arith,
       length-append inner
-          (map (function_for two) (all_functions (length inner) left)),
+          (map (function_for Two) (all_functions (length inner) left)),
       length-map (all_functions 0 all)
-          (function_for two),
+          (function_for Two),
       e,
     )) in
     let b : length types ≤ 2 + length all =
@@ -124,7 +125,7 @@ going_here all ls i x inner outer types lt e g =
 pub going_next : (ls : List Linkable) (i : ℕ) (x : Linkable) (inner inner' outer outer' : List Func)
     (types types' : List FuncType) → i < length ls → x ≡ get_or ls i x
     → Going (kernels_of ls) (kernels_of (drop i ls)) (map function_of inner) (map function_of outer) types
-    → map function_of inner' ≡ map function_of inner ++ map (function_for two)
+    → map function_of inner' ≡ map function_of inner ++ map (function_for Two)
     (functions (expression_of x.code) (length inner) 0)
     → map function_of outer' ≡ map function_of outer ++ init_from (length inner) (expression_of x.code)
     ∷ call_of_type (length types) (kernel_type_of x.kind)
@@ -137,13 +138,13 @@ going_next ls i x inner inner' outer outer' types types' lt e g p q r fit =
     (map function_of outer) types fit (going_here (kernels_of ls) ls i x (map function_of inner)
     (map function_of outer) types lt e g) in
     rw (p, q, r) (subst (λ k. Going (kernels_of ls) (kernels_of (drop (i + 1) ls))
-    (map function_of inner ++ map (function_for two) (functions (expression_of x.code) k 0))
+    (map function_of inner ++ map (function_for Two) (functions (expression_of x.code) k 0))
     (map function_of outer ++ init_from k (expression_of x.code)
     ∷ call_of_type (length types) (kernel_type_of x.kind)) (types ++ more_types (kernel_type_of x.kind))) l h)
 
 pub going_end : (ls : List Linkable) (i : ℕ) (inner outer : List Function) (types : List FuncType) → length ls ≤ i
     → Going (kernels_of ls) (kernels_of (drop i ls)) inner outer types
-    → (inner ≡ map (function_for two) (all_functions 0 (kernels_of ls))) × (outer ≡ outer_functions 0 2 (kernels_of ls))
+    → (inner ≡ map (function_for Two) (all_functions 0 (kernels_of ls))) × (outer ≡ outer_functions 0 2 (kernels_of ls))
     × (types ≡ closure_type ∷ init_type ∷ call_types (kernels_of ls)) × LiteralsOfAllFit (kernels_of ls)
 going_end ls i inner outer types le g =
     going_done (kernels_of ls) inner outer types (subst (λ zs. Going (kernels_of ls) (kernels_of zs) inner outer types)

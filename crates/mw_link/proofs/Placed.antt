@@ -19,7 +19,8 @@ use Rattle.mw_conv.proofs.Scopes.{functions_length}
 use Rattle.mw_conv.proofs.Correct.{has_self}
 use Rattle.mw_conv.proofs.Closures.{occurs_below}
 use Rattle.mw_conv.proofs.Ranges.{code_range, functions_proper}
-use Rattle.mw_gen.specs.Generate.{two, function_for, call_numbered, more_types}
+use Rattle.mw_key.specs.declared.version.Version.TheVariants.{Two}
+use Rattle.mw_gen.specs.Generate.{function_for, call_numbered, more_types}
 use Rattle.mw_gen.proofs.Slots.{slots_needed}
 use Rattle.mw_gen.proofs.Words.{get_append}
 use Rattle.mw_gen.proofs.Correct.{Fine, Sound, Carries}
@@ -65,8 +66,8 @@ module _ (all : List Kernel) where
   all_placed = record {
     functions = has_self [] T;
     outside =
-        subst (λ n. AtFrom M.funcs n (outer_functions 0 2 all)) (length-map T (function_for two))
-        (at_after (map (function_for two) T) (outer_functions 0 2 all));
+        subst (λ n. AtFrom M.funcs n (outer_functions 0 2 all)) (length-map T (function_for Two))
+        (at_after (map (function_for Two) T) (outer_functions 0 2 all));
     types = at_after (Rattle.mw_gen.specs.Generate.closure_type ∷ init_type ∷ []) (call_types all);
     exports = at_start (exports_from (count all) all);
   }
@@ -123,11 +124,11 @@ module _ (all : List Kernel) where
       go (of_ground g) a b c = tt
       go (to s t) a b c = (a.0, b.0, c.0)
 
-  pub carries : Carries two T M
+  pub carries : Carries Two T M
   carries = record {
     funcs =
-        λ j f q. get_append (map (function_for two) T) _ j (function_for two f)
-        (slice_get-map (function_for two) T j ∙ ap (λ o. option_map (function_for two) o) q);
+        λ j f q. get_append (map (function_for Two) T) _ j (function_for Two f)
+        (slice_get-map (function_for Two) T j ∙ ap (λ o. option_map (function_for Two) o) q);
     type0 = refl;
   }
 

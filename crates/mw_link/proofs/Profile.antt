@@ -10,7 +10,8 @@ use Rattle.mw_wasm.specs.Profile.{IsShallow, IsPrintable, IsWithinProfile}
 use Rattle.mw_ir.specs.declared.place.Place.TheVariants.{Argument}
 use Rattle.mw_conv.specs.Convert.{funs, lets, code}
 use Rattle.mw_conv.proofs.Ranges.{code_depth, lets_depth}
-use Rattle.mw_gen.specs.Generate.{two, function_for, wants_spare, spare_count, elements_of}
+use Rattle.mw_key.specs.declared.version.Version.TheVariants.{Two}
+use Rattle.mw_gen.specs.Generate.{function_for, wants_spare, spare_count, elements_of}
 use Rattle.mw_gen.proofs.Profile.{temps_two, expression_depth, locals_few, all_shallow, call_depth}
 use Rattle.mw_gen.proofs.Ranges.{shallow, all_modest}
 use Rattle.mw_link.specs.Linked.{Kernel, calls, call_of_type, outer_functions, call_exports, exports_from, count}
@@ -104,10 +105,10 @@ within_profile all are =
       table_elements = are.together;
       memory_pages = omega arith;
       further_locals =
-          both_all Few (map (function_for two) (T all)) _ (locals_few two (T all) modest) (outer_few 0 2 all are.all);
+          both_all Few (map (function_for Two) (T all)) _ (locals_few Two (T all) modest) (outer_few 0 2 all are.all);
       export_names = names (count all) all are.all;
       function_depth =
-          both_all Flat (map (function_for two) (T all)) _ (all_shallow two (T all) modest)
+          both_all Flat (map (function_for Two) (T all)) _ (all_shallow Two (T all) modest)
           (outer_flat 0 2 all are.all);
       global_depth = (omega arith, tt);
       element_depth = elements (count all);

@@ -22,7 +22,8 @@ use Rattle.mw_ir.specs.Ranges.{ir_size, total_size, IsOuterPlace}
 use Rattle.mw_conv.specs.Convert.{here, fun_places, fix_places, funs, lets, code, functions}
 use Rattle.mw_conv.proofs.Scopes.{functions_length}
 use Rattle.mw_conv.proofs.Ranges.{code_size, lets_depth}
-use Rattle.mw_gen.specs.Generate.{two, function_for, wants_spare, spare_count, more_types}
+use Rattle.mw_key.specs.declared.version.Version.TheVariants.{Two}
+use Rattle.mw_gen.specs.Generate.{function_for, wants_spare, spare_count, more_types}
 use Rattle.mw_gen.proofs.Profile.{temps_two}
 use Rattle.mw_gen.proofs.Pieces.{SpelledWithin, within_then, within_more, within_byte, within_u32, within_sized}
 use Rattle.mw_gen.proofs.Pieces.{within_nil, within_vector, within_section, within_absent, customs_within, no_imports}
@@ -140,14 +141,14 @@ all_small (f ∷ fs) c h = (omega (arith, narrow f.body c.0.near), all_small fs 
 
 funcs_within : (fs : List IrFunc) (rest : List Function) (r : ℕ) → AllByRecursion CanSpell fs → AllByRecursion Small fs
     → SpelledWithin r (items function_code rest) → SpelledWithin (total fs + r)
-    (items function_code (map (function_for two) fs ++ rest))
+    (items function_code (map (function_for Two) fs ++ rest))
 funcs_within [] rest r c small s = within_more (0 + r) (omega arith) s
 funcs_within (f ∷ fs) rest r c small s =
-    within_more (total (f ∷ fs) + r) (omega arith) (within_then (func_within two f c.0 small.0)
+    within_more (total (f ∷ fs) + r) (omega arith) (within_then (func_within Two f c.0 small.0)
     (funcs_within fs rest r c.1 small.1 s))
 
 kinds_within : (fs : List IrFunc) (rest : List Function) (r : ℕ) → SpelledWithin r (items function_kind rest)
-    → SpelledWithin (5 * length fs + r) (items function_kind (map (function_for two) fs ++ rest))
+    → SpelledWithin (5 * length fs + r) (items function_kind (map (function_for Two) fs ++ rest))
 kinds_within [] rest r s = within_more (0 + r) (omega arith) s
 kinds_within (f ∷ fs) rest r s =
     within_more (5 * length (f ∷ fs) + r) (omega arith) (within_then {j = 5} (within_u32 0 (omega arith))
@@ -362,9 +363,9 @@ module _ (all : List Kernel) (are : AreWhole all) where
   counted_funcs = (
     omega (
       arith,
-      length-append (map (function_for two) (T all)) (outer_functions 0 2 all),
+      length-append (map (function_for Two) (T all)) (outer_functions 0 2 all),
       length-map (T all)
-          (function_for two),
+          (function_for Two),
       outer_length 0 2 all,
       few all are,
       are.few,

@@ -16,7 +16,7 @@ use Rattle.mw_wasm.specs.Soundness.{EndIsTyped}
 use Rattle.mw_wasm.proofs.Soundness.{invocations_are_sound}
 use Rattle.mw_wasm.proofs.InstanceTypes.{instances_are_typed}
 use Rattle.mw_conv.specs.Convert.{funs, lets}
-use Rattle.mw_gen.specs.Generate.{two}
+use Rattle.mw_key.specs.declared.version.Version.TheVariants.{Two}
 use Rattle.mw_gen.specs.Keeping.{Keeps, store_at, table_of}
 use Rattle.mw_gen.proofs.Instance.{no_memory, fits, written}
 use Rattle.mw_gen.proofs.Invoke.{restart_says, call_says}
@@ -81,7 +81,7 @@ module _ (all : List Kernel) (are : AreWhole all) where
     init_does : (top : ℕ) (mem : Memory) → mem.pages ≡ 64 → (units : ℕ)
         → InitSays (T all) p.code o units (invoked (linked all) (store_at (table_of (T all)) top mem) n [] units)
     init_does top mem pages units =
-        restart_says two (T all) (linked all) (carries all) (sound all are) n (lets p.code)
+        restart_says Two (T all) (linked all) (carries all) (sound all are) n (lets p.code)
         (body all are o x n e p is here) here.is_init refl units units top mem (body_fine all are o x n e p is here)
         (body_needs all are o x n e p is here) (empty_kept mem pages)
 
@@ -101,7 +101,7 @@ module _ (all : List Kernel) (are : AreWhole all) where
           suc n,
           found (linked all).exports (suc e) _ (suc n) (names_differ (count all) all are.differ) c.2,
           λ units calls are_calls. calls_after (T all) p.code o here.functions (linked all) s r (suc n) typed
-              (λ m h mem w ws len small me. call_says two (T all) (linked all) (carries all) (sound all are) s x (suc n)
+              (λ m h mem w ws len small me. call_says Two (T all) (linked all) (carries all) (sound all are) s x (suc n)
               c.0 c.1 m m h mem w ws len small me)
               units _ (init_does top mem pages units) calls are_calls,
         )

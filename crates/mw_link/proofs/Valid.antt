@@ -7,7 +7,8 @@ use Rattle.mw_wasm.specs.declared.modules.FuncType.{FuncType}
 use Rattle.mw_wasm.specs.Syntax.{Exporting}
 use Rattle.mw_wasm.specs.Validity.{IsValidFunction, IsValidElement, IsThere, IsValid}
 use Rattle.mw_conv.specs.Convert.{funs, lets}
-use Rattle.mw_gen.specs.Generate.{two, function_for, elements_of, more_types}
+use Rattle.mw_key.specs.declared.version.Version.TheVariants.{Two}
+use Rattle.mw_gen.specs.Generate.{function_for, elements_of, more_types}
 use Rattle.mw_gen.proofs.Modules.{Suits, funcs_valid, restarting_valid, call_valid, counting_below}
 use Rattle.mw_gen.proofs.Ranges.{all_proper}
 use Rattle.mw_link.specs.Linked.{Kernel, calls, call_types, call_of_type, outer_functions, call_exports, exports_from}
@@ -34,14 +35,14 @@ module _ (all : List Kernel) (are : AreWhole all) where
   call_one : (x n e : ℕ) (p : Kernel) (k : KernelType) → CallPlaced all x n e p k
       → AllByRecursion (IsValidFunction (linked all)) (call_of_type x k)
   call_one x n e p (of_ground g) h = tt
-  call_one x n e p (to s t) h = (call_valid two (linked all) (suits all) s x h.1, tt)
+  call_one x n e p (to s t) h = (call_valid Two (linked all) (suits all) s x h.1, tt)
 
   outer_valid : (o x n e : ℕ) (ps : List Kernel) → AllByRecursion IsWhole ps → Placed all o x n e ps
       → AllByRecursion (IsValidFunction (linked all)) (outer_functions o x ps)
   outer_valid o x n e [] a h = tt
   outer_valid o x n e (p ∷ ps) a h =
       let here = placed_here all o x n e p ps h in (
-        restarting_valid two (linked all) (suits all) (lets p.code) (body all are o x n e p a.0 here) refl
+        restarting_valid Two (linked all) (suits all) (lets p.code) (body all are o x n e p a.0 here) refl
             (body_needs all are o x n e p a.0 here) (body_sees all are o x n e p a.0 here),
         both_all _ (call_of_type x p.kind) _ (call_one x n e p p.kind here.call)
             (outer_valid (o + funs p.code) (x + calls p.kind) (suc (n + calls p.kind)) (suc (e + calls p.kind)) ps a.1
@@ -72,9 +73,9 @@ module _ (all : List Kernel) (are : AreWhole all) where
       tt,
       counting_below 0 (suc n) _ (omega (
         arith,
-        length-append (map (function_for two) (T all))
+        length-append (map (function_for Two) (T all))
             (outer_functions 0 2 all),
-        length-map (T all) (function_for two),
+        length-map (T all) (function_for Two),
       )),
     ),
     tt,
@@ -84,7 +85,7 @@ pub valid_whole : (ps : List Kernel) → AreWhole ps → IsValid (linked ps)
 valid_whole all are = record {
   types = (omega arith, (omega arith, one_result all));
   funcs =
-      both_all _ (map (function_for two) (T all)) _ (funcs_valid two (linked all) (suits all) (T all)
+      both_all _ (map (function_for Two) (T all)) _ (funcs_valid Two (linked all) (suits all) (T all)
       (all_proper (T all) (few all are) (proper all are) (T all) (proper all are)))
       (outer_valid all are 0 2 (count all) 0 all are.all (all_placed all));
   table = (let f = few all are in omega arith, (let f = few all are in omega arith, omega arith));

@@ -9,7 +9,8 @@ use Rattle.mw_meaning.specs.Shapes.{init_type}
 use Rattle.mw_ir.specs.declared.place.Place.TheVariants.{Argument}
 use Rattle.mw_ir.specs.Ir.{IrFunc}
 use Rattle.mw_conv.specs.Convert.{funs, lets, code, functions}
-use Rattle.mw_gen.specs.Generate.{two, function_for, init_function, restarting, call_numbered, closure_type, more_types}
+use Rattle.mw_key.specs.declared.version.Version.TheVariants.{Two}
+use Rattle.mw_gen.specs.Generate.{function_for, init_function, restarting, call_numbered, closure_type, more_types}
 use Rattle.mw_gen.specs.Generate.{heap_end, elements_of}
 
 -- a kernel: its name, its code and its type
@@ -71,7 +72,7 @@ count ps = length (all_functions 0 ps)
 abbrev pub linked : List Kernel → PureModule
 linked ps = record {
   types = closure_type ∷ init_type ∷ call_types ps;
-  funcs = map (function_for two) (all_functions 0 ps) ++ outer_functions 0 2 ps;
+  funcs = map (function_for Two) (all_functions 0 ps) ++ outer_functions 0 2 ps;
   table = Some record { min = count ps; max = Some (count ps) };
   memory = Some record { min = 64; max = Some 64 };
   globals = heap_end ∷ [];

@@ -7,7 +7,8 @@ ghost use Rattle.mw_term.specs.Closed.{IsClosed};
 ghost use Rattle.mw_term.specs.Limits.{within_limits, kernel_nodes, LiteralsFit};
 ghost use Rattle.mw_wasm.specs.Views.{function_of};
 ghost use Rattle.mw_conv.specs.Convert.{functions as functions_from};
-ghost use Rattle.mw_gen.specs.Generate.{closure_type, function_for, more_types, two};
+ghost use Rattle.mw_key.specs.declared.version.Version.TheVariants.{Two};
+ghost use Rattle.mw_gen.specs.Generate.{closure_type, function_for, more_types};
 ghost use Rattle.mw_gen.specs.Parts.{call_for};
 ghost use Rattle.mw_meaning.specs.Shapes.{init_type};
 ghost use Rattle.mw_link.specs.Linked.{all_functions, call_of_type, call_types, init_from, outer_functions};
@@ -70,7 +71,7 @@ fn part_of(alloc: Global, kernel: &Linkable, base: u32) -> Result<Part, AllocErr
     requires nodes { kernel_nodes (kernel_type_of kernel.now.kind) ≤ 10000 }
     requires base { base ≤ 100000 }
     ensures funcs { IfOk result (λ part. map function_of part.funcs
-        ≡ map (function_for two) (functions_from (expression_of kernel.now.code) base 0)) }
+        ≡ map (function_for Two) (functions_from (expression_of kernel.now.code) base 0)) }
     ensures init { IfOk result (λ part. function_of part.init
         ≡ init_from base (expression_of kernel.now.code)) }
     ensures call { IfOk result (λ part. option_map function_of part.call
@@ -89,7 +90,7 @@ pub fn put_kernel(alloc: Global, out: &mut Linking, kernel: &Linkable) -> Result
     requires few { length out.old.inner ≤ 100000 }
     requires types { length out.old.types ≤ 102 }
     ensures inner { IfOk result (λ _. map function_of out.new.inner ≡ map function_of out.old.inner
-        ++ map (function_for two)
+        ++ map (function_for Two)
         (functions_from (expression_of kernel.now.code) (length out.old.inner) 0)) }
     ensures outer { IfOk result (λ _. map function_of out.new.outer ≡ map function_of out.old.outer
         ++ init_from (length out.old.inner) (expression_of kernel.now.code)
@@ -111,7 +112,7 @@ pub fn put_kernel(alloc: Global, out: &mut Linking, kernel: &Linkable) -> Result
 pub fn put_kernels(alloc: Global, kernels: &[Linkable]) -> Result<Linking, AllocError>
     requires linkable { AreLinkable (kernels_of kernels.now) }
     ensures inner { IfOk result (λ r. map function_of r.inner
-        ≡ map (function_for two) (all_functions 0 (kernels_of kernels.now))) }
+        ≡ map (function_for Two) (all_functions 0 (kernels_of kernels.now))) }
     ensures outer { IfOk result (λ r. map function_of r.outer
         ≡ outer_functions 0 2 (kernels_of kernels.now)) }
     ensures types { IfOk result (λ r. r.types

@@ -18,29 +18,29 @@ use Rattle.mw_key.specs.CanonicalText.{IsTextOf, canonical_text}
 use Rattle.mw_key.specs.Reading.{words, text_of_words}
 use Rattle.mw_key.proofs.FoundTexts.{text_found, text_from, one_text}
 use Rattle.mw_store.specs.Loads.{Loaded, LoadState}
-use Rattle.mw_compile.specs.Emission.{emission, version_of, IsEmissionOf}
+use Rattle.mw_compile.specs.Emission.{emission, IsEmissionOf}
 use Rattle.mw_cache.specs.Gots.{IsRight}
 use Rattle.mw_tasks.specs.RightRuns.{IsWrong, IsRightRun, AreRightRuns, HasWrongRun}
 
 -- of code that has the text
 emitted_or_not : (bytes text : List ℕ) (v : Version) (c : Expression) (k : KernelType) → IsTextOf text v c k
     → IsEmissionOf bytes text ⊎ (IsEmissionOf bytes text → ⊥)
-emitted_or_not bytes text v c k is = elim (cases_Bool (bytes_eq bytes (emission (version_of v) c k))) [
+emitted_or_not bytes text v c k is = elim (cases_Bool (bytes_eq bytes (emission v c k))) [
   | inl same ↦
       inl (record {
         version = v;
         code = c;
         kind = k;
         is_text = is;
-        is_emission = (bytes_eq-Decides bytes (emission (version_of v) c k)).0 same;
+        is_emission = (bytes_eq-Decides bytes (emission v c k)).0 same;
       })
   | inr other ↦
       inr (λ e.
       let one = one_text text e.version v e.code c e.kind k e.is_text is in
-      let same : emission (version_of e.version) e.code e.kind ≡ emission (version_of v) c k =
-      ap (λ v. emission (version_of v) e.code e.kind) one.0
-      ∙ (ap (λ c. emission (version_of v) c e.kind) one.1 ∙ ap (λ k. emission (version_of v) c k) one.2) in
-      not_from_Decides _ (bytes_eq-Decides bytes (emission (version_of v) c k)) other (e.is_emission ∙ same))
+      let same : emission e.version e.code e.kind ≡ emission v c k =
+      ap (λ v. emission v e.code e.kind) one.0
+      ∙ (ap (λ c. emission v c e.kind) one.1 ∙ ap (λ k. emission v c k) one.2) in
+      not_from_Decides _ (bytes_eq-Decides bytes (emission v c k)) other (e.is_emission ∙ same))
 ]
 
 -- bytes are the emission of a text or they aren't

@@ -1,7 +1,7 @@
+use Rattle.mw_key.specs.declared.version.Version.TheVariants.{Two}
 use Rattle.std.proofs.Common.{◌∙◌}
 use Rattle.std.specs.Arc.{arc_value}
 use Rattle.mw_term.specs.Terms.{expression_of, kernel_type_of}
-use Rattle.mw_gen.specs.Generate.{two}
 use Rattle.mw_gen.proofs.Whole.{generated_is_emitted}
 use Rattle.mw_compile.proofs.Entering.{generated_kept, entry_of, entry_kept}
 use Rattle.mw_compile.proofs.emission.entry_of.Goals as goal
@@ -11,10 +11,10 @@ encode-requires c = record { spelled = (c.in_ok-wasm.ensures.spelled.bytes, c.in
 
 pub sure-requires : goal.sure-requires
 sure-requires c =
-    generated_kept two (expression_of c.args.code.now)
+    generated_kept Two (expression_of c.args.code.now)
     (kernel_type_of c.args.kind.now) c.in_ok-wasm.wasm c.in_ok-wasm.ensures.valid
     (c.in_ok-wasm.ensures.generated
-    ∙ generated_is_emitted two (expression_of c.args.code.now)
+    ∙ generated_is_emitted Two (expression_of c.args.code.now)
     (kernel_type_of c.args.kind.now) c.in_ok-converted.converted
     c.in_ok-converted.ensures.functions c.in_ok-converted.ensures.body)
 
@@ -23,7 +23,7 @@ invariant_of-result c =
     let code = expression_of c.args.code.now in
     let kind = kernel_type_of c.args.kind.now in
     let made = c.in_ok-wasm.ensures.generated
-    ∙ generated_is_emitted two code kind c.in_ok-converted.converted c.in_ok-converted.ensures.functions
+    ∙ generated_is_emitted Two code kind c.in_ok-converted.converted c.in_ok-converted.ensures.functions
     c.in_ok-converted.ensures.body in
     entry_kept _ code kind (entry_of code kind c.in_ok-wasm.wasm
     (arc_value c.in_ok-new.field-0) c.args.text.items c.in_ok-bytes.bytes.items
@@ -34,7 +34,7 @@ returns c =
     let code = expression_of c.args.code.now in
     let kind = kernel_type_of c.args.kind.now in
     let made = c.in_ok-wasm.ensures.generated
-    ∙ generated_is_emitted two code kind c.in_ok-converted.converted c.in_ok-converted.ensures.functions
+    ∙ generated_is_emitted Two code kind c.in_ok-converted.converted c.in_ok-converted.ensures.functions
     c.in_ok-converted.ensures.body in
     entry_of code kind c.in_ok-wasm.wasm (arc_value c.in_ok-new.field-0) c.args.text.items c.in_ok-bytes.bytes.items
     c.requires made c.in_ok-bytes.ensures.exact (c.in_ok-new.ensures.ok ∙ c.sure.ensures)
