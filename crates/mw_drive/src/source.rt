@@ -24,7 +24,7 @@ use crate::linked::write_linked;
 use crate::program::{RunOptions, write_run};
 use crate::workplace::Workplace;
 use mw_console::{Status, put_refusal, write_lines};
-use mw_infer::check;
+use mw_infer::ensure_typed;
 use mw_outside::{Gate, Keeper, Sink};
 use mw_reading::read;
 use mw_term::{Item, Refusal, Stop};
@@ -88,8 +88,8 @@ pub fn write_source<R: Threads + Sync, K: Sink, C: Keeper, G: Gate, L: Ledger>(
         Err(Stop::Refused(refusal)) => return write_refusal(alloc, sink, refusal, &[]),
         Err(Stop::Memory(error)) => return Err(RunFault::from(error)),
     };
-    match check(alloc, &program) {
-        Ok(_) => {}
+    match ensure_typed(alloc, &program) {
+        Ok(()) => {}
         Err(Stop::Refused(refusal)) => {
             return write_refusal(alloc, sink, refusal, program.items.as_slice());
         }

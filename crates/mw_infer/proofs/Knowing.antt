@@ -1,10 +1,10 @@
 -- The sets that are kept of types' classifiers.
 use Rattle.std.proofs.Common.{◌≡◌, ℕ, zero, suc, ◌<◌, List, [], ◌∷◌, Bool, true, false, Option, Some, IsTrue}
 use Rattle.std.proofs.Common.{refl, ap, ◌∙◌, subst, length, arith}
-use Rattle.std.specs.Prelude.{slice_get, slice_index_or, cond, not}
+use Rattle.std.specs.Prelude.{slice_get, slice_index_or, not}
 use Rattle.mw_types.specs.declared.types.Ty.{Ty}
 use Rattle.mw_types.specs.declared.types.Ty.TheVariants.{Int}
-use Rattle.std.specs.BTreeSet.{BTreeSet, contains, Updates}
+use Rattle.std.specs.BTreeSet.{BTreeSet, contains}
 use Rattle.std.specs.Ordering.{nat_cmp}
 use Rattle.mw_term.specs.Types.{IsAbsentIn}
 use Rattle.mw_types.specs.Types.{TypeExpression, int_ty, bool_ty, unknown, pair_ty, function_ty, code_ty, closed_ty}

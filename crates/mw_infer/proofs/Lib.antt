@@ -33,3 +33,4 @@ pub mod Finding
 pub mod Copying
 pub mod FirstFails
 pub mod Holding
+pub mod TypeAlone

@@ -1,14 +1,16 @@
 -- What is known of the nodes of parts, one part after another.
-use Rattle.std.proofs.Common.{◌≡◌, ℕ, zero, suc, ◌+◌, ◌<◌, List, [], ◌∷◌, ◌++◌, length, Some, refl, ap, sym, subst, ◌∙◌}
+use Rattle.std.proofs.Common.{◌≡◌, ℕ, zero, suc, ◌+◌, ◌<◌, List, [], ◌∷◌, ◌++◌, length, map, Option, None, Some, refl, sym, subst}
+use Rattle.std.proofs.Common.{◌∙◌, true≢false}
 use Rattle.std.proofs.Common.{arith}
-use Rattle.std.specs.Prelude.{slice_get}
+use Rattle.std.specs.Prelude.{IsSome, slice_get}
+use Rattle.std.proofs.lemmas.List.{map-append}
 use Rattle.mw_term.specs.Programs.{Definition, value, kernel, PureProgram}
 use Rattle.mw_term.specs.Parts.{Part, part_of_main, IsPart, an_item, main}
 use Rattle.mw_infer.specs.Schemes.{TopScheme}
 use Rattle.mw_infer.specs.Checking.{ArePrincipal}
 use Rattle.mw_infer.specs.Judging.{Judges}
 use Rattle.mw_infer.specs.Nodes.{NodeFacts, AreNodesOfPart, AreNodesOf}
-use Rattle.mw_infer.specs.Progress.{Progress, Steps, Ends, AreNodesBefore}
+use Rattle.mw_infer.specs.Progress.{Progress, Steps, Ends, AreNodesBefore, listed}
 use Rattle.mw_infer.specs.Typings.{PartTypes, facts_of_part}
 use Rattle.mw_infer.specs.declared.judge.Judged.{Judged}
 use Rattle.mw_infer.specs.declared.judge.Verdict.TheVariants.{Fine}
@@ -19,14 +21,14 @@ use Rattle.mw_infer.proofs.Stepping.{append-length, get-below}
 
 -- what is judged of a part tells of its nodes
 judged-nodes : (x : Part) (schemes : List TopScheme) (w : Judged) (nodes : PartTypes) → ArePrincipal x.names schemes
-    → Judges schemes x.place x.term (Fine w) → nodes ≡ w.nodes → AreNodesOfPart x (facts_of_part nodes)
+    → Judges schemes x.place x.term (Fine w) → Some nodes ≡ w.nodes → AreNodesOfPart x (facts_of_part nodes)
 judged-nodes x schemes w nodes p j e = record {
   schemes = schemes;
   principal = p;
   solution = j.0;
   solves = j.1;
   fresh = j.2;
-  told = ap facts_of_part e ∙ j.4;
+  told = rw (sym e) at j.4;
 }
 
 get-front : {A : Type 0} (xs : List A) (y x : A) (j : ℕ) → j < length xs → slice_get (xs ++ (y ∷ [])) j ≡ Some x
@@ -59,19 +61,13 @@ told-on p i x parts facts h a f =
     }
 
 told-step : (p : PureProgram) (i : ℕ) (d : Definition) (schemes new : List TopScheme) (nodes : PartTypes)
-    (parts : List (List NodeFacts)) → slice_get p.items i ≡ Some d → Progress p i schemes → Steps schemes d new nodes
-    → AreNodesBefore p i parts → AreNodesBefore p (suc i) (parts ++ (facts_of_part nodes ∷ []))
+    (parts : List (List NodeFacts)) → slice_get p.items i ≡ Some d → Progress p i schemes
+    → Steps schemes d new (Some nodes) → AreNodesBefore p i parts
+    → AreNodesBefore p (suc i) (parts ++ (facts_of_part nodes ∷ []))
 told-step p i (value e) schemes new nodes parts g h s t =
     told-on p i _ parts (facts_of_part nodes) t (an_item g) (judged-nodes _ schemes s.0 nodes h.principal s.1 s.3)
 told-step p i (kernel k e) schemes new nodes parts g h s t =
     told-on p i _ parts (facts_of_part nodes) t (an_item g) (judged-nodes _ schemes s.0 nodes h.principal s.1 s.3)
-
--- one item more, and main
-pub told-next : (p : PureProgram) (i : ℕ) (d : Definition) (schemes new : List TopScheme) (nodes : PartTypes)
-    (parts : List (List NodeFacts)) → slice_get p.items i ≡ Some d → Progress p i schemes → Steps schemes d new nodes
-    → AreNodesBefore p i parts → AreNodesBefore p (i + 1) (parts ++ (facts_of_part nodes ∷ []))
-told-next p i d schemes new nodes parts g h s t = let e : i + 1 ≡ suc i = omega arith in
-    rw e (told-step p i d schemes new nodes parts g h s t)
 
 all-told : (p : PureProgram) (parts : List (List NodeFacts)) → AreNodesBefore p (suc (length p.items)) parts
     → AreNodesOf p parts
@@ -87,11 +83,25 @@ all-told p parts h =
         h.each i _ _ (omega (arith, lt)) (an_item a) g
     part-told (main {i = i} e) g = h.each i _ _ (omega (arith, e)) (main e) g
 
-pub told-main : (p : PureProgram) (schemes : List TopScheme) (nodes : PartTypes) (parts : List (List NodeFacts))
-    → Progress p (length p.items) schemes → Ends (revealed p.items schemes) p.result p.body nodes
-    → AreNodesBefore p (length p.items) parts → AreNodesOf p (parts ++ (facts_of_part nodes ∷ []))
-told-main p schemes nodes parts h s t =
+-- one item more, and main, where their nodes are known
+pub kept-next : (p : PureProgram) (i : ℕ) (d : Definition) (schemes new : List TopScheme) (nodes : Option PartTypes)
+    (parts all : List PartTypes) → slice_get p.items i ≡ Some d → Progress p i schemes → Steps schemes d new nodes
+    → IsSome nodes → all ≡ parts ++ listed nodes → AreNodesBefore p i (map facts_of_part parts)
+    → AreNodesBefore p (i + 1) (map facts_of_part all)
+kept-next p i d schemes new None parts all g h s k e t = absurd (true≢false (sym k))
+kept-next p i d schemes new (Some nodes) parts all g h s k e t =
+    let q : i + 1 ≡ suc i = omega arith in
+    rw (e, map-append facts_of_part parts (nodes ∷ []), q)
+    (told-step p i d schemes new nodes (map facts_of_part parts) g h s t)
+
+pub kept-main : (p : PureProgram) (schemes : List TopScheme) (nodes : Option PartTypes) (parts all : List PartTypes)
+    → Progress p (length p.items) schemes → Ends (revealed p.items schemes) p.result p.body nodes → IsSome nodes
+    → all ≡ parts ++ listed nodes → AreNodesBefore p (length p.items) (map facts_of_part parts)
+    → AreNodesOf p (map facts_of_part all)
+kept-main p schemes None parts all h s k e t = absurd (true≢false (sym k))
+kept-main p schemes (Some nodes) parts all h s k e t =
     let f = judged-nodes (part_of_main p) (revealed p.items schemes) s.0 nodes
     (principal-main p.items schemes h.principal) s.1 s.2 in
-    all-told p (parts ++ (facts_of_part nodes ∷ []))
-    (told-on p (length p.items) (part_of_main p) parts (facts_of_part nodes) t (main refl) f)
+    let told = map facts_of_part parts in
+    rw (e, map-append facts_of_part parts (nodes ∷ [])) (all-told p (told ++ (facts_of_part nodes ∷ []))
+    (told-on p (length p.items) (part_of_main p) told (facts_of_part nodes) t (main refl) f))

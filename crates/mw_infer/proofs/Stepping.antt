@@ -1,5 +1,6 @@
 -- One item more, and main.
-use Rattle.std.proofs.Common.{◌≡◌, ℕ, zero, suc, ◌+◌, ◌<◌, ◌≤◌, List, [], ◌∷◌, ◌++◌, map, length, get_or, Some, refl}
+use Rattle.std.proofs.Common.{◌≡◌, ℕ, zero, suc, ◌+◌, ◌<◌, ◌≤◌, List, [], ◌∷◌, ◌++◌, map, length, get_or, Option, Some}
+use Rattle.std.proofs.Common.{refl}
 use Rattle.std.proofs.Common.{ap, sym, subst, ◌∙◌, arith}
 use Rattle.std.specs.Prelude.{slice_get, slice_set}
 use Rattle.mw_term.specs.Terms.{Expression, KernelType}
@@ -40,7 +41,8 @@ pub progress-first : (p : PureProgram) → Progress p 0 []
 progress-first p =
     record { principal = principal-first p.items; modest = tt; earlier = λ j x lt a. absurd (omega arith) }
 
-step-on : (p : PureProgram) (i : ℕ) (d : Definition) (schemes new : List TopScheme) (nodes : PartTypes) → IsResolved p
+step-on : (p : PureProgram) (i : ℕ) (d : Definition) (schemes new : List TopScheme) (nodes : Option PartTypes)
+    → IsResolved p
     → slice_get p.items i ≡ Some d → Progress p i schemes → Steps schemes d new nodes → Progress p (suc i) new
 step-on p i (value e) schemes new nodes w g h s =
     let names = seen_by_item p.items i in
@@ -63,7 +65,7 @@ step-on p i (kernel k e) schemes new nodes w g h s =
       earlier = earlier-next p i _ h.earlier a (fine-faultless _ schemes s.0 h.principal source s.1);
     })
 
-pub progress-next : (p : PureProgram) (i : ℕ) (d : Definition) (schemes new : List TopScheme) (nodes : PartTypes)
+pub progress-next : (p : PureProgram) (i : ℕ) (d : Definition) (schemes new : List TopScheme) (nodes : Option PartTypes)
     → IsResolved p → slice_get p.items i ≡ Some d → Progress p i schemes → Steps schemes d new nodes
     → Progress p (i + 1) new
 progress-next p i d schemes new nodes w g h s = let e : i + 1 ≡ suc i = omega arith in
@@ -150,7 +152,7 @@ all-faultless p schemes h f j x a = part-faultless a
     part-faultless (an_item {i = i} {d = d} g) = h.earlier i _ (get-below p.items i d g) (an_item g)
     part-faultless (main e) = f
 
-pub main-faultless : (p : PureProgram) (schemes : List TopScheme) (nodes : PartTypes) → IsResolved p
+pub main-faultless : (p : PureProgram) (schemes : List TopScheme) (nodes : Option PartTypes) → IsResolved p
     → Progress p (length p.items) schemes → Ends (revealed p.items schemes) p.result p.body nodes → AreFaultless p
 main-faultless p schemes nodes w h j =
     let b : IsPart p (length p.items) (part_of_main p) = main refl in
@@ -303,7 +305,7 @@ pub append-length : {A : Type 0} (xs : List A) (x : A) → length (xs ++ (x ∷ 
 append-length [] x = omega arith
 append-length (y ∷ xs) x = let h = append-length xs x in omega (arith, h)
 
-pub steps-length : (schemes : List TopScheme) (d : Definition) (new : List TopScheme) (nodes : PartTypes)
+pub steps-length : (schemes : List TopScheme) (d : Definition) (new : List TopScheme) (nodes : Option PartTypes)
     → Steps schemes d new nodes → length new ≡ length schemes + 1
 steps-length schemes (value e) new nodes s = ap length s.2 ∙ append-length schemes (let_scheme (scheme_of s.0.known))
 steps-length schemes (kernel k e) new nodes s = ap length s.2 ∙ append-length schemes scheme_out_of_scope

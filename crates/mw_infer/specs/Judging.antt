@@ -1,9 +1,10 @@
 -- What is judged of an item's equations and closes.
-use Rattle.std.specs.Prelude.{ℕ, ◌≡◌, ◌≤◌, ◌^◌, false, List, [], map}
+use Rattle.std.specs.Prelude.{ℕ, ◌≡◌, ◌≤◌, ◌^◌, false, List, [], map, None, IfSome, IsSome}
 use Rattle.mw_term.specs.Terms.{Expression, ground_of, kernel_type_of}
 use Rattle.mw_term.specs.Scoped.{IsScoped}
-use Rattle.mw_types.specs.Types.{Assignment, Substitution, after}
-use Rattle.mw_types.specs.Equations.{FirstUnsolvable, FirstTooBig}
+use Rattle.mw_types.specs.Types.{Assignment, Substitution, TypeExpression, after}
+use Rattle.mw_types.specs.Equations.{FirstUnsolvable, FirstTooBig, IsPrincipalType, said_of}
+use Rattle.mw_types.specs.declared.types.Equations.{Equations}
 use Rattle.mw_types.specs.Solutions.{Solution, substitution_of}
 use Rattle.mw_infer.specs.declared.judge.Verdict.{Verdict}
 use Rattle.mw_infer.specs.declared.judge.Verdict.TheVariants.{Fine, IllTyped, TooBig, NotClosed}
@@ -47,13 +48,28 @@ IsFirstOpenAt s xs at = (y : Close) × IsFirstOpen s xs y × (at ≡ y.at)
 abbrev pub Judges : List TopScheme → Place → Expression → Verdict → Type 0
 Judges schemes place e (Fine j) = (s : Substitution) × IsItemSolution schemes place e s
     × AreFresh (after least s) (item_closes schemes e) × IsRenumbering (s.ty 0) (scheme_of j.known)
-    × (facts_of_part j.nodes ≡ map (facts_at s) (node_numbers schemes 0 1 0 e))
+    × IfSome j.nodes (λ nodes. facts_of_part nodes ≡ map (facts_at s) (node_numbers schemes 0 1 0 e))
 Judges schemes place e IllTyped = (k : ℕ) × FirstUnsolvable (item_unknowns schemes e) (item_classifiers schemes e)
     (item_equations schemes place e) k
 Judges schemes place e TooBig = (k : ℕ) × FirstTooBig (item_unknowns schemes e) (item_classifiers schemes e)
     (item_equations schemes place e) k
 Judges schemes place e (NotClosed at) = (s : Substitution) × IsItemSolution schemes place e s
     × IsFirstOpenAt s (item_closes schemes e) at
+
+-- what is judged of an item without closes by its equations alone, without its nodes
+abbrev pub JudgesType : Equations → Verdict → Type 0
+JudgesType es (Fine j) = (t : TypeExpression) × said_of es IsPrincipalType 0 t × IsRenumbering t (scheme_of j.known)
+    × (j.nodes ≡ None)
+JudgesType es IllTyped = (k : ℕ) × said_of es FirstUnsolvable k
+JudgesType es TooBig = (k : ℕ) × said_of es FirstTooBig k
+JudgesType es (NotClosed at) = ⊥
+
+-- an item without a fault comes with what is known of its nodes
+abbrev pub TellsNodes : Verdict → Type 0
+TellsNodes (Fine j) = IsSome j.nodes
+TellsNodes IllTyped = Unit {0}
+TellsNodes TooBig = Unit {0}
+TellsNodes (NotClosed at) = Unit {0}
 
 -- what is emitted for an item
 pub record IsEmitted (schemes : List TopScheme) (place : Place) (e : Expression) (out : Output) : Type 0 where

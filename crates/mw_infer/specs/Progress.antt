@@ -1,5 +1,6 @@
 -- How far the check of a program has come.
-use Rattle.std.specs.Prelude.{ℕ, zero, suc, ◌≡◌, ◌≤◌, ◌<◌, List, [], ◌∷◌, ◌++◌, length, Some, slice_get}
+use Rattle.std.specs.Prelude.{ℕ, zero, suc, ◌≡◌, ◌≤◌, ◌<◌, List, [], ◌∷◌, ◌++◌, length, Option, None, Some}
+use Rattle.std.specs.Prelude.{slice_get}
 use Rattle.mw_term.specs.Terms.{Expression, GroundType}
 use Rattle.mw_term.specs.Programs.{Definition, value, kernel, PureProgram}
 use Rattle.mw_term.specs.declared.refusal.Refusal.{Refusal}
@@ -37,15 +38,20 @@ abbrev pub IsFaultOfItem : List TopScheme → Definition → ℕ → Refusal →
 IsFaultOfItem schemes d i r = IsFaultOf schemes (part_of_item [] d).place (part_of_item [] d).term i r
 
 -- after an item that is without fault there are these schemes, and this is known of its nodes
-abbrev pub Steps : List TopScheme → Definition → List TopScheme → PartTypes → Type 0
+abbrev pub Steps : List TopScheme → Definition → List TopScheme → Option PartTypes → Type 0
 Steps schemes (value e) new nodes = (j : Judged) × Judges schemes let_place e (Fine j)
     × (new ≡ schemes ++ (let_scheme (scheme_of j.known) ∷ [])) × (nodes ≡ j.nodes)
 Steps schemes (kernel k e) new nodes = (j : Judged) × Judges schemes (kernel_place k) e (Fine j)
     × (new ≡ schemes ++ (scheme_out_of_scope ∷ [])) × (nodes ≡ j.nodes)
 
 -- of main, after which nothing is left to do
-abbrev pub Ends : List TopScheme → GroundType → Expression → PartTypes → Type 0
+abbrev pub Ends : List TopScheme → GroundType → Expression → Option PartTypes → Type 0
 Ends schemes g e nodes = (j : Judged) × Judges schemes (main_place g) e (Fine j) × (nodes ≡ j.nodes)
+
+-- what is known of a part, if it is, as a list
+abbrev pub listed : Option PartTypes → List PartTypes
+listed None = []
+listed (Some nodes) = nodes ∷ []
 
 -- these facts are of the nodes of the first i parts
 pub record AreNodesBefore (p : PureProgram) (i : ℕ) (parts : List (List NodeFacts)) : Type 0 where

@@ -57,7 +57,7 @@ pub fn first_fault(alloc: Global, program: &Program) -> Result<Option<PartFault>
     let mut marks = Vec::new(alloc);
     for item in items {
         let index = names.len() as u32;
-        match step(alloc, &mut names, item, index, &mut marks) {
+        match step(alloc, &mut names, item, index, &mut marks, false) {
             Ok(_) => {}
             Err(Stop::Memory(error)) => return Err(error),
             Err(Stop::Refused(_)) => return item_fault(alloc, names.as_slice(), item, index),

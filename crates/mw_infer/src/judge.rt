@@ -1,10 +1,11 @@
 // One item: its equations, their solution, and the tests of its closes.
 
-ghost use Rattle.std.specs.Prelude.{◌≡◌, [], map, IfOk, OnOk};
+ghost use Rattle.std.specs.Prelude.{◌≡◌, ◌<◌, [], map, IfOk, IsTrue, OnOk};
 ghost use Rattle.mw_term.specs.Terms.{expression_of};
+ghost use Rattle.mw_types.specs.Equations.{AllWithin, said_of};
 ghost use Rattle.mw_infer.specs.Emitting.{Adds};
 ghost use Rattle.mw_infer.specs.Inferring.{own_equations};
-ghost use Rattle.mw_infer.specs.Judging.{CanJudge, IsEmitted, Judges, place_of};
+ghost use Rattle.mw_infer.specs.Judging.{CanJudge, IsEmitted, Judges, JudgesType, TellsNodes, place_of};
 ghost use Rattle.mw_infer.specs.Nodes.{node_numbers};
 ghost use Rattle.mw_infer.specs.NodeViews.{numbers_of};
 ghost use Rattle.mw_infer.specs.Views.{tops_of};
@@ -21,14 +22,15 @@ use crate::scope::{Level, Scope};
 use crate::sharing::shared;
 use crate::typed::PartNodes;
 use mw_term::Term;
-use mw_types::{Equations, SolveFault, Ty, solve};
+use mw_types::{Equations, SolveFault, Ty, principal_type, solve};
 use std::alloc::{AllocError, Global};
 
-/// What is known of an item without a fault: its most general type, and what its equations' solution says of its nodes.
+/// What is known of an item without a fault: its most general type, and, where it was asked for, what its equations'
+/// solution says of its nodes.
 #[derive(Drop)]
 pub struct Judged {
     pub known: LetType,
-    pub nodes: PartNodes,
+    pub nodes: Option<PartNodes>,
 }
 
 /// What is judged of an item: its types, or its fault.
@@ -98,17 +100,36 @@ fn numbered(alloc: Global, names: &[TopScheme], term: &Term) -> Result<Vec<NodeN
     Ok(numbers.nodes)
 }
 
-/// The types of an item, or its fault.
+/// The type of an item by its equations alone, for one without closes, or its fault. No other type is made.
+fn judge_type(alloc: Global, equations: &Equations) -> Result<Verdict, AllocError>
+    requires within { said_of equations.now AllWithin }
+    requires some { 0 < equations.now.unknowns }
+    ensures { IfOk result (JudgesType equations.now) }
+{
+    match principal_type(alloc, equations, 0) {
+        Ok(ty) => {
+            let known = let_type(alloc, &ty, equations.unknowns, equations.classifiers)?;
+            Ok(Verdict::Fine(Judged { known, nodes: None }))
+        }
+        Err(SolveFault::Unsolvable(_)) => Ok(Verdict::IllTyped),
+        Err(SolveFault::TooBig(_)) => Ok(Verdict::TooBig),
+        Err(SolveFault::Memory(error)) => Err(error),
+    }
+}
+
+/// The types of an item, with those of its nodes where they are asked for, or its fault.
 pub fn judge(
     alloc: Global,
     names: &[TopScheme],
     asked: &Asked,
     term: &Term,
     marks: &mut Vec<usize>,
+    with_nodes: bool,
 ) -> Result<Verdict, AllocError>
     requires { CanJudge (tops_of names.now) (expression_of term.now) }
-    ensures { IfOk result
+    ensures judged { IfOk result
         (Judges (tops_of names.now) (place_of asked.now) (expression_of term.now)) }
+    ensures told { IsTrue with_nodes → IfOk result TellsNodes }
 {
     let out = emitted(alloc, names, asked, term)?;
     let Output {
@@ -125,14 +146,20 @@ pub fn judge(
         classifiers,
         pairs,
     };
+    if closes.is_empty() && !with_nodes {
+        return judge_type(alloc, &equations);
+    }
     match solve(alloc, &equations) {
         Ok(solved) => {
             if let Some(at) = first_open(alloc, closes.as_slice(), &solved, unknowns)? {
                 return Ok(Verdict::NotClosed(at));
             }
             let known = let_type(alloc, solved.ty(0), unknowns, classifiers)?;
+            if !with_nodes {
+                return Ok(Verdict::Fine(Judged { known, nodes: None }));
+            }
             let nodes = numbered(alloc, names, term)?;
-            let nodes = PartNodes { solved, nodes };
+            let nodes = Some(PartNodes { solved, nodes });
             Ok(Verdict::Fine(Judged { known, nodes }))
         }
         Err(SolveFault::Unsolvable(_)) => Ok(Verdict::IllTyped),

@@ -58,12 +58,31 @@ pub fn check(alloc: Global, program: &Program) -> Result<Typed, Stop>
     ensures first { (r : Refusal) → IsFirstRefusal (program_of program.now) r
         → IsRefusalOrMemory result r }
 {
-    match whole(alloc, program) {
+    match whole(alloc, program, true) {
         Ok(found) => {
             let Checked { names, parts } = found;
             let types = types_of(alloc, names.as_slice(), &program.result)?;
             Ok(Typed { types, parts })
         }
+        Err(stop) => Err(stop),
+    }
+}
+
+/// Whether a program is typable and no type is too big; else its first refusal. As `check`, without the types.
+pub fn ensure_typed(alloc: Global, program: &Program) -> Result<(), Stop>
+    requires { IsResolved (program_of program.now) }
+    ensures typable { IfOk result (λ _. Typable (program_of program.now)) }
+    ensures small { IfOk result (λ _. NoneTooBig (program_of program.now)) }
+    ensures runs { IfOk result (λ _. HasSmallTypes (program_of program.now)) }
+    ensures kernels { IfOk result (λ _. HasSmallKernels (program_of program.now)) }
+    ensures only { Typable (program_of program.now) → NoneTooBig (program_of program.now)
+        → AnswersOrMemory (λ typed. Unit {0}) result }
+    ensures refused { IfErr result (IfRefused (IsFirstRefusal (program_of program.now))) }
+    ensures first { (r : Refusal) → IsFirstRefusal (program_of program.now) r
+        → IsRefusalOrMemory result r }
+{
+    match whole(alloc, program, false) {
+        Ok(_) => Ok(()),
         Err(stop) => Err(stop),
     }
 }

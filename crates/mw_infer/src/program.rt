@@ -1,6 +1,6 @@
 // The check of a program, item by item.
 
-ghost use Rattle.std.specs.Prelude.{◌≡◌, ◌∷◌, [], ◌++◌, length, map, IfErr, IfOk, OnErr};
+ghost use Rattle.std.specs.Prelude.{◌≡◌, ◌∷◌, [], ◌++◌, length, map, IfErr, IfOk, IsSome, IsTrue, OnErr};
 ghost use Rattle.mw_term.specs.Programs.{definition_of, program_of};
 ghost use Rattle.mw_term.specs.Stops.{IfRefused};
 ghost use Rattle.mw_term.specs.Terms.{expression_of, ground_of};
@@ -12,7 +12,7 @@ ghost use Rattle.mw_term.specs.Parts.{IsResolved, part_of_item};
 ghost use Rattle.mw_term.specs.Parts.{main_place};
 ghost use Rattle.mw_infer.specs.Judging.{CanJudge, Judges, place_of};
 ghost use Rattle.mw_infer.specs.Nodes.{AreNodesOf};
-ghost use Rattle.mw_infer.specs.Progress.{Ends, IsFaultOf, IsFaultOfItem, Steps, revealed_to};
+ghost use Rattle.mw_infer.specs.Progress.{Ends, IsFaultOf, IsFaultOfItem, Steps, listed, revealed_to};
 ghost use Rattle.mw_infer.specs.Schemes.{type_of_scheme};
 ghost use Rattle.mw_infer.specs.Typings.{facts_of_part};
 ghost use Rattle.mw_infer.specs.Views.{top_of, tops_of};
@@ -27,7 +27,7 @@ use mw_term::{Ground, Item, ItemKind, Program, Refusal, Stop, Term};
 use mw_types::Ty;
 use std::alloc::{AllocError, Global};
 
-/// What main sees of the items, and what is known of the nodes of each part.
+/// What main sees of the items, and what is known of the nodes of each part where that was asked for.
 #[derive(Drop)]
 pub struct Checked<'p> {
     pub names: Vec<TopScheme<'p>>,
@@ -42,16 +42,18 @@ fn judged(
     term: &Term,
     index: u32,
     marks: &mut Vec<usize>,
+    with_nodes: bool,
 ) -> Result<Judged, Stop>
     requires { CanJudge (tops_of names.now) (expression_of term.now) }
     ensures fine { IfOk result
         (λ j. Judges (tops_of names.now) (place_of asked.now) (expression_of term.now)
         (Fine j)) }
+    ensures told { IsTrue with_nodes → IfOk result (λ j. IsSome j.nodes) }
     ensures refused { IfErr result
         (IfRefused (IsFaultOf (tops_of names.now) (place_of asked.now) (expression_of term.now)
         index)) }
 {
-    match judge(alloc, names, asked, term, marks)? {
+    match judge(alloc, names, asked, term, marks, with_nodes)? {
         Verdict::Fine(known) => Ok(known),
         Verdict::IllTyped => Err(Stop::Refused(Refusal::IllTyped(index))),
         Verdict::TooBig => Err(Stop::Refused(Refusal::TypeTooBig(index))),
@@ -59,18 +61,20 @@ fn judged(
     }
 }
 
-/// An item: what the items after it see of it is added, and what is known of its nodes is given.
+/// An item: what the items after it see of it is added, and what is known of its nodes is given where it is asked for.
 pub fn step(
     alloc: Global,
     names: &mut Vec<TopScheme>,
     item: &Item,
     index: u32,
     marks: &mut Vec<usize>,
-) -> Result<PartNodes, Stop>
+    with_nodes: bool,
+) -> Result<Option<PartNodes>, Stop>
     requires { CanJudge (tops_of names.old.items)
         (part_of_item [] (definition_of item.now.kind)).term }
     ensures ok { IfOk result
         (λ nodes. Steps (tops_of names.old.items) (definition_of item.now.kind) (tops_of names.new.items) nodes) }
+    ensures told { IsTrue with_nodes → IfOk result IsSome }
     ensures refused { IfErr result
         (IfRefused (IsFaultOfItem (tops_of names.old.items) (definition_of item.now.kind) index)) }
     ensures kept { OnErr result (names.new.items ≡ names.old.items) }
@@ -84,6 +88,7 @@ pub fn step(
                 term,
                 index,
                 marks,
+                with_nodes,
             )?;
             let Judged { known, nodes } = found;
             names.push(TopScheme::Let(known))?;
@@ -97,6 +102,7 @@ pub fn step(
                 term,
                 index,
                 marks,
+                with_nodes,
             )?;
             names.push(TopScheme::OutOfScope)?;
             Ok(found.nodes)
@@ -126,25 +132,45 @@ fn last(
     body: &Term,
     index: u32,
     marks: &mut Vec<usize>,
-) -> Result<PartNodes, Stop>
+    with_nodes: bool,
+) -> Result<Option<PartNodes>, Stop>
     requires { CanJudge (tops_of names.now) (expression_of body.now) }
     ensures fine { IfOk result
         (Ends (tops_of names.now) (ground_of ground.now) (expression_of body.now)) }
+    ensures told { IsTrue with_nodes → IfOk result IsSome }
     ensures refused { IfErr result
         (IfRefused (IsFaultOf (tops_of names.now) (main_place (ground_of ground.now)) (expression_of body.now) index)) }
 {
-    let found = judged(alloc, names, &Asked::Main(ground), body, index, marks)?;
+    let found = judged(
+        alloc,
+        names,
+        &Asked::Main(ground),
+        body,
+        index,
+        marks,
+        with_nodes,
+    )?;
     Ok(found.nodes)
 }
 
-/// What main sees of the items and what is known of each part, where no part of the program has a fault; else the first
-/// refusal.
-pub fn whole<'p>(alloc: Global, program: &'p Program) -> Result<Checked<'p>, Stop>
+/// Adds what is known of a part, if it is.
+fn keep(parts: &mut Vec<PartNodes>, nodes: Option<PartNodes>) -> Result<(), AllocError>
+    ensures { IfOk result (λ _. parts.new.items ≡ parts.old.items ++ listed nodes) }
+{
+    if let Some(nodes) = nodes {
+        parts.push(nodes)?;
+    }
+    Ok(())
+}
+
+/// What main sees of the items, and where it is asked for what is known of each part, where no part of the program has
+/// a fault; else the first refusal.
+pub fn whole<'p>(alloc: Global, program: &'p Program, with_nodes: bool) -> Result<Checked<'p>, Stop>
     requires { IsResolved (program_of program.now) }
     ensures faultless { IfOk result (λ _. AreFaultless (program_of program.now)) }
     ensures principal { IfOk result
         (λ whole. ArePrincipal (seen_by_main (program_of program.now).items) (tops_of whole.names.items)) }
-    ensures nodes { IfOk result
+    ensures nodes { IsTrue with_nodes → IfOk result
         (λ whole. AreNodesOf (program_of program.now) (map facts_of_part whole.parts.items)) }
     ensures refused { IfErr result (IfRefused (IsFirstRefusal (program_of program.now))) }
 {
@@ -154,8 +180,8 @@ pub fn whole<'p>(alloc: Global, program: &'p Program) -> Result<Checked<'p>, Sto
     let mut marks = Vec::new(alloc);
     for item in items {
         let index = names.len() as u32;
-        match step(alloc, &mut names, item, index, &mut marks) {
-            Ok(nodes) => parts.push(nodes)?,
+        match step(alloc, &mut names, item, index, &mut marks, with_nodes) {
+            Ok(nodes) => keep(&mut parts, nodes)?,
             Err(stop) => return Err(stop),
         }
     }
@@ -168,9 +194,10 @@ pub fn whole<'p>(alloc: Global, program: &'p Program) -> Result<Checked<'p>, Sto
         &program.body,
         index,
         &mut marks,
+        with_nodes,
     ) {
         Ok(nodes) => {
-            parts.push(nodes)?;
+            keep(&mut parts, nodes)?;
             Ok(Checked { names, parts })
         }
         Err(stop) => Err(stop),

@@ -6,12 +6,13 @@ use Rattle.std.specs.Prelude.{slice_index_or, slice_get, Some, All}
 use Rattle.mw_types.specs.Types.{TypeExpression, int_ty, bool_ty, unknown, pair_ty, function_ty, code_ty, closed_ty}
 use Rattle.mw_types.specs.Types.{type_of, Assignment, value, nodes, Substitution, after, Within}
 use Rattle.mw_types.specs.Equations.{TypeEquation, AllWithin, Solves, Agree, MostGeneral, IsSmall, StaysWithin}
+use Rattle.mw_types.specs.Equations.{IsPrincipalType}
 use Rattle.mw_types.specs.Forest.{Low, Leads, here, up}
 use Rattle.mw_types.specs.Holds.{IsShaped, Means, Sound, Inside}
 use Rattle.mw_types.specs.Stands.{Stands, Names, s_up, s_free, s_int, s_bool, s_pair, s_arrow, s_code, s_closed}
 use Rattle.mw_types.specs.Walks.{AllSized}
-use Rattle.mw_types.specs.Answering.{Ready, name_in, NamedTo, IsName, StandsFor, HasRoom, TreesTo, Answers}
-use Rattle.mw_types.specs.Solutions.{Solution, substitution_of}
+use Rattle.mw_types.specs.Answering.{Ready, name_in, NamedTo, IsName, StandsFor, StandsForOne, HasRoom, TreesTo}
+use Rattle.mw_types.specs.Answering.{Answers}
 use Rattle.mw_types.specs.declared.state.Shape.{Shape}
 use Rattle.mw_types.specs.declared.state.Shape.TheVariants.{Free, Int, Bool, Pair, Arrow, Code, Closed}
 use Rattle.mw_types.specs.declared.state.State.{State}
@@ -290,43 +291,46 @@ stands_within s names n m p f k lt (s_code {i = i} {c = c} r e d h) = let z = rw
 stands_within s names n m p f k lt (s_closed {i = i} r e h) = let z = rw e at (p.inside i) in
     stands_within s names n m p f k z h
 
+-- types that the unknowns stand for, with representatives of the classifier unknowns, are a most general solution
 module _ (n m : ℕ) (es : List TypeEquation) (s : State) (within : AllWithin n m es) (ready : Ready n m es s)
-    (solution : Solution) (answered : Answers n s solution) where
-  names : ℕ → ℕ
-  names = name_in solution.classifiers
+    (names : List ℕ) (named : NamedTo s.classifier.items names (length s.classifier.items))
+    (types : ℕ → TypeExpression) (each : (u : ℕ) → u < n → StandsFor s names u (types u)) where
+  stood : Substitution
+  stood = record { ty = types; classifier = name_in names }
 
-  named : Names s.classifier.items names
-  unfolding names
-  named = record { one = λ c lt. answered.named.one c lt; own = λ a h c lt. answered.named.own a h c lt }
+  are_names : Names s.classifier.items (name_in names)
+  are_names = record { one = λ c lt. named.one c lt; own = λ a h c lt. named.own a h c lt }
 
   σ : Substitution
-  σ = answer s ready.sizes ready.stated.sound ready.empty ready.all names named
+  σ = answer s ready.sizes ready.stated.sound ready.empty ready.all (name_in names) are_names
 
-  same_types : (u : ℕ) → u < n → σ.ty u ≡ (substitution_of solution).ty u
-  unfolding σ names
+  same_types : (u : ℕ) → u < n → σ.ty u ≡ types u
+  unfolding σ
   same_types u lt =
-      unique (answer_stands s ready.sizes ready.stated.sound ready.empty ready.all names named u
-      (let p = ready.stated.long in omega arith)) (answered.each u lt)
+      unique (answer_stands s ready.sizes ready.stated.sound ready.empty ready.all (name_in names) are_names u
+      (let p = ready.stated.long in omega arith)) (each u lt)
 
-  after_agree : (b : Assignment) → Agree n m (after b σ) (after b (substitution_of solution))
-  unfolding σ names
+  after_agree : (b : Assignment) → Agree n m (after b σ) (after b stood)
+  unfolding σ stood
   after_agree b =
       record {
         types = λ u lt. ap (value b) (same_types u lt);
         classifiers = λ c lt.
-            ap b.classifier (answer_classifier s ready.sizes ready.stated.sound ready.empty ready.all names named c);
+            ap b.classifier (answer_classifier s ready.sizes ready.stated.sound ready.empty ready.all (name_in names)
+            are_names c);
       }
 
   stands_sound : (b : Assignment) → Means s (after b σ)
   unfolding σ
-  stands_sound = answer_sound s ready.sizes ready.stated.sound ready.empty ready.all names named
+  stands_sound = answer_sound s ready.sizes ready.stated.sound ready.empty ready.all (name_in names) are_names
 
   stands_general : (a : Assignment) → Means s a → Agree (length s.parent.items) (length s.classifier.items) a
       (after a σ)
   unfolding σ
-  stands_general = answer_general s ready.sizes ready.stated.sound ready.empty ready.all names named
+  stands_general = answer_general s ready.sizes ready.stated.sound ready.empty ready.all (name_in names) are_names
 
-  pub most_general : MostGeneral n m es (substitution_of solution)
+  pub most_general : MostGeneral n m es (record { ty = types; classifier = name_in names })
+  unfolding stood
   most_general = record {
     sound = λ b. solves_agree (after_agree b) es within (ready.stated.out (after b σ) (stands_sound b));
     general = λ a h. let x = ready.stated.more a h in
@@ -341,17 +345,36 @@ module _ (n m : ℕ) (es : List TypeEquation) (s : State) (within : AllWithin n 
         );
   }
 
-  pub is_small : IsSmall n (substitution_of solution)
+  pub is_small : IsSmall n (record { ty = types; classifier = name_in names })
   is_small u lt =
-      let h = room s ready.sizes n ready.stated.long ready.all ready.small solution.classifiers u lt in
-      rw (unique (answered.each u lt) h.1) h.2
+      let h = room s ready.sizes n ready.stated.long ready.all ready.small names u lt in
+      rw (unique (each u lt) h.1) h.2
 
-  named_within : (c : ℕ) → c < length s.classifier.items → name_in solution.classifiers c < m
-  named_within c lt = let z = answered.named.low c lt in let e = ready.stated.classifier_count in omega arith
+  named_within : (c : ℕ) → c < length s.classifier.items → name_in names c < m
+  named_within c lt = let z = named.low c lt in let e = ready.stated.classifier_count in omega arith
 
-  pub stays_within : StaysWithin n m (substitution_of solution)
+  pub stays_within : StaysWithin n m (record { ty = types; classifier = name_in names })
   stays_within = record {
-    types = λ u lt. stands_within s solution.classifiers n m ready.stated.sound ready.stated.shaped named_within
-        (let e = ready.stated.long in omega arith) (answered.each u lt);
+    types = λ u lt. stands_within s names n m ready.stated.sound ready.stated.shaped named_within
+        (let e = ready.stated.long in omega arith) (each u lt);
     classifiers = λ c lt. named_within c (let e = ready.stated.classifier_count in omega arith);
   }
+
+-- the type that one unknown stands for is its principal type
+pub principal_of : (n m : ℕ) (es : List TypeEquation) (s : State) (u : ℕ) (t : TypeExpression) → AllWithin n m es
+    → Ready n m es s → u < n → StandsForOne s u t → IsPrincipalType n m es u t
+principal_of n m es s u t w r lt h =
+    let named : Names s.classifier.items (name_in h.names) =
+    record { one = λ c cl. h.named.one c cl; own = λ a k c cl. h.named.own a k c cl } in
+    let σ = answer s r.sizes r.stated.sound r.empty r.all (name_in h.names) named in
+    let stands : (v : ℕ) → v < length s.parent.items → StandsFor s h.names v (σ.ty v) =
+    answer_stands s r.sizes r.stated.sound r.empty r.all (name_in h.names) named in
+    let each : (v : ℕ) → v < n → StandsFor s h.names v (σ.ty v) =
+    λ v vl. stands v (let p = r.stated.long in omega arith) in
+    record {
+      solution = record { ty = σ.ty; classifier = name_in h.names };
+      general = most_general n m es s w r h.names h.named σ.ty each;
+      small = is_small n m es s w r h.names h.named σ.ty each;
+      within = stays_within n m es s w r h.names h.named σ.ty each;
+      type = unique h.stands (each u lt);
+    }

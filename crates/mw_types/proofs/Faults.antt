@@ -1,6 +1,5 @@
 -- First faults, from what the solver judges to most general solutions.
-use Rattle.std.specs.Prelude.{IsErrAnd, Result, Ok, Err}
-use Rattle.std.specs.declared.alloc.AllocError.{AllocError}
+use Rattle.std.specs.Prelude.{Err}
 use Rattle.std.proofs.Common.{◌≡◌, ◌⊎◌, inl, inr, ℕ, zero, suc, ◌≤◌, ◌<◌, List, [], ◌∷◌, take, length, refl, ap, sym}
 use Rattle.std.proofs.Common.{subst, arith}
 use Rattle.mw_types.specs.Types.{Assignment, nodes, Substitution, after}
@@ -189,9 +188,3 @@ pub solved_only : (n m : ℕ) (es : List TypeEquation) (f : SolveFault) → Firs
 solved_only n m es (Unsolvable j) h g = (one_fault n m es).fine_unsolvable j g h
 solved_only n m es (TooBigFront j) h g = (one_fault n m es).fine_too_big j g h
 solved_only n m es (Memory e) h g = tt
-
--- an error that is made of want of memory
-pub from_memory : {A : Type 0} {r : Result A SolveFault} {e : AllocError} → IsErrAnd r (λ f. f ≡ Memory e)
-    → r ≡ Err (Memory e)
-from_memory {r = Ok x} h = absurd h
-from_memory {r = Err f} h = ap Err h

@@ -1,7 +1,7 @@
 -- A step of path halving.
-use Rattle.std.proofs.Common.{◌≡◌, ◌≢◌, ℕ, ◌≤◌, ◌<◌, List, length, refl, ap, sym, ◌∙◌, arith}
+use Rattle.std.proofs.Common.{◌≡◌, ◌≢◌, ℕ, ◌≤◌, ◌<◌, List, length, ap, sym, ◌∙◌, arith}
 use Rattle.std.specs.Prelude.{slice_index_or, slice_set}
-use Rattle.mw_types.specs.Forest.{Low, Same, Joins}
+use Rattle.mw_types.specs.Forest.{Same, Joins}
 use Rattle.mw_types.specs.Holds.{Sound, Step, Never}
 use Rattle.mw_types.specs.declared.state.State.{State}
 use Rattle.mw_types.specs.Shorter.{Shorter, Found}

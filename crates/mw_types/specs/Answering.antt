@@ -38,6 +38,12 @@ IsName cs names c r = ((slice_index_or cs c 0 ≡ c) × (r ≡ c))
 abbrev pub StandsFor : State → List ℕ → ℕ → TypeExpression → Type 0
 StandsFor s names i t = Stands s.parent.items s.shape.items (name_in names) i t
 
+-- .. whatever representatives of the classifier unknowns were taken
+pub record StandsForOne (s : State) (i : ℕ) (t : TypeExpression) : Type 0 where
+  pub names : List ℕ
+  pub named : NamedTo s.classifier.items names (length s.classifier.items)
+  pub stands : StandsFor s names i t
+
 -- .. of at most so many nodes
 abbrev pub HasRoom : State → List ℕ → ℕ → ℕ → Type 0
 HasRoom s names i room = (t : TypeExpression) × StandsFor s names i t × (nodes t ≤ room)

@@ -52,6 +52,14 @@ pub record StaysWithin (n m : ℕ) (s : Substitution) : Type 0 where
   pub types : (u : ℕ) → u < n → Within n m (s.ty u)
   pub classifiers : (c : ℕ) → c < m → s.classifier c < m
 
+-- a most general solution in which no type is too big gives the unknown the type
+pub record IsPrincipalType (n m : ℕ) (es : List TypeEquation) (u : ℕ) (t : TypeExpression) : Type 0 where
+  pub solution : Substitution
+  pub general : MostGeneral n m es solution
+  pub small : IsSmall n solution
+  pub within : StaysWithin n m solution
+  pub type : t ≡ solution.ty u
+
 -- a most general solution has, for some unknown, a type of over 10,000 nodes
 abbrev pub TooBig : ℕ → ℕ → List TypeEquation → Type 0
 TooBig n m es = (s : Substitution) × MostGeneral n m es s × (u : ℕ) × (u < n) × (10000 < nodes (s.ty u))

@@ -4,7 +4,7 @@ ghost use Rattle.std.specs.Prelude.{◌≡◌, ◌<◌, ◌≤◌, ℕ, List, le
 ghost use Rattle.mw_types.specs.Forest.{Low};
 ghost use Rattle.mw_types.specs.Holds.{Sound};
 ghost use Rattle.mw_types.specs.Types.{type_of};
-ghost use Rattle.mw_types.specs.Answering.{Answers, HasRoom, IsName, NamedTo, StandsFor, name_in};
+ghost use Rattle.mw_types.specs.Answering.{Answers, HasRoom, IsName, NamedTo, StandsFor, StandsForOne, name_in};
 
 use crate::state::{Shape, State, find};
 use crate::types::Ty;
@@ -90,6 +90,17 @@ pub fn answer(alloc: Global, state: &State, unknowns: usize) -> Result<Solved, A
         trees,
         names,
     })
+}
+
+/// The type that one unknown stands for.
+pub fn type_at(alloc: Global, state: &State, unknown: usize) -> Result<Ty, AllocError>
+    requires sound { Sound state.now }
+    requires inside { unknown < length state.now.parent.items }
+    requires room { (names : List ℕ) → HasRoom state.now names unknown 10000 }
+    ensures { IfOk result (λ ty. StandsForOne state.now unknown (type_of ty)) }
+{
+    let names = names_of(alloc, state.classifier.as_slice())?;
+    tree(alloc, state, names.as_slice(), unknown, 10000)
 }
 
 // The representatives of all classifier unknowns.

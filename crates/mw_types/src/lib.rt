@@ -2,9 +2,10 @@
 //! no solution or too big a one.
 #![tactic(auto)]
 
-ghost use Rattle.std.specs.Prelude.{ℕ, ◌≡◌, ◌≤◌, length, IfOk, IfErr};
+ghost use Rattle.std.specs.Prelude.{ℕ, ◌≡◌, ◌<◌, ◌≤◌, length, IfOk, IfErr};
 ghost use Rattle.mw_types.specs.Equations.{said_of, AllWithin, MostGeneral, IsSmall, StaysWithin, Fine};
-ghost use Rattle.mw_types.specs.Equations.{FirstUnsolvable, FirstTooBig};
+ghost use Rattle.mw_types.specs.Equations.{FirstUnsolvable, FirstTooBig, IsPrincipalType};
+ghost use Rattle.mw_types.specs.Types.{type_of};
 ghost use Rattle.mw_types.specs.Solutions.{substitution_of, FirstFault, IsFaultOrMemory, IsSolvedOrMemory};
 
 mod answer;
@@ -18,9 +19,8 @@ mod walk;
 mod ways;
 
 pub use crate::answer::Solved;
-use crate::answer::answer;
-use crate::judging::{blank, judge};
-use crate::solving::{first_fault, is_fine};
+use crate::answer::{answer, type_at};
+use crate::solving::settled;
 pub use crate::types::{Equation, Equations, Pairs, SolveFault, Ty};
 use std::alloc::Global;
 
@@ -44,14 +44,23 @@ pub fn solve(alloc: Global, equations: &Equations) -> Result<Solved, SolveFault>
         → IsFaultOrMemory result (SolveFault.TooBig k) }
     ensures fault { IfErr result (λ fault. said_of equations.now FirstFault fault) }
 {
-    let unknowns = equations.unknowns as usize;
-    let classifiers = equations.classifiers as usize;
-    let pairs = equations.pairs.as_slice();
-    let mut state = blank(alloc, unknowns, classifiers)?;
-    let whole = judge(alloc, &mut state, pairs)?;
-    if is_fine(whole.verdict) {
-        Ok(answer(alloc, &state, unknowns)?)
-    } else {
-        Err(first_fault(alloc, pairs, unknowns, classifiers, whole)?)
+    match settled(alloc, equations) {
+        Ok(state) => Ok(answer(alloc, &state, equations.unknowns as usize)?),
+        Err(fault) => Err(fault),
+    }
+}
+
+/// The principal type of an unknown: its type in a most general solution of equations, where no type of that has over
+/// 10,000 nodes; else the first fault, as `solve`. No other unknown's type is made.
+pub fn principal_type(alloc: Global, equations: &Equations, unknown: u64) -> Result<Ty, SolveFault>
+    requires within { said_of equations.now AllWithin }
+    requires inside { unknown < equations.now.unknowns }
+    ensures principal { IfOk result
+        (λ ty. said_of equations.now IsPrincipalType unknown (type_of ty)) }
+    ensures fault { IfErr result (λ fault. said_of equations.now FirstFault fault) }
+{
+    match settled(alloc, equations) {
+        Ok(state) => Ok(type_at(alloc, &state, unknown as usize)?),
+        Err(fault) => Err(fault),
     }
 }

@@ -1,13 +1,33 @@
-// The first fault of equations.
+// Equations as a state, or their first fault.
 
-ghost use Rattle.std.specs.Prelude.{◌≡◌, ◌≢◌, ◌<◌, ◌≤◌, ◌+◌, length, IfOk, IsTrue, ◌↔◌};
-ghost use Rattle.mw_types.specs.Equations.{AllWithin, equations_of};
+ghost use Rattle.std.specs.Prelude.{◌≡◌, ◌≢◌, ◌<◌, ◌≤◌, ◌+◌, length, IfErr, IfOk, IsTrue, ◌↔◌};
+ghost use Rattle.mw_types.specs.Answering.{Ready};
+ghost use Rattle.mw_types.specs.Equations.{AllWithin, equations_of, said_of};
 ghost use Rattle.mw_types.specs.Judged.{JudgesFront, Faults};
+ghost use Rattle.mw_types.specs.Solutions.{FirstFault};
 
-use crate::judging::{Judgement, Verdict, blank, judge_longer};
-use crate::state::copy;
-use crate::types::{Equation, SolveFault};
+use crate::judging::{Judgement, Verdict, blank, judge, judge_longer};
+use crate::state::{State, copy};
+use crate::types::{Equation, Equations, SolveFault};
 use std::alloc::{AllocError, Global};
+
+/// The state that says what the equations say, where they are fine; else their first fault.
+pub fn settled(alloc: Global, equations: &Equations) -> Result<State, SolveFault>
+    requires within { said_of equations.now AllWithin }
+    ensures ready { IfOk result (λ state. said_of equations.now Ready state) }
+    ensures fault { IfErr result (λ fault. said_of equations.now FirstFault fault) }
+{
+    let unknowns = equations.unknowns as usize;
+    let classifiers = equations.classifiers as usize;
+    let pairs = equations.pairs.as_slice();
+    let mut state = blank(alloc, unknowns, classifiers)?;
+    let whole = judge(alloc, &mut state, pairs)?;
+    if is_fine(whole.verdict) {
+        Ok(state)
+    } else {
+        Err(first_fault(alloc, pairs, unknowns, classifiers, whole)?)
+    }
+}
 
 /// The first fault of equations that have one, by halving: the state of the longest front that is known to be fine is
 /// kept, and each front that is tried begins with a copy of it.

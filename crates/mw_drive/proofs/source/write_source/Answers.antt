@@ -21,21 +21,22 @@ pub returns-in-Err-Memory-clause-meaning : goal.returns-in-Err-Memory-clause-mea
 returns-in-Err-Memory-clause-meaning g c = λ honest.
     rw c.from.ensures (written_nothing c.args.bytes.now c.args.fuel g.K.Sink.tells c.args.evaluation _ _)
 
-pub check-requires : goal.check-requires
-check-requires g c = resolved c.args.bytes.now c.args.fuel g.K.Sink.tells c.in-Ok.program c.in-Ok.ensures.found
+pub ensure_typed-requires : goal.ensure_typed-requires
+ensure_typed-requires g c = resolved c.args.bytes.now c.args.fuel g.K.Sink.tells c.in-Ok.program c.in-Ok.ensures.found
 
-pub returns-in-Err-Refused-check-clause-meaning : goal.returns-in-Err-Refused-check-clause-meaning
-returns-in-Err-Refused-check-clause-meaning g c = λ honest.
+pub returns-in-Err-Refused-ensure_typed-clause-meaning : goal.returns-in-Err-Refused-ensure_typed-clause-meaning
+returns-in-Err-Refused-ensure_typed-clause-meaning g c = λ honest.
     types_written c.args.bytes.now c.args.fuel g.K.Sink.tells c.in-Ok.program c.in-Ok.ensures.found c.args.evaluation
-    c.write_refusal-in-Err-Refused-check.result _ _ c.in-Err-Refused-check.refusal
-    c.in-Err-Refused-check.field-0 c.in-Err-Refused-check.field-0-is c.in-Err-Refused-check.ensures.refused
-    c.write_refusal-in-Err-Refused-check.ensures.status
-    c.write_refusal-in-Err-Refused-check.ensures.usual
-    (rw c.as_slice.ensures at c.write_refusal-in-Err-Refused-check.ensures.writes)
+    c.write_refusal-in-Err-Refused-ensure_typed.result _ _ c.in-Err-Refused-ensure_typed.refusal
+    c.in-Err-Refused-ensure_typed.field-0 c.in-Err-Refused-ensure_typed.field-0-is
+        c.in-Err-Refused-ensure_typed.ensures.refused
+    c.write_refusal-in-Err-Refused-ensure_typed.ensures.status
+    c.write_refusal-in-Err-Refused-ensure_typed.ensures.usual
+    (rw c.as_slice.ensures at c.write_refusal-in-Err-Refused-ensure_typed.ensures.writes)
 
-pub returns-in-Err-Memory-check-clause-meaning : goal.returns-in-Err-Memory-check-clause-meaning
-returns-in-Err-Memory-check-clause-meaning g c = λ honest.
-    rw c.from-in-Err-Memory-check.ensures
+pub returns-in-Err-Memory-ensure_typed-clause-meaning : goal.returns-in-Err-Memory-ensure_typed-clause-meaning
+returns-in-Err-Memory-ensure_typed-clause-meaning g c = λ honest.
+    rw c.from-in-Err-Memory-ensure_typed.ensures
     (written_nothing c.args.bytes.now c.args.fuel g.K.Sink.tells c.args.evaluation _ _)
 
 pub write_run-requires-clause-few : goal.write_run-requires-clause-few
@@ -53,7 +54,7 @@ returns-in-Run-clause-meaning g c =
     rw c.in-Run.is (λ honest.
     run_written c.args.bytes.now c.args.fuel g.K.Sink.tells c.in-Ok.program c.in-Ok.ensures.found c.in-Run.options
     c.write_run.result _ _
-    c.in-Ok-check.ensures.typable c.in-Ok-check.ensures.small (c.write_run.ensures.run honest))
+    c.in-Ok-ensure_typed.ensures.typable c.in-Ok-ensure_typed.ensures.small (c.write_run.ensures.run honest))
 
 pub write_erased-requires-clause-nodes : goal.write_erased-requires-clause-nodes
 write_erased-requires-clause-nodes g c =
@@ -64,7 +65,7 @@ returns-in-Erased-clause-meaning g c =
     rw c.in-Erased.is (λ honest.
     erased_written c.args.bytes.now c.args.fuel g.K.Sink.tells c.in-Ok.program c.in-Ok.ensures.found
     c.write_erased.result _ _
-    c.in-Ok-check.ensures.typable c.in-Ok-check.ensures.small c.write_erased.ensures.run)
+    c.in-Ok-ensure_typed.ensures.typable c.in-Ok-ensure_typed.ensures.small c.write_erased.ensures.run)
 
 pub write_linked-requires-clause-workers : goal.write_linked-requires-clause-workers
 write_linked-requires-clause-workers g c = λ κs live. rw c.in-Linked.is at c.requires.possible
@@ -72,14 +73,14 @@ write_linked-requires-clause-workers g c = λ κs live. rw c.in-Linked.is at c.r
 pub write_linked-requires-clause-linkable : goal.write_linked-requires-clause-linkable
 write_linked-requires-clause-linkable g c = λ κs live.
     may_be_linked c.args.bytes.now c.args.fuel g.K.Sink.tells c.in-Ok.program c.in-Ok.ensures.found
-    c.in-Ok-check.ensures.typable c.in-Ok-check.ensures.small
+    c.in-Ok-ensure_typed.ensures.typable c.in-Ok-ensure_typed.ensures.small
 
 pub returns-in-Linked-clause-meaning : goal.returns-in-Linked-clause-meaning
 returns-in-Linked-clause-meaning g c =
     rw c.in-Linked.is (λ honest.
     linked_written c.args.bytes.now c.args.fuel g.K.Sink.tells c.in-Ok.program c.in-Ok.ensures.found
     c.in-Linked.workers c.write_linked.result _ _
-    c.in-Ok-check.ensures.typable c.in-Ok-check.ensures.small c.write_linked.ensures.run)
+    c.in-Ok-ensure_typed.ensures.typable c.in-Ok-ensure_typed.ensures.small c.write_linked.ensures.run)
 
 pub returns-in-Err-Refused-clause-held : goal.returns-in-Err-Refused-clause-held
 returns-in-Err-Refused-clause-held g c = λ some tells.
@@ -94,21 +95,22 @@ returns-in-Err-Refused-clause-kept g c = λ some honest shown kernels e means.
 pub returns-in-Err-Memory-clause-held : goal.returns-in-Err-Memory-clause-held
 returns-in-Err-Memory-clause-held g c = λ some tells. held_failed (Err c.from.result) _ _ refl refl
 
-pub returns-in-Err-Refused-check-clause-held : goal.returns-in-Err-Refused-check-clause-held
-returns-in-Err-Refused-check-clause-held g c = λ some tells.
-    held_refused c.write_refusal-in-Err-Refused-check.result c.in-Err-Refused-check.refusal _ _
-    c.write_refusal-in-Err-Refused-check.ensures.status refl
+pub returns-in-Err-Refused-ensure_typed-clause-held : goal.returns-in-Err-Refused-ensure_typed-clause-held
+returns-in-Err-Refused-ensure_typed-clause-held g c = λ some tells.
+    held_refused c.write_refusal-in-Err-Refused-ensure_typed.result c.in-Err-Refused-ensure_typed.refusal _ _
+    c.write_refusal-in-Err-Refused-ensure_typed.ensures.status refl
 
-pub returns-in-Err-Refused-check-clause-kept : goal.returns-in-Err-Refused-check-clause-kept
-returns-in-Err-Refused-check-clause-kept g c = λ some honest shown kernels e means.
+pub returns-in-Err-Refused-ensure_typed-clause-kept : goal.returns-in-Err-Refused-ensure_typed-clause-kept
+returns-in-Err-Refused-ensure_typed-clause-kept g c = λ some honest shown kernels e means.
     refused_kept (cache_of c.args.evaluation) (evaluated c.args.evaluation c.args.bytes.now c.args.fuel)
-    c.write_refusal-in-Err-Refused-check.result c.in-Err-Refused-check.refusal g.K.Sink.tells _ _ _ _ _
-    (returns-in-Err-Refused-check-clause-meaning g c honest) c.write_refusal-in-Err-Refused-check.ensures.status shown
+    c.write_refusal-in-Err-Refused-ensure_typed.result c.in-Err-Refused-ensure_typed.refusal g.K.Sink.tells _ _ _ _ _
+    (returns-in-Err-Refused-ensure_typed-clause-meaning g c honest)
+        c.write_refusal-in-Err-Refused-ensure_typed.ensures.status shown
     kernels e means
 
-pub returns-in-Err-Memory-check-clause-held : goal.returns-in-Err-Memory-check-clause-held
-returns-in-Err-Memory-check-clause-held g c = λ some tells.
-    held_failed (Err c.from-in-Err-Memory-check.result) _ _ refl refl
+pub returns-in-Err-Memory-ensure_typed-clause-held : goal.returns-in-Err-Memory-ensure_typed-clause-held
+returns-in-Err-Memory-ensure_typed-clause-held g c = λ some tells.
+    held_failed (Err c.from-in-Err-Memory-ensure_typed.result) _ _ refl refl
 
 pub returns-in-Run-clause-kept : goal.returns-in-Run-clause-kept
 returns-in-Run-clause-kept g c =
@@ -124,8 +126,8 @@ returns-in-Run-clause-bad g c =
     rw c.in-Run.is (bad_maps c.write_run.result _ _
     (λ d h tells.
     bad_written c.args.bytes.now c.args.fuel g.K.Sink.tells c.in-Ok.program c.in-Ok.ensures.found
-    (mode_of c.in-Run.options.shown) c.in-Run.options.shown _ d c.in-Ok-check.ensures.typable
-    c.in-Ok-check.ensures.small refl (h tells))
+    (mode_of c.in-Run.options.shown) c.in-Run.options.shown _ d c.in-Ok-ensure_typed.ensures.typable
+    c.in-Ok-ensure_typed.ensures.small refl (h tells))
     c.write_run.ensures.bad)
 
 pub returns-in-Err-Refused-clause-opened : goal.returns-in-Err-Refused-clause-opened
@@ -133,7 +135,7 @@ returns-in-Err-Refused-clause-opened g c = λ path is tells.
     opened_refused path.now _ _ c.write_refusal.result c.in-Err-Refused.refusal c.write_refusal.ensures.status
     (inr refl)
 
-pub returns-in-Err-Refused-check-clause-opened : goal.returns-in-Err-Refused-check-clause-opened
-returns-in-Err-Refused-check-clause-opened g c = λ path is tells.
-    opened_refused path.now _ _ c.write_refusal-in-Err-Refused-check.result c.in-Err-Refused-check.refusal
-    c.write_refusal-in-Err-Refused-check.ensures.status (inr refl)
+pub returns-in-Err-Refused-ensure_typed-clause-opened : goal.returns-in-Err-Refused-ensure_typed-clause-opened
+returns-in-Err-Refused-ensure_typed-clause-opened g c = λ path is tells.
+    opened_refused path.now _ _ c.write_refusal-in-Err-Refused-ensure_typed.result c.in-Err-Refused-ensure_typed.refusal
+    c.write_refusal-in-Err-Refused-ensure_typed.ensures.status (inr refl)

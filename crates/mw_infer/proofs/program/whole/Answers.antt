@@ -1,21 +1,20 @@
-use Rattle.std.proofs.Common.{◌≡◌, ◌+◌, ℕ, [], ◌∷◌, map, Some, length, ap, sym, ◌∙◌, arith}
+use Rattle.std.proofs.Common.{◌≡◌, ◌+◌, ℕ, Some, length, ap, sym, ◌∙◌, arith}
 use Rattle.std.specs.Prelude.{slice_get}
-use Rattle.std.proofs.lemmas.List.{length-map, map-append}
+use Rattle.std.proofs.lemmas.List.{length-map}
 use Rattle.mw_term.specs.Programs.{PureProgram, Definition, program_of, definition_of}
 use Rattle.mw_infer.specs.Checking.{IsFirstRefusal}
 use Rattle.mw_infer.specs.Views.{tops_of, top_of}
 use Rattle.mw_infer.proofs.Stepping.{progress-first, progress-next, item-judged, item-refused, main-judged}
 use Rattle.mw_infer.proofs.Stepping.{main-refused, main-faultless, get-map, steps-length, if-refused, AtEnd, at-end}
-use Rattle.mw_infer.specs.Typings.{facts_of_part}
 use Rattle.mw_infer.proofs.Growing.{principal-main}
-use Rattle.mw_infer.proofs.NodesTold.{told-first, told-next, told-main}
+use Rattle.mw_infer.proofs.NodesTold.{told-first, kept-next, kept-main}
 use Rattle.mw_infer.proofs.program.whole.Goals as goal
 
 pub loop-item-init : goal.loop-item-init
 loop-item-init c = record {
   progress = rw c.new-names.ensures.items (progress-first (program_of c.args.program.now));
   names = ap length c.new-names.ensures.items;
-  told = rw c.new-parts.ensures.items (told-first (program_of c.args.program.now));
+  told = λ w. rw c.new-parts.ensures.items (told-first (program_of c.args.program.now));
 }
 
 pub step-requires : goal.step-requires
@@ -50,16 +49,15 @@ loop-item-preserved c =
     c.item-item.result (rw c.as_slice-items.ensures at c.loop-item-test.true)
     (rw c.as_slice-items.ensures at c.item-item.is) in
     let s = c.in-Ok.ensures.ok in
-    let nodes = c.in-Ok.nodes in
     record {
       progress = progress-next p i d (tops_of c.loop-item.names.items) (tops_of c.step.new.names.items) c.in-Ok.nodes
           c.requires g c.loop-item.invariant.progress s;
       names = sym (length-map c.step.new.names.items top_of) ∙ steps-length (tops_of c.loop-item.names.items) d
           (tops_of c.step.new.names.items) c.in-Ok.nodes s
           ∙ ap (λ n. n + 1) (length-map c.loop-item.names.items top_of ∙ c.loop-item.invariant.names);
-      told = rw (c.in_ok-push-in-Ok.ensures.items, map-append facts_of_part c.loop-item.parts.items (nodes ∷ []))
-          (told-next p i d (tops_of c.loop-item.names.items) (tops_of c.step.new.names.items) c.in-Ok.nodes
-          (map facts_of_part c.loop-item.parts.items) g c.loop-item.invariant.progress s c.loop-item.invariant.told);
+      told = λ w. kept-next p i d (tops_of c.loop-item.names.items) (tops_of c.step.new.names.items) c.in-Ok.nodes
+          c.loop-item.parts.items c.keep.new.parts.items g c.loop-item.invariant.progress s (c.in-Ok.ensures.told w)
+          c.in_ok-keep-in-Ok.ensures (c.loop-item.invariant.told w);
     }
 
 pub last-requires : goal.last-requires
@@ -97,7 +95,7 @@ returns-in-Ok-last-clause-principal c =
     rw a.shown (principal-main p.items (tops_of c.loop-item.names.items) a.progress.principal)
 
 pub returns-in-Ok-last-clause-nodes : goal.returns-in-Ok-last-clause-nodes
-returns-in-Ok-last-clause-nodes c =
+returns-in-Ok-last-clause-nodes c = λ w.
     let p : PureProgram = program_of c.args.program.now in
     let a : AtEnd p (tops_of c.loop-item.names.items) (tops_of c.reveal.new.names.items) c.loop-item.item-index =
     at-end p (length c.args.program.now.items) c.loop-item.item-index (tops_of c.loop-item.names.items)
@@ -105,13 +103,10 @@ returns-in-Ok-last-clause-nodes c =
     (rw c.as_slice-items.ensures at c.loop-item-test.false)
     (rw c.as_slice-items.ensures at c.loop-item.auto.item-index-end) c.loop-item.invariant.progress
     (rw c.as_slice-items.ensures at c.reveal.ensures) in
-    rw (
-      c.in_ok-push-in-Ok-last.ensures.items,
-      map-append facts_of_part c.loop-item.parts.items (c.in-Ok-last.nodes ∷ []),
-    )
-    (told-main p (tops_of c.loop-item.names.items) c.in-Ok-last.nodes (map facts_of_part c.loop-item.parts.items)
-    a.progress (rw (c.as_slice.ensures.value, a.shown) at c.in-Ok-last.ensures.fine)
-    (rw a.index at c.loop-item.invariant.told))
+    kept-main p (tops_of c.loop-item.names.items) c.in-Ok-last.nodes c.loop-item.parts.items
+    c.keep-in-Ok-last.new.parts.items a.progress
+    (rw (c.as_slice.ensures.value, a.shown) at c.in-Ok-last.ensures.fine) (c.in-Ok-last.ensures.told w)
+    c.in_ok-keep-in-Ok-last.ensures (rw a.index at (c.loop-item.invariant.told w))
 
 pub returns-clause-refused : goal.returns-clause-refused
 returns-clause-refused c =

@@ -1,4 +1,4 @@
-use Rattle.std.proofs.Common.{◌≡◌, length, map}
+use Rattle.std.proofs.Common.{◌≡◌, IsTrue, length, map}
 use Rattle.mw_term.specs.Programs.{program_of}
 use Rattle.mw_infer.specs.Progress.{Progress, AreNodesBefore}
 use Rattle.mw_infer.specs.Typings.{facts_of_part}
@@ -9,5 +9,5 @@ abbrev pub invariant-loop-item : goal.invariant-loop-item
 invariant-loop-item l = record {
   progress : Progress (program_of l.program) l.item-index (tops_of l.names.items);
   names : length l.names.items ≡ l.item-index;
-  told : AreNodesBefore (program_of l.program) l.item-index (map facts_of_part l.parts.items);
+  told : IsTrue l.with_nodes → AreNodesBefore (program_of l.program) l.item-index (map facts_of_part l.parts.items);
 }
