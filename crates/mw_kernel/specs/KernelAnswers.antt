@@ -1,8 +1,8 @@
 -- What an answer says of how the invocation of `init` or of `call` ends.
 use Rattle.std.specs.Prelude.{ℕ, ◌≡◌, ◌≤◌, [], ◌∷◌, Some, Result, Ok, Err, codes, FitsSigned}
 use Rattle.std.specs.Int.{w64}
-use Rattle.mw_term.specs.Terms.{GroundType, KernelType, KernelValue, PureGroundValue, of_ground, to, int, bool, both}
-use Rattle.mw_term.specs.Terms.{ground_value, ground_value_of}
+use Rattle.mw_term.specs.Terms.{GroundType, KernelType, PureGroundValue, of_ground, to, int, bool, both, ground_value}
+use Rattle.mw_term.specs.Terms.{ground_value_of}
 use Rattle.mw_term.specs.declared.value.Limit.{Limit}
 use Rattle.mw_term.specs.declared.value.Limit.TheVariants.{Fuel, Heap}
 use Rattle.mw_term.specs.declared.value.TrapKind.{TrapKind}

@@ -1,7 +1,6 @@
 -- What the machine's outcome is as that of a kernel item, and of main.
 use Rattle.std.proofs.Common.{◌≡◌, ℕ, Some, ◌∙◌, Bool, true, false, Result, Ok, Err, IsErrAnd, refl, sym, subst}
-use Rattle.mw_term.specs.Terms.{Expression, Value, PureGroundValue, KernelType, int, bool, both, code, expression_of}
-use Rattle.mw_term.specs.Terms.{ground_value, ground_value_of}
+use Rattle.mw_term.specs.Terms.{Expression, Value, KernelType, code, expression_of, ground_value_of}
 use Rattle.mw_term.specs.declared.term.Term.{Term}
 use Rattle.mw_term.specs.declared.value.GroundValue.{GroundValue}
 use Rattle.mw_term.specs.declared.value.Limit.{Limit}
@@ -12,7 +11,7 @@ use Rattle.mw_term.specs.Typable.{HasKernelType}
 use Rattle.std.specs.Prelude.{slice_get}
 use Rattle.mw_meaning.specs.Arithmetic.{trap, bound}
 use Rattle.mw_meaning.specs.Outcomes.{code_outcome, value_outcome, measured_code}
-use Rattle.mw_meaning.specs.GroundValues.{as_ground, HasGroundType}
+use Rattle.mw_meaning.specs.GroundValues.{HasGroundType}
 use Rattle.mw_meaning.specs.StagedMeaning.{Answer, gives, stops, Runs}
 use Rattle.mw_region.specs.declared.pool.Id.{Id}
 use Rattle.mw_machine.specs.declared.machine.Machine.{Machine}
