@@ -7,11 +7,8 @@ use crate::reading::{Lost, Walked, behind, beyond, first_of};
 use mw_grammar::next::Next;
 use mw_grammar::words::{ItemWord, Start, item_word, start_word};
 use mw_lex::Token;
-use mw_term::Term;
+use mw_term::{MOST_NESTING, Term};
 use std::alloc::{AllocError, Global};
-
-/// How many nodes stand on a path at most.
-const ROOM: u32 = 200;
 
 /// The nodes of a part in pre-order.
 #[derive(Debug, Drop)]
@@ -54,7 +51,7 @@ fn program_parts(alloc: Global, tokens: &[Token]) -> Result<Vec<PartSpans>, Lost
 /// After `main`. No token stands behind it.
 fn main_part(alloc: Global, tokens: &[Token]) -> Result<PartSpans, Lost> {
     let mut arena = Arena::new(alloc);
-    let body = expression(&mut arena, beyond(Next::Equal, tokens)?, ROOM)?;
+    let body = expression(&mut arena, beyond(Next::Equal, tokens)?, MOST_NESTING)?;
     if !body.rest.is_empty() {
         return Err(Lost::NoTree);
     }
@@ -70,8 +67,8 @@ fn item_part<'t>(
     let mut arena = Arena::new(alloc);
     let body = match item_word(word) {
         ItemWord::Other => return Err(Lost::NoTree),
-        ItemWord::Let => binding(&mut arena, tokens, ROOM)?.1,
-        ItemWord::Kernel => expression(&mut arena, beyond(Next::Equal, tokens)?, ROOM)?,
+        ItemWord::Let => binding(&mut arena, tokens, MOST_NESTING)?.1,
+        ItemWord::Kernel => expression(&mut arena, beyond(Next::Equal, tokens)?, MOST_NESTING)?,
     };
     Ok((part_of(alloc, &arena, body)?, body.rest))
 }

@@ -8,9 +8,9 @@ ghost use Rattle.mw_key.specs.declared.version.Version.{Version as PureVersion};
 
 use crate::fault::TextFault;
 use crate::form::Form;
-use crate::read::{MOST_CODE_NODES, MOST_DEPTH, MOST_TYPE_NODES, kernel_type};
+use crate::read::kernel_type;
 use crate::reader::Reader;
-use mw_term::KType;
+use mw_term::{KType, MOST_CODE_DEPTH, MOST_CODE_NODES, MOST_TYPE_NODES};
 use std::alloc::Global;
 
 /// The type of the code whose canonical text the bytes are. The code is passed over, so that it takes no memory.
@@ -34,7 +34,7 @@ fn whole_type(alloc: Global, reader: &mut Reader) -> Result<KType, TextFault>
     let _version = reader.version()?;
     let kind = kernel_type(alloc, reader)?;
     reader.allow(MOST_CODE_NODES);
-    match pass(reader, MOST_DEPTH, 0) {
+    match pass(reader, MOST_CODE_DEPTH, 0) {
         Ok(()) if reader.is_at_end() => Ok(kind),
         Ok(()) => {
             drop(kind);

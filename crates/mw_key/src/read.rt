@@ -11,20 +11,11 @@ use crate::fault::TextFault;
 use crate::form::{Form, TypeForm};
 use crate::reader::Reader;
 use crate::version::Version;
-use mw_term::{Ground, KType, Term};
+use mw_term::{Ground, KType, MOST_CODE_DEPTH, MOST_CODE_NODES, MOST_TYPE_NODES, Term};
 use std::alloc::Global;
 
 /// What a call that reads from words answers.
 type Read<T> = Result<T, TextFault>;
-
-/// How many nodes a kernel type may have, and so how deep it may nest.
-pub(crate) const MOST_TYPE_NODES: u32 = 10_000;
-
-/// How many nodes code may have.
-pub(crate) const MOST_CODE_NODES: u32 = 20_000;
-
-/// How deep code may nest.
-pub(crate) const MOST_DEPTH: u32 = 400;
 
 /// The version, code and type whose canonical text the bytes are. `BadText` comes where they are none, and `Memory`
 /// where memory runs out. Words are read one after another, and no further than to the first that can't stand there.
@@ -51,7 +42,7 @@ fn whole_text(alloc: Global, reader: &mut Reader) -> Read<(Version, Term, KType)
     let version = reader.version()?;
     let kind = kernel_type(alloc, reader)?;
     reader.allow(MOST_CODE_NODES);
-    match code(alloc, reader, MOST_DEPTH, 0) {
+    match code(alloc, reader, MOST_CODE_DEPTH, 0) {
         Ok(code) if reader.is_at_end() => Ok((version, code, kind)),
         Ok(code) => {
             drop(code);

@@ -15,7 +15,7 @@ use crate::items::program_tree;
 use mw_grammar::fault::Fault;
 use mw_grammar::{Surface, SurfaceItem};
 use mw_lex::{Token, Tokens};
-use mw_term::{Refusal, Stop};
+use mw_term::{MOST_NESTING, Refusal, Stop};
 use std::alloc::Global;
 
 /// The offset of the first of these tokens, or the file's length where none is left.
@@ -47,7 +47,7 @@ fn kernel_count(items: &[SurfaceItem]) -> u32
 fn parse_tokens(alloc: Global, tokens: &[Token], length: u32) -> Result<Surface, Stop>
     ensures { IsAnswer (tokens_of tokens.now) length result }
 {
-    match program_tree(alloc, tokens, 200) {
+    match program_tree(alloc, tokens, MOST_NESTING) {
         Err(Fault::Memory(e)) => Err(Stop::Memory(e)),
         Err(Fault::Syntax(rest)) => Err(Stop::Refused(Refusal::Syntax(place(rest, length)))),
         Err(Fault::Deep(rest)) => Err(Stop::Refused(Refusal::TooDeep(place(rest, 0)))),

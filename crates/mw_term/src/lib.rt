@@ -6,6 +6,7 @@
 
 pub mod copy;
 pub mod laws;
+pub mod limits;
 pub mod measure;
 pub mod name;
 pub mod program;
@@ -14,6 +15,7 @@ pub mod term;
 pub mod value;
 
 pub use crate::copy::{copied_ground, copied_kernel_type, copied_name, copied_term};
+pub use crate::limits::{MOST_CODE_DEPTH, MOST_CODE_NODES, MOST_NESTING, MOST_TYPE_NODES};
 pub use crate::measure::{depth, nodes};
 pub use crate::name::Name;
 pub use crate::program::{Item, ItemKind, Items, Program};

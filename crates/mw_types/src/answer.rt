@@ -11,6 +11,9 @@ use crate::types::Ty;
 use std::alloc::{AllocError, Global};
 use std::marker::Model;
 
+/// How many nodes a type may have.
+pub(crate) const MOST_NODES: usize = 10_000;
+
 /// A most general solution: a type for each unknown, which may hold unknowns again, and a representative for each
 /// classifier unknown. A type that several unknowns have is held once, in a tree. Contracts see the types, the
 /// representatives and the trees' numbers as lists.
@@ -100,7 +103,7 @@ pub fn type_at(alloc: Global, state: &State, unknown: usize) -> Result<Ty, Alloc
     ensures { IfOk result (λ ty. StandsForOne state.now unknown (type_of ty)) }
 {
     let names = names_of(alloc, state.classifier.as_slice())?;
-    tree(alloc, state, names.as_slice(), unknown, 10000)
+    tree(alloc, state, names.as_slice(), unknown, MOST_NODES)
 }
 
 // The representatives of all classifier unknowns.
@@ -139,7 +142,7 @@ fn own_tree(alloc: Global, state: &State, names: &[u64], node: usize) -> Result<
     if state.parent[node] != node {
         return Ok(Ty::Int);
     }
-    tree(alloc, state, names, node, 10000)
+    tree(alloc, state, names, node, MOST_NODES)
 }
 
 // The type that a node stands for, which has at most `room` nodes.

@@ -7,6 +7,7 @@ ghost use Rattle.mw_types.specs.Judged.{AreAlone, Blank, ClashesBetween, JudgesF
 ghost use Rattle.mw_types.specs.Types.{Assignment};
 ghost use Rattle.mw_types.specs.Holds.{Sound, Means, nodes_in, classifiers_in};
 
+use crate::answer::MOST_NODES;
 use crate::build::add;
 use crate::state::{Pending, Shape, State, flatten, postpone, settle};
 use crate::types::Equation;
@@ -87,7 +88,7 @@ pub fn judge_longer(
         }),
         Some(all) => {
             for index in 0..unknowns {
-                if all[index] > 10000 {
+                if all[index] > MOST_NODES {
                     return Ok(Judgement {
                         end,
                         verdict: Verdict::TooBig,
