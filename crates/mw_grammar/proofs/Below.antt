@@ -155,3 +155,9 @@ next_goes view res b w o l t r a h k us mid e p q g =
 pub gives_as : {X : Type 0} {n : Nonterminal} (view : X → Answer n) (res : Result X Fault) (x y : Answer n) → x ≡ y
     → Gives view res y → Gives view res x
 gives_as view res x y e g = subst (λ x. Gives view res x) (sym e) g
+
+-- what a part that was read is
+pub ruleset read_laws = (read_full, read_gives, read_refuses, read_reads, part_fails)
+
+-- the same of an expression, whose parts are one level below
+pub ruleset tree_laws = (read_full, read_gives, read_refuses, read_reads, part_fails, fails_then, raise_ok, fails_raise)

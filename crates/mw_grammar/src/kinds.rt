@@ -1,7 +1,7 @@
 // Ground types and kernel types, by descent. `room` is the number of nodes that may still stand on a path; each
 // function answers what it made, the height of its nodes and the tokens left.
 
-#![tactic(auto, using(crate::proofs::Below::read_full, crate::proofs::Below::read_gives, crate::proofs::Below::read_refuses, crate::proofs::Below::read_reads, crate::proofs::Below::part_fails, crate::proofs::Below::low_in, crate::proofs::Below::low_out, crate::proofs::Below::raise_ok, crate::proofs::Below::fails_raise))]
+#![tactic(auto, using(crate::proofs::Below::read_laws, crate::proofs::Below::low_in, crate::proofs::Below::low_out, crate::proofs::Below::raise_ok, crate::proofs::Below::fails_raise))]
 
 ghost use Rattle.std.specs.Prelude.{◌≤◌, IfOk, IfSome, IfNone};
 ghost use Rattle.mw_lex.specs.Tokens.{tokens_of};

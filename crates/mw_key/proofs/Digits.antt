@@ -33,3 +33,6 @@ module _ (value n : ℕ) (bytes : List ℕ) where
 
   pub number_all : length bytes ≤ n → number_in value (drop n bytes) ≡ Some value
   number_all p = ap (λ r. number_in value r) (drop_all n bytes p)
+
+-- a number, digit by digit
+pub ruleset number_laws = (number_digit, number_big, number_other, number_all)

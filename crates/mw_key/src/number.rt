@@ -10,7 +10,7 @@ fn is_digit(byte: u8) -> bool
 }
 
 /// The number of at most 2^63 that the digits spell.
-#[tactic(auto, using(crate::proofs::Digits::number_digit, crate::proofs::Digits::number_big, crate::proofs::Digits::number_other, crate::proofs::Digits::number_all))]
+#[tactic(auto, using(crate::proofs::Digits::number_laws))]
 fn number(digits: &[u8]) -> Option<u64>
     ensures value { result ≡ number_in 0 digits.now }
     ensures at_most { IfSome result (λ n. n ≤ 2 ^ 63) }

@@ -157,7 +157,7 @@ pub fn mark_of_two(first: u8, second: u8) -> Option<Kind>
 }
 
 /// The number of at most 2^63 that the text is.
-#[tactic(auto, using(crate::proofs::Counts::number_digit, crate::proofs::Counts::number_big, crate::proofs::Counts::number_other, crate::proofs::Counts::number_all))]
+#[tactic(auto, using(crate::proofs::Counts::number_laws))]
 pub fn number(text: &[u8]) -> Option<u64>
     ensures { result ≡ number_in 0 text.now }
 {

@@ -147,3 +147,18 @@ nothing_left (u ∷ us) e = absurd (omega arith)
 pub as_many : (is : List SurfaceItem) → length (map item_of is) ≡ length is
 as_many [] = refl
 as_many (i ∷ is) = omega (arith, as_many is)
+
+-- what tokens are parsed to
+pub ruleset token_laws = (
+  few_program,
+  many_items,
+  many_kernels,
+  left_over,
+  syntax_fault,
+  deep_fault,
+  nothing_left,
+  as_many,
+)
+
+-- what a source is parsed to
+pub ruleset source_laws = (found, only, refused, first, shallow, sparse)

@@ -110,3 +110,6 @@ pub map_more : (xs : List SurfaceItem) (x : SurfaceItem) → map item_of (xs ++ 
     ++ (item_of x ∷ [])
 map_more [] x = refl
 map_more (y ∷ xs) x = ap (λ z. item_of y ∷ z) (map_more xs x)
+
+-- an item and what follows it
+pub ruleset program_laws = (behind_none, item_goes, main_goes, fails_items)

@@ -1,6 +1,6 @@
 // Items and programs.
 
-#![tactic(auto, using(mw_grammar::proofs::Below::read_full, mw_grammar::proofs::Below::read_gives, mw_grammar::proofs::Below::read_refuses, mw_grammar::proofs::Below::read_reads, mw_grammar::proofs::Below::part_fails, mw_grammar::proofs::Below::fails_then))]
+#![tactic(auto, using(mw_grammar::proofs::Below::read_laws, mw_grammar::proofs::Below::fails_then))]
 
 ghost use Rattle.std.specs.Prelude.{◌≤◌, IfOk};
 ghost use Rattle.mw_lex.specs.Tokens.{tokens_of};
@@ -118,7 +118,7 @@ fn main_tree(
 }
 
 /// A program: the items in turn, and main.
-#[tactic(auto, using(mw_grammar::proofs::Below::read_full, mw_grammar::proofs::Below::read_gives, mw_grammar::proofs::Below::read_refuses, mw_grammar::proofs::Below::read_reads, mw_grammar::proofs::Below::part_fails, mw_grammar::proofs::Below::fails_then, crate::proofs::Programs::behind_none, crate::proofs::Programs::item_goes, crate::proofs::Programs::main_goes, crate::proofs::Programs::fails_items))]
+#[tactic(auto, using(mw_grammar::proofs::Below::read_laws, mw_grammar::proofs::Below::fails_then, crate::proofs::Programs::program_laws))]
 pub fn program_tree(alloc: Global, tokens: &[Token], room: u32) -> Read<Surface>
     requires { room ≤ 200 }
     ensures gives { GivesRead surface_of result (full room program (tokens_of tokens.now)) }

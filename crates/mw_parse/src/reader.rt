@@ -43,7 +43,7 @@ fn kernel_count(items: &[SurfaceItem]) -> u32
     }
 }
 
-#[tactic(auto, using(crate::proofs::Parsed::few_program, crate::proofs::Parsed::many_items, crate::proofs::Parsed::many_kernels, crate::proofs::Parsed::left_over, crate::proofs::Parsed::syntax_fault, crate::proofs::Parsed::deep_fault, crate::proofs::Parsed::nothing_left, crate::proofs::Parsed::as_many))]
+#[tactic(auto, using(crate::proofs::Parsed::token_laws))]
 fn parse_tokens(alloc: Global, tokens: &[Token], length: u32) -> Result<Surface, Stop>
     ensures { IsAnswer (tokens_of tokens.now) length result }
 {
@@ -70,7 +70,7 @@ fn parse_tokens(alloc: Global, tokens: &[Token], length: u32) -> Result<Surface,
 }
 
 /// The tree of the tokens of a file of this length, or the refusal.
-#[tactic(auto, using(crate::proofs::Parsed::found, crate::proofs::Parsed::only, crate::proofs::Parsed::refused, crate::proofs::Parsed::first, crate::proofs::Parsed::shallow, crate::proofs::Parsed::sparse))]
+#[tactic(auto, using(crate::proofs::Parsed::source_laws))]
 pub fn parse(alloc: Global, tokens: &Tokens, length: u32) -> Result<Surface, Stop>
     requires small { length ≤ 1048576 }
     requires in_order { AreInOrder (tokens_of tokens.now) length }

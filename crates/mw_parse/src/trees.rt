@@ -1,7 +1,7 @@
 // Expressions, by descent. `room` is the number of nodes that may still stand on a path; each function answers what it
 // made, the height of its nodes and the tokens left, and says of which form. Trees are passed on in boxes.
 
-#![tactic(auto, using(mw_grammar::proofs::Below::read_full, mw_grammar::proofs::Below::read_gives, mw_grammar::proofs::Below::read_refuses, mw_grammar::proofs::Below::read_reads, mw_grammar::proofs::Below::part_fails, mw_grammar::proofs::Below::fails_then, mw_grammar::proofs::Below::raise_ok, mw_grammar::proofs::Below::fails_raise))]
+#![tactic(auto, using(mw_grammar::proofs::Below::tree_laws))]
 
 ghost use Rattle.std.specs.Prelude.{◌≡◌, ◌<◌, ◌≤◌, ℕ, IfOk};
 ghost use Rattle.mw_lex.specs.Tokens.{tokens_of};
@@ -282,7 +282,7 @@ fn right_tree(alloc: Global, row: Row, tokens: &[Token], room: u32) -> Read<Box<
 }
 
 #[cycle(trees)]
-#[tactic(auto, using(mw_grammar::proofs::Below::read_full, mw_grammar::proofs::Below::read_gives, mw_grammar::proofs::Below::read_refuses, mw_grammar::proofs::Below::read_reads, mw_grammar::proofs::Below::part_fails, mw_grammar::proofs::Below::fails_then, mw_grammar::proofs::Below::raise_ok, mw_grammar::proofs::Below::fails_raise, mw_grammar::proofs::Below::read_more))]
+#[tactic(auto, using(mw_grammar::proofs::Below::tree_laws, mw_grammar::proofs::Below::read_more))]
 fn row_tree(alloc: Global, row: Row, tokens: &[Token], room: u32) -> Read<Box<Tree>>
     requires { room ≤ 200 }
     ensures gives { GivesRead tree_in result
@@ -294,7 +294,7 @@ fn row_tree(alloc: Global, row: Row, tokens: &[Token], room: u32) -> Read<Box<Tr
 }
 
 #[cycle(trees)]
-#[tactic(auto, using(mw_grammar::proofs::Below::read_full, mw_grammar::proofs::Below::read_gives, mw_grammar::proofs::Below::read_refuses, mw_grammar::proofs::Below::read_reads, mw_grammar::proofs::Below::part_fails, mw_grammar::proofs::Below::fails_then, mw_grammar::proofs::Below::raise_ok, mw_grammar::proofs::Below::fails_raise, mw_grammar::proofs::Below::follow_none, mw_grammar::proofs::Below::follow_deep, mw_grammar::proofs::Below::follow_on))]
+#[tactic(auto, using(mw_grammar::proofs::Below::tree_laws, mw_grammar::proofs::Below::follow_none, mw_grammar::proofs::Below::follow_deep, mw_grammar::proofs::Below::follow_on))]
 fn more_trees(
     alloc: Global,
     row: Row,
@@ -651,7 +651,7 @@ fn behind_tree(alloc: Global, mark: Mark, tokens: &[Token], room: u32) -> Read<D
 }
 
 #[cycle(trees)]
-#[tactic(auto, using(mw_grammar::proofs::Below::read_full, mw_grammar::proofs::Below::read_gives, mw_grammar::proofs::Below::read_refuses, mw_grammar::proofs::Below::read_reads, mw_grammar::proofs::Below::part_fails, mw_grammar::proofs::Below::fails_then, mw_grammar::proofs::Below::raise_ok, mw_grammar::proofs::Below::fails_raise, mw_grammar::proofs::Below::next_goes))]
+#[tactic(auto, using(mw_grammar::proofs::Below::tree_laws, mw_grammar::proofs::Below::next_goes))]
 fn next_operand(
     alloc: Global,
     row: Row,
