@@ -24,7 +24,7 @@ use Rattle.mw_infer.proofs.Extending.{Solves-append}
 use Rattle.mw_section.specs.WritingLaws.{IsFormed as IsFormedExpression}
 use Rattle.mw_agree.specs.Telling.{AllFormed, NodesAreFormed}
 use Rattle.mw_agree.proofs.Levels.{AllAre, Levelled}
-use Rattle.mw_agree.proofs.Refitting.{FitsAt, Reaches, refit}
+use Rattle.mw_agree.proofs.FittingSolutions.{FitsAt, Reaches, refit}
 
 -- what an assignment makes of a type holds the code that the type holds
 plain-no_code : (b : Assignment) (t : TypeExpression) → IsPlain (value b t) → HoldsNoCode t

@@ -18,11 +18,11 @@ use Rattle.mw_infer.specs.Nodes.{NodeNumbers, NodeFacts, node_numbers, facts_at,
 use Rattle.mw_section.specs.WritingLaws.{IsFormed as IsFormedExpression}
 use Rattle.mw_agree.specs.Telling.{Agreed, NodesAreFormed, NewNumbers, renaming, with_numbers}
 use Rattle.mw_agree.specs.Telling.{root_of}
-use Rattle.mw_agree.proofs.Unifying.{Unifies, Unifies-parts, general-unifies, fresh-unused, then, Unifies-then}
-use Rattle.mw_agree.proofs.Unifying.{AreUnused-renamed, no_code-renamed}
-use Rattle.mw_agree.proofs.Counting.{node_count}
-use Rattle.mw_agree.proofs.Agreeing.{RootsOf, noted, apply-kernel, apply-ground}
-use Rattle.mw_agree.proofs.Refitting.{FitsAt}
+use Rattle.mw_agree.proofs.Unifiers.{Unifies, Unifies-parts, general-unifies, fresh-unused, then, Unifies-then}
+use Rattle.mw_agree.proofs.Unifiers.{AreUnused-renamed, no_code-renamed}
+use Rattle.mw_agree.proofs.NodeCounts.{node_count}
+use Rattle.mw_agree.proofs.CertificateRules.{RootsOf, noted, apply-kernel, apply-ground}
+use Rattle.mw_agree.proofs.FittingSolutions.{FitsAt}
 use Rattle.mw_agree.proofs.NoCode.{KeepsLevels, keeps_levels, no_code-flat, nodes-flat}
 
 module _ (r : NewNumbers) where

@@ -1,8 +1,8 @@
-pub mod Crossing
-pub mod Finding
-pub mod Gathering
-pub mod Hinting
-pub mod Honest
-pub mod Keeping
-pub mod Migrating
+pub mod SendSync
+pub mod LoadedTexts
+pub mod ModuleMap
+pub mod ReceiptTexts
+pub mod HonestRecords
+pub mod KeptReceipts
+pub mod MigratedRecords
 pub mod Modules

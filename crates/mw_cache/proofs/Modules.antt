@@ -20,11 +20,11 @@ use Rattle.mw_store.specs.Loads.{Loaded as LoadedRecord, LoadState}
 use Rattle.mw_store.specs.Whole.{IsKernelModule}
 use Rattle.mw_compile.specs.Emission.{emission, IsEmissionOf}
 use Rattle.mw_compile.specs.Entries.{Emitted, IsEntry}
-use Rattle.mw_compile.proofs.Entering.{entry_is, each_emission, one_emission}
+use Rattle.mw_compile.proofs.EmittedEntries.{entry_is, each_emission, one_emission}
 use Rattle.mw_cache.specs.declared.got.Got.{Got}
 use Rattle.mw_cache.specs.declared.got.Got.TheVariants.{Loaded}
 use Rattle.mw_cache.specs.Gots.{CacheState, IsRight, HasWasm, text_at}
-use Rattle.mw_cache.proofs.Finding.{text_is}
+use Rattle.mw_cache.proofs.LoadedTexts.{text_is}
 
 -- it has the shape for each type that has the text
 abbrev HasShapeOf : List ℕ → Module → Type 0

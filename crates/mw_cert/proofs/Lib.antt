@@ -1,9 +1,9 @@
 pub mod Trees
 pub mod Lines
-pub mod Short
+pub mod ShortNodes
 pub mod Parts
-pub mod Written
-pub mod Marking
+pub mod CertificateBytes
+pub mod MarkedTypes
 pub mod OwnNumbers
-pub mod Fitting
-pub mod Accepted
+pub mod SectionSizes
+pub mod WrittenCertificates

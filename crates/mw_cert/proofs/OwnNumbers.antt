@@ -6,7 +6,7 @@ use Rattle.mw_types.specs.Types.{Within, Assignment, value, nodes, Substitution,
 use Rattle.mw_types.specs.Equations.{TypeEquation, AllWithin, Agree, MostGeneral, StaysWithin}
 use Rattle.mw_types.proofs.Lists.{Is, same, other, is}
 use Rattle.mw_types.proofs.Existence.{value_apply, solves_same}
-use Rattle.mw_cert.proofs.Marking.{weight, both_none, one_none, code_none, IsUnmarked, unmarked}
+use Rattle.mw_cert.proofs.MarkedTypes.{weight, both_none, one_none, code_none, IsUnmarked, unmarked}
 
 -- a number below a bound has the property, or none has
 abbrev Found : (ℕ → Type 0) → ℕ → Type 0

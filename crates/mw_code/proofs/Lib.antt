@@ -1,6 +1,6 @@
-pub mod Placing
-pub mod Unsharing
-pub mod Counting
-pub mod Adding
-pub mod Making
-pub mod Forming
+pub mod FreshBinders
+pub mod UnsharedTerms
+pub mod TermSizes
+pub mod AddedNodes
+pub mod FormSizes
+pub mod NodeReadings

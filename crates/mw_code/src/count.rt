@@ -31,7 +31,7 @@ fn push_parts(left: &mut Vec<Id>, node: CodeNode) -> Result<(), AllocError>
 }
 
 /// Takes the nodes of a term but its first from the budget, and answers whether it has that many.
-#[tactic(auto, using(crate::proofs::Unsharing::size_positive))]
+#[tactic(auto, using(crate::proofs::UnsharedTerms::size_positive))]
 pub(crate) fn count_parts<L: Ledger>(term: &Term, budget: &mut u32, steps: &mut Steps<L>) -> bool
     ensures count { AreCounted result (size (expression_of term.now)) (budget.old + 1) budget.new }
     ensures visits { steps.new + budget.new ≡ steps.old + budget.old }
@@ -61,7 +61,7 @@ fn count_own<L: Ledger>(node: CodeNode, budget: &mut u32, steps: &mut Steps<L>) 
 }
 
 /// Takes the nodes of the code at a place from the budget, and answers whether it has that many.
-#[tactic(auto, using(crate::proofs::Counting::node_sizes, crate::proofs::Counting::node_here, crate::proofs::Counting::sizes_append, crate::proofs::Counting::AreHere_append, crate::proofs::Unsharing::size_positive))]
+#[tactic(auto, using(crate::proofs::TermSizes::node_sizes, crate::proofs::TermSizes::node_here, crate::proofs::TermSizes::sizes_append, crate::proofs::TermSizes::AreHere_append, crate::proofs::UnsharedTerms::size_positive))]
 pub(crate) fn count_nodes<L: Ledger>(
     alloc: Global,
     pool: &Pool<CodeNode>,

@@ -16,7 +16,7 @@ use Rattle.mw_tasks.specs.Phases.{Answers, EachKernel, IsOutcomeOf, AreOutcomesO
 use Rattle.mw_tasks.specs.RightRuns.{HasWrongRun}
 use Rattle.mw_tasks.specs.BadItems.{IsBadOfItems}
 use Rattle.mw_tasks.proofs.RightOrWrong.{all_or_one}
-use Rattle.mw_tasks.proofs.Unloaded.{none_stray}
+use Rattle.mw_tasks.proofs.EmptyCache.{none_stray}
 use Rattle.mw_cached.specs.StrayRecords.{IsStrayRecord}
 use Rattle.mw_keeping.specs.CacheFiles.{IsOpened}
 use Rattle.mw_keeping.specs.declared.opening.CacheFile.{CacheFile}

@@ -15,7 +15,7 @@ use Rattle.mw_meaning.specs.declared.mode.Mode.TheVariants.{Plain}
 use Rattle.mw_meaning.specs.Outcomes.{Outcome, came_to, trapped, bounded, stuck, names_of_items}
 use Rattle.mw_conv.specs.Convert.{funs, functions}
 use Rattle.mw_conv.proofs.Scopes.{functions_length}
-use Rattle.mw_compile.proofs.Entering.{within_size, within_depth}
+use Rattle.mw_compile.proofs.EmittedEntries.{within_size, within_depth}
 use Rattle.mw_grammar.specs.SurfaceTrees.{PureItem}
 use Rattle.mw_grammar.specs.Answers.{kernels as kernel_items}
 use Rattle.mw_scope.specs.Scopes.{name_of}

@@ -27,7 +27,7 @@ use Rattle.mw_drive.specs.ItemOutcomes.{item_run, outcomes_run, came_before, end
 use Rattle.mw_drive.specs.ItemOutcomes.{IfKernel}
 use Rattle.mw_drive.proofs.ItemsRun.{definitions, with_kernels, one_more, all_before, all_kernels}
 use Rattle.mw_reading.proofs.SourceReadings.{unnamed_program}
-use Rattle.mw_drive.proofs.Taking.{drop_next, all_with}
+use Rattle.mw_drive.proofs.ListFronts.{drop_next, all_with}
 
 -- After so many items and so many outcomes, these kernels.
 pub record Reaches (p : NamedProgram) (outcomes : List ItemOutcome) (at next : ℕ) (built : List Built) : Type 0 where

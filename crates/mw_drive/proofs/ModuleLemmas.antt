@@ -8,12 +8,12 @@ use Rattle.mw_meaning.proofs.SimplificationTyping.{keeps_kernel_type, stays_with
 use Rattle.mw_key.specs.declared.version.Version.TheVariants.{Two}
 use Rattle.mw_gen.specs.Emission.{emitted}
 use Rattle.mw_encode.proofs.BestModules.{encoding_shortest}
-use Rattle.mw_compile.proofs.Entering.{emission_of}
+use Rattle.mw_compile.proofs.EmittedEntries.{emission_of}
 use Rattle.mw_literals.proofs.SimplifiedLiterals.{simplified_literals}
 use Rattle.mw_link.specs.Linked.{Kernel, linked}
 use Rattle.mw_link.proofs.Profile.{linked_is_within_profile}
 use Rattle.mw_link.proofs.Spelling.{linked_is_spelled}
-use Rattle.mw_link.proofs.Standing.{linked_means_all}
+use Rattle.mw_link.proofs.LinkedMeaning.{linked_means_all}
 use Rattle.mw_link.proofs.Valid.{linked_is_valid}
 use Rattle.mw_console.specs.Texts.{Ending}
 use Rattle.mw_reading.specs.NamedPrograms.{NamedProgram, unnamed}

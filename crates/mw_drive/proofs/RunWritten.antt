@@ -26,7 +26,7 @@ use Rattle.mw_drive.specs.ItemOutcomes.{outcomes_run, run_with}
 use Rattle.mw_drive.specs.ProgramRuns.{kernels_of, IsUsual, IsWrittenRun}
 use Rattle.mw_drive.proofs.Faults.{front_written, no_answer, fault_is}
 use Rattle.mw_drive.proofs.Fronts.{grows_after, whole_grows}
-use Rattle.mw_drive.proofs.Honest.{are_meant}
+use Rattle.mw_drive.proofs.HonestRuns.{are_meant}
 use Rattle.mw_drive.proofs.ItemsRun.{run_is}
 use Rattle.mw_drive.proofs.ProgramEnds.{program_ends}
 use Rattle.mw_reading.proofs.SourceReadings.{unnamed_program}

@@ -34,14 +34,14 @@ use Rattle.mw_drive.specs.Works.{of_migration, of_binary, of_bad_binary, of_modu
 use Rattle.mw_drive.specs.Works.{certifying, rechecking, certified, rechecked, CertifiesWithin, of_untyped}
 use Rattle.mw_drive.specs.Works.{of_certificate, of_unread, of_recheck}
 use Rattle.mw_recheck.specs.Certificates.{Certifies}
-use Rattle.mw_recheck.proofs.Decided.{certifies_decided}
-use Rattle.mw_cert.proofs.Accepted.{accepted_have_one}
+use Rattle.mw_recheck.proofs.CertificateDecision.{certifies_decided}
+use Rattle.mw_cert.proofs.WrittenCertificates.{accepted_have_one}
 use Rattle.mw_wasm.specs.Syntax.{PureModule}
 use Rattle.mw_wasm.specs.Validity.{IsValid}
 use Rattle.mw_judge.specs.declared.fault.BadFile.{BadFile}
 use Rattle.mw_judge.specs.ModuleFiles.{IsBinary, IsFileOf, IsBadBinary, IsBadFile}
 use Rattle.mw_judge.proofs.FileLaws.{binary_or_bad, file_or_bad}
-use Rattle.mw_judge.proofs.Deciding.{validity_is_decided}
+use Rattle.mw_judge.proofs.ValidityDecision.{validity_is_decided}
 use Rattle.mw_keeping.proofs.Migrations.{some_migration}
 use Rattle.mw_drive.specs.WorkLaws.{SomeMeaning}
 use Rattle.mw_reading.proofs.ScopedTerms.{is_resolved}

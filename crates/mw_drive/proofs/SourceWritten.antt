@@ -45,7 +45,7 @@ use Rattle.mw_drive.proofs.Fronts.{grows_nothing}
 use Rattle.mw_link.specs.LinkLaw.{AreLinkable}
 use Rattle.mw_drive.proofs.LinkedPrograms.{link_means, linked_kernels}
 use Rattle.mw_drive.proofs.OneMeaning.{one_program, one_meaning}
-use Rattle.mw_drive.proofs.Reported.{ok_then}
+use Rattle.mw_drive.proofs.Reports.{ok_then}
 use Rattle.mw_drive.proofs.Statuses.{ran_not_refused}
 use Rattle.mw_drive.specs.HeldFiles.{IsKeptOf}
 use Rattle.mw_drive.proofs.SomeMeaning.{some_meaning}

@@ -7,4 +7,4 @@ pub mod Pieces
 pub mod Codes
 pub mod Runs
 pub mod Modules
-pub mod Appending
+pub mod AppendedBytes

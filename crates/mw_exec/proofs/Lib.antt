@@ -4,7 +4,7 @@ pub mod NumberActs
 pub mod Unwinding
 pub mod Surroundings
 pub mod JumpRules
-pub mod Leaving
+pub mod CodeEnds
 pub mod CallRules
 pub mod TurnRules
 pub mod MachineRules
@@ -20,5 +20,5 @@ pub mod Beginnings
 pub mod FirstStores
 pub mod InstanceRules
 pub mod KindRules
-pub mod Mapping
-pub mod Passing
+pub mod MappedSlices
+pub mod PassedLabels

@@ -22,7 +22,7 @@ use Rattle.mw_meaning.specs.Shapes.{leaf_count}
 use Rattle.mw_gen.specs.Generate.{argument_of}
 use Rattle.mw_gen.proofs.Words.{Small, get_append}
 use Rattle.mw_gen.proofs.Locals.{word}
-use Rattle.mw_gen.proofs.Prims.{truth_small}
+use Rattle.mw_gen.proofs.Primitives.{truth_small}
 
 -- an argument's leaves as words, and its value
 abbrev pub leaf_words : Value → List ℤ

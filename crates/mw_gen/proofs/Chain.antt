@@ -27,9 +27,9 @@ use Rattle.mw_meaning.specs.Shapes.{leaf_count}
 use Rattle.mw_gen.specs.Generate.{call_of}
 use Rattle.mw_gen.proofs.Words.{bits, Small, Keeps, keeps_front}
 use Rattle.mw_gen.proofs.Locals.{word}
-use Rattle.mw_gen.proofs.Says.{Says, Ends}
+use Rattle.mw_gen.proofs.RunAnswers.{Says, Ends}
 use Rattle.mw_gen.proofs.Stores.{store_at}
-use Rattle.mw_gen.proofs.Correct.{table_of}
+use Rattle.mw_gen.proofs.Correctness.{table_of}
 use Rattle.mw_gen.specs.Generation.{call_frame}
 use Rattle.mw_gen.proofs.Arguments.{leaf_words, made, argument_made, leaves_are, term_taken, leaves_length}
 use Rattle.mw_gen.proofs.Arguments.{leaves_small, argument_right}

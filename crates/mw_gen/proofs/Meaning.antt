@@ -5,8 +5,8 @@ use Rattle.mw_ir.specs.Ir.{means}
 use Rattle.mw_gen.specs.Generate.{module_with, init_function, call_function, more_functions}
 use Rattle.mw_gen.specs.Generation.{CallMeans, GenerationKeepsMeaning}
 use Rattle.mw_gen.proofs.Instance.{no_memory, instance_is, keeps_none}
-use Rattle.mw_gen.proofs.Correct.{carries_alone}
-use Rattle.mw_gen.proofs.Invoke.{init_at, call_at, init_says, call_says}
+use Rattle.mw_gen.proofs.Correctness.{carries_alone}
+use Rattle.mw_gen.proofs.Invocations.{init_at, call_at, init_says, call_says}
 use Rattle.mw_gen.proofs.Ranges.{sound, body_fine, body_needs}
 
 pub generation_keeps_meaning : GenerationKeepsMeaning

@@ -20,7 +20,7 @@ use Rattle.mw_gen.specs.Generate.{body_code, function_for, init_function, call_o
 use Rattle.mw_gen.specs.Generate.{more_types, more_functions, closure_type, expression_code, restarting, call_numbered}
 use Rattle.mw_gen.specs.Generate.{module_with}
 use Rattle.mw_gen.proofs.Slots.{slots_needed}
-use Rattle.mw_gen.proofs.Invoke.{argument_need}
+use Rattle.mw_gen.proofs.Invocations.{argument_need}
 use Rattle.mw_gen.proofs.Valid.{Offers, Sees, valid, loop_valid}
 
 -- what is known of each function's code

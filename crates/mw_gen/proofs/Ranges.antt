@@ -19,13 +19,13 @@ use Rattle.mw_gen.specs.Generate.{module_with}
 use Rattle.mw_gen.proofs.Slots.{slots_needed}
 use Rattle.mw_gen.specs.Listing.{IsShort, IsShortPlace, AllShort}
 use Rattle.mw_gen.proofs.Words.{get_within}
-use Rattle.mw_gen.proofs.Correct.{Fine, Sound}
+use Rattle.mw_gen.proofs.Correctness.{Fine, Sound}
 use Rattle.mw_gen.proofs.Valid.{place_local, AreSeen, Sees}
 use Rattle.mw_gen.proofs.Modules.{AllProper, module_valid}
 use Rattle.mw_gen.proofs.Profile.{ifs, IsModest, module_within_profile}
 use Rattle.mw_gen.proofs.Pieces.{SpelledWithin}
-use Rattle.mw_gen.proofs.Spelled.{breadth, IsNear, AreNear, Near}
-use Rattle.mw_gen.proofs.Spelling.{CanSpell, total, module_spelled}
+use Rattle.mw_gen.proofs.CodeSpelling.{breadth, IsNear, AreNear, Near}
+use Rattle.mw_gen.proofs.ModuleSpelling.{CanSpell, total, module_spelled}
 
 -- a function of a number, which is one of t
 has_free_below : (t : List IrFunc) (j k : ℕ) (o : Option IrFunc) → slice_get t j ≡ o → HasFree k o → j < length t

@@ -18,7 +18,7 @@ use Rattle.mw_gen.specs.Generate.{place_code, stores_code, address_code, store_w
 use Rattle.mw_gen.proofs.Words.{bits, Small, Keeps, keeps_more, get_append}
 use Rattle.mw_gen.proofs.Locals.{Fits, word}
 use Rattle.mw_gen.proofs.Loads.{loaded, bits_small}
-use Rattle.mw_gen.proofs.Says.{Says, along, answers}
+use Rattle.mw_gen.proofs.RunAnswers.{Says, along, answers}
 pub use Rattle.mw_gen.specs.Keeping.{store_at}
 
 pub append_none : {A : Type 0} → (xs : List A) → xs ++ [] ≡ xs

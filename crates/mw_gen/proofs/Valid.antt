@@ -19,7 +19,7 @@ use Rattle.mw_gen.specs.Generate.{pair_code, prim_code, address_code, raising_co
 use Rattle.mw_gen.specs.Generate.{closure_type, wrap, load_word, store_word, loop_code}
 use Rattle.mw_gen.proofs.Slots.{slots_needed}
 use Rattle.mw_gen.proofs.Stores.{append_none}
-use Rattle.mw_gen.proofs.Correct.{or_left, or_right}
+use Rattle.mw_gen.proofs.Correctness.{or_left, or_right}
 
 -- the local that a place is read from
 abbrev pub place_local : Place → ℕ → ℕ

@@ -1,6 +1,6 @@
 // Code of expressions.
 
-#![tactic(auto, using(crate::proofs::Listed::code_is))]
+#![tactic(auto, using(crate::proofs::InstructionLists::code_is))]
 
 ghost use Rattle.std.specs.Prelude.{◌≡◌, ◌+◌, ◌<◌, ◌≤◌, IfOk};
 ghost use Rattle.mw_wasm.specs.Syntax.{const_i32, end, global_set, next};

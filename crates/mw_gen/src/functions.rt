@@ -17,7 +17,7 @@ use mw_wasm::{Func, Funcs, Instr, Instrs, ValType, ValTypes};
 use std::alloc::{AllocError, Global};
 
 /// So many types of words.
-#[tactic(auto, using(crate::proofs::Listed::replicate_more))]
+#[tactic(auto, using(crate::proofs::InstructionLists::replicate_more))]
 pub fn words(alloc: Global, count: u32) -> Result<ValTypes, AllocError>
     ensures { IfOk result (λ types. types ≡ replicate count I64) }
 {

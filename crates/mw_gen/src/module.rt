@@ -35,7 +35,7 @@ fn to_word(alloc: Global, params: ValTypes) -> Result<FuncType, AllocError>
 }
 
 /// The types of closures' functions and of `init`.
-#[tactic(auto, using(crate::proofs::Listed::replicate_first))]
+#[tactic(auto, using(crate::proofs::InstructionLists::replicate_first))]
 pub fn first_types(alloc: Global) -> Result<FuncTypes, AllocError>
     ensures { IfOk result (λ types. types ≡ closure_type ∷ init_type ∷ []) }
 {
@@ -46,7 +46,7 @@ pub fn first_types(alloc: Global) -> Result<FuncTypes, AllocError>
 }
 
 /// Appends the type of `call`, for a function.
-#[tactic(auto, using(crate::proofs::Listed::replicate_first))]
+#[tactic(auto, using(crate::proofs::InstructionLists::replicate_first))]
 pub fn put_call_type(alloc: Global, types: &mut FuncTypes, kind: &KType) -> Result<(), AllocError>
     requires { kernel_nodes (kernel_type_of kind.now) ≤ 10000 }
     ensures { IfOk result (λ _. types.new ≡ types.old ++ more_types (kernel_type_of kind.now)) }
@@ -122,7 +122,7 @@ pub fn exports(alloc: Global, kind: &KType, count: u32) -> Result<Exports, Alloc
 }
 
 /// The numbers below a count.
-#[tactic(auto, using(crate::proofs::Listed::counting_more))]
+#[tactic(auto, using(crate::proofs::InstructionLists::counting_more))]
 fn numbers(alloc: Global, count: u32) -> Result<Indices, AllocError>
     ensures { IfOk result (λ numbers. numbers ≡ counting 0 count) }
 {
@@ -134,7 +134,7 @@ fn numbers(alloc: Global, count: u32) -> Result<Indices, AllocError>
 }
 
 /// The segment that writes the functions of the code into the table, where there are any.
-#[tactic(auto, using(crate::proofs::Listed::elements_some))]
+#[tactic(auto, using(crate::proofs::InstructionLists::elements_some))]
 pub fn elements(alloc: Global, count: u32) -> Result<Elements, AllocError>
     ensures { IfOk result (λ elements. map element_of elements ≡ elements_of count) }
 {

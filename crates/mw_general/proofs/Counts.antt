@@ -7,7 +7,7 @@ use Rattle.mw_infer.specs.Schemes.{TopScheme}
 use Rattle.mw_infer.specs.ItemEquations.{unknowns_of, classifiers_of}
 use Rattle.mw_infer.specs.Nodes.{NodeNumbers, node_numbers}
 use Rattle.mw_written.specs.Readings.{type_counts}
-use Rattle.mw_general.proofs.Saying.{counts_of}
+use Rattle.mw_general.proofs.NodeLineReadings.{counts_of}
 
 two : (xs ys : List NodeNumbers) (ks ls : List ℕ) → counts_of xs ≡ ks → counts_of ys ≡ ls
     → counts_of (xs ++ ys) ≡ ks ++ ls

@@ -19,8 +19,8 @@ use Rattle.mw_infer.specs.Nodes.{plain_node, quoted_node, node_numbers}
 use Rattle.mw_infer.proofs.Extending.{started, started-starts, Ready, Own-started, Ready-part, Ready-bound, Ready-gives}
 use Rattle.mw_infer.proofs.Extending.{Ready-later, Ready-under, Ready-live}
 use Rattle.mw_recheck.specs.Notes.{Notes}
-use Rattle.mw_general.proofs.Saying.{Says}
-use Rattle.mw_general.proofs.Following.{Follows, next, first, ending}
+use Rattle.mw_general.proofs.NodeLineReadings.{Says}
+use Rattle.mw_general.proofs.AssignmentExtensions.{Follows, next, first, ending}
 
 module _ (p : Notes) (b : Assignment) (schemes : List TopScheme) where
   -- a term whose node lines begin at a place

@@ -5,7 +5,7 @@ use Rattle.mw_term.specs.Parts.{Part, Place, let_place, kernel_place, main_place
 use Rattle.mw_types.specs.Types.{TypeExpression, Assignment, value, after}
 use Rattle.mw_types.specs.Equations.{Solves, Agree}
 use Rattle.mw_types.proofs.Expressions.{value-ground_expression, value-kernel_expression}
-use Rattle.mw_lines.proofs.Naming.{one_list}
+use Rattle.mw_lines.proofs.NamedTypes.{one_list}
 use Rattle.mw_infer.specs.ItemEquations.{unknowns_of, classifiers_of, equations}
 use Rattle.mw_infer.specs.Inferring.{own_equations}
 use Rattle.mw_infer.specs.Nodes.{NodeFacts, AreNodesOfPart, node_numbers}
@@ -17,10 +17,10 @@ use Rattle.mw_recheck.specs.Certificates.{Certified}
 use Rattle.mw_written.specs.Readings.{type_counts, readings, section_readings, reading_value}
 use Rattle.mw_general.specs.Telling.{fact_readings, AreRootsOf, IsRootAt}
 use Rattle.mw_general.proofs.Values.{node_values, agree_same, same_values, told_values}
-use Rattle.mw_general.proofs.Saying.{say_values}
+use Rattle.mw_general.proofs.NodeLineReadings.{say_values}
 use Rattle.mw_general.proofs.Counts.{counted}
 use Rattle.mw_general.proofs.Forms.{Followed}
-use Rattle.mw_general.proofs.Followed.{followed}
+use Rattle.mw_general.proofs.TermEquations.{followed}
 
 own_solved : (place : Place) (a b : Assignment) (t : TypeExpression) → a.ty 0 ≡ value b t → IsRootAt place t
     → Solves a (own_equations place)

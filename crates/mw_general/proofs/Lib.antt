@@ -1,7 +1,7 @@
 pub mod Values
-pub mod Saying
+pub mod NodeLineReadings
 pub mod Counts
-pub mod Following
+pub mod AssignmentExtensions
 pub mod Forms
-pub mod Followed
+pub mod TermEquations
 pub mod General

@@ -5,8 +5,8 @@ use Rattle.mw_wasm.specs.Syntax.{PureModule}
 use Rattle.mw_leb.specs.ReadingLaws.{AreBytes}
 use Rattle.mw_decode.specs.declared.fault.BadModule.{BadModule}
 use Rattle.mw_decode.specs.Sections.{module_read}
-use Rattle.mw_decode.proofs.ModuleAgain.{spelled_file_is_read}
-use Rattle.mw_decode.proofs.ModuleTaken.{read_file_is_spelled}
+use Rattle.mw_decode.proofs.ModuleCompleteness.{spelled_file_is_read}
+use Rattle.mw_decode.proofs.ModuleSoundness.{read_file_is_spelled}
 use Rattle.mw_wat.specs.ModuleTexts.{IsFirstBadPlace}
 use Rattle.mw_wat.proofs.OneModule.{one_module}
 use Rattle.mw_wat.proofs.FirstBadPlaces.{never_both, one_of_both}

@@ -1,4 +1,4 @@
-pub mod Deciding
+pub mod ValidityDecision
 pub mod FileAnswers
 pub mod FileLaws
 pub mod TextLemmas

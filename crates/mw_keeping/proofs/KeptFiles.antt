@@ -8,7 +8,7 @@ use Rattle.mw_store.proofs.Files.{load_same}
 use Rattle.mw_cache.specs.Keeping.{AreToKeep}
 use Rattle.mw_keeping.specs.CacheFiles.{IsReadFile}
 use Rattle.mw_keeping.specs.KeptFiles.{HasNoRoom, IsKeptFile, HasGoodFront, fitting}
-use Rattle.mw_keeping.proofs.Fitting.{fits, fitting_rise, fitting_among, fitting_or_next}
+use Rattle.mw_keeping.proofs.FittingRecords.{fits, fitting_rise, fitting_among, fitting_or_next}
 
 -- the records that count are a front of the bytes
 records_within : (past : ℕ) (bytes : List ℕ) (rs : List Kept) → Counts past bytes rs → length (file_of rs)

@@ -1,4 +1,4 @@
-pub mod Appending
-pub mod Fitting
+pub mod AppendedRecords
+pub mod FittingRecords
 pub mod KeptFiles
 pub mod Migrations

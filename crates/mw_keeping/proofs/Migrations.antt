@@ -17,12 +17,12 @@ use Rattle.mw_store.specs.Loads.{file_limit}
 use Rattle.mw_store.proofs.Files.{load_same, record_length}
 use Rattle.mw_cache.specs.Gots.{IsLoadedText}
 use Rattle.mw_cache.specs.Migrating.{Migrate, no_record, of_two, of_one_known, of_one_anew, anew, IsMigrationOf}
-use Rattle.mw_cache.proofs.Finding.{is_loaded, nowhere}
-use Rattle.mw_cache.proofs.Migrating.{one_migration as loaded_migration}
+use Rattle.mw_cache.proofs.LoadedTexts.{is_loaded, nowhere}
+use Rattle.mw_cache.proofs.MigratedRecords.{one_migration as loaded_migration}
 use Rattle.mw_keeping.specs.KeptFiles.{fitting}
 use Rattle.mw_keeping.specs.Migrations.{IsMigration, IsMigratedFile, IsMigrationHere}
 use Rattle.mw_keeping.specs.declared.migrating.FileMigration.{FileMigration}
-use Rattle.mw_keeping.proofs.Fitting.{fitting_more, fitting_none}
+use Rattle.mw_keeping.proofs.FittingRecords.{fitting_more, fitting_none}
 
 -- each record is for a text of version One
 few_records : {load : LoadState} {ls : List Loaded} {n : ℕ} {ks : List Kept} → Migrate load ls n ks → length ks ≤ n

@@ -16,8 +16,8 @@ use Rattle.mw_key.specs.declared.form.TwoParts.TheVariants.{App, Let, Pair, Prim
 use Rattle.mw_key.specs.Forms.{form_of}
 use Rattle.mw_key.specs.Numbers.{natural_of, integer_of, below}
 use Rattle.mw_key.specs.Reading.{Found, then_find, make, find_form, find_integer, find_variable, code_parts, find_code}
-use Rattle.mw_key.proofs.Finding.{after_found, made_found, then_at, make_at, word_spelled, word_from, node_spelled}
-use Rattle.mw_key.proofs.Finding.{node_from}
+use Rattle.mw_key.proofs.NodeWords.{after_found, made_found, then_at, make_at, word_spelled, word_from, node_spelled}
+use Rattle.mw_key.proofs.NodeWords.{node_from}
 use Rattle.mw_key.proofs.FormWords.{form_word, form_found, form_from}
 use Rattle.mw_key.proofs.NumberWords.{integer_found, integer_from, below_found, below_from}
 use Rattle.mw_key.proofs.WordLists.{code_list}

@@ -9,7 +9,7 @@ use Rattle.mw_key.specs.declared.form.TypeForm.TheVariants.{Base, Pair as PairTy
 use Rattle.mw_key.specs.Forms.{type_form_of}
 use Rattle.mw_key.specs.Reading.{Found, then_find, make, find_type_form, ground_parts, find_ground, kernel_parts}
 use Rattle.mw_key.specs.Reading.{find_kernel_type}
-use Rattle.mw_key.proofs.Finding.{after_found, made_found, then_at, make_at, node_spelled, node_from}
+use Rattle.mw_key.proofs.NodeWords.{after_found, made_found, then_at, make_at, node_spelled, node_from}
 use Rattle.mw_key.proofs.FormWords.{type_form_word, type_form_found, type_form_from}
 use Rattle.mw_key.proofs.WordLists.{ground_list, kernel_list}
 use Rattle.mw_key.proofs.Steps.{ground_step}

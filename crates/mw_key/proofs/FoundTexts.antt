@@ -12,7 +12,7 @@ use Rattle.mw_key.specs.Forms.{version_of}
 use Rattle.mw_key.specs.TextLaws.{OneText}
 use Rattle.mw_key.specs.Reading.{Found, then_find, make, last, words, find_version, find_kernel_type, find_code}
 use Rattle.mw_key.specs.Reading.{text_of_words}
-use Rattle.mw_key.proofs.Finding.{after_found, made_found, then_at, make_at, word_spelled, word_from}
+use Rattle.mw_key.proofs.NodeWords.{after_found, made_found, then_at, make_at, word_spelled, word_from}
 use Rattle.mw_key.proofs.FormWords.{version_found, version_from}
 use Rattle.mw_key.proofs.WordLists.{kernel_list, code_list, words_of_text, text_from_words}
 use Rattle.mw_key.proofs.FoundGrounds.{stands_at, kernel_stands, kernel_from}

@@ -4,11 +4,11 @@ pub mod Steps
 pub mod NumberWords
 pub mod FormWords
 pub mod WordLists
-pub mod Finding
+pub mod NodeWords
 pub mod FoundGrounds
 pub mod FoundCode
 pub mod FoundTexts
-pub mod Answered
-pub mod Written
+pub mod TextAnswers
+pub mod Texts
 pub mod Lengths
-pub mod Passed
+pub mod SkippedCode

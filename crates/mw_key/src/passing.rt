@@ -63,7 +63,7 @@ fn pass(reader: &mut Reader, depth: u32, binders: u32) -> Result<(), TextFault>
 
 /// Passes over code after its first word, whose parts have at most this depth.
 #[cycle(pass)]
-#[tactic(auto, using(crate::proofs::Passed::past_make, crate::proofs::Passed::past_two, crate::proofs::Passed::past_three))]
+#[tactic(auto, using(crate::proofs::SkippedCode::past_make, crate::proofs::SkippedCode::past_two, crate::proofs::SkippedCode::past_three))]
 fn pass_parts(reader: &mut Reader, form: Form, depth: u32, binders: u32) -> Result<(), TextFault>
     requires room { binders + 2 * depth ≤ 998 }
     ensures { Passes result (code_parts (find_code depth) form binders) reader.old reader.new }

@@ -6,7 +6,7 @@ use Rattle.mw_types.specs.Types.{TypeExpression, int_ty, bool_ty, unknown, pair_
 use Rattle.mw_types.specs.Types.{Substitution, apply}
 use Rattle.mw_lines.specs.Made.{IsMadeFrom, IsNotIn}
 use Rattle.mw_lines.specs.Deciding.{or_else, or, type_for, classifier_for, candidate, same_type, is_made, is_in}
-use Rattle.mw_lines.proofs.Naming.{and-both, and-true, either-false, both-false}
+use Rattle.mw_lines.proofs.NamedTypes.{and-both, and-true, either-false, both-false}
 
 -- an answer is nothing or right
 data IsRight {A : Type 0} (x : A) : Option A → Type 0 where

@@ -1,7 +1,7 @@
 pub mod OneLine
-pub mod Naming
-pub mod Held
-pub mod Matching
-pub mod Finding
+pub mod NamedTypes
+pub mod StoredLines
+pub mod RootImages
+pub mod ImageSearch
 pub mod Candidates
-pub mod Marking
+pub mod ClassifierMarks

@@ -17,9 +17,9 @@ use Rattle.mw_gen.proofs.Ranges.{shallow, all_modest}
 use Rattle.mw_link.specs.Linked.{Kernel, calls, call_of_type, outer_functions, call_exports, exports_from, count}
 use Rattle.mw_link.specs.Linked.{linked}
 use Rattle.mw_link.specs.LinkLaw.{LinkedIsWithinProfile}
-use Rattle.mw_link.proofs.Whole.{IsWhole, whole, AreWhole}
+use Rattle.mw_link.proofs.LinkableKernels.{IsWhole, whole, AreWhole}
 use Rattle.mw_link.proofs.Positions.{both_all}
-use Rattle.mw_link.proofs.Placed.{T, proper, few}
+use Rattle.mw_link.proofs.PartPlaces.{T, proper, few}
 use Rattle.mw_link.proofs.Valid.{one_result}
 
 abbrev Few : Function → Type 0

@@ -29,19 +29,19 @@ use Rattle.mw_gen.proofs.Pieces.{SpelledWithin, within_then, within_more, within
 use Rattle.mw_gen.proofs.Pieces.{within_nil, within_vector, within_section, within_absent, customs_within, no_imports}
 use Rattle.mw_gen.proofs.Pieces.{header_within, closure_within, init_within, table_within, memory_within}
 use Rattle.mw_gen.proofs.Pieces.{globals_within, octet_within}
-use Rattle.mw_gen.proofs.Spelled.{expression_within, breadth, expression_width, Near, expression_fit}
-use Rattle.mw_gen.proofs.Spelling.{CanSpell, total, locals_within, func_within, call_within, call_type_within}
-use Rattle.mw_gen.proofs.Spelling.{leaves_few, elements_within}
+use Rattle.mw_gen.proofs.CodeSpelling.{expression_within, breadth, expression_width, Near, expression_fit}
+use Rattle.mw_gen.proofs.ModuleSpelling.{CanSpell, total, locals_within, func_within, call_within, call_type_within}
+use Rattle.mw_gen.proofs.ModuleSpelling.{leaves_few, elements_within}
 use Rattle.mw_gen.proofs.Ranges.{near, narrow, all_spelled, outer_near}
 use Rattle.mw_gen.specs.EmissionLaw.{SpelledShort}
 use Rattle.mw_link.specs.Linked.{Kernel, calls, all_functions, call_types, call_of_type, init_from, outer_functions}
 use Rattle.mw_link.specs.Linked.{init_name, call_name, call_exports, exports_from, count, linked}
 use Rattle.mw_link.specs.LinkLaw.{LinkedIsSpelled}
-use Rattle.mw_link.proofs.Whole.{IsWhole, AreWhole, whole}
+use Rattle.mw_link.proofs.LinkableKernels.{IsWhole, AreWhole, whole}
 use Rattle.mw_link.proofs.Positions.{both_all}
 use Rattle.mw_link.proofs.Profile.{init_end, call_end}
-use Rattle.mw_link.proofs.Placed.{calls_one, T, Placed, all_placed, placed_next, Here, placed_here, proper, few}
-use Rattle.mw_link.proofs.Placed.{body_range, body_fine, body_needs, body_sees}
+use Rattle.mw_link.proofs.PartPlaces.{calls_one, T, Placed, all_placed, placed_next, Here, placed_here, proper, few}
+use Rattle.mw_link.proofs.PartPlaces.{body_range, body_fine, body_needs, body_sees}
 
 -- the closures that code makes
 abbrev closures : Ir → ℕ

@@ -14,11 +14,11 @@ use Rattle.mw_gen.proofs.Ranges.{all_proper}
 use Rattle.mw_link.specs.Linked.{Kernel, calls, call_types, call_of_type, outer_functions, call_exports, exports_from}
 use Rattle.mw_link.specs.Linked.{count, linked}
 use Rattle.mw_link.specs.LinkLaw.{LinkedIsValid}
-use Rattle.mw_link.proofs.Whole.{IsWhole, AreWhole, whole}
+use Rattle.mw_link.proofs.LinkableKernels.{IsWhole, AreWhole, whole}
 use Rattle.mw_link.proofs.Positions.{both_all, within}
 use Rattle.mw_link.proofs.Names.{names_differ}
-use Rattle.mw_link.proofs.Placed.{T, Placed, all_placed, placed_next, placed_here, CallPlaced, proper, few, body}
-use Rattle.mw_link.proofs.Placed.{body_needs, body_sees}
+use Rattle.mw_link.proofs.PartPlaces.{T, Placed, all_placed, placed_next, placed_here, CallPlaced, proper, few, body}
+use Rattle.mw_link.proofs.PartPlaces.{body_needs, body_sees}
 
 pub suits : (all : List Kernel) → Suits (linked all)
 suits all = record { type0 = refl; table = refl; memory = refl; top = refl }

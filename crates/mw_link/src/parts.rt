@@ -48,7 +48,7 @@ pub fn append(out: &mut Funcs, funcs: Funcs) -> Result<(), AllocError>
 }
 
 /// Appends `call`, where there is one, with the number of its type.
-#[tactic(auto, using(crate::proofs::Generated::call_none, crate::proofs::Generated::call_some))]
+#[tactic(auto, using(crate::proofs::GeneratedParts::call_none, crate::proofs::GeneratedParts::call_some))]
 fn put_call(out: &mut Funcs, call: Option<Func>, number: u32) -> Result<(), AllocError>
     ensures { IfOk result (λ _. (k : KernelType) → option_map function_of call ≡ call_for k
         → map function_of out.new ≡ map function_of out.old ++ call_of_type number k) }
@@ -64,7 +64,7 @@ fn put_call(out: &mut Funcs, call: Option<Func>, number: u32) -> Result<(), Allo
 }
 
 /// The part of a kernel whose functions are numbered from `base` on.
-#[tactic(auto, using(crate::proofs::Generated::functions_of_part, crate::proofs::Generated::init_of_part))]
+#[tactic(auto, using(crate::proofs::GeneratedParts::functions_of_part, crate::proofs::GeneratedParts::init_of_part))]
 fn part_of(alloc: Global, kernel: &Linkable, base: u32) -> Result<Part, AllocError>
     requires closed { IsClosed (expression_of kernel.now.code) }
     requires limits { within_limits (expression_of kernel.now.code) ≡ true }

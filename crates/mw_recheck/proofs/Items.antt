@@ -13,7 +13,7 @@ use Rattle.mw_lines.specs.TypeLines.{TypeLine}
 use Rattle.mw_lines.specs.Naming.{types_named}
 use Rattle.mw_lines.specs.Tables.{lines_of, type_at, AreHeld}
 use Rattle.mw_lines.specs.declared.table.TypeLines.{TypeLines}
-use Rattle.mw_lines.proofs.Naming.{one_list, first_types}
+use Rattle.mw_lines.proofs.NamedTypes.{one_list, first_types}
 use Rattle.mw_recheck.specs.Options.{◌>>=◌}
 use Rattle.mw_recheck.specs.Notes.{TopNote}
 use Rattle.mw_recheck.specs.Certificates.{defined_term, notes_for_main}

@@ -19,7 +19,7 @@ use Rattle.mw_recheck.specs.Certificates.{Certified, IsRootOf, defined_term, not
 use Rattle.mw_recheck.specs.Reading.{behind}
 use Rattle.mw_recheck.specs.Deciding.{note_seen, is_root, root_at, roots_at, is_end, main_at, program_judged, is_there}
 use Rattle.mw_recheck.specs.Deciding.{certified}
-use Rattle.mw_lines.proofs.Naming.{and-both}
+use Rattle.mw_lines.proofs.NamedTypes.{and-both}
 use Rattle.mw_recheck.proofs.NodeLines.{bound, bind_some, chosen}
 use Rattle.mw_recheck.proofs.ReadNumbers.{behind_found, behind_there}
 use Rattle.mw_recheck.proofs.JudgedSound.{Decided}

@@ -20,9 +20,9 @@ use Rattle.mw_recheck.specs.Judging.{PlacedBinder, plain_at, quoted_at, placed, 
 use Rattle.mw_recheck.specs.Judging.{is_line, has_content, fits, stands_at, stands_in, is_use, NodeLine, own_at}
 use Rattle.mw_recheck.specs.Judging.{primitive_line, agrees, ended, leaf, judged}
 use Rattle.mw_recheck.specs.Options.{◌>>=◌}
-use Rattle.mw_lines.proofs.Naming.{and-both}
+use Rattle.mw_lines.proofs.NamedTypes.{and-both}
 use Rattle.mw_recheck.proofs.Places.{eq_true, is_line-there, int-at, bool-at, pair-at, arrow-at, code-at, closed-at}
-use Rattle.mw_lines.proofs.Naming.{not-false}
+use Rattle.mw_lines.proofs.NamedTypes.{not-false}
 use Rattle.mw_recheck.proofs.NodeLines.{bound, chosen, Own, own_taken}
 use Rattle.mw_recheck.proofs.NodeTypes.{here, fits_there, node_one, node_two, node_three}
 

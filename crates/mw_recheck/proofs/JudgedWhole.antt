@@ -21,7 +21,7 @@ use Rattle.mw_recheck.specs.Judging.{may_stand}
 use Rattle.mw_recheck.specs.Judging.{primitive_line, agrees, ended, leaf, judged}
 use Rattle.mw_recheck.specs.Options.{◌>>=◌}
 use Rattle.mw_recheck.specs.Roots.{AreWithin}
-use Rattle.mw_lines.proofs.Naming.{and-true}
+use Rattle.mw_lines.proofs.NamedTypes.{and-true}
 use Rattle.mw_recheck.proofs.Places.{true_eq, is_line-from, at-int, at-bool, at-pair, at-arrow, at-code, at-closed}
 use Rattle.mw_recheck.proofs.Places.{one_place, line_for, there_within, type_is}
 use Rattle.mw_lines.proofs.OneLine.{inv-code}

@@ -1,4 +1,4 @@
-pub mod Fitting
+pub mod BinderEnvironments
 pub mod Soundness
 pub mod Programs
 pub mod Places
@@ -12,11 +12,11 @@ pub mod ReadSections
 pub mod ShortLines
 pub mod JudgedSections
 pub mod JudgedPrograms
-pub mod Stripping
+pub mod TextPrefixes
 pub mod OneByOne
-pub mod Beside
-pub mod Using
+pub mod LineTypes
+pub mod NameLookup
 pub mod PartByPart
 pub mod Items
-pub mod Decided
+pub mod CertificateDecision
 pub mod Rows

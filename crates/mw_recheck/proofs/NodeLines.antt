@@ -9,7 +9,7 @@ use Rattle.mw_recheck.specs.Judging.{NodeLine, Form, one_type, two_types, three_
 use Rattle.mw_recheck.specs.Judging.{two_types_and_classifier, form_of, line_of_form, all_fit, may_stand, next_node}
 use Rattle.mw_recheck.specs.Judging.{own_at}
 use Rattle.mw_recheck.specs.Options.{◌>>=◌}
-use Rattle.mw_lines.proofs.Naming.{and-both, and-true}
+use Rattle.mw_lines.proofs.NamedTypes.{and-both, and-true}
 
 -- an answer that goes on
 pub bound : {A B : Type 0} (o : Option A) (f : A → Option B) (y : B) → (o >>= f) ≡ Some y

@@ -10,7 +10,7 @@ use Rattle.mw_lines.specs.Deciding.{holds_code}
 use Rattle.mw_lines.specs.LineLaws.{CodeIsDecided}
 use Rattle.mw_recheck.specs.Notes.{Notes, AllNamed, AllFit, IsNodeLine}
 use Rattle.mw_recheck.specs.Judging.{type_of, fits}
-use Rattle.mw_lines.proofs.Naming.{and-both, and-true, not-false}
+use Rattle.mw_lines.proofs.NamedTypes.{and-both, and-true, not-false}
 use Rattle.mw_recheck.proofs.Places.{lt_true, true_lt, type_there, there_within, type_is}
 
 -- a type fits a level

@@ -13,7 +13,7 @@ use Rattle.mw_recheck.specs.Judging.{one_type, two_types, three_types, type_and_
 use Rattle.mw_recheck.specs.Judging.{may_stand, next_node, own_at, agrees, ended, judged}
 use Rattle.mw_recheck.specs.Parts.{Places, Judge, one_part, two_parts, three_parts, parts_judged}
 use Rattle.mw_recheck.specs.Roots.{AreWithin}
-use Rattle.mw_lines.proofs.Naming.{and-both}
+use Rattle.mw_lines.proofs.NamedTypes.{and-both}
 use Rattle.mw_recheck.proofs.Places.{lt_true}
 use Rattle.mw_recheck.proofs.NodeLines.{bound, bind_some, chosen}
 

@@ -8,7 +8,7 @@ use Rattle.mw_lines.specs.TypeLines.{TypeLine, int_line, bool_line, pair_line, a
 use Rattle.mw_lines.specs.TypeLines.{closed_line, NamesType, AreTypeLines, names_int, names_bool}
 use Rattle.mw_lines.specs.TypeLines.{names_pair, names_arrow, names_code, names_closed}
 use Rattle.mw_lines.specs.Naming.{types_named}
-use Rattle.mw_lines.proofs.Naming.{line_same, same_line-refl}
+use Rattle.mw_lines.proofs.NamedTypes.{line_same, same_line-refl}
 use Rattle.mw_lines.proofs.OneLine.{line_at, one_line, inv-int, inv-bool, inv-pair, inv-arrow, inv-code, inv-closed}
 use Rattle.mw_recheck.specs.Judging.{type_of, is_same, is_line}
 

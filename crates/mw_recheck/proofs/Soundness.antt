@@ -17,7 +17,8 @@ use Rattle.mw_types.specs.Types.{Assignment, value, after}
 use Rattle.mw_types.proofs.Existence.{value_apply}
 use Rattle.mw_types.proofs.Expressions.{value-kernel_expression, value-primitive_expression, level_of, Fits-fitted}
 use Rattle.mw_recheck.specs.Notes.{Notes, BinderNote, binder_note, TopNote, let_root, kernel_root, hidden, IsUse, Noted}
-use Rattle.mw_recheck.proofs.Fitting.{entries, entry_of-note, get-entries, renewed, flat-renewed, entries-renewed}
+use Rattle.mw_recheck.proofs.BinderEnvironments.{entries, entry_of-note, get-entries, renewed, flat-renewed}
+use Rattle.mw_recheck.proofs.BinderEnvironments.{entries-renewed}
 
 -- a let has each type that some assignment makes of its root, made a type of the language; a kernel is what it is
 pub record Known (names : List TopLevel) (tops : List TopNote) : Type 0 where

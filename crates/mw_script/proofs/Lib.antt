@@ -1,2 +1,2 @@
-pub mod Sourcing
-pub mod Staging
+pub mod CheckedPrograms
+pub mod StartedMachines

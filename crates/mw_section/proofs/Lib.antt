@@ -1,6 +1,6 @@
 pub mod Places
-pub mod Continued
-pub mod Again
-pub mod Named
-pub mod Held
+pub mod LaterWrites
+pub mod RepeatedWrites
+pub mod NamedTypes
+pub mod WriterContents
 pub mod Texts

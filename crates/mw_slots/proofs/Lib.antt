@@ -1,7 +1,7 @@
 pub mod CoreRuns
 pub mod Lists
 pub mod Machine
-pub mod Made
-pub mod Sending
+pub mod WitnessValue
+pub mod SendSync
 pub mod Slots
 pub mod Windows

@@ -1,7 +1,7 @@
 pub mod Files
-pub mod Cutting
-pub mod Shaped
-pub mod Wholes
-pub mod Loading
-pub mod Entries
-pub mod Sending
+pub mod RecordParts
+pub mod ModuleShapes
+pub mod WholeRecords
+pub mod RecordSequences
+pub mod MapEntries
+pub mod SendSync

@@ -26,7 +26,7 @@ use Rattle.mw_tasks.specs.Phases.{IfBuilt, IsPlaced, IsOutcomeOf, EachKernel, Ar
 use Rattle.mw_tasks.specs.Phases.{HasSmallKernels}
 use Rattle.mw_tasks.specs.Phases.{kernel_numbers, unloaded_among}
 use Rattle.mw_tasks.specs.RightRuns.{AreRightRuns, AreRightItems, price_of_items}
-use Rattle.mw_tasks.proofs.Walks.{head_there, rest_after, each_kernel, each_gives, each_mapped}
+use Rattle.mw_tasks.proofs.ListWalks.{head_there, rest_after, each_kernel, each_gives, each_mapped}
 
 -- each number is that of a kernel item
 numbers_are : (p : PureProgram) (rest : List Definition) (n : ℕ) → rest ≡ drop n p.items

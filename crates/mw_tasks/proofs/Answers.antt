@@ -29,7 +29,7 @@ use Rattle.mw_tasks.specs.declared.evaluation.Ended.{Ended}
 use Rattle.mw_tasks.specs.Endings.{EndsAs, IsMeasured}
 use Rattle.mw_tasks.specs.TaskOutcomes.{IsItemAnswer, IsItemOutcome, IsMainAnswer, IsMainOutcome, IfCode, IsCodeOf}
 use Rattle.mw_meaning.proofs.GroundValues.{as_ground-value}
-use Rattle.mw_tasks.proofs.Evaluating.{err_is}
+use Rattle.mw_tasks.proofs.MachineEvaluation.{err_is}
 
 -- the outcome of a kernel item, and of main
 code_as : (a : Answer Runs Value) (n : Machine) (id : Id) (x : Evaluated) → IsOutcome (o.Code id) n a

@@ -44,7 +44,7 @@ fn are_parts_below(place: usize, node: Node<'_>) -> bool
 }
 
 // Adds a node whose parts are there.
-#[tactic(auto, using(mw_code::proofs::Adding::IsDownward_push))]
+#[tactic(auto, using(mw_code::proofs::AddedNodes::IsDownward_push))]
 fn add<'c>(pool: &mut Pool<Node<'c>>, node: Node<'c>) -> Result<Id, AllocError>
     requires { IsDownward pool.old.items }
     ensures down { IsDownward pool.new.items }
@@ -58,7 +58,7 @@ fn add<'c>(pool: &mut Pool<Node<'c>>, node: Node<'c>) -> Result<Id, AllocError>
 }
 
 // The nodes in a pool.
-#[tactic(auto, using(mw_code::proofs::Adding::IsDownward_none))]
+#[tactic(auto, using(mw_code::proofs::AddedNodes::IsDownward_none))]
 fn pool_of<'c>(alloc: Global, nodes: &[Node<'c>]) -> Result<Pool<Node<'c>>, AllocError>
     ensures { IfOk result (λ pool. IsDownward pool.items) }
 {

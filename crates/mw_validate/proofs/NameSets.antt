@@ -17,7 +17,7 @@ use Rattle.mw_wasm.specs.Syntax.{Exporting}
 use Rattle.mw_wasm.specs.Views.{export_of}
 use Rattle.mw_wasm.specs.Validity.{NamesDiffer}
 use Rattle.mw_validate.specs.Deciding.{Decides}
-use Rattle.mw_validate.proofs.Mapped.{mapped, unmapped}
+use Rattle.mw_validate.proofs.MappedElements.{mapped, unmapped}
 
 -- the order of slices of bytes, and of references to them
 abbrev by_bytes : List ℕ → List ℕ → Ordering

@@ -74,7 +74,7 @@ pub fn types_of(t: Option<ValType>) -> &'static [ValType]
 }
 
 /// A list is entered, behind whose instruction this code stands.
-#[tactic(auto, using(crate::proofs::Turning::frame_on_top))]
+#[tactic(auto, using(crate::proofs::CheckTurns::frame_on_top))]
 pub fn enter<'m>(
     alloc: Global,
     state: &mut Checking<'m>,
@@ -97,7 +97,7 @@ pub fn enter<'m>(
 }
 
 /// The code in hand has ended.
-#[tactic(auto, using(crate::proofs::Turning::body_ends, crate::proofs::Turning::list_fails, crate::proofs::Turning::block_left, crate::proofs::Turning::loop_left))]
+#[tactic(auto, using(crate::proofs::CheckTurns::body_ends, crate::proofs::CheckTurns::list_fails, crate::proofs::CheckTurns::block_left, crate::proofs::CheckTurns::loop_left))]
 pub fn leave<'m>(
     alloc: Global,
     within: &Surroundings<'m>,

@@ -12,7 +12,7 @@ use mw_wasm::{Instr, Instrs, ValType};
 use std::alloc::{AllocError, Global};
 
 /// One instruction, behind which this code stands.
-#[tactic(auto, using(crate::proofs::Turning::plain_turn, crate::proofs::Turning::failed_turn, crate::proofs::Turning::if_failed))]
+#[tactic(auto, using(crate::proofs::CheckTurns::plain_turn, crate::proofs::CheckTurns::failed_turn, crate::proofs::CheckTurns::if_failed))]
 fn step<'m>(
     alloc: Global,
     within: &Surroundings<'m>,

@@ -28,7 +28,7 @@ use Rattle.mw_wat.proofs.LookaheadOfModules.{local_results, local_with_params, l
 use Rattle.mw_wat.proofs.LookaheadOfModules.{local_variable, local_offset, local_function_type, local_function}
 use Rattle.mw_wat.proofs.LookaheadOfModules.{local_table, local_memory, local_global, local_export, local_element}
 use Rattle.mw_wat.proofs.LookaheadOfModules.{local_data, local_fields_up_to, local_fields, same_fields}
-use Rattle.mw_wat.proofs.LexemesTaken.{split_got, no_got}
+use Rattle.mw_wat.proofs.LexemeSoundness.{split_got, no_got}
 use Rattle.mw_wat.proofs.Completions.{Completed, Started, Completes, Any, Each, NotNext, got_bad, token_stop}
 use Rattle.mw_wat.proofs.Completions.{stop_completed, completes_then, completes_after, started_then, completes_gives}
 use Rattle.mw_wat.proofs.Completions.{started_gives, completes_one, started_one, behind_completed, started_all}

@@ -10,7 +10,7 @@ use Rattle.mw_wat.specs.Lexemes.{Lexeme, left, right, word, number, keyed, const
 use Rattle.mw_wat.specs.Lexemes.{global_type}
 use Rattle.mw_wat.specs.CanonicalTexts.{spelled, gap, laid_out, line}
 use Rattle.mw_wat.specs.Spacing.{spaced, opened}
-use Rattle.mw_wat.proofs.Appending.{ends_open, spaced_append}
+use Rattle.mw_wat.proofs.TextParts.{ends_open, spaced_append}
 
 -- a line is laid out as by its parts
 gapped : (j : Lexeme) (is : List Lexeme) → gap right j ++ opened (j ∷ is) ≡ spaced (j ∷ is)

@@ -22,7 +22,7 @@ use Rattle.mw_wat.proofs.Lookahead.{placed_count, same_front, bad_parts}
 use Rattle.mw_wat.proofs.LookaheadOfModules.{local_module}
 use Rattle.mw_wat.proofs.DeadTokens.{laid, laid_placed, bad_or_got}
 use Rattle.mw_wat.proofs.OneModule.{placed_all}
-use Rattle.mw_wat.proofs.ModuleTaken.{module_said}
+use Rattle.mw_wat.proofs.ModuleSoundness.{module_said}
 use Rattle.mw_wat.proofs.ReadIsText.{HoldsBytes, read_bytes, read_shorter, has_texts, said_placed, read_is_text}
 use Rattle.mw_wat.proofs.BadPlaces.{placed_bytes, answered_is_bad}
 use Rattle.mw_wat.proofs.Completions.{bytes_both}

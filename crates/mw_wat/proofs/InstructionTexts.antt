@@ -14,7 +14,7 @@ use Rattle.mw_wasm.specs.Syntax.{next}
 use Rattle.mw_wasm.specs.Views.{instruction_of, list_code, code_of, block_is, loop_is, cond_is}
 use Rattle.mw_wat.specs.Lexemes.{Lexeme, word, number, types_behind, instruction, code, otherwise}
 use Rattle.mw_wat.specs.Spacing.{spaced}
-use Rattle.mw_wat.proofs.Appending.{ends_open, ends_append, types_closed, both_closed, spaced_append}
+use Rattle.mw_wat.proofs.TextParts.{ends_open, ends_append, types_closed, both_closed, spaced_append}
 
 pub instruction_closed : (i : Instruction) → ends_open false (instruction i) ≡ false
 instruction_closed unreachable = refl

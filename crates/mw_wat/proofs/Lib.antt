@@ -1,5 +1,5 @@
 pub mod Rows
-pub mod Appending
+pub mod TextParts
 pub mod InstructionTexts
 pub mod FieldTexts
 pub mod TokensStand
@@ -28,10 +28,10 @@ pub mod Chains
 pub mod FewSegments
 pub mod TextAnswers
 pub mod BadPlaces
-pub mod LexemesTaken
-pub mod CodeTaken
-pub mod FieldsTaken
-pub mod ModuleTaken
+pub mod LexemeSoundness
+pub mod CodeSoundness
+pub mod FieldSoundness
+pub mod ModuleSoundness
 pub mod ReadIsText
 pub mod Completions
 pub mod CompletionsOfCode

@@ -19,8 +19,8 @@ use Rattle.mw_wat.proofs.TokensOfText.{Placed, p_here, p_there, longer}
 use Rattle.mw_wat.proofs.TextOfTokens.{At, at_end, at_none, Reached}
 use Rattle.mw_wat.proofs.BadPlaces.{placed_bytes}
 use Rattle.mw_wat.proofs.FieldsAreRead.{FitsFunction}
-use Rattle.mw_wat.proofs.LexemesTaken.{IsKnown, Said, s_here, s_there}
-use Rattle.mw_wat.proofs.ModuleTaken.{ModuleBack, module_said}
+use Rattle.mw_wat.proofs.LexemeSoundness.{IsKnown, Said, s_here, s_there}
+use Rattle.mw_wat.proofs.ModuleSoundness.{ModuleBack, module_said}
 
 abbrev wrong : ℕ → Result PureModule ℕ
 wrong at = Err at

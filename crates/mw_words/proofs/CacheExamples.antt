@@ -10,7 +10,7 @@ use Rattle.mw_words.specs.Examples.{ErasedCached, SampleCached, MigrateApart, Mi
 use Rattle.mw_words.specs.Examples.{MigrateTwice, MigrateFile, MigrateFuelled}
 use Rattle.mw_words.proofs.OptionLemmas.{no_equal}
 use Rattle.mw_words.proofs.PartLemmas.{no_file, no_option_begins}
-use Rattle.mw_words.proofs.Passing.{here, further, stuck_is_none}
+use Rattle.mw_words.proofs.ReadParts.{here, further, stuck_is_none}
 use Rattle.mw_words.proofs.Usage.{run_is_other, erased_is_other, no_command, these_make_none, no_sample, cache_once}
 use Rattle.mw_words.proofs.Usage.{cache_of_run, options_of_erased, migrate_is_other, options_of_migrate}
 use Rattle.mw_words.proofs.Usage.{cache_of_migrate, no_file_of_migrate}

@@ -11,7 +11,7 @@ use Rattle.mw_words.specs.Examples.{NoWord, OptionFirst, TwoFiles, TwoDashes, Fu
 use Rattle.mw_words.specs.Examples.{ErasedNoFile, ErasedWorkers, ErasedTwoFiles, ErasedSimplified, ErasedFuelTwice}
 use Rattle.mw_words.proofs.OptionLemmas.{no_equal}
 use Rattle.mw_words.proofs.PartLemmas.{no_file, no_option_begins}
-use Rattle.mw_words.proofs.Passing.{here, stuck_is_none}
+use Rattle.mw_words.proofs.ReadParts.{here, stuck_is_none}
 use Rattle.mw_words.proofs.Usage.{run_is_other, erased_is_other, no_command, these_make_none, fuel_once, simplify_once}
 use Rattle.mw_words.proofs.Usage.{units_of_run, switch_of_run, file_of_run, options_of_erased, units_of_erased}
 use Rattle.mw_words.proofs.Usage.{file_of_erased}

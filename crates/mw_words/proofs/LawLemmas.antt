@@ -11,8 +11,8 @@ use Rattle.mw_words.specs.Words.{recheck_command}
 use Rattle.mw_words.specs.WordLaws.{OneCommand, EitherForm, AnyOrder}
 use Rattle.mw_words.proofs.OptionLemmas.{one_value}
 use Rattle.mw_words.proofs.PartLemmas.{same_number}
-use Rattle.mw_words.proofs.Passing.{same_parts}
-use Rattle.mw_words.proofs.Picking.{swapped}
+use Rattle.mw_words.proofs.ReadParts.{same_parts}
+use Rattle.mw_words.proofs.PartSelection.{swapped}
 
 one_number : {name : List ℕ} {most default m n : ℕ} {parts : List PurePart} → IsNumberOf name most default parts m
     → IsNumberOf name most default parts n → m ≡ n

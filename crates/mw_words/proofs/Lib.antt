@@ -7,6 +7,6 @@ pub mod LinkExamples
 pub mod ModuleExamples
 pub mod OptionLemmas
 pub mod PartLemmas
-pub mod Passing
-pub mod Picking
+pub mod ReadParts
+pub mod PartSelection
 pub mod Usage

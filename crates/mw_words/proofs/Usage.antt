@@ -8,7 +8,7 @@ use Rattle.mw_words.specs.Words.{IsFileOf, HasNoFile, IsFileWord, AreParts, Make
 use Rattle.mw_words.specs.Words.{migrate_of, parts_command, sample_command, wat_command, check_command, cert_command}
 use Rattle.mw_words.specs.Words.{recheck_command, IsNumber, IsUsage, parts_named}
 use Rattle.mw_words.proofs.LawLemmas.{few_number, few_switch, few_word}
-use Rattle.mw_words.proofs.Passing.{same_parts}
+use Rattle.mw_words.proofs.ReadParts.{same_parts}
 
 -- the words of the commands that have no parts
 abbrev pub bare : List (List ℕ)

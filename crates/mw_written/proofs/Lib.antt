@@ -1,10 +1,10 @@
 pub mod OneReading
 pub mod OneTable
-pub mod NamedFirst
+pub mod LeadingTypePlaces
 pub mod OneNodes
 pub mod OneSection
 pub mod OneProgram
-pub mod Completing
+pub mod CompletedTypes
 pub mod NewLines
 pub mod TypesNamed
 pub mod LineReadings

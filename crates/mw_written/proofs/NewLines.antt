@@ -5,11 +5,11 @@ use Rattle.std.proofs.lemmas.Option.{slice_get_within, slice_get-get_or}
 use Rattle.mw_types.specs.Types.{TypeExpression, int_ty}
 use Rattle.mw_lines.specs.TypeLines.{TypeLine, AreTypeLines, NamesType}
 use Rattle.mw_lines.specs.Deciding.{is_among}
-use Rattle.mw_lines.proofs.Naming.{among, place_among, one_type, parts_of, pushed}
+use Rattle.mw_lines.proofs.NamedTypes.{among, place_among, one_type, parts_of, pushed}
 use Rattle.mw_lines.proofs.OneLine.{line_at}
 use Rattle.mw_written.specs.Order.{is_type_among, with_new, with_line}
 use Rattle.mw_written.specs.OrderLaws.{NewLinesNameNewTypes}
-use Rattle.mw_written.proofs.Completing.{type_among, among_type}
+use Rattle.mw_written.proofs.CompletedTypes.{type_among, among_type}
 use Rattle.mw_written.proofs.OneTable.{one_naming}
 
 module _ (ls : List TypeLine) (ts : List TypeExpression) (known : AreTypeLines ls ts) (l : TypeLine)

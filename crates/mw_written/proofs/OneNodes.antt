@@ -6,7 +6,7 @@ use Rattle.mw_types.specs.Types.{TypeExpression, int_ty}
 use Rattle.mw_lines.specs.TypeLines.{TypeLine, AreTypeLines}
 use Rattle.mw_lines.proofs.OneLine.{one_line}
 use Rattle.mw_written.specs.Readings.{Reading, a_type, a_classifier, line_readings, readings}
-use Rattle.mw_written.proofs.NamedFirst.{NamesFirst, AllNameFirst}
+use Rattle.mw_written.proofs.LeadingTypePlaces.{NamesFirst, AllNameFirst}
 
 -- no line goes on with what is read
 abbrev BeginsLine : List Reading → Type 0

@@ -5,17 +5,17 @@ use Rattle.mw_term.specs.Terms.{Expression}
 use Rattle.mw_types.specs.Types.{TypeExpression}
 use Rattle.mw_lines.specs.TypeLines.{AreTypeLines}
 use Rattle.mw_lines.specs.Naming.{types_named}
-use Rattle.mw_lines.proofs.Naming.{one_list, lines_decided}
+use Rattle.mw_lines.proofs.NamedTypes.{one_list, lines_decided}
 use Rattle.mw_recheck.specs.Sections.{SectionLines}
 use Rattle.mw_recheck.specs.Notes.{TopNote}
 use Rattle.mw_recheck.specs.Certificates.{Certified}
 use Rattle.mw_recheck.specs.Deciding.{section_judged}
-use Rattle.mw_recheck.proofs.Decided.{decided}
+use Rattle.mw_recheck.proofs.CertificateDecision.{decided}
 use Rattle.mw_recheck.proofs.JudgedSections.{certified_judged}
 use Rattle.mw_written.specs.Readings.{type_counts, readings, section_readings}
 use Rattle.mw_written.specs.Order.{with_readings}
 use Rattle.mw_written.specs.Written.{IsWrittenSection}
-use Rattle.mw_written.proofs.NamedFirst.{AllNameFirst, named_nodes}
+use Rattle.mw_written.proofs.LeadingTypePlaces.{AllNameFirst, named_nodes}
 use Rattle.mw_written.proofs.OneReading.{one_reading}
 use Rattle.mw_written.proofs.OneTable.{one_table}
 use Rattle.mw_written.proofs.OneNodes.{one_nodes}

@@ -13,13 +13,13 @@ use Rattle.mw_types.specs.Types.{TypeExpression, int_ty, function_ty, code_ty, c
 use Rattle.mw_types.specs.Expressions.{ground_expression}
 use Rattle.mw_types.specs.Numbered.{an_int, seen, next, a_function, code_seen, a_closed}
 use Rattle.mw_lines.specs.TypeLines.{int_line, unknown_line, arrow_line, code_line, closed_line}
-use Rattle.mw_lines.proofs.Naming.{one_list, lines_decided}
+use Rattle.mw_lines.proofs.NamedTypes.{one_list, lines_decided}
 use Rattle.mw_recheck.specs.Sections.{SectionLines}
 use Rattle.mw_recheck.specs.Texts.{certificate_text}
 use Rattle.mw_recheck.specs.Notes.{Notes, Noted}
 use Rattle.mw_recheck.specs.Certificates.{Certified, CertifiesBy}
 use Rattle.mw_recheck.specs.Examples.{sum_program, run_program}
-use Rattle.mw_recheck.proofs.Decided.{decided, found}
+use Rattle.mw_recheck.proofs.CertificateDecision.{decided, found}
 use Rattle.mw_recheck.proofs.JudgedSections.{judged_certified}
 use Rattle.mw_written.specs.Readings.{Reading, a_type, a_classifier, type_counts, readings}
 use Rattle.mw_written.specs.Readings.{reading_value}

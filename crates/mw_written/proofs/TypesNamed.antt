@@ -6,12 +6,12 @@ use Rattle.mw_types.specs.Types.{TypeExpression, int_ty, bool_ty, unknown, pair_
 use Rattle.mw_lines.specs.TypeLines.{TypeLine, int_line, bool_line, unknown_line, pair_line, arrow_line, code_line}
 use Rattle.mw_lines.specs.TypeLines.{closed_line, HoldsNoCode, NamesPart, AreTypeLines, names_int, names_bool}
 use Rattle.mw_lines.specs.TypeLines.{names_unknown, names_pair, names_arrow, names_code, names_closed}
-use Rattle.mw_lines.proofs.Naming.{slice_get-more, slice_get-seam}
+use Rattle.mw_lines.proofs.NamedTypes.{slice_get-more, slice_get-seam}
 use Rattle.mw_written.specs.Readings.{Reading, a_type, a_classifier}
 use Rattle.mw_written.specs.Order.{is_type_among, with_new, with_type, with_readings, with_line}
 use Rattle.mw_written.specs.OrderLaws.{IsPartOf, IsOneOf, AreOrdered, ReadAgainAddsNothing, HoldsNoNestedCode}
 use Rattle.mw_written.specs.OrderLaws.{ReadNoNestedCode, CompletedAreNamed}
-use Rattle.mw_written.proofs.Completing.{type_among, among_type}
+use Rattle.mw_written.proofs.CompletedTypes.{type_among, among_type}
 use Rattle.mw_written.proofs.NewLines.{line_added}
 
 -- a type that stands isn't new

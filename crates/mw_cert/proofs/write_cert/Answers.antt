@@ -1,8 +1,8 @@
 use Rattle.std.proofs.lemmas.Result.{IfOk-weaker}
 use Rattle.mw_term.specs.Programs.{program_of}
 use Rattle.mw_infer.specs.Typings.{facts_of}
-use Rattle.mw_cert.proofs.Short.{nodes_short}
-use Rattle.mw_cert.proofs.Written.{is_written, certifies}
+use Rattle.mw_cert.proofs.ShortNodes.{nodes_short}
+use Rattle.mw_cert.proofs.CertificateBytes.{is_written, certifies}
 use Rattle.mw_cert.proofs.write_cert.Goals as goal
 
 pub certificate-requires-clause-short : goal.certificate-requires-clause-short

@@ -1,5 +1,5 @@
 use Rattle.mw_encode.proofs.Modules.{sections_of}
-use Rattle.mw_encode.proofs.Appending.{after, after_last}
+use Rattle.mw_encode.proofs.AppendedBytes.{after, after_last}
 use Rattle.mw_encode.proofs.put_sections.Goals as goal
 
 pub put_types-requires : goal.put_types-requires

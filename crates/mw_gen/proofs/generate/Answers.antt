@@ -16,7 +16,7 @@ use Rattle.mw_gen.specs.Generation.{MeansConverted}
 use Rattle.mw_gen.proofs.Meaning.{generation_keeps_meaning}
 use Rattle.mw_gen.proofs.Pieces.{spelled}
 use Rattle.mw_gen.proofs.Ranges.{converted_valid, converted_profile, converted_spelled}
-use Rattle.mw_gen.proofs.Shaped.{module_shaped}
+use Rattle.mw_gen.proofs.ModuleShape.{module_shaped}
 use Rattle.mw_gen.proofs.generate.Goals as goal
 
 -- what holds of the module that it is

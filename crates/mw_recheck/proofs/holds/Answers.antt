@@ -1,5 +1,5 @@
 use Rattle.mw_term.specs.Programs.{program_of}
-use Rattle.mw_recheck.proofs.Decided.{yes, no, items_small, body_small}
+use Rattle.mw_recheck.proofs.CertificateDecision.{yes, no, items_small, body_small}
 use Rattle.mw_recheck.proofs.holds.Goals as goal
 
 pub follow-requires-clause-items : goal.follow-requires-clause-items

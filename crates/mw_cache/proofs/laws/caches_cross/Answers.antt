@@ -1,4 +1,4 @@
-use Rattle.mw_cache.proofs.Crossing.{cache_sync}
+use Rattle.mw_cache.proofs.SendSync.{cache_sync}
 use Rattle.mw_cache.proofs.laws.caches_cross.Goals as goal
 
 pub returns : goal.returns

@@ -1,4 +1,4 @@
-use Rattle.mw_cache.proofs.Crossing.{got_send, got_sync}
+use Rattle.mw_cache.proofs.SendSync.{got_send, got_sync}
 use Rattle.mw_cache.proofs.laws.gots_cross.Goals as goal
 
 pub returns-clause-send : goal.returns-clause-send

@@ -1,4 +1,4 @@
-use Rattle.mw_cache.proofs.Honest.{honest_front}
+use Rattle.mw_cache.proofs.HonestRecords.{honest_front}
 use Rattle.mw_cache.proofs.laws.honest_front.Goals as goal
 
 pub returns : goal.returns

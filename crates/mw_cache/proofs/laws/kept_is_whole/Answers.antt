@@ -1,4 +1,4 @@
-use Rattle.mw_cache.proofs.Honest.{kept_whole}
+use Rattle.mw_cache.proofs.HonestRecords.{kept_whole}
 use Rattle.mw_cache.proofs.laws.kept_is_whole.Goals as goal
 
 pub returns : goal.returns

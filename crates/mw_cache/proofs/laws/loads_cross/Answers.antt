@@ -1,4 +1,4 @@
-use Rattle.mw_cache.proofs.Crossing.{load_sync}
+use Rattle.mw_cache.proofs.SendSync.{load_sync}
 use Rattle.mw_cache.proofs.laws.loads_cross.Goals as goal
 
 pub returns : goal.returns

@@ -1,4 +1,4 @@
-use Rattle.mw_cache.proofs.Migrating.{migrated_new}
+use Rattle.mw_cache.proofs.MigratedRecords.{migrated_new}
 use Rattle.mw_cache.proofs.laws.migrated_are_new.Goals as goal
 
 pub returns : goal.returns

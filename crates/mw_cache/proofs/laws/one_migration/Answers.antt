@@ -1,4 +1,4 @@
-use Rattle.mw_cache.proofs.Migrating.{one_migration}
+use Rattle.mw_cache.proofs.MigratedRecords.{one_migration}
 use Rattle.mw_cache.proofs.laws.one_migration.Goals as goal
 
 pub returns : goal.returns

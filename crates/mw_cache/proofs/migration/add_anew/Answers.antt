@@ -1,6 +1,6 @@
 use Rattle.std.proofs.Common.{◌∙◌}
 use Rattle.mw_term.specs.Terms.{expression_of, kernel_type_of}
-use Rattle.mw_cache.proofs.Migrating.{adds_none, adds_one, spends}
+use Rattle.mw_cache.proofs.MigratedRecords.{adds_none, adds_one, spends}
 use Rattle.mw_cache.proofs.migration.add_anew.Goals as goal
 
 pub returns-then-is_some-clause-added : goal.returns-then-is_some-clause-added

@@ -3,7 +3,7 @@ use Rattle.mw_term.specs.Terms.{expression_of, kernel_type_of}
 use Rattle.mw_key.specs.CanonicalText.{IsTextOf}
 use Rattle.mw_store.specs.Loads.{LoadState}
 use Rattle.mw_cache.specs.Migrating.{no_record, AreMigrated}
-use Rattle.mw_cache.proofs.Migrating.{one_migrated, two_migrated}
+use Rattle.mw_cache.proofs.MigratedRecords.{one_migrated, two_migrated}
 use Rattle.mw_cache.proofs.migration.migration_of.Goals as goal
 use Rattle.mw_cache.proofs.migration.migration_of.Goals.{in-One+in_ok-add_anew-in-One, in-Two}
 

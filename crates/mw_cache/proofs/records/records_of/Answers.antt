@@ -1,4 +1,4 @@
-use Rattle.mw_cache.proofs.Gathering.{rising}
+use Rattle.mw_cache.proofs.ModuleMap.{rising}
 use Rattle.mw_cache.proofs.records.records_of.Goals as goal
 
 pub returns-clause-rise : goal.returns-clause-rise

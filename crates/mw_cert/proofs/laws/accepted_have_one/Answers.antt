@@ -1,4 +1,4 @@
-use Rattle.mw_cert.proofs.Accepted.{accepted_have_one as proof}
+use Rattle.mw_cert.proofs.WrittenCertificates.{accepted_have_one as proof}
 use Rattle.mw_cert.proofs.laws.accepted_have_one.Goals as goal
 
 pub returns : goal.returns

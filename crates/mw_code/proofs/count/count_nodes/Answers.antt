@@ -1,5 +1,5 @@
 use Rattle.std.proofs.Common.{arith}
-use Rattle.mw_code.proofs.Counting.{last_here, counts_on, counts_over, AreHere_append, node_here}
+use Rattle.mw_code.proofs.TermSizes.{last_here, counts_on, counts_over, AreHere_append, node_here}
 use Rattle.mw_code.proofs.count.count_nodes.Goals as goal
 
 pub visit-node-requires : goal.visit-node-requires

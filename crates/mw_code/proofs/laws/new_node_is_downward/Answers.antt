@@ -1,4 +1,4 @@
-use Rattle.mw_code.proofs.Adding.{IsDownward_push}
+use Rattle.mw_code.proofs.AddedNodes.{IsDownward_push}
 use Rattle.mw_code.proofs.laws.new_node_is_downward.Goals as goal
 
 pub returns : goal.returns

@@ -1,5 +1,5 @@
 use Rattle.std.proofs.Common.{length, refl}
-use Rattle.mw_code.proofs.Placing.{Stands-front}
+use Rattle.mw_code.proofs.FreshBinders.{Stands-front}
 use Rattle.mw_code.proofs.laws.outer_binders_drop.Goals as goal
 
 pub returns : goal.returns

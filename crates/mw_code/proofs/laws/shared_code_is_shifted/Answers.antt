@@ -1,4 +1,4 @@
-use Rattle.mw_code.proofs.Placing.{Stands-put_in}
+use Rattle.mw_code.proofs.FreshBinders.{Stands-put_in}
 use Rattle.mw_code.proofs.laws.shared_code_is_shifted.Goals as goal
 
 pub returns : goal.returns

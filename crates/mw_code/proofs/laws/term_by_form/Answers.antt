@@ -1,4 +1,4 @@
-use Rattle.mw_code.proofs.Unsharing.{at_node}
+use Rattle.mw_code.proofs.UnsharedTerms.{at_node}
 use Rattle.mw_code.proofs.laws.term_by_form.Goals as goal
 
 pub returns : goal.returns

@@ -2,8 +2,8 @@ use Rattle.mw_key.specs.declared.version.Version.TheVariants.{Two}
 use Rattle.std.proofs.Common.{◌∙◌}
 use Rattle.std.specs.Arc.{arc_value}
 use Rattle.mw_term.specs.Terms.{expression_of, kernel_type_of}
-use Rattle.mw_gen.proofs.Whole.{generated_is_emitted}
-use Rattle.mw_compile.proofs.Entering.{generated_kept, entry_of, entry_kept}
+use Rattle.mw_gen.proofs.EmissionProof.{generated_is_emitted}
+use Rattle.mw_compile.proofs.EmittedEntries.{generated_kept, entry_of, entry_kept}
 use Rattle.mw_compile.proofs.emission.entry_of.Goals as goal
 
 pub encode-requires : goal.encode-requires

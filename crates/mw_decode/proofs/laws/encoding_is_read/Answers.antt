@@ -1,6 +1,6 @@
 use Rattle.mw_encode.specs.Encoding.{encoding}
 use Rattle.mw_encode.proofs.BestModules.{encoding_shortest}
-use Rattle.mw_decode.proofs.ModuleAgain.{spelled_file_is_read}
+use Rattle.mw_decode.proofs.ModuleCompleteness.{spelled_file_is_read}
 use Rattle.mw_decode.proofs.laws.encoding_is_read.Goals as goal
 
 pub returns : goal.returns

@@ -8,7 +8,7 @@ use Rattle.mw_console.specs.Texts.{ending_line, ending_status}
 use Rattle.mw_drive.specs.ProgramRuns.{ending_of, IsUsual}
 use Rattle.mw_drive.proofs.Faults.{front_written, no_answer, fault_is}
 use Rattle.mw_drive.proofs.Fronts.{grows_nothing}
-use Rattle.mw_drive.proofs.Honest.{are_outcomes, none_wrong, empty_honest}
+use Rattle.mw_drive.proofs.HonestRuns.{are_outcomes, none_wrong, empty_honest}
 use Rattle.mw_drive.proofs.RunFaults.{unwritten_usual, job_is_usual, if_bad}
 use Rattle.mw_drive.proofs.ErasedEnds.{erased_ends}
 use Rattle.mw_drive.proofs.ErasedWritten.{program_source, small_types, no_outcomes, erased_is}

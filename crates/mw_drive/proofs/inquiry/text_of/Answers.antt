@@ -1,5 +1,5 @@
 use Rattle.mw_judge.specs.ModuleFiles.{IsBadBinary}
-use Rattle.mw_drive.proofs.Reported.{ok_then, bad_is, text_report, text_fault}
+use Rattle.mw_drive.proofs.Reports.{ok_then, bad_is, text_report, text_fault}
 use Rattle.mw_drive.proofs.inquiry.text_of.Goals as goal
 
 pub returns-in-Ok : goal.returns-in-Ok

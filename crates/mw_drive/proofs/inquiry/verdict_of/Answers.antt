@@ -1,7 +1,7 @@
 use Rattle.std.proofs.Common.{◌++◌, ap, ◌∙◌}
 use Rattle.mw_judge.specs.FileLines.{verdict_line}
 use Rattle.mw_judge.specs.ModuleFiles.{IsBadFile}
-use Rattle.mw_drive.proofs.Reported.{ok_then, bad_is, verdict_report, verdict_fault}
+use Rattle.mw_drive.proofs.Reports.{ok_then, bad_is, verdict_report, verdict_fault}
 use Rattle.mw_drive.proofs.inquiry.verdict_of.Goals as goal
 
 pub returns-in_ok-put_verdict-in-Ok : goal.returns-in_ok-put_verdict-in-Ok

@@ -2,9 +2,9 @@ use Rattle.std.proofs.Common.{◌++◌, ◌∷◌, [], map, All, sym, ap, subst,
 use Rattle.std.proofs.lemmas.List.{map-append}
 use Rattle.std.proofs.lemmas.List.Elements.{All-append}
 use Rattle.mw_cache.specs.Gots.{IsHere, text_in}
-use Rattle.mw_cache.proofs.Gathering.{map_more}
+use Rattle.mw_cache.proofs.ModuleMap.{map_more}
 use Rattle.mw_drive.specs.ProgramRuns.{HasModuleHere}
-use Rattle.mw_drive.proofs.Taking.{all_at, got, one_all}
+use Rattle.mw_drive.proofs.ListFronts.{all_at, got, one_all}
 use Rattle.mw_drive.proofs.kept.gots_of.Goals as goal
 
 pub loop-kernel-preserved : goal.loop-kernel-preserved

@@ -1,6 +1,6 @@
 use Rattle.std.proofs.Common.{arith}
-use Rattle.mw_drive.proofs.Linking.{few_more}
-use Rattle.mw_drive.proofs.Taking.{got}
+use Rattle.mw_drive.proofs.KernelsToLink.{few_more}
+use Rattle.mw_drive.proofs.ListFronts.{got}
 use Rattle.mw_drive.proofs.linked.first_past.Goals as goal
 
 pub overflow_add-sum : goal.overflow_add-sum

@@ -1,7 +1,7 @@
 use Rattle.std.proofs.Common.{ap}
 use Rattle.mw_term.specs.Terms.{expression_of}
 use Rattle.mw_term.specs.Programs.{definition_of}
-use Rattle.mw_drive.proofs.Linking.{item_with}
+use Rattle.mw_drive.proofs.KernelsToLink.{item_with}
 use Rattle.mw_drive.proofs.linked.kernel_of.Goals as goal
 
 pub returns-in-Kernel : goal.returns-in-Kernel

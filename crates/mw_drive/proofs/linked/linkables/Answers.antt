@@ -3,7 +3,7 @@ use Rattle.std.specs.Vec.Iter.{into_iter_items}
 use Rattle.std.proofs.IntoIterSteps.{All-taken}
 use Rattle.std.proofs.lemmas.List.{map-append}
 use Rattle.mw_link.specs.Views.{kernel_of, kernels_of}
-use Rattle.mw_drive.proofs.Linking.{Gathers, gathers_kernel, gathers_none, gathered_all}
+use Rattle.mw_drive.proofs.KernelsToLink.{Gathers, gathers_kernel, gathers_none, gathered_all}
 use Rattle.mw_drive.proofs.linked.linkables.Goals as goal
 
 pub loop-item-preserved-in-Continue-1 : goal.loop-item-preserved-in-Continue-1

@@ -1,6 +1,6 @@
 use Rattle.std.specs.Vec.Iter.{into_iter_items}
 use Rattle.mw_link.specs.Views.{kernels_of}
-use Rattle.mw_drive.proofs.Linking.{Gathers}
+use Rattle.mw_drive.proofs.KernelsToLink.{Gathers}
 use Rattle.mw_drive.proofs.linked.linkables.Given as goal
 
 abbrev pub invariant-loop-item : goal.invariant-loop-item

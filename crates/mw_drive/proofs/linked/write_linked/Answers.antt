@@ -4,7 +4,7 @@ use Rattle.mw_link.specs.Views.{kernels_of}
 use Rattle.mw_drive.specs.ProgramRuns.{ending_of}
 use Rattle.mw_drive.specs.Works.{joined, unjoined}
 use Rattle.mw_drive.proofs.Fronts.{grows_nothing}
-use Rattle.mw_drive.proofs.Honest.{no_wrong_item, empty_honest}
+use Rattle.mw_drive.proofs.HonestRuns.{no_wrong_item, empty_honest}
 use Rattle.mw_drive.proofs.ItemsRun.{one_for_each, all_placed}
 use Rattle.mw_drive.proofs.LinkedWritten.{answer_ends, typable_means, means_cut, means_joined, made_linkable}
 use Rattle.mw_drive.proofs.LinkedWritten.{link_failed, link_ended}

@@ -4,7 +4,7 @@ use Rattle.mw_console.specs.declared.status.Status.TheVariants.{Answer, Write, C
 use Rattle.mw_keeping.proofs.KeptFiles.{front_stays}
 use Rattle.mw_drive.specs.Extents.{on_a_cache}
 use Rattle.mw_drive.proofs.Fronts.{whole_grows}
-use Rattle.mw_drive.proofs.Reported.{file_report, carried_report, carried_some, carried_all, front_since}
+use Rattle.mw_drive.proofs.Reports.{file_report, carried_report, carried_some, carried_all, front_since}
 use Rattle.mw_drive.proofs.migrated.migrate.Goals as goal
 
 pub returns-in-Err-Failed-clause-held : goal.returns-in-Err-Failed-clause-held

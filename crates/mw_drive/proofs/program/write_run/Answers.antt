@@ -18,10 +18,10 @@ use Rattle.mw_drive.proofs.Fronts.{grows_nothing}
 use Rattle.mw_drive.proofs.HeldFiles.{texts_are, opened_read, held_failed, held_memory, held_kept, texts_kept}
 use Rattle.mw_drive.proofs.HeldFiles.{front_kept, end_of}
 use Rattle.mw_drive.proofs.OpenedFiles.{opened_failed, only_opened, opened_by_file}
-use Rattle.mw_drive.proofs.Honest.{opened_honest, no_wrong_item}
+use Rattle.mw_drive.proofs.HonestRuns.{opened_honest, no_wrong_item}
 use Rattle.mw_drive.proofs.RunFaults.{unwritten_usual, job_is_usual, if_bad, job_bad, passed_bad}
 use Rattle.mw_drive.proofs.RunWritten.{some_ending, run_failed, run_passed, run_answered, run_spoiled, same_kernels}
-use Rattle.mw_drive.proofs.Showing.{modules_here}
+use Rattle.mw_drive.proofs.KernelLines.{modules_here}
 use Rattle.mw_drive.proofs.program.write_run.Given.{Over}
 use Rattle.mw_drive.proofs.program.write_run.Goals.{After-cache}
 use Rattle.mw_drive.proofs.program.write_run.Goals as goal

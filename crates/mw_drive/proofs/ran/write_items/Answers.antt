@@ -10,7 +10,7 @@ use Rattle.mw_drive.specs.ItemOutcomes.{outcomes_run, run_with}
 use Rattle.mw_drive.specs.ProgramRuns.{ending_of, kernels_of, IsRanTo, IsBuilt}
 use Rattle.mw_drive.specs.Works.{mode_of, shown_text}
 use Rattle.mw_drive.proofs.Fronts.{grows_front, grows_nothing, grows_whole}
-use Rattle.mw_drive.proofs.Honest.{none_wrong}
+use Rattle.mw_drive.proofs.HonestRuns.{none_wrong}
 use Rattle.mw_drive.proofs.ItemsRun.{one_for_each, all_placed, all_codes}
 use Rattle.mw_drive.proofs.RunFaults.{unwritten_usual, job_is_usual, if_bad}
 use Rattle.mw_drive.proofs.RunWritten.{some_ending, items_ending, item_ended, main_ended, phase_run, run_failed}

@@ -1,5 +1,5 @@
-use Rattle.mw_drive.proofs.Honest.{honest_text}
-use Rattle.mw_drive.proofs.Showing.{its_size, size_small}
+use Rattle.mw_drive.proofs.HonestRuns.{honest_text}
+use Rattle.mw_drive.proofs.KernelLines.{its_size, size_small}
 use Rattle.mw_drive.proofs.shown.module_size.Goals as goal
 
 pub returns-clause-size : goal.returns-clause-size

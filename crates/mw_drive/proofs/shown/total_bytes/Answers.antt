@@ -1,6 +1,6 @@
 use Rattle.std.proofs.Common.{arith}
-use Rattle.mw_drive.proofs.Showing.{bytes_next}
-use Rattle.mw_drive.proofs.Taking.{got}
+use Rattle.mw_drive.proofs.KernelLines.{bytes_next}
+use Rattle.mw_drive.proofs.ListFronts.{got}
 use Rattle.mw_drive.proofs.shown.total_bytes.Goals as goal
 
 pub loop-at-preserved : goal.loop-at-preserved

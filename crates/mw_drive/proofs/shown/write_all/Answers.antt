@@ -1,8 +1,8 @@
 use Rattle.std.proofs.Common.{◌∙◌, arith}
 use Rattle.mw_drive.specs.ProgramRuns.{IsBuilt, HasModuleHere}
 use Rattle.mw_drive.proofs.Faults.{front_written}
-use Rattle.mw_drive.proofs.Showing.{lines_written, lines_front}
-use Rattle.mw_drive.proofs.Taking.{all_at, got}
+use Rattle.mw_drive.proofs.KernelLines.{lines_written, lines_front}
+use Rattle.mw_drive.proofs.ListFronts.{all_at, got}
 use Rattle.mw_drive.proofs.shown.write_all.Goals as goal
 
 pub write_kernel-requires : goal.write_kernel-requires

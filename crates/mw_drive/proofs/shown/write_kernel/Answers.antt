@@ -5,8 +5,8 @@ use Rattle.mw_drive.specs.Works.{kernel_lines}
 use Rattle.mw_drive.specs.ProgramRuns.{kernel_of}
 use Rattle.mw_drive.specs.Written.{Writes}
 use Rattle.mw_drive.proofs.Faults.{text_written}
-use Rattle.mw_drive.proofs.Honest.{honest_text}
-use Rattle.mw_drive.proofs.Showing.{its_lines}
+use Rattle.mw_drive.proofs.HonestRuns.{honest_text}
+use Rattle.mw_drive.proofs.KernelLines.{its_lines}
 use Rattle.mw_drive.proofs.shown.write_kernel.Goals as goal
 
 pub returns-clause-writes : goal.returns-clause-writes

@@ -3,7 +3,7 @@ use Rattle.mw_term.specs.Programs.{program_of}
 use Rattle.mw_term.specs.Stops.{IfRefused}
 use Rattle.mw_infer.specs.Checking.{IsFirstRefusal}
 use Rattle.mw_drive.proofs.Certificates.{certificate_report, untyped_certificate}
-use Rattle.mw_drive.proofs.Reported.{ok_then}
+use Rattle.mw_drive.proofs.Reports.{ok_then}
 use Rattle.mw_drive.proofs.typing.certified.Goals as goal
 
 pub returns-in_ok-text-in-Ok : goal.returns-in_ok-text-in-Ok

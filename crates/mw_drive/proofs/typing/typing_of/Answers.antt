@@ -2,7 +2,7 @@ use Rattle.std.proofs.Common.{true, subst}
 use Rattle.mw_term.specs.Stops.{IfRefused}
 use Rattle.mw_reading.specs.SourceReading.{IsRefused}
 use Rattle.mw_drive.proofs.Certificates.{unread_typing}
-use Rattle.mw_drive.proofs.Reported.{ok_then}
+use Rattle.mw_drive.proofs.Reports.{ok_then}
 use Rattle.mw_drive.proofs.SourceWritten.{resolved}
 use Rattle.mw_drive.proofs.typing.typing_of.Goals as goal
 

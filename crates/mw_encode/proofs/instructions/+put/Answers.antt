@@ -3,7 +3,7 @@ use Rattle.std.specs.List.{flat_map}
 use Rattle.mw_wasm.specs.Views.{code_of, instruction_of}
 use Rattle.mw_encode.specs.Encoding.{block_type_byte, code_bytes, constant, instruction_bytes, number, vector_bytes}
 use Rattle.mw_encode.proofs.Pieces.{rest_start, rest_step, rest_end}
-use Rattle.mw_encode.proofs.Appending.{joined, regrouped, ends_with, then_with}
+use Rattle.mw_encode.proofs.AppendedBytes.{joined, regrouped, ends_with, then_with}
 use Rattle.mw_encode.proofs.Codes.{each_instruction, each_bytes, code_items, bytes_of_items, block_bytes, loop_bytes}
 use Rattle.mw_encode.proofs.Codes.{cond_bytes_none, cond_bytes_some, table_count}
 use Rattle.mw_encode.proofs.instructions.+put.Goals as goal

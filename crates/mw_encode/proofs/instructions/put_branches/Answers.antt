@@ -1,6 +1,6 @@
 use Rattle.std.proofs.Common.{refl, ◌∷◌, []}
 use Rattle.mw_encode.specs.Encoding.{number, vector_bytes}
-use Rattle.mw_encode.proofs.Appending.{joined, then_with}
+use Rattle.mw_encode.proofs.AppendedBytes.{joined, then_with}
 use Rattle.mw_encode.proofs.instructions.put_branches.Goals as goal
 
 pub returns : goal.returns

@@ -1,6 +1,6 @@
 use Rattle.std.proofs.Common.{refl, ◌∷◌, []}
 use Rattle.mw_encode.specs.Encoding.{number}
-use Rattle.mw_encode.proofs.Appending.{then_with}
+use Rattle.mw_encode.proofs.AppendedBytes.{then_with}
 use Rattle.mw_encode.proofs.instructions.put_indirect_call.Goals as goal
 
 pub returns : goal.returns

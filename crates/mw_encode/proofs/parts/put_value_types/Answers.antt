@@ -1,6 +1,6 @@
 use Rattle.std.proofs.Common.{refl, ap, ◌∙◌, ◌++◌, ◌∷◌, []}
 use Rattle.mw_encode.specs.Encoding.{value_type_bytes, vector_bytes}
-use Rattle.mw_encode.proofs.Appending.{left_start, left_step, left_end}
+use Rattle.mw_encode.proofs.AppendedBytes.{left_start, left_step, left_end}
 use Rattle.mw_encode.proofs.parts.put_value_types.Goals as goal
 
 pub loop-kind-init : goal.loop-kind-init

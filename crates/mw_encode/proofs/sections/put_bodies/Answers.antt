@@ -3,7 +3,7 @@ use Rattle.mw_wasm.specs.BinaryModules.{function_code}
 use Rattle.mw_wasm.specs.Views.{function_of}
 use Rattle.mw_encode.specs.Encoding.{function_code_bytes, section_bytes}
 use Rattle.mw_encode.proofs.BestModules.{best_function_code}
-use Rattle.mw_encode.proofs.Appending.{content_small, ends_with}
+use Rattle.mw_encode.proofs.AppendedBytes.{content_small, ends_with}
 use Rattle.mw_encode.proofs.sections.put_bodies.Goals as goal
 
 pub put_items-requires-clause-spelled : goal.put_items-requires-clause-spelled

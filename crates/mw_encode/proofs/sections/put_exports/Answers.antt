@@ -3,7 +3,7 @@ use Rattle.mw_wasm.specs.BinaryModules.{export}
 use Rattle.mw_wasm.specs.Views.{export_of}
 use Rattle.mw_encode.specs.Encoding.{export_bytes, section_bytes}
 use Rattle.mw_encode.proofs.BestModules.{best_export}
-use Rattle.mw_encode.proofs.Appending.{content_small, ends_with}
+use Rattle.mw_encode.proofs.AppendedBytes.{content_small, ends_with}
 use Rattle.mw_encode.proofs.sections.put_exports.Goals as goal
 
 pub put_items-requires-clause-spelled : goal.put_items-requires-clause-spelled

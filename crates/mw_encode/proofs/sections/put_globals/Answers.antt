@@ -3,7 +3,7 @@ use Rattle.mw_wasm.specs.BinaryModules.{global}
 use Rattle.mw_wasm.specs.Views.{global_of}
 use Rattle.mw_encode.specs.Encoding.{global_bytes, section_bytes}
 use Rattle.mw_encode.proofs.BestModules.{best_global}
-use Rattle.mw_encode.proofs.Appending.{content_small, ends_with}
+use Rattle.mw_encode.proofs.AppendedBytes.{content_small, ends_with}
 use Rattle.mw_encode.proofs.sections.put_globals.Goals as goal
 
 pub put_items-requires-clause-spelled : goal.put_items-requires-clause-spelled

@@ -1,5 +1,5 @@
 use Rattle.std.proofs.Common.{refl, length}
-use Rattle.mw_encode.proofs.Appending.{positive, no_section, items_spelled, content_is, section_put}
+use Rattle.mw_encode.proofs.AppendedBytes.{positive, no_section, items_spelled, content_is, section_put}
 use Rattle.mw_encode.proofs.sections.put_items.Goals as goal
 
 pub returns-then-list-eq0 : goal.returns-then-list-eq0

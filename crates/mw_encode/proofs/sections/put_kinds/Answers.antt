@@ -3,7 +3,7 @@ use Rattle.mw_wasm.specs.BinaryModules.{function_kind}
 use Rattle.mw_wasm.specs.Views.{function_of}
 use Rattle.mw_encode.specs.Encoding.{function_kind_bytes}
 use Rattle.mw_encode.proofs.BestModules.{best_function_kind}
-use Rattle.mw_encode.proofs.Appending.{no_section, items_spelled, content_is, content_fits, section_put}
+use Rattle.mw_encode.proofs.AppendedBytes.{no_section, items_spelled, content_is, content_fits, section_put}
 use Rattle.mw_encode.proofs.sections.put_kinds.Goals as goal
 
 pub returns-then-len-eq0 : goal.returns-then-len-eq0

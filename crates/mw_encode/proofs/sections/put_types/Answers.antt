@@ -3,7 +3,7 @@ use Rattle.mw_wasm.specs.BinaryModules.{function_type}
 use Rattle.mw_encode.specs.Encoding.{function_type_bytes, section_bytes}
 use Rattle.mw_encode.proofs.BestModules.{best_function_type}
 use Rattle.mw_encode.proofs.Pieces.{seen_same, section_small}
-use Rattle.mw_encode.proofs.Appending.{ends_with}
+use Rattle.mw_encode.proofs.AppendedBytes.{ends_with}
 use Rattle.mw_encode.proofs.sections.put_types.Goals as goal
 
 pub put_items-requires-clause-spelled : goal.put_items-requires-clause-spelled

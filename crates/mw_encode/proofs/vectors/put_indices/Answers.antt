@@ -1,6 +1,6 @@
 use Rattle.std.proofs.Common.{refl, ap, ◌∙◌, ◌++◌}
 use Rattle.mw_encode.specs.Encoding.{number, vector_bytes}
-use Rattle.mw_encode.proofs.Appending.{left_start, left_step, left_end}
+use Rattle.mw_encode.proofs.AppendedBytes.{left_start, left_step, left_end}
 use Rattle.mw_encode.proofs.vectors.put_indices.Goals as goal
 
 pub loop-index-init : goal.loop-index-init

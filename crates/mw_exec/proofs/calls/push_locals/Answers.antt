@@ -1,7 +1,7 @@
 use Rattle.std.proofs.Common.{sym, ap, ◌∙◌, ◌++◌, map}
 use Rattle.std.proofs.lemmas.List.{append-nil}
 use Rattle.mw_wasm.specs.Store.{zero_of}
-use Rattle.mw_exec.proofs.Mapping.{mapped_more, mapped_all}
+use Rattle.mw_exec.proofs.MappedSlices.{mapped_more, mapped_all}
 use Rattle.mw_exec.proofs.calls.push_locals.Goals as goal
 
 pub loop-t-init : goal.loop-t-init

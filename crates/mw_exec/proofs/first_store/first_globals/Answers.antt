@@ -1,6 +1,6 @@
 use Rattle.std.proofs.Common.{ap, ◌∙◌, []}
 use Rattle.mw_exec.specs.FirstStores.{HasFirstValue, value_of_global}
-use Rattle.mw_exec.proofs.Mapping.{mapped_more, mapped_all, all_item}
+use Rattle.mw_exec.proofs.MappedSlices.{mapped_more, mapped_all, all_item}
 use Rattle.mw_exec.proofs.first_store.first_globals.Goals as goal
 
 pub first_value_of-requires : goal.first_value_of-requires

@@ -1,7 +1,7 @@
 use Rattle.std.proofs.Common.{arith, length}
 use Rattle.mw_exec.proofs.FirstStores.{element_inside, elements_more, at_most, placed_from}
 use Rattle.mw_exec.specs.Fitting.{HasElementOffset}
-use Rattle.mw_exec.proofs.Mapping.{all_item}
+use Rattle.mw_exec.proofs.MappedSlices.{all_item}
 use Rattle.mw_exec.proofs.first_store.place_elements.Goals as goal
 
 pub place_functions-requires : goal.place_functions-requires

@@ -1,7 +1,7 @@
 use Rattle.std.proofs.Common.{arith, refl}
 use Rattle.mw_exec.proofs.FirstStores.{segment_inside, segments_more, at_most, is_placed_from}
 use Rattle.mw_exec.specs.Fitting.{HasSegmentOffset}
-use Rattle.mw_exec.proofs.Mapping.{all_item}
+use Rattle.mw_exec.proofs.MappedSlices.{all_item}
 use Rattle.mw_exec.proofs.first_store.place_segments.Goals as goal
 
 pub place_segment-requires-clause-fits : goal.place_segment-requires-clause-fits

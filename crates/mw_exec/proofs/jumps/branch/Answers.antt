@@ -1,4 +1,4 @@
-use Rattle.mw_exec.proofs.Leaving.{label_lost, branch_on}
+use Rattle.mw_exec.proofs.CodeEnds.{label_lost, branch_on}
 use Rattle.mw_exec.proofs.jumps.branch.Goals as goal
 
 pub returns-then-not-unwind : goal.returns-then-not-unwind

@@ -1,6 +1,6 @@
 use Rattle.std.proofs.Common.{refl, sym, ◌∙◌, arith}
-use Rattle.mw_exec.proofs.Leaving.{is_block, is_loop, taken_formed, returning_lost}
-use Rattle.mw_exec.proofs.Passing.{fewer_wait, passed_on, return_taken}
+use Rattle.mw_exec.proofs.CodeEnds.{is_block, is_loop, taken_formed, returning_lost}
+use Rattle.mw_exec.proofs.PassedLabels.{fewer_wait, passed_on, return_taken}
 use Rattle.mw_exec.proofs.jumps.give_back.Goals as goal
 
 pub returns : goal.returns

@@ -2,7 +2,7 @@ use Rattle.std.proofs.Common.{refl, sym, ◌∙◌}
 use Rattle.mw_exec.specs.declared.state.Turn.TheVariants as turn
 use Rattle.mw_exec.proofs.Surroundings.{parts}
 use Rattle.mw_exec.proofs.JumpRules.{frame_base}
-use Rattle.mw_exec.proofs.Leaving.{left_taken, taken_formed, all_left, label_left, frame_left, is_block, is_loop}
+use Rattle.mw_exec.proofs.CodeEnds.{left_taken, taken_formed, all_left, label_left, frame_left, is_block, is_loop}
 use Rattle.mw_exec.proofs.jumps.leave.Goals as goal
 
 pub returns-in-None : goal.returns-in-None

@@ -1,5 +1,5 @@
 use Rattle.std.proofs.Common.{refl, sym, ◌∙◌}
-use Rattle.mw_exec.proofs.Leaving.{taken_formed, branch_taken, branch_lost}
+use Rattle.mw_exec.proofs.CodeEnds.{taken_formed, branch_taken, branch_lost}
 use Rattle.mw_exec.proofs.jumps.take_branch.Goals as goal
 
 pub returns-in-None : goal.returns-in-None

@@ -1,6 +1,6 @@
 use Rattle.std.proofs.Common.{refl, sym, ◌∙◌}
-use Rattle.mw_exec.proofs.Leaving.{is_block, is_loop}
-use Rattle.mw_exec.proofs.Passing.{label_passed, no_label_left, frame_in_the_way}
+use Rattle.mw_exec.proofs.CodeEnds.{is_block, is_loop}
+use Rattle.mw_exec.proofs.PassedLabels.{label_passed, no_label_left, frame_in_the_way}
 use Rattle.mw_exec.proofs.labels.pass.Goals as goal
 
 pub returns-in-None : goal.returns-in-None

@@ -6,7 +6,7 @@ use Rattle.mw_wasm.specs.Syntax.{global_get, global_set, local_get, local_set}
 use Rattle.mw_wasm.specs.Views.{instruction_of}
 use Rattle.mw_gen.specs.Generate.{call_of}
 use Rattle.mw_gen.specs.Listing.{code_list}
-use Rattle.mw_gen.proofs.Listed.{call_is}
+use Rattle.mw_gen.proofs.InstructionLists.{call_is}
 use Rattle.mw_gen.proofs.call.call_body.Goals as goal
 
 pub returns : goal.returns

@@ -4,7 +4,7 @@ use Rattle.mw_wasm.specs.Views.{instruction_of}
 use Rattle.mw_ir.specs.Views.{ir_of}
 use Rattle.mw_gen.specs.Listing.{code_list}
 use Rattle.mw_gen.specs.Parts.{moved}
-use Rattle.mw_gen.proofs.Listed.{code_is}
+use Rattle.mw_gen.proofs.InstructionLists.{code_is}
 use Rattle.mw_gen.proofs.code.+put_code.Goals as goal
 
 pub returns-in_ok-put_code-in-If-3 : goal.returns-in_ok-put_code-in-If-3

@@ -5,7 +5,7 @@ use Rattle.mw_wasm.specs.Views.{instruction_of}
 use Rattle.mw_ir.specs.Views.{ir_of}
 use Rattle.mw_gen.specs.Listing.{code_list}
 use Rattle.mw_gen.specs.Parts.{moved}
-use Rattle.mw_gen.proofs.Listed.{restarting_is}
+use Rattle.mw_gen.proofs.InstructionLists.{restarting_is}
 use Rattle.mw_gen.proofs.code.restarting_code.Goals as goal
 
 pub returns : goal.returns

@@ -8,7 +8,7 @@ use Rattle.mw_wasm.specs.Views.{instruction_of, list_code, loop_is}
 use Rattle.mw_ir.specs.Views.{ir_of}
 use Rattle.mw_gen.specs.Listing.{tail_list}
 use Rattle.mw_gen.specs.Parts.{moved}
-use Rattle.mw_gen.proofs.Listed.{tail_is}
+use Rattle.mw_gen.proofs.InstructionLists.{tail_is}
 use Rattle.mw_gen.proofs.functions.loop_alone.Goals as goal
 
 pub returns : goal.returns

@@ -1,4 +1,4 @@
-use Rattle.mw_gen.proofs.Whole.{emission_holds}
+use Rattle.mw_gen.proofs.EmissionProof.{emission_holds}
 use Rattle.mw_gen.proofs.laws.emission_holds.Goals as goal
 
 pub returns : goal.returns

@@ -4,7 +4,7 @@ use Rattle.mw_wasm.specs.Views.{instruction_of}
 use Rattle.mw_ir.specs.Views.{ir_of}
 use Rattle.mw_gen.specs.Listing.{tail_list}
 use Rattle.mw_gen.specs.Parts.{moved}
-use Rattle.mw_gen.proofs.Listed.{tail_is}
+use Rattle.mw_gen.proofs.InstructionLists.{tail_is}
 use Rattle.mw_gen.proofs.tails.+put_tail.Goals as goal
 
 pub returns-in_ok-put_tail-in-If-2 : goal.returns-in_ok-put_tail-in-If-2

@@ -1,7 +1,7 @@
 use Rattle.std.proofs.Common.{◌++◌, ◌+◌, ◌-◌, ◌∙◌, sym, ap, take, drop, length, arith}
 use Rattle.mw_store.specs.Records.{file_of}
 use Rattle.mw_keeping.specs.KeptFiles.{fitting}
-use Rattle.mw_keeping.proofs.Appending.{record_at, fitting_next, fitting_ends, added, all_fitted, grows_on}
+use Rattle.mw_keeping.proofs.AppendedRecords.{record_at, fitting_next, fitting_ends, added, all_fitted, grows_on}
 use Rattle.mw_keeping.proofs.keeping.append_fitting.Goals as goal
 
 pub returns-then-record-left-clause-fitting : goal.returns-then-record-left-clause-fitting

@@ -1,6 +1,6 @@
 use Rattle.std.proofs.Common.{◌+◌, ◌-◌, ◌∙◌, sym, ap, take, drop, length, ◌++◌, arith}
 use Rattle.mw_keeping.specs.KeptFiles.{fitting}
-use Rattle.mw_keeping.proofs.Appending.{record_at, fitting_next, fitting_ends, all_fitted}
+use Rattle.mw_keeping.proofs.AppendedRecords.{record_at, fitting_next, fitting_ends, all_fitted}
 use Rattle.mw_keeping.proofs.Migrations.{count_taken}
 use Rattle.mw_keeping.proofs.migrating.fitting_count.Goals as goal
 

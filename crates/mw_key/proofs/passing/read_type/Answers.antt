@@ -1,4 +1,4 @@
-use Rattle.mw_key.proofs.Passed.{type_read, type_refused}
+use Rattle.mw_key.proofs.SkippedCode.{type_read, type_refused}
 use Rattle.mw_key.proofs.passing.read_type.Goals as goal
 
 pub returns-clause-read : goal.returns-clause-read

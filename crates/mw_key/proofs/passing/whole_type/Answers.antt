@@ -1,7 +1,7 @@
 use Rattle.std.proofs.Common.{true≢false, sym, ◌∙◌}
 use Rattle.mw_term.specs.Terms.{kernel_type_of}
 use Rattle.mw_key.specs.Reading.{words_left}
-use Rattle.mw_key.proofs.Passed.{typed_whole, typed_more, typed_none}
+use Rattle.mw_key.proofs.SkippedCode.{typed_whole, typed_more, typed_none}
 use Rattle.mw_key.proofs.passing.whole_type.Goals as goal
 
 pub returns-in-Ok : goal.returns-in-Ok

@@ -1,4 +1,4 @@
-use Rattle.mw_key.proofs.Answered.{text_read, text_refused, text_answered}
+use Rattle.mw_key.proofs.TextAnswers.{text_read, text_refused, text_answered}
 use Rattle.mw_key.proofs.read.read_text.Goals as goal
 
 pub returns-clause-read : goal.returns-clause-read

@@ -1,6 +1,6 @@
 use Rattle.std.proofs.Common.{arith}
 use Rattle.std.proofs.lemmas.Result.{IfOk-equal}
-use Rattle.mw_key.proofs.Written.{digit_written}
+use Rattle.mw_key.proofs.Texts.{digit_written}
 use Rattle.mw_key.proofs.write.+put_decimal.Goals as goal
 
 pub returns : goal.returns

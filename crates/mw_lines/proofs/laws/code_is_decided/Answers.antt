@@ -1,4 +1,4 @@
-use Rattle.mw_lines.proofs.Naming.{code_absent, absent_code}
+use Rattle.mw_lines.proofs.NamedTypes.{code_absent, absent_code}
 use Rattle.mw_lines.proofs.laws.code_is_decided.Goals as goal
 
 pub returns : goal.returns

@@ -1,5 +1,5 @@
 use Rattle.std.proofs.Common.{◌≡◌, ◌-◌, suc, refl, sym, subst, arith, true≢false}
-use Rattle.mw_lines.proofs.Finding.{IsFollowed, first_followed, next_followed, all_followed, not_made}
+use Rattle.mw_lines.proofs.ImageSearch.{IsFollowed, first_followed, next_followed, all_followed, not_made}
 use Rattle.mw_lines.proofs.made.is_made.Goals as goal
 
 pub loop-left-init : goal.loop-left-init

@@ -1,4 +1,4 @@
-use Rattle.mw_lines.proofs.Finding.{IsFollowed}
+use Rattle.mw_lines.proofs.ImageSearch.{IsFollowed}
 use Rattle.mw_lines.proofs.made.is_made.Given as goal
 
 abbrev pub invariant-loop-left : goal.invariant-loop-left

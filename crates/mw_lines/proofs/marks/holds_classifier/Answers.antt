@@ -1,7 +1,7 @@
 use Rattle.std.proofs.Common.{sym, subst}
 use Rattle.mw_lines.specs.Marks.{EndsCode}
 use Rattle.std.proofs.Common.{length}
-use Rattle.mw_lines.proofs.Marking.{none_ends}
+use Rattle.mw_lines.proofs.ClassifierMarks.{none_ends}
 use Rattle.mw_lines.proofs.marks.holds_classifier.Goals as goal
 
 pub returns-then-end-eq0 : goal.returns-then-end-eq0

@@ -1,7 +1,7 @@
 use Rattle.std.proofs.Common.{◌∙◌, sym, arith}
 use Rattle.mw_lines.specs.TypeLines.{line_of}
-use Rattle.mw_lines.proofs.Finding.{parts_within}
-use Rattle.mw_lines.proofs.Marking.{found_here, passed_line, passes_line, none_past}
+use Rattle.mw_lines.proofs.ImageSearch.{parts_within}
+use Rattle.mw_lines.proofs.ClassifierMarks.{found_here, passed_line, passes_line, none_past}
 use Rattle.mw_lines.proofs.marks.pass.Goals as goal
 
 pub mark_parts-requires-clause-below : goal.mark_parts-requires-clause-below

@@ -1,7 +1,7 @@
 use Rattle.std.proofs.Common.{◌≡◌, sym, subst, length, arith}
 use Rattle.mw_lines.specs.Marks.{EndsCode}
-use Rattle.mw_lines.proofs.Marking.{AreMarks}
-use Rattle.mw_lines.proofs.Marking.{first_walk}
+use Rattle.mw_lines.proofs.ClassifierMarks.{AreMarks}
+use Rattle.mw_lines.proofs.ClassifierMarks.{first_walk}
 use Rattle.mw_lines.proofs.marks.reaches.Goals as goal
 
 pub loop-left-init : goal.loop-left-init

@@ -1,4 +1,4 @@
-use Rattle.mw_lines.proofs.Marking.{AreMarks, Walks}
+use Rattle.mw_lines.proofs.ClassifierMarks.{AreMarks, Walks}
 use Rattle.mw_lines.proofs.marks.reaches.Given as goal
 
 abbrev pub invariant-loop-place : goal.invariant-loop-place

@@ -1,8 +1,8 @@
 use Rattle.std.proofs.Common.{map, arith}
 use Rattle.mw_term.specs.Terms.{kernel_type_of}
 use Rattle.mw_wasm.specs.Views.{export_of}
-use Rattle.mw_link.proofs.Going.{exports_next, exports_end}
-use Rattle.mw_link.proofs.Placed.{calls_one}
+use Rattle.mw_link.proofs.LinkProgress.{exports_next, exports_end}
+use Rattle.mw_link.proofs.PartPlaces.{calls_one}
 use Rattle.mw_link.proofs.exports.exports_of.Goals as goal
 
 pub loop-kernel-preserved : goal.loop-kernel-preserved

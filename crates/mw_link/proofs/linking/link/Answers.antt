@@ -5,10 +5,10 @@ use Rattle.mw_wasm.specs.Validity.{IsValid}
 use Rattle.mw_link.specs.Linked.{linked}
 use Rattle.mw_link.specs.LinkLaw.{MeansAll}
 use Rattle.mw_link.specs.Views.{kernels_of}
-use Rattle.mw_link.proofs.Ending.{always, on_ok}
+use Rattle.mw_link.proofs.LinkedModule.{always, on_ok}
 use Rattle.mw_link.proofs.Profile.{linked_is_within_profile}
 use Rattle.mw_link.proofs.Spelling.{linked_is_spelled}
-use Rattle.mw_link.proofs.Standing.{linked_means_all}
+use Rattle.mw_link.proofs.LinkedMeaning.{linked_means_all}
 use Rattle.mw_link.proofs.Valid.{linked_is_valid}
 use Rattle.mw_link.proofs.linking.link.Goals as goal
 

@@ -3,7 +3,7 @@ use Rattle.mw_wasm.specs.Views.{module_of}
 use Rattle.mw_link.specs.Linked.{linked}
 use Rattle.mw_link.specs.Views.{kernels_of}
 use Rattle.mw_link.specs.LinkLaw.{LiteralsOfAllFit}
-use Rattle.mw_link.proofs.Ending.{always, linked_is, on_ok}
+use Rattle.mw_link.proofs.LinkedModule.{always, linked_is, on_ok}
 use Rattle.mw_link.proofs.linking.linked_module.Goals as goal
 
 pub returns-clause-made : goal.returns-clause-made

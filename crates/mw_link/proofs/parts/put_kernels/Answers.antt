@@ -3,7 +3,7 @@ use Rattle.std.proofs.lemmas.List.{length-map}
 use Rattle.mw_term.specs.Terms.{expression_of}
 use Rattle.mw_wasm.specs.Views.{function_of}
 use Rattle.mw_link.specs.Views.{kernels_of}
-use Rattle.mw_link.proofs.Going.{limits_kept, going_first, going_here, going_next, going_end, going_few}
+use Rattle.mw_link.proofs.LinkProgress.{limits_kept, going_first, going_here, going_next, going_end, going_few}
 use Rattle.mw_link.proofs.parts.put_kernels.Goals as goal
 
 pub loop-kernel-init : goal.loop-kernel-init

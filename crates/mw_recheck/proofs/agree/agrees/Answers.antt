@@ -1,7 +1,7 @@
 use Rattle.std.proofs.Common.{sym, ◌∙◌}
 use Rattle.mw_term.specs.Terms.{kernel_type_of}
 use Rattle.mw_lines.specs.Tables.{lines_of}
-use Rattle.mw_recheck.proofs.Beside.{kernel-at}
+use Rattle.mw_recheck.proofs.LineTypes.{kernel-at}
 use Rattle.mw_recheck.proofs.agree.agrees.Goals as goal
 
 pub returns-then-is_kernel : goal.returns-then-is_kernel

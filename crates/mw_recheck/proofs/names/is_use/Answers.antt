@@ -1,8 +1,8 @@
 use Rattle.std.proofs.Common.{None, refl, sym, ◌∙◌, arith}
 use Rattle.mw_lines.specs.Tables.{lines_of}
 use Rattle.mw_lines.proofs.Candidates.{making_decided}
-use Rattle.mw_recheck.proofs.Using.{root_held, top_there, same_test, if_ok}
-use Rattle.mw_recheck.proofs.Beside.{closed_kernel-at}
+use Rattle.mw_recheck.proofs.NameLookup.{root_held, top_there, same_test, if_ok}
+use Rattle.mw_recheck.proofs.LineTypes.{closed_kernel-at}
 use Rattle.mw_recheck.proofs.names.is_use.Goals as goal
 
 pub overflow_sub-len : goal.overflow_sub-len

@@ -1,7 +1,7 @@
 use Rattle.std.proofs.Common.{sym, ◌∙◌, subst}
 use Rattle.mw_lines.specs.Tables.{lines_of, AreWithin as AreLines}
 use Rattle.mw_recheck.specs.Views.{binders_of}
-use Rattle.mw_recheck.proofs.Using.{within_lines, stands_named, stands_else}
+use Rattle.mw_recheck.proofs.NameLookup.{within_lines, stands_named, stands_else}
 use Rattle.mw_recheck.proofs.names.stands_in.Goals as goal
 
 pub returns-then-is_named : goal.returns-then-is_named

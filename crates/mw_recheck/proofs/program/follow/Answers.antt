@@ -5,7 +5,7 @@ use Rattle.mw_lines.specs.Tables.{lines_of, type_at}
 use Rattle.mw_recheck.specs.Roots.{tops_of}
 use Rattle.mw_recheck.specs.Following.{definitions_of, main_notes_at}
 use Rattle.mw_recheck.specs.Deciding.{is_end, root_at}
-use Rattle.mw_recheck.proofs.Beside.{ground-at}
+use Rattle.mw_recheck.proofs.LineTypes.{ground-at}
 use Rattle.mw_recheck.proofs.Items.{program_followed, end_is}
 use Rattle.mw_recheck.proofs.program.follow.Goals as goal
 

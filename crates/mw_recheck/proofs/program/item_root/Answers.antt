@@ -4,7 +4,7 @@ use Rattle.mw_term.specs.Terms.{kernel_type_of}
 use Rattle.mw_lines.specs.Tables.{lines_of, type_at}
 use Rattle.mw_recheck.specs.Deciding.{root_at}
 use Rattle.mw_recheck.specs.Roots.{tops_of}
-use Rattle.mw_recheck.proofs.Beside.{closed_kernel-at}
+use Rattle.mw_recheck.proofs.LineTypes.{closed_kernel-at}
 use Rattle.mw_recheck.proofs.Items.{item_found, front_type}
 use Rattle.mw_recheck.proofs.program.item_root.Goals as goal
 

@@ -1,4 +1,4 @@
-use Rattle.mw_recheck.proofs.Stripping.{stripped}
+use Rattle.mw_recheck.proofs.TextPrefixes.{stripped}
 use Rattle.mw_recheck.proofs.text.behind.Goals as goal
 
 pub returns : goal.returns

@@ -2,7 +2,7 @@ use Rattle.mw_lex.specs.Tokens.{tokens_of}
 use Rattle.mw_grammar.specs.SurfaceTrees.{surface_of}
 use Rattle.mw_grammar.proofs.Sparse.{few_nodes}
 use Rattle.std.proofs.Common.{length}
-use Rattle.mw_script.proofs.Sourcing.{are_resolved, lexed_small}
+use Rattle.mw_script.proofs.CheckedPrograms.{are_resolved, lexed_small}
 use Rattle.mw_rows.proofs.programs.program.Goals as goal
 
 pub resolve-requires-clause-nodes : goal.resolve-requires-clause-nodes

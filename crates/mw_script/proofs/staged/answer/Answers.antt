@@ -1,6 +1,6 @@
 use Rattle.mw_term.specs.Programs.{program_of}
 use Rattle.mw_script.specs.Scripts.{functions_of}
-use Rattle.mw_script.proofs.Staging.{started_ready}
+use Rattle.mw_script.proofs.StartedMachines.{started_ready}
 use Rattle.mw_script.proofs.staged.answer.Goals as goal
 
 pub driven-ending-requires : goal.driven-ending-requires

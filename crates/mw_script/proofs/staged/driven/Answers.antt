@@ -1,7 +1,7 @@
 use Rattle.std.proofs.Common.{subst}
 use Rattle.mw_term.specs.Programs.{program_of}
 use Rattle.mw_script.specs.Starts.{HasItsCode}
-use Rattle.mw_script.proofs.Staging.{code_of_drive}
+use Rattle.mw_script.proofs.StartedMachines.{code_of_drive}
 use Rattle.mw_script.proofs.staged.driven.Goals as goal
 
 pub returns-in-Ok : goal.returns-in-Ok

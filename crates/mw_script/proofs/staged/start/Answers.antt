@@ -3,8 +3,8 @@ use Rattle.std.specs.List.{AllByRecursion}
 use Rattle.mw_term.specs.Programs.{definition_of, program_of}
 use Rattle.mw_machine.specs.Evaluations.{main, main_part}
 use Rattle.mw_script.specs.Starts.{IsBuilt}
-use Rattle.mw_script.proofs.Sourcing.{all_built}
-use Rattle.mw_script.proofs.Staging.{main_started}
+use Rattle.mw_script.proofs.CheckedPrograms.{all_built}
+use Rattle.mw_script.proofs.StartedMachines.{main_started}
 use Rattle.mw_script.proofs.staged.start.Goals as goal
 
 pub start-requires-clause-body : goal.start-requires-clause-body

@@ -1,7 +1,7 @@
 use Rattle.mw_term.specs.Terms.{expression_of, kernel_type_of}
 use Rattle.mw_machine.specs.Evaluations.{item, item_part}
-use Rattle.mw_script.proofs.Sourcing.{kernel_at}
-use Rattle.mw_script.proofs.Staging.{item_started}
+use Rattle.mw_script.proofs.CheckedPrograms.{kernel_at}
+use Rattle.mw_script.proofs.StartedMachines.{item_started}
 use Rattle.mw_script.proofs.staged.start_item.Goals as goal
 
 pub start-requires-clause-body : goal.start-requires-clause-body

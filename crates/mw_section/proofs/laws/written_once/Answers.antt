@@ -1,4 +1,4 @@
-use Rattle.mw_section.proofs.Again.{once}
+use Rattle.mw_section.proofs.RepeatedWrites.{once}
 use Rattle.mw_section.proofs.laws.written_once.Goals as goal
 
 pub returns : goal.returns

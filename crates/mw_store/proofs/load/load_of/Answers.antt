@@ -1,4 +1,4 @@
-use Rattle.mw_store.proofs.Loading.{all_taken}
+use Rattle.mw_store.proofs.RecordSequences.{all_taken}
 use Rattle.mw_store.proofs.load.load_of.Goals as goal
 
 pub returns : goal.returns

@@ -1,5 +1,5 @@
 use Rattle.std.proofs.Common.{◌∙◌, ◌++◌, ◌<◌, ◌^◌, ap, refl, sym, subst}
-use Rattle.mw_store.proofs.Cutting.{AreCut, cut_too_short, cut_before, cut_front, before}
+use Rattle.mw_store.proofs.RecordParts.{AreCut, cut_too_short, cut_before, cut_front, before}
 use Rattle.mw_store.proofs.parts.parts_of.Goals as goal
 
 pub returns-in_err-digest-clause-none : goal.returns-in_err-digest-clause-none

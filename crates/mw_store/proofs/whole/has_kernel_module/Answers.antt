@@ -2,7 +2,7 @@ use Rattle.std.proofs.Common.{subst}
 use Rattle.std.specs.Prelude.{MatchOption}
 use Rattle.mw_term.specs.Terms.{kernel_type_of}
 use Rattle.mw_store.specs.Whole.{IsTyped, NoText}
-use Rattle.mw_store.proofs.Shaped.{typed_in}
+use Rattle.mw_store.proofs.ModuleShapes.{typed_in}
 use Rattle.mw_store.proofs.whole.has_kernel_module.Goals as goal
 
 pub returns-in-Some : goal.returns-in-Some

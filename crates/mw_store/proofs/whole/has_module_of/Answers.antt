@@ -4,7 +4,7 @@ use Rattle.mw_term.specs.Terms.{kernel_type_of}
 use Rattle.mw_wasm.specs.Views.{module_of}
 use Rattle.mw_meaning.specs.Shapes.{HasShape}
 use Rattle.mw_store.specs.Whole.{IsSound, NoModule}
-use Rattle.mw_store.proofs.Shaped.{where_sound}
+use Rattle.mw_store.proofs.ModuleShapes.{where_sound}
 use Rattle.mw_store.proofs.whole.has_module_of.Goals as goal
 
 pub returns-in-Some : goal.returns-in-Some

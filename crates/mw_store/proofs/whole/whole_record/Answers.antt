@@ -1,7 +1,7 @@
 use Rattle.std.proofs.Common.{subst, arith}
 use Rattle.std.specs.Prelude.{MatchBool}
 use Rattle.mw_store.specs.Whole.{HasKernelModule, NoKernelModule}
-use Rattle.mw_store.proofs.Wholes.{too_long, damaged, no_module, whole_begins, parts_length}
+use Rattle.mw_store.proofs.WholeRecords.{too_long, damaged, no_module, whole_begins, parts_length}
 use Rattle.mw_store.proofs.whole.whole_record.Goals as goal
 
 pub returns-then-len-room : goal.returns-then-len-room

@@ -2,7 +2,7 @@ use Rattle.std.proofs.Common.{sym, subst}
 use Rattle.mw_slots.specs.Receipts.{IsFetched}
 use Rattle.mw_key.specs.CanonicalText.{home}
 use Rattle.mw_cache.specs.Gots.{entry_text, IsAnswered}
-use Rattle.mw_tasks.proofs.Stored.{all_pushed}
+use Rattle.mw_tasks.proofs.ModuleReceipts.{all_pushed}
 use Rattle.mw_tasks.proofs.entry_phase.add_receipt.Goals as goal
 
 pub returns-in_ok-again-in-Stored-clause-fetched : goal.returns-in_ok-again-in-Stored-clause-fetched

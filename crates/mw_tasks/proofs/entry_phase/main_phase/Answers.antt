@@ -11,7 +11,7 @@ use Rattle.mw_tasks.specs.Phases.{codes_in, stored_texts}
 use Rattle.mw_tasks.specs.RightRuns.{AreRightRuns}
 use Rattle.mw_tasks.specs.TaskOutcomes.{IsMainAnswer}
 use Rattle.mw_tasks.proofs.AllItems.{all_answered}
-use Rattle.mw_tasks.proofs.Stored.{codes_are, hinted_by, hinted_as, of_same}
+use Rattle.mw_tasks.proofs.ModuleReceipts.{codes_are, hinted_by, hinted_as, of_same}
 use Rattle.mw_tasks.proofs.entry_phase.main_phase.Goals as goal
 
 pub stored_receipts-requires : goal.stored_receipts-requires

@@ -2,7 +2,7 @@ use Rattle.std.proofs.Common.{refl}
 use Rattle.mw_term.specs.Terms.{expression_of}
 use Rattle.mw_term.specs.Programs.{program_of}
 use Rattle.mw_machine.specs.Evaluations.{item}
-use Rattle.mw_tasks.proofs.Evaluating.{named, ready, no_fault, typed, ends_as, costs, fails_as, fault_is}
+use Rattle.mw_tasks.proofs.MachineEvaluation.{named, ready, no_fault, typed, ends_as, costs, fails_as, fault_is}
 use Rattle.mw_tasks.proofs.evaluation.evaluate.Goals as goal
 
 pub drive-requires : goal.drive-requires

@@ -3,8 +3,9 @@ use Rattle.mw_term.specs.Programs.{program_of}
 use Rattle.mw_meaning.specs.Outcomes.{names_of_main}
 use Rattle.mw_machine.specs.CodesInPlace.{expressions_of, built_program}
 use Rattle.mw_machine.specs.Evaluations.{main}
-use Rattle.mw_tasks.proofs.Evaluating.{built_has_names, ready, no_fault, typed, ends_as, costs, fails_as, fault_is}
-use Rattle.mw_tasks.proofs.Evaluating.{main_outcome_typed}
+use Rattle.mw_tasks.proofs.MachineEvaluation.{built_has_names, ready, no_fault, typed, ends_as, costs, fails_as}
+use Rattle.mw_tasks.proofs.MachineEvaluation.{fault_is}
+use Rattle.mw_tasks.proofs.MachineEvaluation.{main_outcome_typed}
 use Rattle.mw_tasks.proofs.evaluation.evaluate_with_codes.Goals as goal
 
 pub drive-requires : goal.drive-requires

@@ -2,7 +2,7 @@ use Rattle.std.proofs.Common.{Some, ap, ◌∙◌}
 use Rattle.mw_term.specs.Terms.{expression_of, kernel_type_of}
 use Rattle.mw_term.specs.Programs.{program_of, definition_of}
 use Rattle.mw_tasks.proofs.Items.{defined_there}
-use Rattle.mw_tasks.proofs.Walks.{kernel_noted, let_noted}
+use Rattle.mw_tasks.proofs.ListWalks.{kernel_noted, let_noted}
 use Rattle.mw_tasks.proofs.items_phase.kernel_numbers.Goals.{in-Kernel+in_ok-push-in-Kernel, in-Value}
 use Rattle.mw_tasks.proofs.items_phase.kernel_numbers.Goals as goal
 

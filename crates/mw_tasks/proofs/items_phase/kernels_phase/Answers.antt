@@ -4,7 +4,7 @@ use denote.Param.Send.{arg_sync, param_sync}
 use Rattle.mw_term.specs.Programs.{program_of}
 use Rattle.mw_meaning.specs.Outcomes.{names_of_items}
 use Rattle.mw_tasks.specs.Phases.{IsDoneAt, kernel_numbers}
-use Rattle.mw_tasks.proofs.Placing.{IsTakenFrom, all_right}
+use Rattle.mw_tasks.proofs.WorkerResults.{IsTakenFrom, all_right}
 use Rattle.mw_tasks.proofs.AllItems.{numbered_tasks, all_outcomes, all_answered, all_received, all_of_table}
 use Rattle.mw_tasks.proofs.AllItems.{all_emitted}
 use Rattle.mw_tasks.proofs.items_phase.kernels_phase.Given.{Over}

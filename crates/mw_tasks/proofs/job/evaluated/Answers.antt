@@ -2,7 +2,7 @@ use Rattle.std.proofs.Common.{ap, ◌∙◌}
 use Rattle.mw_term.specs.Programs.{program_of}
 use Rattle.mw_cached.specs.FunctionStates.{FunctionState}
 use Rattle.mw_cache.specs.Hints.{HintedState}
-use Rattle.mw_tasks.proofs.Doing.{left_done}
+use Rattle.mw_tasks.proofs.ItemWork.{left_done}
 use Rattle.mw_tasks.proofs.job.evaluated.Goals as goal
 
 pub returns-clause-done : goal.returns-clause-done

@@ -4,7 +4,7 @@ use Rattle.mw_meaning.specs.StagedMeaning.{runs}
 use Rattle.mw_meaning.specs.Outcomes.{names_of_items}
 use Rattle.mw_machine.specs.Evaluations.{item, term_of}
 use Rattle.mw_cached.specs.Following.{standing}
-use Rattle.mw_tasks.proofs.Counting.{prices_are}
+use Rattle.mw_tasks.proofs.RunCosts.{prices_are}
 use Rattle.mw_tasks.proofs.BadAnswers.{bad_item_runs, bad_item}
 use Rattle.mw_tasks.proofs.job.evaluated_in.Goals as goal
 

@@ -1,7 +1,7 @@
 use Rattle.mw_term.specs.Terms.{kernel_type_of}
 use Rattle.mw_term.specs.Programs.{program_of}
 use Rattle.mw_cached.specs.Following.{standing}
-use Rattle.mw_tasks.proofs.Doing.{code_runs, code_finished, trap_finished, bound_finished}
+use Rattle.mw_tasks.proofs.ItemWork.{code_runs, code_finished, trap_finished, bound_finished}
 use Rattle.mw_tasks.proofs.job.placed_outcome.Goals as goal
 
 pub obtain-requires : goal.obtain-requires

@@ -5,7 +5,7 @@ use Rattle.mw_term.specs.Programs.{program_of}
 use Rattle.mw_machine.proofs.Lists.{all_at}
 use Rattle.mw_tasks.specs.Phases.{IsTask}
 use Rattle.mw_tasks.specs.Taking.{IsDoneIn}
-use Rattle.mw_tasks.proofs.Placing.{taken_more}
+use Rattle.mw_tasks.proofs.WorkerResults.{taken_more}
 use Rattle.mw_tasks.proofs.job.taken_by_one.Goals as goal
 
 pub evaluated_alone-requires : goal.evaluated_alone-requires

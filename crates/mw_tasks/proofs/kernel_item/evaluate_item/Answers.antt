@@ -1,6 +1,6 @@
 use Rattle.mw_term.specs.Programs.{program_of}
 use Rattle.mw_tasks.proofs.Answers.{item_code, item_trap, item_bound, item_fails, item_typed, item_no_value}
-use Rattle.mw_tasks.proofs.Evaluating.{item_has_names}
+use Rattle.mw_tasks.proofs.MachineEvaluation.{item_has_names}
 use Rattle.mw_tasks.proofs.kernel_item.evaluate_item.Goals as goal
 
 pub evaluate-requires-clause-body : goal.evaluate-requires-clause-body

@@ -1,4 +1,4 @@
-use Rattle.mw_tasks.proofs.Crossing.{done_send}
+use Rattle.mw_tasks.proofs.SendSync.{done_send}
 use Rattle.mw_tasks.proofs.laws.done_crosses.Goals as goal
 
 pub returns : goal.returns

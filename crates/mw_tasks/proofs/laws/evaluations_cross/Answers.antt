@@ -1,4 +1,4 @@
-use Rattle.mw_tasks.proofs.Crossing.{evaluation_sync}
+use Rattle.mw_tasks.proofs.SendSync.{evaluation_sync}
 use Rattle.mw_tasks.proofs.laws.evaluations_cross.Goals as goal
 
 pub returns : goal.returns

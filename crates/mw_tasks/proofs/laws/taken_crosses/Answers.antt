@@ -1,4 +1,4 @@
-use Rattle.mw_tasks.proofs.Crossing.{taken_send}
+use Rattle.mw_tasks.proofs.SendSync.{taken_send}
 use Rattle.mw_tasks.proofs.laws.taken_crosses.Goals as goal
 
 pub returns : goal.returns

@@ -1,6 +1,6 @@
 use Rattle.std.proofs.Common.{sym, ◌∙◌, arith}
 use Rattle.mw_tasks.specs.Taking.{IsDoneIn}
-use Rattle.mw_tasks.proofs.Placing.{has_place, one_found, one_cleared, one_more}
+use Rattle.mw_tasks.proofs.WorkerResults.{has_place, one_found, one_cleared, one_more}
 use Rattle.mw_tasks.proofs.places.completed.Goals.{in-Some, in-None+in_ok-done-in-None}
 use Rattle.mw_tasks.proofs.places.completed.Goals as goal
 

@@ -2,7 +2,7 @@ use Rattle.std.proofs.lemmas.List.Elements.{All-same}
 use Rattle.std.specs.List.{All}
 use Rattle.std.specs.Vec.Iter.{into_iter_items}
 use Rattle.mw_tasks.specs.Taking.{IsDoneIn, IsTakenIn}
-use Rattle.mw_tasks.proofs.Placing.{first_and_rest, all_empty}
+use Rattle.mw_tasks.proofs.WorkerResults.{first_and_rest, all_empty}
 use Rattle.mw_tasks.proofs.places.in_order.Goals as goal
 
 pub loop-some-init : goal.loop-some-init

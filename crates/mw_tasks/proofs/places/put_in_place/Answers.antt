@@ -2,7 +2,7 @@ use Rattle.std.proofs.Common.{arith}
 use Rattle.std.proofs.lemmas.List.Elements.{All-same}
 use Rattle.std.specs.Vec.Iter.{into_iter_items}
 use Rattle.mw_tasks.specs.Taking.{IsDoneIn, IsTakenIn}
-use Rattle.mw_tasks.proofs.Placing.{next_has_place, next_put}
+use Rattle.mw_tasks.proofs.WorkerResults.{next_has_place, next_put}
 use Rattle.mw_tasks.proofs.places.put_in_place.Goals as goal
 
 pub loop-at-init : goal.loop-at-init

@@ -1,4 +1,4 @@
-use Rattle.mw_lines.proofs.Held.{reading_known, still_reading}
+use Rattle.mw_lines.proofs.StoredLines.{reading_known, still_reading}
 use Rattle.mw_tests.proofs.lines.read.Goals as goal
 
 pub loop-line-init : goal.loop-line-init

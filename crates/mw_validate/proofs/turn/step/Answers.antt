@@ -5,7 +5,7 @@ use Rattle.mw_validate.specs.Frames.{inside}
 use Rattle.mw_validate.specs.Turns.{context_in, waitings_of}
 use Rattle.mw_validate.specs.Lists.{operands_of, Leaves}
 use Rattle.mw_validate.specs.Effects.{selected}
-use Rattle.mw_validate.proofs.Turning.{block_turn, loop_turn, if_turn, if_failed, failed_turn}
+use Rattle.mw_validate.proofs.CheckTurns.{block_turn, loop_turn, if_turn, if_failed, failed_turn}
 use Rattle.mw_validate.proofs.turn.step.Goals as goal
 
 pub returns-then-not-pop : goal.returns-then-not-pop

@@ -2,7 +2,7 @@ use Rattle.std.proofs.Common.{subst}
 use Rattle.mw_wasm.specs.Views.{module_of, function_of}
 use Rattle.mw_validate.specs.Checks.{PartsPass, PassesBody}
 use Rattle.mw_validate.specs.Deciding.{NoneWhere, FirstFailing}
-use Rattle.mw_validate.proofs.Mapped.{kept, refused}
+use Rattle.mw_validate.proofs.MappedElements.{kept, refused}
 use Rattle.mw_validate.proofs.validation.first_fault.Goals as goal
 
 pub returns-in-Some-2 : goal.returns-in-Some-2

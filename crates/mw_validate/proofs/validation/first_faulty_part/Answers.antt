@@ -4,7 +4,7 @@ use Rattle.mw_wasm.specs.Syntax.{Exporting}
 use Rattle.mw_wasm.specs.Views.{module_of, global_of, export_of, element_of, segment_of}
 use Rattle.mw_wasm.specs.Validity.{IsThere, IsValidElement, IsValidData, NamesDiffer}
 use Rattle.mw_validate.specs.Deciding.{Decides, FewResults, InitFits}
-use Rattle.mw_validate.proofs.Mapped.{kept, refused}
+use Rattle.mw_validate.proofs.MappedElements.{kept, refused}
 use Rattle.mw_validate.proofs.validation.first_faulty_part.Goals as goal
 
 pub returns-in-Some-first_failing_global : goal.returns-in-Some-first_failing_global

@@ -2,8 +2,8 @@ use Rattle.std.proofs.Common.{subst}
 use Rattle.mw_wasm.specs.Views.{module_of}
 use Rattle.mw_validate.specs.Checks.{Checks}
 use Rattle.mw_validate.specs.Deciding.{NoneWhere}
-use Rattle.mw_validate.proofs.Sound.{checked_valid}
-use Rattle.mw_validate.proofs.Complete.{valid_checked}
+use Rattle.mw_validate.proofs.Soundness.{checked_valid}
+use Rattle.mw_validate.proofs.Completeness.{valid_checked}
 use Rattle.mw_validate.proofs.validation.validate.Goals as goal
 
 pub sure-requires : goal.sure-requires

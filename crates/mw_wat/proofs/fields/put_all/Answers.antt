@@ -1,6 +1,6 @@
 use Rattle.std.proofs.Common.{ap, ◌∙◌, ◌++◌}
 use Rattle.mw_wat.specs.CanonicalTexts.{line}
-use Rattle.mw_wat.proofs.Appending.{left_step, left_end}
+use Rattle.mw_wat.proofs.TextParts.{left_step, left_end}
 use Rattle.mw_wat.proofs.FieldTexts.{lines_of}
 use Rattle.mw_wat.proofs.fields.put_all.Goals as goal
 

@@ -2,7 +2,7 @@ use Rattle.std.proofs.Common.{refl, ap, sym, ◌∙◌, ◌++◌, ◌∷◌, [],
 use Rattle.mw_wat.specs.Names.{type_name}
 use Rattle.mw_wat.specs.Lexemes.{word}
 use Rattle.mw_wat.specs.Spacing.{spaced}
-use Rattle.mw_wat.proofs.Appending.{left_step, left_end, spaced_map}
+use Rattle.mw_wat.proofs.TextParts.{left_step, left_end, spaced_map}
 use Rattle.mw_wat.proofs.fields.put_names_of_types.Goals as goal
 
 pub loop-kind-preserved : goal.loop-kind-preserved

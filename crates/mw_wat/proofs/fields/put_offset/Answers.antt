@@ -2,7 +2,7 @@ use Rattle.std.proofs.Common.{refl, [], ◌∷◌}
 use Rattle.std.specs.Prelude.{codes}
 use Rattle.mw_wasm.specs.Views.{code_of}
 use Rattle.mw_wat.specs.Lexemes.{left, right, word, code}
-use Rattle.mw_wat.proofs.Appending.{then_spaced, last_spaced}
+use Rattle.mw_wat.proofs.TextParts.{then_spaced, last_spaced}
 use Rattle.mw_wat.proofs.InstructionTexts.{code_closed}
 use Rattle.mw_wat.proofs.fields.put_offset.Goals as goal
 

@@ -1,7 +1,7 @@
 use Rattle.std.proofs.Common.{refl, [], ◌∷◌, map, arith}
 use Rattle.mw_wat.specs.Names.{type_name}
 use Rattle.mw_wat.specs.Lexemes.{left, right, word}
-use Rattle.mw_wat.proofs.Appending.{each_closed, then_spaced, last_spaced, as_spaced}
+use Rattle.mw_wat.proofs.TextParts.{each_closed, then_spaced, last_spaced, as_spaced}
 use Rattle.mw_wat.proofs.FieldTexts.{types_some}
 use Rattle.mw_wat.proofs.fields.put_types.Goals as goal
 

@@ -4,7 +4,7 @@ use Rattle.mw_wasm.specs.BinaryModules.{at_most_one}
 use Rattle.mw_wasm.specs.Views.{code_of, list_code}
 use Rattle.mw_wat.specs.Lexemes.{word, types_behind, code, otherwise}
 use Rattle.mw_wat.specs.Spacing.{spaced}
-use Rattle.mw_wat.proofs.Appending.{types_closed, both_closed, then_spaced, last_spaced, as_spaced, left_step, left_end}
+use Rattle.mw_wat.proofs.TextParts.{types_closed, both_closed, then_spaced, last_spaced, as_spaced, left_step, left_end}
 use Rattle.mw_wat.proofs.InstructionTexts.{list_lexemes, list_closed, otherwise_closed, otherwise_some}
 use Rattle.mw_wat.proofs.InstructionTexts.{instruction_text, code_text, block_lexemes, loop_lexemes, cond_lexemes}
 use Rattle.mw_wat.proofs.instructions.+put.Goals as goal

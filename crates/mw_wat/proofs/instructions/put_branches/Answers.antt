@@ -1,7 +1,7 @@
 use Rattle.std.proofs.Common.{refl, [], ◌∷◌, map}
 use Rattle.std.specs.Prelude.{codes}
 use Rattle.mw_wat.specs.Lexemes.{word, number}
-use Rattle.mw_wat.proofs.Appending.{each_closed, then_spaced, last_spaced}
+use Rattle.mw_wat.proofs.TextParts.{each_closed, then_spaced, last_spaced}
 use Rattle.mw_wat.proofs.instructions.put_branches.Goals as goal
 
 pub returns : goal.returns

@@ -1,5 +1,5 @@
 use Rattle.std.proofs.Common.{arith}
-use Rattle.mw_wat.proofs.Appending.{digit_end}
+use Rattle.mw_wat.proofs.TextParts.{digit_end}
 use Rattle.mw_wat.proofs.pieces.+put_decimal.Goals as goal
 
 pub returns : goal.returns

@@ -1,7 +1,7 @@
 use Rattle.std.proofs.Common.{refl, ap, sym, ◌∙◌, ◌++◌, ◌∷◌, [], map}
 use Rattle.mw_wat.specs.Lexemes.{number}
 use Rattle.mw_wat.specs.Spacing.{spaced}
-use Rattle.mw_wat.proofs.Appending.{left_step, left_end, spaced_map}
+use Rattle.mw_wat.proofs.TextParts.{left_step, left_end, spaced_map}
 use Rattle.mw_wat.proofs.pieces.put_numbers.Goals as goal
 
 pub loop-index-preserved : goal.loop-index-preserved

@@ -2,7 +2,7 @@ use Rattle.std.proofs.Common.{refl, ap, ◌∙◌, ◌++◌}
 use Rattle.std.specs.Prelude.{codes}
 use Rattle.std.specs.List.{flat_map}
 use Rattle.mw_wat.specs.CanonicalTexts.{escaped}
-use Rattle.mw_wat.proofs.Appending.{left_step, left_end, string_end}
+use Rattle.mw_wat.proofs.TextParts.{left_step, left_end, string_end}
 use Rattle.mw_wat.proofs.pieces.put_octets.Goals as goal
 
 pub loop-byte-init : goal.loop-byte-init

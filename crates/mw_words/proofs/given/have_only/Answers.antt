@@ -4,8 +4,8 @@ use Rattle.mw_words.specs.Words.{is_taken, word_in}
 use Rattle.mw_words.specs.Gathered.{part_in}
 use Rattle.mw_words.proofs.Items.{no_item, some_text, on_err}
 use Rattle.mw_words.proofs.PartLemmas.{fewer_items}
-use Rattle.mw_words.proofs.Passing.{here, passes_more, passes_all, stuck_is_none, next_is}
-use Rattle.mw_words.proofs.Picking.{one_fails, not_none}
+use Rattle.mw_words.proofs.ReadParts.{here, passes_more, passes_all, stuck_is_none, next_is}
+use Rattle.mw_words.proofs.PartSelection.{one_fails, not_none}
 use Rattle.mw_words.proofs.given.have_only.Goals as goal
 
 pub loop-rest-init : goal.loop-rest-init

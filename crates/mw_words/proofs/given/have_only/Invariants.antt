@@ -1,7 +1,7 @@
 use Rattle.std.proofs.Common.{map, List, length}
 use Rattle.std.specs.String.{string_bytes}
 use Rattle.mw_words.specs.Words.{PurePart, HaveOnly, word_in}
-use Rattle.mw_words.proofs.Passing.{Passes}
+use Rattle.mw_words.proofs.ReadParts.{Passes}
 use Rattle.mw_words.proofs.given.have_only.Given as goal
 
 -- parts have been read, and each option among them is one of these

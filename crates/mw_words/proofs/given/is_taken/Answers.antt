@@ -1,5 +1,5 @@
 use Rattle.std.proofs.Common.{◌∙◌}
-use Rattle.mw_words.proofs.Picking.{any_mapped}
+use Rattle.mw_words.proofs.PartSelection.{any_mapped}
 use Rattle.mw_words.proofs.given.is_taken.Goals as goal
 
 pub returns-in-Named : goal.returns-in-Named

@@ -2,7 +2,7 @@ use Rattle.std.proofs.Common.{◌∙◌, ap, option_map, option_to_list, Some}
 use Rattle.mw_words.specs.Words.{option, not_named, word_in}
 use Rattle.mw_words.specs.Gathered.{part_in}
 use Rattle.mw_words.proofs.Items.{then_ok}
-use Rattle.mw_words.proofs.Picking.{once_named}
+use Rattle.mw_words.proofs.PartSelection.{once_named}
 use Rattle.mw_words.proofs.given.number_of.Goals as goal
 
 pub returns-in-None-clause-ok : goal.returns-in-None-clause-ok

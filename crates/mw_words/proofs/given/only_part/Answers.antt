@@ -5,8 +5,8 @@ use Rattle.mw_words.specs.Words.{PurePart, is_named, parts_named, word_in}
 use Rattle.mw_words.specs.Gathered.{part_in}
 use Rattle.mw_words.proofs.Items.{no_item, some_text, none_listed, some_listed, on_err}
 use Rattle.mw_words.proofs.PartLemmas.{fewer_items}
-use Rattle.mw_words.proofs.Passing.{here, passes_more, passes_all, stuck_is_none, next_is, same_parts}
-use Rattle.mw_words.proofs.Picking.{one_fails, one_passes, two_pass}
+use Rattle.mw_words.proofs.ReadParts.{here, passes_more, passes_all, stuck_is_none, next_is, same_parts}
+use Rattle.mw_words.proofs.PartSelection.{one_fails, one_passes, two_pass}
 use Rattle.mw_words.proofs.given.only_part.Goals as goal
 
 pub loop-rest-init : goal.loop-rest-init

@@ -2,7 +2,7 @@ use Rattle.std.proofs.Common.{◌≡◌, map, option_map, option_to_list, List, 
 use Rattle.std.specs.String.{string_bytes}
 use Rattle.mw_words.specs.Words.{PurePart, parts_named, word_in}
 use Rattle.mw_words.specs.Gathered.{part_in}
-use Rattle.mw_words.proofs.Passing.{Passes}
+use Rattle.mw_words.proofs.ReadParts.{Passes}
 use Rattle.mw_words.proofs.given.only_part.Given as goal
 
 -- parts have been read, and of this name the one that was found

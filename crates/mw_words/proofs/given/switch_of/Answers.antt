@@ -1,7 +1,7 @@
 use Rattle.std.proofs.Common.{◌∙◌, ap, option_map, option_to_list, Some}
 use Rattle.mw_words.specs.Words.{option, off, word_in}
 use Rattle.mw_words.specs.Gathered.{part_in}
-use Rattle.mw_words.proofs.Picking.{once_on}
+use Rattle.mw_words.proofs.PartSelection.{once_on}
 use Rattle.mw_words.proofs.given.switch_of.Goals as goal
 
 pub returns-in-None-clause-ok : goal.returns-in-None-clause-ok

@@ -1,7 +1,7 @@
 use Rattle.std.proofs.Common.{◌∙◌, ap, option_map, option_to_list, Some}
 use Rattle.mw_words.specs.Words.{option, without_word, word_in}
 use Rattle.mw_words.specs.Gathered.{part_in}
-use Rattle.mw_words.proofs.Picking.{once_worded}
+use Rattle.mw_words.proofs.PartSelection.{once_worded}
 use Rattle.mw_words.proofs.given.word_of.Goals as goal
 
 pub returns-in-None-clause-ok : goal.returns-in-None-clause-ok

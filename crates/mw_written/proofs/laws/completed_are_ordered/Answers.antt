@@ -1,4 +1,4 @@
-use Rattle.mw_written.proofs.Completing.{completed_ordered}
+use Rattle.mw_written.proofs.CompletedTypes.{completed_ordered}
 use Rattle.mw_written.proofs.laws.completed_are_ordered.Goals as goal
 
 pub returns : goal.returns

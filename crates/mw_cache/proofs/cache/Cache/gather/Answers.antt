@@ -1,8 +1,8 @@
 use Rattle.std.proofs.Common.{◌++◌, ◌∷◌, [], map, position, sym, ap, subst, ◌∙◌}
 use Rattle.std.specs.Str.{bytes_eq}
 use Rattle.mw_cache.specs.Gathering.{kept_at, IsGathered}
-use Rattle.mw_cache.proofs.Finding.{loaded, unloaded}
-use Rattle.mw_cache.proofs.Gathering.{gathered_with, gathered_loaded}
+use Rattle.mw_cache.proofs.LoadedTexts.{loaded, unloaded}
+use Rattle.mw_cache.proofs.ModuleMap.{gathered_with, gathered_loaded}
 use Rattle.mw_cache.proofs.cache.Cache.gather.Goals as goal
 
 pub returns-in_ok-insert : goal.returns-in_ok-insert

@@ -1,5 +1,5 @@
-use Rattle.mw_cache.proofs.Finding.{loaded_at}
-use Rattle.mw_cache.proofs.Gathering.{gathered_loaded}
+use Rattle.mw_cache.proofs.LoadedTexts.{loaded_at}
+use Rattle.mw_cache.proofs.ModuleMap.{gathered_loaded}
 use Rattle.mw_cache.proofs.cache.Cache.gather_got.Goals as goal
 
 pub returns-in-Loaded : goal.returns-in-Loaded

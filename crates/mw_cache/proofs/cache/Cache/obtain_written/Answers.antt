@@ -1,6 +1,6 @@
 use Rattle.std.proofs.Common.{position, ap, ◌∙◌}
 use Rattle.std.specs.Str.{bytes_eq}
-use Rattle.mw_cache.proofs.Finding.{text_found, is_loaded, nowhere, unloaded_got}
+use Rattle.mw_cache.proofs.LoadedTexts.{text_found, is_loaded, nowhere, unloaded_got}
 use Rattle.mw_cache.proofs.cache.Cache.obtain_written.Goals as goal
 
 pub returns-in-Some-clause-text : goal.returns-in-Some-clause-text

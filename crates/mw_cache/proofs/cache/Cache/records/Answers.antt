@@ -2,7 +2,7 @@ use Rattle.std.proofs.Common.{◌++◌, ◌∷◌, [], map, take, sym, ap, subst
 use Rattle.std.proofs.lemmas.List.{take_all}
 use Rattle.mw_cache.specs.Gots.{texts_of, text_in, entry_text, IsHere}
 use Rattle.mw_cache.specs.Gathering.{kept_at, IsGathered}
-use Rattle.mw_cache.proofs.Gathering.{map_more, all_short, records_are}
+use Rattle.mw_cache.proofs.ModuleMap.{map_more, all_short, records_are}
 use Rattle.mw_cache.proofs.cache.Cache.records.Goals as goal
 
 pub loop-receipt-preserved : goal.loop-receipt-preserved

@@ -3,7 +3,7 @@ use Rattle.std.specs.Prelude.{IsNone}
 use Rattle.std.proofs.lemmas.Option.{IfSome_then}
 use Rattle.mw_cache.specs.Gots.{IsLoadedText, loaded_texts}
 use Rattle.mw_cache.specs.Hints.{price_beside}
-use Rattle.mw_cache.proofs.Hinting.{price_is}
+use Rattle.mw_cache.proofs.ReceiptTexts.{price_is}
 use Rattle.mw_cache.proofs.hinted.HintedCache.obtain.Goals as goal
 
 pub returns-clause-price : goal.returns-clause-price

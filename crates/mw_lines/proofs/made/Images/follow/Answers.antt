@@ -1,7 +1,7 @@
 use Rattle.std.proofs.Common.{None, sym, ◌∙◌, arith}
 use Rattle.std.proofs.lemmas.Result.{IfOk-weaker}
 use Rattle.mw_lines.specs.TypeLines.{line_of}
-use Rattle.mw_lines.proofs.Finding.{read, parts_within, adds_image, refuses_image, refuses_past}
+use Rattle.mw_lines.proofs.ImageSearch.{read, parts_within, adds_image, refuses_image, refuses_past}
 use Rattle.mw_lines.proofs.made.Images.follow.Goals as goal
 
 pub returns-in_default-get-2-clause-refused : goal.returns-in_default-get-2-clause-refused

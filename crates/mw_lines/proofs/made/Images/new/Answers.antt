@@ -1,6 +1,6 @@
 use Rattle.std.proofs.Common.{◌≡◌, subst, arith}
-use Rattle.mw_lines.proofs.Finding.{AreBlank}
-use Rattle.mw_lines.proofs.Finding.{no_blanks, blank_more, first_image}
+use Rattle.mw_lines.proofs.ImageSearch.{AreBlank}
+use Rattle.mw_lines.proofs.ImageSearch.{no_blanks, blank_more, first_image}
 use Rattle.mw_lines.proofs.made.Images.new.Goals as goal
 
 pub loop-line-init : goal.loop-line-init

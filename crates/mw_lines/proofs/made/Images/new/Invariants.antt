@@ -1,4 +1,4 @@
-use Rattle.mw_lines.proofs.Finding.{AreBlank}
+use Rattle.mw_lines.proofs.ImageSearch.{AreBlank}
 use Rattle.mw_lines.proofs.made.Images.new.Given as goal
 
 abbrev pub invariant-loop-line : goal.invariant-loop-line

@@ -1,5 +1,5 @@
 use Rattle.std.proofs.Common.{None, ◌∙◌}
-use Rattle.mw_lines.proofs.Finding.{read, refuses_other}
+use Rattle.mw_lines.proofs.ImageSearch.{read, refuses_other}
 use Rattle.mw_lines.proofs.made.Images.set.Goals as goal
 
 pub returns-in-Some-clause-refused : goal.returns-in-Some-clause-refused

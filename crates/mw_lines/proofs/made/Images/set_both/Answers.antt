@@ -1,5 +1,5 @@
 use Rattle.std.proofs.Common.{ℕ, ◌+◌, ◌≡◌, Option, Some, arith}
-use Rattle.mw_lines.proofs.Finding.{adds_two}
+use Rattle.mw_lines.proofs.ImageSearch.{adds_two}
 use Rattle.mw_lines.proofs.made.Images.set_both.Goals as goal
 
 pub returns-then-not-set-clause-refused : goal.returns-then-not-set-clause-refused

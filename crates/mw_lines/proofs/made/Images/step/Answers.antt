@@ -1,5 +1,5 @@
 use Rattle.std.proofs.Common.{ℕ, ◌+◌, ◌≡◌, Option, Some, arith}
-use Rattle.mw_lines.proofs.Finding.{adds_as}
+use Rattle.mw_lines.proofs.ImageSearch.{adds_as}
 use Rattle.mw_lines.proofs.made.Images.step.Goals as goal
 
 pub returns-in-Pair-image-clause-added : goal.returns-in-Pair-image-clause-added

@@ -1,6 +1,6 @@
 use Rattle.std.proofs.Common.{sym, ◌∙◌, ap, ◌∷◌, [], ◌++◌}
-use Rattle.mw_lines.proofs.Naming.{not-false}
-use Rattle.mw_lines.proofs.Held.{push_reading}
+use Rattle.mw_lines.proofs.NamedTypes.{not-false}
+use Rattle.mw_lines.proofs.StoredLines.{push_reading}
 use Rattle.mw_lines.proofs.table.LineReader.push.Goals as goal
 
 pub returns-clause-added : goal.returns-clause-added

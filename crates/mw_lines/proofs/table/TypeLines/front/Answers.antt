@@ -1,4 +1,4 @@
-use Rattle.mw_lines.proofs.Held.{front_lines, front_held}
+use Rattle.mw_lines.proofs.StoredLines.{front_lines, front_held}
 use Rattle.mw_lines.proofs.table.TypeLines.front.Goals as goal
 
 pub returns-clause-lines : goal.returns-clause-lines

@@ -1,5 +1,5 @@
 use Rattle.std.proofs.Common.{sym, ◌∙◌}
-use Rattle.mw_section.proofs.Held.{number_found, number_put, number_more}
+use Rattle.mw_section.proofs.WriterContents.{number_found, number_put, number_more}
 use Rattle.mw_section.proofs.numbers.Numbers.put.Goals as goal
 
 pub returns-in-Some : goal.returns-in-Some

@@ -1,5 +1,5 @@
 use Rattle.std.proofs.Common.{sym, ◌∙◌}
-use Rattle.mw_section.proofs.Held.{line_found, line_put}
+use Rattle.mw_section.proofs.WriterContents.{line_found, line_put}
 use Rattle.mw_section.proofs.table.LineTable.put.Goals as goal
 
 pub returns-in-Some : goal.returns-in-Some

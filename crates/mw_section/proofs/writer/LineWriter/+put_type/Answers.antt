@@ -4,7 +4,7 @@ use Rattle.mw_types.specs.Types.{pair_ty, function_ty, code_ty, closed_ty, type_
 use Rattle.mw_lines.specs.TypeLines.{unknown_line, pair_line, arrow_line, code_line, closed_line}
 use Rattle.mw_section.specs.Writing.{type_written, classifier_written}
 use Rattle.mw_section.specs.Writers.{unknown_written}
-use Rattle.mw_section.proofs.Held.{puts_one, puts_two}
+use Rattle.mw_section.proofs.WriterContents.{puts_one, puts_two}
 use Rattle.mw_section.proofs.writer.LineWriter.+put_type.Goals as goal
 
 pub returns-in-Int : goal.returns-in-Int

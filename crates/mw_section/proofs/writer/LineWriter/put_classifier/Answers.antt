@@ -1,5 +1,5 @@
 use Rattle.std.proofs.lemmas.Result.{IfOk-weaker}
-use Rattle.mw_section.proofs.Held.{puts_classifier}
+use Rattle.mw_section.proofs.WriterContents.{puts_classifier}
 use Rattle.mw_section.proofs.writer.LineWriter.put_classifier.Goals as goal
 
 pub returns : goal.returns

@@ -1,6 +1,6 @@
 use Rattle.std.proofs.lemmas.Result.{IfOk-weaker}
 use Rattle.mw_lines.specs.TypeLines.{line_of}
-use Rattle.mw_section.proofs.Held.{puts_line}
+use Rattle.mw_section.proofs.WriterContents.{puts_line}
 use Rattle.mw_section.proofs.writer.LineWriter.put_line.Goals as goal
 
 pub returns : goal.returns

@@ -1,6 +1,6 @@
 use Rattle.std.proofs.Common.{sym}
 use Rattle.mw_types.specs.Types.{type_of}
-use Rattle.mw_section.proofs.Held.{tree_found, tree_put}
+use Rattle.mw_section.proofs.WriterContents.{tree_found, tree_put}
 use Rattle.mw_section.proofs.writer.LineWriter.put_tree.Goals as goal
 
 pub returns-in-Some : goal.returns-in-Some

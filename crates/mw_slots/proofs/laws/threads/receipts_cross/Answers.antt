@@ -1,4 +1,4 @@
-use Rattle.mw_slots.proofs.Sending.{receipt_send, receipt_sync, receipts_send, receipts_sync}
+use Rattle.mw_slots.proofs.SendSync.{receipt_send, receipt_sync, receipts_send, receipts_sync}
 use Rattle.mw_slots.specs.contracts.laws.threads.receipts_cross.{E-row}
 use Rattle.mw_slots.proofs.laws.threads.receipts_cross.Goals as goal
 

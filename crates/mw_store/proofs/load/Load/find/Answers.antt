@@ -1,6 +1,6 @@
 use Rattle.std.proofs.Common.{◌∙◌, ap, position}
 use Rattle.std.specs.Str.{bytes_eq}
-use Rattle.mw_store.proofs.Entries.{same_place}
+use Rattle.mw_store.proofs.MapEntries.{same_place}
 use Rattle.mw_store.proofs.load.Load.find.Goals as goal
 
 pub returns-in_err-at : goal.returns-in_err-at

@@ -5,7 +5,7 @@ use Rattle.std.proofs.lemmas.List.Elements.{All-push}
 use Rattle.mw_store.specs.declared.loaded.LoadedModule.{LoadedModule}
 use Rattle.mw_store.specs.Loads.{kept_of, IsLoaded}
 use Rattle.mw_store.specs.Entries.{record_in}
-use Rattle.mw_store.proofs.Entries.{inserted_as, one_more, loaded_is}
+use Rattle.mw_store.proofs.MapEntries.{inserted_as, one_more, loaded_is}
 use Rattle.mw_store.proofs.load.Load.insert.Goals as goal
 
 -- the entries with the new one

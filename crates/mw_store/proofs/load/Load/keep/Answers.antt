@@ -1,7 +1,7 @@
 use Rattle.std.proofs.Common.{◌∙◌, ◌+◌, ap, length}
 use Rattle.mw_store.specs.Records.{record_bytes}
 use Rattle.mw_store.specs.Whole.{kept_in}
-use Rattle.mw_store.proofs.Entries.{takes_old, takes_new}
+use Rattle.mw_store.proofs.MapEntries.{takes_old, takes_new}
 use Rattle.mw_store.proofs.load.Load.keep.Goals as goal
 
 pub returns-in-Some : goal.returns-in-Some

@@ -4,7 +4,7 @@ use Rattle.mw_term.specs.Terms.{expression_of, kernel_type_of}
 use Rattle.mw_key.specs.CanonicalText.{IsTextOf}
 use Rattle.mw_store.specs.declared.loaded.LoadedModule.{LoadedModule}
 use Rattle.mw_store.specs.Entries.{record_in}
-use Rattle.mw_store.proofs.Entries.{at_place}
+use Rattle.mw_store.proofs.MapEntries.{at_place}
 use Rattle.mw_store.proofs.load.Load.kernel.Goals as goal
 
 pub returns-in-Ok : goal.returns-in-Ok

@@ -3,8 +3,8 @@ use Rattle.std.specs.Prelude.{slice_get}
 use Rattle.mw_store.specs.declared.loaded.LoadedModule.{LoadedModule}
 use Rattle.mw_store.specs.Loads.{IsLoaded}
 use Rattle.mw_store.specs.Entries.{record_in}
-use Rattle.mw_store.proofs.Entries.{at_place, loaded_at}
-use Rattle.mw_store.proofs.Shaped.{kernel_module_in, sound_module}
+use Rattle.mw_store.proofs.MapEntries.{at_place, loaded_at}
+use Rattle.mw_store.proofs.ModuleShapes.{kernel_module_in, sound_module}
 use Rattle.mw_store.proofs.load.Load.module.Goals as goal
 
 pub module-requires-clause-limit : goal.module-requires-clause-limit

@@ -2,7 +2,7 @@ use Rattle.std.proofs.Common.{ℕ, List, ◌-◌, subst, ap, drop}
 use Rattle.std.proofs.lemmas.List.{take_rest}
 use Rattle.mw_store.specs.Loads.{file_limit}
 use Rattle.mw_store.specs.Whole.{kept_in, IsFoundIn}
-use Rattle.mw_store.proofs.Loading.{one_taken}
+use Rattle.mw_store.proofs.RecordSequences.{one_taken}
 use Rattle.mw_store.proofs.load.Load.take_next.Goals as goal
 
 pub returns-in_ok-keep-in-Some-clause-more : goal.returns-in_ok-keep-in-Some-clause-more

@@ -2,7 +2,7 @@ use Rattle.std.proofs.Common.{◌≡◌, ℕ, Vec, Global, subst, Some}
 use Rattle.std.specs.Prelude.{slice_get}
 use Rattle.mw_store.specs.declared.loaded.LoadedModule.{LoadedModule}
 use Rattle.mw_store.specs.Entries.{record_in}
-use Rattle.mw_store.proofs.Entries.{at_place}
+use Rattle.mw_store.proofs.MapEntries.{at_place}
 use Rattle.mw_store.proofs.load.Load.text.Goals as goal
 
 pub returns : goal.returns

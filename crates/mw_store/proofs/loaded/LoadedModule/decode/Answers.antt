@@ -1,6 +1,6 @@
 use Rattle.std.proofs.Common.{◌∙◌, sym}
 use Rattle.std.specs.Arc.{arc_value}
-use Rattle.mw_store.proofs.Shaped.{spelled_by}
+use Rattle.mw_store.proofs.ModuleShapes.{spelled_by}
 use Rattle.mw_store.proofs.loaded.LoadedModule.decode.Goals as goal
 
 pub invariant_of-decoded : goal.invariant_of-decoded

@@ -2,7 +2,7 @@ use Rattle.std.proofs.Common.{refl, false, map, ◌++◌, ◌∷◌}
 use Rattle.std.specs.Prelude.{codes}
 use Rattle.mw_wasm.specs.Views.{code_of}
 use Rattle.mw_wat.specs.Lexemes.{word, number, offset, code}
-use Rattle.mw_wat.proofs.Appending.{within_closed, each_closed, both_closed, then_spaced}
+use Rattle.mw_wat.proofs.TextParts.{within_closed, each_closed, both_closed, then_spaced}
 use Rattle.mw_wat.proofs.FieldTexts.{field_line}
 use Rattle.mw_wat.proofs.fields.ElementField.put.Goals as goal
 

@@ -2,7 +2,7 @@ use Rattle.std.proofs.Common.{refl, [], ◌∷◌, ◌++◌}
 use Rattle.std.specs.Prelude.{codes}
 use Rattle.mw_wasm.specs.Views.{code_of}
 use Rattle.mw_wat.specs.Lexemes.{word, number, within, types_behind, code}
-use Rattle.mw_wat.proofs.Appending.{types_closed, both_closed, then_spaced}
+use Rattle.mw_wat.proofs.TextParts.{types_closed, both_closed, then_spaced}
 use Rattle.mw_wat.proofs.InstructionTexts.{code_closed}
 use Rattle.mw_wat.proofs.FieldTexts.{field_line}
 use Rattle.mw_wat.proofs.fields.FuncField.put.Goals as goal

@@ -1,7 +1,7 @@
 use Rattle.std.proofs.Common.{refl, false, [], ◌∷◌, ◌++◌}
 use Rattle.std.specs.Prelude.{codes}
 use Rattle.mw_wat.specs.Lexemes.{left, right, word, within, types_behind}
-use Rattle.mw_wat.proofs.Appending.{within_closed, types_closed, both_closed, then_spaced}
+use Rattle.mw_wat.proofs.TextParts.{within_closed, types_closed, both_closed, then_spaced}
 use Rattle.mw_wat.proofs.FieldTexts.{field_line}
 use Rattle.mw_wat.proofs.fields.FuncTypeField.put.Goals as goal
 

@@ -2,7 +2,7 @@ use Rattle.std.proofs.Common.{◌++◌}
 use Rattle.std.specs.Prelude.{codes}
 use Rattle.mw_wasm.specs.Views.{code_of}
 use Rattle.mw_wat.specs.Lexemes.{global_type, code}
-use Rattle.mw_wat.proofs.Appending.{both_closed, then_spaced}
+use Rattle.mw_wat.proofs.TextParts.{both_closed, then_spaced}
 use Rattle.mw_wat.proofs.InstructionTexts.{code_closed}
 use Rattle.mw_wat.proofs.FieldTexts.{field_line, global_type_closed}
 use Rattle.mw_wat.proofs.fields.GlobalVarField.put.Goals as goal

@@ -2,7 +2,7 @@ use Rattle.std.proofs.Common.{refl, false, [], ◌++◌, ◌∷◌}
 use Rattle.std.specs.Prelude.{codes}
 use Rattle.mw_wasm.specs.Views.{code_of}
 use Rattle.mw_wat.specs.Lexemes.{word, octets, offset, code}
-use Rattle.mw_wat.proofs.Appending.{within_closed, both_closed, then_spaced}
+use Rattle.mw_wat.proofs.TextParts.{within_closed, both_closed, then_spaced}
 use Rattle.mw_wat.proofs.FieldTexts.{field_line}
 use Rattle.mw_wat.proofs.fields.SegmentField.put.Goals as goal
 
