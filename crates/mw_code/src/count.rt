@@ -61,7 +61,7 @@ fn count_own<L: Ledger>(node: CodeNode, budget: &mut u32, steps: &mut Steps<L>) 
 }
 
 /// Takes the nodes of the code at a place from the budget, and answers whether it has that many.
-#[tactic(auto, using(crate::proofs::TermSizes::node_sizes, crate::proofs::TermSizes::node_here, crate::proofs::TermSizes::sizes_append, crate::proofs::TermSizes::AreHere_append, crate::proofs::UnsharedTerms::size_positive))]
+#[tactic(auto, using(crate::proofs::TermSizes::count_laws, crate::proofs::UnsharedTerms::size_positive))]
 pub(crate) fn count_nodes<L: Ledger>(
     alloc: Global,
     pool: &Pool<CodeNode>,

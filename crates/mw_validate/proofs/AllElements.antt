@@ -25,3 +25,6 @@ one_fails P xs i d lt p h a = p (subst (AllByRecursion P) (drops xs i d lt) (h.n
 pub none_left : {X : Type 0} (P : X → Type 0) (xs : List X) (i : ℕ) → length xs ≤ i → Enough P xs i
     → AllByRecursion P xs
 none_left P xs i le h = h.enough (subst (AllByRecursion P) (sym (nothing_left xs i le)) tt)
+
+-- elements that are looked at one after the other
+pub ruleset element_laws = (all_left, one_more, one_fails, none_left)

@@ -204,3 +204,6 @@ if_failed c before i rest t a b here e p = passes_as c before (waitings_of befor
     (next (instruction_of i) (list_code rest)) refl (ap list_code here)
     ∙ (ap (λ j. still_passes c (waitings_of before.frames.items) (next j (list_code rest)) (operands_of before.list)) e
     ∙ if_fails c (waitings_of before.frames.items) t a b (list_code rest) (operands_of before.list) p)
+
+-- what a turn of the check leaves
+pub ruleset turn_laws = (body_ends, list_fails, block_left, loop_left)

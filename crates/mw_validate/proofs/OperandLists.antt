@@ -103,3 +103,6 @@ too_many types s items d e f = ap at_height e ∙ ap (λ os. at_height (Some (op
 
 pub not_popped : (types : List ValType) (s : Operands) → pops types s ≡ None → closes types (Some s) ≡ false
 not_popped types s e = ap at_height e
+
+-- operands that are taken one after the other
+pub ruleset pop_laws = (pops_one, pops_fail, pops_all, rest_unknown)

@@ -27,7 +27,7 @@ fn is_same(a: ValType, b: ValType) -> bool
     }
 }
 
-#[tactic(auto, using(crate::proofs::ListComparison::other_length, crate::proofs::ListComparison::same_more, crate::proofs::ListComparison::other_here, crate::proofs::ListComparison::same_all, crate::proofs::ListComparison::same_start))]
+#[tactic(auto, using(crate::proofs::ListComparison::compare_laws))]
 fn are_same(a: &[ValType], b: &[ValType]) -> bool
     ensures { result ≡ same_types a.now b.now }
 {
@@ -52,7 +52,7 @@ fn takes(within: &Surroundings<'_>, frames: &[Frame<'_>], types: &[ValType], l: 
     }
 }
 
-#[tactic(auto, using(crate::proofs::ListComparison::take_start, crate::proofs::ListComparison::take_more, crate::proofs::ListComparison::take_none, crate::proofs::ListComparison::take_all))]
+#[tactic(auto, using(crate::proofs::ListComparison::front_laws))]
 fn all_take(within: &Surroundings<'_>, frames: &[Frame<'_>], types: &[ValType], ls: &[u32]) -> bool
     ensures { result ≡ all_take_here (labels_at within.now frames.now) types.now ls.now }
 {

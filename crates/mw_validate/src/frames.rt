@@ -97,7 +97,7 @@ pub fn enter<'m>(
 }
 
 /// The code in hand has ended.
-#[tactic(auto, using(crate::proofs::CheckTurns::body_ends, crate::proofs::CheckTurns::list_fails, crate::proofs::CheckTurns::block_left, crate::proofs::CheckTurns::loop_left))]
+#[tactic(auto, using(crate::proofs::CheckTurns::turn_laws))]
 pub fn leave<'m>(
     alloc: Global,
     within: &Surroundings<'m>,

@@ -35,7 +35,7 @@ fn failing_instruction(
 }
 
 /// The first function that doesn't pass, and the index of an instruction in it.
-#[tactic(auto, using(crate::proofs::AllElements::all_left, crate::proofs::AllElements::one_more, crate::proofs::AllElements::one_fails, crate::proofs::AllElements::none_left))]
+#[tactic(auto, using(crate::proofs::AllElements::element_laws))]
 pub fn first_failing_function(
     alloc: Global,
     wasm: &Module,

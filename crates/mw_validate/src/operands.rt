@@ -71,7 +71,7 @@ pub fn pop(list: &mut OperandList, t: ValType) -> bool
 
 /// The last operands, which must be of these types or unknown. At the height of a dead label all that are left are
 /// unknown, so that nothing more is popped.
-#[tactic(auto, using(crate::proofs::OperandLists::pops_one, crate::proofs::OperandLists::pops_fail, crate::proofs::OperandLists::pops_all, crate::proofs::OperandLists::rest_unknown))]
+#[tactic(auto, using(crate::proofs::OperandLists::pop_laws))]
 pub fn pops(list: &mut OperandList, types: &[ValType]) -> bool
     ensures { Leaves result (pops_here types.now (operands_of list.old)) list.new }
 {

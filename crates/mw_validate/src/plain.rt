@@ -81,7 +81,7 @@ pub fn drop_one(list: &mut OperandList) -> bool
 }
 
 /// Two operands of one type, of which one is chosen.
-#[tactic(auto, using(crate::proofs::ByEffect::no_condition, crate::proofs::ByEffect::no_second, crate::proofs::ByEffect::no_first, crate::proofs::ByEffect::not_one_type, crate::proofs::ByEffect::selected_one))]
+#[tactic(auto, using(crate::proofs::ByEffect::select_laws))]
 pub fn select_one(list: &mut OperandList) -> Result<bool, AllocError>
     ensures { IfOk result (λ b. Leaves b (selected (operands_of list.old)) list.new) }
 {
