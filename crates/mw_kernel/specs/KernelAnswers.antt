@@ -7,7 +7,7 @@ use Rattle.mw_term.specs.declared.value.Limit.{Limit}
 use Rattle.mw_term.specs.declared.value.Limit.TheVariants.{Fuel, Heap}
 use Rattle.mw_term.specs.declared.value.TrapKind.{TrapKind}
 use Rattle.mw_term.specs.declared.value.TrapKind.TheVariants as kind
-use Rattle.mw_meaning.specs.GroundValues.{HasGroundType, IsArgument}
+use Rattle.mw_meaning.specs.GroundValues.{HasGroundType, IsArgument, kernel_value}
 use Rattle.mw_meaning.specs.Shapes.{IsWordOf, IsWordOfKernel, IsStrayEnd}
 use Rattle.mw_meaning.specs.StandingFor.{IsWord, leaves}
 use Rattle.mw_wasm.specs.declared.modules.Module.{Module}
