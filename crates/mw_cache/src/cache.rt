@@ -164,7 +164,10 @@ impl<'t> Cache<'t> {
             steps,
             spent: false,
         };
-        match self.table.fetch(alloc, text, start_in(&digest), &mut emitter) {
+        match self
+            .table
+            .fetch(alloc, text, start_in(&digest), &mut emitter)
+        {
             Ok(receipt) => Ok((Got::Stored(receipt), emitter.spent)),
             Err(Refused::NoRoom(none)) => Ok((Got::Own(none), emitter.spent)),
             Err(Refused::Memory(error)) => Err(error),

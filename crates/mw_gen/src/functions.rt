@@ -6,7 +6,7 @@ ghost use Rattle.mw_wasm.specs.Views.{code_of, function_of};
 ghost use Rattle.mw_ir.specs.Ranges.{ir_depth};
 ghost use Rattle.mw_ir.specs.Views.{ir_func_of, ir_of};
 ghost use Rattle.mw_key.specs.declared.version.Version.TheVariants.{Two};
-ghost use Rattle.mw_gen.specs.Generate.{function_for, init_function as init_with, restarting, loop_code, has_self_tail_call, spare_count, };
+ghost use Rattle.mw_gen.specs.Generate.{function_for, init_function as init_with, restarting, loop_code, has_self_tail_call, spare_count};
 ghost use Rattle.mw_gen.specs.Listing.{AllShort, IsShort};
 ghost use Rattle.mw_gen.specs.Parts.{moved, moved_function};
 

@@ -396,6 +396,9 @@ fn built_under_binders(rt: HostRuntime) -> Result<(), AllocError> {
         Node::Pair(ZERO, THREE),
     ];
     let term = graph_shown(rt.alloc(), &nodes)?;
-    assert_eq!(rt; term.as_str(), "Pair(Fun(Var(0)), Fun(App(Fun(Var(0)), Var(0))))");
+    assert_eq!(rt;
+        term.as_str(),
+        "Pair(Fun(Var(0)), Fun(App(Fun(Var(0)), Var(0))))"
+    );
     Ok(())
 }

@@ -88,7 +88,7 @@ pub fn judge_longer(
         }),
         Some(all) => {
             for index in 0..unknowns {
-                if all[index] > MOST_NODES {
+                if all[index] > MOST_NODES as u64 {
                     return Ok(Judgement {
                         end,
                         verdict: Verdict::TooBig,

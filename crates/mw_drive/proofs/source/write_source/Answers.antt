@@ -29,7 +29,7 @@ returns-in-Err-Refused-ensure_typed-clause-meaning g c = λ honest.
     types_written c.args.bytes.now c.args.fuel g.K.Sink.tells c.in-Ok.program c.in-Ok.ensures.found c.args.evaluation
     c.write_refusal-in-Err-Refused-ensure_typed.result _ _ c.in-Err-Refused-ensure_typed.refusal
     c.in-Err-Refused-ensure_typed.field-0 c.in-Err-Refused-ensure_typed.field-0-is
-        c.in-Err-Refused-ensure_typed.ensures.refused
+    c.in-Err-Refused-ensure_typed.ensures.refused
     c.write_refusal-in-Err-Refused-ensure_typed.ensures.status
     c.write_refusal-in-Err-Refused-ensure_typed.ensures.usual
     (rw c.as_slice.ensures at c.write_refusal-in-Err-Refused-ensure_typed.ensures.writes)
@@ -105,7 +105,7 @@ returns-in-Err-Refused-ensure_typed-clause-kept g c = λ some honest shown kerne
     refused_kept (cache_of c.args.evaluation) (evaluated c.args.evaluation c.args.bytes.now c.args.fuel)
     c.write_refusal-in-Err-Refused-ensure_typed.result c.in-Err-Refused-ensure_typed.refusal g.K.Sink.tells _ _ _ _ _
     (returns-in-Err-Refused-ensure_typed-clause-meaning g c honest)
-        c.write_refusal-in-Err-Refused-ensure_typed.ensures.status shown
+    c.write_refusal-in-Err-Refused-ensure_typed.ensures.status shown
     kernels e means
 
 pub returns-in-Err-Memory-ensure_typed-clause-held : goal.returns-in-Err-Memory-ensure_typed-clause-held
