@@ -27,7 +27,7 @@ invariant_of-result c =
     c.in_ok-converted.ensures.body in
     entry_kept _ code kind (entry_of code kind c.in_ok-wasm.wasm
     (arc_value c.in_ok-new.field-0) c.args.text.items c.in_ok-bytes.bytes.items
-    c.requires made c.in_ok-bytes.ensures.exact (c.in_ok-new.ensures.ok ∙ c.sure.ensures))
+    c.requires.text made c.in_ok-bytes.ensures.exact (c.in_ok-new.ensures.ok ∙ c.sure.ensures))
 
 pub returns : goal.returns
 returns c =
@@ -37,4 +37,4 @@ returns c =
     ∙ generated_is_emitted Two code kind c.in_ok-converted.converted c.in_ok-converted.ensures.functions
     c.in_ok-converted.ensures.body in
     entry_of code kind c.in_ok-wasm.wasm (arc_value c.in_ok-new.field-0) c.args.text.items c.in_ok-bytes.bytes.items
-    c.requires made c.in_ok-bytes.ensures.exact (c.in_ok-new.ensures.ok ∙ c.sure.ensures)
+    c.requires.text made c.in_ok-bytes.ensures.exact (c.in_ok-new.ensures.ok ∙ c.sure.ensures)

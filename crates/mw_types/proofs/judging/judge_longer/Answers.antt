@@ -14,8 +14,8 @@ returns-in-None-clause-judged c =
     (never_after c.extend.new.state c.flatten.new.state c.flatten.ensures.same
     (rw c.in-None.is at c.in_ok-sizes.ensures.none))
 
-pub returns-then-index-gt10000-clause-judged : goal.returns-then-index-gt10000-clause-judged
-returns-then-index-gt10000-clause-judged c =
+pub returns-then-index-clause-judged : goal.returns-then-index-clause-judged
+returns-then-index-clause-judged c =
     let front : StatesFront c.args.unknowns (length c.args.state.now.classifier.items) c.args.equations.now c.args.end
     c.extend.new.state = rw c.in_default.is at c.in_ok-clash.ensures.stated in
     big c.args.unknowns (length c.args.state.now.classifier.items)
@@ -28,7 +28,7 @@ returns-then-index-gt10000-clause-judged c =
     let l = front.stated.long in
     let z = get_or_default_zero c.in-Some-2.all.items c.loop-index.index c.index.result.now
     (omega (arith, k.count, n, l, c.loop-index-test.true)) in
-    omega (arith, z, c.index.ensures, c.if-index-gt10000.true))
+    omega (arith, z, c.index.ensures, c.if-index.true))
 
 pub returns-after-loop-index-clause-judged : goal.returns-after-loop-index-clause-judged
 returns-after-loop-index-clause-judged c =
