@@ -18,11 +18,12 @@ pub struct Entry {
     pub(crate) digest: [u8; 32],
     pub(crate) bytes: Vec<u8>,
     pub(crate) module: Arc<Valid>,
-    ghost digested: { digest ≡ sha256 text.items },
 }
 
 impl Model for Entry {
+    ghost use Rattle.std.specs.Prelude.{◌≡◌};
     ghost use Rattle.std.specs.Arc.{arc_value};
+    ghost use Rattle.sha2.specs.Sha256.{sha256};
     ghost use Rattle.std.specs.Coded.{codes};
     ghost use Rattle.mw_wasm.specs.contracts.instructions.Instr as instr;
     ghost use Rattle.mw_compile.specs.Entries.{Emitted, IsEntry};
@@ -33,7 +34,9 @@ impl Model for Entry {
 
     ghost coded = { Prim.hlevel (codes, instr.the_row.coded) };
 
-    ghost invariant = { λ e. IsEntry record { text = e.text.items; bytes = e.bytes.items; wasm = arc_value e.module } };
+    ghost invariant = { λ e.
+        IsEntry record { text = e.text.items; bytes = e.bytes.items; wasm = arc_value e.module }
+        × (e.digest ≡ sha256 e.text.items) };
 }
 
 impl Entry {

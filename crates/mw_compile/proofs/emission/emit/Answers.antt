@@ -14,5 +14,5 @@ entry_of-requires g c = record {
     };
     text = c.in_ok-text.ensures.text;
   };
-  digest = c.digest.ensures ∙ ap sha256 c.as_slice.ensures.value;
+  digest = c.digest-digest.ensures ∙ ap sha256 c.as_slice.ensures.value;
 }

@@ -24,10 +24,12 @@ invariant_of-result c =
     let kind = kernel_type_of c.args.kind.now in
     let made = c.in_ok-wasm.ensures.generated
     ∙ generated_is_emitted Two code kind c.in_ok-converted.converted c.in_ok-converted.ensures.functions
-    c.in_ok-converted.ensures.body in
-    entry_kept _ code kind (entry_of code kind c.in_ok-wasm.wasm
-    (arc_value c.in_ok-new.field-0) c.args.text.items c.in_ok-bytes.bytes.items
-    c.requires.text made c.in_ok-bytes.ensures.exact (c.in_ok-new.ensures.ok ∙ c.sure.ensures))
+    c.in_ok-converted.ensures.body in (
+      entry_kept _ code kind (entry_of code kind c.in_ok-wasm.wasm
+          (arc_value c.in_ok-new.field-0) c.args.text.items c.in_ok-bytes.bytes.items
+          c.requires.text made c.in_ok-bytes.ensures.exact (c.in_ok-new.ensures.ok ∙ c.sure.ensures)),
+      c.requires.digest,
+    )
 
 pub returns : goal.returns
 returns c =
