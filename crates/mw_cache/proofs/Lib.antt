@@ -3,6 +3,6 @@ pub mod LoadedTexts
 pub mod ModuleMap
 pub mod ReceiptTexts
 pub mod HonestRecords
-pub mod KeptReceipts
+pub mod ReceiptSlots
 pub mod MigratedRecords
 pub mod Modules

@@ -4,7 +4,7 @@ use Rattle.mw_key.specs.CanonicalText.{home}
 use Rattle.mw_cache.specs.Gots.{entry_text, texts_of, loaded_texts}
 use Rattle.mw_cache.specs.Hints.{price_beside}
 use Rattle.mw_cache.proofs.ReceiptTexts.{price_skips}
-use Rattle.mw_cache.proofs.KeptReceipts.{one_of}
+use Rattle.mw_cache.proofs.ReceiptSlots.{one_of}
 use Rattle.mw_cache.proofs.hinted.HintedCache.hint.Goals as goal
 
 pub loop-at-init : goal.loop-at-init

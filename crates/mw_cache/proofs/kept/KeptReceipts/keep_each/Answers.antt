@@ -1,7 +1,7 @@
 use Rattle.std.proofs.Common.{arith}
 use Rattle.std.proofs.lemmas.Option.{slice_get_within}
 use Rattle.mw_slots.specs.Receipts.{IsOf}
-use Rattle.mw_cache.proofs.KeptReceipts.{slot_stays, all_kept, each_more, one_of}
+use Rattle.mw_cache.proofs.ReceiptSlots.{slot_stays, all_kept, each_more, one_of}
 use Rattle.mw_cache.proofs.kept.KeptReceipts.keep_each.Goals as goal
 
 pub returns-in_err-keep-clause-stay : goal.returns-in_err-keep-clause-stay

@@ -1,4 +1,4 @@
-use Rattle.mw_cache.proofs.KeptReceipts.{taken_are_of}
+use Rattle.mw_cache.proofs.ReceiptSlots.{taken_are_of}
 use Rattle.mw_cache.proofs.kept.KeptReceipts.keep_got.Goals as goal
 
 pub returns-in-Own-clause-table : goal.returns-in-Own-clause-table
