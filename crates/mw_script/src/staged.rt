@@ -17,12 +17,12 @@ use std::alloc::{AllocError, Global};
 
 /// A machine at the start of a program's main, or of the definition of the kernel item at a place; none where there is
 /// no such item, or where main has kernels that have to be built before.
-fn start(
+fn start<'c>(
     alloc: Global,
-    program: &Program,
+    program: &'c Program,
     item: Option<usize>,
     fuel: u64,
-) -> Result<Option<Machine<'static>>, AllocError>
+) -> Result<Option<Machine<'c>>, AllocError>
     requires typable { Typable (program_of program.now) }
     requires small { HasSmallTypes (program_of program.now) }
     ensures { IfOk result (λ o. IfSome o (IsStarted (program_of program.now))) }
@@ -36,12 +36,12 @@ fn start(
     }
 }
 
-fn start_item(
+fn start_item<'c>(
     alloc: Global,
-    program: &Program,
+    program: &'c Program,
     place: usize,
     fuel: u64,
-) -> Result<Option<Machine<'static>>, AllocError>
+) -> Result<Option<Machine<'c>>, AllocError>
     requires typable { Typable (program_of program.now) }
     requires small { HasSmallTypes (program_of program.now) }
     ensures { IfOk result (λ o. IfSome o (IsStarted (program_of program.now))) }
