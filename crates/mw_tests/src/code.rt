@@ -125,113 +125,150 @@ fn measured(alloc: Global, pool: &Pool<Node<'_>>) -> Result<String, AllocError>
     }
 }
 
-// Nodes, and the term of the last one.
-const GRAPHS: &[(&[Node<'static>], &str)] = &[
-    (&[Node::Int(-7)], "Int(-7)"),
-    (&[Node::Bool(true)], "Bool(true)"),
-    (&[Node::Var(5), Node::Fun(5, ZERO)], "Fun(Var(0))"),
+// The form of a node, which a table can hold.
+#[derive(Clone, Copy)]
+enum Form {
+    Int(i64),
+    Bool(bool),
+    Var(usize),
+    Fun(usize, Id),
+    Rec(usize, usize, Id),
+    App(Id, Id),
+    Let(Id, usize, Id),
+    If(Id, Id, Id),
+    Pair(Id, Id),
+    Fst(Id),
+    Snd(Id),
+    Prim(Prim, Id, Id),
+}
+
+impl Form {
+    // The node of this form.
+    fn node<'c>(self) -> Node<'c> {
+        match self {
+            Form::Int(n) => Node::Int(n),
+            Form::Bool(b) => Node::Bool(b),
+            Form::Var(number) => Node::Var(number),
+            Form::Fun(number, e) => Node::Fun(number, e),
+            Form::Rec(number, own, e) => Node::Rec(number, own, e),
+            Form::App(f, a) => Node::App(f, a),
+            Form::Let(d, number, e) => Node::Let(d, number, e),
+            Form::If(c, a, b) => Node::If(c, a, b),
+            Form::Pair(a, b) => Node::Pair(a, b),
+            Form::Fst(e) => Node::Fst(e),
+            Form::Snd(e) => Node::Snd(e),
+            Form::Prim(p, a, b) => Node::Prim(p, a, b),
+        }
+    }
+}
+
+// The forms of nodes, and the term of the last one.
+const GRAPHS: &[(&[Form], &str)] = &[
+    (&[Form::Int(-7)], "Int(-7)"),
+    (&[Form::Bool(true)], "Bool(true)"),
+    (&[Form::Var(5), Form::Fun(5, ZERO)], "Fun(Var(0))"),
     (
         &[
-            Node::Var(1),
-            Node::Var(2),
-            Node::App(ONE, ZERO),
-            Node::Rec(1, 2, TWO),
+            Form::Var(1),
+            Form::Var(2),
+            Form::App(ONE, ZERO),
+            Form::Rec(1, 2, TWO),
         ],
         "Rec(App(Var(1), Var(0)))",
     ),
     (
-        &[Node::Int(1), Node::Int(2), Node::App(ZERO, ONE)],
+        &[Form::Int(1), Form::Int(2), Form::App(ZERO, ONE)],
         "App(Int(1), Int(2))",
     ),
     (
-        &[Node::Int(1), Node::Var(3), Node::Let(ZERO, 3, ONE)],
+        &[Form::Int(1), Form::Var(3), Form::Let(ZERO, 3, ONE)],
         "Let(Int(1), Var(0))",
     ),
     (
         &[
-            Node::Bool(true),
-            Node::Int(1),
-            Node::Int(2),
-            Node::If(ZERO, ONE, TWO),
+            Form::Bool(true),
+            Form::Int(1),
+            Form::Int(2),
+            Form::If(ZERO, ONE, TWO),
         ],
         "If(Bool(true), Int(1), Int(2))",
     ),
     (
-        &[Node::Int(1), Node::Int(2), Node::Pair(ZERO, ONE)],
+        &[Form::Int(1), Form::Int(2), Form::Pair(ZERO, ONE)],
         "Pair(Int(1), Int(2))",
     ),
-    (&[Node::Int(1), Node::Fst(ZERO)], "Fst(Int(1))"),
-    (&[Node::Int(1), Node::Snd(ZERO)], "Snd(Int(1))"),
+    (&[Form::Int(1), Form::Fst(ZERO)], "Fst(Int(1))"),
+    (&[Form::Int(1), Form::Snd(ZERO)], "Snd(Int(1))"),
     (
-        &[Node::Int(1), Node::Int(2), Node::Prim(Prim::Sub, ZERO, ONE)],
+        &[Form::Int(1), Form::Int(2), Form::Prim(Prim::Sub, ZERO, ONE)],
         "Prim(Sub, Int(1), Int(2))",
     ),
     // A node by itself, and nodes that nothing names.
     (
-        &[Node::Int(1), Node::Int(2), Node::Fst(ZERO), Node::Int(3)],
+        &[Form::Int(1), Form::Int(2), Form::Fst(ZERO), Form::Int(3)],
         "Int(3)",
     ),
     // One node, three times.
     (
-        &[Node::Int(1), Node::Pair(ZERO, ZERO), Node::App(ONE, ZERO)],
+        &[Form::Int(1), Form::Pair(ZERO, ZERO), Form::App(ONE, ZERO)],
         "App(Pair(Int(1), Int(1)), Int(1))",
     ),
     // One variable under one binder and under two.
     (
         &[
-            Node::Var(1),
-            Node::Fun(2, ZERO),
-            Node::App(ONE, ZERO),
-            Node::Fun(1, TWO),
+            Form::Var(1),
+            Form::Fun(2, ZERO),
+            Form::App(ONE, ZERO),
+            Form::Fun(1, TWO),
         ],
         "Fun(App(Fun(Var(1)), Var(0)))",
     ),
     // One open function under a function, a definition and a recursive function.
     (
         &[
-            Node::Var(1),
-            Node::Fun(2, ZERO),
-            Node::Let(ZERO, 3, ONE),
-            Node::Rec(4, 5, ONE),
-            Node::Pair(TWO, THREE),
-            Node::Fun(1, Id { place: 4 }),
+            Form::Var(1),
+            Form::Fun(2, ZERO),
+            Form::Let(ZERO, 3, ONE),
+            Form::Rec(4, 5, ONE),
+            Form::Pair(TWO, THREE),
+            Form::Fun(1, Id { place: 4 }),
         ],
         "Fun(Pair(Let(Var(0), Fun(Var(2))), Rec(Fun(Var(3)))))",
     ),
     // Code whose binder has the number of one outside it.
     (
         &[
-            Node::Var(1),
-            Node::Fun(1, ZERO),
-            Node::App(ONE, ZERO),
-            Node::Fun(1, TWO),
+            Form::Var(1),
+            Form::Fun(1, ZERO),
+            Form::App(ONE, ZERO),
+            Form::Fun(1, TWO),
         ],
         "Fun(App(Fun(Var(0)), Var(0)))",
     ),
     // A binder in place of another is not captured.
     (
         &[
-            Node::Var(1),
-            Node::Var(2),
-            Node::Pair(ZERO, ONE),
-            Node::Fun(2, TWO),
-            Node::Fun(1, THREE),
+            Form::Var(1),
+            Form::Var(2),
+            Form::Pair(ZERO, ONE),
+            Form::Fun(2, TWO),
+            Form::Fun(1, THREE),
         ],
         "Fun(Fun(Pair(Var(1), Var(0))))",
     ),
     // What a definition binds is outside its scope, even under one number.
     (
-        &[Node::Var(1), Node::Let(ZERO, 1, ZERO), Node::Fun(1, ONE)],
+        &[Form::Var(1), Form::Let(ZERO, 1, ZERO), Form::Fun(1, ONE)],
         "Fun(Let(Var(0), Var(0)))",
     ),
     (
-        &[Node::Var(1), Node::Let(ZERO, 2, ZERO), Node::Fun(1, ONE)],
+        &[Form::Var(1), Form::Let(ZERO, 2, ZERO), Form::Fun(1, ONE)],
         "Fun(Let(Var(0), Var(1)))",
     ),
     // The argument hides the own name of one number.
-    (&[Node::Var(1), Node::Rec(1, 1, ZERO)], "Rec(Var(0))"),
+    (&[Form::Var(1), Form::Rec(1, 1, ZERO)], "Rec(Var(0))"),
     (
-        &[Node::Var(1), Node::Rec(2, 3, ZERO), Node::Fun(1, ONE)],
+        &[Form::Var(1), Form::Rec(2, 3, ZERO), Form::Fun(1, ONE)],
         "Fun(Rec(Var(2)))",
     ),
 ];
@@ -242,10 +279,20 @@ fn graph_shown(alloc: Global, nodes: &[Node<'_>]) -> Result<String, AllocError> 
     shown(alloc, &pool)
 }
 
+// The nodes of these forms.
+fn nodes_of<'c>(alloc: Global, forms: &[Form]) -> Result<Vec<Node<'c>>, AllocError> {
+    let mut nodes = Vec::new(alloc);
+    for form in forms {
+        nodes.push(form.node())?;
+    }
+    Ok(nodes)
+}
+
 #[test]
 fn graphs(rt: HostRuntime) -> Result<(), AllocError> {
-    for &(nodes, expected) in GRAPHS {
-        let term = graph_shown(rt.alloc(), nodes)?;
+    for &(forms, expected) in GRAPHS {
+        let nodes = nodes_of(rt.alloc(), forms)?;
+        let term = graph_shown(rt.alloc(), nodes.as_slice())?;
         assert_eq!(rt; term.as_str(), expected);
     }
     Ok(())
