@@ -9,14 +9,14 @@ use Rattle.mw_types.proofs.Existence.{value_apply, solves_same}
 use Rattle.mw_cert.proofs.MarkedTypes.{weight, both_none, one_none, code_none, IsUnmarked, unmarked}
 
 -- a number below a bound has the property, or none has
-abbrev Found : (ℕ → Type 0) → ℕ → Type 0
-Found P n = ((u : ℕ) × (u < n) × P u) ⊎ ((u : ℕ) → u < n → P u → ⊥)
+abbrev FoundBelow : (ℕ → Type 0) → ℕ → Type 0
+FoundBelow P n = ((u : ℕ) × (u < n) × P u) ⊎ ((u : ℕ) → u < n → P u → ⊥)
 
-search_below : (P : ℕ → Type 0) → ((u : ℕ) → P u ⊎ (P u → ⊥)) → (n : ℕ) → Found P n
+search_below : (P : ℕ → Type 0) → ((u : ℕ) → P u ⊎ (P u → ⊥)) → (n : ℕ) → FoundBelow P n
 search_below P d zero = inr (λ u lt h. absurd (omega arith))
 search_below P d (suc n) = step (search_below P d n) (d n)
   where
-    step : Found P n → P n ⊎ (P n → ⊥) → Found P (suc n)
+    step : FoundBelow P n → P n ⊎ (P n → ⊥) → FoundBelow P (suc n)
     step (inl f) e = inl (f.0, omega (arith, f.1), f.2)
     step (inr none) (inl h) = inl (n, omega arith, h)
     step (inr none) (inr never) = inr (λ u lt h. elim (is u n) [
@@ -48,10 +48,10 @@ mark (other f) = 0
 
 module _ (n m : ℕ) (s : Substitution) where
   -- an unknown that is a type of the solution's own, and such a classifier
-  find_unknown : (v : ℕ) → Found (λ u. s.ty u ≡ unknown v) n
+  find_unknown : (v : ℕ) → FoundBelow (λ u. s.ty u ≡ unknown v) n
   find_unknown v = search_below (λ u. s.ty u ≡ unknown v) (λ u. is_unknown v (s.ty u)) n
 
-  find_classifier : (c : ℕ) → Found (λ d. s.classifier d ≡ c) m
+  find_classifier : (c : ℕ) → FoundBelow (λ d. s.classifier d ≡ c) m
   find_classifier c = search_below (λ d. s.classifier d ≡ c) (λ d. is_number (s.classifier d) c) m
 
   -- all unknowns and classifiers of a type are such
@@ -113,11 +113,11 @@ module _ (n m : ℕ) (s : Substitution) where
   all_named (closed_ty t) h = all_named t (λ b f. one_none _ (h b f))
 
   -- the number of its own in the place of an unknown or of a classifier
-  abbrev own_type : {v : ℕ} → Found (λ u. s.ty u ≡ unknown v) n → TypeExpression
+  abbrev own_type : {v : ℕ} → FoundBelow (λ u. s.ty u ≡ unknown v) n → TypeExpression
   own_type (inl f) = unknown f.0
   own_type (inr none) = int_ty
 
-  abbrev own_classifier : {c : ℕ} → Found (λ d. s.classifier d ≡ c) m → ℕ
+  abbrev own_classifier : {c : ℕ} → FoundBelow (λ d. s.classifier d ≡ c) m → ℕ
   own_classifier (inl f) = f.0
   own_classifier (inr none) = 0
 
@@ -128,7 +128,7 @@ module _ (n m : ℕ) (s : Substitution) where
   inside = record { ty = λ u. apply back (s.ty u); classifier = λ c. back.classifier (s.classifier c) }
 
   -- it has the same sizes, and stays within
-  own_nodes : {v : ℕ} (d : Found (λ u. s.ty u ≡ unknown v) n) → nodes (own_type d) ≡ 1
+  own_nodes : {v : ℕ} (d : FoundBelow (λ u. s.ty u ≡ unknown v) n) → nodes (own_type d) ≡ 1
   own_nodes (inl f) = refl
   own_nodes (inr none) = refl
 
@@ -141,11 +141,11 @@ module _ (n m : ℕ) (s : Substitution) where
   back_nodes (code_ty c t) = rw (back_nodes t) refl
   back_nodes (closed_ty t) = rw (back_nodes t) refl
 
-  type_within : {v : ℕ} (d : Found (λ u. s.ty u ≡ unknown v) n) → Within n m (own_type d)
+  type_within : {v : ℕ} (d : FoundBelow (λ u. s.ty u ≡ unknown v) n) → Within n m (own_type d)
   type_within (inl f) = f.1
   type_within (inr none) = tt
 
-  classifier_within : {c : ℕ} (d : Found (λ d. s.classifier d ≡ c) m) → (e : ℕ) × (e < m) × (s.classifier e ≡ c)
+  classifier_within : {c : ℕ} (d : FoundBelow (λ d. s.classifier d ≡ c) m) → (e : ℕ) × (e < m) × (s.classifier e ≡ c)
       → own_classifier d < m
   classifier_within (inl f) h = f.1
   classifier_within (inr none) h = absurd (none h.0 h.1 h.2)
@@ -161,11 +161,11 @@ module _ (n m : ℕ) (s : Substitution) where
 
   -- what a solution has for its own numbers, it has for those that these stand for
   module _ (a b : Assignment) (agree : Agree n m a (after b s)) where
-    own_value : {v : ℕ} (d : Found (λ u. s.ty u ≡ unknown v) n) → IsNamed (unknown v) → value a (own_type d) ≡ b.ty v
+    own_value : {v : ℕ} (d : FoundBelow (λ u. s.ty u ≡ unknown v) n) → IsNamed (unknown v) → value a (own_type d) ≡ b.ty v
     own_value (inl f) h = agree.types f.0 f.1 ∙ ap (value b) f.2
     own_value (inr none) h = absurd (none h.0 h.1 h.2)
 
-    own_name : {c : ℕ} (d : Found (λ d. s.classifier d ≡ c) m) → (e : ℕ) × (e < m) × (s.classifier e ≡ c)
+    own_name : {c : ℕ} (d : FoundBelow (λ d. s.classifier d ≡ c) m) → (e : ℕ) × (e < m) × (s.classifier e ≡ c)
         → a.classifier (own_classifier d) ≡ b.classifier c
     own_name (inl f) h = agree.classifiers f.0 f.1 ∙ ap b.classifier f.2
     own_name (inr none) h = absurd (none h.0 h.1 h.2)

@@ -7,6 +7,7 @@ use Rattle.std.specs.List.{AllByRecursion}
 use Rattle.std.proofs.lemmas.Bool.{eq-eqb, leb-true}
 use Rattle.std.proofs.lemmas.Int.{fits_signed_from_abs}
 use Rattle.std.proofs.lemmas.List.{length-map}
+use Rattle.mw_list.proofs.Conjunctions.{both_true}
 use Rattle.mw_term.specs.Terms as x
 use Rattle.mw_term.specs.Terms.{Expression, size, depth_of}
 use Rattle.mw_term.specs.Closed.{ClosedBelow}
@@ -270,10 +271,6 @@ is_converted c closed l few shallow =
     }
 
 -- the limits of kernels
-both_true : (a b : Bool) → a && b ≡ true → (a ≡ true) × (b ≡ true)
-both_true true b e = (refl, e)
-both_true false b e = absurd (cc)
-
 pub size_small : (c : Expression) → within_limits c ≡ true → size c ≤ 20000
 size_small c e = let h = (both_true (nat_le (size c) 20000) (nat_le (depth_of c) 400) e).0 in leb-true (size c) 20000 h
 

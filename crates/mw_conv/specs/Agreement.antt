@@ -17,16 +17,16 @@ pub record Given (t : List IrFunc) (n : ℕ) (h0 : List ℤ) (v : KernelValue) (
   pub grows : Grows h0 h
   pub stands : Stands t h v w
 
-abbrev pub Holds : List IrFunc → ℕ → List ℤ → k.Ended → i.Ended → Type 0
-Holds t n h0 (k.gives v m words) b = Given t n h0 v m words b
-Holds t n h0 (k.stops stuck) b = Unit {0}
-Holds t n h0 (k.stops (trap y)) b = b ≡ i.stops (trap y)
-Holds t n h0 (k.stops (bound l)) b = b ≡ i.stops (bound l)
+abbrev pub EndsAlike : List IrFunc → ℕ → List ℤ → k.Ended → i.Ended → Type 0
+EndsAlike t n h0 (k.gives v m words) b = Given t n h0 v m words b
+EndsAlike t n h0 (k.stops stuck) b = Unit {0}
+EndsAlike t n h0 (k.stops (trap y)) b = b ≡ i.stops (trap y)
+EndsAlike t n h0 (k.stops (bound l)) b = b ≡ i.stops (bound l)
 
 -- at most n units are left, the heap h0 has grown by the kernel's words, and the word stands for the value; or both
 -- stop alike; nothing is said where the kernel is stuck
 pub record Agrees (t : List IrFunc) (n : ℕ) (h0 : List ℤ) (a : k.Ended) (b : i.Ended) : Type 0 where
-  pub holds : Holds t n h0 a b
+  pub holds : EndsAlike t n h0 a b
 
 -- with any units and on any heap the body outside these functions means what the kernel meaning does from that many
 -- words on

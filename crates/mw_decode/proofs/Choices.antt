@@ -23,10 +23,6 @@ pub both : (a b : Bool) → a ≡ true → b ≡ true → (a && b) ≡ true
 both true b e f = f
 both false b e f = absurd (cc)
 
-pub both_true : (a b : Bool) → (a && b) ≡ true → (a ≡ true) × (b ≡ true)
-both_true true b e = (refl, e)
-both_true false b e = absurd (cc)
-
 -- what is read is no end and no fault
 pub not_ended : {A : Type 0} (x : A) (rest : List ℕ) → ◌≡◌ {A = Read A} ended (got x rest) → ⊥
 not_ended x rest e = cc

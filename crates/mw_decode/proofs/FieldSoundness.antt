@@ -26,7 +26,8 @@ use Rattle.mw_decode.specs.Instructions.{value_type, value_type_of, expression}
 use Rattle.mw_decode.specs.Sections.{function_type, has_max, maximum, limits, table, memory, global, printable}
 use Rattle.mw_decode.specs.Sections.{export_kind, export, element, data_segment, run_count, runs, Body, body}
 use Rattle.mw_decode.specs.Sections.{function_code, bodies, single}
-use Rattle.mw_decode.proofs.Choices.{either_is, both_true, not_faulty}
+use Rattle.mw_list.proofs.Conjunctions.{both_true}
+use Rattle.mw_decode.proofs.Choices.{either_is, not_faulty}
 use Rattle.mw_decode.proofs.ReaderSoundness.{Sound, and_then_got, got_parts, begins_then, begins_so, Both, sound_then}
 use Rattle.mw_decode.proofs.ReaderSoundness.{sound_so}
 use Rattle.mw_decode.proofs.ReaderSoundness.{Just, sound_gives, sound_last, just_end, Meant, sound_byte, sound_u32}

@@ -23,7 +23,8 @@ use Rattle.mw_decode.specs.Sections.{function_type, table, memory, global, expor
 use Rattle.mw_decode.specs.Sections.{no_imports, customs_within, customs, section, after_customs, no_start, no_more}
 use Rattle.mw_decode.specs.Sections.{is_missing, present, single, Parts, functions, given, module_of, starts, module_in}
 use Rattle.mw_decode.specs.Sections.{module_read}
-use Rattle.mw_decode.proofs.Choices.{either_is, both_true, not_ended, not_faulty}
+use Rattle.mw_list.proofs.Conjunctions.{both_true}
+use Rattle.mw_decode.proofs.Choices.{either_is, not_ended, not_faulty}
 use Rattle.mw_decode.proofs.ReaderSoundness.{Sound, and_then_got, got_parts, Both, sound_then, sound_so, Just}
 use Rattle.mw_decode.proofs.ReaderSoundness.{sound_gives, sound_last}
 use Rattle.mw_decode.proofs.ReaderSoundness.{just_end, sound_u32, sound_vector, front_bytes, back_bytes}
@@ -149,14 +150,14 @@ section_taken {content = content} k missing P s end (b ∷ r) x rest e = elim (e
 ]
 
 -- custom sections, a section, and what is read behind it
-abbrev Level : {A B : Type 0} → ℕ → A → (A → List ℕ → Type 0) → (A → B → List ℕ → Type 0) → B → List ℕ → Type 0
-Level {A} k missing P T y front = (x : A) × Joined grammar.Customs (Joined (Stands k missing P x) (T x y)) front
+abbrev Layer : {A B : Type 0} → ℕ → A → (A → List ℕ → Type 0) → (A → B → List ℕ → Type 0) → B → List ℕ → Type 0
+Layer {A} k missing P T y front = (x : A) × Joined grammar.Customs (Joined (Stands k missing P x) (T x y)) front
 
 sound_level : {A B : Type 0} {content : Reader A} (k : ℕ) (missing : A) (P : A → List ℕ → Type 0) (f : A → Reader B)
     (T : A → B → List ℕ → Type 0) → Sound content P → ((x : A) → Sound (f x) (T x))
-    → Sound (after_customs (section k missing content) >>= f) (Level k missing P T)
+    → Sound (after_customs (section k missing content) >>= f) (Layer k missing P T)
 sound_level {A} {B} {content} k missing P f T s t = sound_so (Both (Both CustomsPiece (λ _. Stands k missing P)) T)
-    (Level k missing P T)
+    (Layer k missing P T)
     (sound_then (Both CustomsPiece (λ _. Stands k missing P)) T
     (sound_then CustomsPiece (λ _. Stands k missing P) sound_customs
     (λ _. record { sound = λ end bytes x rest e. section_taken k missing P s end bytes x rest e })) t)
@@ -216,7 +217,7 @@ sound_12 p = sound_so (Both (Both CustomsPiece (λ _. NoMore)) (λ _. Just p)) (
 
 abbrev Behind11 : Parts → Parts → List ℕ → Type 0
 Behind11 p =
-    Level 11 [] (λ ys f. piece.vector (λ s f. grammar.data_segment s f × (depth s.offset ≤ 500)) ys f)
+    Layer 11 [] (λ ys f. piece.vector (λ s f. grammar.data_segment s f × (depth s.offset ≤ 500)) ys f)
     (λ s. Behind12 (record p { segments = s }))
 
 sound_11 : (p : Parts) → Sound (r11 p) (Behind11 p)
@@ -233,14 +234,14 @@ sound_present n =
     (h.0, k.1, k.0.0, k.0.1))
 
 abbrev Behind10 : Parts → Parts → List ℕ → Type 0
-Behind10 p = Level 10 None (SomeBodies (length p.kinds)) (λ b. Behind11 (record p { bodies = b }))
+Behind10 p = Layer 10 None (SomeBodies (length p.kinds)) (λ b. Behind11 (record p { bodies = b }))
 
 sound_10 : (p : Parts) → Sound (r10 p) (Behind10 p)
 sound_10 p = sound_level 10 None _ _ _ (sound_present (length p.kinds)) (λ s. sound_11 (record p { bodies = s }))
 
 abbrev Behind9 : Parts → Parts → List ℕ → Type 0
 Behind9 p =
-    Level 9 [] (λ ys f. piece.vector (λ s f. grammar.element s f × (depth s.offset ≤ 500)) ys f)
+    Layer 9 [] (λ ys f. piece.vector (λ s f. grammar.element s f × (depth s.offset ≤ 500)) ys f)
     (λ s. Behind10 (record p { elements = s }))
 
 sound_9 : (p : Parts) → Sound (r9 p) (Behind9 p)
@@ -274,7 +275,7 @@ sound_8 p = sound_so (Both (Both CustomsPiece (λ _. NothingHere)) (λ _. Behind
 
 abbrev Behind7 : Parts → Parts → List ℕ → Type 0
 Behind7 p =
-    Level 7 [] (λ ys f. piece.vector (λ e f. grammar.export e f × AllByRecursion IsPrintable e.name) ys f)
+    Layer 7 [] (λ ys f. piece.vector (λ e f. grammar.export e f × AllByRecursion IsPrintable e.name) ys f)
     (λ s. Behind9 (record p { exports = s }))
 
 sound_7 : (p : Parts) → Sound (r7 p) (Behind7 p)
@@ -282,7 +283,7 @@ sound_7 p = sound_level 7 [] _ _ _ (sound_vector _ sound_export) (λ s. sound_8 
 
 abbrev Behind6 : Parts → Parts → List ℕ → Type 0
 Behind6 p =
-    Level 6 [] (λ ys f. piece.vector (λ g f. grammar.global g f × (depth g.init ≤ 500)) ys f)
+    Layer 6 [] (λ ys f. piece.vector (λ g f. grammar.global g f × (depth g.init ≤ 500)) ys f)
     (λ s. Behind7 (record p { globals = s }))
 
 sound_6 : (p : Parts) → Sound (r6 p) (Behind6 p)
@@ -290,7 +291,7 @@ sound_6 p = sound_level 6 [] _ _ _ (sound_vector _ sound_global) (λ s. sound_7 
 
 abbrev Behind5 : Parts → Parts → List ℕ → Type 0
 Behind5 p =
-    Level 5 None (λ o f. piece.vector (LimitsPiece 1_024) (grammar.at_most_one o) f)
+    Layer 5 None (λ o f. piece.vector (LimitsPiece 1_024) (grammar.at_most_one o) f)
     (λ s. Behind6 (record p { memory = s }))
 
 sound_5 : (p : Parts) → Sound (r5 p) (Behind5 p)
@@ -302,25 +303,25 @@ TablePiece l f = grammar.table l f × (l.min ≤ 100_000)
 
 abbrev Behind4 : Parts → Parts → List ℕ → Type 0
 Behind4 p =
-    Level 4 None (λ o f. piece.vector TablePiece (grammar.at_most_one o) f) (λ s. Behind5 (record p { table = s }))
+    Layer 4 None (λ o f. piece.vector TablePiece (grammar.at_most_one o) f) (λ s. Behind5 (record p { table = s }))
 
 sound_4 : (p : Parts) → Sound (r4 p) (Behind4 p)
 sound_4 p = sound_level 4 None _ _ _ (sound_single TablePiece sound_table) (λ s. sound_5 (record p { table = s }))
 
 abbrev Behind3 : Parts → Parts → List ℕ → Type 0
-Behind3 p = Level 3 [] (λ ks f. piece.vector piece.u32 ks f) (λ s. Behind4 (record p { kinds = s }))
+Behind3 p = Layer 3 [] (λ ks f. piece.vector piece.u32 ks f) (λ s. Behind4 (record p { kinds = s }))
 
 sound_3 : (p : Parts) → Sound (r3 p) (Behind3 p)
 sound_3 p = sound_level 3 [] _ _ _ (sound_vector piece.u32 sound_u32) (λ s. sound_4 (record p { kinds = s }))
 
 abbrev Behind2 : Parts → Parts → List ℕ → Type 0
-Behind2 p = Level 2 0 (Few 0) (λ _. Behind3 p)
+Behind2 p = Layer 2 0 (Few 0) (λ _. Behind3 p)
 
 sound_2 : (p : Parts) → Sound (r2 p) (Behind2 p)
 sound_2 p = sound_level 2 0 (Few 0) _ _ (sound_at_most 0) (λ _. sound_3 p)
 
 abbrev Behind1 : Parts → Parts → List ℕ → Type 0
-Behind1 p = Level 1 [] (λ ts f. piece.vector TypePiece ts f) (λ s. Behind2 (record p { types = s }))
+Behind1 p = Layer 1 [] (λ ts f. piece.vector TypePiece ts f) (λ s. Behind2 (record p { types = s }))
 
 sound_1 : (p : Parts) → Sound (r1 p) (Behind1 p)
 sound_1 p =

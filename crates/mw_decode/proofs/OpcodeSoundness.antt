@@ -23,7 +23,7 @@ use Rattle.mw_decode.specs.Opcodes.{row, or_else, tests, others, number_of, load
 use Rattle.mw_decode.specs.Opcodes.{loading, storing, computing, known_or, is_left_out, or_meaning, accessing_of}
 use Rattle.mw_decode.specs.Opcodes.{alone_of, indexed, before_zero, jump_table, indirect, constant_32, constant_64}
 use Rattle.mw_decode.specs.Opcodes.{jump_of, variable_of, constant_of}
-use Rattle.mw_decode.proofs.Choices.{both_true}
+use Rattle.mw_list.proofs.Conjunctions.{both_true}
 use Rattle.mw_decode.proofs.ReaderSoundness.{Sound, sound_then, sound_so, sound_gives, sound_last, just_end, Just, Both}
 use Rattle.mw_decode.proofs.ReaderSoundness.{Meant}
 use Rattle.mw_decode.proofs.ReaderSoundness.{sound_byte}

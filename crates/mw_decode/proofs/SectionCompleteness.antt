@@ -8,7 +8,7 @@ use Rattle.mw_wasm.specs.Pieces.{Joined, Sized, byte, items, exactly}
 use Rattle.mw_wasm.specs.BinaryModules as grammar
 use Rattle.mw_decode.specs.Reading.{got, ended, Reader, and_then, ◌>>=◌, u32}
 use Rattle.mw_decode.specs.Sections.{customs_within, customs, section, after_customs, no_start, no_more}
-use Rattle.mw_decode.proofs.Choices.{first_is}
+use Rattle.mw_decode.proofs.Choices.{first_is, both}
 use Rattle.mw_decode.proofs.ReaderSoundness.{sound_u32}
 use Rattle.mw_decode.proofs.ReadingFixedPoint.{shorter, same_then}
 use Rattle.mw_decode.proofs.CodeCompleteness.{Again, again_u32}
@@ -221,10 +221,6 @@ no_start_step f y t skips r =
       };
     }
   where
-    both : (a b : Bool) → a ≡ true → b ≡ true → (a && b) ≡ true
-    both true b e f = f
-    both false b e f = absurd (cc)
-
     differs : (b : ℕ) → 9 ≤ b → eqb b 8 ≡ false
     differs b h = go (eqb b 8) refl
       where

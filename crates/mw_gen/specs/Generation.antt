@@ -31,13 +31,13 @@ Ends (bound Fuel) E = E ≡ spent
 Ends (bound KernelSize) E = ⊥
 Ends stuck E = Unit {0}
 
-abbrev pub Holds : i.Ended → (ℤ → ℕ → List ℤ → End → Type 0) → End → Type 0
-Holds (i.gives w n h) Q E = Q w n h E
-Holds (i.stops y) Q E = Ends y E
+abbrev pub EndsWhere : i.Ended → (ℤ → ℕ → List ℤ → End → Type 0) → End → Type 0
+EndsWhere (i.gives w n h) Q E = Q w n h E
+EndsWhere (i.stops y) Q E = Ends y E
 
 -- Q speaks of the run after a value
 pub record Says (a : i.Ended) (Q : ℤ → ℕ → List ℤ → End → Type 0) (E : End) : Type 0 where
-  pub says : Holds a Q E
+  pub says : EndsWhere a Q E
 
 -- the run ends with this word and these units, in a store whose heap ends at this byte and whose memory keeps the heap
 abbrev pub EndsAt : List IrFunc → ℕ → ℤ → ℕ → List ℤ → End → Type 0

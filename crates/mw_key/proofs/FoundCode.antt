@@ -15,7 +15,7 @@ use Rattle.mw_key.specs.declared.form.OnePart.TheVariants.{Fun, Rec, Fst, Snd}
 use Rattle.mw_key.specs.declared.form.TwoParts.TheVariants.{App, Let, Pair, Prim}
 use Rattle.mw_key.specs.Forms.{form_of}
 use Rattle.mw_key.specs.Numbers.{natural_of, integer_of, below}
-use Rattle.mw_key.specs.Reading.{Found, then_find, make, find_form, find_integer, find_variable, code_parts, find_code}
+use Rattle.mw_key.specs.Reading.{Finding, then_find, make, find_form, find_integer, find_variable, code_parts, find_code}
 use Rattle.mw_key.proofs.NodeWords.{after_found, made_found, then_at, make_at, word_spelled, word_from, node_spelled}
 use Rattle.mw_key.proofs.NodeWords.{node_from}
 use Rattle.mw_key.proofs.FormWords.{form_word, form_found, form_from}
@@ -33,11 +33,11 @@ pub record IsCodeBefore (d k : ℕ) (ws : List (List ℕ)) (n : ℕ) (c : Expres
     pub closed : ClosedBelow k c
     pub literals : LiteralsFit c
 
-abbrev pub CodeStands : ℕ → ℕ → List (List ℕ) → ℕ → Found Expression → Type 0
+abbrev pub CodeStands : ℕ → ℕ → List (List ℕ) → ℕ → Finding Expression → Type 0
 CodeStands d k ws n None = Unit {0}
 CodeStands d k ws n (Some found) = IsCodeBefore d k ws n found.0 found.1 found.2
 
-pub code_at : (d k : ℕ) (ws : List (List ℕ)) (n : ℕ) (x : Found Expression) (c : Expression) (rest : List (List ℕ))
+pub code_at : (d k : ℕ) (ws : List (List ℕ)) (n : ℕ) (x : Finding Expression) (c : Expression) (rest : List (List ℕ))
     (m : ℕ) → CodeStands d k ws n x → x ≡ Some (c, rest, m) → IsCodeBefore d k ws n c rest m
 code_at d k ws n x c rest m s e = subst (CodeStands d k ws n) e s
 
@@ -63,7 +63,7 @@ three_joined : (x y z rest : List (List ℕ)) → x ++ (y ++ (z ++ rest)) ≡ x 
 three_joined x y z rest = ap (λ v. x ++ v) (sym (append_assoc y z rest)) ∙ sym (append_assoc x (y ++ z) rest)
 
 -- code after its first word, where its parts are found as they stand
-module _ (d : ℕ) (part : ℕ → List (List ℕ) → ℕ → Found Expression) (holds : (k : ℕ) (ws : List (List ℕ)) (n : ℕ)
+module _ (d : ℕ) (part : ℕ → List (List ℕ) → ℕ → Finding Expression) (holds : (k : ℕ) (ws : List (List ℕ)) (n : ℕ)
     → CodeStands d k ws n (part k ws n)) where
   part_at : (k : ℕ) (ws : List (List ℕ)) (n : ℕ) (c : Expression) (rest : List (List ℕ)) (m : ℕ) → part k ws n
       ≡ Some (c, rest, m) → IsCodeBefore d k ws n c rest m
@@ -73,7 +73,7 @@ module _ (d : ℕ) (part : ℕ → List (List ℕ) → ℕ → Found Expression)
       → n ≡ suc l → ((a : Expression) → IsOfOne w k j a (join a))
       → CodeStands (suc d) k ws n (make join (part j vs l))
   one_stands w join k j ws vs n l e g is =
-      let P : Found Expression → Type 0 = λ x. CodeStands (suc d) k ws n x in
+      let P : Finding Expression → Type 0 = λ x. CodeStands (suc d) k ws n x in
       made_found P join (part j vs l) tt λ a rest m h.
       let p = part_at j vs l a rest m h in
       let c = is a in
@@ -94,7 +94,7 @@ module _ (d : ℕ) (part : ℕ → List (List ℕ) → ℕ → Found Expression)
       → ws ≡ w ∷ vs → n ≡ suc l → ((a b : Expression) → IsOfTwo w k j a b (join a b))
       → CodeStands (suc d) k ws n (then_find (part k vs l) λ a us m. make (join a) (part j us m))
   two_stand w join k j ws vs n l e g is =
-      let P : Found Expression → Type 0 = λ x. CodeStands (suc d) k ws n x in
+      let P : Finding Expression → Type 0 = λ x. CodeStands (suc d) k ws n x in
       after_found P (part k vs l) _ tt λ a us m h. made_found P (join a) (part j us m) tt λ b rest o i.
       let p = part_at k vs l a us m h in
       let q = part_at j us m b rest o i in
@@ -118,7 +118,7 @@ module _ (d : ℕ) (part : ℕ → List (List ℕ) → ℕ → Found Expression)
   parts_stand : (f : Form) (k : ℕ) (ws vs : List (List ℕ)) (n l : ℕ) → ws ≡ form_word f ∷ vs → n ≡ suc l
       → CodeStands (suc d) k ws n (code_parts part f k vs l)
   parts_stand Int k ws vs n l e g =
-      let P : Found Expression → Type 0 = λ x. CodeStands (suc d) k ws n x in
+      let P : Finding Expression → Type 0 = λ x. CodeStands (suc d) k ws n x in
       made_found P num (find_integer vs l) tt λ z rest m h.
       let word = word_spelled integer_of vs l z rest m h in
       let spelling = integer_found word.0.word z word.0.spells in
@@ -134,7 +134,7 @@ module _ (d : ℕ) (part : ℕ → List (List ℕ) → ℕ → Found Expression)
   parts_stand (Truth b) k ws vs n l e g =
       record { words = e; nodes = omega arith; depth = omega arith; code = tt; closed = tt; literals = tt }
   parts_stand Var k ws vs n l e g =
-      let P : Found Expression → Type 0 = λ x. CodeStands (suc d) k ws n x in
+      let P : Finding Expression → Type 0 = λ x. CodeStands (suc d) k ws n x in
       made_found P var (find_variable k vs l) tt λ i rest m h.
       let word = word_spelled (λ w. below k (natural_of w)) vs l i rest m h in
       let spelling = below_found k word.0.word i word.0.spells in
@@ -182,7 +182,7 @@ module _ (d : ℕ) (part : ℕ → List (List ℕ) → ℕ → Found Expression)
         literals = λ x. x;
       }
   parts_stand If k ws vs n l e g =
-      let P : Found Expression → Type 0 = λ x. CodeStands (suc d) k ws n x in
+      let P : Finding Expression → Type 0 = λ x. CodeStands (suc d) k ws n x in
       after_found P (part k vs l) _ tt λ c us m h. after_found P (part k us m) _ tt λ a ts j i.
       made_found P (cond c a) (part k ts j) tt λ b rest o u.
       let p = part_at k vs l c us m h in
@@ -218,7 +218,7 @@ pub code_stands : (d k : ℕ) (ws : List (List ℕ)) (n : ℕ) → CodeStands d 
 unfolding find_code
 code_stands zero k ws n = tt
 code_stands (suc d) k ws n =
-    let P : Found Expression → Type 0 = λ x. CodeStands (suc d) k ws n x in
+    let P : Finding Expression → Type 0 = λ x. CodeStands (suc d) k ws n x in
     after_found P (find_form ws n) _ tt λ f vs l h.
     let first = node_spelled form_of ws n f vs l h in
     parts_stand d (find_code d) (λ k ws n. code_stands d k ws n) f k ws vs n l
@@ -233,7 +233,7 @@ begins f d k ws vs n l p e g =
     ∙ ap (λ x. then_find (find_form (form_word f ∷ vs) x) next) g
     ∙ then_at next (node_from form_of (form_word f) f vs l (form_from f))
   where
-    next : Form → List (List ℕ) → ℕ → Found Expression
+    next : Form → List (List ℕ) → ℕ → Finding Expression
     next form ws n = code_parts (find_code (d - 1)) form k ws n
 
 -- code whose words stand there is found

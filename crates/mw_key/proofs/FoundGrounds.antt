@@ -7,7 +7,7 @@ use Rattle.mw_term.specs.Limits.{ground_nodes, kernel_nodes}
 use Rattle.mw_key.specs.declared.form.TypeForm.{TypeForm}
 use Rattle.mw_key.specs.declared.form.TypeForm.TheVariants.{Base, Pair as PairType, To}
 use Rattle.mw_key.specs.Forms.{type_form_of}
-use Rattle.mw_key.specs.Reading.{Found, then_find, make, find_type_form, ground_parts, find_ground, kernel_parts}
+use Rattle.mw_key.specs.Reading.{Finding, then_find, make, find_type_form, ground_parts, find_ground, kernel_parts}
 use Rattle.mw_key.specs.Reading.{find_kernel_type}
 use Rattle.mw_key.proofs.NodeWords.{after_found, made_found, then_at, make_at, node_spelled, node_from}
 use Rattle.mw_key.proofs.FormWords.{type_form_word, type_form_found, type_form_from}
@@ -20,11 +20,11 @@ pub record IsBefore {A : Type 0} (list : A → List (List ℕ)) (count : A → �
   pub words : ws ≡ list a ++ rest
   pub nodes : n ≡ count a + m
 
-abbrev pub Stands : {A : Type 0} → (A → List (List ℕ)) → (A → ℕ) → List (List ℕ) → ℕ → Found A → Type 0
+abbrev pub Stands : {A : Type 0} → (A → List (List ℕ)) → (A → ℕ) → List (List ℕ) → ℕ → Finding A → Type 0
 Stands list count ws n None = Unit {0}
 Stands list count ws n (Some found) = IsBefore list count ws n found.0 found.1 found.2
 
-pub stands_at : {A : Type 0} (list : A → List (List ℕ)) (count : A → ℕ) (ws : List (List ℕ)) (n : ℕ) (x : Found A)
+pub stands_at : {A : Type 0} (list : A → List (List ℕ)) (count : A → ℕ) (ws : List (List ℕ)) (n : ℕ) (x : Finding A)
     (a : A) (rest : List (List ℕ)) (m : ℕ) → Stands list count ws n x → x ≡ Some (a, rest, m)
     → IsBefore list count ws n a rest m
 stands_at list count ws n x a rest m s e = subst (Stands list count ws n) e s
@@ -45,14 +45,14 @@ two_stand list more whole count further all w ws vs us rest n l m k a b c whole_
     }
 
 -- a ground type after its first word
-parts_stand : (part : List (List ℕ) → ℕ → Found GroundType)
+parts_stand : (part : List (List ℕ) → ℕ → Finding GroundType)
     → ((ws : List (List ℕ)) (n : ℕ) → Stands ground_list ground_nodes ws n (part ws n))
     → (f : TypeForm) (ws vs : List (List ℕ)) (n l : ℕ) → ws ≡ type_form_word f ∷ vs → n ≡ suc l
     → Stands ground_list ground_nodes ws n (ground_parts part f vs l)
 parts_stand part holds (Base b) ws vs n l e f = record { words = e; nodes = omega arith }
 parts_stand part holds To ws vs n l e f = tt
 parts_stand part holds PairType ws vs n l e f =
-    let P : Found GroundType → Type 0 = λ x. Stands ground_list ground_nodes ws n x in
+    let P : Finding GroundType → Type 0 = λ x. Stands ground_list ground_nodes ws n x in
     after_found P (part vs l) _ tt λ s us m d. made_found P (product s) (part us m) tt λ t rest k g.
     two_stand ground_list ground_list ground_list ground_nodes ground_nodes ground_nodes (type_form_word PairType) ws vs
     us rest n l m k s t (product s t) refl refl e f
@@ -64,26 +64,26 @@ pub ground_stands : (depth : ℕ) (ws : List (List ℕ)) (n : ℕ) → Stands gr
 unfolding find_ground
 ground_stands zero ws n = tt
 ground_stands (suc depth) ws n =
-    let P : Found GroundType → Type 0 = λ x. Stands ground_list ground_nodes ws n x in
+    let P : Finding GroundType → Type 0 = λ x. Stands ground_list ground_nodes ws n x in
     after_found P (find_type_form ws n) _ tt λ f vs l d.
     let first = node_spelled type_form_of ws n f vs l d in
     parts_stand (find_ground depth) (λ vs l. ground_stands depth vs l) f ws vs n l
     (first.0.words ∙ ap (λ w. w ∷ vs) (type_form_found first.0.word f first.0.spells)) first.1
 
 -- a kernel type after its first word
-kernel_parts_stand : (part : List (List ℕ) → ℕ → Found GroundType)
+kernel_parts_stand : (part : List (List ℕ) → ℕ → Finding GroundType)
     → ((ws : List (List ℕ)) (n : ℕ) → Stands ground_list ground_nodes ws n (part ws n))
     → (f : TypeForm) (ws vs : List (List ℕ)) (n l : ℕ) → ws ≡ type_form_word f ∷ vs → n ≡ suc l
     → Stands kernel_list kernel_nodes ws n (kernel_parts part f vs l)
 kernel_parts_stand part holds To ws vs n l e f =
-    let P : Found KernelType → Type 0 = λ x. Stands kernel_list kernel_nodes ws n x in
+    let P : Finding KernelType → Type 0 = λ x. Stands kernel_list kernel_nodes ws n x in
     after_found P (part vs l) _ tt λ s us m d. made_found P (to s) (part us m) tt λ t rest k g.
     two_stand ground_list ground_list kernel_list ground_nodes ground_nodes kernel_nodes (type_form_word To) ws vs us
     rest n l m k s t (to s t) refl refl e f
     (stands_at ground_list ground_nodes vs l (part vs l) s us m (holds vs l) d)
     (stands_at ground_list ground_nodes us m (part us m) t rest k (holds us m) g)
 kernel_parts_stand part holds form ws vs n l e f =
-    let P : Found KernelType → Type 0 = λ x. Stands kernel_list kernel_nodes ws n x in
+    let P : Finding KernelType → Type 0 = λ x. Stands kernel_list kernel_nodes ws n x in
     made_found P of_ground (ground_parts part form vs l) tt λ t rest k g.
     let ground = stands_at ground_list ground_nodes ws n (ground_parts part form vs l) t rest k
     (parts_stand part holds form ws vs n l e f) g in
@@ -92,7 +92,7 @@ kernel_parts_stand part holds form ws vs n l e f =
 pub kernel_stands : (depth : ℕ) (ws : List (List ℕ)) (n : ℕ) → Stands kernel_list kernel_nodes ws n
     (find_kernel_type depth ws n)
 kernel_stands depth ws n =
-    let P : Found KernelType → Type 0 = λ x. Stands kernel_list kernel_nodes ws n x in
+    let P : Finding KernelType → Type 0 = λ x. Stands kernel_list kernel_nodes ws n x in
     after_found P (find_type_form ws n) _ tt λ f vs l d.
     let first = node_spelled type_form_of ws n f vs l d in
     kernel_parts_stand (find_ground depth) (ground_stands depth) f ws vs n l
@@ -100,7 +100,7 @@ kernel_stands depth ws n =
 
 -- the first word of a type, where it stands there
 type_begins : {B : Type 0} (f : TypeForm) (ws vs : List (List ℕ)) (n l : ℕ)
-    (next : TypeForm → List (List ℕ) → ℕ → Found B) → ws ≡ type_form_word f ∷ vs → n ≡ suc l
+    (next : TypeForm → List (List ℕ) → ℕ → Finding B) → ws ≡ type_form_word f ∷ vs → n ≡ suc l
     → then_find (find_type_form ws n) next ≡ next f vs l
 type_begins f ws vs n l next e g = ap (λ x. then_find (find_type_form x n) next) e
     ∙ ap (λ x. then_find (find_type_form (type_form_word f ∷ vs) x) next) g

@@ -10,7 +10,7 @@ use Rattle.mw_key.specs.CanonicalText.{version_word, IsKernel, IsTextOf}
 use Rattle.mw_key.specs.declared.version.Version.{Version}
 use Rattle.mw_key.specs.Forms.{version_of}
 use Rattle.mw_key.specs.TextLaws.{OneText}
-use Rattle.mw_key.specs.Reading.{Found, then_find, make, last, words, find_version, find_kernel_type, find_code}
+use Rattle.mw_key.specs.Reading.{Finding, then_find, make, last, words, find_version, find_kernel_type, find_code}
 use Rattle.mw_key.specs.Reading.{text_of_words}
 use Rattle.mw_key.proofs.NodeWords.{after_found, made_found, then_at, make_at, word_spelled, word_from}
 use Rattle.mw_key.proofs.FormWords.{version_found, version_from}
@@ -24,7 +24,7 @@ record AreParts (ws : List (List ℕ)) (v : Version) (c : Expression) (k : Kerne
     listed : ws ≡ version_word v ∷ (kernel_list k ++ (code_list c ++ rest))
     kernel : IsKernel c k
 
-abbrev PartsStand : List (List ℕ) → Found (Version × Expression × KernelType) → Type 0
+abbrev PartsStand : List (List ℕ) → Finding (Version × Expression × KernelType) → Type 0
 PartsStand ws None = Unit {0}
 PartsStand ws (Some found) = AreParts ws found.0.0 found.0.1 found.0.2 found.1
 
@@ -32,7 +32,7 @@ parts_stand : (ws : List (List ℕ))
     → PartsStand ws (then_find (find_version ws 10000) λ v ws n. then_find (find_kernel_type 10000 ws n) λ k ws n.
     make (λ c. (v, c, k)) (find_code 400 0 ws 20000))
 parts_stand ws =
-    let P : Found (Version × Expression × KernelType) → Type 0 = λ x. PartsStand ws x in
+    let P : Finding (Version × Expression × KernelType) → Type 0 = λ x. PartsStand ws x in
     after_found P (find_version ws 10000) _ tt λ v vs n e. after_found P (find_kernel_type 10000 vs n) _ tt λ k us m f.
     made_found P (λ c. (v, c, k)) (find_code 400 0 us 20000) tt λ c rest l g.
     let word = word_spelled version_of ws 10000 v vs n e in
@@ -55,7 +55,7 @@ parts_stand ws =
       };
     }
 
-last_parts : (ws : List (List ℕ)) (x : Found (Version × Expression × KernelType)) (v : Version) (c : Expression)
+last_parts : (ws : List (List ℕ)) (x : Finding (Version × Expression × KernelType)) (v : Version) (c : Expression)
     (k : KernelType) → PartsStand ws x → last x ≡ Some (v, c, k) → AreParts ws v c k []
 last_parts ws None v c k s e = absurd (none-some (v, c, k) e)
 last_parts ws (Some (found, [], n)) v c k s e =

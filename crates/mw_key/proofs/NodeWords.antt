@@ -1,25 +1,25 @@
 -- How what is found goes on, and what the first word of a node is.
 use Rattle.std.proofs.Common.{◌≡◌, ℕ, zero, suc, List, [], ◌∷◌, refl, ap, subst, Option, Some, None}
 use Rattle.std.proofs.lemmas.Option.{none-some, same_Some}
-use Rattle.mw_key.specs.Reading.{Found, then_find, make, spelled, find_word, find_node}
+use Rattle.mw_key.specs.Reading.{Finding, then_find, make, spelled, find_word, find_node}
 
 -- a fact of what is found after another thing
-pub after_found : {A B : Type 0} (P : Found B → Type 0) (x : Found A) (next : A → List (List ℕ) → ℕ → Found B) → P None
+pub after_found : {A B : Type 0} (P : Finding B → Type 0) (x : Finding A) (next : A → List (List ℕ) → ℕ → Finding B) → P None
     → ((a : A) (ws : List (List ℕ)) (n : ℕ) → x ≡ Some (a, ws, n) → P (next a ws n)) → P (then_find x next)
 after_found P None next none some = none
 after_found P (Some found) next none some = some found.0 found.1 found.2 refl
 
-pub made_found : {A B : Type 0} (P : Found B → Type 0) (f : A → B) (x : Found A) → P None
+pub made_found : {A B : Type 0} (P : Finding B → Type 0) (f : A → B) (x : Finding A) → P None
     → ((a : A) (ws : List (List ℕ)) (n : ℕ) → x ≡ Some (a, ws, n) → P (Some (f a, ws, n))) → P (make f x)
 made_found P f None none some = none
 made_found P f (Some found) none some = some found.0 found.1 found.2 refl
 
 -- what is found where the thing before it is known
-pub then_at : {A B : Type 0} {x : Found A} {a : A} {ws : List (List ℕ)} {n : ℕ} (next : A → List (List ℕ) → ℕ → Found B)
+pub then_at : {A B : Type 0} {x : Finding A} {a : A} {ws : List (List ℕ)} {n : ℕ} (next : A → List (List ℕ) → ℕ → Finding B)
     → x ≡ Some (a, ws, n) → then_find x next ≡ next a ws n
 then_at next e = ap (λ y. then_find y next) e
 
-pub make_at : {A B : Type 0} {x : Found A} {a : A} {ws : List (List ℕ)} {n : ℕ} (f : A → B) → x ≡ Some (a, ws, n)
+pub make_at : {A B : Type 0} {x : Finding A} {a : A} {ws : List (List ℕ)} {n : ℕ} (f : A → B) → x ≡ Some (a, ws, n)
     → make f x ≡ Some (f a, ws, n)
 make_at f e = ap (make f) e
 

@@ -7,12 +7,12 @@ use Rattle.mw_key.specs.CanonicalText.{IsTextOf}
 use Rattle.mw_key.specs.declared.fault.TextFault.{TextFault}
 use Rattle.mw_key.specs.declared.fault.TextFault.TheVariants.{BadText}
 use Rattle.mw_key.specs.declared.version.Version.{Version}
-use Rattle.mw_key.specs.Reading.{Found, then_find, make, past, last, words, find_version, find_kernel_type, find_code}
+use Rattle.mw_key.specs.Reading.{Finding, then_find, make, past, last, words, find_version, find_kernel_type, find_code}
 use Rattle.mw_key.specs.Reading.{text_of_words, AnswersType}
 use Rattle.mw_key.proofs.FoundTexts.{text_found, text_from}
 
 -- what is left after what is made of a thing is left after the thing
-pub past_make : {A B : Type 0} (f : A → B) (x : Found A) → past (make f x) ≡ past x
+pub past_make : {A B : Type 0} (f : A → B) (x : Finding A) → past (make f x) ≡ past x
 past_make f None = refl
 past_make f (Some x) = refl
 
@@ -24,25 +24,25 @@ abbrev pub then_pass : Left → (List (List ℕ) → ℕ → Left) → Left
 then_pass None next = None
 then_pass (Some left) next = next left.0 left.1
 
-pub past_two : {A B C : Type 0} (f : A → B → C) (x : Found A) (next : List (List ℕ) → ℕ → Found B)
+pub past_two : {A B C : Type 0} (f : A → B → C) (x : Finding A) (next : List (List ℕ) → ℕ → Finding B)
     → past (then_find x λ a ws n. make (f a) (next ws n)) ≡ then_pass (past x) (λ ws n. past (next ws n))
 past_two f None next = refl
 past_two f (Some x) next = past_make (f x.0) (next x.1 x.2)
 
-pub past_three : {A B C D : Type 0} (f : A → B → C → D) (x : Found A) (next : List (List ℕ) → ℕ → Found B)
-    (last : List (List ℕ) → ℕ → Found C)
+pub past_three : {A B C D : Type 0} (f : A → B → C → D) (x : Finding A) (next : List (List ℕ) → ℕ → Finding B)
+    (last : List (List ℕ) → ℕ → Finding C)
     → past (then_find x λ a ws n. then_find (next ws n) λ b ws n. make (f a b) (last ws n))
     ≡ then_pass (past x) (λ ws n. then_pass (past (next ws n)) (λ ws n. past (last ws n)))
 past_three f None next last = refl
 past_three f (Some x) next last = past_two (f x.0) (next x.1 x.2) last
 
-some_past : {A : Type 0} (x : Found A) (ws : List (List ℕ)) (n : ℕ) → past x ≡ Some (ws, n)
+some_past : {A : Type 0} (x : Finding A) (ws : List (List ℕ)) (n : ℕ) → past x ≡ Some (ws, n)
     → (a : A) × (x ≡ Some (a, ws, n))
 some_past None ws n h = absurd (cc)
 some_past (Some x) ws n h =
     (x.0, λ i. Some (x.0, (same_Some (x.1, x.2) (ws, n) h i).0, (same_Some (x.1, x.2) (ws, n) h i).1))
 
-none_past : {A : Type 0} (x : Found A) → past x ≡ None → x ≡ None
+none_past : {A : Type 0} (x : Finding A) → past x ≡ None → x ≡ None
 none_past None h = refl
 none_past (Some x) h = absurd (cc)
 

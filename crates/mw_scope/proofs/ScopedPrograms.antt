@@ -4,6 +4,7 @@ use Rattle.std.proofs.Common.{Some, None, refl, ap, sym, subst, arith, append_as
 use Rattle.std.specs.Prelude.{map, slice_get, ◌&&◌}
 use Rattle.std.specs.Option.{option_map}
 use Rattle.std.proofs.lemmas.Option.{same_Some, none-some}
+use Rattle.mw_list.proofs.Conjunctions.{both_true}
 use Rattle.mw_term.specs.Terms.{Expression}
 use Rattle.mw_term.specs.Programs.{Definition, value, kernel, IsSyntacticValue}
 use Rattle.mw_term.specs.Typing.{TopLevel}
@@ -62,10 +63,6 @@ scoped names s (n_close d) = (refl, scoped names s d)
 scoped names s (n_open d) = (refl, scoped names s d)
 scoped names s (n_lift d) = (refl, scoped names s d)
 scoped names s (n_lift_b d) = (refl, scoped names s d)
-
-both_true : (a b : Bool) → (a && b) ≡ true → (a ≡ true) × (b ≡ true)
-both_true true b e = (refl, e)
-both_true false b e = absurd (cc e)
 
 -- a value of the surface is one without names
 is_syntactic : {tops : TopNames} {g : List Binder} {m : Level} {t : SurfaceTree} {e : Expression}

@@ -6,7 +6,7 @@ use native.Mathlib.Nat.{mod-lt}
 use Rattle.std.proofs.lemmas.Option.{same_Some, none-some, slice_get_within, slice_get-get_or}
 use Rattle.std.proofs.lemmas.Bool.{cases_lt, false≢true, eqb-true}
 use Rattle.mw_slots.specs.Core.{Name, going, has, no_room, Asker, asker, State, Event, begin, look, fill, empty}
-use Rattle.mw_slots.specs.Core.{with_asker, Holds, place, next, IsOther, Steps, Follows, Core}
+use Rattle.mw_slots.specs.Core.{with_asker, HasName, place, next, IsOther, Steps, Follows, Core}
 
 slice_get_set_same : {X : Type 0} (xs : List X) (i : ℕ) (v : X) → i < length xs → slice_get (set xs i v) i ≡ Some v
 slice_get_set_same [] i v h = absurd (omega arith)
@@ -29,7 +29,7 @@ with_cases : (f : ℕ → Option Asker) (w : ℕ) (a : Asker) (v : ℕ) (b : Ask
     → ((v ≡ w) × (a ≡ b)) ⊎ (f v ≡ Some b)
 with_cases f w a v b h = with_by f v w a b (eqb v w) (λ e. eqb-true v w e) h
 
-empty_holds : (n i : ℕ) (t : Name) → Holds (replicate n None) i t → ⊥
+empty_holds : (n i : ℕ) (t : Name) → HasName (replicate n None) i t → ⊥
 empty_holds zero i t h = none-some (Some t) h
 empty_holds (suc n) zero t h = none-some t (same_Some None (Some t) h)
 empty_holds (suc n) (suc i) t h = empty_holds n i t h
@@ -40,12 +40,12 @@ length_empty (suc n) = ap suc (length_empty n)
 
 -- a slot of the table is empty or filled
 slot_by : (slots : List (Option Name)) (i : ℕ) (v : Option Name) → slice_get slots i ≡ Some v
-    → (slice_get slots i ≡ Some None) ⊎ ((y : Name) × Holds slots i y)
+    → (slice_get slots i ≡ Some None) ⊎ ((y : Name) × HasName slots i y)
 slot_by slots i None e = inl e
 slot_by slots i (Some y) e = inr (y, e)
 
 slot_cases : (slots : List (Option Name)) (i : ℕ) → i < length slots → (slice_get slots i ≡ Some None)
-    ⊎ ((y : Name) × Holds slots i y)
+    ⊎ ((y : Name) × HasName slots i y)
 slot_cases slots i h = slot_by slots i (get_or slots i None) (slice_get-get_or slots i None h)
 
 -- two names are one or not
@@ -69,7 +69,7 @@ module _ (home : Name → ℕ) where
   record Knows (slots : List (Option Name)) (a : Asker) : Type 0 where
     others : (k : ℕ) → k < a.passed → IsOther home slots a.name k
     near : a.standing ≡ going → a.passed < 16
-    mine : a.standing ≡ has → (a.passed < 16) × Holds slots (next home slots a) a.name
+    mine : a.standing ≡ has → (a.passed < 16) × HasName slots (next home slots a) a.name
     sixteen : a.standing ≡ no_room → a.passed ≡ 16
 
   abbrev Placed : List (Option Name) → ℕ → Name → Type 0
@@ -77,12 +77,12 @@ module _ (home : Name → ℕ) where
 
   record Fine (s : State) : Type 0 where
     knows : (w : ℕ) (a : Asker) → s.askers w ≡ Some a → Knows s.slots a
-    placed : (i : ℕ) (t : Name) → Holds s.slots i t → Placed s.slots i t
+    placed : (i : ℕ) (t : Name) → HasName s.slots i t → Placed s.slots i t
 
   -- the slots are as many, and what was filled stays
   record Grows (slots slots' : List (Option Name)) : Type 0 where
     long : length slots' ≡ length slots
-    stays : (i : ℕ) (t : Name) → Holds slots i t → Holds slots' i t
+    stays : (i : ℕ) (t : Name) → HasName slots i t → HasName slots' i t
 
   grows_same : (slots : List (Option Name)) → Grows slots slots
   grows_same slots = record { long = refl; stays = λ i t h. h }
@@ -91,8 +91,8 @@ module _ (home : Name → ℕ) where
   grows_on a b c g h = record { long = h.long ∙ g.long; stays = λ i t x. h.stays i t (g.stays i t x) }
 
   holds_on : (slots slots' : List (Option Name)) → Grows slots slots' → (t u : Name) (k : ℕ)
-      → Holds slots (place home slots t k) u → Holds slots' (place home slots' t k) u
-  holds_on slots slots' g t u k h = subst (λ (n : ℕ). Holds slots' ((home t + k) % n) u) (sym g.long)
+      → HasName slots (place home slots t k) u → HasName slots' (place home slots' t k) u
+  holds_on slots slots' g t u k h = subst (λ (n : ℕ). HasName slots' ((home t + k) % n) u) (sym g.long)
       (g.stays (place home slots t k) u h)
 
   other_on : (slots slots' : List (Option Name)) → Grows slots slots' → (t : Name) (k : ℕ) → IsOther home slots t k
@@ -119,7 +119,7 @@ module _ (home : Name → ℕ) where
 
   -- one asker changed, and the slots stayed or grew
   fine_with : (s : State) (slots' : List (Option Name)) (w : ℕ) (a : Asker) → Fine s → Grows s.slots slots'
-      → Knows slots' a → ((i : ℕ) (t : Name) → Holds slots' i t → Placed slots' i t)
+      → Knows slots' a → ((i : ℕ) (t : Name) → HasName slots' i t → Placed slots' i t)
       → Fine (record { slots = slots'; askers = with_asker s.askers w a })
   fine_with s slots' w a fine g knows placed = record {
     knows = λ v b h. elim (with_cases s.askers w a v b h) [
@@ -138,11 +138,11 @@ module _ (home : Name → ℕ) where
   grows_set slots i t free = record {
     long = length-set slots i (Some t);
     stays = λ j u h. slice_get_set_other slots i j (Some t)
-        (λ e. none-some u (same_Some None (Some u) (sym free ∙ subst (λ (n : ℕ). Holds slots n u) e h))) ∙ h;
+        (λ e. none-some u (same_Some None (Some u) (sym free ∙ subst (λ (n : ℕ). HasName slots n u) e h))) ∙ h;
   }
 
   set_by : (slots : List (Option Name)) (i : ℕ) (t : Name) (j : ℕ) (u : Name) (x : Bool) → eqb j i ≡ x
-      → slice_get slots i ≡ Some None → Holds (set slots i (Some t)) j u → ((j ≡ i) × (t ≡ u)) ⊎ Holds slots j u
+      → slice_get slots i ≡ Some None → HasName (set slots i (Some t)) j u → ((j ≡ i) × (t ≡ u)) ⊎ HasName slots j u
   set_by slots i t j u true e free h =
       let is : j ≡ i = eqb-true j i e in
       let now : slice_get (set slots i (Some t)) i ≡ Some (Some t) = slice_get_set_same slots i (Some t)
@@ -150,13 +150,13 @@ module _ (home : Name → ℕ) where
       inl (
         is,
         same_Some t u
-            (same_Some (Some t) (Some u) (sym now ∙ subst (λ (n : ℕ). Holds (set slots i (Some t)) n u) is h)),
+            (same_Some (Some t) (Some u) (sym now ∙ subst (λ (n : ℕ). HasName (set slots i (Some t)) n u) is h)),
       )
   set_by slots i t j u false e free h =
       inr (sym (slice_get_set_other slots i j (Some t) (λ is. false≢true (sym e ∙ eq-eqb j i is))) ∙ h)
 
   set_cases : (slots : List (Option Name)) (i : ℕ) (t : Name) (j : ℕ) (u : Name) → slice_get slots i ≡ Some None
-      → Holds (set slots i (Some t)) j u → ((j ≡ i) × (t ≡ u)) ⊎ Holds slots j u
+      → HasName (set slots i (Some t)) j u → ((j ≡ i) × (t ≡ u)) ⊎ HasName slots j u
   set_cases slots i t j u free h = set_by slots i t j u (eqb j i) refl free h
 
   others_upto : (slots : List (Option Name)) (t : Name) (p : ℕ) → ((k : ℕ) → k < p → IsOther home slots t k)
@@ -210,7 +210,7 @@ module _ (home : Name → ℕ) where
               others = k.others;
               near = λ x. absurd (cc x);
               mine = λ x.
-                  (near, subst (Holds s.slots (next home s.slots a)) e.0 h.4);
+                  (near, subst (HasName s.slots (next home s.slots a)) e.0 h.4);
               sixteen = λ x. absurd (cc x);
             } in
             subst (Goes s) (sym e.1) record {
@@ -235,16 +235,16 @@ module _ (home : Name → ℕ) where
       let k : Knows s.slots a = fine.knows w a h.1 in let near : a.passed < 16 = k.near h.2 in
       let g : Grows s.slots slots' = grows_set s.slots i a.name h.3 in
       let at : next home slots' a ≡ i = ap (λ (n : ℕ). (home a.name + a.passed) % n) g.long in
-      let now : Holds slots' i a.name = slice_get_set_same s.slots i (Some a.name)
+      let now : HasName slots' i a.name = slice_get_set_same s.slots i (Some a.name)
       (slice_get_within s.slots i None h.3) in
       let k' : Knows slots' (asker a.name a.passed has) = record {
         others = λ j n. other_on s.slots slots' g a.name j (k.others j n);
         near = λ x. absurd (cc x);
-        mine = λ x. (near, subst (λ (n : ℕ). Holds slots' n a.name) (sym at) now);
+        mine = λ x. (near, subst (λ (n : ℕ). HasName slots' n a.name) (sym at) now);
         sixteen = λ x. absurd (cc x);
       } in
       let mine : Placed slots' i a.name = (a.passed, near, sym at, k'.others) in
-      let placed' : (j : ℕ) (t : Name) → Holds slots' j t → Placed slots' j t = λ j t x.
+      let placed' : (j : ℕ) (t : Name) → HasName slots' j t → Placed slots' j t = λ j t x.
       elim (set_cases s.slots i a.name j t h.3 x) [
         | inl e ↦ subst (λ (n : ℕ). Placed slots' n t) (sym e.0) (subst (Placed slots' i) e.1 mine)
         | inr old ↦ placed_on s.slots slots' g j t (fine.placed j t old)
@@ -263,13 +263,13 @@ module _ (home : Name → ℕ) where
       record { grows = grows_on s.slots h.0.slots s'.slots one.grows rest.grows; fine = rest.fine }
 
   -- where one name stood at two places of its window, the later place would hold another name
-  two_places : (slots : List (Option Name)) (i j : ℕ) (t : Name) → Holds slots i t → (p : Placed slots i t)
+  two_places : (slots : List (Option Name)) (i j : ℕ) (t : Name) → HasName slots i t → (p : Placed slots i t)
       → (q : Placed slots j t) → p.0 < q.0 → ⊥
   two_places slots i j t h p q less =
       let o : IsOther home slots t p.0 = q.3 p.0 less in
-      o.2 (same_Some o.0 t (same_Some (Some o.0) (Some t) (sym o.1 ∙ subst (λ (n : ℕ). Holds slots n t) p.2 h)))
+      o.2 (same_Some o.0 t (same_Some (Some o.0) (Some t) (sym o.1 ∙ subst (λ (n : ℕ). HasName slots n t) p.2 h)))
 
-  one_place : (slots : List (Option Name)) (i j : ℕ) (t : Name) → Holds slots i t → Holds slots j t
+  one_place : (slots : List (Option Name)) (i j : ℕ) (t : Name) → HasName slots i t → HasName slots j t
       → (p : Placed slots i t) → (q : Placed slots j t) → i ≡ j
   one_place slots i j t h g p q =
       let first : p.0 < q.0 → ⊥ = two_places slots i j t h p q in let second : q.0 < p.0 → ⊥ =

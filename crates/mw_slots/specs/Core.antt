@@ -40,8 +40,8 @@ abbrev pub with_asker : (ℕ → Option Asker) → ℕ → Asker → ℕ → Opt
 with_asker askers w a v = if v == w then Some a else askers v
 
 -- the slot is filled, by an entry of this name
-abbrev pub Holds : List (Option Name) → ℕ → Name → Type 0
-Holds slots i x = slice_get slots i ≡ Some (Some x)
+abbrev pub HasName : List (Option Name) → ℕ → Name → Type 0
+HasName slots i x = slice_get slots i ≡ Some (Some x)
 
 module _ (home : Name → ℕ) where
   -- the slot at place k of a name's window, which goes round the end of the table
@@ -54,7 +54,7 @@ module _ (home : Name → ℕ) where
 
   -- place k of a name's window holds another name
   abbrev pub IsOther : List (Option Name) → Name → ℕ → Type 0
-  IsOther slots x k = (y : Name) × Holds slots (place slots x k) y × (y ≢ x)
+  IsOther slots x k = (y : Name) × HasName slots (place slots x k) y × (y ≢ x)
 
   -- what one event does
   abbrev pub Steps : State → Event → State → Type 0
@@ -62,7 +62,7 @@ module _ (home : Name → ℕ) where
       (s.askers w ≡ None)
       × (s' ≡ record { slots = s.slots; askers = with_asker s.askers w (asker x 0 going) })
   Steps s (look w) s' =
-      (a : Asker) × (y : Name) × (s.askers w ≡ Some a) × (a.standing ≡ going) × Holds s.slots (next s.slots a) y
+      (a : Asker) × (y : Name) × (s.askers w ≡ Some a) × (a.standing ≡ going) × HasName s.slots (next s.slots a) y
       × (((y ≡ a.name) × (s' ≡ record { slots = s.slots; askers = with_asker s.askers w (asker a.name a.passed has) }))
       ⊎ ((y ≢ a.name)
       × (s' ≡ record {
@@ -84,12 +84,12 @@ module _ (home : Name → ℕ) where
   -- what holds after any events, `before`, and after more of them
   pub record Core (before after : State) : Type 0 where
     -- a filled slot never changes
-    pub kept : (i : ℕ) (x : Name) → Holds before.slots i x → Holds after.slots i x
+    pub kept : (i : ℕ) (x : Name) → HasName before.slots i x → HasName after.slots i x
     -- a name stands in one slot at most
-    pub once : (i j : ℕ) (x : Name) → Holds after.slots i x → Holds after.slots j x → i ≡ j
+    pub once : (i j : ℕ) (x : Name) → HasName after.slots i x → HasName after.slots j x → i ≡ j
     -- an asker that has a slot has one that holds its name
     pub has_name : (w : ℕ) (a : Asker) → after.askers w ≡ Some a → a.standing ≡ has
-        → Holds after.slots (next after.slots a) a.name
+        → HasName after.slots (next after.slots a) a.name
     -- an asker without room has found sixteen slots that hold other names
     pub sixteen_others : (w : ℕ) (a : Asker) → after.askers w ≡ Some a → a.standing ≡ no_room
         → (k : ℕ) → k < 16 → IsOther after.slots a.name k
@@ -97,7 +97,7 @@ module _ (home : Name → ℕ) where
     pub passed : (w : ℕ) (a : Asker) → after.askers w ≡ Some a
         → (k : ℕ) → k < a.passed → IsOther after.slots a.name k
     -- a name stands in its window, and all earlier places of the window hold other names
-    pub in_window : (i : ℕ) (x : Name) → Holds after.slots i x
+    pub in_window : (i : ℕ) (x : Name) → HasName after.slots i x
         → (k : ℕ) × (k < 16) × (i ≡ place after.slots x k) × ((j : ℕ) → j < k → IsOther after.slots x j)
     -- an asker that goes on can look at its next slot, or fill it
     pub goes_on : (w : ℕ) (a : Asker) → after.askers w ≡ Some a → a.standing ≡ going

@@ -4,7 +4,7 @@ use Rattle.std.specs.List.{AllByRecursion}
 use Rattle.mw_store.specs.Records.{Kept, record_bytes, file_of, IsWhole}
 use Rattle.mw_store.specs.Loads.{Begins, LoadState, kept_of, with_record, firsts, file_limit}
 use Rattle.mw_store.specs.Whole.{kept_in}
-use Rattle.mw_store.specs.declared.whole.Found.{Found}
+use Rattle.mw_store.specs.declared.whole.WholeRecord.{WholeRecord}
 
 -- the load is of whole records that begin the bytes
 pub record IsLoadedTo (bytes : List ℕ) (load : LoadState) : Type 0 where
@@ -21,7 +21,7 @@ abbrev pub NoneBegins : List ℕ → ℕ → Type 0
 NoneBegins bytes good = (r : Kept) → Begins (drop good bytes) r → file_limit < good + length (record_bytes r)
 
 -- a record that may be counted after so many bytes
-pub record LoadsUpTo (f : Found) (good : ℕ) : Type 0 where
+pub record LoadsUpTo (f : WholeRecord) (good : ℕ) : Type 0 where
   pub whole : IsWhole (kept_in f)
   pub within : good + length (record_bytes (kept_in f)) ≤ file_limit
 

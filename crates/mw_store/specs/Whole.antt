@@ -9,7 +9,7 @@ use Rattle.mw_wasm.specs.Syntax.{PureModule}
 use Rattle.mw_wasm.specs.Validity.{IsValid}
 use Rattle.mw_store.specs.Records.{Kept, record_bytes, HasModule}
 use Rattle.mw_store.specs.Loads.{Begins}
-use Rattle.mw_store.specs.declared.whole.Found.{Found}
+use Rattle.mw_store.specs.declared.whole.WholeRecord.{WholeRecord}
 
 -- the text of some code at the type
 abbrev pub IsTyped : List ℕ → KernelType → Type 0
@@ -49,10 +49,10 @@ abbrev pub NoKernelModule : List ℕ → List ℕ → Type 0
 NoKernelModule text bytes = (m : PureModule) → IsKernelModule text bytes m → ⊥
 
 -- what was found is kept of this
-abbrev pub kept_in : Found → Kept
+abbrev pub kept_in : WholeRecord → Kept
 kept_in f = record { text = f.text.now; bytes = f.bytes.now }
 
 -- the whole record that begins the bytes, and isn't longer than the room; or each one that begins them is longer
-abbrev pub IsFoundIn : Option Found → List ℕ → ℕ → Type 0
+abbrev pub IsFoundIn : Option WholeRecord → List ℕ → ℕ → Type 0
 IsFoundIn None bytes room = (r : Kept) → Begins bytes r → room < length (record_bytes r)
 IsFoundIn (Some f) bytes room = Begins bytes (kept_in f) × (length (record_bytes (kept_in f)) ≤ room)

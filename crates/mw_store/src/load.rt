@@ -14,7 +14,7 @@ ghost use Rattle.mw_store.specs.Loading.{IsLoadedTo, NoneBegins, TakesFound, Loa
 ghost use Rattle.mw_store.specs.Whole.{kept_in, IsKernelModule};
 
 use crate::loaded::LoadedModule;
-use crate::whole::{Found, whole_record};
+use crate::whole::{WholeRecord, whole_record};
 use indexmap::IndexMap;
 use mw_key::{TextFault, Version, read_text};
 use mw_term::{KType, Term};
@@ -160,7 +160,7 @@ impl Load {
     }
 
     /// Counts a whole record, and keeps it where its text is new.
-    fn keep(&mut self, alloc: Global, found: Found<'_>) -> Result<(), AllocError>
+    fn keep(&mut self, alloc: Global, found: WholeRecord<'_>) -> Result<(), AllocError>
         requires { LoadsUpTo found self.old.good }
         ensures { OnOk result (TakesFound (kept_in found.entry) self.old self.new) }
     {
@@ -172,7 +172,7 @@ impl Load {
     }
 
     /// Keeps a record of a new text.
-    fn insert(&mut self, alloc: Global, found: Found<'_>) -> Result<(), AllocError>
+    fn insert(&mut self, alloc: Global, found: WholeRecord<'_>) -> Result<(), AllocError>
         requires more { length self.old.records < self.old.good }
         requires other { position (λ l. bytes_eq found.text.now l.text) self.old.records ≡ None }
         requires whole { IsWhole (kept_in found) }

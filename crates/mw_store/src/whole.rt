@@ -20,7 +20,7 @@ use std::alloc::{AllocError, Global};
 
 /// A whole record: its text, and its module's bytes.
 #[derive(Drop)]
-pub(crate) struct Found<'a> {
+pub(crate) struct WholeRecord<'a> {
     pub(crate) text: &'a [u8],
     pub(crate) bytes: &'a [u8],
 }
@@ -30,7 +30,7 @@ pub(crate) fn whole_record(
     alloc: Global,
     bytes: &[u8],
     room: usize,
-) -> Result<Option<Found<'_>>, AllocError>
+) -> Result<Option<WholeRecord<'_>>, AllocError>
     requires room { room ≤ file_limit }
     ensures { IfOk result (λ found. IsFoundIn found bytes.now room) }
 {
@@ -47,7 +47,7 @@ pub(crate) fn whole_record(
     if !has_kernel_module(alloc, text, module)? {
         return Ok(None);
     }
-    Ok(Some(Found {
+    Ok(Some(WholeRecord {
         text,
         bytes: module,
     }))
@@ -124,7 +124,7 @@ pub(crate) fn sound_module(alloc: Global, bytes: &[u8]) -> Result<Option<Valid>,
     }
 }
 
-impl Found<'_> {
+impl WholeRecord<'_> {
     /// How many bytes the record has.
     pub(crate) fn len(&self) -> usize
         requires { length (record_bytes (kept_in self.now)) ≤ file_limit }

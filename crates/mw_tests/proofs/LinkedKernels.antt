@@ -5,7 +5,7 @@ use Rattle.std.specs.List.{AllByRecursion}
 use Rattle.std.specs.Cmp.Lexicographic.{pointwise, bytes_decides}
 use Rattle.std.proofs.lemmas.Bool.{leb-true}
 use Rattle.mw_wasm.specs.Profile.{IsPrintable}
-use Rattle.mw_wasm.proofs.Arguments.{both_true}
+use Rattle.mw_list.proofs.Conjunctions.{both_true}
 use Rattle.mw_link.specs.LinkLaw.{IsLinkable, AreLinkable}
 use Rattle.mw_tests.specs.LinkedKernels.{seven_named, longest_name, sevens_of_five_names}
 

@@ -33,7 +33,8 @@ use Rattle.mw_wasm.specs.Validity.{of_call, of_call_indirect, of_local_get, of_l
 use Rattle.mw_wasm.specs.Validity.{of_global_set, of_load, of_store, of_memory_size, of_memory_grow, of_numeric}
 use Rattle.mw_wasm.specs.Validity.{IsValidFunction, IsValid, load_type}
 use Rattle.mw_wasm.proofs.Acts.{for_true}
-use Rattle.mw_wasm.proofs.Arguments.{both_true, same_all}
+use Rattle.mw_list.proofs.Conjunctions.{both_true}
+use Rattle.mw_wasm.proofs.Arguments.{same_all}
 use Rattle.mw_wasm.specs.StateTypes.{IsElementOf, StoreIsTyped, OperandsAreTyped, context_inside, behind, again}
 use Rattle.mw_wasm.specs.ActTypes.{ActIsTyped}
 use Rattle.mw_wasm.proofs.OperandTypes.{types_above, operands_below, operand_pushed, types_taken, types_dropped}

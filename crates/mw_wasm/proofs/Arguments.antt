@@ -1,6 +1,7 @@
 -- Types of arguments, compared.
 use Rattle.std.proofs.Common.{◌≡◌, Bool, true, false, ◌&&◌, List, [], ◌∷◌, refl, sym, ap, subst, lit<, lit≤}
 use Rattle.std.specs.Prelude.{map}
+use Rattle.mw_list.proofs.Conjunctions.{both_true}
 use Rattle.mw_wasm.specs.declared.values.ValType.{ValType}
 use Rattle.mw_wasm.specs.declared.values.ValType.TheVariants.{I32, I64}
 use Rattle.mw_wasm.specs.declared.values.Value.{Value}
@@ -16,10 +17,6 @@ same_one I32 I32 e = refl
 same_one I64 I64 e = refl
 same_one I32 I64 e = absurd (cc)
 same_one I64 I32 e = absurd (cc)
-
-pub both_true : (a b : Bool) → (a && b) ≡ true → (a ≡ true) × (b ≡ true)
-both_true true b e = (refl, e)
-both_true false b e = absurd (cc)
 
 -- types that compare as the same are the same
 pub same_all : (a b : List ValType) → same_value_types a b ≡ true → a ≡ b

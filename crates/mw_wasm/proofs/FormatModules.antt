@@ -16,7 +16,7 @@ use Rattle.mw_wasm.specs.BinaryModules.{section, import_section, customs, at_mos
 use Rattle.mw_wasm.proofs.FormatPieces.{Agree, Whole, behind, agree_whole, agree_so, agree_byte, agree_octet}
 use Rattle.mw_wasm.proofs.FormatPieces.{agree_then, agree_u32, agree_parts, agree_vector, agree_sized}
 use Rattle.mw_wasm.proofs.FormatInstructions.{agree_value_type, agree_index, agree_expression}
-use Rattle.mw_wasm.proofs.FormatSections.{Found, Behind, IsNone, Tails, found_end, found_more, found_import, tails_end}
+use Rattle.mw_wasm.proofs.FormatSections.{FoundSections, Behind, IsNone, Tails, found_end, found_more, found_import, tails_end}
 use Rattle.mw_wasm.proofs.FormatSections.{tails_more, found_agree, Section}
 
 agree_function_type : (t u : FuncType) → Agree (function_type t) (function_type u) (t ≡ u)
@@ -189,7 +189,7 @@ from_2 m = Behind 2 (Unit {0}) (u32 0) (from_3 m)
 abbrev from_1 : PureModule → List Section → Type 0
 from_1 m = Behind 1 (m.types ≡ []) (vector function_type m.types) (from_2 m)
 
-found : (m : PureModule) (bytes : List ℕ) → Sections m bytes → Found (from_1 m) bytes
+found : (m : PureModule) (bytes : List ℕ) → Sections m bytes → FoundSections (from_1 m) bytes
 found m = found_more 0
     (found_import
     (found_more 2

@@ -75,12 +75,12 @@ kept_customs [] ss = refl
 kept_customs (c ∷ cs) ss = kept_customs cs ss
 
 -- bytes that are sections, where L holds of those that aren't custom
-pub record Found (L : List Section → Type 0) (bytes : List ℕ) : Type 0 where
+pub record FoundSections (L : List Section → Type 0) (bytes : List ℕ) : Type 0 where
   pub all : List Section
   pub spelled : items any_section all bytes
   pub others : L (kept all)
 
-found_customs : {L : List Section → Type 0} (a b : List ℕ) → Customs a → Found L b → Found L (a ++ b)
+found_customs : {L : List Section → Type 0} (a b : List ℕ) → Customs a → FoundSections L b → FoundSections L (a ++ b)
 found_customs {L} a b p q = record {
   all = map custom p.contents ++ q.all;
   spelled = items_append (map custom p.contents) q.all a b (custom_items p.contents a p.spelled) q.spelled;
@@ -94,7 +94,7 @@ append_nil : (xs : List Section) → xs ++ [] ≡ xs
 append_nil [] = refl
 append_nil (x ∷ xs) = ap (λ t. x ∷ t) (append_nil xs)
 
-pub found_end : (a : List ℕ) → Customs a → Found IsNone a
+pub found_end : (a : List ℕ) → Customs a → FoundSections IsNone a
 found_end a p = record {
   all = map custom p.contents;
   spelled = custom_items p.contents a p.spelled;
@@ -113,10 +113,10 @@ abbrev pub Behind : ℕ → Type 0 → (List ℕ → Type 0) → (List Section �
 Behind k A Q L ss = (A × L ss) ⊎ Present k Q L ss
 
 found_section : (j : ℕ) {A : Type 0} {Q : List ℕ → Type 0} {L : List Section → Type 0} (a b : List ℕ)
-    → (nothing when A or byte (suc j) then sized Q) a → Found L b → Found (Behind (suc j) A Q L) (a ++ b)
+    → (nothing when A or byte (suc j) then sized Q) a → FoundSections L b → FoundSections (Behind (suc j) A Q L) (a ++ b)
 found_section j {A} {Q} {L} a b (inl p) q =
-    let P : List ℕ → Type 0 = λ c. Found (Behind (suc j) A Q L) (c ++ b) in
-    let here : Found (Behind (suc j) A Q L) b =
+    let P : List ℕ → Type 0 = λ c. FoundSections (Behind (suc j) A Q L) (c ++ b) in
+    let here : FoundSections (Behind (suc j) A Q L) b =
     record { all = q.all; spelled = q.spelled; others = inl (p.0, q.others) } in
     subst P (sym p.1) here
 found_section j {A} {Q} {L} a b (inr p) q = record {
@@ -153,24 +153,24 @@ found_section j {A} {Q} {L} a b (inr p) q = record {
 
 -- custom sections, section j + 1 or none, and the rest
 pub found_more : (j : ℕ) {A : Type 0} {Q T : List ℕ → Type 0} {L : List Section → Type 0}
-    → ((b : List ℕ) → T b → Found L b)
+    → ((b : List ℕ) → T b → FoundSections L b)
     → (bytes : List ℕ) → (customs then (nothing when A or byte (suc j) then sized Q) then T) bytes
-    → Found (Behind (suc j) A Q L) bytes
+    → FoundSections (Behind (suc j) A Q L) bytes
 found_more j {A} {Q} {T} {L} found bytes p =
     let r = p.second in
-    let inner : Found (Behind (suc j) A Q L) (r.front ++ r.back) = found_section j {A = A} {Q = Q} {L = L} r.front
+    let inner : FoundSections (Behind (suc j) A Q L) (r.front ++ r.back) = found_section j {A = A} {Q = Q} {L = L} r.front
     r.back r.first (found r.back r.second) in
-    let outer : Found (Behind (suc j) A Q L) (p.front ++ (r.front ++ r.back)) =
+    let outer : FoundSections (Behind (suc j) A Q L) (p.front ++ (r.front ++ r.back)) =
     found_customs p.front (r.front ++ r.back) p.first inner in
-    subst (λ c. Found (Behind (suc j) A Q L) c) (sym (p.whole ∙ ap (λ t. p.front ++ t) r.whole)) outer
+    subst (λ c. FoundSections (Behind (suc j) A Q L) c) (sym (p.whole ∙ ap (λ t. p.front ++ t) r.whole)) outer
 
 with_unit : (a : List ℕ) → import_section a → (nothing when Unit {0} or byte 0x02 then sized (u32 0)) a
 with_unit a (inl p) = inl (tt, p)
 with_unit a (inr p) = inr p
 
 -- the same at the import section
-pub found_import : {T : List ℕ → Type 0} {L : List Section → Type 0} → ((b : List ℕ) → T b → Found L b)
-    → (bytes : List ℕ) → (customs then import_section then T) bytes → Found (Behind 2 (Unit {0}) (u32 0) L) bytes
+pub found_import : {T : List ℕ → Type 0} {L : List Section → Type 0} → ((b : List ℕ) → T b → FoundSections L b)
+    → (bytes : List ℕ) → (customs then import_section then T) bytes → FoundSections (Behind 2 (Unit {0}) (u32 0) L) bytes
 found_import {T} {L} found bytes p =
     let r = p.second in
     found_more 1 {A = Unit {0}} {Q = u32 0} {T = T} {L = L} found bytes (record {
@@ -246,7 +246,7 @@ tails_more j k {A} {A'} {E} {F} {Q} {Q'} {L} {L'} h tails inner absent = record 
 
 -- one list of bytes, one list of sections
 pub found_agree : {L L' : List Section → Type 0} {E : Type 0} (k : ℕ) → Tails k L L' E → (bytes : List ℕ)
-    → Found L bytes → Found L' bytes → E
+    → FoundSections L bytes → FoundSections L' bytes → E
 found_agree {L} {L'} {E} k tails bytes p q =
     let h : q.all ≡ p.all = same_sections q.all p.all bytes bytes q.spelled p.spelled refl in
     tails.agree (kept p.all) p.others (subst L' (ap kept h) q.others)

@@ -6,7 +6,7 @@ use Rattle.std.specs.Prelude.{if◌then◌else◌, nat_le}
 use Rattle.std.proofs.lemmas.Bool.{ne_eqb}
 use Rattle.std.proofs.lemmas.List.{append_assoc, append-nil, drop_all, take_all, take_more}
 use Rattle.mw_wat.specs.Tokens.{PureToken, left, right, word, string, Begins}
-use Rattle.mw_wat.specs.Lexing.{stop, token, is_blank, is_word_byte, is_plain, hex_value, Found, none, found, with_byte}
+use Rattle.mw_wat.specs.Lexing.{stop, token, is_blank, is_word_byte, is_plain, hex_value, Lexeme, none, found, with_byte}
 use Rattle.mw_wat.specs.Lexing.{with_digits, quotes, escaped, half_escaped, with_word_byte, whole_word, front}
 use Rattle.mw_wat.specs.Lexing.{without_blanks, onward, tokens_up_to, tokens}
 use Rattle.mw_wat.specs.Reading.{got, bad, place_of}
@@ -39,11 +39,11 @@ all_blank bytes n all p so_far =
 pub ruleset blank_laws = (blank_here, no_blank_here, all_blank)
 
 -- words
-abbrev pub with_word_bytes : List ℕ → Found → Found
+abbrev pub with_word_bytes : List ℕ → Lexeme → Lexeme
 with_word_bytes [] f = f
 with_word_bytes (b ∷ bytes) f = with_word_byte b (with_word_bytes bytes f)
 
-one_byte_more : (bytes : List ℕ) (b : ℕ) (f : Found) → with_word_bytes (bytes ++ b ∷ []) f ≡ with_word_bytes bytes
+one_byte_more : (bytes : List ℕ) (b : ℕ) (f : Lexeme) → with_word_bytes (bytes ++ b ∷ []) f ≡ with_word_bytes bytes
     (with_word_byte b f)
 one_byte_more [] b f = refl
 one_byte_more (c ∷ bytes) b f = ap (with_word_byte c) (one_byte_more bytes b f)
@@ -52,7 +52,7 @@ word_is : (bytes rest : List ℕ) → with_word_bytes bytes (found (word []) res
 word_is [] rest = refl
 word_is (b ∷ bytes) rest = ap (with_word_byte b) (word_is bytes rest)
 
-pub word_goes_on : (bytes : List ℕ) (n : ℕ) (all : Found) → n < length bytes → is_word_byte (get_or bytes n 0) ≡ true
+pub word_goes_on : (bytes : List ℕ) (n : ℕ) (all : Lexeme) → n < length bytes → is_word_byte (get_or bytes n 0) ≡ true
     → with_word_bytes (take n bytes) (whole_word (drop n bytes)) ≡ all
     → with_word_bytes (take (n + 1) bytes) (whole_word (drop (n + 1) bytes)) ≡ all
 word_goes_on bytes n all p e so_far =
@@ -68,7 +68,7 @@ word_goes_on bytes n all p e so_far =
     (get_or bytes n 0 ∷ drop (suc n) bytes))) e)
     ∙ (sym (ap (λ l. with_word_bytes (take n bytes) (whole_word l)) (drop-cons bytes n 0 p)) ∙ so_far))))
 
-pub word_ends : (bytes : List ℕ) (n : ℕ) (all : Found) → n < length bytes → is_word_byte (get_or bytes n 0) ≡ false
+pub word_ends : (bytes : List ℕ) (n : ℕ) (all : Lexeme) → n < length bytes → is_word_byte (get_or bytes n 0) ≡ false
     → with_word_bytes (take n bytes) (whole_word (drop n bytes)) ≡ all
     → all ≡ found (word (take n bytes)) (drop n bytes)
 word_ends bytes n all p e so_far =
@@ -81,7 +81,7 @@ word_ends bytes n all p e so_far =
     ∙ (word_is (take n bytes) (get_or bytes n 0 ∷ drop (suc n) bytes)
     ∙ ap (λ l. found (word (take n bytes)) l) (sym (drop-cons bytes n 0 p)))))
 
-pub word_is_all : (bytes : List ℕ) (n : ℕ) (all : Found) → length bytes ≤ n
+pub word_is_all : (bytes : List ℕ) (n : ℕ) (all : Lexeme) → length bytes ≤ n
     → with_word_bytes (take n bytes) (whole_word (drop n bytes)) ≡ all
     → all ≡ found (word (take (length bytes) bytes)) (drop (length bytes) bytes)
 word_is_all bytes n all p so_far =
@@ -95,18 +95,18 @@ word_is_all bytes n all p so_far =
 pub ruleset word_laws = (word_goes_on, word_ends, word_is_all)
 
 -- strings
-abbrev pub content_with : List ℕ → Found → List ℕ
+abbrev pub content_with : List ℕ → Lexeme → List ℕ
 content_with before (found (string bytes) rest) = before ++ bytes
 content_with before _ = []
 
-pub content_alone : (f : Found) → content_with [] f ≡ content f
+pub content_alone : (f : Lexeme) → content_with [] f ≡ content f
 content_alone none = refl
 content_alone (found left rest) = refl
 content_alone (found right rest) = refl
 content_alone (found (word w) rest) = refl
 content_alone (found (string w) rest) = refl
 
-content_more : (before : List ℕ) (b : ℕ) (f : Found) → content_with before (with_byte b f) ≡ content_with
+content_more : (before : List ℕ) (b : ℕ) (f : Lexeme) → content_with before (with_byte b f) ≡ content_with
     (before ++ b ∷ []) f
 content_more before b none = refl
 content_more before b (found left rest) = refl
@@ -129,7 +129,7 @@ pub content_none : (list now : List ℕ) (all : List ℕ) → quotes now ≡ non
     → [] ≡ all
 content_none list now all e so_far = sym (ap (content_with list) e) ∙ so_far
 
-behind_more : (b : ℕ) (f : Found) → behind (with_byte b f) ≡ behind f
+behind_more : (b : ℕ) (f : Lexeme) → behind (with_byte b f) ≡ behind f
 behind_more b none = refl
 behind_more b (found left rest) = refl
 behind_more b (found right rest) = refl
@@ -143,21 +143,21 @@ behind_goes_on b rest now all e so_far = sym (behind_more b (quotes rest)) ∙ (
 pub ruleset string_laws = (content_alone, content_goes_on, content_ends, content_none, behind_goes_on)
 
 -- the token at the front
-pub string_found : (f : Found) (rest : List ℕ) → behind f ≡ Some rest → f ≡ found (string (content f)) rest
+pub string_found : (f : Lexeme) (rest : List ℕ) → behind f ≡ Some rest → f ≡ found (string (content f)) rest
 string_found none rest e = cc
 string_found (found left r) rest e = cc
 string_found (found right r) rest e = cc
 string_found (found (word w) r) rest e = cc
 string_found (found (string w) r) rest e = let same : r ≡ rest = cc in ap (found (string w)) same
 
-no_string_with : (b : ℕ) (f : Found) → behind (with_byte b f) ≡ None → with_byte b f ≡ none
+no_string_with : (b : ℕ) (f : Lexeme) → behind (with_byte b f) ≡ None → with_byte b f ≡ none
 no_string_with b none e = refl
 no_string_with b (found left r) e = refl
 no_string_with b (found right r) e = refl
 no_string_with b (found (word w) r) e = refl
 no_string_with b (found (string w) r) e = cc
 
-no_digits : (h : ℕ) (o : Option ℕ) (f : Found) → behind (with_digits h o f) ≡ None → with_digits h o f ≡ none
+no_digits : (h : ℕ) (o : Option ℕ) (f : Lexeme) → behind (with_digits h o f) ≡ None → with_digits h o f ≡ none
 no_digits h None f e = refl
 no_digits h (Some l) f e = no_string_with (16 * h + l) f e
 
@@ -239,7 +239,7 @@ enough (suc n) (suc m) end bytes k l = by_front (λ rest p q. enough n m end res
     (front (without_blanks bytes)) refl
   where
     by_front : ((rest : List ℕ) → length rest < n → length rest < m
-        → tokens_up_to n end rest ≡ tokens_up_to m end rest) → (f : Found) → front (without_blanks bytes) ≡ f
+        → tokens_up_to n end rest ≡ tokens_up_to m end rest) → (f : Lexeme) → front (without_blanks bytes) ≡ f
         → onward (λ rest. tokens_up_to n end rest) (end - length (without_blanks bytes)) f
         ≡ onward (λ rest. tokens_up_to m end rest) (end - length (without_blanks bytes)) f
     by_front more none e = refl
@@ -252,7 +252,7 @@ pub tokens_are : (end : ℕ) (bytes : List ℕ) → tokens end bytes
 unfolding tokens
 tokens_are end bytes = by_front (front (without_blanks bytes)) refl
   where
-    by_front : (f : Found) → front (without_blanks bytes) ≡ f
+    by_front : (f : Lexeme) → front (without_blanks bytes) ≡ f
         → onward (λ rest. tokens_up_to (length bytes) end rest) (end - length (without_blanks bytes)) f
         ≡ onward (λ rest. tokens end rest) (end - length (without_blanks bytes)) f
     by_front none e = refl
@@ -277,7 +277,7 @@ next_none end bytes e =
 pub place_is : (end : ℕ) (bytes : List ℕ) → place_of (tokens end bytes) ≡ end - length (without_blanks bytes)
 place_is end bytes = ap place_of (tokens_are end bytes) ∙ by_front (front (without_blanks bytes))
   where
-    by_front : (f : Found) → place_of
+    by_front : (f : Lexeme) → place_of
         (onward (λ rest. tokens end rest) (end - length (without_blanks bytes)) f)
         ≡ end - length (without_blanks bytes)
     by_front none = refl

@@ -11,7 +11,7 @@ use Rattle.mw_wat.specs.Lexemes.{lexemes, tokens_of}
 use Rattle.mw_wat.specs.ModuleTexts.{Says, IsDead, IsTextOf, IsBadPlace, no_token, no_module, unfinished, too_long}
 use Rattle.mw_wat.specs.ModuleTexts.{IsFirstBadPlace}
 use Rattle.mw_wat.specs.Lexing as lexing
-use Rattle.mw_wat.specs.Lexing.{Tokens, stop, token, Found, none, found, is_blank, without_blanks, onward, tokens_up_to}
+use Rattle.mw_wat.specs.Lexing.{Tokens, stop, token, Lexeme, none, found, is_blank, without_blanks, onward, tokens_up_to}
 use Rattle.mw_wat.specs.Lexing.{tokens}
 use Rattle.mw_wat.specs.Reading.{got, bad, count, place_of}
 use Rattle.mw_wat.specs.Modules.{whole_module, up_to_end, limited, module_read}
@@ -60,7 +60,7 @@ tokens_rise zero end bytes = (tt, omega arith)
 tokens_rise (suc n) end bytes = by_front (λ rest. tokens_rise n end rest) (lexing.front (without_blanks bytes)) refl
   where
     by_front : ((rest : List ℕ) → Rising (tokens_up_to n end rest)
-        × (end - length rest ≤ place_of (tokens_up_to n end rest))) → (f : Found) → lexing.front
+        × (end - length rest ≤ place_of (tokens_up_to n end rest))) → (f : Lexeme) → lexing.front
         (without_blanks bytes) ≡ f
         → Rising (onward (λ rest. tokens_up_to n end rest) (end - length (without_blanks bytes)) f)
         × (end - length bytes ≤ place_of
@@ -87,7 +87,7 @@ none_stops : (m end : ℕ) (rest : List ℕ) → BeginsNone rest → tokens_up_t
 none_stops m end [] n = absurd n
 none_stops m end (b ∷ rest) n = by_blank (is_blank b) refl
   where
-    by_front : (f : Found) → lexing.front (b ∷ rest) ≡ f → onward (λ rest. tokens_up_to m end rest)
+    by_front : (f : Lexeme) → lexing.front (b ∷ rest) ≡ f → onward (λ rest. tokens_up_to m end rest)
         (end - length (b ∷ rest)) f ≡ stop (end - length (b ∷ rest))
     by_front none e = refl
     by_front (found t after) e = absurd (n.1 t after (front_back (b ∷ rest) t after e))

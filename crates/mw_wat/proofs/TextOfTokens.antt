@@ -8,7 +8,7 @@ use Rattle.std.proofs.lemmas.Bool.{and_parts, leb-true, eqb-true, false≢true, 
 use Rattle.mw_wat.specs.Tokens.{PureToken, left, right, word, string, IsBlank, IsWordByte, Quotes, nothing, plain}
 use Rattle.mw_wat.specs.Tokens.{escape, a_left, a_right, a_word, a_string, IsWhole, Begins, ReadsTo, so_far}
 use Rattle.mw_wat.specs.Tokens.{behind_blank, behind_token, BeginsNone}
-use Rattle.mw_wat.specs.Lexing.{Tokens, stop, token, is_blank, is_word_byte, is_plain, hex_value, Found, none, found}
+use Rattle.mw_wat.specs.Lexing.{Tokens, stop, token, is_blank, is_word_byte, is_plain, hex_value, Lexeme, none, found}
 use Rattle.mw_wat.specs.Lexing.{with_byte, with_digits, quotes, escaped, half_escaped, with_word_byte, whole_word}
 use Rattle.mw_wat.specs.Lexing.{front, without_blanks, onward, tokens_up_to, tokens}
 use Rattle.mw_wat.specs.Lexing as lexing
@@ -81,7 +81,7 @@ record QuotesBack (bytes : List ℕ) (t : PureToken) (rest : List ℕ) : Type 0 
 found_parts : (t u : PureToken) (r s : List ℕ) → found t r ≡ found u s → (t ≡ u) × (r ≡ s)
 found_parts t u r s e = (cc, cc)
 
-with_byte_back : (b : ℕ) (f : Found) (t : PureToken) (rest : List ℕ) → with_byte b f ≡ found t rest → (bytes : List ℕ)
+with_byte_back : (b : ℕ) (f : Lexeme) (t : PureToken) (rest : List ℕ) → with_byte b f ≡ found t rest → (bytes : List ℕ)
     × (f ≡ found (string bytes) rest) × (t ≡ string (b ∷ bytes))
 with_byte_back b none t rest e = absurd (none_found t rest e)
 with_byte_back b (found left r) t rest e = absurd (none_found t rest e)
@@ -260,7 +260,7 @@ one_step n end later (b ∷ bytes) q front ts p = by_blank (is_blank b) refl
     no_blank : is_blank b ≡ false → IsBlank b → ⊥
     no_blank e v = false≢true (sym e ∙ blank_is b v)
 
-    by_front : is_blank b ≡ false → (f : Found) → lexing.front (b ∷ bytes) ≡ f → Placed
+    by_front : is_blank b ≡ false → (f : Lexeme) → lexing.front (b ∷ bytes) ≡ f → Placed
         (onward (λ rest. tokens_up_to n end rest) (end - length (b ∷ bytes)) f) front ts → Reached end
         (b ∷ bytes) front ts
     by_front e none d p = stop_here end (b ∷ bytes)

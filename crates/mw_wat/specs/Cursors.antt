@@ -9,18 +9,18 @@ use Rattle.mw_wat.specs.declared.reading.lexer.Token.TheVariants as seen
 use Rattle.mw_wat.specs.declared.reading.lexer.Unit.{Unit as Piece}
 use Rattle.mw_wat.specs.declared.reading.lexer.Unit.TheVariants as piece
 use Rattle.mw_wat.specs.Tokens.{PureToken, left, right, word, string}
-use Rattle.mw_wat.specs.Lexing.{Tokens, tokens, Found, found, none, with_byte, quotes}
+use Rattle.mw_wat.specs.Lexing.{Tokens, tokens, Lexeme, found, none, with_byte, quotes}
 use Rattle.mw_wat.specs.Reading.{Read, got, bad, Reader, and_then, one_of, gives, if_opened, if_word}
 
 abbrev pub tokens_at : Cursor → Tokens
 tokens_at cursor = tokens cursor.end cursor.left.now
 
 -- the bytes that a string stands for, and what is behind it
-abbrev pub content : Found → List ℕ
+abbrev pub content : Lexeme → List ℕ
 content (found (string bytes) rest) = bytes
 content _ = []
 
-abbrev pub behind : Found → Option (List ℕ)
+abbrev pub behind : Lexeme → Option (List ℕ)
 behind (found (string bytes) rest) = Some rest
 behind _ = None
 
@@ -31,7 +31,7 @@ token_of (seen.Word bytes) = word bytes.now
 token_of (seen.Quoted bytes) = string (content (quotes bytes.now))
 
 -- what a piece of a string makes of it
-abbrev pub pieced : Piece → Found
+abbrev pub pieced : Piece → Lexeme
 pieced (piece.Byte b rest) = with_byte b (quotes rest.now)
 pieced (piece.End rest) = found (string []) rest.now
 pieced piece.None = none

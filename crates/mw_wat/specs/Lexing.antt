@@ -22,44 +22,44 @@ hex_value b = if nat_le 0x30 b && nat_le b 0x39 then Some (b - 0x30) else if nat
     (b - 0x57) else None
 
 -- a token and the bytes behind it
-pub data Found : Type 0 where
-  none : Found
-  found : (t : PureToken) (rest : List ℕ) → Found
+pub data Lexeme : Type 0 where
+  none : Lexeme
+  found : (t : PureToken) (rest : List ℕ) → Lexeme
 
-abbrev pub with_byte : ℕ → Found → Found
+abbrev pub with_byte : ℕ → Lexeme → Lexeme
 with_byte b (found (string bytes) rest) = found (string (b ∷ bytes)) rest
 with_byte b _ = none
 
-abbrev pub with_digits : ℕ → Option ℕ → Found → Found
+abbrev pub with_digits : ℕ → Option ℕ → Lexeme → Lexeme
 with_digits h None more = none
 with_digits h (Some l) more = with_byte (16 * h + l) more
 
 -- what stands behind an opening quotation mark, behind `\`, and behind `\` and a digit
 abbrev mutual
-  pub quotes : List ℕ → Found
+  pub quotes : List ℕ → Lexeme
   quotes [] = none
   quotes (b ∷ rest) = if b == 0x22 then found
       (string []) rest else if b == 0x5C then escaped rest else if is_plain b then with_byte b (quotes rest) else none
 
-  pub escaped : List ℕ → Found
+  pub escaped : List ℕ → Lexeme
   escaped [] = none
   escaped (h ∷ rest) = half_escaped (hex_value h) rest
 
-  pub half_escaped : Option ℕ → List ℕ → Found
+  pub half_escaped : Option ℕ → List ℕ → Lexeme
   half_escaped None bytes = none
   half_escaped (Some h) [] = none
   half_escaped (Some h) (l ∷ rest) = with_digits h (hex_value l) (quotes rest)
 
-abbrev pub with_word_byte : ℕ → Found → Found
+abbrev pub with_word_byte : ℕ → Lexeme → Lexeme
 with_word_byte b (found (word bytes) rest) = found (word (b ∷ bytes)) rest
 with_word_byte b _ = none
 
-abbrev pub whole_word : List ℕ → Found
+abbrev pub whole_word : List ℕ → Lexeme
 whole_word [] = found (word []) []
 whole_word (b ∷ rest) = if is_word_byte b then with_word_byte b (whole_word rest) else found (word []) (b ∷ rest)
 
 -- the token at the front
-abbrev pub front : List ℕ → Found
+abbrev pub front : List ℕ → Lexeme
 front [] = none
 front (b ∷ rest) =
     if b == 0x28 then found left rest else if b == 0x29 then found right rest else if b == 0x22 then quotes rest else
@@ -69,7 +69,7 @@ abbrev pub without_blanks : List ℕ → List ℕ
 without_blanks [] = []
 without_blanks (b ∷ rest) = if is_blank b then without_blanks rest else b ∷ rest
 
-abbrev pub onward : (List ℕ → Tokens) → ℕ → Found → Tokens
+abbrev pub onward : (List ℕ → Tokens) → ℕ → Lexeme → Tokens
 onward go at none = stop at
 onward go at (found t rest) = token at t (go rest)
 
