@@ -161,7 +161,8 @@ module _ (n m : ℕ) (s : Substitution) where
 
   -- what a solution has for its own numbers, it has for those that these stand for
   module _ (a b : Assignment) (agree : Agree n m a (after b s)) where
-    own_value : {v : ℕ} (d : FoundBelow (λ u. s.ty u ≡ unknown v) n) → IsNamed (unknown v) → value a (own_type d) ≡ b.ty v
+    own_value : {v : ℕ} (d : FoundBelow (λ u. s.ty u ≡ unknown v) n) → IsNamed (unknown v) → value a (own_type d)
+        ≡ b.ty v
     own_value (inl f) h = agree.types f.0 f.1 ∙ ap (value b) f.2
     own_value (inr none) h = absurd (none h.0 h.1 h.2)
 

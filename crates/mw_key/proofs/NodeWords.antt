@@ -4,7 +4,8 @@ use Rattle.std.proofs.lemmas.Option.{none-some, same_Some}
 use Rattle.mw_key.specs.Reading.{Finding, then_find, make, spelled, find_word, find_node}
 
 -- a fact of what is found after another thing
-pub after_found : {A B : Type 0} (P : Finding B → Type 0) (x : Finding A) (next : A → List (List ℕ) → ℕ → Finding B) → P None
+pub after_found : {A B : Type 0} (P : Finding B → Type 0) (x : Finding A) (next : A → List (List ℕ) → ℕ → Finding B)
+    → P None
     → ((a : A) (ws : List (List ℕ)) (n : ℕ) → x ≡ Some (a, ws, n) → P (next a ws n)) → P (then_find x next)
 after_found P None next none some = none
 after_found P (Some found) next none some = some found.0 found.1 found.2 refl
@@ -15,7 +16,8 @@ made_found P f None none some = none
 made_found P f (Some found) none some = some found.0 found.1 found.2 refl
 
 -- what is found where the thing before it is known
-pub then_at : {A B : Type 0} {x : Finding A} {a : A} {ws : List (List ℕ)} {n : ℕ} (next : A → List (List ℕ) → ℕ → Finding B)
+pub then_at : {A B : Type 0} {x : Finding A} {a : A} {ws : List (List ℕ)} {n : ℕ}
+    (next : A → List (List ℕ) → ℕ → Finding B)
     → x ≡ Some (a, ws, n) → then_find x next ≡ next a ws n
 then_at next e = ap (λ y. then_find y next) e
 

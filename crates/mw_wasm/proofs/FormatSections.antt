@@ -113,7 +113,8 @@ abbrev pub Behind : ℕ → Type 0 → (List ℕ → Type 0) → (List Section �
 Behind k A Q L ss = (A × L ss) ⊎ Present k Q L ss
 
 found_section : (j : ℕ) {A : Type 0} {Q : List ℕ → Type 0} {L : List Section → Type 0} (a b : List ℕ)
-    → (nothing when A or byte (suc j) then sized Q) a → FoundSections L b → FoundSections (Behind (suc j) A Q L) (a ++ b)
+    → (nothing when A or byte (suc j) then sized Q) a → FoundSections L b → FoundSections (Behind (suc j) A Q L)
+    (a ++ b)
 found_section j {A} {Q} {L} a b (inl p) q =
     let P : List ℕ → Type 0 = λ c. FoundSections (Behind (suc j) A Q L) (c ++ b) in
     let here : FoundSections (Behind (suc j) A Q L) b =
@@ -158,7 +159,8 @@ pub found_more : (j : ℕ) {A : Type 0} {Q T : List ℕ → Type 0} {L : List Se
     → FoundSections (Behind (suc j) A Q L) bytes
 found_more j {A} {Q} {T} {L} found bytes p =
     let r = p.second in
-    let inner : FoundSections (Behind (suc j) A Q L) (r.front ++ r.back) = found_section j {A = A} {Q = Q} {L = L} r.front
+    let inner : FoundSections (Behind (suc j) A Q L) (r.front ++ r.back) = found_section j {A = A} {Q = Q} {L = L}
+    r.front
     r.back r.first (found r.back r.second) in
     let outer : FoundSections (Behind (suc j) A Q L) (p.front ++ (r.front ++ r.back)) =
     found_customs p.front (r.front ++ r.back) p.first inner in
@@ -170,7 +172,8 @@ with_unit a (inr p) = inr p
 
 -- the same at the import section
 pub found_import : {T : List ℕ → Type 0} {L : List Section → Type 0} → ((b : List ℕ) → T b → FoundSections L b)
-    → (bytes : List ℕ) → (customs then import_section then T) bytes → FoundSections (Behind 2 (Unit {0}) (u32 0) L) bytes
+    → (bytes : List ℕ) → (customs then import_section then T) bytes → FoundSections (Behind 2 (Unit {0}) (u32 0) L)
+    bytes
 found_import {T} {L} found bytes p =
     let r = p.second in
     found_more 1 {A = Unit {0}} {Q = u32 0} {T = T} {L = L} found bytes (record {
