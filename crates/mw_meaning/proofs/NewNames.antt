@@ -1,7 +1,9 @@
 -- What the functions that erase need.
 use Rattle.std.proofs.Common.{◌≡◌, ℕ, zero, suc, ◌+◌, ◌*◌, ◌^◌, ◌<◌, ◌≤◌, length, arith, List, [], ◌∷◌, refl, ap, ◌∙◌}
-use Rattle.std.proofs.Common.{sym, Result, Ok, Err, IfOk, Some, None}
+use Rattle.std.proofs.Common.{sym, Result, Ok, Err, IfOk, Some}
 use Rattle.std.specs.Prelude.{slice_get, get_or}
+use Rattle.std.specs.Borrow.{Bor}
+use Rattle.std.specs.Slice.{IsItemAt}
 use Rattle.std.proofs.lemmas.Option.{slice_get_read}
 use Rattle.mw_term.specs.Terms.{Expression, GroundType, size}
 use Rattle.mw_term.specs.Programs.{Definition, definition_of, value as defines, kernel, PureProgram, definition_size}
@@ -111,11 +113,10 @@ erased_is p items s h e f g l r m q =
     (ap (program_with (erased_program p).items p.result)
     (inside_same p.items p.items (renamed (name_in p.items zero) zero (plain p.body)) h.items))
 
--- a name past the last
-pub none_there : (names : List NewName) (i : ℕ) → length names ≤ i → slice_get names i ≡ None
-none_there [] i le = refl
-none_there (x ∷ names) zero le = absurd (omega arith)
-none_there (x ∷ names) (suc i) le = none_there names i (omega arith)
+-- what the list has at a place, by what the place is read as
+pub at_place : (names : List NewName) (i : ℕ) (x : Bor NewName) → IsItemAt names i (Some x) → slice_get names i
+    ≡ Some x.now
+at_place names i x h = slice_get_read names (length names) i x.now refl h.3.0 h.1
 
 -- a kernel's name has room for its variable
 kernel_most : (names : List NewName) (i n : ℕ) → slice_get names i ≡ Some (Kernel n) → n ≤ most_behind names
