@@ -15,6 +15,7 @@ pub mod SimplifiedNodes
 pub mod Replacement
 pub mod SimplificationTyping
 pub mod Outcomes
+pub mod TypedItems
 pub mod StrayModules
 pub mod Plays
 pub mod Shapes

@@ -1,7 +1,9 @@
 -- What the functions that erase need.
 use Rattle.std.proofs.Common.{◌≡◌, ℕ, zero, suc, ◌+◌, ◌*◌, ◌^◌, ◌<◌, ◌≤◌, length, arith, List, [], ◌∷◌, refl, ap, ◌∙◌}
-use Rattle.std.proofs.Common.{sym, Result, Ok, Err, IfOk, Some, None}
+use Rattle.std.proofs.Common.{sym, Result, Ok, Err, IfOk, Some}
 use Rattle.std.specs.Prelude.{slice_get, get_or}
+use Rattle.std.specs.Borrow.{Bor}
+use Rattle.std.specs.Slice.{IsItemAt}
 use Rattle.std.proofs.lemmas.Option.{slice_get_read}
 use Rattle.mw_term.specs.Terms.{Expression, GroundType, size}
 use Rattle.mw_term.specs.Programs.{Definition, definition_of, value as defines, kernel, PureProgram, definition_size}
@@ -98,37 +100,23 @@ inside_same all (defines e ∷ items) b h = inside_same all items b h.1
 inside_same all (kernel k e ∷ items) b h = rw (renamed-new_names all (plain e) zero h.0, inside_same all items b h.1)
     refl
 
--- the erased program, by the list of its new names
-pub erased_lets_are : (p : PureProgram) (names : List NewName) (items : List Definition)
-    → names ≡ new_names p.items zero → items ≡ p.items → HasBoundNames p → lets_of (naming_of names) items
-    ≡ (erased_program p).items
-erased_lets_are p names items q s h = ap (λ n. lets_of (naming_of n) items) q
-    ∙ ap (λ i. lets_of (naming_of (new_names p.items zero)) i) s ∙ lets_same p.items p.items h.items
+-- the erased program, by what its parts are where the items have their new names
+pub erased_is : (p : PureProgram) (items : List Definition) {names main_names inner_names : List NewName}
+    {lets : List Definition} {b : GroundType} {main body : Expression} → items ≡ p.items → HasBoundNames p
+    → names ≡ new_names items zero → main_names ≡ new_names items zero → inner_names ≡ new_names items zero
+    → lets ≡ lets_of (naming_of names) items → b ≡ p.result
+    → main ≡ term_of (renamed (naming_of main_names) zero (plain p.body))
+    → body ≡ inside_terms (naming_of inner_names) items main
+    → program_with lets b body ≡ erased_program p
+erased_is p items s h e f g l r m q =
+    rw (q, m, l, r, e, f, g, s, renamed-new_names p.items (plain p.body) zero h.body, lets_same p.items p.items h.items)
+    (ap (program_with (erased_program p).items p.result)
+    (inside_same p.items p.items (renamed (name_in p.items zero) zero (plain p.body)) h.items))
 
-pub erased_body_is : (p : PureProgram) (names main_names : List NewName) (items : List Definition)
-    → names ≡ new_names p.items zero → main_names ≡ new_names p.items zero → items ≡ p.items → HasBoundNames p
-    → inside_terms (naming_of names) items (term_of (renamed (naming_of main_names) zero (plain p.body)))
-    ≡ (erased_program p).body
-erased_body_is p names main_names items q m s h =
-    ap (λ n. inside_terms (naming_of n) items (term_of (renamed (naming_of main_names) zero (plain p.body)))) q
-    ∙ ap (λ n. inside_terms (naming_of (new_names p.items zero)) items
-    (term_of (renamed (naming_of n) zero (plain p.body)))) m
-    ∙ ap (λ i. inside_terms (naming_of (new_names p.items zero)) i
-    (term_of (renamed (naming_of (new_names p.items zero)) zero (plain p.body)))) s
-    ∙ ap (λ b. inside_terms (naming_of (new_names p.items zero)) p.items (term_of b))
-    (renamed-new_names p.items (plain p.body) zero h.body)
-    ∙ inside_same p.items p.items (renamed (name_in p.items zero) zero (plain p.body)) h.items
-
-pub program_is : (items others : List Definition) (b c : GroundType) (e d : Expression) → items ≡ others → b ≡ c → e ≡ d
-    → program_with items b e ≡ program_with others c d
-program_is items others b c e d p r q = ap (λ i. program_with i b e) p ∙ ap (λ b. program_with others b e) r
-    ∙ ap (λ e. program_with others c e) q
-
--- a name past the last
-pub none_there : (names : List NewName) (i : ℕ) → length names ≤ i → slice_get names i ≡ None
-none_there [] i le = refl
-none_there (x ∷ names) zero le = absurd (omega arith)
-none_there (x ∷ names) (suc i) le = none_there names i (omega arith)
+-- what the list has at a place, by what the place is read as
+pub at_place : (names : List NewName) (i : ℕ) (x : Bor NewName) → IsItemAt names i (Some x) → slice_get names i
+    ≡ Some x.now
+at_place names i x h = slice_get_read names (length names) i x.now refl h.3.0 h.1
 
 -- a kernel's name has room for its variable
 kernel_most : (names : List NewName) (i n : ℕ) → slice_get names i ≡ Some (Kernel n) → n ≤ most_behind names
@@ -150,7 +138,7 @@ most_behind-new_names (defines e ∷ items) l = most_behind-new_names items (suc
 most_behind-new_names (kernel k e ∷ items) l = let p = most_behind-new_names items l in omega arith
 
 -- each item has a node
-pub items_sized : (items : List Definition) → length items ≤ definitions_size items
+items_sized : (items : List Definition) → length items ≤ definitions_size items
 items_sized [] = omega arith
 items_sized (defines e ∷ items) = omega (arith, items_sized items, size_positive e)
 items_sized (kernel k e ∷ items) = omega (arith, items_sized items, size_positive e)
@@ -187,7 +175,7 @@ room_at names (x ∷ items) zero d q h = let p : x ≡ d = cc in rw p at h.0
 room_at names (x ∷ items) (suc i) d q h = room_at names items i d q h.1
 
 -- the items of a program of fewer than 2^31 nodes, and its main, have room for its names
-pub program_room : (p : PureProgram) → program_size p < 2 ^ 31 → HaveRoom (new_names p.items zero) p.items
+program_room : (p : PureProgram) → program_size p < 2 ^ 31 → HaveRoom (new_names p.items zero) p.items
     × HasRoom (new_names p.items zero) zero (size p.body)
 program_room p h = (have_room names p.items item, main)
   where
@@ -218,6 +206,19 @@ pub item_room : (names : List NewName) (items : List Item) (i : ℕ) (x : Item) 
 item_room names items i x lt q h = room_at names (definitions items) i (definition_of x.kind)
     (definition_at items i x (slice_get_read items (length items) i x refl lt q)) h
 
-pub length-definitions : (items : List Item) → length (definitions items) ≡ length items
+length-definitions : (items : List Item) → length (definitions items) ≡ length items
 length-definitions [] = refl
 length-definitions (x ∷ items) = ap suc (length-definitions items)
+
+-- of a program of fewer than 2^31 nodes: the items are few, and they and the main have room for the new names
+module _ (p : PureProgram) (items : List Item) (same : definitions items ≡ p.items) (few : program_size p < 2 ^ 31)
+  where
+    pub few_items : length items < 2 ^ 31
+    few_items = omega (arith, length-definitions items, ap length same, items_sized p.items)
+
+    pub items_room : (names : List NewName) → names ≡ new_names (definitions items) zero
+        → HaveRoom names (definitions items)
+    items_room names e = rw (e, same) (program_room p few).0
+
+    pub body_room : (names : List NewName) → names ≡ new_names (definitions items) zero → HasRoom names zero (size p.body)
+    body_room names e = rw (e, same) (program_room p few).1

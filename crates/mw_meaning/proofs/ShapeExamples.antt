@@ -109,3 +109,11 @@ past_the_last offset e s = let h = s.has_instance in cc (e, h)
 pub byte_fits_up_to_the_end : ByteFitsUpToTheEnd
 byte_fits_up_to_the_end =
     (byte_fits _ refl, past_the_last _ refl, past_the_last _ refl, byte_fits _ refl, byte_fits _ refl)
+
+pub ruleset example_laws = (
+  examples_have_their_shapes,
+  answers_have_their_shape,
+  no_integer_is_stray,
+  two_is_stray_for_truth,
+  minus_one_is_stray_for_pairs,
+)

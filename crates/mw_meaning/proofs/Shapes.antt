@@ -62,29 +62,36 @@ offset-others (x ∷ []) h = absurd (h refl)
 offset-others (x ∷ y ∷ code) h = refl
 
 -- of one instruction
-abbrev pub single : Instr → ℕ
+abbrev single : Instr → ℕ
 single x = offset_of (next (instruction_of x) end)
 
 same : {x y : Instr} → Some x ≡ Some y → x ≡ y
 same e = cc
 
-pub offset-one : (code : List Instr) (x : Instr) (n k : ℕ) → k ≡ length code → k ≡ 1 → slice_get code 0 ≡ Some x
-    → n ≡ single x → n ≡ offset_of (list_code code)
-offset-one [] x n k h i e f = absurd (omega arith)
-offset-one (y ∷ []) x n k h i e f = f ∙ ap single (sym (same e))
-offset-one (y ∷ z ∷ code) x n k h i e f = absurd (omega arith)
+offset-one : (code : List Instr) (x : Instr) → length code ≡ 1 → slice_get code 0 ≡ Some x
+    → offset_of (list_code code) ≡ single x
+offset-one [] x h f = absurd (omega arith)
+offset-one (y ∷ []) x h f = ap single (same f)
+offset-one (y ∷ z ∷ code) x h f = absurd (omega arith)
 
-pub offset-i32 : {x : Instr} {n : ℕ} → x ≡ instr.ConstI32 n → n ≡ single x
-offset-i32 e = sym (ap single e)
+pub offset-i32 : (code : List Instr) (x : Instr) (n : ℕ) → length code ≡ 1 → slice_get code 0 ≡ Some x
+    → x ≡ instr.ConstI32 n → n ≡ offset_of (list_code code)
+offset-i32 code x n h f e = sym (offset-one code x h f ∙ ap single e)
 
-pub offset-i64 : {x : Instr} {n : ℕ} → x ≡ instr.ConstI64 n → n ≡ single x
-offset-i64 e = sym (ap single e)
+pub offset-i64 : (code : List Instr) (x : Instr) (n : ℕ) → length code ≡ 1 → slice_get code 0 ≡ Some x
+    → x ≡ instr.ConstI64 n → n ≡ offset_of (list_code code)
+offset-i64 code x n h f e = sym (offset-one code x h f ∙ ap single e)
 
-pub offset-none : (x : Instr) → ((n : ℕ) → x ≡ instr.ConstI32 n → ⊥) → ((n : ℕ) → x ≡ instr.ConstI64 n → ⊥)
-    → 0 ≡ single x
-offset-none (instr.ConstI32 n) h k = absurd (h n refl)
-offset-none (instr.ConstI64 n) h k = absurd (k n refl)
-offset-none _ h k = refl
+pub offset-none : (code : List Instr) (x : Instr) → length code ≡ 1 → slice_get code 0 ≡ Some x
+    → ((n : ℕ) → x ≡ instr.ConstI32 n → ⊥) → ((n : ℕ) → x ≡ instr.ConstI64 n → ⊥) → 0 ≡ offset_of (list_code code)
+offset-none code x h f p q = sym (offset-one code x h f ∙ sym (zero_of x p q))
+  where
+    zero_of : (x : Instr) → ((n : ℕ) → x ≡ instr.ConstI32 n → ⊥) → ((n : ℕ) → x ≡ instr.ConstI64 n → ⊥) → 0 ≡ single x
+    zero_of (instr.ConstI32 n) p q = absurd (p n refl)
+    zero_of (instr.ConstI64 n) p q = absurd (q n refl)
+    zero_of _ p q = refl
+
+pub ruleset offset_laws = (offset-others, offset-i32, offset-i64, offset-none)
 
 -- no item fails a test where all pass it
 abbrev none_from : {X : Type 0} → (X → Bool) → ℕ → List X → Bool

@@ -109,6 +109,7 @@ fn put_let(
 }
 
 /// The lets among the items, erased.
+#[tactic(auto, using(crate::proofs::NewNames::item_room))]
 fn erased_lets(alloc: Global, items: &[Item], names: &[NewName]) -> Result<Items, AllocError>
     requires { HaveRoom names.now (definitions items.now) }
     ensures lets { IfOk result
@@ -144,6 +145,7 @@ fn wrapped(
 }
 
 /// A term inside one let for each kernel, from the last to the first.
+#[tactic(auto, using(crate::proofs::NewNames::item_room))]
 fn inside(
     alloc: Global,
     items: &[Item],

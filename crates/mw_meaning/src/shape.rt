@@ -197,6 +197,7 @@ fn memory_size(wasm: &Module) -> u64
 }
 
 /// The bits of an expression that is one constant, and 0 for any other expression.
+#[tactic(auto, using(crate::proofs::Shapes::offset_laws))]
 fn offset(code: &Instrs) -> u64
     ensures { result ≡ offset_of (code_of code.now) }
 {

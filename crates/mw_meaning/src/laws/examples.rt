@@ -1,5 +1,7 @@
 // Worked examples of the meanings, proved by computation.
 
+#![tactic(auto, unfolding(crate::specs::StagedMeaning::evaluation, crate::specs::KernelMeaning::kernel_evaluation, crate::specs::Arithmetic::int_wrap))]
+
 ghost use Rattle.mw_meaning.specs.Examples.{SumIsThree, RunIsSeven, CaptureIsEleven, CubeGivesItsCode};
 ghost use Rattle.mw_meaning.specs.Examples.{CubeIsCalledTwice, RecursionCarriesOpenCode, CodeIsNotEvaluated};
 ghost use Rattle.mw_meaning.specs.Examples.{DownEndsWithFour, DownNeedsFour, DivisionTraps, UntakenDivisionDoesNotTrap};

@@ -5,6 +5,7 @@ ghost use Rattle.mw_meaning.specs.OutcomeLaws.{MainComesToItsValue, NamesOfMainA
 ghost use Rattle.mw_meaning.specs.OutcomeLaws.{MainComesToItsValueAfterItems};
 
 /// The outcomes of a typable program's items and of its main, under either mode.
+#[tactic(auto, using(crate::proofs::Outcomes::outcome_laws, crate::proofs::OtherPlaces::other_places_dont_matter))]
 pub fn outcomes()
     ensures names { NamesOfItemsAreValues }
     ensures other_places { OtherPlacesDontMatter }

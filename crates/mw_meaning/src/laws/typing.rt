@@ -45,6 +45,7 @@ pub fn typing_kept()
 {}
 
 /// The kernel meaning of closed typed code is never stuck, and its value is closed and has the type.
+#[tactic(auto, using(crate::proofs::KernelTyping::kernel_meaning_never_stuck, crate::proofs::KernelTyping::kernel_meaning_is_typed, crate::proofs::KernelTyping::kernel_meaning_is_closed))]
 pub fn kernel_typing_kept()
     ensures never_stuck { KernelMeaningNeverStuck }
     ensures typed { KernelMeaningIsTyped }

@@ -1,12 +1,10 @@
-use Rattle.std.proofs.Common.{◌≡◌, ℕ, zero, suc, List, [], ◌∷◌, Some, refl, subst}
-use Rattle.std.specs.Prelude.{slice_get}
-use Rattle.mw_term.specs.Programs.{Definition, value, kernel}
+use Rattle.std.proofs.Common.{List, [], ◌∷◌, refl}
 use Rattle.mw_term.specs.Types.{TermType, int_type, function_type, code_type, closed_type, live}
 use Rattle.mw_term.specs.Typing.{TopLevel, let_item, Typed, t_num, t_var, t_let, t_kernel, t_fun, t_fix, t_app, t_bind}
 use Rattle.mw_term.specs.Typing.{t_cond, t_prim, t_bracket, t_escape, t_run, t_close}
-use Rattle.mw_term.specs.Typable.{seen_by_item, IsTypableItem}
-use Rattle.mw_meaning.specs.Examples.{int_to_int, cube}
+use Rattle.mw_meaning.specs.Examples.{cube}
 use Rattle.mw_meaning.specs.TypingExamples.{power_definition, cube_program}
+use Rattle.mw_meaning.proofs.TypedItems.{items_typed}
 use Rattle.mw_meaning.proofs.laws.typing_examples.cube_is_typable.Goals as goal
 
 -- int -> <int>'0 -> <int>'0
@@ -29,19 +27,11 @@ cube_typed = t_close {a = 0} (tt, tt) tt
     (t_fun tt (t_escape tt (t_app {s = code_type 0 int_type} (t_app {s = int_type} (t_let refl (power_typed _)) t_num)
     (t_bracket tt (t_var refl))))))
 
-items_typed : (i : ℕ) (d : Definition) → slice_get cube_program.items i ≡ Some d
-    → IsTypableItem (seen_by_item cube_program.items i) d
-items_typed zero d e = let p : value power_definition ≡ d = cc in
-    subst (λ d. IsTypableItem [] d) p (tt, power_type, power_typed [])
-items_typed (suc zero) d e = let p : kernel int_to_int cube ≡ d = cc in
-    subst (λ d. IsTypableItem (let_item power_definition ∷ []) d) p cube_typed
-items_typed (suc (suc i)) d e = absurd (cc)
-
 pub returns : goal.returns
 returns c = record {
   definition = refl;
   typable = record {
-    items = items_typed;
+    items = items_typed cube_program.items ((tt, power_type, power_typed []), (cube_typed, tt));
     body = t_bind (t_run refl (t_kernel refl))
         (t_prim refl (t_app {s = int_type} (t_var refl) t_num) (t_app {s = int_type} (t_var refl) t_num));
   };

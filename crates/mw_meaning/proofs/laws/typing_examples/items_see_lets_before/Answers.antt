@@ -1,14 +1,13 @@
-use Rattle.std.proofs.Common.{◌≡◌, ℕ, zero, suc, List, [], ◌∷◌, Some, refl, subst}
-use Rattle.std.specs.Prelude.{slice_get}
+use Rattle.std.proofs.Common.{List, [], ◌∷◌, refl}
 use Rattle.mw_term.specs.Terms.{Expression, var, glob, fun, app, pair, prim}
 use Rattle.mw_term.specs.declared.term.Primitive.TheVariants.{Add}
 use Rattle.mw_term.specs.Programs.{Definition, value, kernel}
 use Rattle.mw_term.specs.Types.{TermType, int_type, pair_type, function_type, live}
 use Rattle.mw_term.specs.Typing.{TopLevel, let_item, out_of_scope, Typed, t_num, t_var, t_let, t_kernel, t_fun, t_app}
 use Rattle.mw_term.specs.Typing.{t_pair, t_snd}
-use Rattle.mw_term.specs.Typable.{seen_by_item, IsTypableItem}
 use Rattle.mw_meaning.specs.Examples.{n, int_to_int}
 use Rattle.mw_meaning.specs.TypingExamples.{power_definition}
+use Rattle.mw_meaning.proofs.TypedItems.{items_typed}
 use Rattle.mw_meaning.proofs.laws.typing_examples.items_see_lets_before.Goals as goal
 
 -- fun x -> x, and (1, fun x -> f x)
@@ -28,14 +27,6 @@ p_typed : (rest : List TopLevel) → Typed (let_item f_definition ∷ rest) [] l
     (pair_type int_type (function_type int_type int_type))
 p_typed rest = t_pair t_num (t_fun tt (t_app {s = int_type} (t_let refl (f_typed _)) (t_var refl)))
 
-items_typed : (i : ℕ) (d : Definition) → slice_get items i ≡ Some d → IsTypableItem (seen_by_item items i) d
-items_typed zero d e = let p : value f_definition ≡ d = cc in
-    subst (λ d. IsTypableItem [] d) p (tt, function_type int_type int_type, f_typed [])
-items_typed (suc zero) d e = let p : value p_definition ≡ d = cc in
-    subst (λ d. IsTypableItem (let_item f_definition ∷ []) d) p
-    ((tt, tt), pair_type int_type (function_type int_type int_type), p_typed [])
-items_typed (suc (suc i)) d e = absurd (cc)
-
 later : (t : TermType) → Typed [] [] live (fun (glob 1)) t → ⊥
 later _ (t_fun p (t_let e h)) = cc
 later _ (t_fun p (t_kernel e)) = cc
@@ -47,7 +38,7 @@ kernel_name _ (t_kernel e) = cc
 pub returns : goal.returns
 returns c = record {
   earlier_let = record
-      { items = items_typed; body = t_app {s = int_type} (t_snd {s = int_type} (t_let refl (p_typed _))) t_num };
+      { items = items_typed items ((tt, _, f_typed []), (((tt, tt), _, p_typed []), tt)); body = t_app {s = int_type} (t_snd {s = int_type} (t_let refl (p_typed _))) t_num };
   later_let = λ b body h. let d = h.items 0 (value (fun (glob 1))) refl in later d.1 d.2;
   kernel = λ b body h. kernel_name _ (h.items 2 (kernel int_to_int (glob 1)) refl);
   syntactic_value = λ b body h. (h.items 0 (value (prim Add (n 1) (n 2))) refl).0;

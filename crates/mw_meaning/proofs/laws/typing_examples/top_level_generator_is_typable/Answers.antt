@@ -1,13 +1,11 @@
-use Rattle.std.proofs.Common.{◌≡◌, ℕ, zero, suc, List, [], ◌∷◌, Some, refl, subst, arith}
-use Rattle.std.specs.Prelude.{slice_get}
+use Rattle.std.proofs.Common.{ℕ, List, [], ◌∷◌, refl, arith}
 use Rattle.mw_term.specs.Terms.{glob}
-use Rattle.mw_term.specs.Programs.{Definition, value as defines}
 use Rattle.mw_term.specs.Types.{TermType, int_type, bool_type, pair_type, function_type, code_type, live, value, quoted}
 use Rattle.mw_term.specs.Types.{IsPlain, IsAbsent}
 use Rattle.mw_term.specs.Typing.{TopLevel, let_item, Typed, t_num, t_truth, t_var, t_let, t_fun, t_app, t_bind, t_pair}
 use Rattle.mw_term.specs.Typing.{t_bracket, t_escape, t_close, t_open}
-use Rattle.mw_term.specs.Typable.{seen_by_item, IsTypableItem}
 use Rattle.mw_meaning.specs.TypingExamples.{twice, at_two_types, under_two_classifiers, top_level_program}
+use Rattle.mw_meaning.proofs.TypedItems.{items_typed}
 use Rattle.mw_meaning.proofs.laws.typing_examples.top_level_generator_is_typable.Goals as goal
 
 -- <t>'a -> <t * t>'a, for each a and each t that holds no code type
@@ -45,11 +43,5 @@ two_classifiers =
     absent : IsAbsent 1 (quoted 0 int_type ∷ value two_types_type ∷ [])
     absent = ((omega arith, tt), ((omega arith, ((tt, tt), (tt, tt))), tt))
 
-items_typed : (i : ℕ) (d : Definition) → slice_get top_level_program.items i ≡ Some d
-    → IsTypableItem (seen_by_item top_level_program.items i) d
-items_typed zero d e = let p : defines twice ≡ d = cc in
-    subst (λ d. IsTypableItem [] d) p (tt, _, twice_typed [] 0 int_type tt)
-items_typed (suc i) d e = absurd (cc)
-
 pub returns : goal.returns
-returns c = record { items = items_typed; body = t_bind two_types (t_bind two_classifiers t_num) }
+returns c = record { items = items_typed top_level_program.items ((tt, _, twice_typed [] 0 int_type tt), tt); body = t_bind two_types (t_bind two_classifiers t_num) }
