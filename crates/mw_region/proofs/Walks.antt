@@ -43,6 +43,7 @@ pub use Rattle.std.specs.Prelude.{None, Some}
 pub use Rattle.core.proofs.mem.Param.{El, R, elτ}
 pub use Rattle.std_alloc.proofs.RawLayout.{as_written, as_raw}
 pub use Rattle.mw_region.specs.Ownership.{slots, cells_own, slot}
+pub use Rattle.mw_region.proofs.Memory.{step_fits}
 pub use Rattle.mw_region.proofs.Memory.{Cr, Bs, sz, mark, Place, word_had, Besides, slot_out, slot_in, filled_within}
 pub use prog.Memory.{Memory, align, capped}
 pub use prog.Capped.{capped_fits}
@@ -53,5 +54,4 @@ pub use Rattle.core.proofs.alloc.Calls.{Al, second}
 pub use Rattle.core.proofs.slots.Leases.{uncapped, block_ty, block_size, block_align, P}
 pub use base.Fraction.{full_share}
 pub use denote.Triple.Carry.{spared}
-pub use Rattle.core.proofs.ptr.Rows.{times_below, one_below}
 pub use Rattle.mw_region.specs.Places.{IsFilled}
