@@ -220,5 +220,6 @@ module _ (p : PureProgram) (items : List Item) (same : definitions items ≡ p.i
         → HaveRoom names (definitions items)
     items_room names e = rw (e, same) (program_room p few).0
 
-    pub body_room : (names : List NewName) → names ≡ new_names (definitions items) zero → HasRoom names zero (size p.body)
+    pub body_room : (names : List NewName) → names ≡ new_names (definitions items) zero
+        → HasRoom names zero (size p.body)
     body_room names e = rw (e, same) (program_room p few).1

@@ -37,8 +37,11 @@ kernel_name _ (t_kernel e) = cc
 
 pub returns : goal.returns
 returns c = record {
-  earlier_let = record
-      { items = items_typed items ((tt, _, f_typed []), (((tt, tt), _, p_typed []), tt)); body = t_app {s = int_type} (t_snd {s = int_type} (t_let refl (p_typed _))) t_num };
+  earlier_let = record {
+    items = items_typed items ((tt, _, f_typed []), (((tt, tt), _, p_typed []), tt));
+    body =
+        t_app {s = int_type} (t_snd {s = int_type} (t_let refl (p_typed _))) t_num;
+  };
   later_let = λ b body h. let d = h.items 0 (value (fun (glob 1))) refl in later d.1 d.2;
   kernel = λ b body h. kernel_name _ (h.items 2 (kernel int_to_int (glob 1)) refl);
   syntactic_value = λ b body h. (h.items 0 (value (prim Add (n 1) (n 2))) refl).0;

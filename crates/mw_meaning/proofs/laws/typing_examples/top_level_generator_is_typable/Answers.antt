@@ -44,4 +44,8 @@ two_classifiers =
     absent = ((omega arith, tt), ((omega arith, ((tt, tt), (tt, tt))), tt))
 
 pub returns : goal.returns
-returns c = record { items = items_typed top_level_program.items ((tt, _, twice_typed [] 0 int_type tt), tt); body = t_bind two_types (t_bind two_classifiers t_num) }
+returns c = record {
+  items = items_typed top_level_program.items ((tt, _, twice_typed [] 0 int_type tt), tt);
+  body =
+      t_bind two_types (t_bind two_classifiers t_num);
+}
