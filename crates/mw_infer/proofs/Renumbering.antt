@@ -156,3 +156,13 @@ Renumbers-closed p q k l t r a = record {
 -- a list in which nothing was seen
 pub record AllNone (xs : List ℕ) : Type 0 where
   pub each : (u : ℕ) → number_in xs u ≡ none
+
+pub ruleset renumbers = (
+  Renumbers-int,
+  Renumbers-bool,
+  Renumbers-unknown,
+  Renumbers-pair,
+  Renumbers-function,
+  Renumbers-code,
+  Renumbers-closed,
+)

@@ -2,11 +2,14 @@
 use Rattle.std.proofs.Common.{◌≡◌, ℕ, zero, suc, ◌+◌, ◌<◌, ◌≤◌, List, [], ◌∷◌, ◌++◌, map, length, get_or, Option, Some}
 use Rattle.std.proofs.Common.{refl}
 use Rattle.std.proofs.Common.{ap, sym, subst, ◌∙◌, arith}
+use Rattle.std.proofs.lemmas.List.{length-map}
 use Rattle.std.specs.Prelude.{slice_get, slice_set}
 use Rattle.mw_term.specs.Terms.{Expression, KernelType}
-use Rattle.mw_term.specs.Programs.{Definition, value, kernel, PureProgram}
+use Rattle.mw_term.specs.Programs.{Definition, value, kernel, PureProgram, program_of, definition_of}
 use Rattle.mw_term.specs.Typing.{TopLevel, let_item, kernel_item}
 use Rattle.mw_term.specs.Typable.{seen_by_item, seen_by_main}
+use Rattle.mw_term.specs.declared.program.Item.{Item}
+use Rattle.mw_term.specs.declared.program.Program.{Program}
 use Rattle.mw_term.specs.declared.refusal.Refusal.{Refusal}
 use Rattle.mw_term.specs.declared.refusal.Stop.{Stop}
 use Rattle.mw_term.specs.declared.refusal.Stop.TheVariants.{Refused, Memory}
@@ -320,7 +323,7 @@ pub record AtEnd (p : PureProgram) (schemes new : List TopScheme) (i : ℕ) : Ty
   pub shown : new ≡ revealed p.items schemes
   pub index : i ≡ length p.items
 
-pub at-end : (p : PureProgram) (k i : ℕ) (schemes new : List TopScheme) → k ≡ length p.items → k ≤ i → i ≤ k
+at-end : (p : PureProgram) (k i : ℕ) (schemes new : List TopScheme) → k ≡ length p.items → k ≤ i → i ≤ k
     → Progress p i schemes → new ≡ revealed_to k p.items schemes → AtEnd p schemes new i
 at-end p k i schemes new e a b h r =
     let n : i ≡ length p.items = omega (arith, e, a, b) in
@@ -330,3 +333,15 @@ at-end p k i schemes new e a b h r =
           ∙ all-revealed p.items schemes;
       index = n;
     }
+
+-- the same of the items of a program, as they are read
+pub item-at : (q : Program) {xs : List Item} {i : ℕ} {x : Item} → xs ≡ q.items → i < length xs → x ≡ get_or xs i x
+    → slice_get (program_of q).items i ≡ Some (definition_of x.kind)
+item-at q {i = i} {x = x} e lt g = get-map (λ y. definition_of y.kind) q.items i x (rw e at lt) (rw e at g)
+
+pub ended : (q : Program) {xs : List Item} {i : ℕ} {schemes new : List TopScheme} → xs ≡ q.items → length xs ≤ i
+    → i ≤ length xs → Progress (program_of q) i schemes
+    → new ≡ revealed_to (length xs) (map (λ y. definition_of y.kind) xs) schemes → AtEnd (program_of q) schemes new i
+ended q {i = i} {schemes = schemes} {new = new} e a b h r =
+    at-end (program_of q) (length q.items) i schemes new (sym (length-map q.items (λ y. definition_of y.kind)))
+    (rw e at a) (rw e at b) h (rw e at r)

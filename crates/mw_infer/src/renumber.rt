@@ -48,6 +48,7 @@ fn place(numbering: &mut Numbering, number: u64) -> u64
 
 /// A type with new numbers.
 #[cycle(renumbering)]
+#[tactic(auto, using(crate::proofs::Renumbering::renumbers))]
 pub fn renumber(
     alloc: Global,
     ty: &Ty,

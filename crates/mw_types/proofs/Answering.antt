@@ -5,13 +5,14 @@ use Rattle.std.proofs.lemmas.List.{get_or_default}
 use Rattle.std.specs.Prelude.{slice_index_or, slice_get, Some, All}
 use Rattle.mw_types.specs.Types.{TypeExpression, int_ty, bool_ty, unknown, pair_ty, function_ty, code_ty, closed_ty}
 use Rattle.mw_types.specs.Types.{type_of, Assignment, value, nodes, Substitution, after, Within}
-use Rattle.mw_types.specs.Equations.{TypeEquation, AllWithin, Solves, Agree, MostGeneral, IsSmall, StaysWithin}
+use Rattle.mw_types.specs.Equations.{TypeEquation, AllWithin, Solves, Agree, MostGeneral, IsSmall, StaysWithin, Fine}
 use Rattle.mw_types.specs.Equations.{IsPrincipalType}
 use Rattle.mw_types.specs.Forest.{Low, Leads, here, up}
 use Rattle.mw_types.specs.Holds.{IsShaped, Means, Sound, Inside}
 use Rattle.mw_types.specs.Stands.{Stands, Names, s_up, s_free, s_int, s_bool, s_pair, s_arrow, s_code, s_closed}
+use Rattle.mw_types.specs.Solutions.{Solution}
 use Rattle.mw_types.specs.Walks.{AllSized}
-use Rattle.mw_types.specs.Answering.{Ready, name_in, NamedTo, IsName, StandsFor, StandsForOne, HasRoom, TreesTo}
+use Rattle.mw_types.specs.Answering.{Ready, name_in, NamedTo, IsName, StandsFor, StandsForOne, HasRoom, TreesTo, RootAt}
 use Rattle.mw_types.specs.Answering.{Answers}
 use Rattle.mw_types.specs.declared.state.Shape.{Shape}
 use Rattle.mw_types.specs.declared.state.Shape.TheVariants.{Free, Int, Bool, Pair, Arrow, Code, Closed}
@@ -20,7 +21,7 @@ use Rattle.mw_types.specs.declared.types.Ty.{Ty}
 use Rattle.mw_types.specs.declared.types.Ty.TheVariants.{Int as int_tree}
 use Rattle.mw_types.proofs.Lists.{same, other, is}
 use Rattle.mw_types.proofs.Growing.{get_left, get_last}
-use Rattle.mw_types.proofs.Walking.{leads_stands, shape_read}
+use Rattle.mw_types.proofs.Walking.{leads_stands}
 use Rattle.mw_types.proofs.General.{Inv, root_inv, up_inv, unique}
 use Rattle.mw_types.proofs.Verdicts.{value_agree}
 use Rattle.mw_types.proofs.Reps.{answer, answer_sound, answer_general, answer_classifier, answer_stands}
@@ -34,20 +35,21 @@ stands_root {ps = ps} {hs = hs} {k = k} {t = t} (up {p = p} {r = r} l lt e) h = 
   | other n ↦ up_inv r e n (stands_root l h)
 ]
 
--- a node, its representative and the representative's shape
-pub record RootAt (s : State) (i r : ℕ) (h : Shape) : Type 0 where
-  pub leads : Leads s.parent.items i r
-  pub root : slice_index_or s.parent.items r 0 ≡ r
-  pub shape : slice_index_or s.shape.items r Free ≡ h
+pub at_shape : {s : State} {i r : ℕ} {h k : Shape} → h ≡ k → RootAt s i r h → RootAt s i r k
+at_shape e a = record { leads = a.leads; root = a.root; shape = a.shape ∙ e }
 
-pub root_at : (s : State) (ps : List ℕ) (i r : ℕ) (x h : Shape) → Sound s → ps ≡ s.parent.items
-    → i < length s.parent.items → Leads ps i r → slice_index_or ps r 0 ≡ r → r ≤ i → x ≡ slice_index_or s.shape.items r
-    x → x ≡ h → RootAt s i r h
-root_at s ps i r x h p e lt l o le f g = record {
-  leads = subst (λ qs. Leads qs i r) e l;
-  root = subst (λ qs. slice_index_or qs r 0 ≡ r) e o;
-  shape = shape_read s r x h p (omega arith) f g;
-}
+-- each type has a node
+node_of : (t : TypeExpression) → 1 ≤ nodes t
+node_of int_ty = omega arith
+node_of bool_ty = omega arith
+node_of (unknown u) = omega arith
+node_of (pair_ty s t) = omega arith
+node_of (function_ty s t) = omega arith
+node_of (code_ty c t) = omega arith
+node_of (closed_ty t) = omega arith
+
+pub has_node : (s : State) (names : List ℕ) (i room : ℕ) → HasRoom s names i room → 1 ≤ room
+has_node s names i room h = omega (arith, node_of h.0, h.2)
 
 -- a part of a node's shape: inside, with room for its type
 abbrev Part : State → List ℕ → ℕ → ℕ → Type 0
@@ -359,6 +361,15 @@ module _ (n m : ℕ) (es : List TypeEquation) (s : State) (within : AllWithin n 
         (let e = ready.stated.long in omega arith) (each u lt);
     classifiers = λ c lt. named_within c (let e = ready.stated.classifier_count in omega arith);
   }
+
+pub answer_fine : {n m : ℕ} {es : List TypeEquation} {s : State} {x : Solution} → AllWithin n m es → Ready n m es s
+    → Answers n s x → Fine n m es
+answer_fine {n = n} {m = m} {es = es} {s = s} {x = x} w r a =
+    let types = λ (u : ℕ). type_of (slice_index_or x.types u int_tree) in (
+      record { ty = types; classifier = name_in x.classifiers },
+      most_general n m es s w r x.classifiers a.named types a.each,
+      is_small n m es s w r x.classifiers a.named types a.each,
+    )
 
 -- the type that one unknown stands for is its principal type
 pub principal_of : (n m : ℕ) (es : List TypeEquation) (s : State) (u : ℕ) (t : TypeExpression) → AllWithin n m es

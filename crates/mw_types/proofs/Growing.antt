@@ -262,10 +262,6 @@ pub grew_at : {s t : State} (h : Shape) (n i : ℕ) → i ≡ n → Grew s t (λ
     → Grew s t (λ a. Meets h (a.ty i) a)
 grew_at {s = s} {t = t} h n i e g = subst (λ k. Grew s t (λ a. Meets h (a.ty k) a)) (sym e) g
 
-pub as_type : {s t : State} {i : ℕ} {T U : TypeExpression} → T ≡ U → Grew s t (λ a. a.ty i ≡ value a U)
-    → Grew s t (λ a. a.ty i ≡ value a T)
-as_type e g = map_grew (λ a x. x ∙ sym (ap (value a) e)) g
-
 -- a node that has a shape
 pub node_shaped : (ps : List ℕ) (hs : List Shape) (h : Shape) → length hs ≡ length ps → h ≢ Free → (n : ℕ)
     → IsShaped n ps hs → IsShaped n (ps ++ length ps ∷ []) (hs ++ h ∷ [])
@@ -278,17 +274,6 @@ node_shaped ps hs h e f n k i le lt o = elim (is i (length ps)) [
 pub node_shaped_at : (ps qs : List ℕ) (hs gs : List Shape) (h : Shape) → qs ≡ ps ++ length ps ∷ [] → gs ≡ hs ++ h ∷ []
     → length hs ≡ length ps → h ≢ Free → (n : ℕ) → IsShaped n ps hs → IsShaped n qs gs
 node_shaped_at ps qs hs gs h e f l m n k = rw (e, f) (node_shaped ps hs h l m n k)
-
--- no node more, where all is said already
-pub none_grew : {s : State} {X : Assignment → Type 0} → Sound s → ((a : Assignment) → X a) → Grew s s X
-none_grew p f = record {
-  sound = p;
-  long = omega arith;
-  classifier_count = refl;
-  out = λ a h. (h, f a);
-  more = λ a h.
-      (a, record { types = λ i lt. refl; classifiers = λ c lt. refl }, h);
-}
 
 -- each shape but Free
 pub int_not_free : Int ≢ Free

@@ -1,8 +1,8 @@
 -- Steps of a state, one after another.
-use Rattle.std.proofs.Common.{true≢false, ◌≡◌, ◌≢◌, ℕ, ◌≤◌, ◌<◌, List, [], ◌∷◌, ◌++◌, length, refl, ap, sym, subst, ◌∙◌}
+use Rattle.std.proofs.Common.{◌≡◌, ◌≢◌, ℕ, ◌≤◌, ◌<◌, List, [], ◌∷◌, ◌++◌, length, refl, ap, sym, subst, ◌∙◌}
 use Rattle.std.proofs.Common.{arith}
 use Rattle.std.proofs.lemmas.List.{get_or_default}
-use Rattle.std.specs.Prelude.{slice_index_or, slice_set, IfOk, IsErr, Result, Ok, Err}
+use Rattle.std.specs.Prelude.{slice_index_or, slice_set, IfOk, Result, Ok, Err}
 use Rattle.mw_term.specs.Types.{pair_type, function_type, code_type, closed_type}
 use Rattle.mw_types.specs.Types.{Assignment}
 use Rattle.mw_types.specs.Forest.{Low, Joins}
@@ -278,11 +278,6 @@ put_linked s t low high m p below lt rl rh meet full ins e f g h = record {
       ]
     ]
 
--- what an answer would have, where there is none
-pub no_answer : {A E : Type 0} (P : A → Type 0) (r : Result A E) → IsErr r → IfOk r P
-no_answer P (Ok x) e = absurd (true≢false (sym e))
-no_answer P (Err x) e = tt
-
 -- what is met but Clash
 pub keep_not_clash : {h : Shape} → Keep h ≢ Clash
 keep_not_clash e = absurd (cc)
@@ -295,10 +290,6 @@ two_not_clash e = absurd (cc)
 
 pub classes_not_clash : {h : Shape} {c d : ℕ} {w : Pending} → Classes h c d w ≢ Clash
 classes_not_clash e = absurd (cc)
-
--- the same of shapes that were read
-pub at_shapes : {x y u v : Shape} (P : Shape → Shape → Type 0) → x ≡ u → y ≡ v → P x y → P u v
-at_shapes {x = x} {v = v} P e f h = subst (λ z. P z v) e (subst (λ z. P x z) f h)
 
 -- what two shapes come to: a shape and none
 pub free_meets : {x : Shape} (y : Shape) → x ≡ Free → Meeting x y (Keep y)
@@ -339,3 +330,5 @@ closed_meet t u g a = (
   (λ p q. let e : closed_type (a.ty t) ≡ closed_type (a.ty u) = sym p ∙ q in (p, cc)),
   (λ p z. (p, p ∙ rw z refl)),
 )
+
+pub ruleset meetings = (free_meets, meets_free, meets_same, pairs_meet, arrows_meet, codes_meet, closed_meet)

@@ -3,16 +3,20 @@ use Rattle.std.proofs.Common.{length-append, ◌≡◌, ◌≢◌, ◌⊎◌, in
 use Rattle.std.proofs.Common.{◌∷◌, ◌++◌, length, refl, ap, sym, subst, ◌∙◌, arith}
 use Rattle.std.proofs.lemmas.List.{get_or_default}
 use Rattle.std.specs.Prelude.{slice_index_or, slice_set}
-use Rattle.mw_types.specs.Types.{TypeExpression, pair_ty, function_ty, code_ty, closed_ty, Assignment, nodes, size}
+use Rattle.mw_types.specs.Types.{TypeExpression, int_ty, bool_ty, unknown, pair_ty, function_ty, code_ty, closed_ty}
+use Rattle.mw_types.specs.Types.{Assignment, nodes, size}
 use Rattle.mw_types.specs.Forest.{Leads, here, up}
 use Rattle.mw_types.specs.Holds.{Means, Sound, Never}
-use Rattle.mw_types.specs.Stands.{Stands, s_up, s_pair, s_arrow, s_code, s_closed}
+use Rattle.mw_types.specs.Stands.{Stands, s_up, s_free, s_int, s_bool, s_pair, s_arrow, s_code, s_closed}
 use Rattle.mw_types.specs.Walks.{Sized, Marked, Above, RootOf, Lower, AllAbove, AllBelow, Falls, In, Walk, fresh}
+use Rattle.mw_types.specs.Walks.{OverOne, OverTwo, Looks}
 use Rattle.mw_types.specs.declared.state.Shape.{Shape}
-use Rattle.mw_types.specs.declared.state.Shape.TheVariants.{Free, Pair, Arrow, Code, Closed}
+use Rattle.mw_types.specs.declared.state.Shape.TheVariants.{Free, Int, Bool, Pair, Arrow, Code, Closed}
 use Rattle.mw_types.specs.declared.state.State.{State}
 use Rattle.mw_types.specs.declared.walk.Mark.{Mark}
 use Rattle.mw_types.specs.declared.walk.Mark.TheVariants.{New, Open, Done}
+use Rattle.mw_types.specs.declared.walk.Look.{Look}
+use Rattle.mw_types.specs.declared.walk.Look.TheVariants.{Ready, Down}
 use Rattle.mw_types.proofs.Lists.{same, other, is, get_other, get_here, set_length}
 use Rattle.mw_types.proofs.Link.{leads_same}
 
@@ -50,6 +54,9 @@ found_root s marks x r d m l lt e n = record {
 pub sized_leaf : (s : State) (x : ℕ) (t : TypeExpression) → nodes t ≡ 1
     → ((classifier : ℕ → ℕ) → Stands s.parent.items s.shape.items classifier x t) → Sized s x 1
 sized_leaf s x t e h = record { type = λ k. t; stands = h; count = λ k. rw e refl }
+
+pub sized_as : {s : State} {x : ℕ} (n m : ℕ) → m ≡ n → Sized s x n → Sized s x m
+sized_as n m e h = rw e h
 
 one_more : (n m : ℕ) → n ≡ min m 10001 → min (n + 1) 10001 ≡ min (m + 1) 10001
 one_more n m e = omega arith
@@ -121,6 +128,43 @@ code_below s x c r e a h = let p = rw e at (h.shapes x) in rw p (omega arith)
 
 pub closed_below : (s : State) (x r : ℕ) → slice_index_or s.shape.items x Free ≡ Closed r → Above s x r
 closed_below s x r e a h = let p = rw e at (h.shapes x) in rw p (omega arith)
+
+-- what a class's shape says
+pub sized_free : (s : State) (x : ℕ) → slice_index_or s.parent.items x 0 ≡ x → slice_index_or s.shape.items x Free
+    ≡ Free → Sized s x 1
+sized_free s x e f = sized_leaf s x (unknown x) refl (λ k. s_free e f)
+
+pub sized_int : (s : State) (x : ℕ) → slice_index_or s.parent.items x 0 ≡ x → slice_index_or s.shape.items x Free
+    ≡ Int → Sized s x 1
+sized_int s x e f = sized_leaf s x int_ty refl (λ k. s_int e f)
+
+pub sized_bool : (s : State) (x : ℕ) → slice_index_or s.parent.items x 0 ≡ x → slice_index_or s.shape.items x Free
+    ≡ Bool → Sized s x 1
+sized_bool s x e f = sized_leaf s x bool_ty refl (λ k. s_bool e f)
+
+pub pair_looks : (s : State) (marks : List Mark) (x l r : ℕ) (k : Look) → slice_index_or s.parent.items x 0 ≡ x
+    → slice_index_or s.shape.items x Free ≡ Pair l r → OverTwo s marks l r k → Looks s marks x k
+pair_looks s marks x l r (Ready n) e f p = sized_as _ n p.4 (sized_pair s x l r p.0 p.1 e f p.2 p.3)
+pair_looks s marks x l r (Down y) e f (inl p) = lower s marks x l y (pair_left s x l r f) p
+pair_looks s marks x l r (Down y) e f (inr p) = lower s marks x r y (pair_right s x l r f) p
+
+pub arrow_looks : (s : State) (marks : List Mark) (x l r : ℕ) (k : Look) → slice_index_or s.parent.items x 0 ≡ x
+    → slice_index_or s.shape.items x Free ≡ Arrow l r → OverTwo s marks l r k → Looks s marks x k
+arrow_looks s marks x l r (Ready n) e f p = sized_as _ n p.4 (sized_arrow s x l r p.0 p.1 e f p.2 p.3)
+arrow_looks s marks x l r (Down y) e f (inl p) = lower s marks x l y (arrow_left s x l r f) p
+arrow_looks s marks x l r (Down y) e f (inr p) = lower s marks x r y (arrow_right s x l r f) p
+
+pub code_looks : (s : State) (marks : List Mark) (x c r : ℕ) (k : Look) → slice_index_or s.parent.items x 0 ≡ x
+    → slice_index_or s.shape.items x Free ≡ Code c r → OverOne s marks r k → Looks s marks x k
+code_looks s marks x c r (Ready n) e f p = sized_as _ n p.2 (sized_code s x c r p.0 e f p.1)
+code_looks s marks x c r (Down y) e f p = lower s marks x r y (code_below s x c r f) p
+
+pub closed_looks : (s : State) (marks : List Mark) (x r : ℕ) (k : Look) → slice_index_or s.parent.items x 0 ≡ x
+    → slice_index_or s.shape.items x Free ≡ Closed r → OverOne s marks r k → Looks s marks x k
+closed_looks s marks x r (Ready n) e f p = sized_as _ n p.2 (sized_closed s x r p.0 e f p.1)
+closed_looks s marks x r (Down y) e f p = lower s marks x r y (closed_below s x r f) p
+
+pub ruleset looks = (sized_free, sized_int, sized_bool, pair_looks, arrow_looks, code_looks, closed_looks)
 
 -- the path
 in_append : (x y : ℕ) (xs : List ℕ) → In x (xs ++ y ∷ []) → In x xs ⊎ (x ≡ y)
@@ -293,9 +337,6 @@ pub shape_read : (s : State) (i : ℕ) (h x : Shape) → Sound s → i < length 
     → h ≡ slice_index_or s.shape.items i h → h ≡ x → slice_index_or s.shape.items i Free ≡ x
 shape_read s i h x p lt e f = sym (get_or_default s.shape.items i h Free (omega (arith, p.lengths))) ∙ sym e ∙ f
 
-pub sized_as : {s : State} {x : ℕ} (n m : ℕ) → m ≡ n → Sized s x n → Sized s x m
-sized_as n m e h = rw e h
-
 pub must_be_new : (x : Mark) → ((n : ℕ) → x ≢ Done n) → x ≢ Open → x ≡ New
 must_be_new New p q = refl
 must_be_new Open p q = absurd (q refl)
@@ -337,9 +378,6 @@ pub down_smaller : (marks : List Mark) (all rest one two : List ℕ) (x y : ℕ)
 down_smaller marks all rest one two x y e f g lt n =
     rw (g, f, e)
     (omega (arith, fresh_open marks y lt n, length-append rest (x ∷ []), length-append (rest ++ x ∷ []) (y ∷ [])))
-
-pub lower_at : (s : State) (marks ms : List Mark) (x y : ℕ) → ms ≡ marks → Lower s ms x y → Lower s marks x y
-lower_at s marks ms x y e h = subst (λ m. Lower s m x y) e h
 
 -- a class below is not open, so it is new
 pub now_new : (s : State) (marks : List Mark) (x y : ℕ) (m : Mark) → Marked s marks → Lower s marks x y

@@ -7,6 +7,8 @@ use Rattle.mw_types.specs.Stands.{Stands}
 use Rattle.mw_types.specs.Walks.{AllSized}
 use Rattle.mw_types.specs.Judged.{Stated}
 use Rattle.mw_types.specs.Solutions.{Solution}
+use Rattle.mw_types.specs.declared.state.Shape.{Shape}
+use Rattle.mw_types.specs.declared.state.Shape.TheVariants.{Free}
 use Rattle.mw_types.specs.declared.state.State.{State}
 use Rattle.mw_types.specs.declared.types.Ty.{Ty}
 use Rattle.mw_types.specs.declared.types.Ty.TheVariants.{Int}
@@ -18,6 +20,12 @@ pub record Ready (n m : ℕ) (es : List TypeEquation) (s : State) : Type 0 where
   pub sizes : List ℕ
   pub all : AllSized s sizes
   pub small : (u : ℕ) → u < n → slice_index_or sizes u 0 ≤ 10000
+
+-- a node, its representative and the representative's shape
+pub record RootAt (s : State) (i r : ℕ) (h : Shape) : Type 0 where
+  pub leads : Leads s.parent.items i r
+  pub root : slice_index_or s.parent.items r 0 ≡ r
+  pub shape : slice_index_or s.shape.items r Free ≡ h
 
 -- the representatives of the first classifier unknowns
 abbrev pub name_in : List ℕ → ℕ → ℕ

@@ -1,5 +1,5 @@
 -- A walk over the classes: sizes of what is done, and a path of classes of which each is above the next.
-use Rattle.std.specs.Prelude.{ℕ, suc, ◌≡◌, ◌≢◌, ◌<◌, ◌⊎◌, min, List, [], ◌∷◌, length, slice_index_or}
+use Rattle.std.specs.Prelude.{ℕ, suc, ◌+◌, ◌≡◌, ◌≢◌, ◌<◌, ◌⊎◌, min, List, [], ◌∷◌, length, slice_index_or}
 use Rattle.mw_types.specs.Types.{TypeExpression, Assignment, nodes, size}
 use Rattle.mw_types.specs.Holds.{Means}
 use Rattle.mw_types.specs.Stands.{Stands}
@@ -41,6 +41,15 @@ pub record Lower (s : State) (marks : List Mark) (x y : ℕ) : Type 0 where
   pub root : slice_index_or s.parent.items y 0 ≡ y
   pub undone : (n : ℕ) → slice_index_or marks y New ≢ Done n
   pub above : Above s x y
+
+-- what a class over one node says, and over two
+abbrev pub OverOne : State → List Mark → ℕ → Look → Type 0
+OverOne s marks x (Ready n) = (k : ℕ) × Sized s x k × (n ≡ min (k + 1) 10001)
+OverOne s marks x (Down y) = RootOf s marks x y
+
+abbrev pub OverTwo : State → List Mark → ℕ → ℕ → Look → Type 0
+OverTwo s marks x y (Ready n) = (k : ℕ) × (m : ℕ) × Sized s x k × Sized s y m × (n ≡ min (k + m + 1) 10001)
+OverTwo s marks x y (Down z) = RootOf s marks x z ⊎ RootOf s marks y z
 
 abbrev pub Looks : State → List Mark → ℕ → Look → Type 0
 Looks s marks x (Ready n) = Sized s x n

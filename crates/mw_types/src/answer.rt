@@ -4,9 +4,9 @@ ghost use Rattle.std.specs.Prelude.{◌≡◌, ◌<◌, ◌≤◌, ℕ, List, le
 ghost use Rattle.mw_types.specs.Forest.{Low};
 ghost use Rattle.mw_types.specs.Holds.{Sound};
 ghost use Rattle.mw_types.specs.Types.{type_of};
-ghost use Rattle.mw_types.specs.Answering.{Answers, HasRoom, IsName, NamedTo, StandsFor, StandsForOne, name_in};
+ghost use Rattle.mw_types.specs.Answering.{Answers, HasRoom, IsName, NamedTo, RootAt, StandsFor, StandsForOne, name_in};
 
-use crate::state::{Shape, State, find};
+use crate::state::{Shape, State, class_shape, find};
 use crate::types::Ty;
 use std::alloc::{AllocError, Global};
 use std::marker::Model;
@@ -145,6 +145,16 @@ fn own_tree(alloc: Global, state: &State, names: &[u64], node: usize) -> Result<
     tree(alloc, state, names, node, MOST_NODES)
 }
 
+// A node's representative, and what is known of its class.
+fn class_of(state: &State, node: usize) -> (usize, Shape)
+    requires sound { Sound state.now }
+    requires inside { node < length state.now.parent.items }
+    ensures { RootAt state.now node result.0 result.1 }
+{
+    let root = find(state.parent.as_slice(), node);
+    (root, class_shape(state, root))
+}
+
 // The type that a node stands for, which has at most `room` nodes.
 fn tree(
     alloc: Global,
@@ -160,28 +170,29 @@ fn tree(
     requires room { HasRoom state.now names.now node room }
     ensures { IfOk result (λ ty. StandsFor state.now names.now node (type_of ty)) }
 {
-    let root = find(state.parent.as_slice(), node);
-    match state.shape[root] {
+    let below = room - 1;
+    let (root, shape) = class_of(state, node);
+    match shape {
         Shape::Free => Ok(Ty::Unknown(root as u64)),
         Shape::Int => Ok(Ty::Int),
         Shape::Bool => Ok(Ty::Bool),
         Shape::Pair(l, r) => {
-            let left = tree(alloc, state, names, l, room - 1)?;
-            let right = tree(alloc, state, names, r, room - 1)?;
+            let left = tree(alloc, state, names, l, below)?;
+            let right = tree(alloc, state, names, r, below)?;
             Ok(Ty::Pair(Box::new(alloc, left)?, Box::new(alloc, right)?))
         }
         Shape::Arrow(l, r) => {
-            let left = tree(alloc, state, names, l, room - 1)?;
-            let right = tree(alloc, state, names, r, room - 1)?;
+            let left = tree(alloc, state, names, l, below)?;
+            let right = tree(alloc, state, names, r, below)?;
             Ok(Ty::Arrow(Box::new(alloc, left)?, Box::new(alloc, right)?))
         }
         Shape::Code(c, t) => {
-            let below = tree(alloc, state, names, t, room - 1)?;
-            Ok(Ty::Code(name_at(names, c), Box::new(alloc, below)?))
+            let inner = tree(alloc, state, names, t, below)?;
+            Ok(Ty::Code(name_at(names, c), Box::new(alloc, inner)?))
         }
         Shape::Closed(t) => {
-            let below = tree(alloc, state, names, t, room - 1)?;
-            Ok(Ty::Closed(Box::new(alloc, below)?))
+            let inner = tree(alloc, state, names, t, below)?;
+            Ok(Ty::Closed(Box::new(alloc, inner)?))
         }
     }
 }

@@ -74,7 +74,19 @@ pub fn find(parent: &[usize], from: usize) -> usize
     at
 }
 
+/// What is known of a representative's class.
+#[inline(always)]
+pub fn class_shape(state: &State, root: usize) -> Shape
+    requires sound { Sound state.now }
+    requires inside { root < length state.now.parent.items }
+    ensures shape { result ≡ shape_at state.now root }
+    ensures inside { Inside (length state.now.parent.items) (length state.now.classifier.items) result }
+{
+    state.shape[root]
+}
+
 /// What one type of both shapes comes to.
+#[tactic(auto, using(crate::proofs::Steps::meetings))]
 pub fn meet(x: Shape, y: Shape) -> Met
     ensures meeting { Meeting x y result }
     ensures inside { (n m : ℕ) → Inside n m x → Inside n m y → ExtraInside n m result }
@@ -158,7 +170,7 @@ fn link(state: &mut State, low: usize, high: usize) -> Result<bool, AllocError>
         (λ fine. IsFalse fine → Never state.old (λ a. a.ty low ≡ a.ty high)) }
     ensures work { IfOk result (λ fine. work state.new ≤ work state.old) }
 {
-    let met = meet(state.shape[low], state.shape[high]);
+    let met = meet(class_shape(state, low), class_shape(state, high));
     put(state, low, high, met);
     match met {
         Met::Clash => Ok(false),

@@ -4,8 +4,9 @@ ghost use Rattle.std.specs.Prelude.{ℕ, [], ◌≡◌, ◌≢◌, ◌<◌, leng
 ghost use Rattle.std.specs.Prelude.{IsFalse, ◌↔◌};
 ghost use Rattle.mw_types.specs.Holds.{Sound, Never};
 ghost use Rattle.mw_types.specs.Walks.{Sized, SomeSized, Marked, Finds, Looks, Walk, fresh, AllSized, AllNew};
+ghost use Rattle.mw_types.specs.Walks.{OverOne, OverTwo};
 
-use crate::state::{Shape, State, find};
+use crate::state::{Shape, State, class_shape, find};
 use std::alloc::{AllocError, Global};
 
 /// Where a class is in the walk: not met, below the walk's place, or done, with its size, of which 10,001 and more is
@@ -46,7 +47,38 @@ fn below(state: &State, marks: &[Mark], node: usize) -> Found
     }
 }
 
+// What a class over one node says: one more than its size, or its class where that is not done.
+fn over_one(state: &State, marks: &[Mark], node: usize) -> Look
+    requires sound { Sound state.now }
+    requires marked { Marked state.now marks.now }
+    requires inside { node < length state.now.parent.items }
+    ensures { OverOne state.now marks.now node result }
+{
+    match below(state, marks, node) {
+        Found::Root(root) => Look::Down(root),
+        Found::Size(n) => Look::Ready(n.saturating_add(1).min(10001)),
+    }
+}
+
+// What a class over two nodes says: one more than both sizes, or a class of one of them that is not done.
+fn over_two(state: &State, marks: &[Mark], left: usize, right: usize) -> Look
+    requires sound { Sound state.now }
+    requires marked { Marked state.now marks.now }
+    requires left { left < length state.now.parent.items }
+    requires right { right < length state.now.parent.items }
+    ensures { OverTwo state.now marks.now left right result }
+{
+    match below(state, marks, left) {
+        Found::Root(root) => Look::Down(root),
+        Found::Size(n) => match below(state, marks, right) {
+            Found::Root(root) => Look::Down(root),
+            Found::Size(m) => Look::Ready(n.saturating_add(m).saturating_add(1).min(10001)),
+        },
+    }
+}
+
 // What a class's shape says.
+#[tactic(auto, using(crate::proofs::Walking::looks))]
 fn inspect(state: &State, marks: &[Mark], top: usize) -> Look
     requires sound { Sound state.now }
     requires marked { Marked state.now marks.now }
@@ -54,32 +86,14 @@ fn inspect(state: &State, marks: &[Mark], top: usize) -> Look
     requires root { slice_index_or state.now.parent.items top 0 ≡ top }
     ensures { Looks state.now marks.now top result }
 {
-    match state.shape[top] {
+    match class_shape(state, top) {
         Shape::Free => Look::Ready(1),
         Shape::Int => Look::Ready(1),
         Shape::Bool => Look::Ready(1),
-        Shape::Pair(l, r) => match below(state, marks, l) {
-            Found::Root(root) => Look::Down(root),
-            Found::Size(n) => match below(state, marks, r) {
-                Found::Root(root) => Look::Down(root),
-                Found::Size(m) => Look::Ready(n.saturating_add(m).saturating_add(1).min(10001)),
-            },
-        },
-        Shape::Arrow(l, r) => match below(state, marks, l) {
-            Found::Root(root) => Look::Down(root),
-            Found::Size(n) => match below(state, marks, r) {
-                Found::Root(root) => Look::Down(root),
-                Found::Size(m) => Look::Ready(n.saturating_add(m).saturating_add(1).min(10001)),
-            },
-        },
-        Shape::Code(_, t) => match below(state, marks, t) {
-            Found::Root(root) => Look::Down(root),
-            Found::Size(n) => Look::Ready(n.saturating_add(1).min(10001)),
-        },
-        Shape::Closed(t) => match below(state, marks, t) {
-            Found::Root(root) => Look::Down(root),
-            Found::Size(n) => Look::Ready(n.saturating_add(1).min(10001)),
-        },
+        Shape::Pair(l, r) => over_two(state, marks, l, r),
+        Shape::Arrow(l, r) => over_two(state, marks, l, r),
+        Shape::Code(_, t) => over_one(state, marks, t),
+        Shape::Closed(t) => over_one(state, marks, t),
     }
 }
 

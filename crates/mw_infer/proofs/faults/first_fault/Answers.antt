@@ -1,13 +1,12 @@
-use Rattle.std.proofs.Common.{◌≡◌, ◌+◌, ℕ, [], Some, length, ap, sym, ◌∙◌, arith}
-use Rattle.std.specs.Prelude.{slice_get}
+use Rattle.std.proofs.Common.{◌≡◌, ◌+◌, ℕ, [], length, ap, sym, ◌∙◌, arith}
 use Rattle.std.proofs.lemmas.List.{length-map}
 use Rattle.mw_term.specs.Parts.{main_place, part_of_item}
 use Rattle.mw_term.specs.Programs.{PureProgram, Definition, program_of, definition_of}
 use Rattle.mw_infer.specs.Views.{tops_of, top_of}
 use Rattle.mw_infer.proofs.Finding.{item-found, item-none, main-found, main-none, answer-found, answer-first}
 use Rattle.mw_infer.proofs.Growing.{revealed}
-use Rattle.mw_infer.proofs.Stepping.{progress-first, progress-next, item-judged, main-judged, get-map, steps-length}
-use Rattle.mw_infer.proofs.Stepping.{AtEnd, at-end}
+use Rattle.mw_infer.proofs.Stepping.{progress-first, progress-next, item-judged, main-judged, steps-length}
+use Rattle.mw_infer.proofs.Stepping.{item-at, ended}
 use Rattle.mw_infer.proofs.faults.first_fault.Goals as goal
 
 pub loop-item-init : goal.loop-item-init
@@ -17,22 +16,14 @@ loop-item-init c = record {
 }
 
 pub step-requires : goal.step-requires
-step-requires c =
-    let p : PureProgram = program_of c.args.program.now in
-    let g : slice_get p.items c.loop-item.item-index ≡ Some (definition_of c.item-item.result.kind) =
-    get-map (λ i. definition_of i.kind) c.args.program.now.items c.loop-item.item-index c.item-item.result
-    (rw c.as_slice-items.ensures at c.loop-item-test.true) (rw c.as_slice-items.ensures at c.item-item.is) in
-    item-judged p c.loop-item.item-index (definition_of c.item-item.result.kind) (tops_of c.loop-item.names.items)
-    c.requires g c.loop-item.invariant.progress
+step-requires c = item-judged _ _ _ _ c.requires
+    (item-at c.args.program.now c.as_slice-items.ensures c.loop-item-test.true c.item-item.is)
+    c.loop-item.invariant.progress
 
 pub item_fault-requires : goal.item_fault-requires
-item_fault-requires c =
-    let p : PureProgram = program_of c.args.program.now in
-    let g : slice_get p.items c.loop-item.item-index ≡ Some (definition_of c.item-item.result.kind) =
-    get-map (λ i. definition_of i.kind) c.args.program.now.items c.loop-item.item-index c.item-item.result
-    (rw c.as_slice-items.ensures at c.loop-item-test.true) (rw c.as_slice-items.ensures at c.item-item.is) in
-    rw (c.as_slice.ensures.value, c.in-Err-Refused.ensures.kept) (item-judged p c.loop-item.item-index
-    (definition_of c.item-item.result.kind) (tops_of c.loop-item.names.items) c.requires g
+item_fault-requires c = rw (c.as_slice.ensures.value, c.in-Err-Refused.ensures.kept)
+    (item-judged _ _ _ _ c.requires
+    (item-at c.args.program.now c.as_slice-items.ensures c.loop-item-test.true c.item-item.is)
     c.loop-item.invariant.progress)
 
 pub returns-in-Err-Refused-clause-found : goal.returns-in-Err-Refused-clause-found
@@ -40,9 +31,7 @@ returns-in-Err-Refused-clause-found c =
     let p : PureProgram = program_of c.args.program.now in
     let i : ℕ = c.loop-item.item-index in
     let d : Definition = definition_of c.item-item.result.kind in
-    let g : slice_get p.items i ≡ Some d = get-map (λ i. definition_of i.kind) c.args.program.now.items i
-    c.item-item.result (rw c.as_slice-items.ensures at c.loop-item-test.true)
-    (rw c.as_slice-items.ensures at c.item-item.is) in
+    let g = item-at c.args.program.now c.as_slice-items.ensures c.loop-item-test.true c.item-item.is in
     let e : c.len-index.result ≡ i =
     omega (arith, c.len-index.ensures, c.loop-item.names.ok.0, c.loop-item.invariant.names) in
     answer-found p (tops_of c.loop-item.names.items) (part_of_item [] d).place (part_of_item [] d).term i
@@ -55,9 +44,7 @@ returns-in-Err-Refused-clause-first c r q =
     let p : PureProgram = program_of c.args.program.now in
     let i : ℕ = c.loop-item.item-index in
     let d : Definition = definition_of c.item-item.result.kind in
-    let g : slice_get p.items i ≡ Some d = get-map (λ i. definition_of i.kind) c.args.program.now.items i
-    c.item-item.result (rw c.as_slice-items.ensures at c.loop-item-test.true)
-    (rw c.as_slice-items.ensures at c.item-item.is) in
+    let g = item-at c.args.program.now c.as_slice-items.ensures c.loop-item-test.true c.item-item.is in
     let e : c.len-index.result ≡ i =
     omega (arith, c.len-index.ensures, c.loop-item.names.ok.0, c.loop-item.invariant.names) in
     answer-first p (tops_of c.loop-item.names.items) (part_of_item [] d).place (part_of_item [] d).term i
@@ -73,9 +60,7 @@ loop-item-preserved c =
     let p : PureProgram = program_of c.args.program.now in
     let i : ℕ = c.loop-item.item-index in
     let d : Definition = definition_of c.item-item.result.kind in
-    let g : slice_get p.items i ≡ Some d = get-map (λ i. definition_of i.kind) c.args.program.now.items i
-    c.item-item.result (rw c.as_slice-items.ensures at c.loop-item-test.true)
-    (rw c.as_slice-items.ensures at c.item-item.is) in
+    let g = item-at c.args.program.now c.as_slice-items.ensures c.loop-item-test.true c.item-item.is in
     let s = c.in-Ok.ensures.ok in
     record {
       progress = progress-next p i d (tops_of c.loop-item.names.items) (tops_of c.step.new.names.items) c.in-Ok.field-0
@@ -87,24 +72,15 @@ loop-item-preserved c =
 
 pub main_fault-requires : goal.main_fault-requires
 main_fault-requires c =
-    let p : PureProgram = program_of c.args.program.now in
-    let a : AtEnd p (tops_of c.loop-item.names.items) (tops_of c.reveal.new.names.items) c.loop-item.item-index =
-    at-end p (length c.args.program.now.items) c.loop-item.item-index (tops_of c.loop-item.names.items)
-    (tops_of c.reveal.new.names.items) (sym (length-map c.args.program.now.items (λ i. definition_of i.kind)))
-    (rw c.as_slice-items.ensures at c.loop-item-test.false)
-    (rw c.as_slice-items.ensures at c.loop-item.auto.item-index-end) c.loop-item.invariant.progress
-    (rw c.as_slice-items.ensures at c.reveal.ensures) in
-    rw (c.as_slice-2.ensures.value, a.shown) (main-judged p (tops_of c.loop-item.names.items) c.requires a.progress)
+    let a = ended c.args.program.now c.as_slice-items.ensures c.loop-item-test.false
+    c.loop-item.auto.item-index-end c.loop-item.invariant.progress c.reveal.ensures in
+    rw (c.as_slice-2.ensures.value, a.shown) (main-judged _ _ c.requires a.progress)
 
 pub returns-clause-found : goal.returns-clause-found
 returns-clause-found c =
     let p : PureProgram = program_of c.args.program.now in
-    let a : AtEnd p (tops_of c.loop-item.names.items) (tops_of c.reveal.new.names.items) c.loop-item.item-index =
-    at-end p (length c.args.program.now.items) c.loop-item.item-index (tops_of c.loop-item.names.items)
-    (tops_of c.reveal.new.names.items) (sym (length-map c.args.program.now.items (λ i. definition_of i.kind)))
-    (rw c.as_slice-items.ensures at c.loop-item-test.false)
-    (rw c.as_slice-items.ensures at c.loop-item.auto.item-index-end) c.loop-item.invariant.progress
-    (rw c.as_slice-items.ensures at c.reveal.ensures) in
+    let a = ended c.args.program.now c.as_slice-items.ensures c.loop-item-test.false
+    c.loop-item.auto.item-index-end c.loop-item.invariant.progress c.reveal.ensures in
     let e : c.len-index-2.result ≡ length p.items =
     omega (arith, c.len-index-2.ensures, c.loop-item.names.ok.0, c.loop-item.invariant.names, a.index) in
     answer-found p (revealed p.items (tops_of c.loop-item.names.items)) (main_place p.result) p.body (length p.items)
@@ -114,12 +90,8 @@ returns-clause-found c =
 pub returns-clause-first : goal.returns-clause-first
 returns-clause-first c r q =
     let p : PureProgram = program_of c.args.program.now in
-    let a : AtEnd p (tops_of c.loop-item.names.items) (tops_of c.reveal.new.names.items) c.loop-item.item-index =
-    at-end p (length c.args.program.now.items) c.loop-item.item-index (tops_of c.loop-item.names.items)
-    (tops_of c.reveal.new.names.items) (sym (length-map c.args.program.now.items (λ i. definition_of i.kind)))
-    (rw c.as_slice-items.ensures at c.loop-item-test.false)
-    (rw c.as_slice-items.ensures at c.loop-item.auto.item-index-end) c.loop-item.invariant.progress
-    (rw c.as_slice-items.ensures at c.reveal.ensures) in
+    let a = ended c.args.program.now c.as_slice-items.ensures c.loop-item-test.false
+    c.loop-item.auto.item-index-end c.loop-item.invariant.progress c.reveal.ensures in
     let e : c.len-index-2.result ≡ length p.items =
     omega (arith, c.len-index-2.ensures, c.loop-item.names.ok.0, c.loop-item.invariant.names, a.index) in
     answer-first p (revealed p.items (tops_of c.loop-item.names.items)) (main_place p.result) p.body (length p.items)

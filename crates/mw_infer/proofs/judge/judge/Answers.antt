@@ -13,9 +13,9 @@ use Rattle.mw_infer.specs.Views.{tops_of}
 use Rattle.mw_infer.proofs.FirstOpen.{closes-below}
 use Rattle.mw_infer.proofs.Items.{item-within}
 use Rattle.mw_infer.proofs.NodeLists.{facts-told, numbers-within}
-use Rattle.mw_infer.proofs.Shortened.{big-alike, general-alike, unsolvable-alike}
+use Rattle.mw_infer.proofs.Shortened.{big-alike, unsolvable-alike}
 use Rattle.mw_infer.proofs.Testing.{read}
-use Rattle.mw_infer.proofs.TypeAlone.{type-judged}
+use Rattle.mw_infer.proofs.TypeAlone.{item-solved, type-judged}
 use Rattle.mw_infer.specs.Emitting.{closes_of}
 use Rattle.mw_infer.proofs.judge.judge.Goals as goal
 
@@ -73,12 +73,8 @@ pub returns-in-Some-clause-judged : goal.returns-in-Some-clause-judged
 returns-in-Some-clause-judged c =
     let e = c.in_ok-out.ensures in (
       substitution_of c.in-Ok.solved,
-      record {
-        general = rw (e.unknowns, e.classifiers, e.equations) at
-            (general-alike c.in_ok-pairs.ensures c.in-Ok.ensures.most_general);
-        small = rw e.unknowns at c.in-Ok.ensures.small;
-        within = rw (e.unknowns, e.classifiers) at c.in-Ok.ensures.within;
-      },
+      item-solved e.unknowns e.classifiers e.equations c.in_ok-pairs.ensures c.in-Ok.ensures.most_general
+          c.in-Ok.ensures.small c.in-Ok.ensures.within,
       rw (c.as_slice.ensures.value, e.closes) at (rw c.in-Some.is at c.in_ok-at-in-Ok.ensures),
     )
 
@@ -87,12 +83,8 @@ returns-in-Ok-clause-judged c =
     let e = c.in_ok-out.ensures in
     let p = ap (λ t. type_of t) (read c.in-Ok.solved.types 0 Int c.ty.result.now c.ty.ensures) in (
       substitution_of c.in-Ok.solved,
-      record {
-        general = rw (e.unknowns, e.classifiers, e.equations) at
-            (general-alike c.in_ok-pairs.ensures c.in-Ok.ensures.most_general);
-        small = rw e.unknowns at c.in-Ok.ensures.small;
-        within = rw (e.unknowns, e.classifiers) at c.in-Ok.ensures.within;
-      },
+      item-solved e.unknowns e.classifiers e.equations c.in_ok-pairs.ensures c.in-Ok.ensures.most_general
+          c.in-Ok.ensures.small c.in-Ok.ensures.within,
       rw (c.as_slice.ensures.value, e.closes) at (rw c.in_default.is at c.in_ok-at-in-Ok.ensures),
       rw p c.in_ok-known-in-Ok.ensures,
       facts-told c.in-Ok.solved (map numbers_of c.in_ok-nodes-in-Ok.nodes.items)
@@ -127,12 +119,8 @@ returns-then-not-with_nodes-2-clause-judged c =
     let e = c.in_ok-out.ensures in
     let p = ap (λ t. type_of t) (read c.in-Ok.solved.types 0 Int c.ty.result.now c.ty.ensures) in (
       substitution_of c.in-Ok.solved,
-      record {
-        general = rw (e.unknowns, e.classifiers, e.equations) at
-            (general-alike c.in_ok-pairs.ensures c.in-Ok.ensures.most_general);
-        small = rw e.unknowns at c.in-Ok.ensures.small;
-        within = rw (e.unknowns, e.classifiers) at c.in-Ok.ensures.within;
-      },
+      item-solved e.unknowns e.classifiers e.equations c.in_ok-pairs.ensures c.in-Ok.ensures.most_general
+          c.in-Ok.ensures.small c.in-Ok.ensures.within,
       rw (c.as_slice.ensures.value, e.closes) at (rw c.in_default.is at c.in_ok-at-in-Ok.ensures),
       rw p c.in_ok-known-in-Ok.ensures,
       tt,

@@ -1,11 +1,10 @@
-use Rattle.std.proofs.Common.{◌≡◌, ◌+◌, ℕ, Some, length, ap, sym, ◌∙◌, arith}
-use Rattle.std.specs.Prelude.{slice_get}
+use Rattle.std.proofs.Common.{◌≡◌, ◌+◌, ℕ, length, ap, sym, ◌∙◌, arith}
 use Rattle.std.proofs.lemmas.List.{length-map}
 use Rattle.mw_term.specs.Programs.{PureProgram, Definition, program_of, definition_of}
 use Rattle.mw_infer.specs.Checking.{IsFirstRefusal}
 use Rattle.mw_infer.specs.Views.{tops_of, top_of}
 use Rattle.mw_infer.proofs.Stepping.{progress-first, progress-next, item-judged, item-refused, main-judged}
-use Rattle.mw_infer.proofs.Stepping.{main-refused, main-faultless, get-map, steps-length, if-refused, AtEnd, at-end}
+use Rattle.mw_infer.proofs.Stepping.{main-refused, main-faultless, steps-length, if-refused, item-at, ended}
 use Rattle.mw_infer.proofs.Growing.{principal-main}
 use Rattle.mw_infer.proofs.NodesTold.{told-first, kept-next, kept-main}
 use Rattle.mw_infer.proofs.program.whole.Goals as goal
@@ -18,22 +17,16 @@ loop-item-init c = record {
 }
 
 pub step-requires : goal.step-requires
-step-requires c =
-    let p : PureProgram = program_of c.args.program.now in
-    let g : slice_get p.items c.loop-item.item-index ≡ Some (definition_of c.item-item.result.kind) =
-    get-map (λ i. definition_of i.kind) c.args.program.now.items c.loop-item.item-index c.item-item.result
-    (rw c.as_slice-items.ensures at c.loop-item-test.true) (rw c.as_slice-items.ensures at c.item-item.is) in
-    item-judged p c.loop-item.item-index (definition_of c.item-item.result.kind) (tops_of c.loop-item.names.items)
-    c.requires g c.loop-item.invariant.progress
+step-requires c = item-judged _ _ _ _ c.requires
+    (item-at c.args.program.now c.as_slice-items.ensures c.loop-item-test.true c.item-item.is)
+    c.loop-item.invariant.progress
 
 pub returns-in-Err-clause-refused : goal.returns-in-Err-clause-refused
 returns-in-Err-clause-refused c =
     let p : PureProgram = program_of c.args.program.now in
     let i : ℕ = c.loop-item.item-index in
     let d : Definition = definition_of c.item-item.result.kind in
-    let g : slice_get p.items i ≡ Some d = get-map (λ i. definition_of i.kind) c.args.program.now.items i
-    c.item-item.result (rw c.as_slice-items.ensures at c.loop-item-test.true)
-    (rw c.as_slice-items.ensures at c.item-item.is) in
+    let g = item-at c.args.program.now c.as_slice-items.ensures c.loop-item-test.true c.item-item.is in
     let e : c.len-index.result ≡ i =
     omega (arith, c.len-index.ensures, c.loop-item.names.ok.0, c.loop-item.invariant.names) in
     if-refused c.in-Err.stop _ (IsFirstRefusal p)
@@ -45,9 +38,7 @@ loop-item-preserved c =
     let p : PureProgram = program_of c.args.program.now in
     let i : ℕ = c.loop-item.item-index in
     let d : Definition = definition_of c.item-item.result.kind in
-    let g : slice_get p.items i ≡ Some d = get-map (λ i. definition_of i.kind) c.args.program.now.items i
-    c.item-item.result (rw c.as_slice-items.ensures at c.loop-item-test.true)
-    (rw c.as_slice-items.ensures at c.item-item.is) in
+    let g = item-at c.args.program.now c.as_slice-items.ensures c.loop-item-test.true c.item-item.is in
     let s = c.in-Ok.ensures.ok in
     record {
       progress = progress-next p i d (tops_of c.loop-item.names.items) (tops_of c.step.new.names.items) c.in-Ok.nodes
@@ -62,47 +53,28 @@ loop-item-preserved c =
 
 pub last-requires : goal.last-requires
 last-requires c =
-    let p : PureProgram = program_of c.args.program.now in
-    let a : AtEnd p (tops_of c.loop-item.names.items) (tops_of c.reveal.new.names.items) c.loop-item.item-index =
-    at-end p (length c.args.program.now.items) c.loop-item.item-index (tops_of c.loop-item.names.items)
-    (tops_of c.reveal.new.names.items) (sym (length-map c.args.program.now.items (λ i. definition_of i.kind)))
-    (rw c.as_slice-items.ensures at c.loop-item-test.false)
-    (rw c.as_slice-items.ensures at c.loop-item.auto.item-index-end) c.loop-item.invariant.progress
-    (rw c.as_slice-items.ensures at c.reveal.ensures) in
-    rw (c.as_slice.ensures.value, a.shown) (main-judged p (tops_of c.loop-item.names.items) c.requires a.progress)
+    let a = ended c.args.program.now c.as_slice-items.ensures c.loop-item-test.false
+    c.loop-item.auto.item-index-end c.loop-item.invariant.progress c.reveal.ensures in
+    rw (c.as_slice.ensures.value, a.shown) (main-judged _ _ c.requires a.progress)
 
 pub returns-in-Ok-last-clause-faultless : goal.returns-in-Ok-last-clause-faultless
 returns-in-Ok-last-clause-faultless c =
-    let p : PureProgram = program_of c.args.program.now in
-    let a : AtEnd p (tops_of c.loop-item.names.items) (tops_of c.reveal.new.names.items) c.loop-item.item-index =
-    at-end p (length c.args.program.now.items) c.loop-item.item-index (tops_of c.loop-item.names.items)
-    (tops_of c.reveal.new.names.items) (sym (length-map c.args.program.now.items (λ i. definition_of i.kind)))
-    (rw c.as_slice-items.ensures at c.loop-item-test.false)
-    (rw c.as_slice-items.ensures at c.loop-item.auto.item-index-end) c.loop-item.invariant.progress
-    (rw c.as_slice-items.ensures at c.reveal.ensures) in
-    main-faultless p (tops_of c.loop-item.names.items) c.in-Ok-last.nodes c.requires a.progress
+    let a = ended c.args.program.now c.as_slice-items.ensures c.loop-item-test.false
+    c.loop-item.auto.item-index-end c.loop-item.invariant.progress c.reveal.ensures in
+    main-faultless _ _ c.in-Ok-last.nodes c.requires a.progress
     (rw (c.as_slice.ensures.value, a.shown) at c.in-Ok-last.ensures.fine)
 
 pub returns-in-Ok-last-clause-principal : goal.returns-in-Ok-last-clause-principal
 returns-in-Ok-last-clause-principal c =
-    let p : PureProgram = program_of c.args.program.now in
-    let a : AtEnd p (tops_of c.loop-item.names.items) (tops_of c.reveal.new.names.items) c.loop-item.item-index =
-    at-end p (length c.args.program.now.items) c.loop-item.item-index (tops_of c.loop-item.names.items)
-    (tops_of c.reveal.new.names.items) (sym (length-map c.args.program.now.items (λ i. definition_of i.kind)))
-    (rw c.as_slice-items.ensures at c.loop-item-test.false)
-    (rw c.as_slice-items.ensures at c.loop-item.auto.item-index-end) c.loop-item.invariant.progress
-    (rw c.as_slice-items.ensures at c.reveal.ensures) in
-    rw a.shown (principal-main p.items (tops_of c.loop-item.names.items) a.progress.principal)
+    let a = ended c.args.program.now c.as_slice-items.ensures c.loop-item-test.false
+    c.loop-item.auto.item-index-end c.loop-item.invariant.progress c.reveal.ensures in
+    rw a.shown (principal-main _ _ a.progress.principal)
 
 pub returns-in-Ok-last-clause-nodes : goal.returns-in-Ok-last-clause-nodes
 returns-in-Ok-last-clause-nodes c = λ w.
     let p : PureProgram = program_of c.args.program.now in
-    let a : AtEnd p (tops_of c.loop-item.names.items) (tops_of c.reveal.new.names.items) c.loop-item.item-index =
-    at-end p (length c.args.program.now.items) c.loop-item.item-index (tops_of c.loop-item.names.items)
-    (tops_of c.reveal.new.names.items) (sym (length-map c.args.program.now.items (λ i. definition_of i.kind)))
-    (rw c.as_slice-items.ensures at c.loop-item-test.false)
-    (rw c.as_slice-items.ensures at c.loop-item.auto.item-index-end) c.loop-item.invariant.progress
-    (rw c.as_slice-items.ensures at c.reveal.ensures) in
+    let a = ended c.args.program.now c.as_slice-items.ensures c.loop-item-test.false
+    c.loop-item.auto.item-index-end c.loop-item.invariant.progress c.reveal.ensures in
     kept-main p (tops_of c.loop-item.names.items) c.in-Ok-last.nodes c.loop-item.parts.items
     c.keep-in-Ok-last.new.parts.items a.progress
     (rw (c.as_slice.ensures.value, a.shown) at c.in-Ok-last.ensures.fine) (c.in-Ok-last.ensures.told w)
@@ -111,12 +83,8 @@ returns-in-Ok-last-clause-nodes c = λ w.
 pub returns-clause-refused : goal.returns-clause-refused
 returns-clause-refused c =
     let p : PureProgram = program_of c.args.program.now in
-    let a : AtEnd p (tops_of c.loop-item.names.items) (tops_of c.reveal.new.names.items) c.loop-item.item-index =
-    at-end p (length c.args.program.now.items) c.loop-item.item-index (tops_of c.loop-item.names.items)
-    (tops_of c.reveal.new.names.items) (sym (length-map c.args.program.now.items (λ i. definition_of i.kind)))
-    (rw c.as_slice-items.ensures at c.loop-item-test.false)
-    (rw c.as_slice-items.ensures at c.loop-item.auto.item-index-end) c.loop-item.invariant.progress
-    (rw c.as_slice-items.ensures at c.reveal.ensures) in
+    let a = ended c.args.program.now c.as_slice-items.ensures c.loop-item-test.false
+    c.loop-item.auto.item-index-end c.loop-item.invariant.progress c.reveal.ensures in
     let e : c.len-index-2.result ≡ length p.items =
     omega (arith, c.len-index-2.ensures, c.loop-item.names.ok.0, c.loop-item.invariant.names, a.index) in
     if-refused c.in-Err-last.stop _ (IsFirstRefusal p)

@@ -26,10 +26,6 @@ returns c = first_too_big c.args.unknowns c.args.equations.now c.loop-high.low c
 pub judge_longer-requires-clause-stated : goal.judge_longer-requires-clause-stated
 judge_longer-requires-clause-stated c = copy_front c.in_ok-longer.ensures c.loop-high.invariant.3
 
-pub judge_longer-requires-clause-inside : goal.judge_longer-requires-clause-inside
-judge_longer-requires-clause-inside c = rw (ap length c.in_ok-longer.ensures.classifier
-    ∙ c.loop-high.invariant.3.stated.classifier_count) c.requires.inside
-
 pub loop-high-preserved-then-is_fine : goal.loop-high-preserved-then-is_fine
 loop-high-preserved-then-is_fine c =
     let f = c.is_fine.ensures.0 c.if-is_fine.true in (
