@@ -1,13 +1,12 @@
 use Rattle.std.proofs.Common.{refl, ap, []}
 use Rattle.mw_wasm.specs.declared.values.Value.TheVariants as value
 use Rattle.mw_wasm.specs.declared.values.Trap.TheVariants.{Unreachable}
-use Rattle.mw_wasm.specs.Syntax.{nop, unreachable, load, store, memory_grow}
+use Rattle.mw_wasm.specs.Syntax.{nop, unreachable, load, store}
 use Rattle.mw_wasm.specs.Act.{constant}
 use Rattle.mw_wasm.specs.Views.{instruction_of, module_of}
 use Rattle.mw_exec.specs.declared.outcome.Outcome.TheVariants as outcome
 use Rattle.mw_exec.specs.Views.{store_of}
 use Rattle.mw_exec.proofs.ArmRules.{arm, arm_st, arm_held, arm_aligned, arm_const, arm_size, arm_simply}
-use Rattle.mw_exec.proofs.ArmRules.{is_control}
 use Rattle.mw_exec.proofs.simple.simple.Goals as goal
 
 pub returns-in-LocalGet-clause-simply : goal.returns-in-LocalGet-clause-simply
@@ -83,57 +82,8 @@ returns-in-MemorySize-clause-simply c = arm_size c.constant-in-MemorySize.result
     (instruction_of c.args.instruction.now) (store_of c.args.held.now) _ _ _ (ap instruction_of c.in-MemorySize.is)
     c.constant-in-MemorySize.ensures.on c.constant-in-MemorySize.ensures.top
 
-pub returns-in-MemoryGrow-clause-simply : goal.returns-in-MemoryGrow-clause-simply
-returns-in-MemoryGrow-clause-simply c = arm c.grow.result (module_of c.args.wasm.now)
-    (instruction_of c.args.instruction.now) memory_grow (store_of c.args.held.now) _ _ (store_of c.grow.new.held) _ _
-    (ap instruction_of c.in-MemoryGrow.is) refl (c.grow.ensures.comes _)
-
 pub returns-in-LocalTee-clause-simply : goal.returns-in-LocalTee-clause-simply
 returns-in-LocalTee-clause-simply c = arm_simply c.local_tee.result (module_of c.args.wasm.now)
     (instruction_of c.args.instruction.now) _ (store_of c.args.held.now) c.args.base c.args.locals.now
     c.local_tee.new.locals c.args.height c.args.stack.now c.local_tee.new.stack (ap instruction_of c.in-LocalTee.is)
     c.local_tee.ensures.simply
-
-pub returns-in-Block-clause-simply : goal.returns-in-Block-clause-simply
-returns-in-Block-clause-simply c =
-    (is_control (instruction_of c.args.instruction.now) _ (ap instruction_of c.in-Block.is) tt, refl, refl, refl)
-
-pub returns-in-Loop-clause-simply : goal.returns-in-Loop-clause-simply
-returns-in-Loop-clause-simply c =
-    (is_control (instruction_of c.args.instruction.now) _ (ap instruction_of c.in-Loop.is) tt, refl, refl, refl)
-
-pub returns-in-If-clause-simply : goal.returns-in-If-clause-simply
-returns-in-If-clause-simply c = (
-  is_control (instruction_of c.args.instruction.now) _ (ap instruction_of c.in-If.is) tt,
-  refl,
-  refl,
-  refl,
-)
-
-pub returns-in-Br-clause-simply : goal.returns-in-Br-clause-simply
-returns-in-Br-clause-simply c = (
-  is_control (instruction_of c.args.instruction.now) _ (ap instruction_of c.in-Br.is) tt,
-  refl,
-  refl,
-  refl,
-)
-
-pub returns-in-BrIf-clause-simply : goal.returns-in-BrIf-clause-simply
-returns-in-BrIf-clause-simply c =
-    (is_control (instruction_of c.args.instruction.now) _ (ap instruction_of c.in-BrIf.is) tt, refl, refl, refl)
-
-pub returns-in-BrTable-clause-simply : goal.returns-in-BrTable-clause-simply
-returns-in-BrTable-clause-simply c =
-    (is_control (instruction_of c.args.instruction.now) _ (ap instruction_of c.in-BrTable.is) tt, refl, refl, refl)
-
-pub returns-in-Return-clause-simply : goal.returns-in-Return-clause-simply
-returns-in-Return-clause-simply c =
-    (is_control (instruction_of c.args.instruction.now) _ (ap instruction_of c.in-Return.is) tt, refl, refl, refl)
-
-pub returns-in-Call-clause-simply : goal.returns-in-Call-clause-simply
-returns-in-Call-clause-simply c =
-    (is_control (instruction_of c.args.instruction.now) _ (ap instruction_of c.in-Call.is) tt, refl, refl, refl)
-
-pub returns-in-CallIndirect-clause-simply : goal.returns-in-CallIndirect-clause-simply
-returns-in-CallIndirect-clause-simply c =
-    (is_control (instruction_of c.args.instruction.now) _ (ap instruction_of c.in-CallIndirect.is) tt, refl, refl, refl)
