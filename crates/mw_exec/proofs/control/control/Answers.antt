@@ -1,6 +1,6 @@
 use Rattle.std.proofs.Common.{ap, sym, ◌∙◌}
 use Rattle.mw_wasm.specs.Syntax.{br_table}
-use Rattle.mw_wasm.specs.Views.{instruction_of, module_of, block_is, loop_is, cond_is}
+use Rattle.mw_wasm.specs.Views.{instruction_of, block_is, loop_is, cond_is}
 use Rattle.mw_exec.proofs.TurnRules.{control_at, turns_at}
 use Rattle.mw_exec.proofs.control.control.Goals as goal
 

@@ -1,7 +1,6 @@
 use Rattle.std.proofs.Common.{refl, ap, []}
-use Rattle.mw_wasm.specs.declared.values.Value.TheVariants as value
 use Rattle.mw_wasm.specs.declared.values.Trap.TheVariants.{Unreachable}
-use Rattle.mw_wasm.specs.Syntax.{nop, unreachable, load, store}
+use Rattle.mw_wasm.specs.Syntax.{nop, unreachable, store}
 use Rattle.mw_wasm.specs.Act.{constant}
 use Rattle.mw_wasm.specs.Views.{instruction_of, module_of}
 use Rattle.mw_exec.specs.declared.outcome.Outcome.TheVariants as outcome
