@@ -27,3 +27,12 @@ pub record IsBeginning (g : Func) (t : FuncType) (args : List Value) (n : ℕ) (
   pub fuel : s.fuel ≡ n
   pub is : (h : Held) → config_of h s ≡ at (store_of h) (args ++ map zero_of g.locals) [] (code_of g.body)
       (in_label (length t.results) end [] end ∷ in_frame (length t.results) [] [] end ∷ [])
+
+-- the state in which an invocation of the function of an index begins, with arguments of its parameters' types
+pub record IsInvocation (wasm : Module) (f : ℕ) (args : List Value) (n : ℕ) (s : State) : Type 0 where
+  pub function : Func
+  pub type : FuncType
+  pub is_function : slice_get wasm.funcs f ≡ Some function
+  pub is_type : slice_get wasm.types function.kind ≡ Some type
+  pub fit : map type_of_value args ≡ type.params
+  pub begins : IsBeginning function type args n s

@@ -24,6 +24,7 @@ fn zero_of(t: ValType) -> Value
 }
 
 /// Arguments and then zeros, after the locals that are there.
+#[tactic(auto, using(crate::proofs::MappedSlices::mapped_more, crate::proofs::MappedSlices::mapped_all))]
 pub fn push_locals(
     locals: &mut Vec<Value>,
     arguments: &[Value],
@@ -90,6 +91,7 @@ pub fn enter_function<'m>(
 }
 
 /// A call of the function of an index.
+#[tactic(auto, using(crate::proofs::CallRules::all_at, crate::proofs::CallRules::calls_there))]
 #[inline(always)]
 pub fn call<'m>(wasm: &'m Module, state: &mut State<'m>, f: u32) -> Result<Turn, AllocError>
     requires formed { IsFormed state.old }

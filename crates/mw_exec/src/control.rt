@@ -15,7 +15,7 @@ use crate::calls::call;
 use crate::held::Held;
 use crate::jumps::{branch, give_back};
 use crate::labels::enter;
-use crate::operands::pop_i32;
+use crate::operands::take_i32;
 use crate::state::{Kind, State, Turn};
 use crate::tables::{call_indirect_now, jump_by_table};
 use mw_wasm::{Instr, Instrs, Module, ValType};
@@ -54,6 +54,7 @@ pub fn repeat<'m>(
 }
 
 /// One of two blocks.
+#[tactic(auto, using(crate::proofs::TurnRules::cond_lacks))]
 #[inline(always)]
 pub fn choose<'m>(
     state: &mut State<'m>,
@@ -66,8 +67,7 @@ pub fn choose<'m>(
         (λ u. (m : PureModule) (h : WasmHeld) → TurnsBy m (cond_instruction t (code_of a.now) (code_of b.now)) h
         state.old u state.new) }
 {
-    let height = state.height;
-    let Some(n) = pop_i32(&mut state.stack, height) else {
+    let Some(n) = take_i32(state) else {
         return Ok(Turn::Lost);
     };
     if n == 0 {
@@ -87,13 +87,13 @@ pub fn jump<'m>(state: &mut State<'m>, l: u32) -> Turn
 }
 
 /// A branch where the last operand isn't 0.
+#[tactic(auto, using(crate::proofs::TurnRules::if_lacks))]
 #[inline(always)]
 pub fn jump_if<'m>(state: &mut State<'m>, l: u32) -> Turn
     requires { IsFormed state.old }
     ensures { (m : PureModule) (h : WasmHeld) → TurnsBy m (br_if l) h state.old result state.new }
 {
-    let height = state.height;
-    let Some(n) = pop_i32(&mut state.stack, height) else {
+    let Some(n) = take_i32(state) else {
         return Turn::Lost;
     };
     if n == 0 { Turn::On } else { jump(state, l) }

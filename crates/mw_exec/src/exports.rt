@@ -10,6 +10,7 @@ ghost use Rattle.mw_exec.specs.Instancing.{IsFunctionAt, found_or};
 use mw_wasm::{Export, Exported, Func, FuncType, Module};
 
 /// The first function that is exported under a name, and its type.
+#[tactic(auto, using(crate::proofs::ExportedFunctions::function_in_range, crate::proofs::ExportedFunctions::kind_in_range))]
 pub fn function_named<'a>(wasm: &'a Module, name: &[u8]) -> Option<(&'a Func, &'a FuncType)>
     requires valid { IsValid (module_of wasm.now) }
     ensures some { IfSome result (λ found. IsFunctionAt wasm.now name.now found.0.now found.1.now) }

@@ -19,6 +19,7 @@ use mw_wasm::{Element, GlobalVar, Instr, Limits, Module, Segment, Value};
 use std::alloc::{AllocError, Global};
 
 /// What the instance of a valid module begins with, where all its segments fit.
+#[tactic(auto, using(crate::proofs::Beginnings::elements_have_offsets, crate::proofs::Beginnings::segments_have_offsets, crate::proofs::FirstStores::globals_have_values))]
 pub fn first_held(alloc: Global, wasm: &Module) -> Result<Held, AllocError>
     requires kept { IsKept wasm.now }
     requires fit { AllFit wasm.now }
@@ -51,6 +52,7 @@ fn first_value_of(global: &GlobalVar) -> Value
 }
 
 /// The values that globals begin with.
+#[tactic(auto, using(crate::proofs::MappedSlices::mapped_more, crate::proofs::MappedSlices::mapped_all, crate::proofs::MappedSlices::all_item))]
 fn first_globals(alloc: Global, globals: &[GlobalVar]) -> Result<Vec<Value>, AllocError>
     requires { AllByRecursion HasFirstValue globals.now }
     ensures { IfOk result (λ values. values.items ≡ map value_of_global globals.now) }
@@ -99,6 +101,7 @@ fn place_functions(table: &mut Vec<Option<u32>>, at: usize, funcs: &[u32])
 }
 
 /// Element segments are written into a table, one after another.
+#[tactic(auto, using(crate::proofs::MappedSlices::all_item))]
 fn place_elements(table: &mut Vec<Option<u32>>, elements: &[Element])
     requires offsets { AllByRecursion HasElementOffset elements.now }
     requires fit { position (element_test (length table.old.items)) elements.now ≡ None }
@@ -123,6 +126,7 @@ fn place_bytes(bytes: &mut Vec<u8>, at: usize, segment: &[u8])
 }
 
 /// Bytes are written from a place on, after zeros up to it; where there are none, nothing is.
+#[tactic(auto, using(crate::proofs::FirstStores::placed_nothing, crate::proofs::FirstStores::placed_bytes))]
 fn place_segment(
     bytes: &mut Vec<u8>,
     at: usize,
@@ -143,6 +147,7 @@ fn place_segment(
 }
 
 /// Data segments are written into a memory of this size in bytes, one after another.
+#[tactic(auto, using(crate::proofs::MappedSlices::all_item))]
 fn place_segments(bytes: &mut Vec<u8>, segments: &[Segment], size: u64) -> Result<(), AllocError>
     requires offsets { AllByRecursion HasSegmentOffset segments.now }
     requires fit { position (segment_test size) segments.now ≡ None }

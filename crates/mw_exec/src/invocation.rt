@@ -8,7 +8,7 @@ ghost use Rattle.mw_wasm.specs.Views.{module_of};
 ghost use Rattle.mw_wasm.specs.StateTypes.{StoreIsTyped};
 ghost use Rattle.mw_exec.specs.Lists.{above};
 ghost use Rattle.mw_exec.specs.Views.{store_of, IsHeld};
-ghost use Rattle.mw_exec.specs.Invoking.{CanRun, IsBeginning};
+ghost use Rattle.mw_exec.specs.Invoking.{CanRun, IsBeginning, IsInvocation};
 ghost use Rattle.mw_exec.specs.Instancing.{EndsAs};
 
 use crate::calls::{gives_one, push_locals};
@@ -64,7 +64,26 @@ pub fn begin<'m>(
     })
 }
 
+/// The same of the function of an index, with arguments of its types.
+#[tactic(auto, using(crate::proofs::InvokeRules::few_results, crate::proofs::CallRules::all_at))]
+fn begin_at<'m>(
+    alloc: Global,
+    wasm: &'m Module,
+    f: u32,
+    args: &[Value],
+    fuel: u64,
+) -> Result<State<'m>, AllocError>
+    requires valid { IsValid (module_of wasm.now) }
+    requires can { CanRun wasm.now f args.now }
+    ensures { IfOk result (λ s. IsInvocation wasm.now f args.now fuel s) }
+{
+    let function = wasm.funcs.get(f as usize);
+    let kind = wasm.types.get(function.kind as usize);
+    begin(alloc, function, kind, args, fuel)
+}
+
 /// The invocation of a function of a valid module with arguments of its types.
+#[tactic(auto, using(crate::proofs::InvokeRules::invoke_laws))]
 pub fn invoke_function(
     alloc: Global,
     wasm: &Module,
@@ -82,9 +101,7 @@ pub fn invoke_function(
     ensures held { IsHeld held.new }
     ensures typed { StoreIsTyped (module_of wasm.now) (store_of held.new) }
 {
-    let function = wasm.funcs.get(f as usize);
-    let kind = wasm.types.get(function.kind as usize);
-    let mut state = begin(alloc, function, kind, args, fuel)?;
+    let mut state = begin_at(alloc, wasm, f, args, fuel)?;
     match run(wasm, &mut state, held)? {
         Turn::Done => {
             let height = state.height;

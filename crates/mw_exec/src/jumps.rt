@@ -9,9 +9,9 @@ ghost use Rattle.mw_wasm.specs.Redex.{leave as leave_rule, branch as branch_rule
 ghost use Rattle.mw_exec.specs.Lists.{above};
 ghost use Rattle.mw_exec.specs.Views.{IsFormed, count_of, own_locals, operands, around_of};
 ghost use Rattle.mw_exec.specs.Turns.{IsFormedWith, IsInLoop, Rule, IfOn, Moves, inmost_branch, inmost_return};
-ghost use Rattle.mw_exec.specs.Turns.{branch_from, left, returned, around_with};
+ghost use Rattle.mw_exec.specs.Turns.{IsOutside, branch_from, left, returned, around_with};
 
-use crate::labels::{restore, unwind};
+use crate::labels::{restore, take_waiting, unwind};
 use crate::operands::{pop, put};
 use crate::state::{Kind, State, Turn, Waiting};
 use mw_wasm::Value;
@@ -87,6 +87,16 @@ fn behind<'m>(state: &mut State<'m>, waiting: Waiting<'m>, from: usize, one: boo
     Turn::On
 }
 
+/// The code that waited outside of a function is in hand again, and so are its locals, from a place on.
+#[inline(always)]
+fn restore_outside<'m>(state: &mut State<'m>, waiting: Waiting<'m>, outside: usize)
+    ensures { IsOutside waiting.entry outside state.old state.new }
+{
+    state.locals.truncate(state.base);
+    restore(state, waiting);
+    state.base = outside;
+}
+
 /// A branch to the inmost label, a function's.
 #[inline(always)]
 fn from_body<'m>(
@@ -107,13 +117,12 @@ fn from_body<'m>(
 {
     let height = state.height;
     keep(&mut state.stack, from, height, one);
-    state.locals.truncate(state.base);
-    restore(state, waiting);
-    state.base = outside;
+    restore_outside(state, waiting, outside);
     Turn::On
 }
 
 /// A branch to the inmost label, with the operands from a height on.
+#[tactic(auto, using(crate::proofs::CodeEnds::branch_taken))]
 #[inline(always)]
 fn take_branch<'m>(state: &mut State<'m>, from: usize) -> Turn
     requires formed { IsFormed state.old }
@@ -125,7 +134,7 @@ fn take_branch<'m>(state: &mut State<'m>, from: usize) -> Turn
     if is_in_loop(state) {
         return again(state);
     }
-    match state.waiting.pop() {
+    match take_waiting(state) {
         None => Turn::Lost,
         Some(waiting) => match waiting.kind {
             Kind::Loop(_) => unreachable!(),
@@ -136,6 +145,7 @@ fn take_branch<'m>(state: &mut State<'m>, from: usize) -> Turn
 }
 
 /// A branch.
+#[tactic(auto, using(crate::proofs::CodeEnds::label_lost, crate::proofs::CodeEnds::branch_on))]
 #[inline(always)]
 pub fn branch<'m>(state: &mut State<'m>, label: u32) -> Turn
     requires { IsFormed state.old }
@@ -149,26 +159,21 @@ pub fn branch<'m>(state: &mut State<'m>, label: u32) -> Turn
 }
 
 /// The end of the code in hand.
+#[tactic(auto, using(crate::proofs::CodeEnds::all_left))]
 #[inline(always)]
 pub fn leave<'m>(state: &mut State<'m>) -> Turn
     requires { IsFormed state.old }
     ensures { Rule (left state.old) state.old.fuel result state.new }
 {
-    match state.waiting.pop() {
+    match take_waiting(state) {
         None => Turn::Done,
         Some(waiting) => match waiting.kind {
-            Kind::Block(_) => {
-                restore(state, waiting);
-                Turn::On
-            }
-            Kind::Loop(_) => {
-                restore(state, waiting);
-                Turn::On
-            }
             Kind::Frame(_, outside) => {
-                state.locals.truncate(state.base);
+                restore_outside(state, waiting, outside);
+                Turn::On
+            }
+            _ => {
                 restore(state, waiting);
-                state.base = outside;
                 Turn::On
             }
         },
@@ -176,17 +181,17 @@ pub fn leave<'m>(state: &mut State<'m>) -> Turn
 }
 
 /// A return.
+#[tactic(auto, using(crate::proofs::PassedLabels::return_laws))]
 #[inline(always)]
 pub fn give_back<'m>(state: &mut State<'m>) -> Turn
     requires { IsFormed state.old }
     ensures { Rule (returned state.old) state.old.fuel result state.new }
 {
     let from = state.height;
-    while let Some(waiting) = state.waiting.pop() {
+    while let Some(waiting) = take_waiting(state) {
         match waiting.kind {
-            Kind::Block(_) => restore(state, waiting),
-            Kind::Loop(_) => restore(state, waiting),
             Kind::Frame(one, outside) => return from_body(state, waiting, from, one, outside),
+            _ => restore(state, waiting),
         }
     }
     Turn::Lost

@@ -1,8 +1,10 @@
 // Labels that are entered and left.
 
 ghost use Rattle.std.specs.Prelude.{◌≡◌, ◌≤◌, ◌∷◌, ◌++◌, [], ℕ, zero, suc, List, length, take, drop, IfOk};
+ghost use Rattle.std.specs.Prelude.{IfNone, IfSome};
 ghost use Rattle.mw_exec.specs.Views.{IsFormed, Rise};
-ghost use Rattle.mw_exec.specs.Turns.{IsLabel, Entered, Unwound, NoLabel, Passed};
+ghost use Rattle.mw_exec.specs.Turns.{IsLabel, IsFormedWith, IsBack, Taken, NothingWaits};
+ghost use Rattle.mw_exec.specs.Turns.{Entered, Unwound, NoLabel, Passed};
 
 use crate::state::{Kind, State, Waiting};
 use mw_wasm::{Instrs, Value};
@@ -27,17 +29,22 @@ pub fn enter<'m>(state: &mut State<'m>, kind: Kind, body: &'m Instrs) -> Result<
     Ok(())
 }
 
+/// The inmost thing that waits is taken.
+#[inline(always)]
+pub fn take_waiting<'m>(state: &mut State<'m>) -> Option<Waiting<'m>>
+    requires { IsFormed state.old }
+    ensures taken { IfSome result (λ w. Taken w state.old state.new) }
+    ensures formed { IfSome result (λ w. IsFormedWith w state.new) }
+    ensures none { IfNone result (NothingWaits state.old state.new) }
+{
+    let waiting = state.waiting.pop()?;
+    Some(waiting)
+}
+
 /// The code that waited is in hand again.
 #[inline(always)]
 pub fn restore<'m>(state: &mut State<'m>, waiting: Waiting<'m>)
-    ensures code { state.new.code.now ≡ waiting.entry.code.now }
-    ensures at { state.new.at ≡ waiting.entry.at }
-    ensures height { state.new.height ≡ waiting.entry.height }
-    ensures stack { state.new.stack.items ≡ state.old.stack.items }
-    ensures locals { state.new.locals.items ≡ state.old.locals.items }
-    ensures base { state.new.base ≡ state.old.base }
-    ensures waiting { state.new.waiting.items ≡ state.old.waiting.items }
-    ensures fuel { state.new.fuel ≡ state.old.fuel }
+    ensures { IsBack waiting.entry state.old state.new }
 {
     state.code = waiting.code;
     state.at = waiting.at;
@@ -45,23 +52,20 @@ pub fn restore<'m>(state: &mut State<'m>, waiting: Waiting<'m>)
 }
 
 /// One label is left, where the inmost thing that waits is one.
+#[tactic(auto, using(crate::proofs::PassedLabels::pass_laws))]
 #[inline(always)]
 fn pass(state: &mut State<'_>) -> bool
     requires { IsFormed state.old }
     ensures { (l : ℕ) → Passed result (suc l) l state.old state.new }
 {
-    match state.waiting.pop() {
+    match take_waiting(state) {
         None => false,
         Some(waiting) => match waiting.kind {
-            Kind::Block(_) => {
-                restore(state, waiting);
-                true
-            }
-            Kind::Loop(_) => {
-                restore(state, waiting);
-                true
-            }
             Kind::Frame(_, _) => false,
+            _ => {
+                restore(state, waiting);
+                true
+            }
         },
     }
 }

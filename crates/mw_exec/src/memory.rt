@@ -218,6 +218,7 @@ fn value_at(bytes: &[u8], at: u64, op: LoadOp) -> Value
 }
 
 /// A load.
+#[tactic(auto, using(crate::proofs::Stacks::kept_then, crate::proofs::Stacks::kept_pushed))]
 pub fn load(held: &Held, stack: &mut Vec<Value>, height: usize, op: LoadOp, offset: u32) -> Outcome
     requires long { height ≤ length stack.old.items }
     requires held { IsHeld held.now }
@@ -386,6 +387,7 @@ fn most_pages_of(wasm: &Module) -> u32
 }
 
 /// More pages, where they are allowed.
+#[tactic(auto, using(crate::proofs::Stacks::kept_then, crate::proofs::Stacks::kept_pushed))]
 pub fn grow(wasm: &Module, held: &mut Held, stack: &mut Vec<Value>, height: usize) -> Outcome
     requires long { height ≤ length stack.old.items }
     requires held { IsHeld held.old }

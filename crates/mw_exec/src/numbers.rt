@@ -88,6 +88,7 @@ fn integer64(stack: &mut Vec<Value>, height: usize, o: IntOp) -> Outcome
 }
 
 /// An operation on integers of a width.
+#[tactic(auto, using(crate::proofs::NumberActs::two_at, crate::proofs::NumberActs::one_at))]
 #[inline(always)]
 fn integer(stack: &mut Vec<Value>, height: usize, op: NumOp, o: IntOp, t: ValType) -> Outcome
     requires long { height ≤ length stack.old.items }

@@ -4,7 +4,10 @@ ghost use Rattle.std.specs.Prelude.{◌≡◌, ◌≤◌, ◌++◌, ◌∷◌, [
 ghost use Rattle.mw_wasm.specs.declared.values.Value.TheVariants as value;
 ghost use Rattle.mw_wasm.specs.NumericTypes.{type_of_value};
 ghost use Rattle.mw_exec.specs.Lists.{above, HasRoom, Kept, Popped, Empty, LacksI32, LacksType};
+ghost use Rattle.mw_exec.specs.Views.{IsFormed};
+ghost use Rattle.mw_exec.specs.Turns.{IsPopped};
 
+use crate::state::State;
 use mw_wasm::{ValType, Value};
 use std::alloc::AllocError;
 
@@ -38,6 +41,19 @@ pub fn pop_i32(stack: &mut Vec<Value>, height: usize) -> Option<u32>
         Some(Value::I64(_)) => None,
         None => None,
     }
+}
+
+/// The last operand of the code in hand, taken from the stack, where it is an i32.
+#[inline(always)]
+pub fn take_i32(state: &mut State<'_>) -> Option<u32>
+    requires { IsFormed state.old }
+    ensures some { IfSome result (λ n. IsPopped n state.old state.new) }
+    ensures formed { IfSome result (λ _. IsFormed state.new) }
+    ensures none { IfNone result (LacksI32 (above state.old.height state.old.stack.items)) }
+{
+    let height = state.height;
+    let n = pop_i32(&mut state.stack, height)?;
+    Some(n)
 }
 
 /// Whether a value is of a type.

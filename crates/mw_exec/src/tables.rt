@@ -1,6 +1,6 @@
 // Branches and calls by a table.
 
-ghost use Rattle.std.specs.Prelude.{◌≡◌, ◌≤◌, List, length, IfOk};
+ghost use Rattle.std.specs.Prelude.{◌≡◌, ◌≤◌, List, length, IfOk, slice_get};
 ghost use Rattle.std.specs.List.{AllByRecursion};
 ghost use Rattle.mw_wasm.specs.Syntax.{PureModule, br_table, call_indirect as call_indirect_instruction};
 ghost use Rattle.mw_wasm.specs.Act.{same_value_type, same_value_types, same_type as same_function_type};
@@ -12,19 +12,19 @@ ghost use Rattle.mw_exec.specs.Turns.{FewResults, TurnsBy};
 use crate::calls::{call, enter_function};
 use crate::held::Held;
 use crate::jumps::branch;
-use crate::operands::pop_i32;
+use crate::operands::take_i32;
 use crate::state::{State, Turn};
 use mw_wasm::{FuncType, Module, Trap, ValType};
 use std::alloc::AllocError;
 
 /// A branch to the label at the place that the last operand names, or to another.
+#[tactic(auto, using(crate::proofs::TableRules::table_lacks, crate::proofs::TableRules::table_turns, crate::proofs::TableRules::chosen_within, crate::proofs::TableRules::chosen_past))]
 pub fn jump_by_table<'m>(state: &mut State<'m>, labels: &'m [u32], l: u32) -> Turn
     requires { IsFormed state.old }
     ensures { (m : PureModule) (h : WasmHeld) → TurnsBy m (br_table labels.now l) h state.old result
         state.new }
 {
-    let height = state.height;
-    let Some(n) = pop_i32(&mut state.stack, height) else {
+    let Some(n) = take_i32(state) else {
         return Turn::Lost;
     };
     if (n as usize) < labels.len() {
@@ -71,7 +71,20 @@ fn same_type(a: &FuncType, b: &FuncType) -> bool
         && same_kinds(a.results.as_slice(), b.results.as_slice())
 }
 
+/// The element of the table at a place.
+#[inline(always)]
+fn element_at(held: &Held, n: u32) -> Option<Option<u32>>
+    ensures { result ≡ slice_get held.now.table.items n }
+{
+    if (n as usize) < held.table.len() {
+        Some(held.table[n as usize])
+    } else {
+        None
+    }
+}
+
 /// A call of the function that the table has at the place that the last operand names.
+#[tactic(auto, using(crate::proofs::CallRules::all_at, crate::proofs::TableRules::indirect_laws))]
 pub fn call_indirect_now<'m>(
     wasm: &'m Module,
     held: &Held,
@@ -84,14 +97,13 @@ pub fn call_indirect_now<'m>(
         (λ u. TurnsBy (module_of wasm.now) (call_indirect_instruction t) held.now state.old u
         state.new) }
 {
-    let height = state.height;
-    let Some(n) = pop_i32(&mut state.stack, height) else {
+    let Some(n) = take_i32(state) else {
         return Ok(Turn::Lost);
     };
-    if (n as usize) >= held.table.len() {
+    let Some(element) = element_at(held, n) else {
         return Ok(Turn::Trap(Trap::UndefinedElement));
-    }
-    let Some(f) = held.table[n as usize] else {
+    };
+    let Some(f) = element else {
         return Ok(Turn::Trap(Trap::Uninitialized));
     };
     if (f as usize) >= wasm.funcs.len() {

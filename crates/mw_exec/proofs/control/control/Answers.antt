@@ -1,41 +1,31 @@
 use Rattle.std.proofs.Common.{ap, sym, ◌∙◌}
 use Rattle.mw_wasm.specs.Syntax.{br_table}
-use Rattle.mw_wasm.specs.Views.{instruction_of, module_of, block_is, loop_is, cond_is}
+use Rattle.mw_wasm.specs.Views.{instruction_of, block_is, loop_is, cond_is}
 use Rattle.mw_exec.proofs.TurnRules.{control_at, turns_at}
 use Rattle.mw_exec.proofs.control.control.Goals as goal
 
 pub returns-in-Block : goal.returns-in-Block
-returns-in-Block c = control_at c.block.result (module_of c.args.wasm.now) c.args.held.now
-    (instruction_of c.args.instruction.now) _ c.args.state.now c.block.new.state
-    (ap instruction_of c.in-Block.is ∙ block_is c.in-Block.t c.in-Block.body) c.block.ensures
+returns-in-Block c = control_at _ _ _ _ _ _ _ (ap instruction_of c.in-Block.is ∙ block_is c.in-Block.t c.in-Block.body)
+    c.block.ensures
 
 pub returns-in-Loop : goal.returns-in-Loop
-returns-in-Loop c = control_at c.repeat.result (module_of c.args.wasm.now) c.args.held.now
-    (instruction_of c.args.instruction.now) _ c.args.state.now c.repeat.new.state
-    (ap instruction_of c.in-Loop.is ∙ loop_is c.in-Loop.t c.in-Loop.body) c.repeat.ensures
+returns-in-Loop c = control_at _ _ _ _ _ _ _ (ap instruction_of c.in-Loop.is ∙ loop_is c.in-Loop.t c.in-Loop.body)
+    c.repeat.ensures
 
 pub returns-in-If : goal.returns-in-If
-returns-in-If c = control_at c.choose.result (module_of c.args.wasm.now) c.args.held.now
-    (instruction_of c.args.instruction.now) _ c.args.state.now c.choose.new.state
-    (ap instruction_of c.in-If.is ∙ cond_is c.in-If.t c.in-If.a c.in-If.b) c.choose.ensures
+returns-in-If c = control_at _ _ _ _ _ _ _ (ap instruction_of c.in-If.is ∙ cond_is c.in-If.t c.in-If.a c.in-If.b)
+    c.choose.ensures
 
 pub returns-in-Br : goal.returns-in-Br
-returns-in-Br c = turns_at c.jump.result (module_of c.args.wasm.now) c.args.held.now
-    (instruction_of c.args.instruction.now) _ c.args.state.now c.jump.new.state (ap instruction_of c.in-Br.is)
-    c.jump.ensures
+returns-in-Br c = turns_at _ _ _ _ _ _ _ (ap instruction_of c.in-Br.is) c.jump.ensures
 
 pub returns-in-BrIf : goal.returns-in-BrIf
-returns-in-BrIf c = turns_at c.jump_if.result (module_of c.args.wasm.now) c.args.held.now
-    (instruction_of c.args.instruction.now) _ c.args.state.now c.jump_if.new.state (ap instruction_of c.in-BrIf.is)
-    c.jump_if.ensures
+returns-in-BrIf c = turns_at _ _ _ _ _ _ _ (ap instruction_of c.in-BrIf.is) c.jump_if.ensures
 
 pub returns-in-Return : goal.returns-in-Return
-returns-in-Return c = turns_at c.return_now.result (module_of c.args.wasm.now) c.args.held.now
-    (instruction_of c.args.instruction.now) _ c.args.state.now c.return_now.new.state (ap instruction_of c.in-Return.is)
-    c.return_now.ensures
+returns-in-Return c = turns_at _ _ _ _ _ _ _ (ap instruction_of c.in-Return.is) c.return_now.ensures
 
 pub returns-in-BrTable : goal.returns-in-BrTable
-returns-in-BrTable c = turns_at c.jump_by_table.result (module_of c.args.wasm.now) c.args.held.now
-    (instruction_of c.args.instruction.now) _ c.args.state.now c.jump_by_table.new.state
+returns-in-BrTable c = turns_at _ _ _ _ _ _ _
     (ap instruction_of c.in-BrTable.is ∙ ap (λ ls. br_table ls c.in-BrTable.l) (sym c.as_slice.ensures))
     c.jump_by_table.ensures

@@ -1,7 +1,5 @@
 use Rattle.std.proofs.Common.{arith, length}
 use Rattle.mw_exec.proofs.FirstStores.{element_inside, elements_more, at_most, placed_from}
-use Rattle.mw_exec.specs.Fitting.{HasElementOffset}
-use Rattle.mw_exec.proofs.MappedSlices.{all_item}
 use Rattle.mw_exec.proofs.first_store.place_elements.Goals as goal
 
 pub place_functions-requires : goal.place_functions-requires
@@ -16,7 +14,3 @@ loop-element-preserved c = elements_more c.loop-element.element-index c.args.ele
     (element_inside c.args.elements.now (length c.args.table.now.items) c.loop-element.element-index
     c.element-item.result c.requires.fit (omega arith) c.element-item.is)
     (placed_from _ _ _ _ _ _ c.offset_of-at.ensures c.as_slice.ensures c.place_functions.ensures)
-
-pub offset_of-at-requires : goal.offset_of-at-requires
-offset_of-at-requires c = all_item HasElementOffset c.args.elements.now c.loop-element.element-index
-    c.element-item.result c.requires.offsets c.loop-element-test.true c.element-item.is

@@ -1,7 +1,5 @@
 use Rattle.std.proofs.Common.{arith, refl}
 use Rattle.mw_exec.proofs.FirstStores.{segment_inside, segments_more, at_most, is_placed_from}
-use Rattle.mw_exec.specs.Fitting.{HasSegmentOffset}
-use Rattle.mw_exec.proofs.MappedSlices.{all_item}
 use Rattle.mw_exec.proofs.first_store.place_segments.Goals as goal
 
 pub place_segment-requires-clause-fits : goal.place_segment-requires-clause-fits
@@ -15,7 +13,3 @@ loop-segment-preserved c = segments_more c.args.size c.loop-segment.segment-inde
     c.loop-segment.invariant (omega arith) c.segment-item.is
     (is_placed_from _ _ _ _ _ _ c.offset_of-at.ensures c.as_slice.ensures c.in_ok-place_segment.ensures.placed)
     c.in_ok-place_segment.ensures.short
-
-pub offset_of-at-requires : goal.offset_of-at-requires
-offset_of-at-requires c = all_item HasSegmentOffset c.args.segments.now c.loop-segment.segment-index
-    c.segment-item.result c.requires.offsets c.loop-segment-test.true c.segment-item.is

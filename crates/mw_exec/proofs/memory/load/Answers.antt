@@ -4,7 +4,7 @@ use Rattle.mw_wasm.specs.Act.{gives}
 use Rattle.mw_wasm.specs.Store.{read_bytes, load_size, loaded}
 use Rattle.mw_exec.specs.Lists.{above}
 use Rattle.mw_exec.specs.Views.{memory_of, store_of}
-use Rattle.mw_exec.proofs.Stacks.{above_pushed, kept_pushed, kept_then}
+use Rattle.mw_exec.proofs.Stacks.{above_pushed}
 use Rattle.mw_exec.proofs.MemoryRules.{read_pages}
 use Rattle.mw_exec.proofs.memory.load.Goals as goal
 
@@ -36,8 +36,3 @@ returns-clause-comes c m align ls =
     c.as_slice.ensures.value
     ∙ ap (loaded c.args.op) (read_pages (load_size c.args.op) (c.in-Some.n + c.args.offset) 0 c.args.held.now.pages
     c.args.held.now.bytes.items)))))))
-
-pub returns-clause-kept : goal.returns-clause-kept
-returns-clause-kept c = kept_then c.args.height c.args.stack.now.items c.pop_i32.new.stack.items c.put.new.stack.items
-    c.in-Some.ensures.kept (kept_pushed c.args.height c.pop_i32.new.stack.items c.put.new.stack.items c.value_at.result
-    c.in-Some.ensures.kept.long c.put.ensures)

@@ -1,11 +1,7 @@
 use Rattle.std.proofs.Common.{ap}
 use Rattle.mw_wasm.specs.Views.{instruction_of}
-use Rattle.mw_exec.proofs.Offsets.{constant_offset, only_constants}
+use Rattle.mw_exec.proofs.Offsets.{constant_offset}
 use Rattle.mw_exec.proofs.segments.offset_of.Goals as goal
-
-pub unreachable-requires : goal.unreachable-requires
-unreachable-requires c = only_constants c.args.code.now.inner.items c.get.result.now c.get.ensures
-    c.in_default.not-ConstI32 c.requires
 
 pub returns : goal.returns
 returns c = constant_offset c.args.code.now.inner.items c.get.result.now c.in-ConstI32.n c.get.ensures

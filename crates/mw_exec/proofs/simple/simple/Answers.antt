@@ -1,13 +1,11 @@
 use Rattle.std.proofs.Common.{refl, ap, []}
-use Rattle.mw_wasm.specs.declared.values.Value.TheVariants as value
 use Rattle.mw_wasm.specs.declared.values.Trap.TheVariants.{Unreachable}
-use Rattle.mw_wasm.specs.Syntax.{nop, unreachable, load, store, memory_grow}
+use Rattle.mw_wasm.specs.Syntax.{nop, unreachable, store}
 use Rattle.mw_wasm.specs.Act.{constant}
 use Rattle.mw_wasm.specs.Views.{instruction_of, module_of}
 use Rattle.mw_exec.specs.declared.outcome.Outcome.TheVariants as outcome
 use Rattle.mw_exec.specs.Views.{store_of}
 use Rattle.mw_exec.proofs.ArmRules.{arm, arm_st, arm_held, arm_aligned, arm_const, arm_size, arm_simply}
-use Rattle.mw_exec.proofs.ArmRules.{is_control}
 use Rattle.mw_exec.proofs.simple.simple.Goals as goal
 
 pub returns-in-LocalGet-clause-simply : goal.returns-in-LocalGet-clause-simply
@@ -17,30 +15,23 @@ returns-in-LocalGet-clause-simply c = arm_st c.local_get.result (module_of c.arg
     c.local_get.ensures.comes
 
 pub returns-in-LocalSet-clause-simply : goal.returns-in-LocalSet-clause-simply
-returns-in-LocalSet-clause-simply c = arm c.local_set.result (module_of c.args.wasm.now)
-    (instruction_of c.args.instruction.now) _ (store_of c.args.held.now) _ _ _ _ _ (ap instruction_of c.in-LocalSet.is)
-    refl (c.local_set.ensures.comes (module_of c.args.wasm.now) (store_of c.args.held.now))
+returns-in-LocalSet-clause-simply c = arm _ _ _ _ _ _ _ _ _ _ (ap instruction_of c.in-LocalSet.is) refl
+    (c.local_set.ensures.comes (module_of c.args.wasm.now) (store_of c.args.held.now))
 
 pub returns-in-ConstI32-clause-simply : goal.returns-in-ConstI32-clause-simply
-returns-in-ConstI32-clause-simply c = arm_const c.constant.result (module_of c.args.wasm.now)
-    (instruction_of c.args.instruction.now) (value.I32 c.in-ConstI32.n) (store_of c.args.held.now) _ _ _
-    (ap (λ i. constant (instruction_of i)) c.in-ConstI32.is) c.constant.ensures.on c.constant.ensures.top
+returns-in-ConstI32-clause-simply c = arm_const _ _ _ _ _ _ _ _ (ap (λ i. constant (instruction_of i)) c.in-ConstI32.is)
+    c.constant.ensures.on c.constant.ensures.top
 
 pub returns-in-ConstI64-clause-simply : goal.returns-in-ConstI64-clause-simply
-returns-in-ConstI64-clause-simply c = arm_const c.constant-in-ConstI64.result (module_of c.args.wasm.now)
-    (instruction_of c.args.instruction.now) (value.I64 c.in-ConstI64.n) (store_of c.args.held.now) _ _ _
-    (ap (λ i. constant (instruction_of i)) c.in-ConstI64.is) c.constant-in-ConstI64.ensures.on
-    c.constant-in-ConstI64.ensures.top
+returns-in-ConstI64-clause-simply c = arm_const _ _ _ _ _ _ _ _ (ap (λ i. constant (instruction_of i)) c.in-ConstI64.is)
+    c.constant-in-ConstI64.ensures.on c.constant-in-ConstI64.ensures.top
 
 pub returns-in-Num-clause-simply : goal.returns-in-Num-clause-simply
-returns-in-Num-clause-simply c = arm c.number.result (module_of c.args.wasm.now)
-    (instruction_of c.args.instruction.now) _ (store_of c.args.held.now) _ _ _ _ _ (ap instruction_of c.in-Num.is) refl
+returns-in-Num-clause-simply c = arm _ _ _ _ _ _ _ _ _ _ (ap instruction_of c.in-Num.is) refl
     (c.number.ensures.comes (module_of c.args.wasm.now) (store_of c.args.held.now) _)
 
 pub returns-in-Load-clause-simply : goal.returns-in-Load-clause-simply
-returns-in-Load-clause-simply c = arm c.load.result (module_of c.args.wasm.now)
-    (instruction_of c.args.instruction.now) (load c.in-Load.op c.in-Load.field-1 c.in-Load.offset)
-    (store_of c.args.held.now) _ _ _ _ _ (ap instruction_of c.in-Load.is) refl
+returns-in-Load-clause-simply c = arm _ _ _ _ _ _ _ _ _ _ (ap instruction_of c.in-Load.is) refl
     (c.load.ensures.comes (module_of c.args.wasm.now) c.in-Load.field-1 _)
 
 pub returns-in-Store-clause-simply : goal.returns-in-Store-clause-simply
@@ -55,19 +46,16 @@ returns-in-GlobalGet-clause-simply c = arm_held c.global_get.result (module_of c
     c.global_get.new.stack (ap instruction_of c.in-GlobalGet.is) refl c.global_get.ensures.comes
 
 pub returns-in-GlobalSet-clause-simply : goal.returns-in-GlobalSet-clause-simply
-returns-in-GlobalSet-clause-simply c = arm c.global_set.result (module_of c.args.wasm.now)
-    (instruction_of c.args.instruction.now) _ (store_of c.args.held.now) _ _ _ _ _ (ap instruction_of c.in-GlobalSet.is)
-    refl (c.global_set.ensures.comes (module_of c.args.wasm.now) _)
+returns-in-GlobalSet-clause-simply c = arm _ _ _ _ _ _ _ _ _ _ (ap instruction_of c.in-GlobalSet.is) refl
+    (c.global_set.ensures.comes (module_of c.args.wasm.now) _)
 
 pub returns-in-Drop-clause-simply : goal.returns-in-Drop-clause-simply
-returns-in-Drop-clause-simply c = arm c.drop_value.result (module_of c.args.wasm.now)
-    (instruction_of c.args.instruction.now) _ (store_of c.args.held.now) _ _ _ _ _ (ap instruction_of c.in-Drop.is) refl
+returns-in-Drop-clause-simply c = arm _ _ _ _ _ _ _ _ _ _ (ap instruction_of c.in-Drop.is) refl
     (c.drop_value.ensures.comes (module_of c.args.wasm.now) (store_of c.args.held.now) _)
 
 pub returns-in-Select-clause-simply : goal.returns-in-Select-clause-simply
-returns-in-Select-clause-simply c = arm c.select.result (module_of c.args.wasm.now)
-    (instruction_of c.args.instruction.now) _ (store_of c.args.held.now) _ _ _ _ _ (ap instruction_of c.in-Select.is)
-    refl (c.select.ensures.comes (module_of c.args.wasm.now) (store_of c.args.held.now) _)
+returns-in-Select-clause-simply c = arm _ _ _ _ _ _ _ _ _ _ (ap instruction_of c.in-Select.is) refl
+    (c.select.ensures.comes (module_of c.args.wasm.now) (store_of c.args.held.now) _)
 
 pub returns-in-Nop-clause-simply : goal.returns-in-Nop-clause-simply
 returns-in-Nop-clause-simply c = arm outcome.On (module_of c.args.wasm.now) (instruction_of c.args.instruction.now) nop
@@ -79,61 +67,11 @@ returns-in-Unreachable-clause-simply c = arm (outcome.Trap Unreachable) (module_
     (ap instruction_of c.in-Unreachable.is) refl refl
 
 pub returns-in-MemorySize-clause-simply : goal.returns-in-MemorySize-clause-simply
-returns-in-MemorySize-clause-simply c = arm_size c.constant-in-MemorySize.result (module_of c.args.wasm.now)
-    (instruction_of c.args.instruction.now) (store_of c.args.held.now) _ _ _ (ap instruction_of c.in-MemorySize.is)
+returns-in-MemorySize-clause-simply c = arm_size _ _ _ _ _ _ _ (ap instruction_of c.in-MemorySize.is)
     c.constant-in-MemorySize.ensures.on c.constant-in-MemorySize.ensures.top
-
-pub returns-in-MemoryGrow-clause-simply : goal.returns-in-MemoryGrow-clause-simply
-returns-in-MemoryGrow-clause-simply c = arm c.grow.result (module_of c.args.wasm.now)
-    (instruction_of c.args.instruction.now) memory_grow (store_of c.args.held.now) _ _ (store_of c.grow.new.held) _ _
-    (ap instruction_of c.in-MemoryGrow.is) refl (c.grow.ensures.comes _)
 
 pub returns-in-LocalTee-clause-simply : goal.returns-in-LocalTee-clause-simply
 returns-in-LocalTee-clause-simply c = arm_simply c.local_tee.result (module_of c.args.wasm.now)
     (instruction_of c.args.instruction.now) _ (store_of c.args.held.now) c.args.base c.args.locals.now
     c.local_tee.new.locals c.args.height c.args.stack.now c.local_tee.new.stack (ap instruction_of c.in-LocalTee.is)
     c.local_tee.ensures.simply
-
-pub returns-in-Block-clause-simply : goal.returns-in-Block-clause-simply
-returns-in-Block-clause-simply c =
-    (is_control (instruction_of c.args.instruction.now) _ (ap instruction_of c.in-Block.is) tt, refl, refl, refl)
-
-pub returns-in-Loop-clause-simply : goal.returns-in-Loop-clause-simply
-returns-in-Loop-clause-simply c =
-    (is_control (instruction_of c.args.instruction.now) _ (ap instruction_of c.in-Loop.is) tt, refl, refl, refl)
-
-pub returns-in-If-clause-simply : goal.returns-in-If-clause-simply
-returns-in-If-clause-simply c = (
-  is_control (instruction_of c.args.instruction.now) _ (ap instruction_of c.in-If.is) tt,
-  refl,
-  refl,
-  refl,
-)
-
-pub returns-in-Br-clause-simply : goal.returns-in-Br-clause-simply
-returns-in-Br-clause-simply c = (
-  is_control (instruction_of c.args.instruction.now) _ (ap instruction_of c.in-Br.is) tt,
-  refl,
-  refl,
-  refl,
-)
-
-pub returns-in-BrIf-clause-simply : goal.returns-in-BrIf-clause-simply
-returns-in-BrIf-clause-simply c =
-    (is_control (instruction_of c.args.instruction.now) _ (ap instruction_of c.in-BrIf.is) tt, refl, refl, refl)
-
-pub returns-in-BrTable-clause-simply : goal.returns-in-BrTable-clause-simply
-returns-in-BrTable-clause-simply c =
-    (is_control (instruction_of c.args.instruction.now) _ (ap instruction_of c.in-BrTable.is) tt, refl, refl, refl)
-
-pub returns-in-Return-clause-simply : goal.returns-in-Return-clause-simply
-returns-in-Return-clause-simply c =
-    (is_control (instruction_of c.args.instruction.now) _ (ap instruction_of c.in-Return.is) tt, refl, refl, refl)
-
-pub returns-in-Call-clause-simply : goal.returns-in-Call-clause-simply
-returns-in-Call-clause-simply c =
-    (is_control (instruction_of c.args.instruction.now) _ (ap instruction_of c.in-Call.is) tt, refl, refl, refl)
-
-pub returns-in-CallIndirect-clause-simply : goal.returns-in-CallIndirect-clause-simply
-returns-in-CallIndirect-clause-simply c =
-    (is_control (instruction_of c.args.instruction.now) _ (ap instruction_of c.in-CallIndirect.is) tt, refl, refl, refl)
