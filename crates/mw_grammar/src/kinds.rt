@@ -56,7 +56,6 @@ fn part_of(tokens: &[Token]) -> Opened<'_>
 
 #[tactic(auto, using(crate::proofs::Below::read_full, crate::proofs::Below::low_in, crate::proofs::Below::low_out))]
 fn base_type(tokens: &[Token], room: u32) -> Read<Base>
-    requires { room ≤ 200 }
     ensures gives { GivesRead (λ base. base) result (full room base (tokens_of tokens.now)) }
     ensures height { IfOk result (λ x. x.1 ≤ room) }
 {
@@ -73,7 +72,6 @@ fn base_type(tokens: &[Token], room: u32) -> Read<Base>
 
 #[cycle(grounds)]
 fn part_type(alloc: Global, tokens: &[Token], room: u32) -> Read<Ground>
-    requires { room ≤ 200 }
     ensures gives { GivesRead ground_of result (full room part (tokens_of tokens.now)) }
     ensures height { IfOk result (λ x. x.1 ≤ room) }
 {
@@ -95,7 +93,6 @@ fn part_type(alloc: Global, tokens: &[Token], room: u32) -> Read<Ground>
 
 #[cycle(grounds)]
 fn paren_ground(alloc: Global, tokens: &[Token], room: u32) -> Read<Ground>
-    requires { room ≤ 200 }
     ensures gives { GivesRead ground_of result
         (reading room paren_form none_yet (tokens_of tokens.now)) }
     ensures height { IfOk result (λ x. x.1 ≤ room) }
@@ -113,7 +110,6 @@ fn paren_ground(alloc: Global, tokens: &[Token], room: u32) -> Read<Ground>
 /// A ground type.
 #[cycle(grounds)]
 pub fn ground_type(alloc: Global, tokens: &[Token], room: u32) -> Read<Ground>
-    requires { room ≤ 200 }
     ensures gives { GivesRead ground_of result (full room ground (tokens_of tokens.now)) }
     ensures height { IfOk result (λ x. x.1 ≤ room) }
 {
@@ -135,7 +131,6 @@ pub fn ground_type(alloc: Global, tokens: &[Token], room: u32) -> Read<Ground>
 
 /// A kernel type.
 pub fn kernel(alloc: Global, tokens: &[Token], room: u32) -> Read<KType>
-    requires { room ≤ 200 }
     ensures gives { GivesRead kernel_type_of result (full room kernel_type (tokens_of tokens.now)) }
     ensures height { IfOk result (λ x. x.1 ≤ room) }
 {

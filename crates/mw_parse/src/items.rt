@@ -11,8 +11,9 @@ ghost use Rattle.mw_grammar.specs.Descent.{none_yet, full, reading};
 ghost use Rattle.mw_grammar.specs.Gives.{GivesRead};
 ghost use Rattle.mw_grammar.specs.declared.tree.Placed.{Placed as PlacedName};
 ghost use Rattle.mw_parse.specs.Bindings.{kernel_rest, typed_item};
-ghost use Rattle.mw_parse.specs.Reading.{GivesMain};
+ghost use Rattle.mw_parse.specs.Reading.{GivesMain, Reads, ReadsForm};
 
+use crate::room::Room;
 use crate::trees::{binding, expr_tree, placed_name};
 use mw_grammar::fault::{Fault, Read};
 use mw_grammar::kinds::{ground_type, kernel};
@@ -21,30 +22,24 @@ use mw_grammar::words::{ItemWord, Start, in_hand, item_word, start_word};
 use mw_grammar::{Surface, SurfaceItem, SurfaceItems, Tree};
 use mw_lex::Token;
 use mw_term::{Ground, KType};
-use std::alloc::Global;
 
-fn item_tree(alloc: Global, tokens: &[Token], room: u32) -> Read<SurfaceItem>
-    requires { room ≤ 200 }
-    ensures gives { GivesRead item_of result (full room item (tokens_of tokens.now)) }
-    ensures height { IfOk result (λ x. x.1 ≤ room) }
+fn item_tree(room: Room, tokens: &[Token]) -> Read<SurfaceItem>
+    ensures { Reads room item tokens.now item_of result }
 {
     match in_hand(tokens) {
         None => Err(Fault::Syntax(tokens)),
         Some((token, rest)) => match item_word(token) {
             ItemWord::Other => Err(Fault::Syntax(tokens)),
-            ItemWord::Let => let_item(alloc, rest, room),
-            ItemWord::Kernel => kernel_item(alloc, rest, room),
+            ItemWord::Let => let_item(room, rest),
+            ItemWord::Kernel => kernel_item(room, rest),
         },
     }
 }
 
-fn let_item(alloc: Global, tokens: &[Token], room: u32) -> Read<SurfaceItem>
-    requires { room ≤ 200 }
-    ensures gives { GivesRead item_of result
-        (reading room (pick let_by) none_yet (tokens_of tokens.now)) }
-    ensures height { IfOk result (λ x. x.1 ≤ room) }
+fn let_item(room: Room, tokens: &[Token]) -> Read<SurfaceItem>
+    ensures { ReadsForm room (pick let_by) tokens.now item_of result }
 {
-    let ((placed, definition), height, rest) = binding(alloc, tokens, room)?;
+    let ((placed, definition), height, rest) = binding(room, tokens)?;
     let tree = Box::into_inner(definition.tree);
     Ok((
         SurfaceItem::Let(placed, definition.from, tree),
@@ -53,17 +48,14 @@ fn let_item(alloc: Global, tokens: &[Token], room: u32) -> Read<SurfaceItem>
     ))
 }
 
-fn kernel_item(alloc: Global, tokens: &[Token], room: u32) -> Read<SurfaceItem>
-    requires { room ≤ 200 }
-    ensures gives { GivesRead item_of result
-        (reading room (pick kernel_by) none_yet (tokens_of tokens.now)) }
-    ensures height { IfOk result (λ x. x.1 ≤ room) }
+fn kernel_item(room: Room, tokens: &[Token]) -> Read<SurfaceItem>
+    ensures { ReadsForm room (pick kernel_by) tokens.now item_of result }
 {
-    let (placed, mid) = placed_name(alloc, tokens)?;
+    let (placed, mid) = placed_name(room.alloc, tokens)?;
     match after(Next::Colon, mid) {
         None => Err(Fault::Syntax(mid)),
         Some(rest) => {
-            let ((kind, tree), height, rest) = typed_tree(alloc, rest, room)?;
+            let ((kind, tree), height, rest) = typed_tree(room, rest)?;
             let tree = Box::into_inner(tree);
             Ok((SurfaceItem::Kernel(placed, kind, tree), height, rest))
         }
@@ -71,19 +63,17 @@ fn kernel_item(alloc: Global, tokens: &[Token], room: u32) -> Read<SurfaceItem>
 }
 
 /// A kernel type, and what stands after `=`.
-fn typed_tree(alloc: Global, tokens: &[Token], room: u32) -> Read<(KType, Box<Tree>)>
-    requires { room ≤ 200 }
-    ensures gives { (x : PlacedName)
-        → GivesRead (typed_item x) result (reading room (kernel_rest x) none_yet (tokens_of tokens.now)) }
-    ensures height { IfOk result (λ x. x.1 ≤ room) }
+fn typed_tree(room: Room, tokens: &[Token]) -> Read<(KType, Box<Tree>)>
+    ensures { (x : PlacedName)
+        → ReadsForm room (kernel_rest x) tokens.now (typed_item x) result }
 {
-    let (kind, height, mid) = kernel(alloc, tokens, room)?;
+    let (kind, height, mid) = kernel(room.alloc, tokens, room.nodes)?;
     match after(Next::Equal, mid) {
         None => {
             drop(kind);
             Err(Fault::Syntax(mid))
         }
-        Some(rest) => match expr_tree(alloc, rest, room) {
+        Some(rest) => match expr_tree(room, rest) {
             Err(fault) => {
                 drop(kind);
                 Err(fault)
@@ -93,23 +83,18 @@ fn typed_tree(alloc: Global, tokens: &[Token], room: u32) -> Read<(KType, Box<Tr
     }
 }
 
-fn main_tree(
-    alloc: Global,
-    tokens: &[Token],
-    room: u32,
-) -> Result<(Ground, Tree, u32, &[Token]), Fault>
-    requires { room ≤ 200 }
-    ensures gives { GivesMain result (reading room main_of none_yet (tokens_of tokens.now)) }
-    ensures height { IfOk result (λ x. x.2 ≤ room) }
+fn main_tree(room: Room, tokens: &[Token]) -> Result<(Ground, Tree, u32, &[Token]), Fault>
+    ensures gives { GivesMain result (reading room.nodes main_of none_yet (tokens_of tokens.now)) }
+    ensures height { IfOk result (λ x. x.2 ≤ room.nodes) }
 {
     match after(Next::Colon, tokens) {
         None => Err(Fault::Syntax(tokens)),
         Some(rest) => {
-            let (ground, height, mid) = ground_type(alloc, rest, room)?;
+            let (ground, height, mid) = ground_type(room.alloc, rest, room.nodes)?;
             match after(Next::Equal, mid) {
                 None => Err(Fault::Syntax(mid)),
                 Some(rest) => {
-                    let (tree, other, rest) = expr_tree(alloc, rest, room)?;
+                    let (tree, other, rest) = expr_tree(room, rest)?;
                     Ok((ground, Box::into_inner(tree), height.max(other), rest))
                 }
             }
@@ -119,11 +104,10 @@ fn main_tree(
 
 /// A program: the items in turn, and main.
 #[tactic(auto, using(mw_grammar::proofs::Below::read_laws, mw_grammar::proofs::Below::fails_then, crate::proofs::Programs::program_laws))]
-pub fn program_tree(alloc: Global, tokens: &[Token], room: u32) -> Read<Surface>
-    requires { room ≤ 200 }
-    ensures gives { GivesRead surface_of result (full room program (tokens_of tokens.now)) }
+pub fn program_tree(room: Room, tokens: &[Token]) -> Read<Surface>
+    ensures gives { GivesRead surface_of result (full room.nodes program (tokens_of tokens.now)) }
 {
-    let mut items = SurfaceItems::new(alloc);
+    let mut items = SurfaceItems::new(room.alloc);
     let mut height = 0;
     let mut rest = tokens;
     loop {
@@ -132,7 +116,7 @@ pub fn program_tree(alloc: Global, tokens: &[Token], room: u32) -> Read<Surface>
             Some((token, behind)) => match start_word(token) {
                 Start::Other => return Err(Fault::Syntax(rest)),
                 Start::Main => {
-                    let (result, body, other, rest) = main_tree(alloc, behind, room)?;
+                    let (result, body, other, rest) = main_tree(room, behind)?;
                     let surface = Surface {
                         items,
                         result,
@@ -141,7 +125,7 @@ pub fn program_tree(alloc: Global, tokens: &[Token], room: u32) -> Read<Surface>
                     return Ok((surface, height.max(other), rest));
                 }
                 Start::Item => {
-                    let (item, other, mid) = item_tree(alloc, rest, room)?;
+                    let (item, other, mid) = item_tree(room, rest)?;
                     match after(Next::End, mid) {
                         None => {
                             drop(item);

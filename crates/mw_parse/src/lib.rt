@@ -6,6 +6,7 @@
 mod items;
 pub mod laws;
 mod reader;
+mod room;
 mod trees;
 
 pub use crate::reader::parse;

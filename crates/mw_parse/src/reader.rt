@@ -12,6 +12,7 @@ ghost use Rattle.mw_grammar.specs.Answers.{place_of, kernels, IsProgram};
 ghost use Rattle.mw_parse.specs.Reading.{IsAnswer, Refuses};
 
 use crate::items::program_tree;
+use crate::room::Room;
 use mw_grammar::fault::Fault;
 use mw_grammar::{Surface, SurfaceItem};
 use mw_lex::{Token, Tokens};
@@ -47,7 +48,9 @@ fn kernel_count(items: &[SurfaceItem]) -> u32
 fn parse_tokens(alloc: Global, tokens: &[Token], length: u32) -> Result<Surface, Stop>
     ensures { IsAnswer (tokens_of tokens.now) length result }
 {
-    match program_tree(alloc, tokens, MOST_NESTING) {
+    let nodes = MOST_NESTING;
+    let room = Room { alloc, nodes };
+    match program_tree(room, tokens) {
         Err(Fault::Memory(e)) => Err(Stop::Memory(e)),
         Err(Fault::Syntax(rest)) => Err(Stop::Refused(Refusal::Syntax(place(rest, length)))),
         Err(Fault::Deep(rest)) => Err(Stop::Refused(Refusal::TooDeep(place(rest, 0)))),

@@ -1,9 +1,9 @@
-// Expressions, by descent. `room` is the number of nodes that may still stand on a path; each function answers what it
-// made, the height of its nodes and the tokens left, and says of which form. Trees are passed on in boxes.
+// Expressions, by descent. Each function answers what it made, the height of its nodes and the tokens left, and says of
+// which form. Trees are passed on in boxes.
 
 #![tactic(auto, using(mw_grammar::proofs::Below::tree_laws))]
 
-ghost use Rattle.std.specs.Prelude.{◌≡◌, ◌<◌, ◌≤◌, ℕ, IfOk};
+ghost use Rattle.std.specs.Prelude.{◌≡◌, ◌<◌, ◌≤◌, IfOk};
 ghost use Rattle.mw_lex.specs.Tokens.{tokens_of};
 ghost use Rattle.mw_grammar.specs.SurfaceTrees.{bind};
 ghost use Rattle.mw_grammar.specs.Grammar.{tree, expr, comparison, row as leveled, head, atom, operand, right, body};
@@ -11,15 +11,17 @@ ghost use Rattle.mw_grammar.specs.Grammar.{parameter};
 ghost use Rattle.mw_grammar.specs.Forms.{pick, let_in_by, rec_by, paren_by, minus_by, behind_mark, let_by, rec_item};
 ghost use Rattle.mw_grammar.specs.Forms.{kernel_by, bracket_form, escape_form, group_form, pair_form, run_form};
 ghost use Rattle.mw_grammar.specs.Forms.{condition_form, branches_form, scope_form};
-ghost use Rattle.mw_grammar.specs.Descent.{none_yet, so_far, full, reading, following, following_operator};
-ghost use Rattle.mw_grammar.specs.Gives.{GivesRead, expected_of};
+ghost use Rattle.mw_grammar.specs.Descent.{following, following_operator};
+ghost use Rattle.mw_grammar.specs.Gives.{expected_of};
 ghost use Rattle.mw_grammar.specs.Words.{mark_in, atom_form, head_form};
 ghost use Rattle.mw_grammar.specs.Levels.{row_of, op_of};
 ghost use Rattle.mw_grammar.specs.Boxes.{definition_in, function_in, tree_in};
 ghost use Rattle.mw_parse.specs.Bindings.{GivesBound, GivesName, bound_item, function_form, kernel_form, rec_form};
 ghost use Rattle.mw_parse.specs.Bindings.{rec_item_form};
+ghost use Rattle.mw_parse.specs.Reading.{Within, Reads, ReadsForm, ReadsAfter};
 ghost use Rattle.mw_parse.specs.Connectives.{connected, level_of, operand_of, sign_of};
 
+use crate::room::Room;
 use mw_grammar::fault::{Fault, Read};
 use mw_grammar::kinds::kernel;
 use mw_grammar::next::{Next, after};
@@ -46,10 +48,8 @@ enum Connective {
 }
 
 /// After `(` and `-`.
-fn literal(alloc: Global, tokens: &[Token]) -> Read<Box<Tree>>
-    ensures gives { (b : ℕ)
-        → GivesRead tree_in result (reading b (pick minus_by) none_yet (tokens_of tokens.now)) }
-    ensures height { IfOk result (λ x. x.1 ≡ 0) }
+fn literal(room: Room, tokens: &[Token]) -> Read<Box<Tree>>
+    ensures { ReadsForm room (pick minus_by) tokens.now tree_in result }
 {
     match in_hand(tokens) {
         None => Err(Fault::Syntax(tokens)),
@@ -57,27 +57,23 @@ fn literal(alloc: Global, tokens: &[Token]) -> Read<Box<Tree>>
             None => Err(Fault::Syntax(tokens)),
             Some(n) => match after(Next::Paren, mid) {
                 None => Err(Fault::Syntax(mid)),
-                Some(rest) => Ok((boxed_negative(alloc, n)?, 0, rest)),
+                Some(rest) => Ok((boxed_negative(room.alloc, n)?, 0, rest)),
             },
         },
     }
 }
 
 #[cycle(trees)]
-fn atom_tree(alloc: Global, tokens: &[Token], room: u32) -> Read<Box<Tree>>
-    requires { room ≤ 200 }
-    ensures gives { GivesRead tree_in result (full room (tree atom) (tokens_of tokens.now)) }
-    ensures height { IfOk result (λ x. x.1 ≤ room) }
+fn atom_tree(room: Room, tokens: &[Token]) -> Read<Box<Tree>>
+    ensures { Reads room (tree atom) tokens.now tree_in result }
 {
     match in_hand(tokens) {
         None => Err(Fault::Syntax(tokens)),
         Some((token, rest)) => match atom_word(token) {
             None => Err(Fault::Syntax(tokens)),
             Some(atom) => {
-                if room == 0 {
-                    return Err(Fault::Deep(tokens));
-                }
-                let (tree, height, rest) = atom_inside(alloc, atom, token.start, rest, room - 1)?;
+                let inner = room.below(0, tokens)?;
+                let (tree, height, rest) = atom_inside(inner, atom, token.start, rest)?;
                 Ok((tree, height + 1, rest))
             }
         },
@@ -85,122 +81,92 @@ fn atom_tree(alloc: Global, tokens: &[Token], room: u32) -> Read<Box<Tree>>
 }
 
 #[cycle(trees)]
-fn atom_inside<'t>(
-    alloc: Global,
-    atom: Atom<'t>,
-    at: u32,
-    tokens: &'t [Token],
-    room: u32,
-) -> Read<'t, Box<Tree>>
-    requires { room ≤ 200 }
-    ensures gives { GivesRead tree_in result
-        (reading room (atom_form atom.entry at) none_yet (tokens_of tokens.now)) }
-    ensures height { IfOk result (λ x. x.1 ≤ room) }
+fn atom_inside<'t>(room: Room, atom: Atom<'t>, at: u32, tokens: &'t [Token]) -> Read<'t, Box<Tree>>
+    ensures { ReadsForm room (atom_form atom.entry at) tokens.now tree_in result }
 {
     match atom {
-        Atom::Leaf(leaf) => Ok((boxed_leaf(alloc, leaf, at)?, 0, tokens)),
-        Atom::Paren => in_parens(alloc, tokens, room),
-        Atom::Bracket => bracketed(alloc, at, tokens, room),
-        Atom::Escape => escaped(alloc, at, tokens, room),
+        Atom::Leaf(leaf) => Ok((boxed_leaf(room.alloc, leaf, at)?, 0, tokens)),
+        Atom::Paren => in_parens(room, tokens),
+        Atom::Bracket => bracketed(room, at, tokens),
+        Atom::Escape => escaped(room, at, tokens),
     }
 }
 
 #[cycle(trees)]
-fn bracketed(alloc: Global, at: u32, tokens: &[Token], room: u32) -> Read<Box<Tree>>
-    requires { room ≤ 200 }
-    ensures gives { GivesRead tree_in result
-        (reading room (bracket_form at) none_yet (tokens_of tokens.now)) }
-    ensures height { IfOk result (λ x. x.1 ≤ room) }
+fn bracketed(room: Room, at: u32, tokens: &[Token]) -> Read<Box<Tree>>
+    ensures { ReadsForm room (bracket_form at) tokens.now tree_in result }
 {
-    let (tree, height, mid) = expr_tree(alloc, tokens, room)?;
+    let (tree, height, mid) = expr_tree(room, tokens)?;
     match after(Next::Bracket, mid) {
         None => Err(Fault::Syntax(mid)),
-        Some(rest) => Ok((boxed_bracket(alloc, at, tree)?, height, rest)),
+        Some(rest) => Ok((boxed_bracket(room.alloc, at, tree)?, height, rest)),
     }
 }
 
 #[cycle(trees)]
-fn escaped(alloc: Global, at: u32, tokens: &[Token], room: u32) -> Read<Box<Tree>>
-    requires { room ≤ 200 }
-    ensures gives { GivesRead tree_in result
-        (reading room (escape_form at) none_yet (tokens_of tokens.now)) }
-    ensures height { IfOk result (λ x. x.1 ≤ room) }
+fn escaped(room: Room, at: u32, tokens: &[Token]) -> Read<Box<Tree>>
+    ensures { ReadsForm room (escape_form at) tokens.now tree_in result }
 {
-    let (tree, height, rest) = atom_tree(alloc, tokens, room)?;
-    Ok((boxed_escape(alloc, at, tree)?, height, rest))
+    let (tree, height, rest) = atom_tree(room, tokens)?;
+    Ok((boxed_escape(room.alloc, at, tree)?, height, rest))
 }
 
 #[cycle(trees)]
-fn in_parens(alloc: Global, tokens: &[Token], room: u32) -> Read<Box<Tree>>
-    requires { room ≤ 200 }
-    ensures gives { GivesRead tree_in result
-        (reading room (pick paren_by) none_yet (tokens_of tokens.now)) }
-    ensures height { IfOk result (λ x. x.1 ≤ room) }
+fn in_parens(room: Room, tokens: &[Token]) -> Read<Box<Tree>>
+    ensures { ReadsForm room (pick paren_by) tokens.now tree_in result }
 {
     match in_hand(tokens) {
         None => Err(Fault::Syntax(tokens)),
         Some((token, rest)) => {
             match inside_word(token) {
-                Inside::Minus => literal(alloc, rest),
-                Inside::Other => grouped(alloc, tokens, room),
+                Inside::Minus => literal(room, rest),
+                Inside::Other => grouped(room, tokens),
             }
         },
     }
 }
 
 #[cycle(trees)]
-fn grouped(alloc: Global, tokens: &[Token], room: u32) -> Read<Box<Tree>>
-    requires { room ≤ 200 }
-    ensures gives { GivesRead tree_in result
-        (reading room group_form none_yet (tokens_of tokens.now)) }
-    ensures height { IfOk result (λ x. x.1 ≤ room) }
+fn grouped(room: Room, tokens: &[Token]) -> Read<Box<Tree>>
+    ensures { ReadsForm room group_form tokens.now tree_in result }
 {
-    let (tree, height, mid) = expr_tree(alloc, tokens, room)?;
+    let (tree, height, mid) = expr_tree(room, tokens)?;
     match in_hand(mid) {
         None => Err(Fault::Syntax(mid)),
         Some((token, rest)) => match closing(token) {
             Close::Other => Err(Fault::Syntax(mid)),
             Close::Paren => Ok((tree, height, rest)),
-            Close::Comma => paired(alloc, tree, height, rest, room),
+            Close::Comma => paired(room, tree, height, rest),
         },
     }
 }
 
 #[cycle(trees)]
-fn paired(
-    alloc: Global,
-    left: Box<Tree>,
-    height: u32,
-    tokens: &[Token],
-    room: u32,
-) -> Read<Box<Tree>>
-    requires { (height ≤ room) × (room ≤ 200) }
-    ensures gives { GivesRead tree_in result
-        (reading room (pair_form (tree_in left)) (so_far height) (tokens_of tokens.now)) }
-    ensures height { IfOk result (λ x. x.1 ≤ room) }
+fn paired(room: Room, left: Box<Tree>, height: u32, tokens: &[Token]) -> Read<Box<Tree>>
+    requires { height ≤ room.nodes }
+    ensures { ReadsAfter height room (pair_form (tree_in left)) tokens.now tree_in result }
 {
-    let (right, other, mid) = expr_tree(alloc, tokens, room)?;
+    let (right, other, mid) = expr_tree(room, tokens)?;
     match after(Next::Paren, mid) {
         None => Err(Fault::Syntax(mid)),
-        Some(rest) => Ok((boxed_pair(alloc, left, right)?, height.max(other), rest)),
+        Some(rest) => {
+            let tree = boxed_pair(room.alloc, left, right)?;
+            Ok((tree, height.max(other), rest))
+        }
     }
 }
 
 #[cycle(trees)]
-fn head_tree(alloc: Global, tokens: &[Token], room: u32) -> Read<Box<Tree>>
-    requires { room ≤ 200 }
-    ensures gives { GivesRead tree_in result (full room (tree head) (tokens_of tokens.now)) }
-    ensures height { IfOk result (λ x. x.1 ≤ room) }
+fn head_tree(room: Room, tokens: &[Token]) -> Read<Box<Tree>>
+    ensures { Reads room (tree head) tokens.now tree_in result }
 {
     match in_hand(tokens) {
         None => Err(Fault::Syntax(tokens)),
         Some((token, rest)) => match head_word(token) {
-            None => atom_tree(alloc, tokens, room),
+            None => atom_tree(room, tokens),
             Some(head) => {
-                if room == 0 {
-                    return Err(Fault::Deep(tokens));
-                }
-                let (tree, height, rest) = head_inside(alloc, head, token.start, rest, room - 1)?;
+                let inner = room.below(0, tokens)?;
+                let (tree, height, rest) = head_inside(inner, head, token.start, rest)?;
                 Ok((tree, height + 1, rest))
             }
         },
@@ -208,44 +174,39 @@ fn head_tree(alloc: Global, tokens: &[Token], room: u32) -> Read<Box<Tree>>
 }
 
 #[cycle(trees)]
-fn head_inside(alloc: Global, head: Head, at: u32, tokens: &[Token], room: u32) -> Read<Box<Tree>>
-    requires { room ≤ 200 }
-    ensures gives { GivesRead tree_in result
-        (reading room (head_form head at) none_yet (tokens_of tokens.now)) }
-    ensures height { IfOk result (λ x. x.1 ≤ room) }
+fn head_inside(room: Room, head: Head, at: u32, tokens: &[Token]) -> Read<Box<Tree>>
+    ensures { ReadsForm room (head_form head at) tokens.now tree_in result }
 {
     match head {
         Head::Prefix(prefix) => {
-            let (tree, height, rest) = atom_tree(alloc, tokens, room)?;
-            Ok((boxed_prefixed(alloc, prefix, at, tree)?, height, rest))
+            let (tree, height, rest) = atom_tree(room, tokens)?;
+            Ok((boxed_prefixed(room.alloc, prefix, at, tree)?, height, rest))
         }
-        Head::Run => running(alloc, at, tokens, room),
+        Head::Run => running(room, at, tokens),
     }
 }
 
 #[cycle(trees)]
-fn running(alloc: Global, at: u32, tokens: &[Token], room: u32) -> Read<Box<Tree>>
-    requires { room ≤ 200 }
-    ensures gives { GivesRead tree_in result
-        (reading room (run_form at) none_yet (tokens_of tokens.now)) }
-    ensures height { IfOk result (λ x. x.1 ≤ room) }
+fn running(room: Room, at: u32, tokens: &[Token]) -> Read<Box<Tree>>
+    ensures { ReadsForm room (run_form at) tokens.now tree_in result }
 {
     match after(Next::Left, tokens) {
         None => Err(Fault::Syntax(tokens)),
         Some(rest) => {
-            let (kind, height, mid) = kernel(alloc, rest, room)?;
+            let (kind, height, mid) = kernel(room.alloc, rest, room.nodes)?;
             match after(Next::Right, mid) {
                 None => {
                     drop(kind);
                     Err(Fault::Syntax(mid))
                 }
-                Some(rest) => match atom_tree(alloc, rest, room) {
+                Some(rest) => match atom_tree(room, rest) {
                     Err(fault) => {
                         drop(kind);
                         Err(fault)
                     }
                     Ok((tree, other, rest)) => {
-                        Ok((boxed_run(alloc, at, kind, tree)?, height.max(other), rest))
+                        let tree = boxed_run(room.alloc, at, kind, tree)?;
+                        Ok((tree, height.max(other), rest))
                     }
                 },
             }
@@ -254,86 +215,71 @@ fn running(alloc: Global, at: u32, tokens: &[Token], room: u32) -> Read<Box<Tree
 }
 
 #[cycle(trees)]
-fn operand_tree(alloc: Global, row: Row, tokens: &[Token], room: u32) -> Read<Box<Tree>>
-    requires { room ≤ 200 }
-    ensures gives { GivesRead tree_in result
-        (full room (tree (operand (row_of row))) (tokens_of tokens.now)) }
-    ensures height { IfOk result (λ x. x.1 ≤ room) }
+fn operand_tree(room: Room, row: Row, tokens: &[Token]) -> Read<Box<Tree>>
+    ensures { Reads room (tree (operand (row_of row))) tokens.now tree_in result }
 {
     match row {
-        Row::Sum => row_tree(alloc, Row::Product, tokens, room),
-        Row::Product => row_tree(alloc, Row::Application, tokens, room),
-        Row::Application => head_tree(alloc, tokens, room),
+        Row::Sum => row_tree(room, Row::Product, tokens),
+        Row::Product => row_tree(room, Row::Application, tokens),
+        Row::Application => head_tree(room, tokens),
     }
 }
 
 #[cycle(trees)]
-fn right_tree(alloc: Global, row: Row, tokens: &[Token], room: u32) -> Read<Box<Tree>>
-    requires { room ≤ 200 }
-    ensures gives { GivesRead tree_in result
-        (full room (tree (right (row_of row))) (tokens_of tokens.now)) }
-    ensures height { IfOk result (λ x. x.1 ≤ room) }
+fn right_tree(room: Room, row: Row, tokens: &[Token]) -> Read<Box<Tree>>
+    ensures { Reads room (tree (right (row_of row))) tokens.now tree_in result }
 {
     match row {
-        Row::Sum => row_tree(alloc, Row::Product, tokens, room),
-        Row::Product => row_tree(alloc, Row::Application, tokens, room),
-        Row::Application => atom_tree(alloc, tokens, room),
+        Row::Sum => row_tree(room, Row::Product, tokens),
+        Row::Product => row_tree(room, Row::Application, tokens),
+        Row::Application => atom_tree(room, tokens),
     }
 }
 
 #[cycle(trees)]
 #[tactic(auto, using(mw_grammar::proofs::Below::tree_laws, mw_grammar::proofs::Below::read_more))]
-fn row_tree(alloc: Global, row: Row, tokens: &[Token], room: u32) -> Read<Box<Tree>>
-    requires { room ≤ 200 }
-    ensures gives { GivesRead tree_in result
-        (full room (tree (leveled (row_of row))) (tokens_of tokens.now)) }
-    ensures height { IfOk result (λ x. x.1 ≤ room) }
+fn row_tree(room: Room, row: Row, tokens: &[Token]) -> Read<Box<Tree>>
+    ensures { Reads room (tree (leveled (row_of row))) tokens.now tree_in result }
 {
-    let (left, height, mid) = operand_tree(alloc, row, tokens, room)?;
-    more_trees(alloc, row, left, height, mid, room)
+    let (left, height, mid) = operand_tree(room, row, tokens)?;
+    more_trees(room, row, left, height, mid)
 }
 
 #[cycle(trees)]
 #[tactic(auto, using(mw_grammar::proofs::Below::tree_laws, mw_grammar::proofs::Below::follow_none, mw_grammar::proofs::Below::follow_deep, mw_grammar::proofs::Below::follow_on))]
 fn more_trees(
-    alloc: Global,
+    room: Room,
     row: Row,
     left: Box<Tree>,
     height: u32,
     tokens: &[Token],
-    room: u32,
 ) -> Read<Box<Tree>>
-    requires { (height ≤ room) × (room ≤ 200) }
-    ensures gives { GivesRead tree_in result
-        (following room (row_of row) (tree_in left) height (tokens_of tokens.now)) }
-    ensures height { IfOk result (λ x. x.1 ≤ room) }
+    requires { height ≤ room.nodes }
+    ensures { Within room tree_in result
+        (following room.nodes (row_of row) (tree_in left) height (tokens_of tokens.now)) }
 {
     match next_operator(row, tokens) {
         None => Ok((left, height, tokens)),
         Some((operator, rest)) => {
-            if height >= room {
+            if height >= room.nodes {
                 return Err(Fault::Deep(tokens));
             }
-            next_operand(alloc, row, operator, left, height, rest, room)
+            next_operand(room, row, operator, left, height, rest)
         }
     }
 }
 
 #[cycle(trees)]
-fn comparison_tree(alloc: Global, tokens: &[Token], room: u32) -> Read<Box<Tree>>
-    requires { room ≤ 200 }
-    ensures gives { GivesRead tree_in result (full room (tree comparison) (tokens_of tokens.now)) }
-    ensures height { IfOk result (λ x. x.1 ≤ room) }
+fn comparison_tree(room: Room, tokens: &[Token]) -> Read<Box<Tree>>
+    ensures { Reads room (tree comparison) tokens.now tree_in result }
 {
-    let (left, height, mid) = row_tree(alloc, Row::Sum, tokens, room)?;
+    let (left, height, mid) = row_tree(room, Row::Sum, tokens)?;
     match next_comparison(mid) {
         None => Ok((left, height, mid)),
         Some((prim, rest)) => {
-            if height >= room {
-                return Err(Fault::Deep(mid));
-            }
-            let (right, other, rest) = row_tree(alloc, Row::Sum, rest, room - 1)?;
-            let tree = joined(alloc, Operator::Sign(prim), left, right)?;
+            let inner = room.below(height, mid)?;
+            let (right, other, rest) = row_tree(inner, Row::Sum, rest)?;
+            let tree = joined(room.alloc, Operator::Sign(prim), left, right)?;
             Ok((tree, height.max(other) + 1, rest))
         }
     }
@@ -365,123 +311,85 @@ fn connect(
 }
 
 #[cycle(trees)]
-fn connective_operand(
-    alloc: Global,
-    connective: Connective,
-    tokens: &[Token],
-    room: u32,
-) -> Read<Box<Tree>>
-    requires { room ≤ 200 }
-    ensures gives { GivesRead tree_in result
-        (full room (tree (operand_of connective)) (tokens_of tokens.now)) }
-    ensures height { IfOk result (λ x. x.1 ≤ room) }
+fn connective_operand(room: Room, connective: Connective, tokens: &[Token]) -> Read<Box<Tree>>
+    ensures { Reads room (tree (operand_of connective)) tokens.now tree_in result }
 {
     match connective {
-        Connective::And => comparison_tree(alloc, tokens, room),
-        Connective::Or => connected_tree(alloc, Connective::And, tokens, room),
+        Connective::And => comparison_tree(room, tokens),
+        Connective::Or => connected_tree(room, Connective::And, tokens),
     }
 }
 
 #[cycle(trees)]
-#[tactic(auto, using(crate::proofs::Connectives::read_connected, mw_grammar::proofs::Below::read_gives, mw_grammar::proofs::Below::read_reads, mw_grammar::proofs::Below::part_fails, mw_grammar::proofs::Below::raise_ok, mw_grammar::proofs::Below::fails_raise))]
-fn connected_tree(
-    alloc: Global,
-    connective: Connective,
-    tokens: &[Token],
-    room: u32,
-) -> Read<Box<Tree>>
-    requires { room ≤ 200 }
-    ensures gives { GivesRead tree_in result
-        (full room (tree (level_of connective)) (tokens_of tokens.now)) }
-    ensures height { IfOk result (λ x. x.1 ≤ room) }
+#[tactic(auto, using(crate::proofs::Connectives::connected_laws))]
+fn connected_tree(room: Room, connective: Connective, tokens: &[Token]) -> Read<Box<Tree>>
+    ensures { Reads room (tree (level_of connective)) tokens.now tree_in result }
 {
-    let (left, height, mid) = connective_operand(alloc, connective, tokens, room)?;
+    let (left, height, mid) = connective_operand(room, connective, tokens)?;
     match after(sign(connective), mid) {
         None => Ok((left, height, mid)),
         Some(rest) => {
-            if height >= room {
-                return Err(Fault::Deep(mid));
-            }
-            let (right, other, rest) = connected_tree(alloc, connective, rest, room - 1)?;
-            let tree = connect(alloc, connective, left, right)?;
+            let inner = room.below(height, mid)?;
+            let (right, other, rest) = connected_tree(inner, connective, rest)?;
+            let tree = connect(room.alloc, connective, left, right)?;
             Ok((tree, height.max(other) + 1, rest))
         }
     }
 }
 
 #[cycle(trees)]
-pub fn expr_tree(alloc: Global, tokens: &[Token], room: u32) -> Read<Box<Tree>>
-    requires { room ≤ 200 }
-    ensures gives { GivesRead tree_in result (full room (tree expr) (tokens_of tokens.now)) }
-    ensures height { IfOk result (λ x. x.1 ≤ room) }
+pub fn expr_tree(room: Room, tokens: &[Token]) -> Read<Box<Tree>>
+    ensures { Reads room (tree expr) tokens.now tree_in result }
 {
     match in_hand(tokens) {
         None => Err(Fault::Syntax(tokens)),
         Some((token, rest)) => match first_word(token) {
             First::Let => {
-                if room == 0 {
-                    return Err(Fault::Deep(tokens));
-                }
-                let (tree, height, rest) = bound_tree(alloc, rest, room - 1)?;
+                let inner = room.below(0, tokens)?;
+                let (tree, height, rest) = bound_tree(inner, rest)?;
                 Ok((tree, height + 1, rest))
             }
-            First::Fun => function_tree(alloc, rest, room),
+            First::Fun => function_tree(room, rest),
             First::If => {
-                if room == 0 {
-                    return Err(Fault::Deep(tokens));
-                }
-                let (tree, height, rest) = conditional(alloc, rest, room - 1)?;
+                let inner = room.below(0, tokens)?;
+                let (tree, height, rest) = conditional(inner, rest)?;
                 Ok((tree, height + 1, rest))
             }
-            First::Other => connected_tree(alloc, Connective::Or, tokens, room),
+            First::Other => connected_tree(room, Connective::Or, tokens),
         },
     }
 }
 
 #[cycle(trees)]
-fn function_tree(alloc: Global, tokens: &[Token], room: u32) -> Read<Box<Tree>>
-    requires { room ≤ 200 }
-    ensures gives { GivesRead tree_in result
-        (reading room function_form none_yet (tokens_of tokens.now)) }
-    ensures height { IfOk result (λ x. x.1 ≤ room) }
+fn function_tree(room: Room, tokens: &[Token]) -> Read<Box<Tree>>
+    ensures { ReadsForm room function_form tokens.now tree_in result }
 {
-    let (function, height, rest) = parameter_tree(alloc, Mark::Arrow, tokens, room)?;
-    Ok((boxed_function(alloc, function)?, height, rest))
+    let (function, height, rest) = parameter_tree(room, Mark::Arrow, tokens)?;
+    Ok((boxed_function(room.alloc, function)?, height, rest))
 }
 
 #[cycle(trees)]
-fn conditional(alloc: Global, tokens: &[Token], room: u32) -> Read<Box<Tree>>
-    requires { room ≤ 200 }
-    ensures gives { GivesRead tree_in result
-        (reading room condition_form none_yet (tokens_of tokens.now)) }
-    ensures height { IfOk result (λ x. x.1 ≤ room) }
+fn conditional(room: Room, tokens: &[Token]) -> Read<Box<Tree>>
+    ensures { ReadsForm room condition_form tokens.now tree_in result }
 {
-    let (test, height, mid) = expr_tree(alloc, tokens, room)?;
+    let (test, height, mid) = expr_tree(room, tokens)?;
     match after(Next::Then, mid) {
         None => Err(Fault::Syntax(mid)),
-        Some(rest) => branches(alloc, test, height, rest, room),
+        Some(rest) => branches(room, test, height, rest),
     }
 }
 
 #[cycle(trees)]
-fn branches(
-    alloc: Global,
-    test: Box<Tree>,
-    height: u32,
-    tokens: &[Token],
-    room: u32,
-) -> Read<Box<Tree>>
-    requires { (height ≤ room) × (room ≤ 200) }
-    ensures gives { GivesRead tree_in result
-        (reading room (branches_form (tree_in test)) (so_far height) (tokens_of tokens.now)) }
-    ensures height { IfOk result (λ x. x.1 ≤ room) }
+fn branches(room: Room, test: Box<Tree>, height: u32, tokens: &[Token]) -> Read<Box<Tree>>
+    requires { height ≤ room.nodes }
+    ensures { ReadsAfter height room (branches_form (tree_in test)) tokens.now tree_in result }
 {
-    let (left, other, mid) = expr_tree(alloc, tokens, room)?;
+    let (left, other, mid) = expr_tree(room, tokens)?;
     match after(Next::Else, mid) {
         None => Err(Fault::Syntax(mid)),
         Some(rest) => {
-            let (right, last, rest) = expr_tree(alloc, rest, room)?;
-            let tree = boxed_if(alloc, test, left, right)?;
+            let (right, last, rest) = expr_tree(room, rest)?;
+            let tree = boxed_if(room.alloc, test, left, right)?;
             Ok((tree, height.max(other).max(last), rest))
         }
     }
@@ -512,97 +420,80 @@ pub fn placed_name(alloc: Global, tokens: &[Token]) -> Result<(Placed, &[Token])
 }
 
 #[cycle(trees)]
-fn bound_tree(alloc: Global, tokens: &[Token], room: u32) -> Read<Box<Tree>>
-    requires { room ≤ 200 }
-    ensures gives { GivesRead tree_in result
-        (reading room (pick let_in_by) none_yet (tokens_of tokens.now)) }
-    ensures height { IfOk result (λ x. x.1 ≤ room) }
+fn bound_tree(room: Room, tokens: &[Token]) -> Read<Box<Tree>>
+    ensures { ReadsForm room (pick let_in_by) tokens.now tree_in result }
 {
-    let ((placed, definition), height, rest) = binding(alloc, tokens, room)?;
-    scoped(alloc, placed.name, definition.tree, height, rest, room)
+    let ((placed, definition), height, rest) = binding(room, tokens)?;
+    scoped(room, placed.name, definition.tree, height, rest)
 }
 
 /// What a `let` binds.
 #[cycle(trees)]
-pub fn binding(alloc: Global, tokens: &[Token], room: u32) -> Read<(Placed, Defined)>
-    requires { room ≤ 200 }
-    ensures inner { GivesBound room result let_in_by (tokens_of tokens.now) }
-    ensures top { GivesRead bound_item result
-        (reading room (pick let_by) none_yet (tokens_of tokens.now)) }
-    ensures height { IfOk result (λ x. x.1 ≤ room) }
+pub fn binding(room: Room, tokens: &[Token]) -> Read<(Placed, Defined)>
+    ensures inner { GivesBound room.nodes result let_in_by (tokens_of tokens.now) }
+    ensures top { ReadsForm room (pick let_by) tokens.now bound_item result }
 {
     match in_hand(tokens) {
         None => Err(Fault::Syntax(tokens)),
         Some((token, rest)) => match name_or_rec(token) {
             Named::Other => Err(Fault::Syntax(tokens)),
             Named::Word(name) => {
-                let name = copied_name(alloc, name)?;
+                let name = copied_name(room.alloc, name)?;
                 let at = token.start;
-                let (definition, height, rest) = body_tree(alloc, Mark::Equal, rest, room)?;
+                let (definition, height, rest) = body_tree(room, Mark::Equal, rest)?;
                 Ok(((Placed { name, at }, definition), height, rest))
             }
-            Named::Rec => recursive(alloc, rest, room),
+            Named::Rec => recursive(room, rest),
         },
     }
 }
 
 #[cycle(trees)]
-fn recursive(alloc: Global, tokens: &[Token], room: u32) -> Read<(Placed, Defined)>
-    requires { room ≤ 200 }
-    ensures inner { GivesBound room result rec_by (tokens_of tokens.now) }
-    ensures top { GivesRead bound_item result
-        (reading room (pick rec_item) none_yet (tokens_of tokens.now)) }
-    ensures height { IfOk result (λ x. x.1 ≤ room) }
+fn recursive(room: Room, tokens: &[Token]) -> Read<(Placed, Defined)>
+    ensures inner { GivesBound room.nodes result rec_by (tokens_of tokens.now) }
+    ensures top { ReadsForm room (pick rec_item) tokens.now bound_item result }
 {
-    let (placed, mid) = placed_name(alloc, tokens)?;
-    let (function, height, rest) = parameter_tree(alloc, Mark::Equal, mid, room)?;
+    let (placed, mid) = placed_name(room.alloc, tokens)?;
+    let (function, height, rest) = parameter_tree(room, Mark::Equal, mid)?;
     let from = function.from;
-    let tree = boxed_rec(alloc, &placed.name, function)?;
+    let tree = boxed_rec(room.alloc, &placed.name, function)?;
     Ok(((placed, Defined { from, tree }), height, rest))
 }
 
 #[cycle(trees)]
 fn scoped(
-    alloc: Global,
+    room: Room,
     name: Name,
     definition: Box<Tree>,
     height: u32,
     tokens: &[Token],
-    room: u32,
 ) -> Read<Box<Tree>>
-    requires { (height ≤ room) × (room ≤ 200) }
-    ensures gives { GivesRead tree_in result
-        (reading room (scope_form (bind name (tree_in definition))) (so_far height)
-        (tokens_of tokens.now)) }
-    ensures height { IfOk result (λ x. x.1 ≤ room) }
+    requires { height ≤ room.nodes }
+    ensures { ReadsAfter height room (scope_form (bind name (tree_in definition)))
+        tokens.now tree_in result }
 {
     match after(Next::In, tokens) {
         None => Err(Fault::Syntax(tokens)),
         Some(rest) => {
-            let (tree, other, rest) = expr_tree(alloc, rest, room)?;
-            let tree = boxed_let(alloc, name, definition, tree)?;
+            let (tree, other, rest) = expr_tree(room, rest)?;
+            let tree = boxed_let(room.alloc, name, definition, tree)?;
             Ok((tree, height.max(other), rest))
         }
     }
 }
 
 #[cycle(trees)]
-pub fn parameter_tree(alloc: Global, mark: Mark, tokens: &[Token], room: u32) -> Read<Function>
-    requires { room ≤ 200 }
-    ensures gives { GivesRead function_in result
-        (full room (parameter (mark_in mark)) (tokens_of tokens.now)) }
-    ensures height { IfOk result (λ x. x.1 ≤ room) }
+pub fn parameter_tree(room: Room, mark: Mark, tokens: &[Token]) -> Read<Function>
+    ensures { Reads room (parameter (mark_in mark)) tokens.now function_in result }
 {
     match in_hand(tokens) {
         None => Err(Fault::Syntax(tokens)),
         Some((token, rest)) => match name_of(token) {
             None => Err(Fault::Syntax(tokens)),
             Some(name) => {
-                if room == 0 {
-                    return Err(Fault::Deep(tokens));
-                }
-                let name = copied_name(alloc, name)?;
-                let (definition, height, rest) = body_tree(alloc, mark, rest, room - 1)?;
+                let inner = room.below(0, tokens)?;
+                let name = copied_name(room.alloc, name)?;
+                let (definition, height, rest) = body_tree(inner, mark, rest)?;
                 let from = definition.from;
                 let tree = definition.tree;
                 Ok((Function { name, from, tree }, height + 1, rest))
@@ -612,39 +503,33 @@ pub fn parameter_tree(alloc: Global, mark: Mark, tokens: &[Token], room: u32) ->
 }
 
 #[cycle(trees)]
-pub fn body_tree(alloc: Global, mark: Mark, tokens: &[Token], room: u32) -> Read<Defined>
-    requires { room ≤ 200 }
-    ensures gives { GivesRead definition_in result
-        (full room (body (mark_in mark)) (tokens_of tokens.now)) }
-    ensures height { IfOk result (λ x. x.1 ≤ room) }
+pub fn body_tree(room: Room, mark: Mark, tokens: &[Token]) -> Read<Defined>
+    ensures { Reads room (body (mark_in mark)) tokens.now definition_in result }
 {
     match in_hand(tokens) {
         None => Err(Fault::Syntax(tokens)),
         Some((token, rest)) => match body_word(mark, token) {
             Body::Other => Err(Fault::Syntax(tokens)),
             Body::Parameter => {
-                let (function, height, rest) = parameter_tree(alloc, mark, tokens, room)?;
+                let (function, height, rest) = parameter_tree(room, mark, tokens)?;
                 let from = function.from;
-                let tree = boxed_function(alloc, function)?;
+                let tree = boxed_function(room.alloc, function)?;
                 Ok((Defined { from, tree }, height, rest))
             }
-            Body::Mark => behind_tree(alloc, mark, rest, room),
+            Body::Mark => behind_tree(room, mark, rest),
         },
     }
 }
 
 #[cycle(trees)]
-fn behind_tree(alloc: Global, mark: Mark, tokens: &[Token], room: u32) -> Read<Defined>
-    requires { room ≤ 200 }
-    ensures gives { GivesRead definition_in result
-        (reading room (pick (behind_mark (mark_in mark))) none_yet (tokens_of tokens.now)) }
-    ensures height { IfOk result (λ x. x.1 ≤ room) }
+fn behind_tree(room: Room, mark: Mark, tokens: &[Token]) -> Read<Defined>
+    ensures { ReadsForm room (pick (behind_mark (mark_in mark))) tokens.now definition_in result }
 {
     match in_hand(tokens) {
         None => Err(Fault::Syntax(tokens)),
         Some((token, rest)) => {
             let from = token.start;
-            let (tree, height, rest) = expr_tree(alloc, tokens, room)?;
+            let (tree, height, rest) = expr_tree(room, tokens)?;
             Ok((Defined { from, tree }, height, rest))
         },
     }
@@ -653,20 +538,19 @@ fn behind_tree(alloc: Global, mark: Mark, tokens: &[Token], room: u32) -> Read<D
 #[cycle(trees)]
 #[tactic(auto, using(mw_grammar::proofs::Below::tree_laws, mw_grammar::proofs::Below::next_goes))]
 fn next_operand(
-    alloc: Global,
+    room: Room,
     row: Row,
     operator: Operator,
     left: Box<Tree>,
     height: u32,
     tokens: &[Token],
-    room: u32,
 ) -> Read<Box<Tree>>
-    requires { (height < room) × (room ≤ 200) }
-    ensures gives { GivesRead tree_in result
-        (following_operator room (row_of row) (op_of operator) (tree_in left) height (tokens_of tokens.now)) }
-    ensures height { IfOk result (λ x. x.1 ≤ room) }
+    requires { height < room.nodes }
+    ensures { Within room tree_in result
+        (following_operator room.nodes (row_of row) (op_of operator) (tree_in left) height
+        (tokens_of tokens.now)) }
 {
-    let (right, other, mid) = right_tree(alloc, row, tokens, room - 1)?;
-    let tree = joined(alloc, operator, left, right)?;
-    more_trees(alloc, row, tree, height.max(other) + 1, mid, room)
+    let (right, other, mid) = right_tree(room.inner(), row, tokens)?;
+    let tree = joined(room.alloc, operator, left, right)?;
+    more_trees(room, row, tree, height.max(other) + 1, mid)
 }

@@ -8,8 +8,8 @@ use Rattle.mw_parse.proofs.items.program_tree.Given as goal
 
 abbrev pub invariant-loop-items : goal.invariant-loop-items
 invariant-loop-items l =
-    (full l.room program (tokens_of l.tokens) ≡ behind_items (map item_of l.items) l.height
-    (full l.room program (tokens_of l.rest))) × (l.height ≤ l.room)
+    (full l.room.nodes program (tokens_of l.tokens) ≡ behind_items (map item_of l.items) l.height
+    (full l.room.nodes program (tokens_of l.rest))) × (l.height ≤ l.room.nodes)
 
 abbrev pub decreases-loop-items : goal.decreases-loop-items
 decreases-loop-items l = length l.rest
