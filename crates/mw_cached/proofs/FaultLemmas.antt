@@ -6,7 +6,7 @@ use Rattle.mw_meaning.specs.Shapes.{IsStray}
 use Rattle.mw_meaning.specs.StagedMeaning.{Answer, Runs}
 use Rattle.mw_wasm.specs.declared.modules.Module.{Module}
 use Rattle.mw_wasm.specs.Views.{module_of}
-use Rattle.mw_machine.specs.KernelCalls.{AnswersAs}
+use Rattle.mw_machine.specs.KernelCalls.{IsReplyOf}
 use Rattle.mw_kernel.specs.declared.fault.RunFault.{RunFault}
 use Rattle.mw_kernel.specs.declared.fault.RunFault.TheVariants as fault
 use Rattle.mw_kernel.specs.KernelMeanings.{IsStartMeant, IsCallMeant}
@@ -32,7 +32,7 @@ start_is_not_bad (fault.Memory d) k a h e = absurd (cc)
 
 -- a fault that is not Bad answers as anything
 pub fault_answers : (own : FunctionFault) (f : RunFault) (loaded : Option ℕ) (a : Answer Runs Value)
-    → IsFaultOf own f loaded → (f ≡ fault.Bad → ⊥) → AnswersAs (told (Err own)) a
+    → IsFaultOf own f loaded → (f ≡ fault.Bad → ⊥) → IsReplyOf (told (Err own)) a
 fault_answers (faults.Memory e) f loaded a is h = tt
 fault_answers (faults.Bad n) fault.Bad loaded a is h = absurd (h refl)
 fault_answers (faults.Bad n) (fault.Memory e) loaded a is h = absurd is

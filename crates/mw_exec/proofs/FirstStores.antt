@@ -29,7 +29,7 @@ use Rattle.mw_wasm.specs.Validity.{IsConstantOf}
 use Rattle.mw_wasm.specs.Instances.{constant_expression, first_value, first_table, first_memory, offset_of}
 use Rattle.mw_wasm.specs.Instances.{with_elements, with_segment, with_segments}
 use Rattle.mw_wasm.specs.Views.{instruction_of, list_code, code_of, global_of, element_of, segment_of, module_of}
-use Rattle.mw_exec.specs.declared.held.Held.{Held}
+use Rattle.mw_exec.specs.declared.held.Contents.{Contents}
 use Rattle.mw_exec.specs.Views.{memory_of, store_of}
 use Rattle.mw_exec.specs.Instancing.{first_store}
 use Rattle.mw_exec.specs.Fitting.{ends_in, element_test, segment_test}
@@ -334,7 +334,7 @@ same_store : (gs hs : List Value) (ts us : List (Option ℕ)) (m n : Memory) →
     → store_with gs ts m ≡ store_with hs us n
 same_store gs hs ts us m n e f g = rw (e, f, g) refl
 
-pub begun : (wasm : Module) (h : Held) (gs : List GlobalVar) (es : List Element) (ss : List Segment)
+pub begun : (wasm : Module) (h : Contents) (gs : List GlobalVar) (es : List Element) (ss : List Segment)
     (table : List (Option ℕ)) (bytes : List ℕ)
     → gs ≡ wasm.globals → h.globals.items ≡ map value_of_global gs
     → es ≡ wasm.elements → table ≡ first_table wasm.table → h.table.items ≡ with_elements table (map element_of es)

@@ -6,7 +6,7 @@ use Rattle.mw_wasm.specs.Store.{Store}
 use Rattle.mw_wasm.specs.StateTypes.{StoreIsTyped}
 use Rattle.mw_wasm.specs.Views.{module_of}
 use Rattle.mw_validate.specs.Kept.{IsKept}
-use Rattle.mw_exec.specs.declared.held.Held.{Held}
+use Rattle.mw_exec.specs.declared.held.Contents.{Contents}
 use Rattle.mw_exec.specs.Views.{memory_of}
 
 -- its module, the values of its globals, the elements of its table, and its memory: how many pages, and the bytes up to
@@ -19,7 +19,7 @@ pub record InstanceState : Type 0 where
   pub bytes : List ℕ
 
 -- an instance of this module that holds this
-abbrev pub state_of : Module → Held → InstanceState
+abbrev pub state_of : Module → Contents → InstanceState
 state_of wasm h = record {
   wasm = wasm;
   globals = h.globals.items;

@@ -9,7 +9,7 @@ use Rattle.mw_wasm.specs.Syntax.{end}
 use Rattle.mw_wasm.specs.Store.{zero_of}
 use Rattle.mw_wasm.specs.Redex.{at, in_label, in_frame}
 use Rattle.mw_wasm.specs.Views.{code_of}
-use Rattle.mw_exec.specs.declared.held.Held.{Held}
+use Rattle.mw_exec.specs.declared.held.Contents.{Contents}
 use Rattle.mw_exec.specs.declared.state.State.{State}
 use Rattle.mw_exec.specs.Views.{config_of, store_of, IsFormed}
 
@@ -25,7 +25,7 @@ pub record CanRun (wasm : Module) (f : ℕ) (args : List Value) : Type 0 where
 pub record IsBeginning (g : Func) (t : FuncType) (args : List Value) (n : ℕ) (s : State) : Type 0 where
   pub formed : IsFormed s
   pub fuel : s.fuel ≡ n
-  pub is : (h : Held) → config_of h s ≡ at (store_of h) (args ++ map zero_of g.locals) [] (code_of g.body)
+  pub is : (h : Contents) → config_of h s ≡ at (store_of h) (args ++ map zero_of g.locals) [] (code_of g.body)
       (in_label (length t.results) end [] end ∷ in_frame (length t.results) [] [] end ∷ [])
 
 -- the state in which an invocation of the function of an index begins, with arguments of its parameters' types

@@ -6,13 +6,13 @@ ghost use Rattle.mw_wasm.specs.Syntax.{Instruction, PureModule, block as block_i
 ghost use Rattle.mw_wasm.specs.Syntax.{cond as cond_instruction, br, br_if, give_back as return_instruction};
 ghost use Rattle.mw_wasm.specs.Syntax.{call as call_instruction};
 ghost use Rattle.mw_wasm.specs.Views.{code_of, instruction_of, module_of};
-ghost use Rattle.mw_exec.specs.declared.held.Held.{Held as WasmHeld};
+ghost use Rattle.mw_exec.specs.declared.held.Contents.{Contents as WasmHeld};
 ghost use Rattle.mw_exec.specs.Views.{IsFormed};
 ghost use Rattle.mw_exec.specs.Acts.{IsControl};
 ghost use Rattle.mw_exec.specs.Turns.{FewResults, TurnsBy};
 
 use crate::calls::call;
-use crate::held::Held;
+use crate::held::Contents;
 use crate::jumps::{branch, give_back};
 use crate::labels::enter;
 use crate::operands::take_i32;
@@ -125,7 +125,7 @@ pub fn call_now<'m>(wasm: &'m Module, state: &mut State<'m>, f: u32) -> Result<T
 #[inline(always)]
 pub fn control<'m>(
     wasm: &'m Module,
-    held: &Held,
+    held: &Contents,
     state: &mut State<'m>,
     instruction: &'m Instr,
 ) -> Result<Turn, AllocError>

@@ -12,7 +12,7 @@ ghost use Rattle.mw_exec.specs.FirstStores.{HasFirstValue, value_of_global, IsPl
 ghost use Rattle.mw_exec.specs.Instancing.{first_store};
 ghost use Rattle.mw_exec.specs.Views.{store_of, IsHeld};
 
-use crate::held::Held;
+use crate::held::Contents;
 use crate::memory::reach;
 use crate::segments::{memory_size, offset_of};
 use mw_wasm::{Element, GlobalVar, Instr, Limits, Module, Segment, Value};
@@ -20,7 +20,7 @@ use std::alloc::{AllocError, Global};
 
 /// What the instance of a valid module begins with, where all its segments fit.
 #[tactic(auto, using(crate::proofs::Beginnings::elements_have_offsets, crate::proofs::Beginnings::segments_have_offsets, crate::proofs::FirstStores::globals_have_values))]
-pub fn first_held(alloc: Global, wasm: &Module) -> Result<Held, AllocError>
+pub fn first_held(alloc: Global, wasm: &Module) -> Result<Contents, AllocError>
     requires kept { IsKept wasm.now }
     requires fit { AllFit wasm.now }
     ensures store { IfOk result (λ held. store_of held ≡ first_store (module_of wasm.now)) }
@@ -31,7 +31,7 @@ pub fn first_held(alloc: Global, wasm: &Module) -> Result<Held, AllocError>
     place_elements(&mut table, wasm.elements.as_slice());
     let mut bytes = Vec::new(alloc);
     place_segments(&mut bytes, wasm.segments.as_slice(), memory_size(wasm))?;
-    Ok(Held {
+    Ok(Contents {
         globals,
         table,
         bytes,

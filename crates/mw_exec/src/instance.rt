@@ -11,7 +11,7 @@ ghost use Rattle.mw_exec.specs.Instancing.{IsFunctionAt, CanInvoke, EndsAs, Begi
 use crate::ended::{Ended, InstanceFault};
 use crate::exports::{function_index, function_named};
 use crate::first_store::first_held;
-use crate::held::Held;
+use crate::held::Contents;
 use crate::invocation::invoke_function;
 use crate::memory::word_of;
 use crate::segments::first_fault;
@@ -25,7 +25,7 @@ use std::sync::Arc;
 #[derive(Drop)]
 pub struct Instance {
     module: Arc<Valid>,
-    held: Held,
+    held: Contents,
 }
 
 impl Model for Instance {

@@ -13,7 +13,7 @@ ghost use Rattle.mw_exec.specs.Instancing.{EndsAs};
 
 use crate::calls::{gives_one, push_locals};
 use crate::ended::Ended;
-use crate::held::Held;
+use crate::held::Contents;
 use crate::machine::run;
 use crate::operands::pop;
 use crate::state::{Kind, State, Turn, Waiting};
@@ -87,7 +87,7 @@ fn begin_at<'m>(
 pub fn invoke_function(
     alloc: Global,
     wasm: &Module,
-    held: &mut Held,
+    held: &mut Contents,
     f: u32,
     args: &[Value],
     fuel: u64,

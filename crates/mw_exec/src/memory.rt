@@ -11,7 +11,7 @@ ghost use Rattle.mw_exec.specs.Acts.{ActsAligned, ActsOnStoreIn, IfHalted};
 ghost use Rattle.mw_exec.specs.Instancing.{word_at};
 ghost use Rattle.mw_exec.specs.Views.{store_of, memory_of, IsHeld, IsReached, IsWritten};
 
-use crate::held::Held;
+use crate::held::Contents;
 use crate::operands::{pop_i32, pop_of, put};
 use crate::outcome::Outcome;
 use mw_wasm::{LoadOp, Module, StoreOp, Trap, ValType, Value};
@@ -219,7 +219,13 @@ fn value_at(bytes: &[u8], at: u64, op: LoadOp) -> Value
 
 /// A load.
 #[tactic(auto, using(crate::proofs::Stacks::kept_then, crate::proofs::Stacks::kept_pushed))]
-pub fn load(held: &Held, stack: &mut Vec<Value>, height: usize, op: LoadOp, offset: u32) -> Outcome
+pub fn load(
+    held: &Contents,
+    stack: &mut Vec<Value>,
+    height: usize,
+    op: LoadOp,
+    offset: u32,
+) -> Outcome
     requires long { height ≤ length stack.old.items }
     requires held { IsHeld held.now }
     ensures comes { ActsAligned result (λ align. load_instruction op align offset) held.now held.now
@@ -328,7 +334,7 @@ fn write_by(bytes: &mut Vec<u8>, at: usize, op: StoreOp, number: u64)
 
 /// A store.
 pub fn store(
-    held: &mut Held,
+    held: &mut Contents,
     stack: &mut Vec<Value>,
     height: usize,
     op: StoreOp,
@@ -361,7 +367,7 @@ pub fn store(
 }
 
 /// The number in the eight bytes from an address on, where all of them are in the memory.
-pub fn word_of(held: &Held, at: u64) -> Option<u64>
+pub fn word_of(held: &Contents, at: u64) -> Option<u64>
     requires { IsHeld held.now }
     ensures { result ≡ word_at at (store_of held.now).memory }
 {
@@ -388,7 +394,7 @@ fn most_pages_of(wasm: &Module) -> u32
 
 /// More pages, where they are allowed.
 #[tactic(auto, using(crate::proofs::Stacks::kept_then, crate::proofs::Stacks::kept_pushed))]
-pub fn grow(wasm: &Module, held: &mut Held, stack: &mut Vec<Value>, height: usize) -> Outcome
+pub fn grow(wasm: &Module, held: &mut Contents, stack: &mut Vec<Value>, height: usize) -> Outcome
     requires long { height ≤ length stack.old.items }
     requires held { IsHeld held.old }
     ensures comes { ActsOnStoreIn result (module_of wasm.now) memory_grow held.old held.new height

@@ -14,7 +14,7 @@ ghost use Rattle.mw_exec.specs.Lists.{above, Kept};
 ghost use Rattle.mw_exec.specs.Acts.{ActsOnLocals, ActsOnOperands, ActsOnStore, SimplyActs, SimplyOnLocals, IfHalted};
 ghost use Rattle.mw_exec.specs.Views.{store_of, IsHeld};
 
-use crate::held::Held;
+use crate::held::Contents;
 use crate::memory::{grow, load, store};
 use crate::numbers::number;
 use crate::operands::{pop, pop_i32, push, put};
@@ -32,7 +32,7 @@ pub fn simple(
     height: usize,
     locals: &mut Vec<Value>,
     base: usize,
-    held: &mut Held,
+    held: &mut Contents,
 ) -> Result<Outcome, AllocError>
     requires long { height ≤ length stack.old.items }
     requires local { base ≤ length locals.old.items }
@@ -173,7 +173,7 @@ fn local_tee(
 }
 
 fn global_get(
-    held: &Held,
+    held: &Contents,
     stack: &mut Vec<Value>,
     height: usize,
     x: u32,
@@ -193,7 +193,7 @@ fn global_get(
     }
 }
 
-fn global_set(held: &mut Held, stack: &mut Vec<Value>, height: usize, x: u32) -> Outcome
+fn global_set(held: &mut Contents, stack: &mut Vec<Value>, height: usize, x: u32) -> Outcome
     requires long { height ≤ length stack.old.items }
     requires held { IsHeld held.old }
     ensures comes { ActsOnStore result (global_set_instruction x) held.old held.new height stack.old

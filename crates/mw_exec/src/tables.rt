@@ -5,12 +5,12 @@ ghost use Rattle.std.specs.List.{AllByRecursion};
 ghost use Rattle.mw_wasm.specs.Syntax.{PureModule, br_table, call_indirect as call_indirect_instruction};
 ghost use Rattle.mw_wasm.specs.Act.{same_value_type, same_value_types, same_type as same_function_type};
 ghost use Rattle.mw_wasm.specs.Views.{module_of};
-ghost use Rattle.mw_exec.specs.declared.held.Held.{Held as WasmHeld};
+ghost use Rattle.mw_exec.specs.declared.held.Contents.{Contents as WasmHeld};
 ghost use Rattle.mw_exec.specs.Views.{IsFormed};
 ghost use Rattle.mw_exec.specs.Turns.{FewResults, TurnsBy};
 
 use crate::calls::{call, enter_function};
-use crate::held::Held;
+use crate::held::Contents;
 use crate::jumps::branch;
 use crate::operands::take_i32;
 use crate::state::{State, Turn};
@@ -73,7 +73,7 @@ fn same_type(a: &FuncType, b: &FuncType) -> bool
 
 /// The element of the table at a place.
 #[inline(always)]
-fn element_at(held: &Held, n: u32) -> Option<Option<u32>>
+fn element_at(held: &Contents, n: u32) -> Option<Option<u32>>
     ensures { result ≡ slice_get held.now.table.items n }
 {
     if (n as usize) < held.table.len() {
@@ -87,7 +87,7 @@ fn element_at(held: &Held, n: u32) -> Option<Option<u32>>
 #[tactic(auto, using(crate::proofs::CallRules::all_at, crate::proofs::TableRules::indirect_laws))]
 pub fn call_indirect_now<'m>(
     wasm: &'m Module,
-    held: &Held,
+    held: &Contents,
     state: &mut State<'m>,
     t: u32,
 ) -> Result<Turn, AllocError>

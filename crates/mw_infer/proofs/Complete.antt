@@ -78,12 +78,12 @@ still a o c es w h = ending (omega arith) (omega arith)
     }))
 
 module _ (tops : List TopLevel) (schemes : List TopScheme) (known : AreSchemesOf tops tops schemes) where
-  abbrev Found : Assignment → ℕ → ℕ → ℕ → List Slot → Level → Expression → Type 0
-  Found a u o c g m e = Grown a o c (o + unknowns_of schemes e) (c + classifiers_of schemes e)
+  abbrev SatisfiedAt : Assignment → ℕ → ℕ → ℕ → List Slot → Level → Expression → Type 0
+  SatisfiedAt a u o c g m e = Grown a o c (o + unknowns_of schemes e) (c + classifiers_of schemes e)
       (equations schemes u o c g m e) (closes schemes o c g m e)
 
   found-var : (a : Assignment) (u o c : ℕ) (g : List Slot) (m : Level) (h : List Entry) (l : Level) (i : ℕ)
-      (t : TermType) → Ready a u o c g m h l t → slice_get h i ≡ Some (entry l t) → Found a u o c g m (var i)
+      (t : TermType) → Ready a u o c g m h l t → slice_get h i ≡ Some (entry l t) → SatisfiedAt a u o c g m (var i)
   found-var a u o c g m h l i t r e =
       let q = find a g i (entry (level_of a m) t) (rw (r.env, r.at) e) in
       still a o c _ (variable-within o c u g m i (slice_get g i) refl r.own r.slots r.level)
@@ -91,7 +91,7 @@ module _ (tops : List TopLevel) (schemes : List TopScheme) (known : AreSchemesOf
 
   found-let : (a : Assignment) (u o c : ℕ) (g : List Slot) (h : List Entry) (i : ℕ) (e : Expression) (t : TermType)
       → Ready a u o c g live h live t → slice_get tops i ≡ Some (let_item e) → Typed tops [] live e t
-      → Found a u o c g live (glob i)
+      → SatisfiedAt a u o c g live (glob i)
   found-let a u o c g h i e t r q d =
       let s = scheme-of_let tops tops schemes i e known q in
       let n = (s.2.types t).0 d in
@@ -126,7 +126,7 @@ module _ (tops : List TopLevel) (schemes : List TopScheme) (known : AreSchemesOf
 
   found-kernel : (a : Assignment) (u o c : ℕ) (g : List Slot) (h : List Entry) (i : ℕ) (k : KernelType)
       → Ready a u o c g live h live (closed_type (kernel_type k)) → slice_get tops i ≡ Some (kernel_item k)
-      → Found a u o c g live (glob i)
+      → SatisfiedAt a u o c g live (glob i)
   found-kernel a u o c g h i k r q = rw (scheme-of_kernel tops tops schemes i k known q)
       (still a o c _ ((r.own, Within-kernel_expression o c k), tt) (
         r.gives ∙ rw (value-kernel_expression a k) refl,
@@ -135,12 +135,12 @@ module _ (tops : List TopLevel) (schemes : List TopScheme) (known : AreSchemesOf
 
   -- what is found of a term's parts, from each assignment that is ready for them
   abbrev Part : ℕ → ℕ → ℕ → List Slot → Level → List Entry → Level → Expression → TermType → Type 0
-  Part v p d g m h l e s = (b : Assignment) → Ready b v p d g m h l s → Found b v p d g m e
+  Part v p d g m h l e s = (b : Assignment) → Ready b v p d g m h l s → SatisfiedAt b v p d g m e
 
   -- each form puts what is found of its parts after its own equations
   found-fun : (a : Assignment) (u o c : ℕ) (g : List Slot) (m : Level) (h : List Entry) (l : Level) (e : Expression)
       (s t : TermType) → Ready a u o c g m h l (function_type s t)
-      → Part (o + 1) (o + 2) c (slot m o ∷ g) m (entry l s ∷ h) l e t → Found a u o c g m (fun e)
+      → Part (o + 1) (o + 2) c (slot m o ∷ g) m (entry l s ∷ h) l e t → SatisfiedAt a u o c g m (fun e)
   found-fun a u o c g m h l e s t r part =
       let z = started-starts a o c s t t 0 in
       let y = r.own in
@@ -155,7 +155,7 @@ module _ (tops : List TopLevel) (schemes : List TopScheme) (known : AreSchemesOf
   found-fix : (a : Assignment) (u o c : ℕ) (g : List Slot) (m : Level) (h : List Entry) (l : Level) (e : Expression)
       (s t : TermType) → Ready a u o c g m h l (function_type s t)
       → Part (o + 2) (o + 3) c (slot m o ∷ slot m (o + 1) ∷ g) m (entry l s ∷ entry l (function_type s t) ∷ h) l e t
-      → Found a u o c g m (fix e)
+      → SatisfiedAt a u o c g m (fix e)
   found-fix a u o c g m h l e s t r part =
       let z = started-starts a o c s (function_type s t) t 0 in
       let y = r.own in
@@ -171,7 +171,7 @@ module _ (tops : List TopLevel) (schemes : List TopScheme) (known : AreSchemesOf
   found-app : (a : Assignment) (u o c : ℕ) (g : List Slot) (m : Level) (h : List Entry) (l : Level) (e f : Expression)
       (s t : TermType) → Ready a u o c g m h l t
       → Part o (o + 2) c g m h l e (function_type s t) → Part (o + 1) (o + 2 + unknowns_of schemes e)
-      (c + classifiers_of schemes e) g m h l f s → Found a u o c g m (app e f)
+      (c + classifiers_of schemes e) g m h l f s → SatisfiedAt a u o c g m (app e f)
   found-app a u o c g m h l e f s t r part next =
       let z = started-starts a o c (function_type s t) s t 0 in
       let y = r.own in
@@ -185,7 +185,7 @@ module _ (tops : List TopLevel) (schemes : List TopScheme) (known : AreSchemesOf
   found-bind : (a : Assignment) (u o c : ℕ) (g : List Slot) (m : Level) (h : List Entry) (l : Level) (d e : Expression)
       (s t : TermType) → Ready a u o c g m h l t
       → Part (o + 1) (o + 3) c g m h l d s → Part (o + 2) (o + 3 + unknowns_of schemes d) (c + classifiers_of schemes d)
-      (slot m o ∷ g) m (entry l s ∷ h) l e t → Found a u o c g m (bind d e)
+      (slot m o ∷ g) m (entry l s ∷ h) l e t → SatisfiedAt a u o c g m (bind d e)
   found-bind a u o c g m h l d e s t r part next =
       let z = started-starts a o c s s t 0 in
       let y = r.own in
@@ -204,7 +204,7 @@ module _ (tops : List TopLevel) (schemes : List TopScheme) (known : AreSchemesOf
       → Part (o + 1) (o + 3 + unknowns_of schemes p) (c + classifiers_of schemes p) g m h l d t
       → Part (o + 2) (o + 3 + unknowns_of schemes p + unknowns_of schemes d)
       (c + classifiers_of schemes p + classifiers_of schemes d) g m h l e t
-      → Found a u o c g m (cond p d e)
+      → SatisfiedAt a u o c g m (cond p d e)
   found-cond a u o c g m h l p d e t r part next last =
       let z = started-starts a o c bool_type t t 0 in
       let y = r.own in
@@ -220,7 +220,7 @@ module _ (tops : List TopLevel) (schemes : List TopScheme) (known : AreSchemesOf
   found-pair : (a : Assignment) (u o c : ℕ) (g : List Slot) (m : Level) (h : List Entry) (l : Level) (d e : Expression)
       (s t : TermType) → Ready a u o c g m h l (pair_type s t)
       → Part o (o + 2) c g m h l d s → Part (o + 1) (o + 2 + unknowns_of schemes d) (c + classifiers_of schemes d) g m h
-      l e t → Found a u o c g m (pair d e)
+      l e t → SatisfiedAt a u o c g m (pair d e)
   found-pair a u o c g m h l d e s t r part next =
       let z = started-starts a o c s t t 0 in
       let y = r.own in
@@ -250,20 +250,20 @@ module _ (tops : List TopLevel) (schemes : List TopScheme) (known : AreSchemesOf
 
   found-fst : (a : Assignment) (u o c : ℕ) (g : List Slot) (m : Level) (h : List Entry) (l : Level) (e : Expression)
       (s t : TermType) → Ready a u o c g m h l s
-      → Part (o + 1) (o + 2) c g m h l e (pair_type s t) → Found a u o c g m (fst e)
+      → Part (o + 1) (o + 2) c g m h l e (pair_type s t) → SatisfiedAt a u o c g m (fst e)
   found-fst a u o c g m h l e s t r part = found-part a u o c g m h l e s t (pair_type s t)
       (pair_ty (unknown u) (unknown o)) (λ b x y. rw (x, y) refl) (λ lt. (omega arith, omega arith)) r part
 
   found-snd : (a : Assignment) (u o c : ℕ) (g : List Slot) (m : Level) (h : List Entry) (l : Level) (e : Expression)
       (s t : TermType) → Ready a u o c g m h l t
-      → Part (o + 1) (o + 2) c g m h l e (pair_type s t) → Found a u o c g m (snd e)
+      → Part (o + 1) (o + 2) c g m h l e (pair_type s t) → SatisfiedAt a u o c g m (snd e)
   found-snd a u o c g m h l e s t r part = found-part a u o c g m h l e t s (pair_type s t)
       (pair_ty (unknown o) (unknown u)) (λ b x y. rw (x, y) refl) (λ lt. (omega arith, omega arith)) r part
 
   found-prim : (a : Assignment) (u o c : ℕ) (g : List Slot) (m : Level) (h : List Entry) (l : Level) (p : Prim)
       (d e : Expression) (t : TermType) → t ≡ primitive_type p → Ready a u o c g m h l t
       → Part o (o + 2) c g m h l d int_type → Part (o + 1) (o + 2 + unknowns_of schemes d)
-      (c + classifiers_of schemes d) g m h l e int_type → Found a u o c g m (prim p d e)
+      (c + classifiers_of schemes d) g m h l e int_type → SatisfiedAt a u o c g m (prim p d e)
   found-prim a u o c g m h l p d e t q r part next =
       let z = started-starts a o c int_type int_type t 0 in
       let y = r.own in
@@ -276,7 +276,7 @@ module _ (tops : List TopLevel) (schemes : List TopScheme) (known : AreSchemesOf
 
   found-bracket : (a : Assignment) (u o c : ℕ) (g : List Slot) (h : List Entry) (k : ℕ) (e : Expression) (t : TermType)
       → Ready a u o c g live h live (code_type k t)
-      → Part o (o + 1) (c + 1) g (under c) h (under k) e t → Found a u o c g live (bracket e)
+      → Part o (o + 1) (c + 1) g (under c) h (under k) e t → SatisfiedAt a u o c g live (bracket e)
   found-bracket a u o c g h k e t r part =
       let z = started-starts a o c t t t k in
       let y = r.own in
@@ -290,7 +290,7 @@ module _ (tops : List TopLevel) (schemes : List TopScheme) (known : AreSchemesOf
 
   found-escape : (a : Assignment) (u o c : ℕ) (g : List Slot) (d : ℕ) (h : List Entry) (k : ℕ) (e : Expression)
       (t : TermType) → Ready a u o c g (under d) h (under k) t
-      → Part o (o + 1) c g live h live e (code_type k t) → Found a u o c g (under d) (escape e)
+      → Part o (o + 1) c g live h live e (code_type k t) → SatisfiedAt a u o c g (under d) (escape e)
   found-escape a u o c g d h k e t r part =
       let z = started-starts a o c (code_type k t) t t 0 in
       let y = r.own in
@@ -305,7 +305,7 @@ module _ (tops : List TopLevel) (schemes : List TopScheme) (known : AreSchemesOf
 
   found-run : (a : Assignment) (u o c : ℕ) (g : List Slot) (h : List Entry) (k : KernelType) (e : Expression)
       (t : TermType) → t ≡ kernel_type k → Ready a u o c g live h live t
-      → Part o (o + 1) c g live h live e (closed_type t) → Found a u o c g live (run k e)
+      → Part o (o + 1) c g live h live e (closed_type t) → SatisfiedAt a u o c g live (run k e)
   found-run a u o c g h k e t q r part =
       let z = started-starts a o c (closed_type t) t t 0 in
       let y = r.own in
@@ -319,7 +319,7 @@ module _ (tops : List TopLevel) (schemes : List TopScheme) (known : AreSchemesOf
 
   found-close : (a : Assignment) (u o c : ℕ) (g : List Slot) (h : List Entry) (k at : ℕ) (e : Expression) (t : TermType)
       → IsAbsent k h → Ready a u o c g live h live (closed_type t)
-      → Part (o + 1) (o + 2) (c + 1) g live h live e (code_type k t) → Found a u o c g live (close at e)
+      → Part (o + 1) (o + 2) (c + 1) g live h live e (code_type k t) → SatisfiedAt a u o c g live (close at e)
   found-close a u o c g h k at e t absent r part =
       let z = started-starts a o c t (code_type k t) t k in
       let y = r.own in
@@ -338,7 +338,7 @@ module _ (tops : List TopLevel) (schemes : List TopScheme) (known : AreSchemesOf
 
   found-open : (a : Assignment) (u o c : ℕ) (g : List Slot) (h : List Entry) (k : ℕ) (e : Expression) (t : TermType)
       → Ready a u o c g live h live (code_type k t)
-      → Part (o + 1) (o + 2) (c + 1) g live h live e (closed_type t) → Found a u o c g live (opened e)
+      → Part (o + 1) (o + 2) (c + 1) g live h live e (closed_type t) → SatisfiedAt a u o c g live (opened e)
   found-open a u o c g h k e t r part =
       let z = started-starts a o c t (closed_type t) t k in
       let y = r.own in
@@ -372,7 +372,8 @@ module _ (tops : List TopLevel) (schemes : List TopScheme) (known : AreSchemesOf
 
   -- each type of a term comes from a solution that goes on from an assignment which is ready for it
   pub typed_solved : {h : List Entry} {l : Level} {e : Expression} {t : TermType} (a : Assignment) (u o c : ℕ)
-      (g : List Slot) (m : Level) → IsSource e → Ready a u o c g m h l t → Typed tops h l e t → Found a u o c g m e
+      (g : List Slot) (m : Level) → IsSource e → Ready a u o c g m h l t → Typed tops h l e t
+      → SatisfiedAt a u o c g m e
   typed_solved a u o c g m w r t_num = still a o c _ ((r.own, tt), tt) (r.gives, tt)
   typed_solved a u o c g m w r t_truth = still a o c _ ((r.own, tt), tt) (r.gives, tt)
   typed_solved a u o c g m w r (t_var {i = i} {t = t} e) = found-var a u o c g m _ _ i t r e

@@ -6,7 +6,7 @@ use Rattle.mw_types.specs.Types.{Assignment, Substitution, after}
 use Rattle.mw_infer.specs.declared.output.Spot.{Spot}
 use Rattle.mw_infer.specs.declared.scope.Binder.{Binder}
 use Rattle.mw_infer.specs.Emitting.{close_of}
-use Rattle.mw_infer.specs.Faults.{Holds, IsOpenHeld}
+use Rattle.mw_infer.specs.Faults.{BindsClassifier, IsOpenHeld}
 use Rattle.mw_infer.specs.Inferring.{entry_of, AreFresh, least}
 use Rattle.mw_infer.specs.ItemEquations.{Slot}
 use Rattle.mw_infer.specs.Views.{slot_of}
@@ -20,7 +20,8 @@ slot-at (x ∷ xs) (suc i) d lt = slot-at xs i d (omega arith)
 
 -- a binder where the classifier stands holds it
 pub held-at : (s : Substitution) (k : ℕ) (xs : List Binder) (i : ℕ) (d : Binder) → i < length xs
-    → (IsAbsentAt k (entry_of (after least s) (slot_of (slice_index_or xs i d))) → ⊥) → Holds s k (map slot_of xs) i
+    → (IsAbsentAt k (entry_of (after least s) (slot_of (slice_index_or xs i d))) → ⊥)
+    → BindsClassifier s k (map slot_of xs) i
 held-at s k xs i d lt h = record { slot = slot_of (slice_index_or xs i d); bound = slot-at xs i d lt; stands = h }
 
 absent-slot : (k : ℕ) (a : Assignment) (g : List Slot) (i : ℕ) (x : Slot) → slice_get g i ≡ Some x
@@ -32,7 +33,7 @@ absent-slot k a (y ∷ g) (suc i) x e h = absent-slot k a g i x e h.1
 -- the first close that is not fresh, with a binder that holds its classifier
 pub open-held : (s : Substitution) (xs : List Spot) (i : ℕ) (x : Spot) (binder : ℕ) → i < length xs → x ≡ get_or xs i x
     → AreFresh (after least s) (map close_of (take i xs))
-    → Holds s (s.classifier x.classifier) (map slot_of x.scope.items) binder
+    → BindsClassifier s (s.classifier x.classifier) (map slot_of x.scope.items) binder
     → IsOpenHeld s (map close_of xs) x.at binder
 open-held s xs i x binder lt e f h = record {
   close = close_of x;

@@ -19,7 +19,7 @@ use Rattle.mw_infer.specs.declared.faults.PartFault.{PartFault}
 use Rattle.mw_infer.specs.declared.faults.PartFault.TheVariants.{Equations, Close as Closes}
 
 -- a binder in whose type or level the classifier stands, with the least types for what the substitution leaves open
-pub record Holds (s : Substitution) (classifier : ℕ) (scope : List Slot) (binder : ℕ) : Type 0 where
+pub record BindsClassifier (s : Substitution) (classifier : ℕ) (scope : List Slot) (binder : ℕ) : Type 0 where
   pub slot : Slot
   pub bound : slice_get scope binder ≡ Some slot
   pub stands : IsAbsentAt classifier (entry_of (after least s) slot) → ⊥
@@ -29,7 +29,7 @@ pub record IsOpenHeld (s : Substitution) (xs : List Close) (at binder : ℕ) : T
   pub close : Close
   pub first : IsFirstOpen s xs close
   pub place : at ≡ close.at
-  pub holds : Holds s (s.classifier close.classifier) close.scope binder
+  pub holds : BindsClassifier s (s.classifier close.classifier) close.scope binder
 
 -- with the schemes of its names, a term at its place has its first open close there
 pub record OpensAt (schemes : List TopScheme) (place : Place) (e : Expression) (x : OpenClose) : Type 0 where

@@ -6,7 +6,7 @@ ghost use Rattle.mw_types.specs.Types.{type_of, value};
 ghost use Rattle.mw_types.specs.Solutions.{substitution_of};
 ghost use Rattle.mw_infer.specs.Inferring.{AreFresh, entry_of, least};
 ghost use Rattle.mw_infer.specs.Emitting.{closes_of};
-ghost use Rattle.mw_infer.specs.Faults.{Holds, IsOpenHeld};
+ghost use Rattle.mw_infer.specs.Faults.{BindsClassifier, IsOpenHeld};
 ghost use Rattle.mw_infer.specs.Below.{ClosesBelow, SlotBelow, SlotsBelow};
 ghost use Rattle.mw_infer.specs.Judging.{IsFirstOpenAt, least_of};
 ghost use Rattle.mw_infer.specs.Known.{Knows};
@@ -120,7 +120,7 @@ fn holder(scope: &[Binder], solved: &Solved, classifier: u64) -> Option<usize>
         (map slot_of scope.now) }
     ensures { MatchOption result
         (IsAbsent classifier (map (entry_of (least_of solved.now)) (map slot_of scope.now)))
-        (Holds (substitution_of solved.now) classifier (map slot_of scope.now)) }
+        (BindsClassifier (substitution_of solved.now) classifier (map slot_of scope.now)) }
 {
     for binder in 0..scope.len() {
         if !is_absent_at(scope[binder], solved, &[], classifier) {

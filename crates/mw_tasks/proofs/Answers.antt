@@ -26,7 +26,7 @@ use Rattle.mw_tasks.specs.declared.outcome.Evaluated.TheVariants as x
 use Rattle.mw_tasks.specs.declared.outcome.MainOutcome.{MainOutcome}
 use Rattle.mw_tasks.specs.declared.outcome.MainOutcome.TheVariants as m
 use Rattle.mw_tasks.specs.declared.evaluation.Ended.{Ended}
-use Rattle.mw_tasks.specs.Endings.{EndsAs, IsMeasured}
+use Rattle.mw_tasks.specs.Endings.{IsEvaluation, IsMeasured}
 use Rattle.mw_tasks.specs.TaskOutcomes.{IsItemAnswer, IsItemOutcome, IsMainAnswer, IsMainOutcome, IfCode, IsCodeOf}
 use Rattle.mw_meaning.proofs.GroundValues.{as_ground-value}
 use Rattle.mw_tasks.proofs.MachineEvaluation.{err_is}
@@ -75,24 +75,24 @@ module _ (a : Answer Runs Value) (n : Machine) (y : Outcome) (h : IsOutcome y n 
   main_value v q = value_as a n v (subst (λ y. IsOutcome y n a) q h)
 
 -- a fault is want of memory
-fault_as : (f : KernelFault) (a : Answer Runs Value) → EndsAs (Err f) a
+fault_as : (f : KernelFault) (a : Answer Runs Value) → IsEvaluation (Err f) a
     → IsItemOutcome (Err f) (code_outcome a) × IsMainOutcome (Err f) (value_outcome a)
 fault_as (fault.Memory x) a h = (tt, tt)
 fault_as (fault.Bad d) a h = absurd h
 
 pub item_fails : (result : Result Evaluated KernelFault) (r : Result Ended KernelFault) (a : Answer Runs Value)
     (f : KernelFault)
-    → IsErrAnd result (λ g. g ≡ f) → r ≡ Err f → EndsAs r a → IsItemOutcome result (code_outcome a)
+    → IsErrAnd result (λ g. g ≡ f) → r ≡ Err f → IsEvaluation r a → IsItemOutcome result (code_outcome a)
 item_fails result r a f is q h =
     subst (λ r. IsItemOutcome r (code_outcome a)) (sym (err_is result f is))
-    (fault_as f a (subst (λ r. EndsAs r a) q h)).0
+    (fault_as f a (subst (λ r. IsEvaluation r a) q h)).0
 
 pub main_fails : (result : Result MainOutcome KernelFault) (r : Result Ended KernelFault) (a : Answer Runs Value)
     (f : KernelFault)
-    → IsErrAnd result (λ g. g ≡ f) → r ≡ Err f → EndsAs r a → IsMainOutcome result (value_outcome a)
+    → IsErrAnd result (λ g. g ≡ f) → r ≡ Err f → IsEvaluation r a → IsMainOutcome result (value_outcome a)
 main_fails result r a f is q h =
     subst (λ r. IsMainOutcome r (value_outcome a)) (sym (err_is result f is))
-    (fault_as f a (subst (λ r. EndsAs r a) q h)).1
+    (fault_as f a (subst (λ r. IsEvaluation r a) q h)).1
 
 -- what is measured is the code, within the limits
 code_within : (t : Term) (c : Expression) (b : Bool) → within_limits c ≡ b → IsItemAnswer (x.Code t)

@@ -26,7 +26,7 @@ use Rattle.mw_machine.specs.KernelCalls.{AreSound, prices}
 use Rattle.mw_machine.specs.TurnAnswers.{IsReady, IsTypedOutcome, DriveKeeps, DriveMeans}
 use Rattle.mw_machine.specs.Underway.{IsUnderway, IsMeant}
 use Rattle.mw_tasks.specs.declared.evaluation.Ended.{Ended}
-use Rattle.mw_tasks.specs.Endings.{EndsAs}
+use Rattle.mw_tasks.specs.Endings.{IsEvaluation}
 use Rattle.mw_tasks.specs.TaskOutcomes.{IsKernelItem}
 
 pub item_has_names : (p : PureProgram) (i : ℕ) → IsKernelItem p i → HasNames p (item i) (names_of_items p.items)
@@ -90,7 +90,7 @@ module _ (p : PureProgram) (part : Part) (fuel : ℕ) (m : Machine) (b : Begins 
     whole = means (of names) [] same (b.meant mode kept_runs names has) sound
 
     pub ends_as : (x : Outcome) → r ≡ Ok x
-        → EndsAs (Ok (record { machine = n; outcome = x })) (staged mode names fuel e)
+        → IsEvaluation (Ok (record { machine = n; outcome = x })) (staged mode names fuel e)
     ends_as x q = (subst (λ r. DriveMeans r mode (of names) [] n price old new) q whole).0
 
     pub costs : (x : Outcome) → r ≡ Ok x → new ≤ old + prices price (runs mode names fuel e)
@@ -98,14 +98,14 @@ module _ (p : PureProgram) (part : Part) (fuel : ℕ) (m : Machine) (b : Begins 
 
     -- a fault is want of memory
     faults_as : (f : KernelFault) → DriveMeans (Err f) mode (of names) [] n price old new
-        → EndsAs (Err f) (staged mode names fuel e)
+        → IsEvaluation (Err f) (staged mode names fuel e)
     faults_as (fault.Memory x) h = tt
     faults_as (fault.Bad d) h = absurd h
 
     pub fails_as : (result : Result Ended KernelFault) (f : KernelFault) → IsErrAnd result (λ g. g ≡ f) → r ≡ Err f
-        → EndsAs result (staged mode names fuel e)
+        → IsEvaluation result (staged mode names fuel e)
     fails_as result f is q =
-        subst (λ r. EndsAs r (staged mode names fuel e)) (sym (err_is result f is))
+        subst (λ r. IsEvaluation r (staged mode names fuel e)) (sym (err_is result f is))
         (faults_as f (subst (λ r. DriveMeans r mode (of names) [] n price old new) q whole))
 
 -- main's outcome is typed by main's type alone

@@ -17,10 +17,10 @@ use Rattle.mw_tasks.specs.declared.outcome.Evaluated.TheVariants as outcome
 use Rattle.mw_tasks.specs.TaskOutcomes.{IsItemAnswer}
 
 -- the evaluation ended as the answer says; want of memory says nothing, and a bad answer never comes
-abbrev pub EndsAs : Result Ended KernelFault → Answer Runs Value → Type 0
-EndsAs (Ok ended) a = IsOutcome ended.outcome ended.machine a
-EndsAs (Err (fault.Memory e)) a = Unit {0}
-EndsAs (Err (fault.Bad d)) a = ⊥
+abbrev pub IsEvaluation : Result Ended KernelFault → Answer Runs Value → Type 0
+IsEvaluation (Ok ended) a = IsOutcome ended.outcome ended.machine a
+IsEvaluation (Err (fault.Memory e)) a = Unit {0}
+IsEvaluation (Err (fault.Bad d)) a = ⊥
 
 -- the outcome is the code, where it is within the limits
 abbrev pub IsMeasured : Evaluated → Expression → Type 0

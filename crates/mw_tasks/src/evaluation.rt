@@ -12,7 +12,7 @@ ghost use Rattle.mw_machine.specs.KernelCalls.{AreSound, IsNewlyBad, prices};
 ghost use Rattle.mw_machine.specs.Evaluations.{item, main, IsPart, HasNames, term_of};
 ghost use Rattle.mw_machine.specs.CodesInPlace.{expressions_of};
 ghost use Rattle.mw_machine.specs.TurnAnswers.{IsTypedOutcome, IfOpenEnd};
-ghost use Rattle.mw_tasks.specs.Endings.{EndsAs};
+ghost use Rattle.mw_tasks.specs.Endings.{IsEvaluation};
 
 use mw_machine::{KernelFault, Kernels, Machine, Outcome};
 use mw_term::{Program, Term};
@@ -40,7 +40,7 @@ pub(crate) fn evaluate<K: Kernels>(
     ensures means { let p = program_of program.now in (i : ℕ) (names : List Value)
         → IsPart p (item i) (expression_of body.now) → HasNames p (item i) names
         → AreSound (K.sound kernels.old) (runs (K.mode kernels.old) names fuel (term_of p (item i)))
-        → EndsAs result (staged (K.mode kernels.old) names fuel (term_of p (item i))) }
+        → IsEvaluation result (staged (K.mode kernels.old) names fuel (term_of p (item i))) }
     ensures cost { let p = program_of program.now in (i : ℕ) (names : List Value)
         → IsPart p (item i) (expression_of body.now) → HasNames p (item i) names
         → AreSound (K.sound kernels.old) (runs (K.mode kernels.old) names fuel (term_of p (item i)))
@@ -75,7 +75,7 @@ pub(crate) fn evaluate_with_codes<'c, K: Kernels>(
     ensures means { let names =
         names_of_main (program_of program.now).items (expressions_of codes.now) in
         AreSound (K.sound kernels.old) (runs (K.mode kernels.old) names fuel (program_of program.now).body)
-        → EndsAs result (staged (K.mode kernels.old) names fuel (program_of program.now).body) }
+        → IsEvaluation result (staged (K.mode kernels.old) names fuel (program_of program.now).body) }
     ensures cost { let names =
         names_of_main (program_of program.now).items (expressions_of codes.now) in
         AreSound (K.sound kernels.old) (runs (K.mode kernels.old) names fuel (program_of program.now).body)

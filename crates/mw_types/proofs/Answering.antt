@@ -8,7 +8,7 @@ use Rattle.mw_types.specs.Types.{type_of, Assignment, value, nodes, Substitution
 use Rattle.mw_types.specs.Equations.{TypeEquation, AllWithin, Solves, Agree, MostGeneral, IsSmall, StaysWithin, Fine}
 use Rattle.mw_types.specs.Equations.{IsPrincipalType}
 use Rattle.mw_types.specs.Forest.{Low, Leads, here, up}
-use Rattle.mw_types.specs.Holds.{IsShaped, Means, Sound, Inside}
+use Rattle.mw_types.specs.Satisfying.{IsShaped, Means, Sound, Inside}
 use Rattle.mw_types.specs.Stands.{Stands, Names, s_up, s_free, s_int, s_bool, s_pair, s_arrow, s_code, s_closed}
 use Rattle.mw_types.specs.Solutions.{Solution}
 use Rattle.mw_types.specs.Walks.{AllSized}

@@ -57,12 +57,12 @@ pub record General (es : List TypeEquation) (s : Substitution) : Type 0 where
   pub sound : (b : Assignment) → Solves (after b s) es
   pub keeps : (a : Assignment) → Solves a es → Same a (after a s)
 
-abbrev pub Found : List TypeEquation → Type 0
-Found es = (s : Substitution) × General es s
+abbrev pub HasGeneral : List TypeEquation → Type 0
+HasGeneral es = (s : Substitution) × General es s
 
 -- equations have a most general solution, or none
 abbrev pub Decided : List TypeEquation → Type 0
-Decided es = Found es ⊎ (Solvable es → ⊥)
+Decided es = HasGeneral es ⊎ (Solvable es → ⊥)
 
 -- the same solutions
 pub turn : (es fs : List TypeEquation) → ((a : Assignment) → Solves a es → Solves a fs)

@@ -5,7 +5,7 @@ use Rattle.mw_types.specs.Equations.{Agree}
 use Rattle.mw_types.specs.Types.{TypeExpression, int_ty, bool_ty, unknown, pair_ty, function_ty, code_ty, closed_ty}
 use Rattle.mw_types.specs.Types.{Assignment, value, Substitution, after}
 use Rattle.mw_types.specs.Forest.{Low, Same}
-use Rattle.mw_types.specs.Holds.{Meets, Holds, Inside}
+use Rattle.mw_types.specs.Satisfying.{Meets, Satisfies, Inside}
 use Rattle.mw_types.specs.Stands.{Settled, Stands, s_up, s_free, s_int, s_bool, s_pair, s_arrow, s_code, s_closed}
 use Rattle.mw_types.specs.declared.state.Shape.{Shape}
 use Rattle.mw_types.specs.declared.state.Shape.TheVariants.{Free, Int, Bool, Pair, Arrow, Code, Closed}
@@ -103,7 +103,7 @@ module _ (ps : List ℕ) (hs : List Shape) (cs : List ℕ) (s : Substitution) (l
   below b i (Closed r) n v = ap (value b) v.1 ∙ rw (unique (settled.each r n) v.2) refl
 
   -- whatever follows the solution meets the state
-  pub settled_sound : (b : Assignment) → Holds ps hs cs [] (after b s)
+  pub settled_sound : (b : Assignment) → Satisfies ps hs cs [] (after b s)
   settled_sound b = record {
     types = λ i lt. elim (is (slice_index_or ps i 0) i) [
       | same e ↦ ap (λ x. value b (s.ty x)) (sym e)
@@ -123,7 +123,7 @@ module _ (ps : List ℕ) (hs : List Shape) (cs : List ℕ) (s : Substitution) (l
   }
 
   -- and each solution is what follows it, by itself
-  pub settled_general : (a : Assignment) → Holds ps hs cs [] a → Agree (length ps) (length cs) a (after a s)
+  pub settled_general : (a : Assignment) → Satisfies ps hs cs [] a → Agree (length ps) (length cs) a (after a s)
   settled_general a h = record {
     types = λ u lt.
         sym (stands_value ps hs cs s.classifier a h.types h.shapes (settled.names.own a.classifier h.classifiers) inside

@@ -8,7 +8,7 @@ use Rattle.mw_types.specs.Equations.{Agree}
 use Rattle.mw_types.specs.Grows.{Grew}
 use Rattle.mw_types.specs.Types.{TypeExpression, pair_ty, function_ty, code_ty, closed_ty, Assignment, value}
 use Rattle.mw_types.specs.Forest.{Low}
-use Rattle.mw_types.specs.Holds.{IsShaped, Meets, Waits, WaitsInside, Means, Inside, Sound}
+use Rattle.mw_types.specs.Satisfying.{IsShaped, Meets, Waits, WaitsInside, Means, Inside, Sound}
 use Rattle.mw_types.specs.declared.state.Shape.{Shape}
 use Rattle.mw_types.specs.declared.state.Shape.TheVariants.{Free, Int, Bool, Pair, Arrow, Code, Closed}
 use Rattle.mw_types.specs.declared.state.Pending.{Pending}

@@ -8,7 +8,7 @@ use Rattle.mw_types.specs.Equations.{TypeEquation, equations_of, equation_of}
 use Rattle.mw_types.specs.Answering.{Ready}
 use Rattle.mw_types.specs.Fronts.{Small, UnsolvableAt, TooBigAt}
 use Rattle.mw_types.specs.Judged.{AreAlone, Judges, JudgesFront, Halved, Blank, Stated, StatesFront}
-use Rattle.mw_types.specs.Holds.{IsCopy}
+use Rattle.mw_types.specs.Satisfying.{IsCopy}
 use Rattle.mw_types.specs.declared.state.State.{State}
 use Rattle.mw_types.specs.declared.state.Shape.{Shape}
 use Rattle.mw_types.specs.declared.state.Shape.TheVariants.{Free}

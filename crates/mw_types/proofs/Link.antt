@@ -4,7 +4,7 @@ use Rattle.std.specs.Prelude.{slice_index_or, slice_set}
 use Rattle.mw_term.specs.Types.{TermType}
 use Rattle.mw_types.specs.Types.{Assignment}
 use Rattle.mw_types.specs.Forest.{Low, Same, Leads, here, up}
-use Rattle.mw_types.specs.Holds.{Meets, Holds, joined}
+use Rattle.mw_types.specs.Satisfying.{Meets, Satisfies, joined}
 use Rattle.mw_types.specs.declared.state.Shape.{Shape}
 use Rattle.mw_types.specs.declared.state.Shape.TheVariants.{Free}
 use Rattle.mw_types.specs.declared.state.Pending.{Pending}
@@ -57,7 +57,8 @@ module _ (ps : List ℕ) (hs : List Shape) (cs : List ℕ) (ws : List Pending) (
   rest_shape : (i : ℕ) → low ≢ i → high ≢ i → slice_index_or (joined hs high low h) i Free ≡ slice_index_or hs i Free
   rest_shape i n m = get_other (slice_set hs high Free) low i h Free n ∙ get_other hs high i Free Free m
 
-  pub link : Holds ps hs cs ws a → a.ty low ≡ a.ty high → Holds (slice_set ps high low) (joined hs high low h) cs ws a
+  pub link : Satisfies ps hs cs ws a → a.ty low ≡ a.ty high → Satisfies (slice_set ps high low) (joined hs high low h)
+      cs ws a
       × extra
   link s e =
       let two = both.to (a.ty low) (s.shapes low) (rw e (s.shapes high)) in (
@@ -76,7 +77,7 @@ module _ (ps : List ℕ) (hs : List Shape) (cs : List ℕ) (ws : List Pending) (
         two.1,
       )
 
-  pub unlink : Holds (slice_set ps high low) (joined hs high low h) cs ws a → extra → Holds ps hs cs ws a
+  pub unlink : Satisfies (slice_set ps high low) (joined hs high low h) cs ws a → extra → Satisfies ps hs cs ws a
       × (a.ty low ≡ a.ty high)
   unlink s x =
       let e = sym (set_same ps a.ty high low lt s.types) in

@@ -7,7 +7,7 @@ use Rattle.std.specs.Prelude.{slice_index_or}
 use Rattle.mw_types.specs.Equations.{Agree}
 use Rattle.mw_types.specs.Types.{TypeExpression, int_ty, Assignment, nodes, Substitution, after}
 use Rattle.mw_types.specs.Forest.{Low, Same}
-use Rattle.mw_types.specs.Holds.{Waits, Means, Sound}
+use Rattle.mw_types.specs.Satisfying.{Waits, Means, Sound}
 use Rattle.mw_types.specs.Stands.{Stands, Names, Settled}
 use Rattle.mw_types.specs.Walks.{AllSized}
 use Rattle.mw_types.specs.declared.state.State.{State}

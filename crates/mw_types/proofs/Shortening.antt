@@ -2,9 +2,9 @@
 use Rattle.std.proofs.Common.{◌≡◌, ◌≢◌, ℕ, ◌≤◌, ◌<◌, List, length, ap, sym, ◌∙◌, arith}
 use Rattle.std.specs.Prelude.{slice_index_or, slice_set}
 use Rattle.mw_types.specs.Forest.{Same, Joins}
-use Rattle.mw_types.specs.Holds.{Sound, Step, Never}
+use Rattle.mw_types.specs.Satisfying.{Sound, Step, Never}
 use Rattle.mw_types.specs.declared.state.State.{State}
-use Rattle.mw_types.specs.Shorter.{Shorter, Found}
+use Rattle.mw_types.specs.Shorter.{Shorter, FindsRoot}
 use Rattle.mw_types.proofs.Lists.{same, other, is, get_other, get_here, set_length}
 use Rattle.mw_types.proofs.Link.{low_set, same_set, same_unset, set_same, halve_to, halve_from}
 
@@ -76,12 +76,13 @@ shorter_step s t from at p h f g w = record {
 }
 
 pub found : (s t : State) (from at : ℕ) → Sound s → Shorter s.parent.items t.parent.items from at → t.shape.items
-    ≡ s.shape.items → t.classifier.items ≡ s.classifier.items → t.waiting.items ≡ s.waiting.items → Found s t from at
+    ≡ s.shape.items → t.classifier.items ≡ s.classifier.items → t.waiting.items ≡ s.waiting.items
+    → FindsRoot s t from at
 found s t from at p h f g w =
     record { step = shorter_step s t from at p h f g w; same = λ a k. h.types_at a.ty k.types }
 
 -- two finds, and a link of what they found
-pub linked_finds : {s t u v : State} {i j one two : ℕ} → Found s t i one → Found t u j two
+pub linked_finds : {s t u v : State} {i j one two : ℕ} → FindsRoot s t i one → FindsRoot t u j two
     → Step u v (λ a. a.ty one ≡ a.ty two) → Step s v (λ a. a.ty i ≡ a.ty j)
 linked_finds p q r = record {
   sound = r.sound;
@@ -93,12 +94,12 @@ linked_finds p q r = record {
       r.back a y (sym (p.same a h) ∙ e ∙ q.same a z);
 }
 
-pub never_finds : {s t u : State} {i j one two : ℕ} → Found s t i one → Found t u j two
+pub never_finds : {s t u : State} {i j one two : ℕ} → FindsRoot s t i one → FindsRoot t u j two
     → Never u (λ a. a.ty one ≡ a.ty two) → Never s (λ a. a.ty i ≡ a.ty j)
 never_finds p q n a h e = let z = p.step.back a h (p.same a h) in let y = q.step.back a z (q.same a z) in
     n a y (sym (p.same a h) ∙ e ∙ q.same a z)
 
-pub found_same : {s t : State} {i r : ℕ} → Found s t i r → Step s t (λ a. Unit {0})
+pub found_same : {s t : State} {i r : ℕ} → FindsRoot s t i r → Step s t (λ a. Unit {0})
 found_same p = record {
   sound = p.step.sound;
   node_count = p.step.node_count;

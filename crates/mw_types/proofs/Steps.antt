@@ -6,8 +6,8 @@ use Rattle.std.specs.Prelude.{slice_index_or, slice_set, IfOk, Result, Ok, Err}
 use Rattle.mw_term.specs.Types.{pair_type, function_type, code_type, closed_type}
 use Rattle.mw_types.specs.Types.{Assignment}
 use Rattle.mw_types.specs.Forest.{Low, Joins}
-use Rattle.mw_types.specs.Holds.{Meets, Waits, joined, Means, Meeting, kept, Extra, ExtraInside, Inside, WaitsInside}
-use Rattle.mw_types.specs.Holds.{Sound, Step, Linked}
+use Rattle.mw_types.specs.Satisfying.{Meets, Waits, joined, Means, Meeting, kept, Extra, ExtraInside, Inside, WaitsInside}
+use Rattle.mw_types.specs.Satisfying.{Sound, Step, Linked}
 use Rattle.mw_types.specs.declared.state.Shape.{Shape}
 use Rattle.mw_types.specs.declared.state.Shape.TheVariants.{Free, Pair, Arrow, Code, Closed}
 use Rattle.mw_types.specs.declared.state.Pending.{Pending}

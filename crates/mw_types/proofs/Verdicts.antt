@@ -8,7 +8,7 @@ use Rattle.mw_types.specs.Grows.{Grew}
 use Rattle.mw_types.specs.Judged.{Stated}
 use Rattle.mw_types.specs.Answering.{Ready}
 use Rattle.mw_types.specs.Types.{TypeExpression, Assignment, value, nodes, size, Substitution, after, Within, type_of}
-use Rattle.mw_types.specs.Holds.{IsShaped, Means, Sound, Step, Never}
+use Rattle.mw_types.specs.Satisfying.{IsShaped, Means, Sound, Step, Never}
 use Rattle.mw_types.specs.Walks.{AllSized}
 use Rattle.mw_types.specs.Stands.{Names}
 use Rattle.mw_types.specs.declared.types.Equation.{Equation}

@@ -6,7 +6,7 @@ use Rattle.std.specs.Prelude.{slice_index_or, slice_set}
 use Rattle.mw_types.specs.Types.{TypeExpression, int_ty, bool_ty, unknown, pair_ty, function_ty, code_ty, closed_ty}
 use Rattle.mw_types.specs.Types.{Assignment, nodes, size}
 use Rattle.mw_types.specs.Forest.{Leads, here, up}
-use Rattle.mw_types.specs.Holds.{Means, Sound, Never}
+use Rattle.mw_types.specs.Satisfying.{Means, Sound, Never}
 use Rattle.mw_types.specs.Stands.{Stands, s_up, s_free, s_int, s_bool, s_pair, s_arrow, s_code, s_closed}
 use Rattle.mw_types.specs.Walks.{Sized, Marked, Above, RootOf, Lower, AllAbove, AllBelow, Falls, In, Walk, fresh}
 use Rattle.mw_types.specs.Walks.{OverOne, OverTwo, Looks}

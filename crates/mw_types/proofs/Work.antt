@@ -2,7 +2,7 @@
 use Rattle.std.proofs.Common.{◌≡◌, ◌≢◌, ℕ, zero, suc, ◌+◌, ◌*◌, ◌≤◌, ◌<◌, List, [], ◌∷◌, ◌++◌, length, refl, ap, sym}
 use Rattle.std.proofs.Common.{◌∙◌, arith}
 use Rattle.std.specs.Prelude.{slice_index_or, slice_set}
-use Rattle.mw_types.specs.Holds.{weight, filled, more, kept, joined, Sound, Step, Never}
+use Rattle.mw_types.specs.Satisfying.{weight, filled, more, kept, joined, Sound, Step, Never}
 use Rattle.mw_types.specs.declared.state.Shape.{Shape}
 use Rattle.mw_types.specs.declared.state.Shape.TheVariants.{Free}
 use Rattle.mw_types.specs.declared.state.Pending.{Pending}

@@ -2,7 +2,7 @@
 use Rattle.std.specs.Prelude.{◌≡◌, ◌≤◌, length}
 use Rattle.mw_types.specs.Equations.{Agree}
 use Rattle.mw_types.specs.Types.{Assignment}
-use Rattle.mw_types.specs.Holds.{Means, Sound}
+use Rattle.mw_types.specs.Satisfying.{Means, Sound}
 use Rattle.mw_types.specs.declared.state.State.{State}
 
 -- the second state has more nodes and says X of them; each solution of the first goes on to one of the second

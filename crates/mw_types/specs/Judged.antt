@@ -3,7 +3,7 @@ use Rattle.std.specs.Prelude.{ℕ, ◌≡◌, ◌≢◌, ◌<◌, ◌≤◌, Lis
 use Rattle.mw_types.specs.Equations.{TypeEquation, Solves, Solvable, Agree, equations_of}
 use Rattle.mw_types.specs.Fronts.{Small, UnsolvableAt, TooBigAt}
 use Rattle.mw_types.specs.Types.{Assignment}
-use Rattle.mw_types.specs.Holds.{IsShaped, Means, Sound}
+use Rattle.mw_types.specs.Satisfying.{IsShaped, Means, Sound}
 use Rattle.mw_types.specs.declared.state.State.{State}
 use Rattle.mw_types.specs.declared.judging.Verdict.{Verdict}
 use Rattle.mw_types.specs.declared.judging.Verdict.TheVariants.{Fine, Clash, Cycle, TooBig}

@@ -4,7 +4,7 @@ pub mod Numbered
 pub mod Equations
 pub mod Fronts
 pub mod Forest
-pub mod Holds
+pub mod Satisfying
 pub mod Stands
 pub mod Walks
 pub mod Grows

@@ -3,7 +3,7 @@ use Rattle.std.specs.Prelude.{ℕ, ◌≡◌, ◌<◌, List, length, slice_index
 use Rattle.mw_term.specs.Types.{TermType}
 use Rattle.mw_types.specs.Types.{Assignment}
 use Rattle.mw_types.specs.Forest.{Low, Same}
-use Rattle.mw_types.specs.Holds.{Means, Step}
+use Rattle.mw_types.specs.Satisfying.{Means, Step}
 use Rattle.mw_types.specs.declared.state.State.{State}
 
 pub record Shorter (ps qs : List ℕ) (from at : ℕ) : Type 0 where
@@ -21,6 +21,6 @@ pub record Shorter (ps qs : List ℕ) (from at : ℕ) : Type 0 where
   pub classes_at : (v : ℕ → ℕ) → Same ps v → v from ≡ v at
 
 -- a find: the state says the same, and a node has the value of its representative
-pub record Found (s t : State) (i r : ℕ) : Type 0 where
+pub record FindsRoot (s t : State) (i r : ℕ) : Type 0 where
   pub step : Step s t (λ a. a.ty i ≡ a.ty r)
   pub same : (a : Assignment) → Means s a → a.ty i ≡ a.ty r

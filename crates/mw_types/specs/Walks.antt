@@ -1,13 +1,13 @@
 -- A walk over the classes: sizes of what is done, and a path of classes of which each is above the next.
 use Rattle.std.specs.Prelude.{ℕ, suc, ◌+◌, ◌≡◌, ◌≢◌, ◌<◌, ◌⊎◌, min, List, [], ◌∷◌, length, slice_index_or}
 use Rattle.mw_types.specs.Types.{TypeExpression, Assignment, nodes, size}
-use Rattle.mw_types.specs.Holds.{Means}
+use Rattle.mw_types.specs.Satisfying.{Means}
 use Rattle.mw_types.specs.Stands.{Stands}
 use Rattle.mw_types.specs.declared.state.State.{State}
 use Rattle.mw_types.specs.declared.walk.Mark.{Mark}
 use Rattle.mw_types.specs.declared.walk.Mark.TheVariants.{New, Open, Done}
-use Rattle.mw_types.specs.declared.walk.Found.{Found}
-use Rattle.mw_types.specs.declared.walk.Found.TheVariants.{Size, Root}
+use Rattle.mw_types.specs.declared.walk.Extent.{Extent}
+use Rattle.mw_types.specs.declared.walk.Extent.TheVariants.{Size, Root}
 use Rattle.mw_types.specs.declared.walk.Look.{Look}
 use Rattle.mw_types.specs.declared.walk.Look.TheVariants.{Ready, Down}
 
@@ -31,7 +31,7 @@ pub record RootOf (s : State) (marks : List Mark) (x r : ℕ) : Type 0 where
   pub undone : (n : ℕ) → slice_index_or marks r New ≢ Done n
   pub same : (a : Assignment) → Means s a → a.ty x ≡ a.ty r
 
-abbrev pub Finds : State → List Mark → ℕ → Found → Type 0
+abbrev pub Finds : State → List Mark → ℕ → Extent → Type 0
 Finds s marks x (Size n) = Sized s x n
 Finds s marks x (Root r) = RootOf s marks x r
 

@@ -2,7 +2,7 @@
 
 ghost use Rattle.std.specs.Prelude.{◌≡◌, ◌<◌, ◌≤◌, ℕ, List, length, slice_get, slice_index_or, Some, IfOk};
 ghost use Rattle.mw_types.specs.Forest.{Low};
-ghost use Rattle.mw_types.specs.Holds.{Sound};
+ghost use Rattle.mw_types.specs.Satisfying.{Sound};
 ghost use Rattle.mw_types.specs.Types.{type_of};
 ghost use Rattle.mw_types.specs.Answering.{Answers, HasRoom, IsName, NamedTo, RootAt, StandsFor, StandsForOne, name_in};
 

@@ -3,7 +3,7 @@
 ghost use Rattle.std.specs.Prelude.{◌+◌, ◌≡◌, ◌≢◌, ◌<◌, ◌≤◌, length, IfOk};
 ghost use Rattle.mw_types.specs.Grows.{Grew};
 ghost use Rattle.mw_types.specs.Types.{value, type_of, Within};
-ghost use Rattle.mw_types.specs.Holds.{StaysShaped, Sound, Inside, Meets};
+ghost use Rattle.mw_types.specs.Satisfying.{StaysShaped, Sound, Inside, Meets};
 
 use crate::state::{Shape, State};
 use crate::types::Ty;

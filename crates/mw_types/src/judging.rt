@@ -5,7 +5,7 @@ ghost use Rattle.mw_types.specs.Equations.{equations_of, AllWithin};
 ghost use Rattle.mw_types.specs.Answering.{Ready};
 ghost use Rattle.mw_types.specs.Judged.{AreAlone, Blank, ClashesBetween, JudgesFront, StatesFront};
 ghost use Rattle.mw_types.specs.Types.{Assignment};
-ghost use Rattle.mw_types.specs.Holds.{Sound, Means, nodes_in, classifiers_in};
+ghost use Rattle.mw_types.specs.Satisfying.{Sound, Means, nodes_in, classifiers_in};
 
 use crate::answer::MOST_NODES;
 use crate::build::add;

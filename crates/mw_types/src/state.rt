@@ -2,9 +2,9 @@
 
 ghost use Rattle.std.specs.Prelude.{ℕ, ◌+◌, ◌*◌, ◌≡◌, ◌≢◌, [], ◌≤◌, ◌<◌, length, slice_index_or, IfOk, IsTrue, IsFalse};
 ghost use Rattle.mw_types.specs.Forest.{Low, Leads};
-ghost use Rattle.mw_types.specs.Holds.{Meeting, shape_at, Inside, ExtraInside, kept, Sound, Step, Linked, Never};
-ghost use Rattle.mw_types.specs.Holds.{IsCopy, weight, more, work};
-ghost use Rattle.mw_types.specs.Shorter.{Found};
+ghost use Rattle.mw_types.specs.Satisfying.{Meeting, shape_at, Inside, ExtraInside, kept, Sound, Step, Linked, Never};
+ghost use Rattle.mw_types.specs.Satisfying.{IsCopy, weight, more, work};
+ghost use Rattle.mw_types.specs.Shorter.{FindsRoot};
 
 use crate::ways::find_halving;
 use std::alloc::{AllocError, Global};
@@ -80,7 +80,8 @@ pub fn class_shape(state: &State, root: usize) -> Shape
     requires sound { Sound state.now }
     requires inside { root < length state.now.parent.items }
     ensures shape { result ≡ shape_at state.now root }
-    ensures inside { Inside (length state.now.parent.items) (length state.now.classifier.items) result }
+    ensures inside { Inside (length state.now.parent.items) (length state.now.classifier.items)
+        result }
 {
     state.shape[root]
 }
@@ -144,7 +145,7 @@ pub fn merge(state: &mut State, i: usize, j: usize) -> Result<bool, AllocError>
 fn seek(state: &mut State, node: usize) -> usize
     requires sound { Sound state.old }
     requires inside { node < length state.old.parent.items }
-    ensures found { Found state.old state.new node result }
+    ensures found { FindsRoot state.old state.new node result }
     ensures inside { result < length state.new.parent.items }
     ensures root { slice_index_or state.new.parent.items result 0 ≡ result }
     ensures roots { (i : ℕ) → slice_index_or state.old.parent.items i 0 ≡ i

@@ -2,7 +2,7 @@
 
 ghost use Rattle.std.specs.Prelude.{ℕ, [], ◌≡◌, ◌≢◌, ◌<◌, length, slice_index_or, IfSome, IfNone, IfOk, IsTrue};
 ghost use Rattle.std.specs.Prelude.{IsFalse, ◌↔◌};
-ghost use Rattle.mw_types.specs.Holds.{Sound, Never};
+ghost use Rattle.mw_types.specs.Satisfying.{Sound, Never};
 ghost use Rattle.mw_types.specs.Walks.{Sized, SomeSized, Marked, Finds, Looks, Walk, fresh, AllSized, AllNew};
 ghost use Rattle.mw_types.specs.Walks.{OverOne, OverTwo};
 
@@ -20,7 +20,7 @@ pub enum Mark {
 
 /// A class: its size, or its representative where it is not done.
 #[derive(Clone, Copy)]
-pub enum Found {
+pub enum Extent {
     Size(u64),
     Root(usize),
 }
@@ -33,7 +33,7 @@ pub enum Look {
 }
 
 // A node's class.
-fn below(state: &State, marks: &[Mark], node: usize) -> Found
+fn below(state: &State, marks: &[Mark], node: usize) -> Extent
     requires sound { Sound state.now }
     requires marked { Marked state.now marks.now }
     requires inside { node < length state.now.parent.items }
@@ -41,9 +41,9 @@ fn below(state: &State, marks: &[Mark], node: usize) -> Found
 {
     let root = find(state.parent.as_slice(), node);
     match marks[root] {
-        Mark::Done(size) => Found::Size(size),
-        Mark::New => Found::Root(root),
-        Mark::Open => Found::Root(root),
+        Mark::Done(size) => Extent::Size(size),
+        Mark::New => Extent::Root(root),
+        Mark::Open => Extent::Root(root),
     }
 }
 
@@ -55,8 +55,8 @@ fn over_one(state: &State, marks: &[Mark], node: usize) -> Look
     ensures { OverOne state.now marks.now node result }
 {
     match below(state, marks, node) {
-        Found::Root(root) => Look::Down(root),
-        Found::Size(n) => Look::Ready(n.saturating_add(1).min(10001)),
+        Extent::Root(root) => Look::Down(root),
+        Extent::Size(n) => Look::Ready(n.saturating_add(1).min(10001)),
     }
 }
 
@@ -69,10 +69,10 @@ fn over_two(state: &State, marks: &[Mark], left: usize, right: usize) -> Look
     ensures { OverTwo state.now marks.now left right result }
 {
     match below(state, marks, left) {
-        Found::Root(root) => Look::Down(root),
-        Found::Size(n) => match below(state, marks, right) {
-            Found::Root(root) => Look::Down(root),
-            Found::Size(m) => Look::Ready(n.saturating_add(m).saturating_add(1).min(10001)),
+        Extent::Root(root) => Look::Down(root),
+        Extent::Size(n) => match below(state, marks, right) {
+            Extent::Root(root) => Look::Down(root),
+            Extent::Size(m) => Look::Ready(n.saturating_add(m).saturating_add(1).min(10001)),
         },
     }
 }

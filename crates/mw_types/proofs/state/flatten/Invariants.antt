@@ -1,5 +1,5 @@
 use Rattle.std.proofs.Common.{◌≡◌}
-use Rattle.mw_types.specs.Holds.{Step}
+use Rattle.mw_types.specs.Satisfying.{Step}
 use Rattle.mw_types.proofs.state.flatten.Given as goal
 
 abbrev pub invariant-loop-node : goal.invariant-loop-node

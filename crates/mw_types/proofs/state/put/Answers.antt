@@ -1,5 +1,5 @@
 use Rattle.std.proofs.Common.{refl, ap, arith, length}
-use Rattle.mw_types.specs.Holds.{joined}
+use Rattle.mw_types.specs.Satisfying.{joined}
 use Rattle.mw_types.proofs.Steps.{put_linked}
 use Rattle.mw_types.proofs.Work.{put_work}
 use Rattle.mw_types.proofs.state.put.Goals as goal

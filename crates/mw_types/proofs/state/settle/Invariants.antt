@@ -1,4 +1,4 @@
-use Rattle.mw_types.specs.Holds.{Step, work}
+use Rattle.mw_types.specs.Satisfying.{Step, work}
 use Rattle.mw_types.proofs.state.settle.Given as goal
 
 abbrev pub invariant-loop-wait : goal.invariant-loop-wait

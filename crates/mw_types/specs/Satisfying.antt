@@ -45,7 +45,7 @@ abbrev pub Waits : List Pending → Assignment → Type 0
 Waits [] a = Unit {0}
 Waits (w ∷ ws) a = (a.ty w.left ≡ a.ty w.right) × Waits ws a
 
-pub record Holds (ps : List ℕ) (hs : List Shape) (cs : List ℕ) (ws : List Pending) (a : Assignment) : Type 0 where
+pub record Satisfies (ps : List ℕ) (hs : List Shape) (cs : List ℕ) (ws : List Pending) (a : Assignment) : Type 0 where
   pub types : Same ps a.ty
   pub classifiers : Same cs a.classifier
   pub shapes : (i : ℕ) → Meets (slice_index_or hs i Free) (a.ty i) a
@@ -63,7 +63,7 @@ shape_at s i = slice_index_or s.shape.items i Free
 
 -- an assignment to the nodes meets all that the state says
 abbrev pub Means : State → Assignment → Type 0
-Means s a = Holds s.parent.items s.shape.items s.classifier.items s.waiting.items a
+Means s a = Satisfies s.parent.items s.shape.items s.classifier.items s.waiting.items a
 
 -- the shapes after two classes became one
 abbrev pub joined : List Shape → ℕ → ℕ → Shape → List Shape
