@@ -1,6 +1,6 @@
 -- Which records are bad that end a run.
 use Rattle.std.proofs.Common.{◌≡◌, ◌⊎◌, inl, inr, ℕ, zero, suc, List, [], ◌∷◌, Bool, IsTrue, Option, Some, None, refl}
-use Rattle.std.proofs.Common.{ap, sym}
+use Rattle.std.proofs.Common.{ap, sym, arith}
 use denote.Ref.{Bor}
 use Rattle.std.specs.Prelude.{slice_get}
 use Rattle.mw_term.specs.Terms.{Expression, KernelType, Value, expression_of}
@@ -25,10 +25,7 @@ use Rattle.mw_drive.specs.BadRecords.{IsBadMain, IsBadRecord}
 
 -- an outcome that is code, where it is the meaning's
 code_means : (t : _) (got : _) (a : Outcome Expression) → Answers (Code t got) a → a ≡ came_to (expression_of t)
-code_means t got (came_to c) h = ap came_to (sym h)
-code_means t got (trapped u) h = absurd h
-code_means t got (bounded b) h = absurd h
-code_means t got stuck h = absurd h
+code_means t got a h = grind arith
 
 module _ (mode : Mode) (names : List Value) (fuel : ℕ) (cache : CacheState) where
   -- one of the items begins a wrong run

@@ -43,7 +43,6 @@ use Rattle.mw_drive.specs.Verdicts.{IsVerdictOn}
 use Rattle.mw_drive.specs.Certified.{IsCertified, IsTypingVerdict}
 use Rattle.mw_drive.proofs.Verdicts.{verdict_on}
 use Rattle.mw_drive.proofs.Certificates.{certificate_said, fits_front, fits_whole, typing_on}
-use Rattle.mw_drive.proofs.Options.{some_is_none}
 use Rattle.mw_drive.proofs.RunLemmas.{all_or_some, whole_else}
 
 -- want of memory before anything was written
@@ -62,79 +61,47 @@ makes_no_sample : {word : List ℕ} {parts : List PurePart} {n : ℕ} → Makes 
 makes_no_sample m = elim m [ ]
 
 -- the number of a sample's words is in its range
+number_of : {words : List (List ℕ)} {n : ℕ} → Means words (sample n) → (1 ≤ n) × (n ≤ 100)
+number_of (sample_command h) = (h.low, h.high)
+number_of (parts_command are m) = absurd (makes_no_sample m)
+
 pub sample_range : {words : List (List ℕ)} (command : PureCommand) (n : ℕ) → Means words command → command ≡ sample n
     → (1 ≤ n) × (n ≤ 100)
-sample_range command n (sample_command h) e = same_number h e
-  where
-    same_number : {word : List ℕ} {k : ℕ} → IsNumber 100 word k → sample k ≡ sample n → (1 ≤ n) × (n ≤ 100)
-    same_number {k = k} h e = let same : k ≡ n = cc in rw (← same) (h.low, h.high)
-sample_range command n (wat_command file) e = absurd (cc)
-sample_range command n (check_command file) e = absurd (cc)
-sample_range command n (cert_command file) e = absurd (cc)
-sample_range command n (recheck_command first second) e = absurd (cc)
-sample_range command n (parts_command {word = word} {parts = parts} h m) e =
-    absurd (makes_no_sample (subst (Makes word parts) e m))
+sample_range {words} command n means e = number_of (subst (Means words) e means)
 
 -- a run's words give it workers
 some_workers : {parts : List PurePart} {n : ℕ} → IsNumberOf (codes "--workers") 64 4 parts n → 1 ≤ n
 some_workers (not_named none) = omega arith
 some_workers (named_once named is) = is.low
 
+workers_of_run : {words : List (List ℕ)} {workers fuel : ℕ} {simplify : Bool} {cache : Option (List ℕ)}
+    {file : List ℕ} → Means words (run workers fuel simplify cache file) → 1 ≤ workers
+workers_of_run (parts_command words (run_of only are units switch path is)) = some_workers are
+
 pub run_workers : {words : List (List ℕ)} (command : PureCommand) (workers fuel : ℕ) (simplify : Bool)
     (cache : Option (List ℕ)) (file : List ℕ) → Means words command
     → command ≡ run workers fuel simplify cache file → 1 ≤ workers
-run_workers command workers fuel simplify cache file (sample_command h) e = absurd (cc)
-run_workers command workers fuel simplify cache file (wat_command is) e = absurd (cc)
-run_workers command workers fuel simplify cache file (check_command is) e = absurd (cc)
-run_workers command workers fuel simplify cache file (cert_command is) e = absurd (cc)
-run_workers command workers fuel simplify cache file (recheck_command first second) e = absurd (cc)
-run_workers command workers fuel simplify cache file (parts_command are m) e = of_run m e
-  where
-    of_run : {word : List ℕ} {parts : List PurePart} {c : PureCommand} → Makes word parts c
-        → c ≡ run workers fuel simplify cache file → 1 ≤ workers
-    of_run (run_of {workers = n} only are units switch path is) e =
-        let same : n ≡ workers = cc in rw (← same) (some_workers are)
-    of_run (erased_of only units is) e = absurd (cc)
-    of_run (link_of only are units is) e = absurd (cc)
-    of_run (migrate_of only path no_file) e = absurd (cc)
+run_workers {words} command workers fuel simplify cache file means e = workers_of_run (subst (Means words) e means)
+
+workers_of_link : {words : List (List ℕ)} {workers fuel : ℕ} {file : List ℕ} → Means words (link workers fuel file)
+    → 1 ≤ workers
+workers_of_link (parts_command words (link_of only are units is)) = some_workers are
 
 pub link_workers : {words : List (List ℕ)} (command : PureCommand) (workers fuel : ℕ) (file : List ℕ)
     → Means words command → command ≡ link workers fuel file → 1 ≤ workers
-link_workers command workers fuel file (sample_command h) e = absurd (cc)
-link_workers command workers fuel file (wat_command is) e = absurd (cc)
-link_workers command workers fuel file (check_command is) e = absurd (cc)
-link_workers command workers fuel file (cert_command is) e = absurd (cc)
-link_workers command workers fuel file (recheck_command first second) e = absurd (cc)
-link_workers command workers fuel file (parts_command are m) e = of_link m e
-  where
-    of_link : {word : List ℕ} {parts : List PurePart} {c : PureCommand} → Makes word parts c
-        → c ≡ link workers fuel file → 1 ≤ workers
-    of_link (run_of only are units switch path is) e = absurd (cc)
-    of_link (erased_of only units is) e = absurd (cc)
-    of_link (link_of {workers = n} only are units is) e =
-        let same : n ≡ workers = cc in rw (← same) (some_workers are)
-    of_link (migrate_of only path no_file) e = absurd (cc)
-
-no_refusal : {r : _} → Answer ≡ Refused r → ⊥
-no_refusal e = cc
-
-no_trap : {t : _} → Answer ≡ Trap t → ⊥
-no_trap e = cc
-
-no_bound : {l : _} → Answer ≡ Bound l → ⊥
-no_bound e = cc
+link_workers {words} command workers fuel file means e = workers_of_link (subst (Means words) e means)
 
 -- a run with an answer's status answered
 answer_of : {bytes : List ℕ} {fuel : ℕ} {shown : Shown} {n : Meaning} → IsMeaning (running bytes fuel shown) n
     → Answer ≡ status_of n
     → (kernels : List Kernel) × (v : PureGroundValue) × IsMeaning (running bytes fuel shown)
     (ran shown kernels (answered v))
-answer_of (of_refusal r) e = absurd (no_refusal e)
-answer_of (of_types p read fault) e = absurd (no_refusal e)
+answer_of (of_refusal r) e = absurd (cc)
+answer_of (of_types p read fault) e = absurd (cc)
 answer_of (of_program {kernels = kernels} {e = answered v} p read accepted is) e =
     (kernels, v, of_program p read accepted is)
-answer_of (of_program {e = trapped t name} p read accepted is) e = absurd (no_trap e)
-answer_of (of_program {e = bounded l name} p read accepted is) e = absurd (no_bound e)
+answer_of (of_program {e = trapped t name} p read accepted is) e = absurd (cc)
+answer_of (of_program {e = bounded l name} p read accepted is) e = absurd (cc)
 
 -- where the status is an answer, and the erased program answers too, the answer is the erased program's
 erased_answer : (kind : Kind) (shown : Shown) (s : Status) (sink_tells : Bool) (before after : List ℕ) (fuel m : ℕ)
@@ -478,22 +445,19 @@ module _ (s : Status) (tells : Bool) (before after : List ℕ) where
 -- a cache file's name, and what is seen of it
 module _ {X Y : Type 0} (f : X → Y) where
   pub kind_mapped : (o : Option X) → kind_with (option_map f o) ≡ kind_with o
-  kind_mapped None = refl
-  kind_mapped (Some x) = refl
+  kind_mapped o = grind arith
 
   pub carried_mapped : {work : Work} {s : Status} {tells : Bool} {before after : List ℕ} (o : Option X)
       → IsCarriedOut (kind_with o) work s tells before after
       → IsCarriedOut (kind_with (option_map f o)) work s tells before after
-  carried_mapped None carried = carried
-  carried_mapped (Some x) carried = carried
+  carried_mapped {work} {s} {tells} {before} {after} o =
+      subst (λ kind. IsCarriedOut kind work s tells before after) (sym (kind_mapped o))
 
   pub some_mapped : (o : Option X) → IsSome (option_map f o) → IsSome o
-  some_mapped None some = some
-  some_mapped (Some x) some = refl
+  some_mapped o some = grind arith
 
   pub none_mapped : (o : Option X) → IsNone (option_map f o) → IsNone o
-  none_mapped None none = none
-  none_mapped (Some x) none = absurd (some_is_none (f x) none)
+  none_mapped o none = grind arith
 
   pub honest_mapped : {tells : Bool} {held : List ℕ} (o : Option X) → IsHonestCache tells held (option_map f o)
       → IsHonestCache tells held o

@@ -1,5 +1,5 @@
 -- Where a source's program and its erased program both answer, the answers are equal.
-use Rattle.std.proofs.Common.{◌≡◌, ℕ, List, [], ◌∷◌, map, Option, None, Some, refl, sym, ap, ◌∙◌, subst}
+use Rattle.std.proofs.Common.{◌≡◌, ℕ, List, [], ◌∷◌, map, Option, None, Some, refl, sym, ap, ◌∙◌, subst, arith}
 use Rattle.mw_term.specs.Terms.{Expression, Value, KernelType, PureGroundValue}
 use Rattle.mw_term.specs.Programs.{Definition, value as defines, kernel}
 use Rattle.mw_meaning.specs.declared.mode.Mode.{Mode}
@@ -24,10 +24,7 @@ use Rattle.mw_drive.proofs.ErasedEnds.{source_program}
 
 -- main that answered came to the value
 main_came : (o : Outcome PureGroundValue) (v : PureGroundValue) → main_ending o ≡ Some (answered v) → o ≡ came_to v
-main_came (came_to x) v q = let p : x ≡ v = cc in ap came_to p
-main_came (traps t) v q = absurd (cc)
-main_came (bounds l) v q = absurd (cc)
-main_came no_outcome v q = absurd (cc)
+main_came o v q = grind arith
 
 -- items that all gave code, and those that one ended with an answer, which never comes
 with_kernel_gave : (x : List ℕ) (k : KernelType) (c : Expression) (r : ItemsRun) (ks : List Kernel)

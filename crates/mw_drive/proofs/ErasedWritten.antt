@@ -1,5 +1,5 @@
 -- The erased program of an accepted one, as main's evaluation takes it, and how its main ends.
-use Rattle.std.proofs.Common.{◌≡◌, ℕ, zero, suc, List, [], ◌∷◌, map, Some, refl, sym, ap, ◌∙◌, subst}
+use Rattle.std.proofs.Common.{Bool, Result, ◌≡◌, ℕ, zero, suc, List, [], ◌∷◌, map, Some, refl, sym, ap, ◌∙◌, subst}
 use Rattle.std.specs.Prelude.{slice_get}
 use Rattle.mw_term.specs.Terms.{Expression, num, truth, var, glob, fun, fix, app, bind, cond, pair, fst, snd, prim}
 use Rattle.mw_term.specs.SmallTypes.{HasSmallRuns, HasSmallDefinition, HasSmallTypes}
@@ -16,8 +16,16 @@ use Rattle.mw_meaning.specs.ErasureLaws.{AreWithoutStaging, IsWithoutStaging}
 use Rattle.mw_cache.specs.Gots.{CacheState}
 use Rattle.mw_tasks.specs.Phases.{EachKernel}
 use Rattle.mw_drive.specs.Honest.{IsMeant, AreMeant}
-use Rattle.mw_console.specs.Texts.{Ending}
+use Rattle.std.specs.Result.{IsErrAnd}
+use Rattle.mw_console.specs.Texts.{Ending, ending_line, ending_status}
+use Rattle.mw_console.specs.declared.status.Status.{Status}
+use Rattle.mw_term.specs.Typable.{Typable}
+use Rattle.mw_drive.specs.declared.fault.RunFault.{RunFault}
 use Rattle.mw_drive.specs.ProgramMeaning.{main_ending, main_after, erased_ending}
+use Rattle.mw_drive.specs.ProgramRuns.{IsUsual, IsWrittenErased}
+use Rattle.mw_drive.proofs.ErasedEnds.{erased_ends}
+use Rattle.mw_drive.proofs.Faults.{front_written, no_answer, fault_is}
+use Rattle.mw_drive.proofs.Fronts.{grows_nothing}
 
 source_definition : (k : ItemKind) (items : List Definition) → AreSourceItems items
     → AreSourceItems (definition_of k ∷ items)
@@ -85,3 +93,18 @@ pub erased_is : (p q : PureProgram) (fuel : ℕ) (e : Ending) → q ≡ erased_p
 erased_is p q fuel e same h is =
     ap (λ (q : PureProgram). main_ending (main_outcome Plain (names_of_items q.items) fuel q.body)) (sym same)
     ∙ (ap (λ names. main_ending (main_outcome Plain names fuel q.body)) (sym (names_without_codes q.items h.0)) ∙ is)
+
+-- a fault, before anything was written
+pub erased_failed : {fuel : ℕ} (program : Program) (P : RunFault → Type 0) (r : Result Status RunFault) {tells : Bool}
+    {before : List ℕ} → Typable (program_of program) → IsErrAnd r P → ((f : RunFault) → P f → IsUsual f)
+    → IsWrittenErased fuel (program_of program) r tells before before
+erased_failed {fuel} program P r {tells} {before} typable err usual =
+    let e = erased_ends fuel (program_of program) (program_source program) typable in
+    record {
+      ending = e.0;
+      is_run = e.1;
+      is_status = no_answer P r (λ s. s ≡ ending_status e.0) err;
+      usual = fault_is P IsUsual r err usual;
+      writes =
+          front_written P r tells before before (ending_line e.0) err (λ t. grows_nothing before (ending_line e.0));
+    }

@@ -1,6 +1,6 @@
 -- What the cache file of a run holds, from what was opened and kept.
 use Rattle.std.proofs.Common.{◌≡◌, ◌⊎◌, inl, inr, ℕ, List, [], ◌∷◌, map, take, Option, Some, None, IsSome, IsNone, Bool}
-use Rattle.std.proofs.Common.{IsTrue, Result, Ok, Err, IsErr, IfOk, refl, sym, ap, ◌∙◌, subst}
+use Rattle.std.proofs.Common.{IsTrue, Result, Ok, Err, IsErr, IfOk, refl, sym, ap, ◌∙◌, subst, arith}
 use Rattle.std.specs.List.{AllByRecursion}
 use Rattle.std.specs.Result.{IsErrAnd}
 use Rattle.mw_term.specs.declared.refusal.Refusal.{Refusal}
@@ -30,7 +30,6 @@ use Rattle.mw_drive.specs.HeldFiles.{IsStatusAfter, texts_built}
 use Rattle.mw_drive.specs.ProgramRuns.{kernel_of, kernels_of, IsBuilt, HasEnding}
 use Rattle.mw_drive.specs.Running.{kind_with}
 use Rattle.mw_drive.specs.Works.{run_text}
-use Rattle.mw_drive.proofs.Options.{none_is_some, answer_is_fault}
 
 -- the texts of the kernels' modules are those of what is run of their code
 pub texts_are : (mode : Mode) (cache : CacheState) (built : List Built) → AllByRecursion (IsBuilt mode cache) built
@@ -42,31 +41,19 @@ texts_are mode cache (b ∷ built) h =
 
 -- no ending's status says that the file wasn't kept
 pub ending_kept : (e : Ending) → ending_status e ≡ Cache → ⊥
-ending_kept (answered v) is = absurd (cc)
-ending_kept (trapped t name) is = absurd (cc)
-ending_kept (bounded l name) is = absurd (cc)
+ending_kept e is = grind arith
 
 pub opened_read : {tells : Bool} {held : List ℕ} (path : Option (Bor (List ℕ))) (file : CacheFile) (load : LoadState)
     → IsOpened tells held path file load → (count : ℕ) → file ≡ Read count → IsTrue tells → IsReadFile held count load
-opened_read None Absent load opened count is = absurd (cc)
-opened_read None Unread load opened count is = absurd (cc)
-opened_read None (Read n) load opened count is = absurd opened
-opened_read (Some x) Absent load opened count is = absurd opened
-opened_read (Some x) Unread load opened count is = absurd (cc)
-opened_read {tells} {held} (Some x) (Read n) load opened count is =
-    let same : n ≡ count = cc in λ t. subst (λ k. IsReadFile held k load) same (opened t)
+opened_read path file load opened count is told = grind arith
 
 -- a fault before the file was touched
 pub held_failed : (r : Result Status RunFault) (held after : List ℕ) → IsErr r → after ≡ held → IsHeldAfter r held after
-held_failed (Ok s) held after failed same = absurd (answer_is_fault RunFault s failed)
-held_failed (Err (Unwritten fault.Failed)) held after failed same = same
-held_failed (Err (Unwritten (fault.Memory e))) held after failed same = front_stays held after same
-held_failed (Err (Bad d)) held after failed same = same
+held_failed r held after failed same =
+    let front : HasGoodFront held after = front_stays held after same in grind arith
 
 held_ending : (e : Ending) (held after : List ℕ) → IsKeptFile held after [] → IsHeldWith (ending_status e) held after
-held_ending (answered v) held after h = h
-held_ending (trapped t name) held after h = h
-held_ending (bounded l name) held after h = h
+held_ending e held after h = grind arith
 
 module _ (tells : Bool) (held : List ℕ) (path : Option (Bor (List ℕ))) (some : IsSome path) (file : CacheFile)
     (load : LoadState)
@@ -75,42 +62,22 @@ module _ (tells : Bool) (held : List ℕ) (path : Option (Bor (List ℕ))) (some
     (front : (count : ℕ) → file ≡ Read count → HasGoodFront held after) where
   -- whatever ended the keeping
   pub front_kept : HasGoodFront held after
-  front_kept = by_file path file some opened unread front
+  front_kept = by_file path file some opened (λ is. front_stays held after (unread is)) front
     where
-      by_file : (path : Option (Bor (List ℕ))) (file : CacheFile) → IsSome path → IsOpened tells held path file load
-          → (file ≡ Unread → after ≡ held) → ((count : ℕ) → file ≡ Read count → HasGoodFront held after)
-          → HasGoodFront held after
-      by_file None file some opened unread front = absurd (none_is_some (Bor (List ℕ)) some)
-      by_file (Some x) Absent some opened unread front = absurd opened
-      by_file (Some x) Unread some opened unread front = front_stays held after (unread refl)
-      by_file (Some x) (Read n) some opened unread front = front n refl
+      by_file : {Q : Type 0} (path : Option (Bor (List ℕ))) (file : CacheFile) → IsSome path
+          → IsOpened tells held path file load → (file ≡ Unread → Q) → ((count : ℕ) → file ≡ Read count → Q) → Q
+      by_file path file some opened unread front = grind arith
 
   module _ (own s : Status) (ending : HasEnding own) (is : IsStatusAfter file own s) (texts : List (List ℕ))
       (kept : (count : ℕ) → file ≡ Read count → (s ≡ Cache → ⊥) → IsKeptFile held after texts) where
     kept_texts : (s ≡ Cache → ⊥) → IsKeptFile held after texts
-    kept_texts other = by_file path file some opened is kept
-      where
-        by_file : (path : Option (Bor (List ℕ))) (file : CacheFile) → IsSome path → IsOpened tells held path file load
-            → IsStatusAfter file own s
-            → ((count : ℕ) → file ≡ Read count → (s ≡ Cache → ⊥) → IsKeptFile held after texts)
-            → IsKeptFile held after texts
-        by_file None file some opened is kept = absurd (none_is_some (Bor (List ℕ)) some)
-        by_file (Some x) Absent some opened is kept = absurd opened
-        by_file (Some x) Unread some opened is kept = absurd (other is)
-        by_file (Some x) (Read n) some opened is kept = kept n refl other
+    kept_texts other = grind arith
 
     pub texts_kept : IsKeptOf texts (Ok s) held after
     texts_kept = kept_texts
 
     pub status_is : (s ≡ own) ⊎ (s ≡ Cache)
-    status_is = by_file path file some opened is
-      where
-        by_file : (path : Option (Bor (List ℕ))) (file : CacheFile) → IsSome path → IsOpened tells held path file load
-            → IsStatusAfter file own s → (s ≡ own) ⊎ (s ≡ Cache)
-        by_file None file some opened is = absurd (none_is_some (Bor (List ℕ)) some)
-        by_file (Some x) Absent some opened is = absurd opened
-        by_file (Some x) Unread some opened is = inr is
-        by_file (Some x) (Read n) some opened is = is
+    status_is = grind arith
 
     pub held_kept : IsHeldWith s held after
     held_kept = elim status_is [
@@ -134,50 +101,21 @@ end_of tells held (Some x) (Read n) load own s opened (inl same) = inl same
 end_of tells held (Some x) (Read n) load own s opened (inr unkept) = inr (refl, unkept)
 
 -- whatever the status, the file begins with what counted
-pub held_front : (s : Status) (held after : List ℕ) → IsHeldWith s held after → HasGoodFront held after
-held_front Answer held after h = kept_front h
-held_front (Trap t) held after h = kept_front h
-held_front (Bound l) held after h = kept_front h
-held_front Cache held after h = h
-held_front (Memory e) held after h = h
-held_front Usage held after h = front_stays held after h
-held_front (Refused r) held after h = front_stays held after h
-held_front Unreadable held after h = front_stays held after h
-held_front Write held after h = front_stays held after h
-held_front (BadCache d) held after h = front_stays held after h
-held_front BadModule held after h = front_stays held after h
-held_front Invalid held after h = front_stays held after h
-held_front NotTyped held after h = front_stays held after h
-
 migrated_file_front : (held after : List ℕ) → IsMigratedFile held after → HasGoodFront held after
 migrated_file_front held after h =
     front_then held (take h.is.load.good held) after (file_of h.added) h.is.load h.is.is_load refl h.file
 
-migrated_front : (s : Status) (held after : List ℕ) → IsMigratedWith s held after → HasGoodFront held after
-migrated_front Answer held after h = migrated_file_front held after h
-migrated_front Write held after h = front_stays held after h
-migrated_front (Trap t) held after h = h
-migrated_front (Bound l) held after h = h
-migrated_front Cache held after h = h
-migrated_front (Memory e) held after h = h
-migrated_front Usage held after h = h
-migrated_front (Refused r) held after h = h
-migrated_front Unreadable held after h = h
-migrated_front (BadCache d) held after h = h
-migrated_front BadModule held after h = h
-migrated_front Invalid held after h = h
-migrated_front NotTyped held after h = h
-
 pub held_of_run : {X : Type 0} (path : Option X) (s : Status) (held after : List ℕ) → IsHeldWith s held after
     → IsHeldBy (kind_with path) s held after
-held_of_run None s held after h = h
-held_of_run (Some x) s held after h = h
+held_of_run path s held after h = grind arith
 
 by_front : (kind : Kind) (s : Status) (held after : List ℕ) → IsHeldBy kind s held after → HasGoodFront held after
-by_front on_a_file s held after h = held_front s held after h
-by_front over_a_cache s held after h = held_front s held after h
-by_front on_a_number s held after h = held_front s held after h
-by_front on_a_cache s held after h = migrated_front s held after h
+by_front kind s held after h =
+    by_status kind s h (migrated_file_front held after) kept_front (λ front. front) (front_stays held after)
+  where
+    by_status : {Q : Type 0} (kind : Kind) (s : Status) → IsHeldBy kind s held after → (IsMigratedFile held after → Q)
+        → (IsKeptFile held after [] → Q) → (HasGoodFront held after → Q) → (after ≡ held → Q) → Q
+    by_status kind s h migrated kept front same = grind arith
 
 pub front_of : {X : Type 0} (path : Option X) (kind : Kind) (s : Status) (held after : List ℕ)
     → (IsNone path → after ≡ held) → (IsSome path → IsHeldBy kind s held after) → HasGoodFront held after
@@ -187,21 +125,16 @@ front_of (Some x) kind s held after none some = by_front kind s held after (some
 -- what is kept with the status of an ending
 pub kept_ending : (e : Ending) (texts : List (List ℕ)) (held after : List ℕ)
     → IsKeptWith texts (ending_status e) held after → IsKeptFile held after texts
-kept_ending (answered v) texts held after h = h
-kept_ending (trapped t name) texts held after h = h
-kept_ending (bounded l name) texts held after h = h
+kept_ending e texts held after h = grind arith
 
 -- want of memory while the file was kept
 pub held_memory : (r : Result Status RunFault) (e : _) (held after : List ℕ)
     → IsErrAnd r (λ f. f ≡ Unwritten (fault.Memory e)) → HasGoodFront held after → IsHeldAfter r held after
-held_memory (Ok s) e held after h front = absurd h
-held_memory (Err f) e held after h front = subst (λ f. IsHeldAfter (Err f) held after) (sym h) front
+held_memory r e held after h front = grind arith
 
 -- a refusal leaves the file alone
 pub held_refused : (r : Result Status RunFault) (q : Refusal) (held after : List ℕ) → IfOk r (λ s. s ≡ Refused q)
     → after ≡ held
     → IsHeldAfter r held after
-held_refused (Ok s) q held after is same = subst (λ t. IsHeldWith t held after) (sym is) same
-held_refused (Err (Unwritten fault.Failed)) q held after is same = same
-held_refused (Err (Unwritten (fault.Memory e))) q held after is same = front_stays held after same
-held_refused (Err (Bad d)) q held after is same = same
+held_refused r q held after is same =
+    let front : HasGoodFront held after = front_stays held after same in grind arith

@@ -1,5 +1,5 @@
 -- The run of a program's items, from their outcomes.
-use Rattle.std.proofs.Common.{◌≡◌, ℕ, List, [], ◌∷◌, ◌++◌, map, refl, sym, ap, subst}
+use Rattle.std.proofs.Common.{◌≡◌, ℕ, List, [], ◌∷◌, ◌++◌, map, refl, sym, ap, subst, arith}
 use Rattle.mw_term.specs.Terms.{Expression, KernelType, Value, expression_of}
 use Rattle.mw_term.specs.Programs.{Definition, value as defines, kernel, PureProgram, program_of}
 use Rattle.mw_term.specs.declared.program.Program.{Program}
@@ -43,18 +43,7 @@ all_kernels (k ∷ kernels) = ap (with_kernel k.name k.kind k.code) (all_kernels
 
 -- an outcome that is the meaning's
 outcome_is : (o : ItemOutcome) (a : Outcome Expression) → Answers o a → outcome_in o ≡ a
-outcome_is (Code t got) (came_to c) h = ap came_to h
-outcome_is (Code t got) (trapped u) h = absurd h
-outcome_is (Code t got) (bounded b) h = absurd h
-outcome_is (Code t got) stuck h = absurd h
-outcome_is (Trap t) (came_to c) h = absurd h
-outcome_is (Trap t) (trapped u) h = ap trapped h
-outcome_is (Trap t) (bounded b) h = absurd h
-outcome_is (Trap t) stuck h = absurd h
-outcome_is (Bound l) (came_to c) h = absurd h
-outcome_is (Bound l) (trapped u) h = absurd h
-outcome_is (Bound l) (bounded b) h = ap bounded h
-outcome_is (Bound l) stuck h = absurd h
+outcome_is o a h = grind arith
 
 module _ (mode : Mode) (names : List Value) (fuel : ℕ) (cache : CacheState) where
   abbrev AreOf : List Definition → List ItemOutcome → Type 0

@@ -1,10 +1,9 @@
 -- What was written of a program whose kernels were to be linked.
-use Rattle.std.proofs.Common.{◌≡◌, ℕ, List, ◌++◌, Some, Bool, IsTrue, Result, Ok, sym, ap}
+use Rattle.std.proofs.Common.{◌≡◌, ℕ, List, ◌++◌, Some, Bool, IsTrue, Result, Ok, Err, IfOk, sym, ap}
 use Rattle.std.proofs.Common.{◌∙◌}
 use Rattle.std.proofs.Common.{subst}
 use Rattle.std.specs.Prelude.{pos}
 use Rattle.std.specs.Result.{IsErrAnd}
-use Rattle.mw_outside.specs.Count.{GrowsByFront}
 use Rattle.mw_term.specs.Terms.{int}
 use Rattle.mw_term.specs.Programs.{program_of}
 use Rattle.mw_term.specs.Typable.{Typable}
@@ -27,13 +26,15 @@ use Rattle.mw_drive.specs.ItemOutcomes.{outcomes_run}
 use Rattle.mw_drive.specs.ProgramRuns.{IsUsual, HasEnding, link_meaning, IsWrittenLinked}
 use Rattle.mw_drive.specs.Works.{Meaning, joined, unjoined, text_of, status_of}
 use Rattle.mw_drive.proofs.Faults.{front_written, no_answer, fault_is}
+use Rattle.mw_drive.proofs.Fronts.{grows_nothing}
 use Rattle.mw_drive.proofs.LinkedPrograms.{some_link}
 use Rattle.mw_drive.proofs.RunWritten.{phase_is}
 use Rattle.mw_reading.proofs.SourceReadings.{unnamed_program}
 
 -- an answer's status is that of an ending
-pub answer_ends : (s : Status) → s ≡ Answer → HasEnding s
-answer_ends s is = (answered (int (pos 0)), is)
+pub written_ends : (r : Result Status RunFault) → IfOk r (λ s. s ≡ Answer) → IfOk r HasEnding
+written_ends (Ok s) is = (answered (int (pos 0)), is)
+written_ends (Err f) is = tt
 
 module _ (fuel : ℕ) (program : Program) where
   abbrev goes : ItemsRun
@@ -64,27 +65,16 @@ module _ (fuel : ℕ) (program : Program) where
       pub made_linkable : ((ks : List Kernel) → link_run goes ≡ in_one ks → AreLinkable ks) → AreLinkable made
       made_linkable linkable = subst AreLinkable (sym same) (linkable ks (as_found ∙ is))
 
-  -- a fault, after which a front of the text was written
-  pub link_failed : (P : RunFault → Type 0) (r : Result Status RunFault) (tells : Bool) (before after : List ℕ)
-      (m : Meaning) → LinkMeans m → IsErrAnd r P → ((f : RunFault) → P f → IsUsual f)
-      → (IsTrue tells → GrowsByFront before after (text_of m))
-      → IsWrittenLinked fuel (named_program_of program) r tells before after
-  link_failed P r tells before after m is err usual front = record {
-    meaning = m;
-    is_meaning = is;
-    is_status = no_answer P r (λ s. s ≡ status_of m) err;
-    usual = fault_is P IsUsual r err usual;
-    writes = front_written P r tells before after (text_of m) err front;
-  }
-
-  -- the whole text
-  pub link_ended : (s : Status) (tells : Bool) (before after : List ℕ) (m : Meaning) → LinkMeans m → s ≡ status_of m
-      → (IsTrue tells → after ≡ before ++ text_of m)
-      → IsWrittenLinked fuel (named_program_of program) (Ok s) tells before after
-  link_ended s tells before after m is status writes = record {
-    meaning = m;
-    is_meaning = is;
-    is_status = status;
-    usual = tt;
-    writes = writes;
-  }
+-- a fault, before anything was written
+pub link_failed : {fuel : ℕ} (program : Program) (P : RunFault → Type 0) (r : Result Status RunFault) {tells : Bool}
+    {before : List ℕ} → Typable (program_of program) → IsErrAnd r P → ((f : RunFault) → P f → IsUsual f)
+    → IsWrittenLinked fuel (named_program_of program) r tells before before
+link_failed {fuel} program P r {tells} {before} typable err usual =
+    let m = typable_means fuel program typable in
+    record {
+      meaning = m.0;
+      is_meaning = m.1;
+      is_status = no_answer P r (λ s. s ≡ status_of m.0) err;
+      usual = fault_is P IsUsual r err usual;
+      writes = front_written P r tells before before (text_of m.0) err (λ t. grows_nothing before (text_of m.0));
+    }

@@ -60,23 +60,20 @@ drop_none (x ∷ xs) zero le = absurd (omega arith)
 drop_none (x ∷ xs) (suc n) le = drop_none xs n (omega arith)
 
 -- after all items
-pub reaches_all : (p : NamedProgram) (outcomes : List ItemOutcome) (at next : ℕ) (built : List Built)
+pub reaches_all : {p : NamedProgram} {outcomes : List ItemOutcome} {at next : ℕ} {built : List Built}
     → length p.items ≤ at → Reaches p outcomes at next built
     → outcomes_run p.items outcomes ≡ all_gave (kernels_of built)
-reaches_all p outcomes at next built all h =
+reaches_all {p} {outcomes} {at} {next} {built} all h =
     h.run ∙ (ap (λ rest. with_kernels (kernels_of built) (outcomes_run rest (drop next outcomes)))
     (drop_none p.items at all) ∙ all_kernels (kernels_of built))
 
-module _ (p : NamedProgram) (outcomes : List ItemOutcome) (at next : ℕ) (built : List Built) (i : NamedItem)
+module _ {p : NamedProgram} {outcomes : List ItemOutcome} {at next : ℕ} {built : List Built} {i : NamedItem}
     (here : slice_get p.items at ≡ Some i)
     (h : Reaches p outcomes at next built) where
   -- what is left of a program with this item in its place
-  abbrev Rest : (List Definition → List ItemOutcome → Type 0) → Definition → List ItemOutcome → Type 0
-  Rest P d rest = P (d ∷ definitions (drop (at + 1) p.items)) rest
-
   rest_at : (P : List Definition → List ItemOutcome → Type 0) (d : Definition) (rest : List ItemOutcome) → i.is ≡ d
-      → drop next outcomes ≡ rest
-      → P (definitions (drop at p.items)) (drop next outcomes) → Rest P d rest
+      → drop next outcomes ≡ rest → P (definitions (drop at p.items)) (drop next outcomes)
+      → P (d ∷ definitions (drop (at + 1) p.items)) rest
   rest_at P d rest is rest_is h = rw (drop_next p.items at i here, is, rest_is) at h
 
   run_at : (d : Definition) (rest : List ItemOutcome) → i.is ≡ d → drop next outcomes ≡ rest
@@ -84,8 +81,8 @@ module _ (p : NamedProgram) (outcomes : List ItemOutcome) (at next : ℕ) (built
       (item_run i.name d (outcomes_run (drop (at + 1) p.items)) rest)
   run_at d rest is rest_is = rw (drop_next p.items at i here, is, rest_is) at h.run
 
-  pub reaches_let : (e : Expression) → i.is ≡ defines e → Reaches p outcomes (at + 1) next built
-  reaches_let e is = record {
+  pub reaches_let : {e : Expression} → i.is ≡ defines e → Reaches p outcomes (at + 1) next built
+  reaches_let {e} is = record {
     run = run_at (defines e) (drop next outcomes) is refl;
     each = rest_at HasOneForEach (defines e) (drop next outcomes) is refl h.each;
     placed =
@@ -95,7 +92,7 @@ module _ (p : NamedProgram) (outcomes : List ItemOutcome) (at next : ℕ) (built
     behind = (let n = h.behind in omega arith);
   }
 
-  module _ (k : KernelType) (e : Expression) (is : i.is ≡ kernel k e) where
+  module _ {k : KernelType} {e : Expression} (is : i.is ≡ kernel k e) where
     -- an outcome is there
     pub has_outcome : next < length outcomes
     has_outcome = some_left outcomes next (rest_at HasOneForEach (kernel k e) (drop next outcomes) is refl h.each)
@@ -107,7 +104,7 @@ module _ (p : NamedProgram) (outcomes : List ItemOutcome) (at next : ℕ) (built
         some_left (o ∷ xs) zero x = omega arith
         some_left (o ∷ xs) (suc n) x = let lt = some_left xs n x in omega (arith, lt)
 
-    module _ (o : ItemOutcome) (there : slice_get outcomes next ≡ Some o) (end : ItemEnd)
+    module _ {o : ItemOutcome} (there : slice_get outcomes next ≡ Some o) (end : ItemEnd)
         (run : (others : ItemsRun) → came_before i.name k o others ≡ end_before end others) where
       run_here : outcomes_run p.items outcomes ≡ with_kernels (kernels_of built)
           (end_before end (outcomes_run (drop (at + 1) p.items) (drop (next + 1) outcomes)))

@@ -141,23 +141,6 @@ module _ (bytes : List ℕ) where
       typable-refused (unnamed q) (written q b) r g.typable g.small
       (subst (λ (x : NamedProgram). IsFirstRefusal (unnamed x) r) (one_program p q a b) f)
 
--- what ended one way ended no other way
-one_run : {k l : List Kernel} {d e : Ending} → ended k d ≡ ended l e → (k ≡ l)
-one_run is = cc
-
-one_ending : {k l : List Kernel} {d e : Ending} → ended k d ≡ ended l e → d ≡ e
-one_ending is = cc
-
--- linking goes one way
-one_in_one : {k l : List Kernel} → in_one k ≡ in_one l → k ≡ l
-one_in_one is = cc
-
-one_cut : {d e : Ending} → cut_short d ≡ cut_short e → d ≡ e
-one_cut is = cc
-
-in_one_or_cut : {k : List Kernel} {e : Ending} → in_one k ≡ cut_short e → ⊥
-in_one_or_cut is = cc
-
 one_link_run : {bytes : List ℕ} (fuel : ℕ) {r s : LinkRun} (p q : NamedProgram) → IsRead bytes p → IsRead bytes q
     → link_run (items_run Plain fuel p) ≡ r → link_run (items_run Plain fuel q) ≡ s → r ≡ s
 one_link_run {bytes} fuel p q a b is end =
@@ -216,7 +199,7 @@ one_meaning work m n (of_program {bytes = bytes} {fuel = fuel} {shown = shown} {
     (of_program {kernels = ls} {e = e} q b g end) =
     let runs : ended ks d ≡ ended ls e =
     sym is ∙ (ap (program_run (mode_of shown) fuel) (one_program bytes p q a b) ∙ end) in
-    ap (λ ks. ran shown ks d) (one_run runs) ∙ ap (λ e. ran shown ls e) (one_ending runs)
+    cc
 one_meaning work m n (of_erased_refusal {r = r} {names = names} a) (of_erased_refusal {r = q} {names = others} b) =
     one_meaning _ (refused r names) (refused q others) a b
 one_meaning work m n (of_erased_refusal a) (of_erased q b g is) = absurd (erased_or_refused a q b g)
@@ -231,14 +214,14 @@ one_meaning work m n (of_link_refusal a) (of_joined q b g is) = absurd (erased_o
 one_meaning work m n (of_link_refusal a) (of_unjoined q b g is) = absurd (erased_or_refused a q b g)
 one_meaning work m n (of_joined p a f is) (of_link_refusal b) = absurd (erased_or_refused b p a f)
 one_meaning work m n (of_joined {fuel = fuel} p a f is) (of_joined q b g end) =
-    ap joined (one_in_one (one_link_run fuel p q a b is end))
+    cc (one_link_run fuel p q a b is end)
 one_meaning work m n (of_joined {fuel = fuel} p a f is) (of_unjoined q b g end) =
-    absurd (in_one_or_cut (one_link_run fuel p q a b is end))
+    absurd (cc (one_link_run fuel p q a b is end))
 one_meaning work m n (of_unjoined p a f is) (of_link_refusal b) = absurd (erased_or_refused b p a f)
 one_meaning work m n (of_unjoined {fuel = fuel} p a f is) (of_joined q b g end) =
-    absurd (in_one_or_cut (one_link_run fuel q p b a end is))
+    absurd (cc (one_link_run fuel q p b a end is))
 one_meaning work m n (of_unjoined {fuel = fuel} p a f is) (of_unjoined q b g end) =
-    ap unjoined (one_cut (one_link_run fuel p q a b is end))
+    cc (one_link_run fuel p q a b is end)
 one_meaning work m n (of_migration {held = held} {old = old} {added = added} a)
     (of_migration {old = other} {added = more} b) =
     let same = one_migration held old other added more a b in

@@ -6,7 +6,6 @@ use Rattle.mw_drive.specs.Extents.{a_front, whole, all_or_nothing, Kind, extent}
 use Rattle.mw_drive.specs.Running.{IsFaithful, IsCarriedOut}
 use Rattle.mw_drive.specs.Works.{Work, Reports}
 use Rattle.mw_drive.proofs.RunLemmas.{whole_status, output_of_report}
-use Rattle.mw_drive.proofs.RunLemmas.{front_not_whole, either_not_whole, whole_said, front_said, either_said}
 use Rattle.std.proofs.Common.{Result, Ok, Err, IfOk, length}
 use Rattle.mw_console.specs.Texts.{migrated_text}
 use Rattle.mw_console.specs.declared.status.Status.TheVariants.{Answer, BadModule}
@@ -83,7 +82,7 @@ module _ (kind : Kind) {work : Work} where
         record {
           faithful = λ t. subst (λ x. IsFaithful x work s before after) (sym (report_whole r)) (text, r, writes t);
           meaning = λ w. (r.meaning, r.is_meaning, r.is_status);
-          said = λ c. absurd (whole_said (sym (report_whole r) ∙ c));
+          said = λ c. let w = report_whole r in absurd (cc);
         }
 
     -- a front of it, with the status of a front
@@ -94,8 +93,8 @@ module _ (kind : Kind) {work : Work} where
           faithful =
               λ told. subst (λ x. IsFaithful x work t before after) (sym is)
               (inr (text, output_of_report r, grows told));
-          meaning = λ w. absurd (front_not_whole (sym is ∙ w));
-          said = λ c. absurd (front_said (sym is ∙ c));
+          meaning = λ w. absurd (cc);
+          said = λ c. absurd (cc);
         }
 
     -- all of it, with a status of all or nothing
@@ -106,6 +105,6 @@ module _ (kind : Kind) {work : Work} where
           faithful =
               λ told. subst (λ x. IsFaithful x work t before after) (sym is)
               (inr (text, output_of_report r, writes told));
-          meaning = λ w. absurd (either_not_whole (sym is ∙ w));
-          said = λ c. absurd (either_said (sym is ∙ c));
+          meaning = λ w. absurd (cc);
+          said = λ c. absurd (cc);
         }

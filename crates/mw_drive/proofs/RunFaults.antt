@@ -1,5 +1,5 @@
 -- Faults that end a run.
-use Rattle.std.proofs.Common.{◌≡◌, ℕ, List, Result, Ok, Err, IfErr, sym, subst}
+use Rattle.std.proofs.Common.{◌≡◌, ℕ, List, Result, Ok, Err, IfErr, sym, subst, arith}
 use Rattle.std.specs.Result.{IsErrAnd}
 use Rattle.mw_outside.specs.declared.errors.WriteFault.{WriteFault}
 use Rattle.mw_spread.specs.declared.job.JobFault.{JobFault}
@@ -14,16 +14,13 @@ use Rattle.mw_drive.specs.RunFaults.{fault_of_job, IfBadRecord}
 pub unwritten_usual : (e : WriteFault) (f : RunFault) → f ≡ Unwritten e → IsUsual f
 unwritten_usual e f is = subst IsUsual (sym is) tt
 
+pub same_usual : (e : RunFault) → IsUsual e → (f : RunFault) → f ≡ e → IsUsual f
+same_usual e usual f is = subst IsUsual (sym is) usual
+
 -- a fault of the work on items or main
 module _ {A : Type 0} (r : Result A RunFault) (e : JobFault) (h : IsErrAnd r (λ f. f ≡ fault_of_job e)) where
   pub job_bad : (P : List ℕ → Type 0) → IfBad e P → IfErr r (IfBadRecord P)
-  job_bad P bad = of r e h bad
-    where
-      of : (r : Result A RunFault) (e : JobFault) → IsErrAnd r (λ f. f ≡ fault_of_job e) → IfBad e P
-          → IfErr r (IfBadRecord P)
-      of (Ok x) e h bad = tt
-      of (Err f) (job.Memory error) h bad = subst (IfBadRecord P) (sym h) tt
-      of (Err f) (job.Bad digest) h bad = subst (IfBadRecord P) (sym h) bad
+  job_bad P bad = grind arith
 
 -- what is true of bad records follows from more
 pub if_bad : (e : JobFault) (P Q : List ℕ → Type 0) → ((digest : List ℕ) → P digest → Q digest) → IfBad e P → IfBad e Q

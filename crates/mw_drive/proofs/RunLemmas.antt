@@ -35,7 +35,6 @@ use Rattle.mw_drive.specs.Extents.{a_front, whole, unkept, all_or_nothing, unsai
 use Rattle.mw_drive.specs.Extents.{Kind, on_a_file, over_a_cache, on_a_number, on_a_cache, extent}
 use Rattle.mw_drive.specs.Running.{most_of_source, Sources, Wanted, Has, Lacks, HasAll, has_none, has_more, LacksSome}
 use Rattle.mw_drive.specs.Running.{lacks_this, lacks_later, IsFaithful, IsMemory, IsCarriedOut, IsStatusOf, IsWritten, kind_with}
-use Rattle.mw_drive.proofs.Options.{none_is_some, some_is_none}
 
 -- a source with a meaning is too large, and refused for it, or small
 large_or_small : {bytes : List ℕ} {fuel : ℕ} {shown : Shown} {m : Meaning} → IsMeaning (running bytes fuel shown) m
@@ -117,25 +116,7 @@ output_of_report r = record { meaning = r.meaning; is_meaning = r.is_meaning; is
 
 -- each meaning's status is that of a whole text
 pub whole_status : (kind : Kind) (m : Meaning) → extent kind (status_of m) ≡ whole
-whole_status kind (refused r names) = refl
-whole_status kind (ran shown kernels (answered v)) = refl
-whole_status kind (ran shown kernels (trapped t name)) = refl
-whole_status kind (ran shown kernels (bounded l name)) = refl
-whole_status kind (erased (answered v)) = refl
-whole_status kind (erased (trapped t name)) = refl
-whole_status kind (erased (bounded l name)) = refl
-whole_status kind (joined kernels) = refl
-whole_status kind (unjoined (answered v)) = refl
-whole_status kind (unjoined (trapped t name)) = refl
-whole_status kind (unjoined (bounded l name)) = refl
-whole_status kind (migrated old added) = refl
-whole_status kind (written wasm) = refl
-whole_status kind (judged true) = refl
-whole_status kind (judged false) = refl
-whole_status kind (faulty fault) = refl
-whole_status kind (certified text) = refl
-whole_status kind (rechecked true) = refl
-whole_status kind (rechecked false) = refl
+whole_status kind m = grind arith
 
 -- so a text that was written whole is faithful
 faithful_at : {work : Work} (kind : Kind) (before after : List ℕ) (m : Meaning) → IsMeaning work m
@@ -144,29 +125,6 @@ faithful_at : {work : Work} (kind : Kind) (before after : List ℕ) (m : Meaning
 faithful_at {work} kind before after m h e =
     subst (λ x. IsFaithful x work (status_of m) before after) (sym (whole_status kind m))
     (text_of m, record { meaning = m; is_meaning = h; is_text = refl; is_status = refl }, e)
-
--- a front is not the whole
-pub front_not_whole : a_front ≡ whole → ⊥
-front_not_whole e = cc
-
-pub either_not_whole : all_or_nothing ≡ whole → ⊥
-either_not_whole e = cc
-
-unkept_not_whole : unkept ≡ whole → ⊥
-unkept_not_whole e = cc
-
--- what is said of a whole text, of a front or of a text that wasn't kept isn't unsaid
-pub whole_said : whole ≡ unsaid → ⊥
-whole_said e = cc
-
-pub front_said : a_front ≡ unsaid → ⊥
-front_said e = cc
-
-pub either_said : all_or_nothing ≡ unsaid → ⊥
-either_said e = cc
-
-unkept_said : unkept ≡ unsaid → ⊥
-unkept_said e = cc
 
 -- a program that ran
 abbrev IsRanMeaning : Meaning → Type 0
@@ -200,8 +158,8 @@ module _ (path : Option (Bor (List ℕ))) (kind : Kind) (over : IsSome path → 
         faithful =
             λ told. subst (λ x. IsFaithful x work s before after) (sym e)
             (inr (text_of m, record { meaning = m; is_meaning = h; is_text = refl }, grows told));
-        meaning = λ c. absurd (front_not_whole (sym e ∙ c));
-        said = λ c. absurd (front_said (sym e ∙ c));
+        meaning = λ c. absurd (cc);
+        said = λ c. absurd (cc);
       }
 
   -- a work whose meaning was written, or a front of it, was carried out
@@ -217,7 +175,7 @@ module _ (path : Option (Bor (List ℕ))) (kind : Kind) (over : IsSome path → 
               λ t. subst (λ s. IsFaithful (extent kind s) work s before after) (sym same)
               (faithful_at kind before after w.meaning w.is_meaning (w.writes t));
           meaning = λ c. (w.meaning, w.is_meaning, same);
-          said = λ c. absurd (whole_said (sym e ∙ c));
+          said = λ c. absurd (cc);
         }
     | inr h ↦
         let ran_as = h.2 in
@@ -236,8 +194,8 @@ module _ (path : Option (Bor (List ℕ))) (kind : Kind) (over : IsSome path → 
                 },
                 w.writes t,
               );
-          meaning = λ c. absurd (unkept_not_whole (sym e ∙ c));
-          said = λ c. absurd (unkept_said (sym e ∙ c));
+          meaning = λ c. absurd (cc);
+          said = λ c. absurd (cc);
         }
   ]
   carried (Err (Unwritten fault.Failed)) s w is =
@@ -260,85 +218,24 @@ written_as other means w =
       writes = w.writes;
     }
 
--- a status that is written isn't one that never comes
-pub whole_not_never : whole ≡ never → ⊥
-whole_not_never e = cc
-
-front_not_never : a_front ≡ never → ⊥
-front_not_never e = cc
-
-unkept_not_never : unkept ≡ never → ⊥
-unkept_not_never e = cc
-
-either_not_never : all_or_nothing ≡ never → ⊥
-either_not_never e = cc
-
-unsaid_not_never : unsaid ≡ never → ⊥
-unsaid_not_never e = cc
-
--- an ending's status is that of a whole text
-ending_whole : (kind : Kind) (e : Ending) → extent kind (ending_status e) ≡ whole
-ending_whole kind (answered v) = refl
-ending_whole kind (trapped t name) = refl
-ending_whole kind (bounded l name) = refl
-
 module _ (path : Option (Bor (List ℕ))) (kind : Kind) (over : IsSome path → kind ≡ over_a_cache) (s : Status) where
-  -- a source that was evaluated ends with a status of a whole text, or its cache file wasn't kept
-  ended_written : (status : Status) → s ≡ status → IsEndedSource path status → IsWritten (extent kind s)
-  ended_written status is (inl (r, refusal)) = inl (ap (extent kind) (is ∙ refusal))
-  ended_written status is (inr (inl (e, ending))) = inl (ap (extent kind) (is ∙ ending) ∙ ending_whole kind e)
-  ended_written status is (inr (inr (some, same))) =
-      inr (inl (ap (extent kind) (is ∙ same) ∙ ap (λ k. extent k Cache) (over some)))
-
-  -- so it may come; a bad record is told only with a cache file
+  -- the status of an evaluated source may come; a bad record is told only with a cache file
   pub written_possible : (r : Result Status RunFault) → IfOk r (IsEndedSource path) → (IsNone path → IfErr r IsUsual)
       → IsStatusOf r s → extent kind s ≡ never → ⊥
-  written_possible (Ok status) ended usual is n = elim (ended_written status is ended) [
-    | inl w ↦ whole_not_never (sym w ∙ n)
-    | inr (inl u) ↦ unkept_not_never (sym u ∙ n)
-    | inr (inr u) ↦ either_not_never (sym u ∙ n)
-  ]
-  written_possible (Err (Unwritten fault.Failed)) ended usual is n =
-      front_not_never (subst (λ s. extent kind s ≡ never) is n)
-  written_possible (Err (Unwritten (fault.Memory error))) ended usual is n =
-      front_not_never (subst (λ s. extent kind s ≡ never) is n)
-  written_possible (Err (Bad digest)) ended usual is n = by_path path usual over
-    where
-      by_path : (p : Option (Bor (List ℕ))) → (IsNone p → ⊥) → (IsSome p → kind ≡ over_a_cache) → ⊥
-      by_path None usual over = usual refl
-      by_path (Some x) usual over =
-          unsaid_not_never
-          (sym (ap (extent kind) is ∙ ap (λ k. extent k (BadCache digest)) (over refl)) ∙ n)
+  written_possible r ended usual is n = grind arith
 
 -- a status that is none of the others is that of a whole text
 pub whole_else : (kind : Kind) (s : Status) → (extent kind s ≡ never → ⊥) → (extent kind s ≡ unsaid → ⊥)
     → (s ≡ Cache → ⊥) → (IsMemory s → ⊥) → (s ≡ Read → ⊥) → (s ≡ Write → ⊥) → extent kind s ≡ whole
-whole_else kind Answer possible said kept memory read write = refl
-whole_else kind (Trap t) possible said kept memory read write = refl
-whole_else kind (Refused r) possible said kept memory read write = refl
-whole_else kind (Bound l) possible said kept memory read write = refl
-whole_else kind BadModule possible said kept memory read write = refl
-whole_else kind Invalid possible said kept memory read write = refl
-whole_else kind NotTyped possible said kept memory read write = refl
-whole_else kind Usage possible said kept memory read write = absurd (possible refl)
-whole_else kind Cache possible said kept memory read write = absurd (kept refl)
-whole_else on_a_file (BadCache d) possible said kept memory read write = absurd (possible refl)
-whole_else over_a_cache (BadCache d) possible said kept memory read write = absurd (said refl)
-whole_else on_a_number (BadCache d) possible said kept memory read write = absurd (possible refl)
-whole_else on_a_cache (BadCache d) possible said kept memory read write = absurd (possible refl)
-whole_else kind (Memory e) possible said kept memory read write = absurd (memory refl)
-whole_else kind Read possible said kept memory read write = absurd (read refl)
-whole_else kind Write possible said kept memory read write = absurd (write refl)
+whole_else kind s possible said kept memory read write = grind arith
 
 -- a file's kind, with a cache file
 pub kind_over : {X : Type 0} (path : Option X) → IsSome path → kind_with path ≡ over_a_cache
-kind_over {X} None some = absurd (none_is_some X some)
-kind_over {X} (Some x) some = refl
+kind_over path some = grind arith
 
 pub no_path : {X : Type 0} (path : Option X) {tells : Bool} {held : List ℕ} → IsNone path
     → IsHonestCache tells held path
-no_path {X} None none some = absurd (none_is_some X some)
-no_path {X} (Some x) none some = absurd (some_is_none x none)
+no_path path none some = grind arith
 
 small_whole : (bytes : List ℕ) → IsSmall bytes → take most_of_source bytes ≡ bytes
 small_whole bytes small = take_all most_of_source bytes (omega (arith, small))

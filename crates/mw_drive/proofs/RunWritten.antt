@@ -90,16 +90,17 @@ pub phase_run : (mode : Mode) (fuel : ℕ) (program : Program) (cache : CacheSta
 phase_run mode fuel program cache outcomes built lent o honest are run is =
     phase_is mode fuel program cache outcomes honest are ∙ (run ∙ ap (λ bs. run_with (kernels_of bs) o) (sym is))
 
-module _ {A : Type 0} (Q : List Kernel → Ending → A → Type 0) (shown : Shown) (fuel : ℕ) (program : Program) where
-  abbrev IsRun : List Kernel → Ending → Type 0
-  IsRun kernels e = program_run (mode_of shown) fuel (named_program_of program) ≡ ended kernels e
+abbrev IsRun : Shown → ℕ → Program → List Kernel → Ending → Type 0
+IsRun shown fuel program kernels e = program_run (mode_of shown) fuel (named_program_of program) ≡ ended kernels e
 
+module _ {A : Type 0} {Q : List Kernel → Ending → A → Type 0} {shown : Shown} {fuel : ℕ} (program : Program) where
   -- a fault, after which a front of the whole text was written
-  pub run_failed : (P : RunFault → Type 0) (r : Result A RunFault) (tells : Bool) (before after : List ℕ)
-      (kernels : List Kernel) (e : Ending) → IsErrAnd r P → ((f : RunFault) → P f → IsUsual f) → IsRun kernels e
+  pub run_failed : (P : RunFault → Type 0) {r : Result A RunFault} {tells : Bool} {before after : List ℕ}
+      {kernels : List Kernel} {e : Ending} → IsErrAnd r P → ((f : RunFault) → P f → IsUsual f)
+      → IsRun shown fuel program kernels e
       → (IsTrue tells → GrowsByFront before after (shown_text shown kernels ++ ending_line e))
       → IsWrittenRun Q shown fuel (named_program_of program) r tells before after
-  run_failed P r tells before after kernels e err usual is front = record {
+  run_failed P {r} {tells} {before} {after} {kernels} {e} err usual is front = record {
     kernels = kernels;
     ending = e;
     is_run = is;
@@ -109,11 +110,11 @@ module _ {A : Type 0} (Q : List Kernel → Ending → A → Type 0) (shown : Sho
   }
 
   -- the last line after the kernels
-  pub run_ended : (answer : A) (tells : Bool) (before mid after : List ℕ) (kernels : List Kernel) (e : Ending)
-      → IsRun kernels e → Q kernels e answer → (IsTrue tells → mid ≡ before ++ shown_text shown kernels)
-      → (IsTrue tells → after ≡ mid ++ ending_line e)
+  pub run_ended : {answer : A} {tells : Bool} {before mid after : List ℕ} {kernels : List Kernel} {e : Ending}
+      → IsRun shown fuel program kernels e → Q kernels e answer
+      → (IsTrue tells → mid ≡ before ++ shown_text shown kernels) → (IsTrue tells → after ≡ mid ++ ending_line e)
       → IsWrittenRun Q shown fuel (named_program_of program) (Ok answer) tells before after
-  run_ended answer tells before mid after kernels e is answers first last = record {
+  run_ended {before = before} {kernels = kernels} {e = e} is answers first last = record {
     kernels = kernels;
     ending = e;
     is_run = is;
@@ -124,22 +125,22 @@ module _ {A : Type 0} (Q : List Kernel → Ending → A → Type 0) (shown : Sho
   }
 
   -- a fault while the last line was written
-  pub line_failed : (P : RunFault → Type 0) (r : Result A RunFault) (tells : Bool) (before mid after : List ℕ)
-      (kernels : List Kernel) (e : Ending) → IsErrAnd r P → ((f : RunFault) → P f → IsUsual f) → IsRun kernels e
-      → (IsTrue tells → mid ≡ before ++ shown_text shown kernels)
+  pub line_failed : (P : RunFault → Type 0) {r : Result A RunFault} {tells : Bool} {before mid after : List ℕ}
+      {kernels : List Kernel} {e : Ending} → IsErrAnd r P → ((f : RunFault) → P f → IsUsual f)
+      → IsRun shown fuel program kernels e → (IsTrue tells → mid ≡ before ++ shown_text shown kernels)
       → (IsTrue tells → GrowsByFront mid after (ending_line e))
       → IsWrittenRun Q shown fuel (named_program_of program) r tells before after
-  line_failed P r tells before mid after kernels e err usual is first last =
-      run_failed P r tells before after kernels e err usual is
+  line_failed P {before = before} {mid} {after} {kernels} {e} err usual is first last =
+      run_failed P err usual is
       (λ t. grows_after before mid after (shown_text shown kernels) (ending_line e) (first t) (last t))
 
 -- what was written of a run, whatever becomes of its answer
-module _ {A B : Type 0} (Q : List Kernel → Ending → A → Type 0) (R : List Kernel → Ending → B → Type 0) (shown : Shown)
-    (fuel : ℕ) (p : NamedProgram) (tells : Bool) (before after : List ℕ) where
-  pub run_passed : (e : RunFault) (r : Result B RunFault) → IsErrAnd r (λ f. f ≡ e)
+module _ {A B : Type 0} {Q : List Kernel → Ending → A → Type 0} {R : List Kernel → Ending → B → Type 0} {shown : Shown}
+    {fuel : ℕ} {p : NamedProgram} {tells : Bool} {before after : List ℕ} where
+  pub run_passed : {e : RunFault} (r : Result B RunFault) → IsErrAnd r (λ f. f ≡ e)
       → IsWrittenRun Q shown fuel p (Err e) tells before after → IsWrittenRun R shown fuel p r tells before after
-  run_passed e (Ok x) h w = absurd h
-  run_passed e (Err f) h w = record {
+  run_passed (Ok x) h w = absurd h
+  run_passed (Err f) h w = record {
     kernels = w.kernels;
     ending = w.ending;
     is_run = w.is_run;
@@ -148,9 +149,10 @@ module _ {A B : Type 0} (Q : List Kernel → Ending → A → Type 0) (R : List 
     writes = w.writes;
   }
 
-  pub run_answered : (x : A) (y : B) → ((kernels : List Kernel) (e : Ending) → Q kernels e x → R kernels e y)
-      → IsWrittenRun Q shown fuel p (Ok x) tells before after → IsWrittenRun R shown fuel p (Ok y) tells before after
-  run_answered x y f w = record {
+  pub run_answered : {x : A} {y : B} → IsWrittenRun Q shown fuel p (Ok x) tells before after
+      → ((kernels : List Kernel) (e : Ending) → Q kernels e x → R kernels e y)
+      → IsWrittenRun R shown fuel p (Ok y) tells before after
+  run_answered w f = record {
     kernels = w.kernels;
     ending = w.ending;
     is_run = w.is_run;
@@ -159,11 +161,11 @@ module _ {A B : Type 0} (Q : List Kernel → Ending → A → Type 0) (R : List 
     writes = w.writes;
   }
 
-  pub run_spoiled : (x : A) (P : RunFault → Type 0) (r : Result B RunFault) → IsErrAnd r P
+  pub run_spoiled : {x : A} (P : RunFault → Type 0) (r : Result B RunFault) → IsErrAnd r P
       → ((f : RunFault) → P f → IsUsual f) → IsWrittenRun Q shown fuel p (Ok x) tells before after
       → IsWrittenRun R shown fuel p r tells before after
-  run_spoiled x P (Ok y) h usual w = absurd h
-  run_spoiled x P (Err f) h usual w = record {
+  run_spoiled P (Ok y) h usual w = absurd h
+  run_spoiled P (Err f) h usual w = record {
     kernels = w.kernels;
     ending = w.ending;
     is_run = w.is_run;

@@ -1,12 +1,14 @@
 // How a program ends, and its last line.
 
-ghost use Rattle.std.specs.Prelude.{◌≡◌, ◌≤◌, ◌++◌, IfOk};
+ghost use Rattle.std.specs.Prelude.{◌≡◌, ◌≤◌, ◌++◌, IfOk, IfErr};
 ghost use Rattle.mw_console.specs.Texts.{ending_line, ending_status, refusal_line};
-ghost use Rattle.mw_drive.specs.ProgramRuns.{ending_of};
-ghost use Rattle.mw_drive.specs.Written.{Writes, Blames};
+ghost use Rattle.mw_drive.specs.ProgramRuns.{ending_of, IsUsual};
+ghost use Rattle.mw_drive.specs.RunFaults.{BlamesSink};
+ghost use Rattle.mw_drive.specs.Written.{Writes};
 
+use crate::fault::RunFault;
 use mw_console::{Status, put_answer, put_bound, put_trap, write_lines};
-use mw_outside::{Sink, WriteFault};
+use mw_outside::Sink;
 use mw_term::{GroundValue, Limit, TrapKind};
 use std::alloc::{AllocError, Global};
 
@@ -41,11 +43,12 @@ fn put_end(alloc: Global, text: &mut Vec<u8>, end: &End<'_>) -> Result<Status, A
 }
 
 /// Writes the last line. The status says the same.
-pub fn write_end<K: Sink>(alloc: Global, sink: &mut K, end: &End<'_>) -> Result<Status, WriteFault>
+pub fn write_end<K: Sink>(alloc: Global, sink: &mut K, end: &End<'_>) -> Result<Status, RunFault>
     ensures status { IfOk result (λ status. status ≡ ending_status (ending_of end.now)) }
+    ensures usual { IfErr result IsUsual }
     ensures writes { Writes result K.tells (K.written sink.old) (K.written sink.new)
         (ending_line (ending_of end.now)) }
-    ensures blames { Blames result (K.faults sink.old) (K.faults sink.new) }
+    ensures blames { BlamesSink result (K.faults sink.old) (K.faults sink.new) }
     ensures count { K.faults sink.old ≤ K.faults sink.new }
 {
     let mut text = Vec::new(alloc);

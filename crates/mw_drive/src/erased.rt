@@ -54,7 +54,7 @@ pub fn write_erased<K: Sink, L: Ledger>(
         &cache,
         &mut steps,
     )?;
-    Ok(write_end(alloc, sink, &end)?)
+    write_end(alloc, sink, &end)
 }
 
 /// The phase of no kernel items.

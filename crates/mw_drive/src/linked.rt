@@ -1,6 +1,6 @@
 // All kernels of a program as one module.
 
-ghost use Rattle.std.specs.Prelude.{◌≡◌, ◌≤◌, ◌<◌, ◌^◌, ◌∷◌, [], ℕ, List, Some, true, length, map, codes, IfOk};
+ghost use Rattle.std.specs.Prelude.{◌≡◌, ◌≤◌, ◌<◌, ◌^◌, ◌∷◌, [], ℕ, List, Some, true, length, map, codes, IfOk, IfErr};
 ghost use Rattle.std.specs.Option.{option_map};
 ghost use Rattle.std.specs.List.{AllByRecursion};
 ghost use Rattle.std.specs.Vec.Iter.{into_iter_items};
@@ -19,12 +19,12 @@ ghost use Rattle.mw_console.specs.declared.status.Status.TheVariants.{Answer};
 ghost use Rattle.mw_reading.specs.NamedPrograms.{item_of, named_program_of};
 ghost use Rattle.mw_drive.specs.ProgramMeaning.{all_gave, items_run};
 ghost use Rattle.mw_drive.specs.LinkedPrograms.{first_past, in_one, link_run, IsCutAt};
-ghost use Rattle.mw_drive.specs.ProgramRuns.{ending_of, kernels_of, HasEnding, IsWrittenLinked};
+ghost use Rattle.mw_drive.specs.ProgramRuns.{ending_of, kernels_of, HasEnding, IsUsual, IsWrittenLinked};
 ghost use Rattle.mw_drive.specs.ItemOutcomes.{outcomes_run, HasOneForEach, ArePlaced, IsKernelOf, IsCodeTaken};
 ghost use Rattle.mw_drive.specs.ItemOutcomes.{IsNextKernel};
 ghost use Rattle.mw_drive.specs.RunFaults.{BlamesSink};
 ghost use Rattle.mw_drive.specs.Works.{joined, text_of};
-ghost use Rattle.mw_drive.specs.Written.{Writes, Blames};
+ghost use Rattle.mw_drive.specs.Written.{Writes};
 
 use crate::ending::{End, write_end};
 use crate::fault::RunFault;
@@ -34,7 +34,7 @@ use mw_cache::Cache;
 use mw_console::{Status, put_module, write_lines};
 use mw_link::{Linkable, functions, link};
 use mw_meaning::Mode;
-use mw_outside::{Gate, Sink, WriteFault};
+use mw_outside::{Gate, Sink};
 use mw_store::Load;
 use mw_tasks::{ItemOutcome, Outcomes, kernels_phase};
 use mw_term::{Item, ItemKind, KType, Limit, Name, Program, Term};
@@ -81,10 +81,10 @@ pub fn write_linked<R: Threads + Sync, K: Sink, G: Gate>(
         place.gate,
     )?;
     if let Some(end) = cut_short(alloc, &program, &phase.outcomes)? {
-        return Ok(write_end(alloc, sink, &end)?);
+        return write_end(alloc, sink, &end);
     }
     let kernels = linkables(alloc, program, phase.outcomes)?;
-    Ok(write_module(alloc, sink, kernels)?)
+    write_module(alloc, sink, kernels)
 }
 
 /// How linking is cut short, if it is: by the first kernel item that gave no code, or at the bound of the first kernel
@@ -198,12 +198,13 @@ fn write_module<K: Sink>(
     alloc: Global,
     sink: &mut K,
     kernels: Vec<Linkable>,
-) -> Result<Status, WriteFault>
+) -> Result<Status, RunFault>
     requires linkable { AreLinkable (kernels_in kernels.items) }
     ensures status { IfOk result (λ status. status ≡ Answer) }
+    ensures usual { IfErr result IsUsual }
     ensures writes { let text = text_of (joined (kernels_in kernels.items)) in
         Writes result K.tells (K.written sink.old) (K.written sink.new) text }
-    ensures blames { Blames result (K.faults sink.old) (K.faults sink.new) }
+    ensures blames { BlamesSink result (K.faults sink.old) (K.faults sink.new) }
     ensures count { K.faults sink.old ≤ K.faults sink.new }
 {
     let text = module_line(alloc, kernels)?;

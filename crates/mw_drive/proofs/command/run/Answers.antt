@@ -1,4 +1,5 @@
-use Rattle.std.proofs.Common.{inl, inr, map, ap, ◌∙◌, refl, subst}
+use Rattle.std.proofs.Common.{inl, inr, map, ap, ◌∙◌, refl, subst, arith, rules}
+use Rattle.std.proofs.lemmas.Grind.{common_steps}
 use Rattle.std.specs.String.{string_bytes}
 use Rattle.mw_outside.specs.Count.{Rose}
 use Rattle.mw_drive.specs.HeldFiles.{IsKeptWith}
@@ -46,113 +47,65 @@ pub carry_out-requires-clause-linkers : goal.carry_out-requires-clause-linkers
 carry_out-requires-clause-linkers g c = λ κs live w fuel file e.
     link_workers (command_in c.in-Ok.command) w fuel file c.in-Ok.ensures.some e
 
-pub returns-in-Ok-clause-text : goal.returns-in-Ok-clause-text
-returns-in-Ok-clause-text g c = asked_text (called g (goal.at.returns-in-Ok-clause-text g c).After-carry_out)
-
-pub returns-in-Ok-clause-status : goal.returns-in-Ok-clause-status
-returns-in-Ok-clause-status g c = asked_status (called g (goal.at.returns-in-Ok-clause-status g c).After-carry_out)
-
-pub returns-in-Ok-clause-complete : goal.returns-in-Ok-clause-complete
-returns-in-Ok-clause-complete g c =
-    asked_complete (called g (goal.at.returns-in-Ok-clause-complete g c).After-carry_out)
-
-pub returns-in-Ok-clause-faults : goal.returns-in-Ok-clause-faults
-returns-in-Ok-clause-faults g c = asked_faults (called g (goal.at.returns-in-Ok-clause-faults g c).After-carry_out)
-
-pub returns-in-Ok-clause-possible : goal.returns-in-Ok-clause-possible
-returns-in-Ok-clause-possible g c =
-    asked_possible (called g (goal.at.returns-in-Ok-clause-possible g c).After-carry_out)
-
-pub returns-in-Ok-clause-erasure : goal.returns-in-Ok-clause-erasure
-returns-in-Ok-clause-erasure g c = asked_erased (called g (goal.at.returns-in-Ok-clause-erasure g c).After-carry_out)
-
-pub returns-in-Ok-clause-simplified : goal.returns-in-Ok-clause-simplified
-returns-in-Ok-clause-simplified g c =
-    asked_simplified (called g (goal.at.returns-in-Ok-clause-simplified g c).After-carry_out)
-
-pub returns-in-Ok-clause-read : goal.returns-in-Ok-clause-read
-returns-in-Ok-clause-read g c = asked_read (called g (goal.at.returns-in-Ok-clause-read g c).After-carry_out)
-
-pub returns-in-Ok-clause-modules : goal.returns-in-Ok-clause-modules
-returns-in-Ok-clause-modules g c = λ work asked meaning is. meaning_modules work meaning is
-
-pub returns-in-Ok-clause-unfailed : goal.returns-in-Ok-clause-unfailed
-returns-in-Ok-clause-unfailed g c =
-    asked_of (called g (goal.at.returns-in-Ok-clause-unfailed g c).After-carry_out) _ c.carry_out.ensures.unfailed
-
-pub returns-in-Ok-clause-sound : goal.returns-in-Ok-clause-sound
-returns-in-Ok-clause-sound g c =
-    asked_of (called g (goal.at.returns-in-Ok-clause-sound g c).After-carry_out) _ c.carry_out.ensures.sound
-
-pub returns-in-Ok-clause-missing : goal.returns-in-Ok-clause-missing
-returns-in-Ok-clause-missing g c = λ asked. c.carry_out.ensures.missing
-    (asked_missing (called g (goal.at.returns-in-Ok-clause-missing g c).After-carry_out) asked)
-
-pub returns-in-Ok-clause-left : goal.returns-in-Ok-clause-left
-returns-in-Ok-clause-left g c = λ other contents file bytes on last.
-    let known = called g (goal.at.returns-in-Ok-clause-left g c).After-carry_out in
-    c.carry_out.ensures.left contents file bytes (has_on known other contents on)
-    (asked_last known other contents file bytes on last)
-
-pub returns-in-Ok-clause-lacking : goal.returns-in-Ok-clause-lacking
-returns-in-Ok-clause-lacking g c = λ asked. c.carry_out.ensures.lacking
-    (asked_lacking (called g (goal.at.returns-in-Ok-clause-lacking g c).After-carry_out) asked)
-
-pub returns-in-Ok-clause-certificate : goal.returns-in-Ok-clause-certificate
-returns-in-Ok-clause-certificate g c =
-    asked_certificate (called g (goal.at.returns-in-Ok-clause-certificate g c).After-carry_out)
-
-pub returns-in-Ok-clause-typed : goal.returns-in-Ok-clause-typed
-returns-in-Ok-clause-typed g c =
-    asked_typing (called g (goal.at.returns-in-Ok-clause-typed g c).After-carry_out)
-
-pub returns-in-Ok-clause-judged : goal.returns-in-Ok-clause-judged
-returns-in-Ok-clause-judged g c =
-    asked_verdict (called g (goal.at.returns-in-Ok-clause-judged g c).After-carry_out)
-
-pub returns-in-Ok-clause-unread : goal.returns-in-Ok-clause-unread
-returns-in-Ok-clause-unread g c (inl usage) =
-    absurd (c.carry_out.ensures.possible (ap (extent (kind_of (command_in c.in-Ok.command))) usage))
-returns-in-Ok-clause-unread g c (inr asked) = c.carry_out.ensures.unread
-    (asked_no_file (called g (goal.at.returns-in-Ok-clause-unread g c).After-carry_out) asked)
-
-pub returns-in-Ok-clause-untouched : goal.returns-in-Ok-clause-untouched
-returns-in-Ok-clause-untouched g c (inl usage) =
-    absurd (c.carry_out.ensures.possible (ap (extent (kind_of (command_in c.in-Ok.command))) usage))
-returns-in-Ok-clause-untouched g c (inr (inl read)) = c.carry_out.ensures.untouched (inl read)
-returns-in-Ok-clause-untouched g c (inr (inr asked)) = c.carry_out.ensures.untouched
-    (inr (asked_no_cache (called g (goal.at.returns-in-Ok-clause-untouched g c).After-carry_out) asked))
-
-pub returns-in-Ok-clause-front : goal.returns-in-Ok-clause-front
-returns-in-Ok-clause-front g c = λ tells.
-    front_of (path_of (command_in c.in-Ok.command)) (kind_of (command_in c.in-Ok.command)) c.carry_out.result _ _
-    (λ none. ap g.C.Keeper.held (c.carry_out.ensures.untouched (inr none)))
-    (λ some. c.carry_out.ensures.held some tells)
+pub returns-in-Ok : goal.returns-in-Ok
+returns-in-Ok g c =
+    let known = called g (goal.at.returns-in-Ok g c).After-carry_out in
+    let carried = c.carry_out.ensures in
+    let command = command_in c.in-Ok.command in
+    let held = g.C.Keeper.held c.args.keeper.now in
+    let after = g.C.Keeper.held c.carry_out.new.keeper in
+    record {
+      text = asked_text known;
+      status = asked_status known;
+      complete = asked_complete known;
+      modules = λ work asked. meaning_modules work;
+      erasure = asked_erased known;
+      simplified = asked_simplified known;
+      faults = asked_faults known;
+      possible = asked_possible known;
+      unfailed = asked_of known _ carried.unfailed;
+      memory = carried.memory;
+      judged = asked_verdict known;
+      certificate = asked_certificate known;
+      typed = asked_typing known;
+      left = λ other contents file bytes on last. carried.left contents file bytes (has_on known other contents on)
+          (asked_last known other contents file bytes on last);
+      usage = first_of (search rules, grind (arith, common_steps));
+      read = asked_read known;
+      write = carried.write;
+      missing = λ asked. carried.missing (asked_missing known asked);
+      lacking = λ asked. carried.lacking (asked_lacking known asked);
+      nothing = first_of (search rules, grind (arith, common_steps));
+      unread = λ none. elim none [
+        | inl usage ↦ absurd (carried.possible (ap (extent (kind_of command)) usage))
+        | inr asked ↦ carried.unread (asked_no_file known asked)
+      ];
+      files = carried.files;
+      untouched = λ none. elim none [
+        | inl usage ↦ absurd (carried.possible (ap (extent (kind_of command)) usage))
+        | inr (inl read) ↦ carried.untouched (inl read)
+        | inr (inr asked) ↦ carried.untouched (inr (asked_no_cache known asked))
+      ];
+      unkept_refusal = carried.refused;
+      opened = asked_of known _ carried.opened;
+      front = λ tells. front_of (path_of command) (kind_of command) c.carry_out.result held after
+          (λ none. ap g.C.Keeper.held (carried.untouched (inr none))) (λ some. carried.held some tells);
+      held = asked_of known _ carried.held;
+      kept = λ work asked some written shown kernels e is.
+          let m = asked_complete known work asked written in
+          let own = m.2 ∙ ap status_of (one_meaning work m.0 (ran shown kernels e) m.1 is) in
+          let texts = map (run_text (mode_of shown)) kernels in
+          kept_ending e texts held after (subst (λ s. IsKeptWith texts s held after) own
+          (asked_kept known (λ texts s. IsKeptWith texts s held after) carried.kept work asked some shown kernels e
+          is));
+      cache = carried.cache;
+      sound = asked_of known _ carried.sound;
+      bad = λ digest work told asked.
+          asked_bad known _ (λ contents work has works. carried.bad digest contents work told has works) work asked;
+      source_count = carried.source_count;
+      sink_count = carried.sink_count;
+      keeper_count = carried.keeper_count;
+    }
 
 pub returns-in-Err-clause-front : goal.returns-in-Err-clause-front
 returns-in-Err-clause-front g c = λ tells. front_stays _ _ refl
-
-pub returns-in-Ok-clause-held : goal.returns-in-Ok-clause-held
-returns-in-Ok-clause-held g c =
-    asked_of (called g (goal.at.returns-in-Ok-clause-held g c).After-carry_out) _ c.carry_out.ensures.held
-
-pub returns-in-Ok-clause-kept : goal.returns-in-Ok-clause-kept
-returns-in-Ok-clause-kept g c = λ work asked some written shown kernels e is.
-    let known = called g (goal.at.returns-in-Ok-clause-kept g c).After-carry_out in
-    let m = asked_complete known work asked written in
-    let own = m.2 ∙ ap status_of (one_meaning work m.0 (ran shown kernels e) m.1 is) in
-    let texts = map (run_text (mode_of shown)) kernels in
-    let held = g.C.Keeper.held c.args.keeper.now in
-    let after = g.C.Keeper.held c.carry_out.new.keeper in
-    kept_ending e texts held after (subst (λ s. IsKeptWith texts s held after) own
-    (asked_kept known (λ texts s. IsKeptWith texts s held after) c.carry_out.ensures.kept work asked some shown kernels
-    e is))
-
-pub returns-in-Ok-clause-bad : goal.returns-in-Ok-clause-bad
-returns-in-Ok-clause-bad g c = λ digest work told asked.
-    asked_bad (called g (goal.at.returns-in-Ok-clause-bad g c).After-carry_out) _
-    (λ contents work has works. c.carry_out.ensures.bad digest contents work told has works) work asked
-
-pub returns-in-Ok-clause-opened : goal.returns-in-Ok-clause-opened
-returns-in-Ok-clause-opened g c =
-    asked_of (called g (goal.at.returns-in-Ok-clause-opened g c).After-carry_out) _ c.carry_out.ensures.opened

@@ -1,17 +1,13 @@
-use Rattle.std.proofs.Common.{◌≡◌, ap, sym, subst}
+use Rattle.std.proofs.Common.{ap, sym, subst}
 use Rattle.mw_term.specs.Programs.{program_of}
 use Rattle.mw_meaning.specs.declared.mode.Mode.TheVariants.{Plain}
 use Rattle.mw_meaning.proofs.ErasedMain.{typable_names_are_bound}
 use Rattle.mw_tasks.specs.Phases.{codes_in}
 use Rattle.mw_drive.specs.Honest.{AreMeant}
-use Rattle.mw_console.specs.Texts.{ending_line, ending_status}
-use Rattle.mw_drive.specs.ProgramRuns.{ending_of, IsUsual}
-use Rattle.mw_drive.proofs.Faults.{front_written, no_answer, fault_is}
-use Rattle.mw_drive.proofs.Fronts.{grows_nothing}
+use Rattle.mw_drive.specs.ProgramRuns.{ending_of}
 use Rattle.mw_drive.proofs.HonestRuns.{are_outcomes, none_wrong, empty_honest}
 use Rattle.mw_drive.proofs.RunFaults.{unwritten_usual, job_is_usual, if_bad}
-use Rattle.mw_drive.proofs.ErasedEnds.{erased_ends}
-use Rattle.mw_drive.proofs.ErasedWritten.{program_source, small_types, no_outcomes, erased_is}
+use Rattle.mw_drive.proofs.ErasedWritten.{program_source, small_types, no_outcomes, erased_is, erased_failed}
 use Rattle.mw_drive.proofs.erased.write_erased.Goals as goal
 
 pub erase_program-requires-clause-names : goal.erase_program-requires-clause-names
@@ -20,17 +16,7 @@ erase_program-requires-clause-names g c =
 
 pub returns-in_err-erased-clause-run : goal.returns-in_err-erased-clause-run
 returns-in_err-erased-clause-run g c =
-    let e =
-    erased_ends c.args.fuel (program_of c.args.program.now) (program_source c.args.program.now) c.requires.typable in
-    let err = c.from_residual.ensures.1 in
-    record {
-      ending = e.0;
-      is_run = e.1;
-      is_status = no_answer _ c.from_residual.result (λ s. s ≡ ending_status e.0) err;
-      usual = fault_is _ IsUsual c.from_residual.result err (unwritten_usual _);
-      writes = front_written _ c.from_residual.result g.K.Sink.tells _ _ (ending_line e.0) err
-          (λ t. grows_nothing _ _);
-    }
+    erased_failed c.args.program.now _ _ c.requires.typable c.from_residual.ensures.1 (unwritten_usual _)
 
 pub main_end-requires-clause-typable : goal.main_end-requires-clause-typable
 main_end-requires-clause-typable g c =
@@ -48,56 +34,20 @@ main_end-requires-clause-phase g c =
 
 pub returns-in_err-end-clause-run : goal.returns-in_err-end-clause-run
 returns-in_err-end-clause-run g c =
-    let e =
-    erased_ends c.args.fuel (program_of c.args.program.now) (program_source c.args.program.now) c.requires.typable in
-    let err = c.from_residual-in_err-end.ensures.1 in
     let honest = empty_honest c.new-cache.ensures c.new.ensures in
-    record {
-      ending = e.0;
-      is_run = e.1;
-      is_status = no_answer _ c.from_residual-in_err-end.result (λ s. s ≡ ending_status e.0) err;
-      usual =
-          fault_is _ IsUsual c.from_residual-in_err-end.result err
-          (job_is_usual c.in_err-end.field-0.0 (if_bad c.in_err-end.field-0.0 _ _
-          (λ d h. none_wrong Plain c.new-cache.result.load honest _ h.bad.1)
-          c.in_err-end.ensures.bad));
-      writes =
-          front_written _ c.from_residual-in_err-end.result g.K.Sink.tells _ _ (ending_line e.0) err
-          (λ t. grows_nothing _ _);
-    }
-
-pub returns-in_err-write_end-clause-run : goal.returns-in_err-write_end-clause-run
-returns-in_err-write_end-clause-run g c =
-    let err = c.from_residual-in_err-write_end.ensures.1 in
-    let honest = empty_honest c.new-cache.ensures c.new.ensures in
-    record {
-      ending = ending_of c.in_ok-end.end;
-      is_run =
-          erased_is (program_of c.args.program.now) (program_of c.in_ok-erased.erased) c.args.fuel
-          (ending_of c.in_ok-end.end)
-          c.in_ok-erased.ensures.erased c.in_ok-erased.ensures.unstaged
-          (rw (ap codes_in c.no_kernels-phase.ensures) at
-          c.in_ok-end.ensures.end honest);
-      is_status =
-          no_answer _ c.from_residual-in_err-write_end.result (λ s. s ≡ ending_status (ending_of c.in_ok-end.end)) err;
-      usual = fault_is _ IsUsual c.from_residual-in_err-write_end.result err (unwritten_usual _);
-      writes =
-          front_written _ c.from_residual-in_err-write_end.result g.K.Sink.tells _ _
-          (ending_line (ending_of c.in_ok-end.end)) err c.in_err-write_end.ensures.writes;
-    }
+    erased_failed c.args.program.now _ _ c.requires.typable c.from_residual-in_err-end.ensures.1
+    (job_is_usual c.in_err-end.field-0.0 (if_bad c.in_err-end.field-0.0 _ _
+    (λ d h. none_wrong Plain c.new-cache.result.load honest _ h.bad.1) c.in_err-end.ensures.bad))
 
 pub returns-clause-run : goal.returns-clause-run
-returns-clause-run g c =
-    let honest = empty_honest c.new-cache.ensures c.new.ensures in
-    record {
-      ending = ending_of c.in_ok-end.end;
-      is_run =
-          erased_is (program_of c.args.program.now) (program_of c.in_ok-erased.erased) c.args.fuel
-          (ending_of c.in_ok-end.end)
-          c.in_ok-erased.ensures.erased c.in_ok-erased.ensures.unstaged
-          (rw (ap codes_in c.no_kernels-phase.ensures) at
-          c.in_ok-end.ensures.end honest);
-      is_status = c.in_ok-write_end.ensures.status;
-      usual = tt;
-      writes = c.in_ok-write_end.ensures.writes;
-    }
+returns-clause-run g c = record {
+  ending = ending_of c.in_ok-end.end;
+  is_run =
+      erased_is (program_of c.args.program.now) (program_of c.in_ok-erased.erased) c.args.fuel
+      (ending_of c.in_ok-end.end) c.in_ok-erased.ensures.erased c.in_ok-erased.ensures.unstaged
+      (rw (ap codes_in c.no_kernels-phase.ensures) at
+      c.in_ok-end.ensures.end (empty_honest c.new-cache.ensures c.new.ensures));
+  is_status = c.write_end.ensures.status;
+  usual = c.write_end.ensures.usual;
+  writes = c.write_end.ensures.writes;
+}

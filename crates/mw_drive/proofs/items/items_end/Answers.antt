@@ -16,21 +16,14 @@ loop-at-init c =
 
 pub get-requires : goal.get-requires
 get-requires c =
-    has_outcome (named_program_of c.args.program.now) c.args.outcomes.now c.loop-at.at c.loop-at.next
-    c.loop-at.built.items (item_of c.get-item.result.now)
-    (named_there c.args.program.now c.get-item.result.now c.loop-at.at c.get-item.ensures) c.loop-at.invariant
-    (kernel_type_of c.in-Kernel.kind) (expression_of c.in-Kernel.field-1)
-    (kernel_at c.get-item.result.now c.in-Kernel.kind c.in-Kernel.field-1 c.in-Kernel.is)
+    has_outcome (named_there c.args.program.now c.get-item.result.now c.loop-at.at c.get-item.ensures)
+    c.loop-at.invariant (kernel_at c.get-item.result.now c.in-Kernel.kind c.in-Kernel.field-1 c.in-Kernel.is)
 
 pub returns-in-Ended-clause-run : goal.returns-in-Ended-clause-run
 returns-in-Ended-clause-run c =
-    reaches_end (named_program_of c.args.program.now) c.args.outcomes.now c.loop-at.at c.loop-at.next
-    c.loop-at.built.items (item_of c.get-item.result.now)
-    (named_there c.args.program.now c.get-item.result.now c.loop-at.at c.get-item.ensures) c.loop-at.invariant
-    (kernel_type_of c.in-Kernel.kind) (expression_of c.in-Kernel.field-1)
-    (kernel_at c.get-item.result.now c.in-Kernel.kind c.in-Kernel.field-1 c.in-Kernel.is) c.get.result.now
-    c.get.ensures c.item_end.result
-    (rw c.as_slice.ensures at c.item_end.ensures.run) c.in-Ended.end c.in-Ended.is
+    reaches_end (named_there c.args.program.now c.get-item.result.now c.loop-at.at c.get-item.ensures)
+    c.loop-at.invariant (kernel_at c.get-item.result.now c.in-Kernel.kind c.in-Kernel.field-1 c.in-Kernel.is)
+    c.get.ensures c.item_end.result (rw c.as_slice.ensures at c.item_end.ensures.run) c.in-Ended.end c.in-Ended.is
 
 pub returns-in-Ended-clause-built : goal.returns-in-Ended-clause-built
 returns-in-Ended-clause-built c = λ mode cache placed.
@@ -46,26 +39,18 @@ loop-at-preserved c =
     elim c.match-item.branch [
       | in-Kernel+in-Code+in_ok-push-in-Code w ↦
           rw (w.built-is, w.next-is)
-          (reaches_code (named_program_of c.args.program.now) c.args.outcomes.now c.loop-at.at c.loop-at.next
-          c.loop-at.built.items (item_of c.get-item.result.now)
-          there c.loop-at.invariant (kernel_type_of w.in-Kernel.kind) (expression_of w.in-Kernel.field-1)
-          (kernel_at c.get-item.result.now w.in-Kernel.kind w.in-Kernel.field-1 w.in-Kernel.is) w.get.result.now
-          w.get.ensures w.item_end.result
-          (rw w.as_slice.ensures at w.item_end.ensures.run) w.in-Code.kernel w.push.new.self.items w.in-Code.is
-          w.in_ok-push-in-Code.ensures.items w.item_end.ensures.built)
+          (reaches_code there c.loop-at.invariant
+          (kernel_at c.get-item.result.now w.in-Kernel.kind w.in-Kernel.field-1 w.in-Kernel.is) w.get.ensures
+          w.item_end.result (rw w.as_slice.ensures at w.item_end.ensures.run) w.in-Code.kernel w.push.new.self.items
+          w.in-Code.is w.in_ok-push-in-Code.ensures.items w.item_end.ensures.built)
       | in_default w ↦
           rw (w.built-is, w.next-is)
-          (reaches_let (named_program_of c.args.program.now) c.args.outcomes.now c.loop-at.at c.loop-at.next
-          c.loop-at.built.items (item_of c.get-item.result.now)
-          there c.loop-at.invariant (expression_of w.in_default.field-0)
-          (let_at c.get-item.result.now w.in_default.field-0 w.in_default.is))
+          (reaches_let there c.loop-at.invariant (let_at c.get-item.result.now w.in_default.field-0 w.in_default.is))
     ]
 
 pub returns-clause-run : goal.returns-clause-run
 returns-clause-run c =
-    reaches_all (named_program_of c.args.program.now) c.args.outcomes.now c.loop-at.at c.loop-at.next
-    c.loop-at.built.items
-    (omega (arith, length-map c.args.program.now.items item_of, c.len-at-end.ensures, c.loop-at-test.false))
+    reaches_all (omega (arith, length-map c.args.program.now.items item_of, c.len-at-end.ensures, c.loop-at-test.false))
     c.loop-at.invariant
 
 pub returns-clause-built : goal.returns-clause-built

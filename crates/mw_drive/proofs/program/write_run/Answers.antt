@@ -17,7 +17,7 @@ use Rattle.mw_drive.proofs.BadRecords.{bad_of_items, bad_of_main, load_of_stray}
 use Rattle.mw_drive.proofs.Fronts.{grows_nothing}
 use Rattle.mw_drive.proofs.HeldFiles.{texts_are, opened_read, held_failed, held_memory, held_kept, texts_kept}
 use Rattle.mw_drive.proofs.HeldFiles.{front_kept, end_of}
-use Rattle.mw_drive.proofs.OpenedFiles.{opened_failed, only_opened, opened_by_file}
+use Rattle.mw_drive.proofs.OpenedFiles.{opened_failed, opened_by_file}
 use Rattle.mw_drive.proofs.HonestRuns.{opened_honest, no_wrong_item}
 use Rattle.mw_drive.proofs.RunFaults.{unwritten_usual, job_is_usual, if_bad, job_bad, passed_bad}
 use Rattle.mw_drive.proofs.RunWritten.{some_ending, run_failed, run_passed, run_answered, run_spoiled, same_kernels}
@@ -51,10 +51,7 @@ stray_load g c tells d stray =
 pub returns-in_err-load-clause-run : goal.returns-in_err-load-clause-run
 returns-in_err-load-clause-run g c = λ honest.
     let e = some_ending (mode_of c.args.options.shown) c.args.fuel c.args.program.now c.requires.typable in
-    run_failed (IsEndOf c.args.options.cache) c.args.options.shown c.args.fuel c.args.program.now _
-    c.from_residual.result
-    g.K.Sink.tells _ _ e.0 e.1
-    c.from_residual.ensures.1 (unwritten_usual _) e.2 (λ t. grows_nothing _ _)
+    run_failed c.args.program.now _ c.from_residual.ensures.1 (unwritten_usual _) e.2 (λ t. grows_nothing _ _)
 
 pub returns-in_err-load-clause-held : goal.returns-in_err-load-clause-held
 returns-in_err-load-clause-held g c = λ some tells.
@@ -64,8 +61,7 @@ pub returns-in_err-phase-clause-run : goal.returns-in_err-phase-clause-run
 returns-in_err-phase-clause-run g c = λ honest.
     let right = right_load g (goal.at.returns-in_err-phase-clause-run g c).After-cache honest in
     let e = some_ending (mode_of c.args.options.shown) c.args.fuel c.args.program.now c.requires.typable in
-    run_failed (IsEndOf c.args.options.cache) c.args.options.shown c.args.fuel c.args.program.now _
-    c.from_residual-in_err-phase.result g.K.Sink.tells _ _ e.0 e.1 c.from_residual-in_err-phase.ensures.1
+    run_failed c.args.program.now _ c.from_residual-in_err-phase.ensures.1
     (job_is_usual c.in_err-phase.field-0.0 (if_bad c.in_err-phase.field-0.0 _ _
     (λ d h. no_wrong_item c.mode.result (program_of c.args.program.now) c.args.fuel c.new-cache.result.load right h.1)
     c.in_err-phase.ensures.bad))
@@ -91,9 +87,7 @@ returns-in_err-phase-clause-bad g c =
 
 pub returns-in_err-ran-clause-run : goal.returns-in_err-ran-clause-run
 returns-in_err-ran-clause-run g c = λ honest.
-    run_passed IsRanTo (IsEndOf c.args.options.cache) c.args.options.shown c.args.fuel
-    (named_program_of c.args.program.now) g.K.Sink.tells _ _ c.in_err-ran.field-0.0 c.from_residual-in_err-ran.result
-    c.from_residual-in_err-ran.ensures.1
+    run_passed _ c.from_residual-in_err-ran.ensures.1
     (c.in_err-ran.ensures.run (right_load g (goal.at.returns-in_err-ran-clause-run g c).After-cache honest))
 
 pub returns-in_err-ran-clause-held : goal.returns-in_err-ran-clause-held
@@ -126,9 +120,7 @@ keep_run-requires-clause-built g c =
 
 pub returns-in_err-keep_run-clause-run : goal.returns-in_err-keep_run-clause-run
 returns-in_err-keep_run-clause-run g c = λ honest.
-    run_spoiled IsRanTo (IsEndOf c.args.options.cache) c.args.options.shown c.args.fuel
-    (named_program_of c.args.program.now) g.K.Sink.tells _ _ c.in_ok-ran.ran _ c.from_residual-in_err-keep_run.result
-    c.from_residual-in_err-keep_run.ensures.1 (unwritten_usual _)
+    run_spoiled _ _ c.from_residual-in_err-keep_run.ensures.1 (unwritten_usual _)
     (c.in_ok-ran.ensures.run (right_load g (goal.at.returns-in_err-keep_run-clause-run g c).After-cache honest))
 
 pub returns-in_err-keep_run-clause-held : goal.returns-in_err-keep_run-clause-held
@@ -143,15 +135,13 @@ returns-in_err-keep_run-clause-held g c = λ some tells.
 
 pub returns-clause-run : goal.returns-clause-run
 returns-clause-run g c = λ honest.
-    run_answered IsRanTo (IsEndOf c.args.options.cache) c.args.options.shown c.args.fuel
-    (named_program_of c.args.program.now) g.K.Sink.tells _ _ c.in_ok-ran.ran _
+    run_answered (c.in_ok-ran.ensures.run (right_load g (goal.at.returns-clause-run g c).After-cache honest))
     (λ kernels e answers. elim (end_of g.C.Keeper.tells (g.C.Keeper.held c.args.keeper.now) c.args.options.cache
     c.in_ok-load.field-0.file c.in_ok-load.field-0.load c.in_ok-ran.ran.status _ c.in_ok-load.ensures.opened
     c.in_ok-keep_run.ensures.status) [
       | inl own ↦ inl (own ∙ answers.1)
       | inr unkept ↦ inr unkept
     ])
-    (c.in_ok-ran.ensures.run (right_load g (goal.at.returns-clause-run g c).After-cache honest))
 
 pub returns-clause-ended : goal.returns-clause-ended
 returns-clause-ended g c =
@@ -197,25 +187,23 @@ returns-clause-kept g c = λ some honest kernels e is other.
 
 pub returns-in_err-load-clause-opened : goal.returns-in_err-load-clause-opened
 returns-in_err-load-clause-opened g c = λ path is tells.
-    opened_failed path.now _ _ c.from_residual.result c.from_residual.ensures.0
-    (only_opened path _ _ c.args.options.cache is (c.in_err-load.ensures.no_other tells))
+    opened_failed path _ _ c.args.options.cache _ c.from_residual.ensures.0 is (c.in_err-load.ensures.no_other tells)
 
 pub returns-in_err-phase-clause-opened : goal.returns-in_err-phase-clause-opened
 returns-in_err-phase-clause-opened g c = λ path is tells.
-    opened_failed path.now _ _ c.from_residual-in_err-phase.result c.from_residual-in_err-phase.ensures.0
-    (only_opened path _ _ c.args.options.cache is (c.in_ok-load.ensures.no_other tells))
+    opened_failed path _ _ c.args.options.cache _ c.from_residual-in_err-phase.ensures.0 is
+    (c.in_ok-load.ensures.no_other tells)
 
 pub returns-in_err-ran-clause-opened : goal.returns-in_err-ran-clause-opened
 returns-in_err-ran-clause-opened g c = λ path is tells.
-    opened_failed path.now _ _ c.from_residual-in_err-ran.result c.from_residual-in_err-ran.ensures.0
-    (only_opened path _ _ c.args.options.cache is (c.in_ok-load.ensures.no_other tells))
+    opened_failed path _ _ c.args.options.cache _ c.from_residual-in_err-ran.ensures.0 is
+    (c.in_ok-load.ensures.no_other tells)
 
 pub returns-in_err-keep_run-clause-opened : goal.returns-in_err-keep_run-clause-opened
 returns-in_err-keep_run-clause-opened g c = λ path is tells.
-    let old = g.C.Keeper.opened c.args.keeper.now in
-    opened_failed path.now _ _ c.from_residual-in_err-keep_run.result c.from_residual-in_err-keep_run.ensures.0
-    (subst (IsStartedAtMost path.now old) (sym (c.in_err-keep_run.ensures.same_names tells))
-    (only_opened path _ _ c.args.options.cache is (c.in_ok-load.ensures.no_other tells)))
+    rw (c.in_err-keep_run.ensures.same_names tells)
+    (opened_failed path _ _ c.args.options.cache _ c.from_residual-in_err-keep_run.ensures.0 is
+    (c.in_ok-load.ensures.no_other tells))
 
 pub returns-clause-opened : goal.returns-clause-opened
 returns-clause-opened g c = λ path is tells.

@@ -1,47 +1,40 @@
 use Rattle.std.proofs.Common.{map, inr, Err, refl, subst}
 use Rattle.mw_drive.specs.HeldFiles.{IsKeptOf}
-use Rattle.mw_drive.specs.ProgramRuns.{evaluated, cache_of}
 use Rattle.mw_drive.specs.Works.{mode_of, run_text}
 use Rattle.mw_drive.proofs.HeldFiles.{held_failed, held_refused}
 use Rattle.mw_drive.proofs.OpenedFiles.{opened_refused}
 use Rattle.mw_drive.proofs.RunFaults.{bad_maps}
 use Rattle.mw_drive.proofs.SourceWritten.{written_nothing, refusal_written, resolved, few_items, types_written}
 use Rattle.mw_drive.proofs.SourceWritten.{run_written, erased_written, linked_written, may_be_linked, few_nodes}
-use Rattle.mw_drive.proofs.SourceWritten.{run_kernels, bad_written}
-use Rattle.mw_drive.proofs.SourceWritten.{refused_kept}
+use Rattle.mw_drive.proofs.SourceWritten.{run_kernels, bad_written, refused_kept}
 use Rattle.mw_drive.proofs.source.write_source.Goals as goal
 
 pub returns-in-Err-Refused-clause-meaning : goal.returns-in-Err-Refused-clause-meaning
 returns-in-Err-Refused-clause-meaning g c = λ honest.
-    refusal_written c.args.bytes.now c.args.fuel g.K.Sink.tells c.args.evaluation c.write_refusal.result _ _
-    c.in-Err-Refused.refusal c.in-Err-Refused.field-0 c.in-Err-Refused.field-0-is c.in-Err-Refused.ensures.refused
-    c.write_refusal.ensures.status c.write_refusal.ensures.usual c.write_refusal.ensures.writes
+    refusal_written c.args.bytes.now c.args.fuel c.args.evaluation c.in-Err-Refused.field-0-is
+    c.in-Err-Refused.ensures.refused c.write_refusal.ensures.status c.write_refusal.ensures.usual
+    c.write_refusal.ensures.writes
 
 pub returns-in-Err-Memory-clause-meaning : goal.returns-in-Err-Memory-clause-meaning
 returns-in-Err-Memory-clause-meaning g c = λ honest.
-    rw c.from.ensures (written_nothing c.args.bytes.now c.args.fuel g.K.Sink.tells c.args.evaluation _ _)
+    rw c.from.ensures (written_nothing c.args.bytes.now c.args.fuel c.args.evaluation _)
 
 pub ensure_typed-requires : goal.ensure_typed-requires
-ensure_typed-requires g c = resolved c.args.bytes.now c.args.fuel g.K.Sink.tells c.in-Ok.program c.in-Ok.ensures.found
+ensure_typed-requires g c = resolved c.in-Ok.program c.in-Ok.ensures.found
 
 pub returns-in-Err-Refused-ensure_typed-clause-meaning : goal.returns-in-Err-Refused-ensure_typed-clause-meaning
 returns-in-Err-Refused-ensure_typed-clause-meaning g c = λ honest.
-    types_written c.args.bytes.now c.args.fuel g.K.Sink.tells c.in-Ok.program c.in-Ok.ensures.found c.args.evaluation
-    c.write_refusal-in-Err-Refused-ensure_typed.result _ _ c.in-Err-Refused-ensure_typed.refusal
-    c.in-Err-Refused-ensure_typed.field-0 c.in-Err-Refused-ensure_typed.field-0-is
-    c.in-Err-Refused-ensure_typed.ensures.refused
-    c.write_refusal-in-Err-Refused-ensure_typed.ensures.status
-    c.write_refusal-in-Err-Refused-ensure_typed.ensures.usual
-    (rw c.as_slice.ensures at c.write_refusal-in-Err-Refused-ensure_typed.ensures.writes)
+    let written = c.write_refusal-in-Err-Refused-ensure_typed.ensures in
+    types_written c.args.bytes.now c.args.fuel c.args.evaluation c.in-Ok.program c.in-Ok.ensures.found
+    c.in-Err-Refused-ensure_typed.field-0-is c.in-Err-Refused-ensure_typed.ensures.refused written.status written.usual
+    (rw c.as_slice.ensures at written.writes)
 
 pub returns-in-Err-Memory-ensure_typed-clause-meaning : goal.returns-in-Err-Memory-ensure_typed-clause-meaning
 returns-in-Err-Memory-ensure_typed-clause-meaning g c = λ honest.
-    rw c.from-in-Err-Memory-ensure_typed.ensures
-    (written_nothing c.args.bytes.now c.args.fuel g.K.Sink.tells c.args.evaluation _ _)
+    rw c.from-in-Err-Memory-ensure_typed.ensures (written_nothing c.args.bytes.now c.args.fuel c.args.evaluation _)
 
 pub write_run-requires-clause-few : goal.write_run-requires-clause-few
-write_run-requires-clause-few g c =
-    λ κs live. few_items c.args.bytes.now c.args.fuel g.K.Sink.tells c.in-Ok.program c.in-Ok.ensures.found
+write_run-requires-clause-few g c = λ κs live. few_items c.in-Ok.program c.in-Ok.ensures.found
 
 pub write_run-requires-clause-workers : goal.write_run-requires-clause-workers
 write_run-requires-clause-workers g c = λ κs live. (rw c.in-Run.is at c.requires.possible).0
@@ -51,20 +44,15 @@ write_run-requires-clause-totals g c = λ κs live. (rw c.in-Run.is at c.require
 
 pub returns-in-Run-clause-meaning : goal.returns-in-Run-clause-meaning
 returns-in-Run-clause-meaning g c =
-    rw c.in-Run.is (λ honest.
-    run_written c.args.bytes.now c.args.fuel g.K.Sink.tells c.in-Ok.program c.in-Ok.ensures.found c.in-Run.options
-    c.write_run.result _ _
-    c.in-Ok-ensure_typed.ensures.typable c.in-Ok-ensure_typed.ensures.small (c.write_run.ensures.run honest))
+    rw c.in-Run.is (λ honest. run_written c.in-Ok.program c.in-Ok.ensures.found c.in-Ok-ensure_typed.ensures.typable
+    c.in-Ok-ensure_typed.ensures.small (c.write_run.ensures.run honest))
 
 pub write_erased-requires-clause-nodes : goal.write_erased-requires-clause-nodes
-write_erased-requires-clause-nodes g c =
-    few_nodes c.args.bytes.now c.args.fuel g.K.Sink.tells c.in-Ok.program c.in-Ok.ensures.found
+write_erased-requires-clause-nodes g c = few_nodes c.in-Ok.program c.in-Ok.ensures.found
 
 pub returns-in-Erased-clause-meaning : goal.returns-in-Erased-clause-meaning
 returns-in-Erased-clause-meaning g c =
-    rw c.in-Erased.is (λ honest.
-    erased_written c.args.bytes.now c.args.fuel g.K.Sink.tells c.in-Ok.program c.in-Ok.ensures.found
-    c.write_erased.result _ _
+    rw c.in-Erased.is (λ honest. erased_written c.in-Ok.program c.in-Ok.ensures.found
     c.in-Ok-ensure_typed.ensures.typable c.in-Ok-ensure_typed.ensures.small c.write_erased.ensures.run)
 
 pub write_linked-requires-clause-workers : goal.write_linked-requires-clause-workers
@@ -72,14 +60,12 @@ write_linked-requires-clause-workers g c = λ κs live. rw c.in-Linked.is at c.r
 
 pub write_linked-requires-clause-linkable : goal.write_linked-requires-clause-linkable
 write_linked-requires-clause-linkable g c = λ κs live.
-    may_be_linked c.args.bytes.now c.args.fuel g.K.Sink.tells c.in-Ok.program c.in-Ok.ensures.found
-    c.in-Ok-ensure_typed.ensures.typable c.in-Ok-ensure_typed.ensures.small
+    may_be_linked c.in-Ok.program c.in-Ok.ensures.found c.in-Ok-ensure_typed.ensures.typable
+    c.in-Ok-ensure_typed.ensures.small c.args.fuel
 
 pub returns-in-Linked-clause-meaning : goal.returns-in-Linked-clause-meaning
 returns-in-Linked-clause-meaning g c =
-    rw c.in-Linked.is (λ honest.
-    linked_written c.args.bytes.now c.args.fuel g.K.Sink.tells c.in-Ok.program c.in-Ok.ensures.found
-    c.in-Linked.workers c.write_linked.result _ _
+    rw c.in-Linked.is (λ honest. linked_written c.in-Ok.program c.in-Ok.ensures.found
     c.in-Ok-ensure_typed.ensures.typable c.in-Ok-ensure_typed.ensures.small c.write_linked.ensures.run)
 
 pub returns-in-Err-Refused-clause-held : goal.returns-in-Err-Refused-clause-held
@@ -88,9 +74,8 @@ returns-in-Err-Refused-clause-held g c = λ some tells.
 
 pub returns-in-Err-Refused-clause-kept : goal.returns-in-Err-Refused-clause-kept
 returns-in-Err-Refused-clause-kept g c = λ some honest shown kernels e means.
-    refused_kept (cache_of c.args.evaluation) (evaluated c.args.evaluation c.args.bytes.now c.args.fuel)
-    c.write_refusal.result c.in-Err-Refused.refusal g.K.Sink.tells _ _ _ _ _
-    (returns-in-Err-Refused-clause-meaning g c honest) c.write_refusal.ensures.status shown kernels e means
+    refused_kept c.write_refusal.result c.in-Err-Refused.refusal _ _ _
+    (returns-in-Err-Refused-clause-meaning g c honest) c.write_refusal.ensures.status means
 
 pub returns-in-Err-Memory-clause-held : goal.returns-in-Err-Memory-clause-held
 returns-in-Err-Memory-clause-held g c = λ some tells. held_failed (Err c.from.result) _ _ refl refl
@@ -102,11 +87,9 @@ returns-in-Err-Refused-ensure_typed-clause-held g c = λ some tells.
 
 pub returns-in-Err-Refused-ensure_typed-clause-kept : goal.returns-in-Err-Refused-ensure_typed-clause-kept
 returns-in-Err-Refused-ensure_typed-clause-kept g c = λ some honest shown kernels e means.
-    refused_kept (cache_of c.args.evaluation) (evaluated c.args.evaluation c.args.bytes.now c.args.fuel)
-    c.write_refusal-in-Err-Refused-ensure_typed.result c.in-Err-Refused-ensure_typed.refusal g.K.Sink.tells _ _ _ _ _
+    refused_kept c.write_refusal-in-Err-Refused-ensure_typed.result c.in-Err-Refused-ensure_typed.refusal _ _ _
     (returns-in-Err-Refused-ensure_typed-clause-meaning g c honest)
-    c.write_refusal-in-Err-Refused-ensure_typed.ensures.status shown
-    kernels e means
+    c.write_refusal-in-Err-Refused-ensure_typed.ensures.status means
 
 pub returns-in-Err-Memory-ensure_typed-clause-held : goal.returns-in-Err-Memory-ensure_typed-clause-held
 returns-in-Err-Memory-ensure_typed-clause-held g c = λ some tells.
@@ -115,8 +98,7 @@ returns-in-Err-Memory-ensure_typed-clause-held g c = λ some tells.
 pub returns-in-Run-clause-kept : goal.returns-in-Run-clause-kept
 returns-in-Run-clause-kept g c =
     rw c.in-Run.is (λ some honest shown kernels e means.
-    let r = run_kernels c.args.bytes.now c.args.fuel g.K.Sink.tells c.in-Ok.program c.in-Ok.ensures.found
-    c.in-Run.options.shown shown kernels e means in
+    let r = run_kernels c.in-Ok.program c.in-Ok.ensures.found means in
     subst (λ s. IsKeptOf (map (run_text (mode_of s)) kernels) c.write_run.result
     (g.C.Keeper.held c.args.keeper.now) (g.C.Keeper.held c.write_run.new.keeper)) r.0
     (c.write_run.ensures.kept some honest kernels e r.1))
@@ -124,11 +106,8 @@ returns-in-Run-clause-kept g c =
 pub returns-in-Run-clause-bad : goal.returns-in-Run-clause-bad
 returns-in-Run-clause-bad g c =
     rw c.in-Run.is (bad_maps c.write_run.result _ _
-    (λ d h tells.
-    bad_written c.args.bytes.now c.args.fuel g.K.Sink.tells c.in-Ok.program c.in-Ok.ensures.found
-    (mode_of c.in-Run.options.shown) c.in-Run.options.shown _ d c.in-Ok-ensure_typed.ensures.typable
-    c.in-Ok-ensure_typed.ensures.small refl (h tells))
-    c.write_run.ensures.bad)
+    (λ d h tells. bad_written c.in-Ok.program c.in-Ok.ensures.found c.in-Ok-ensure_typed.ensures.typable
+    c.in-Ok-ensure_typed.ensures.small (h tells)) c.write_run.ensures.bad)
 
 pub returns-in-Err-Refused-clause-opened : goal.returns-in-Err-Refused-clause-opened
 returns-in-Err-Refused-clause-opened g c = λ path is tells.

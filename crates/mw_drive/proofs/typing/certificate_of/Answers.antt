@@ -1,4 +1,4 @@
-use Rattle.std.proofs.Common.{true, subst}
+use Rattle.std.proofs.Common.{subst}
 use Rattle.mw_term.specs.Stops.{IfRefused}
 use Rattle.mw_reading.specs.SourceReading.{IsRefused}
 use Rattle.mw_drive.proofs.Certificates.{unread_certificate}
@@ -7,7 +7,7 @@ use Rattle.mw_drive.proofs.SourceWritten.{resolved}
 use Rattle.mw_drive.proofs.typing.certificate_of.Goals as goal
 
 pub certified-requires : goal.certified-requires
-certified-requires c = resolved c.args.bytes.now 0 true c.in-Ok.program c.in-Ok.ensures.found
+certified-requires c = resolved c.in-Ok.program c.in-Ok.ensures.found
 
 pub returns-in-Err-Refused : goal.returns-in-Err-Refused
 returns-in-Err-Refused c =
