@@ -10,7 +10,8 @@ use Rattle.std.proofs.lemmas.Bool.{cases_lt}
 use Rattle.std.proofs.lemmas.Option.{none-some, same_Some}
 use Rattle.std.proofs.lemmas.Str.Parse.{IsNumeralModel, numerals_by_fold}
 use Rattle.std.proofs.lemmas.Fmt.{decimal_is_IsNumeral, decimal_digit, first_decimal, decimal-digits_value}
-use Rattle.mw_key.specs.Numbers.{is_digit, number_in, natural_of, positive, negative, integer_of, below}
+use Rattle.mw_term.specs.Decimals.{is_digit, number_in}
+use Rattle.mw_key.specs.Numbers.{natural_of, positive, negative, integer_of, below}
 use Rattle.mw_key.proofs.Words.{is_space, no_space}
 
 abbrev AreDigits : List ℕ → Type 0

@@ -1,33 +1,9 @@
 // Numbers in words.
 
 ghost use Rattle.std.specs.Prelude.{◌≡◌, ◌≤◌, ◌^◌, IfSome};
-ghost use Rattle.mw_key.specs.Numbers.{is_digit, number_in, natural_of, negative, integer_of};
+ghost use Rattle.mw_key.specs.Numbers.{natural_of, negative, integer_of};
 
-fn is_digit(byte: u8) -> bool
-    ensures { result ≡ is_digit byte }
-{
-    byte.is_ascii_digit()
-}
-
-/// The number of at most 2^63 that the digits spell.
-#[tactic(auto, using(crate::proofs::Digits::number_laws))]
-fn number(digits: &[u8]) -> Option<u64>
-    ensures value { result ≡ number_in 0 digits.now }
-    ensures at_most { IfSome result (λ n. n ≤ 2 ^ 63) }
-{
-    let mut value: u64 = 0;
-    for (n, byte) in digits.iter().enumerate() {
-        if !is_digit(*byte) {
-            return None;
-        }
-        let digit = u64::from(*byte - b'0');
-        if value > (9_223_372_036_854_775_808 - digit) / 10 {
-            return None;
-        }
-        value = 10 * value + digit;
-    }
-    Some(value)
-}
+use mw_term::number_in;
 
 /// The number of at most 2^63 that the word spells with no leading zero.
 pub fn natural_of(word: &[u8]) -> Option<u64>
@@ -37,7 +13,7 @@ pub fn natural_of(word: &[u8]) -> Option<u64>
     match word {
         [] => None,
         [b'0', _, ..] => None,
-        _ => number(word),
+        _ => number_in(word),
     }
 }
 

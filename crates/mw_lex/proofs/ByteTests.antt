@@ -3,7 +3,8 @@ use Rattle.std.proofs.Common.{◌≡◌, ◌≢◌, ℕ, ◌≤◌, nat_le, sym,
 use Rattle.std.proofs.lemmas.Bool.{false≢true, eqb-true, eq-eqb, leb-true, le-leb, and_parts, and_from, or_cases}
 use Rattle.std.proofs.lemmas.Bool.{or_from}
 use Rattle.mw_lex.specs.Bytes.{IsBlank, IsAllowed, IsDigit, IsWordByte, IsCommentByte}
-use Rattle.mw_lex.specs.Pieces.{is_blank, is_digit, is_word_byte, is_comment_byte}
+use Rattle.mw_term.specs.Decimals.{is_digit}
+use Rattle.mw_lex.specs.Pieces.{is_blank, is_word_byte, is_comment_byte}
 
 pub digit_true : (b : ℕ) → is_digit b ≡ true → IsDigit b
 digit_true b e = let p = and_parts (nat_le 48 b) (nat_le b 57) e in (leb-true 48 b p.0, leb-true b 57 p.1)

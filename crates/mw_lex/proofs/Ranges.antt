@@ -7,7 +7,8 @@ use Rattle.mw_lex.specs.Bytes.{IsDigit}
 use Rattle.mw_lex.specs.Texts.{decimal}
 use Rattle.mw_lex.specs.Tokens.{Symbol, PureToken, token, paren_left, minus}
 use Rattle.mw_lex.specs.InOrder.{MayStand, IsInRange, AreInRange}
-use Rattle.mw_lex.specs.Pieces.{is_digit, number_in, next_to_last, last, is_paren_left, is_minus}
+use Rattle.mw_term.specs.Decimals.{is_digit, number_in}
+use Rattle.mw_lex.specs.Pieces.{next_to_last, last, is_paren_left, is_minus}
 use Rattle.mw_lex.proofs.ByteTests.{denied, digit_true, true_digit}
 
 pub range_push : (a b : Symbol) (tokens : List PureToken) (start stop : ℕ) (s : Symbol) → AreInRange a b tokens

@@ -11,7 +11,8 @@ use Rattle.mw_lex.specs.Tokens.{Symbol, PureToken, number, minus}
 use Rattle.mw_lex.specs.InOrder.{IsInRange}
 use Rattle.mw_lex.specs.Reading.{IsNoNumber, IsFault, no_number, long_name}
 use Rattle.mw_lex.specs.Lexing.{IsOfLexing}
-use Rattle.mw_lex.specs.Pieces.{is_digit, is_word_byte, number_in, number_answer, or_name, word_answer, run_answer}
+use Rattle.mw_term.specs.Decimals.{is_digit, number_in}
+use Rattle.mw_lex.specs.Pieces.{is_word_byte, number_answer, or_name, word_answer, run_answer}
 use Rattle.mw_lex.specs.Pieces.{next_to_last, last, opens_literal}
 use Rattle.mw_lex.proofs.ByteTests.{denied, digit_true, true_digit, true_word}
 use Rattle.mw_lex.proofs.Tables.{mark_no_word, reserved_in_range}

@@ -10,7 +10,8 @@ use Rattle.mw_lex.specs.Bytes.{IsBlank, IsDigit, IsWordByte}
 use Rattle.mw_lex.specs.Texts.{reserved_words, mark_texts, reserved, mark, IsText}
 use Rattle.mw_lex.specs.Tokens.{Symbol, number}
 use Rattle.mw_lex.specs.InOrder.{IsInRange}
-use Rattle.mw_lex.specs.Pieces.{is_blank, is_digit, is_word_byte}
+use Rattle.mw_term.specs.Decimals.{is_digit}
+use Rattle.mw_lex.specs.Pieces.{is_blank, is_word_byte}
 use Rattle.mw_lex.proofs.ByteTests.{denied, true_blank, true_digit, true_word, word_true, word_no_blank, word_no_hash}
 
 abbrev all_pass : (List ℕ × Symbol → Bool) → List (List ℕ × Symbol) → Bool

@@ -1,6 +1,7 @@
 -- What stands at the front of bytes, as functions that look at one byte after another.
-use Rattle.std.specs.Prelude.{◌≡◌, ℕ, suc, ◌+◌, ◌*◌, ◌-◌, ◌^◌, ◌<◌, ◌≤◌, Bool, true, false, ◌&&◌, ◌||◌, ◌==◌, nat_le}
+use Rattle.std.specs.Prelude.{◌≡◌, ℕ, suc, ◌+◌, ◌^◌, ◌<◌, ◌≤◌, Bool, true, false, ◌&&◌, ◌||◌, ◌==◌, nat_le}
 use Rattle.std.specs.Prelude.{nat_lt, if◌then◌else◌, List, [], ◌∷◌, length, drop, Option, Some, None, Result, Ok, Err}
+use Rattle.mw_term.specs.Decimals.{is_digit, number_in}
 use Rattle.mw_term.specs.declared.refusal.Refusal.{Refusal}
 use Rattle.mw_term.specs.declared.refusal.Refusal.TheVariants.{Number, Name}
 use Rattle.mw_term.specs.declared.refusal.Stop.{Stop}
@@ -14,9 +15,6 @@ use Rattle.mw_lex.specs.declared.token.Kind.{Kind}
 abbrev pub is_blank : ℕ → Bool
 is_blank b = b == 9 || b == 10 || b == 13 || b == 32
 
-abbrev pub is_digit : ℕ → Bool
-is_digit b = nat_le 48 b && nat_le b 57
-
 abbrev pub is_word_byte : ℕ → Bool
 is_word_byte b = is_digit b || (nat_le 65 b && nat_le b 90) || (nat_le 97 b && nat_le b 122) || b == 95
 
@@ -27,13 +25,6 @@ is_comment_byte b = b == 9 || b == 13 || (nat_le 32 b && nat_le b 126)
 abbrev pub count : (ℕ → Bool) → List ℕ → ℕ
 count test [] = 0
 count test (b ∷ bytes) = if test b then suc (count test bytes) else 0
-
--- the value of digits after a front of this value, which is at most 2^63
-abbrev pub number_in : ℕ → List ℕ → Option ℕ
-number_in value [] = Some value
-number_in value (b ∷ bytes) =
-    if is_digit b then (if nat_le (10 * value + (b - 48)) (2 ^ 63) then number_in (10 * value + (b - 48)) bytes else
-    None) else None
 
 -- a blank or a comment, a mark, a run of letters, digits and underscores, each with its length, or a strange byte with
 -- its offset

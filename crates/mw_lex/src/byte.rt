@@ -3,20 +3,15 @@
 #![tactic(auto, using(crate::proofs::Counts::counts_on, crate::proofs::Counts::counts_off, crate::proofs::Counts::counts_all))]
 
 ghost use Rattle.std.specs.Prelude.{◌≡◌, ◌≤◌, length};
-ghost use Rattle.mw_lex.specs.Pieces.{is_blank, is_digit, is_word_byte, is_comment_byte, count};
+ghost use Rattle.mw_lex.specs.Pieces.{is_blank, is_word_byte, is_comment_byte, count};
+
+use mw_term::is_digit;
 
 /// Whether the byte is a tab, a line feed, a carriage return or a space.
 pub fn is_blank(byte: u8) -> bool
     ensures { result ≡ is_blank byte }
 {
     byte == b'\t' || byte == b'\n' || byte == b'\r' || byte == b' '
-}
-
-/// Whether the byte is a decimal digit.
-pub fn is_digit(byte: u8) -> bool
-    ensures { result ≡ is_digit byte }
-{
-    byte >= b'0' && byte <= b'9'
 }
 
 /// Whether the byte is a letter, a digit or an underscore.

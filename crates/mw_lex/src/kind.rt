@@ -1,14 +1,14 @@
 // The kind of a word or a number.
 
 ghost use Rattle.std.specs.Prelude.{◌≡◌, ◌<◌, ◌≤◌, [], ◌++◌, length, IfOk, OnErr};
+ghost use Rattle.mw_term.specs.Decimals.{number_in};
 ghost use Rattle.mw_lex.specs.Tokens.{tokens_of, symbol_of};
-ghost use Rattle.mw_lex.specs.Pieces.{run_answer, number_answer, word_answer, number_in, is_paren_left, is_minus};
+ghost use Rattle.mw_lex.specs.Pieces.{run_answer, number_answer, word_answer, is_paren_left, is_minus};
 ghost use Rattle.mw_lex.specs.Pieces.{opens_literal, Gives};
 
-use crate::byte::is_digit;
-use crate::text::{number, reserved};
+use crate::text::reserved;
 use crate::token::{Kind, Token};
-use mw_term::{Name, Refusal, Stop};
+use mw_term::{Name, Refusal, Stop, is_digit, number_in};
 use std::alloc::{AllocError, Global};
 
 #[tactic(auto, using(crate::proofs::LastTokens::no_paren))]
@@ -50,7 +50,7 @@ fn name(alloc: Global, text: &[u8]) -> Result<Name, AllocError>
 fn number_kind(text: &[u8], at: u32, lowest: bool) -> Result<Kind, Stop>
     ensures { Gives result (number_answer lowest at (number_in 0 text.now)) }
 {
-    match number(text) {
+    match number_in(text) {
         None => Err(Stop::Refused(Refusal::Number(at))),
         Some(value) => {
             if value < 9_223_372_036_854_775_808 || lowest {

@@ -4,9 +4,8 @@ ghost use Rattle.std.specs.Prelude.{◌≡◌, [], ◌∷◌};
 ghost use Rattle.std.specs.Map.{lookup};
 ghost use Rattle.std.specs.Str.{bytes_eq};
 ghost use Rattle.mw_lex.specs.Texts.{reserved, mark, reserved_words};
-ghost use Rattle.mw_lex.specs.Pieces.{kind_seen, number_in, of_length};
+ghost use Rattle.mw_lex.specs.Pieces.{kind_seen, of_length};
 
-use crate::byte::is_digit;
 use crate::token::Kind;
 
 // The first bytes are compared apart, with no call: most words differ there.
@@ -154,23 +153,4 @@ pub fn mark_of_two(first: u8, second: u8) -> Option<Kind>
         (b'|', b'|') => Some(Kind::Or),
         _ => None,
     }
-}
-
-/// The number of at most 2^63 that the text is.
-#[tactic(auto, using(crate::proofs::Counts::number_laws))]
-pub fn number(text: &[u8]) -> Option<u64>
-    ensures { result ≡ number_in 0 text.now }
-{
-    let mut value: u64 = 0;
-    for (n, byte) in text.iter().enumerate() {
-        if !is_digit(*byte) {
-            return None;
-        }
-        let digit = (*byte - b'0') as u64;
-        if value > (9_223_372_036_854_775_808 - digit) / 10 {
-            return None;
-        }
-        value = 10 * value + digit;
-    }
-    Some(value)
 }

@@ -40,3 +40,4 @@ pub mod ReachedAnswers
 pub mod Agreement
 pub mod NewNames
 pub mod ErasedMain
+pub mod ReachedLaws

@@ -11,3 +11,4 @@ pub mod MovedCode
 pub mod TypesFormed
 pub mod FlatTypes
 pub mod KernelLabels
+pub mod Decimals

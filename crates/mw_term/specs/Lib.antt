@@ -16,3 +16,4 @@ pub mod Stops
 pub mod Limits
 pub mod SmallTypes
 pub mod TypingLaws
+pub mod Decimals

@@ -5,6 +5,7 @@
 #![tactic(auto)]
 
 pub mod copy;
+pub mod decimal;
 pub mod laws;
 pub mod limits;
 pub mod measure;
@@ -15,6 +16,7 @@ pub mod term;
 pub mod value;
 
 pub use crate::copy::{copied_ground, copied_kernel_type, copied_name, copied_term};
+pub use crate::decimal::{is_digit, number_in};
 pub use crate::limits::{MOST_CODE_DEPTH, MOST_CODE_NODES, MOST_NESTING, MOST_TYPE_NODES};
 pub use crate::measure::{depth, nodes};
 pub use crate::name::Name;

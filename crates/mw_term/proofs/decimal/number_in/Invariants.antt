@@ -1,6 +1,6 @@
 use Rattle.std.proofs.Common.{◌≡◌, ◌≤◌, ◌^◌, drop}
-use Rattle.mw_key.specs.Numbers.{number_in}
-use Rattle.mw_key.proofs.number.number.Given as goal
+use Rattle.mw_term.specs.Decimals.{number_in}
+use Rattle.mw_term.proofs.decimal.number_in.Given as goal
 
 abbrev pub invariant-loop-n : goal.invariant-loop-n
 invariant-loop-n l =

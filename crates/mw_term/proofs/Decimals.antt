@@ -3,7 +3,7 @@ use Rattle.std.proofs.Common.{if◌then◌else◌, ◌≡◌, ℕ, suc, ◌+◌,
 use Rattle.std.proofs.Common.{get_or, drop-cons, add-one, refl, ap, sym, ◌∙◌, Bool, true, false, Some, None}
 use Rattle.std.proofs.lemmas.Bool.{le-leb, lt-leb}
 use Rattle.std.proofs.lemmas.List.{drop_all}
-use Rattle.mw_key.specs.Numbers.{is_digit, number_in}
+use Rattle.mw_term.specs.Decimals.{is_digit, number_in}
 
 module _ (value n : ℕ) (bytes : List ℕ) where
   digit_here : n < length bytes → (d s : Bool) → is_digit (get_or bytes n 0) ≡ d

@@ -1,7 +1,0 @@
-use Rattle.std.proofs.Common.{◌≡◌, ◌≤◌, ◌^◌, drop}
-use Rattle.mw_lex.specs.Pieces.{number_in}
-use Rattle.mw_lex.proofs.text.number.Given as goal
-
-abbrev pub invariant-loop-n : goal.invariant-loop-n
-invariant-loop-n l =
-    record { in_range : l.value ≤ 2 ^ 63; same : number_in l.value (drop l.n l.text) ≡ number_in 0 l.text }
