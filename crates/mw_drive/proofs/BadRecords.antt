@@ -1,13 +1,13 @@
 -- Which records are bad that end a run.
 use Rattle.std.proofs.Common.{◌≡◌, ◌⊎◌, inl, inr, ℕ, zero, suc, List, [], ◌∷◌, Bool, IsTrue, Option, Some, None, refl}
-use Rattle.std.proofs.Common.{ap, sym, arith}
+use Rattle.std.proofs.Common.{ap, arith}
 use denote.Ref.{Bor}
 use Rattle.std.specs.Prelude.{slice_get}
 use Rattle.mw_term.specs.Terms.{Expression, KernelType, Value, expression_of}
 use Rattle.mw_term.specs.Programs.{Definition, value as defines, kernel, PureProgram}
 use Rattle.mw_meaning.specs.declared.mode.Mode.{Mode}
 use Rattle.mw_meaning.specs.StagedMeaning.{runs}
-use Rattle.mw_meaning.specs.Outcomes.{Outcome, came_to, trapped, bounded, stuck, item_outcome, names_of_items}
+use Rattle.mw_meaning.specs.Outcomes.{Outcome, came_to, item_outcome, names_of_items}
 use Rattle.mw_store.specs.Loads.{LoadState, IsLoadOf}
 use Rattle.mw_cache.specs.Gots.{CacheState}
 use Rattle.mw_tasks.specs.declared.outcome.ItemOutcome.{ItemOutcome}

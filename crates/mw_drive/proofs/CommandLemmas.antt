@@ -8,13 +8,11 @@ use Rattle.mw_console.specs.Texts.{Ending, answered, trapped, bounded, ending_st
 use Rattle.mw_meaning.specs.declared.mode.Mode.{Mode}
 use Rattle.mw_meaning.specs.declared.mode.Mode.TheVariants.{Plain, Simple}
 use Rattle.mw_words.specs.Words.{PureCommand, PurePart, run, erased, link, sample, migrate, wat, check, cert, recheck}
-use Rattle.mw_words.specs.Words.{IsNumber}
-use Rattle.mw_words.specs.Words.{IsNumberOf, not_named, named_once, Makes, run_of, erased_of, link_of, migrate_of}
-use Rattle.mw_words.specs.Words.{Means, parts_command, sample_command, wat_command, check_command, cert_command}
-use Rattle.mw_words.specs.Words.{recheck_command}
+use Rattle.mw_words.specs.Words.{IsNumberOf, not_named, named_once, Makes, run_of, link_of}
+use Rattle.mw_words.specs.Words.{Means, parts_command, sample_command}
 use Rattle.mw_words.proofs.LawLemmas.{one_command}
 use Rattle.mw_console.specs.declared.status.Status.{Status}
-use Rattle.mw_console.specs.declared.status.Status.TheVariants.{Answer, Trap, Refused, Bound, Read, Write, Cache}
+use Rattle.mw_console.specs.declared.status.Status.TheVariants.{Answer, Read, Write, Cache}
 use Rattle.mw_console.specs.declared.status.Status.TheVariants.{Memory}
 use Rattle.mw_drive.specs.Works.{linking, writing, judging, migrating, certifying, rechecking}
 use Rattle.mw_drive.specs.Works.{Work, running, erasing, sampling, Meaning, ran, mode_of, run_text, IsMeaning}

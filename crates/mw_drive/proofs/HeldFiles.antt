@@ -1,6 +1,6 @@
 -- What the cache file of a run holds, from what was opened and kept.
 use Rattle.std.proofs.Common.{◌≡◌, ◌⊎◌, inl, inr, ℕ, List, [], ◌∷◌, map, take, Option, Some, None, IsSome, IsNone, Bool}
-use Rattle.std.proofs.Common.{IsTrue, Result, Ok, Err, IsErr, IfOk, refl, sym, ap, ◌∙◌, subst, arith}
+use Rattle.std.proofs.Common.{IsTrue, Result, Ok, IsErr, IfOk, refl, sym, ap, ◌∙◌, subst, arith}
 use Rattle.std.specs.List.{AllByRecursion}
 use Rattle.std.specs.Result.{IsErrAnd}
 use Rattle.mw_term.specs.declared.refusal.Refusal.{Refusal}
@@ -9,11 +9,10 @@ use Rattle.mw_outside.specs.declared.errors.WriteFault.TheVariants as fault
 use Rattle.mw_meaning.specs.declared.mode.Mode.{Mode}
 use Rattle.mw_store.specs.Loads.{LoadState}
 use Rattle.mw_cache.specs.Gots.{CacheState}
-use Rattle.mw_console.specs.Texts.{Ending, answered, trapped, bounded, ending_status}
+use Rattle.mw_console.specs.Texts.{Ending, ending_status}
 use Rattle.mw_console.specs.declared.status.Status.{Status}
-use Rattle.mw_console.specs.declared.status.Status.TheVariants.{Answer, Trap, Usage, Refused, Bound}
-use Rattle.mw_console.specs.declared.status.Status.TheVariants.{Read as Unreadable, Write, Cache, Memory, BadCache}
-use Rattle.mw_console.specs.declared.status.Status.TheVariants.{BadModule, Invalid, NotTyped}
+use Rattle.mw_console.specs.declared.status.Status.TheVariants.{Refused}
+use Rattle.mw_console.specs.declared.status.Status.TheVariants.{Cache, Memory}
 use Rattle.mw_keeping.specs.CacheFiles.{IsReadFile, IsOpened}
 use Rattle.mw_keeping.specs.KeptFiles.{IsKeptFile, HasGoodFront}
 use Rattle.mw_keeping.specs.declared.opening.CacheFile.{CacheFile}
@@ -22,10 +21,10 @@ use Rattle.mw_keeping.proofs.KeptFiles.{front_stays, front_then, kept_none, kept
 use Rattle.mw_keeping.specs.Migrations.{IsMigratedFile}
 use Rattle.mw_store.specs.Records.{file_of}
 use Rattle.mw_drive.specs.declared.fault.RunFault.{RunFault}
-use Rattle.mw_drive.specs.declared.fault.RunFault.TheVariants.{Unwritten, Bad}
+use Rattle.mw_drive.specs.declared.fault.RunFault.TheVariants.{Unwritten}
 use Rattle.mw_drive.specs.declared.items.Built.{Built}
-use Rattle.mw_drive.specs.Extents.{Kind, on_a_file, over_a_cache, on_a_number, on_a_cache}
-use Rattle.mw_drive.specs.HeldFiles.{IsHeldBy, IsMigratedWith, IsHeldWith, IsHeldAfter, IsKeptOf, IsKeptWith}
+use Rattle.mw_drive.specs.Extents.{Kind}
+use Rattle.mw_drive.specs.HeldFiles.{IsHeldBy, IsHeldWith, IsHeldAfter, IsKeptOf, IsKeptWith}
 use Rattle.mw_drive.specs.HeldFiles.{IsStatusAfter, texts_built}
 use Rattle.mw_drive.specs.ProgramRuns.{kernel_of, kernels_of, IsBuilt, HasEnding}
 use Rattle.mw_drive.specs.Running.{kind_with}

@@ -4,7 +4,7 @@ use Rattle.mw_term.specs.Terms.{Expression, KernelType, Value, expression_of}
 use Rattle.mw_term.specs.Programs.{Definition, value as defines, kernel, PureProgram, program_of}
 use Rattle.mw_term.specs.declared.program.Program.{Program}
 use Rattle.mw_meaning.specs.declared.mode.Mode.{Mode}
-use Rattle.mw_meaning.specs.Outcomes.{Outcome, came_to, trapped, bounded, stuck, names_of_items}
+use Rattle.mw_meaning.specs.Outcomes.{Outcome, names_of_items}
 use Rattle.mw_cache.specs.Gots.{CacheState}
 use Rattle.mw_tasks.specs.declared.outcome.ItemOutcome.{ItemOutcome}
 use Rattle.mw_tasks.specs.declared.outcome.ItemOutcome.TheVariants.{Code, Trap, Bound}

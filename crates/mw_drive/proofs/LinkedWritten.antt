@@ -1,5 +1,5 @@
 -- What was written of a program whose kernels were to be linked.
-use Rattle.std.proofs.Common.{◌≡◌, ℕ, List, ◌++◌, Some, Bool, IsTrue, Result, Ok, Err, IfOk, sym, ap}
+use Rattle.std.proofs.Common.{◌≡◌, ℕ, List, Some, Bool, Result, Ok, Err, IfOk, sym, ap}
 use Rattle.std.proofs.Common.{◌∙◌}
 use Rattle.std.proofs.Common.{subst}
 use Rattle.std.specs.Prelude.{pos}

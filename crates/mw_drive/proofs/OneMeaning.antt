@@ -19,18 +19,16 @@ use Rattle.mw_scope.specs.Scopes.{name_of}
 use Rattle.mw_infer.specs.Checking.{IsFirstRefusal, IsWritten}
 use Rattle.mw_infer.proofs.Progressing.{resolved-written}
 use Rattle.mw_infer.proofs.Refusals.{refusal-one, typable-refused}
-use Rattle.mw_console.specs.Texts.{Ending}
 use Rattle.mw_meaning.specs.declared.mode.Mode.TheVariants.{Plain}
 use Rattle.mw_drive.specs.declared.shown.Shown.TheVariants.{Lines}
 use Rattle.mw_reading.specs.NamedPrograms.{NamedProgram, unnamed, names_of}
 use Rattle.mw_reading.specs.SourceReading.{IsRead, IsRefused, too_large, at_bytes, at_tokens, at_names}
-use Rattle.mw_link.specs.Linked.{Kernel}
 use Rattle.mw_drive.specs.ProgramMeaning.{items_run, ended, program_run, erased_ending}
-use Rattle.mw_drive.specs.LinkedPrograms.{LinkRun, in_one, cut_short, link_run}
+use Rattle.mw_drive.specs.LinkedPrograms.{LinkRun, link_run}
 use Rattle.mw_wasm.specs.Syntax.{PureModule}
-use Rattle.mw_drive.specs.Works.{Meaning, running, mode_of, refused, ran, erased, IsAccepted, IsMeaning, of_refusal}
+use Rattle.mw_drive.specs.Works.{Meaning, running, mode_of, refused, erased, IsAccepted, IsMeaning, of_refusal}
 use Rattle.mw_drive.specs.Works.{of_types, of_program, of_erased_refusal, of_erased}
-use Rattle.mw_drive.specs.Works.{of_link_refusal, of_joined, of_unjoined, joined, unjoined}
+use Rattle.mw_drive.specs.Works.{of_link_refusal, of_joined, of_unjoined}
 use Rattle.mw_drive.specs.Works.{of_migration, of_binary, of_bad_binary, of_module, of_bad_file}
 use Rattle.mw_drive.specs.Works.{of_untyped, of_certificate, of_unread, of_recheck, CertifiesWithin, Rechecks}
 use Rattle.mw_drive.specs.Works.{migrated, judged, faulty, certified, rechecked}

@@ -1,20 +1,16 @@
 -- With which names the keeper of a cache file was started, from what was opened.
-use Rattle.std.proofs.Common.{◌≡◌, inl, ℕ, List, Option, Some, None, option_map, Bool, Result, Ok, Err, IsErr}
+use Rattle.std.proofs.Common.{◌≡◌, ℕ, List, Option, Some, None, option_map, Bool, Result, IsErr}
 use Rattle.std.proofs.Common.{IfOk, refl, arith}
 use denote.Ref.{Bor}
 use Rattle.mw_term.specs.declared.refusal.Refusal.{Refusal}
 use Rattle.mw_outside.specs.declared.errors.WriteFault.TheVariants as fault
 use Rattle.mw_words.specs.Words.{word_in}
 use Rattle.mw_store.specs.Loads.{LoadState}
-use Rattle.mw_keeping.specs.CacheFiles.{IsOpened, IsStartedWith, IsStartedAtMost, IsStartedFor, IsNoOtherStarted}
+use Rattle.mw_keeping.specs.CacheFiles.{IsOpened, IsStartedAtMost, IsStartedFor, IsNoOtherStarted}
 use Rattle.mw_keeping.specs.declared.opening.CacheFile.{CacheFile}
-use Rattle.mw_keeping.specs.declared.opening.CacheFile.TheVariants.{Absent, Unread, Read}
 use Rattle.mw_console.specs.declared.status.Status.{Status}
-use Rattle.mw_console.specs.declared.status.Status.TheVariants.{Answer, Trap, Usage, Refused, Bound}
-use Rattle.mw_console.specs.declared.status.Status.TheVariants.{Read as Unreadable, Write, Cache, Memory, BadCache}
-use Rattle.mw_console.specs.declared.status.Status.TheVariants.{BadModule, Invalid, NotTyped}
+use Rattle.mw_console.specs.declared.status.Status.TheVariants.{Refused}
 use Rattle.mw_drive.specs.declared.fault.RunFault.{RunFault}
-use Rattle.mw_drive.specs.declared.fault.RunFault.TheVariants.{Unwritten, Bad}
 use Rattle.mw_drive.specs.HeldFiles.{IsStatusAfter}
 use Rattle.mw_drive.specs.OpenedFiles.{IsOpenedWith, IsOpenedAfter}
 use Rattle.mw_drive.specs.Running.{IsStatusOf}

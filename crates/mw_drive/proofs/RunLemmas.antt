@@ -1,5 +1,5 @@
 -- From the parts of a run to the whole.
-use Rattle.std.proofs.Common.{◌≡◌, ◌⊎◌, inl, inr, ℕ, ◌<◌, List, [], ◌++◌, Option, None, Some, Bool, true, false, IsTrue}
+use Rattle.std.proofs.Common.{◌≡◌, ◌⊎◌, inl, inr, ℕ, ◌<◌, List, [], ◌++◌, Option, None, Some, Bool, IsTrue}
 use Rattle.std.proofs.Common.{IsNone, IsSome, ◌∙◌, take, length, Result, Ok, Err, IfOk, IfErr, refl, sym, ap}
 use Rattle.std.proofs.Common.{subst, arith}
 use denote.Ref.{Bor}
@@ -15,11 +15,11 @@ use Rattle.mw_drive.specs.declared.shown.Shown.{Shown}
 use Rattle.mw_drive.specs.declared.shown.Shown.TheVariants.{Lines}
 use Rattle.mw_link.specs.Linked.{Kernel}
 use Rattle.mw_console.specs.Reading.{IsFront}
-use Rattle.mw_console.specs.Texts.{Ending, answered, trapped, bounded, ending_status}
+use Rattle.mw_console.specs.Texts.{Ending}
 use Rattle.mw_reading.specs.NamedPrograms.{NamedProgram, unnamed}
 use Rattle.mw_console.specs.declared.status.Status.{Status}
-use Rattle.mw_console.specs.declared.status.Status.TheVariants.{Answer, Trap, Usage, Refused, Bound, Read, Write}
-use Rattle.mw_console.specs.declared.status.Status.TheVariants.{Cache, Memory, BadCache, BadModule, Invalid, NotTyped}
+use Rattle.mw_console.specs.declared.status.Status.TheVariants.{Read, Write}
+use Rattle.mw_console.specs.declared.status.Status.TheVariants.{Cache, Memory}
 use Rattle.mw_reading.specs.SourceReading.{IsRead, IsSmall, too_large, at_bytes, at_tokens, at_names}
 use Rattle.mw_drive.specs.Works.{joined, unjoined, migrated, written, judged, faulty, certified, rechecked}
 use Rattle.mw_drive.specs.Works.{Work, running, erasing, linking, Meaning, refused, ran, erased, IsMeaning, of_refusal}
@@ -31,10 +31,10 @@ use Rattle.mw_drive.specs.Honest.{IsHonestCache}
 use Rattle.mw_drive.specs.ProgramRuns.{IsWrittenMeaning, IsEndMeaning, IsEndedSource, IsUsual, evaluated}
 use Rattle.mw_drive.specs.declared.source.Evaluation.{Evaluation}
 use Rattle.mw_drive.specs.declared.source.Evaluation.TheVariants.{Run, Erased, Linked}
-use Rattle.mw_drive.specs.Extents.{a_front, whole, unkept, all_or_nothing, unsaid, never}
-use Rattle.mw_drive.specs.Extents.{Kind, on_a_file, over_a_cache, on_a_number, on_a_cache, extent}
+use Rattle.mw_drive.specs.Extents.{a_front, whole, unkept, unsaid, never}
+use Rattle.mw_drive.specs.Extents.{Kind, over_a_cache, extent}
 use Rattle.mw_drive.specs.Running.{most_of_source, Sources, Wanted, Has, Lacks, HasAll, has_none, has_more, LacksSome}
-use Rattle.mw_drive.specs.Running.{lacks_this, lacks_later, IsFaithful, IsMemory, IsCarriedOut, IsStatusOf, IsWritten, kind_with}
+use Rattle.mw_drive.specs.Running.{lacks_this, lacks_later, IsFaithful, IsMemory, IsCarriedOut, IsStatusOf, kind_with}
 
 -- a source with a meaning is too large, and refused for it, or small
 large_or_small : {bytes : List ℕ} {fuel : ℕ} {shown : Shown} {m : Meaning} → IsMeaning (running bytes fuel shown) m

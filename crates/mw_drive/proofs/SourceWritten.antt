@@ -16,7 +16,6 @@ use Rattle.mw_term.specs.declared.refusal.Stop.TheVariants.{Refused as StopRefus
 use Rattle.mw_infer.specs.Checking.{IsFirstRefusal, NoneTooBig}
 use Rattle.mw_term.specs.Parts.{IsResolved}
 use Rattle.mw_meaning.specs.declared.mode.Mode.TheVariants.{Plain}
-use Rattle.mw_meaning.specs.declared.mode.Mode.{Mode}
 use Rattle.mw_console.specs.Texts.{Ending, refusal_line}
 use Rattle.mw_console.specs.declared.status.Status.{Status}
 use Rattle.mw_console.specs.declared.status.Status.TheVariants.{Refused}
@@ -24,11 +23,10 @@ use Rattle.mw_drive.specs.declared.source.Evaluation.{Evaluation}
 use Rattle.mw_drive.specs.declared.source.Evaluation.TheVariants.{Run, Erased, Linked}
 use Rattle.mw_drive.specs.declared.shown.Shown.{Shown}
 use Rattle.mw_drive.specs.declared.shown.Shown.TheVariants.{Lines}
-use Rattle.mw_reading.specs.NamedPrograms.{NamedProgram, unnamed, names_of, named_program_of}
+use Rattle.mw_reading.specs.NamedPrograms.{NamedProgram, unnamed, named_program_of}
 use Rattle.mw_reading.specs.SourceReading.{IsRead, IsRefused}
 use Rattle.mw_drive.specs.declared.fault.RunFault.{RunFault}
 use Rattle.mw_drive.specs.declared.fault.RunFault.TheVariants.{Unwritten}
-use Rattle.mw_drive.specs.declared.program.RunOptions.{RunOptions}
 use Rattle.mw_drive.specs.BadRecords.{IsBadRecord, IsBadOf, of_run}
 use Rattle.mw_link.specs.Linked.{Kernel}
 use Rattle.mw_drive.specs.ProgramMeaning.{items_run, ended, program_run, erased_ending}
@@ -36,8 +34,8 @@ use Rattle.mw_drive.specs.LinkedPrograms.{in_one, link_run}
 use Rattle.mw_drive.specs.ProgramRuns.{evaluated, cache_of, IsEndOf, IsEnded, IsEndMeaning, IsUsual, IsWrittenRun}
 use Rattle.mw_drive.specs.ProgramRuns.{IsWrittenErased, IsWrittenLinked, IsWrittenMeaning}
 use Rattle.mw_drive.specs.Works.{Work, mode_of, IsAccepted, running, erasing, linking}
-use Rattle.mw_drive.specs.Works.{Meaning, refused, ran, erased, joined, unjoined}
-use Rattle.mw_drive.specs.Works.{migrated, written, judged, faulty, certified, rechecked, status_of, IsMeaning}
+use Rattle.mw_drive.specs.Works.{Meaning, refused, ran, erased}
+use Rattle.mw_drive.specs.Works.{written, status_of, IsMeaning}
 use Rattle.mw_drive.specs.Works.{of_refusal, of_types}
 use Rattle.mw_drive.specs.Works.{of_program, of_erased_refusal, of_erased, of_link_refusal}
 use Rattle.mw_drive.specs.WorkLaws.{IsOnFile}

@@ -10,6 +10,7 @@ use mw_term::{Base, Ground, KType};
 use mw_types::Ty;
 use std::alloc::{AllocError, Global};
 
+/// The type of pairs.
 #[inline(always)]
 pub fn pair(alloc: Global, left: Ty, right: Ty) -> Result<Ty, AllocError>
     ensures { IfOk result (λ ty. type_of ty ≡ pair_ty (type_of left) (type_of right)) }
@@ -17,6 +18,7 @@ pub fn pair(alloc: Global, left: Ty, right: Ty) -> Result<Ty, AllocError>
     Ok(Ty::Pair(Box::new(alloc, left)?, Box::new(alloc, right)?))
 }
 
+/// The type of functions.
 #[inline(always)]
 pub fn function(alloc: Global, from: Ty, to: Ty) -> Result<Ty, AllocError>
     ensures { IfOk result (λ ty. type_of ty ≡ function_ty (type_of from) (type_of to)) }
@@ -24,12 +26,14 @@ pub fn function(alloc: Global, from: Ty, to: Ty) -> Result<Ty, AllocError>
     Ok(Ty::Arrow(Box::new(alloc, from)?, Box::new(alloc, to)?))
 }
 
+/// The type of code, with a classifier.
 pub fn code(alloc: Global, classifier: u64, ty: Ty) -> Result<Ty, AllocError>
     ensures { IfOk result (λ code. type_of code ≡ code_ty classifier (type_of ty)) }
 {
     Ok(Ty::Code(classifier, Box::new(alloc, ty)?))
 }
 
+/// The type of closed code.
 pub fn closed(alloc: Global, ty: Ty) -> Result<Ty, AllocError>
     ensures { IfOk result (λ code. type_of code ≡ closed_ty (type_of ty)) }
 {

@@ -337,6 +337,7 @@ fn connected_tree(room: Room, connective: Connective, tokens: &[Token]) -> Read<
     }
 }
 
+/// The tree of an expression.
 #[cycle(trees)]
 pub fn expr_tree(room: Room, tokens: &[Token]) -> Read<Box<Tree>>
     ensures { Reads room (tree expr) tokens.now tree_in result }
@@ -482,6 +483,7 @@ fn scoped(
     }
 }
 
+/// The tree of a function from its parameter on, whose body stands behind the mark.
 #[cycle(trees)]
 pub fn parameter_tree(room: Room, mark: Mark, tokens: &[Token]) -> Read<Function>
     ensures { Reads room (parameter (mark_in mark)) tokens.now function_in result }
@@ -502,6 +504,7 @@ pub fn parameter_tree(room: Room, mark: Mark, tokens: &[Token]) -> Read<Function
     }
 }
 
+/// The rest of a definition, up to the end of its body, which stands behind the mark.
 #[cycle(trees)]
 pub fn body_tree(room: Room, mark: Mark, tokens: &[Token]) -> Read<Defined>
     ensures { Reads room (body (mark_in mark)) tokens.now definition_in result }

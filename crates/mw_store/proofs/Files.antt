@@ -11,7 +11,7 @@ use Rattle.sha2.specs.Sha256.{sha256}
 use Rattle.sha2.proofs.Facts256.{length-sha256}
 use Rattle.mw_key.proofs.Lengths.{short_text}
 use Rattle.mw_store.specs.Records.{Kept, four, body_of, record_bytes, file_of, IsWhole}
-use Rattle.mw_store.specs.Loads.{Begins, Counts, IsLoad, file_limit}
+use Rattle.mw_store.specs.Loads.{Counts, IsLoad, file_limit}
 use Rattle.mw_store.specs.LoadLaws.{OneLoad, WholeFilesAreLoaded, FrontIsLoaded, OnlyTheFrontIsRead}
 
 -- fronts of one length are one

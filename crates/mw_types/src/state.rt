@@ -228,7 +228,7 @@ fn shape_of(met: Met) -> Shape
     }
 }
 
-// Two nodes are to be one.
+/// Notes that two nodes are to be one.
 pub fn postpone(state: &mut State, wait: Pending) -> Result<(), AllocError>
     requires sound { Sound state.old }
     requires left { wait.left < length state.old.parent.items }

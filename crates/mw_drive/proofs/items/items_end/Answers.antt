@@ -1,6 +1,5 @@
 use Rattle.std.proofs.Common.{arith}
 use Rattle.std.proofs.lemmas.List.{length-map}
-use Rattle.mw_term.specs.Terms.{expression_of, kernel_type_of}
 use Rattle.mw_reading.specs.NamedPrograms.{item_of, named_program_of}
 use Rattle.mw_drive.specs.ItemOutcomes.{HasOneForEach, ArePlaced}
 use Rattle.mw_drive.proofs.Loops.{named, named_there, let_at, kernel_at, reaches_first, reaches_let, reaches_code}

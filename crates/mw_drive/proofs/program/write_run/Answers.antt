@@ -4,14 +4,12 @@ use Rattle.mw_store.specs.Loads.{IsLoadOf}
 use Rattle.mw_cache.specs.Gots.{CacheState}
 use Rattle.mw_cache.specs.HonestFiles.{IsHonest}
 use Rattle.mw_cached.specs.StrayRecords.{IsStrayRecord}
-use Rattle.mw_keeping.specs.CacheFiles.{IsStartedAtMost}
 use Rattle.mw_keeping.specs.KeptFiles.{IsKeptFile, HasGoodFront}
 use Rattle.mw_drive.specs.BadRecords.{HasBadRecord}
 use Rattle.mw_drive.specs.HeldFiles.{texts_built}
 use Rattle.mw_drive.specs.OpenedFiles.{IsOpenedWith}
 use Rattle.mw_drive.specs.Honest.{IsHonestCache}
-use Rattle.mw_reading.specs.NamedPrograms.{named_program_of}
-use Rattle.mw_drive.specs.ProgramRuns.{kernels_of, IsRanTo, IsEndOf}
+use Rattle.mw_drive.specs.ProgramRuns.{kernels_of}
 use Rattle.mw_drive.specs.Works.{mode_of, run_text}
 use Rattle.mw_drive.proofs.BadRecords.{bad_of_items, bad_of_main, load_of_stray}
 use Rattle.mw_drive.proofs.Fronts.{grows_nothing}

@@ -7,7 +7,7 @@ use Rattle.mw_tasks.specs.Phases.{codes_in}
 use Rattle.mw_reading.specs.NamedPrograms.{named_program_of}
 use Rattle.mw_drive.specs.ProgramMeaning.{all_gave, items_run, program_run, ended}
 use Rattle.mw_drive.specs.ItemOutcomes.{outcomes_run, run_with}
-use Rattle.mw_drive.specs.ProgramRuns.{ending_of, kernels_of, IsRanTo, IsBuilt}
+use Rattle.mw_drive.specs.ProgramRuns.{ending_of, kernels_of, IsBuilt}
 use Rattle.mw_drive.specs.Works.{mode_of, shown_text}
 use Rattle.mw_drive.proofs.Fronts.{grows_front, grows_nothing, grows_whole}
 use Rattle.mw_drive.proofs.HonestRuns.{none_wrong}

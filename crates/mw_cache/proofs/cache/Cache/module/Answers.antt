@@ -1,7 +1,7 @@
 use Rattle.std.proofs.Common.{sym, ap, ◌∙◌, subst}
 use Rattle.std.specs.Arc.{arc_value}
 use Rattle.mw_cache.specs.Gots.{text_in}
-use Rattle.mw_cache.proofs.Modules.{IsAt, wasm_at, shape_at, stands_at, entry_wasm_in, entry_shape_in, entry_stands_in}
+use Rattle.mw_cache.proofs.Modules.{IsAt, wasm_at, shape_at, stands_at, entry_shape_in, entry_stands_in}
 use Rattle.mw_cache.proofs.cache.Cache.module.Goals as goal
 
 pub returns-in-Loaded-clause-wasm : goal.returns-in-Loaded-clause-wasm
