@@ -1,10 +1,10 @@
 #!/bin/sh
-# stage.sh [PROGRAM [OLDER]]: times the first stage beside OCaml's bytecode, where there is an ocamlc. Four sources, each as
-# text of both languages: 9,999,991 applications of a recursive function; the 30th of Fibonacci's numbers; a sieve by
-# closures up to 2,000, where each prime found wraps the test in one more function; and an interpreter that runs a program
-# of 200 instructions 250 times, as what generates a specialised program does. Then the items of `sample 100`, by one worker.
-# An older program is timed beside it where one is named. Times are of the user, in seconds, the least of three runs; memory
-# is the most that a run took, in MB of 1,048,576 bytes.
+# stage.sh [PROGRAM [OLDER]]: times the first stage beside OCaml's bytecode, where there is an ocamlc. Four sources,
+# each as text of both languages: 9,999,991 applications of a recursive function; the 30th of Fibonacci's numbers; a
+# sieve by closures up to 10,000, where each prime found wraps the test in one more function; and an interpreter that
+# runs a program of 200 instructions 2,500 times, as what generates a specialised program does. Then the items of
+# `sample 100`, by one worker. An older program is timed beside it where one is named. Times are of the user, in
+# seconds, the least of three runs; memory is the most that a run took, in MB of 1,048,576 bytes.
 set -u
 here=$(cd "$(dirname "$0")" && pwd)
 program=${1:-$here/../crates/metaml/out/metaml}
@@ -71,8 +71,8 @@ SIEVE = [
 SHAPES = [
     ("9,999,991 applications", ["let rec down n = if n = 0 then 0 else down (n - 1)"], "down 9999990"),
     ("fib 30", ["let rec fib n = if n < 2 then n else fib (n - 1) + fib (n - 2)"], "fib 30"),
-    ("a sieve by closures", SIEVE, "search (fun m -> true) 2 2000"),
-    ("an interpreter, 250 times", INTERPRETER, "times 250 0"),
+    ("a sieve by closures", SIEVE, "search (fun m -> true) 2 10000"),
+    ("an interpreter, 2,500 times", INTERPRETER, "times 2500 0"),
 ]
 ocamlc = shutil.which("ocamlc")
 for name, items, main in SHAPES:
