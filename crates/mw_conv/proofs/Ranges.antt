@@ -7,6 +7,7 @@ use Rattle.std.specs.List.{AllByRecursion}
 use Rattle.std.proofs.lemmas.Bool.{eq-eqb, leb-true}
 use Rattle.std.proofs.lemmas.Int.{fits_signed_from_abs}
 use Rattle.std.proofs.lemmas.List.{length-map}
+use Rattle.std.proofs.lemmas.Option.{slice_get_within}
 use Rattle.mw_list.proofs.Conjunctions.{both_true}
 use Rattle.mw_term.specs.Terms as x
 use Rattle.mw_term.specs.Terms.{Expression, size, depth_of}
@@ -23,7 +24,8 @@ use Rattle.mw_conv.specs.Convert.{functions, converted_functions, converted_outs
 use Rattle.mw_conv.specs.Represents.{Has}
 use Rattle.mw_conv.proofs.Free.{free_list_each, rank_is}
 use Rattle.mw_conv.proofs.Heaps.{has_front, has_back}
-use Rattle.mw_conv.proofs.Scopes.{functions_length, or_left, or_right}
+use Rattle.mw_meaning.proofs.Replacement.{or_left, or_right}
+use Rattle.mw_conv.proofs.Scopes.{functions_length}
 use Rattle.mw_conv.proofs.Correct.{has_self}
 use Rattle.mw_conv.proofs.Contexts.{free_short}
 use Rattle.mw_conv.proofs.Closures.{occurs_below}
@@ -38,44 +40,23 @@ pub code_size : (e : Expression) (k d s : ℕ) (ctx : ℕ → Place)
 code_size (x.fun e) k d s ctx = omega (arith, code_size e (suc k) (suc d) 0 (fun_places e d))
 code_size (x.fix e) k d s ctx = omega (arith, code_size e (suc k) (suc (suc d)) 0 (fix_places e d))
 code_size (x.app f a) k d s ctx =
-    omega (
-      arith,
-      code_size f k d s ctx,
-      code_size a (k + funs f) d s ctx,
-      total_append (functions f k d) (functions a (k + funs f) d),
-    )
+    omega (arith, code_size f k d s ctx, code_size a (k + funs f) d s ctx, total_append)
 code_size (x.bind a e) k d s ctx =
-    omega (
-      arith,
-      code_size a k d s ctx,
-      code_size e (k + funs a) (suc d) (suc s) (here (Slot s) ctx),
-      total_append (functions a k d) (functions e (k + funs a) (suc d)),
-    )
+    omega (arith, code_size a k d s ctx, code_size e (k + funs a) (suc d) (suc s) (here (Slot s) ctx), total_append)
 code_size (x.cond c a b) k d s ctx =
     omega (
       arith,
       code_size c k d s ctx,
       code_size a (k + funs c) d s ctx,
       code_size b (k + funs c + funs a) d s ctx,
-      total_append (functions c k d) (functions a (k + funs c) d ++ functions b (k + funs c + funs a) d),
-      total_append (functions a (k + funs c) d) (functions b (k + funs c + funs a) d),
+      total_append,
     )
 code_size (x.pair f a) k d s ctx =
-    omega (
-      arith,
-      code_size f k d s ctx,
-      code_size a (k + funs f) d s ctx,
-      total_append (functions f k d) (functions a (k + funs f) d),
-    )
+    omega (arith, code_size f k d s ctx, code_size a (k + funs f) d s ctx, total_append)
 code_size (x.fst e) k d s ctx = omega (arith, code_size e k d s ctx)
 code_size (x.snd e) k d s ctx = omega (arith, code_size e k d s ctx)
 code_size (x.prim p f a) k d s ctx =
-    omega (
-      arith,
-      code_size f k d s ctx,
-      code_size a (k + funs f) d s ctx,
-      total_append (functions f k d) (functions a (k + funs f) d),
-    )
+    omega (arith, code_size f k d s ctx, code_size a (k + funs f) d s ctx, total_append)
 code_size _ k d s ctx = omega arith
 
 pub code_depth : (e : Expression) (k d s : ℕ) (ctx : ℕ → Place) → ir_depth (code e k d s ctx) ≤ depth_of e
@@ -115,12 +96,7 @@ funs_few _ = omega arith
 none_fits : FitsSigned w64 (pos 0)
 none_fits = fits_signed_from_abs w64 (pos 0) (omega arith)
 
-index_within : {A : Type 0} → (xs : List A) (j : ℕ) (x : A) → slice_get xs j ≡ Some x → j < length xs
-index_within [] j x e = absurd (cc)
-index_within (y ∷ xs) zero x e = omega arith
-index_within (y ∷ xs) (suc j) x e = let r = index_within xs j x e in omega arith
-
-both_all : {A : Type 0} → (P : A → Type 0) (fs gs : List A) → AllByRecursion P fs → AllByRecursion P gs
+pub both_all : {A : Type 0} → (P : A → Type 0) (fs gs : List A) → AllByRecursion P fs → AllByRecursion P gs
     → AllByRecursion P (fs ++ gs)
 both_all P [] gs a b = b
 both_all P (f ∷ fs) gs a b = (a.0, both_all P fs gs a.1 b)
@@ -195,7 +171,7 @@ module _ (t : List IrFunc) where
 
   -- where a function's body finds its variables
   ranked : (d i : ℕ) (p : ℕ → Bool) → i < d → p i ≡ true → rank d p i < length (free_list d p)
-  ranked d i p lt o = index_within (free_list d p) (rank d p i) i (rank_is d p i lt o)
+  ranked d i p lt o = slice_get_within (free_list d p) (rank d p i) i (rank_is d p i lt o)
 
   fun_place : (e : Expression) (d n i : ℕ) → ClosedBelow (suc d) e → occurs e i ≡ true
       → IsPlace (length (free_list d (fun_free e))) n (fun_places e d i)
