@@ -138,80 +138,30 @@ breadth (i.prim p y z) = breadth y + breadth z + 2
 
 place_width : (p : Place) (b : ℕ) (rest : Code) → width (place_code p b rest) ≤ 18 + width rest
 place_width Argument b rest = omega arith
-place_width Own b rest = omega arith
-place_width (Slot s) b rest = omega arith
-place_width (Free j) b rest = omega arith
+place_width _ b rest = omega arith
 
 stores_width : (ps : List Place) (j b : ℕ) (rest : Code) → width (stores_code ps j b rest) ≤ 35 * length ps + width rest
 stores_width [] j b rest = omega arith
-stores_width (p ∷ ps) j b rest =
-    omega (
-      arith,
-      place_width p b (Rattle.mw_gen.specs.Generate.store_word (8 * j) (stores_code ps (suc j) b rest)),
-      stores_width ps (suc j) b rest,
-    )
+stores_width (p ∷ ps) j b rest = omega (arith, place_width p b, stores_width ps (suc j) b rest)
 
 prim_width : (p : Prim) (rest : Code) → width (prim_code p rest) ≤ 2 + width rest
 prim_width Add rest = omega arith
-prim_width Sub rest = omega arith
-prim_width Mul rest = omega arith
-prim_width Div rest = omega arith
-prim_width Mod rest = omega arith
-prim_width Eq rest = omega arith
-prim_width Lt rest = omega arith
-prim_width Le rest = omega arith
+prim_width _ rest = omega arith
 
 pub expression_width : (e : Ir) (b t : ℕ) (rest : Code) → width (expression_code e b t rest) ≤ breadth e + width rest
 expression_width (i.num z) b t rest = omega arith
 expression_width (i.truth z) b t rest = omega arith
 expression_width (i.get p) b t rest = place_width p b rest
-expression_width (i.closure k ps) b t rest =
-    omega (arith, stores_width ps 1 b (address_code (8 * suc (length ps)) rest))
-expression_width (i.app f a) b t rest =
-    omega (
-      arith,
-      expression_width f b t (expression_code a b t (application_code t rest)),
-      expression_width a b t (application_code t rest),
-    )
-expression_width (i.bind s d e) b t rest =
-    omega (
-      arith,
-      expression_width d b t (next (local_set (b + s)) (expression_code e b t rest)),
-      expression_width e b t rest,
-    )
+expression_width (i.closure k ps) b t rest = omega (arith, stores_width ps 1 b)
+expression_width (i.app f a) b t rest = omega (arith, expression_width f b t, expression_width a b t)
+expression_width (i.bind s d e) b t rest = omega (arith, expression_width d b t, expression_width e b t rest)
 expression_width (i.cond c y z) b t rest =
-    omega (
-      arith,
-      expression_width c b t
-          (Rattle.mw_gen.specs.Generate.wrap
-          (next (cond (Some I64) (expression_code y b t end) (expression_code z b t end))
-          rest)),
-      expression_width y b t end,
-      expression_width z b t end,
-    )
-expression_width (i.pair y z) b t rest =
-    omega (
-      arith,
-      expression_width y b t (expression_code z b t (pair_code t rest)),
-      expression_width z b t (pair_code t rest),
-    )
-expression_width (i.fst e) b t rest =
-    omega (
-      arith,
-      expression_width e b t (Rattle.mw_gen.specs.Generate.wrap (Rattle.mw_gen.specs.Generate.load_word 0 rest)),
-    )
-expression_width (i.snd e) b t rest =
-    omega (
-      arith,
-      expression_width e b t (Rattle.mw_gen.specs.Generate.wrap (Rattle.mw_gen.specs.Generate.load_word 8 rest)),
-    )
+    omega (arith, expression_width c b t, expression_width y b t end, expression_width z b t end)
+expression_width (i.pair y z) b t rest = omega (arith, expression_width y b t, expression_width z b t)
+expression_width (i.fst e) b t rest = omega (arith, expression_width e b t)
+expression_width (i.snd e) b t rest = omega (arith, expression_width e b t)
 expression_width (i.prim p y z) b t rest =
-    omega (
-      arith,
-      expression_width y b t (expression_code z b t (prim_code p rest)),
-      expression_width z b t (prim_code p rest),
-      prim_width p rest,
-    )
+    omega (arith, expression_width y b t, expression_width z b t, prim_width p rest)
 
 pub tail_width : (e : Ir) (b t d : ℕ) → width (tail_code e b t d) ≤ breadth e
 tail_width (i.app f a) b t d = go (is_own f)
@@ -221,28 +171,10 @@ tail_width (i.app f a) b t d = go (is_own f)
         (expression_code a b t (application_code t end))) ≤ breadth (i.app f a)
     go true = omega (arith, expression_width a b t (next (local_set 1) (next (br d) end)))
     go false = omega (arith, expression_width (i.app f a) b t end)
-tail_width (i.bind s y e) b t d = omega (
-  arith,
-  expression_width y b t (next (local_set (b + s)) (tail_code e b t d)),
-  tail_width e b t d,
-)
+tail_width (i.bind s y e) b t d = omega (arith, expression_width y b t, tail_width e b t d)
 tail_width (i.cond c y z) b t d =
-    omega (
-      arith,
-      expression_width c b t
-          (Rattle.mw_gen.specs.Generate.wrap (next (cond (Some I64) (tail_code y b t (suc d)) (tail_code z b t (suc d)))
-          end)),
-      tail_width y b t (suc d),
-      tail_width z b t (suc d),
-    )
-tail_width (i.num z) b t d = omega (arith, expression_width (i.num z) b t end)
-tail_width (i.truth z) b t d = omega (arith, expression_width (i.truth z) b t end)
-tail_width (i.get p) b t d = omega (arith, expression_width (i.get p) b t end)
-tail_width (i.closure k ps) b t d = omega (arith, expression_width (i.closure k ps) b t end)
-tail_width (i.pair y z) b t d = omega (arith, expression_width (i.pair y z) b t end)
-tail_width (i.fst y) b t d = omega (arith, expression_width (i.fst y) b t end)
-tail_width (i.snd y) b t d = omega (arith, expression_width (i.snd y) b t end)
-tail_width (i.prim p y z) b t d = omega (arith, expression_width (i.prim p y z) b t end)
+    omega (arith, expression_width c b t, tail_width y b t (suc d), tail_width z b t (suc d))
+tail_width e b t d = omega (arith, expression_width e b t end)
 
 pub body_width : (z : Bool) (e : Ir) (t : ℕ) → width (body_code z e t) ≤ breadth e + 3
 body_width false e t = omega (arith, expression_width e 2 t end)
@@ -271,10 +203,8 @@ Near _ = Unit {0}
 
 module _ (b n : ℕ) (low : n ≤ 2 ^ 31) where
   place_fit : (p : Place) → place_local p b < n → IsNear p → (rest : Code) → AreFit rest → AreFit (place_code p b rest)
-  place_fit Argument s r rest h = (omega arith, h)
-  place_fit Own s r rest h = (omega arith, h)
-  place_fit (Slot j) s r rest h = (omega arith, h)
   place_fit (Free j) s r rest h = (omega arith, (tt, ((omega arith, omega arith), h)))
+  place_fit _ s r rest h = (omega arith, h)
 
   stores_fit : (ps : List Place) → AreSeen ps b n → AreNear ps → (j : ℕ) → j + length ps ≤ 1000 → (rest : Code)
       → AreFit rest → AreFit (stores_code ps j b rest)
@@ -310,14 +240,10 @@ module _ (b n : ℕ) (low : n ≤ 2 ^ 31) where
   )
 
   prim_fit : (p : Prim) (rest : Code) → AreFit rest → AreFit (prim_code p rest)
-  prim_fit Add rest h = (tt, h)
-  prim_fit Sub rest h = (tt, h)
-  prim_fit Mul rest h = (tt, h)
-  prim_fit Div rest h = (tt, h)
-  prim_fit Mod rest h = (tt, h)
   prim_fit Eq rest h = (tt, (tt, h))
   prim_fit Lt rest h = (tt, (tt, h))
   prim_fit Le rest h = (tt, (tt, h))
+  prim_fit _ rest h = (tt, h)
 
   pub expression_fit : (t : ℕ) → t < 2 ^ 31 → (e : Ir) → Fine e → Sees e b n → Near e → b + slots_needed e ≤ n
       → (rest : Code) → AreFit rest → AreFit (expression_code e b t rest)
@@ -378,14 +304,7 @@ module _ (b n : ℕ) (low : n ≤ 2 ^ 31) where
       tt,
     ),
   )
-  tail_fit t d m lt (i.num z) le big f s r nd = expression_fit t lt (i.num z) f s r nd end tt
-  tail_fit t d m lt (i.truth z) le big f s r nd = expression_fit t lt (i.truth z) f s r nd end tt
-  tail_fit t d m lt (i.get p) le big f s r nd = expression_fit t lt (i.get p) f s r nd end tt
-  tail_fit t d m lt (i.closure k ps) le big f s r nd = expression_fit t lt (i.closure k ps) f s r nd end tt
-  tail_fit t d m lt (i.pair y z) le big f s r nd = expression_fit t lt (i.pair y z) f s r nd end tt
-  tail_fit t d m lt (i.fst y) le big f s r nd = expression_fit t lt (i.fst y) f s r nd end tt
-  tail_fit t d m lt (i.snd y) le big f s r nd = expression_fit t lt (i.snd y) f s r nd end tt
-  tail_fit t d m lt (i.prim p y z) le big f s r nd = expression_fit t lt (i.prim p y z) f s r nd end tt
+  tail_fit t d m lt e le big f s r nd = expression_fit t lt e f s r nd end tt
 
 pub body_fit : (z : Bool) (n t : ℕ) (e : Ir) → n ≤ 2 ^ 31 → t < 2 ^ 31 → breadth e < 2 ^ 32 → Fine e → Sees e 2 n
     → Near e → 2 + slots_needed e ≤ n → AreFit (body_code z e t)

@@ -20,6 +20,8 @@ use Rattle.mw_wasm.specs.Act.{called_at}
 use Rattle.mw_wasm.specs.Act.{calls as calls_act}
 use Rattle.std.specs.Prelude.{nat_le}
 use Rattle.std.proofs.lemmas.Bool.{le-leb}
+use Rattle.std.proofs.lemmas.Option.{slice_get_within}
+use Rattle.std.proofs.Common.{append-nil}
 use Rattle.mw_ir.specs.declared.place.Place.{Place}
 use Rattle.mw_ir.specs.declared.place.Place.TheVariants.{Argument, Own, Slot, Free}
 use Rattle.mw_ir.specs.Ir as i
@@ -32,15 +34,17 @@ use Rattle.mw_gen.specs.Generate.{wants_spare, tail_wants_spare, spare_count, ad
 use Rattle.mw_gen.specs.Generate.{tail_code, is_own, application_code, body_wants_spare, body_code, is_loop}
 use Rattle.mw_gen.specs.Generate.{function_for, counting, closure_type, module_with}
 use Rattle.mw_gen.proofs.Slots.{slots_needed}
-use Rattle.mw_gen.proofs.Words.{Small, Keeps, get_append, get_within}
+use Rattle.mw_gen.proofs.Words.{Small, Keeps}
 use Rattle.mw_gen.proofs.Locals.{word, Room, room_set, Fits, fits_past, fits_slot, fits_front, set_length, set_same}
 use Rattle.mw_gen.proofs.Locals.{set_above, set_other}
 use Rattle.mw_gen.proofs.Loads.{loaded}
 use Rattle.mw_gen.proofs.RunAnswers.{Says, then_says, found_says, along}
-use Rattle.mw_gen.proofs.Stores.{append_none, Run as RunIn, law as rule, get_local as got_local, set_local as put_local}
+use Rattle.mw_gen.proofs.Stores.{Run as RunIn, law as rule, get_local as got_local, set_local as put_local}
 use Rattle.mw_gen.proofs.Stores.{tee_local as teed_local, place_run, one_store, all_stored, stores_says, raised}
 use Rattle.mw_gen.proofs.Stores.{store_at}
 use Rattle.mw_gen.proofs.Primitives.{prim_says, chosen_says, truth_small, truth_bits}
+use Rattle.mw_conv.proofs.Heaps.{get_append}
+use Rattle.mw_meaning.proofs.Replacement.{or_left, or_right}
 pub use Rattle.mw_gen.specs.Keeping.{some, table_of}
 
 -- literals of 64 bits, and function numbers of 32
@@ -61,13 +65,6 @@ Fine (i.prim p x y) = Fine x × Fine y
 abbrev pub Sound : List IrFunc → Type 0
 Sound t = (k : ℕ) (f : IrFunc) → slice_get t k ≡ Some f → (k < 2 ^ 32) × Fine f.body × (slots_needed f.body ≤ f.slots)
 
-pub or_left : (a b : Bool) → a ≡ true → a || b ≡ true
-or_left a b e = rw e refl
-
-pub or_right : (a b : Bool) → b ≡ true → a || b ≡ true
-or_right true b e = refl
-or_right false b e = e
-
 counted : (k n j : ℕ) → j < n → slice_get (counting k n) j ≡ Some (k + j)
 counted k zero j lt = absurd (omega arith)
 counted k (suc n) zero lt = let e : k ≡ k + 0 = omega arith in ap Some e
@@ -76,7 +73,7 @@ counted k (suc n) (suc j) lt = counted (suc k) n j (omega arith)
 
 table_at : (t : List IrFunc) (j : ℕ) (f : IrFunc) → slice_get t j ≡ Some f → slice_get (table_of t) j ≡ Some (Some j)
 table_at t j f e = slice_get-map some (counting 0 (length t)) j ∙ ap (λ o. option_map some o)
-    (counted 0 (length t) j (get_within t j f e) ∙ (let q : 0 + j ≡ j = omega arith in ap Some q))
+    (counted 0 (length t) j (slice_get_within t j f e) ∙ (let q : 0 + j ≡ j = omega arith in ap Some q))
 
 func_at : (v : Version) (t : List IrFunc) (more : List Function) (j : ℕ) (f : IrFunc) → slice_get t j ≡ Some f
     → slice_get (map (function_for v) t ++ more) j ≡ Some (function_for v f)
@@ -119,19 +116,7 @@ nested_branch (suc d) st ls vs us x c rest around = nested_branch d st ls vs us 
 
 pub own_is : (f : Ir) → is_own f ≡ true → f ≡ i.get Own
 own_is (i.get Own) e = refl
-own_is (i.get Argument) e = absurd (cc)
-own_is (i.get (Slot s)) e = absurd (cc)
-own_is (i.get (Free s)) e = absurd (cc)
-own_is (i.num z) e = absurd (cc)
-own_is (i.truth z) e = absurd (cc)
-own_is (i.closure k ps) e = absurd (cc)
-own_is (i.app f a) e = absurd (cc)
-own_is (i.bind s d f) e = absurd (cc)
-own_is (i.cond c x y) e = absurd (cc)
-own_is (i.pair x y) e = absurd (cc)
-own_is (i.fst f) e = absurd (cc)
-own_is (i.snd f) e = absurd (cc)
-own_is (i.prim p x y) e = absurd (cc)
+own_is _ e = absurd (cc)
 
 -- The module has the functions of the code, each under its number, and their type first. Nothing else is said of it.
 pub record Carries (v : Version) (t : List IrFunc) (m : PureModule) : Type 0 where
@@ -265,7 +250,7 @@ module _ (v : Version) (t : List IrFunc) (M : PureModule) (carries : Carries v t
       let r = place_run M (table_of t) n _ h h mem b fr ls p w me (λ k z g. g) f e vs rest around in
       along r.0 (record { says = k w n h mem ls (grows_same h) r.1 f room me })
   correct c body (i.closure j ps) n b s t2 a fr h mem ls vs rest around Q fine nd us sl room f me k = found_says λ ws e.
-      let me0 : Keeps (h ++ []) mem = rw (append_none h) me in
+      let me0 : Keeps (h ++ []) mem = rw (append-nil h) me in
       let js = pos_small j (omega (arith, fine)) in
       let l : suc (length ps) ≡ length (pos j ∷ ws) = ap suc (sym (read_all_length h fr ps ws e)) in
       along (law n _ ∙ law n _)
@@ -337,7 +322,7 @@ module _ (v : Version) (t : List IrFunc) (M : PureModule) (carries : Carries v t
       along (put_local M (table_of t) q (suc (b + s)) (word w) _ ls _ _ _ (room.long (us refl))
       ∙ (put_local M (table_of t) q (b + s) (word u) _ ls1 _ _ _ low
       ∙ (law q _ ∙ got_local M (table_of t) q _ _ _ _ _ _ _ g0)))
-      (one_store M (table_of t) q h2 [] (w ∷ []) u mem ls2 vs _ around _ Q (rw (append_none h2) me) su λ mem me.
+      (one_store M (table_of t) q h2 [] (w ∷ []) u mem ls2 vs _ around _ Q (rw (append-nil h2) me) su λ mem me.
       along (law q _ ∙ got_local M (table_of t) q _ _ _ _ _ _ _ gt)
       (one_store M (table_of t) q h2 (u ∷ []) [] w mem ls2 vs _ around _ Q me sw λ mem me.
       all_stored M (table_of t) h2 (u ∷ w ∷ []) mem _ Q _ me
@@ -496,22 +481,8 @@ module _ (v : Version) (t : List IrFunc) (M : PureModule) (carries : Carries v t
       (λ q. us (or_right (wants_spare x) _ (or_right (tail_wants_spare y) (tail_wants_spare z) q))) sl room f me
       (λ w l2 h2 mem ls g2 sw me. subst (Q w l2 h2) (sym (law l2 _)) (k w l2 h2 mem ls (grows_on h h1 h2 g1 g2) sw me))
       (λ w l2 h2 mem ls g2 sw me. out w l2 h2 mem ls (grows_on h h1 h2 g1 g2) sw me)))
-  tail_right c body again fn j (i.num z) n d u t2 a fr h mem ls outer Q g e o fine nd usb us sl room f me k out =
-      plain c fn (i.num z) (correct c body (i.num z)) n d t2 a fr h mem ls _ Q fine nd us sl room f me k
-  tail_right c body again fn j (i.truth z) n d u t2 a fr h mem ls outer Q g e o fine nd usb us sl room f me k out =
-      plain c fn (i.truth z) (correct c body (i.truth z)) n d t2 a fr h mem ls _ Q fine nd us sl room f me k
-  tail_right c body again fn j (i.get p) n d u t2 a fr h mem ls outer Q g e o fine nd usb us sl room f me k out =
-      plain c fn (i.get p) (correct c body (i.get p)) n d t2 a fr h mem ls _ Q fine nd us sl room f me k
-  tail_right c body again fn j (i.closure q ps) n d u t2 a fr h mem ls outer Q g e o fine nd usb us sl room f me k out =
-      plain c fn (i.closure q ps) (correct c body (i.closure q ps)) n d t2 a fr h mem ls _ Q fine nd us sl room f me k
-  tail_right c body again fn j (i.pair x y) n d u t2 a fr h mem ls outer Q g e o fine nd usb us sl room f me k out =
-      plain c fn (i.pair x y) (correct c body (i.pair x y)) n d t2 a fr h mem ls _ Q fine nd us sl room f me k
-  tail_right c body again fn j (i.fst x) n d u t2 a fr h mem ls outer Q g e o fine nd usb us sl room f me k out =
-      plain c fn (i.fst x) (correct c body (i.fst x)) n d t2 a fr h mem ls _ Q fine nd us sl room f me k
-  tail_right c body again fn j (i.snd x) n d u t2 a fr h mem ls outer Q g e o fine nd usb us sl room f me k out =
-      plain c fn (i.snd x) (correct c body (i.snd x)) n d t2 a fr h mem ls _ Q fine nd us sl room f me k
-  tail_right c body again fn j (i.prim p x y) n d u t2 a fr h mem ls outer Q g e o fine nd usb us sl room f me k out =
-      plain c fn (i.prim p x y) (correct c body (i.prim p x y)) n d t2 a fr h mem ls _ Q fine nd us sl room f me k
+  tail_right c body again fn j x n d u t2 a fr h mem ls outer Q g e o fine nd usb us sl room f me k out =
+      plain c fn x (correct c body x) n d t2 a fr h mem ls _ Q fine nd us sl room f me k
 
   -- the locals of a function that is entered
   entry_room : (z : Bool) (fn : IrFunc) (u w : ℤ) → Room (body_wants_spare z fn.body) (2 + fn.slots)
