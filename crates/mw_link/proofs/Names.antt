@@ -11,7 +11,7 @@ use Rattle.mw_wasm.specs.Instances.{exported_among, function_or}
 use Rattle.mw_wasm.specs.Validity.{NamesDiffer}
 use Rattle.mw_link.specs.Linked.{Kernel, calls, init_name, call_name, call_exports, exports_from}
 use Rattle.mw_link.specs.LinkLaw.{KernelsDiffer}
-use Rattle.mw_link.proofs.Positions.{both_all}
+use Rattle.mw_conv.proofs.Ranges.{both_all}
 
 -- the ends of equal lists, where they are as long
 pub equal_parts : (xs ys us vs : List ℕ) → length us ≡ length vs → xs ++ us ≡ ys ++ vs → (xs ≡ ys) × (us ≡ vs)
