@@ -14,10 +14,10 @@ use Rattle.mw_ir.specs.Views.{ir_func_of}
 use Rattle.mw_conv.specs.declared.code.Converter.{Converter}
 use Rattle.mw_conv.specs.Agreement.{Agrees}
 use Rattle.mw_conv.specs.Contexts.{place_at}
-use Rattle.mw_conv.specs.Convert.{funs, lets, code, functions, function_of, fun_free, fix_free, converted_functions}
+use Rattle.mw_conv.specs.Convert.{funs, lets, code, functions, function_of, converted_functions}
 use Rattle.mw_conv.specs.Convert.{converted_outside}
 use Rattle.mw_conv.specs.Converting.{CanConvert, Converts}
-use Rattle.mw_conv.specs.Finding.{all_found, function_found}
+use Rattle.mw_conv.specs.Finding.{all_found}
 use Rattle.mw_conv.proofs.Correct.{converted}
 
 -- each function is found

@@ -4,7 +4,7 @@ use Rattle.std.proofs.Common.{sym, arith}
 use Rattle.std.specs.Prelude.{ℤ, pos, negsuc, slice_get, ◌*◌, ◌/◌, ◌%◌, map}
 use Rattle.mw_term.specs.Terms.{KernelValue}
 use Rattle.mw_ir.specs.declared.place.Place.{Place}
-use Rattle.mw_ir.specs.declared.place.Place.TheVariants.{Argument, Own, Slot, Free}
+use Rattle.mw_ir.specs.declared.place.Place.TheVariants.{Free}
 use Rattle.mw_ir.specs.Ir.{IrFunc, Frame, aligned, load, load_own, read, read_all}
 use Rattle.mw_conv.specs.Represents.{Has, Grows, Stands, s_int, s_bool, s_both, s_function, s_recursive}
 

@@ -1,6 +1,6 @@
 -- Where the variables of a term are, as the term is taken apart.
-use Rattle.std.proofs.Common.{◌≡◌, ℕ, zero, suc, ◌+◌, Bool, true, false, List, [], ◌∷◌, ◌++◌, length, Some, None, refl}
-use Rattle.std.proofs.Common.{ap, ◌∙◌, subst, arith, length-append}
+use Rattle.std.proofs.Common.{◌≡◌, ℕ, zero, suc, ◌+◌, Bool, true, List, [], ◌∷◌, ◌++◌, length, Some, None, refl}
+use Rattle.std.proofs.Common.{ap, subst, arith, length-append}
 use Rattle.std.specs.Prelude.{ℤ, slice_get, ◌||◌}
 use Rattle.std.proofs.lemmas.Option.{slice_get_past}
 use Rattle.mw_term.specs.Terms as x
@@ -8,7 +8,7 @@ use Rattle.mw_term.specs.Terms.{Expression, KernelTerm, KernelValue, done, var}
 use Rattle.mw_meaning.proofs.Replacement.{or_left, or_right}
 use Rattle.mw_conv.specs.Environments.{pick_all}
 use Rattle.mw_ir.specs.declared.place.Place.{Place}
-use Rattle.mw_ir.specs.declared.place.Place.TheVariants.{Argument, Own, Slot, Free}
+use Rattle.mw_ir.specs.declared.place.Place.TheVariants.{Slot}
 use Rattle.mw_ir.specs.Ir.{IrFunc, Frame, with_slot, read}
 use Rattle.mw_conv.specs.Convert.{here, funs, functions}
 use Rattle.mw_conv.specs.Represents.{Grows, Stands}
