@@ -2,9 +2,10 @@
 use Rattle.std.proofs.Common.{◌≡◌, ◌≤◌, ◌<◌, ℕ, suc, ◌+◌, ◌*◌, ◌^◌, Bool, true, false, List, [], ◌∷◌, length, ℤ, pos}
 use Rattle.std.proofs.Common.{refl, sym, subst, inr, arith, if◌then◌else◌}
 use Rattle.std.specs.Prelude.{Some}
+use Rattle.std.specs.List.{AllByRecursion}
 use Rattle.std.proofs.Math.Dec.{lt→ltb}
 use Rattle.mw_term.specs.declared.term.Primitive.{Primitive as Prim}
-use Rattle.mw_term.specs.declared.term.Primitive.TheVariants.{Add, Sub, Mul, Div, Mod, Eq, Lt, Le}
+use Rattle.mw_term.specs.declared.term.Primitive.TheVariants.{Add, Eq, Lt, Le}
 use Rattle.mw_wasm.specs.declared.values.ValType.{ValType}
 use Rattle.mw_wasm.specs.declared.values.ValType.TheVariants.{I32, I64}
 use Rattle.mw_wasm.specs.Pieces.{byte, i32, ◌then◌, u32}
@@ -13,7 +14,7 @@ use Rattle.mw_wasm.specs.Syntax.{Instruction, Code, loop, cond, br, call_indirec
 use Rattle.mw_wasm.specs.Syntax.{global_get, global_set, load, store, const_i32, const_i64, numeric, end, next}
 use Rattle.mw_leb.proofs.Groups.{signed_shortest}
 use Rattle.mw_leb.specs.Shortest.{shortest_signed}
-use Rattle.mw_ir.specs.declared.place.Place.TheVariants.{Argument, Own, Slot, Free}
+use Rattle.mw_ir.specs.declared.place.Place.TheVariants.{Argument, Free}
 use Rattle.mw_ir.specs.Ir as i
 use Rattle.mw_ir.specs.declared.place.Place.{Place}
 use Rattle.mw_ir.specs.Ir.{Ir}
@@ -185,13 +186,9 @@ abbrev pub IsNear : Place → Type 0
 IsNear (Free j) = j < 1000
 IsNear _ = Unit {0}
 
-abbrev pub AreNear : List Place → Type 0
-AreNear [] = Unit {0}
-AreNear (p ∷ ps) = IsNear p × AreNear ps
-
 abbrev pub Near : Ir → Type 0
 Near (i.get p) = IsNear p
-Near (i.closure k ps) = AreNear ps × (length ps < 1000)
+Near (i.closure k ps) = AllByRecursion IsNear ps × (length ps < 1000)
 Near (i.app f a) = Near f × Near a
 Near (i.bind s d e) = Near d × Near e
 Near (i.cond c y z) = Near c × Near y × Near z
@@ -206,8 +203,8 @@ module _ (b n : ℕ) (low : n ≤ 2 ^ 31) where
   place_fit (Free j) s r rest h = (omega arith, (tt, ((omega arith, omega arith), h)))
   place_fit _ s r rest h = (omega arith, h)
 
-  stores_fit : (ps : List Place) → AreSeen ps b n → AreNear ps → (j : ℕ) → j + length ps ≤ 1000 → (rest : Code)
-      → AreFit rest → AreFit (stores_code ps j b rest)
+  stores_fit : (ps : List Place) → AreSeen ps b n → AllByRecursion IsNear ps → (j : ℕ) → j + length ps ≤ 1000
+      → (rest : Code) → AreFit rest → AreFit (stores_code ps j b rest)
   stores_fit [] s r j le rest h = h
   stores_fit (p ∷ ps) s r j le rest h = (
     omega arith,

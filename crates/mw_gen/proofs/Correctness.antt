@@ -1,8 +1,8 @@
 -- The reduction of the code means what the intermediate language means, in both versions.
 use Rattle.std.proofs.Common.{◌≡◌, ℕ, zero, suc, ◌+◌, ◌≤◌, ◌<◌, Bool, true, false, List, [], ◌∷◌, ◌++◌, length, Option}
-use Rattle.std.proofs.Common.{Some, None, refl, ap, ◌∙◌, sym, subst, arith, length-append, map, replicate, option_map}
+use Rattle.std.proofs.Common.{Some, refl, ap, ◌∙◌, sym, subst, arith, length-append, map, replicate, option_map}
 use Rattle.std.proofs.Common.{if◌then◌else◌}
-use Rattle.std.specs.Prelude.{ℤ, pos, negsuc, slice_get, slice_set, ◌||◌, ◌==◌, ◌*◌, ◌^◌}
+use Rattle.std.specs.Prelude.{ℤ, pos, negsuc, slice_get, slice_set, ◌==◌, ◌*◌, ◌^◌}
 use Rattle.std.proofs.lemmas.List.{length-replicate, length-map}
 use Rattle.std.proofs.lemmas.Bool.{eqb-true}
 use Rattle.std.proofs.lemmas.Option.{slice_get-map}
@@ -23,9 +23,9 @@ use Rattle.std.proofs.lemmas.Bool.{le-leb}
 use Rattle.std.proofs.lemmas.Option.{slice_get_within}
 use Rattle.std.proofs.Common.{append-nil}
 use Rattle.mw_ir.specs.declared.place.Place.{Place}
-use Rattle.mw_ir.specs.declared.place.Place.TheVariants.{Argument, Own, Slot, Free}
+use Rattle.mw_ir.specs.declared.place.Place.TheVariants.{Own}
 use Rattle.mw_ir.specs.Ir as i
-use Rattle.mw_ir.specs.Ir.{also, Ir, IrFunc, Frame, inside, with_slot, read, read_all, load, value, calls, applied}
+use Rattle.mw_ir.specs.Ir.{Ir, IrFunc, Frame, inside, with_slot, read, read_all, load, value, calls, applied}
 use Rattle.mw_ir.specs.Ir.{function_at}
 use Rattle.mw_conv.specs.Represents.{Grows}
 use Rattle.mw_conv.proofs.Heaps.{grows_same, grows_on, grows_append, load_grows}
@@ -41,7 +41,7 @@ use Rattle.mw_gen.proofs.Loads.{loaded}
 use Rattle.mw_gen.proofs.RunAnswers.{Says, then_says, found_says, along}
 use Rattle.mw_gen.proofs.Stores.{Run as RunIn, law as rule, get_local as got_local, set_local as put_local}
 use Rattle.mw_gen.proofs.Stores.{tee_local as teed_local, place_run, one_store, all_stored, stores_says, raised}
-use Rattle.mw_gen.proofs.Stores.{store_at}
+use Rattle.mw_gen.proofs.Stores.{store_at, also_some}
 use Rattle.mw_gen.proofs.Primitives.{prim_says, chosen_says, truth_small, truth_bits}
 use Rattle.mw_conv.proofs.Heaps.{get_append}
 use Rattle.mw_meaning.proofs.Replacement.{or_left, or_right}
@@ -83,18 +83,12 @@ func_at v t more j f e = get_append (map (function_for v) t) more j (function_fo
 pub pos_small : (a : ℕ) → a < 2 ^ 63 → Small (pos a)
 pos_small a lt = fits_signed_from_abs w64 (pos a) lt
 
-also_length : (a : Option ℤ) (o : Option (List ℤ)) (n : ℕ) (ws : List ℤ) → ((ys : List ℤ) → o ≡ Some ys → length ys ≡ n)
-    → also a o ≡ Some ws → length ws ≡ suc n
-also_length None o n ws f e = absurd (cc)
-also_length (Some x) None n ws f e = absurd (cc)
-also_length (Some x) (Some ys) n ws f e = let q : x ∷ ys ≡ ws = (cc) in
-    subst (λ z. length z ≡ suc n) q (ap suc (f ys refl))
-
 read_all_length : (h : List ℤ) (fr : Frame) (ps : List Place) (ws : List ℤ) → read_all h fr ps ≡ Some ws → length ws
     ≡ length ps
 read_all_length h fr [] ws e = let q : [] ≡ ws = (cc) in subst (λ z. length z ≡ 0) q refl
-read_all_length h fr (p ∷ ps) ws e = also_length (read h fr p) (read_all h fr ps) (length ps) ws
-    (λ ys e. read_all_length h fr ps ys e) e
+read_all_length h fr (p ∷ ps) ws e =
+    let r = also_some (read h fr p) (read_all h fr ps) ws e in
+    omega (arith, read_all_length h fr ps r.1 r.3, ap length r.4)
 
 -- further locals, of 64 bits
 abbrev pub zeros : ℕ → List WasmValue

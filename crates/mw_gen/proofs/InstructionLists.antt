@@ -5,22 +5,22 @@ use Rattle.mw_gen.specs.Generate.{counting, elements_of, call_of, call_function}
 use Rattle.mw_term.specs.Terms.{GroundType}
 use Rattle.mw_meaning.specs.Shapes.{leaf_count}
 use Rattle.mw_wasm.specs.Syntax.{global_get, global_set, local_get, const_i32}
-use Rattle.std.proofs.Common.{◌≡◌, ℕ, zero, suc, ◌+◌, ◌*◌, ◌<◌, replicate, Bool, true, false, List, [], ◌∷◌, ◌++◌}
-use Rattle.std.proofs.Common.{length, refl, sym, ap, ◌∙◌, arith, if◌then◌else◌, map}
+use Rattle.std.proofs.Common.{◌≡◌, ℕ, zero, suc, ◌+◌, ◌<◌, replicate, Bool, true, false, List, [], ◌∷◌, ◌++◌}
+use Rattle.std.proofs.Common.{refl, sym, ap, ◌∙◌, arith, if◌then◌else◌, map}
 use Rattle.mw_term.specs.declared.term.Primitive.{Primitive as Prim}
-use Rattle.mw_term.specs.declared.term.Primitive.TheVariants.{Add, Sub, Mul, Div, Mod, Eq, Lt, Le}
+use Rattle.mw_term.specs.declared.term.Primitive.TheVariants.{Add}
 use Rattle.mw_wasm.specs.declared.instructions.Instr.{Instr}
 use Rattle.mw_wasm.specs.declared.instructions.Instrs.{Instrs}
 use Rattle.mw_wasm.specs.Syntax.{Instruction, Code, end, next, cond, br, local_set}
 use Rattle.mw_wasm.specs.Views.{instruction_of, list_code, code_of}
 use Rattle.mw_ir.specs.declared.place.Place.{Place}
-use Rattle.mw_ir.specs.declared.place.Place.TheVariants.{Argument, Own, Slot, Free}
+use Rattle.mw_ir.specs.declared.place.Place.TheVariants.{Free}
 use Rattle.mw_ir.specs.Ir as i
 use Rattle.mw_ir.specs.Ir.{Ir}
 use Rattle.mw_gen.specs.Generate.{expression_code, tail_code, is_own, place_code, stores_code, prim_code}
-use Rattle.mw_gen.specs.Generate.{application_code, pair_code, address_code}
-use Rattle.mw_gen.specs.Listing.{before, place_list, stores_list, prim_list, apply_list, pair_list, address_list}
-use Rattle.mw_gen.specs.Listing.{code_list, tail_list, choice_list}
+use Rattle.mw_gen.specs.Generate.{application_code}
+use Rattle.mw_gen.specs.Listing.{before, place_list, stores_list, prim_list, apply_list}
+use Rattle.mw_gen.specs.Listing.{code_list, tail_list}
 
 pub before_append : (xs ys : List Instruction) (rest : Code) → before (xs ++ ys) rest ≡ before xs (before ys rest)
 before_append [] ys rest = refl

@@ -124,7 +124,8 @@ module _ (v : Version) (t : List IrFunc) (m : PureModule) (carries : Carries v t
         let z : 0 + j ≡ j = omega arith in
         let g : slice_get (call_locals r ws) j ≡ Some (word w) = get_append (map word (r ∷ ws)) _ j (word w)
         (slice_get-map word (r ∷ ws) j ∙ ap (λ o. option_map word o) e) in
-        (rw z (set_other (call_locals r ws) i j x (word w) (omega (arith, slice_get_within (r ∷ ws) j w e)) g), sm j w e);
+        let below = slice_get_within (r ∷ ws) j w e in
+        (rw z (set_other (call_locals r ws) i j x (word w) (omega arith) g), sm j w e);
   }
 
   pub call_says : (s : GroundType) (x g : ℕ) → slice_get m.funcs g ≡ Some (call_numbered x s)

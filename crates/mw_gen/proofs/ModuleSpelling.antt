@@ -9,7 +9,7 @@ use Rattle.mw_term.specs.Terms.{KernelType, GroundType, base, of_ground, to, pro
 use Rattle.mw_term.specs.Limits.{ground_nodes, kernel_nodes}
 use Rattle.mw_wasm.specs.declared.values.ValType.TheVariants.{I32, I64}
 use Rattle.mw_wasm.specs.declared.modules.Exported.TheVariants.{Func}
-use Rattle.mw_wasm.specs.Pieces.{octet, u32, items, vector}
+use Rattle.mw_wasm.specs.Pieces.{u32, items}
 use Rattle.mw_wasm.specs.BinaryInstructions.{value_type}
 use Rattle.mw_wasm.specs.BinaryModules.{locals, run, Run, function_code, function_type, function_kind, export, element}
 use Rattle.mw_wasm.specs.BinaryModules.{data_segment, section, wasm_module}
@@ -31,7 +31,7 @@ use Rattle.mw_gen.proofs.Pieces.{SpelledWithin, within_then, within_more, within
 use Rattle.mw_gen.proofs.Pieces.{within_nil, within_cons, within_vector, within_section, within_absent, within_one}
 use Rattle.mw_gen.proofs.Pieces.{customs_within, no_imports, header_within, one_result, closure_within, init_within}
 use Rattle.mw_gen.proofs.Pieces.{table_within, memory_within, globals_within, zero_code_within}
-use Rattle.mw_gen.proofs.Pieces.{name_within, named_within}
+use Rattle.mw_gen.proofs.Pieces.{export_within}
 use Rattle.mw_gen.proofs.CodeSpelling.{expression_within, breadth, body_width, expression_width, Near, expression_fit}
 use Rattle.mw_gen.proofs.CodeSpelling.{body_fit}
 
@@ -196,33 +196,26 @@ types_within (to s b) few =
     (within_cons {j = 10013} {k = 0} function_type (call_type s) []
     (call_type_within s (omega (arith, leaves_few s))) (within_nil function_type))))))
 
-call_name_within : SpelledWithin 9 (vector octet (codes "call"))
-call_name_within = within_vector {k = 4} octet (codes "call") (omega arith) (named_within (codes "call") (omega arith))
-
 abbrev init_named : ℕ → Exporting
 init_named n = record { name = codes "init"; what = Func n }
 
 abbrev call_named : ℕ → Exporting
 call_named n = record { name = codes "call"; what = Func n }
 
-init_export : (n : ℕ) → n < 2 ^ 32 → SpelledWithin 15 (export (record { name = codes "init"; what = Func n }))
-init_export n h = within_then {j = 9} {k = 6} name_within
-    (within_then {j = 1} {k = 5} (within_byte 0x00) (within_u32 n h))
-
-call_export : (n : ℕ) → n < 2 ^ 32 → SpelledWithin 15 (export (record { name = codes "call"; what = Func n }))
-call_export n h = within_then {j = 9} {k = 6} call_name_within
-    (within_then {j = 1} {k = 5} (within_byte 0x00) (within_u32 n h))
-
 exports_within : (k : KernelType) (n : ℕ) → suc n < 2 ^ 32
     → SpelledWithin 41 (section 7 export (record { name = codes "init"; what = Func n } ∷ more_exports k (suc n)))
-exports_within (of_ground g) n h =
-    within_more 41 (omega arith)
-    (within_section {k = 20} 7 export (init_named n ∷ []) (omega arith)
-    (within_one {k = 15} export (init_named n) (init_export n (omega arith))))
-exports_within (to s b) n h = within_section {k = 35} 7 export (init_named n ∷ call_named (suc n) ∷ []) (omega arith)
-    (within_vector {k = 30} export (init_named n ∷ call_named (suc n) ∷ []) (omega arith)
-    (within_cons {j = 15} {k = 15} export (init_named n) (call_named (suc n) ∷ []) (init_export n (omega arith))
-    (within_cons {j = 15} {k = 0} export (call_named (suc n)) [] (call_export (suc n) h) (within_nil export))))
+exports_within k n h = go k (export_within (codes "init") n (omega arith) (omega arith) (omega arith))
+  where
+    go : (k : KernelType) → SpelledWithin 15 (export (init_named n))
+        → SpelledWithin 41 (section 7 export (init_named n ∷ more_exports k (suc n)))
+    go (of_ground g) init = within_more 41 (omega arith)
+        (within_section {k = 20} 7 export (init_named n ∷ []) (omega arith)
+        (within_one {k = 15} export (init_named n) init))
+    go (to s b) init = within_section {k = 35} 7 export (init_named n ∷ call_named (suc n) ∷ []) (omega arith)
+        (within_vector {k = 30} export (init_named n ∷ call_named (suc n) ∷ []) (omega arith)
+        (within_then {j = 15} {k = 15} init
+        (within_then {j = 15} {k = 0} (export_within (codes "call") (suc n) (omega arith) (omega arith) h)
+        (within_nil export))))
 
 pub counting_within : (k n : ℕ) → k + n < 2 ^ 32 → SpelledWithin (5 * n) (items u32 (counting k n))
 counting_within k zero h = within_nil u32

@@ -1,6 +1,6 @@
 -- Other numbers of functions change nothing else.
 use Rattle.std.proofs.Common.{◌≡◌, ℕ, ◌+◌, List, [], ◌∷◌, refl, ap, arith, map}
-use Rattle.mw_ir.specs.declared.place.Place.TheVariants.{Argument, Own, Slot, Free}
+use Rattle.mw_ir.specs.declared.place.Place.TheVariants.{Own}
 use Rattle.mw_ir.specs.Ir as i
 use Rattle.mw_ir.specs.Ir.{Ir, IrFunc}
 use Rattle.mw_gen.specs.Generate.{is_own, has_self_tail_call, wants_spare, tail_wants_spare}

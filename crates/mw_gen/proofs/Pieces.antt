@@ -1,7 +1,7 @@
 -- Pieces of the binary format that a bounded number of bytes spells.
 use Rattle.std.proofs.Common.{◌≡◌, ◌≤◌, ◌<◌, ℕ, suc, ◌+◌, ◌*◌, ◌-◌, ◌^◌, List, [], ◌∷◌, ◌++◌, length, ℤ, pos, negsuc}
 use Rattle.std.proofs.Common.{refl, sym, ap, subst, inl, inr, arith, if◌then◌else◌}
-use Rattle.std.specs.Prelude.{FitsSigned, Some, codes, ◌-ℤ◌, ◌≤ℤ◌, ◌<ℤ◌}
+use Rattle.std.specs.Prelude.{FitsSigned, Some, ◌-ℤ◌, ◌≤ℤ◌, ◌<ℤ◌}
 use Rattle.std.specs.Int.{w64, cast_unsigned}
 use Rattle.std.specs.List.{AllByRecursion}
 use Rattle.std.proofs.Math.Dec.{le→leb, lt→ltb}
@@ -13,7 +13,7 @@ use Rattle.mw_wasm.specs.declared.modules.Exported.TheVariants.{Func}
 use Rattle.mw_wasm.specs.Leb.{IsUnsigned, IsSigned, unsigned_of}
 use Rattle.mw_wasm.specs.Pieces.{Piece, byte, octet, i32, ◌then◌, u32, items, vector, sized}
 use Rattle.mw_wasm.specs.BinaryInstructions.{instruction, expression, value_type}
-use Rattle.mw_wasm.specs.BinaryModules.{locals, function_type, table, limits, limits_of, global, export, section}
+use Rattle.mw_wasm.specs.BinaryModules.{function_type, table, limits, limits_of, global, export, section}
 use Rattle.mw_wasm.specs.BinaryModules.{customs, import_section, header}
 use Rattle.mw_wasm.specs.Profile.{IsPrintable}
 use Rattle.mw_wasm.specs.Syntax.{const_i32, const_i64, end, next}
@@ -126,21 +126,6 @@ constant_spelled z h =
       short = let p = signed_length (shortest_signed z) 64 z s.spells in omega arith;
     }
 
--- the function `init`, without further locals
-pub no_locals : SpelledWithin 5 (locals [])
-no_locals = let n = within_u32 0 (omega arith) in
-    record {
-      bytes = n.bytes ++ [];
-      spell =
-          record {
-            runs = [];
-            spelled = record { front = n.bytes; back = []; whole = refl; first = n.spell; second = refl };
-            types_are = refl;
-            few = omega arith;
-          };
-      short = let e = length-append n.bytes [] in let p = n.short in omega arith;
-    }
-
 -- the concrete parts of the module
 pub customs_within : SpelledWithin 0 customs
 customs_within = record { bytes = []; spell = record { contents = []; spelled = refl }; short = omega arith }
@@ -215,11 +200,8 @@ named_within (b ∷ name) h =
     within_more (length (b ∷ name)) (omega arith) (within_then {j = 1} (octet_within b (let q = h.0.1 in omega arith))
     (named_within name h.1))
 
-pub name_within : SpelledWithin 9 (vector octet (codes "init"))
-name_within = within_vector {k = 4} octet (codes "init") (omega arith) (named_within (codes "init") (omega arith))
-
-pub exports_within : SpelledWithin 26 (section 7 export (record { name = codes "init"; what = Func 0 } ∷ []))
-exports_within = within_section {k = 20} 7 export (record { name = codes "init"; what = Func 0 } ∷ []) (omega arith)
-    (within_one {k = 15} export record { name = codes "init"; what = Func 0 }
-    (within_then {j = 9} {k = 6} name_within
-    (within_then {j = 1} {k = 5} (within_byte 0x00) (within_u32 0 (omega arith)))))
+-- a function's export
+pub export_within : (name : List ℕ) (n : ℕ) → AllByRecursion IsPrintable name → length name < 2 ^ 32 → n < 2 ^ 32
+    → SpelledWithin (5 + length name + 6) (export record { name = name; what = Func n })
+export_within name n h short lt = within_then (within_vector octet name short (named_within name h))
+    (within_then {j = 1} {k = 5} (within_byte 0x00) (within_u32 n lt))

@@ -10,7 +10,7 @@ use Rattle.mw_wasm.specs.BinaryModules.{wasm_module}
 use Rattle.mw_wasm.specs.Validity.{IsValid}
 use Rattle.mw_wasm.specs.Profile.{IsWithinProfile}
 use Rattle.mw_ir.specs.declared.place.Place.{Place}
-use Rattle.mw_ir.specs.declared.place.Place.TheVariants.{Argument, Own, Slot, Free}
+use Rattle.mw_ir.specs.declared.place.Place.TheVariants.{Slot, Free}
 use Rattle.mw_ir.specs.Ir as i
 use Rattle.mw_ir.specs.Ir.{Ir, IrFunc}
 use Rattle.mw_ir.specs.Ranges.{ir_size, ir_depth, total_size, IsPlace, IsOuterPlace, HasFree, IsInRange, IsProper}
@@ -20,12 +20,18 @@ use Rattle.mw_gen.specs.Generate.{module_with}
 use Rattle.mw_gen.proofs.Slots.{slots_needed}
 use Rattle.mw_gen.specs.Listing.{IsShort, IsShortPlace, AllShort}
 use Rattle.mw_gen.proofs.Correctness.{Fine, Sound}
-use Rattle.mw_gen.proofs.Valid.{place_local, AreSeen, Sees}
-use Rattle.mw_gen.proofs.Modules.{AllProper, module_valid}
+use Rattle.mw_gen.proofs.Valid.{place_local, Sees}
+use Rattle.mw_gen.proofs.Modules.{Proper, AllProper, module_valid}
 use Rattle.mw_gen.proofs.Profile.{ifs, IsModest, module_within_profile}
 use Rattle.mw_gen.proofs.Pieces.{SpelledWithin}
-use Rattle.mw_gen.proofs.CodeSpelling.{breadth, IsNear, AreNear, Near}
+use Rattle.mw_gen.proofs.CodeSpelling.{breadth, IsNear, Near}
 use Rattle.mw_gen.proofs.ModuleSpelling.{CanSpell, total, module_spelled}
+
+-- what follows from what holds of each
+each : {A : Type 0} (P Q : A → Type 0) → ((x : A) → P x → Q x) → (xs : List A) → AllByRecursion P xs
+    → AllByRecursion Q xs
+each P Q f [] a = tt
+each P Q f (x ∷ xs) a = (f x a.0, each P Q f xs a.1)
 
 -- a function of a number, which is one of t
 has_free_below : (t : List IrFunc) (j k : ℕ) (o : Option IrFunc) → slice_get t j ≡ o → HasFree k o → j < length t
@@ -61,13 +67,9 @@ module _ (t : List IrFunc) (P : Place → Type 0) (slots : ℕ) where
   fine few _ r = tt
 
   module _ (b n : ℕ) (below : (p : Place) → P p → place_local p b < n) where
-    all_seen : (ps : List Place) → AllByRecursion P ps → AreSeen ps b n
-    all_seen [] r = tt
-    all_seen (p ∷ ps) r = (below p r.0, all_seen ps r.1)
-
     pub seen : (e : Ir) → IsInRange t P slots e → Sees e b n
     seen (i.get p) r = below p r
-    seen (i.closure j ps) r = all_seen ps r.1
+    seen (i.closure j ps) r = each P (λ p. place_local p b < n) below ps r.1
     seen (i.app f a) r = (seen f r.0, seen a r.1)
     seen (i.bind s d e) r = (seen d r.1, seen e r.2)
     seen (i.cond c x y) r = (seen c r.0, seen x r.1, seen y r.2)
@@ -78,13 +80,9 @@ module _ (t : List IrFunc) (P : Place → Type 0) (slots : ℕ) where
     seen _ r = tt
 
   module _ (proper : AllByRecursion (IsProper t) t) (close : (p : Place) → P p → IsNear p) where
-    all_near : (ps : List Place) → AllByRecursion P ps → AreNear ps
-    all_near [] r = tt
-    all_near (p ∷ ps) r = (close p r.0, all_near ps r.1)
-
     pub near : (e : Ir) → IsInRange t P slots e → Near e
     near (i.get p) r = close p r
-    near (i.closure j ps) r = (all_near ps r.1, (let few = free_few t t j (length ps) proper r.0 in omega arith))
+    near (i.closure j ps) r = (each P IsNear close ps r.1, omega (arith, free_few t t j (length ps) proper r.0))
     near (i.app f a) r = (near f r.0, near a r.1)
     near (i.bind s d e) r = (near d r.1, near e r.2)
     near (i.cond c x y) r = (near c r.0, near x r.1, near y r.2)
@@ -95,17 +93,12 @@ module _ (t : List IrFunc) (P : Place → Type 0) (slots : ℕ) where
     near _ r = tt
 
 -- so few slots and free variables that all numbers have 32 bits
-short_places : (P : Place → Type 0) → ((p : Place) → P p → IsShortPlace p) → (ps : List Place) → AllByRecursion P ps
-    → AllByRecursion IsShortPlace ps
-short_places P close [] r = tt
-short_places P close (p ∷ ps) r = (close p r.0, short_places P close ps r.1)
-
 module _ (t : List IrFunc) (P : Place → Type 0) (slots : ℕ) (few : slots ≤ 400) (proper : AllByRecursion (IsProper t) t)
     (close : (p : Place) → P p → IsShortPlace p) where
   short : (e : Ir) → IsInRange t P slots e → IsShort e
   short (i.get p) r = close p r
   short (i.closure j ps) r =
-      ((let n = free_few t t j (length ps) proper r.0 in omega arith), short_places P close ps r.1)
+      ((let n = free_few t t j (length ps) proper r.0 in omega arith), each P IsShortPlace close ps r.1)
   short (i.app f a) r = (short f r.0, short a r.1)
   short (i.bind s d e) r = (omega (arith, r.0), short d r.1, short e r.2)
   short (i.cond c x y) r = (short c r.0, short x r.1, short y r.2)
@@ -192,39 +185,24 @@ outer_near slots _ r = absurd r
 
 module _ (t : List IrFunc) (few : length t ≤ 100000) (proper : AllByRecursion (IsProper t) t) where
   pub all_proper : (fs : List IrFunc) → AllByRecursion (IsProper t) fs → AllProper fs
-  all_proper [] a = tt
-  all_proper (f ∷ fs) a = (
-    record {
-      sees = λ n le. seen t (IsPlace f.free f.slots) f.slots 2 n (inner_below f.free f.slots n le) f.body
-          a.0.body;
-      needs = needs t (IsPlace f.free f.slots) f.slots f.body a.0.body;
-    },
-    all_proper fs a.1,
-  )
+  all_proper fs a = each (IsProper t) Proper (λ f p. record {
+    sees = λ n le. seen t (IsPlace f.free f.slots) f.slots 2 n (inner_below f.free f.slots n le) f.body p.body;
+    needs = needs t (IsPlace f.free f.slots) f.slots f.body p.body;
+  }) fs a
 
   pub all_modest : (fs : List IrFunc) → AllByRecursion (IsProper t) fs → AllByRecursion (IsModest 400 20000) fs
-  all_modest [] a = tt
-  all_modest (f ∷ fs) a = (
-    record {
-      choices = (let d = a.0.depth in omega (arith, shallow f.body));
-      lets =
-          (let s = a.0.slots in omega arith);
-    },
-    all_modest fs a.1,
-  )
+  all_modest fs a =
+      each (IsProper t) (IsModest 400 20000)
+      (λ f p. record { choices = omega (arith, shallow f.body, p.depth); lets = omega (arith, p.slots) }) fs a
 
   pub all_spelled : (fs : List IrFunc) → AllByRecursion (IsProper t) fs → AllByRecursion CanSpell fs
-  all_spelled [] a = tt
-  all_spelled (f ∷ fs) a = (
-    record {
-      fine = fine t (IsPlace f.free f.slots) f.slots few f.body a.0.body;
-      near = near t (IsPlace f.free f.slots) f.slots proper (inner_near f.free f.slots a.0.free) f.body a.0.body;
-      sees = λ n le. seen t (IsPlace f.free f.slots) f.slots 2 n (inner_below f.free f.slots n le) f.body a.0.body;
-      needs = needs t (IsPlace f.free f.slots) f.slots f.body a.0.body;
-      few = (let s = a.0.slots in omega arith);
-    },
-    all_spelled fs a.1,
-  )
+  all_spelled fs a = each (IsProper t) CanSpell (λ f p. record {
+    fine = fine t (IsPlace f.free f.slots) f.slots few f.body p.body;
+    near = near t (IsPlace f.free f.slots) f.slots proper (inner_near f.free f.slots p.free) f.body p.body;
+    sees = λ n le. seen t (IsPlace f.free f.slots) f.slots 2 n (inner_below f.free f.slots n le) f.body p.body;
+    needs = needs t (IsPlace f.free f.slots) f.slots f.body p.body;
+    few = omega (arith, p.slots);
+  }) fs a
 
   pub all_narrow : (fs : List IrFunc) → AllByRecursion (IsProper t) fs
       → total fs ≤ 55200 * total_size fs + 60 * length fs

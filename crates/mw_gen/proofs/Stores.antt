@@ -23,7 +23,7 @@ use Rattle.mw_gen.proofs.RunAnswers.{Says, along, answers}
 use Rattle.mw_conv.proofs.Heaps.{get_append}
 pub use Rattle.mw_gen.specs.Keeping.{store_at}
 
-also_some : (a : Option ℤ) (b : Option (List ℤ)) (xs : List ℤ) → also a b ≡ Some xs → (x : ℤ) × (ys : List ℤ)
+pub also_some : (a : Option ℤ) (b : Option (List ℤ)) (xs : List ℤ) → also a b ≡ Some xs → (x : ℤ) × (ys : List ℤ)
     × (a ≡ Some x) × (b ≡ Some ys) × (x ∷ ys ≡ xs)
 also_some None b xs e = absurd (cc)
 also_some (Some x) None xs e = absurd (cc)

@@ -1,10 +1,11 @@
 -- The generated code is valid: before any rest, it puts one i64 on the stack.
 use Rattle.std.proofs.Common.{◌≡◌, ℕ, suc, ◌+◌, ◌≤◌, ◌<◌, true, false, List, [], ◌∷◌, ◌++◌, Some, refl, ap, ◌∙◌, sym}
 use Rattle.std.proofs.Common.{subst, arith, append_assoc, if◌then◌else◌}
+use Rattle.std.specs.List.{AllByRecursion}
 use Rattle.std.specs.Prelude.{slice_get, IsSome}
 use Rattle.std.proofs.Common.{append-nil}
 use Rattle.mw_term.specs.declared.term.Primitive.{Primitive as Prim}
-use Rattle.mw_term.specs.declared.term.Primitive.TheVariants.{Add, Sub, Mul, Div, Mod, Eq, Lt, Le}
+use Rattle.mw_term.specs.declared.term.Primitive.TheVariants.{Eq, Lt, Le}
 use Rattle.mw_wasm.specs.declared.values.ValType.{ValType}
 use Rattle.mw_wasm.specs.declared.values.ValType.TheVariants.{I32, I64}
 use Rattle.mw_wasm.specs.Syntax.{Instruction, Code, end, next, br, loop}
@@ -29,8 +30,7 @@ place_local (Slot s) b = b + s
 place_local (Free j) b = 0
 
 abbrev pub AreSeen : List Place → ℕ → ℕ → Type 0
-AreSeen [] b n = Unit {0}
-AreSeen (p ∷ ps) b n = (place_local p b < n) × AreSeen ps b n
+AreSeen ps b n = AllByRecursion (λ p. place_local p b < n) ps
 
 -- each place that the code reads is in a local below n
 abbrev pub Sees : Ir → ℕ → ℕ → Type 0
