@@ -9,7 +9,7 @@ use Rattle.mw_term.specs.Terms as x
 use Rattle.mw_term.specs.Terms.{Expression, KernelType, of_ground, to, size}
 use Rattle.mw_term.specs.Limits.{kernel_nodes}
 use Rattle.mw_wasm.specs.declared.modules.Exported.TheVariants.{Func}
-use Rattle.mw_wasm.specs.Pieces.{octet, items}
+use Rattle.mw_wasm.specs.Pieces.{items}
 use Rattle.mw_wasm.specs.BinaryModules.{function_code, function_type, function_kind, export, data_segment, section}
 use Rattle.mw_wasm.specs.BinaryModules.{wasm_module}
 use Rattle.mw_wasm.specs.Profile.{IsPrintable}
@@ -25,10 +25,10 @@ use Rattle.mw_conv.proofs.Ranges.{code_size, lets_depth}
 use Rattle.mw_key.specs.declared.version.Version.TheVariants.{Two}
 use Rattle.mw_gen.specs.Generate.{wants_spare, spare_count, more_types}
 use Rattle.mw_gen.proofs.Profile.{temps_two}
-use Rattle.mw_gen.proofs.Pieces.{SpelledWithin, within_then, within_more, within_byte, within_u32, within_sized}
+use Rattle.mw_gen.proofs.Pieces.{SpelledWithin, within_then, within_more, within_u32, within_sized}
 use Rattle.mw_gen.proofs.Pieces.{within_nil, within_vector, within_section, within_absent, customs_within, no_imports}
 use Rattle.mw_gen.proofs.Pieces.{header_within, closure_within, init_within, table_within, memory_within}
-use Rattle.mw_gen.proofs.Pieces.{globals_within, named_within}
+use Rattle.mw_gen.proofs.Pieces.{globals_within, export_within}
 use Rattle.mw_gen.proofs.CodeSpelling.{expression_within, breadth, expression_width, Near, expression_fit}
 use Rattle.mw_gen.proofs.ModuleSpelling.{CanSpell, total, locals_within, call_within, call_type_within}
 use Rattle.mw_gen.proofs.ModuleSpelling.{leaves_few, elements_within, IsSmall, funcs_within, kinds_within}
@@ -117,19 +117,16 @@ total_append [] gs = omega arith
 total_append (f ∷ fs) gs = omega (arith, total_append fs gs)
 
 -- exports
-export_within : (name : List ℕ) (n : ℕ) → AllByRecursion IsPrintable name → length name ≤ 69 → n < 2 ^ 32
+short_export : (name : List ℕ) (n : ℕ) → AllByRecursion IsPrintable name → length name ≤ 69 → n < 2 ^ 32
     → SpelledWithin 80 (export record { name = name; what = Func n })
-export_within name n h le lt =
-    within_then {j = 74} {k = 6} (within_more 74 (omega arith)
-    (within_vector octet name (omega arith) (named_within name h)))
-    (within_then {j = 1} {k = 5} (within_byte 0x00) (within_u32 n lt))
+short_export name n h le lt = within_more 80 (omega arith) (export_within name n h (omega arith) lt)
 
 exports_within : (n : ℕ) (ps : List Kernel) → AllByRecursion IsWhole ps → n + 2 * length ps < 2 ^ 32
     → SpelledWithin (160 * length ps) (items export (exports_from n ps))
 exports_within n [] a lt = within_nil export
 exports_within n (p ∷ ps) a lt =
     within_more (160 * length (p ∷ ps)) (omega arith) (within_then
-    (export_within (init_name p.name) n (both_all IsPrintable p.name _ a.0.printable init_end)
+    (short_export (init_name p.name) n (both_all IsPrintable p.name _ a.0.printable init_end)
     (let s = a.0.short in omega (arith, length-append p.name (codes ".init"))) (omega arith))
     (go p.kind (exports_from (suc (n + calls p.kind)) ps)
     (exports_within (suc (n + calls p.kind)) ps a.1 (omega (arith, calls_one p.kind)))))
@@ -138,7 +135,7 @@ exports_within n (p ∷ ps) a lt =
         → SpelledWithin (80 + 160 * length ps) (items export (call_exports (suc n) p k ++ es))
     go (of_ground g) es s = within_more (80 + 160 * length ps) (omega arith) s
     go (to q t) es s =
-        within_then {j = 80} (export_within (call_name p.name) (suc n)
+        within_then {j = 80} (short_export (call_name p.name) (suc n)
         (both_all IsPrintable p.name _ a.0.printable call_end)
         (let s = a.0.short in omega (arith, length-append p.name (codes ".call"))) (omega arith)) s
 

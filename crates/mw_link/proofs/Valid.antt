@@ -10,7 +10,7 @@ use Rattle.mw_wasm.specs.Validity.{IsValidFunction, IsValidElement, IsThere, IsV
 use Rattle.mw_conv.specs.Convert.{funs, lets}
 use Rattle.mw_key.specs.declared.version.Version.TheVariants.{Two}
 use Rattle.mw_gen.specs.Generate.{function_for, elements_of, more_types}
-use Rattle.mw_gen.proofs.Modules.{Suits, funcs_valid, restarting_valid, call_valid, counting_below}
+use Rattle.mw_gen.proofs.Modules.{Suits, funcs_valid, restarting_valid, call_valid, counting_below, few_results}
 use Rattle.mw_gen.proofs.Ranges.{all_proper}
 use Rattle.mw_link.specs.Linked.{Kernel, calls, call_types, call_of_type, outer_functions, call_exports, exports_from}
 use Rattle.mw_link.specs.Linked.{count, linked}
@@ -26,11 +26,7 @@ suits all = record { type0 = refl; table = refl; memory = refl; top = refl }
 
 pub one_result : (ps : List Kernel) → AllByRecursion (λ (t : FuncType). length t.results ≤ 1) (call_types ps)
 one_result [] = tt
-one_result (p ∷ ps) = both_all _ (more_types p.kind) _ (here p.kind) (one_result ps)
-  where
-    here : (k : KernelType) → AllByRecursion (λ (t : FuncType). length t.results ≤ 1) (more_types k)
-    here (of_ground g) = tt
-    here (to s b) = (omega arith, tt)
+one_result (p ∷ ps) = both_all _ (more_types p.kind) _ (few_results p.kind) (one_result ps)
 
 module _ (all : List Kernel) (are : AreWhole all) where
   call_one : (x n e : ℕ) (p : Kernel) (k : KernelType) → CallPlaced all x n e p k
