@@ -19,7 +19,7 @@ use Rattle.mw_ir.specs.Ir as i
 use Rattle.mw_ir.specs.declared.place.Place.{Place}
 use Rattle.mw_ir.specs.Ir.{Ir}
 use Rattle.mw_gen.specs.Generate.{expression_code, tail_code, is_own, place_code, stores_code, prim_code}
-use Rattle.mw_gen.specs.Generate.{application_code, pair_code, address_code, loop_code, body_code}
+use Rattle.mw_gen.specs.Generate.{application_code, pair_code, address_code, store_word, body_code}
 use Rattle.mw_gen.proofs.Slots.{slots_needed}
 use Rattle.mw_gen.proofs.Words.{bits, Small}
 use Rattle.mw_gen.proofs.Primitives.{truth_small, truth_bits}
@@ -219,22 +219,12 @@ module _ (b n : ℕ) (low : n ≤ 2 ^ 31) where
       (omega arith, (omega arith, (omega arith, (omega arith, (tt, ((omega arith, omega arith), (omega arith, h)))))))
 
   pair_fit : (t : ℕ) → t < 2 ^ 31 → (rest : Code) → AreFit rest → AreFit (pair_code t rest)
-  pair_fit t lt rest h = (
-    omega arith,
-    (
-      omega arith,
-      (
-        omega arith,
-        (
-          omega arith,
-          (
-            (omega arith, omega arith),
-            (omega arith, (omega arith, ((omega arith, omega arith), address_fit 16 (omega arith) rest h))),
-          ),
-        ),
-      ),
-    ),
-  )
+  pair_fit t lt rest h =
+      let last : AreFit (store_word 8 (address_code 16 rest)) =
+      ((omega arith, omega arith), address_fit 16 (omega arith) rest h) in
+      let a : t < 2 ^ 32 = omega arith in
+      let b : suc t < 2 ^ 32 = omega arith in
+      (b, (a, (omega arith, (a, ((omega arith, omega arith), (omega arith, (b, last)))))))
 
   prim_fit : (p : Prim) (rest : Code) → AreFit rest → AreFit (prim_code p rest)
   prim_fit Eq rest h = (tt, (tt, h))
@@ -247,32 +237,19 @@ module _ (b n : ℕ) (low : n ≤ 2 ^ 31) where
   expression_fit t lt (i.num z) f s r nd rest h = ((z, f, refl), h)
   expression_fit t lt (i.truth z) f s r nd rest h = ((_, truth_small z, truth_bits z), h)
   expression_fit t lt (i.get p) f s r nd rest h = place_fit p s r rest h
-  expression_fit t lt (i.closure k ps) f s r nd rest h = (
-    omega arith,
-    (
-      (pos k, pos_small k (omega arith), refl),
-      (
-        (omega arith, omega arith),
-        stores_fit ps s r.0 1 (omega (arith, r.1)) _
-            (address_fit _ (omega (arith, r.1)) rest h),
-      ),
-    ),
-  )
+  expression_fit t lt (i.closure k ps) f s r nd rest h =
+      let m = 8 * suc (length ps) in
+      let stored = stores_fit ps s r.0 1 (omega (arith, r.1)) (address_code m rest)
+      (address_fit m (omega (arith, r.1)) rest h) in
+      (omega arith, ((pos k, pos_small k (omega arith), refl), ((omega arith, omega arith), stored)))
   expression_fit t lt (i.app x a) f s r nd rest h = expression_fit t lt x f.0 s.0 r.0 (omega arith) _
       (expression_fit t lt a f.1 s.1 r.1 (omega arith) _ (apply_fit t lt rest h))
   expression_fit t lt (i.bind j d e) f s r nd rest h = expression_fit t lt d f.0 s.0 r.0 (omega arith) _
       (omega arith, expression_fit t lt e f.1 s.1 r.1 (omega arith) rest h)
-  expression_fit t lt (i.cond c y z) f s r nd rest h = expression_fit t lt c f.0 s.0 r.0 (omega arith) _ (
-    tt,
-    (
-      (
-        expression_fit t lt y f.1 s.1 r.1 (omega arith) end tt,
-        expression_fit t lt z f.2 s.2 r.2 (omega arith) end
-            tt,
-      ),
-      h,
-    ),
-  )
+  expression_fit t lt (i.cond c y z) f s r nd rest h =
+      let yes = expression_fit t lt y f.1 s.1 r.1 (omega arith) end tt in
+      let no = expression_fit t lt z f.2 s.2 r.2 (omega arith) end tt in
+      expression_fit t lt c f.0 s.0 r.0 (omega arith) _ (tt, ((yes, no), h))
   expression_fit t lt (i.pair y z) f s r nd rest h = expression_fit t lt y f.0 s.0 r.0 (omega arith) _
       (expression_fit t lt z f.1 s.1 r.1 (omega arith) _ (pair_fit t lt rest h))
   expression_fit t lt (i.fst e) f s r nd rest h = expression_fit t lt e f s r nd _ (tt, ((omega arith, omega arith), h))
@@ -291,16 +268,10 @@ module _ (b n : ℕ) (low : n ≤ 2 ^ 31) where
       go false = expression_fit t lt (i.app x a) f s r nd end tt
   tail_fit t d m lt (i.bind j y e) le big f s r nd = expression_fit t lt y f.0 s.0 r.0 (omega arith) _
       (omega arith, tail_fit t d m lt e (omega arith) big f.1 s.1 r.1 (omega arith))
-  tail_fit t d m lt (i.cond c y z) le big f s r nd = expression_fit t lt c f.0 s.0 r.0 (omega arith) _ (
-    tt,
-    (
-      (
-        tail_fit t (suc d) m lt y (omega arith) big f.1 s.1 r.1 (omega arith),
-        tail_fit t (suc d) m lt z (omega arith) big f.2 s.2 r.2 (omega arith),
-      ),
-      tt,
-    ),
-  )
+  tail_fit t d m lt (i.cond c y z) le big f s r nd =
+      let yes = tail_fit t (suc d) m lt y (omega arith) big f.1 s.1 r.1 (omega arith) in
+      let no = tail_fit t (suc d) m lt z (omega arith) big f.2 s.2 r.2 (omega arith) in
+      expression_fit t lt c f.0 s.0 r.0 (omega arith) _ (tt, ((yes, no), tt))
   tail_fit t d m lt e le big f s r nd = expression_fit t lt e f s r nd end tt
 
 pub body_fit : (z : Bool) (n t : ℕ) (e : Ir) → n ≤ 2 ^ 31 → t < 2 ^ 31 → breadth e < 2 ^ 32 → Fine e → Sees e 2 n

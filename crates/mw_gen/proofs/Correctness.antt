@@ -112,6 +112,15 @@ pub own_is : (f : Ir) → is_own f ≡ true → f ≡ i.get Own
 own_is (i.get Own) e = refl
 own_is _ e = absurd (cc)
 
+-- the locals of a function hold its closure and its argument
+fits_inside : (u w : ℤ) (ls : List WasmValue) → slice_get ls 0 ≡ Some (word u) → slice_get ls 1 ≡ Some (word w)
+    → Small u → Small w → Fits 2 (inside u w) ls
+fits_inside u w ls e0 e1 su sw = record {
+  argument = λ x p. let q : w ≡ x = (cc) in (omega arith, e1 ∙ ap (λ z. Some (word z)) q, subst (λ z. Small z) q sw);
+  own = λ x p. let q : u ≡ x = (cc) in (omega arith, e0 ∙ ap (λ z. Some (word z)) q, subst (λ z. Small z) q su);
+  slots = λ j x p. absurd (cc);
+}
+
 -- The module has the functions of the code, each under its number, and their type first. Nothing else is said of it.
 pub record Carries (v : Version) (t : List IrFunc) (m : PureModule) : Type 0 where
   pub funcs : (j : ℕ) (f : IrFunc) → slice_get t j ≡ Some f → slice_get m.funcs j ≡ Some (function_for v f)
@@ -370,19 +379,10 @@ module _ (v : Version) (t : List IrFunc) (M : PureModule) (carries : Carries v t
       (rw (e, g) (spent q))
     where
       kept : Fits 2 (inside u w) (slice_set ls 1 (word w))
-      kept = record {
-        argument = λ x p. let y : w ≡ x = (cc) in (
-          omega arith,
-          set_same ls 1 (word w) (omega (arith, room.enough)) ∙ ap (λ z. Some (word z)) y,
-          subst (λ z. Small z) y sw,
-        );
-        own = λ x p. let y : u ≡ x = (cc) in let r = f.own u o in (
-          omega arith,
-          set_other ls 1 0 (word w) (word u) (omega arith) r.1 ∙ ap (λ z. Some (word z)) y,
-          subst (λ z. Small z) y r.2,
-        );
-        slots = λ j x p. absurd (cc);
-      }
+      kept =
+          let r = f.own u o in
+          fits_inside u w _ (set_other ls 1 0 (word w) (word u) (omega arith) r.1)
+          (set_same ls 1 (word w) (omega (arith, room.enough))) r.2 sw
 
       spent : (q : ℕ) → Says (i.spending q λ n. calls t c n h (inside u w) fn.body) Q
           (Run q h mem (slice_set ls 1 (word w)) [] (next (br d) end) (nested d (loop_label fn ∷ outer)))
@@ -495,13 +495,6 @@ module _ (v : Version) (t : List IrFunc) (M : PureModule) (carries : Carries v t
       }
       go false = record { enough = omega (arith, zeros_length (fn.slots + 0)); long = λ q. absurd (cc); past = refl }
 
-  fits_entry : (u w : ℤ) (zs : List WasmValue) → Small u → Small w → Fits 2 (inside u w) (word u ∷ word w ∷ zs)
-  fits_entry u w zs su sw = record {
-    argument = λ x e. let q : w ≡ x = (cc) in (omega arith, ap (λ z. Some (word z)) q, subst (λ z. Small z) q sw);
-    own = λ x e. let q : u ≡ x = (cc) in (omega arith, ap (λ z. Some (word z)) q, subst (λ z. Small z) q su);
-    slots = λ j x e. absurd (cc);
-  }
-
   loop_step : (c : ℕ) → Entered c → Looped c → Looped (suc c)
   loop_step c body again l fn j u w t2 a h mem ls outer Q g e us room f me k =
       let so = sound j fn g in
@@ -513,13 +506,13 @@ module _ (v : Version) (t : List IrFunc) (M : PureModule) (carries : Carries v t
   enter_step c body again false l fn j u w h mem ks vs rest around Q g e su sw me k =
       let so = sound j fn g in
       correct c body fn.body l 2 fn.slots (wants_spare fn.body) _ (inside u w) h mem (entry false fn u w) [] end _ Q
-      so.1 so.2 (λ q. q) (omega arith) (entry_room false fn u w) (fits_entry u w _ su sw) me
+      so.1 so.2 (λ q. q) (omega arith) (entry_room false fn u w) (fits_inside u w _ refl refl su sw) me
       λ z l2 h2 mem2 ls g2 sz f room me. subst (Q z l2 h2) (sym (law l2 _ ∙ law l2 _)) (k z l2 h2 mem2 g2 sz me)
   enter_step c body again true l fn j u w h mem ks vs rest around Q g e su sw me k =
       along (law l _)
       (again l fn j u w (tail_wants_spare fn.body) _ h mem (entry true fn u w)
       (in_label 1 end [] end ∷ in_frame 1 ks vs rest ∷ around) Q g e (λ q. q) (entry_room true fn u w)
-      (fits_entry u w _ su sw) me
+      (fits_inside u w _ refl refl su sw) me
       λ z l2 h2 mem2 ls g2 sz me. subst (Q z l2 h2) (sym (law l2 _ ∙ law l2 _)) (k z l2 h2 mem2 g2 sz me))
 
   pub record Bodies (c : ℕ) : Type 1 where
