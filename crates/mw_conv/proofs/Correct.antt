@@ -19,8 +19,8 @@ use Rattle.mw_conv.specs.Convert.{code, converted_functions, converted_body}
 use Rattle.mw_conv.specs.Represents.{Has, Stands, s_int, s_bool, s_function, s_recursive}
 use Rattle.mw_conv.proofs.Free.{free_list_length, free_list_each, rank_is}
 use Rattle.mw_conv.proofs.Heaps.{get_appended, AllRead, read_list, grows_same, grows_append, load_new, stands_grows}
-use Rattle.mw_conv.proofs.Heaps.{has_front, has_back}
-use Rattle.mw_conv.proofs.Scopes.{Fits, fits_grows, fits_left, fits_right, fits_let, functions_length, picked}
+use Rattle.mw_conv.proofs.Heaps.{has_front}
+use Rattle.mw_conv.proofs.Scopes.{Fits, fits_grows, fits_left, fits_right, fits_let, has_next, picked}
 use Rattle.mw_conv.proofs.Scopes.{not_picked, past}
 use Rattle.mw_conv.specs.Agreement.{Agrees}
 use Rattle.mw_conv.proofs.Agrees.{given, then_agrees, taken, spent, computes, chooses, first, second, paired}
@@ -178,8 +178,7 @@ module _ (t : List IrFunc) where
       (λ j v o g. (c j v o g).0) (λ j v o g. (c j v o g).1)))
   correct zero (x.app c a) n k s ctx env h fr le se has f =
       let d = length env in
-      let h2 : Has t (k + funs c) (functions a (k + funs c) d) = subst (λ z. Has t (k + z) (functions a (k + funs c) d))
-      (functions_length c k d) (has_back t k (functions c k d) _ has) in
+      let h2 = has_next t c k d (λ k. functions a k d) has in
       rw (kernel_evaluation-is n (length h) (x.app (closing (labelled c d) 0 env) (closing (labelled a d) 0 env)))
       (then_agrees t n h _ _ _ _
       (correct zero c n k s ctx env h fr le se (has_front t k _ _ has)
@@ -190,8 +189,7 @@ module _ (t : List IrFunc) where
       enters zero l h2 u v y z (λ q e lt. absurd (omega arith)) (stands_grows t h1 h2 g2 u y s1) s2)
   correct (suc b) (x.app c a) n k s ctx env h fr le se has f =
       let d = length env in
-      let h2 : Has t (k + funs c) (functions a (k + funs c) d) = subst (λ z. Has t (k + z) (functions a (k + funs c) d))
-      (functions_length c k d) (has_back t k (functions c k d) _ has) in
+      let h2 = has_next t c k d (λ k. functions a k d) has in
       rw (kernel_evaluation-is n (length h) (x.app (closing (labelled c d) 0 env) (closing (labelled a d) 0 env)))
       (then_agrees t n h _ _ _ _
       (correct (suc b) c n k s ctx env h fr le se (has_front t k _ _ has)
@@ -202,9 +200,7 @@ module _ (t : List IrFunc) where
       enters (suc b) l h2 u v y z (λ q e lt k s ctx env h fr se has f. correct b e q k s ctx env h fr (omega arith) se
       has f) (stands_grows t h1 h2 g2 u y s1) s2)
   correct b (x.bind d e) n k s ctx env h fr le se has f =
-      let h2 : Has t (k + funs d) (functions e (k + funs d) (suc (length env))) =
-      subst (λ z. Has t (k + z) (functions e (k + funs d) (suc (length env)))) (functions_length d k (length env))
-      (has_back t k (functions d k (length env)) _ has) in
+      let h2 = has_next t d k (length env) (λ k. functions e k (suc (length env))) has in
       let q = eq-eqb (length fr.slots) s se in
       rw (
         kernel_evaluation-is n (length h)
@@ -221,12 +217,8 @@ module _ (t : List IrFunc) where
       (fits_grows t h h1 fr _ ctx env g1 (fits_right t h fr (occurs d) (λ i. occurs e (suc i)) ctx env f)))))
   correct b (x.cond c a z) n k s ctx env h fr le se has f =
       let d = length env in
-      let h2 : Has t (k + funs c) (functions a (k + funs c) d ++ functions z (k + funs c + funs a) d) =
-      subst (λ q. Has t (k + q) (functions a (k + funs c) d ++ functions z (k + funs c + funs a) d))
-      (functions_length c k d) (has_back t k (functions c k d) _ has) in
-      let h3 : Has t (k + funs c + funs a) (functions z (k + funs c + funs a) d) =
-      subst (λ q. Has t (k + funs c + q) (functions z (k + funs c + funs a) d)) (functions_length a (k + funs c) d)
-      (has_back t (k + funs c) (functions a (k + funs c) d) _ h2) in
+      let h2 = has_next t c k d (λ k. functions a k d ++ functions z (k + funs a) d) has in
+      let h3 = has_next t a (k + funs c) d (λ k. functions z k d) h2 in
       rw (kernel_evaluation-is n (length h)
       (x.cond (closing (labelled c d) 0 env) (closing (labelled a d) 0 env) (closing (labelled z d) 0 env)))
       (then_agrees t n h _ _ _ _
@@ -241,8 +233,7 @@ module _ (t : List IrFunc) where
       (fits_right t h1 fr (occurs a) (occurs z) ctx env f1)))
   correct b (x.pair c a) n k s ctx env h fr le se has f =
       let d = length env in
-      let h2 : Has t (k + funs c) (functions a (k + funs c) d) = subst (λ z. Has t (k + z) (functions a (k + funs c) d))
-      (functions_length c k d) (has_back t k (functions c k d) _ has) in
+      let h2 = has_next t c k d (λ k. functions a k d) has in
       rw (kernel_evaluation-is n (length h) (x.pair (closing (labelled c d) 0 env) (closing (labelled a d) 0 env)))
       (then_agrees t n h _ _ _ _
       (correct b c n k s ctx env h fr le se (has_front t k _ _ has)
@@ -260,8 +251,7 @@ module _ (t : List IrFunc) where
       second t m h1 v y s1)
   correct b (x.prim p c a) n k s ctx env h fr le se has f =
       let d = length env in
-      let h2 : Has t (k + funs c) (functions a (k + funs c) d) = subst (λ z. Has t (k + z) (functions a (k + funs c) d))
-      (functions_length c k d) (has_back t k (functions c k d) _ has) in
+      let h2 = has_next t c k d (λ k. functions a k d) has in
       rw (kernel_evaluation-is n (length h) (x.prim p (closing (labelled c d) 0 env) (closing (labelled a d) 0 env)))
       (then_agrees t n h _ _ _ _
       (correct b c n k s ctx env h fr le se (has_front t k _ _ has)

@@ -11,8 +11,8 @@ use Rattle.mw_ir.specs.declared.place.Place.{Place}
 use Rattle.mw_ir.specs.declared.place.Place.TheVariants.{Slot}
 use Rattle.mw_ir.specs.Ir.{IrFunc, Frame, with_slot, read}
 use Rattle.mw_conv.specs.Convert.{here, funs, functions}
-use Rattle.mw_conv.specs.Represents.{Grows, Stands}
-use Rattle.mw_conv.proofs.Heaps.{read_grows, stands_grows, get_appended}
+use Rattle.mw_conv.specs.Represents.{Has, Grows, Stands}
+use Rattle.mw_conv.proofs.Heaps.{read_grows, stands_grows, get_appended, has_back}
 
 -- each variable with p has a place whose word stands for its value
 abbrev pub Fits : List IrFunc → List ℤ → Frame → (ℕ → Bool) → (ℕ → Place) → List KernelValue → Type 0
@@ -62,6 +62,12 @@ functions_length (x.fst e) k d = functions_length e k d
 functions_length (x.snd e) k d = functions_length e k d
 functions_length (x.prim p f a) k d = simp (length-append, functions_length f, functions_length a)
 functions_length _ k d = refl
+
+-- the functions of a second part
+pub has_next : (t : List IrFunc) (e : Expression) (k d : ℕ) (gs : ℕ → List IrFunc)
+    → Has t k (functions e k d ++ gs (k + funs e)) → Has t (k + funs e) (gs (k + funs e))
+has_next t e k d gs h =
+    subst (λ z. Has t (k + z) (gs (k + funs e))) (functions_length e k d) (has_back t k (functions e k d) _ h)
 
 pub picked : (env : List KernelValue) (i : ℕ) (v : KernelValue) (o : ℕ → KernelTerm) → slice_get env i ≡ Some v
     → pick_all 0 i env o ≡ done v

@@ -14,8 +14,8 @@ use Rattle.mw_ir.specs.Ir.{Ir, IrFunc}
 use Rattle.mw_ir.specs.Ranges.{IsProper, IsOuterPlace, IsInRange}
 use Rattle.mw_conv.specs.Convert.{funs, lets, code, functions}
 use Rattle.mw_conv.specs.Represents.{Has}
-use Rattle.mw_conv.proofs.Heaps.{has_front, has_back}
-use Rattle.mw_conv.proofs.Scopes.{functions_length}
+use Rattle.mw_conv.proofs.Heaps.{has_front}
+use Rattle.mw_conv.proofs.Scopes.{has_next}
 use Rattle.mw_conv.proofs.Correct.{has_self}
 use Rattle.mw_conv.proofs.Closures.{occurs_below}
 use Rattle.mw_conv.proofs.Ranges.{code_range, functions_proper}
@@ -77,9 +77,7 @@ module _ (all : List Kernel) where
   pub placed_next : (o x n e : ℕ) (p : Kernel) (ps : List Kernel) → Placed o x n e (p ∷ ps)
       → Placed (o + funs p.code) (x + calls p.kind) (suc (n + calls p.kind)) (suc (e + calls p.kind)) ps
   placed_next o x n e p ps h = record {
-    functions =
-        subst (λ k. Has T (o + k) (all_functions (o + funs p.code) ps)) (functions_length p.code o 0)
-        (has_back T o (functions p.code o 0) _ h.functions);
+    functions = has_next T p.code o 0 (λ o. all_functions o ps) h.functions;
     outside =
         let r = at_back M.funcs (suc n) (call_of_type x p.kind) _ h.outside.1 in
         let q : suc n + length (call_of_type x p.kind) ≡ suc (n + calls p.kind) =
