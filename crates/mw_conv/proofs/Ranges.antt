@@ -1,7 +1,7 @@
 -- The conversion of closed code within limits keeps the ranges and limits.
-use Rattle.std.proofs.Common.{◌≡◌, ℕ, zero, suc, ◌+◌, ◌*◌, ◌<◌, ◌≤◌, Bool, true, false, List, [], ◌∷◌, ◌++◌, length}
+use Rattle.std.proofs.Common.{◌≡◌, ℕ, zero, suc, ◌+◌, ◌*◌, ◌<◌, ◌≤◌, Bool, true, List, [], ◌∷◌, ◌++◌, length}
 use Rattle.std.proofs.Common.{map, Some, refl, ◌∙◌, sym, subst, arith}
-use Rattle.std.specs.Prelude.{◌&&◌, nat_le, pos, slice_get, FitsSigned}
+use Rattle.std.specs.Prelude.{nat_le, pos, slice_get, FitsSigned}
 use Rattle.std.specs.Int.{w64}
 use Rattle.std.specs.List.{AllByRecursion}
 use Rattle.std.proofs.lemmas.Bool.{eq-eqb, leb-true}
