@@ -19,7 +19,7 @@ use Rattle.mw_ir.specs.Ir as i
 use Rattle.mw_ir.specs.declared.place.Place.{Place}
 use Rattle.mw_ir.specs.Ir.{Ir}
 use Rattle.mw_gen.specs.Generate.{expression_code, tail_code, is_own, place_code, stores_code, prim_code}
-use Rattle.mw_gen.specs.Generate.{application_code, pair_code, address_code, store_word, body_code}
+use Rattle.mw_gen.specs.Generate.{application_code, pair_code, address_code, store_word, wrap, body_code}
 use Rattle.mw_gen.proofs.Slots.{slots_needed}
 use Rattle.mw_gen.proofs.Words.{bits, Small}
 use Rattle.mw_gen.proofs.Primitives.{truth_small, truth_bits}
@@ -249,7 +249,8 @@ module _ (b n : ℕ) (low : n ≤ 2 ^ 31) where
   expression_fit t lt (i.cond c y z) f s r nd rest h =
       let yes = expression_fit t lt y f.1 s.1 r.1 (omega arith) end tt in
       let no = expression_fit t lt z f.2 s.2 r.2 (omega arith) end tt in
-      expression_fit t lt c f.0 s.0 r.0 (omega arith) _ (tt, ((yes, no), h))
+      expression_fit t lt c f.0 s.0 r.0 (omega arith)
+      (wrap (next (cond (Some I64) (expression_code y b t end) (expression_code z b t end)) rest)) (tt, ((yes, no), h))
   expression_fit t lt (i.pair y z) f s r nd rest h = expression_fit t lt y f.0 s.0 r.0 (omega arith) _
       (expression_fit t lt z f.1 s.1 r.1 (omega arith) _ (pair_fit t lt rest h))
   expression_fit t lt (i.fst e) f s r nd rest h = expression_fit t lt e f s r nd _ (tt, ((omega arith, omega arith), h))
@@ -271,7 +272,8 @@ module _ (b n : ℕ) (low : n ≤ 2 ^ 31) where
   tail_fit t d m lt (i.cond c y z) le big f s r nd =
       let yes = tail_fit t (suc d) m lt y (omega arith) big f.1 s.1 r.1 (omega arith) in
       let no = tail_fit t (suc d) m lt z (omega arith) big f.2 s.2 r.2 (omega arith) in
-      expression_fit t lt c f.0 s.0 r.0 (omega arith) _ (tt, ((yes, no), tt))
+      expression_fit t lt c f.0 s.0 r.0 (omega arith)
+      (wrap (next (cond (Some I64) (tail_code y b t (suc d)) (tail_code z b t (suc d))) end)) (tt, ((yes, no), tt))
   tail_fit t d m lt e le big f s r nd = expression_fit t lt e f s r nd end tt
 
 pub body_fit : (z : Bool) (n t : ℕ) (e : Ir) → n ≤ 2 ^ 31 → t < 2 ^ 31 → breadth e < 2 ^ 32 → Fine e → Sees e 2 n

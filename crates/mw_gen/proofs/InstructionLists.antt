@@ -11,7 +11,7 @@ use Rattle.mw_term.specs.declared.term.Primitive.{Primitive as Prim}
 use Rattle.mw_term.specs.declared.term.Primitive.TheVariants.{Add}
 use Rattle.mw_wasm.specs.declared.instructions.Instr.{Instr}
 use Rattle.mw_wasm.specs.declared.instructions.Instrs.{Instrs}
-use Rattle.mw_wasm.specs.Syntax.{Instruction, Code, end, next, cond, br, local_set}
+use Rattle.mw_wasm.specs.Syntax.{Instruction, Code, end, next, br, local_set}
 use Rattle.mw_wasm.specs.Views.{instruction_of, list_code, code_of}
 use Rattle.mw_ir.specs.declared.place.Place.{Place}
 use Rattle.mw_ir.specs.declared.place.Place.TheVariants.{Free}

@@ -18,8 +18,8 @@ use Rattle.mw_meaning.specs.Shapes.{leaf_count}
 use Rattle.mw_key.specs.declared.version.Version.{Version}
 use Rattle.mw_gen.specs.Generate.{expression_code, tail_code, is_own, place_code, stores_code, prim_code}
 use Rattle.mw_gen.specs.Generate.{application_code, spare_count, is_loop, body_wants_spare, body_code, function_for}
-use Rattle.mw_gen.specs.Generate.{init_function, call_function, call_of, argument_of, wants_spare, elements_of}
-use Rattle.mw_gen.specs.Generate.{more_functions, more_exports, module_with}
+use Rattle.mw_gen.specs.Generate.{call_function, call_of, argument_of, wants_spare, elements_of}
+use Rattle.mw_gen.specs.Generate.{more_functions, module_with}
 use Rattle.mw_gen.proofs.Modules.{few_results}
 use Rattle.mw_conv.proofs.Ranges.{both_all}
 
