@@ -8,6 +8,7 @@ use Rattle.mw_lines.specs.TypeLines.{TypeLine}
 use Rattle.mw_lines.specs.Deciding.{is_in}
 use Rattle.mw_lines.specs.Tables.{lines_of, is_in_one, AreWithin as AreLines}
 use Rattle.mw_lines.specs.declared.table.TypeLines.{TypeLines}
+use Rattle.mw_lines.proofs.NamedTypes.{either-false}
 use Rattle.mw_recheck.specs.Judging.{PlacedBinder, plain_at, quoted_at, stands_in, type_of}
 use Rattle.mw_recheck.specs.Views.{places_of, is_named}
 use Rattle.mw_recheck.specs.Roots.{top_of, tops_of, IsHeldRoot, AreRoots, AreWithin}
@@ -37,10 +38,6 @@ within_lines t [] h = tt
 within_lines t (plain_at i ∷ g) h = (h.0, within_lines t g h.1)
 within_lines t (quoted_at c i ∷ g) h = (h.0, within_lines t g h.1)
 
-either : (a b : Bool) → (if a then true else b) ≡ false → (a ≡ false) × (b ≡ false)
-either true b h = absurd (cc)
-either false b h = (refl, h)
-
 yes_or : (b : Bool) → (if b then true else true) ≡ true
 yes_or true = refl
 yes_or false = refl
@@ -60,5 +57,5 @@ pub stands_else : (t : TypeLines) (a : ℕ) (g : List PlacedBinder) → is_named
 stands_else t a [] h = refl
 stands_else t a (plain_at i ∷ g) h = rw (stands_else t a g h) refl
 stands_else t a (quoted_at c i ∷ g) h =
-    let e = either (c == a) (is_named a g) h in
+    let e = either-false (c == a) (is_named a g) h in
     rw (e.0, stands_else t a g e.1) refl

@@ -2,6 +2,7 @@
 use Rattle.std.proofs.Common.{◌≡◌, ℕ, zero, suc, ◌<◌, true, false, ◌&&◌, List, [], ◌∷◌, ◌++◌, map}
 use Rattle.std.proofs.Common.{Option, Some, None, refl, ap, ◌∙◌, arith, append_assoc}
 use Rattle.std.specs.Prelude.{if◌then◌else◌}
+use Rattle.std.proofs.lemmas.List.{map_push}
 use Rattle.mw_lines.specs.TypeLines.{TypeLine}
 use Rattle.mw_lines.specs.Deciding.{may_follow, may_follow_all}
 use Rattle.mw_recheck.specs.Options.{◌>>=◌}
@@ -18,10 +19,6 @@ Lines = List TypeLine × List ℕ
 
 abbrev Nodes : Type 0
 Nodes = List (List ℕ) × List ℕ
-
-nil_right : {A : Type 0} (xs : List A) → xs ++ [] ≡ xs
-nil_right [] = refl
-nil_right (x ∷ xs) = ap (λ l. x ∷ l) (nil_right xs)
 
 -- no line stands there
 pub lines_stop : (before : List TypeLine) (n : ℕ) (bytes : List ℕ) → 0 < n → type_line_at bytes ≡ None
@@ -100,10 +97,6 @@ nodes_step before (suc n) k bytes l rest q e =
     of (Some t) = rw (append_assoc before (l ∷ []) t.0) refl
     of None = refl
 
-map_last : {A B : Type 0} (f : A → B) (xs : List A) (y : A) → map f (xs ++ y ∷ []) ≡ map f xs ++ f y ∷ []
-map_last f [] y = refl
-map_last f (x ∷ xs) y = ap (λ l. f x ∷ l) (map_last f xs y)
-
 pub map_pushed : {A B : Type 0} (f : A → B) (xs ys : List A) (y : A) → ys ≡ xs ++ y ∷ []
     → map f ys ≡ map f xs ++ f y ∷ []
-map_pushed f xs ys y e = ap (λ l. map f l) e ∙ map_last f xs y
+map_pushed f xs ys y e = ap (λ l. map f l) e ∙ map_push f xs y

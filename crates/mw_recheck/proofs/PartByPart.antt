@@ -1,21 +1,30 @@
 -- A term is judged by its root's line, its parts, and their agreement.
-use Rattle.std.proofs.Common.{◌≡◌, ℕ, ◌<◌, Bool, true, ◌&&◌, List, ◌∷◌, length, Option, Some, None, refl, sym, ap}
+use Rattle.std.proofs.Common.{◌≡◌, ℕ, ◌<◌, Bool, List, ◌∷◌, length, Option, Some, None, refl}
 use Rattle.std.proofs.Common.{◌∙◌, if◌then◌else◌}
-use Rattle.std.specs.Prelude.{nat_lt}
 use Rattle.mw_term.specs.Terms.{Expression, num, truth, var, glob, fun, fix, app, bind, cond, pair, fst, snd, prim}
 use Rattle.mw_term.specs.Terms.{bracket, escape, run, close, opened, lift, lift_b, done}
 use Rattle.mw_term.specs.Types.{Level, live, under}
 use Rattle.mw_lines.specs.TypeLines.{TypeLine}
 use Rattle.mw_recheck.specs.Options.{◌>>=◌}
 use Rattle.mw_recheck.specs.Notes.{TopNote}
-use Rattle.mw_recheck.specs.Judging.{PlacedBinder, placed, NodeLine, Form, form_of, fits, all_fit}
-use Rattle.mw_recheck.specs.Judging.{one_type, two_types, three_types, type_and_classifier, two_types_and_classifier}
-use Rattle.mw_recheck.specs.Judging.{may_stand, next_node, own_at, agrees, ended, judged}
+use Rattle.mw_recheck.specs.Judging.{PlacedBinder, placed, NodeLine}
+use Rattle.mw_recheck.specs.Judging.{own_at, agrees, ended, judged}
 use Rattle.mw_recheck.specs.Parts.{Places, Judge, one_part, two_parts, three_parts, parts_judged}
 use Rattle.mw_recheck.specs.Roots.{AreWithin}
-use Rattle.mw_lines.proofs.NamedTypes.{and-both}
-use Rattle.mw_recheck.proofs.Places.{lt_true}
-use Rattle.mw_recheck.proofs.NodeLines.{bound, bind_some, chosen}
+use Rattle.mw_recheck.proofs.NodeLines.{bind_some}
+
+-- What goes on is the same, and what goes on twice goes on once.
+same_after : {A B : Type 0} (o : Option A) (f g : A → Option B) → ((x : A) → f x ≡ g x) → (o >>= f) ≡ (o >>= g)
+same_after (Some x) f g h = h x
+same_after None f g h = refl
+
+one_after : {A B C : Type 0} (o : Option A) (f : A → Option B) (g : B → Option C)
+    → (o >>= λ x. (f x >>= g)) ≡ ((o >>= f) >>= g)
+one_after (Some x) f g = refl
+one_after None f g = refl
+
+abbrev parts : ℕ → ℕ → ℕ → List (List ℕ) → Option (Places × List (List ℕ))
+parts a b c rest = Some (record { first = a; second = b; third = c }, rest)
 
 module _ (ls : List TypeLine) (tops : List TopNote) (g : List PlacedBinder) (m : Level) where
   -- the end of a term, after its parts
@@ -31,106 +40,25 @@ module _ (ls : List TypeLine) (tops : List TopNote) (g : List PlacedBinder) (m :
   one_is : (e : Expression) (part : NodeLine → Judge) (o : Option (NodeLine × List (List ℕ)))
       → (o >>= λ x. (part x.0 x.1 >>= λ a. ended ls tops g m e x.0 a.0 0 0 a.1)) ≡ (o >>= λ x. (one_part
       (part x.0) x.1 >>= λ p. ending e x.0 p))
-  one_is e part None = refl
-  one_is e part (Some x) = of (part x.0 x.1)
-    where
-      of : (q : Option (ℕ × List (List ℕ))) → (q >>= λ a. ended ls tops g m e x.0 a.0 0 0 a.1)
-          ≡ (◌>>=◌ {A = ℕ × List (List ℕ)} {B = Places × List (List ℕ)} q (λ a. Some (
-            record {
-              first = a.0;
-              second =
-                  0;
-              third = 0;
-            },
-            a.1,
-          )) >>= λ p. ending e x.0 p)
-      of None = refl
-      of (Some a) = refl
+  one_is e part o = same_after o _ _ (λ x. one_after (part x.0 x.1) (λ a. parts a.0 0 0 a.1) (ending e x.0))
 
   two_is : (e : Expression) (part next : NodeLine → Judge) (o : Option (NodeLine × List (List ℕ)))
       → (o >>= λ x. (part x.0 x.1 >>= λ a. (next x.0 a.1 >>= λ b. ended ls tops g m e x.0 a.0 b.0 0 b.1))) ≡ (o >>= λ x.
       (two_parts (part x.0) (next x.0) x.1 >>= λ p. ending e x.0 p))
-  two_is e part next None = refl
-  two_is e part next (Some x) = of (part x.0 x.1)
-    where
-      second : (a : ℕ × List (List ℕ)) (q : Option (ℕ × List (List ℕ)))
-          → (q >>= λ b. ended ls tops g m e x.0 a.0 b.0 0 b.1)
-          ≡ (◌>>=◌ {A = ℕ × List (List ℕ)} {B = Places × List (List ℕ)} q (λ b. Some (
-            record {
-              first = a.0;
-              second =
-                  b.0;
-              third = 0;
-            },
-            b.1,
-          )) >>= λ p. ending e x.0 p)
-      second a None = refl
-      second a (Some b) = refl
-
-      of : (q : Option (ℕ × List (List ℕ))) → (q >>= λ a. (next x.0 a.1 >>= λ b. ended ls tops g m e x.0 a.0 b.0 0 b.1))
-          ≡ (◌>>=◌ {A = ℕ × List (List ℕ)} {B =
-          Places × List (List ℕ)} q (λ a. (next x.0 a.1 >>= λ b. Some (
-            record {
-              first = a.0;
-              second = b.0;
-              third =
-                  0;
-            },
-            b.1,
-          ))) >>= λ p. ending e x.0 p)
-      of None = refl
-      of (Some a) = second a (next x.0 a.1)
+  two_is e part next o = same_after o _ _ (λ x.
+      same_after (part x.0 x.1) _ _ (λ a. one_after (next x.0 a.1) (λ b. parts a.0 b.0 0 b.1) (ending e x.0))
+      ∙ one_after (part x.0 x.1) (λ a. (next x.0 a.1 >>= λ b. parts a.0 b.0 0 b.1)) (ending e x.0))
 
   three_is : (e : Expression) (part next last : NodeLine → Judge) (o : Option (NodeLine × List (List ℕ)))
       → (o >>= λ x. (part x.0 x.1 >>= λ a. (next x.0 a.1 >>= λ b.
       (last x.0 b.1 >>= λ c. ended ls tops g m e x.0 a.0 b.0 c.0 c.1)))) ≡ (o >>= λ x. (three_parts (part x.0)
       (next x.0) (last x.0) x.1 >>= λ p. ending e x.0 p))
-  three_is e part next last None = refl
-  three_is e part next last (Some x) = of (part x.0 x.1)
-    where
-      last_is : (a b : ℕ × List (List ℕ)) (q : Option (ℕ × List (List ℕ)))
-          → (q >>= λ c. ended ls tops g m e x.0 a.0 b.0 c.0 c.1)
-          ≡ (◌>>=◌ {A = ℕ × List (List ℕ)} {B = Places × List (List ℕ)} q (λ c. Some (
-            record {
-              first = a.0;
-              second =
-                  b.0;
-              third = c.0;
-            },
-            c.1,
-          )) >>= λ p. ending e x.0 p)
-      last_is a b None = refl
-      last_is a b (Some c) = refl
-
-      second : (a : ℕ × List (List ℕ)) (q : Option (ℕ × List (List ℕ)))
-          → (q >>= λ b. (last x.0 b.1 >>= λ c. ended ls tops g m e x.0 a.0 b.0 c.0 c.1))
-          ≡ (◌>>=◌ {A = ℕ × List (List ℕ)} {B =
-          Places × List (List ℕ)} q (λ b. (last x.0 b.1 >>= λ c. Some (
-            record {
-              first = a.0;
-              second = b.0;
-              third =
-                  c.0;
-            },
-            c.1,
-          ))) >>= λ p. ending e x.0 p)
-      second a None = refl
-      second a (Some b) = last_is a b (last x.0 b.1)
-
-      of : (q : Option (ℕ × List (List ℕ)))
-          → (q >>= λ a. (next x.0 a.1 >>= λ b. (last x.0 b.1 >>= λ c. ended ls tops g m e x.0 a.0 b.0 c.0 c.1)))
-          ≡ (◌>>=◌ {A = ℕ × List (List ℕ)} {B =
-          Places × List (List ℕ)} q (λ a. (next x.0 a.1 >>= λ b. (last x.0 b.1 >>= λ c. Some (
-            record {
-              first =
-                  a.0;
-              second = b.0;
-              third = c.0;
-            },
-            c.1,
-          )))) >>= λ p. ending e x.0 p)
-      of None = refl
-      of (Some a) = second a (next x.0 a.1)
+  three_is e part next last o = same_after o _ _ (λ x.
+      same_after (part x.0 x.1) _ _ (λ a.
+      same_after (next x.0 a.1) _ _ (λ b. one_after (last x.0 b.1) (λ c. parts a.0 b.0 c.0 c.1) (ending e x.0))
+      ∙ one_after (next x.0 a.1) (λ b. (last x.0 b.1 >>= λ c. parts a.0 b.0 c.0 c.1)) (ending e x.0))
+      ∙ one_after (part x.0 x.1) (λ a. (next x.0 a.1 >>= λ b. (last x.0 b.1 >>= λ c. parts a.0 b.0 c.0 c.1)))
+      (ending e x.0))
 
   pub judged_by_parts : (e : Expression) (nodes : List (List ℕ)) → judged ls tops g m e nodes ≡ by_parts e nodes
   judged_by_parts (num z) nodes = refl
