@@ -13,6 +13,7 @@ use Rattle.mw_types.specs.Types.{TypeExpression, int_ty, function_ty, code_ty, c
 use Rattle.mw_types.specs.Expressions.{ground_expression}
 use Rattle.mw_types.specs.Numbered.{an_int, seen, next, a_function, code_seen, a_closed}
 use Rattle.mw_lines.specs.TypeLines.{int_line, unknown_line, arrow_line, code_line, closed_line}
+use Rattle.mw_lines.specs.Naming.{types_named}
 use Rattle.mw_lines.proofs.NamedTypes.{one_list}
 use Rattle.mw_recheck.specs.Sections.{SectionLines}
 use Rattle.mw_recheck.specs.Texts.{certificate_text}
@@ -51,6 +52,13 @@ module _ (body : Expression) (result : GroundType) (x : SectionLines) where
     main = λ y h. subst (λ z. IsWrittenSection [] body (IsMainRoot alone) z) (same_Some x y h) w;
   }
 
+-- what is read of a section that is right, over the types that its lines name
+named_readings : (body : Expression) (y : SectionLines) (t : TypeExpression) (c : Certified [] body y t)
+    (rs : List Reading) → readings c.types (type_counts body) y.nodes ≡ rs
+    → rs ≡ readings (types_named y.types) (type_counts body) y.nodes
+named_readings body y t c rs h =
+    sym (subst (λ ts. readings ts (type_counts body) y.nodes ≡ rs) (one_list y.types c.types c.table) h)
+
 -- 1 + 2
 abbrev sum_body : Expression
 sum_body = prim Add (num (pos 1)) (num (pos 2))
@@ -70,12 +78,9 @@ sum_read ts (k ∷ l ∷ o ∷ []) t e h =
 sum_read ts _ t e h = absurd (omega (arith, e))
 
 sum_general : IsMostGeneral [] sum_body (IsMainRoot sum_program) sum_section
-sum_general y t c asked b = (
-  b,
-  ap (λ rs. map (reading_value b) rs) (sym (subst (λ ts. readings ts (type_counts sum_body) y.nodes
-      ≡ a_type int_ty ∷ a_type int_ty ∷ a_type int_ty ∷ []) (one_list y.types c.types c.table)
-      (sum_read c.types y.nodes t c.count c.noted))),
-)
+sum_general y t c asked b =
+    let read = sum_read c.types y.nodes t c.count c.noted in
+    (b, ap (λ rs. map (reading_value b) rs) (named_readings sum_body y t c _ read))
 
 sum_written : IsWritten (sum_section ∷ []) sum_program
 sum_written = section_written sum_body (base Int) sum_section
@@ -133,11 +138,8 @@ run_read ts _ t e h = absurd (omega (arith, e))
 run_general : IsMostGeneral [] run_body (IsMainRoot run_program) run_section
 run_general y t c asked b =
     let read = run_read c.types y.nodes t c.count c.noted in
-    let d : Assignment = record { ty = b.ty; classifier = λ _. b.classifier read.0 } in (
-      d,
-      ap (λ rs. map (reading_value b) rs) (sym (subst (λ ts. readings ts (type_counts run_body) y.nodes
-          ≡ run_readings read.0) (one_list y.types c.types c.table) read.1)),
-    )
+    let d : Assignment = record { ty = b.ty; classifier = λ _. b.classifier read.0 } in
+    (d, ap (λ rs. map (reading_value b) rs) (named_readings run_body y t c (run_readings read.0) read.1))
 
 run_written : IsWritten (run_section ∷ []) run_program
 run_written = section_written run_body (base Int) run_section
@@ -202,11 +204,8 @@ let_read ts _ t e h = absurd (omega (arith, e))
 let_general : IsMostGeneral [] let_body (IsMainRoot let_program) let_section
 let_general y t c asked b =
     let read = let_read c.types y.nodes t c.count c.noted in
-    let d : Assignment = record { ty = λ _. value b read.0; classifier = b.classifier } in (
-      d,
-      ap (λ rs. map (reading_value b) rs) (sym (subst (λ ts. readings ts (type_counts let_body) y.nodes
-          ≡ let_readings read.0) (one_list y.types c.types c.table) read.1)),
-    )
+    let d : Assignment = record { ty = λ _. value b read.0; classifier = b.classifier } in
+    (d, ap (λ rs. map (reading_value b) rs) (named_readings let_body y t c (let_readings read.0) read.1))
 
 let_written : IsWritten (let_section ∷ []) let_program
 let_written = section_written let_body (base Int) let_section
