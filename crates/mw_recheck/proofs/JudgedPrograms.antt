@@ -74,9 +74,11 @@ all_right tops (d ∷ items) (x ∷ xs) (t ∷ ts) c l r =
       rw (append-nil tops) at first.1,
       all_right (tops ++ note_seen d t ∷ []) items xs ts (omega (arith, c))
           (omega (arith, l)) (λ i e y u h g k.
-          let m = r (suc i) e y u h g k in
-          (m.0, rw (append_assoc tops (note_seen d t ∷ []) (notes_for_item items ts i), ← (seen_next d items t ts i))
-              m.1)),
+          let m = r (suc i) e y u h g k in (
+            m.0,
+            rw (append_assoc tops (note_seen d t ∷ []) (notes_for_item items ts i), ← (seen_next d items t ts i))
+                m.1,
+          )),
     )
 all_right tops _ _ _ c l r = absurd (omega (arith, c, l))
 

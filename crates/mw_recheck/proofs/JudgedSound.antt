@@ -12,7 +12,7 @@ use Rattle.mw_types.specs.Types.{TypeExpression, code_ty, closed_ty}
 use Rattle.mw_types.specs.Expressions.{kernel_expression, primitive_expression}
 use Rattle.mw_lines.specs.TypeLines.{TypeLine, int_line, bool_line, pair_line, arrow_line, code_line, closed_line}
 use Rattle.mw_lines.specs.TypeLines.{AreTypeLines}
-use Rattle.mw_lines.specs.Naming.{types_named}
+use Rattle.mw_lines.specs.Naming.{types_named, type_named}
 use Rattle.mw_lines.specs.Deciding.{same_type, is_in}
 use Rattle.mw_recheck.specs.Notes.{Notes, binder_note, TopNote, let_root, kernel_root, IsUse, IsUnused}
 use Rattle.mw_recheck.specs.Notes.{IsNodeLine, Noted}
@@ -22,7 +22,7 @@ use Rattle.mw_recheck.specs.Judging.{form_of, may_stand, primitive_line, agrees,
 use Rattle.mw_recheck.specs.Options.{◌>>=◌}
 use Rattle.mw_lines.proofs.NamedTypes.{and-both, not-false, either-false}
 use Rattle.mw_lines.proofs.Candidates.{making_decided, classifier_absent, type_same}
-use Rattle.mw_recheck.proofs.Places.{is_line-there, line-names, named_by}
+use Rattle.mw_recheck.proofs.Places.{is_line-there, line-names}
 use Rattle.mw_recheck.proofs.NodeLines.{bound, chosen, further, classifiers, own_taken}
 use Rattle.mw_recheck.proofs.NodeTypes.{here, node_there, own_within}
 
@@ -64,7 +64,7 @@ module _ (ls : List TypeLine) (known : AreTypeLines ls (types_named ls)) (nodes 
   used _ t h = absurd (cc)
 
   -- the type of a place by its line
-  names : (i : ℕ) (l : TypeLine) → is_line ls i l ≡ true → type_of ls i ≡ named_by ls l
+  names : (i : ℕ) (l : TypeLine) → is_line ls i l ≡ true → type_of ls i ≡ type_named (types_named ls) l
   names i l h = (line-names ls known i l (is_line-there ls i l h)).1
 
   names-primitive : (o : Prim) (i : ℕ) → is_line ls i (primitive_line o) ≡ true
@@ -79,11 +79,11 @@ module _ (ls : List TypeLine) (known : AreTypeLines ls (types_named ls)) (nodes 
   names-primitive Le i h = names i bool_line h
 
   content : (c i : ℕ) (l : TypeLine) → has_content ls c l (slice_get ls i) ≡ true
-      → type_of ls i ≡ code_ty c (named_by ls l)
+      → type_of ls i ≡ code_ty c (type_named (types_named ls) l)
   content c i l h = of (slice_get ls i) refl h
     where
       of : (o : Option TypeLine) → slice_get ls i ≡ o → has_content ls c l o ≡ true
-          → type_of ls i ≡ code_ty c (named_by ls l)
+          → type_of ls i ≡ code_ty c (type_named (types_named ls) l)
       of (Some (code_line d j)) e h =
           let b = and-both (d == c) (is_line ls j l) h in
           (line-names ls known i (code_line d j) e).1 ∙ rw (eqb-true d c b.0, names j l b.1) refl

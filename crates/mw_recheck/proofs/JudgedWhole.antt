@@ -12,7 +12,7 @@ use Rattle.mw_types.specs.Types.{TypeExpression, int_ty, bool_ty, pair_ty, funct
 use Rattle.mw_types.specs.Expressions.{kernel_expression, primitive_expression}
 use Rattle.mw_lines.specs.TypeLines.{TypeLine, int_line, bool_line, pair_line, arrow_line, code_line, closed_line}
 use Rattle.mw_lines.specs.TypeLines.{AreTypeLines}
-use Rattle.mw_lines.specs.Naming.{types_named}
+use Rattle.mw_lines.specs.Naming.{types_named, type_named}
 use Rattle.mw_lines.specs.Deciding.{same_type}
 use Rattle.mw_recheck.specs.Notes.{Notes, binder_note, TopNote, let_root, kernel_root}
 use Rattle.mw_recheck.specs.Notes.{IsUse, IsUnused, Noted}
@@ -23,7 +23,7 @@ use Rattle.mw_recheck.specs.Judging.{primitive_line, judged}
 use Rattle.mw_recheck.specs.Roots.{AreWithin}
 use Rattle.mw_lines.proofs.NamedTypes.{and-true, both-false}
 use Rattle.mw_lines.proofs.Candidates.{making_decided, absent_classifier, same_type-refl}
-use Rattle.mw_recheck.proofs.Places.{named_by, HasParts, names-line, one_place, line_for}
+use Rattle.mw_recheck.proofs.Places.{HasParts, names-line, one_place, line_for}
 use Rattle.mw_recheck.proofs.Places.{there_within, type_is}
 use Rattle.mw_lines.proofs.OneLine.{inv-code}
 use Rattle.mw_recheck.proofs.NodeLines.{own_there}
@@ -84,13 +84,14 @@ module _ (ls : List TypeLine) (known : AreTypeLines ls (types_named ls)) (nodes 
   same i j v w d e = eq-eqb i j (one_place ls known i j v w (d ∙ sym e))
 
   -- the line of code whose content's type has the line of a base type
-  has_lift : (i c : ℕ) (l : TypeLine) → i < length ls → HasParts ls l → type_of ls i ≡ code_ty c (named_by ls l)
+  has_lift : (i c : ℕ) (l : TypeLine) → i < length ls → HasParts ls l → type_of ls i
+      ≡ code_ty c (type_named (types_named ls) l)
       → has_content ls c l (slice_get ls i) ≡ true
   has_lift i c l w p e =
-      let a = line_for ls known i (code_ty c (named_by ls l)) w e in
+      let a = line_for ls known i (code_ty c (type_named (types_named ls) l)) w e in
       let v = inv-code a.2 in
-      let inside = there_within ls known v.0 (named_by ls l) v.2 in
-      let b = names-line ls known v.0 l inside p (type_is ls known v.0 (named_by ls l) v.2) in
+      let inside = there_within ls known v.0 (type_named (types_named ls) l) v.2 in
+      let b = names-line ls known v.0 l inside p (type_is ls known v.0 (type_named (types_named ls) l) v.2) in
       rw (a.1, v.1) (and-true (c == c) (is_line ls v.0 l) (eq-eqb c c refl) b)
 
   -- a term is judged: its type stands at a place, and the lines after it are left

@@ -7,8 +7,8 @@ use Rattle.mw_types.specs.Types.{TypeExpression, int_ty, bool_ty, unknown, pair_
 use Rattle.mw_lines.specs.TypeLines.{TypeLine, int_line, bool_line, unknown_line, pair_line, arrow_line, code_line}
 use Rattle.mw_lines.specs.TypeLines.{closed_line, NamesType, AreTypeLines, names_int, names_bool, names_unknown}
 use Rattle.mw_lines.specs.TypeLines.{names_pair, names_arrow, names_code, names_closed}
-use Rattle.mw_lines.specs.Naming.{types_named}
-use Rattle.mw_lines.proofs.NamedTypes.{line_same, same_line-refl}
+use Rattle.mw_lines.specs.Naming.{types_named, type_named}
+use Rattle.mw_lines.proofs.NamedTypes.{one_type, line_same, same_line-refl}
 use Rattle.mw_lines.proofs.OneLine.{line_at, one_line}
 use Rattle.mw_recheck.specs.Judging.{type_of, is_same, is_line}
 
@@ -21,16 +21,6 @@ is_line-there ls i l h = at_line (slice_get ls i) h
 
 pub is_line-from : (ls : List TypeLine) (i : ℕ) (l : TypeLine) → slice_get ls i ≡ Some l → is_line ls i l ≡ true
 is_line-from ls i l h = rw h (same_line-refl l)
-
--- the type that a line names, by the types of its parts
-abbrev pub named_by : List TypeLine → TypeLine → TypeExpression
-named_by ls int_line = int_ty
-named_by ls bool_line = bool_ty
-named_by ls (unknown_line u) = unknown u
-named_by ls (pair_line i j) = pair_ty (type_of ls i) (type_of ls j)
-named_by ls (arrow_line i j) = function_ty (type_of ls i) (type_of ls j)
-named_by ls (code_line c i) = code_ty c (type_of ls i)
-named_by ls (closed_line i) = closed_ty (type_of ls i)
 
 -- the parts of a line are lines
 abbrev pub HasParts : List TypeLine → TypeLine → Type 0
@@ -61,20 +51,22 @@ module _ (ls : List TypeLine) (known : AreTypeLines ls (types_named ls)) where
   pub named_at : (i : ℕ) (l : TypeLine) → slice_get ls i ≡ Some l → NamesType (types_named ls) i l (type_of ls i)
   named_at i l h = known.each i l (type_of ls i) h (type_there i (line_within i l h))
 
-  -- the line names a type of its form, whose parts are named by earlier lines
-  pub line-names : (i : ℕ) (l : TypeLine) → slice_get ls i ≡ Some l → HasParts ls l × (type_of ls i ≡ named_by ls l)
-  line-names i l h = of l (type_of ls i) (named_at i l h)
+  -- the parts of a line are lines, and give its type
+  pub line-names : (i : ℕ) (l : TypeLine) → slice_get ls i ≡ Some l
+      → HasParts ls l × (type_of ls i ≡ type_named (types_named ls) l)
+  line-names i l h = (of l (type_of ls i) n, one_type (types_named ls) i l (type_of ls i) n)
     where
-      of : (l : TypeLine) (t : TypeExpression) → NamesType (types_named ls) i l t → HasParts ls l × (t ≡ named_by ls l)
-      of l t names_int = (tt, refl)
-      of l t names_bool = (tt, refl)
-      of l t names_unknown = (tt, refl)
-      of l t (names_pair {j = j} {k = k} x y) =
-          ((there_within j _ x.named, there_within k _ y.named), rw (type_is j _ x.named, type_is k _ y.named) refl)
-      of l t (names_arrow {j = j} {k = k} x y) =
-          ((there_within j _ x.named, there_within k _ y.named), rw (type_is j _ x.named, type_is k _ y.named) refl)
-      of l t (names_code {j = j} x n) = (there_within j _ x.named, rw (type_is j _ x.named) refl)
-      of l t (names_closed {j = j} x n) = (there_within j _ x.named, rw (type_is j _ x.named) refl)
+      n : NamesType (types_named ls) i l (type_of ls i)
+      n = named_at i l h
+
+      of : (l : TypeLine) (t : TypeExpression) → NamesType (types_named ls) i l t → HasParts ls l
+      of l t names_int = tt
+      of l t names_bool = tt
+      of l t names_unknown = tt
+      of l t (names_pair x y) = (there_within _ _ x.named, there_within _ _ y.named)
+      of l t (names_arrow x y) = (there_within _ _ x.named, there_within _ _ y.named)
+      of l t (names_code x n) = there_within _ _ x.named
+      of l t (names_closed x n) = there_within _ _ x.named
 
   -- and the line of a type by its form
   pub line_for : (i : ℕ) (t : TypeExpression) → i < length ls → type_of ls i ≡ t
@@ -82,7 +74,8 @@ module _ (ls : List TypeLine) (known : AreTypeLines ls (types_named ls)) where
   line_for i t p e = line_at ls (types_named ls) known i t (type_there i p ∙ ap (λ u. Some u) e)
 
   -- lines whose parts are lines, and that name one type, are one
-  one_form : (k l : TypeLine) → HasParts ls k → HasParts ls l → named_by ls k ≡ named_by ls l → k ≡ l
+  one_form : (k l : TypeLine) → HasParts ls k → HasParts ls l → type_named (types_named ls) k
+      ≡ type_named (types_named ls) l → k ≡ l
   one_form int_line int_line p q e = refl
   one_form bool_line bool_line p q e = refl
   one_form (unknown_line u) (unknown_line v) p q e = let same : u ≡ v = cc in rw same refl
@@ -103,9 +96,9 @@ module _ (ls : List TypeLine) (known : AreTypeLines ls (types_named ls)) where
   one_form _ _ p q e = absurd (cc)
 
   -- a line of a type whose parts' types stand at these places has just these
-  pub names-line : (i : ℕ) (l : TypeLine) → i < length ls → HasParts ls l → type_of ls i ≡ named_by ls l
+  pub names-line : (i : ℕ) (l : TypeLine) → i < length ls → HasParts ls l → type_of ls i ≡ type_named (types_named ls) l
       → is_line ls i l ≡ true
   names-line i l w p e =
-      let a = line_for i (named_by ls l) w e in
+      let a = line_for i (type_named (types_named ls) l) w e in
       let n = line-names i a.0 a.1 in
       rw (a.1, one_form a.0 l n.0 p (sym n.1 ∙ e)) (same_line-refl l)
