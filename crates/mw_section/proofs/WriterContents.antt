@@ -50,9 +50,6 @@ pub number_more : (old : Option ℕ) (r m : BTreeMap ℕ ℕ) → old ≡ None
     → btree_map_len r ≡ btree_map_len m + cond (is_some old) 0 1 → btree_map_len r ≡ btree_map_len m + 1
 number_more old r m e h = h ∙ rw e refl
 
-number_exact : (x y : ℕ) → nat_eq x y ≡ true → x ≡ y
-number_exact x y h = eqb-true x y h
-
 pub number_put : (m r : Numbers) (n k : ℕ) → get nat_cmp m.numbers n ≡ None → k ≡ btree_map_len m.numbers
     → Updates nat_cmp m.numbers r.numbers n (Some k) → btree_map_len r.numbers ≡ btree_map_len m.numbers + 1
     → (ns : List ℕ) → AreNumbers m ns → (k ≡ place_of n ns) × AreNumbers r (with_number n ns)
@@ -61,7 +58,7 @@ number_put m r n k e count u long ns h =
     let last : k ≡ length ns = count ∙ h.count in
     let more : AreNumbers r (ns ++ n ∷ []) = record {
       count = simp length-append (let c = h.count in omega arith);
-      each = λ q. u.0 q ∙ rw last (entry_put nat_eq number_exact n q ns _ _ f.0 (sym (unsigned_ties n q))
+      each = λ q. u.0 q ∙ rw last (entry_put nat_eq eqb-true n q ns _ _ f.0 (sym (unsigned_ties n q))
           (h.each q ∙ number_within q ns)) ∙ sym (number_within q (ns ++ n ∷ []));
     } in
     (last ∙ sym f.0 ∙ sym (place_of_is n ns), rw (with_number_is n ns, f.1) more)
