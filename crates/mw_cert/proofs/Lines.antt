@@ -1,6 +1,6 @@
 -- The lines of nodes, put together.
 use Rattle.std.proofs.Common.{◌≡◌, ℕ, ◌+◌, ◌≤◌, List, [], ◌∷◌, ◌++◌, length, Some, refl, ap, sym, ◌∙◌, subst}
-use Rattle.std.proofs.Common.{arith}
+use Rattle.std.proofs.Common.{arith, length-append}
 use Rattle.std.specs.Prelude.{slice_get, option_to_list}
 use Rattle.std.proofs.lemmas.Option.{same_Some, none-some}
 use Rattle.mw_types.specs.Types.{TypeExpression}
@@ -83,8 +83,5 @@ module _ (types : ℕ → TypeExpression) where
 pub rest_is_short : (ts : List TypeExpression) (t : TypeExpression) (c : ℕ) → slice_get ts 0 ≡ Some t
     → length ts + c ≤ 3
     → length (option_to_list (slice_get ts 1)) + length (option_to_list (slice_get ts 2)) + c ≤ 2
-rest_is_short [] t c h n = absurd (none-some t h)
-rest_is_short (a ∷ []) t c h n = omega arith
-rest_is_short (a ∷ b ∷ []) t c h n = omega arith
-rest_is_short (a ∷ b ∷ d ∷ []) t c h n = omega arith
-rest_is_short (a ∷ b ∷ d ∷ e ∷ ts) t c h n = absurd (omega arith)
+rest_is_short ts t c h n =
+    omega (arith, length-append {A = TypeExpression}, ap length (types_are ts t h (omega arith)))
