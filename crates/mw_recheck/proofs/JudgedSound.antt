@@ -22,7 +22,7 @@ use Rattle.mw_recheck.specs.Judging.{form_of, may_stand, primitive_line, agrees,
 use Rattle.mw_recheck.specs.Options.{◌>>=◌}
 use Rattle.mw_lines.proofs.NamedTypes.{and-both, not-false, either-false}
 use Rattle.mw_lines.proofs.Candidates.{making_decided, classifier_absent, type_same}
-use Rattle.mw_recheck.proofs.Places.{is_line-there, line-names}
+use Rattle.mw_recheck.proofs.Places.{is_line-there, line-names, primitive_names}
 use Rattle.mw_recheck.proofs.NodeLines.{bound, chosen, further, classifiers, own_taken}
 use Rattle.mw_recheck.proofs.NodeTypes.{here, node_there, own_within}
 
@@ -66,17 +66,6 @@ module _ (ls : List TypeLine) (known : AreTypeLines ls (types_named ls)) (nodes 
   -- the type of a place by its line
   names : (i : ℕ) (l : TypeLine) → is_line ls i l ≡ true → type_of ls i ≡ type_named (types_named ls) l
   names i l h = (line-names ls known i l (is_line-there ls i l h)).1
-
-  names-primitive : (o : Prim) (i : ℕ) → is_line ls i (primitive_line o) ≡ true
-      → type_of ls i ≡ primitive_expression o
-  names-primitive Add i h = names i int_line h
-  names-primitive Sub i h = names i int_line h
-  names-primitive Mul i h = names i int_line h
-  names-primitive Div i h = names i int_line h
-  names-primitive Mod i h = names i int_line h
-  names-primitive Eq i h = names i bool_line h
-  names-primitive Lt i h = names i bool_line h
-  names-primitive Le i h = names i bool_line h
 
   content : (c i : ℕ) (l : TypeLine) → has_content ls c l (slice_get ls i) ≡ true
       → type_of ls i ≡ code_ty c (type_named (types_named ls) l)
@@ -234,7 +223,7 @@ module _ (ls : List TypeLine) (known : AreTypeLines ls (types_named ls)) (nodes 
       let t = and-both (is_line ls s.x.own (primitive_line o)) (is_line ls a.at int_line && is_line ls b.at int_line)
       q in
       let u = and-both (is_line ls a.at int_line) (is_line ls b.at int_line) t.1 in (
-        names-primitive o s.x.own t.0,
+        names s.x.own (primitive_line o) t.0 ∙ (primitive_names ls o).1,
         s.node,
         rw (names a.at int_line u.0) at a.noted,
         rw (names b.at int_line u.1) at b.noted,

@@ -23,7 +23,7 @@ use Rattle.mw_recheck.specs.Judging.{primitive_line, judged}
 use Rattle.mw_recheck.specs.Roots.{AreWithin}
 use Rattle.mw_lines.proofs.NamedTypes.{and-true, both-false}
 use Rattle.mw_lines.proofs.Candidates.{making_decided, absent_classifier, same_type-refl}
-use Rattle.mw_recheck.proofs.Places.{HasParts, names-line, one_place, line_for}
+use Rattle.mw_recheck.proofs.Places.{HasParts, names-line, primitive_names, one_place, line_for}
 use Rattle.mw_recheck.proofs.Places.{there_within, type_is}
 use Rattle.mw_lines.proofs.OneLine.{inv-code}
 use Rattle.mw_recheck.proofs.NodeLines.{own_there}
@@ -50,17 +50,6 @@ module _ (ls : List TypeLine) (known : AreTypeLines ls (types_named ls)) (nodes 
   usable (Some (let_root r)) t h = (making_decided r t).1 h
   usable (Some (kernel_root k)) t h = rw h (same_type-refl (closed_ty (kernel_expression k)))
   usable _ t h = absurd h
-
-  names-primitive : (o : Prim) (i : ℕ) → i < length ls → type_of ls i ≡ primitive_expression o
-      → is_line ls i (primitive_line o) ≡ true
-  names-primitive Add i w e = names-line ls known i int_line w tt e
-  names-primitive Sub i w e = names-line ls known i int_line w tt e
-  names-primitive Mul i w e = names-line ls known i int_line w tt e
-  names-primitive Div i w e = names-line ls known i int_line w tt e
-  names-primitive Mod i w e = names-line ls known i int_line w tt e
-  names-primitive Eq i w e = names-line ls known i bool_line w tt e
-  names-primitive Lt i w e = names-line ls known i bool_line w tt e
-  names-primitive Le i w e = names-line ls known i bool_line w tt e
 
   -- the place of a binder whose type stands at a place too
   same_place : (g : List PlacedBinder) (k : ℕ) (m : Level) (i : ℕ) → AreWithin ls g → i < length ls
@@ -221,11 +210,12 @@ module _ (ls : List TypeLine) (known : AreTypeLines ls (types_named ls)) (nodes 
       let o = own_there ls nodes m n (prim k d e) _ _ q.1 refl (by_level (prim k d e) m refl (λ a. refl)) q.0.0.fit in
       let r = whole g m (n + 1) d int_ty w h.2 in
       let s = whole g m (n + 1 + size d) e int_ty w h.3 in
+      let o_names = primitive_names ls k in
       judged_at q.0.0 (n + 1 + size d + size e) (rw (
         o,
         r.answer,
         s.answer,
-        names-primitive k q.0.0.at q.0.0.within (q.0.0.is ∙ h.0),
+        names-line ls known q.0.0.at (primitive_line k) q.0.0.within o_names.0 (q.0.0.is ∙ h.0 ∙ sym o_names.1),
         names-line ls known r.at int_line r.within tt r.is,
         names-line ls known s.at int_line s.within tt s.is,
       ) refl) (omega arith)

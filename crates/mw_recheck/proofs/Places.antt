@@ -3,6 +3,9 @@ use Rattle.std.proofs.Common.{◌≡◌, ℕ, ◌<◌, true, List, length, Optio
 use Rattle.std.proofs.Common.{Some, None, refl, sym, ap, ◌∙◌, arith}
 use Rattle.std.specs.Prelude.{slice_get}
 use Rattle.std.proofs.lemmas.Option.{slice_get_within, slice_get-get_or, get_or_from_slice_get}
+use Rattle.mw_term.specs.declared.term.Primitive.{Primitive as Prim}
+use Rattle.mw_term.specs.declared.term.Primitive.TheVariants.{Add, Sub, Mul, Div, Mod, Eq, Lt, Le}
+use Rattle.mw_types.specs.Expressions.{primitive_expression}
 use Rattle.mw_types.specs.Types.{TypeExpression, int_ty, bool_ty, unknown, pair_ty, function_ty, code_ty, closed_ty}
 use Rattle.mw_lines.specs.TypeLines.{TypeLine, int_line, bool_line, unknown_line, pair_line, arrow_line, code_line}
 use Rattle.mw_lines.specs.TypeLines.{closed_line, NamesType, AreTypeLines, names_int, names_bool, names_unknown}
@@ -10,7 +13,7 @@ use Rattle.mw_lines.specs.TypeLines.{names_pair, names_arrow, names_code, names_
 use Rattle.mw_lines.specs.Naming.{types_named, type_named}
 use Rattle.mw_lines.proofs.NamedTypes.{one_type, line_same, same_line-refl}
 use Rattle.mw_lines.proofs.OneLine.{line_at, one_line}
-use Rattle.mw_recheck.specs.Judging.{type_of, is_same, is_line}
+use Rattle.mw_recheck.specs.Judging.{type_of, is_same, is_line, primitive_line}
 
 pub is_line-there : (ls : List TypeLine) (i : ℕ) (l : TypeLine) → is_line ls i l ≡ true → slice_get ls i ≡ Some l
 is_line-there ls i l h = at_line (slice_get ls i) h
@@ -29,6 +32,18 @@ HasParts ls (arrow_line i j) = (i < length ls) × (j < length ls)
 HasParts ls (code_line c i) = i < length ls
 HasParts ls (closed_line i) = i < length ls
 HasParts ls _ = Unit {0}
+
+-- the line of a primitive's result
+pub primitive_names : (ls : List TypeLine) (o : Prim)
+    → HasParts ls (primitive_line o) × (type_named (types_named ls) (primitive_line o) ≡ primitive_expression o)
+primitive_names ls Add = (tt, refl)
+primitive_names ls Sub = (tt, refl)
+primitive_names ls Mul = (tt, refl)
+primitive_names ls Div = (tt, refl)
+primitive_names ls Mod = (tt, refl)
+primitive_names ls Eq = (tt, refl)
+primitive_names ls Lt = (tt, refl)
+primitive_names ls Le = (tt, refl)
 
 module _ (ls : List TypeLine) (known : AreTypeLines ls (types_named ls)) where
   pub type_there : (i : ℕ) → i < length ls → slice_get (types_named ls) i ≡ Some (type_of ls i)
