@@ -21,6 +21,17 @@ bound None f y h = absurd (cc)
 pub bind_some : {A B : Type 0} (o : Option A) (f : A → Option B) (x : A) → o ≡ Some x → (o >>= f) ≡ f x
 bind_some o f x h = rw h refl
 
+-- What goes on is the same, and what goes on twice goes on once.
+pub same_after : {A B : Type 0} (o : Option A) (f g : A → Option B) → ((x : A) → f x ≡ g x) → (o >>= f) ≡ (o >>= g)
+same_after (Some x) f g h = h x
+same_after None f g h = refl
+
+pub one_after : {A B C : Type 0} (o : Option A) (f : A → Option B) (g : B → Option C)
+    → (o >>= λ x. (f x >>= g)) ≡ ((o >>= f) >>= g)
+one_after (Some x) f g = refl
+one_after None f g = refl
+
+-- a test that is passed, and either way of it
 pub passed : {A : Type 0} (b : Bool) (o : Option A) (y : A) → (if b then o else None) ≡ Some y
     → (b ≡ true) × (o ≡ Some y)
 passed true o y h = (refl, h)

@@ -11,17 +11,7 @@ use Rattle.mw_recheck.specs.Judging.{PlacedBinder, placed, NodeLine}
 use Rattle.mw_recheck.specs.Judging.{own_at, agrees, ended, judged}
 use Rattle.mw_recheck.specs.Parts.{Places, Judge, one_part, two_parts, three_parts, parts_judged}
 use Rattle.mw_recheck.specs.Roots.{AreWithin}
-use Rattle.mw_recheck.proofs.NodeLines.{bind_some}
-
--- What goes on is the same, and what goes on twice goes on once.
-same_after : {A B : Type 0} (o : Option A) (f g : A → Option B) → ((x : A) → f x ≡ g x) → (o >>= f) ≡ (o >>= g)
-same_after (Some x) f g h = h x
-same_after None f g h = refl
-
-one_after : {A B C : Type 0} (o : Option A) (f : A → Option B) (g : B → Option C)
-    → (o >>= λ x. (f x >>= g)) ≡ ((o >>= f) >>= g)
-one_after (Some x) f g = refl
-one_after None f g = refl
+use Rattle.mw_recheck.proofs.NodeLines.{bind_some, same_after, one_after}
 
 abbrev parts : ℕ → ℕ → ℕ → List (List ℕ) → Option (Places × List (List ℕ))
 parts a b c rest = Some (record { first = a; second = b; third = c }, rest)
@@ -107,8 +97,3 @@ module _ (ls : List TypeLine) (tops : List TopNote) (g : List PlacedBinder) (m :
   judged_there e nodes x ns p rest b o q a =
       judged_by_parts e nodes ∙ bind_some (own_at ls m e nodes) _ (x, ns) o
       ∙ bind_some (parts_judged ls tops g m e x ns) (ending e x) (p, rest) q ∙ rw a refl
-
-pub within_more : (ls : List TypeLine) (m : Level) (i : ℕ) (g : List PlacedBinder) → i < length ls → AreWithin ls g
-    → AreWithin ls (placed m i ∷ g)
-within_more ls live i g h w = (h, w)
-within_more ls (under c) i g h w = (h, w)

@@ -22,9 +22,6 @@ is_line-there ls i l h = at_line (slice_get ls i) h
     at_line (Some k) h = ap (λ x. Some x) (line_same k l h)
     at_line None h = absurd (cc)
 
-pub is_line-from : (ls : List TypeLine) (i : ℕ) (l : TypeLine) → slice_get ls i ≡ Some l → is_line ls i l ≡ true
-is_line-from ls i l h = rw h (same_line-refl l)
-
 -- the parts of a line are lines
 abbrev pub HasParts : List TypeLine → TypeLine → Type 0
 HasParts ls (pair_line i j) = (i < length ls) × (j < length ls)
