@@ -142,7 +142,7 @@ placed (unknown u) w = (place_of u w.unknowns, number_at u w.unknowns, line_at _
 placed (pair_ty s t) w =
     let a = (type_written s w).writing in
     let p = two_placed s t a (type_written t a).writing _ _
-        (pair_line (type_written s w).place (type_written t a).place)
+    (pair_line (type_written s w).place (type_written t a).place)
     (placed s w) (continued_type t a) (placed t a) in
     ((type_written s w).place, (type_written t a).place, p.0, p.1, p.2)
 placed (function_ty s t) w =

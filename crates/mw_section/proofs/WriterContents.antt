@@ -147,9 +147,7 @@ pub puts_one : (types : ℕ → TypeExpression) (line : ℕ → TypeLine) (step 
     → Puts types (λ w. line_written (line (step w).place) (step w).writing) m o p
 puts_one types line step m n o i p f g w h =
     let a = f w h in
-    let P : ℕ → Type 0 = λ x. (p ≡ (line_written (line x) (step w).writing).place)
-    × IsWriting types o (line_written (line x) (step w).writing).writing in
-    subst P a.0 (g (step w).writing a.1)
+    rw (← a.0) (g (step w).writing a.1)
 
 pub puts_two : (types : ℕ → TypeExpression) (line : ℕ → ℕ → TypeLine) (first second : Writing → Written)
     (m n o r : LineWriter) (i j p : ℕ) → Puts types first m n i → Puts types second n o j
@@ -158,19 +156,14 @@ pub puts_two : (types : ℕ → TypeExpression) (line : ℕ → ℕ → TypeLine
     (second (first w).writing).writing) m r p
 puts_two types line first second m n o r i j p f g k w h =
     let a = f w h in
-    let P : ℕ → Type 0 = λ x.
-    (p ≡ (line_written (line x (second (first w).writing).place) (second (first w).writing).writing).place)
-    × IsWriting types r
-    (line_written (line x (second (first w).writing).place) (second (first w).writing).writing).writing in
-    subst P a.0 (puts_one types (line i) second n o r j p g k (first w).writing a.1)
+    rw (← a.0) (puts_one types (line i) second n o r j p g k (first w).writing a.1)
 
 -- trees
 pub tree_found : (types : ℕ → TypeExpression) (m : LineWriter) (n k : ℕ) (t : TypeExpression)
     → get nat_cmp m.trees n ≡ Some k → types n ≡ t → Puts types (type_written t) m m k
 tree_found types m n k t e same w h =
     let there : IsWritten t k w = subst (λ s. IsWritten s k w) same (h.trees n k e) in
-    let P : Written → Type 0 = λ r. (k ≡ r.place) × IsWriting types m r.writing in
-    subst P (sym there) (refl, h)
+    rw there (refl, h)
 
 tree_entry : (b : Bool) (f : Option ℕ) (k p : ℕ) (P : ℕ → Type 0) → (b ≡ true → P p) → (f ≡ Some k → P k)
     → cond b (Some p) f ≡ Some k → P k
