@@ -41,8 +41,7 @@ module _ (types : ℕ → TypeExpression) where
   puts_append ts us m n o ps qs f g w h =
       let a = f w h in
       let b = g (all_written ts w).writing a.1 in
-      let P : AllWritten → Type 0 = λ r. (ps ++ qs ≡ r.places) × IsWriting types o r.writing in
-      subst P (sym (all_append ts us w))
+      rw (all_append ts us w)
       (ap (λ xs. xs ++ qs) a.0 ∙ ap (λ xs. (all_written ts w).places ++ xs) b.0, b.1)
 
   puts_first : (t : TypeExpression) (ts : List TypeExpression) (m n o : LineWriter) (p : ℕ) (ps : List ℕ)
@@ -59,10 +58,7 @@ module _ (types : ℕ → TypeExpression) where
       → PutsEnd types x.classifier n o end → PutsNode types x m o (ps ++ end)
   puts_node x m n o ps end f g w h =
       let a = f w h in
-      let v = (all_written x.types w).writing in
-      let P : List ℕ → Type 0 = λ places. (ps ++ end ≡ (line_ended x.classifier places v).line)
-      × IsWriting types o (line_ended x.classifier places v).writing in
-      subst P a.0 (g v ps a.1)
+      rw (← a.0) (g (all_written x.types w).writing ps a.1)
 
   pub puts_line : (x : NodeFacts) (t : TypeExpression) (m n o q r : LineWriter) (own : ℕ)
       (first second end line : List ℕ) → slice_get x.types 0 ≡ Some t → IsShort x
