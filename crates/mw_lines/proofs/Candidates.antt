@@ -1,6 +1,6 @@
 -- One substitution decides whether a type is made from a root: what stands in it where the root has a number.
-use Rattle.std.proofs.Common.{◌≡◌, ◌≢◌, ℕ, Option, Some, None, refl, ap, sym, Bool, true, false, cond}
-use Rattle.std.proofs.Common.{◌↔◌, nat_eq, subst, true≢false, ◌∙◌}
+use Rattle.std.proofs.Common.{◌≡◌, ℕ, Option, Some, None, refl, ap, sym, Bool, true, false, cond}
+use Rattle.std.proofs.Common.{◌↔◌, nat_eq, subst}
 use Rattle.std.proofs.lemmas.Bool.{eqb-true, eqb-false, eq-eqb, ne_eqb}
 use Rattle.mw_types.specs.Types.{TypeExpression, int_ty, bool_ty, unknown, pair_ty, function_ty, code_ty, closed_ty}
 use Rattle.mw_types.specs.Types.{Substitution, apply}

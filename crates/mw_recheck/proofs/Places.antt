@@ -6,7 +6,7 @@ use Rattle.std.proofs.lemmas.Option.{slice_get_within, slice_get-get_or, get_or_
 use Rattle.mw_term.specs.declared.term.Primitive.{Primitive as Prim}
 use Rattle.mw_term.specs.declared.term.Primitive.TheVariants.{Add, Sub, Mul, Div, Mod, Eq, Lt, Le}
 use Rattle.mw_types.specs.Expressions.{primitive_expression}
-use Rattle.mw_types.specs.Types.{TypeExpression, int_ty, bool_ty, unknown, pair_ty, function_ty, code_ty, closed_ty}
+use Rattle.mw_types.specs.Types.{TypeExpression, int_ty}
 use Rattle.mw_lines.specs.TypeLines.{TypeLine, int_line, bool_line, unknown_line, pair_line, arrow_line, code_line}
 use Rattle.mw_lines.specs.TypeLines.{closed_line, NamesType, AreTypeLines, names_int, names_bool, names_unknown}
 use Rattle.mw_lines.specs.TypeLines.{names_pair, names_arrow, names_code, names_closed}

@@ -1,8 +1,8 @@
 -- What node lines say of a term types it, under each assignment to the section's unknowns and classifiers.
-use Rattle.std.proofs.Common.{◌≡◌, ℕ, ◌+◌, List, [], ◌∷◌, Option, Some, None, refl, ap, sym, ◌∙◌, arith}
+use Rattle.std.proofs.Common.{◌≡◌, ℕ, ◌+◌, List, [], ◌∷◌, Option, Some, refl, ap, sym, ◌∙◌, arith}
 use Rattle.std.specs.Prelude.{slice_get}
 use Rattle.mw_term.specs.Terms.{Expression, KernelType, num, truth, var, glob, fun, fix, app, bind, cond, pair, fst}
-use Rattle.mw_term.specs.Terms.{snd, prim, bracket, escape, run, close, opened, lift, lift_b, done, size}
+use Rattle.mw_term.specs.Terms.{snd, prim, bracket, escape, run, close, opened, lift, lift_b, size}
 use Rattle.mw_term.specs.Types.{int_type, bool_type, function_type, Level, live, under, kernel_type}
 use Rattle.mw_term.specs.Typing.{TopLevel, let_item, kernel_item, Typed, t_num, t_truth, t_var, t_let, t_kernel, t_fun}
 use Rattle.mw_term.specs.Typing.{t_fix, t_app, t_bind, t_cond, t_pair, t_fst, t_snd, t_prim, t_bracket, t_escape, t_run}
@@ -16,7 +16,7 @@ use Rattle.mw_types.specs.Types.{TypeExpression, int_ty, bool_ty, pair_ty, funct
 use Rattle.mw_types.specs.Types.{Assignment, value, after}
 use Rattle.mw_types.proofs.Existence.{value_apply}
 use Rattle.mw_types.proofs.Expressions.{value-kernel_expression, value-primitive_expression, level_of, Fits-fitted}
-use Rattle.mw_recheck.specs.Notes.{Notes, BinderNote, binder_note, TopNote, let_root, kernel_root, hidden, IsUse, Noted}
+use Rattle.mw_recheck.specs.Notes.{Notes, BinderNote, binder_note, TopNote, let_root, kernel_root, IsUse, Noted}
 use Rattle.mw_recheck.proofs.BinderEnvironments.{entries, entry_of-note, get-entries, renewed, flat-renewed}
 use Rattle.mw_recheck.proofs.BinderEnvironments.{entries-renewed}
 

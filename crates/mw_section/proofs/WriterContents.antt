@@ -16,7 +16,7 @@ use Rattle.mw_lines.proofs.StoredLines.{equal_lines}
 use Rattle.mw_lines.proofs.NamedTypes.{line_same}
 use Rattle.mw_section.specs.Writing.{Writing, Written, type_written, classifier_written, line_written, place_of}
 use Rattle.mw_section.specs.Writing.{with_number, line_place, with_line}
-use Rattle.mw_section.specs.Writers.{place_within, AreNumbers, AreLines, IsWritten, IsWriting, unknown_written, Puts}
+use Rattle.mw_section.specs.Writers.{place_within, AreNumbers, AreLines, IsWritten, unknown_written, Puts}
 use Rattle.mw_section.specs.WritingLaws.{IsContinued}
 use Rattle.mw_section.specs.declared.numbers.Numbers.{Numbers}
 use Rattle.mw_section.specs.declared.table.LineTable.{LineTable}

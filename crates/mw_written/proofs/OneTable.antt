@@ -1,9 +1,9 @@
 -- Types are named by one list of lines at most.
-use Rattle.std.proofs.Common.{◌≡◌, ℕ, List, get_or, sym, ◌∙◌, arith}
+use Rattle.std.proofs.Common.{◌≡◌, List, get_or, sym, ◌∙◌, arith}
 use Rattle.std.proofs.lemmas.List.{same_lists}
 use Rattle.std.proofs.lemmas.Option.{slice_get-get_or}
-use Rattle.mw_types.specs.Types.{TypeExpression, int_ty, bool_ty, unknown, pair_ty, function_ty, code_ty, closed_ty}
-use Rattle.mw_lines.specs.TypeLines.{TypeLine, AreTypeLines, NamesType}
+use Rattle.mw_types.specs.Types.{TypeExpression, int_ty}
+use Rattle.mw_lines.specs.TypeLines.{TypeLine, AreTypeLines}
 use Rattle.mw_lines.proofs.OneLine.{has_one_line}
 
 pub one_table : (xs ys : List TypeLine) (ts : List TypeExpression) → AreTypeLines xs ts → AreTypeLines ys ts → xs ≡ ys

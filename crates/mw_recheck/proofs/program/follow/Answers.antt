@@ -1,10 +1,9 @@
-use Rattle.std.proofs.Common.{true, false, [], refl, sym, ◌∙◌, ap}
+use Rattle.std.proofs.Common.{true, false, refl, sym, ◌∙◌}
 use Rattle.mw_term.specs.Programs.{program_of}
-use Rattle.mw_term.specs.Terms.{expression_of, ground_of}
+use Rattle.mw_term.specs.Terms.{ground_of}
 use Rattle.mw_lines.specs.Tables.{lines_of, type_at}
 use Rattle.mw_recheck.specs.Roots.{tops_of}
-use Rattle.mw_recheck.specs.Following.{definitions_of, main_notes_at}
-use Rattle.mw_recheck.specs.Deciding.{is_end, root_at}
+use Rattle.mw_recheck.specs.Deciding.{is_end}
 use Rattle.mw_recheck.proofs.LineTypes.{ground-at}
 use Rattle.mw_recheck.proofs.Items.{program_followed, end_is}
 use Rattle.mw_recheck.proofs.program.follow.Goals as goal

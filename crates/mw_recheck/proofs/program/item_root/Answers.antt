@@ -1,8 +1,7 @@
-use Rattle.std.proofs.Common.{◌≡◌, true, false, Some, refl, sym, ap, ◌∙◌, subst}
+use Rattle.std.proofs.Common.{true, false, Some, refl, sym, ap, ◌∙◌}
 use Rattle.mw_term.specs.Programs.{definition_of}
 use Rattle.mw_term.specs.Terms.{kernel_type_of}
 use Rattle.mw_lines.specs.Tables.{lines_of, type_at}
-use Rattle.mw_recheck.specs.Deciding.{root_at}
 use Rattle.mw_recheck.specs.Roots.{tops_of}
 use Rattle.mw_recheck.proofs.LineTypes.{closed_kernel-at}
 use Rattle.mw_recheck.proofs.Items.{item_found, front_type}
