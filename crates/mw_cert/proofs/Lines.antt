@@ -7,9 +7,8 @@ use Rattle.mw_types.specs.Types.{TypeExpression}
 use Rattle.mw_infer.specs.Nodes.{NodeFacts}
 use Rattle.mw_section.specs.Writing.{Writing, type_written, classifier_written}
 use Rattle.mw_section.specs.WritingLaws.{AllWritten, all_written}
-use Rattle.mw_section.specs.Writers.{IsWriting, Puts}
+use Rattle.mw_section.specs.Writers.{Puts}
 use Rattle.mw_section.specs.declared.writer.LineWriter.{LineWriter}
-use Rattle.mw_made.specs.Making.{line_ended}
 use Rattle.mw_cert.specs.Nodes.{PutsAll, PutsEnd, PutsNode, IsShort}
 
 -- types behind types
