@@ -15,9 +15,8 @@ use Rattle.mw_decode.proofs.CodeSoundness.{ListsSound, sound_block_type, opened_
 use Rattle.mw_decode.proofs.CodeSoundness.{within_sound, instructions_sound}
 
 -- a reader leaves no more than it was given
-pub shorter : {A : Type 0} {r : Reader A} (P : A → List ℕ → Type 0) → Sound r P
-    → (end : ℕ) (bytes : List ℕ) (x : A) (rest : List ℕ) → r end bytes ≡ got x rest → length rest ≤ length bytes
-shorter P s end bytes x rest e =
+pub shorter : {A : Type 0} {r : Reader A} {P : A → List ℕ → Type 0} → Sound r P → (end : ℕ) (bytes : List ℕ) (x : A) (rest : List ℕ) → r end bytes ≡ got x rest → length rest ≤ length bytes
+shorter s end bytes x rest e =
     let h = s.sound end bytes x rest e in omega (arith, ap length h.whole, length-append h.front rest)
 
 pub same_then : {A B : Type 0} (m : Read A) (f g : A → List ℕ → Read B)
@@ -47,7 +46,7 @@ inside_agree k p q a s room an_if t end bytes h =
     ap (λ m. and_then m (λ l rest. second p room t l.code l.mark end rest)) (a.agree room true end bytes h)
     ∙ same_then (q room true end bytes) (λ l rest. second p room t l.code l.mark end rest)
     (λ l rest. second q room t l.code l.mark end rest)
-    (λ l rest e. seconds l.code l.mark rest (shorter _ (s.each room true) end bytes l rest e))
+    (λ l rest e. seconds l.code l.mark rest (shorter (s.each room true) end bytes l rest e))
   where
     seconds : (c : Code) (m : Mark) (rest : List ℕ) → length rest ≤ length bytes
         → second p room t c m end rest ≡ second q room t c m end rest
@@ -62,7 +61,7 @@ opened_agree k p q a s zero o at end bytes h = refl
 opened_agree k p q a s (suc room) o at end bytes h =
     same_then (block_type end bytes) (λ t rest. inside p room o t end rest) (λ t rest. inside q room o t end rest)
     (λ t rest e.
-    let l = shorter _ sound_block_type end bytes t rest e in
+    let l = shorter sound_block_type end bytes t rest e in
     inside_agree k p q a s room o t end rest (omega arith))
 
 more_agree : (k : ℕ) (p q : Lists) → Agree k p q
@@ -87,7 +86,7 @@ behind_agree k p q a s room first at b end bytes h = go (opcode_cases b)
         ap (λ m. and_then m (λ i rest. more p room first i end rest)) (opened_agree k p q a s room o at end bytes h)
         ∙ same_then (opened q room o at end bytes) (λ i rest. more p room first i end rest)
         (λ i rest. more q room first i end rest) (λ i rest f.
-        let l = shorter _ (opened_sound q s room o at b e) end bytes i rest f in
+        let l = shorter (opened_sound q s room o at b e) end bytes i rest f in
         more_agree k p q a room first i end rest (omega arith))
 
     elses : (first : Bool)
@@ -104,7 +103,7 @@ behind_agree k p q a s room first at b end bytes h = go (opcode_cases b)
     go (by_none f) =
         same (alone (alone_of b)) f (same_then (immediates at (alone_of b) end bytes)
         (λ i rest. more p room first i end rest) (λ i rest. more q room first i end rest) (λ i rest g.
-        let l = shorter _ (immediates_sound b at (alone_of b) (alone_sound b)) end bytes i rest g in
+        let l = shorter (immediates_sound b at (alone_of b) (alone_sound b)) end bytes i rest g in
         more_agree k p q a room first i end rest (omega arith)))
 
 listed_agree : (k : ℕ) (p q : Lists) → Agree k p q → ListsSound q → (room : ℕ) (first : Bool) (end : ℕ) (bytes : List ℕ)
