@@ -3,7 +3,6 @@ use Rattle.std.proofs.Common.{◌≡◌, ℕ, zero, suc, ◌≤◌, ◌⊎◌, i
 use Rattle.std.proofs.Common.{length, Option, Some, None, refl, sym, ap, subst, ◌∙◌, append_assoc, arith}
 use Rattle.mw_wasm.specs.declared.values.ValType.{ValType}
 use Rattle.mw_wasm.specs.declared.values.ValType.TheVariants.{I32, I64}
-use Rattle.mw_wasm.specs.declared.numbers.IntOp.{IntOp}
 use Rattle.mw_wasm.specs.declared.numbers.IntOp.TheVariants as op
 use Rattle.mw_wasm.specs.declared.numbers.NumOp.{NumOp}
 use Rattle.mw_wasm.specs.declared.numbers.NumOp.TheVariants as number
@@ -115,7 +114,7 @@ pub again_vector : {A : Type 0} {r : Reader A} {P : A → List ℕ → Type 0} �
     → Again (vector r) (λ xs. piece.vector P xs)
 again_vector a = again_by λ xs. gives_then _ (gives_at again_u32 (length xs)) (gives_times a xs)
 
--- opcodes that stand alone
+-- opcodes that stand alone: by computation for each instruction, the first alone so that the others are told apart
 opcode_of_load : (o : LoadOp) → opcode (load_opcode o) ≡ alone (is (loading o))
 unfolding opcode alone_of jump_of variable_of constant_of accessing_of load_of store_of number_of
 opcode_of_load load_op.I32 = refl
@@ -126,23 +125,11 @@ unfolding opcode alone_of jump_of variable_of constant_of accessing_of load_of s
 opcode_of_store store_op.I32 = refl
 opcode_of_store o = refl
 
-opcode_of_i32 : (o : IntOp) → opcode (opcode_of_number (number.I32 o)) ≡ alone (is (gives (numeric (number.I32 o))))
-unfolding opcode alone_of jump_of variable_of constant_of accessing_of load_of store_of number_of
-opcode_of_i32 op.Eqz = refl
-opcode_of_i32 o = refl
-
-opcode_of_i64 : (o : IntOp) → opcode (opcode_of_number (number.I64 o)) ≡ alone (is (gives (numeric (number.I64 o))))
-unfolding opcode alone_of jump_of variable_of constant_of accessing_of load_of store_of number_of
-opcode_of_i64 op.Eqz = refl
-opcode_of_i64 o = refl
-
 opcode_of_numeric : (o : NumOp) → opcode (opcode_of_number o) ≡ alone (is (gives (numeric o)))
 unfolding opcode alone_of jump_of variable_of constant_of accessing_of load_of store_of number_of
-opcode_of_numeric (number.I32 o) = opcode_of_i32 o
-opcode_of_numeric (number.I64 o) = opcode_of_i64 o
-opcode_of_numeric number.Wrap = refl
-opcode_of_numeric number.ExtendS = refl
-opcode_of_numeric number.ExtendU = refl
+opcode_of_numeric (number.I32 op.Eqz) = refl
+opcode_of_numeric (number.I64 op.Eqz) = refl
+opcode_of_numeric o = refl
 
 -- how an instruction is read: its opcode, and the list that goes on behind it
 pub record Reread (i : Instruction) (front : List ℕ) : Type 0 where
