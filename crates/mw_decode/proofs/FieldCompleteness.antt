@@ -128,7 +128,7 @@ again_global = again_under λ g shallow.
 again_octet : Again (byte_of is) octet
 again_octet = record { again = λ end b front rest h. ap (λ z. byte_of is end (z ++ rest)) h.1 }
 
-abbrev Letter : ℕ → List ℕ → Type 0
+abbrev pub Letter : ℕ → List ℕ → Type 0
 Letter b front = octet b front × IsPrintable b
 
 again_letter : Again (byte_of printable) Letter

@@ -31,7 +31,7 @@ use Rattle.mw_decode.proofs.ReaderSoundness.{counted, sound_vector}
 use Rattle.mw_decode.proofs.OpcodeSoundness.{sound_fixed}
 use Rattle.mw_decode.proofs.CodeSoundness.{type_is, expression_sound}
 use Rattle.mw_decode.proofs.SizedLaws.{sound_sized}
-use Rattle.mw_decode.proofs.FieldCompleteness.{Few, Within, all_types, TypePiece, BodyPiece}
+use Rattle.mw_decode.proofs.FieldCompleteness.{Few, Letter, Within, all_types, TypePiece, BodyPiece}
 
 -- a number that passes a test, and what is read behind it
 sound_if : {B : Type 0} {R : B → List ℕ → Type 0} (test : ℕ → Bool) (f : ℕ → List ℕ → BadModule) (go : ℕ → Reader B)
@@ -119,9 +119,6 @@ sound_global =
     (λ init f3 c f2 m f1 t. (joined f1 (f2 ++ f3) t (joined f2 f3 m c.0), c.1))
 
 -- exports
-abbrev Letter : ℕ → List ℕ → Type 0
-Letter b front = octet b front × IsPrintable b
-
 sound_letter : Sound (byte_of printable) Letter
 sound_letter = sound_byte printable λ b x e low.
     let q = passes (leb 0x20 b && leb b 0x7E) (is b) outside (is x) e (not_outside x) in

@@ -309,12 +309,11 @@ code_taken : (ks : List ℕ) (bs : List Body) (front : List ℕ) → length bs �
     → items grammar.function_code (functions ks bs) front × (length (functions ks bs) ≡ length bs)
     × AllByRecursion FewLocals (functions ks bs) × AllByRecursion ShallowBody (functions ks bs)
 code_taken [] [] front e h = (h, refl, tt, tt)
-code_taken [] (b ∷ bs) front e h = absurd (cc)
-code_taken (k ∷ ks) [] front e h = absurd (cc)
 code_taken (k ∷ ks) (b ∷ bs) front e h =
     let r = code_taken ks bs h.back (cc) h.second in
     let c = h.first in
     (joined_so h (sized_so _ _ h.front c (λ f i. i.spelled)) r.0, ap suc r.1, (c.inside.few, r.2), (c.inside.shallow, r.3))
+code_taken ks bs front e h = absurd (cc)
 
 pub record CodeTaken (ks : List ℕ) (b : Option (List Body)) (front : List ℕ) : Type 0 where
   pub section : grammar.section 10 grammar.function_code (functions ks (given b)) front

@@ -1,5 +1,5 @@
 -- An opcode that stands alone, and what is read behind it, spell the instruction that is given.
-use Rattle.std.proofs.Common.{◌≡◌, ℕ, zero, suc, ◌+◌, ◌-◌, ◌⊎◌, inl, inr, Bool, true, ◌&&◌, cond, eqb, leb, List}
+use Rattle.std.proofs.Common.{◌≡◌, ℕ, zero, suc, ◌+◌, ◌-◌, Bool, true, ◌&&◌, cond, eqb, leb, List}
 use Rattle.std.proofs.Common.{[]}
 use Rattle.std.proofs.Common.{◌∷◌, ◌++◌, Option, Some, None, refl, sym, ap, subst, ◌∙◌, arith}
 use Rattle.std.specs.Prelude.{slice_get}
@@ -129,9 +129,10 @@ row_is f first b ops o h e =
     let r = at_place f first (b - first) ops o h q.1 in
     omega arith
 
-or_is : {A : Type 0} (o p : Option A) (x : A) → or_else o p ≡ Some x → (o ≡ Some x) ⊎ (p ≡ Some x)
-or_is None p x e = inr e
-or_is (Some y) p x e = inl e
+or_so : {A : Type 0} (P : A → Type 0) (o p : Option A) → ((x : A) → o ≡ Some x → P x) → ((x : A) → p ≡ Some x → P x)
+    → (x : A) → or_else o p ≡ Some x → P x
+or_so P None p f g x e = g x e
+or_so P (Some y) p f g x e = f x e
 
 mapped_is : {A B : Type 0} (f : A → B) (o : Option A) (y : B) → mapped f o ≡ Some y → (x : A) × (o ≡ Some x) × (y ≡ f x)
 mapped_is f None y e = absurd (cc)
@@ -146,41 +147,28 @@ number_row make first b ops o h e =
 
 pub number_opcode : (b : ℕ) (o : NumOp) → number_of b ≡ Some o → opcode_of_number o ≡ b
 unfolding number_of
-number_opcode b o e = elim (or_is _ _ o e) [
-  | inl h ↦ number_row number.I32 0x45 b tests o refl h
-  | inr e ↦ elim (or_is _ _ o e) [
-    | inl h ↦ number_row number.I64 0x50 b tests o refl h
-    | inr e ↦ elim (or_is _ _ o e) [
-      | inl h ↦ number_row number.I32 0x67 b others o refl h
-      | inr e ↦ elim (or_is _ _ o e) [
-        | inl h ↦ number_row number.I64 0x79 b others o refl h
-        | inr e ↦ elim (or_is _ _ o e) [
-          | inl h ↦ row_is opcode_of_number 0xA7 b (number.Wrap ∷ []) o refl h
-          | inr h ↦ row_is opcode_of_number 0xAC b (number.ExtendS ∷ number.ExtendU ∷ []) o refl h
-        ]
-      ]
-    ]
-  ]
-]
+number_opcode b =
+    or_so (λ o. opcode_of_number o ≡ b) _ _ (λ o h. number_row number.I32 0x45 b tests o refl h)
+    (or_so _ _ _ (λ o h. number_row number.I64 0x50 b tests o refl h)
+    (or_so _ _ _ (λ o h. number_row number.I32 0x67 b others o refl h)
+    (or_so _ _ _ (λ o h. number_row number.I64 0x79 b others o refl h)
+    (or_so _ _ _ (λ o h. row_is opcode_of_number 0xA7 b (number.Wrap ∷ []) o refl h)
+    (λ o h. row_is opcode_of_number 0xAC b (number.ExtendS ∷ number.ExtendU ∷ []) o refl h)))))
 
 pub load_opcode_is : (b : ℕ) (o : LoadOp) → load_of b ≡ Some o → load_opcode o ≡ b
 unfolding load_of
-load_opcode_is b o e = elim (or_is _ _ o e) [
-  | inl h ↦ row_is load_opcode 0x28 b (load_op.I32 ∷ load_op.I64 ∷ []) o refl h
-  | inr h ↦
-      row_is load_opcode 0x2C b
-      (load_op.I32S8 ∷ load_op.I32U8 ∷ load_op.I32S16 ∷ load_op.I32U16 ∷ load_op.I64S8 ∷ load_op.I64U8
-      ∷ load_op.I64S16 ∷ load_op.I64U16 ∷ load_op.I64S32 ∷ load_op.I64U32 ∷ []) o refl h
-]
+load_opcode_is b =
+    or_so (λ o. load_opcode o ≡ b) _ _ (λ o h. row_is load_opcode 0x28 b (load_op.I32 ∷ load_op.I64 ∷ []) o refl h)
+    (λ o h. row_is load_opcode 0x2C b
+    (load_op.I32S8 ∷ load_op.I32U8 ∷ load_op.I32S16 ∷ load_op.I32U16 ∷ load_op.I64S8 ∷ load_op.I64U8
+    ∷ load_op.I64S16 ∷ load_op.I64U16 ∷ load_op.I64S32 ∷ load_op.I64U32 ∷ []) o refl h)
 
 pub store_opcode_is : (b : ℕ) (o : StoreOp) → store_of b ≡ Some o → store_opcode o ≡ b
 unfolding store_of
-store_opcode_is b o e = elim (or_is _ _ o e) [
-  | inl h ↦ row_is store_opcode 0x36 b (store_op.I32 ∷ store_op.I64 ∷ []) o refl h
-  | inr h ↦
-      row_is store_opcode 0x3A b
-      (store_op.I32To8 ∷ store_op.I32To16 ∷ store_op.I64To8 ∷ store_op.I64To16 ∷ store_op.I64To32 ∷ []) o refl h
-]
+store_opcode_is b =
+    or_so (λ o. store_opcode o ≡ b) _ _ (λ o h. row_is store_opcode 0x36 b (store_op.I32 ∷ store_op.I64 ∷ []) o refl h)
+    (λ o h. row_is store_opcode 0x3A b
+    (store_op.I32To8 ∷ store_op.I32To16 ∷ store_op.I64To8 ∷ store_op.I64To16 ∷ store_op.I64To32 ∷ []) o refl h)
 
 pub mapped_sound : {A : Type 0} (b : ℕ) (f : A → Reader Instruction) (o : Option A)
     → ((x : A) → o ≡ Some x → Sound (f x) (Behind b)) → OptionSound b (mapped f o)

@@ -21,17 +21,16 @@ same_branch false x y z h = refl
 
 customs_enough : (j k end : ℕ) (bytes : List ℕ) → length bytes ≤ j → length bytes ≤ k
     → customs_within j end bytes ≡ customs_within k end bytes
-customs_enough zero zero end bytes h l = refl
-customs_enough zero (suc k) end [] h l = refl
-customs_enough zero (suc k) end (b ∷ rest) h l = absurd (omega arith)
-customs_enough (suc j) zero end [] h l = refl
-customs_enough (suc j) zero end (b ∷ rest) h l = absurd (omega arith)
-customs_enough (suc j) (suc k) end [] h l = refl
 customs_enough (suc j) (suc k) end (b ∷ rest) h l =
     same_branch (eqb b 0) _ _ (got tt (b ∷ rest)) (λ _. same_then (u32 end rest) _ _ (λ size content e.
     let m = shorter sound_u32 end rest size content e in
     same_branch (leb size (length content)) _ _ ended (λ _. customs_enough j k end (drop size content)
     (omega (arith, length-drop size content)) (omega (arith, length-drop size content)))))
+customs_enough zero zero end bytes h l = refl
+customs_enough zero (suc k) end [] h l = refl
+customs_enough (suc j) zero end [] h l = refl
+customs_enough (suc j) (suc k) end [] h l = refl
+customs_enough j k end (b ∷ rest) h l = absurd (omega arith)
 
 -- a custom section in front is skipped
 one_custom : (end : ℕ) (c : List ℕ) (front rest : List ℕ) → Joined (byte 0x00) (Sized (exactly c)) front
