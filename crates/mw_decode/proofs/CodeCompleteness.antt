@@ -29,7 +29,8 @@ use Rattle.mw_decode.specs.Opcodes.{Mark, closing, otherwise, Opener, a_block, a
 use Rattle.mw_decode.specs.Opcodes.{indexed, at_address, before_zero}
 use Rattle.mw_decode.specs.Opcodes.{loading, storing, jump_of, variable_of, constant_of, accessing_of, load_of}
 use Rattle.mw_decode.specs.Opcodes.{store_of, number_of, alone_of, opcode}
-use Rattle.mw_decode.specs.Instructions.{block_type_of, block_type, ahead, closed, second, inside, opened, more, behind, instructions}
+use Rattle.mw_decode.specs.Instructions.{block_type_of, block_type, ahead, closed, second, inside, opened, more, behind}
+use Rattle.mw_decode.specs.Instructions.{instructions}
 use Rattle.mw_decode.specs.Instructions.{expression}
 use Rattle.mw_decode.proofs.CodeSoundness.{mark_byte}
 use Rattle.mw_decode.proofs.ReadingFixedPoint.{instructions_are}

@@ -19,7 +19,8 @@ use Rattle.mw_decode.specs.Instructions.{value_type_of, block_type_of, some_type
 use Rattle.mw_decode.specs.Instructions.{closed, second, inside, opened, more, immediates, behind, listed, within}
 use Rattle.mw_decode.specs.Instructions.{instructions, expression}
 use Rattle.mw_decode.proofs.Choices.{not_faulty}
-use Rattle.mw_decode.proofs.ReaderSoundness.{Sound, joined_so, joined, begins_with, sound_then, sound_so, sound_gives, sound_last}
+use Rattle.mw_decode.proofs.ReaderSoundness.{Sound, joined_so, joined, begins_with, sound_then, sound_so, sound_gives}
+use Rattle.mw_decode.proofs.ReaderSoundness.{sound_last}
 use Rattle.mw_decode.proofs.ReaderSoundness.{sound_never, sound_byte, by_byte}
 use Rattle.mw_decode.proofs.OpcodeSoundness.{Behind, MeaningSound, alone_sound, opened_by}
 
@@ -233,7 +234,8 @@ behind_sound lists s room first at b = go (opcode_cases b)
         → Sound (behind lists room first at (opcode b)) (ListBehind room first b)
     at_code o k t = subst (λ (o : Opcode). Sound (behind lists room first at o) (ListBehind room first b)) (sym k) t
 
-    block_sound : (o : Opener) → b ≡ opener_byte o → Sound (behind lists room first at (opens o)) (ListBehind room first b)
+    block_sound : (o : Opener) → b ≡ opener_byte o → Sound (behind lists room first at (opens o))
+        (ListBehind room first b)
     block_sound o e =
         more_sound lists s room first b (opened lists room o at) (opened_sound lists s room o at b e)
 

@@ -141,7 +141,8 @@ sound_kind = sound_byte export_kind λ b make e low.
     by_byte Kind b 0x00 Func make _ (λ x back u. joined (0x00 ∷ []) back refl u)
     (by_byte Kind b 0x01 Table make _ (λ x back u. joined (0x01 ∷ []) back refl u)
     (by_byte Kind b 0x02 Memory make _ (λ x back u. joined (0x02 ∷ []) back refl u)
-    (by_byte Kind b 0x03 Variable make _ (λ x back u. joined (0x03 ∷ []) back refl u) (λ e. absurd (not_wrong make e))))) e
+    (by_byte Kind b 0x03 Variable make _ (λ x back u. joined (0x03 ∷ []) back refl u)
+    (λ e. absurd (not_wrong make e))))) e
 
 pub sound_export : Sound export (λ e front. grammar.export e front × AllByRecursion IsPrintable e.name)
 sound_export =

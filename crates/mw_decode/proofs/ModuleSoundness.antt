@@ -24,7 +24,8 @@ use Rattle.mw_decode.specs.Sections.{is_missing, present, Parts, functions, give
 use Rattle.mw_decode.specs.Sections.{module_read, end_of_file}
 use Rattle.mw_list.proofs.Conjunctions.{both_true}
 use Rattle.mw_decode.proofs.Choices.{either_is, passes, not_ended, not_faulty}
-use Rattle.mw_decode.proofs.ReaderSoundness.{Sound, and_then_got, got_parts, joined_so, joined, begins_then, begins_with}
+use Rattle.mw_decode.proofs.ReaderSoundness.{Sound, and_then_got, got_parts, joined_so, joined, begins_then}
+use Rattle.mw_decode.proofs.ReaderSoundness.{begins_with}
 use Rattle.mw_decode.proofs.ReaderSoundness.{begins_so, sound_then, sound_so, sound_gives, sound_last, sound_u32}
 use Rattle.mw_decode.proofs.ReaderSoundness.{sound_vector, back_bytes}
 use Rattle.mw_decode.proofs.OpcodeSoundness.{opened_by}
@@ -311,8 +312,12 @@ code_taken : (ks : List ℕ) (bs : List Body) (front : List ℕ) → length bs �
 code_taken [] [] front e h = (h, refl, tt, tt)
 code_taken (k ∷ ks) (b ∷ bs) front e h =
     let r = code_taken ks bs h.back (cc) h.second in
-    let c = h.first in
-    (joined_so h (sized_so _ _ h.front c (λ f i. i.spelled)) r.0, ap suc r.1, (c.inside.few, r.2), (c.inside.shallow, r.3))
+    let c = h.first in (
+      joined_so h (sized_so _ _ h.front c (λ f i. i.spelled)) r.0,
+      ap suc r.1,
+      (c.inside.few, r.2),
+      (c.inside.shallow, r.3),
+    )
 code_taken ks bs front e h = absurd (cc)
 
 pub record CodeTaken (ks : List ℕ) (b : Option (List Body)) (front : List ℕ) : Type 0 where

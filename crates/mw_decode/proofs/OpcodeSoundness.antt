@@ -72,7 +72,8 @@ operands_sound {P = P} {Q = Q} m b i s t made flat e = sound_then s λ x. sound_
 
 -- a fixed byte
 pub sound_fixed : (m : ℕ) → Sound (fixed m) (λ x front. byte m front)
-sound_fixed m = sound_byte (only m tt) (λ b x e low. by_byte (λ x. byte m) b m tt x wrong refl (λ e. absurd (not_wrong x e)) e)
+sound_fixed m =
+    sound_byte (only m tt) (λ b x e low. by_byte (λ x. byte m) b m tt x wrong refl (λ e. absurd (not_wrong x e)) e)
 
 pub jump_sound : (b : ℕ) → OptionSound b (jump_of b)
 unfolding jump_of
@@ -81,10 +82,12 @@ jump_sound b =
     option_if b 0x01 _ _ (plain_sound 0x01 b nop (λ bytes h. h) refl) (
     option_if b 0x0C _ _ (operand_sound 0x0C b br sound_u32 (λ x bytes h. h) (λ x. refl)) (
     option_if b 0x0D _ _ (operand_sound 0x0D b br_if sound_u32 (λ x bytes h. h) (λ x. refl)) (
-    option_if b 0x0E _ _ (operands_sound 0x0E b br_table (sound_vector sound_u32) sound_u32 (λ ls l bytes h. h) (λ ls l. refl)) (
+    option_if b 0x0E _ _ (operands_sound 0x0E b br_table (sound_vector sound_u32) sound_u32 (λ ls l bytes h. h)
+    (λ ls l. refl)) (
     option_if b 0x0F _ _ (plain_sound 0x0F b give_back (λ bytes h. h) refl) (
     option_if b 0x10 _ _ (operand_sound 0x10 b call sound_u32 (λ x bytes h. h) (λ x. refl)) (
-    option_if b 0x11 _ _ (operands_sound 0x11 b (λ t x. call_indirect t) sound_u32 (sound_fixed 0) (λ t x bytes h. h) (λ t x. refl)) (
+    option_if b 0x11 _ _ (operands_sound 0x11 b (λ t x. call_indirect t) sound_u32 (sound_fixed 0) (λ t x bytes h. h)
+    (λ t x. refl)) (
     option_if b 0x1A _ _ (plain_sound 0x1A b drop_value (λ bytes h. h) refl) (
     option_if b 0x1B _ None (plain_sound 0x1B b select (λ bytes h. h) refl) tt)))))))))
 
@@ -193,9 +196,11 @@ accessing_sound : (b : ℕ) → MeaningSound b (accessing_of b)
 unfolding accessing_of
 accessing_sound b = known_sound b _
     (option_or b _ _ (mapped_sound b loading (load_of b)
-    (λ o e. operands_sound (load_opcode o) b (load o) sound_u32 sound_u32 (λ x y bytes h. h) (λ x y. refl) (sym (load_opcode_is b o e))))
+    (λ o e. operands_sound (load_opcode o) b (load o) sound_u32 sound_u32 (λ x y bytes h. h) (λ x y. refl)
+    (sym (load_opcode_is b o e))))
     (option_or b _ _ (mapped_sound b storing (store_of b) (λ o e.
-    operands_sound (store_opcode o) b (store o) sound_u32 sound_u32 (λ x y bytes h. h) (λ x y. refl) (sym (store_opcode_is b o e))))
+    operands_sound (store_opcode o) b (store o) sound_u32 sound_u32 (λ x y bytes h. h) (λ x y. refl)
+    (sym (store_opcode_is b o e))))
     (mapped_sound b computing (number_of b)
     (λ o e. plain_sound (opcode_of_number o) b (numeric o) (λ bytes h. h) refl (sym (number_opcode b o e))))))
 

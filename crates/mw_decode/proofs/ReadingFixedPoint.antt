@@ -15,7 +15,8 @@ use Rattle.mw_decode.proofs.CodeSoundness.{ListsSound, sound_block_type, opened_
 use Rattle.mw_decode.proofs.CodeSoundness.{within_sound, instructions_sound}
 
 -- a reader leaves no more than it was given
-pub shorter : {A : Type 0} {r : Reader A} {P : A → List ℕ → Type 0} → Sound r P → (end : ℕ) (bytes : List ℕ) (x : A) (rest : List ℕ) → r end bytes ≡ got x rest → length rest ≤ length bytes
+pub shorter : {A : Type 0} {r : Reader A} {P : A → List ℕ → Type 0} → Sound r P → (end : ℕ) (bytes : List ℕ) (x : A)
+    (rest : List ℕ) → r end bytes ≡ got x rest → length rest ≤ length bytes
 shorter s end bytes x rest e =
     let h = s.sound end bytes x rest e in omega (arith, ap length h.whole, length-append h.front rest)
 
@@ -53,7 +54,8 @@ inside_agree k p q a s room a_loop t end bytes h =
     ap (λ m. and_then m (λ c rest. got (loop t c) rest)) (closed_agree k p q a room end bytes h)
 inside_agree k p q a s room an_if t end bytes h =
     ap (λ m. and_then m (λ l rest. second p room t l.code l.mark end rest)) (a.agree room true end bytes h)
-    ∙ agree_then k (λ l. second p room t l.code l.mark) (λ l. second q room t l.code l.mark) (s.each room true) end bytes
+    ∙ agree_then k (λ l. second p room t l.code l.mark) (λ l. second q room t l.code l.mark) (s.each room true) end
+    bytes
     h (λ l rest m. seconds l.code l.mark rest m)
   where
     seconds : (c : Code) (m : Mark) (rest : List ℕ) → length rest ≤ k
