@@ -337,12 +337,8 @@ module _ {A : Type 0} (k : ℕ) (r q : Reader A) (F : Tokens → Type 0) (P : A 
   completes_opened s c d (stop b) a n e = stop_completed (if_opened r q) F P s b a e
   completes_opened s c d (token at t.left rest) a n e = behind_completed (if_opened r q) r F P at t.left rest a
       (c rest a (omega arith) e) (λ b us. refl)
-  completes_opened s c d (token at t.right rest) a n e = same_completed (if_opened r q) q F P at t.right rest a
-      (d (token at t.right rest) a n e) (λ b us. refl)
-  completes_opened s c d (token at (t.word w) rest) a n e = same_completed (if_opened r q) q F P at (t.word w) rest a
-      (d (token at (t.word w) rest) a n e) (λ b us. refl)
-  completes_opened s c d (token at (t.string w) rest) a n e = same_completed (if_opened r q) q F P at
-      (t.string w) rest a (d (token at (t.string w) rest) a n e) (λ b us. refl)
+  completes_opened s c d (token at u rest) a n e = same_completed (if_opened r q) q F P at u rest a
+      (d (token at u rest) a n e) (λ b us. refl)
 
   pub word_reads : (w : List ℕ) → bytes_eq w w ≡ true → (s : Started r F P) (us vs : Tokens) → Placed us
       (t.word w ∷ s.more) vs → F vs → if_word w r q us ≡ got s.x vs
@@ -355,12 +351,6 @@ module _ {A : Type 0} (k : ℕ) (r q : Reader A) (F : Tokens → Type 0) (P : A 
   pub completes_word : (w : List ℕ) → Started (if_word w r q) F P → Completes k r F P → Completes k q F P
       → Completes k (if_word w r q) F P
   completes_word w s c d (stop b) a n e = stop_completed (if_word w r q) F P s b a e
-  completes_word w s c d (token at t.left rest) a n e = same_completed (if_word w r q) q F P at t.left rest a
-      (d (token at t.left rest) a n e) (λ b us. refl)
-  completes_word w s c d (token at t.right rest) a n e = same_completed (if_word w r q) q F P at t.right rest a
-      (d (token at t.right rest) a n e) (λ b us. refl)
-  completes_word w s c d (token at (t.string v) rest) a n e = same_completed (if_word w r q) q F P at
-      (t.string v) rest a (d (token at (t.string v) rest) a n e) (λ b us. refl)
   completes_word w s c d (token at (t.word v) rest) a n e = by_test (bytes_eq v w) refl e
     where
       by_test : (x : Bool) → bytes_eq v w ≡ x → (if x then skip r else q) (token at (t.word v) rest) ≡ bad (stop a)
@@ -369,6 +359,8 @@ module _ {A : Type 0} (k : ℕ) (r q : Reader A) (F : Tokens → Type 0) (P : A 
           (λ b us. rw f refl)
       by_test false f e = same_completed (if_word w r q) q F P at (t.word v) rest a
           (d (token at (t.word v) rest) a n e) (λ b us. rw f refl)
+  completes_word w s c d (token at u rest) a n e = same_completed (if_word w r q) q F P at u rest a
+      (d (token at u rest) a n e) (λ b us. refl)
 
 -- Both at once, for readers whose value may be any.
 pub record On {A : Type 0} (k : ℕ) (r : Reader A) (F : Tokens → Type 0) : Type 0 where

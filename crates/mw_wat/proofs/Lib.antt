@@ -11,6 +11,7 @@ pub mod OneModule
 pub mod GrammarWords
 pub mod CanonicalIsText
 pub mod Ranges
+pub mod MeaningsOfWords
 pub mod Lookahead
 pub mod LookaheadOfCode
 pub mod LookaheadOfModules

@@ -8,9 +8,9 @@ use Rattle.mw_wasm.specs.declared.modules.Limits.{Limits}
 use Rattle.mw_wasm.specs.declared.modules.FuncType.{FuncType}
 use Rattle.mw_wasm.specs.declared.modules.Exported.{Exported}
 use Rattle.mw_wasm.specs.declared.modules.Exported.TheVariants as what
-use Rattle.mw_wasm.specs.Syntax.{Instruction, Code, unreachable, nop, block, loop, cond, br, br_if, br_table, give_back}
-use Rattle.mw_wasm.specs.Syntax.{call, call_indirect, drop_value, select, local_get, local_set, local_tee, global_get}
-use Rattle.mw_wasm.specs.Syntax.{global_set, load, store, memory_size, memory_grow, const_i32, const_i64, numeric, end}
+use Rattle.mw_wasm.specs.Syntax.{Instruction, Code, block, loop, cond, br, br_if, br_table}
+use Rattle.mw_wasm.specs.Syntax.{call, call_indirect, local_get, local_set, local_tee, global_get}
+use Rattle.mw_wasm.specs.Syntax.{global_set, load, store, const_i32, const_i64, end}
 use Rattle.mw_wasm.specs.Syntax.{next, Function, Global, Exporting, ElementSegment, DataSegment, PureModule}
 use Rattle.mw_wasm.specs.Pieces.{Piece, items, octet, u32}
 use Rattle.mw_wasm.specs.BinaryInstructions as binary
@@ -70,8 +70,6 @@ list_fits t c a = both (types_behind (codes "result") (at_most_one t)) (code c) 
 
 mutual
   instruction_fits : (i : Instruction) (bytes : List ℕ) → binary.instruction i bytes → AreInRange (instruction i)
-  instruction_fits unreachable bytes p = (tt, tt)
-  instruction_fits nop bytes p = (tt, tt)
   instruction_fits (block t body) bytes p = (
     tt,
     both (types_behind (codes "result") (at_most_one t) ++ code body) (word (codes "end") ∷ [])
@@ -99,12 +97,9 @@ mutual
     both (map number ls) (number l ∷ []) (numbers_fit ls p.second.first.back p.second.first.second)
         (index_fits l p.second.back p.second.second, tt),
   )
-  instruction_fits give_back bytes p = (tt, tt)
   instruction_fits (call f) bytes p = (tt, (index_fits f p.back p.second, tt))
   instruction_fits (call_indirect t) bytes p =
       (tt, (tt, (tt, (index_fits t p.second.front p.second.first, (tt, tt)))))
-  instruction_fits drop_value bytes p = (tt, tt)
-  instruction_fits select bytes p = (tt, tt)
   instruction_fits (local_get x) bytes p = (tt, (index_fits x p.back p.second, tt))
   instruction_fits (local_set x) bytes p = (tt, (index_fits x p.back p.second, tt))
   instruction_fits (local_tee x) bytes p = (tt, (index_fits x p.back p.second, tt))
@@ -114,11 +109,9 @@ mutual
       (tt, (index_fits offset p.second.back p.second.second, (index_fits align p.second.front p.second.first, tt)))
   instruction_fits (store o align offset) bytes p =
       (tt, (index_fits offset p.second.back p.second.second, (index_fits align p.second.front p.second.first, tt)))
-  instruction_fits memory_size bytes p = (tt, tt)
-  instruction_fits memory_grow bytes p = (tt, tt)
   instruction_fits (const_i32 n) bytes p = (tt, (integer_fits 32 p.back n (omega arith) p.second, tt))
   instruction_fits (const_i64 n) bytes p = (tt, (integer_fits 64 p.back n (omega arith) p.second, tt))
-  instruction_fits (numeric o) bytes p = (tt, tt)
+  instruction_fits _ bytes p = (tt, tt)
 
   code_fits : (c : Code) (bytes : List ℕ) → binary.code c bytes → AreInRange (code c)
   code_fits end bytes p = tt
@@ -151,27 +144,10 @@ type_fits t =
     )
 
 function_fits : (f : Function) → f.kind < 2 ^ 32 → AreInRange (code f.body) → AreInRange (function f)
-function_fits f k b = (
-  tt,
-  (
-    tt,
-    (
-      tt,
-      (
-        tt,
-        (
-          k,
-          (
-            tt,
-            both (types_behind (codes "local") f.locals ++ code f.body) (right ∷ [])
-                (both (types_behind (codes "local") f.locals) (code f.body) (types_fit (codes "local") f.locals) b)
-                (tt, tt),
-          ),
-        ),
-      ),
-    ),
-  ),
-)
+function_fits f k b =
+    let lists = both (types_behind (codes "local") f.locals) (code f.body) (types_fit (codes "local") f.locals) b in
+    let all = both (types_behind (codes "local") f.locals ++ code f.body) (right ∷ []) lists (tt, tt) in
+    (tt, (tt, (tt, (tt, (k, (tt, all))))))
 
 functions_fit : (fs : List Function) → AllByRecursion (λ f. f.kind < 2 ^ 32) fs → AllByRecursion
     (λ f. AreInRange (code f.body)) fs → AllByRecursion (λ f. AreInRange (function f)) fs
@@ -185,14 +161,9 @@ bounds_fit min (Some max) bytes p =
     (index_fits min p.second.front p.second.first, (index_fits max p.second.back p.second.second, tt))
 
 table_fits : (l : Limits) (bytes : List ℕ) → binary_modules.table l bytes → AreInRange (table l)
-table_fits l bytes p = (
-  tt,
-  (
-    tt,
-    both (limits l ++ word (codes "funcref") ∷ []) (right ∷ [])
-        (both (limits l) (word (codes "funcref") ∷ []) (bounds_fit l.min l.max p.back p.second) (tt, tt)) (tt, tt),
-  ),
-)
+table_fits l bytes p =
+    let front = both (limits l) (word (codes "funcref") ∷ []) (bounds_fit l.min l.max p.back p.second) (tt, tt) in
+    (tt, (tt, both (limits l ++ word (codes "funcref") ∷ []) (right ∷ []) front (tt, tt)))
 
 memory_fits : (l : Limits) (bytes : List ℕ) → binary_modules.limits l bytes → AreInRange (memory l)
 memory_fits l bytes p = (tt, (tt, both (limits l) (right ∷ []) (bounds_fit l.min l.max bytes p) (tt, tt)))
@@ -203,14 +174,10 @@ global_type_fits true t = (tt, (tt, (tt, (tt, tt))))
 
 global_fits : (g : Global) (bytes : List ℕ) → binary_modules.global g bytes → AreInRange (global g)
 global_fits g bytes p =
-    let init = code_fits g.init p.second.second.front p.second.second.first in (
-      tt,
-      (
-        tt,
-        both (global_type g.variable g.kind ++ code g.init) (right ∷ [])
-            (both (global_type g.variable g.kind) (code g.init) (global_type_fits g.variable g.kind) init) (tt, tt),
-      ),
-    )
+    let init = code_fits g.init p.second.second.front p.second.second.first in
+    let kind = global_type g.variable g.kind in
+    let front = both kind (code g.init) (global_type_fits g.variable g.kind) init in
+    (tt, (tt, both (kind ++ code g.init) (right ∷ []) front (tt, tt)))
 
 exported_fits : (e : Exported) (bytes : List ℕ) → binary_modules.exported e bytes → AreInRange (exported e)
 exported_fits (what.Func x) bytes p = (tt, (index_fits x p.back p.second, tt))
@@ -233,27 +200,17 @@ offset_fits c a = inside (word (codes "offset") ∷ code c) (tt, a)
 
 element_fits : (e : ElementSegment) (bytes : List ℕ) → binary_modules.element e bytes → AreInRange (element e)
 element_fits e bytes p =
-    let start = offset_fits e.offset (code_fits e.offset p.second.first.front p.second.first.first) in (
-      tt,
-      (
-        tt,
-        both (offset e.offset ++ map number e.funcs) (right ∷ [])
-            (both (offset e.offset) (map number e.funcs) start
-            (numbers_fit e.funcs p.second.second.back p.second.second.second)) (tt, tt),
-      ),
-    )
+    let start = offset_fits e.offset (code_fits e.offset p.second.first.front p.second.first.first) in
+    let numbers = numbers_fit e.funcs p.second.second.back p.second.second.second in
+    let front = both (offset e.offset) (map number e.funcs) start numbers in
+    (tt, (tt, both (offset e.offset ++ map number e.funcs) (right ∷ []) front (tt, tt)))
 
 segment_fits : (d : DataSegment) (bytes : List ℕ) → binary_modules.data_segment d bytes → AreInRange (data_segment d)
 segment_fits d bytes p =
-    let start = offset_fits d.offset (code_fits d.offset p.second.first.front p.second.first.first) in (
-      tt,
-      (
-        tt,
-        both (offset d.offset ++ octets d.bytes ∷ []) (right ∷ [])
-            (both (offset d.offset) (octets d.bytes ∷ []) start
-            (octets_fit d.bytes p.second.second.back p.second.second.second, tt)) (tt, tt),
-      ),
-    )
+    let start = offset_fits d.offset (code_fits d.offset p.second.first.front p.second.first.first) in
+    let bytes = octets_fit d.bytes p.second.second.back p.second.second.second in
+    let front = both (offset d.offset) (octets d.bytes ∷ []) start (bytes, tt) in
+    (tt, (tt, both (offset d.offset ++ octets d.bytes ∷ []) (right ∷ []) front (tt, tt)))
 
 -- lines
 abbrev LinesFit : List (List Lexeme) → Type 0

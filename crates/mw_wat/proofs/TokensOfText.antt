@@ -133,11 +133,9 @@ pub none_found : (t : PureToken) (rest : List ℕ) → none ≡ found t rest →
 none_found t rest e = cc
 
 some_text : {text : List ℕ} {t : PureToken} → Spells text t → 0 < length text
-some_text a_left = omega arith
-some_text a_right = omega arith
 some_text (a_word {text = []} n a) = absurd (n refl)
 some_text (a_word {text = b ∷ w} n a) = omega arith
-some_text (a_string q) = omega arith
+some_text _ = omega arith
 
 -- tokens with their places
 pub data Placed : Tokens → List PureToken → Tokens → Type 0 where
