@@ -14,7 +14,7 @@ use Rattle.std.proofs.lemmas.Int.{to_z-of_z}
 use mir.Val.{hbits}
 use Rattle.mw_wasm.specs.declared.values.ValType.{ValType}
 use Rattle.mw_wasm.specs.declared.values.ValType.TheVariants.{I32, I64}
-use Rattle.mw_wasm.specs.Syntax.{Instruction, Code, block, br_table}
+use Rattle.mw_wasm.specs.Syntax.{Instruction, Code}
 use Rattle.mw_wasm.specs.Syntax.{end, next}
 use Rattle.mw_wasm.specs.Profile.{depth, depth_of}
 use Rattle.mw_wasm.specs.BinaryModules.{at_most_one}

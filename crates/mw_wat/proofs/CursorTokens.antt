@@ -5,7 +5,7 @@ use Rattle.std.proofs.Common.{Some, None}
 use Rattle.std.specs.Prelude.{if◌then◌else◌, nat_le}
 use Rattle.std.proofs.lemmas.Bool.{ne_eqb}
 use Rattle.std.proofs.lemmas.List.{append_assoc, append-nil, drop_all, take_all, take_more}
-use Rattle.mw_wat.specs.Tokens.{PureToken, left, word, string, Begins}
+use Rattle.mw_wat.specs.Tokens.{PureToken, word, string, Begins}
 use Rattle.mw_wat.specs.Lexing.{stop, token, is_blank, is_word_byte, is_plain, hex_value, Lexeme, none, found, with_byte}
 use Rattle.mw_wat.specs.Lexing.{with_digits, quotes, escaped, half_escaped, with_word_byte, whole_word, front}
 use Rattle.mw_wat.specs.Lexing.{without_blanks, onward, tokens_up_to, tokens}

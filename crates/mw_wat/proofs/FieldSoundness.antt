@@ -24,6 +24,7 @@ use Rattle.mw_wat.specs.Modules.{as_string, as_kind, export, offset, element, da
 use Rattle.mw_wat.specs.Modules.{next_field, fields_up_to, fields}
 use Rattle.mw_wat.proofs.FieldsAreRead.{type_tail, function_tail, FitsFunction, table_tail, memory_tail, global_tail}
 use Rattle.mw_wat.proofs.FieldsAreRead.{export_tail, element_tail, data_tail}
+use Rattle.mw_wat.proofs.FieldsOfModules.{field_of}
 use Rattle.mw_wat.proofs.LexemeSoundness.{IsKnown, ReadsAt, Reads, Tells, says_bad, says_gives, says_weak, says_then}
 use Rattle.mw_wat.proofs.LexemeSoundness.{tells_then, tells_last, says_first, says_opened, says_word, says_one}
 use Rattle.mw_wat.proofs.LexemeSoundness.{MeansBack, tells_one, tells_all, tells_some, by_word, tested, number_back}
@@ -189,15 +190,15 @@ says_element = tells_then says_offset λ c d. tells_then says_indices λ fs _. t
 
 pub says_data : Tells data_segment data_tail (λ g. depth g.offset ≤ 500)
 says_data = tells_then says_offset λ c d. tells_then (tells_one as_string octets string_back) λ bytes _.
-    tells_then says_closing λ _ _. says_gives (sym (append_assoc (lexemes.offset c) (octets bytes ∷ []) (right ∷ [])), d)
+    tells_then says_closing λ _ _. says_gives (
+      sym (append_assoc (lexemes.offset c) (octets bytes ∷ []) (right ∷ [])),
+      d,
+    )
 
 -- Fields of one kind. The lexeme in hand is the parenthesis that was read last.
 abbrev pub hand : Bool → Lexeme
 hand true = left
 hand false = right
-
-abbrev pub field_of : {A : Type 0} → List ℕ → (A → List Lexeme) → A → List Lexeme
-field_of w tail x = left ∷ word w ∷ tail x
 
 either_back : MeansBack as_either hand
 either_back t.left x e = subst (λ x. (token_of (hand x) ≡ t.left) × IsKnown (hand x)) (same_Some true x e) (refl, tt)

@@ -5,6 +5,7 @@ pub mod FieldTexts
 pub mod TokensStand
 pub mod CodeIsRead
 pub mod FieldsAreRead
+pub mod FieldsOfModules
 pub mod ModuleIsRead
 pub mod TokensOfText
 pub mod OneModule

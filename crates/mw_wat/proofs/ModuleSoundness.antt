@@ -1,25 +1,23 @@
 -- A module that is read is what the tokens say.
-use Rattle.std.proofs.Common.{◌≡◌, ℕ, ◌≤◌, List, [], ◌∷◌, ◌++◌, length, map, refl, ap, sym, ◌∙◌, subst, arith}
-use Rattle.std.proofs.Common.{Bool, true, false, append_assoc, append-nil}
+use Rattle.std.proofs.Common.{◌≡◌, ◌≤◌, List, [], ◌∷◌, length, refl, ap, sym, ◌∙◌, subst, arith}
+use Rattle.std.proofs.Common.{Bool, true, false, append-nil}
 use Rattle.std.specs.Prelude.{codes, IfSome}
-use Rattle.std.specs.List.{AllByRecursion, flat_map}
-use Rattle.std.proofs.lemmas.Grind.{flat_map-append}
+use Rattle.std.specs.List.{AllByRecursion}
 use Rattle.mw_wasm.specs.declared.modules.FuncType.{FuncType}
 use Rattle.mw_wasm.specs.declared.modules.Limits.{Limits}
 use Rattle.mw_wasm.specs.Syntax.{Function, Global, Exporting, ElementSegment, DataSegment, PureModule}
 use Rattle.mw_wasm.specs.Profile.{depth, IsPrintable}
 use Rattle.mw_wasm.specs.BinaryModules.{at_most_one}
-use Rattle.mw_wat.specs.Lexemes.{Lexeme, left, right, word, lexemes}
-use Rattle.mw_wat.specs.Lexemes as of
+use Rattle.mw_wat.specs.Lexemes.{left, right, word, lexemes}
 use Rattle.mw_wat.specs.Lexing.{Tokens}
 use Rattle.mw_wat.specs.Reading.{got}
 use Rattle.mw_wat.specs.Modules.{head, no_more, whole_module}
-use Rattle.mw_wat.proofs.FieldsAreRead.{type_tail, function_tail, FitsFunction, table_tail, memory_tail, global_tail}
-use Rattle.mw_wat.proofs.FieldsAreRead.{export_tail, element_tail, data_tail}
+use Rattle.mw_wat.proofs.FieldsAreRead.{FitsFunction}
+use Rattle.mw_wat.proofs.FieldsOfModules.{flat_fields}
 use Rattle.mw_wat.proofs.LexemeSoundness.{Said, Tells, Reads, says_bad, says_gives, says_then, tells_then}
 use Rattle.mw_wat.proofs.CodeSoundness.{says_opening, says_this}
 use Rattle.mw_wat.proofs.FieldSoundness.{says_function_type, says_function, says_table, says_memory, says_global}
-use Rattle.mw_wat.proofs.FieldSoundness.{says_export, says_element, says_data, hand, field_of, says_next}
+use Rattle.mw_wat.proofs.FieldSoundness.{says_export, says_element, says_data, hand, says_next}
 use Rattle.mw_wat.proofs.FieldSoundness.{says_fields_up_to, says_fields, chained}
 
 -- what the parts of a module that is read are
@@ -43,12 +41,6 @@ one_of_list P [] k a = (refl, tt)
 one_of_list P (x ∷ []) k a = (refl, a.0)
 one_of_list P (x ∷ y ∷ xs) k a = absurd (omega arith)
 
-flat_same : {A : Type 0} (F : A → List Lexeme) (w : List ℕ) (tail : A → List Lexeme)
-    → ((x : A) → F x ≡ field_of w tail x) → (xs : List A) → flat_map (λ l. l) (map F xs) ≡ flat_map
-    (field_of w tail) xs
-flat_same F w tail e [] = refl
-flat_same F w tail e (x ∷ xs) = rw (e x, flat_same F w tail e xs) refl
-
 abbrev module_with : List FuncType → List Function → List Limits → List Limits → List Global → List Exporting
     → List ElementSegment → List DataSegment → PureModule
 module_with l1 l2 l3 l4 l5 l6 l7 l8 =
@@ -63,46 +55,14 @@ module_with l1 l2 l3 l4 l5 l6 l7 l8 =
       segments = l8;
     }
 
--- the fields of all kinds behind one another, and the parenthesis that closes the module
-flat_lists : (x1 x2 x3 x4 x5 x6 x7 x8 : List (List Lexeme))
-    → flat_map (λ l. l) (x1 ++ x2 ++ x3 ++ x4 ++ x5 ++ x6 ++ x7 ++ x8 ++ (right ∷ []) ∷ [])
-    ≡ flat_map (λ l. l) x1 ++ (flat_map (λ l. l) x2 ++ (flat_map (λ l. l) x3 ++ (flat_map (λ l. l) x4
-    ++ (flat_map (λ l. l) x5 ++ (flat_map (λ l. l) x6 ++ (flat_map (λ l. l) x7 ++ (flat_map (λ l. l) x8
-    ++ right ∷ [])))))))
-flat_lists x1 x2 x3 x4 x5 x6 x7 x8 = simp (flat_map-append, append_assoc)
-
-flat_fields : (l1 : List FuncType) (l2 : List Function) (l3 l4 : List Limits) (l5 : List Global) (l6 : List Exporting)
-    (l7 : List ElementSegment) (l8 : List DataSegment) → at_most_one (head l3) ≡ l3 → at_most_one (head l4) ≡ l4
-    → flat_map (λ l. l) (of.fields (module_with l1 l2 l3 l4 l5 l6 l7 l8) ++ (right ∷ []) ∷ [])
-    ≡ flat_map (field_of (codes "type") type_tail) l1 ++ (flat_map (field_of (codes "func") function_tail) l2
-    ++ (flat_map (field_of (codes "table") table_tail) l3 ++ (flat_map (field_of (codes "memory") memory_tail) l4
-    ++ (flat_map (field_of (codes "global") global_tail) l5 ++ (flat_map (field_of (codes "export") export_tail) l6
-    ++ (flat_map (field_of (codes "elem") element_tail) l7 ++ (flat_map (field_of (codes "data") data_tail) l8
-    ++ right ∷ [])))))))
-flat_fields l1 l2 l3 l4 l5 l6 l7 l8 d e =
-    flat_lists (map of.function_type l1) (map of.function l2) (map of.table (at_most_one (head l3)))
-    (map of.memory (at_most_one (head l4))) (map of.global l5) (map of.export l6) (map of.element l7)
-    (map of.data_segment l8)
-    ∙ rw (
-      d,
-      e,
-      flat_same of.function_type (codes "type") type_tail (λ x. refl) l1,
-      flat_same of.function (codes "func") function_tail (λ x. refl) l2,
-      flat_same of.table (codes "table") table_tail (λ x. refl) l3,
-      flat_same of.memory (codes "memory") memory_tail (λ x. refl) l4,
-      flat_same of.global (codes "global") global_tail (λ x. refl) l5,
-      flat_same of.export (codes "export") export_tail (λ x. refl) l6,
-      flat_same of.element (codes "elem") element_tail (λ x. refl) l7,
-      flat_same of.data_segment (codes "data") data_tail (λ x. refl) l8,
-    ) refl
-
 says_no_more : (going : Bool) → Reads (no_more going) (λ _ is. hand going ∷ is ≡ right ∷ [])
 says_no_more true = λ ts. says_bad refl
 says_no_more false = says_gives refl
 
 says_module : Tells whole_module lexemes FitsModule
 unfolding whole_module
-says_module = tells_then says_opening λ _ _. tells_then (says_this (codes "module")) λ _ _. tells_then says_next λ g _ s0.
+says_module = tells_then says_opening λ _ _. tells_then (says_this (codes "module")) λ _ _. tells_then says_next
+    λ g _ s0.
     says_then (says_fields (codes "type") says_function_type g s0) λ l1 i1 b1 s1.
     says_then (says_fields (codes "func") says_function l1.going s1) λ l2 i2 b2 s2.
     says_then (says_fields_up_to (codes "table") says_table 1 l2.going s2) λ l3 i3 b3 s3.
@@ -118,7 +78,9 @@ says_module = tells_then says_opening λ _ _. tells_then (says_this (codes "modu
       ap (λ is. left ∷ word (codes "module") ∷ is)
           (chained b1 (chained b2 (chained b3.0 (chained b4.0 (chained b5 (chained b6 (chained b7 (chained b8
           (ap (λ is. hand l8.going ∷ is) (append-nil i9) ∙ z))))))))
-          ∙ sym (flat_fields l1.list l2.list l3.list l4.list l5.list l6.list l7.list l8.list t3.0 t4.0)),
+          ∙ sym
+          (flat_fields (module_with l1.list l2.list l3.list l4.list l5.list l6.list l7.list l8.list) l3.list l4.list
+          t3.0 t4.0)),
       record {
         types = b1.fit;
         funcs = b2.fit;
