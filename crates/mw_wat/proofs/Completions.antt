@@ -75,7 +75,7 @@ stop_is : {A : Type 0} (b a : ℕ) → bad_in A (stop b) ≡ bad (stop a) → Pl
 stop_is {A = A} b a e = subst (λ r. Placed (stop b) [] r)
     (bad_parts (bad_in A (stop b)) (stop b) (stop a) refl e) p_here
 
-here_same : {ts us : Tokens} → Placed ts [] us → ts ≡ us
+pub here_same : {ts us : Tokens} → Placed ts [] us → ts ≡ us
 here_same p_here = refl
 
 goes_front : (ys zs : List PureToken) {mid m vs : Tokens} {a : ℕ} → Placed mid ys (stop a) → Placed m (ys ++ zs) vs

@@ -201,7 +201,7 @@ front_none b rest k l m e = front_other b rest k l m ∙ ap (λ t. if t then who
 pub ruleset front_laws = (front_string, front_no_string, front_word, front_none)
 
 -- tokens in turn
-shorter_left : (bytes : List ℕ) → length (without_blanks bytes) ≤ length bytes
+pub shorter_left : (bytes : List ℕ) → length (without_blanks bytes) ≤ length bytes
 shorter_left [] = omega arith
 shorter_left (b ∷ rest) = by_test (is_blank b) (shorter_left rest)
   where

@@ -4,7 +4,8 @@ use Rattle.std.proofs.Common.{◌∙◌, subst, arith, Bool, true, false, ◌&&�
 use Rattle.std.specs.Prelude.{codes, nat_le}
 use Rattle.std.specs.List.{AllByRecursion, flat_map}
 use Rattle.std.proofs.lemmas.Option.{none-some, same_Some}
-use Rattle.std.proofs.lemmas.Bool.{and_parts, leb-true}
+use Rattle.std.proofs.lemmas.Bool.{and_parts}
+use Rattle.std.proofs.lemmas.Bool.Decides.{nat_tests}
 use Rattle.mw_wasm.specs.declared.values.ValType.{ValType}
 use Rattle.mw_wasm.specs.declared.modules.FuncType.{FuncType}
 use Rattle.mw_wasm.specs.declared.modules.Exported.{Exported}
@@ -140,10 +141,10 @@ says_global = tells_then says_kind λ t _. tells_last _ says_expression λ c d. 
 -- exports
 printable_from : (bytes : List ℕ) → are_printable bytes ≡ true → AllByRecursion IsPrintable bytes
 printable_from [] e = tt
-printable_from (b ∷ bytes) e =
-    let p = and_parts (nat_le 0x20 b && nat_le b 0x7E) (are_printable bytes) e in
-    let q = and_parts (nat_le 0x20 b) (nat_le b 0x7E) p.0 in
-    ((leb-true 0x20 b q.0, leb-true b 0x7E q.1), printable_from bytes p.1)
+printable_from (b ∷ bytes) e = (
+  grind (arith, nat_tests),
+  printable_from bytes (and_parts (nat_le 0x20 b && nat_le b 0x7E) (are_printable bytes) e).1,
+)
 
 name_back : MeansBack as_name name
 name_back (t.string bytes) x e =

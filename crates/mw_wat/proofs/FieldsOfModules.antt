@@ -1,13 +1,14 @@
 -- The fields of a module, kind by kind.
 use Rattle.std.proofs.Common.{◌≡◌, ℕ, List, [], ◌∷◌, ◌++◌, map, refl, ◌∙◌, append_assoc}
 use Rattle.std.specs.Prelude.{codes}
-use Rattle.std.specs.List.{flat_map}
+use Rattle.std.specs.List.{AllByRecursion, flat_map}
 use Rattle.std.proofs.lemmas.Grind.{flat_map-append}
 use Rattle.mw_wasm.specs.declared.modules.Limits.{Limits}
 use Rattle.mw_wasm.specs.Syntax.{PureModule}
 use Rattle.mw_wasm.specs.BinaryModules.{at_most_one}
 use Rattle.mw_wat.specs.Lexemes.{Lexeme, left, right, word}
 use Rattle.mw_wat.specs.Lexemes as of
+use Rattle.mw_wat.proofs.MeaningsOfWords.{both}
 use Rattle.mw_wat.proofs.FieldsAreRead.{type_tail, function_tail, table_tail, memory_tail, global_tail, export_tail}
 use Rattle.mw_wat.proofs.FieldsAreRead.{element_tail, data_tail}
 
@@ -55,3 +56,20 @@ flat_fields m tables memories d e =
       flat_same of.element (codes "elem") element_tail (λ x. refl) m.elements,
       flat_same of.data_segment (codes "data") data_tail (λ x. refl) m.segments,
     ) refl
+
+-- P holds of each field where it holds of the fields of each kind
+pub fields_hold : (P : List Lexeme → Type 0) (m : PureModule) → AllByRecursion P (map of.function_type m.types)
+    → AllByRecursion P (map of.function m.funcs) → AllByRecursion P (map of.table (at_most_one m.table))
+    → AllByRecursion P (map of.memory (at_most_one m.memory)) → AllByRecursion P (map of.global m.globals)
+    → AllByRecursion P (map of.export m.exports) → AllByRecursion P (map of.element m.elements)
+    → AllByRecursion P (map of.data_segment m.segments) → AllByRecursion P (of.fields m)
+fields_hold P m a1 a2 a3 a4 a5 a6 a7 a8 =
+    let l1 = map of.function_type m.types in
+    let l2 = l1 ++ map of.function m.funcs in
+    let l3 = l2 ++ map of.table (at_most_one m.table) in
+    let l4 = l3 ++ map of.memory (at_most_one m.memory) in
+    let l5 = l4 ++ map of.global m.globals in
+    let l6 = l5 ++ map of.export m.exports in
+    let l7 = l6 ++ map of.element m.elements in
+    both P l7 _ (both P l6 _ (both P l5 _ (both P l4 _ (both P l3 _ (both P l2 _ (both P l1 _ a1 a2) a3) a4) a5) a6) a7)
+    a8

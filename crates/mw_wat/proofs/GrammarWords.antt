@@ -26,6 +26,8 @@ use Rattle.mw_wat.specs.Names.{type_name, operation_name, number_name, load_name
 use Rattle.mw_wat.specs.Lexemes.{Lexeme, right, word, number, keyed, octets, within, types_behind, instruction, code}
 use Rattle.mw_wat.specs.Lexemes.{otherwise, function_type, function, limits, table, memory, global_type, global}
 use Rattle.mw_wat.specs.Lexemes.{exported, export, offset, element, data_segment, fields, lines}
+use Rattle.mw_wat.proofs.MeaningsOfWords.{both as both_of, each as each_of}
+use Rattle.mw_wat.proofs.FieldsOfModules.{fields_hold}
 
 abbrev pub are_word_bytes : List ℕ → Bool
 are_word_bytes [] = true
@@ -190,39 +192,13 @@ data_words d =
 abbrev pub LinesAreWords : List (List Lexeme) → Type 0
 LinesAreWords ls = AllByRecursion AreWords ls
 
-field_lines : {A : Type 0} (f : A → List Lexeme) → ((x : A) → AreWords (f x)) → (xs : List A) → LinesAreWords
-    (map f xs)
-field_lines f g [] = tt
-field_lines f g (x ∷ xs) = (g x, field_lines f g xs)
-
-more_lines : (xs ys : List (List Lexeme)) → LinesAreWords xs → LinesAreWords ys → LinesAreWords (xs ++ ys)
-more_lines [] ys a b = b
-more_lines (x ∷ xs) ys a b = (a.0, more_lines xs ys a.1 b)
-
 fields_are_words : (m : PureModule) → LinesAreWords (fields m)
-fields_are_words m =
-    let a1 = more_lines (map function_type m.types) (map function m.funcs)
-    (field_lines function_type type_words m.types) (field_lines function function_words m.funcs) in
-    let a2 = more_lines (map function_type m.types ++ map function m.funcs) (map table (at_most_one m.table)) (a1)
-    (field_lines table table_words (at_most_one m.table)) in
-    let a3 = more_lines (map function_type m.types ++ map function m.funcs ++ map table (at_most_one m.table))
-    (map memory (at_most_one m.memory)) (a2) (field_lines memory memory_words (at_most_one m.memory)) in
-    let a4 = more_lines
-    (map function_type m.types ++ map function m.funcs ++ map table (at_most_one m.table) ++ map memory
-    (at_most_one m.memory)) (map global m.globals) (a3) (field_lines global global_words m.globals) in
-    let a5 = more_lines
-    (map function_type m.types ++ map function m.funcs ++ map table (at_most_one m.table) ++ map memory
-    (at_most_one m.memory) ++ map global m.globals) (map export m.exports) (a4)
-    (field_lines export export_words m.exports) in
-    let a6 = more_lines
-    (map function_type m.types ++ map function m.funcs ++ map table (at_most_one m.table) ++ map memory
-    (at_most_one m.memory) ++ map global m.globals ++ map export m.exports) (map element m.elements) (a5)
-    (field_lines element element_words m.elements) in
-    let a7 = more_lines
-    (map function_type m.types ++ map function m.funcs ++ map table (at_most_one m.table) ++ map memory
-    (at_most_one m.memory) ++ map global m.globals ++ map export m.exports ++ map element m.elements)
-    (map data_segment m.segments) (a6) (field_lines data_segment data_words m.segments) in
-    a7
+fields_are_words m = fields_hold AreWords m (each_of AreWords function_type type_words m.types)
+    (each_of AreWords function function_words m.funcs) (each_of AreWords table table_words (at_most_one m.table))
+    (each_of AreWords memory memory_words (at_most_one m.memory)) (each_of AreWords global global_words m.globals)
+    (each_of AreWords export export_words m.exports) (each_of AreWords element element_words m.elements)
+    (each_of AreWords data_segment data_words m.segments)
 
 pub lines_are_words : (m : PureModule) → LinesAreWords (lines m)
-lines_are_words m = ((tt, (refl, tt)), more_lines (fields m) ((right ∷ []) ∷ []) (fields_are_words m) ((tt, tt), tt))
+lines_are_words m =
+    ((tt, (refl, tt)), both_of AreWords (fields m) ((right ∷ []) ∷ []) (fields_are_words m) ((tt, tt), tt))

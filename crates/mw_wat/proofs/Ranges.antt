@@ -23,6 +23,8 @@ use Rattle.mw_wat.specs.Lexemes.{Lexeme, right, word, number, octets, IsInRange,
 use Rattle.mw_wat.specs.Lexemes.{code, otherwise, function_type, function, limits, table, memory, global_type, global}
 use Rattle.mw_wat.specs.Lexemes.{exported, export, offset, element, data_segment, fields, lines}
 use Rattle.mw_wat.specs.ModuleTexts.{HasTexts}
+use Rattle.mw_wat.proofs.MeaningsOfWords.{both as both_of}
+use Rattle.mw_wat.proofs.FieldsOfModules.{fields_hold}
 
 abbrev AreInRange : List Lexeme → Type 0
 AreInRange is = AllByRecursion IsInRange is
@@ -221,10 +223,6 @@ mapped : {A : Type 0} (f : A → List Lexeme) (xs : List A) → AllByRecursion (
 mapped f [] a = tt
 mapped f (x ∷ xs) a = (a.0, mapped f xs a.1)
 
-more_lines : (xs ys : List (List Lexeme)) → LinesFit xs → LinesFit ys → LinesFit (xs ++ ys)
-more_lines [] ys a b = b
-more_lines (x ∷ xs) ys a b = (a.0, more_lines xs ys a.1 b)
-
 joined : (ls : List (List Lexeme)) → LinesFit ls → AreInRange (flat_map (λ l. l) ls)
 joined [] a = tt
 joined (l ∷ ls) a = both l (flat_map (λ l. l) ls) a.0 (joined ls a.1)
@@ -249,39 +247,26 @@ fields_fit bytes m p w =
     (λ f bytes b. code_fits f.body b.inside.second.front b.inside.second.first) 10 m.funcs r10.front r10.first in
     let names = section_fits binary_modules.export (λ e. AreInRange (exported e.what))
     (λ e bytes x. exported_fits e.what x.back x.second) 7 m.exports r7.front r7.first in
-    let types = map function_type m.types in
-    let funcs = map function m.funcs in
-    let tables = map table (at_most_one m.table) in
-    let memories = map memory (at_most_one m.memory) in
-    let globals = map global m.globals in
-    let exports = map export m.exports in
-    let elements = map element m.elements in
-    more_lines (types ++ funcs ++ tables ++ memories ++ globals ++ exports ++ elements) (map data_segment m.segments)
-    (more_lines (types ++ funcs ++ tables ++ memories ++ globals ++ exports) elements
-    (more_lines (types ++ funcs ++ tables ++ memories ++ globals) exports
-    (more_lines (types ++ funcs ++ tables ++ memories) globals
-    (more_lines (types ++ funcs ++ tables) memories
-    (more_lines (types ++ funcs) tables
-    (more_lines types funcs (mapped function_type m.types (all_types m.types))
-    (mapped function m.funcs (functions_fit m.funcs kinds bodies)))
+    fields_hold AreInRange m (mapped function_type m.types (all_types m.types))
+    (mapped function m.funcs (functions_fit m.funcs kinds bodies))
     (mapped table (at_most_one m.table)
     (section_fits binary_modules.table (λ l. AreInRange (table l)) table_fits 4
-    (at_most_one m.table) r4.front r4.first)))
+    (at_most_one m.table) r4.front r4.first))
     (mapped memory (at_most_one m.memory)
     (section_fits binary_modules.limits (λ l. AreInRange (memory l)) memory_fits 5
-    (at_most_one m.memory) r5.front r5.first)))
+    (at_most_one m.memory) r5.front r5.first))
     (mapped global m.globals
-    (section_fits binary_modules.global (λ g. AreInRange (global g)) global_fits 6 m.globals r6.front r6.first)))
-    (mapped export m.exports (exports_fit m.exports w.export_names names)))
+    (section_fits binary_modules.global (λ g. AreInRange (global g)) global_fits 6 m.globals r6.front r6.first))
+    (mapped export m.exports (exports_fit m.exports w.export_names names))
     (mapped element m.elements
     (section_fits binary_modules.element
-    (λ e. AreInRange (element e)) element_fits 9 m.elements r9.front r9.first)))
+    (λ e. AreInRange (element e)) element_fits 9 m.elements r9.front r9.first))
     (mapped data_segment m.segments
     (section_fits binary_modules.data_segment
     (λ d. AreInRange (data_segment d)) segment_fits 11 m.segments r11.front r11.first))
 
 lines_fit : (m : PureModule) → LinesFit (fields m) → LinesFit (lines m)
-lines_fit m a = ((tt, (tt, tt)), more_lines (fields m) ((right ∷ []) ∷ []) a ((tt, tt), tt))
+lines_fit m a = ((tt, (tt, tt)), both_of AreInRange (fields m) ((right ∷ []) ∷ []) a ((tt, tt), tt))
 
 pub spelled_has_texts : (bytes : List ℕ) (m : PureModule) → Spells bytes m → IsWithinProfile m → HasTexts m
 spelled_has_texts bytes m p w =
