@@ -11,7 +11,7 @@ use Rattle.std.proofs.lemmas.Bool.{ltb-true}
 use Rattle.std.proofs.lemmas.Slice.Eq.{bytes_eq-Decides}
 use Rattle.std.proofs.lemmas.List.{take-append-drop}
 use Rattle.std.proofs.lemmas.Int.{to_z-of_z}
-use mir.Val.{hbits}
+use mir.Val.{bits, hbits}
 use Rattle.mw_wasm.specs.declared.values.ValType.{ValType}
 use Rattle.mw_wasm.specs.declared.values.ValType.TheVariants.{I32, I64}
 use Rattle.mw_wasm.specs.Syntax.{Instruction, Code}
@@ -102,15 +102,11 @@ small_64 : (z : ℤ) → FitsSigned w64 z → cast_unsigned w64 z < 2 ^ 64
 small_64 (pos n) f = let q = f.sfits in omega arith
 small_64 (negsuc n) f = let q = f.sfits in omega arith
 
-constant_back_32 : MeansBack (as_constant w32) (constant w32)
-constant_back_32 (t.word v) x e = let c = constant_of w32 v x e in
-    (ap t.word c.0, subst (λ n. n < 2 ^ 32) c.1.2 (small_32 c.1.0 c.1.1))
-constant_back_32 _ x e = absurd (none-some x e)
-
-constant_back_64 : MeansBack (as_constant w64) (constant w64)
-constant_back_64 (t.word v) x e = let c = constant_of w64 v x e in
-    (ap t.word c.0, subst (λ n. n < 2 ^ 64) c.1.2 (small_64 c.1.0 c.1.1))
-constant_back_64 _ x e = absurd (none-some x e)
+constant_back : (w : Width) → ((z : ℤ) → FitsSigned w z → cast_unsigned w z < 2 ^ bits w)
+    → MeansBack (as_constant w) (constant w)
+constant_back w small (t.word v) x e = let c = constant_of w v x e in
+    (ap t.word c.0, subst (λ n. n < 2 ^ bits w) c.1.2 (small c.1.0 c.1.1))
+constant_back w small _ x e = absurd (none-some x e)
 
 -- single readers
 pub says_opening : Tells opening (λ _. left ∷ []) (λ _. Unit {0})
@@ -164,8 +160,10 @@ said_kinds = record {
   with_index = λ w i e d. tells_then says_index λ x _. says_gives (e x, d x);
   with_address = λ w i e d. tells_then (says_keyed (codes "offset=")) λ o _. tells_then (says_keyed (codes "exp="))
       λ a _. says_gives (e a o, d a o);
-  constant_32 = tells_then (tells_one (as_constant w32) (constant w32) constant_back_32) λ n _. says_gives (refl, refl);
-  constant_64 = tells_then (tells_one (as_constant w64) (constant w64) constant_back_64) λ n _. says_gives (refl, refl);
+  constant_32 = tells_then (tells_one (as_constant w32) (constant w32) (constant_back w32 small_32)) λ n _.
+      says_gives (refl, refl);
+  constant_64 = tells_then (tells_one (as_constant w64) (constant w64) (constant_back w64 small_64)) λ n _.
+      says_gives (refl, refl);
   table = tells_then says_index λ l _. tells_last _ says_indices λ ls _. labels_fit [] l ls;
   by_type = tells_then says_opening λ _ _. tells_then (says_this (codes "type")) λ _ _. tells_then says_index λ k _.
       tells_then says_closing λ _ _. says_gives (refl, refl);

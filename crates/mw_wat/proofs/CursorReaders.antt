@@ -122,24 +122,16 @@ pub choice_opened : {A : Type 0} (r q : Reader A) (ts : Tokens) (b : Bool) (rest
 choice_opened r q (stop at) b rest v e t h = absurd (cc)
 choice_opened r q (token at left us) b rest v e t h =
     let p = got_parts true b us rest e in ap r p.1 ∙ h
-choice_opened r q (token at right us) b rest v e t h =
-    let p = got_parts false b (token at right us) rest e in absurd (cc)
-choice_opened r q (token at (word w) us) b rest v e t h =
-    let p = got_parts false b (token at (word w) us) rest e in absurd (cc)
-choice_opened r q (token at (string w) us) b rest v e t h =
-    let p = got_parts false b (token at (string w) us) rest e in absurd (cc)
+choice_opened r q (token at u us) b rest v e t h =
+    let p = got_parts false b (token at u us) rest e in absurd (cc)
 
 pub choice_other : {A : Type 0} (r q : Reader A) (ts : Tokens) (b : Bool) (rest : Tokens) (v : Read A)
     → is_opened ts ≡ got b rest → b ≡ false → q rest ≡ v → if_opened r q ts ≡ v
 choice_other r q (stop at) b rest v e t h = absurd (cc)
 choice_other r q (token at left us) b rest v e t h =
     let p = got_parts true b us rest e in absurd (cc)
-choice_other r q (token at right us) b rest v e t h =
-    let p = got_parts false b (token at right us) rest e in ap q p.1 ∙ h
-choice_other r q (token at (word w) us) b rest v e t h =
-    let p = got_parts false b (token at (word w) us) rest e in ap q p.1 ∙ h
-choice_other r q (token at (string w) us) b rest v e t h =
-    let p = got_parts false b (token at (string w) us) rest e in ap q p.1 ∙ h
+choice_other r q (token at u us) b rest v e t h =
+    let p = got_parts false b (token at u us) rest e in ap q p.1 ∙ h
 
 pub choice_ended : {A : Type 0} (r q : Reader A) (ts us : Tokens) → is_opened ts ≡ bad us → if_opened r q ts ≡ bad us
 choice_ended r q (stop at) us e = let s : stop at ≡ us = cc in ap bad s
