@@ -8,28 +8,19 @@ use Rattle.mw_wasm.specs.Views.{instruction_of, list_code}
 use Rattle.mw_wat.specs.declared.reading.cursor.Fault.{Fault}
 use Rattle.mw_wat.specs.declared.reading.cursor.Fault.TheVariants.{Bad, Memory}
 use Rattle.mw_wat.specs.Tokens.{PureToken, left, right, word, string}
-use Rattle.mw_wat.specs.Lexing.{Tokens, stop, token}
+use Rattle.mw_wat.specs.Lexing.{Tokens, token}
 use Rattle.mw_wat.specs.Reading.{Read, got, bad, Reader, count, and_then, skip}
 use Rattle.mw_wat.specs.Instructions.{Opener, Meaning, ends, turns, opens, alone, meaning, Place, whole}
 use Rattle.mw_wat.specs.Instructions.{onward, Mark, Listed, Lists, ahead, block_type, inside, opened, more}
-use Rattle.mw_wat.specs.Instructions.{meant, listed, within, instructions}
+use Rattle.mw_wat.specs.Instructions.{meant, listed, instructions}
 use Rattle.mw_wat.specs.Cursors.{next, Fails}
 use Rattle.mw_wat.specs.Parts.{behind_opener}
 use Rattle.mw_wat.specs.Steps.{marked, one, closing_mark, end_mark, else_mark, marks_or_bad, marks, step_meant, step}
 use Rattle.mw_wat.specs.Steps.{go_on, before, with_front}
 use Rattle.mw_wat.proofs.CursorReaders.{next_is}
 use Rattle.mw_wat.proofs.Lookahead.{no_longer, local_then, got_parts}
-use Rattle.mw_wat.proofs.LookaheadOfCode.{local_within, local_inside, local_block_type, local_instructions}
-use Rattle.mw_wat.proofs.LookaheadOfCode.{meaning_local, same_listed, same_within}
-
--- the law of reading code
-pub instructions_are : (room : ℕ) (p : Place) (ts : Tokens) → instructions room p ts ≡ listed instructions room p ts
-unfolding instructions
-instructions_are room p (stop at) = refl
-instructions_are room p (token at t us) =
-    same_listed (within (suc (count us))) instructions (local_within (suc (count us))) (suc (count us))
-    (λ room p ts q. same_within (suc (count us)) (suc (count ts)) room p ts q (omega arith)) room p
-    (token at t us) (omega arith)
+use Rattle.mw_wat.proofs.LookaheadOfCode.{instructions_are, local_inside, local_block_type, local_instructions}
+use Rattle.mw_wat.proofs.LookaheadOfCode.{meaning_local}
 
 -- a list is a step, and then its end or more
 regroup : (lists : Lists) (room : ℕ) (p : Place) (r : Read Instruction)

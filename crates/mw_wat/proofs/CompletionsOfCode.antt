@@ -14,19 +14,18 @@ use Rattle.mw_wat.specs.Tokens as t
 use Rattle.mw_wat.specs.Lexing.{Tokens, stop, token}
 use Rattle.mw_wat.specs.Reading.{got, bad, Reader, count, and_then, ◌>>=◌, gives, one_of, as_word, as_left, as_right}
 use Rattle.mw_wat.specs.Reading.{as_number, index, all_of, as_type}
-use Rattle.mw_wat.specs.Instructions as read
 use Rattle.mw_wat.specs.Instructions.{as_constant, as_keyed, indexed, at_address, table_behind, labels, indirect}
 use Rattle.mw_wat.specs.Instructions.{Opener, a_block, a_loop, an_if, Meaning, ends, turns, opens, alone}
 use Rattle.mw_wat.specs.Instructions.{meaning}
 use Rattle.mw_wat.specs.Instructions.{Place, whole, inner, first, fresh, onward, Mark, closed, ended, turned, Listed}
 use Rattle.mw_wat.specs.Instructions.{ahead, result, block_type, second, inside, opened, more, meant}
-use Rattle.mw_wat.specs.Instructions.{by_token, listed, instructions, expression}
+use Rattle.mw_wat.specs.Instructions.{by_token, instructions, expression}
 use Rattle.mw_wat.proofs.TokensOfText.{Placed, p_here, p_there}
 use Rattle.mw_wat.proofs.ReadIsText.{HoldsBytes}
 use Rattle.mw_wat.proofs.MeaningsOfWords.{HoldsOfKinds, meaning_holds}
 use Rattle.mw_wat.proofs.Lookahead.{Local, local_then, local_all}
-use Rattle.mw_wat.proofs.LookaheadOfCode.{local_index, local_result, local_block_type, local_inside, local_instructions}
-use Rattle.mw_wat.proofs.LookaheadOfCode.{local_within, same_within, same_listed, meaning_local}
+use Rattle.mw_wat.proofs.LookaheadOfCode.{instructions_are, local_index, local_result, local_block_type, local_inside, local_instructions}
+use Rattle.mw_wat.proofs.LookaheadOfCode.{meaning_local}
 use Rattle.mw_wat.proofs.Completions.{Completed, Started, Completes, Any, Each, NotNext, got_bad, bad_token}
 use Rattle.mw_wat.proofs.Completions.{stop_completed, completes_after, started_then, completes_gives, started_gives}
 use Rattle.mw_wat.proofs.Completions.{behind_completed, started_all, completes_all, On, on_gives, on_one, on_after}
@@ -155,11 +154,6 @@ list_starts room p =
       reads =
           λ us vs q g. last_reads room p us vs q;
     }
-
-unroll : (room : ℕ) (p : Place) (ts : Tokens) → instructions room p ts ≡ listed instructions room p ts
-unfolding instructions
-unroll room p ts = same_listed (read.within (count ts)) instructions (local_within (count ts)) (count ts)
-    (λ room p us k. same_within (count ts) (suc (count us)) room p us k (omega arith)) room p ts (omega arith)
 
 final_onward : (p : Place) → final (onward p) ≡ final p
 final_onward whole = refl
@@ -290,14 +284,14 @@ module _ (k : ℕ) (h : (room : ℕ) (p : Place) → Completes k (instructions r
       → Completed (instructions room p) Any (Ends p) (token at u rest) a
   at_token room whole at t.right rest a small d = absurd (got_bad _ rest (stop a) d)
   at_token room p at (t.word w) rest a small d = word_at room p at w rest a small d
-      (λ b us. unroll room p (token b (t.word w) us))
+      (λ b us. instructions_are room p (token b (t.word w) us))
   at_token room p at u rest a small d = absurd (bad_token at u rest a d)
 
   one_step : (room : ℕ) (p : Place) → Completes (suc k) (instructions room p) Any (Ends p)
   one_step room p (stop b) a n d = stop_completed (instructions room p) Any (Ends p) (list_starts room p) b a
-      (sym (unroll room p (stop b)) ∙ d)
+      (sym (instructions_are room p (stop b)) ∙ d)
   one_step room p (token at u rest) a n d = at_token room p at u rest a (omega arith)
-      (sym (unroll room p (token at u rest)) ∙ d)
+      (sym (instructions_are room p (token at u rest)) ∙ d)
 
 code_completes : (k room : ℕ) (p : Place) → Completes k (instructions room p) Any (Ends p)
 code_completes zero room p ts a n d = absurd (omega arith)

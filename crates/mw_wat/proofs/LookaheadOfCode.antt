@@ -230,6 +230,12 @@ same_within (suc n) zero room p ts q r = absurd (omega arith)
 same_within (suc n) (suc m) room p ts q r = same_listed (read.within n) (read.within m) (local_within n) (count ts)
     (λ room p us k. same_within n m room p us (omega arith) (omega arith)) room p ts (omega arith)
 
+-- the law of reading code
+pub instructions_are : (room : ℕ) (p : Place) (ts : Tokens) → instructions room p ts ≡ listed instructions room p ts
+unfolding instructions
+instructions_are room p ts = same_listed (read.within (count ts)) instructions (local_within (count ts)) (count ts)
+    (λ room p us k. same_within (count ts) (suc (count us)) room p us k (omega arith)) room p ts (omega arith)
+
 -- code up to a closing parenthesis
 pub local_instructions : (room : ℕ) (p : Place) → Local (instructions room p)
 unfolding instructions
