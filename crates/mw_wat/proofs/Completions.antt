@@ -9,6 +9,7 @@ use Rattle.mw_wat.specs.Tokens as t
 use Rattle.mw_wat.specs.Lexing.{Tokens, stop, token}
 use Rattle.mw_wat.specs.Reading.{Read, got, bad, Reader, count, and_then, ◌>>=◌, gives, or_bad, one_of, skip, one_more}
 use Rattle.mw_wat.specs.Reading.{some_of, in_front, or_here, all_of, if_opened, if_word}
+use Rattle.mw_wat.proofs.MeaningsOfWords.{both}
 use Rattle.mw_wat.proofs.TokensOfText.{Placed, p_here, p_there}
 use Rattle.mw_wat.proofs.Lookahead.{Local, LocalAt, gets, loses, Goes, any, same, placed_parts, placed_joined}
 use Rattle.mw_wat.proofs.Lookahead.{placed_count, bad_parts, local_one, local_some}
@@ -46,11 +47,6 @@ Each x = Unit {0}
 abbrev pub NotNext : {A : Type 0} → (PureToken → Option A) → Tokens → Type 0
 NotNext means (stop a) = ⊥
 NotNext means (token at t rest) = means t ≡ None
-
-pub bytes_both : (xs ys : List PureToken) → AllByRecursion HoldsBytes xs → AllByRecursion HoldsBytes ys
-    → AllByRecursion HoldsBytes (xs ++ ys)
-bytes_both [] ys a b = b
-bytes_both (x ∷ xs) ys a b = (a.0, bytes_both xs ys a.1 b)
 
 pub got_bad : {A : Type 0} (x : A) (r s : Tokens) → got x r ≡ bad s → ⊥
 got_bad x r s e = cc
@@ -117,7 +113,7 @@ completes_then {A = A} k r f G F Q P l c d start follow ts b n e = by_local (l t
           more = o.more ++ s.more;
           x = s.x;
           fit = s.fit;
-          bytes = bytes_both o.more s.more o.bytes s.bytes;
+          bytes = both HoldsBytes o.more s.more o.bytes s.bytes;
           reads = λ us vs p g.
               let m = placed_parts (o.front ++ o.more) s.more
               (subst (λ z. Placed us z vs) (sym (append_assoc o.front o.more s.more)) p) in
@@ -163,7 +159,7 @@ started_then r f G F Q P s u follow = record {
   more = s.more ++ u.more;
   x = u.x;
   fit = u.fit;
-  bytes = bytes_both s.more u.more s.bytes u.bytes;
+  bytes = both HoldsBytes s.more u.more s.bytes u.bytes;
   reads = λ us vs p g.
       let m = placed_parts s.more u.more p in
       ap (λ q. and_then q f) (s.reads us m.0 m.1 (follow m.0 vs m.2 g)) ∙ u.reads m.0 vs m.2 g;

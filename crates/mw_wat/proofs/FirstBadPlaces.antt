@@ -27,7 +27,8 @@ use Rattle.mw_wat.proofs.ModuleSoundness.{module_said}
 use Rattle.mw_wat.proofs.ReadIsText.{HoldsBytes, read_bytes, read_shorter, has_texts, said_placed, read_is_text}
 use Rattle.mw_wat.proofs.BadPlaces.{placed_bytes, answered_is_bad}
 use Rattle.mw_wat.proofs.CursorTokens.{shorter_left}
-use Rattle.mw_wat.proofs.Completions.{bytes_both, here_same}
+use Rattle.mw_wat.proofs.MeaningsOfWords.{both}
+use Rattle.mw_wat.proofs.Completions.{here_same}
 use Rattle.mw_wat.proofs.CompletionsOfModules.{module_completes}
 
 -- places rise from token to token
@@ -165,7 +166,7 @@ module _ (ts : Tokens) (front : List PureToken) (rest : Tokens) (p : Placed ts f
       let b = module_said (laid (c.front ++ c.more)) c.x (stop 0) read in
       let all : c.front ++ c.more ≡ tokens_of c.x = same_front {us = laid (c.front ++ c.more)} (c.front ++ c.more)
       (tokens_of c.x) (laid_placed (c.front ++ c.more)) (said_placed (lexemes c.x) b.said) in
-      let bytes = bytes_both c.front c.more (subst (AllByRecursion HoldsBytes) (sym fronts) h) c.bytes in (
+      let bytes = both HoldsBytes c.front c.more (subst (AllByRecursion HoldsBytes) (sym fronts) h) c.bytes in (
         c.more,
         c.x,
         record {
