@@ -19,7 +19,7 @@ use Rattle.mw_infer.specs.ItemEquations.{Slot, plain_slot, quoted_slot, slot, eq
 use Rattle.mw_infer.specs.ItemEquations.{variable_equations, function_equations, recursion_equations}
 use Rattle.mw_infer.specs.ItemEquations.{application_equations, let_equations, condition_equations, pair_equations}
 use Rattle.mw_infer.specs.ItemEquations.{primitive_equations, bracket_equations, escape_equations, run_equations}
-use Rattle.mw_infer.specs.ItemEquations.{close_equations, open_equations, lift_equations, equations, Close, closes}
+use Rattle.mw_infer.specs.ItemEquations.{close_equations, open_equations, lift_equations, equations, closes}
 use Rattle.mw_infer.specs.Inferring.{entry_of, AreSchemesOf}
 use Rattle.mw_term.specs.Sources.{IsSource}
 use Rattle.mw_types.proofs.Expressions.{level_of}
@@ -29,8 +29,8 @@ use Rattle.mw_types.proofs.Expressions.{Within-base_expression, Within-kernel_ex
 use Rattle.mw_types.proofs.Verdicts.{value_agree}
 use Rattle.mw_infer.proofs.Within.{variable-within}
 use Rattle.mw_infer.proofs.Extending.{extended, extended-keeps, extended-ty, extended-classifier, started}
-use Rattle.mw_infer.proofs.Extending.{started-starts, Ready, Grown, then, Own, Own-started, first, ending, Ready-part}
-use Rattle.mw_infer.proofs.Extending.{Ready-bound, Ready-gives, Ready-later, Ready-under, Ready-live}
+use Rattle.mw_infer.proofs.Extending.{started-starts, Ready, Grown, then, Own, Own-started, alone, first, ending}
+use Rattle.mw_infer.proofs.Extending.{Ready-part, Ready-bound, Ready-gives, Ready-later, Ready-under, Ready-live}
 
 -- the slot of a variable
 find : (a : Assignment) (g : List Slot) (i : ℕ) (x : Entry) → slice_get (map (entry_of a) g) i ≡ Some x → (s : Slot)
@@ -47,22 +47,7 @@ variable-solved a u (under d) (plain_slot x) t e f = absurd (cc)
 variable-solved a u (under d) (quoted_slot k x) t e f = let q : a.ty x ≡ t = cc in let n : a.classifier k
     ≡ a.classifier d = cc in (e ∙ sym q, (rw n refl, tt))
 
--- a term with no part
-alone : {a b : Assignment} {o c p d : ℕ} {es : List TypeEquation} {xs : List Close} → Own a b o c p d es xs
-    → Grown a o c p d es xs
-alone h = record {
-  by = _;
-  keeps = h.keeps;
-  solves = h.solves;
-  fresh = h.fresh;
-  unknowns = h.unknowns;
-  classifiers =
-      h.classifiers;
-  within = h.within;
-  below = h.below;
-}
-
--- it may have no number of its own
+-- a term with no part and no number of its own
 still : (a : Assignment) (o c : ℕ) (es : List TypeEquation) → AllWithin o c es → Solves a es
     → Grown a o c (o + 0) (c + 0) es []
 still a o c es w h = ending (omega arith) (omega arith)
@@ -378,9 +363,7 @@ module _ (tops : List TopLevel) (schemes : List TopScheme) (known : AreSchemesOf
   typed_solved a u o c g m w r t_truth = still a o c _ ((r.own, tt), tt) (r.gives, tt)
   typed_solved a u o c g m w r (t_var {i = i} {t = t} e) = found-var a u o c g m _ _ i t r e
   typed_solved a u o c g live w r (t_let {i = i} {e = e} {t = t} q d) = found-let a u o c g _ i e t r q d
-  typed_solved a u o c g (under d) w r (t_let q i) = let e = r.at in absurd (cc)
   typed_solved a u o c g live w r (t_kernel {i = i} {k = k} q) = found-kernel a u o c g _ i k r q
-  typed_solved a u o c g (under d) w r (t_kernel q) = let e = r.at in absurd (cc)
   typed_solved a u o c g m w r (t_fun {g = h} {m = l} {e = e} {s = s} {t = t} p d) =
       found-fun a u o c g m h l e s t r (λ b q. typed_solved b (o + 1) (o + 2) c (slot m o ∷ g) m w q d)
   typed_solved a u o c g m w r (t_fix {g = h} {m = l} {e = e} {s = s} {t = t} p d) =
@@ -415,23 +398,17 @@ module _ (tops : List TopLevel) (schemes : List TopScheme) (known : AreSchemesOf
       (λ b x. typed_solved b (o + 1) (o + 2 + unknowns_of schemes d) (c + classifiers_of schemes d) g m w.1 x q)
   typed_solved a u o c g live w r (t_bracket {g = h} {a = k} {e = e} {t = t} p d) =
       found-bracket a u o c g h k e t r (λ b x. typed_solved b o (o + 1) (c + 1) g (under c) w x d)
-  typed_solved a u o c g (under i) w r (t_bracket p d) = let e = r.at in absurd (cc)
-  typed_solved a u o c g live w r (t_escape p d) = let e = r.at in absurd (cc)
   typed_solved a u o c g (under i) w r (t_escape {g = h} {a = k} {e = e} {t = t} p d) =
       found-escape a u o c g i h k e t r (λ b x. typed_solved b o (o + 1) c g live w x d)
   typed_solved a u o c g live w r (t_run {g = h} {k = k} {e = e} {t = t} q d) =
       found-run a u o c g h k e t q r (λ b x. typed_solved b o (o + 1) c g live w x d)
-  typed_solved a u o c g (under i) w r (t_run q d) = let e = r.at in absurd (cc)
   typed_solved a u o c g live w r (t_close {g = h} {a = k} {at = at} {e = e} {t = t} p f d) =
       found-close a u o c g h k at e t f r (λ b x. typed_solved b (o + 1) (o + 2) (c + 1) g live w x d)
-  typed_solved a u o c g (under i) w r (t_close p f d) = let e = r.at in absurd (cc)
   typed_solved a u o c g live w r (t_open {g = h} {a = k} {e = e} {t = t} p d) =
       found-open a u o c g h k e t r (λ b x. typed_solved b (o + 1) (o + 2) (c + 1) g live w x d)
-  typed_solved a u o c g (under i) w r (t_open p d) = let e = r.at in absurd (cc)
   typed_solved a u o c g live w r (t_lift {g = h} {a = k} {e = e} d) =
       found-lift Int a u o c g h k e r (λ b x. typed_solved b o (o + 1) (c + 1) g live w x d)
-  typed_solved a u o c g (under i) w r (t_lift d) = let e = r.at in absurd (cc)
   typed_solved a u o c g live w r (t_lift_b {g = h} {a = k} {e = e} d) =
       found-lift Bool a u o c g h k e r (λ b x. typed_solved b o (o + 1) (c + 1) g live w x d)
-  typed_solved a u o c g (under i) w r (t_lift_b d) = let e = r.at in absurd (cc)
   typed_solved a u o c g m w r (t_done v) = absurd w
+  typed_solved a u o c g m w r d = let e = r.at in absurd (cc)
