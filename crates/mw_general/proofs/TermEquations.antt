@@ -4,7 +4,7 @@ use Rattle.std.specs.Prelude.{option_map, slice_get}
 use Rattle.std.proofs.lemmas.Option.{slice_get-map}
 use Rattle.mw_term.specs.declared.term.Base.TheVariants.{Int, Bool}
 use Rattle.mw_term.specs.Terms.{Expression, num, truth, var, glob, fun, fix, app, bind, cond, pair, fst, snd, prim}
-use Rattle.mw_term.specs.Terms.{bracket, escape, run, close, opened, lift, lift_b, done, size}
+use Rattle.mw_term.specs.Terms.{bracket, escape, run, close, opened, lift, lift_b, size}
 use Rattle.mw_term.specs.Types.{TermType, Level, live, under, Entry, value as at_live, quoted, entry}
 use Rattle.mw_types.specs.Types.{TypeExpression, int_ty, bool_ty, pair_ty, function_ty, code_ty, closed_ty, Assignment}
 use Rattle.mw_types.specs.Types.{value, after}
@@ -42,12 +42,9 @@ noted_entry-note b (under c) t = refl
 variable-solved : (a : Assignment) (u : ℕ) (m : Level) (x : Option Slot) (t : TermType) → a.ty u ≡ t
     → option_map (entry_of a) x ≡ Some (entry (level_of a m) t) → Solves a (variable_equations u m x)
 variable-solved a u live (Some (plain_slot x)) t e f = (e ∙ (let q : a.ty x ≡ t = cc in sym q), tt)
-variable-solved a u live (Some (quoted_slot k x)) t e f = absurd (cc)
-variable-solved a u (under d) (Some (plain_slot x)) t e f = absurd (cc)
 variable-solved a u (under d) (Some (quoted_slot k x)) t e f = let q : a.ty x ≡ t = cc in let n : a.classifier k
     ≡ a.classifier d = cc in (e ∙ sym q, (rw n refl, tt))
-variable-solved a u live None t e f = absurd (cc)
-variable-solved a u (under d) None t e f = absurd (cc)
+variable-solved a u m x t e f = absurd (cc)
 
 module _ (p : Notes) (tops : List TopNote) (schemes : List TopScheme) (own : AreOwn schemes)
     (roots : AreRootsOf schemes tops) (b : Assignment) where
@@ -205,9 +202,6 @@ module _ (p : Notes) (tops : List TopNote) (schemes : List TopScheme) (own : Are
       followed-bracket p b schemes a u o c g _ n (b.classifier f.0) e (value b f.1) (rw f.2 at r)
       (rw f.2 at (said p b live n (t ∷ []) (f.0 ∷ []) f.3))
       (λ i q. followed i o (o + 1) (c + 1) (n + 1) g (under c) h (under f.0) e f.1 q f.4)
-  followed a u o c n g (under k) h live (bracket e) t r f = absurd (let i = r.at in cc)
-  followed a u o c n g m h (under k) (bracket e) t r f = absurd f
-  followed a u o c n g m h live (escape e) t r f = absurd f
   followed a u o c n g live h (under k) (escape e) t r f = absurd (let i = r.at in cc)
   followed a u o c n g (under d) h (under k) (escape e) t r f =
       followed-escape p b schemes a u o c g d _ n (b.classifier k) e (value b t) r
@@ -217,30 +211,21 @@ module _ (p : Notes) (tops : List TopNote) (schemes : List TopScheme) (own : Are
       followed-run p b schemes a u o c g _ n j e (value b t) (ap (value b) f.0 ∙ value-kernel_expression b j) r
       (said p b live n (t ∷ []) [] f.1)
       (λ i q. followed i o (o + 1) c (n + 1) g live h live e (closed_ty t) q f.2)
-  followed a u o c n g (under k) h live (run j e) t r f = absurd (let i = r.at in cc)
-  followed a u o c n g m h (under k) (run j e) t r f = absurd f
   followed a u o c n g live h live (close at e) t r f =
       followed-close p b schemes a u o c g _ n (b.classifier f.0) at e (value b f.1) (rw f.2 at r)
       (rw f.2 at (said p b live n (t ∷ f.1 ∷ []) (f.0 ∷ []) f.4))
       (λ i q. followed i (o + 1) (o + 2) (c + 1) (n + 1) g live h live e (code_ty f.0 f.1) q f.5)
-  followed a u o c n g (under k) h live (close at e) t r f = absurd (let i = r.at in cc)
-  followed a u o c n g m h (under k) (close at e) t r f = absurd f
   followed a u o c n g live h live (opened e) t r f =
       followed-open p b schemes a u o c g _ n (b.classifier f.0) e (value b f.1) (rw f.2 at r)
       (rw f.2 at (said p b live n (t ∷ f.1 ∷ []) (f.0 ∷ []) f.3))
       (λ i q. followed i (o + 1) (o + 2) (c + 1) (n + 1) g live h live e (closed_ty f.1) q f.4)
-  followed a u o c n g (under k) h live (opened e) t r f = absurd (let i = r.at in cc)
-  followed a u o c n g m h (under k) (opened e) t r f = absurd f
   followed a u o c n g live h live (lift e) t r f =
       followed-lift p b schemes Int a u o c g _ n (b.classifier f.0.0) e (rw f.0.1 at r)
       (rw f.0.1 at (said p b live n (t ∷ []) (f.0.0 ∷ []) f.0.2))
       (λ i q. followed i o (o + 1) (c + 1) (n + 1) g live h live e int_ty q f.1)
-  followed a u o c n g (under k) h live (lift e) t r f = absurd (let i = r.at in cc)
-  followed a u o c n g m h (under k) (lift e) t r f = absurd f
   followed a u o c n g live h live (lift_b e) t r f =
       followed-lift p b schemes Bool a u o c g _ n (b.classifier f.0.0) e (rw f.0.1 at r)
       (rw f.0.1 at (said p b live n (t ∷ []) (f.0.0 ∷ []) f.0.2))
       (λ i q. followed i o (o + 1) (c + 1) (n + 1) g live h live e bool_ty q f.1)
-  followed a u o c n g (under k) h live (lift_b e) t r f = absurd (let i = r.at in cc)
-  followed a u o c n g m h (under k) (lift_b e) t r f = absurd f
-  followed a u o c n g m h l (done v) t r f = absurd f
+  followed a u o c n g (under k) h live e t r f = absurd (let i = r.at in cc)
+  followed a u o c n g m h l e t r f = absurd f
