@@ -5,7 +5,7 @@ use Rattle.std.specs.Prelude.{slice_get}
 use Rattle.mw_term.specs.declared.term.Base.{Base}
 use Rattle.mw_term.specs.declared.term.Base.TheVariants.{Int, Bool}
 use Rattle.mw_term.specs.declared.term.Primitive.{Primitive as Prim}
-use Rattle.mw_term.specs.Terms.{Expression, KernelType, var, glob, fun, fix, app, bind, cond, pair, fst, snd, prim}
+use Rattle.mw_term.specs.Terms.{Expression, KernelType, var, glob, fun, fix, app, bind, cond, pair, prim}
 use Rattle.mw_term.specs.Terms.{bracket, escape, run, close, opened}
 use Rattle.mw_term.specs.Types.{TermType, int_type, bool_type, pair_type, function_type, code_type, closed_type, Level}
 use Rattle.mw_term.specs.Types.{live, under, Entry, entry, IsAbsent, base_type, kernel_type, primitive_type}
@@ -233,18 +233,6 @@ module _ (tops : List TopLevel) (schemes : List TopScheme) (known : AreSchemesOf
       ending (omega arith) refl
       (first x (part _ (Ready-part (o + 1) (o + 2) c (omega arith) (omega arith) (omega arith) z.keeps z.second r)))
 
-  found-fst : (a : Assignment) (u o c : ℕ) (g : List Slot) (m : Level) (h : List Entry) (l : Level) (e : Expression)
-      (s t : TermType) → Ready a u o c g m h l s
-      → Part (o + 1) (o + 2) c g m h l e (pair_type s t) → SatisfiedAt a u o c g m (fst e)
-  found-fst a u o c g m h l e s t r part = found-part a u o c g m h l e s t (pair_type s t)
-      (pair_ty (unknown u) (unknown o)) (λ b x y. rw (x, y) refl) (λ lt. (omega arith, omega arith)) r part
-
-  found-snd : (a : Assignment) (u o c : ℕ) (g : List Slot) (m : Level) (h : List Entry) (l : Level) (e : Expression)
-      (s t : TermType) → Ready a u o c g m h l t
-      → Part (o + 1) (o + 2) c g m h l e (pair_type s t) → SatisfiedAt a u o c g m (snd e)
-  found-snd a u o c g m h l e s t r part = found-part a u o c g m h l e t s (pair_type s t)
-      (pair_ty (unknown o) (unknown u)) (λ b x y. rw (x, y) refl) (λ lt. (omega arith, omega arith)) r part
-
   found-prim : (a : Assignment) (u o c : ℕ) (g : List Slot) (m : Level) (h : List Entry) (l : Level) (p : Prim)
       (d e : Expression) (t : TermType) → t ≡ primitive_type p → Ready a u o c g m h l t
       → Part o (o + 2) c g m h l d int_type → Part (o + 1) (o + 2 + unknowns_of schemes d)
@@ -389,9 +377,11 @@ module _ (tops : List TopLevel) (schemes : List TopScheme) (known : AreSchemesOf
       (λ b x. typed_solved b o (o + 2) c g m w.0 x p)
       (λ b x. typed_solved b (o + 1) (o + 2 + unknowns_of schemes d) (c + classifiers_of schemes d) g m w.1 x q)
   typed_solved a u o c g m w r (t_fst {g = h} {m = l} {e = e} {s = s} {t = t} p) =
-      found-fst a u o c g m h l e s t r (λ b x. typed_solved b (o + 1) (o + 2) c g m w x p)
+      found-part a u o c g m h l e s t (pair_type s t) (pair_ty (unknown u) (unknown o)) (λ b x y. rw (x, y) refl)
+      (λ lt. (omega arith, omega arith)) r (λ b x. typed_solved b (o + 1) (o + 2) c g m w x p)
   typed_solved a u o c g m w r (t_snd {g = h} {m = l} {e = e} {s = s} {t = t} p) =
-      found-snd a u o c g m h l e s t r (λ b x. typed_solved b (o + 1) (o + 2) c g m w x p)
+      found-part a u o c g m h l e t s (pair_type s t) (pair_ty (unknown o) (unknown u)) (λ b x y. rw (x, y) refl)
+      (λ lt. (omega arith, omega arith)) r (λ b x. typed_solved b (o + 1) (o + 2) c g m w x p)
   typed_solved a u o c g m w r (t_prim {g = h} {m = l} {p = k} {a = d} {b = e} {t = t} z p q) =
       found-prim a u o c g m h l k d e t z r
       (λ b x. typed_solved b o (o + 2) c g m w.0 x p)

@@ -82,7 +82,8 @@ item-judged p i (value e) schemes w g h = let a : IsPart p i (part_of_item (seen
 item-judged p i (kernel k e) schemes w g h = let a : IsPart p i (part_of_item (seen_by_item p.items i) (kernel k e)) =
     an_item g in can-judge _ schemes e h.principal h.modest (w.scoped i _ a) (w.small i _ a)
 
-refused-part : (p : PureProgram) (i : ℕ) (x : Part) (schemes : List TopScheme) (r : Refusal) → IsPart p i x
+-- a fault of a part is the first refusal where the parts before it have none
+pub refused-part : (p : PureProgram) (i : ℕ) (x : Part) (schemes : List TopScheme) (r : Refusal) → IsPart p i x
     → ArePrincipal x.names schemes → ((j : ℕ) (y : Part) → j < i → IsPart p j y → IsFaultless y)
     → IsFaultOf schemes x.place x.term i r → IsFirstRefusal p r
 refused-part p i x schemes r a q e f = record {
