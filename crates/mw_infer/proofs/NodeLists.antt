@@ -37,11 +37,12 @@ pub within-append : (n m : ℕ) (xs ys : List NodeNumbers) → AreNodesWithin n 
 within-append n m [] ys h k = k
 within-append n m (x ∷ xs) ys h k = (h.0, within-append n m xs ys h.1 k)
 
--- a node's numbers
-plain : {n m : ℕ} {us : List ℕ} → AllByRecursion (λ u. u < n) us → IsNodeWithin n m (plain_node us)
+-- a node whose numbers are within
+pub plain : {n m : ℕ} {us : List ℕ} → AllByRecursion (λ u. u < n) us → IsNodeWithin n m (plain_node us)
 plain h = record { types = h; classifier = tt }
 
-quoted : {n m c : ℕ} {us : List ℕ} → AllByRecursion (λ u. u < n) us → c < m → IsNodeWithin n m (quoted_node us c)
+pub quoted : {n m c : ℕ} {us : List ℕ} → AllByRecursion (λ u. u < n) us → c < m
+    → IsNodeWithin n m (quoted_node us c)
 quoted h k = record { types = h; classifier = k }
 
 -- the numbers of a term's nodes are its own
