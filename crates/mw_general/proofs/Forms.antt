@@ -1,7 +1,7 @@
 -- What is followed of a term, and of the forms that come twice: a part of a pair, and a lift.
 use Rattle.std.proofs.Common.{◌≡◌, ℕ, ◌+◌, ◌<◌, List, [], ◌∷◌, ◌++◌, refl, sym, ◌∙◌, arith}
 use Rattle.mw_term.specs.declared.term.Base.{Base}
-use Rattle.mw_term.specs.Terms.{Expression, pair}
+use Rattle.mw_term.specs.Terms.{Expression}
 use Rattle.mw_term.specs.Terms.{size}
 use Rattle.mw_term.specs.Types.{TermType, int_type, code_type, Level}
 use Rattle.mw_term.specs.Types.{live, Entry, base_type}

@@ -4,16 +4,16 @@
 -- from the next free number on: those of its binders or of the part of its type that it leaves open, then those of its
 -- parts' types, and then what the parts themselves need, in their order. Classifier unknowns are numbered in the same
 -- way.
-use Rattle.std.specs.Prelude.{ℕ, ◌+◌, List, [], ◌∷◌, ◌++◌, Option, Some, None, slice_get}
+use Rattle.std.specs.Prelude.{ℕ, ◌+◌, List, [], ◌∷◌, ◌++◌, Option, Some, slice_get}
 use Rattle.mw_term.specs.declared.term.Base.{Base}
 use Rattle.mw_term.specs.declared.term.Base.TheVariants.{Int, Bool}
 use Rattle.mw_term.specs.declared.term.Primitive.{Primitive as Prim}
 use Rattle.mw_term.specs.Terms.{Expression, KernelType, num, truth, var, glob, fun, fix, app, bind, cond, pair, fst}
-use Rattle.mw_term.specs.Terms.{snd, prim, bracket, escape, run, close, opened, lift, lift_b, done}
+use Rattle.mw_term.specs.Terms.{snd, prim, bracket, escape, run, close, opened, lift, lift_b}
 use Rattle.mw_term.specs.Types.{Level, live, under}
 use Rattle.mw_types.specs.Types.{TypeExpression, int_ty, bool_ty, unknown, pair_ty, function_ty, code_ty, closed_ty}
 use Rattle.mw_types.specs.Equations.{TypeEquation}
-use Rattle.mw_infer.specs.Schemes.{TopScheme, let_scheme, kernel_scheme, scheme_out_of_scope, shifted}
+use Rattle.mw_infer.specs.Schemes.{TopScheme, let_scheme, kernel_scheme, shifted}
 use Rattle.mw_types.specs.Expressions.{base_expression, kernel_expression, primitive_expression}
 
 -- what an environment knows of a binder: its unknown, and at level 1 the classifier unknown under which it stands

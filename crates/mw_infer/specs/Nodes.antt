@@ -1,7 +1,7 @@
 -- What the typing of a part tells of the nodes of its term, in pre-order.
 use Rattle.std.specs.Prelude.{ℕ, ◌≡◌, ◌+◌, List, [], ◌∷◌, ◌++◌, map, length, option_map, Option, Some, None, slice_get}
-use Rattle.mw_term.specs.Terms.{Expression, num, truth, var, glob, fun, fix, app, bind, cond, pair, fst, snd, prim}
-use Rattle.mw_term.specs.Terms.{bracket, escape, run, close, opened, lift, lift_b, done}
+use Rattle.mw_term.specs.Terms.{Expression, fun, fix, app, bind, cond, pair, fst, snd, prim}
+use Rattle.mw_term.specs.Terms.{bracket, escape, run, close, opened, lift, lift_b}
 use Rattle.mw_term.specs.Programs.{PureProgram}
 use Rattle.mw_term.specs.Parts.{Part, IsPart}
 use Rattle.mw_types.specs.Types.{TypeExpression, Substitution, after}
