@@ -14,6 +14,7 @@ use Rattle.mw_wasm.specs.Validity.{IsValid, IsValidElement, IsValidData}
 use Rattle.mw_wasm.specs.Views.{module_of, element_of, segment_of}
 use Rattle.mw_exec.specs.Fitting.{ends_in, element_test, segment_test, AllFit, HasElementOffset, HasSegmentOffset}
 use Rattle.mw_exec.specs.Instancing.{first_store, BeginsAs}
+use Rattle.mw_exec.proofs.Positions.{none_before_first, first_is_here, none_at_all}
 
 -- a test of mapped items
 from_map : {X Y : Type 0} (test : Y → Bool) (f : X → Y) (i : ℕ) (xs : List X) → position_from test i (map f xs)
@@ -77,3 +78,9 @@ ends_past a l size b k e f g = subst (λ b. not (ends_in b k size) ≡ true) f
 pub is_none : (r : Option ℕ) → ((x : ℕ) → r ≡ Some x → ⊥) → r ≡ None
 is_none None h = refl
 is_none (Some x) h = absurd (h x refl)
+
+-- which modules have an instance
+pub ruleset fault_laws = (elements_have_offsets, segments_have_offsets, unfit_element, unfit_segment, is_none)
+
+-- which segment is the first that doesn't fit
+pub ruleset unfit_laws = (none_before_first, first_is_here, none_at_all, ends_past)
