@@ -33,6 +33,7 @@ use Rattle.mw_wasm.specs.Validity.{IsConstantOf}
 use Rattle.mw_wasm.specs.Instances.{constant_expression, first_value, first_table, first_memory, offset_of}
 use Rattle.mw_wasm.specs.Instances.{with_elements, with_segment, with_segments}
 use Rattle.mw_wasm.specs.Views.{instruction_of, list_code, code_of, global_of, element_of, segment_of, module_of}
+use Rattle.mw_validate.proofs.MappedElements.{unmapped}
 use Rattle.mw_exec.specs.declared.held.Contents.{Contents}
 use Rattle.mw_exec.specs.Views.{memory_of, store_of}
 use Rattle.mw_exec.specs.Instancing.{first_store}
@@ -198,8 +199,7 @@ mapped_globals (g ∷ gs) = ap (λ vs. value_of_global g ∷ vs) (mapped_globals
 
 pub globals_have_values : (gs : List GlobalVar) → AllByRecursion (λ (g : Global). IsConstantOf g.kind g.init)
     (map global_of gs) → AllByRecursion HasFirstValue gs
-globals_have_values [] all = tt
-globals_have_values (g ∷ gs) all = (all.0, globals_have_values gs all.1)
+globals_have_values gs all = unmapped (λ (g : Global). IsConstantOf g.kind g.init) global_of gs all
 
 -- the same through the program's numbers and slices
 pub at_most : (a b : ℕ) (xs ys : List ℕ) (n k : ℕ) → a ≡ b → xs ≡ ys → n ≡ k → b + length ys ≤ k → a + length xs ≤ n
