@@ -178,14 +178,14 @@ module _ (wasm : Module) (c : Expression) (units : ℕ) where
       (means.run units) (λ cs are. means.calls.2 units cs are)
   began_meant (of_ground t) (Ok (began.Function r left)) typed stands h = absurd h
   began_meant (to s t) (Ok (began.Value v left)) typed stands h = absurd h
-  began_meant (of_ground t) (Ok (began.Trap u)) typed stands h = subst (λ a. IsBeganFrom (of_ground t) (began.Trap u) a)
-      (sym (by_trap u _ _ ((stands.means typed).run units) h)) refl
-  began_meant (of_ground t) (Ok (began.Bound l)) typed stands h = subst (λ a. IsBeganFrom (of_ground t) (began.Bound l) a)
-      (sym (at_bound l _ _ ((stands.means typed).run units) h)) refl
-  began_meant (to s t) (Ok (began.Trap u)) typed stands h = subst (λ a. IsBeganFrom (to s t) (began.Trap u) a)
-      (sym (by_trap u _ _ ((stands.means typed).run units) h)) refl
-  began_meant (to s t) (Ok (began.Bound l)) typed stands h = subst (λ a. IsBeganFrom (to s t) (began.Bound l) a)
-      (sym (at_bound l _ _ ((stands.means typed).run units) h)) refl
+  began_meant (of_ground t) (Ok (began.Trap u)) typed stands h =
+      rw (by_trap u _ _ ((stands.means typed).run units) h) refl
+  began_meant (of_ground t) (Ok (began.Bound l)) typed stands h =
+      rw (at_bound l _ _ ((stands.means typed).run units) h) refl
+  began_meant (to s t) (Ok (began.Trap u)) typed stands h =
+      rw (by_trap u _ _ ((stands.means typed).run units) h) refl
+  began_meant (to s t) (Ok (began.Bound l)) typed stands h =
+      rw (at_bound l _ _ ((stands.means typed).run units) h) refl
   began_meant k (Err fault.Bad) typed stands h = standing_is_not_stray (module_of wasm) c k stands typed
       (in_init units stands.has_instance (stands.means typed).is_init h)
   began_meant k (Err (fault.Memory f)) typed stands h = tt
