@@ -7,7 +7,7 @@ use Rattle.std.proofs.lemmas.Option.{slice_get-map}
 use Rattle.mw_term.specs.declared.term.Base.{Base}
 use Rattle.mw_term.specs.declared.term.Base.TheVariants.{Int, Bool}
 use Rattle.mw_term.specs.declared.term.Primitive.{Primitive as Prim}
-use Rattle.mw_term.specs.declared.term.Primitive.TheVariants.{Add, Sub, Mul, Div, Mod, Eq, Lt, Le}
+use Rattle.mw_term.specs.declared.term.Primitive.TheVariants.{Add}
 use Rattle.mw_term.specs.Terms.{Expression, GroundType, KernelType, base, product, of_ground, to, num, truth, var, glob}
 use Rattle.mw_term.specs.Terms.{fun, fix, app, bind, cond, pair, fst, snd, prim, bracket, escape, run, close, opened}
 use Rattle.mw_term.specs.Terms.{lift, lift_b, done, size}
@@ -41,13 +41,7 @@ apply-kernel s (to p q) = rw (apply-ground s p, apply-ground s q) refl
 
 apply-primitive : (s : Substitution) (p : Prim) → apply s (primitive_expression p) ≡ primitive_expression p
 apply-primitive s Add = refl
-apply-primitive s Sub = refl
-apply-primitive s Mul = refl
-apply-primitive s Div = refl
-apply-primitive s Mod = refl
-apply-primitive s Eq = refl
-apply-primitive s Lt = refl
-apply-primitive s Le = refl
+apply-primitive s p = refl
 
 -- a substitution of the numbers from these on
 abbrev from : Substitution → ℕ → ℕ → Substitution

@@ -1,9 +1,9 @@
 -- A solution of an item's equations in which each type fits the level of its node.
-use Rattle.std.proofs.Common.{◌≡◌, ℕ, zero, suc, ◌+◌, ◌-◌, ◌<◌, ◌≤◌, List, [], ◌∷◌, Option, Some, None, refl, ap, sym}
+use Rattle.std.proofs.Common.{◌≡◌, ℕ, zero, suc, ◌+◌, ◌-◌, ◌<◌, ◌≤◌, List, [], ◌∷◌, Option, Some, refl, ap, sym}
 use Rattle.std.proofs.Common.{◌∙◌, arith}
 use Rattle.std.specs.Prelude.{slice_get}
 use Rattle.mw_term.specs.Terms.{Expression, num, truth, var, glob, fun, fix, app, bind, cond, pair, fst, snd, prim}
-use Rattle.mw_term.specs.Terms.{bracket, escape, run, close, opened, lift, lift_b, done}
+use Rattle.mw_term.specs.Terms.{bracket, escape, run, close, opened, lift, lift_b}
 use Rattle.mw_term.specs.Types.{TermType, int_type, bool_type, Level, live, under, Fits, kernel_type, closed_type}
 use Rattle.mw_term.specs.Typing.{TopLevel}
 use Rattle.mw_term.specs.FlatTypes.{flat_type, formed_type}
@@ -15,7 +15,7 @@ use Rattle.mw_types.specs.Types.{Assignment, value}
 use Rattle.mw_types.specs.Equations.{Solves, Agree}
 use Rattle.mw_types.proofs.Expressions.{value-kernel_expression, value-primitive_expression}
 use Rattle.mw_types.proofs.Verdicts.{value_agree}
-use Rattle.mw_infer.specs.Schemes.{TopScheme, let_scheme, kernel_scheme, scheme_out_of_scope}
+use Rattle.mw_infer.specs.Schemes.{TopScheme, let_scheme, kernel_scheme}
 use Rattle.mw_infer.specs.ItemEquations.{Slot, plain_slot, quoted_slot, slot, unknowns_of, classifiers_of}
 use Rattle.mw_infer.specs.ItemEquations.{unknowns_of_name, classifiers_of_name, variable_equations, name_equations}
 use Rattle.mw_infer.specs.ItemEquations.{equations}
@@ -198,10 +198,7 @@ module _ (tops : List TopLevel) (schemes : List TopScheme) (known : AreSchemesOf
         q ∙ ap (λ t. flat_type t) h.0 ∙ sym s.0.1,
         (rw (let y : d.classifier k ≡ d.classifier j = l ∙ z ∙ sym s.0.0 in y) refl, tt),
       )
-  solved-variable d u g live i (Some (quoted_slot j x)) e h r l q = no_wrong a h
-  solved-variable d u g (under k) i (Some (plain_slot x)) e h r l q = no_wrong a h
-  solved-variable d u g live i None e h r l q = no_wrong a h
-  solved-variable d u g (under k) i None e h r l q = no_wrong a h
+  solved-variable d u g m i x e h r l q = no_wrong a h
 
   -- a term with no number of its own
   still : (b : Assignment) (o c : ℕ) (G : Assignment → Type 0) → ((d : Assignment) → Agree o c b d → G d)
@@ -255,9 +252,7 @@ module _ (tops : List TopLevel) (schemes : List TopScheme) (known : AreSchemesOf
         ),
         (own live d u le w, tt),
       ))
-  refit-name b u o c live i (Some scheme_out_of_scope) e lt le h q = no_wrong a h
-  refit-name b u o c live i None e lt le h q = no_wrong a h
-  refit-name b u o c (under k) i x e lt le h q = no_wrong a h
+  refit-name b u o c m i x e lt le h q = no_wrong a h
 
   -- flat content fits level 0 too
   own-flat : (d : Assignment) (v : ℕ) → v < n → d.ty v ≡ flat_type (a.ty v) → FitsAt n d live v
@@ -489,8 +484,6 @@ module _ (tops : List TopLevel) (schemes : List TopScheme) (known : AreSchemesOf
         (w ∙ ap (λ t. formed_type t) h.0 ∙ rw (i, j) refl, y.1.0),
         ((own live d u (omega arith) w, tt), y.1.1),
       ))
-  refit b u o c g (under z) (bracket e) lt le h q env = no_wrong a h
-  refit b u o c g live (escape e) lt le h q env = no_wrong a h
   refit b u o c g (under z) (escape e) lt le h q env =
       let s = stage live b o c (o + 1) c (omega arith) (omega arith) in
       let r = refit s.by o (o + 1) c g live e (omega arith) (omega arith) h.1
@@ -522,7 +515,6 @@ module _ (tops : List TopLevel) (schemes : List TopScheme) (known : AreSchemesOf
         ),
         ((own live d u (omega arith) w, tt), y.1.1),
       ))
-  refit b u o c g (under z) (run x e) lt le h q env = no_wrong a h
   refit b u o c g live (close at e) lt le h q env =
       let s = stage (under 0) b o c (o + 1) (c + 1) (omega arith) (omega arith) in
       let t = stage live s.by (o + 1) (c + 1) (o + 2) (c + 1) (omega arith) (omega arith) in
@@ -541,7 +533,6 @@ module _ (tops : List TopLevel) (schemes : List TopScheme) (known : AreSchemesOf
         ),
         ((own live d u (omega arith) w, (own-flat d o (omega arith) i, tt)), y.1.1),
       ))
-  refit b u o c g (under z) (close at e) lt le h q env = no_wrong a h
   refit b u o c g live (opened e) lt le h q env =
       let s = stage (under 0) b o c (o + 1) (c + 1) (omega arith) (omega arith) in
       let t = stage live s.by (o + 1) (c + 1) (o + 2) (c + 1) (omega arith) (omega arith) in
@@ -560,7 +551,6 @@ module _ (tops : List TopLevel) (schemes : List TopScheme) (known : AreSchemesOf
         ),
         ((own live d u (omega arith) w, (own-flat d o (omega arith) i, tt)), y.1.1),
       ))
-  refit b u o c g (under z) (opened e) lt le h q env = no_wrong a h
   refit b u o c g live (lift e) lt le h q env =
       let s = stage live b o c (o + 1) (c + 1) (omega arith) (omega arith) in
       let r = refit s.by o (o + 1) (c + 1) g live e (omega arith) (omega arith) h.1.1
@@ -576,7 +566,6 @@ module _ (tops : List TopLevel) (schemes : List TopScheme) (known : AreSchemesOf
         ),
         ((own live d u (omega arith) w, tt), y.1.1),
       ))
-  refit b u o c g (under z) (lift e) lt le h q env = no_wrong a h
   refit b u o c g live (lift_b e) lt le h q env =
       let s = stage live b o c (o + 1) (c + 1) (omega arith) (omega arith) in
       let r = refit s.by o (o + 1) (c + 1) g live e (omega arith) (omega arith) h.1.1
@@ -592,5 +581,4 @@ module _ (tops : List TopLevel) (schemes : List TopScheme) (known : AreSchemesOf
         ),
         ((own live d u (omega arith) w, tt), y.1.1),
       ))
-  refit b u o c g (under z) (lift_b e) lt le h q env = no_wrong a h
-  refit b u o c g m (done v) lt le h q env = no_wrong a h
+  refit b u o c g m e lt le h q env = no_wrong a h

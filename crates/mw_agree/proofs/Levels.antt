@@ -1,7 +1,7 @@
 -- What is true of each unknown of a term's nodes at the level where its node stands.
 use Rattle.std.proofs.Common.{ℕ, ◌+◌, List, [], ◌∷◌}
-use Rattle.mw_term.specs.Terms.{Expression, num, truth, var, glob, fun, fix, app, bind, cond, pair, fst, snd, prim}
-use Rattle.mw_term.specs.Terms.{bracket, escape, run, close, opened, lift, lift_b, done}
+use Rattle.mw_term.specs.Terms.{Expression, fun, fix, app, bind, cond, pair, fst, snd, prim}
+use Rattle.mw_term.specs.Terms.{bracket, escape, run, close, opened, lift, lift_b}
 use Rattle.mw_term.specs.Types.{Level, live, under}
 use Rattle.mw_infer.specs.Schemes.{TopScheme}
 use Rattle.mw_infer.specs.ItemEquations.{unknowns_of, classifiers_of}
@@ -13,10 +13,6 @@ AllAre R m (u ∷ us) = R m u × AllAre R m us
 
 -- It is true of those of a term's nodes, by the numbering of its equations. A level 1 is named by a classifier unknown.
 abbrev pub Levelled : (Level → ℕ → Type 0) → List TopScheme → ℕ → ℕ → ℕ → Level → Expression → Type 0
-Levelled R tops u o c m (num z) = AllAre R m (u ∷ [])
-Levelled R tops u o c m (truth b) = AllAre R m (u ∷ [])
-Levelled R tops u o c m (var i) = AllAre R m (u ∷ [])
-Levelled R tops u o c m (glob i) = AllAre R m (u ∷ [])
 Levelled R tops u o c m (fun e) = AllAre R m (u ∷ o ∷ []) × Levelled R tops (o + 1) (o + 2) c m e
 Levelled R tops u o c m (fix e) = AllAre R m (u ∷ (o + 1) ∷ o ∷ []) × Levelled R tops (o + 2) (o + 3) c m e
 Levelled R tops u o c m (app f a) = AllAre R m (u ∷ []) × Levelled R tops o (o + 2) c m f
@@ -40,4 +36,4 @@ Levelled R tops u o c m (close at e) = AllAre R m (u ∷ o ∷ []) × Levelled R
 Levelled R tops u o c m (opened e) = AllAre R m (u ∷ o ∷ []) × Levelled R tops (o + 1) (o + 2) (c + 1) live e
 Levelled R tops u o c m (lift e) = AllAre R m (u ∷ []) × Levelled R tops o (o + 1) (c + 1) live e
 Levelled R tops u o c m (lift_b e) = AllAre R m (u ∷ []) × Levelled R tops o (o + 1) (c + 1) live e
-Levelled R tops u o c m (done v) = AllAre R m (u ∷ [])
+Levelled R tops u o c m e = AllAre R m (u ∷ [])

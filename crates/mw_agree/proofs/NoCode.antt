@@ -1,7 +1,7 @@
 -- A most general solution holds no code at level 1, and none under code.
 use Rattle.std.proofs.Common.{◌≡◌, ℕ, ◌+◌, List, [], ◌∷◌, ◌++◌, map, refl, ap, sym, ◌∙◌, arith}
-use Rattle.mw_term.specs.Terms.{Expression, of_ground, num, truth, var, glob, fun, fix, app, bind, cond, pair, fst, snd}
-use Rattle.mw_term.specs.Terms.{prim, bracket, escape, run, close, opened, lift, lift_b, done}
+use Rattle.mw_term.specs.Terms.{Expression, of_ground, fun, fix, app, bind, cond, pair, fst, snd}
+use Rattle.mw_term.specs.Terms.{prim, bracket, escape, run, close, opened, lift, lift_b}
 use Rattle.mw_term.specs.Types.{Level, live, under, Fits, IsPlain, IsFormed, closed_type, kernel_type}
 use Rattle.mw_term.specs.Types.{ground_type}
 use Rattle.mw_term.specs.Typing.{TopLevel}
@@ -120,10 +120,6 @@ module _ (schemes : List TopScheme) (s : Substitution) (R : Level → ℕ → Ty
 
   pub nodes-flat : (u o c : ℕ) (m : Level) (e : Expression) → Levelled R schemes u o c m e
       → NodesAreFormed (map (facts_at s) (node_numbers schemes u o c e))
-  nodes-flat u o c m (num z) h = (all-flat m (u ∷ []) h, tt)
-  nodes-flat u o c m (truth z) h = (all-flat m (u ∷ []) h, tt)
-  nodes-flat u o c m (var i) h = (all-flat m (u ∷ []) h, tt)
-  nodes-flat u o c m (glob i) h = (all-flat m (u ∷ []) h, tt)
   nodes-flat u o c m (fun e) h = (all-flat m (u ∷ o ∷ []) h.0, nodes-flat (o + 1) (o + 2) c m e h.1)
   nodes-flat u o c m (fix e) h = (all-flat m (u ∷ (o + 1) ∷ o ∷ []) h.0, nodes-flat (o + 2) (o + 3) c m e h.1)
   nodes-flat u o c m (app e f) h = (
@@ -162,4 +158,4 @@ module _ (schemes : List TopScheme) (s : Substitution) (R : Level → ℕ → Ty
   nodes-flat u o c m (opened e) h = (all-flat m (u ∷ o ∷ []) h.0, nodes-flat (o + 1) (o + 2) (c + 1) live e h.1)
   nodes-flat u o c m (lift e) h = (all-flat m (u ∷ []) h.0, nodes-flat o (o + 1) (c + 1) live e h.1)
   nodes-flat u o c m (lift_b e) h = (all-flat m (u ∷ []) h.0, nodes-flat o (o + 1) (c + 1) live e h.1)
-  nodes-flat u o c m (done v) h = (all-flat m (u ∷ []) h, tt)
+  nodes-flat u o c m e h = (all-flat m (u ∷ []) h, tt)

@@ -1,7 +1,7 @@
 -- A term's numbers are those of as many nodes as it has.
 use Rattle.std.proofs.Common.{◌≡◌, ℕ, ◌+◌, List, ◌++◌, length, length-append, refl, arith}
-use Rattle.mw_term.specs.Terms.{Expression, num, truth, var, glob, fun, fix, app, bind, cond, pair, fst, snd, prim}
-use Rattle.mw_term.specs.Terms.{bracket, escape, run, close, opened, lift, lift_b, done, size}
+use Rattle.mw_term.specs.Terms.{Expression, fun, fix, app, bind, cond, pair, fst, snd, prim}
+use Rattle.mw_term.specs.Terms.{bracket, escape, run, close, opened, lift, lift_b, size}
 use Rattle.mw_infer.specs.Schemes.{TopScheme}
 use Rattle.mw_infer.specs.ItemEquations.{unknowns_of, classifiers_of}
 use Rattle.mw_infer.specs.Nodes.{NodeNumbers, node_numbers}
@@ -10,10 +10,6 @@ pub two : (xs ys : List NodeNumbers) (k l : ℕ) → length xs ≡ k → length 
 two xs ys k l h i = rw (length-append xs ys, h, i) refl
 
 pub node_count : (tops : List TopScheme) (u o c : ℕ) (e : Expression) → length (node_numbers tops u o c e) ≡ size e
-node_count tops u o c (num z) = omega arith
-node_count tops u o c (truth b) = omega arith
-node_count tops u o c (var i) = omega arith
-node_count tops u o c (glob i) = omega arith
 node_count tops u o c (fun e) = omega (arith, node_count tops (o + 1) (o + 2) c e)
 node_count tops u o c (fix e) = omega (arith, node_count tops (o + 2) (o + 3) c e)
 node_count tops u o c (app f a) = omega (
@@ -53,4 +49,4 @@ node_count tops u o c (close at e) = omega (arith, node_count tops (o + 1) (o + 
 node_count tops u o c (opened e) = omega (arith, node_count tops (o + 1) (o + 2) (c + 1) e)
 node_count tops u o c (lift e) = omega (arith, node_count tops o (o + 1) (c + 1) e)
 node_count tops u o c (lift_b e) = omega (arith, node_count tops o (o + 1) (c + 1) e)
-node_count tops u o c (done v) = omega arith
+node_count tops u o c e = omega arith

@@ -3,8 +3,8 @@ use Rattle.std.proofs.Common.{◌≡◌, ℕ, List, [], ◌∷◌, map, length, 
 use Rattle.std.proofs.Common.{◌∙◌}
 use Rattle.std.specs.Option.{option_map}
 use Rattle.std.proofs.lemmas.List.{length-map}
-use Rattle.mw_term.specs.Terms.{Expression, num, truth, var, glob, fun, fix, app, bind, cond, pair, fst, snd, prim}
-use Rattle.mw_term.specs.Terms.{bracket, escape, run, close, opened, lift, lift_b, done, size}
+use Rattle.mw_term.specs.Terms.{Expression, num}
+use Rattle.mw_term.specs.Terms.{size}
 use Rattle.mw_term.specs.Types.{Level, live, under}
 use Rattle.mw_term.specs.Parts.{Part, Place, let_place, kernel_place, main_place}
 use Rattle.mw_types.specs.Types.{TypeExpression, int_ty, bool_ty, unknown, pair_ty, function_ty, code_ty, closed_ty}
@@ -56,26 +56,7 @@ module _ (r : NewNumbers) where
 root-first : (tops : List TopScheme) (s : Substitution) (u o c : ℕ) (e : Expression)
     → root_of (map (facts_at s) (node_numbers tops u o c e)) ≡ s.ty u
 root-first tops s u o c (num z) = refl
-root-first tops s u o c (truth b) = refl
-root-first tops s u o c (var i) = refl
-root-first tops s u o c (glob i) = refl
-root-first tops s u o c (fun e) = refl
-root-first tops s u o c (fix e) = refl
-root-first tops s u o c (app f a) = refl
-root-first tops s u o c (bind d e) = refl
-root-first tops s u o c (cond p a b) = refl
-root-first tops s u o c (pair a b) = refl
-root-first tops s u o c (fst e) = refl
-root-first tops s u o c (snd e) = refl
-root-first tops s u o c (prim p a b) = refl
-root-first tops s u o c (bracket e) = refl
-root-first tops s u o c (escape e) = refl
-root-first tops s u o c (run k e) = refl
-root-first tops s u o c (close at e) = refl
-root-first tops s u o c (opened e) = refl
-root-first tops s u o c (lift e) = refl
-root-first tops s u o c (lift_b e) = refl
-root-first tops s u o c (done v) = refl
+root-first tops s u o c e = refl
 
 -- what a place asks of a root
 abbrev pub IsAsked : Place → TypeExpression → Type 0

@@ -12,7 +12,7 @@ use Rattle.mw_types.specs.Expressions.{ground_expression}
 use Rattle.mw_recheck.specs.Sections.{SectionLines}
 use Rattle.mw_recheck.specs.Notes.{TopNote, let_root, kernel_root}
 use Rattle.mw_recheck.specs.Certificates.{Certified, IsRootOf, notes_for_item, notes_for_main, defined_term}
-use Rattle.mw_infer.specs.Schemes.{Scheme, TopScheme, let_scheme, kernel_scheme, scheme_out_of_scope, IsInOrder}
+use Rattle.mw_infer.specs.Schemes.{Scheme, TopScheme, let_scheme, IsInOrder}
 use Rattle.mw_infer.specs.Inferring.{IsSchemeOf}
 use Rattle.mw_infer.specs.Checking.{AreInOrder, ArePrincipal}
 use Rattle.mw_infer.specs.Nodes.{NodeFacts, AreNodesOfPart, AreNodesOf}
@@ -105,11 +105,9 @@ AreInOrder-at : (schemes : List TopScheme) (i : ℕ) (s : Scheme) → AreInOrder
     ≡ Some (let_scheme s) → IsInOrder s
 AreInOrder-at [] i s w e = absurd (cc)
 AreInOrder-at (let_scheme r ∷ schemes) zero s w e = let p : r ≡ s = cc in subst (λ y. IsInOrder y) p w.0
-AreInOrder-at (kernel_scheme k ∷ schemes) zero s w e = absurd (cc)
-AreInOrder-at (scheme_out_of_scope ∷ schemes) zero s w e = absurd (cc)
 AreInOrder-at (let_scheme r ∷ schemes) (suc i) s w e = AreInOrder-at schemes i s w.1 e
-AreInOrder-at (kernel_scheme k ∷ schemes) (suc i) s w e = AreInOrder-at schemes i s w e
-AreInOrder-at (scheme_out_of_scope ∷ schemes) (suc i) s w e = AreInOrder-at schemes i s w e
+AreInOrder-at (x ∷ schemes) zero s w e = absurd (cc)
+AreInOrder-at (x ∷ schemes) (suc i) s w e = AreInOrder-at schemes i s w e
 
 -- a let that is seen is an earlier item, with its root as its note
 record Seen (items : List Definition) (roots : List TypeExpression) (notes : List TopNote) (j : ℕ) (e : Expression)

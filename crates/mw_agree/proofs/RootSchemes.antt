@@ -6,7 +6,7 @@ use Rattle.mw_term.specs.Typing.{TopLevel}
 use Rattle.mw_term.specs.Parts.{let_place}
 use Rattle.mw_types.specs.Types.{TypeExpression, int_ty, bool_ty, unknown, pair_ty, function_ty, code_ty, closed_ty}
 use Rattle.mw_types.specs.Types.{Within, Assignment, value, nodes, apply, after}
-use Rattle.mw_types.specs.Numbered.{IsNumbered, an_int, a_bool, seen, next, a_pair, a_function, code_seen, code_next}
+use Rattle.mw_types.specs.Numbered.{IsNumbered, a_pair, a_function, code_seen, code_next}
 use Rattle.mw_types.specs.Numbered.{a_closed}
 use Rattle.mw_types.proofs.Existence.{value_apply}
 use Rattle.mw_types.proofs.InOrder.{low, last, low_or_last}
@@ -67,10 +67,6 @@ record Few (n m k l : ℕ) (t : TypeExpression) : Type 0 where
   classifiers : l ≤ m + nodes t
 
 few : {n m k l : ℕ} {t : TypeExpression} → IsNumbered n m t k l → Few n m k l t
-few an_int = record { unknowns = omega arith; classifiers = omega arith }
-few a_bool = record { unknowns = omega arith; classifiers = omega arith }
-few (seen lt) = record { unknowns = omega arith; classifiers = omega arith }
-few (next e) = record { unknowns = omega arith; classifiers = omega arith }
 few (a_pair a b) = let x = few a in let y = few b in
     record {
       unknowns = omega (arith, x.unknowns, y.unknowns);
@@ -87,6 +83,7 @@ few (code_next e a) = let x = few a in
     record { unknowns = omega (arith, x.unknowns); classifiers = omega (arith, x.classifiers) }
 few (a_closed a) = let x = few a in
     record { unknowns = omega (arith, x.unknowns); classifiers = omega (arith, x.classifiers) }
+few h = record { unknowns = omega arith; classifiers = omega arith }
 
 pub root-scheme : (names : List TopLevel) (e : Expression) (facts : List NodeFacts) → IsSource e
     → (h : AreNodesOfPart (record { names = names; place = let_place; term = e }) facts) (r : NewNumbers) (k l : ℕ)

@@ -1,15 +1,14 @@
 -- The lines of nodes, put together.
 use Rattle.std.proofs.Common.{◌≡◌, ℕ, ◌+◌, ◌≤◌, List, [], ◌∷◌, ◌++◌, length, Some, refl, ap, sym, ◌∙◌, subst}
-use Rattle.std.proofs.Common.{arith}
+use Rattle.std.proofs.Common.{arith, length-append}
 use Rattle.std.specs.Prelude.{slice_get, option_to_list}
 use Rattle.std.proofs.lemmas.Option.{same_Some, none-some}
 use Rattle.mw_types.specs.Types.{TypeExpression}
 use Rattle.mw_infer.specs.Nodes.{NodeFacts}
 use Rattle.mw_section.specs.Writing.{Writing, type_written, classifier_written}
 use Rattle.mw_section.specs.WritingLaws.{AllWritten, all_written}
-use Rattle.mw_section.specs.Writers.{IsWriting, Puts}
+use Rattle.mw_section.specs.Writers.{Puts}
 use Rattle.mw_section.specs.declared.writer.LineWriter.{LineWriter}
-use Rattle.mw_made.specs.Making.{line_ended}
 use Rattle.mw_cert.specs.Nodes.{PutsAll, PutsEnd, PutsNode, IsShort}
 
 -- types behind types
@@ -41,8 +40,7 @@ module _ (types : ℕ → TypeExpression) where
   puts_append ts us m n o ps qs f g w h =
       let a = f w h in
       let b = g (all_written ts w).writing a.1 in
-      let P : AllWritten → Type 0 = λ r. (ps ++ qs ≡ r.places) × IsWriting types o r.writing in
-      subst P (sym (all_append ts us w))
+      rw (all_append ts us w)
       (ap (λ xs. xs ++ qs) a.0 ∙ ap (λ xs. (all_written ts w).places ++ xs) b.0, b.1)
 
   puts_first : (t : TypeExpression) (ts : List TypeExpression) (m n o : LineWriter) (p : ℕ) (ps : List ℕ)
@@ -59,10 +57,7 @@ module _ (types : ℕ → TypeExpression) where
       → PutsEnd types x.classifier n o end → PutsNode types x m o (ps ++ end)
   puts_node x m n o ps end f g w h =
       let a = f w h in
-      let v = (all_written x.types w).writing in
-      let P : List ℕ → Type 0 = λ places. (ps ++ end ≡ (line_ended x.classifier places v).line)
-      × IsWriting types o (line_ended x.classifier places v).writing in
-      subst P a.0 (g v ps a.1)
+      rw (← a.0) (g (all_written x.types w).writing ps a.1)
 
   pub puts_line : (x : NodeFacts) (t : TypeExpression) (m n o q r : LineWriter) (own : ℕ)
       (first second end line : List ℕ) → slice_get x.types 0 ≡ Some t → IsShort x
@@ -83,8 +78,5 @@ module _ (types : ℕ → TypeExpression) where
 pub rest_is_short : (ts : List TypeExpression) (t : TypeExpression) (c : ℕ) → slice_get ts 0 ≡ Some t
     → length ts + c ≤ 3
     → length (option_to_list (slice_get ts 1)) + length (option_to_list (slice_get ts 2)) + c ≤ 2
-rest_is_short [] t c h n = absurd (none-some t h)
-rest_is_short (a ∷ []) t c h n = omega arith
-rest_is_short (a ∷ b ∷ []) t c h n = omega arith
-rest_is_short (a ∷ b ∷ d ∷ []) t c h n = omega arith
-rest_is_short (a ∷ b ∷ d ∷ e ∷ ts) t c h n = absurd (omega arith)
+rest_is_short ts t c h n =
+    omega (arith, length-append {A = TypeExpression}, ap length (types_are ts t h (omega arith)))

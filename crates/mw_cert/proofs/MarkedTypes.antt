@@ -130,19 +130,16 @@ module _ (n m k : ℕ) (a : Assignment) (types : (u : ℕ) → u < n → IsFar k
   value_cut (unknown u) w = refl
   value_cut (pair_ty s t) w =
       rw (value_cut s w.0, value_cut t w.1)
-      (sym (chosen_far (near_or_far k (weight (pair_type (value a s) (value a t)))) _
-      (far_both k _ _ (value_far s w.0) (value_far t w.1))))
+      (sym (chosen_far (near_or_far k _) _ (far_both k _ _ (value_far s w.0) (value_far t w.1))))
   value_cut (function_ty s t) w =
       rw (value_cut s w.0, value_cut t w.1)
-      (sym (chosen_far (near_or_far k (weight (function_type (value a s) (value a t)))) _
-      (far_both k _ _ (value_far s w.0) (value_far t w.1))))
+      (sym (chosen_far (near_or_far k _) _ (far_both k _ _ (value_far s w.0) (value_far t w.1))))
   value_cut (code_ty c t) w =
       rw (value_cut t w.1)
-      (sym (chosen_far (near_or_far k (weight (code_type (a.classifier c) (value a t)))) _
+      (sym (chosen_far (near_or_far k _) _
       (far_code k (is (a.classifier c) 1) _ (names c w.0) (value_far t w.1))))
   value_cut (closed_ty t) w =
-      rw (value_cut t w)
-      (sym (chosen_far (near_or_far k (weight (closed_type (value a t)))) _ (far_bump k _ (value_far t w))))
+      rw (value_cut t w) (sym (chosen_far (near_or_far k _) _ (far_bump k _ (value_far t w))))
 
   cut_solves : (es : List TypeEquation) → AllWithin n m es → Solves a es → Solves cutting es
   cut_solves [] w h = tt
@@ -155,10 +152,7 @@ becomes_int : (a b : Assignment) (t : TypeExpression) → value a t ≡ int_type
 becomes_int a b int_ty e f = refl
 becomes_int a b bool_ty e f = refl
 becomes_int a b (unknown w) e f = f w refl
-becomes_int a b (pair_ty s t) e f = absurd (cc)
-becomes_int a b (function_ty s t) e f = absurd (cc)
-becomes_int a b (code_ty c t) e f = absurd (cc)
-becomes_int a b (closed_ty t) e f = absurd (cc)
+becomes_int a b _ e f = absurd (cc)
 
 -- with this assignment the mark is none of the solution's own classifiers, and stands in no type of an unknown that is
 -- a type of the solution

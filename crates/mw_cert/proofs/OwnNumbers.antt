@@ -26,12 +26,7 @@ search_below P d (suc n) = step (search_below P d n) (d n)
 
 is_unknown : (v : ℕ) (t : TypeExpression) → (t ≡ unknown v) ⊎ (t ≡ unknown v → ⊥)
 is_unknown v (unknown w) = elim (is w v) [ same e ↦ inl (ap unknown e) | other f ↦ inr (λ e. f (cc)) ]
-is_unknown v int_ty = inr (λ e. cc)
-is_unknown v bool_ty = inr (λ e. cc)
-is_unknown v (pair_ty s t) = inr (λ e. cc)
-is_unknown v (function_ty s t) = inr (λ e. cc)
-is_unknown v (code_ty c t) = inr (λ e. cc)
-is_unknown v (closed_ty t) = inr (λ e. cc)
+is_unknown v _ = inr (λ e. cc)
 
 is_number : (i j : ℕ) → (i ≡ j) ⊎ (i ≡ j → ⊥)
 is_number i j = elim (is i j) [ same e ↦ inl e | other f ↦ inr f ]

@@ -43,16 +43,12 @@ module _ (types : ℕ → TypeExpression) (facts : List NodeFacts) where
       let d : drop k facts ≡ x ∷ drop (k + 1) facts = from_on facts k x e in
       let w = node_written x r.written in
       let rest = nodes_written (drop (k + 1) facts) w.writing in
-      let P : List NodeFacts → Type 0 = λ xs. lines ++ (nodes_written xs r.written).lines
-      ≡ (nodes_written facts nothing_written).lines in
-      let Q : List NodeFacts → Type 0 = λ xs. (nodes_written xs r.written).writing
-      ≡ (nodes_written facts nothing_written).writing in
       record {
         written = w.writing;
         holds = a.1;
         lines_of_all = append_assoc lines (line ∷ []) rest.lines ∙ ap (λ l. lines ++ l ∷ rest.lines) a.0
-            ∙ subst P d r.lines_of_all;
-        writing_of_all = subst Q d r.writing_of_all;
+            ∙ (rw d at r.lines_of_all);
+        writing_of_all = rw d at r.writing_of_all;
       }
 
   all_written : (k : ℕ) (m : LineWriter) (lines : List (List ℕ)) → AreWritten types facts k m lines
@@ -60,13 +56,9 @@ module _ (types : ℕ → TypeExpression) (facts : List NodeFacts) where
       → (lines ≡ (nodes_written facts nothing_written).lines)
       × IsWriting types m (nodes_written facts nothing_written).writing
   all_written k m lines r h =
-      let d : drop k facts ≡ [] = drop_all k facts h in
-      let P : List NodeFacts → Type 0 = λ xs. lines ++ (nodes_written xs r.written).lines
-      ≡ (nodes_written facts nothing_written).lines in
-      let Q : List NodeFacts → Type 0 = λ xs. (nodes_written xs r.written).writing
-      ≡ (nodes_written facts nothing_written).writing in (
-        sym (append-nil lines) ∙ subst P d r.lines_of_all,
-        subst (λ (w : Writing). IsWriting types m w) (subst Q d r.writing_of_all) r.holds,
+      let d : drop k facts ≡ [] = drop_all k facts h in (
+        sym (append-nil lines) ∙ (rw d at r.lines_of_all),
+        subst (λ (w : Writing). IsWriting types m w) (rw d at r.writing_of_all) r.holds,
       )
 
   -- then they are the part's section
@@ -94,13 +86,9 @@ module _ (parts : List (List NodeFacts)) where
   more_stands k text new facts r e t f =
       let d : drop k parts ≡ facts ∷ drop (k + 1) parts = from_on parts k facts e in
       let rest = flat_map section_text (map section_of (drop (k + 1) parts)) in
-      let P : List (List NodeFacts) → Type 0 = λ xs. text ++ flat_map section_text (map section_of xs)
-      ≡ certificate_text (map section_of parts) in
-      let Q : List (List NodeFacts) → Type 0 = λ xs. FitSections (map section_of xs)
-      → FitSections (map section_of parts) in
-      let fit = subst Q d r.fits in
+      let fit = rw d at r.fits in
       record {
         text_of_all = ap (λ z. z ++ rest) t ∙ append_assoc text (section_text (section_of facts)) rest
-            ∙ subst P d r.text_of_all;
+            ∙ (rw d at r.text_of_all);
         fits = λ h. fit (f, h);
       }

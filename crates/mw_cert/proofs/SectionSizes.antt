@@ -87,26 +87,19 @@ adds_type k l (pair_ty s t) w le lt h =
     let i = k + 2 * nodes s in
     let a = adds_type k i s w (omega arith) (omega arith) h in
     let b = adds_type i (i + 2 * nodes t) t _ (omega arith) (omega arith) a.few in
-    let p = a.place in
-    let q = b.place in
-    adds_line (i + 2 * nodes t) l _ _ (omega arith) (omega arith, omega arith) b.few
+    adds_line (i + 2 * nodes t) l _ _ (omega arith) (omega (arith, a.place), omega (arith, b.place)) b.few
 adds_type k l (function_ty s t) w le lt h =
     let i = k + 2 * nodes s in
     let a = adds_type k i s w (omega arith) (omega arith) h in
     let b = adds_type i (i + 2 * nodes t) t _ (omega arith) (omega arith) a.few in
-    let p = a.place in
-    let q = b.place in
-    adds_line (i + 2 * nodes t) l _ _ (omega arith) (omega arith, omega arith) b.few
+    adds_line (i + 2 * nodes t) l _ _ (omega arith) (omega (arith, a.place), omega (arith, b.place)) b.few
 adds_type k l (code_ty c t) w le lt h =
     let a = adds_classifier k c w h in
     let b = adds_type (suc k) (suc k + 2 * nodes t) t _ (omega arith) (omega arith) a.few in
-    let p = a.place in
-    let q = b.place in
-    adds_line (suc k + 2 * nodes t) l _ _ (omega arith) (omega arith, omega arith) b.few
+    adds_line (suc k + 2 * nodes t) l _ _ (omega arith) (omega (arith, a.place), omega (arith, b.place)) b.few
 adds_type k l (closed_ty t) w le lt h =
     let a = adds_type k (k + 2 * nodes t) t w (omega arith) (omega arith) h in
-    let p = a.place in
-    adds_line (k + 2 * nodes t) l _ _ (omega arith) (omega arith) a.few
+    adds_line (k + 2 * nodes t) l _ _ (omega arith) (omega (arith, a.place)) a.few
 
 -- types of at most 10,000 nodes, and nodes with at most three of them
 abbrev pub AreSmall : List TypeExpression → Type 0
@@ -128,9 +121,8 @@ adds_types k l [] w le lt s h = record { places_fit = tt; few = more_few k l w (
 adds_types k l (t ∷ ts) w le lt s h =
     let n = s.0 in
     let a = adds_type k (k + 20000) t w (omega arith) (omega arith) h in
-    let p = a.place in
     let b = adds_types (k + 20000) l ts _ (omega arith) lt s.1 a.few in
-    record { places_fit = (omega arith, b.places_fit); few = b.few }
+    record { places_fit = (omega (arith, a.place), b.places_fit); few = b.few }
 
 fit_last : (ns : List ℕ) (n : ℕ) → FitNumbers ns → n < 2 ^ 64 → FitNumbers (ns ++ n ∷ [])
 fit_last [] n h lt = (lt, tt)
@@ -142,8 +134,7 @@ adds_end k None places w lt h =
     record { places_fit = h.places_fit; few = more_few k (suc k) w (omega arith) h.few }
 adds_end k (Some c) places w lt h =
     let a = adds_classifier k c w h.few in
-    let p = a.place in
-    record { places_fit = fit_last places _ h.places_fit (omega arith); few = a.few }
+    record { places_fit = fit_last places _ h.places_fit (omega (arith, a.place)); few = a.few }
 
 -- a node adds at most 60,001
 record AddsNodes (k : ℕ) (lines : List (List ℕ)) (w : Writing) : Type 0 where

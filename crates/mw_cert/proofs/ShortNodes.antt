@@ -35,38 +35,22 @@ module _ (tops : List TopScheme) where
   numbers_few u o c (glob i) = (omega arith, tt)
   numbers_few u o c (fun e) = (omega arith, numbers_few (o + 1) (o + 2) c e)
   numbers_few u o c (fix e) = (omega arith, numbers_few (o + 2) (o + 3) c e)
-  numbers_few u o c (app f a) = (
-    omega arith,
-    few-append (node_numbers tops o (o + 2) c f) _ (numbers_few o (o + 2) c f)
-        (numbers_few (o + 1) (o + 2 + unknowns_of tops f) (c + classifiers_of tops f) a),
-  )
-  numbers_few u o c (bind d e) = (
-    omega arith,
-    few-append (node_numbers tops (o + 1) (o + 3) c d) _ (numbers_few (o + 1) (o + 3) c d)
-        (numbers_few (o + 2) (o + 3 + unknowns_of tops d) (c + classifiers_of tops d) e),
-  )
-  numbers_few u o c (cond p a b) = (
-    omega arith,
-    few-append
-        (node_numbers tops o (o + 3) c p ++ node_numbers tops (o + 1) (o + 3 + unknowns_of tops p)
-        (c + classifiers_of tops p) a) _
-        (few-append (node_numbers tops o (o + 3) c p) _ (numbers_few o (o + 3) c p)
-        (numbers_few (o + 1) (o + 3 + unknowns_of tops p) (c + classifiers_of tops p) a))
-        (numbers_few (o + 2) (o + 3 + unknowns_of tops p + unknowns_of tops a)
-        (c + classifiers_of tops p + classifiers_of tops a) b),
-  )
-  numbers_few u o c (pair a b) = (
-    omega arith,
-    few-append (node_numbers tops o (o + 2) c a) _ (numbers_few o (o + 2) c a)
-        (numbers_few (o + 1) (o + 2 + unknowns_of tops a) (c + classifiers_of tops a) b),
-  )
+  numbers_few u o c (app f a) =
+      (omega arith, few-append (node_numbers tops o (o + 2) c f) _ (numbers_few _ _ _ f) (numbers_few _ _ _ a))
+  numbers_few u o c (bind d e) =
+      (omega arith, few-append (node_numbers tops (o + 1) (o + 3) c d) _ (numbers_few _ _ _ d) (numbers_few _ _ _ e))
+  numbers_few u o c (cond p a b) =
+      let front = node_numbers tops o (o + 3) c p ++ node_numbers tops (o + 1) (o + 3 + unknowns_of tops p)
+      (c + classifiers_of tops p) a in
+      let few = few-append (node_numbers tops o (o + 3) c p) _ (numbers_few _ _ _ p)
+      (numbers_few (o + 1) (o + 3 + unknowns_of tops p) (c + classifiers_of tops p) a) in
+      (omega arith, few-append front _ few (numbers_few _ _ _ b))
+  numbers_few u o c (pair a b) =
+      (omega arith, few-append (node_numbers tops o (o + 2) c a) _ (numbers_few _ _ _ a) (numbers_few _ _ _ b))
   numbers_few u o c (fst e) = (omega arith, numbers_few (o + 1) (o + 2) c e)
   numbers_few u o c (snd e) = (omega arith, numbers_few (o + 1) (o + 2) c e)
-  numbers_few u o c (prim p a b) = (
-    omega arith,
-    few-append (node_numbers tops o (o + 2) c a) _ (numbers_few o (o + 2) c a)
-        (numbers_few (o + 1) (o + 2 + unknowns_of tops a) (c + classifiers_of tops a) b),
-  )
+  numbers_few u o c (prim p a b) =
+      (omega arith, few-append (node_numbers tops o (o + 2) c a) _ (numbers_few _ _ _ a) (numbers_few _ _ _ b))
   numbers_few u o c (bracket e) = (omega arith, numbers_few o (o + 1) (c + 1) e)
   numbers_few u o c (escape e) = (omega arith, numbers_few o (o + 1) c e)
   numbers_few u o c (run k e) = (omega arith, numbers_few o (o + 1) c e)

@@ -88,17 +88,7 @@ occurs_below (x.pair f a) k i c o = or_cases (occurs f i) _ k i (occurs_below f 
 occurs_below (x.fst e) k i c o = occurs_below e k i c o
 occurs_below (x.snd e) k i c o = occurs_below e k i c o
 occurs_below (x.prim p f a) k i c o = or_cases (occurs f i) _ k i (occurs_below f k i c.0) (occurs_below a k i c.1) o
-occurs_below (x.num z) k i c o = absurd (cc)
-occurs_below (x.truth z) k i c o = absurd (cc)
-occurs_below (x.glob z) k i c o = absurd (cc)
-occurs_below (x.bracket z) k i c o = absurd (cc)
-occurs_below (x.escape z) k i c o = absurd (cc)
-occurs_below (x.run t z) k i c o = absurd (cc)
-occurs_below (x.close t z) k i c o = absurd (cc)
-occurs_below (x.opened z) k i c o = absurd (cc)
-occurs_below (x.lift z) k i c o = absurd (cc)
-occurs_below (x.lift_b z) k i c o = absurd (cc)
-occurs_below (x.done z) k i c o = absurd (cc)
+occurs_below _ k i c o = absurd (cc)
 
 -- the body's code, over the context that is made
 pub body_is : (r : Bool) (e : Expression) (ps : List Place) (k : ℕ) → ClosedBelow (within r (length ps)) e

@@ -14,59 +14,24 @@ use Rattle.mw_ir.specs.Views.{ir_func_of}
 use Rattle.mw_conv.specs.declared.code.Converter.{Converter}
 use Rattle.mw_conv.specs.Agreement.{Agrees}
 use Rattle.mw_conv.specs.Contexts.{place_at}
-use Rattle.mw_conv.specs.Convert.{funs, lets, code, functions, function_of, fun_free, fix_free, converted_functions}
+use Rattle.mw_conv.specs.Convert.{funs, lets, code, functions, function_of, converted_functions}
 use Rattle.mw_conv.specs.Convert.{converted_outside}
 use Rattle.mw_conv.specs.Converting.{CanConvert, Converts}
-use Rattle.mw_conv.specs.Finding.{all_found, function_found}
+use Rattle.mw_conv.specs.Finding.{all_found}
 use Rattle.mw_conv.proofs.Correct.{converted}
 
 -- each function is found
 pub found_length : (e : Expression) (d : ℕ) → length (all_found e d) ≡ funs e
-found_length (x.fun e) d = omega (
-  arith,
-  length-append (all_found e (suc d)) (function_found e d (fun_free e) ∷ []),
-  found_length e (suc d),
-)
-found_length (x.fix e) d =
-    omega (
-      arith,
-      length-append (all_found e (suc (suc d))) (function_found e d (fix_free e) ∷ []),
-      found_length e (suc (suc d)),
-    )
-found_length (x.app f a) d = omega (
-  arith,
-  length-append (all_found f d) (all_found a d),
-  found_length f d,
-  found_length a d,
-)
-found_length (x.bind a e) d = omega (
-  arith,
-  length-append (all_found a d) (all_found e (suc d)),
-  found_length a d,
-  found_length e (suc d),
-)
-found_length (x.cond c a b) d = omega (
-  arith,
-  length-append (all_found c d) (all_found a d ++ all_found b d),
-  length-append (all_found a d) (all_found b d),
-  found_length c d,
-  found_length a d,
-  found_length b d,
-)
-found_length (x.pair f a) d = omega (
-  arith,
-  length-append (all_found f d) (all_found a d),
-  found_length f d,
-  found_length a d,
-)
+found_length (x.fun e) d = simp length-append (omega (arith, found_length e (suc d)))
+found_length (x.fix e) d = simp length-append (omega (arith, found_length e (suc (suc d))))
+found_length (x.app f a) d = simp length-append (omega (arith, found_length f d, found_length a d))
+found_length (x.bind a e) d = simp length-append (omega (arith, found_length a d, found_length e (suc d)))
+found_length (x.cond c a b) d =
+    simp length-append (omega (arith, found_length c d, found_length a d, found_length b d))
+found_length (x.pair f a) d = simp length-append (omega (arith, found_length f d, found_length a d))
 found_length (x.fst e) d = found_length e d
 found_length (x.snd e) d = found_length e d
-found_length (x.prim p f a) d = omega (
-  arith,
-  length-append (all_found f d) (all_found a d),
-  found_length f d,
-  found_length a d,
-)
+found_length (x.prim p f a) d = simp length-append (omega (arith, found_length f d, found_length a d))
 found_length _ d = refl
 
 pub map_reverse : {A B : Type 0} → (f : A → B) (xs : List A) → map f (reverse xs) ≡ reverse (map f xs)

@@ -3,7 +3,7 @@ use Rattle.std.proofs.Common.{◌≡◌, ℕ, zero, suc, ◌+◌, ◌≤◌, ◌
 use Rattle.std.proofs.Common.{None, refl, ap, ◌∙◌, subst, arith, length-append, append_assoc}
 use Rattle.std.specs.Prelude.{ℤ, pos, slice_get, get_or, ◌*◌, ◌||◌}
 use Rattle.std.proofs.lemmas.Bool.{eq-eqb}
-use Rattle.std.proofs.lemmas.Option.{get_or_from_slice_get}
+use Rattle.std.proofs.lemmas.Option.{get_or_from_slice_get, slice_get_within}
 use Rattle.mw_term.specs.Terms as x
 use Rattle.mw_term.specs.Terms.{Expression, KernelTerm, KernelValue, int, bool, both, function, recursive}
 use Rattle.mw_meaning.specs.KernelMeaning as k
@@ -19,8 +19,8 @@ use Rattle.mw_conv.specs.Convert.{code, converted_functions, converted_body}
 use Rattle.mw_conv.specs.Represents.{Has, Stands, s_int, s_bool, s_function, s_recursive}
 use Rattle.mw_conv.proofs.Free.{free_list_length, free_list_each, rank_is}
 use Rattle.mw_conv.proofs.Heaps.{get_appended, AllRead, read_list, grows_same, grows_append, load_new, stands_grows}
-use Rattle.mw_conv.proofs.Heaps.{has_front, has_back}
-use Rattle.mw_conv.proofs.Scopes.{Fits, fits_grows, fits_left, fits_right, fits_let, functions_length, picked}
+use Rattle.mw_conv.proofs.Heaps.{has_front}
+use Rattle.mw_conv.proofs.Scopes.{Fits, fits_grows, fits_left, fits_right, fits_let, has_next, picked}
 use Rattle.mw_conv.proofs.Scopes.{not_picked, past}
 use Rattle.mw_conv.specs.Agreement.{Agrees}
 use Rattle.mw_conv.proofs.Agrees.{given, then_agrees, taken, spent, computes, chooses, first, second, paired}
@@ -37,8 +37,6 @@ pick_none (suc k) zero o = refl
 pick_none (suc k) (suc i) o = pick_none k i (λ j. o (suc j))
 
 closed_at : (e : KernelTerm) (k : ℕ) → closing e k [] ≡ e
-closed_at (x.num n) k = refl
-closed_at (x.truth b) k = refl
 closed_at (x.var i) k = pick_none k i x.var
 closed_at (x.fun r e) k = ap (λ y. x.fun r y) (closed_at e (suc k))
 closed_at (x.fix r e) k = ap (λ y. x.fix r y) (closed_at e (suc (suc k)))
@@ -49,7 +47,7 @@ closed_at (x.pair a b) k = rw (closed_at a k, closed_at b k) refl
 closed_at (x.fst e) k = ap x.fst (closed_at e k)
 closed_at (x.snd e) k = ap x.snd (closed_at e k)
 closed_at (x.prim p a b) k = rw (closed_at a k, closed_at b k) refl
-closed_at (x.done w) k = refl
+closed_at _ k = refl
 
 pub closed : (e : KernelTerm) → closing e 0 [] ≡ e
 closed e = closed_at e 0
@@ -64,11 +62,6 @@ module _ (t : List IrFunc) where
       let g = f i v.0 r.1 v.1 in
       (g.0, g.1)
 
-  within : {A : Type 0} → (xs : List A) (j : ℕ) (x : A) → slice_get xs j ≡ Some x → j < length xs
-  within [] j x e = absurd (cc)
-  within (y ∷ xs) zero x e = omega arith
-  within (y ∷ xs) (suc j) x e = let r = within xs j x e in omega arith
-
   -- the closure's words stand for the free variables' values
   held : (h : List ℤ) (fr : Frame) (p : ℕ → Bool) (ctx : ℕ → Place) (env : List KernelValue) (z : ℤ)
       → (f : Fits t h fr p ctx env) → (r : AllRead h fr ctx (free_list (length env) p)) → (j : ℕ) (v : KernelValue)
@@ -79,7 +72,7 @@ module _ (t : List IrFunc) where
   held h fr p ctx env z f r j v o g =
       let s = f j v o g in
       let e : slice_get r.words (rank (length env) p j) ≡ Some s.0 =
-      r.each _ j (rank_is (length env) p j (within env j v g) o) ∙ s.1 in
+      r.each _ j (rank_is (length env) p j (slice_get_within env j v g) o) ∙ s.1 in
       let q : get_or r.words (rank (length env) p j) (pos 0) ≡ s.0 = get_or_from_slice_get r.words _ s.0 (pos 0) e in
       rw q (load_new h (z ∷ r.words) _ ∙ e, stands_grows t h _ (grows_append h _) v s.0 s.2)
 
@@ -185,8 +178,7 @@ module _ (t : List IrFunc) where
       (λ j v o g. (c j v o g).0) (λ j v o g. (c j v o g).1)))
   correct zero (x.app c a) n k s ctx env h fr le se has f =
       let d = length env in
-      let h2 : Has t (k + funs c) (functions a (k + funs c) d) = subst (λ z. Has t (k + z) (functions a (k + funs c) d))
-      (functions_length c k d) (has_back t k (functions c k d) _ has) in
+      let h2 = has_next t c k d (λ k. functions a k d) has in
       rw (kernel_evaluation-is n (length h) (x.app (closing (labelled c d) 0 env) (closing (labelled a d) 0 env)))
       (then_agrees t n h _ _ _ _
       (correct zero c n k s ctx env h fr le se (has_front t k _ _ has)
@@ -197,8 +189,7 @@ module _ (t : List IrFunc) where
       enters zero l h2 u v y z (λ q e lt. absurd (omega arith)) (stands_grows t h1 h2 g2 u y s1) s2)
   correct (suc b) (x.app c a) n k s ctx env h fr le se has f =
       let d = length env in
-      let h2 : Has t (k + funs c) (functions a (k + funs c) d) = subst (λ z. Has t (k + z) (functions a (k + funs c) d))
-      (functions_length c k d) (has_back t k (functions c k d) _ has) in
+      let h2 = has_next t c k d (λ k. functions a k d) has in
       rw (kernel_evaluation-is n (length h) (x.app (closing (labelled c d) 0 env) (closing (labelled a d) 0 env)))
       (then_agrees t n h _ _ _ _
       (correct (suc b) c n k s ctx env h fr le se (has_front t k _ _ has)
@@ -209,9 +200,7 @@ module _ (t : List IrFunc) where
       enters (suc b) l h2 u v y z (λ q e lt k s ctx env h fr se has f. correct b e q k s ctx env h fr (omega arith) se
       has f) (stands_grows t h1 h2 g2 u y s1) s2)
   correct b (x.bind d e) n k s ctx env h fr le se has f =
-      let h2 : Has t (k + funs d) (functions e (k + funs d) (suc (length env))) =
-      subst (λ z. Has t (k + z) (functions e (k + funs d) (suc (length env)))) (functions_length d k (length env))
-      (has_back t k (functions d k (length env)) _ has) in
+      let h2 = has_next t d k (length env) (λ k. functions e k (suc (length env))) has in
       let q = eq-eqb (length fr.slots) s se in
       rw (
         kernel_evaluation-is n (length h)
@@ -228,12 +217,8 @@ module _ (t : List IrFunc) where
       (fits_grows t h h1 fr _ ctx env g1 (fits_right t h fr (occurs d) (λ i. occurs e (suc i)) ctx env f)))))
   correct b (x.cond c a z) n k s ctx env h fr le se has f =
       let d = length env in
-      let h2 : Has t (k + funs c) (functions a (k + funs c) d ++ functions z (k + funs c + funs a) d) =
-      subst (λ q. Has t (k + q) (functions a (k + funs c) d ++ functions z (k + funs c + funs a) d))
-      (functions_length c k d) (has_back t k (functions c k d) _ has) in
-      let h3 : Has t (k + funs c + funs a) (functions z (k + funs c + funs a) d) =
-      subst (λ q. Has t (k + funs c + q) (functions z (k + funs c + funs a) d)) (functions_length a (k + funs c) d)
-      (has_back t (k + funs c) (functions a (k + funs c) d) _ h2) in
+      let h2 = has_next t c k d (λ k. functions a k d ++ functions z (k + funs a) d) has in
+      let h3 = has_next t a (k + funs c) d (λ k. functions z k d) h2 in
       rw (kernel_evaluation-is n (length h)
       (x.cond (closing (labelled c d) 0 env) (closing (labelled a d) 0 env) (closing (labelled z d) 0 env)))
       (then_agrees t n h _ _ _ _
@@ -248,8 +233,7 @@ module _ (t : List IrFunc) where
       (fits_right t h1 fr (occurs a) (occurs z) ctx env f1)))
   correct b (x.pair c a) n k s ctx env h fr le se has f =
       let d = length env in
-      let h2 : Has t (k + funs c) (functions a (k + funs c) d) = subst (λ z. Has t (k + z) (functions a (k + funs c) d))
-      (functions_length c k d) (has_back t k (functions c k d) _ has) in
+      let h2 = has_next t c k d (λ k. functions a k d) has in
       rw (kernel_evaluation-is n (length h) (x.pair (closing (labelled c d) 0 env) (closing (labelled a d) 0 env)))
       (then_agrees t n h _ _ _ _
       (correct b c n k s ctx env h fr le se (has_front t k _ _ has)
@@ -267,8 +251,7 @@ module _ (t : List IrFunc) where
       second t m h1 v y s1)
   correct b (x.prim p c a) n k s ctx env h fr le se has f =
       let d = length env in
-      let h2 : Has t (k + funs c) (functions a (k + funs c) d) = subst (λ z. Has t (k + z) (functions a (k + funs c) d))
-      (functions_length c k d) (has_back t k (functions c k d) _ has) in
+      let h2 = has_next t c k d (λ k. functions a k d) has in
       rw (kernel_evaluation-is n (length h) (x.prim p (closing (labelled c d) 0 env) (closing (labelled a d) 0 env)))
       (then_agrees t n h _ _ _ _
       (correct b c n k s ctx env h fr le se (has_front t k _ _ has)
@@ -277,23 +260,7 @@ module _ (t : List IrFunc) where
       (correct b a m (k + funs c) s ctx env h1 fr (omega arith) se h2
       (fits_grows t h h1 fr _ ctx env g1 (fits_right t h fr (occurs c) (occurs a) ctx env f))) λ v l z h2 le2 g2 s2.
       computes t l h2 p u v y z (stands_grows t h1 h2 g2 u y s1) s2)
-  correct b (x.glob j) n k s ctx env h fr le se has f = let r = past env in
-      rw (r.1, kernel_evaluation-is n (length h) (x.var r.0)) (record { holds = tt })
-  correct b (x.bracket e) n k s ctx env h fr le se has f = let r = past env in
-      rw (r.1, kernel_evaluation-is n (length h) (x.var r.0)) (record { holds = tt })
-  correct b (x.escape e) n k s ctx env h fr le se has f = let r = past env in
-      rw (r.1, kernel_evaluation-is n (length h) (x.var r.0)) (record { holds = tt })
-  correct b (x.run z e) n k s ctx env h fr le se has f = let r = past env in
-      rw (r.1, kernel_evaluation-is n (length h) (x.var r.0)) (record { holds = tt })
-  correct b (x.close z e) n k s ctx env h fr le se has f = let r = past env in
-      rw (r.1, kernel_evaluation-is n (length h) (x.var r.0)) (record { holds = tt })
-  correct b (x.opened e) n k s ctx env h fr le se has f = let r = past env in
-      rw (r.1, kernel_evaluation-is n (length h) (x.var r.0)) (record { holds = tt })
-  correct b (x.lift e) n k s ctx env h fr le se has f = let r = past env in
-      rw (r.1, kernel_evaluation-is n (length h) (x.var r.0)) (record { holds = tt })
-  correct b (x.lift_b e) n k s ctx env h fr le se has f = let r = past env in
-      rw (r.1, kernel_evaluation-is n (length h) (x.var r.0)) (record { holds = tt })
-  correct b (x.done v) n k s ctx env h fr le se has f = let r = past env in
+  correct b _ n k s ctx env h fr le se has f = let r = past env in
       rw (r.1, kernel_evaluation-is n (length h) (x.var r.0)) (record { holds = tt })
 
 -- a list has itself from its start

@@ -4,7 +4,7 @@ use Rattle.std.proofs.Common.{sym, arith}
 use Rattle.std.specs.Prelude.{ℤ, pos, negsuc, slice_get, ◌*◌, ◌/◌, ◌%◌, map}
 use Rattle.mw_term.specs.Terms.{KernelValue}
 use Rattle.mw_ir.specs.declared.place.Place.{Place}
-use Rattle.mw_ir.specs.declared.place.Place.TheVariants.{Argument, Own, Slot, Free}
+use Rattle.mw_ir.specs.declared.place.Place.TheVariants.{Free}
 use Rattle.mw_ir.specs.Ir.{IrFunc, Frame, aligned, load, load_own, read, read_all}
 use Rattle.mw_conv.specs.Represents.{Has, Grows, Stands, s_int, s_bool, s_both, s_function, s_recursive}
 
@@ -14,10 +14,14 @@ grows_same h k w e = e
 pub grows_on : (h h' h'' : List ℤ) → Grows h h' → Grows h' h'' → Grows h h''
 grows_on h h' h'' g g' k w e = g' k w (g k w e)
 
+pub get_append : {A : Type 0} → (h us : List A) (k : ℕ) (w : A) → slice_get h k ≡ Some w → slice_get (h ++ us) k
+    ≡ Some w
+get_append [] us k w e = absurd (cc)
+get_append (x ∷ h) us zero w e = e
+get_append (x ∷ h) us (suc k) w e = get_append h us k w e
+
 pub grows_append : (h us : List ℤ) → Grows h (h ++ us)
-grows_append [] us k w e = absurd (cc)
-grows_append (x ∷ h) us zero w e = e
-grows_append (x ∷ h) us (suc k) w e = grows_append h us k w e
+grows_append h us = get_append h us
 
 pub get_appended : {A : Type 0} → (h us : List A) (j : ℕ) → slice_get (h ++ us) (length h + j) ≡ slice_get us j
 get_appended [] us j = let e : 0 + j ≡ j = omega arith in rw e refl
@@ -46,10 +50,8 @@ own_grows h h' g (Some w) j a e = load_grows h h' g w j a e
 
 pub read_grows : (h h' : List ℤ) → Grows h h' → (fr : Frame) (p : Place) (a : ℤ) → read h fr p ≡ Some a → read h' fr p
     ≡ Some a
-read_grows h h' g fr Argument a e = e
-read_grows h h' g fr Own a e = e
-read_grows h h' g fr (Slot s) a e = e
 read_grows h h' g fr (Free j) a e = own_grows h h' g fr.own (suc j) a e
+read_grows h h' g fr _ a e = e
 
 pub stands_grows : (t : List IrFunc) (h h' : List ℤ) → Grows h h' → (v : KernelValue) (w : ℤ) → Stands t h v w
     → Stands t h' v w

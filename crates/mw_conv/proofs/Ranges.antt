@@ -1,12 +1,13 @@
 -- The conversion of closed code within limits keeps the ranges and limits.
-use Rattle.std.proofs.Common.{◌≡◌, ℕ, zero, suc, ◌+◌, ◌*◌, ◌<◌, ◌≤◌, Bool, true, false, List, [], ◌∷◌, ◌++◌, length}
+use Rattle.std.proofs.Common.{◌≡◌, ℕ, zero, suc, ◌+◌, ◌*◌, ◌<◌, ◌≤◌, Bool, true, List, [], ◌∷◌, ◌++◌, length}
 use Rattle.std.proofs.Common.{map, Some, refl, ◌∙◌, sym, subst, arith}
-use Rattle.std.specs.Prelude.{◌&&◌, nat_le, pos, slice_get, FitsSigned}
+use Rattle.std.specs.Prelude.{nat_le, pos, slice_get, FitsSigned}
 use Rattle.std.specs.Int.{w64}
 use Rattle.std.specs.List.{AllByRecursion}
 use Rattle.std.proofs.lemmas.Bool.{eq-eqb, leb-true}
 use Rattle.std.proofs.lemmas.Int.{fits_signed_from_abs}
 use Rattle.std.proofs.lemmas.List.{length-map}
+use Rattle.std.proofs.lemmas.Option.{slice_get_within}
 use Rattle.mw_list.proofs.Conjunctions.{both_true}
 use Rattle.mw_term.specs.Terms as x
 use Rattle.mw_term.specs.Terms.{Expression, size, depth_of}
@@ -22,8 +23,9 @@ use Rattle.mw_conv.specs.Convert.{here, free_list, rank, fun_free, fix_free, fun
 use Rattle.mw_conv.specs.Convert.{functions, converted_functions, converted_outside}
 use Rattle.mw_conv.specs.Represents.{Has}
 use Rattle.mw_conv.proofs.Free.{free_list_each, rank_is}
-use Rattle.mw_conv.proofs.Heaps.{has_front, has_back}
-use Rattle.mw_conv.proofs.Scopes.{functions_length, or_left, or_right}
+use Rattle.mw_conv.proofs.Heaps.{has_front}
+use Rattle.mw_meaning.proofs.Replacement.{or_left, or_right}
+use Rattle.mw_conv.proofs.Scopes.{functions_length, has_next}
 use Rattle.mw_conv.proofs.Correct.{has_self}
 use Rattle.mw_conv.proofs.Contexts.{free_short}
 use Rattle.mw_conv.proofs.Closures.{occurs_below}
@@ -38,44 +40,23 @@ pub code_size : (e : Expression) (k d s : ℕ) (ctx : ℕ → Place)
 code_size (x.fun e) k d s ctx = omega (arith, code_size e (suc k) (suc d) 0 (fun_places e d))
 code_size (x.fix e) k d s ctx = omega (arith, code_size e (suc k) (suc (suc d)) 0 (fix_places e d))
 code_size (x.app f a) k d s ctx =
-    omega (
-      arith,
-      code_size f k d s ctx,
-      code_size a (k + funs f) d s ctx,
-      total_append (functions f k d) (functions a (k + funs f) d),
-    )
+    omega (arith, code_size f k d s ctx, code_size a (k + funs f) d s ctx, total_append)
 code_size (x.bind a e) k d s ctx =
-    omega (
-      arith,
-      code_size a k d s ctx,
-      code_size e (k + funs a) (suc d) (suc s) (here (Slot s) ctx),
-      total_append (functions a k d) (functions e (k + funs a) (suc d)),
-    )
+    omega (arith, code_size a k d s ctx, code_size e (k + funs a) (suc d) (suc s) (here (Slot s) ctx), total_append)
 code_size (x.cond c a b) k d s ctx =
     omega (
       arith,
       code_size c k d s ctx,
       code_size a (k + funs c) d s ctx,
       code_size b (k + funs c + funs a) d s ctx,
-      total_append (functions c k d) (functions a (k + funs c) d ++ functions b (k + funs c + funs a) d),
-      total_append (functions a (k + funs c) d) (functions b (k + funs c + funs a) d),
+      total_append,
     )
 code_size (x.pair f a) k d s ctx =
-    omega (
-      arith,
-      code_size f k d s ctx,
-      code_size a (k + funs f) d s ctx,
-      total_append (functions f k d) (functions a (k + funs f) d),
-    )
+    omega (arith, code_size f k d s ctx, code_size a (k + funs f) d s ctx, total_append)
 code_size (x.fst e) k d s ctx = omega (arith, code_size e k d s ctx)
 code_size (x.snd e) k d s ctx = omega (arith, code_size e k d s ctx)
 code_size (x.prim p f a) k d s ctx =
-    omega (
-      arith,
-      code_size f k d s ctx,
-      code_size a (k + funs f) d s ctx,
-      total_append (functions f k d) (functions a (k + funs f) d),
-    )
+    omega (arith, code_size f k d s ctx, code_size a (k + funs f) d s ctx, total_append)
 code_size _ k d s ctx = omega arith
 
 pub code_depth : (e : Expression) (k d s : ℕ) (ctx : ℕ → Place) → ir_depth (code e k d s ctx) ≤ depth_of e
@@ -115,23 +96,12 @@ funs_few _ = omega arith
 none_fits : FitsSigned w64 (pos 0)
 none_fits = fits_signed_from_abs w64 (pos 0) (omega arith)
 
-index_within : {A : Type 0} → (xs : List A) (j : ℕ) (x : A) → slice_get xs j ≡ Some x → j < length xs
-index_within [] j x e = absurd (cc)
-index_within (y ∷ xs) zero x e = omega arith
-index_within (y ∷ xs) (suc j) x e = let r = index_within xs j x e in omega arith
-
-both_all : {A : Type 0} → (P : A → Type 0) (fs gs : List A) → AllByRecursion P fs → AllByRecursion P gs
+pub both_all : {A : Type 0} → (P : A → Type 0) (fs gs : List A) → AllByRecursion P fs → AllByRecursion P gs
     → AllByRecursion P (fs ++ gs)
 both_all P [] gs a b = b
 both_all P (f ∷ fs) gs a b = (a.0, both_all P fs gs a.1 b)
 
 module _ (t : List IrFunc) where
-  -- the functions of the second part
-  next : (e : Expression) (k d : ℕ) (gs : ℕ → List IrFunc) → Has t k (functions e k d ++ gs (k + funs e))
-      → Has t (k + funs e) (gs (k + funs e))
-  next e k d gs h = subst (λ z. Has t (k + z) (gs (k + funs e))) (functions_length e k d)
-      (has_back t k (functions e k d) _ h)
-
   module _ (P : Place → Type 0) (slots : ℕ) (all_slots : (s : ℕ) → s < slots → P (Slot s)) where
     places_all : (ctx : ℕ → Place) (is : List ℕ) → ((j i : ℕ) → slice_get is j ≡ Some i → P (ctx i))
         → AllByRecursion P (map ctx is)
@@ -157,45 +127,45 @@ module _ (t : List IrFunc) where
     code_range (x.app f a) k d s ctx l h le has = (
       code_range f k d s ctx l.0 (λ i o. h i (or_left (occurs f i) _ o)) (omega arith) (has_front t k _ _ has),
       code_range a (k + funs f) d s ctx l.1 (λ i o. h i (or_right (occurs f i) _ o)) (omega arith)
-          (next f k d (λ z. functions a z d) has),
+          (has_next t f k d (λ z. functions a z d) has),
     )
     code_range (x.bind a e) k d s ctx l h le has = (
       omega arith,
       code_range a k d s ctx l.0 (λ i o. h i (or_left (occurs a i) _ o)) (omega arith)
           (has_front t k _ _ has),
       code_range e (k + funs a) (suc d) (suc s) (here (Slot s) ctx) l.1 inner (omega arith)
-          (next a k d (λ z. functions e z (suc d)) has),
+          (has_next t a k d (λ z. functions e z (suc d)) has),
     )
       where
         inner : (i : ℕ) → occurs e i ≡ true → P (here (Slot s) ctx i)
         inner zero o = all_slots s (omega arith)
         inner (suc i) o = h i (or_right (occurs a i) _ o)
     code_range (x.cond c a b) k d s ctx l h le has =
-        let n = next c k d (λ z. functions a z d ++ functions b (z + funs a) d) has in (
+        let n = has_next t c k d (λ z. functions a z d ++ functions b (z + funs a) d) has in (
           code_range c k d s ctx l.0 (λ i o. h i (or_left (occurs c i) _ o)) (omega arith) (has_front t k _ _ has),
           code_range a (k + funs c) d s ctx l.1 (λ i o. h i (or_right (occurs c i) _ (or_left (occurs a i) _ o)))
               (omega arith) (has_front t (k + funs c) _ _ n),
           code_range b (k + funs c + funs a) d s ctx l.2
               (λ i o. h i (or_right (occurs c i) _ (or_right (occurs a i) _ o))) (omega arith)
-              (next a (k + funs c) d (λ z. functions b z d) n),
+              (has_next t a (k + funs c) d (λ z. functions b z d) n),
         )
     code_range (x.pair f a) k d s ctx l h le has = (
       code_range f k d s ctx l.0 (λ i o. h i (or_left (occurs f i) _ o)) (omega arith) (has_front t k _ _ has),
       code_range a (k + funs f) d s ctx l.1 (λ i o. h i (or_right (occurs f i) _ o)) (omega arith)
-          (next f k d (λ z. functions a z d) has),
+          (has_next t f k d (λ z. functions a z d) has),
     )
     code_range (x.fst e) k d s ctx l h le has = code_range e k d s ctx l h le has
     code_range (x.snd e) k d s ctx l h le has = code_range e k d s ctx l h le has
     code_range (x.prim p f a) k d s ctx l h le has = (
       code_range f k d s ctx l.0 (λ i o. h i (or_left (occurs f i) _ o)) (omega arith) (has_front t k _ _ has),
       code_range a (k + funs f) d s ctx l.1 (λ i o. h i (or_right (occurs f i) _ o)) (omega arith)
-          (next f k d (λ z. functions a z d) has),
+          (has_next t f k d (λ z. functions a z d) has),
     )
     code_range _ k d s ctx l h le has = none_fits
 
   -- where a function's body finds its variables
   ranked : (d i : ℕ) (p : ℕ → Bool) → i < d → p i ≡ true → rank d p i < length (free_list d p)
-  ranked d i p lt o = index_within (free_list d p) (rank d p i) i (rank_is d p i lt o)
+  ranked d i p lt o = slice_get_within (free_list d p) (rank d p i) i (rank_is d p i lt o)
 
   fun_place : (e : Expression) (d n i : ℕ) → ClosedBelow (suc d) e → occurs e i ≡ true
       → IsPlace (length (free_list d (fun_free e))) n (fun_places e d i)
@@ -233,25 +203,26 @@ module _ (t : List IrFunc) where
   )
   functions_proper (x.app f a) k d c l le has = both_all (IsProper t) (functions f k d) _
       (functions_proper f k d c.0 l.0 (omega arith) (has_front t k _ _ has))
-      (functions_proper a (k + funs f) d c.1 l.1 (omega arith) (next f k d (λ z. functions a z d) has))
+      (functions_proper a (k + funs f) d c.1 l.1 (omega arith) (has_next t f k d (λ z. functions a z d) has))
   functions_proper (x.bind a e) k d c l le has = both_all (IsProper t) (functions a k d) _
       (functions_proper a k d c.0 l.0 (omega arith) (has_front t k _ _ has))
-      (functions_proper e (k + funs a) (suc d) c.1 l.1 (omega arith) (next a k d (λ z. functions e z (suc d)) has))
+      (functions_proper e (k + funs a) (suc d) c.1 l.1 (omega arith)
+      (has_next t a k d (λ z. functions e z (suc d)) has))
   functions_proper (x.cond f a b) k d c l le has =
-      let n = next f k d (λ z. functions a z d ++ functions b (z + funs a) d) has in
+      let n = has_next t f k d (λ z. functions a z d ++ functions b (z + funs a) d) has in
       both_all (IsProper t) (functions f k d) _ (functions_proper f k d c.0 l.0 (omega arith) (has_front t k _ _ has))
       (both_all (IsProper t) (functions a (k + funs f) d) _
       (functions_proper a (k + funs f) d c.1 l.1 (omega arith) (has_front t (k + funs f) _ _ n))
       (functions_proper b (k + funs f + funs a) d c.2 l.2 (omega arith)
-      (next a (k + funs f) d (λ z. functions b z d) n)))
+      (has_next t a (k + funs f) d (λ z. functions b z d) n)))
   functions_proper (x.pair f a) k d c l le has = both_all (IsProper t) (functions f k d) _
       (functions_proper f k d c.0 l.0 (omega arith) (has_front t k _ _ has))
-      (functions_proper a (k + funs f) d c.1 l.1 (omega arith) (next f k d (λ z. functions a z d) has))
+      (functions_proper a (k + funs f) d c.1 l.1 (omega arith) (has_next t f k d (λ z. functions a z d) has))
   functions_proper (x.fst e) k d c l le has = functions_proper e k d c l (omega arith) has
   functions_proper (x.snd e) k d c l le has = functions_proper e k d c l (omega arith) has
   functions_proper (x.prim p f a) k d c l le has = both_all (IsProper t) (functions f k d) _
       (functions_proper f k d c.0 l.0 (omega arith) (has_front t k _ _ has))
-      (functions_proper a (k + funs f) d c.1 l.1 (omega arith) (next f k d (λ z. functions a z d) has))
+      (functions_proper a (k + funs f) d c.1 l.1 (omega arith) (has_next t f k d (λ z. functions a z d) has))
   functions_proper _ k d c l le has = tt
 
 pub is_converted : (c : Expression) → ClosedBelow 0 c → LiteralsFit c → size c ≤ 20000 → depth_of c ≤ 400

@@ -1,16 +1,18 @@
 -- Where the variables of a term are, as the term is taken apart.
-use Rattle.std.proofs.Common.{◌≡◌, ℕ, zero, suc, ◌+◌, Bool, true, false, List, [], ◌∷◌, ◌++◌, length, Some, None, refl}
-use Rattle.std.proofs.Common.{ap, ◌∙◌, subst, arith, length-append}
+use Rattle.std.proofs.Common.{◌≡◌, ℕ, zero, suc, ◌+◌, Bool, true, List, [], ◌∷◌, ◌++◌, length, Some, None, refl}
+use Rattle.std.proofs.Common.{ap, subst, arith, length-append}
 use Rattle.std.specs.Prelude.{ℤ, slice_get, ◌||◌}
+use Rattle.std.proofs.lemmas.Option.{slice_get_past}
 use Rattle.mw_term.specs.Terms as x
 use Rattle.mw_term.specs.Terms.{Expression, KernelTerm, KernelValue, done, var}
+use Rattle.mw_meaning.proofs.Replacement.{or_left, or_right}
 use Rattle.mw_conv.specs.Environments.{pick_all}
 use Rattle.mw_ir.specs.declared.place.Place.{Place}
-use Rattle.mw_ir.specs.declared.place.Place.TheVariants.{Argument, Own, Slot, Free}
+use Rattle.mw_ir.specs.declared.place.Place.TheVariants.{Slot}
 use Rattle.mw_ir.specs.Ir.{IrFunc, Frame, with_slot, read}
 use Rattle.mw_conv.specs.Convert.{here, funs, functions}
-use Rattle.mw_conv.specs.Represents.{Grows, Stands}
-use Rattle.mw_conv.proofs.Heaps.{read_grows, stands_grows, get_appended}
+use Rattle.mw_conv.specs.Represents.{Has, Grows, Stands}
+use Rattle.mw_conv.proofs.Heaps.{read_grows, stands_grows, get_appended, has_back}
 
 -- each variable with p has a place whose word stands for its value
 abbrev pub Fits : List IrFunc → List ℤ → Frame → (ℕ → Bool) → (ℕ → Place) → List KernelValue → Type 0
@@ -21,13 +23,6 @@ pub fits_grows : (t : List IrFunc) (h h' : List ℤ) (fr : Frame) (p : ℕ → B
     (env : List KernelValue) → Grows h h' → Fits t h fr p ctx env → Fits t h' fr p ctx env
 fits_grows t h h' fr p ctx env g f i v o s = let r = f i v o s in
     (r.0, read_grows h h' g fr (ctx i) r.0 r.1, stands_grows t h h' g v r.0 r.2)
-
-pub or_left : (a b : Bool) → a ≡ true → a || b ≡ true
-or_left a b e = rw e refl
-
-pub or_right : (a b : Bool) → b ≡ true → a || b ≡ true
-or_right true b e = refl
-or_right false b e = e
 
 pub fits_left : (t : List IrFunc) (h : List ℤ) (fr : Frame) (p q : ℕ → Bool) (ctx : ℕ → Place) (env : List KernelValue)
     → Fits t h fr (λ i. p i || q i) ctx env → Fits t h fr p ctx env
@@ -40,10 +35,8 @@ fits_right t h fr p q ctx env f i v o s = f i v (or_right (p i) (q i) o) s
 -- slots are added at the end, so the others stay
 read_with_slot : (h : List ℤ) (fr : Frame) (u : ℤ) (p : Place) (w : ℤ) → read h fr p ≡ Some w
     → read h (with_slot fr u) p ≡ Some w
-read_with_slot h fr u Argument w e = e
-read_with_slot h fr u Own w e = e
 read_with_slot h fr u (Slot s) w e = Rattle.mw_conv.proofs.Heaps.grows_append fr.slots (u ∷ []) s w e
-read_with_slot h fr u (Free j) w e = e
+read_with_slot h fr u _ w e = e
 
 -- under a let
 pub fits_let : (t : List IrFunc) (h : List ℤ) (fr : Frame) (p : ℕ → Bool) (ctx : ℕ → Place) (env : List KernelValue)
@@ -58,37 +51,23 @@ fits_let t h fr p ctx env v w s e st f (suc i) u o g = let r = f i u o g in
     (r.0, read_with_slot h fr w (ctx i) r.0 r.1, r.2)
 
 pub functions_length : (e : Expression) (k d : ℕ) → length (functions e k d) ≡ funs e
-functions_length (x.num n) k d = refl
-functions_length (x.truth b) k d = refl
-functions_length (x.var i) k d = refl
-functions_length (x.glob i) k d = refl
 functions_length (x.fun e) k d = ap suc (functions_length e _ _)
 functions_length (x.fix e) k d = ap suc (functions_length e _ _)
-functions_length (x.app f a) k d = length-append (functions f k d) _
-    ∙ rw (functions_length f k d, functions_length a (k + funs f) d) refl
-functions_length (x.bind f a) k d = length-append (functions f k d) _
-    ∙ rw (functions_length f k d, functions_length a (k + funs f) (suc d)) refl
-functions_length (x.cond c a b) k d = length-append (functions c k d) _
-    ∙ rw (
-      functions_length c k d,
-      length-append (functions a (k + funs c) d) (functions b (k + funs c + funs a) d),
-      functions_length a (k + funs c) d,
-      functions_length b (k + funs c + funs a) d,
-    ) refl
-functions_length (x.pair f a) k d = length-append (functions f k d) _
-    ∙ rw (functions_length f k d, functions_length a (k + funs f) d) refl
+functions_length (x.app f a) k d = simp (length-append, functions_length f, functions_length a)
+functions_length (x.bind f a) k d = simp (length-append, functions_length f, functions_length a)
+functions_length (x.cond c a b) k d =
+    simp (length-append, functions_length c, functions_length a, functions_length b)
+functions_length (x.pair f a) k d = simp (length-append, functions_length f, functions_length a)
 functions_length (x.fst e) k d = functions_length e k d
 functions_length (x.snd e) k d = functions_length e k d
-functions_length (x.prim p f a) k d = length-append (functions f k d) _
-    ∙ rw (functions_length f k d, functions_length a (k + funs f) d) refl
-functions_length (x.bracket e) k d = refl
-functions_length (x.escape e) k d = refl
-functions_length (x.run t e) k d = refl
-functions_length (x.close at e) k d = refl
-functions_length (x.opened e) k d = refl
-functions_length (x.lift e) k d = refl
-functions_length (x.lift_b e) k d = refl
-functions_length (x.done v) k d = refl
+functions_length (x.prim p f a) k d = simp (length-append, functions_length f, functions_length a)
+functions_length _ k d = refl
+
+-- the functions of a second part
+pub has_next : (t : List IrFunc) (e : Expression) (k d : ℕ) (gs : ℕ → List IrFunc)
+    → Has t k (functions e k d ++ gs (k + funs e)) → Has t (k + funs e) (gs (k + funs e))
+has_next t e k d gs h =
+    subst (λ z. Has t (k + z) (gs (k + funs e))) (functions_length e k d) (has_back t k (functions e k d) _ h)
 
 pub picked : (env : List KernelValue) (i : ℕ) (v : KernelValue) (o : ℕ → KernelTerm) → slice_get env i ≡ Some v
     → pick_all 0 i env o ≡ done v
@@ -104,8 +83,4 @@ not_picked (u ∷ env) (suc i) o e = not_picked env i o e
 
 -- a variable past the environment
 pub past : (env : List KernelValue) → (j : ℕ) × (pick_all 0 (length env) env var ≡ var j)
-past env = not_picked env (length env) var (end env)
-  where
-    end : (env : List KernelValue) → slice_get env (length env) ≡ None
-    end [] = refl
-    end (v ∷ env) = end env
+past env = not_picked env (length env) var (slice_get_past env (length env) (omega arith))

@@ -3,7 +3,6 @@ use Rattle.std.proofs.Common.{◌≡◌, ℕ, zero, suc, ◌≤◌, ◌⊎◌, i
 use Rattle.std.proofs.Common.{length, Option, Some, None, refl, sym, ap, subst, ◌∙◌, append_assoc, arith}
 use Rattle.mw_wasm.specs.declared.values.ValType.{ValType}
 use Rattle.mw_wasm.specs.declared.values.ValType.TheVariants.{I32, I64}
-use Rattle.mw_wasm.specs.declared.numbers.IntOp.{IntOp}
 use Rattle.mw_wasm.specs.declared.numbers.IntOp.TheVariants as op
 use Rattle.mw_wasm.specs.declared.numbers.NumOp.{NumOp}
 use Rattle.mw_wasm.specs.declared.numbers.NumOp.TheVariants as number
@@ -24,13 +23,14 @@ use Rattle.mw_wasm.specs.BinaryInstructions.{instruction, code, load_opcode, sto
 use Rattle.mw_wasm.specs.Profile.{depth_of, depth}
 use Rattle.mw_leb.specs.Reading.{signed}
 use Rattle.mw_leb.proofs.ReadNumbers.{unsigned_read, signed_read}
-use Rattle.mw_decode.specs.Reading.{got, Reader, place, and_then, ◌>>=◌, gives, is, fixed, numbered, u32, i32, i64}
-use Rattle.mw_decode.specs.Reading.{times, vector}
+use Rattle.mw_decode.specs.Reading.{got, Reader, place, and_then, ◌>>=◌, gives, Meaning, is, meant, byte_of}
+use Rattle.mw_decode.specs.Reading.{only, numbered, u32, i32, i64, times, vector}
 use Rattle.mw_decode.specs.Opcodes.{Mark, closing, otherwise, Opener, a_block, a_loop, an_if, Opcode, opens, alone}
-use Rattle.mw_decode.specs.Opcodes.{indexed, at_address, before_zero, jump_table, indirect, constant_32, constant_64}
+use Rattle.mw_decode.specs.Opcodes.{indexed, at_address, before_zero}
 use Rattle.mw_decode.specs.Opcodes.{loading, storing, jump_of, variable_of, constant_of, accessing_of, load_of}
 use Rattle.mw_decode.specs.Opcodes.{store_of, number_of, alone_of, opcode}
-use Rattle.mw_decode.specs.Instructions.{block_type, ahead, closed, second, inside, opened, more, behind, instructions}
+use Rattle.mw_decode.specs.Instructions.{block_type_of, block_type, ahead, closed, second, inside, opened, more, behind}
+use Rattle.mw_decode.specs.Instructions.{instructions}
 use Rattle.mw_decode.specs.Instructions.{expression}
 use Rattle.mw_decode.proofs.CodeSoundness.{mark_byte}
 use Rattle.mw_decode.proofs.ReadingFixedPoint.{instructions_are}
@@ -55,130 +55,82 @@ again_i32 = record { again = λ end x front rest h. again_integer 32 end x front
 pub again_i64 : Again i64 piece.i64
 again_i64 = record { again = λ end x front rest h. again_integer 64 end x front rest h }
 
--- one thing, and what is read behind it
-pub again_front : {A B : Type 0} {r : Reader A} (P : A → List ℕ → Type 0) (f : A → Reader B) → Again r P
-    → (end : ℕ) (x : A) (front rest : List ℕ) → P x front → (r >>= f) end (front ++ rest) ≡ f x end rest
-again_front P f a end x front rest h = ap (λ m. and_then m λ x rest. f x end rest) (a.again end x front rest h)
-
 -- a spelling of two parts, regrouped before what stands behind it
-pub parted : (P Q : List ℕ → Type 0) (front rest : List ℕ) (h : Joined P Q front)
+pub parted : {P Q : List ℕ → Type 0} (front rest : List ℕ) (h : Joined P Q front)
     → front ++ rest ≡ h.front ++ (h.back ++ rest)
-parted P Q front rest h = ap (λ z. z ++ rest) h.whole ∙ append_assoc h.front h.back rest
+parted front rest h = ap (λ z. z ++ rest) h.whole ∙ append_assoc h.front h.back rest
 
-pub again_times : {A : Type 0} {r : Reader A} (P : A → List ℕ → Type 0) → Again r P
-    → (xs : List A) (end : ℕ) (front rest : List ℕ) → items P xs front
-    → times (length xs) r end (front ++ rest) ≡ got xs rest
-again_times P a [] end front rest h = ap (λ z. got [] (z ++ rest)) h
-again_times {A} {r} P a (x ∷ xs) end front rest h =
-    ap (times (suc (length xs)) r end) (parted (P x) (items P xs) front rest h)
-    ∙ (again_front P (λ x. times (length xs) r >>= λ xs. gives (x ∷ xs)) a end x h.front (h.back ++ rest) h.first
-    ∙ ap (λ m. and_then m λ xs rest. got (x ∷ xs) rest) (again_times P a xs end h.back rest h.second))
+-- a reader gives this value wherever a piece stands in front
+pub record Gives {A : Type 0} (r : Reader A) (x : A) (Q : List ℕ → Type 0) : Type 0 where
+  pub given : (end : ℕ) (front rest : List ℕ) → Q front → r end (front ++ rest) ≡ got x rest
 
-pub again_vector : {A : Type 0} {r : Reader A} (P : A → List ℕ → Type 0) → Again r P
-    → Again (vector r) (λ xs. piece.vector P xs)
-again_vector {A} {r} P a = record {
-  again = λ end xs front rest h. ap (vector r end) (parted (piece.u32 (length xs)) (items P xs) front rest h)
-      ∙ (again_front piece.u32 (λ n. times n r) again_u32 end (length xs) h.front (h.back ++ rest) h.first
-      ∙ again_times P a xs end h.back rest h.second);
+-- this value, of all that the reader reads again
+pub gives_at : {A : Type 0} {r : Reader A} {P : A → List ℕ → Type 0} → Again r P → (x : A) → Gives r x (P x)
+gives_at a x = record { given = λ end front rest h. a.again end x front rest h }
+
+-- the same of values that a condition holds for
+pub gives_under : {A : Type 0} {r : Reader A} {P : A → List ℕ → Type 0} {W : A → Type 0}
+    → Again r (λ x front. P x front × W x) → (x : A) → W x → Gives r x (P x)
+gives_under a x w = record { given = λ end front rest h. a.again end x front rest (h, w) }
+
+-- the other way
+pub again_by : {A : Type 0} {r : Reader A} {P : A → List ℕ → Type 0} → ((x : A) → Gives r x (P x)) → Again r P
+again_by g = record { again = λ end x front rest h. (g x).given end front rest h }
+
+pub again_under : {A : Type 0} {r : Reader A} {P : A → List ℕ → Type 0} {W : A → Type 0}
+    → ((x : A) → W x → Gives r x (P x)) → Again r (λ x front. P x front × W x)
+again_under g = record { again = λ end x front rest h. (g x h.1).given end front rest h.0 }
+
+-- a byte that means a value
+pub gives_byte : {A : Type 0} (meaning : ℕ → Meaning A) (m : ℕ) (x : A) → meaning m ≡ is x
+    → Gives (byte_of meaning) x (byte m)
+gives_byte meaning m x e = record {
+  given = λ end front rest h.
+      ap (λ z. byte_of meaning end (z ++ rest)) h ∙ ap (meant (place end (m ∷ rest)) rest) e;
 }
 
--- opcodes that stand alone
+-- one thing, and what is read behind it
+pub gives_then : {A B : Type 0} {r : Reader A} {P Q : List ℕ → Type 0} {x : A} {y : B} (f : A → Reader B) → Gives r x P
+    → Gives (f x) y Q → Gives (r >>= f) y (Joined P Q)
+gives_then {r = r} f a b = record {
+  given = λ end front rest h.
+      ap ((r >>= f) end) (parted front rest h)
+      ∙ (ap (λ m. and_then m λ x rest. f x end rest) (a.given end h.front (h.back ++ rest) h.first)
+      ∙ b.given end h.back rest h.second);
+}
+
+-- a value that is made of the last thing
+pub gives_last : {A B : Type 0} {r : Reader A} {x : A} {P : List ℕ → Type 0} (g : A → B) → Gives r x P
+    → Gives (r >>= λ x. gives (g x)) (g x) P
+gives_last g a = record {
+  given = λ end front rest h. ap (λ m. and_then m λ x rest. got (g x) rest) (a.given end front rest h);
+}
+
+pub gives_times : {A : Type 0} {r : Reader A} {P : A → List ℕ → Type 0} → Again r P → (xs : List A)
+    → Gives (times (length xs) r) xs (items P xs)
+gives_times a [] = record { given = λ end front rest h. ap (λ z. got [] (z ++ rest)) h }
+gives_times a (x ∷ xs) = gives_then _ (gives_at a x) (gives_last (λ xs. x ∷ xs) (gives_times a xs))
+
+pub again_vector : {A : Type 0} {r : Reader A} {P : A → List ℕ → Type 0} → Again r P
+    → Again (vector r) (λ xs. piece.vector P xs)
+again_vector a = again_by λ xs. gives_then _ (gives_at again_u32 (length xs)) (gives_times a xs)
+
+-- opcodes that stand alone: by computation for each instruction, the first alone so that the others are told apart
 opcode_of_load : (o : LoadOp) → opcode (load_opcode o) ≡ alone (is (loading o))
 unfolding opcode alone_of jump_of variable_of constant_of accessing_of load_of store_of number_of
 opcode_of_load load_op.I32 = refl
-opcode_of_load load_op.I64 = refl
-opcode_of_load load_op.I32S8 = refl
-opcode_of_load load_op.I32U8 = refl
-opcode_of_load load_op.I32S16 = refl
-opcode_of_load load_op.I32U16 = refl
-opcode_of_load load_op.I64S8 = refl
-opcode_of_load load_op.I64U8 = refl
-opcode_of_load load_op.I64S16 = refl
-opcode_of_load load_op.I64U16 = refl
-opcode_of_load load_op.I64S32 = refl
-opcode_of_load load_op.I64U32 = refl
+opcode_of_load o = refl
 
 opcode_of_store : (o : StoreOp) → opcode (store_opcode o) ≡ alone (is (storing o))
 unfolding opcode alone_of jump_of variable_of constant_of accessing_of load_of store_of number_of
 opcode_of_store store_op.I32 = refl
-opcode_of_store store_op.I64 = refl
-opcode_of_store store_op.I32To8 = refl
-opcode_of_store store_op.I32To16 = refl
-opcode_of_store store_op.I64To8 = refl
-opcode_of_store store_op.I64To16 = refl
-opcode_of_store store_op.I64To32 = refl
-
-opcode_of_i32 : (o : IntOp) → opcode (opcode_of_number (number.I32 o)) ≡ alone (is (gives (numeric (number.I32 o))))
-unfolding opcode alone_of jump_of variable_of constant_of accessing_of load_of store_of number_of
-opcode_of_i32 op.Eqz = refl
-opcode_of_i32 op.Eq = refl
-opcode_of_i32 op.Ne = refl
-opcode_of_i32 op.LtS = refl
-opcode_of_i32 op.LtU = refl
-opcode_of_i32 op.GtS = refl
-opcode_of_i32 op.GtU = refl
-opcode_of_i32 op.LeS = refl
-opcode_of_i32 op.LeU = refl
-opcode_of_i32 op.GeS = refl
-opcode_of_i32 op.GeU = refl
-opcode_of_i32 op.Clz = refl
-opcode_of_i32 op.Ctz = refl
-opcode_of_i32 op.Popcnt = refl
-opcode_of_i32 op.Add = refl
-opcode_of_i32 op.Sub = refl
-opcode_of_i32 op.Mul = refl
-opcode_of_i32 op.DivS = refl
-opcode_of_i32 op.DivU = refl
-opcode_of_i32 op.RemS = refl
-opcode_of_i32 op.RemU = refl
-opcode_of_i32 op.And = refl
-opcode_of_i32 op.Or = refl
-opcode_of_i32 op.Xor = refl
-opcode_of_i32 op.Shl = refl
-opcode_of_i32 op.ShrS = refl
-opcode_of_i32 op.ShrU = refl
-opcode_of_i32 op.Rotl = refl
-opcode_of_i32 op.Rotr = refl
-
-opcode_of_i64 : (o : IntOp) → opcode (opcode_of_number (number.I64 o)) ≡ alone (is (gives (numeric (number.I64 o))))
-unfolding opcode alone_of jump_of variable_of constant_of accessing_of load_of store_of number_of
-opcode_of_i64 op.Eqz = refl
-opcode_of_i64 op.Eq = refl
-opcode_of_i64 op.Ne = refl
-opcode_of_i64 op.LtS = refl
-opcode_of_i64 op.LtU = refl
-opcode_of_i64 op.GtS = refl
-opcode_of_i64 op.GtU = refl
-opcode_of_i64 op.LeS = refl
-opcode_of_i64 op.LeU = refl
-opcode_of_i64 op.GeS = refl
-opcode_of_i64 op.GeU = refl
-opcode_of_i64 op.Clz = refl
-opcode_of_i64 op.Ctz = refl
-opcode_of_i64 op.Popcnt = refl
-opcode_of_i64 op.Add = refl
-opcode_of_i64 op.Sub = refl
-opcode_of_i64 op.Mul = refl
-opcode_of_i64 op.DivS = refl
-opcode_of_i64 op.DivU = refl
-opcode_of_i64 op.RemS = refl
-opcode_of_i64 op.RemU = refl
-opcode_of_i64 op.And = refl
-opcode_of_i64 op.Or = refl
-opcode_of_i64 op.Xor = refl
-opcode_of_i64 op.Shl = refl
-opcode_of_i64 op.ShrS = refl
-opcode_of_i64 op.ShrU = refl
-opcode_of_i64 op.Rotl = refl
-opcode_of_i64 op.Rotr = refl
+opcode_of_store o = refl
 
 opcode_of_numeric : (o : NumOp) → opcode (opcode_of_number o) ≡ alone (is (gives (numeric o)))
 unfolding opcode alone_of jump_of variable_of constant_of accessing_of load_of store_of number_of
-opcode_of_numeric (number.I32 o) = opcode_of_i32 o
-opcode_of_numeric (number.I64 o) = opcode_of_i64 o
-opcode_of_numeric number.Wrap = refl
-opcode_of_numeric number.ExtendS = refl
-opcode_of_numeric number.ExtendU = refl
+opcode_of_numeric (number.I32 op.Eqz) = refl
+opcode_of_numeric (number.I64 op.Eqz) = refl
+opcode_of_numeric o = refl
 
 -- how an instruction is read: its opcode, and the list that goes on behind it
 pub record Reread (i : Instruction) (front : List ℕ) : Type 0 where
@@ -197,85 +149,40 @@ by_opcode i b o front back f e go = record {
       ∙ go room first (place end (b ∷ (back ++ rest))) end rest d));
 }
 
-by_reader : (i : Instruction) (b : ℕ) (r : Reader Instruction) (front back : List ℕ) → front ≡ b ∷ back
-    → opcode b ≡ alone (is r) → ((end : ℕ) (rest : List ℕ) → r end (back ++ rest) ≡ got i rest) → Reread i front
-by_reader i b r front back f e go =
-    by_opcode i b (alone (is r)) front back f e (λ room first at end rest d.
-    ap (λ m. and_then m λ j rest. more instructions room first j end rest) (go end rest))
+begins : {m : ℕ} {P : List ℕ → Type 0} {front : List ℕ} (h : Joined (byte m) P front) → front ≡ m ∷ h.back
+begins h = h.whole ∙ ap (λ z. z ++ h.back) h.first
 
-begins : (m : ℕ) (P : List ℕ → Type 0) (front : List ℕ) (h : Joined (byte m) P front) → front ≡ m ∷ h.back
-begins m P front h = h.whole ∙ ap (λ z. z ++ h.back) h.first
+-- an opcode that stands alone, and what is read behind it
+by_reader : {P : List ℕ → Type 0} {r : Reader Instruction} (i : Instruction) (b : ℕ) (front : List ℕ)
+    → Joined (byte b) P front → opcode b ≡ alone (is r) → Gives r i P → Reread i front
+by_reader {r = r} i b front h e g = by_opcode i b (alone (is r)) front h.back (begins h) e (λ room first at end rest d.
+    ap (λ m. and_then m λ j rest. more instructions room first j end rest) (g.given end h.back rest h.second))
 
 plain : (i : Instruction) (b : ℕ) (front : List ℕ) → front ≡ b ∷ [] → opcode b ≡ alone (is (gives i)) → Reread i front
-plain i b front f e = by_reader i b (gives i) front [] f e (λ end rest. refl)
+plain i b front f e = by_opcode i b (alone (is (gives i))) front [] f e (λ room first at end rest d. refl)
 
 with_index : (i : ℕ → Instruction) (x b : ℕ) (front : List ℕ) → Joined (byte b) (piece.u32 x) front
     → opcode b ≡ alone (is (indexed i)) → Reread (i x) front
-with_index i x b front h e =
-    by_reader (i x) b (indexed i) front h.back (begins b (piece.u32 x) front h) e
-    (λ end rest. again_front piece.u32 (λ x. gives (i x)) again_u32 end x h.back rest h.second)
+with_index i x b front h e = by_reader (i x) b front h e (gives_last i (gives_at again_u32 x))
 
 with_address : (i : ℕ → ℕ → Instruction) (x y b : ℕ) (front : List ℕ)
     → Joined (byte b) (Joined (piece.u32 x) (piece.u32 y)) front → opcode b ≡ alone (is (at_address i))
     → Reread (i x y) front
 with_address i x y b front h e =
-    by_reader (i x y) b (at_address i) front h.back (begins b (Joined (piece.u32 x) (piece.u32 y)) front h) e
-    (λ end rest.
-    let k = h.second in
-    ap (at_address i end) (parted (piece.u32 x) (piece.u32 y) h.back rest k)
-    ∙ (again_front piece.u32 (λ x. u32 >>= λ y. gives (i x y)) again_u32 end x k.front (k.back ++ rest) k.first
-    ∙ again_front piece.u32 (λ y. gives (i x y)) again_u32 end y k.back rest k.second))
+    by_reader (i x y) b front h e (gives_then _ (gives_at again_u32 x) (gives_last (i x) (gives_at again_u32 y)))
 
 with_zero : (i : Instruction) (b : ℕ) (front : List ℕ) → Joined (byte b) (byte 0) front
     → opcode b ≡ alone (is (before_zero i)) → Reread i front
-with_zero i b front h e =
-    by_reader i b (before_zero i) front h.back (begins b (byte 0) front h) e
-    (λ end rest. ap (λ z. before_zero i end (z ++ rest)) h.second)
-
-with_table : (ls : List ℕ) (l : ℕ) (front : List ℕ)
-    → Joined (byte 0x0E) (Joined (piece.vector piece.u32 ls) (piece.u32 l)) front → opcode 0x0E ≡ alone (is jump_table)
-    → Reread (br_table ls l) front
-with_table ls l front h e =
-    by_reader (br_table ls l) 0x0E jump_table front h.back
-    (begins 0x0E (Joined (piece.vector piece.u32 ls) (piece.u32 l)) front h) e (λ end rest.
-    let k = h.second in
-    ap (jump_table end) (parted (piece.vector piece.u32 ls) (piece.u32 l) h.back rest k)
-    ∙ (again_front (λ ls. piece.vector piece.u32 ls) (λ ls. u32 >>= λ l. gives (br_table ls l))
-    (again_vector piece.u32 again_u32) end ls k.front (k.back ++ rest) k.first
-    ∙ again_front piece.u32 (λ l. gives (br_table ls l)) again_u32 end l k.back rest k.second))
-
-with_type : (t : ℕ) (front : List ℕ) → Joined (byte 0x11) (Joined (piece.u32 t) (byte 0)) front
-    → opcode 0x11 ≡ alone (is indirect) → Reread (call_indirect t) front
-with_type t front h e =
-    by_reader (call_indirect t) 0x11 indirect front h.back (begins 0x11 (Joined (piece.u32 t) (byte 0)) front h) e
-    (λ end rest.
-    let k = h.second in
-    ap (indirect end) (parted (piece.u32 t) (byte 0) h.back rest k)
-    ∙ (again_front piece.u32 (λ t. fixed 0x00 >>= λ _. gives (call_indirect t)) again_u32 end t k.front
-    (k.back ++ rest) k.first
-    ∙ ap (λ z. (fixed 0x00 >>= λ _. gives (call_indirect t)) end (z ++ rest)) k.second))
-
-with_i32 : (n : ℕ) (front : List ℕ) → Joined (byte 0x41) (piece.i32 n) front → opcode 0x41 ≡ alone (is constant_32)
-    → Reread (const_i32 n) front
-with_i32 n front h e =
-    by_reader (const_i32 n) 0x41 constant_32 front h.back (begins 0x41 (piece.i32 n) front h) e
-    (λ end rest. again_front piece.i32 (λ n. gives (const_i32 n)) again_i32 end n h.back rest h.second)
-
-with_i64 : (n : ℕ) (front : List ℕ) → Joined (byte 0x42) (piece.i64 n) front → opcode 0x42 ≡ alone (is constant_64)
-    → Reread (const_i64 n) front
-with_i64 n front h e =
-    by_reader (const_i64 n) 0x42 constant_64 front h.back (begins 0x42 (piece.i64 n) front h) e
-    (λ end rest. again_front piece.i64 (λ n. gives (const_i64 n)) again_i64 end n h.back rest h.second)
+with_zero i b front h e = by_reader i b front h e (gives_last (λ _. i) (gives_byte (only 0x00 tt) 0x00 tt refl))
 
 -- block types
 pub again_type : Again block_type grammar.block_type
-again_type = record { again = λ end t front rest h. go end t front rest h }
+again_type = again_by go
   where
-    go : (end : ℕ) (t : Option ValType) (front rest : List ℕ) → grammar.block_type t front
-        → block_type end (front ++ rest) ≡ got t rest
-    go end None front rest h = ap (λ z. block_type end (z ++ rest)) h
-    go end (Some I32) front rest h = ap (λ z. block_type end (z ++ rest)) h
-    go end (Some I64) front rest h = ap (λ z. block_type end (z ++ rest)) h
+    go : (t : Option ValType) → Gives block_type t (grammar.block_type t)
+    go None = gives_byte block_type_of 0x40 None refl
+    go (Some I32) = gives_byte block_type_of 0x7F (Some I32) refl
+    go (Some I64) = gives_byte block_type_of 0x7E (Some I64) refl
 
 -- code before its mark
 pub record RereadCode (c : Code) (front : List ℕ) : Type 0 where
@@ -295,7 +202,7 @@ again_closed : (c : Code) (room end : ℕ) (front rest : List ℕ) (h : Joined (
     → RereadCode c h.front → depth c ≤ room → closed instructions room end (front ++ rest) ≡ got c rest
 again_closed c room end front rest h r d =
     ap (λ m. and_then m (λ l rest. got l.code rest)) (ap (instructions room false end)
-    (parted (code c) (byte 0x0B) front rest h ∙ ap (λ z. h.front ++ (z ++ rest)) h.second)
+    (parted front rest h ∙ ap (λ z. h.front ++ (z ++ rest)) h.second)
     ∙ r.again room false closing end rest d (λ e. refl))
 
 fewer : (m room : ℕ) → suc m ≤ room → (n : ℕ) × (room ≡ suc n) × (m ≤ n)
@@ -309,7 +216,7 @@ again_opened : (i : Instruction) (m : ℕ) (o : Opener) (t : Option ValType) (P 
     → ((room end : ℕ) (rest : List ℕ) → low ≤ room
     → inside instructions room o t end (h.second.back ++ rest) ≡ got i rest) → Reread i front
 again_opened i m o t P front h e low d go =
-    by_opcode i m (opens o) front h.back (begins m (Joined (grammar.block_type t) P) front h) e step
+    by_opcode i m (opens o) front h.back (begins h) e step
   where
     step : (room : ℕ) (first : Bool) (at end : ℕ) (rest : List ℕ) → depth_of i ≤ room
         → behind instructions room first at (opens o) end (h.back ++ rest) ≡ more instructions room first i end rest
@@ -320,9 +227,9 @@ again_opened i m o t P front h e low d go =
         (λ (room : ℕ). behind instructions room first at (opens o) end (h.back ++ rest)
         ≡ more instructions room first i end rest) (sym n.1)
         (ap (λ m. and_then m λ j rest. more instructions (suc n.0) first j end rest)
-        (ap (opened instructions (suc n.0) o at end) (parted (grammar.block_type t) P h.back rest k)
-        ∙ (again_front grammar.block_type (λ t. inside instructions n.0 o t) again_type end t k.front
-        (k.back ++ rest) k.first ∙ go n.0 end rest n.2)))
+        (ap (opened instructions (suc n.0) o at end) (parted h.back rest k)
+        ∙ (ap (λ m. and_then m λ t rest. inside instructions n.0 o t end rest)
+        (again_type.again end t k.front (k.back ++ rest) k.first) ∙ go n.0 end rest n.2)))
 
 ahead_again : (i : Instruction) (c : Code) (front : List ℕ) (h : Joined (instruction i) (code c) front)
     → Reread i h.front → RereadCode c h.back → RereadCode (next i c) front
@@ -330,7 +237,7 @@ ahead_again i c front h r s = record {
   again = λ room first m end rest d e.
       let di : depth_of i ≤ room = omega arith in
       let dc : depth c ≤ room = omega arith in
-      ap (instructions room first end) (parted (instruction i) (code c) front (mark_byte m ∷ rest) h)
+      ap (instructions room first end) (parted front (mark_byte m ∷ rest) h)
       ∙ (r.again room first end (h.back ++ mark_byte m ∷ rest) di
       ∙ ap (λ x. and_then x λ l rest. got (ahead i l) rest) (s.again room first m end rest dc e));
 }
@@ -352,13 +259,13 @@ again_if t a b room end front rest h r s d = go h.second refl
         → h.second ≡ tail → inside instructions room an_if t end (front ++ rest) ≡ got (if_else t a b) rest
     go (inl p) _ =
         ap (λ m. and_then m (λ l rest. second instructions room t l.code l.mark end rest))
-        (ap (instructions room true end) (parted (code a) _ front rest h ∙ ap (λ z. h.front ++ (z ++ rest)) p.1)
+        (ap (instructions room true end) (parted front rest h ∙ ap (λ z. h.front ++ (z ++ rest)) p.1)
         ∙ r.again room true closing end rest da (λ e. refl))
         ∙ ap (λ c. got (if_else t a c) rest) (sym p.0)
     go (inr p) _ =
         ap (λ m. and_then m (λ l rest. second instructions room t l.code l.mark end rest))
-        (ap (instructions room true end) (parted (code a) _ front rest h
-        ∙ ap (λ z. h.front ++ (z ++ rest)) (begins 0x05 (Joined (code b) (byte 0x0B)) h.back p))
+        (ap (instructions room true end) (parted front rest h
+        ∙ ap (λ z. h.front ++ (z ++ rest)) (begins p))
         ∙ r.again room true otherwise end (p.back ++ rest) da (λ e. absurd (cc)))
         ∙ ap (λ m. and_then m (λ c rest. got (if_else t a c) rest))
         (again_closed b room end p.back rest p.second (s p.second.front p.second.first) db)
@@ -383,10 +290,14 @@ mutual
       (reread_code a h.second.second.front h.second.second.first) (λ f s. reread_code b f s) d)
   reread (br l) front h = with_index br l 0x0C front h refl
   reread (br_if l) front h = with_index br_if l 0x0D front h refl
-  reread (br_table ls l) front h = with_table ls l front h refl
+  reread (br_table ls l) front h =
+      by_reader (br_table ls l) 0x0E front h refl
+      (gives_then _ (gives_at (again_vector again_u32) ls) (gives_last (br_table ls) (gives_at again_u32 l)))
   reread give_back front h = plain give_back 0x0F front h refl
   reread (call f) front h = with_index call f 0x10 front h refl
-  reread (call_indirect t) front h = with_type t front h refl
+  reread (call_indirect t) front h =
+      by_reader (call_indirect t) 0x11 front h refl
+      (gives_then _ (gives_at again_u32 t) (gives_last (λ _. call_indirect t) (gives_byte (only 0x00 tt) 0x00 tt refl)))
   reread drop_value front h = plain drop_value 0x1A front h refl
   reread select front h = plain select 0x1B front h refl
   reread (local_get x) front h = with_index local_get x 0x20 front h refl
@@ -399,8 +310,10 @@ mutual
       with_address (store o) align offset (store_opcode o) front h (opcode_of_store o)
   reread memory_size front h = with_zero memory_size 0x3F front h refl
   reread memory_grow front h = with_zero memory_grow 0x40 front h refl
-  reread (const_i32 n) front h = with_i32 n front h refl
-  reread (const_i64 n) front h = with_i64 n front h refl
+  reread (const_i32 n) front h =
+      by_reader (const_i32 n) 0x41 front h refl (gives_last const_i32 (gives_at again_i32 n))
+  reread (const_i64 n) front h =
+      by_reader (const_i64 n) 0x42 front h refl (gives_last const_i64 (gives_at again_i64 n))
   reread (numeric o) front h = plain (numeric o) (opcode_of_number o) front h (opcode_of_numeric o)
 
   pub reread_code : (c : Code) (front : List ℕ) → code c front → RereadCode c front

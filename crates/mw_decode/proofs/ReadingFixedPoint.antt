@@ -3,10 +3,10 @@ use Rattle.std.proofs.Common.{◌≡◌, ℕ, zero, suc, ◌<◌, ◌≤◌, Boo
 use Rattle.std.proofs.Common.{ap, subst, ◌∙◌, arith, length-append}
 use Rattle.mw_wasm.specs.declared.values.ValType.{ValType}
 use Rattle.mw_wasm.specs.Syntax.{Instruction, Code, block, loop, cond as if_else}
-use Rattle.mw_decode.specs.Reading.{Read, got, ended, faulty, Reader, place, and_then}
+use Rattle.mw_decode.specs.Reading.{Read, got, ended, faulty, Reader, place, and_then, ◌>>=◌}
 use Rattle.mw_decode.specs.Opcodes.{Mark, closing, otherwise, Opener, a_block, a_loop, an_if, Opcode, marks, opens}
 use Rattle.mw_decode.specs.Opcodes.{alone, alone_of, opcode}
-use Rattle.mw_decode.specs.Instructions.{block_type, Lists, ahead, closed, second, inside, opened, more, immediates}
+use Rattle.mw_decode.specs.Instructions.{Lists, ahead, closed, second, inside, opened, more}
 use Rattle.mw_decode.specs.Instructions.{behind, listed, within, instructions}
 use Rattle.mw_decode.proofs.ReaderSoundness.{Sound}
 use Rattle.mw_decode.proofs.OpcodeSoundness.{alone_sound}
@@ -15,9 +15,9 @@ use Rattle.mw_decode.proofs.CodeSoundness.{ListsSound, sound_block_type, opened_
 use Rattle.mw_decode.proofs.CodeSoundness.{within_sound, instructions_sound}
 
 -- a reader leaves no more than it was given
-pub shorter : {A : Type 0} {r : Reader A} (P : A → List ℕ → Type 0) → Sound r P
-    → (end : ℕ) (bytes : List ℕ) (x : A) (rest : List ℕ) → r end bytes ≡ got x rest → length rest ≤ length bytes
-shorter P s end bytes x rest e =
+pub shorter : {A : Type 0} {r : Reader A} {P : A → List ℕ → Type 0} → Sound r P → (end : ℕ) (bytes : List ℕ) (x : A)
+    (rest : List ℕ) → r end bytes ≡ got x rest → length rest ≤ length bytes
+shorter s end bytes x rest e =
     let h = s.sound end bytes x rest e in omega (arith, ap length h.whole, length-append h.front rest)
 
 pub same_then : {A B : Type 0} (m : Read A) (f g : A → List ℕ → Read B)
@@ -25,6 +25,15 @@ pub same_then : {A B : Type 0} (m : Read A) (f g : A → List ℕ → Read B)
 same_then (got x mid) f g h = h x mid refl
 same_then ended f g h = refl
 same_then (faulty d) f g h = refl
+
+-- one thing, and what is read behind it in one of two ways that agree on so many bytes
+agree_then : {A B : Type 0} {r : Reader A} {P : A → List ℕ → Type 0} (k : ℕ) (f g : A → Reader B) → Sound r P
+    → (end : ℕ) (bytes : List ℕ) → length bytes ≤ k
+    → ((x : A) (rest : List ℕ) → length rest ≤ k → f x end rest ≡ g x end rest)
+    → (r >>= f) end bytes ≡ (r >>= g) end bytes
+agree_then {r = r} k f g s end bytes h same =
+    same_then (r end bytes) (λ x rest. f x end rest) (λ x rest. g x end rest)
+    (λ x rest e. let l = shorter s end bytes x rest e in same x rest (omega arith))
 
 -- two ways to read lists agree on so many bytes
 record Agree (k : ℕ) (p q : Lists) : Type 0 where
@@ -45,25 +54,23 @@ inside_agree k p q a s room a_loop t end bytes h =
     ap (λ m. and_then m (λ c rest. got (loop t c) rest)) (closed_agree k p q a room end bytes h)
 inside_agree k p q a s room an_if t end bytes h =
     ap (λ m. and_then m (λ l rest. second p room t l.code l.mark end rest)) (a.agree room true end bytes h)
-    ∙ same_then (q room true end bytes) (λ l rest. second p room t l.code l.mark end rest)
-    (λ l rest. second q room t l.code l.mark end rest)
-    (λ l rest e. seconds l.code l.mark rest (shorter _ (s.each room true) end bytes l rest e))
+    ∙ agree_then k (λ l. second p room t l.code l.mark) (λ l. second q room t l.code l.mark) (s.each room true) end
+    bytes
+    h (λ l rest m. seconds l.code l.mark rest m)
   where
-    seconds : (c : Code) (m : Mark) (rest : List ℕ) → length rest ≤ length bytes
+    seconds : (c : Code) (m : Mark) (rest : List ℕ) → length rest ≤ k
         → second p room t c m end rest ≡ second q room t c m end rest
     seconds c closing rest l = refl
     seconds c otherwise rest l =
-        ap (λ m. and_then m (λ b rest. got (if_else t c b) rest)) (closed_agree k p q a room end rest (omega arith))
+        ap (λ m. and_then m (λ b rest. got (if_else t c b) rest)) (closed_agree k p q a room end rest l)
 
 opened_agree : (k : ℕ) (p q : Lists) → Agree k p q → ListsSound q
     → (room : ℕ) (o : Opener) (at end : ℕ) (bytes : List ℕ) → length bytes ≤ k
     → opened p room o at end bytes ≡ opened q room o at end bytes
 opened_agree k p q a s zero o at end bytes h = refl
 opened_agree k p q a s (suc room) o at end bytes h =
-    same_then (block_type end bytes) (λ t rest. inside p room o t end rest) (λ t rest. inside q room o t end rest)
-    (λ t rest e.
-    let l = shorter _ sound_block_type end bytes t rest e in
-    inside_agree k p q a s room o t end rest (omega arith))
+    agree_then k (inside p room o) (inside q room o) sound_block_type end bytes h
+    (λ t rest l. inside_agree k p q a s room o t end rest l)
 
 more_agree : (k : ℕ) (p q : Lists) → Agree k p q
     → (room : ℕ) (first : Bool) (i : Instruction) (end : ℕ) (bytes : List ℕ) → length bytes ≤ k
@@ -85,10 +92,8 @@ behind_agree k p q a s room first at b end bytes h = go (opcode_cases b)
         → behind p room first at (opens o) end bytes ≡ behind q room first at (opens o) end bytes
     openings o e =
         ap (λ m. and_then m (λ i rest. more p room first i end rest)) (opened_agree k p q a s room o at end bytes h)
-        ∙ same_then (opened q room o at end bytes) (λ i rest. more p room first i end rest)
-        (λ i rest. more q room first i end rest) (λ i rest f.
-        let l = shorter _ (opened_sound q s room o at b e) end bytes i rest f in
-        more_agree k p q a room first i end rest (omega arith))
+        ∙ agree_then k (more p room first) (more q room first) (opened_sound q s room o at b e) end bytes h
+        (λ i rest l. more_agree k p q a room first i end rest l)
 
     elses : (first : Bool)
         → behind p room first at (marks otherwise) end bytes ≡ behind q room first at (marks otherwise) end bytes
@@ -102,10 +107,9 @@ behind_agree k p q a s room first at b end bytes h = go (opcode_cases b)
     go (by_else e f) = same (marks otherwise) f (elses first)
     go (by_end e f) = same (marks closing) f refl
     go (by_none f) =
-        same (alone (alone_of b)) f (same_then (immediates at (alone_of b) end bytes)
-        (λ i rest. more p room first i end rest) (λ i rest. more q room first i end rest) (λ i rest g.
-        let l = shorter _ (immediates_sound b at (alone_of b) (alone_sound b)) end bytes i rest g in
-        more_agree k p q a room first i end rest (omega arith)))
+        same (alone (alone_of b)) f (agree_then k (more p room first) (more q room first)
+        (immediates_sound b at (alone_of b) (alone_sound b)) end bytes h
+        (λ i rest l. more_agree k p q a room first i end rest l))
 
 listed_agree : (k : ℕ) (p q : Lists) → Agree k p q → ListsSound q → (room : ℕ) (first : Bool) (end : ℕ) (bytes : List ℕ)
     → length bytes ≤ suc k → listed p room first end bytes ≡ listed q room first end bytes

@@ -1,19 +1,18 @@
 -- A spelled chain of sections is read again, wherever custom sections stand between them.
-use Rattle.std.proofs.Common.{◌≡◌, ◌<◌, ◌≤◌, ℕ, zero, suc, ◌⊎◌, inl, inr, Bool, true, false, ◌&&◌, cond, eqb, leb, ltb}
+use Rattle.std.proofs.Common.{◌≡◌, ◌<◌, ◌≤◌, ℕ, zero, suc, ◌⊎◌, inl, inr, Bool, true, false, cond, eqb, leb}
 use Rattle.std.proofs.Common.{List, [], ◌∷◌, ◌++◌, length, drop, refl, sym, ap, subst, ◌∙◌, append_assoc, arith}
 use Rattle.std.proofs.Common.{length-append, length-drop}
-use Rattle.std.proofs.lemmas.Bool.{eqb-true, le-leb, lt-ltb}
+use Rattle.std.proofs.lemmas.Bool.{ne_eqb, le-leb, lt-ltb, cond-true}
 use Rattle.std.proofs.lemmas.List.{append-nil, drop_at}
 use Rattle.mw_wasm.specs.Pieces.{Joined, Sized, byte, items, exactly}
 use Rattle.mw_wasm.specs.BinaryModules as grammar
 use Rattle.mw_decode.specs.Reading.{got, ended, Reader, and_then, ◌>>=◌, u32}
 use Rattle.mw_decode.specs.Sections.{customs_within, customs, section, after_customs, no_start, no_more}
-use Rattle.mw_decode.proofs.Choices.{first_is, both}
 use Rattle.mw_decode.proofs.ReaderSoundness.{sound_u32}
 use Rattle.mw_decode.proofs.ReadingFixedPoint.{shorter, same_then}
 use Rattle.mw_decode.proofs.CodeCompleteness.{Again, again_u32}
 use Rattle.mw_decode.proofs.SizedLaws.{again_sized}
-use Rattle.mw_decode.proofs.SectionLaws.{section_end, section_here, section_later}
+use Rattle.mw_decode.proofs.SectionLaws.{skipped, section_end, section_here, section_later}
 
 -- as many custom sections as there are bytes are enough
 same_branch : {A : Type 0} (b : Bool) (x y z : A) → (b ≡ true → x ≡ y) → cond b x z ≡ cond b y z
@@ -22,17 +21,16 @@ same_branch false x y z h = refl
 
 customs_enough : (j k end : ℕ) (bytes : List ℕ) → length bytes ≤ j → length bytes ≤ k
     → customs_within j end bytes ≡ customs_within k end bytes
-customs_enough zero zero end bytes h l = refl
-customs_enough zero (suc k) end [] h l = refl
-customs_enough zero (suc k) end (b ∷ rest) h l = absurd (omega arith)
-customs_enough (suc j) zero end [] h l = refl
-customs_enough (suc j) zero end (b ∷ rest) h l = absurd (omega arith)
-customs_enough (suc j) (suc k) end [] h l = refl
 customs_enough (suc j) (suc k) end (b ∷ rest) h l =
     same_branch (eqb b 0) _ _ (got tt (b ∷ rest)) (λ _. same_then (u32 end rest) _ _ (λ size content e.
-    let m = shorter _ sound_u32 end rest size content e in
+    let m = shorter sound_u32 end rest size content e in
     same_branch (leb size (length content)) _ _ ended (λ _. customs_enough j k end (drop size content)
     (omega (arith, length-drop size content)) (omega (arith, length-drop size content)))))
+customs_enough zero zero end bytes h l = refl
+customs_enough zero (suc k) end [] h l = refl
+customs_enough (suc j) zero end [] h l = refl
+customs_enough (suc j) (suc k) end [] h l = refl
+customs_enough j k end (b ∷ rest) h l = absurd (omega arith)
 
 -- a custom section in front is skipped
 one_custom : (end : ℕ) (c : List ℕ) (front rest : List ℕ) → Joined (byte 0x00) (Sized (exactly c)) front
@@ -47,10 +45,8 @@ one_custom end c front rest h =
     let fits : leb n (length (s.content ++ rest)) ≡ true = le-leb _ _ (omega (arith, length-append s.content rest)) in
     let k = length (s.size ++ (s.content ++ rest)) in
     ap (customs end) w
-    ∙ (ap
-    (λ q. and_then q
-    λ size content. cond (leb size (length content)) (customs_within k end (drop size content)) ended) m
-    ∙ (first_is (leb n (length (s.content ++ rest))) _ _ fits
+    ∙ (ap (λ q. and_then q (skipped k end)) m
+    ∙ (cond-true (leb n (length (s.content ++ rest))) _ _ fits
     ∙ (ap (customs_within k end) (drop_at s.content rest n refl)
     ∙ customs_enough k (length rest) end rest
     (omega (arith, length-append s.size (s.content ++ rest), length-append s.content rest)) (omega arith))))
@@ -115,22 +111,10 @@ customs_append a b h k = record {
   spelled = items_append custom h.contents k.contents a b h.spelled k.spelled;
 }
 
-not_zero : (b : ℕ) → 0 < b → eqb b 0 ≡ false
-not_zero b h = go (eqb b 0) refl
-  where
-    go : (c : Bool) → eqb b 0 ≡ c → eqb b 0 ≡ false
-    go true e = absurd (let k = eqb-true b 0 e in omega arith)
-    go false e = e
-
-left_over : {A : Type 0} (b : Bool) (x y : A) → b ≡ false → cond b x y ≡ y
-left_over true x y e = absurd (cc)
-left_over false x y e = refl
-
 -- where no custom section stands, none is skipped
 stay : (k end : ℕ) (bytes : List ℕ) → Starts k bytes → customs end bytes ≡ got tt bytes
-stay k end bytes (nothing_more e) = subst (λ (z : List ℕ). customs end z ≡ got tt z) (sym e) refl
-stay k end bytes (a_section b rest e l h p) =
-    subst (λ (z : List ℕ). customs end z ≡ got tt z) (sym e) (left_over (eqb b 0) _ _ (not_zero b p))
+stay k end bytes (nothing_more e) = rw e refl
+stay k end bytes (a_section b rest e l h p) = rw (e, ne_eqb b 0 (λ f. omega arith)) refl
 
 weaker : (k : ℕ) (bytes : List ℕ) → Starts (suc k) bytes → Starts k bytes
 weaker k bytes (nothing_more e) = nothing_more e
@@ -221,15 +205,7 @@ no_start_step f y t skips r =
       };
     }
   where
-    differs : (b : ℕ) → 9 ≤ b → eqb b 8 ≡ false
-    differs b h = go (eqb b 8) refl
-      where
-        go : (c : Bool) → eqb b 8 ≡ c → eqb b 8 ≡ false
-        go true e = absurd (let k = eqb-true b 8 e in omega arith)
-        go false e = e
-
     passed : (end : ℕ) (bytes : List ℕ) → Starts 9 bytes → no_start end bytes ≡ got tt bytes
-    passed end bytes (nothing_more e) = subst (λ (z : List ℕ). no_start end z ≡ got tt z) (sym e) refl
+    passed end bytes (nothing_more e) = rw e refl
     passed end bytes (a_section b rest e l h p) =
-        subst (λ (z : List ℕ). no_start end z ≡ got tt z) (sym e) (left_over (eqb b 8) _ _ (differs b l)
-        ∙ first_is (ltb 8 b && leb b 11) _ _ (both _ _ (lt-ltb 8 b l) (le-leb b 11 h)))
+        rw (e, ne_eqb b 8 (λ f. omega arith), lt-ltb 8 b l, le-leb b 11 h) refl

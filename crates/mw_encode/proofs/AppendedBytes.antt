@@ -3,15 +3,12 @@ use Rattle.std.proofs.Common.{◌≡◌, ◌≤◌, ◌<◌, ◌^◌, ℕ, zero,
 use Rattle.std.proofs.Common.{drop-cons, add-one, append_assoc, append-nil, refl, sym, ap, ◌∙◌, arith, Result, Ok, Err}
 use Rattle.std.specs.Prelude.{OnOk}
 use Rattle.std.specs.List.{flat_map}
-use Rattle.std.proofs.lemmas.List.{length-map}
+use Rattle.std.proofs.lemmas.List.{length-map, drop_all}
 use Rattle.mw_wasm.specs.Pieces.{Piece, vector}
 use Rattle.mw_wasm.specs.BinaryModules.{section}
 use Rattle.mw_encode.specs.Encoding.{Spelled, number, vector_bytes, sized_bytes, section_bytes}
 use Rattle.mw_encode.proofs.Best.{Best}
-use Rattle.mw_encode.proofs.Pieces.{drop_past, section_vector, section_some, section_small}
-
-pub joined : (old mid new xs ys : List ℕ) → mid ≡ old ++ xs → new ≡ mid ++ ys → new ≡ old ++ (xs ++ ys)
-joined old mid new xs ys e f = f ∙ (ap (λ t. t ++ ys) e ∙ append_assoc old xs ys)
+use Rattle.mw_encode.proofs.Pieces.{section_vector, section_some, section_small}
 
 pub after : {a m n : List ℕ} (b : List ℕ) → m ≡ a → n ≡ m ++ b → n ≡ a ++ b
 after b e f = f ∙ ap (λ t. t ++ b) e
@@ -26,15 +23,6 @@ pub ends_with : {T E : Type 0} (r : Result T E) (new old xs ys : List ℕ) → y
     → OnOk r (new ≡ old ++ ys)
 ends_with (Ok x) new old xs ys e h = h ∙ ap (λ t. old ++ t) (sym e)
 ends_with (Err x) new old xs ys e h = tt
-
-pub then_with : {T E : Type 0} (r : Result T E) (old mid new xs ys zs : List ℕ) → zs ≡ xs ++ ys → mid ≡ old ++ xs
-    → OnOk r (new ≡ mid ++ ys) → OnOk r (new ≡ old ++ zs)
-then_with (Ok x) old mid new xs ys zs e f h = joined old mid new xs ys f h ∙ ap (λ t. old ++ t) (sym e)
-then_with (Err x) old mid new xs ys zs e f h = tt
-
-pub regrouped : (xs ys zs ws : List ℕ) (b : ℕ) → xs ++ (ys ++ b ∷ (zs ++ ws)) ≡ (((xs ++ ys) ++ b ∷ []) ++ zs) ++ ws
-regrouped xs ys zs ws b = sym (append_assoc xs ys (b ∷ (zs ++ ws)))
-    ∙ (sym (append_assoc (xs ++ ys) (b ∷ []) (zs ++ ws)) ∙ sym (append_assoc ((xs ++ ys) ++ b ∷ []) zs ws))
 
 -- items that are written one after another: what is written and those that are left are the whole
 module _ {A : Type 0} (f : A → List ℕ) (xs : List A) where
@@ -52,7 +40,7 @@ module _ {A : Type 0} (f : A → List ℕ) (xs : List A) where
       ∙ (append_assoc out (f y) (flat_map f (drop (k + 1) xs)) ∙ (ap (λ ys. out ++ flat_map f ys) (sym split) ∙ w))
 
   pub left_end : (k : ℕ) (out whole : List ℕ) → length xs ≤ k → out ++ flat_map f (drop k xs) ≡ whole → out ≡ whole
-  left_end k out whole h w = sym (append-nil out) ∙ (ap (λ ys. out ++ flat_map f ys) (sym (drop_past xs k h)) ∙ w)
+  left_end k out whole h w = sym (append-nil out) ∙ (ap (λ ys. out ++ flat_map f ys) (sym (drop_all k xs h)) ∙ w)
 
 pub positive : (n : ℕ) → (n ≡ 0 → ⊥) → 0 < n
 positive zero h = absurd (h refl)

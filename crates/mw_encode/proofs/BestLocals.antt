@@ -1,7 +1,8 @@
 -- Equal neighbouring locals as one run: no other runs of the same locals are shorter.
-use Rattle.std.proofs.Common.{◌≡◌, ℕ, zero, suc, ◌+◌, ◌^◌, ◌≤◌, ◌<◌, ◌⊎◌, inl, inr, true, false, List, [], ◌∷◌, ◌++◌}
+use Rattle.std.proofs.Common.{◌≡◌, ℕ, zero, suc, ◌+◌, ◌^◌, ◌≤◌, ◌<◌, inl, inr, true, false, List, [], ◌∷◌, ◌++◌}
 use Rattle.std.proofs.Common.{length, replicate, length-append, refl, sym, ap, ◌∙◌, arith}
 use Rattle.std.specs.List.{flat_map}
+use Rattle.std.proofs.lemmas.Bool.{cases_Bool}
 use Rattle.mw_wasm.specs.declared.values.ValType.{ValType}
 use Rattle.mw_wasm.specs.declared.values.ValType.TheVariants as value
 use Rattle.mw_wasm.specs.Pieces.{items}
@@ -26,9 +27,6 @@ same_is value.I64 value.I64 e = refl
 same_self : (t : ValType) → same_type t t ≡ true
 same_self value.I32 = refl
 same_self value.I64 = refl
-
-cases : (t u : ValType) → (same_type t u ≡ true) ⊎ (same_type t u ≡ false)
-cases t u = elim (same_type t u) as (λ b. (b ≡ true) ⊎ (b ≡ false)) [ true ↦ inl refl | false ↦ inr refl ]
 
 pub runs_end : (t : ValType) (n : ℕ) → runs_from t n [] ≡ record { count = n; kind = t } ∷ []
 unfolding runs_from
@@ -61,7 +59,7 @@ replicate_one_more (suc n) t us = rw (let e : suc n + 1 ≡ suc (n + 1) = omega 
 pub runs_from_are : (t : ValType) (n : ℕ) (us : List ValType) → flat_map locals_of (runs_from t n us) ≡ replicate n t
     ++ us
 runs_from_are t n [] = rw (runs_end t n) refl
-runs_from_are t n (u ∷ us) = elim (cases t u) [
+runs_from_are t n (u ∷ us) = elim (cases_Bool (same_type t u)) [
   | inl e ↦ rw (runs_same t u n us e, runs_from_are t (n + 1) us) (rw (← same_is t u e) (replicate_one_more n t us))
   | inr e ↦ rw (runs_other t u n us e) (ap (λ x. replicate n t ++ x) (runs_from_are u 1 us))
 ]
@@ -85,25 +83,17 @@ no_more_self : (a : List Run) → NoMore a a
 no_more_self a = record { fewer = omega arith; shorter = omega arith }
 
 no_more_behind : (r : Run) (a b : List Run) → NoMore a b → NoMore (r ∷ a) (r ∷ b)
-no_more_behind r a b h = record {
-  fewer = let f = h.fewer in omega (arith, f);
-  shorter = let s : length (flat_map run_bytes a) ≤ length (flat_map run_bytes b) = h.shorter in
-      rw (length-append (run_bytes r) (flat_map run_bytes a), length-append (run_bytes r) (flat_map run_bytes b))
-      (omega arith);
-}
+no_more_behind r a b h =
+    record { fewer = omega (arith, h.fewer); shorter = omega (arith, h.shorter, length-append {A = ℕ}) }
 
 no_more_over : (r : Run) (a b : List Run) → NoMore a b → NoMore a (r ∷ b)
-no_more_over r a b h = record {
-  fewer = let f = h.fewer in omega (arith, f);
-  shorter = let s : length (flat_map run_bytes a) ≤ length (flat_map run_bytes b) = h.shorter in
-      rw (length-append (run_bytes r) (flat_map run_bytes b)) (omega arith);
-}
+no_more_over r a b h =
+    record { fewer = omega (arith, h.fewer); shorter = omega (arith, h.shorter, length-append {A = ℕ}) }
 
 no_more_along : (a b c : List Run) → NoMore a b → NoMore b c → NoMore a c
 no_more_along a b c h k = record {
-  fewer = let f = h.fewer in let g = k.fewer in omega (arith, f, g);
-  shorter = let f =
-      h.shorter in let g = k.shorter in omega (arith, f, g);
+  fewer = omega (arith, h.fewer, k.fewer);
+  shorter = omega (arith, h.shorter, k.shorter);
 }
 
 -- one run in place of two
@@ -127,7 +117,7 @@ after_run : (t : ValType) (n c : ℕ) (u : ValType) (others : List Run)
     (record { count = n; kind = t } ∷ record { count = c; kind = u } ∷ others)
 after_run t n zero u others before =
     no_more_along _ _ _ (before t n) (no_more_behind _ _ _ (no_more_over _ _ _ (no_more_self others)))
-after_run t n (suc c) u others before = elim (cases t u) [
+after_run t n (suc c) u others before = elim (cases_Bool (same_type t u)) [
   | inl e ↦ let same : t ≡ u = same_is t u e in
       rw (← same, joined t n (suc c) (flat_map locals_of others))
       (no_more_along _ _ _ (before t (n + suc c)) (merged t n (suc c) others))
@@ -179,7 +169,7 @@ from_spelled : (us : List ValType) (t : ValType) (n : ℕ) → n + length us < 2
 from_spelled [] t n h =
     rw (runs_end t n)
     (record { front = _; back = []; whole = refl; first = run_spelled n t (omega arith); second = refl })
-from_spelled (u ∷ us) t n h = elim (cases t u) [
+from_spelled (u ∷ us) t n h = elim (cases_Bool (same_type t u)) [
   | inl e ↦ rw (runs_same t u n us e) (from_spelled us t (n + 1) (omega arith))
   | inr e ↦ rw (runs_other t u n us e)
       (record {

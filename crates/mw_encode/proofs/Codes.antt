@@ -11,7 +11,7 @@ use Rattle.mw_wasm.specs.Pieces.{Piece, byte, ◌then◌, ◌or◌, ◌when◌, 
 use Rattle.mw_wasm.specs.BinaryInstructions.{code, instruction}
 use Rattle.mw_wasm.specs.Views.{instruction_of, list_code, code_of, block_is, loop_is, cond_is}
 use Rattle.mw_encode.specs.Encoding.{Spelled, instruction_bytes, code_bytes, else_bytes, block_type_byte}
-use Rattle.mw_encode.proofs.Pieces.{spelled_first, spelled_second, spelled_count}
+use Rattle.mw_encode.proofs.Pieces.{same_first, spelled_first, spelled_second, spelled_count}
 
 abbrev pub each_instruction : Instr → Piece
 each_instruction i = instruction (instruction_of i)
@@ -21,14 +21,7 @@ each_bytes i = instruction_bytes (instruction_of i)
 
 as_items : (is : List Instr) (bytes : List ℕ) → code (list_code is) bytes → items each_instruction is bytes
 as_items [] bytes p = p
-as_items (i ∷ is) bytes p = record {
-  front = p.front;
-  back = p.back;
-  whole = p.whole;
-  first = p.first;
-  second =
-      as_items is p.back p.second;
-}
+as_items (i ∷ is) bytes p = same_first p (as_items is p.back p.second)
 
 pub code_items : (is : List Instr) → Spelled (code (list_code is)) → Spelled (items each_instruction is)
 code_items is s = record { bytes = s.bytes; spell = as_items is s.bytes s.spell }

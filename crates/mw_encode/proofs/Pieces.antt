@@ -1,9 +1,9 @@
 -- What the parts of a piece that is spelled are, and how items are written one after another.
-use Rattle.std.proofs.Common.{◌≡◌, ℕ, zero, suc, ◌+◌, ◌^◌, ◌≤◌, ◌<◌, List, [], ◌∷◌, ◌++◌, length, map, drop, get_or}
+use Rattle.std.proofs.Common.{◌≡◌, ℕ, suc, ◌+◌, ◌^◌, ◌≤◌, ◌<◌, List, [], ◌∷◌, ◌++◌, length, map, drop, get_or}
 use Rattle.std.proofs.Common.{drop-cons, add-one, append_assoc, append-nil, refl, sym, ap, ◌∙◌, inl, inr, arith}
-use Rattle.std.proofs.lemmas.List.{length-map, map-id}
+use Rattle.std.proofs.lemmas.List.{length-map, map-id, drop_all}
 use Rattle.std.specs.List.{flat_map}
-use Rattle.mw_wasm.specs.Pieces.{Piece, ◌then◌, items, vector, sized}
+use Rattle.mw_wasm.specs.Pieces.{Piece, ◌then◌, items, vector}
 use Rattle.mw_wasm.specs.BinaryModules.{section}
 use Rattle.mw_encode.specs.Encoding.{Spelled, number, octet_bytes, vector_bytes, sized_bytes, section_bytes}
 use Rattle.mw_encode.proofs.Best.{Best, best_vector, content_small}
@@ -48,29 +48,20 @@ rest_step P f xs k x out more whole h e m r =
     let w : out ++ (f x ++ flat_map f (drop (suc k) xs)) ≡ whole = rw split at r.written in
     rw add-one (record { spelled = spelled_second s; written = rw (m, append_assoc) w })
 
-pub drop_past : {A : Type 0} (xs : List A) (k : ℕ) → length xs ≤ k → drop k xs ≡ []
-drop_past [] zero h = refl
-drop_past [] (suc k) h = refl
-drop_past (x ∷ xs) zero h = absurd (omega arith)
-drop_past (x ∷ xs) (suc k) h = drop_past xs k (omega arith)
-
 pub rest_end : {A : Type 0} (P : A → Piece) (f : A → List ℕ) (xs : List A) (k : ℕ) (out whole : List ℕ) → length xs ≤ k
     → Rest P f (drop k xs) out whole → out ≡ whole
-rest_end P f xs k out whole h r = let e : drop k xs ≡ [] = drop_past xs k h in let w : out ++ [] ≡ whole =
+rest_end P f xs k out whole h r = let e : drop k xs ≡ [] = drop_all k xs h in let w : out ++ [] ≡ whole =
     rw e at r.written in sym (append-nil out) ∙ w
+
+-- the same first part, and the second as another piece
+pub same_first : {P Q R : List ℕ → Type 0} {bytes : List ℕ} (p : (P then Q) bytes) → R p.back → (P then R) bytes
+same_first p r = record { front = p.front; back = p.back; whole = p.whole; first = p.first; second = r }
 
 -- items that are seen through a view
 pub viewed_items : {A B : Type 0} (P : B → Piece) (v : A → B) (xs : List A) (bytes : List ℕ) → items P (map v xs) bytes
     → items (λ x. P (v x)) xs bytes
 viewed_items P v [] bytes p = p
-viewed_items P v (x ∷ xs) bytes p = record {
-  front = p.front;
-  back = p.back;
-  whole = p.whole;
-  first = p.first;
-  second =
-      viewed_items P v xs p.back p.second;
-}
+viewed_items P v (x ∷ xs) bytes p = same_first p (viewed_items P v xs p.back p.second)
 
 pub viewed_bytes : {A B : Type 0} (f : B → List ℕ) (v : A → B) (xs : List A) → flat_map f (map v xs)
     ≡ flat_map (λ x. f (v x)) xs
@@ -100,8 +91,7 @@ seen_same xs = map-id xs
 pub section_vector : {A : Type 0} (id : ℕ) (P : A → Piece) (xs : List A) → 0 < length xs → Spelled (section id P xs)
     → Spelled (vector P xs)
 section_vector id P xs h s = elim s.spell [
-  | inl p ↦ let e : xs ≡ [] = p.0 in absurd (let g : 0 < length xs = h in let k : length xs ≡ 0 = ap length e in
-      omega arith)
+  | inl p ↦ absurd (omega (arith, h, ap length p.0))
   | inr p ↦ record { bytes = p.second.content; spell = p.second.inside }
 ]
 
@@ -113,7 +103,6 @@ section_some id f (x ∷ xs) h = refl
 pub section_small : {A : Type 0} (id : ℕ) (P : A → Piece) (f : A → List ℕ) → ((x : A) → Best (P x) (f x))
     → (xs : List A) → 0 < length xs → Spelled (section id P xs) → length (vector_bytes f xs) < 2 ^ 32
 section_small id P f each xs h s = elim s.spell [
-  | inl p ↦ let e : xs ≡ [] = p.0 in absurd (let g : 0 < length xs = h in let k : length xs ≡ 0 = ap length e in
-      omega arith)
+  | inl p ↦ absurd (omega (arith, h, ap length p.0))
   | inr p ↦ content_small (best_vector P f each xs) (record { bytes = _; spell = p.second })
 ]

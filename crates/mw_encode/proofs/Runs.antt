@@ -1,11 +1,11 @@
 -- The runs of locals as a loop finds them, one local after another.
 use Rattle.std.proofs.Common.{◌≡◌, ℕ, suc, ◌+◌, ◌≤◌, ◌<◌, true, false, List, [], ◌∷◌, ◌++◌, length, drop, get_or}
 use Rattle.std.proofs.Common.{drop-cons, add-one, append_assoc, append-nil, refl, sym, ap, ◌∙◌, arith}
+use Rattle.std.proofs.lemmas.List.{drop_all}
 use Rattle.std.specs.List.{flat_map}
 use Rattle.mw_wasm.specs.declared.values.ValType.{ValType}
 use Rattle.mw_wasm.specs.BinaryModules.{Run}
 use Rattle.mw_encode.specs.Encoding.{run_bytes, same_type, runs_from, runs_of}
-use Rattle.mw_encode.proofs.Pieces.{drop_past}
 use Rattle.mw_encode.proofs.BestLocals.{runs_end, runs_same, runs_other, runs_of_none, runs_of_more}
 
 -- Before the local at this place: so many of this type, and the runs before them are written.
@@ -67,7 +67,7 @@ other_step list at kind d count before out more old h e m one r =
 
 last_run : (list : List ValType) (at : ℕ) (kind : ValType) (count : ℕ) → length list ≤ at
     → runs_from kind count (drop at list) ≡ record { count = count; kind = kind } ∷ []
-last_run list at kind count h = ap (λ xs. runs_from kind count xs) (drop_past list at h) ∙ runs_end kind count
+last_run list at kind count h = ap (λ xs. runs_from kind count xs) (drop_all at list h) ∙ runs_end kind count
 
 pub runs_number : (list : List ValType) (at : ℕ) (kind : ValType) (count before : ℕ) (out old : List ℕ)
     → length list ≤ at → RunsLeft list at kind count before out old → before + 1 ≡ length (runs_of list)

@@ -7,13 +7,14 @@ use Rattle.std.proofs.lemmas.Iterator.Adapters.{position_from-zero}
 use Rattle.mw_wasm.specs.declared.modules.Element.{Element}
 use Rattle.mw_wasm.specs.declared.modules.Segment.{Segment}
 use Rattle.mw_wasm.specs.declared.modules.Module.{Module}
-use Rattle.mw_wasm.specs.Syntax.{PureModule}
 use Rattle.mw_wasm.specs.Instances.{element, segment, first_table, first_memory, element_fits, segment_fits}
 use Rattle.mw_wasm.specs.Instances.{instantiated}
 use Rattle.mw_wasm.specs.Validity.{IsValid, IsValidElement, IsValidData}
 use Rattle.mw_wasm.specs.Views.{module_of, element_of, segment_of}
+use Rattle.mw_validate.proofs.MappedElements.{unmapped, all_so}
 use Rattle.mw_exec.specs.Fitting.{ends_in, element_test, segment_test, AllFit, HasElementOffset, HasSegmentOffset}
 use Rattle.mw_exec.specs.Instancing.{first_store, BeginsAs}
+use Rattle.mw_exec.proofs.Positions.{none_before_first, first_is_here, none_at_all}
 
 -- a test of mapped items
 from_map : {X Y : Type 0} (test : Y → Bool) (f : X → Y) (i : ℕ) (xs : List X) → position_from test i (map f xs)
@@ -52,21 +53,15 @@ pub begins : (wasm : Module) → AllFit wasm → BeginsAs wasm (first_store (mod
 begins wasm fit = rw (first_element wasm _ refl ∙ fit.elements, first_segment wasm _ refl ∙ fit.segments) refl
 
 -- a valid module's segments have constant offsets
-all_elements : (m : PureModule) (xs : List Element) → AllByRecursion (IsValidElement m) (map element_of xs)
-    → AllByRecursion HasElementOffset xs
-all_elements m [] all = tt
-all_elements m (x ∷ xs) all = (all.0.1, all_elements m xs all.1)
-
-all_segments : (m : PureModule) (xs : List Segment) → AllByRecursion (IsValidData m) (map segment_of xs)
-    → AllByRecursion HasSegmentOffset xs
-all_segments m [] all = tt
-all_segments m (x ∷ xs) all = (all.0.1, all_segments m xs all.1)
-
 pub elements_have_offsets : (wasm : Module) → IsValid (module_of wasm) → AllByRecursion HasElementOffset wasm.elements
-elements_have_offsets wasm valid = all_elements (module_of wasm) wasm.elements valid.elements
+elements_have_offsets wasm valid =
+    all_so (λ (e : Element). IsValidElement (module_of wasm) (element_of e)) HasElementOffset wasm.elements
+    (λ e h. h.1) (unmapped (IsValidElement (module_of wasm)) element_of wasm.elements valid.elements)
 
 pub segments_have_offsets : (wasm : Module) → IsValid (module_of wasm) → AllByRecursion HasSegmentOffset wasm.segments
-segments_have_offsets wasm valid = all_segments (module_of wasm) wasm.segments valid.segments
+segments_have_offsets wasm valid =
+    all_so (λ (s : Segment). IsValidData (module_of wasm) (segment_of s)) HasSegmentOffset wasm.segments
+    (λ s h. h.1) (unmapped (IsValidData (module_of wasm)) segment_of wasm.segments valid.segments)
 
 -- a segment that ends past the size
 pub ends_past : (a l size b k : ℕ) → false ≡ ends_in a l size → a ≡ b → l ≡ k → not (ends_in b k size) ≡ true
@@ -77,3 +72,9 @@ ends_past a l size b k e f g = subst (λ b. not (ends_in b k size) ≡ true) f
 pub is_none : (r : Option ℕ) → ((x : ℕ) → r ≡ Some x → ⊥) → r ≡ None
 is_none None h = refl
 is_none (Some x) h = absurd (h x refl)
+
+-- which modules have an instance
+pub ruleset fault_laws = (elements_have_offsets, segments_have_offsets, unfit_element, unfit_segment, is_none)
+
+-- which segment is the first that doesn't fit
+pub ruleset unfit_laws = (none_before_first, first_is_here, none_at_all, ends_past)

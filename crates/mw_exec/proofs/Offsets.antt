@@ -1,4 +1,5 @@
 -- The offset that a constant expression gives.
+use Rattle.std.proofs.lemmas.Option.{same_Some}
 use Rattle.std.proofs.Common.{◌≡◌, ℕ, List, [], ◌∷◌, refl, sym, ◌∙◌, ap, Some, subst}
 use Rattle.std.specs.Prelude.{slice_get}
 use Rattle.mw_wasm.specs.declared.instructions.Instr.{Instr}
@@ -10,47 +11,21 @@ use Rattle.mw_wasm.specs.Views.{instruction_of, list_code}
 use Rattle.mw_wasm.specs.Instances.{offset_of}
 
 -- the first instruction of a constant expression of type i32
-same : {x y : Instr} → Some x ≡ Some y → x ≡ y
-same e = cc
-
 pub constant_offset : (code : List Instr) (x : Instr) (n : ℕ) → slice_get code 0 ≡ Some x → instruction_of x
     ≡ const_i32 n → IsConstantOf I32 (list_code code) → n ≡ offset_of (list_code code)
 constant_offset [] x n e f h = absurd (h)
-constant_offset (y ∷ []) x n e f h = sym (ap (λ i. offset_of (next i end)) (ap instruction_of (same e) ∙ f))
+constant_offset (y ∷ []) x n e f h = sym (ap (λ i. offset_of (next i end)) (ap instruction_of (same_Some _ _ e) ∙ f))
 constant_offset (y ∷ z ∷ code) x n e f h =
     absurd (subst (λ i. IsConstantOf I32 (next i (next (instruction_of z) (list_code code))))
-    (ap instruction_of (same e) ∙ f) h)
+    (ap instruction_of (same_Some _ _ e) ∙ f) h)
 
 -- no other instruction begins one
 not_other : (y : Instr) (c : Code) → ((n : ℕ) → y ≡ instr.ConstI32 n → ⊥) → IsConstantOf I32 (next (instruction_of y) c)
     → ⊥
 not_other (instr.ConstI32 n) c none h = none n refl
-not_other instr.Unreachable c none h = h
-not_other instr.Nop c none h = h
-not_other (instr.Block' t s all) c none h = h
-not_other (instr.Loop' t s all) c none h = h
-not_other (instr.If' t s all r rest) c none h = h
-not_other (instr.Br l) c none h = h
-not_other (instr.BrIf l) c none h = h
-not_other (instr.BrTable ls l) c none h = h
-not_other instr.Return c none h = h
-not_other (instr.Call f) c none h = h
-not_other (instr.CallIndirect t) c none h = h
-not_other instr.Drop c none h = h
-not_other instr.Select c none h = h
-not_other (instr.LocalGet x) c none h = h
-not_other (instr.LocalSet x) c none h = h
-not_other (instr.LocalTee x) c none h = h
-not_other (instr.GlobalGet x) c none h = h
-not_other (instr.GlobalSet x) c none h = h
-not_other (instr.Load o a n) c none h = h
-not_other (instr.Store o a n) c none h = h
-not_other instr.MemorySize c none h = h
-not_other instr.MemoryGrow c none h = h
-not_other (instr.ConstI64 n) c none h = h
-not_other (instr.Num o) c none h = h
+not_other y c none h = h
 
 pub only_constants : (code : List Instr) (x : Instr) → slice_get code 0 ≡ Some x → ((n : ℕ) → x ≡ instr.ConstI32 n → ⊥)
     → IsConstantOf I32 (list_code code) → ⊥
 only_constants [] x e none h = h
-only_constants (y ∷ code) x e none h = not_other y (list_code code) (λ n f. none n (sym (same e) ∙ f)) h
+only_constants (y ∷ code) x e none h = not_other y (list_code code) (λ n f. none n (sym (same_Some _ _ e) ∙ f)) h

@@ -1,6 +1,7 @@
 -- The first place at which a test passes, found from the left.
-use Rattle.std.proofs.Common.{◌≡◌, ◌≤◌, ◌<◌, ℕ, zero, suc, ◌+◌, Bool, true, List, [], ◌∷◌, length, refl, sym}
-use Rattle.std.proofs.Common.{◌∙◌, ap, drop-cons, Some, None, arith}
+use Rattle.std.proofs.lemmas.List.{drop_more, drop_all}
+use Rattle.std.proofs.Common.{◌≡◌, ◌≤◌, ◌<◌, ℕ, ◌+◌, Bool, true, List, ◌∷◌, length, refl, sym}
+use Rattle.std.proofs.Common.{◌∙◌, ap, Some, None}
 use Rattle.std.specs.Prelude.{drop, get_or, position}
 use Rattle.std.specs.List.{position_from}
 use Rattle.std.proofs.lemmas.Iterator.Adapters.{position_from-zero}
@@ -12,26 +13,17 @@ pub record NoneBefore {X : Type 0} (test : X → Bool) (xs : List X) (i : ℕ) :
 pub none_before_first : {X : Type 0} (test : X → Bool) (xs : List X) → NoneBefore test xs 0
 none_before_first test xs = record { from = refl }
 
-here : {X : Type 0} (test : X → Bool) (xs : List X) (i : ℕ) (x : X) → i < length xs → x ≡ get_or xs i x → drop i xs ≡ x
-    ∷ drop (suc i) xs
-here test xs i x h e = drop-cons xs i x h ∙ ap (λ y. y ∷ drop (suc i) xs) (sym e)
-
-next_place : (i : ℕ) → suc i ≡ i + 1
-next_place i = omega arith
+pub here : {X : Type 0} (xs : List X) (i : ℕ) (x : X) → i < length xs → x ≡ get_or xs i x → drop i xs ≡ x
+    ∷ drop (i + 1) xs
+here xs i x h e = drop_more xs i x h ∙ ap (λ y. y ∷ drop (i + 1) xs) (sym e)
 
 pub first_is_here : {X : Type 0} (test : X → Bool) (xs : List X) (i : ℕ) (x : X) → i < length xs → x ≡ get_or xs i x
     → test x ≡ true → NoneBefore test xs i → Some i ≡ position test xs
 first_is_here test xs i x h e t n =
-    (sym (ap (λ ys. position_from test i ys) (here test xs i x h e) ∙ rw t refl) ∙ n.from)
+    (sym (ap (λ ys. position_from test i ys) (here xs i x h e) ∙ rw t refl) ∙ n.from)
     ∙ sym (position_from-zero test xs)
-
-nothing_left : {X : Type 0} (xs : List X) (i : ℕ) → length xs ≤ i → drop i xs ≡ []
-nothing_left [] zero h = refl
-nothing_left [] (suc i) h = refl
-nothing_left (x ∷ xs) zero h = absurd (omega arith)
-nothing_left (x ∷ xs) (suc i) h = nothing_left xs i (omega arith)
 
 pub none_at_all : {X : Type 0} (test : X → Bool) (xs : List X) (i : ℕ) → length xs ≤ i → NoneBefore test xs i
     → None ≡ position test xs
-none_at_all test xs i h n = (sym (ap (λ ys. position_from test i ys) (nothing_left xs i h)) ∙ n.from)
+none_at_all test xs i h n = (sym (ap (λ ys. position_from test i ys) (drop_all i xs h)) ∙ n.from)
     ∙ sym (position_from-zero test xs)

@@ -172,7 +172,7 @@ pub fn leave<'m>(state: &mut State<'m>) -> Turn
                 restore_outside(state, waiting, outside);
                 Turn::On
             }
-            _ => {
+            Kind::Block(_) | Kind::Loop(_) => {
                 restore(state, waiting);
                 Turn::On
             }
@@ -191,7 +191,7 @@ pub fn give_back<'m>(state: &mut State<'m>) -> Turn
     while let Some(waiting) = take_waiting(state) {
         match waiting.kind {
             Kind::Frame(one, outside) => return from_body(state, waiting, from, one, outside),
-            _ => restore(state, waiting),
+            Kind::Block(_) | Kind::Loop(_) => restore(state, waiting),
         }
     }
     Turn::Lost

@@ -62,7 +62,7 @@ fn pass(state: &mut State<'_>) -> bool
         None => false,
         Some(waiting) => match waiting.kind {
             Kind::Frame(_, _) => false,
-            _ => {
+            Kind::Block(_) | Kind::Loop(_) => {
                 restore(state, waiting);
                 true
             }

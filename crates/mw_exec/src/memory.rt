@@ -1,6 +1,6 @@
 // Memory.
 
-ghost use Rattle.std.specs.Prelude.{◌≡◌, ◌≤◌, ◌<◌, ◌+◌, ◌*◌, ◌^◌, ◌∷◌, length, IfOk, IfErr, nat_le};
+ghost use Rattle.std.specs.Prelude.{◌≡◌, ℕ, ◌≤◌, ◌<◌, ◌+◌, ◌*◌, ◌^◌, ◌∷◌, length, IfOk, IfErr, nat_le};
 ghost use Rattle.mw_wasm.specs.declared.numbers.LoadOp.TheVariants as load_op;
 ghost use Rattle.mw_wasm.specs.Syntax.{load as load_instruction, store as store_instruction, memory_grow};
 ghost use Rattle.mw_wasm.specs.Act.{bits_of, most_pages};
@@ -184,7 +184,8 @@ fn size_of_load(op: LoadOp) -> u64
 fn value_at(bytes: &[u8], at: u64, op: LoadOp) -> Value
     requires long { length bytes.now < 2 ^ 63 }
     requires low { at < 2 ^ 60 }
-    ensures { result ≡ loaded op (read_bytes (load_size op) at (memory_of 0 bytes.now)) }
+    ensures { (pages : ℕ)
+        → result ≡ loaded op (read_bytes (load_size op) at (memory_of pages bytes.now)) }
 {
     match op {
         LoadOp::I32 => Value::I32(read_four(bytes, at)),

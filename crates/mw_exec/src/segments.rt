@@ -18,7 +18,7 @@ use mw_wasm::{Element, Instr, Instrs, Module, Segment};
 const PAGE: u64 = 65_536;
 
 /// The first segment of a valid module that doesn't fit, elements first.
-#[tactic(auto, using(crate::proofs::Beginnings::elements_have_offsets, crate::proofs::Beginnings::segments_have_offsets, crate::proofs::Beginnings::unfit_element, crate::proofs::Beginnings::unfit_segment, crate::proofs::Beginnings::is_none))]
+#[tactic(auto, using(crate::proofs::Beginnings::fault_laws))]
 pub fn first_fault(wasm: &Module) -> Option<InstanceFault>
     requires kept { IsKept wasm.now }
     ensures some { IfSome result (λ fault. Refuses fault wasm.now) }
@@ -73,7 +73,7 @@ fn fits(offset: u32, count: usize, size: u64) -> bool
 }
 
 /// The first element segment that doesn't fit a table of a size.
-#[tactic(auto, using(crate::proofs::Positions::none_before_first, crate::proofs::Positions::first_is_here, crate::proofs::Positions::none_at_all, crate::proofs::Beginnings::ends_past))]
+#[tactic(auto, using(crate::proofs::Beginnings::unfit_laws))]
 pub fn first_unfit_element(elements: &[Element], size: u64) -> Option<usize>
     requires { AllByRecursion HasElementOffset elements.now }
     ensures { result ≡ position (element_test size) elements.now }
@@ -90,7 +90,7 @@ pub fn first_unfit_element(elements: &[Element], size: u64) -> Option<usize>
 }
 
 /// The first data segment that doesn't fit a memory of a size in bytes.
-#[tactic(auto, using(crate::proofs::Positions::none_before_first, crate::proofs::Positions::first_is_here, crate::proofs::Positions::none_at_all, crate::proofs::Beginnings::ends_past))]
+#[tactic(auto, using(crate::proofs::Beginnings::unfit_laws))]
 pub fn first_unfit_segment(segments: &[Segment], size: u64) -> Option<usize>
     requires { AllByRecursion HasSegmentOffset segments.now }
     ensures { result ≡ position (segment_test size) segments.now }

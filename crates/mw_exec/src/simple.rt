@@ -23,7 +23,7 @@ use mw_wasm::{Instr, Module, Trap, Value};
 use std::alloc::AllocError;
 
 /// An instruction, where it is none of control.
-#[tactic(auto, using(crate::proofs::ArmRules::is_control, crate::proofs::ArmRules::arm))]
+#[tactic(auto, using(crate::proofs::ArmRules::is_control))]
 #[inline(always)]
 pub fn simple(
     wasm: &Module,

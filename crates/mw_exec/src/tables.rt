@@ -18,7 +18,7 @@ use mw_wasm::{FuncType, Module, Trap, ValType};
 use std::alloc::AllocError;
 
 /// A branch to the label at the place that the last operand names, or to another.
-#[tactic(auto, using(crate::proofs::TableRules::table_lacks, crate::proofs::TableRules::table_turns, crate::proofs::TableRules::chosen_within, crate::proofs::TableRules::chosen_past))]
+#[tactic(auto, using(crate::proofs::TableRules::table_laws))]
 pub fn jump_by_table<'m>(state: &mut State<'m>, labels: &'m [u32], l: u32) -> Turn
     requires { IsFormed state.old }
     ensures { (m : PureModule) (h : WasmHeld) → TurnsBy m (br_table labels.now l) h state.old result

@@ -20,9 +20,10 @@ use Rattle.mw_conv.proofs.Agrees.{given, then_agrees, paired}
 use Rattle.mw_conv.proofs.Correct.{Value as Valued}
 use Rattle.mw_meaning.specs.Shapes.{leaf_count}
 use Rattle.mw_gen.specs.Generate.{argument_of}
-use Rattle.mw_gen.proofs.Words.{Small, get_append}
+use Rattle.mw_gen.proofs.Words.{Small}
 use Rattle.mw_gen.proofs.Locals.{word}
 use Rattle.mw_gen.proofs.Primitives.{truth_small}
+use Rattle.mw_conv.proofs.Heaps.{get_append}
 
 -- an argument's leaves as words, and its value
 abbrev pub leaf_words : Value → List ℤ

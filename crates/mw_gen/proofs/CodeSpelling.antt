@@ -2,9 +2,10 @@
 use Rattle.std.proofs.Common.{◌≡◌, ◌≤◌, ◌<◌, ℕ, suc, ◌+◌, ◌*◌, ◌^◌, Bool, true, false, List, [], ◌∷◌, length, ℤ, pos}
 use Rattle.std.proofs.Common.{refl, sym, subst, inr, arith, if◌then◌else◌}
 use Rattle.std.specs.Prelude.{Some}
+use Rattle.std.specs.List.{AllByRecursion}
 use Rattle.std.proofs.Math.Dec.{lt→ltb}
 use Rattle.mw_term.specs.declared.term.Primitive.{Primitive as Prim}
-use Rattle.mw_term.specs.declared.term.Primitive.TheVariants.{Add, Sub, Mul, Div, Mod, Eq, Lt, Le}
+use Rattle.mw_term.specs.declared.term.Primitive.TheVariants.{Add, Eq, Lt, Le}
 use Rattle.mw_wasm.specs.declared.values.ValType.{ValType}
 use Rattle.mw_wasm.specs.declared.values.ValType.TheVariants.{I32, I64}
 use Rattle.mw_wasm.specs.Pieces.{byte, i32, ◌then◌, u32}
@@ -13,12 +14,12 @@ use Rattle.mw_wasm.specs.Syntax.{Instruction, Code, loop, cond, br, call_indirec
 use Rattle.mw_wasm.specs.Syntax.{global_get, global_set, load, store, const_i32, const_i64, numeric, end, next}
 use Rattle.mw_leb.proofs.Groups.{signed_shortest}
 use Rattle.mw_leb.specs.Shortest.{shortest_signed}
-use Rattle.mw_ir.specs.declared.place.Place.TheVariants.{Argument, Own, Slot, Free}
+use Rattle.mw_ir.specs.declared.place.Place.TheVariants.{Argument, Free}
 use Rattle.mw_ir.specs.Ir as i
 use Rattle.mw_ir.specs.declared.place.Place.{Place}
 use Rattle.mw_ir.specs.Ir.{Ir}
 use Rattle.mw_gen.specs.Generate.{expression_code, tail_code, is_own, place_code, stores_code, prim_code}
-use Rattle.mw_gen.specs.Generate.{application_code, pair_code, address_code, loop_code, body_code}
+use Rattle.mw_gen.specs.Generate.{application_code, pair_code, address_code, store_word, wrap, body_code}
 use Rattle.mw_gen.proofs.Slots.{slots_needed}
 use Rattle.mw_gen.proofs.Words.{bits, Small}
 use Rattle.mw_gen.proofs.Primitives.{truth_small, truth_bits}
@@ -138,80 +139,30 @@ breadth (i.prim p y z) = breadth y + breadth z + 2
 
 place_width : (p : Place) (b : ℕ) (rest : Code) → width (place_code p b rest) ≤ 18 + width rest
 place_width Argument b rest = omega arith
-place_width Own b rest = omega arith
-place_width (Slot s) b rest = omega arith
-place_width (Free j) b rest = omega arith
+place_width _ b rest = omega arith
 
 stores_width : (ps : List Place) (j b : ℕ) (rest : Code) → width (stores_code ps j b rest) ≤ 35 * length ps + width rest
 stores_width [] j b rest = omega arith
-stores_width (p ∷ ps) j b rest =
-    omega (
-      arith,
-      place_width p b (Rattle.mw_gen.specs.Generate.store_word (8 * j) (stores_code ps (suc j) b rest)),
-      stores_width ps (suc j) b rest,
-    )
+stores_width (p ∷ ps) j b rest = omega (arith, place_width p b, stores_width ps (suc j) b rest)
 
 prim_width : (p : Prim) (rest : Code) → width (prim_code p rest) ≤ 2 + width rest
 prim_width Add rest = omega arith
-prim_width Sub rest = omega arith
-prim_width Mul rest = omega arith
-prim_width Div rest = omega arith
-prim_width Mod rest = omega arith
-prim_width Eq rest = omega arith
-prim_width Lt rest = omega arith
-prim_width Le rest = omega arith
+prim_width _ rest = omega arith
 
 pub expression_width : (e : Ir) (b t : ℕ) (rest : Code) → width (expression_code e b t rest) ≤ breadth e + width rest
 expression_width (i.num z) b t rest = omega arith
 expression_width (i.truth z) b t rest = omega arith
 expression_width (i.get p) b t rest = place_width p b rest
-expression_width (i.closure k ps) b t rest =
-    omega (arith, stores_width ps 1 b (address_code (8 * suc (length ps)) rest))
-expression_width (i.app f a) b t rest =
-    omega (
-      arith,
-      expression_width f b t (expression_code a b t (application_code t rest)),
-      expression_width a b t (application_code t rest),
-    )
-expression_width (i.bind s d e) b t rest =
-    omega (
-      arith,
-      expression_width d b t (next (local_set (b + s)) (expression_code e b t rest)),
-      expression_width e b t rest,
-    )
+expression_width (i.closure k ps) b t rest = omega (arith, stores_width ps 1 b)
+expression_width (i.app f a) b t rest = omega (arith, expression_width f b t, expression_width a b t)
+expression_width (i.bind s d e) b t rest = omega (arith, expression_width d b t, expression_width e b t rest)
 expression_width (i.cond c y z) b t rest =
-    omega (
-      arith,
-      expression_width c b t
-          (Rattle.mw_gen.specs.Generate.wrap
-          (next (cond (Some I64) (expression_code y b t end) (expression_code z b t end))
-          rest)),
-      expression_width y b t end,
-      expression_width z b t end,
-    )
-expression_width (i.pair y z) b t rest =
-    omega (
-      arith,
-      expression_width y b t (expression_code z b t (pair_code t rest)),
-      expression_width z b t (pair_code t rest),
-    )
-expression_width (i.fst e) b t rest =
-    omega (
-      arith,
-      expression_width e b t (Rattle.mw_gen.specs.Generate.wrap (Rattle.mw_gen.specs.Generate.load_word 0 rest)),
-    )
-expression_width (i.snd e) b t rest =
-    omega (
-      arith,
-      expression_width e b t (Rattle.mw_gen.specs.Generate.wrap (Rattle.mw_gen.specs.Generate.load_word 8 rest)),
-    )
+    omega (arith, expression_width c b t, expression_width y b t end, expression_width z b t end)
+expression_width (i.pair y z) b t rest = omega (arith, expression_width y b t, expression_width z b t)
+expression_width (i.fst e) b t rest = omega (arith, expression_width e b t)
+expression_width (i.snd e) b t rest = omega (arith, expression_width e b t)
 expression_width (i.prim p y z) b t rest =
-    omega (
-      arith,
-      expression_width y b t (expression_code z b t (prim_code p rest)),
-      expression_width z b t (prim_code p rest),
-      prim_width p rest,
-    )
+    omega (arith, expression_width y b t, expression_width z b t, prim_width p rest)
 
 pub tail_width : (e : Ir) (b t d : ℕ) → width (tail_code e b t d) ≤ breadth e
 tail_width (i.app f a) b t d = go (is_own f)
@@ -221,28 +172,10 @@ tail_width (i.app f a) b t d = go (is_own f)
         (expression_code a b t (application_code t end))) ≤ breadth (i.app f a)
     go true = omega (arith, expression_width a b t (next (local_set 1) (next (br d) end)))
     go false = omega (arith, expression_width (i.app f a) b t end)
-tail_width (i.bind s y e) b t d = omega (
-  arith,
-  expression_width y b t (next (local_set (b + s)) (tail_code e b t d)),
-  tail_width e b t d,
-)
+tail_width (i.bind s y e) b t d = omega (arith, expression_width y b t, tail_width e b t d)
 tail_width (i.cond c y z) b t d =
-    omega (
-      arith,
-      expression_width c b t
-          (Rattle.mw_gen.specs.Generate.wrap (next (cond (Some I64) (tail_code y b t (suc d)) (tail_code z b t (suc d)))
-          end)),
-      tail_width y b t (suc d),
-      tail_width z b t (suc d),
-    )
-tail_width (i.num z) b t d = omega (arith, expression_width (i.num z) b t end)
-tail_width (i.truth z) b t d = omega (arith, expression_width (i.truth z) b t end)
-tail_width (i.get p) b t d = omega (arith, expression_width (i.get p) b t end)
-tail_width (i.closure k ps) b t d = omega (arith, expression_width (i.closure k ps) b t end)
-tail_width (i.pair y z) b t d = omega (arith, expression_width (i.pair y z) b t end)
-tail_width (i.fst y) b t d = omega (arith, expression_width (i.fst y) b t end)
-tail_width (i.snd y) b t d = omega (arith, expression_width (i.snd y) b t end)
-tail_width (i.prim p y z) b t d = omega (arith, expression_width (i.prim p y z) b t end)
+    omega (arith, expression_width c b t, tail_width y b t (suc d), tail_width z b t (suc d))
+tail_width e b t d = omega (arith, expression_width e b t end)
 
 pub body_width : (z : Bool) (e : Ir) (t : ℕ) → width (body_code z e t) ≤ breadth e + 3
 body_width false e t = omega (arith, expression_width e 2 t end)
@@ -253,13 +186,9 @@ abbrev pub IsNear : Place → Type 0
 IsNear (Free j) = j < 1000
 IsNear _ = Unit {0}
 
-abbrev pub AreNear : List Place → Type 0
-AreNear [] = Unit {0}
-AreNear (p ∷ ps) = IsNear p × AreNear ps
-
 abbrev pub Near : Ir → Type 0
 Near (i.get p) = IsNear p
-Near (i.closure k ps) = AreNear ps × (length ps < 1000)
+Near (i.closure k ps) = AllByRecursion IsNear ps × (length ps < 1000)
 Near (i.app f a) = Near f × Near a
 Near (i.bind s d e) = Near d × Near e
 Near (i.cond c y z) = Near c × Near y × Near z
@@ -271,13 +200,11 @@ Near _ = Unit {0}
 
 module _ (b n : ℕ) (low : n ≤ 2 ^ 31) where
   place_fit : (p : Place) → place_local p b < n → IsNear p → (rest : Code) → AreFit rest → AreFit (place_code p b rest)
-  place_fit Argument s r rest h = (omega arith, h)
-  place_fit Own s r rest h = (omega arith, h)
-  place_fit (Slot j) s r rest h = (omega arith, h)
   place_fit (Free j) s r rest h = (omega arith, (tt, ((omega arith, omega arith), h)))
+  place_fit _ s r rest h = (omega arith, h)
 
-  stores_fit : (ps : List Place) → AreSeen ps b n → AreNear ps → (j : ℕ) → j + length ps ≤ 1000 → (rest : Code)
-      → AreFit rest → AreFit (stores_code ps j b rest)
+  stores_fit : (ps : List Place) → AreSeen ps b n → AllByRecursion IsNear ps → (j : ℕ) → j + length ps ≤ 1000
+      → (rest : Code) → AreFit rest → AreFit (stores_code ps j b rest)
   stores_fit [] s r j le rest h = h
   stores_fit (p ∷ ps) s r j le rest h = (
     omega arith,
@@ -292,64 +219,38 @@ module _ (b n : ℕ) (low : n ≤ 2 ^ 31) where
       (omega arith, (omega arith, (omega arith, (omega arith, (tt, ((omega arith, omega arith), (omega arith, h)))))))
 
   pair_fit : (t : ℕ) → t < 2 ^ 31 → (rest : Code) → AreFit rest → AreFit (pair_code t rest)
-  pair_fit t lt rest h = (
-    omega arith,
-    (
-      omega arith,
-      (
-        omega arith,
-        (
-          omega arith,
-          (
-            (omega arith, omega arith),
-            (omega arith, (omega arith, ((omega arith, omega arith), address_fit 16 (omega arith) rest h))),
-          ),
-        ),
-      ),
-    ),
-  )
+  pair_fit t lt rest h =
+      let last : AreFit (store_word 8 (address_code 16 rest)) =
+      ((omega arith, omega arith), address_fit 16 (omega arith) rest h) in
+      let a : t < 2 ^ 32 = omega arith in
+      let b : suc t < 2 ^ 32 = omega arith in
+      (b, (a, (omega arith, (a, ((omega arith, omega arith), (omega arith, (b, last)))))))
 
   prim_fit : (p : Prim) (rest : Code) → AreFit rest → AreFit (prim_code p rest)
-  prim_fit Add rest h = (tt, h)
-  prim_fit Sub rest h = (tt, h)
-  prim_fit Mul rest h = (tt, h)
-  prim_fit Div rest h = (tt, h)
-  prim_fit Mod rest h = (tt, h)
   prim_fit Eq rest h = (tt, (tt, h))
   prim_fit Lt rest h = (tt, (tt, h))
   prim_fit Le rest h = (tt, (tt, h))
+  prim_fit _ rest h = (tt, h)
 
   pub expression_fit : (t : ℕ) → t < 2 ^ 31 → (e : Ir) → Fine e → Sees e b n → Near e → b + slots_needed e ≤ n
       → (rest : Code) → AreFit rest → AreFit (expression_code e b t rest)
   expression_fit t lt (i.num z) f s r nd rest h = ((z, f, refl), h)
   expression_fit t lt (i.truth z) f s r nd rest h = ((_, truth_small z, truth_bits z), h)
   expression_fit t lt (i.get p) f s r nd rest h = place_fit p s r rest h
-  expression_fit t lt (i.closure k ps) f s r nd rest h = (
-    omega arith,
-    (
-      (pos k, pos_small k (omega arith), refl),
-      (
-        (omega arith, omega arith),
-        stores_fit ps s r.0 1 (omega (arith, r.1)) _
-            (address_fit _ (omega (arith, r.1)) rest h),
-      ),
-    ),
-  )
+  expression_fit t lt (i.closure k ps) f s r nd rest h =
+      let m = 8 * suc (length ps) in
+      let stored = stores_fit ps s r.0 1 (omega (arith, r.1)) (address_code m rest)
+      (address_fit m (omega (arith, r.1)) rest h) in
+      (omega arith, ((pos k, pos_small k (omega arith), refl), ((omega arith, omega arith), stored)))
   expression_fit t lt (i.app x a) f s r nd rest h = expression_fit t lt x f.0 s.0 r.0 (omega arith) _
       (expression_fit t lt a f.1 s.1 r.1 (omega arith) _ (apply_fit t lt rest h))
   expression_fit t lt (i.bind j d e) f s r nd rest h = expression_fit t lt d f.0 s.0 r.0 (omega arith) _
       (omega arith, expression_fit t lt e f.1 s.1 r.1 (omega arith) rest h)
-  expression_fit t lt (i.cond c y z) f s r nd rest h = expression_fit t lt c f.0 s.0 r.0 (omega arith) _ (
-    tt,
-    (
-      (
-        expression_fit t lt y f.1 s.1 r.1 (omega arith) end tt,
-        expression_fit t lt z f.2 s.2 r.2 (omega arith) end
-            tt,
-      ),
-      h,
-    ),
-  )
+  expression_fit t lt (i.cond c y z) f s r nd rest h =
+      let yes = expression_fit t lt y f.1 s.1 r.1 (omega arith) end tt in
+      let no = expression_fit t lt z f.2 s.2 r.2 (omega arith) end tt in
+      expression_fit t lt c f.0 s.0 r.0 (omega arith)
+      (wrap (next (cond (Some I64) (expression_code y b t end) (expression_code z b t end)) rest)) (tt, ((yes, no), h))
   expression_fit t lt (i.pair y z) f s r nd rest h = expression_fit t lt y f.0 s.0 r.0 (omega arith) _
       (expression_fit t lt z f.1 s.1 r.1 (omega arith) _ (pair_fit t lt rest h))
   expression_fit t lt (i.fst e) f s r nd rest h = expression_fit t lt e f s r nd _ (tt, ((omega arith, omega arith), h))
@@ -368,24 +269,12 @@ module _ (b n : ℕ) (low : n ≤ 2 ^ 31) where
       go false = expression_fit t lt (i.app x a) f s r nd end tt
   tail_fit t d m lt (i.bind j y e) le big f s r nd = expression_fit t lt y f.0 s.0 r.0 (omega arith) _
       (omega arith, tail_fit t d m lt e (omega arith) big f.1 s.1 r.1 (omega arith))
-  tail_fit t d m lt (i.cond c y z) le big f s r nd = expression_fit t lt c f.0 s.0 r.0 (omega arith) _ (
-    tt,
-    (
-      (
-        tail_fit t (suc d) m lt y (omega arith) big f.1 s.1 r.1 (omega arith),
-        tail_fit t (suc d) m lt z (omega arith) big f.2 s.2 r.2 (omega arith),
-      ),
-      tt,
-    ),
-  )
-  tail_fit t d m lt (i.num z) le big f s r nd = expression_fit t lt (i.num z) f s r nd end tt
-  tail_fit t d m lt (i.truth z) le big f s r nd = expression_fit t lt (i.truth z) f s r nd end tt
-  tail_fit t d m lt (i.get p) le big f s r nd = expression_fit t lt (i.get p) f s r nd end tt
-  tail_fit t d m lt (i.closure k ps) le big f s r nd = expression_fit t lt (i.closure k ps) f s r nd end tt
-  tail_fit t d m lt (i.pair y z) le big f s r nd = expression_fit t lt (i.pair y z) f s r nd end tt
-  tail_fit t d m lt (i.fst y) le big f s r nd = expression_fit t lt (i.fst y) f s r nd end tt
-  tail_fit t d m lt (i.snd y) le big f s r nd = expression_fit t lt (i.snd y) f s r nd end tt
-  tail_fit t d m lt (i.prim p y z) le big f s r nd = expression_fit t lt (i.prim p y z) f s r nd end tt
+  tail_fit t d m lt (i.cond c y z) le big f s r nd =
+      let yes = tail_fit t (suc d) m lt y (omega arith) big f.1 s.1 r.1 (omega arith) in
+      let no = tail_fit t (suc d) m lt z (omega arith) big f.2 s.2 r.2 (omega arith) in
+      expression_fit t lt c f.0 s.0 r.0 (omega arith)
+      (wrap (next (cond (Some I64) (tail_code y b t (suc d)) (tail_code z b t (suc d))) end)) (tt, ((yes, no), tt))
+  tail_fit t d m lt e le big f s r nd = expression_fit t lt e f s r nd end tt
 
 pub body_fit : (z : Bool) (n t : ℕ) (e : Ir) → n ≤ 2 ^ 31 → t < 2 ^ 31 → breadth e < 2 ^ 32 → Fine e → Sees e 2 n
     → Near e → 2 + slots_needed e ≤ n → AreFit (body_code z e t)

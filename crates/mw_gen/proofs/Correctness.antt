@@ -1,8 +1,8 @@
 -- The reduction of the code means what the intermediate language means, in both versions.
 use Rattle.std.proofs.Common.{◌≡◌, ℕ, zero, suc, ◌+◌, ◌≤◌, ◌<◌, Bool, true, false, List, [], ◌∷◌, ◌++◌, length, Option}
-use Rattle.std.proofs.Common.{Some, None, refl, ap, ◌∙◌, sym, subst, arith, length-append, map, replicate, option_map}
+use Rattle.std.proofs.Common.{Some, refl, ap, ◌∙◌, sym, subst, arith, length-append, map, replicate, option_map}
 use Rattle.std.proofs.Common.{if◌then◌else◌}
-use Rattle.std.specs.Prelude.{ℤ, pos, negsuc, slice_get, slice_set, ◌||◌, ◌==◌, ◌*◌, ◌^◌}
+use Rattle.std.specs.Prelude.{ℤ, pos, negsuc, slice_get, slice_set, ◌==◌, ◌*◌, ◌^◌}
 use Rattle.std.proofs.lemmas.List.{length-replicate, length-map}
 use Rattle.std.proofs.lemmas.Bool.{eqb-true}
 use Rattle.std.proofs.lemmas.Option.{slice_get-map}
@@ -20,10 +20,12 @@ use Rattle.mw_wasm.specs.Act.{called_at}
 use Rattle.mw_wasm.specs.Act.{calls as calls_act}
 use Rattle.std.specs.Prelude.{nat_le}
 use Rattle.std.proofs.lemmas.Bool.{le-leb}
+use Rattle.std.proofs.lemmas.Option.{slice_get_within}
+use Rattle.std.proofs.Common.{append-nil}
 use Rattle.mw_ir.specs.declared.place.Place.{Place}
-use Rattle.mw_ir.specs.declared.place.Place.TheVariants.{Argument, Own, Slot, Free}
+use Rattle.mw_ir.specs.declared.place.Place.TheVariants.{Own}
 use Rattle.mw_ir.specs.Ir as i
-use Rattle.mw_ir.specs.Ir.{also, Ir, IrFunc, Frame, inside, with_slot, read, read_all, load, value, calls, applied}
+use Rattle.mw_ir.specs.Ir.{Ir, IrFunc, Frame, inside, with_slot, read, read_all, load, value, calls, applied}
 use Rattle.mw_ir.specs.Ir.{function_at}
 use Rattle.mw_conv.specs.Represents.{Grows}
 use Rattle.mw_conv.proofs.Heaps.{grows_same, grows_on, grows_append, load_grows}
@@ -32,15 +34,17 @@ use Rattle.mw_gen.specs.Generate.{wants_spare, tail_wants_spare, spare_count, ad
 use Rattle.mw_gen.specs.Generate.{tail_code, is_own, application_code, body_wants_spare, body_code, is_loop}
 use Rattle.mw_gen.specs.Generate.{function_for, counting, closure_type, module_with}
 use Rattle.mw_gen.proofs.Slots.{slots_needed}
-use Rattle.mw_gen.proofs.Words.{Small, Keeps, get_append, get_within}
+use Rattle.mw_gen.proofs.Words.{Small, Keeps}
 use Rattle.mw_gen.proofs.Locals.{word, Room, room_set, Fits, fits_past, fits_slot, fits_front, set_length, set_same}
 use Rattle.mw_gen.proofs.Locals.{set_above, set_other}
 use Rattle.mw_gen.proofs.Loads.{loaded}
 use Rattle.mw_gen.proofs.RunAnswers.{Says, then_says, found_says, along}
-use Rattle.mw_gen.proofs.Stores.{append_none, Run as RunIn, law as rule, get_local as got_local, set_local as put_local}
+use Rattle.mw_gen.proofs.Stores.{Run as RunIn, law as rule, get_local as got_local, set_local as put_local}
 use Rattle.mw_gen.proofs.Stores.{tee_local as teed_local, place_run, one_store, all_stored, stores_says, raised}
-use Rattle.mw_gen.proofs.Stores.{store_at}
+use Rattle.mw_gen.proofs.Stores.{store_at, also_some}
 use Rattle.mw_gen.proofs.Primitives.{prim_says, chosen_says, truth_small, truth_bits}
+use Rattle.mw_conv.proofs.Heaps.{get_append}
+use Rattle.mw_meaning.proofs.Replacement.{or_left, or_right}
 pub use Rattle.mw_gen.specs.Keeping.{some, table_of}
 
 -- literals of 64 bits, and function numbers of 32
@@ -61,13 +65,6 @@ Fine (i.prim p x y) = Fine x × Fine y
 abbrev pub Sound : List IrFunc → Type 0
 Sound t = (k : ℕ) (f : IrFunc) → slice_get t k ≡ Some f → (k < 2 ^ 32) × Fine f.body × (slots_needed f.body ≤ f.slots)
 
-pub or_left : (a b : Bool) → a ≡ true → a || b ≡ true
-or_left a b e = rw e refl
-
-pub or_right : (a b : Bool) → b ≡ true → a || b ≡ true
-or_right true b e = refl
-or_right false b e = e
-
 counted : (k n j : ℕ) → j < n → slice_get (counting k n) j ≡ Some (k + j)
 counted k zero j lt = absurd (omega arith)
 counted k (suc n) zero lt = let e : k ≡ k + 0 = omega arith in ap Some e
@@ -76,7 +73,7 @@ counted k (suc n) (suc j) lt = counted (suc k) n j (omega arith)
 
 table_at : (t : List IrFunc) (j : ℕ) (f : IrFunc) → slice_get t j ≡ Some f → slice_get (table_of t) j ≡ Some (Some j)
 table_at t j f e = slice_get-map some (counting 0 (length t)) j ∙ ap (λ o. option_map some o)
-    (counted 0 (length t) j (get_within t j f e) ∙ (let q : 0 + j ≡ j = omega arith in ap Some q))
+    (counted 0 (length t) j (slice_get_within t j f e) ∙ (let q : 0 + j ≡ j = omega arith in ap Some q))
 
 func_at : (v : Version) (t : List IrFunc) (more : List Function) (j : ℕ) (f : IrFunc) → slice_get t j ≡ Some f
     → slice_get (map (function_for v) t ++ more) j ≡ Some (function_for v f)
@@ -86,18 +83,12 @@ func_at v t more j f e = get_append (map (function_for v) t) more j (function_fo
 pub pos_small : (a : ℕ) → a < 2 ^ 63 → Small (pos a)
 pos_small a lt = fits_signed_from_abs w64 (pos a) lt
 
-also_length : (a : Option ℤ) (o : Option (List ℤ)) (n : ℕ) (ws : List ℤ) → ((ys : List ℤ) → o ≡ Some ys → length ys ≡ n)
-    → also a o ≡ Some ws → length ws ≡ suc n
-also_length None o n ws f e = absurd (cc)
-also_length (Some x) None n ws f e = absurd (cc)
-also_length (Some x) (Some ys) n ws f e = let q : x ∷ ys ≡ ws = (cc) in
-    subst (λ z. length z ≡ suc n) q (ap suc (f ys refl))
-
 read_all_length : (h : List ℤ) (fr : Frame) (ps : List Place) (ws : List ℤ) → read_all h fr ps ≡ Some ws → length ws
     ≡ length ps
 read_all_length h fr [] ws e = let q : [] ≡ ws = (cc) in subst (λ z. length z ≡ 0) q refl
-read_all_length h fr (p ∷ ps) ws e = also_length (read h fr p) (read_all h fr ps) (length ps) ws
-    (λ ys e. read_all_length h fr ps ys e) e
+read_all_length h fr (p ∷ ps) ws e =
+    let r = also_some (read h fr p) (read_all h fr ps) ws e in
+    omega (arith, read_all_length h fr ps r.1 r.3, ap length r.4)
 
 -- further locals, of 64 bits
 abbrev pub zeros : ℕ → List WasmValue
@@ -119,19 +110,16 @@ nested_branch (suc d) st ls vs us x c rest around = nested_branch d st ls vs us 
 
 pub own_is : (f : Ir) → is_own f ≡ true → f ≡ i.get Own
 own_is (i.get Own) e = refl
-own_is (i.get Argument) e = absurd (cc)
-own_is (i.get (Slot s)) e = absurd (cc)
-own_is (i.get (Free s)) e = absurd (cc)
-own_is (i.num z) e = absurd (cc)
-own_is (i.truth z) e = absurd (cc)
-own_is (i.closure k ps) e = absurd (cc)
-own_is (i.app f a) e = absurd (cc)
-own_is (i.bind s d f) e = absurd (cc)
-own_is (i.cond c x y) e = absurd (cc)
-own_is (i.pair x y) e = absurd (cc)
-own_is (i.fst f) e = absurd (cc)
-own_is (i.snd f) e = absurd (cc)
-own_is (i.prim p x y) e = absurd (cc)
+own_is _ e = absurd (cc)
+
+-- the locals of a function hold its closure and its argument
+fits_inside : (u w : ℤ) (ls : List WasmValue) → slice_get ls 0 ≡ Some (word u) → slice_get ls 1 ≡ Some (word w)
+    → Small u → Small w → Fits 2 (inside u w) ls
+fits_inside u w ls e0 e1 su sw = record {
+  argument = λ x p. let q : w ≡ x = (cc) in (omega arith, e1 ∙ ap (λ z. Some (word z)) q, subst (λ z. Small z) q sw);
+  own = λ x p. let q : u ≡ x = (cc) in (omega arith, e0 ∙ ap (λ z. Some (word z)) q, subst (λ z. Small z) q su);
+  slots = λ j x p. absurd (cc);
+}
 
 -- The module has the functions of the code, each under its number, and their type first. Nothing else is said of it.
 pub record Carries (v : Version) (t : List IrFunc) (m : PureModule) : Type 0 where
@@ -265,7 +253,7 @@ module _ (v : Version) (t : List IrFunc) (M : PureModule) (carries : Carries v t
       let r = place_run M (table_of t) n _ h h mem b fr ls p w me (λ k z g. g) f e vs rest around in
       along r.0 (record { says = k w n h mem ls (grows_same h) r.1 f room me })
   correct c body (i.closure j ps) n b s t2 a fr h mem ls vs rest around Q fine nd us sl room f me k = found_says λ ws e.
-      let me0 : Keeps (h ++ []) mem = rw (append_none h) me in
+      let me0 : Keeps (h ++ []) mem = rw (append-nil h) me in
       let js = pos_small j (omega (arith, fine)) in
       let l : suc (length ps) ≡ length (pos j ∷ ws) = ap suc (sym (read_all_length h fr ps ws e)) in
       along (law n _ ∙ law n _)
@@ -337,7 +325,7 @@ module _ (v : Version) (t : List IrFunc) (M : PureModule) (carries : Carries v t
       along (put_local M (table_of t) q (suc (b + s)) (word w) _ ls _ _ _ (room.long (us refl))
       ∙ (put_local M (table_of t) q (b + s) (word u) _ ls1 _ _ _ low
       ∙ (law q _ ∙ got_local M (table_of t) q _ _ _ _ _ _ _ g0)))
-      (one_store M (table_of t) q h2 [] (w ∷ []) u mem ls2 vs _ around _ Q (rw (append_none h2) me) su λ mem me.
+      (one_store M (table_of t) q h2 [] (w ∷ []) u mem ls2 vs _ around _ Q (rw (append-nil h2) me) su λ mem me.
       along (law q _ ∙ got_local M (table_of t) q _ _ _ _ _ _ _ gt)
       (one_store M (table_of t) q h2 (u ∷ []) [] w mem ls2 vs _ around _ Q me sw λ mem me.
       all_stored M (table_of t) h2 (u ∷ w ∷ []) mem _ Q _ me
@@ -391,19 +379,10 @@ module _ (v : Version) (t : List IrFunc) (M : PureModule) (carries : Carries v t
       (rw (e, g) (spent q))
     where
       kept : Fits 2 (inside u w) (slice_set ls 1 (word w))
-      kept = record {
-        argument = λ x p. let y : w ≡ x = (cc) in (
-          omega arith,
-          set_same ls 1 (word w) (omega (arith, room.enough)) ∙ ap (λ z. Some (word z)) y,
-          subst (λ z. Small z) y sw,
-        );
-        own = λ x p. let y : u ≡ x = (cc) in let r = f.own u o in (
-          omega arith,
-          set_other ls 1 0 (word w) (word u) (omega arith) r.1 ∙ ap (λ z. Some (word z)) y,
-          subst (λ z. Small z) y r.2,
-        );
-        slots = λ j x p. absurd (cc);
-      }
+      kept =
+          let r = f.own u o in
+          fits_inside u w _ (set_other ls 1 0 (word w) (word u) (omega arith) r.1)
+          (set_same ls 1 (word w) (omega (arith, room.enough))) r.2 sw
 
       spent : (q : ℕ) → Says (i.spending q λ n. calls t c n h (inside u w) fn.body) Q
           (Run q h mem (slice_set ls 1 (word w)) [] (next (br d) end) (nested d (loop_label fn ∷ outer)))
@@ -496,22 +475,8 @@ module _ (v : Version) (t : List IrFunc) (M : PureModule) (carries : Carries v t
       (λ q. us (or_right (wants_spare x) _ (or_right (tail_wants_spare y) (tail_wants_spare z) q))) sl room f me
       (λ w l2 h2 mem ls g2 sw me. subst (Q w l2 h2) (sym (law l2 _)) (k w l2 h2 mem ls (grows_on h h1 h2 g1 g2) sw me))
       (λ w l2 h2 mem ls g2 sw me. out w l2 h2 mem ls (grows_on h h1 h2 g1 g2) sw me)))
-  tail_right c body again fn j (i.num z) n d u t2 a fr h mem ls outer Q g e o fine nd usb us sl room f me k out =
-      plain c fn (i.num z) (correct c body (i.num z)) n d t2 a fr h mem ls _ Q fine nd us sl room f me k
-  tail_right c body again fn j (i.truth z) n d u t2 a fr h mem ls outer Q g e o fine nd usb us sl room f me k out =
-      plain c fn (i.truth z) (correct c body (i.truth z)) n d t2 a fr h mem ls _ Q fine nd us sl room f me k
-  tail_right c body again fn j (i.get p) n d u t2 a fr h mem ls outer Q g e o fine nd usb us sl room f me k out =
-      plain c fn (i.get p) (correct c body (i.get p)) n d t2 a fr h mem ls _ Q fine nd us sl room f me k
-  tail_right c body again fn j (i.closure q ps) n d u t2 a fr h mem ls outer Q g e o fine nd usb us sl room f me k out =
-      plain c fn (i.closure q ps) (correct c body (i.closure q ps)) n d t2 a fr h mem ls _ Q fine nd us sl room f me k
-  tail_right c body again fn j (i.pair x y) n d u t2 a fr h mem ls outer Q g e o fine nd usb us sl room f me k out =
-      plain c fn (i.pair x y) (correct c body (i.pair x y)) n d t2 a fr h mem ls _ Q fine nd us sl room f me k
-  tail_right c body again fn j (i.fst x) n d u t2 a fr h mem ls outer Q g e o fine nd usb us sl room f me k out =
-      plain c fn (i.fst x) (correct c body (i.fst x)) n d t2 a fr h mem ls _ Q fine nd us sl room f me k
-  tail_right c body again fn j (i.snd x) n d u t2 a fr h mem ls outer Q g e o fine nd usb us sl room f me k out =
-      plain c fn (i.snd x) (correct c body (i.snd x)) n d t2 a fr h mem ls _ Q fine nd us sl room f me k
-  tail_right c body again fn j (i.prim p x y) n d u t2 a fr h mem ls outer Q g e o fine nd usb us sl room f me k out =
-      plain c fn (i.prim p x y) (correct c body (i.prim p x y)) n d t2 a fr h mem ls _ Q fine nd us sl room f me k
+  tail_right c body again fn j x n d u t2 a fr h mem ls outer Q g e o fine nd usb us sl room f me k out =
+      plain c fn x (correct c body x) n d t2 a fr h mem ls _ Q fine nd us sl room f me k
 
   -- the locals of a function that is entered
   entry_room : (z : Bool) (fn : IrFunc) (u w : ℤ) → Room (body_wants_spare z fn.body) (2 + fn.slots)
@@ -530,13 +495,6 @@ module _ (v : Version) (t : List IrFunc) (M : PureModule) (carries : Carries v t
       }
       go false = record { enough = omega (arith, zeros_length (fn.slots + 0)); long = λ q. absurd (cc); past = refl }
 
-  fits_entry : (u w : ℤ) (zs : List WasmValue) → Small u → Small w → Fits 2 (inside u w) (word u ∷ word w ∷ zs)
-  fits_entry u w zs su sw = record {
-    argument = λ x e. let q : w ≡ x = (cc) in (omega arith, ap (λ z. Some (word z)) q, subst (λ z. Small z) q sw);
-    own = λ x e. let q : u ≡ x = (cc) in (omega arith, ap (λ z. Some (word z)) q, subst (λ z. Small z) q su);
-    slots = λ j x e. absurd (cc);
-  }
-
   loop_step : (c : ℕ) → Entered c → Looped c → Looped (suc c)
   loop_step c body again l fn j u w t2 a h mem ls outer Q g e us room f me k =
       let so = sound j fn g in
@@ -548,13 +506,13 @@ module _ (v : Version) (t : List IrFunc) (M : PureModule) (carries : Carries v t
   enter_step c body again false l fn j u w h mem ks vs rest around Q g e su sw me k =
       let so = sound j fn g in
       correct c body fn.body l 2 fn.slots (wants_spare fn.body) _ (inside u w) h mem (entry false fn u w) [] end _ Q
-      so.1 so.2 (λ q. q) (omega arith) (entry_room false fn u w) (fits_entry u w _ su sw) me
+      so.1 so.2 (λ q. q) (omega arith) (entry_room false fn u w) (fits_inside u w _ refl refl su sw) me
       λ z l2 h2 mem2 ls g2 sz f room me. subst (Q z l2 h2) (sym (law l2 _ ∙ law l2 _)) (k z l2 h2 mem2 g2 sz me)
   enter_step c body again true l fn j u w h mem ks vs rest around Q g e su sw me k =
       along (law l _)
       (again l fn j u w (tail_wants_spare fn.body) _ h mem (entry true fn u w)
       (in_label 1 end [] end ∷ in_frame 1 ks vs rest ∷ around) Q g e (λ q. q) (entry_room true fn u w)
-      (fits_entry u w _ su sw) me
+      (fits_inside u w _ refl refl su sw) me
       λ z l2 h2 mem2 ls g2 sz me. subst (Q z l2 h2) (sym (law l2 _ ∙ law l2 _)) (k z l2 h2 mem2 g2 sz me))
 
   pub record Bodies (c : ℕ) : Type 1 where

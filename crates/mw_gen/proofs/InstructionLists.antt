@@ -5,22 +5,22 @@ use Rattle.mw_gen.specs.Generate.{counting, elements_of, call_of, call_function}
 use Rattle.mw_term.specs.Terms.{GroundType}
 use Rattle.mw_meaning.specs.Shapes.{leaf_count}
 use Rattle.mw_wasm.specs.Syntax.{global_get, global_set, local_get, const_i32}
-use Rattle.std.proofs.Common.{◌≡◌, ℕ, zero, suc, ◌+◌, ◌*◌, ◌<◌, replicate, Bool, true, false, List, [], ◌∷◌, ◌++◌}
-use Rattle.std.proofs.Common.{length, refl, sym, ap, ◌∙◌, arith, if◌then◌else◌, map}
+use Rattle.std.proofs.Common.{◌≡◌, ℕ, zero, suc, ◌+◌, ◌<◌, replicate, Bool, true, false, List, [], ◌∷◌, ◌++◌}
+use Rattle.std.proofs.Common.{refl, sym, ap, ◌∙◌, arith, if◌then◌else◌, map}
 use Rattle.mw_term.specs.declared.term.Primitive.{Primitive as Prim}
-use Rattle.mw_term.specs.declared.term.Primitive.TheVariants.{Add, Sub, Mul, Div, Mod, Eq, Lt, Le}
+use Rattle.mw_term.specs.declared.term.Primitive.TheVariants.{Add}
 use Rattle.mw_wasm.specs.declared.instructions.Instr.{Instr}
 use Rattle.mw_wasm.specs.declared.instructions.Instrs.{Instrs}
-use Rattle.mw_wasm.specs.Syntax.{Instruction, Code, end, next, cond, br, local_set}
+use Rattle.mw_wasm.specs.Syntax.{Instruction, Code, end, next, br, local_set}
 use Rattle.mw_wasm.specs.Views.{instruction_of, list_code, code_of}
 use Rattle.mw_ir.specs.declared.place.Place.{Place}
-use Rattle.mw_ir.specs.declared.place.Place.TheVariants.{Argument, Own, Slot, Free}
+use Rattle.mw_ir.specs.declared.place.Place.TheVariants.{Free}
 use Rattle.mw_ir.specs.Ir as i
 use Rattle.mw_ir.specs.Ir.{Ir}
 use Rattle.mw_gen.specs.Generate.{expression_code, tail_code, is_own, place_code, stores_code, prim_code}
-use Rattle.mw_gen.specs.Generate.{application_code, pair_code, address_code}
-use Rattle.mw_gen.specs.Listing.{before, place_list, stores_list, prim_list, apply_list, pair_list, address_list}
-use Rattle.mw_gen.specs.Listing.{code_list, tail_list, choice_list}
+use Rattle.mw_gen.specs.Generate.{application_code}
+use Rattle.mw_gen.specs.Listing.{before, place_list, stores_list, prim_list, apply_list}
+use Rattle.mw_gen.specs.Listing.{code_list, tail_list}
 
 pub before_append : (xs ys : List Instruction) (rest : Code) → before (xs ++ ys) rest ≡ before xs (before ys rest)
 before_append [] ys rest = refl
@@ -30,82 +30,32 @@ more : (n : ℕ) → n + 1 ≡ suc n
 more n = omega arith
 
 place_listed : (p : Place) (b : ℕ) (rest : Code) → place_code p b rest ≡ before (place_list p b) rest
-place_listed Argument b rest = refl
-place_listed Own b rest = refl
-place_listed (Slot s) b rest = refl
 place_listed (Free j) b rest = rw (more j) refl
+place_listed _ b rest = refl
 
 stores_listed : (ps : List Place) (j b : ℕ) (rest : Code) → stores_code ps j b rest ≡ before (stores_list ps j b) rest
 stores_listed [] j b rest = refl
-stores_listed (p ∷ ps) j b rest =
-    rw (
-      more j,
-      before_append (place_list p b)
-          (Rattle.mw_wasm.specs.Syntax.store Rattle.mw_wasm.specs.declared.numbers.StoreOp.TheVariants.I64 3 (8 * j)
-          ∷ stores_list ps (suc j) b) rest,
-      place_listed p b
-          (next (Rattle.mw_wasm.specs.Syntax.store Rattle.mw_wasm.specs.declared.numbers.StoreOp.TheVariants.I64 3
-          (8 * j))
-          (stores_code ps (suc j) b rest)),
-      stores_listed ps (suc j) b rest,
-    ) refl
-
-apply_listed : (t : ℕ) (rest : Code) → application_code t rest ≡ before (apply_list t) rest
-apply_listed t rest = rw (more t) refl
-
-pair_listed : (t : ℕ) (rest : Code) → pair_code t rest ≡ before (pair_list t) rest
-pair_listed t rest = rw (more t) refl
+stores_listed (p ∷ ps) j b rest = simp (place_listed p b, stores_listed ps (suc j) b, before_append, more)
 
 prim_listed : (p : Prim) (rest : Code) → prim_code p rest ≡ before (prim_list p) rest
 prim_listed Add rest = refl
-prim_listed Sub rest = refl
-prim_listed Mul rest = refl
-prim_listed Div rest = refl
-prim_listed Mod rest = refl
-prim_listed Eq rest = refl
-prim_listed Lt rest = refl
-prim_listed Le rest = refl
-
--- two parts, and then a third
-parts : (xs ys zs : List Instruction) (rest : Code) → before (xs ++ (ys ++ zs)) rest
-    ≡ before xs (before ys (before zs rest))
-parts xs ys zs rest = before_append xs (ys ++ zs) rest ∙ ap (before xs) (before_append ys zs rest)
+prim_listed _ rest = refl
 
 pub expression_listed : (e : Ir) (b t : ℕ) (rest : Code) → expression_code e b t rest ≡ before (code_list e b t) rest
 expression_listed (i.num z) b t rest = refl
 expression_listed (i.truth z) b t rest = refl
 expression_listed (i.get p) b t rest = place_listed p b rest
-expression_listed (i.closure k ps) b t rest =
-    rw (
-      more (length ps),
-      stores_listed ps 1 b (address_code (8 * suc (length ps)) rest),
-      before_append (stores_list ps 1 b) (address_list (8 * suc (length ps))) rest,
-    ) refl
-expression_listed (i.app f a) b t rest = rw (
-  expression_listed f b t (expression_code a b t (application_code t rest)),
-  expression_listed a b t (application_code t rest),
-  apply_listed t rest,
-)
-    (sym (parts (code_list f b t) (code_list a b t) (apply_list t) rest))
-expression_listed (i.bind s d e) b t rest =
-    rw (expression_listed d b t (next (local_set (b + s)) (expression_code e b t rest)), expression_listed e b t rest)
-    (sym (before_append (code_list d b t) (local_set (b + s) ∷ code_list e b t) rest))
-expression_listed (i.cond c x y) b t rest = expression_listed c b t _
-    ∙ sym (before_append (code_list c b t) (choice_list (expression_code x b t end) (expression_code y b t end)) rest)
+expression_listed (i.closure k ps) b t rest = simp (stores_listed, before_append, more)
+expression_listed (i.app f a) b t rest =
+    simp (expression_listed f b t, expression_listed a b t, before_append, more)
+expression_listed (i.bind s d e) b t rest = simp (expression_listed d b t, expression_listed e b t, before_append)
+expression_listed (i.cond c x y) b t rest = simp (expression_listed c b t, before_append)
 expression_listed (i.pair x y) b t rest =
-    rw (
-      expression_listed x b t (expression_code y b t (pair_code t rest)),
-      expression_listed y b t (pair_code t rest),
-      pair_listed t rest,
-    ) (sym (parts (code_list x b t) (code_list y b t) (pair_list t) rest))
-expression_listed (i.fst e) b t rest = expression_listed e b t _ ∙ sym (before_append (code_list e b t) _ rest)
-expression_listed (i.snd e) b t rest = expression_listed e b t _ ∙ sym (before_append (code_list e b t) _ rest)
+    simp (expression_listed x b t, expression_listed y b t, before_append, more)
+expression_listed (i.fst e) b t rest = simp (expression_listed e b t, before_append)
+expression_listed (i.snd e) b t rest = simp (expression_listed e b t, before_append)
 expression_listed (i.prim p x y) b t rest =
-    rw (
-      expression_listed x b t (expression_code y b t (prim_code p rest)),
-      expression_listed y b t (prim_code p rest),
-      prim_listed p rest,
-    ) (sym (parts (code_list x b t) (code_list y b t) (prim_list p) rest))
+    simp (expression_listed x b t, expression_listed y b t, prim_listed p, before_append)
 
 pub tail_listed : (e : Ir) (b t d : ℕ) → tail_code e b t d ≡ before (tail_list e b t d) end
 tail_listed (i.app f a) b t d = go (is_own f)
@@ -117,21 +67,9 @@ tail_listed (i.app f a) b t d = go (is_own f)
         ++ (code_list a b t ++ apply_list t)) end
     go true = expression_listed a b t _ ∙ sym (before_append (code_list a b t) (local_set 1 ∷ br d ∷ []) end)
     go false = expression_listed (i.app f a) b t end
-tail_listed (i.bind s a e) b t d =
-    rw (expression_listed a b t (next (local_set (b + s)) (tail_code e b t d)), tail_listed e b t d)
-    (sym (before_append (code_list a b t) (local_set (b + s) ∷ tail_list e b t d) end))
-tail_listed (i.cond c x y) b t d =
-    rw (more d)
-    (expression_listed c b t _
-    ∙ sym (before_append (code_list c b t) (choice_list (tail_code x b t (suc d)) (tail_code y b t (suc d))) end))
-tail_listed (i.num z) b t d = expression_listed (i.num z) b t end
-tail_listed (i.truth z) b t d = expression_listed (i.truth z) b t end
-tail_listed (i.get p) b t d = expression_listed (i.get p) b t end
-tail_listed (i.closure k ps) b t d = expression_listed (i.closure k ps) b t end
-tail_listed (i.pair x y) b t d = expression_listed (i.pair x y) b t end
-tail_listed (i.fst e) b t d = expression_listed (i.fst e) b t end
-tail_listed (i.snd e) b t d = expression_listed (i.snd e) b t end
-tail_listed (i.prim p x y) b t d = expression_listed (i.prim p x y) b t end
+tail_listed (i.bind s a e) b t d = simp (expression_listed a b t, tail_listed e b t d, before_append)
+tail_listed (i.cond c x y) b t d = simp (expression_listed c b t, before_append, more)
+tail_listed e b t d = expression_listed e b t end
 
 list_before : (is : List Instr) → list_code is ≡ before (map instruction_of is) end
 list_before [] = refl

@@ -4,6 +4,7 @@ use Rattle.std.proofs.Common.{refl, ap, ◌∙◌, arith, length-append, map, re
 use Rattle.std.specs.Prelude.{ℤ, slice_get, slice_set, ◌*◌}
 use Rattle.std.proofs.lemmas.List.{length-map}
 use Rattle.std.proofs.lemmas.Option.{slice_get-map}
+use Rattle.std.proofs.lemmas.Option.{slice_get_within}
 use Rattle.mw_term.specs.Terms.{GroundType, base, product}
 use Rattle.mw_wasm.specs.declared.values.Value.{Value as WasmValue}
 use Rattle.mw_wasm.specs.declared.values.Value.TheVariants.{I32, I64}
@@ -22,12 +23,13 @@ use Rattle.mw_key.specs.declared.version.Version.{Version}
 use Rattle.mw_gen.specs.Generate.{wants_spare, spare_count, argument_of, call_of, init_function, function_for}
 use Rattle.mw_gen.specs.Generate.{expression_code, restarting, call_numbered}
 use Rattle.mw_gen.proofs.Slots.{slots_needed}
-use Rattle.mw_gen.proofs.Words.{Small, Keeps, get_append, get_within}
+use Rattle.mw_gen.proofs.Words.{Small, Keeps}
 use Rattle.mw_gen.proofs.Locals.{word, Fits, Room, set_other, set_same, set_length}
 use Rattle.mw_gen.proofs.RunAnswers.{Says, along}
 use Rattle.mw_gen.proofs.Stores.{store_at, law as rule, get_local as got_local, set_local as put_local}
 use Rattle.mw_gen.proofs.Correctness.{Fine, Sound, Carries, Value, right, table_of, zeros, zeros_length}
 use Rattle.mw_gen.specs.Generation.{call_frame}
+use Rattle.mw_conv.proofs.Heaps.{get_append}
 
 pub argument_need : (s : GroundType) (k : ℕ) → slots_needed (argument_of s k) ≡ 0
 argument_need (base b) k = refl
@@ -122,7 +124,8 @@ module _ (v : Version) (t : List IrFunc) (m : PureModule) (carries : Carries v t
         let z : 0 + j ≡ j = omega arith in
         let g : slice_get (call_locals r ws) j ≡ Some (word w) = get_append (map word (r ∷ ws)) _ j (word w)
         (slice_get-map word (r ∷ ws) j ∙ ap (λ o. option_map word o) e) in
-        (rw z (set_other (call_locals r ws) i j x (word w) (omega (arith, get_within (r ∷ ws) j w e)) g), sm j w e);
+        let below = slice_get_within (r ∷ ws) j w e in
+        (rw z (set_other (call_locals r ws) i j x (word w) (omega arith) g), sm j w e);
   }
 
   pub call_says : (s : GroundType) (x g : ℕ) → slice_get m.funcs g ≡ Some (call_numbered x s)

@@ -4,11 +4,12 @@ use Rattle.std.proofs.Common.{replicate, length-append, Some}
 use Rattle.std.specs.Prelude.{codes}
 use Rattle.std.specs.List.{AllByRecursion}
 use Rattle.std.proofs.lemmas.List.{length-replicate, length-map}
+use Rattle.std.proofs.Common.{append-nil}
 use Rattle.mw_term.specs.Terms.{KernelType, GroundType, base, of_ground, to, product}
 use Rattle.mw_term.specs.Limits.{ground_nodes, kernel_nodes}
 use Rattle.mw_wasm.specs.declared.values.ValType.TheVariants.{I32, I64}
 use Rattle.mw_wasm.specs.declared.modules.Exported.TheVariants.{Func}
-use Rattle.mw_wasm.specs.Pieces.{octet, u32, items, vector}
+use Rattle.mw_wasm.specs.Pieces.{u32, items}
 use Rattle.mw_wasm.specs.BinaryInstructions.{value_type}
 use Rattle.mw_wasm.specs.BinaryModules.{locals, run, Run, function_code, function_type, function_kind, export, element}
 use Rattle.mw_wasm.specs.BinaryModules.{data_segment, section, wasm_module}
@@ -20,7 +21,6 @@ use Rattle.mw_gen.specs.Generate.{wants_spare, spare_count, is_loop, body_wants_
 use Rattle.mw_gen.specs.Generate.{init_function, call_function, call_of, argument_of, counting, elements_of, more_types}
 use Rattle.mw_gen.specs.Generate.{more_functions, more_exports, closure_type, module_with}
 use Rattle.mw_gen.proofs.Slots.{slots_needed}
-use Rattle.mw_gen.proofs.Stores.{append_none}
 use Rattle.mw_gen.proofs.Correctness.{Fine}
 use Rattle.mw_gen.proofs.Invocations.{argument_need, argument_fine}
 use Rattle.mw_gen.proofs.Instance.{counting_length}
@@ -30,8 +30,8 @@ use Rattle.mw_gen.proofs.Profile.{temps_two}
 use Rattle.mw_gen.proofs.Pieces.{SpelledWithin, within_then, within_more, within_byte, within_u32, within_sized}
 use Rattle.mw_gen.proofs.Pieces.{within_nil, within_cons, within_vector, within_section, within_absent, within_one}
 use Rattle.mw_gen.proofs.Pieces.{customs_within, no_imports, header_within, one_result, closure_within, init_within}
-use Rattle.mw_gen.proofs.Pieces.{table_within, memory_within, globals_within, zero_code_within, octet_within}
-use Rattle.mw_gen.proofs.Pieces.{name_within}
+use Rattle.mw_gen.proofs.Pieces.{table_within, memory_within, globals_within, zero_code_within}
+use Rattle.mw_gen.proofs.Pieces.{export_within}
 use Rattle.mw_gen.proofs.CodeSpelling.{expression_within, breadth, body_width, expression_width, Near, expression_fit}
 use Rattle.mw_gen.proofs.CodeSpelling.{body_fit}
 
@@ -60,7 +60,7 @@ locals_within n h =
             runs = record { count = n; kind = I64 } ∷ [];
             spelled = s.spell;
             types_are =
-                sym (append_none (replicate n I64));
+                sym (append-nil (replicate n I64));
             few = omega (arith, length-replicate n I64);
           };
       short = s.short;
@@ -103,14 +103,22 @@ func_within v f c small =
     (expression_within _ (body_fit z (2 + n) (2 + f.slots) f.body (omega arith) (omega arith) (omega arith) c.fine
     (c.sees (2 + n) (omega arith)) c.near (omega (arith, c.needs))))))
 
-funcs_within : (v : Version) (fs : List IrFunc) (rest : List Function) (r : ℕ) → AllByRecursion CanSpell fs
-    → total fs < 2 ^ 31 → SpelledWithin r (items function_code rest)
+-- whose code's size can be spelled
+abbrev pub IsSmall : IrFunc → Type 0
+IsSmall f = breadth f.body < 2 ^ 31
+
+all_small : (fs : List IrFunc) → total fs < 2 ^ 31 → AllByRecursion IsSmall fs
+all_small [] h = tt
+all_small (f ∷ fs) h = (omega arith, all_small fs (omega arith))
+
+pub funcs_within : (v : Version) (fs : List IrFunc) (rest : List Function) (r : ℕ) → AllByRecursion CanSpell fs
+    → AllByRecursion IsSmall fs → SpelledWithin r (items function_code rest)
     → SpelledWithin (total fs + r) (items function_code (map (function_for v) fs ++ rest))
 funcs_within v [] rest r c small s = within_more (0 + r) (omega arith) s
 funcs_within v (f ∷ fs) rest r c small s = within_more (total (f ∷ fs) + r) (omega arith)
-    (within_then (func_within v f c.0 (omega arith)) (funcs_within v fs rest r c.1 (omega arith) s))
+    (within_then (func_within v f c.0 small.0) (funcs_within v fs rest r c.1 small.1 s))
 
-kinds_within : (v : Version) (fs : List IrFunc) (rest : List Function) (r : ℕ)
+pub kinds_within : (v : Version) (fs : List IrFunc) (rest : List Function) (r : ℕ)
     → SpelledWithin r (items function_kind rest) → SpelledWithin (5 * length fs + r)
     (items function_kind (map (function_for v) fs ++ rest))
 kinds_within v [] rest r s = within_more (0 + r) (omega arith) s
@@ -188,37 +196,26 @@ types_within (to s b) few =
     (within_cons {j = 10013} {k = 0} function_type (call_type s) []
     (call_type_within s (omega (arith, leaves_few s))) (within_nil function_type))))))
 
-call_name_within : SpelledWithin 9 (vector octet (codes "call"))
-call_name_within = within_vector {k = 4} octet (codes "call") (omega arith)
-    (within_cons {j = 1} {k = 3} octet 0x63 (0x61 ∷ 0x6C ∷ 0x6C ∷ []) (octet_within 0x63 (omega arith))
-    (within_cons {j = 1} {k = 2} octet 0x61 (0x6C ∷ 0x6C ∷ []) (octet_within 0x61 (omega arith))
-    (within_cons {j = 1} {k = 1} octet 0x6C (0x6C ∷ []) (octet_within 0x6C (omega arith))
-    (within_cons {j = 1} {k = 0} octet 0x6C [] (octet_within 0x6C (omega arith)) (within_nil octet)))))
-
 abbrev init_named : ℕ → Exporting
 init_named n = record { name = codes "init"; what = Func n }
 
 abbrev call_named : ℕ → Exporting
 call_named n = record { name = codes "call"; what = Func n }
 
-init_export : (n : ℕ) → n < 2 ^ 32 → SpelledWithin 15 (export (record { name = codes "init"; what = Func n }))
-init_export n h = within_then {j = 9} {k = 6} name_within
-    (within_then {j = 1} {k = 5} (within_byte 0x00) (within_u32 n h))
-
-call_export : (n : ℕ) → n < 2 ^ 32 → SpelledWithin 15 (export (record { name = codes "call"; what = Func n }))
-call_export n h = within_then {j = 9} {k = 6} call_name_within
-    (within_then {j = 1} {k = 5} (within_byte 0x00) (within_u32 n h))
-
 exports_within : (k : KernelType) (n : ℕ) → suc n < 2 ^ 32
     → SpelledWithin 41 (section 7 export (record { name = codes "init"; what = Func n } ∷ more_exports k (suc n)))
-exports_within (of_ground g) n h =
-    within_more 41 (omega arith)
-    (within_section {k = 20} 7 export (init_named n ∷ []) (omega arith)
-    (within_one {k = 15} export (init_named n) (init_export n (omega arith))))
-exports_within (to s b) n h = within_section {k = 35} 7 export (init_named n ∷ call_named (suc n) ∷ []) (omega arith)
-    (within_vector {k = 30} export (init_named n ∷ call_named (suc n) ∷ []) (omega arith)
-    (within_cons {j = 15} {k = 15} export (init_named n) (call_named (suc n) ∷ []) (init_export n (omega arith))
-    (within_cons {j = 15} {k = 0} export (call_named (suc n)) [] (call_export (suc n) h) (within_nil export))))
+exports_within k n h = go k (export_within (codes "init") n (omega arith) (omega arith) (omega arith))
+  where
+    go : (k : KernelType) → SpelledWithin 15 (export (init_named n))
+        → SpelledWithin 41 (section 7 export (init_named n ∷ more_exports k (suc n)))
+    go (of_ground g) init = within_more 41 (omega arith)
+        (within_section {k = 20} 7 export (init_named n ∷ []) (omega arith)
+        (within_one {k = 15} export (init_named n) init))
+    go (to s b) init = within_section {k = 35} 7 export (init_named n ∷ call_named (suc n) ∷ []) (omega arith)
+        (within_vector {k = 30} export (init_named n ∷ call_named (suc n) ∷ []) (omega arith)
+        (within_then {j = 15} {k = 15} init
+        (within_then {j = 15} {k = 0} (export_within (codes "call") (suc n) (omega arith) (omega arith) h)
+        (within_nil export))))
 
 pub counting_within : (k n : ℕ) → k + n < 2 ^ 32 → SpelledWithin (5 * n) (items u32 (counting k n))
 counting_within k zero h = within_nil u32
@@ -273,7 +270,7 @@ module_spelled v t slots body k n can few fine near sees nd small leaves =
     (within_then
     ((within_section 10 function_code m.funcs (omega arith)
     (within_vector function_code m.funcs (omega arith)
-    (funcs_within v t _ (breadth body + 60 + 2000000) can (omega arith)
+    (funcs_within v t _ (breadth body + 60 + 2000000) can (all_small t (omega arith))
     (within_then init_code (more_within k leaves))))))
     (within_then gap (within_then (within_absent 11 data_segment) gap)))))))))))))))))))))
   where

@@ -22,6 +22,7 @@ use Rattle.mw_gen.specs.Generate.{module_with}
 use Rattle.mw_gen.proofs.Slots.{slots_needed}
 use Rattle.mw_gen.proofs.Invocations.{argument_need}
 use Rattle.mw_gen.proofs.Valid.{Offers, Sees, valid, loop_valid}
+use Rattle.mw_conv.proofs.Ranges.{both_all}
 
 -- what is known of each function's code
 pub record Proper (f : IrFunc) : Type 0 where
@@ -29,8 +30,7 @@ pub record Proper (f : IrFunc) : Type 0 where
   pub needs : slots_needed f.body ≤ f.slots
 
 abbrev pub AllProper : List IrFunc → Type 0
-AllProper [] = Unit {0}
-AllProper (f ∷ fs) = Proper f × AllProper fs
+AllProper fs = AllByRecursion Proper fs
 
 replicate_get : (n j : ℕ) → j < n → slice_get (replicate n I64) j ≡ Some I64
 replicate_get zero j lt = absurd (omega arith)
@@ -41,11 +41,6 @@ entry_get : (n j : ℕ) → j < 2 + n → slice_get (I64 ∷ I64 ∷ replicate n
 entry_get n zero lt = refl
 entry_get n (suc zero) lt = refl
 entry_get n (suc (suc j)) lt = replicate_get n j (omega arith)
-
-pub all_append : {A : Type 0} (P : A → Type 0) (xs ys : List A) → AllByRecursion P xs → AllByRecursion P ys
-    → AllByRecursion P (xs ++ ys)
-all_append P [] ys a b = b
-all_append P (x ∷ xs) ys a b = (a.0, all_append P xs ys a.1 b)
 
 temps_room : (c : Bool) (s : ℕ) → c ≡ true → suc (2 + s) < 2 + (s + spare_count c)
 temps_room true s e = omega arith
@@ -181,7 +176,7 @@ pub module_valid : (v : Version) (t : List IrFunc) (slots : ℕ) (body : Ir) (k 
 module_valid v t slots body k proper sees nd few = record {
   types = (omega arith, (omega arith, few_results k));
   funcs =
-      all_append _ (map (function_for v) t) _ (funcs_valid v (module_with v t slots body k)
+      both_all _ (map (function_for v) t) _ (funcs_valid v (module_with v t slots body k)
       (suits_alone v t slots body k) t proper) (
         init_valid v (module_with v t slots body k)
             (suits_alone v t slots body k) slots body refl nd sees,

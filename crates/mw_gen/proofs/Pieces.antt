@@ -1,8 +1,9 @@
 -- Pieces of the binary format that a bounded number of bytes spells.
 use Rattle.std.proofs.Common.{◌≡◌, ◌≤◌, ◌<◌, ℕ, suc, ◌+◌, ◌*◌, ◌-◌, ◌^◌, List, [], ◌∷◌, ◌++◌, length, ℤ, pos, negsuc}
 use Rattle.std.proofs.Common.{refl, sym, ap, subst, inl, inr, arith, if◌then◌else◌}
-use Rattle.std.specs.Prelude.{FitsSigned, Some, codes, ◌-ℤ◌, ◌≤ℤ◌, ◌<ℤ◌}
+use Rattle.std.specs.Prelude.{FitsSigned, Some, ◌-ℤ◌, ◌≤ℤ◌, ◌<ℤ◌}
 use Rattle.std.specs.Int.{w64, cast_unsigned}
+use Rattle.std.specs.List.{AllByRecursion}
 use Rattle.std.proofs.Math.Dec.{le→leb, lt→ltb}
 use Rattle.std.proofs.lemmas.List.{length-append}
 use Rattle.mw_term.specs.declared.term.Primitive.{Primitive as Prim}
@@ -12,8 +13,9 @@ use Rattle.mw_wasm.specs.declared.modules.Exported.TheVariants.{Func}
 use Rattle.mw_wasm.specs.Leb.{IsUnsigned, IsSigned, unsigned_of}
 use Rattle.mw_wasm.specs.Pieces.{Piece, byte, octet, i32, ◌then◌, u32, items, vector, sized}
 use Rattle.mw_wasm.specs.BinaryInstructions.{instruction, expression, value_type}
-use Rattle.mw_wasm.specs.BinaryModules.{locals, function_type, table, limits, limits_of, global, export, section}
+use Rattle.mw_wasm.specs.BinaryModules.{function_type, table, limits, limits_of, global, export, section}
 use Rattle.mw_wasm.specs.BinaryModules.{customs, import_section, header}
+use Rattle.mw_wasm.specs.Profile.{IsPrintable}
 use Rattle.mw_wasm.specs.Syntax.{const_i32, const_i64, end, next}
 use Rattle.mw_leb.proofs.Groups.{unsigned_shortest, signed_shortest}
 use Rattle.mw_leb.specs.Shortest.{shortest_unsigned, shortest_signed}
@@ -124,21 +126,6 @@ constant_spelled z h =
       short = let p = signed_length (shortest_signed z) 64 z s.spells in omega arith;
     }
 
--- the function `init`, without further locals
-pub no_locals : SpelledWithin 5 (locals [])
-no_locals = let n = within_u32 0 (omega arith) in
-    record {
-      bytes = n.bytes ++ [];
-      spell =
-          record {
-            runs = [];
-            spelled = record { front = n.bytes; back = []; whole = refl; first = n.spell; second = refl };
-            types_are = refl;
-            few = omega arith;
-          };
-      short = let e = length-append n.bytes [] in let p = n.short in omega arith;
-    }
-
 -- the concrete parts of the module
 pub customs_within : SpelledWithin 0 customs
 customs_within = record { bytes = []; spell = record { contents = []; spelled = refl }; short = omega arith }
@@ -207,15 +194,14 @@ globals_within = within_section {k = 10} 6 global (heap_end ∷ []) (omega arith
 pub octet_within : (b : ℕ) → b < 2 ^ 8 → SpelledWithin 1 (octet b)
 octet_within b h = record { bytes = b ∷ []; spell = (h, refl); short = omega arith }
 
-pub name_within : SpelledWithin 9 (vector octet (codes "init"))
-name_within = within_vector {k = 4} octet (codes "init") (omega arith)
-    (within_cons {j = 1} {k = 3} octet 0x69 (0x6E ∷ 0x69 ∷ 0x74 ∷ []) (octet_within 0x69 (omega arith))
-    (within_cons {j = 1} {k = 2} octet 0x6E (0x69 ∷ 0x74 ∷ []) (octet_within 0x6E (omega arith))
-    (within_cons {j = 1} {k = 1} octet 0x69 (0x74 ∷ []) (octet_within 0x69 (omega arith))
-    (within_cons {j = 1} {k = 0} octet 0x74 [] (octet_within 0x74 (omega arith)) (within_nil octet)))))
+pub named_within : (name : List ℕ) → AllByRecursion IsPrintable name → SpelledWithin (length name) (items octet name)
+named_within [] h = within_nil octet
+named_within (b ∷ name) h =
+    within_more (length (b ∷ name)) (omega arith) (within_then {j = 1} (octet_within b (let q = h.0.1 in omega arith))
+    (named_within name h.1))
 
-pub exports_within : SpelledWithin 26 (section 7 export (record { name = codes "init"; what = Func 0 } ∷ []))
-exports_within = within_section {k = 20} 7 export (record { name = codes "init"; what = Func 0 } ∷ []) (omega arith)
-    (within_one {k = 15} export record { name = codes "init"; what = Func 0 }
-    (within_then {j = 9} {k = 6} name_within
-    (within_then {j = 1} {k = 5} (within_byte 0x00) (within_u32 0 (omega arith)))))
+-- a function's export
+pub export_within : (name : List ℕ) (n : ℕ) → AllByRecursion IsPrintable name → length name < 2 ^ 32 → n < 2 ^ 32
+    → SpelledWithin (5 + length name + 6) (export record { name = name; what = Func n })
+export_within name n h short lt = within_then (within_vector octet name short (named_within name h))
+    (within_then {j = 1} {k = 5} (within_byte 0x00) (within_u32 n lt))

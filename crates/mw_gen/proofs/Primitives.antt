@@ -4,7 +4,7 @@ use Rattle.std.proofs.Common.{sym, arith, Some}
 use Rattle.std.specs.Prelude.{ℤ, pos, negsuc, ◌+ℤ◌, ◌-ℤ◌, ◌*ℤ◌, int_lt, int_le, int_div, int_rem, neg_ℤ, ◌==◌}
 use Rattle.std.specs.Prelude.{if◌then◌else◌, ◌/◌, ◌*◌, ◌-◌, ◌%◌, ◌^◌, ◌&&◌, Result, Ok, Err}
 use Rattle.std.specs.Int.{cast_signed, cast_unsigned, int_wrap, from_bool}
-use Rattle.std.proofs.lemmas.Bool.{eqb-true, eqb-false, eq-eqb, ne_eqb}
+use Rattle.std.proofs.lemmas.Bool.{eqb-true, eqb-false, eq-eqb, ne_eqb, and_left, and_right}
 use Rattle.std.specs.Int.Signed.{mag, mag_rem}
 use Rattle.std.proofs.Math.Nat.{div-le_self, div-lt_self}
 use Rattle.mw_term.specs.declared.value.TrapKind.TheVariants.{Overflow}
@@ -137,14 +137,6 @@ machine_result (trapped t) = Err (trap_of t)
 nonzero : (x y : ℤ) → (bits y ≡ 0 → ⊥) → (r : Result ℕ Trap) → divided_by (bits y) r ≡ r
 nonzero x y ne r = let e : bits y == 0 ≡ false = ne_eqb _ _ ne in rw e refl
 
-and_false : (a b : Bool) → b ≡ false → a && b ≡ false
-and_false true b e = e
-and_false false b e = refl
-
-left_false : (a b : Bool) → a ≡ false → a && b ≡ false
-left_false true b e = absurd (cc)
-left_false false b e = refl
-
 plain_quotient : (x y : ℤ) → Small x → Small y → (is_least w64 (bits x) && is_minus_one w64 (bits y)) ≡ false
     → signed_quotient w64 (bits x) (bits y) ≡ Ok (bits (int_div x y))
 plain_quotient x y p q e = rw (e, to_z-of_z w64 x p, to_z-of_z w64 y q) refl
@@ -153,9 +145,9 @@ quotient_is : (x y : ℤ) → Small x → Small y → divided_by (bits y) (signe
     ≡ machine_result (quotient x y)
 quotient_is x (pos zero) p q = refl
 quotient_is x (pos (suc d)) p q = nonzero x (pos (suc d)) (λ e. omega arith) _ ∙ plain_quotient x (pos (suc d)) p q
-    (and_false (is_least w64 (bits x)) _ (ne_eqb _ _ λ e. (let s = q.sfits in omega arith)))
+    (and_right (is_least w64 (bits x)) _ (ne_eqb _ _ λ e. (let s = q.sfits in omega arith)))
 quotient_is (pos n) (negsuc zero) p q = plain_quotient (pos n) (negsuc zero) p q
-    (left_false (n == 2 ^ 63) _ (ne_eqb n (2 ^ 63) λ e. omega (arith, p.sfits)))
+    (and_left (n == 2 ^ 63) _ (ne_eqb n (2 ^ 63) λ e. omega (arith, p.sfits)))
 quotient_is (negsuc n) (negsuc zero) p q = go (n == 2 ^ 63 - 1) refl
   where
     go : (b : Bool) → (n == 2 ^ 63 - 1) ≡ b
@@ -164,11 +156,11 @@ quotient_is (negsuc n) (negsuc zero) p q = go (n == 2 ^ 63 - 1) refl
     go true e = let l : is_least w64 (bits (negsuc n)) ≡ true = eq-eqb _ _ (let f = eqb-true n _ e in omega arith) in
         rw l refl
     go false e = plain_quotient (negsuc n) (negsuc zero) p q
-        (left_false (bits (negsuc n) == 2 ^ 63) _
+        (and_left (bits (negsuc n) == 2 ^ 63) _
         (ne_eqb (bits (negsuc n)) (2 ^ 63) λ g. eqb-false n (2 ^ 63 - 1) e (omega (arith, g, p.sfits))))
 quotient_is x (negsuc (suc d)) p q = nonzero x (negsuc (suc d)) (λ e. (let s = q.sfits in omega arith)) _
     ∙ plain_quotient x (negsuc (suc d)) p q
-    (and_false (is_least w64 (bits x)) _ (ne_eqb _ _ λ e. (let s = q.sfits in omega arith)))
+    (and_right (is_least w64 (bits x)) _ (ne_eqb _ _ λ e. (let s = q.sfits in omega arith)))
 
 plain_remainder : (x y : ℤ) → Small x → Small y → signed_remainder w64 (bits x) (bits y) ≡ bits (int_rem x y)
 plain_remainder x y p q = rw (to_z-of_z w64 x p, to_z-of_z w64 y q) refl

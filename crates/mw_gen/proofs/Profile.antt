@@ -1,16 +1,16 @@
 -- An emitted module is within the profile.
 use Rattle.std.proofs.Common.{◌≡◌, ℕ, zero, suc, ◌+◌, ◌≤◌, Bool, true, false, List, [], ◌∷◌, length, refl, arith, map}
 use Rattle.std.proofs.Common.{if◌then◌else◌}
-use Rattle.std.specs.Prelude.{max, codes, ◌*◌}
+use Rattle.std.specs.Prelude.{max}
 use Rattle.std.specs.List.{AllByRecursion}
 use Rattle.std.proofs.lemmas.List.{length-replicate}
 use Rattle.mw_term.specs.declared.term.Primitive.{Primitive as Prim}
-use Rattle.mw_term.specs.declared.term.Primitive.TheVariants.{Add, Sub, Mul, Div, Mod, Eq, Lt, Le}
+use Rattle.mw_term.specs.declared.term.Primitive.TheVariants.{Add}
 use Rattle.mw_term.specs.Terms.{KernelType, GroundType, base, of_ground, to, product}
 use Rattle.mw_wasm.specs.declared.values.ValType.TheVariants.{I64}
 use Rattle.mw_wasm.specs.Syntax.{Code, end, next, Function, Exporting}
 use Rattle.mw_wasm.specs.Profile.{depth, IsShallow, IsPrintable, IsWithinProfile}
-use Rattle.mw_ir.specs.declared.place.Place.TheVariants.{Argument, Own, Slot, Free}
+use Rattle.mw_ir.specs.declared.place.Place.TheVariants.{Argument}
 use Rattle.mw_ir.specs.Ir as i
 use Rattle.mw_ir.specs.declared.place.Place.{Place}
 use Rattle.mw_ir.specs.Ir.{Ir, IrFunc}
@@ -18,9 +18,10 @@ use Rattle.mw_meaning.specs.Shapes.{leaf_count}
 use Rattle.mw_key.specs.declared.version.Version.{Version}
 use Rattle.mw_gen.specs.Generate.{expression_code, tail_code, is_own, place_code, stores_code, prim_code}
 use Rattle.mw_gen.specs.Generate.{application_code, spare_count, is_loop, body_wants_spare, body_code, function_for}
-use Rattle.mw_gen.specs.Generate.{init_function, call_function, call_of, argument_of, wants_spare, elements_of}
-use Rattle.mw_gen.specs.Generate.{more_functions, more_exports, module_with}
-use Rattle.mw_gen.proofs.Modules.{all_append, few_results}
+use Rattle.mw_gen.specs.Generate.{call_function, call_of, argument_of, wants_spare, elements_of}
+use Rattle.mw_gen.specs.Generate.{more_functions, module_with}
+use Rattle.mw_gen.proofs.Modules.{few_results}
+use Rattle.mw_conv.proofs.Ranges.{both_all}
 
 -- the choices that stand one in another
 abbrev pub ifs : Ir → ℕ
@@ -35,36 +36,22 @@ ifs _ = 0
 
 place_depth : (p : Place) (b : ℕ) (rest : Code) → depth (place_code p b rest) ≤ depth rest
 place_depth Argument b rest = omega arith
-place_depth Own b rest = omega arith
-place_depth (Slot s) b rest = omega arith
-place_depth (Free j) b rest = omega arith
+place_depth _ b rest = omega arith
 
 stores_depth : (ps : List Place) (j b : ℕ) (rest : Code) → depth (stores_code ps j b rest) ≤ depth rest
 stores_depth [] j b rest = omega arith
-stores_depth (p ∷ ps) j b rest =
-    omega (
-      arith,
-      place_depth p b (Rattle.mw_gen.specs.Generate.store_word (8 * j) (stores_code ps (suc j) b rest)),
-      stores_depth ps (suc j) b rest,
-    )
+stores_depth (p ∷ ps) j b rest = omega (arith, place_depth p b, stores_depth ps (suc j) b rest)
 
 prim_depth : (p : Prim) (rest : Code) → depth (prim_code p rest) ≤ depth rest
 prim_depth Add rest = omega arith
-prim_depth Sub rest = omega arith
-prim_depth Mul rest = omega arith
-prim_depth Div rest = omega arith
-prim_depth Mod rest = omega arith
-prim_depth Eq rest = omega arith
-prim_depth Lt rest = omega arith
-prim_depth Le rest = omega arith
+prim_depth _ rest = omega arith
 
 pub expression_depth : (e : Ir) (b t : ℕ) (rest : Code) (m : ℕ) → depth rest ≤ m → ifs e ≤ m
     → depth (expression_code e b t rest) ≤ m
 expression_depth (i.num z) b t rest m h g = omega arith
 expression_depth (i.truth z) b t rest m h g = omega arith
 expression_depth (i.get p) b t rest m h g = omega (arith, place_depth p b rest)
-expression_depth (i.closure k ps) b t rest m h g =
-    omega (arith, stores_depth ps 1 b (Rattle.mw_gen.specs.Generate.address_code (8 * suc (length ps)) rest))
+expression_depth (i.closure k ps) b t rest m h g = omega (arith, stores_depth ps 1 b)
 expression_depth (i.app f a) b t rest m h g =
     expression_depth f b t _ m (expression_depth a b t _ m (omega arith) (omega arith)) (omega arith)
 expression_depth (i.bind s d e) b t rest m h g =
@@ -96,14 +83,7 @@ tail_depth (i.cond c y z) b t d zero g = absurd (omega arith)
 tail_depth (i.cond c y z) b t d (suc m) g =
     expression_depth c b t _ (suc m) (let p = tail_depth y b t (suc d) m (omega arith) in let q =
     tail_depth z b t (suc d) m (omega arith) in omega arith) (omega arith)
-tail_depth (i.num z) b t d m g = expression_depth (i.num z) b t end m (omega arith) g
-tail_depth (i.truth z) b t d m g = expression_depth (i.truth z) b t end m (omega arith) g
-tail_depth (i.get p) b t d m g = expression_depth (i.get p) b t end m (omega arith) g
-tail_depth (i.closure k ps) b t d m g = expression_depth (i.closure k ps) b t end m (omega arith) g
-tail_depth (i.pair y z) b t d m g = expression_depth (i.pair y z) b t end m (omega arith) g
-tail_depth (i.fst y) b t d m g = expression_depth (i.fst y) b t end m (omega arith) g
-tail_depth (i.snd y) b t d m g = expression_depth (i.snd y) b t end m (omega arith) g
-tail_depth (i.prim p y z) b t d m g = expression_depth (i.prim p y z) b t end m (omega arith) g
+tail_depth e b t d m g = expression_depth e b t end m (omega arith) g
 
 -- functions of at most m choices one in another and at most n lets
 pub record IsModest (m n : ℕ) (f : IrFunc) : Type 0 where
@@ -158,12 +138,12 @@ module_within_profile v t slots body k many modest few flat = record {
   type_results = (omega arith, (omega arith, few_results k));
   table_elements = omega arith;
   memory_pages = omega arith;
-  further_locals = all_append _ (map (function_for v) t) _ (locals_few v t modest) (
+  further_locals = both_all _ (map (function_for v) t) _ (locals_few v t modest) (
     omega (arith, length-replicate (slots + spare_count (wants_spare body)) I64, temps_two (wants_spare body)),
     call_few k,
   );
   export_names = names k;
-  function_depth = all_append _ (map (function_for v) t) _ (all_shallow v t modest)
+  function_depth = both_all _ (map (function_for v) t) _ (all_shallow v t modest)
       (omega (arith, expression_depth body 0 (0 + slots) end 400 (omega arith) (omega arith)), call_shallow k);
   global_depth = (omega arith, tt);
   element_depth = elements (length t);
@@ -178,22 +158,10 @@ module_within_profile v t slots body k many modest few flat = record {
     call_shallow (of_ground g) = tt
     call_shallow (to s b) = (call_depth s, tt)
 
-    four : {a b c d : ℕ} → IsPrintable a → IsPrintable b → IsPrintable c → IsPrintable d
-        → AllByRecursion IsPrintable (a ∷ b ∷ c ∷ d ∷ [])
-    four a b c d = (a, (b, (c, (d, tt))))
-
-    init_name : AllByRecursion IsPrintable (codes "init")
-    init_name = four (omega arith, omega arith) (omega arith, omega arith) (omega arith, omega arith)
-        (omega arith, omega arith)
-
-    call_name : AllByRecursion IsPrintable (codes "call")
-    call_name = four (omega arith, omega arith) (omega arith, omega arith) (omega arith, omega arith)
-        (omega arith, omega arith)
-
     names : (k : KernelType) → AllByRecursion (λ (e : Exporting). AllByRecursion IsPrintable e.name)
         (module_with v t slots body k).exports
-    names (of_ground g) = (init_name, tt)
-    names (to s b) = (init_name, (call_name, tt))
+    names (of_ground g) = omega arith
+    names (to s b) = omega arith
 
     elements : (n : ℕ) → AllByRecursion (λ e. IsShallow e.offset) (elements_of n)
     elements zero = tt

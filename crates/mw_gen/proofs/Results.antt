@@ -3,12 +3,13 @@ use Rattle.std.proofs.Common.{◌≡◌, ℕ, zero, suc, ◌+◌, ◌≤◌, Boo
 use Rattle.std.proofs.Common.{arith}
 use Rattle.std.specs.Prelude.{ℤ, pos, negsuc, slice_get, ◌*◌, ◌/◌, ◌%◌}
 use Rattle.std.proofs.lemmas.Bool.{le-leb}
+use Rattle.std.proofs.lemmas.Option.{slice_get_within}
 use Rattle.mw_term.specs.Terms.{KernelValue}
 use Rattle.mw_wasm.specs.Store.{Memory, read_bytes}
 use Rattle.mw_meaning.specs.StandingFor.{truth_number, IsWord}
 use Rattle.mw_ir.specs.Ir.{IrFunc, aligned, load, word_of_truth}
 use Rattle.mw_conv.specs.Represents.{Stands, s_int, s_bool, s_both, s_function, s_recursive}
-use Rattle.mw_gen.proofs.Words.{bits, Small, Keeps, get_within}
+use Rattle.mw_gen.proofs.Words.{bits, Small, Keeps}
 
 pub truth_word : (b : Bool) → bits (word_of_truth b) ≡ truth_number b
 truth_word true = refl
@@ -30,7 +31,7 @@ stored h mem (pos a) j w m e = go (a % 8) refl e
         let at : a + 8 * j ≡ 8 * (a / 8 + j) = omega arith in
         record {
           word = ap (λ x. read_bytes 8 x mem) at ∙ m.word _ w e;
-          inside = rw m.pages (omega (arith, get_within h _ w e, m.few));
+          inside = rw m.pages (omega (arith, slice_get_within h _ w e, m.few));
           small = m.small _ w e;
         }
 

@@ -3,6 +3,7 @@ use Rattle.std.proofs.Common.{◌≡◌, ℕ, suc, ◌+◌, ◌<◌, Bool, true,
 use Rattle.std.proofs.Common.{refl, ap, ◌∙◌, sym, subst, arith, length-append, append_assoc}
 use Rattle.std.specs.Prelude.{ℤ, slice_get, slice_set, nat_le, nat_lt, ◌*◌, ◌%◌, ◌^◌}
 use Rattle.std.proofs.lemmas.Bool.{leb-true, le-leb, leb-false, lt-leb}
+use Rattle.std.proofs.Common.{append-nil}
 use Rattle.mw_wasm.specs.declared.values.Value.{Value}
 use Rattle.mw_wasm.specs.declared.values.Value.TheVariants.{I32, I64}
 use Rattle.mw_wasm.specs.Syntax.{Code, next, local_get, local_set, local_tee, PureModule}
@@ -15,17 +16,14 @@ use Rattle.mw_ir.specs.Ir as i
 use Rattle.mw_ir.specs.declared.place.Place.{Place}
 use Rattle.mw_ir.specs.Ir.{Frame, read, read_all, load, load_own, also}
 use Rattle.mw_gen.specs.Generate.{place_code, stores_code, address_code, store_word}
-use Rattle.mw_gen.proofs.Words.{bits, Small, Keeps, keeps_more, get_append}
+use Rattle.mw_gen.proofs.Words.{bits, Small, Keeps, keeps_more}
 use Rattle.mw_gen.proofs.Locals.{Fits, word}
 use Rattle.mw_gen.proofs.Loads.{loaded, bits_small}
 use Rattle.mw_gen.proofs.RunAnswers.{Says, along, answers}
+use Rattle.mw_conv.proofs.Heaps.{get_append}
 pub use Rattle.mw_gen.specs.Keeping.{store_at}
 
-pub append_none : {A : Type 0} → (xs : List A) → xs ++ [] ≡ xs
-append_none [] = refl
-append_none (x ∷ xs) = ap (λ ys. x ∷ ys) (append_none xs)
-
-also_some : (a : Option ℤ) (b : Option (List ℤ)) (xs : List ℤ) → also a b ≡ Some xs → (x : ℤ) × (ys : List ℤ)
+pub also_some : (a : Option ℤ) (b : Option (List ℤ)) (xs : List ℤ) → also a b ≡ Some xs → (x : ℤ) × (ys : List ℤ)
     × (a ≡ Some x) × (b ≡ Some ys) × (x ∷ ys ≡ xs)
 also_some None b xs e = absurd (cc)
 also_some (Some x) None xs e = absurd (cc)
@@ -124,7 +122,7 @@ module _ (m : PureModule) (tb : List (Option ℕ)) where
   stores_says n h [] ws xs mem b fr ls vs rest around a Q me f e after =
       let q : [] ≡ xs = (cc) in
       subst (λ xs. Says (i.with_room (nat_le (length h + length (ws ++ xs)) 524288) a) Q
-      (Run n h mem ls vs rest around)) q (all_stored h ws mem a Q _ me (after mem (rw (← q, append_none ws) me)))
+      (Run n h mem ls vs rest around)) q (all_stored h ws mem a Q _ me (after mem (rw (← q, append-nil ws) me)))
   stores_says n h (p ∷ ps) ws xs mem b fr ls vs rest around a Q me f e after =
       let r = also_some (read h fr p) (read_all h fr ps) xs e in
       let l : suc (length ws) ≡ length (ws ++ r.0 ∷ []) = omega (arith, length-append ws (r.0 ∷ [])) in

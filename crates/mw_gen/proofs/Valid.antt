@@ -1,9 +1,11 @@
 -- The generated code is valid: before any rest, it puts one i64 on the stack.
 use Rattle.std.proofs.Common.{◌≡◌, ℕ, suc, ◌+◌, ◌≤◌, ◌<◌, true, false, List, [], ◌∷◌, ◌++◌, Some, refl, ap, ◌∙◌, sym}
 use Rattle.std.proofs.Common.{subst, arith, append_assoc, if◌then◌else◌}
+use Rattle.std.specs.List.{AllByRecursion}
 use Rattle.std.specs.Prelude.{slice_get, IsSome}
+use Rattle.std.proofs.Common.{append-nil}
 use Rattle.mw_term.specs.declared.term.Primitive.{Primitive as Prim}
-use Rattle.mw_term.specs.declared.term.Primitive.TheVariants.{Add, Sub, Mul, Div, Mod, Eq, Lt, Le}
+use Rattle.mw_term.specs.declared.term.Primitive.TheVariants.{Eq, Lt, Le}
 use Rattle.mw_wasm.specs.declared.values.ValType.{ValType}
 use Rattle.mw_wasm.specs.declared.values.ValType.TheVariants.{I32, I64}
 use Rattle.mw_wasm.specs.Syntax.{Instruction, Code, end, next, br, loop}
@@ -18,8 +20,7 @@ use Rattle.mw_gen.specs.Generate.{expression_code, tail_code, is_own, place_code
 use Rattle.mw_gen.specs.Generate.{pair_code, prim_code, address_code, raising_code, wants_spare, tail_wants_spare}
 use Rattle.mw_gen.specs.Generate.{closure_type, wrap, load_word, store_word, loop_code}
 use Rattle.mw_gen.proofs.Slots.{slots_needed}
-use Rattle.mw_gen.proofs.Stores.{append_none}
-use Rattle.mw_gen.proofs.Correctness.{or_left, or_right}
+use Rattle.mw_meaning.proofs.Replacement.{or_left, or_right}
 
 -- the local that a place is read from
 abbrev pub place_local : Place → ℕ → ℕ
@@ -29,8 +30,7 @@ place_local (Slot s) b = b + s
 place_local (Free j) b = 0
 
 abbrev pub AreSeen : List Place → ℕ → ℕ → Type 0
-AreSeen [] b n = Unit {0}
-AreSeen (p ∷ ps) b n = (place_local p b < n) × AreSeen ps b n
+AreSeen ps b n = AllByRecursion (λ p. place_local p b < n) ps
 
 -- each place that the code reads is in a local below n
 abbrev pub Sees : Ir → ℕ → ℕ → Type 0
@@ -62,7 +62,7 @@ push ts t = ts ++ t ∷ []
 
 on0 : {c : Context} {x : Instruction} {code : Code} {outs : List ValType} (ts : List ValType) (b : ValType)
     → HasType c x [] (b ∷ []) → CodeHasType c code (push ts b) outs → CodeHasType c (next x code) ts outs
-on0 ts b h rest = of_next ts [] (b ∷ []) h (sym (append_none ts)) rest
+on0 ts b h rest = of_next ts [] (b ∷ []) h (sym (append-nil ts)) rest
 
 on1 : {c : Context} {x : Instruction} {code : Code} {outs : List ValType} (ts : List ValType) (a b : ValType)
     → HasType c x (a ∷ []) (b ∷ []) → CodeHasType c code (push ts b) outs → CodeHasType c (next x code) (push ts a) outs
@@ -82,12 +82,12 @@ on3 ts a b d e h rest = of_next ts (a ∷ b ∷ d ∷ []) (e ∷ []) h (ap (λ z
 off1 : {c : Context} {x : Instruction} {code : Code} {outs : List ValType} (ts : List ValType) (a : ValType)
     → HasType c x (a ∷ []) [] → CodeHasType c code ts outs → CodeHasType c (next x code) (push ts a) outs
 off1 {c} {x} {code} {outs} ts a h rest =
-    of_next ts (a ∷ []) [] h refl (subst (λ z. CodeHasType c code z outs) (sym (append_none ts)) rest)
+    of_next ts (a ∷ []) [] h refl (subst (λ z. CodeHasType c code z outs) (sym (append-nil ts)) rest)
 
 off2 : {c : Context} {x : Instruction} {code : Code} {outs : List ValType} (ts : List ValType) (a b : ValType)
     → HasType c x (a ∷ b ∷ []) [] → CodeHasType c code ts outs → CodeHasType c (next x code) (push (push ts a) b) outs
 off2 {c} {x} {code} {outs} ts a b h rest = of_next ts (a ∷ b ∷ []) [] h (append_assoc ts (a ∷ []) (b ∷ []))
-    (subst (λ z. CodeHasType c code z outs) (sym (append_none ts)) rest)
+    (subst (λ z. CodeHasType c code z outs) (sym (append-nil ts)) rest)
 
 module _ (b n : ℕ) (c : Context) (o : Offers n c) (outs : List ValType) where
   raise_valid : (m : ℕ) (rest : Code) (ts : List ValType) → CodeHasType c rest ts outs
@@ -148,14 +148,10 @@ module _ (b n : ℕ) (c : Context) (o : Offers n c) (outs : List ValType) where
 
   prim_valid : (p : Prim) (rest : Code) (ts : List ValType) → CodeHasType c rest (push ts I64) outs
       → CodeHasType c (prim_code p rest) (push (push ts I64) I64) outs
-  prim_valid Add rest ts h = on2 ts I64 I64 I64 (of_numeric refl refl) h
-  prim_valid Sub rest ts h = on2 ts I64 I64 I64 (of_numeric refl refl) h
-  prim_valid Mul rest ts h = on2 ts I64 I64 I64 (of_numeric refl refl) h
-  prim_valid Div rest ts h = on2 ts I64 I64 I64 (of_numeric refl refl) h
-  prim_valid Mod rest ts h = on2 ts I64 I64 I64 (of_numeric refl refl) h
   prim_valid Eq rest ts h = on2 ts I64 I64 I32 (of_numeric refl refl) (on1 ts I32 I64 (of_numeric refl refl) h)
   prim_valid Lt rest ts h = on2 ts I64 I64 I32 (of_numeric refl refl) (on1 ts I32 I64 (of_numeric refl refl) h)
   prim_valid Le rest ts h = on2 ts I64 I64 I32 (of_numeric refl refl) (on1 ts I32 I64 (of_numeric refl refl) h)
+  prim_valid _ rest ts h = on2 ts I64 I64 I64 (of_numeric refl refl) h
 
 -- a choice, once its branches are valid
 choice_valid : {c : Context} {x y rest : Code} {outs : List ValType} (ts : List ValType)
@@ -226,14 +222,7 @@ tail_valid n t d (i.cond x y z) c o l lt s nd us =
     (λ q. us (or_right (wants_spare x) _ (or_left (tail_wants_spare y) (tail_wants_spare z) q))))
     (tail_valid n t (suc d) z (with_label (I64 ∷ []) c) (labelled _ o) l lt s.2 (omega arith)
     (λ q. us (or_right (wants_spare x) _ (or_right (tail_wants_spare y) (tail_wants_spare z) q)))) of_end)
-tail_valid n t d (i.num z) c o l lt s nd us = valid 2 n t (i.num z) c o s nd us end [] (I64 ∷ []) of_end
-tail_valid n t d (i.truth z) c o l lt s nd us = valid 2 n t (i.truth z) c o s nd us end [] (I64 ∷ []) of_end
-tail_valid n t d (i.get p) c o l lt s nd us = valid 2 n t (i.get p) c o s nd us end [] (I64 ∷ []) of_end
-tail_valid n t d (i.closure k ps) c o l lt s nd us = valid 2 n t (i.closure k ps) c o s nd us end [] (I64 ∷ []) of_end
-tail_valid n t d (i.pair x y) c o l lt s nd us = valid 2 n t (i.pair x y) c o s nd us end [] (I64 ∷ []) of_end
-tail_valid n t d (i.fst x) c o l lt s nd us = valid 2 n t (i.fst x) c o s nd us end [] (I64 ∷ []) of_end
-tail_valid n t d (i.snd x) c o l lt s nd us = valid 2 n t (i.snd x) c o s nd us end [] (I64 ∷ []) of_end
-tail_valid n t d (i.prim p x y) c o l lt s nd us = valid 2 n t (i.prim p x y) c o s nd us end [] (I64 ∷ []) of_end
+tail_valid n t d e c o l lt s nd us = valid 2 n t e c o s nd us end [] (I64 ∷ []) of_end
 
 pub loop_valid : (n t : ℕ) (e : Ir) (c : Context) → Offers n c → 1 < n → Sees e 2 n → 2 + slots_needed e ≤ n
     → (tail_wants_spare e ≡ true → suc t < n) → CodeHasType c (loop_code e t) [] (I64 ∷ [])

@@ -8,7 +8,8 @@ use Rattle.mw_types.specs.Equations.{TypeEquation}
 use Rattle.mw_recheck.specs.Notes.{Notes}
 use Rattle.mw_infer.specs.Nodes.{NodeNumbers}
 use Rattle.mw_infer.specs.Typings.{IsNodeWithin, AreNodesWithin}
-use Rattle.mw_infer.proofs.Extending.{Grown, then, Own}
+use Rattle.mw_infer.proofs.Extending.{Grown, then, Own, alone as own_alone}
+use Rattle.mw_infer.proofs.NodeLists.{within-append}
 use Rattle.mw_general.proofs.Values.{types_under, classifiers_under, agree_same}
 use Rattle.mw_general.proofs.NodeLineReadings.{Says, AllSay, same_say, both_say}
 
@@ -31,11 +32,6 @@ nodes-more p q (x ∷ xs) w = (
   nodes-more p q xs w.1,
 )
 
-nodes-append : (n m : ℕ) (xs ys : List NodeNumbers) → AreNodesWithin n m xs → AreNodesWithin n m ys
-    → AreNodesWithin n m (xs ++ ys)
-nodes-append n m [] ys h k = k
-nodes-append n m (x ∷ xs) ys h k = (h.0, nodes-append n m xs ys h.1 k)
-
 -- An assignment that goes on from a, which ends at o and c, to q and f: it solves these equations, and the node lines
 -- from place n up to k read as these nodes are under it.
 pub record Follows (p : Notes) (b a : Assignment) (o c q f : ℕ) (es : List TypeEquation) (n k : ℕ)
@@ -51,7 +47,7 @@ pub next : {p : Notes} {b a : Assignment} {o c q f r v n k j : ℕ} {es fs : Lis
     → Follows p b a o c r v (es ++ fs) n j (xs ++ ys)
 next {p = p} {b = b} {r = r} {v = v} {n = n} {k = k} {xs = xs} {ys = ys} one two = record {
   grown = then one.grown two.grown;
-  within = nodes-append r v xs ys (nodes-more two.grown.unknowns two.grown.classifiers xs one.within) two.within;
+  within = within-append r v xs ys (nodes-more two.grown.unknowns two.grown.classifiers xs one.within) two.within;
   says = both_say p b two.grown.by n k xs ys one.ends
       (same_say p b one.grown.by two.grown.by n xs (agree_same two.grown.keeps xs one.within) one.says) two.says;
   ends = omega (arith, one.ends, two.ends, length-append xs ys);
@@ -62,16 +58,7 @@ abbrev pub alone : {p : Notes} {b a d : Assignment} {o c q f n : ℕ} {es : List
     → Own a d o c q f es [] → IsNodeWithin q f x → Says p b n (types_under d x) (classifiers_under d x)
     → Follows p b a o c q f es n (n + 1) (x ∷ [])
 alone {d = d} x h w s = record {
-  grown = record {
-    by = d;
-    keeps = h.keeps;
-    solves = h.solves;
-    fresh = h.fresh;
-    unknowns = h.unknowns;
-    classifiers = h.classifiers;
-    within = h.within;
-    below = h.below;
-  };
+  grown = own_alone {b = d} h;
   within = (w, tt);
   says = (s, tt);
   ends = refl;

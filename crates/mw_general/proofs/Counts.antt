@@ -1,8 +1,8 @@
 -- A term's nodes have as many types as their lines name.
 use Rattle.std.proofs.Common.{◌≡◌, ℕ, ◌+◌, List, ◌∷◌, ◌++◌, length, append_assoc, refl, ap, ◌∙◌}
 use Rattle.std.proofs.lemmas.List.{map-append}
-use Rattle.mw_term.specs.Terms.{Expression, num, truth, var, glob, fun, fix, app, bind, cond, pair, fst, snd, prim}
-use Rattle.mw_term.specs.Terms.{bracket, escape, run, close, opened, lift, lift_b, done}
+use Rattle.mw_term.specs.Terms.{Expression, fun, fix, app, bind, cond, pair, fst, snd, prim}
+use Rattle.mw_term.specs.Terms.{bracket, escape, run, close, opened, lift, lift_b}
 use Rattle.mw_infer.specs.Schemes.{TopScheme}
 use Rattle.mw_infer.specs.ItemEquations.{unknowns_of, classifiers_of}
 use Rattle.mw_infer.specs.Nodes.{NodeNumbers, node_numbers}
@@ -15,10 +15,6 @@ two xs ys ks ls h i = rw (map-append (λ (x : NodeNumbers). length x.types) xs y
 
 module _ (tops : List TopScheme) where
   pub counted : (u o c : ℕ) (e : Expression) → counts_of (node_numbers tops u o c e) ≡ type_counts e
-  counted u o c (num z) = refl
-  counted u o c (truth b) = refl
-  counted u o c (var i) = refl
-  counted u o c (glob i) = refl
   counted u o c (fun e) = ap (λ ks. 2 ∷ ks) (counted (o + 1) (o + 2) c e)
   counted u o c (fix e) = ap (λ ks. 3 ∷ ks) (counted (o + 2) (o + 3) c e)
   counted u o c (app f a) = ap (λ ks. 1 ∷ ks) (two _ _ _ _ (counted o (o + 2) c f)
@@ -46,4 +42,4 @@ module _ (tops : List TopScheme) where
   counted u o c (opened e) = ap (λ ks. 2 ∷ ks) (counted (o + 1) (o + 2) (c + 1) e)
   counted u o c (lift e) = ap (λ ks. 1 ∷ ks) (counted o (o + 1) (c + 1) e)
   counted u o c (lift_b e) = ap (λ ks. 1 ∷ ks) (counted o (o + 1) (c + 1) e)
-  counted u o c (done v) = refl
+  counted u o c e = refl

@@ -4,11 +4,9 @@ use Rattle.std.proofs.Common.{◌≡◌, ℕ, zero, suc, ◌+◌, ◌<◌, List,
 use Rattle.std.specs.Prelude.{slice_get}
 use Rattle.mw_term.specs.declared.term.Base.{Base}
 use Rattle.mw_term.specs.declared.term.Base.TheVariants.{Int, Bool}
-use Rattle.mw_term.specs.declared.term.Primitive.{Primitive as Prim}
-use Rattle.mw_term.specs.Terms.{Expression, KernelType, var, glob, fun, fix, app, bind, cond, pair, fst, snd, prim}
-use Rattle.mw_term.specs.Terms.{bracket, escape, run, close, opened}
+use Rattle.mw_term.specs.Terms.{Expression, KernelType, var, glob}
 use Rattle.mw_term.specs.Types.{TermType, int_type, bool_type, pair_type, function_type, code_type, closed_type, Level}
-use Rattle.mw_term.specs.Types.{live, under, Entry, entry, IsAbsent, base_type, kernel_type, primitive_type}
+use Rattle.mw_term.specs.Types.{live, under, Entry, entry, base_type, kernel_type}
 use Rattle.mw_term.specs.Typing.{TopLevel, let_item, kernel_item, Typed, t_num, t_truth, t_var, t_let, t_kernel, t_fun}
 use Rattle.mw_term.specs.Typing.{t_fix, t_app, t_bind, t_cond, t_pair, t_fst, t_snd, t_prim, t_bracket, t_escape, t_run}
 use Rattle.mw_term.specs.Typing.{t_close, t_open, t_lift, t_lift_b, t_done}
@@ -19,7 +17,7 @@ use Rattle.mw_infer.specs.ItemEquations.{Slot, plain_slot, quoted_slot, slot, eq
 use Rattle.mw_infer.specs.ItemEquations.{variable_equations, function_equations, recursion_equations}
 use Rattle.mw_infer.specs.ItemEquations.{application_equations, let_equations, condition_equations, pair_equations}
 use Rattle.mw_infer.specs.ItemEquations.{primitive_equations, bracket_equations, escape_equations, run_equations}
-use Rattle.mw_infer.specs.ItemEquations.{close_equations, open_equations, lift_equations, equations, Close, closes}
+use Rattle.mw_infer.specs.ItemEquations.{close_equations, open_equations, lift_equations, equations, closes}
 use Rattle.mw_infer.specs.Inferring.{entry_of, AreSchemesOf}
 use Rattle.mw_term.specs.Sources.{IsSource}
 use Rattle.mw_types.proofs.Expressions.{level_of}
@@ -29,8 +27,8 @@ use Rattle.mw_types.proofs.Expressions.{Within-base_expression, Within-kernel_ex
 use Rattle.mw_types.proofs.Verdicts.{value_agree}
 use Rattle.mw_infer.proofs.Within.{variable-within}
 use Rattle.mw_infer.proofs.Extending.{extended, extended-keeps, extended-ty, extended-classifier, started}
-use Rattle.mw_infer.proofs.Extending.{started-starts, Ready, Grown, then, Own, Own-started, first, ending, Ready-part}
-use Rattle.mw_infer.proofs.Extending.{Ready-bound, Ready-gives, Ready-later, Ready-under, Ready-live}
+use Rattle.mw_infer.proofs.Extending.{started-starts, Ready, Grown, then, Own, Own-started, alone, first, ending}
+use Rattle.mw_infer.proofs.Extending.{Ready-part, Ready-bound, Ready-gives, Ready-later, Ready-under, Ready-live}
 
 -- the slot of a variable
 find : (a : Assignment) (g : List Slot) (i : ℕ) (x : Entry) → slice_get (map (entry_of a) g) i ≡ Some x → (s : Slot)
@@ -47,22 +45,7 @@ variable-solved a u (under d) (plain_slot x) t e f = absurd (cc)
 variable-solved a u (under d) (quoted_slot k x) t e f = let q : a.ty x ≡ t = cc in let n : a.classifier k
     ≡ a.classifier d = cc in (e ∙ sym q, (rw n refl, tt))
 
--- a term with no part
-alone : {a b : Assignment} {o c p d : ℕ} {es : List TypeEquation} {xs : List Close} → Own a b o c p d es xs
-    → Grown a o c p d es xs
-alone h = record {
-  by = _;
-  keeps = h.keeps;
-  solves = h.solves;
-  fresh = h.fresh;
-  unknowns = h.unknowns;
-  classifiers =
-      h.classifiers;
-  within = h.within;
-  below = h.below;
-}
-
--- it may have no number of its own
+-- a term with no part and no number of its own
 still : (a : Assignment) (o c : ℕ) (es : List TypeEquation) → AllWithin o c es → Solves a es
     → Grown a o c (o + 0) (c + 0) es []
 still a o c es w h = ending (omega arith) (omega arith)
@@ -137,100 +120,6 @@ module _ (tops : List TopLevel) (schemes : List TopScheme) (known : AreSchemesOf
   abbrev Part : ℕ → ℕ → ℕ → List Slot → Level → List Entry → Level → Expression → TermType → Type 0
   Part v p d g m h l e s = (b : Assignment) → Ready b v p d g m h l s → SatisfiedAt b v p d g m e
 
-  -- each form puts what is found of its parts after its own equations
-  found-fun : (a : Assignment) (u o c : ℕ) (g : List Slot) (m : Level) (h : List Entry) (l : Level) (e : Expression)
-      (s t : TermType) → Ready a u o c g m h l (function_type s t)
-      → Part (o + 1) (o + 2) c (slot m o ∷ g) m (entry l s ∷ h) l e t → SatisfiedAt a u o c g m (fun e)
-  found-fun a u o c g m h l e s t r part =
-      let z = started-starts a o c s t t 0 in
-      let y = r.own in
-      let x = Own-started (function_equations u o) (o + 2) c (omega arith) (omega arith) z
-      ((omega arith, (omega arith, omega arith)), tt)
-      (Ready-gives z.keeps r ∙ rw (z.first, z.second) refl, tt) in
-      ending (omega arith) refl
-      (first x (part _
-      (Ready-bound o (omega arith) z.first
-      (Ready-part (o + 1) (o + 2) c (omega arith) (omega arith) (omega arith) z.keeps z.second r))))
-
-  found-fix : (a : Assignment) (u o c : ℕ) (g : List Slot) (m : Level) (h : List Entry) (l : Level) (e : Expression)
-      (s t : TermType) → Ready a u o c g m h l (function_type s t)
-      → Part (o + 2) (o + 3) c (slot m o ∷ slot m (o + 1) ∷ g) m (entry l s ∷ entry l (function_type s t) ∷ h) l e t
-      → SatisfiedAt a u o c g m (fix e)
-  found-fix a u o c g m h l e s t r part =
-      let z = started-starts a o c s (function_type s t) t 0 in
-      let y = r.own in
-      let x = Own-started (recursion_equations u o) (o + 3) c (omega arith) (omega arith) z
-      ((omega arith, (omega arith, omega arith)), ((omega arith, omega arith), tt))
-      (z.second ∙ rw (z.first, z.third) refl, (Ready-gives z.keeps r ∙ sym z.second, tt)) in
-      ending (omega arith) refl
-      (first x (part _
-      (Ready-bound o (omega arith) z.first
-      (Ready-bound (o + 1) (omega arith) z.second
-      (Ready-part (o + 2) (o + 3) c (omega arith) (omega arith) (omega arith) z.keeps z.third r)))))
-
-  found-app : (a : Assignment) (u o c : ℕ) (g : List Slot) (m : Level) (h : List Entry) (l : Level) (e f : Expression)
-      (s t : TermType) → Ready a u o c g m h l t
-      → Part o (o + 2) c g m h l e (function_type s t) → Part (o + 1) (o + 2 + unknowns_of schemes e)
-      (c + classifiers_of schemes e) g m h l f s → SatisfiedAt a u o c g m (app e f)
-  found-app a u o c g m h l e f s t r part next =
-      let z = started-starts a o c (function_type s t) s t 0 in
-      let y = r.own in
-      let x = Own-started (application_equations u o) (o + 2) c (omega arith) (omega arith) z
-      ((omega arith, (omega arith, omega arith)), tt)
-      (z.first ∙ rw (z.second, Ready-gives z.keeps r) refl, tt) in
-      let one = part _ (Ready-part o (o + 2) c (omega arith) (omega arith) (omega arith) z.keeps z.first r) in
-      let two = next one.by (Ready-later (o + 1) (omega arith) (omega arith) (omega arith) z.keeps z.second one r) in
-      ending (omega arith) (omega arith) (first x (then one two))
-
-  found-bind : (a : Assignment) (u o c : ℕ) (g : List Slot) (m : Level) (h : List Entry) (l : Level) (d e : Expression)
-      (s t : TermType) → Ready a u o c g m h l t
-      → Part (o + 1) (o + 3) c g m h l d s → Part (o + 2) (o + 3 + unknowns_of schemes d) (c + classifiers_of schemes d)
-      (slot m o ∷ g) m (entry l s ∷ h) l e t → SatisfiedAt a u o c g m (bind d e)
-  found-bind a u o c g m h l d e s t r part next =
-      let z = started-starts a o c s s t 0 in
-      let y = r.own in
-      let x = Own-started (let_equations u o) (o + 3) c (omega arith) (omega arith) z
-      ((omega arith, omega arith), ((omega arith, omega arith), tt))
-      (z.first ∙ sym z.second, (Ready-gives z.keeps r ∙ sym z.third, tt)) in
-      let one = part _ (Ready-part (o + 1) (o + 3) c (omega arith) (omega arith) (omega arith) z.keeps z.second r) in
-      let i = one.unknowns in
-      let two = next one.by (Ready-bound o (omega arith) (sym (one.keeps.types o (omega arith)) ∙ z.first)
-      (Ready-later (o + 2) (omega arith) (omega arith) (omega arith) z.keeps z.third one r)) in
-      ending (omega arith) (omega arith) (first x (then one two))
-
-  found-cond : (a : Assignment) (u o c : ℕ) (g : List Slot) (m : Level) (h : List Entry) (l : Level)
-      (p d e : Expression) (t : TermType) → Ready a u o c g m h l t
-      → Part o (o + 3) c g m h l p bool_type
-      → Part (o + 1) (o + 3 + unknowns_of schemes p) (c + classifiers_of schemes p) g m h l d t
-      → Part (o + 2) (o + 3 + unknowns_of schemes p + unknowns_of schemes d)
-      (c + classifiers_of schemes p + classifiers_of schemes d) g m h l e t
-      → SatisfiedAt a u o c g m (cond p d e)
-  found-cond a u o c g m h l p d e t r part next last =
-      let z = started-starts a o c bool_type t t 0 in
-      let y = r.own in
-      let x = Own-started (condition_equations u o) (o + 3) c (omega arith) (omega arith) z
-      ((omega arith, tt), ((omega arith, omega arith), ((omega arith, omega arith), tt)))
-      (z.first, (z.second ∙ sym (Ready-gives z.keeps r), (z.third ∙ sym (Ready-gives z.keeps r), tt))) in
-      let one = part _ (Ready-part o (o + 3) c (omega arith) (omega arith) (omega arith) z.keeps z.first r) in
-      let two = next one.by (Ready-later (o + 1) (omega arith) (omega arith) (omega arith) z.keeps z.second one r) in
-      let three = last two.by (Ready-later (o + 2) (omega arith) (omega arith) (omega arith) z.keeps z.third
-      (then one two) r) in
-      ending (omega arith) (omega arith) (first x (then (then one two) three))
-
-  found-pair : (a : Assignment) (u o c : ℕ) (g : List Slot) (m : Level) (h : List Entry) (l : Level) (d e : Expression)
-      (s t : TermType) → Ready a u o c g m h l (pair_type s t)
-      → Part o (o + 2) c g m h l d s → Part (o + 1) (o + 2 + unknowns_of schemes d) (c + classifiers_of schemes d) g m h
-      l e t → SatisfiedAt a u o c g m (pair d e)
-  found-pair a u o c g m h l d e s t r part next =
-      let z = started-starts a o c s t t 0 in
-      let y = r.own in
-      let x = Own-started (pair_equations u o) (o + 2) c (omega arith) (omega arith) z
-      ((omega arith, (omega arith, omega arith)), tt)
-      (Ready-gives z.keeps r ∙ rw (z.first, z.second) refl, tt) in
-      let one = part _ (Ready-part o (o + 2) c (omega arith) (omega arith) (omega arith) z.keeps z.first r) in
-      let two = next one.by (Ready-later (o + 1) (omega arith) (omega arith) (omega arith) z.keeps z.second one r) in
-      ending (omega arith) (omega arith) (first x (then one two))
-
   -- a part of a pair: q is the pair's type, which is whole where this part has the type own and the other part the type
   -- other
   found-part : (a : Assignment) (u o c : ℕ) (g : List Slot) (m : Level) (h : List Entry) (l : Level) (e : Expression)
@@ -247,107 +136,6 @@ module _ (tops : List TopLevel) (schemes : List TopScheme) (known : AreSchemesOf
       (z.second ∙ gives _ (Ready-gives z.keeps r) z.first, tt) in
       ending (omega arith) refl
       (first x (part _ (Ready-part (o + 1) (o + 2) c (omega arith) (omega arith) (omega arith) z.keeps z.second r)))
-
-  found-fst : (a : Assignment) (u o c : ℕ) (g : List Slot) (m : Level) (h : List Entry) (l : Level) (e : Expression)
-      (s t : TermType) → Ready a u o c g m h l s
-      → Part (o + 1) (o + 2) c g m h l e (pair_type s t) → SatisfiedAt a u o c g m (fst e)
-  found-fst a u o c g m h l e s t r part = found-part a u o c g m h l e s t (pair_type s t)
-      (pair_ty (unknown u) (unknown o)) (λ b x y. rw (x, y) refl) (λ lt. (omega arith, omega arith)) r part
-
-  found-snd : (a : Assignment) (u o c : ℕ) (g : List Slot) (m : Level) (h : List Entry) (l : Level) (e : Expression)
-      (s t : TermType) → Ready a u o c g m h l t
-      → Part (o + 1) (o + 2) c g m h l e (pair_type s t) → SatisfiedAt a u o c g m (snd e)
-  found-snd a u o c g m h l e s t r part = found-part a u o c g m h l e t s (pair_type s t)
-      (pair_ty (unknown o) (unknown u)) (λ b x y. rw (x, y) refl) (λ lt. (omega arith, omega arith)) r part
-
-  found-prim : (a : Assignment) (u o c : ℕ) (g : List Slot) (m : Level) (h : List Entry) (l : Level) (p : Prim)
-      (d e : Expression) (t : TermType) → t ≡ primitive_type p → Ready a u o c g m h l t
-      → Part o (o + 2) c g m h l d int_type → Part (o + 1) (o + 2 + unknowns_of schemes d)
-      (c + classifiers_of schemes d) g m h l e int_type → SatisfiedAt a u o c g m (prim p d e)
-  found-prim a u o c g m h l p d e t q r part next =
-      let z = started-starts a o c int_type int_type t 0 in
-      let y = r.own in
-      let x = Own-started (primitive_equations u o p) (o + 2) c (omega arith) (omega arith) z
-      ((omega arith, tt), ((omega arith, tt), ((omega arith, Within-primitive_expression _ _ p), tt)))
-      (z.first, (z.second, (Ready-gives z.keeps r ∙ q ∙ sym (value-primitive_expression _ p), tt))) in
-      let one = part _ (Ready-part o (o + 2) c (omega arith) (omega arith) (omega arith) z.keeps z.first r) in
-      let two = next one.by (Ready-later (o + 1) (omega arith) (omega arith) (omega arith) z.keeps z.second one r) in
-      ending (omega arith) (omega arith) (first x (then one two))
-
-  found-bracket : (a : Assignment) (u o c : ℕ) (g : List Slot) (h : List Entry) (k : ℕ) (e : Expression) (t : TermType)
-      → Ready a u o c g live h live (code_type k t)
-      → Part o (o + 1) (c + 1) g (under c) h (under k) e t → SatisfiedAt a u o c g live (bracket e)
-  found-bracket a u o c g h k e t r part =
-      let z = started-starts a o c t t t k in
-      let y = r.own in
-      let x = Own-started (bracket_equations u o c) (o + 1) (c + 1) (omega arith) (omega arith) z
-      ((omega arith, (omega arith, omega arith)), tt)
-      (Ready-gives z.keeps r ∙ rw (z.first, z.label) refl, tt) in
-      ending (omega arith) (omega arith)
-      (first x (part _
-      (Ready-under c k (omega arith) z.label
-      (Ready-part o (o + 1) (c + 1) (omega arith) (omega arith) (omega arith) z.keeps z.first r))))
-
-  found-escape : (a : Assignment) (u o c : ℕ) (g : List Slot) (d : ℕ) (h : List Entry) (k : ℕ) (e : Expression)
-      (t : TermType) → Ready a u o c g (under d) h (under k) t
-      → Part o (o + 1) c g live h live e (code_type k t) → SatisfiedAt a u o c g (under d) (escape e)
-  found-escape a u o c g d h k e t r part =
-      let z = started-starts a o c (code_type k t) t t 0 in
-      let y = r.own in
-      let w : d < c = r.level in
-      let n : a.classifier d ≡ k = let q = r.at in cc in
-      let x = Own-started (escape_equations u o d) (o + 1) c (omega arith) (omega arith) z
-      ((omega arith, (w, omega arith)), tt)
-      (z.first ∙ rw (← z.keeps.classifiers d w, n, Ready-gives z.keeps r) refl, tt) in
-      ending (omega arith) refl
-      (first x (part _
-      (Ready-live (Ready-part o (o + 1) c (omega arith) (omega arith) (omega arith) z.keeps z.first r))))
-
-  found-run : (a : Assignment) (u o c : ℕ) (g : List Slot) (h : List Entry) (k : KernelType) (e : Expression)
-      (t : TermType) → t ≡ kernel_type k → Ready a u o c g live h live t
-      → Part o (o + 1) c g live h live e (closed_type t) → SatisfiedAt a u o c g live (run k e)
-  found-run a u o c g h k e t q r part =
-      let z = started-starts a o c (closed_type t) t t 0 in
-      let y = r.own in
-      let x = Own-started (run_equations u o k) (o + 1) c (omega arith) (omega arith) z
-      ((omega arith, Within-kernel_expression _ _ k), ((omega arith, Within-kernel_expression _ _ k), tt)) (
-        z.first ∙ ap closed_type (q ∙ sym (value-kernel_expression _ k)),
-        (Ready-gives z.keeps r ∙ q ∙ sym (value-kernel_expression _ k), tt),
-      ) in
-      ending (omega arith) refl
-      (first x (part _ (Ready-part o (o + 1) c (omega arith) (omega arith) (omega arith) z.keeps z.first r)))
-
-  found-close : (a : Assignment) (u o c : ℕ) (g : List Slot) (h : List Entry) (k at : ℕ) (e : Expression) (t : TermType)
-      → IsAbsent k h → Ready a u o c g live h live (closed_type t)
-      → Part (o + 1) (o + 2) (c + 1) g live h live e (code_type k t) → SatisfiedAt a u o c g live (close at e)
-  found-close a u o c g h k at e t absent r part =
-      let z = started-starts a o c t (code_type k t) t k in
-      let y = r.own in
-      let q = Ready-part (o + 1) (o + 2) (c + 1) (omega arith) (omega arith) (omega arith) z.keeps z.second r in
-      let x : Own a (started a o c t (code_type k t) t k) o c (o + 2) (c + 1) (close_equations u o c)
-      (record { at = at; classifier = c; scope = g } ∷ []) = record {
-        unknowns = omega arith;
-        classifiers = omega arith;
-        keeps = z.keeps;
-        within = ((omega arith, (omega arith, omega arith)), ((omega arith, omega arith), tt));
-        below = ((omega arith, q.slots), tt);
-        solves = (z.second ∙ rw (z.first, z.label) refl, (Ready-gives z.keeps r ∙ rw z.first refl, tt));
-        fresh = (rw (z.label, q.env) absent, tt);
-      } in
-      ending (omega arith) (omega arith) (first x (part _ q))
-
-  found-open : (a : Assignment) (u o c : ℕ) (g : List Slot) (h : List Entry) (k : ℕ) (e : Expression) (t : TermType)
-      → Ready a u o c g live h live (code_type k t)
-      → Part (o + 1) (o + 2) (c + 1) g live h live e (closed_type t) → SatisfiedAt a u o c g live (opened e)
-  found-open a u o c g h k e t r part =
-      let z = started-starts a o c t (closed_type t) t k in
-      let y = r.own in
-      let x = Own-started (open_equations u o c) (o + 2) (c + 1) (omega arith) (omega arith) z
-      ((omega arith, omega arith), ((omega arith, (omega arith, omega arith)), tt))
-      (z.second ∙ rw z.first refl, (Ready-gives z.keeps r ∙ rw (z.first, z.label) refl, tt)) in
-      ending (omega arith) (omega arith)
-      (first x (part _ (Ready-part (o + 1) (o + 2) (c + 1) (omega arith) (omega arith) (omega arith) z.keeps
-      z.second r)))
 
   -- both lifts, at a base type
   found-lift : (b : Base) (a : Assignment) (u o c : ℕ) (g : List Slot) (h : List Entry) (k : ℕ) (e : Expression)
@@ -378,60 +166,147 @@ module _ (tops : List TopLevel) (schemes : List TopScheme) (known : AreSchemesOf
   typed_solved a u o c g m w r t_truth = still a o c _ ((r.own, tt), tt) (r.gives, tt)
   typed_solved a u o c g m w r (t_var {i = i} {t = t} e) = found-var a u o c g m _ _ i t r e
   typed_solved a u o c g live w r (t_let {i = i} {e = e} {t = t} q d) = found-let a u o c g _ i e t r q d
-  typed_solved a u o c g (under d) w r (t_let q i) = let e = r.at in absurd (cc)
   typed_solved a u o c g live w r (t_kernel {i = i} {k = k} q) = found-kernel a u o c g _ i k r q
-  typed_solved a u o c g (under d) w r (t_kernel q) = let e = r.at in absurd (cc)
-  typed_solved a u o c g m w r (t_fun {g = h} {m = l} {e = e} {s = s} {t = t} p d) =
-      found-fun a u o c g m h l e s t r (λ b q. typed_solved b (o + 1) (o + 2) c (slot m o ∷ g) m w q d)
-  typed_solved a u o c g m w r (t_fix {g = h} {m = l} {e = e} {s = s} {t = t} p d) =
-      found-fix a u o c g m h l e s t r (λ b q. typed_solved b (o + 2) (o + 3) c (slot m o ∷ slot m (o + 1) ∷ g) m w q
-      d)
-  typed_solved a u o c g m w r (t_app {g = h} {m = l} {f = e} {a = f} {s = s} {t = t} p q) =
-      found-app a u o c g m h l e f s t r
-      (λ b x. typed_solved b o (o + 2) c g m w.0 x p)
-      (λ b x. typed_solved b (o + 1) (o + 2 + unknowns_of schemes e) (c + classifiers_of schemes e) g m w.1 x q)
-  typed_solved a u o c g m w r (t_bind {g = h} {m = l} {d = d} {e = e} {s = s} {t = t} p q) =
-      found-bind a u o c g m h l d e s t r
-      (λ b x. typed_solved b (o + 1) (o + 3) c g m w.0 x p)
-      (λ b x. typed_solved b (o + 2) (o + 3 + unknowns_of schemes d) (c + classifiers_of schemes d) (slot m o ∷ g) m w.1
-      x q)
-  typed_solved a u o c g m w r (t_cond {g = h} {m = l} {c = k} {a = d} {b = e} {t = t} p q s) =
-      found-cond a u o c g m h l k d e t r
-      (λ b x. typed_solved b o (o + 3) c g m w.0 x p)
-      (λ b x. typed_solved b (o + 1) (o + 3 + unknowns_of schemes k) (c + classifiers_of schemes k) g m w.1 x q)
-      (λ b x. typed_solved b (o + 2) (o + 3 + unknowns_of schemes k + unknowns_of schemes d)
-      (c + classifiers_of schemes k + classifiers_of schemes d) g m w.2 x s)
-  typed_solved a u o c g m w r (t_pair {g = h} {m = l} {a = d} {b = e} {s = s} {t = t} p q) =
-      found-pair a u o c g m h l d e s t r
-      (λ b x. typed_solved b o (o + 2) c g m w.0 x p)
-      (λ b x. typed_solved b (o + 1) (o + 2 + unknowns_of schemes d) (c + classifiers_of schemes d) g m w.1 x q)
+  typed_solved a u o c g m w r (t_fun {s = s} {t = t} p d) =
+      let z = started-starts a o c s t t 0 in
+      let y = r.own in
+      let x = Own-started (function_equations u o) (o + 2) c (omega arith) (omega arith) z
+      ((omega arith, (omega arith, omega arith)), tt)
+      (Ready-gives z.keeps r ∙ rw (z.first, z.second) refl, tt) in
+      ending (omega arith) refl (first x (typed_solved _ (o + 1) (o + 2) c (slot m o ∷ g) m w
+      (Ready-bound o (omega arith) z.first
+      (Ready-part (o + 1) (o + 2) c (omega arith) (omega arith) (omega arith) z.keeps z.second r)) d))
+  typed_solved a u o c g m w r (t_fix {s = s} {t = t} p d) =
+      let z = started-starts a o c s (function_type s t) t 0 in
+      let y = r.own in
+      let x = Own-started (recursion_equations u o) (o + 3) c (omega arith) (omega arith) z
+      ((omega arith, (omega arith, omega arith)), ((omega arith, omega arith), tt))
+      (z.second ∙ rw (z.first, z.third) refl, (Ready-gives z.keeps r ∙ sym z.second, tt)) in
+      ending (omega arith) refl (first x (typed_solved _ (o + 2) (o + 3) c (slot m o ∷ slot m (o + 1) ∷ g) m w
+      (Ready-bound o (omega arith) z.first
+      (Ready-bound (o + 1) (omega arith) z.second
+      (Ready-part (o + 2) (o + 3) c (omega arith) (omega arith) (omega arith) z.keeps z.third r))) d))
+  typed_solved a u o c g m w r (t_app {f = e} {s = s} {t = t} p q) =
+      let z = started-starts a o c (function_type s t) s t 0 in
+      let y = r.own in
+      let x = Own-started (application_equations u o) (o + 2) c (omega arith) (omega arith) z
+      ((omega arith, (omega arith, omega arith)), tt)
+      (z.first ∙ rw (z.second, Ready-gives z.keeps r) refl, tt) in
+      let one = typed_solved _ o (o + 2) c g m w.0
+      (Ready-part o (o + 2) c (omega arith) (omega arith) (omega arith) z.keeps z.first r) p in
+      let two = typed_solved one.by (o + 1) (o + 2 + unknowns_of schemes e) (c + classifiers_of schemes e) g m w.1
+      (Ready-later (o + 1) (omega arith) (omega arith) (omega arith) z.keeps z.second one r) q in
+      ending (omega arith) (omega arith) (first x (then one two))
+  typed_solved a u o c g m w r (t_bind {d = d} {s = s} {t = t} p q) =
+      let z = started-starts a o c s s t 0 in
+      let y = r.own in
+      let x = Own-started (let_equations u o) (o + 3) c (omega arith) (omega arith) z
+      ((omega arith, omega arith), ((omega arith, omega arith), tt))
+      (z.first ∙ sym z.second, (Ready-gives z.keeps r ∙ sym z.third, tt)) in
+      let one = typed_solved _ (o + 1) (o + 3) c g m w.0
+      (Ready-part (o + 1) (o + 3) c (omega arith) (omega arith) (omega arith) z.keeps z.second r) p in
+      let i = one.unknowns in
+      let two = typed_solved one.by (o + 2) (o + 3 + unknowns_of schemes d) (c + classifiers_of schemes d)
+      (slot m o ∷ g) m w.1 (Ready-bound o (omega arith) (sym (one.keeps.types o (omega arith)) ∙ z.first)
+      (Ready-later (o + 2) (omega arith) (omega arith) (omega arith) z.keeps z.third one r)) q in
+      ending (omega arith) (omega arith) (first x (then one two))
+  typed_solved a u o c g m w r (t_cond {c = k} {a = d} {t = t} p q s) =
+      let z = started-starts a o c bool_type t t 0 in
+      let y = r.own in
+      let x = Own-started (condition_equations u o) (o + 3) c (omega arith) (omega arith) z
+      ((omega arith, tt), ((omega arith, omega arith), ((omega arith, omega arith), tt)))
+      (z.first, (z.second ∙ sym (Ready-gives z.keeps r), (z.third ∙ sym (Ready-gives z.keeps r), tt))) in
+      let one = typed_solved _ o (o + 3) c g m w.0
+      (Ready-part o (o + 3) c (omega arith) (omega arith) (omega arith) z.keeps z.first r) p in
+      let two = typed_solved one.by (o + 1) (o + 3 + unknowns_of schemes k) (c + classifiers_of schemes k) g m w.1
+      (Ready-later (o + 1) (omega arith) (omega arith) (omega arith) z.keeps z.second one r) q in
+      let three = typed_solved two.by (o + 2) (o + 3 + unknowns_of schemes k + unknowns_of schemes d)
+      (c + classifiers_of schemes k + classifiers_of schemes d) g m w.2
+      (Ready-later (o + 2) (omega arith) (omega arith) (omega arith) z.keeps z.third (then one two) r) s in
+      ending (omega arith) (omega arith) (first x (then (then one two) three))
+  typed_solved a u o c g m w r (t_pair {a = d} {s = s} {t = t} p q) =
+      let z = started-starts a o c s t t 0 in
+      let y = r.own in
+      let x = Own-started (pair_equations u o) (o + 2) c (omega arith) (omega arith) z
+      ((omega arith, (omega arith, omega arith)), tt)
+      (Ready-gives z.keeps r ∙ rw (z.first, z.second) refl, tt) in
+      let one = typed_solved _ o (o + 2) c g m w.0
+      (Ready-part o (o + 2) c (omega arith) (omega arith) (omega arith) z.keeps z.first r) p in
+      let two = typed_solved one.by (o + 1) (o + 2 + unknowns_of schemes d) (c + classifiers_of schemes d) g m w.1
+      (Ready-later (o + 1) (omega arith) (omega arith) (omega arith) z.keeps z.second one r) q in
+      ending (omega arith) (omega arith) (first x (then one two))
   typed_solved a u o c g m w r (t_fst {g = h} {m = l} {e = e} {s = s} {t = t} p) =
-      found-fst a u o c g m h l e s t r (λ b x. typed_solved b (o + 1) (o + 2) c g m w x p)
+      found-part a u o c g m h l e s t (pair_type s t) (pair_ty (unknown u) (unknown o)) (λ b x y. rw (x, y) refl)
+      (λ lt. (omega arith, omega arith)) r (λ b x. typed_solved b (o + 1) (o + 2) c g m w x p)
   typed_solved a u o c g m w r (t_snd {g = h} {m = l} {e = e} {s = s} {t = t} p) =
-      found-snd a u o c g m h l e s t r (λ b x. typed_solved b (o + 1) (o + 2) c g m w x p)
-  typed_solved a u o c g m w r (t_prim {g = h} {m = l} {p = k} {a = d} {b = e} {t = t} z p q) =
-      found-prim a u o c g m h l k d e t z r
-      (λ b x. typed_solved b o (o + 2) c g m w.0 x p)
-      (λ b x. typed_solved b (o + 1) (o + 2 + unknowns_of schemes d) (c + classifiers_of schemes d) g m w.1 x q)
-  typed_solved a u o c g live w r (t_bracket {g = h} {a = k} {e = e} {t = t} p d) =
-      found-bracket a u o c g h k e t r (λ b x. typed_solved b o (o + 1) (c + 1) g (under c) w x d)
-  typed_solved a u o c g (under i) w r (t_bracket p d) = let e = r.at in absurd (cc)
-  typed_solved a u o c g live w r (t_escape p d) = let e = r.at in absurd (cc)
-  typed_solved a u o c g (under i) w r (t_escape {g = h} {a = k} {e = e} {t = t} p d) =
-      found-escape a u o c g i h k e t r (λ b x. typed_solved b o (o + 1) c g live w x d)
-  typed_solved a u o c g live w r (t_run {g = h} {k = k} {e = e} {t = t} q d) =
-      found-run a u o c g h k e t q r (λ b x. typed_solved b o (o + 1) c g live w x d)
-  typed_solved a u o c g (under i) w r (t_run q d) = let e = r.at in absurd (cc)
-  typed_solved a u o c g live w r (t_close {g = h} {a = k} {at = at} {e = e} {t = t} p f d) =
-      found-close a u o c g h k at e t f r (λ b x. typed_solved b (o + 1) (o + 2) (c + 1) g live w x d)
-  typed_solved a u o c g (under i) w r (t_close p f d) = let e = r.at in absurd (cc)
-  typed_solved a u o c g live w r (t_open {g = h} {a = k} {e = e} {t = t} p d) =
-      found-open a u o c g h k e t r (λ b x. typed_solved b (o + 1) (o + 2) (c + 1) g live w x d)
-  typed_solved a u o c g (under i) w r (t_open p d) = let e = r.at in absurd (cc)
+      found-part a u o c g m h l e t s (pair_type s t) (pair_ty (unknown o) (unknown u)) (λ b x y. rw (x, y) refl)
+      (λ lt. (omega arith, omega arith)) r (λ b x. typed_solved b (o + 1) (o + 2) c g m w x p)
+  typed_solved a u o c g m w r (t_prim {p = k} {a = d} {t = t} v p q) =
+      let z = started-starts a o c int_type int_type t 0 in
+      let y = r.own in
+      let x = Own-started (primitive_equations u o k) (o + 2) c (omega arith) (omega arith) z
+      ((omega arith, tt), ((omega arith, tt), ((omega arith, Within-primitive_expression _ _ k), tt)))
+      (z.first, (z.second, (Ready-gives z.keeps r ∙ v ∙ sym (value-primitive_expression _ k), tt))) in
+      let one = typed_solved _ o (o + 2) c g m w.0
+      (Ready-part o (o + 2) c (omega arith) (omega arith) (omega arith) z.keeps z.first r) p in
+      let two = typed_solved one.by (o + 1) (o + 2 + unknowns_of schemes d) (c + classifiers_of schemes d) g m w.1
+      (Ready-later (o + 1) (omega arith) (omega arith) (omega arith) z.keeps z.second one r) q in
+      ending (omega arith) (omega arith) (first x (then one two))
+  typed_solved a u o c g live w r (t_bracket {a = k} {t = t} p d) =
+      let z = started-starts a o c t t t k in
+      let y = r.own in
+      let x = Own-started (bracket_equations u o c) (o + 1) (c + 1) (omega arith) (omega arith) z
+      ((omega arith, (omega arith, omega arith)), tt)
+      (Ready-gives z.keeps r ∙ rw (z.first, z.label) refl, tt) in
+      ending (omega arith) (omega arith) (first x (typed_solved _ o (o + 1) (c + 1) g (under c) w
+      (Ready-under c k (omega arith) z.label
+      (Ready-part o (o + 1) (c + 1) (omega arith) (omega arith) (omega arith) z.keeps z.first r)) d))
+  typed_solved a u o c g (under i) w r (t_escape {a = k} {t = t} p d) =
+      let z = started-starts a o c (code_type k t) t t 0 in
+      let y = r.own in
+      let lt : i < c = r.level in
+      let n : a.classifier i ≡ k = let q = r.at in cc in
+      let x = Own-started (escape_equations u o i) (o + 1) c (omega arith) (omega arith) z
+      ((omega arith, (lt, omega arith)), tt)
+      (z.first ∙ rw (← z.keeps.classifiers i lt, n, Ready-gives z.keeps r) refl, tt) in
+      ending (omega arith) refl (first x (typed_solved _ o (o + 1) c g live w
+      (Ready-live (Ready-part o (o + 1) c (omega arith) (omega arith) (omega arith) z.keeps z.first r)) d))
+  typed_solved a u o c g live w r (t_run {k = k} {t = t} q d) =
+      let z = started-starts a o c (closed_type t) t t 0 in
+      let y = r.own in
+      let x = Own-started (run_equations u o k) (o + 1) c (omega arith) (omega arith) z
+      ((omega arith, Within-kernel_expression _ _ k), ((omega arith, Within-kernel_expression _ _ k), tt)) (
+        z.first ∙ ap closed_type (q ∙ sym (value-kernel_expression _ k)),
+        (Ready-gives z.keeps r ∙ q ∙ sym (value-kernel_expression _ k), tt),
+      ) in
+      ending (omega arith) refl (first x (typed_solved _ o (o + 1) c g live w
+      (Ready-part o (o + 1) c (omega arith) (omega arith) (omega arith) z.keeps z.first r) d))
+  typed_solved a u o c g live w r (t_close {a = k} {at = at} {t = t} p absent d) =
+      let z = started-starts a o c t (code_type k t) t k in
+      let y = r.own in
+      let q = Ready-part (o + 1) (o + 2) (c + 1) (omega arith) (omega arith) (omega arith) z.keeps z.second r in
+      let x : Own a (started a o c t (code_type k t) t k) o c (o + 2) (c + 1) (close_equations u o c)
+      (record { at = at; classifier = c; scope = g } ∷ []) = record {
+        unknowns = omega arith;
+        classifiers = omega arith;
+        keeps = z.keeps;
+        within = ((omega arith, (omega arith, omega arith)), ((omega arith, omega arith), tt));
+        below = ((omega arith, q.slots), tt);
+        solves = (z.second ∙ rw (z.first, z.label) refl, (Ready-gives z.keeps r ∙ rw z.first refl, tt));
+        fresh = (rw (z.label, q.env) absent, tt);
+      } in
+      ending (omega arith) (omega arith) (first x (typed_solved _ (o + 1) (o + 2) (c + 1) g live w q d))
+  typed_solved a u o c g live w r (t_open {a = k} {t = t} p d) =
+      let z = started-starts a o c t (closed_type t) t k in
+      let y = r.own in
+      let x = Own-started (open_equations u o c) (o + 2) (c + 1) (omega arith) (omega arith) z
+      ((omega arith, omega arith), ((omega arith, (omega arith, omega arith)), tt))
+      (z.second ∙ rw z.first refl, (Ready-gives z.keeps r ∙ rw (z.first, z.label) refl, tt)) in
+      ending (omega arith) (omega arith) (first x (typed_solved _ (o + 1) (o + 2) (c + 1) g live w
+      (Ready-part (o + 1) (o + 2) (c + 1) (omega arith) (omega arith) (omega arith) z.keeps z.second r) d))
   typed_solved a u o c g live w r (t_lift {g = h} {a = k} {e = e} d) =
       found-lift Int a u o c g h k e r (λ b x. typed_solved b o (o + 1) (c + 1) g live w x d)
-  typed_solved a u o c g (under i) w r (t_lift d) = let e = r.at in absurd (cc)
   typed_solved a u o c g live w r (t_lift_b {g = h} {a = k} {e = e} d) =
       found-lift Bool a u o c g h k e r (λ b x. typed_solved b o (o + 1) (c + 1) g live w x d)
-  typed_solved a u o c g (under i) w r (t_lift_b d) = let e = r.at in absurd (cc)
   typed_solved a u o c g m w r (t_done v) = absurd w
+  typed_solved a u o c g m w r d = let e = r.at in absurd (cc)

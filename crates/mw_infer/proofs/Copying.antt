@@ -3,6 +3,7 @@ use Rattle.std.proofs.Common.{◌≡◌, ℕ, zero, suc, ◌+◌, ◌<◌, Bool,
 use Rattle.std.proofs.Common.{get_or, Option, Some, refl, ap, sym, ◌∙◌, arith}
 use Rattle.std.specs.Prelude.{slice_get, slice_index_or, ◌-◌, Result, Ok, Err, IfOk}
 use Rattle.std.proofs.Math.Seq.{take-length}
+use Rattle.std.proofs.lemmas.List.{append-nil}
 use Rattle.mw_types.specs.Types.{TypeExpression, Substitution, apply, Within, type_of}
 use Rattle.mw_types.specs.Equations.{TypeEquation, AllWithin, MostGeneral, equation_of, equations_of}
 use Rattle.mw_types.specs.declared.types.Equation.{Equation}
@@ -17,7 +18,8 @@ get-at [] i d lt = absurd (omega arith)
 get-at (x ∷ xs) zero d lt = refl
 get-at (x ∷ xs) (suc i) d lt = get-at xs i d (omega arith)
 
-some-at : {A : Type 0} (xs : List A) (i : ℕ) → i < length xs → (x : A) × (slice_get xs i ≡ Some x)
+-- what stands at a place
+pub some-at : {A : Type 0} (xs : List A) (i : ℕ) → i < length xs → (x : A) × (slice_get xs i ≡ Some x)
 some-at [] i lt = absurd (omega arith)
 some-at (x ∷ xs) zero lt = (x, refl)
 some-at (x ∷ xs) (suc i) lt = some-at xs i (omega arith)
@@ -61,10 +63,6 @@ module _ (first end : ℕ) where
       (cond-append (is_among first end m) y (without first end (take i ns) (take i es))
       (cond (is_among first end n) [] (x ∷ [])))
 
-  nothing : {A : Type 0} (xs : List A) → xs ++ [] ≡ xs
-  nothing [] = refl
-  nothing (x ∷ xs) = ap (λ z. x ∷ z) (nothing xs)
-
   -- one that is kept, and one that is left out
   pub rest-more : (ps : List Equation) (ns : List (Option ℕ)) (i : ℕ) (x copy : Equation) (n : Option ℕ)
       (old new : List Equation) → i < length ps → x ≡ get_or ps i x → slice_get ns i ≡ Some n
@@ -84,7 +82,7 @@ module _ (first end : ℕ) where
       let s : i + 1 ≡ suc i = omega arith in
       let x = some-at (equations_of ps) i (omega (arith, eqs_length ps)) in
       let w = without-next ns (equations_of ps) i n x.0 g x.1 in
-      h ∙ rw s (sym (rw out at w ∙ nothing _))
+      h ∙ rw s (sym (rw out at w ∙ append-nil _))
 
   pub rest-whole : (ns : List (Option ℕ)) (es : List TypeEquation) (i : ℕ) → i ≡ length ns → i ≡ length es
       → without first end (take i ns) (take i es) ≡ without first end ns es

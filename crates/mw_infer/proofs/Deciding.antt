@@ -1,5 +1,5 @@
 -- Each part of a program is without fault or has one, so a program is well typed and small or has a first refusal.
-use Rattle.std.proofs.Common.{◌≡◌, ◌≢◌, ◌⊎◌, inl, inr, ℕ, zero, suc, ◌<◌, ◌≤◌, List, [], ◌∷◌, ◌++◌, map, length, Some}
+use Rattle.std.proofs.Common.{◌≡◌, ◌≢◌, ◌⊎◌, inl, inr, ℕ, zero, suc, ◌≤◌, List, [], ◌∷◌, ◌++◌, map, length, Some}
 use Rattle.std.proofs.Common.{refl, ap, arith}
 use Rattle.std.specs.Prelude.{slice_get}
 use Rattle.mw_term.specs.Terms.{Expression}
@@ -24,6 +24,7 @@ use Rattle.mw_infer.specs.Checking.{ArePrincipal, IsFirstOpen, TypeFault, not_cl
 use Rattle.mw_infer.specs.Checking.{unclosed, IsFaultless, refusal_of, IsFirstRefusal, AreFaultless, NoneTooBig}
 use Rattle.mw_infer.specs.Checking.{IsWritten}
 use Rattle.mw_infer.specs.Progress.{Progress}
+use Rattle.mw_infer.proofs.Copying.{some-at}
 use Rattle.mw_infer.proofs.Growing.{principal-let, principal-kernel, principal-main, principal-own, revealed}
 use Rattle.mw_infer.proofs.Items.{item-within, fresh-typable, most_general-scheme_within}
 use Rattle.mw_infer.proofs.Ordering.{in_order, Within-reach}
@@ -129,11 +130,6 @@ accepted-faultless x schemes p source j = record {
   typable = fresh-typable x.names schemes p.of x.term source j.by x.place j.general j.fresh;
 }
 
-item-at : {A : Type 0} (xs : List A) (i : ℕ) → i < length xs → (x : A) × (slice_get xs i ≡ Some x)
-item-at [] i lt = absurd (omega arith)
-item-at (x ∷ xs) zero lt = (x, refl)
-item-at (x ∷ xs) (suc i) lt = item-at xs i (omega arith)
-
 module _ (p : PureProgram) (written : IsWritten p) where
   abbrev Refused : Type 0
   Refused = (r : Refusal) × IsFirstRefusal p r
@@ -192,7 +188,7 @@ module _ (p : PureProgram) (written : IsWritten p) where
       go : ((schemes : List TopScheme) × Progress p n schemes) ⊎ Refused
           → ((schemes : List TopScheme) × Progress p (suc n) schemes) ⊎ Refused
       go (inr r) = inr r
-      go (inl h) = let d = item-at p.items n (omega arith) in item-judged n d.0 h.0 d.1 h.1
+      go (inl h) = let d = some-at p.items n (omega arith) in item-judged n d.0 h.0 d.1 h.1
 
   main-next : (schemes : List TopScheme) → Progress p (length p.items) schemes
       → AcceptedOrFaulty (revealed p.items schemes) (main_place p.result) p.body → AreFaultless p ⊎ Refused

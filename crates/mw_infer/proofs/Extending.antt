@@ -158,20 +158,24 @@ Own-started es p d i j z w h = record {
   fresh = tt;
 }
 
+-- what stands first alone, as a term with no part
+abbrev pub alone : {a b : Assignment} {o c p d : ℕ} {es : List TypeEquation} {xs : List Close}
+    → Own a b o c p d es xs → Grown a o c p d es xs
+alone {b = b} h = record {
+  by = b;
+  keeps = h.keeps;
+  solves = h.solves;
+  fresh = h.fresh;
+  unknowns = h.unknowns;
+  classifiers = h.classifiers;
+  within = h.within;
+  below = h.below;
+}
+
 -- a term after what stands first
 pub first : {a b : Assignment} {o c p d q f : ℕ} {es fs : List TypeEquation} {xs ys : List Close}
     → Own a b o c p d es xs → Grown b p d q f fs ys → Grown a o c q f (es ++ fs) (xs ++ ys)
-first one two =
-    then (record {
-      by = _;
-      keeps = one.keeps;
-      solves = one.solves;
-      fresh = one.fresh;
-      unknowns = one.unknowns;
-      classifiers = one.classifiers;
-      within = one.within;
-      below = one.below;
-    }) two
+first one two = then (alone one) two
 
 -- the same ends, counted otherwise
 pub ending : {a : Assignment} {o c p d q f : ℕ} {es : List TypeEquation} {xs : List Close} → p ≡ q → d ≡ f

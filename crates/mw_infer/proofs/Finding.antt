@@ -1,6 +1,6 @@
 -- A program's first fault, and its first refusal.
 use Rattle.std.proofs.Common.{◌≡◌, inl, inr, ℕ, List, [], length, Option, Some, None, IfSome, refl, sym, subst, arith}
-use Rattle.std.specs.Prelude.{Result, Ok, Err, IfOk, slice_get}
+use Rattle.std.specs.Prelude.{◌<◌, Result, Ok, Err, IfOk, slice_get}
 use Rattle.mw_term.specs.Terms.{Expression}
 use Rattle.mw_term.specs.Parts.{Place, main_place, Part, part_of_item, part_of_main, IsPart, an_item, main, IsResolved}
 use Rattle.mw_term.specs.Programs.{Definition, value, kernel, PureProgram}
@@ -18,7 +18,7 @@ use Rattle.mw_infer.proofs.Growing.{principal-main, revealed}
 use Rattle.mw_infer.proofs.Items.{fresh-typable}
 use Rattle.mw_infer.proofs.Progressing.{scoped-source, resolved-written}
 use Rattle.mw_infer.proofs.Refusals.{faultless-fault, faultless-refused, refusal-one}
-use Rattle.mw_infer.proofs.Stepping.{all-faultless}
+use Rattle.mw_infer.proofs.Stepping.{refused-part, all-faultless}
 
 -- a fault and the refusal for it
 fault-of : (schemes : List TopScheme) (place : Place) (e : Expression) (x : PartFault) → Has schemes place e x
@@ -45,17 +45,8 @@ refused-by : (p : PureProgram) (x : PartFault) → IsFaultOfProgram p x → (r :
 refused-by p x h =
     let f = fault-of h.schemes h.part.place h.part.term x h.has in (
       refusal_of (part_at x) f.0,
-      record {
-        at = part_at x;
-        part = h.part;
-        is_part = h.is_part;
-        schemes = h.schemes;
-        principal = h.principal;
-        fault = f.0;
-        has = f.1;
-        refusal = refl;
-        earlier = h.earlier;
-      },
+      refused-part p (part_at x) h.part h.schemes (refusal_of (part_at x) f.0) h.is_part h.principal h.earlier
+          (f.0, f.1, refl),
       f.2,
     )
 
@@ -74,26 +65,25 @@ none-faultless x schemes p source n = record {
   typable = fresh-typable x.names schemes p.of x.term source n.solution x.place n.solves.general n.fresh;
 }
 
--- the fault of the next item
+-- the fault of a part where the parts before it have none
+part-found : (p : PureProgram) (i : ℕ) (y : Part) (schemes : List TopScheme) (x : PartFault) → IsPart p i y
+    → ArePrincipal y.names schemes → ((j : ℕ) (z : Part) → j < i → IsPart p j z → IsFaultless z)
+    → Has schemes y.place y.term x → part_at x ≡ i → IsFaultOfProgram p x
+part-found p i y schemes x a q before has at = record {
+  part = y;
+  is_part = subst (λ k. IsPart p k y) (sym at) a;
+  schemes = schemes;
+  principal = q;
+  has = has;
+  earlier = λ j z lt b. before j z (omega (arith, at, lt)) b;
+}
+
+-- of the next item
 pub item-found : (p : PureProgram) (i : ℕ) (d : Definition) (schemes : List TopScheme) (x : PartFault)
     → slice_get p.items i ≡ Some d → Progress p i schemes
     → Has schemes (part_of_item [] d).place (part_of_item [] d).term x → part_at x ≡ i → IsFaultOfProgram p x
-item-found p i (value e) schemes x g h has at = record {
-  part = part_of_item (seen_by_item p.items i) (value e);
-  is_part = subst (λ k. IsPart p k (part_of_item (seen_by_item p.items i) (value e))) (sym at) (an_item g);
-  schemes = schemes;
-  principal = h.principal;
-  has = has;
-  earlier = λ j y lt a. h.earlier j y (omega (arith, at, lt)) a;
-}
-item-found p i (kernel k e) schemes x g h has at = record {
-  part = part_of_item (seen_by_item p.items i) (kernel k e);
-  is_part = subst (λ k'. IsPart p k' (part_of_item (seen_by_item p.items i) (kernel k e))) (sym at) (an_item g);
-  schemes = schemes;
-  principal = h.principal;
-  has = has;
-  earlier = λ j y lt a. h.earlier j y (omega (arith, at, lt)) a;
-}
+item-found p i (value e) schemes x g h has at = part-found p i _ schemes x (an_item g) h.principal h.earlier has at
+item-found p i (kernel k e) schemes x g h has at = part-found p i _ schemes x (an_item g) h.principal h.earlier has at
 
 -- an item that is refused has one
 pub item-none : (p : PureProgram) (i : ℕ) (d : Definition) (schemes : List TopScheme) (r : Refusal) → IsResolved p
@@ -114,14 +104,8 @@ item-none p i (kernel k e) schemes r w g h n f =
 -- the same of main
 pub main-found : (p : PureProgram) (schemes : List TopScheme) (x : PartFault) → Progress p (length p.items) schemes
     → Has (revealed p.items schemes) (main_place p.result) p.body x → part_at x ≡ length p.items → IsFaultOfProgram p x
-main-found p schemes x h has at = record {
-  part = part_of_main p;
-  is_part = main at;
-  schemes = revealed p.items schemes;
-  principal = principal-main p.items schemes h.principal;
-  has = has;
-  earlier = λ j y lt a. h.earlier j y (omega (arith, at, lt)) a;
-}
+main-found p schemes x h has at = part-found p (length p.items) (part_of_main p) (revealed p.items schemes) x
+    (main refl) (principal-main p.items schemes h.principal) h.earlier has at
 
 pub main-none : (p : PureProgram) (schemes : List TopScheme) (r : Refusal) → IsResolved p
     → Progress p (length p.items) schemes → HasNone (revealed p.items schemes) (main_place p.result) p.body

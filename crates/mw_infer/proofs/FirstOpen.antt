@@ -1,7 +1,7 @@
 -- The first close that is not fresh is one, whichever most general solution it is tested on.
 use Rattle.std.proofs.Common.{◌≡◌, ℕ, ◌+◌, ◌≤◌, ◌<◌, List, [], ◌∷◌, ◌++◌, map, sym, subst, ◌∙◌, arith}
-use Rattle.mw_term.specs.Terms.{Expression, num, truth, var, glob, fun, fix, app, bind, cond, pair, fst, snd, prim}
-use Rattle.mw_term.specs.Terms.{bracket, escape, run, close, opened, lift, lift_b, done}
+use Rattle.mw_term.specs.Terms.{Expression, fun, fix, app, bind, cond, pair, fst, snd, prim}
+use Rattle.mw_term.specs.Terms.{bracket, escape, run, close, opened, lift, lift_b}
 use Rattle.mw_term.specs.Types.{Level, live, under, IsAbsent}
 use Rattle.mw_types.specs.Types.{Substitution, after}
 use Rattle.mw_types.specs.Equations.{TypeEquation, MostGeneral}
@@ -19,10 +19,6 @@ module _ (schemes : List TopScheme) where
   pub closes-below : (n m o c : ℕ) (g : List Slot) (l : Level) (e : Expression) → o + unknowns_of schemes e ≤ n
       → c + classifiers_of schemes e ≤ m → SlotsBelow n m g → LevelBelow m l
       → ClosesBelow n m (closes schemes o c g l e)
-  closes-below n m o c g l (num k) p q w v = tt
-  closes-below n m o c g l (truth k) p q w v = tt
-  closes-below n m o c g l (var i) p q w v = tt
-  closes-below n m o c g l (glob i) p q w v = tt
   closes-below n m o c g l (fun e) p q w v = closes-below n m (o + 2) c (slot l o ∷ g) l e (omega arith) q
       (SlotBelow-slot n m l o v (omega arith), w) v
   closes-below n m o c g l (fix e) p q w v = closes-below n m (o + 3) c (slot l o ∷ slot l (o + 1) ∷ g) l e
@@ -60,7 +56,7 @@ module _ (schemes : List TopScheme) where
   closes-below n m o c g l (opened e) p q w v = closes-below n m (o + 2) (c + 1) g l e (omega arith) (omega arith) w v
   closes-below n m o c g l (lift e) p q w v = closes-below n m (o + 1) (c + 1) g l e (omega arith) (omega arith) w v
   closes-below n m o c g l (lift_b e) p q w v = closes-below n m (o + 1) (c + 1) g l e (omega arith) (omega arith) w v
-  closes-below n m o c g l (done k) p q w v = tt
+  closes-below n m o c g l e p q w v = tt
 
 module _ (n m : ℕ) (es : List TypeEquation) (s r : Substitution) (g : MostGeneral n m es s) (h : MostGeneral n m es r)
   where

@@ -126,14 +126,10 @@ AreSchemesOf-revealed tops (kernel k e ∷ items) (s ∷ schemes) h = (refl, Are
 AreInOrder-revealed : (items : List Definition) (schemes : List TopScheme) → AreInOrder schemes
     → AreInOrder (revealed items schemes)
 AreInOrder-revealed [] schemes h = h
-AreInOrder-revealed (value e ∷ items) [] h = tt
-AreInOrder-revealed (kernel k e ∷ items) [] h = tt
 AreInOrder-revealed (value e ∷ items) (let_scheme s ∷ schemes) h = (h.0, AreInOrder-revealed items schemes h.1)
-AreInOrder-revealed (value e ∷ items) (kernel_scheme l ∷ schemes) h = AreInOrder-revealed items schemes h
-AreInOrder-revealed (value e ∷ items) (scheme_out_of_scope ∷ schemes) h = AreInOrder-revealed items schemes h
 AreInOrder-revealed (kernel k e ∷ items) (let_scheme s ∷ schemes) h = AreInOrder-revealed items schemes h.1
-AreInOrder-revealed (kernel k e ∷ items) (kernel_scheme l ∷ schemes) h = AreInOrder-revealed items schemes h
-AreInOrder-revealed (kernel k e ∷ items) (scheme_out_of_scope ∷ schemes) h = AreInOrder-revealed items schemes h
+AreInOrder-revealed (d ∷ items) (s ∷ schemes) h = AreInOrder-revealed items schemes h
+AreInOrder-revealed (d ∷ items) [] h = tt
 
 pub principal-main : (items : List Definition) (schemes : List TopScheme)
     → ArePrincipal (seen_by_item items (length items)) schemes → ArePrincipal (seen_by_main items)
@@ -156,14 +152,9 @@ AreOwn-schemes tops [] (s ∷ schemes) h = absurd h
 AreOwn-schemes tops (x ∷ names) [] h = absurd h
 AreOwn-schemes tops (let_item e ∷ names) (let_scheme s ∷ schemes) h =
     (h.0.within, AreOwn-schemes tops names schemes h.1)
-AreOwn-schemes tops (let_item e ∷ names) (kernel_scheme k ∷ schemes) h = absurd h.0
-AreOwn-schemes tops (let_item e ∷ names) (scheme_out_of_scope ∷ schemes) h = absurd h.0
-AreOwn-schemes tops (kernel_item k ∷ names) (let_scheme s ∷ schemes) h = absurd h.0
 AreOwn-schemes tops (kernel_item k ∷ names) (kernel_scheme l ∷ schemes) h = AreOwn-schemes tops names schemes h.1
-AreOwn-schemes tops (kernel_item k ∷ names) (scheme_out_of_scope ∷ schemes) h = absurd h.0
-AreOwn-schemes tops (out_of_scope ∷ names) (let_scheme s ∷ schemes) h = absurd h.0
-AreOwn-schemes tops (out_of_scope ∷ names) (kernel_scheme l ∷ schemes) h = absurd h.0
 AreOwn-schemes tops (out_of_scope ∷ names) (scheme_out_of_scope ∷ schemes) h = AreOwn-schemes tops names schemes h.1
+AreOwn-schemes tops (x ∷ names) (s ∷ schemes) h = absurd h.0
 
 pub principal-own : (names : List TopLevel) (schemes : List TopScheme) → ArePrincipal names schemes → AreOwn schemes
 principal-own names schemes h = AreOwn-schemes names names schemes h.of

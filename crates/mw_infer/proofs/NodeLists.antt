@@ -3,15 +3,15 @@ use Rattle.std.proofs.Common.{◌≡◌, ℕ, zero, suc, ◌+◌, ◌<◌, ◌�
 use Rattle.std.proofs.Common.{sym, subst, arith}
 use Rattle.std.specs.List.{AllByRecursion}
 use Rattle.std.specs.Prelude.{slice_get}
-use Rattle.mw_term.specs.Terms.{Expression, num, truth, var, glob, fun, fix, app, bind, cond, pair, fst, snd, prim}
-use Rattle.mw_term.specs.Terms.{bracket, escape, run, close, opened, lift, lift_b, done}
+use Rattle.mw_term.specs.Terms.{Expression, fun, fix, app, bind, cond, pair, fst, snd, prim, bracket, escape, run}
+use Rattle.mw_term.specs.Terms.{close, opened, lift, lift_b}
 use Rattle.mw_types.specs.Solutions.{Solution, substitution_of}
 use Rattle.mw_infer.specs.declared.nodes.NodeNumbers.{NodeNumbers as RustNodeNumbers}
 use Rattle.mw_infer.specs.Schemes.{TopScheme}
 use Rattle.mw_infer.specs.ItemEquations.{unknowns_of, classifiers_of}
-use Rattle.mw_infer.specs.Nodes.{NodeNumbers, node_numbers, facts_at}
+use Rattle.mw_infer.specs.Nodes.{NodeNumbers, plain_node, quoted_node, node_numbers, facts_at}
 use Rattle.mw_infer.specs.NodeViews.{numbers_of}
-use Rattle.mw_infer.specs.Typings.{AreNodesWithin, facts_of_part, nodes_of}
+use Rattle.mw_infer.specs.Typings.{IsNodeWithin, AreNodesWithin, facts_of_part, nodes_of}
 
 pub node-within : (P : NodeNumbers → Type 0) (xs : List RustNodeNumbers) (i : ℕ) (x : RustNodeNumbers)
     → AllByRecursion P (map numbers_of xs) → i < length xs → x ≡ get_or xs i x → P (numbers_of x)
@@ -32,101 +32,82 @@ pub facts-told : (s : Solution) (xs : List NodeNumbers) → facts_of_part (recor
 facts-told s [] = refl
 facts-told s (x ∷ xs) = ap (λ z. facts_at (substitution_of s) x ∷ z) (facts-told s xs)
 
-within-append : (n m : ℕ) (xs ys : List NodeNumbers) → AreNodesWithin n m xs → AreNodesWithin n m ys
+pub within-append : (n m : ℕ) (xs ys : List NodeNumbers) → AreNodesWithin n m xs → AreNodesWithin n m ys
     → AreNodesWithin n m (xs ++ ys)
 within-append n m [] ys h k = k
 within-append n m (x ∷ xs) ys h k = (h.0, within-append n m xs ys h.1 k)
+
+-- a node whose numbers are within
+pub plain : {n m : ℕ} {us : List ℕ} → AllByRecursion (λ u. u < n) us → IsNodeWithin n m (plain_node us)
+plain h = record { types = h; classifier = tt }
+
+pub quoted : {n m c : ℕ} {us : List ℕ} → AllByRecursion (λ u. u < n) us → c < m
+    → IsNodeWithin n m (quoted_node us c)
+quoted h k = record { types = h; classifier = k }
 
 -- the numbers of a term's nodes are its own
 module _ (schemes : List TopScheme) where
   pub numbers-within : (n m u o c : ℕ) (e : Expression) → u < n → o + unknowns_of schemes e ≤ n
       → c + classifiers_of schemes e ≤ m → AreNodesWithin n m (node_numbers schemes u o c e)
-  numbers-within n m u o c (num k) lt p q = (record { types = (lt, tt); classifier = tt }, tt)
-  numbers-within n m u o c (truth k) lt p q = (record { types = (lt, tt); classifier = tt }, tt)
-  numbers-within n m u o c (var i) lt p q = (record { types = (lt, tt); classifier = tt }, tt)
-  numbers-within n m u o c (glob i) lt p q = (record { types = (lt, tt); classifier = tt }, tt)
-  numbers-within n m u o c (fun e) lt p q = (
-    record { types = (lt, (omega arith, tt)); classifier = tt },
-    numbers-within n m (o + 1) (o + 2) c e (omega arith) (omega arith) q,
-  )
+  numbers-within n m u o c (fun e) lt p q =
+      (plain (lt, (omega arith, tt)), numbers-within n m (o + 1) (o + 2) c e (omega arith) (omega arith) q)
   numbers-within n m u o c (fix e) lt p q = (
-    record { types = (lt, (omega arith, (omega arith, tt))); classifier = tt },
+    plain (lt, (omega arith, (omega arith, tt))),
     numbers-within n m (o + 2) (o + 3) c e (omega arith) (omega arith) q,
   )
   numbers-within n m u o c (app f a) lt p q = (
-    record { types = (lt, tt); classifier = tt },
-    within-append n m (node_numbers schemes o (o + 2) c f) _
-        (numbers-within n m o (o + 2) c f (omega arith) (omega arith) (omega arith))
+    plain (lt, tt),
+    within-append n m _ _ (numbers-within n m o (o + 2) c f (omega arith) (omega arith) (omega arith))
         (numbers-within n m (o + 1) (o + 2 + unknowns_of schemes f) (c + classifiers_of schemes f) a (omega arith)
         (omega arith) (omega arith)),
   )
   numbers-within n m u o c (bind d e) lt p q = (
-    record { types = (lt, (omega arith, tt)); classifier = tt },
-    within-append n m (node_numbers schemes (o + 1) (o + 3) c d) _
-        (numbers-within n m (o + 1) (o + 3) c d (omega arith) (omega arith) (omega arith))
+    plain (lt, (omega arith, tt)),
+    within-append n m _ _ (numbers-within n m (o + 1) (o + 3) c d (omega arith) (omega arith) (omega arith))
         (numbers-within n m (o + 2) (o + 3 + unknowns_of schemes d) (c + classifiers_of schemes d) e (omega arith)
         (omega arith) (omega arith)),
   )
   numbers-within n m u o c (cond k a b) lt p q = (
-    record { types = (lt, tt); classifier = tt },
-    within-append n m
-        (node_numbers schemes o (o + 3) c k ++ node_numbers schemes (o + 1) (o + 3 + unknowns_of schemes k)
-        (c + classifiers_of schemes k) a) _
-        (within-append n m (node_numbers schemes o (o + 3) c k) _
-        (numbers-within n m o (o + 3) c k (omega arith) (omega arith) (omega arith))
+    plain (lt, tt),
+    within-append n m _ _
+        (within-append n m _ _ (numbers-within n m o (o + 3) c k (omega arith) (omega arith) (omega arith))
         (numbers-within n m (o + 1) (o + 3 + unknowns_of schemes k) (c + classifiers_of schemes k) a (omega arith)
         (omega arith) (omega arith)))
         (numbers-within n m (o + 2) (o + 3 + unknowns_of schemes k + unknowns_of schemes a)
         (c + classifiers_of schemes k + classifiers_of schemes a) b (omega arith) (omega arith) (omega arith)),
   )
   numbers-within n m u o c (pair a b) lt p q = (
-    record { types = (lt, tt); classifier = tt },
-    within-append n m (node_numbers schemes o (o + 2) c a) _
-        (numbers-within n m o (o + 2) c a (omega arith) (omega arith) (omega arith))
+    plain (lt, tt),
+    within-append n m _ _ (numbers-within n m o (o + 2) c a (omega arith) (omega arith) (omega arith))
         (numbers-within n m (o + 1) (o + 2 + unknowns_of schemes a) (c + classifiers_of schemes a) b (omega arith)
         (omega arith) (omega arith)),
   )
-  numbers-within n m u o c (fst e) lt p q = (
-    record { types = (lt, (omega arith, tt)); classifier = tt },
-    numbers-within n m (o + 1) (o + 2) c e (omega arith) (omega arith) q,
-  )
-  numbers-within n m u o c (snd e) lt p q = (
-    record { types = (lt, (omega arith, tt)); classifier = tt },
-    numbers-within n m (o + 1) (o + 2) c e (omega arith) (omega arith) q,
-  )
+  numbers-within n m u o c (fst e) lt p q =
+      (plain (lt, (omega arith, tt)), numbers-within n m (o + 1) (o + 2) c e (omega arith) (omega arith) q)
+  numbers-within n m u o c (snd e) lt p q =
+      (plain (lt, (omega arith, tt)), numbers-within n m (o + 1) (o + 2) c e (omega arith) (omega arith) q)
   numbers-within n m u o c (prim k a b) lt p q = (
-    record { types = (lt, tt); classifier = tt },
-    within-append n m (node_numbers schemes o (o + 2) c a) _
-        (numbers-within n m o (o + 2) c a (omega arith) (omega arith) (omega arith))
+    plain (lt, tt),
+    within-append n m _ _ (numbers-within n m o (o + 2) c a (omega arith) (omega arith) (omega arith))
         (numbers-within n m (o + 1) (o + 2 + unknowns_of schemes a) (c + classifiers_of schemes a) b (omega arith)
         (omega arith) (omega arith)),
   )
-  numbers-within n m u o c (bracket e) lt p q = (
-    record { types = (lt, tt); classifier = omega arith },
-    numbers-within n m o (o + 1) (c + 1) e (omega arith) (omega arith) (omega arith),
-  )
-  numbers-within n m u o c (escape e) lt p q = (
-    record { types = (lt, tt); classifier = tt },
-    numbers-within n m o (o + 1) c e (omega arith) (omega arith) q,
-  )
-  numbers-within n m u o c (run k e) lt p q = (
-    record { types = (lt, tt); classifier = tt },
-    numbers-within n m o (o + 1) c e (omega arith) (omega arith) q,
-  )
+  numbers-within n m u o c (bracket e) lt p q =
+      (quoted (lt, tt) (omega arith), numbers-within n m o (o + 1) (c + 1) e (omega arith) (omega arith) (omega arith))
+  numbers-within n m u o c (escape e) lt p q =
+      (plain (lt, tt), numbers-within n m o (o + 1) c e (omega arith) (omega arith) q)
+  numbers-within n m u o c (run k e) lt p q =
+      (plain (lt, tt), numbers-within n m o (o + 1) c e (omega arith) (omega arith) q)
   numbers-within n m u o c (close at e) lt p q = (
-    record { types = (lt, (omega arith, tt)); classifier = omega arith },
+    quoted (lt, (omega arith, tt)) (omega arith),
     numbers-within n m (o + 1) (o + 2) (c + 1) e (omega arith) (omega arith) (omega arith),
   )
   numbers-within n m u o c (opened e) lt p q = (
-    record { types = (lt, (omega arith, tt)); classifier = omega arith },
+    quoted (lt, (omega arith, tt)) (omega arith),
     numbers-within n m (o + 1) (o + 2) (c + 1) e (omega arith) (omega arith) (omega arith),
   )
-  numbers-within n m u o c (lift e) lt p q = (
-    record { types = (lt, tt); classifier = omega arith },
-    numbers-within n m o (o + 1) (c + 1) e (omega arith) (omega arith) (omega arith),
-  )
-  numbers-within n m u o c (lift_b e) lt p q = (
-    record { types = (lt, tt); classifier = omega arith },
-    numbers-within n m o (o + 1) (c + 1) e (omega arith) (omega arith) (omega arith),
-  )
-  numbers-within n m u o c (done v) lt p q = (record { types = (lt, tt); classifier = tt }, tt)
+  numbers-within n m u o c (lift e) lt p q =
+      (quoted (lt, tt) (omega arith), numbers-within n m o (o + 1) (c + 1) e (omega arith) (omega arith) (omega arith))
+  numbers-within n m u o c (lift_b e) lt p q =
+      (quoted (lt, tt) (omega arith), numbers-within n m o (o + 1) (c + 1) e (omega arith) (omega arith) (omega arith))
+  numbers-within n m u o c e lt p q = (plain (lt, tt), tt)

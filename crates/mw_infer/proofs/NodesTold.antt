@@ -1,9 +1,9 @@
 -- What is known of the nodes of parts, one part after another.
 use Rattle.std.proofs.Common.{◌≡◌, ℕ, zero, suc, ◌+◌, ◌<◌, List, [], ◌∷◌, ◌++◌, length, map, Option, None, Some, refl, sym, subst}
-use Rattle.std.proofs.Common.{◌∙◌, true≢false}
-use Rattle.std.proofs.Common.{arith}
+use Rattle.std.proofs.Common.{◌∙◌, true≢false, arith}
 use Rattle.std.specs.Prelude.{IsSome, slice_get}
-use Rattle.std.proofs.lemmas.List.{map-append}
+use Rattle.std.proofs.lemmas.List.{length-append, map-append}
+use Rattle.std.proofs.lemmas.Option.{slice_get_within}
 use Rattle.mw_term.specs.Programs.{Definition, value, kernel, PureProgram}
 use Rattle.mw_term.specs.Parts.{Part, part_of_main, IsPart, an_item, main}
 use Rattle.mw_infer.specs.Schemes.{TopScheme}
@@ -17,7 +17,6 @@ use Rattle.mw_infer.specs.declared.judge.Verdict.TheVariants.{Fine}
 use Rattle.mw_infer.proofs.Growing.{principal-main, revealed}
 use Rattle.mw_types.proofs.InOrder.{low, last, low_or_last}
 use Rattle.mw_infer.proofs.Refusals.{part-one}
-use Rattle.mw_infer.proofs.Stepping.{append-length, get-below}
 
 -- what is judged of a part tells of its nodes
 judged-nodes : (x : Part) (schemes : List TopScheme) (w : Judged) (nodes : PartTypes) → ArePrincipal x.names schemes
@@ -49,7 +48,7 @@ told-on : (p : PureProgram) (i : ℕ) (x : Part) (parts : List (List NodeFacts))
     → AreNodesBefore p (suc i) (parts ++ (facts ∷ []))
 told-on p i x parts facts h a f =
     record {
-      count = append-length parts facts ∙ (let e = h.count in omega (arith, e));
+      count = length-append parts (facts ∷ []) ∙ (let e = h.count in omega (arith, e));
       each = λ j y known lt b g. elim (low_or_last i j lt) [
         | low k ↦ h.each j y known k b (get-front parts facts known j (let e = h.count in omega (arith, e, k)) g)
         | last e ↦
@@ -79,7 +78,7 @@ all-told p parts h =
   where
     part-told : {i : ℕ} {x : Part} {facts : List NodeFacts} → IsPart p i x → slice_get parts i ≡ Some facts
         → AreNodesOfPart x facts
-    part-told (an_item {i = i} {d = d} a) g = let lt = get-below p.items i d a in
+    part-told (an_item {i = i} {d = d} a) g = let lt = slice_get_within p.items i d a in
         h.each i _ _ (omega (arith, lt)) (an_item a) g
     part-told (main {i = i} e) g = h.each i _ _ (omega (arith, e)) (main e) g
 

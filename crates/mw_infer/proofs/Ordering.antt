@@ -166,31 +166,24 @@ ordered-both p q s t whole x y type e f le = record {
   classifier_count = omega (arith, x.classifier_count, y.classifier_count);
 }
 
+-- a type without numbers
+ordered-none : (p q : Numbers) (t : TypeExpression) → renamed p.old q.old t ≡ t
+    → IsNumbered p.count q.count t p.count q.count → Ordered p q t
+ordered-none p q t e f = record {
+  k = p;
+  l = q;
+  type = t;
+  unknowns = Grows-same p;
+  classifiers = Grows-same q;
+  is = e;
+  numbered = f;
+  unknown_count = omega arith;
+  classifier_count = omega arith;
+}
+
 ordered : (p q : Numbers) (t : TypeExpression) → Ordered p q t
-ordered p q int_ty = record {
-  k = p;
-  l = q;
-  type = int_ty;
-  unknowns = Grows-same p;
-  classifiers = Grows-same q;
-  is =
-      refl;
-  numbered = an_int;
-  unknown_count = omega arith;
-  classifier_count = omega arith;
-}
-ordered p q bool_ty = record {
-  k = p;
-  l = q;
-  type = bool_ty;
-  unknowns = Grows-same p;
-  classifiers = Grows-same q;
-  is =
-      refl;
-  numbered = a_bool;
-  unknown_count = omega arith;
-  classifier_count = omega arith;
-}
+ordered p q int_ty = ordered-none p q int_ty refl an_int
+ordered p q bool_ty = ordered-none p q bool_ty refl a_bool
 ordered p q (unknown u) =
     let x = number p u in
     record {
@@ -283,19 +276,15 @@ reach (function_ty s t) = reach s + reach t
 reach (code_ty c t) = c + 1 + reach t
 reach (closed_ty t) = reach t
 
+within-both : (s t : TypeExpression) → Within (reach s) (reach s) s → Within (reach t) (reach t) t
+    → Within (reach s + reach t) (reach s + reach t) s × Within (reach s + reach t) (reach s + reach t) t
+within-both s t h i = (Within-more (omega arith) (omega arith) s h, Within-more (omega arith) (omega arith) t i)
+
 pub Within-reach : (t : TypeExpression) → Within (reach t) (reach t) t
 Within-reach int_ty = tt
 Within-reach bool_ty = tt
 Within-reach (unknown u) = omega arith
-Within-reach (pair_ty s t) = (
-  Within-more (omega arith) (omega arith) s (Within-reach s),
-  Within-more (omega arith) (omega arith) t
-      (Within-reach t),
-)
-Within-reach (function_ty s t) = (
-  Within-more (omega arith) (omega arith) s (Within-reach s),
-  Within-more (omega arith) (omega arith) t
-      (Within-reach t),
-)
+Within-reach (pair_ty s t) = within-both s t (Within-reach s) (Within-reach t)
+Within-reach (function_ty s t) = within-both s t (Within-reach s) (Within-reach t)
 Within-reach (code_ty c t) = (omega arith, Within-more (omega arith) (omega arith) t (Within-reach t))
 Within-reach (closed_ty t) = Within-reach t

@@ -1,5 +1,5 @@
 -- A part has as many nodes of equations as equations, and no more nodes than unknowns.
-use Rattle.std.proofs.Common.{◌≡◌, ℕ, zero, suc, ◌+◌, ◌≤◌, List, [], ◌∷◌, ◌++◌, map, length, Option, Some, None}
+use Rattle.std.proofs.Common.{◌≡◌, ℕ, zero, suc, ◌+◌, ◌≤◌, List, [], ◌∷◌, ◌++◌, map, length, Option, Some}
 use Rattle.std.proofs.Common.{refl, ap, ◌∙◌, append_assoc, arith, length-append}
 use Rattle.std.specs.Prelude.{slice_get, replicate}
 use Rattle.std.proofs.lemmas.List.{length-map, length-replicate, map-append, replicate-append-replicate}
@@ -8,7 +8,7 @@ use Rattle.mw_term.specs.Terms.{bracket, escape, run, close, opened, lift, lift_
 use Rattle.mw_term.specs.Types.{Level, live, under}
 use Rattle.mw_term.specs.Scoped.{IsScoped}
 use Rattle.mw_term.specs.Parts.{Place, let_place, kernel_place, main_place}
-use Rattle.mw_infer.specs.Schemes.{TopScheme, let_scheme, kernel_scheme, scheme_out_of_scope}
+use Rattle.mw_infer.specs.Schemes.{TopScheme, let_scheme}
 use Rattle.mw_infer.specs.ItemEquations.{Slot, plain_slot, quoted_slot, slot, variable_equations}
 use Rattle.mw_infer.specs.ItemEquations.{name_equations, equations}
 use Rattle.mw_infer.specs.Inferring.{item_unknowns, item_equations}
@@ -19,26 +19,7 @@ use Rattle.mw_infer.specs.Scoped.{is_quoted, is_quoted_slot, has_scheme}
 -- a term has at least one node
 pub size-positive : (e : Expression) → 1 ≤ size e
 size-positive (num k) = omega arith
-size-positive (truth b) = omega arith
-size-positive (var i) = omega arith
-size-positive (glob i) = omega arith
-size-positive (fun e) = omega arith
-size-positive (fix e) = omega arith
-size-positive (app f a) = omega arith
-size-positive (bind d e) = omega arith
-size-positive (cond c a b) = omega arith
-size-positive (pair a b) = omega arith
-size-positive (fst e) = omega arith
-size-positive (snd e) = omega arith
-size-positive (prim p a b) = omega arith
-size-positive (bracket e) = omega arith
-size-positive (escape e) = omega arith
-size-positive (run k e) = omega arith
-size-positive (close at e) = omega arith
-size-positive (opened e) = omega arith
-size-positive (lift e) = omega arith
-size-positive (lift_b e) = omega arith
-size-positive (done v) = omega arith
+size-positive e = omega arith
 
 slot-quoted : (m : Level) (u : ℕ) → is_quoted_slot (slot m u) ≡ is_quoted m
 slot-quoted live u = refl
@@ -55,11 +36,8 @@ variable-length n j u (under b) (quoted_slot a x ∷ g) zero h = refl
 variable-length n j u m (x ∷ g) (suc i) h = variable-length n j u m g i h
 
 name-length : (u o c : ℕ) (m : Level) (s : Option TopScheme) → 1 ≡ length (name_equations u o c m s)
-name-length u o c live None = refl
 name-length u o c live (Some (let_scheme s)) = refl
-name-length u o c live (Some (kernel_scheme k)) = refl
-name-length u o c live (Some scheme_out_of_scope) = refl
-name-length u o c (under a) s = refl
+name-length u o c m s = refl
 
 two : {A B : Type 0} (xs ys : List A) (vs ws : List B) → length xs ≡ length vs → length ys ≡ length ws
     → length (xs ++ ys) ≡ length (vs ++ ws)
@@ -104,22 +82,16 @@ module _ (tops : List TopScheme) where
       (nodes-length (n + 1) o (o + 2) c g m a h.0)
       (nodes-length (n + 1 + size a) (o + 1) _ _ g m b h.1))
   nodes-length n u o c g live (bracket e) h = ap suc (nodes-length (n + 1) o (o + 1) (c + 1) g (under c) e h.1)
-  nodes-length n u o c g (under a) (bracket e) h = absurd (let e = h.0 in cc)
-  nodes-length n u o c g live (escape e) h = absurd (let e = h.0 in cc)
   nodes-length n u o c g (under a) (escape e) h = ap suc (nodes-length (n + 1) o (o + 1) c g live e h.1)
   nodes-length n u o c g live (run k e) h = ap (λ k. suc (suc k)) (nodes-length (n + 1) o (o + 1) c g live e h.1)
-  nodes-length n u o c g (under a) (run k e) h = absurd (let e = h.0 in cc)
   nodes-length n u o c g live (close at e) h =
       ap (λ k. suc (suc k)) (nodes-length (n + 1) (o + 1) (o + 2) (c + 1) g live e h.1)
-  nodes-length n u o c g (under a) (close at e) h = absurd (let e = h.0 in cc)
   nodes-length n u o c g live (opened e) h =
       ap (λ k. suc (suc k)) (nodes-length (n + 1) (o + 1) (o + 2) (c + 1) g live e h.1)
-  nodes-length n u o c g (under a) (opened e) h = absurd (let e = h.0 in cc)
   nodes-length n u o c g live (lift e) h = ap (λ k. suc (suc k)) (nodes-length (n + 1) o (o + 1) (c + 1) g live e h.1)
-  nodes-length n u o c g (under a) (lift e) h = absurd (let e = h.0 in cc)
   nodes-length n u o c g live (lift_b e) h = ap (λ k. suc (suc k)) (nodes-length (n + 1) o (o + 1) (c + 1) g live e h.1)
-  nodes-length n u o c g (under a) (lift_b e) h = absurd (let e = h.0 in cc)
   nodes-length n u o c g m (done v) h = absurd h
+  nodes-length n u o c g m e h = absurd (let i = h.0 in cc)
 
   pub owners-length : (place : Place) (e : Expression) → CanJudge tops e
       → length (item_owners place e) ≡ length (item_equations tops place e)
@@ -128,10 +100,6 @@ module _ (tops : List TopScheme) where
   owners-length (main_place g) e j = ap suc (length-map _ _ ∙ nodes-length 0 0 1 0 [] live e j.scoped)
 
   pub size-unknowns : (e : Expression) → size e ≤ item_unknowns tops e
-  size-unknowns (num k) = omega arith
-  size-unknowns (truth b) = omega arith
-  size-unknowns (var i) = omega arith
-  size-unknowns (glob i) = omega arith
   size-unknowns (fun e) = let x = size-unknowns e in omega (arith, x)
   size-unknowns (fix e) = let x = size-unknowns e in omega (arith, x)
   size-unknowns (app f a) = let x = size-unknowns f in let y = size-unknowns a in omega (arith, x, y)
@@ -149,4 +117,4 @@ module _ (tops : List TopScheme) where
   size-unknowns (opened e) = let x = size-unknowns e in omega (arith, x)
   size-unknowns (lift e) = let x = size-unknowns e in omega (arith, x)
   size-unknowns (lift_b e) = let x = size-unknowns e in omega (arith, x)
-  size-unknowns (done v) = omega arith
+  size-unknowns e = omega arith

@@ -2,7 +2,7 @@
 use Rattle.std.proofs.Common.{◌≡◌, Bool, true, false, ℕ, zero, suc, ◌*◌, ◌^◌, ◌<◌, ◌≤◌, List, [], ◌∷◌, ◌++◌, map, refl}
 use Rattle.std.proofs.Common.{ap, arith}
 use Rattle.std.specs.Prelude.{slice_get}
-use Rattle.mw_term.specs.Terms.{Expression, size, num, truth, var, glob, fun, fix, app, bind, cond, pair, fst, snd}
+use Rattle.mw_term.specs.Terms.{Expression, size, glob, fun, fix, app, bind, cond, pair, fst, snd}
 use Rattle.mw_term.specs.Terms.{prim, bracket, escape, run, close, opened, lift, lift_b, done}
 use Rattle.mw_term.specs.Programs.{Definition, value, kernel, PureProgram}
 use Rattle.mw_term.specs.Typing.{TopLevel, let_item, kernel_item, out_of_scope}
@@ -28,10 +28,6 @@ use Rattle.mw_infer.proofs.Growing.{revealed, principal-own}
 
 -- what is scoped was written in a source
 pub scoped-source : (names g : List Bool) (m : Bool) (e : Expression) → IsScoped names g m e → IsSource e
-scoped-source names g m (num n) h = tt
-scoped-source names g m (truth b) h = tt
-scoped-source names g m (var i) h = tt
-scoped-source names g m (glob i) h = tt
 scoped-source names g m (fun e) h = scoped-source names (m ∷ g) m e h
 scoped-source names g m (fix e) h = scoped-source names (m ∷ m ∷ g) m e h
 scoped-source names g m (app f a) h = (scoped-source names g m f h.0, scoped-source names g m a h.1)
@@ -50,6 +46,7 @@ scoped-source names g m (opened e) h = scoped-source names g false e h.1
 scoped-source names g m (lift e) h = scoped-source names g false e h.1
 scoped-source names g m (lift_b e) h = scoped-source names g false e h.1
 scoped-source names g m (done v) h = absurd h
+scoped-source names g m e h = tt
 
 pub resolved-written : (p : PureProgram) → IsResolved p → IsWritten p
 resolved-written p h =
@@ -67,33 +64,23 @@ seen-schemes tops [] (s ∷ schemes) h = absurd h
 seen-schemes tops (x ∷ names) [] h = absurd h
 seen-schemes tops (let_item e ∷ names) (let_scheme s ∷ schemes) h =
     ap (λ z. true ∷ z) (seen-schemes tops names schemes h.1)
-seen-schemes tops (let_item e ∷ names) (kernel_scheme k ∷ schemes) h = absurd h.0
-seen-schemes tops (let_item e ∷ names) (scheme_out_of_scope ∷ schemes) h = absurd h.0
-seen-schemes tops (kernel_item k ∷ names) (let_scheme s ∷ schemes) h = absurd h.0
 seen-schemes tops (kernel_item k ∷ names) (kernel_scheme l ∷ schemes) h =
     ap (λ z. true ∷ z) (seen-schemes tops names schemes h.1)
-seen-schemes tops (kernel_item k ∷ names) (scheme_out_of_scope ∷ schemes) h = absurd h.0
-seen-schemes tops (out_of_scope ∷ names) (let_scheme s ∷ schemes) h = absurd h.0
-seen-schemes tops (out_of_scope ∷ names) (kernel_scheme l ∷ schemes) h = absurd h.0
 seen-schemes tops (out_of_scope ∷ names) (scheme_out_of_scope ∷ schemes) h =
     ap (λ z. false ∷ z) (seen-schemes tops names schemes h.1)
+seen-schemes tops (x ∷ names) (s ∷ schemes) h = absurd h.0
 
 -- numbers of unknowns
 modest-name : (schemes : List TopScheme) (i : ℕ) → AreModest schemes → (unknowns_of_name (slice_get schemes i) ≤ 10000)
     × (classifiers_of_name (slice_get schemes i) ≤ 10000)
 modest-name [] i h = (omega arith, omega arith)
 modest-name (let_scheme s ∷ schemes) zero h = h.0
-modest-name (kernel_scheme k ∷ schemes) zero h = (omega arith, omega arith)
-modest-name (scheme_out_of_scope ∷ schemes) zero h = (omega arith, omega arith)
 modest-name (let_scheme s ∷ schemes) (suc i) h = modest-name schemes i h.1
-modest-name (kernel_scheme k ∷ schemes) (suc i) h = modest-name schemes i h
-modest-name (scheme_out_of_scope ∷ schemes) (suc i) h = modest-name schemes i h
+modest-name (x ∷ schemes) zero h = (omega arith, omega arith)
+modest-name (x ∷ schemes) (suc i) h = modest-name schemes i h
 
 modest-term : (schemes : List TopScheme) (e : Expression) → AreModest schemes → (unknowns_of schemes e ≤ 10000 * size e)
     × (classifiers_of schemes e ≤ 10000 * size e)
-modest-term schemes (num n) h = (omega arith, omega arith)
-modest-term schemes (truth b) h = (omega arith, omega arith)
-modest-term schemes (var i) h = (omega arith, omega arith)
 modest-term schemes (glob i) h = modest-name schemes i h
 modest-term schemes (fun e) h = let x = modest-term schemes e h in (omega (arith, x.0), omega (arith, x.1))
 modest-term schemes (fix e) h = let x = modest-term schemes e h in (omega (arith, x.0), omega (arith, x.1))
@@ -116,7 +103,7 @@ modest-term schemes (close at e) h = let x = modest-term schemes e h in (omega (
 modest-term schemes (opened e) h = let x = modest-term schemes e h in (omega (arith, x.0), omega (arith, x.1))
 modest-term schemes (lift e) h = let x = modest-term schemes e h in (omega (arith, x.0), omega (arith, x.1))
 modest-term schemes (lift_b e) h = let x = modest-term schemes e h in (omega (arith, x.0), omega (arith, x.1))
-modest-term schemes (done v) h = (omega arith, omega arith)
+modest-term schemes e h = (omega arith, omega arith)
 
 low-schemes : (schemes : List TopScheme) → AreModest schemes → AreOwn schemes → AreLow schemes
 low-schemes [] h w = tt
@@ -165,17 +152,12 @@ modest-let (scheme_out_of_scope ∷ schemes) s h p q = modest-let schemes s h p 
 pub modest-none : (schemes : List TopScheme) → AreModest schemes → AreModest (schemes ++ (scheme_out_of_scope ∷ []))
 modest-none [] h = tt
 modest-none (let_scheme r ∷ schemes) h = (h.0, modest-none schemes h.1)
-modest-none (kernel_scheme k ∷ schemes) h = modest-none schemes h
-modest-none (scheme_out_of_scope ∷ schemes) h = modest-none schemes h
+modest-none (s ∷ schemes) h = modest-none schemes h
 
 pub modest-revealed : (items : List Definition) (schemes : List TopScheme) → AreModest schemes
     → AreModest (revealed items schemes)
 modest-revealed [] schemes h = h
-modest-revealed (value e ∷ items) [] h = tt
-modest-revealed (kernel k e ∷ items) [] h = tt
 modest-revealed (value e ∷ items) (let_scheme s ∷ schemes) h = (h.0, modest-revealed items schemes h.1)
-modest-revealed (value e ∷ items) (kernel_scheme l ∷ schemes) h = modest-revealed items schemes h
-modest-revealed (value e ∷ items) (scheme_out_of_scope ∷ schemes) h = modest-revealed items schemes h
 modest-revealed (kernel k e ∷ items) (let_scheme s ∷ schemes) h = modest-revealed items schemes h.1
-modest-revealed (kernel k e ∷ items) (kernel_scheme l ∷ schemes) h = modest-revealed items schemes h
-modest-revealed (kernel k e ∷ items) (scheme_out_of_scope ∷ schemes) h = modest-revealed items schemes h
+modest-revealed (d ∷ items) (s ∷ schemes) h = modest-revealed items schemes h
+modest-revealed (d ∷ items) [] h = tt

@@ -32,22 +32,14 @@ schemes-one tops (n ∷ names) [] r h k p q = absurd h
 schemes-one tops (n ∷ names) (x ∷ s) [] h k p q = absurd k
 schemes-one tops (let_item e ∷ names) (let_scheme x ∷ s) (let_scheme y ∷ r) h k p q =
     rw (one_scheme tops e x y h.0 k.0 p.0 q.0, schemes-one tops names s r h.1 k.1 p.1 q.1) refl
-schemes-one tops (let_item e ∷ names) (let_scheme x ∷ s) (kernel_scheme j ∷ r) h k p q = absurd k.0
-schemes-one tops (let_item e ∷ names) (let_scheme x ∷ s) (scheme_out_of_scope ∷ r) h k p q = absurd k.0
-schemes-one tops (let_item e ∷ names) (kernel_scheme i ∷ s) (y ∷ r) h k p q = absurd h.0
-schemes-one tops (let_item e ∷ names) (scheme_out_of_scope ∷ s) (y ∷ r) h k p q = absurd h.0
-schemes-one tops (kernel_item l ∷ names) (let_scheme x ∷ s) (y ∷ r) h k p q = absurd h.0
-schemes-one tops (kernel_item l ∷ names) (kernel_scheme i ∷ s) (let_scheme y ∷ r) h k p q = absurd k.0
 schemes-one tops (kernel_item l ∷ names) (kernel_scheme i ∷ s) (kernel_scheme j ∷ r) h k p q =
     rw (let z : i ≡ j = sym h.0 ∙ k.0 in z, schemes-one tops names s r h.1 k.1 p q) refl
-schemes-one tops (kernel_item l ∷ names) (kernel_scheme i ∷ s) (scheme_out_of_scope ∷ r) h k p q = absurd k.0
-schemes-one tops (kernel_item l ∷ names) (scheme_out_of_scope ∷ s) (y ∷ r) h k p q = absurd h.0
-schemes-one tops (out_of_scope ∷ names) (let_scheme x ∷ s) (y ∷ r) h k p q = absurd h.0
-schemes-one tops (out_of_scope ∷ names) (kernel_scheme i ∷ s) (y ∷ r) h k p q = absurd h.0
-schemes-one tops (out_of_scope ∷ names) (scheme_out_of_scope ∷ s) (let_scheme y ∷ r) h k p q = absurd k.0
-schemes-one tops (out_of_scope ∷ names) (scheme_out_of_scope ∷ s) (kernel_scheme j ∷ r) h k p q = absurd k.0
 schemes-one tops (out_of_scope ∷ names) (scheme_out_of_scope ∷ s) (scheme_out_of_scope ∷ r) h k p q =
     rw (schemes-one tops names s r h.1 k.1 p q) refl
+schemes-one tops (let_item e ∷ names) (let_scheme x ∷ s) (y ∷ r) h k p q = absurd k.0
+schemes-one tops (kernel_item l ∷ names) (kernel_scheme i ∷ s) (y ∷ r) h k p q = absurd k.0
+schemes-one tops (out_of_scope ∷ names) (scheme_out_of_scope ∷ s) (y ∷ r) h k p q = absurd k.0
+schemes-one tops (n ∷ names) (x ∷ s) (y ∷ r) h k p q = absurd h.0
 
 pub principal-one : (names : List TopLevel) (s r : List TopScheme) → ArePrincipal names s → ArePrincipal names r → s ≡ r
 principal-one names s r h k = schemes-one names names s r h.of k.of h.in_order k.in_order

@@ -38,33 +38,27 @@ kept-seen h i (function_ty t r) s = (kept-seen h i t s.0, kept-seen h i r s.1)
 kept-seen h i (code_ty c t) s = ((λ e. s.0 (sym (i.kept c s.0) ∙ e)), kept-seen h i t s.1)
 kept-seen h i (closed_ty t) s = kept-seen h i t s
 
-pub Renumbers-int : (p q : Numbering) → IsOrder p → IsOrder q → Renumbers p q p q int_ty int_ty
-Renumbers-int p q a b = record {
+-- a type without numbers
+Renumbers-none : (p q : Numbering) (t : TypeExpression) → IsOrder p → IsOrder q
+    → t ≡ renumbered p.places.items q.places.items t → AreSeen p.places.items q.places.items t
+    → IsNumbered p.count q.count t p.count q.count → Renumbers p q p q t t
+Renumbers-none p q t a b e s n = record {
   unknown_order = a;
   classifier_order = b;
   unknowns = Keeps-same p;
-  classifiers =
-      Keeps-same q;
-  is = refl;
-  seen = tt;
-  numbered = an_int;
+  classifiers = Keeps-same q;
+  is = e;
+  seen = s;
+  numbered = n;
   unknown_count = omega arith;
   classifier_count = omega arith;
 }
 
+pub Renumbers-int : (p q : Numbering) → IsOrder p → IsOrder q → Renumbers p q p q int_ty int_ty
+Renumbers-int p q a b = Renumbers-none p q int_ty a b refl tt an_int
+
 pub Renumbers-bool : (p q : Numbering) → IsOrder p → IsOrder q → Renumbers p q p q bool_ty bool_ty
-Renumbers-bool p q a b = record {
-  unknown_order = a;
-  classifier_order = b;
-  unknowns = Keeps-same p;
-  classifiers =
-      Keeps-same q;
-  is = refl;
-  seen = tt;
-  numbered = a_bool;
-  unknown_count = omega arith;
-  classifier_count = omega arith;
-}
+Renumbers-bool p q a b = Renumbers-none p q bool_ty a b refl tt a_bool
 
 pub number-next : (a b m n : ℕ) → ((n < a) × (b ≡ a)) ⊎ ((n ≡ a) × (b ≡ a + 1)) → IsNumbered a m (unknown n) b m
 number-next a b m n (inl h) = rw h.1 (seen h.0)

@@ -41,15 +41,10 @@ let-of_scheme tops names [] i s h q = absurd (cc)
 let-of_scheme tops [] (x ∷ schemes) i s h q = absurd h
 let-of_scheme tops (let_item e ∷ names) (let_scheme r ∷ schemes) zero s h q = let p : r ≡ s = cc in
     (e, refl, rw p at h.0)
-let-of_scheme tops (let_item e ∷ names) (kernel_scheme l ∷ schemes) zero s h q = absurd h.0
-let-of_scheme tops (let_item e ∷ names) (scheme_out_of_scope ∷ schemes) zero s h q = absurd h.0
-let-of_scheme tops (kernel_item k ∷ names) (let_scheme r ∷ schemes) zero s h q = absurd h.0
 let-of_scheme tops (kernel_item k ∷ names) (kernel_scheme l ∷ schemes) zero s h q = absurd (cc)
-let-of_scheme tops (kernel_item k ∷ names) (scheme_out_of_scope ∷ schemes) zero s h q = absurd h.0
-let-of_scheme tops (out_of_scope ∷ names) (let_scheme r ∷ schemes) zero s h q = absurd h.0
-let-of_scheme tops (out_of_scope ∷ names) (kernel_scheme l ∷ schemes) zero s h q = absurd h.0
 let-of_scheme tops (out_of_scope ∷ names) (scheme_out_of_scope ∷ schemes) zero s h q = absurd (cc)
 let-of_scheme tops (x ∷ names) (y ∷ schemes) (suc i) s h q = let-of_scheme tops names schemes i s h.1 q
+let-of_scheme tops (x ∷ names) (y ∷ schemes) zero s h q = absurd h.0
 
 pub kernel-of_scheme : (tops names : List TopLevel) (schemes : List TopScheme) (i : ℕ) (k : KernelType)
     → AreSchemesOf tops names schemes → slice_get schemes i ≡ Some (kernel_scheme k) → slice_get names i
@@ -57,16 +52,11 @@ pub kernel-of_scheme : (tops names : List TopLevel) (schemes : List TopScheme) (
 kernel-of_scheme tops names [] i k h q = absurd (cc)
 kernel-of_scheme tops [] (x ∷ schemes) i k h q = absurd h
 kernel-of_scheme tops (let_item e ∷ names) (let_scheme r ∷ schemes) zero k h q = absurd (cc)
-kernel-of_scheme tops (let_item e ∷ names) (kernel_scheme l ∷ schemes) zero k h q = absurd h.0
-kernel-of_scheme tops (let_item e ∷ names) (scheme_out_of_scope ∷ schemes) zero k h q = absurd h.0
-kernel-of_scheme tops (kernel_item j ∷ names) (let_scheme r ∷ schemes) zero k h q = absurd h.0
 kernel-of_scheme tops (kernel_item j ∷ names) (kernel_scheme l ∷ schemes) zero k h q = let p : l ≡ k = cc in
     let r : j ≡ l = h.0 in rw (r, p) refl
-kernel-of_scheme tops (kernel_item j ∷ names) (scheme_out_of_scope ∷ schemes) zero k h q = absurd h.0
-kernel-of_scheme tops (out_of_scope ∷ names) (let_scheme r ∷ schemes) zero k h q = absurd h.0
-kernel-of_scheme tops (out_of_scope ∷ names) (kernel_scheme l ∷ schemes) zero k h q = absurd h.0
 kernel-of_scheme tops (out_of_scope ∷ names) (scheme_out_of_scope ∷ schemes) zero k h q = absurd (cc)
 kernel-of_scheme tops (x ∷ names) (y ∷ schemes) (suc i) k h q = kernel-of_scheme tops names schemes i k h.1 q
+kernel-of_scheme tops (x ∷ names) (y ∷ schemes) zero k h q = absurd h.0
 
 -- and the scheme of what stands at a place
 pub scheme-of_let : (tops names : List TopLevel) (schemes : List TopScheme) (i : ℕ) (e : Expression)
@@ -76,11 +66,10 @@ scheme-of_let tops [] schemes i e h q = absurd (cc)
 scheme-of_let tops (x ∷ names) [] i e h q = absurd h
 scheme-of_let tops (let_item d ∷ names) (let_scheme r ∷ schemes) zero e h q = let p : d ≡ e = cc in
     (r, refl, rw p at h.0)
-scheme-of_let tops (let_item d ∷ names) (kernel_scheme l ∷ schemes) zero e h q = absurd h.0
-scheme-of_let tops (let_item d ∷ names) (scheme_out_of_scope ∷ schemes) zero e h q = absurd h.0
 scheme-of_let tops (kernel_item k ∷ names) (y ∷ schemes) zero e h q = absurd (cc)
 scheme-of_let tops (out_of_scope ∷ names) (y ∷ schemes) zero e h q = absurd (cc)
 scheme-of_let tops (x ∷ names) (y ∷ schemes) (suc i) e h q = scheme-of_let tops names schemes i e h.1 q
+scheme-of_let tops (x ∷ names) (y ∷ schemes) zero e h q = absurd h.0
 
 pub scheme-of_kernel : (tops names : List TopLevel) (schemes : List TopScheme) (i : ℕ) (k : KernelType)
     → AreSchemesOf tops names schemes → slice_get names i ≡ Some (kernel_item k) → slice_get schemes i
@@ -88,9 +77,8 @@ pub scheme-of_kernel : (tops names : List TopLevel) (schemes : List TopScheme) (
 scheme-of_kernel tops [] schemes i k h q = absurd (cc)
 scheme-of_kernel tops (x ∷ names) [] i k h q = absurd h
 scheme-of_kernel tops (let_item d ∷ names) (y ∷ schemes) zero k h q = absurd (cc)
-scheme-of_kernel tops (kernel_item j ∷ names) (let_scheme r ∷ schemes) zero k h q = absurd h.0
 scheme-of_kernel tops (kernel_item j ∷ names) (kernel_scheme l ∷ schemes) zero k h q = let p : j ≡ k = cc in
     let r : j ≡ l = h.0 in rw (← r, p) refl
-scheme-of_kernel tops (kernel_item j ∷ names) (scheme_out_of_scope ∷ schemes) zero k h q = absurd h.0
 scheme-of_kernel tops (out_of_scope ∷ names) (y ∷ schemes) zero k h q = absurd (cc)
 scheme-of_kernel tops (x ∷ names) (y ∷ schemes) (suc i) k h q = scheme-of_kernel tops names schemes i k h.1 q
+scheme-of_kernel tops (x ∷ names) (y ∷ schemes) zero k h q = absurd h.0

@@ -23,14 +23,11 @@ use Rattle.mw_infer.specs.Sharing.{Alike, AreUses, IsWhole, SharesUse, meaning, 
 use Rattle.mw_infer.proofs.Emission.{equations_of-append}
 use Rattle.mw_infer.proofs.Extending.{Solves-append}
 use Rattle.mw_infer.proofs.Sound.{Solves-parts}
+use Rattle.mw_infer.proofs.Within.{AllWithin-append}
 
 within-parts : (n m : ℕ) (es fs : List TypeEquation) → AllWithin n m (es ++ fs) → AllWithin n m es × AllWithin n m fs
 within-parts n m [] fs h = (tt, h)
 within-parts n m (e ∷ es) fs h = let r = within-parts n m es fs h.1 in ((h.0, r.0), r.1)
-
-within-both : (n m : ℕ) (es fs : List TypeEquation) → AllWithin n m es → AllWithin n m fs → AllWithin n m (es ++ fs)
-within-both n m [] fs h q = q
-within-both n m (e ∷ es) fs h q = (h.0, within-both n m es fs h.1 q)
 
 -- of all equations
 pub alike-all : (long short : List TypeEquation) → Alike long short → (a : Assignment) → Solves a long ↔ Solves a short
@@ -60,7 +57,8 @@ alike-more long short e f h p w = record {
       take-append-le k short (f ∷ []) (omega (arith, h.count, le)),
     ) (h.solved k a)
   ];
-  within = λ n m q. within-both n m short (f ∷ []) (h.within n m (within-parts n m long (e ∷ []) q).0) (w n m q, tt);
+  within = λ n m q. AllWithin-append n m short (f ∷ []) (h.within n m (within-parts n m long (e ∷ []) q).0)
+      (w n m q, tt);
 }
 
 -- the same equation on each side

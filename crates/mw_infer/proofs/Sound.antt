@@ -1,8 +1,8 @@
 -- What solves the equations of a term and keeps its closes fresh types it.
-use Rattle.std.proofs.Common.{◌≡◌, ℕ, ◌+◌, List, [], ◌∷◌, ◌++◌, map, Option, Some, None, refl, ap, sym, ◌∙◌}
+use Rattle.std.proofs.Common.{◌≡◌, ℕ, ◌+◌, List, [], ◌∷◌, ◌++◌, map, Option, Some, refl, ap, sym, ◌∙◌}
 use Rattle.std.specs.Prelude.{slice_get}
 use Rattle.mw_term.specs.Terms.{Expression, num, truth, var, glob, fun, fix, app, bind, cond, pair, fst, snd, prim}
-use Rattle.mw_term.specs.Terms.{bracket, escape, run, close, opened, lift, lift_b, done}
+use Rattle.mw_term.specs.Terms.{bracket, escape, run, close, opened, lift, lift_b}
 use Rattle.mw_term.specs.Types.{int_type, bool_type, function_type, Level, live, under, value as at_live, kernel_type}
 use Rattle.mw_term.specs.Typing.{TopLevel, Typed, t_num, t_truth, t_var, t_let, t_kernel, t_fun, t_fix, t_app, t_bind}
 use Rattle.mw_term.specs.Typing.{t_cond, t_pair, t_fst, t_snd, t_prim, t_bracket, t_escape, t_run, t_close, t_open}
@@ -10,7 +10,7 @@ use Rattle.mw_term.specs.Typing.{t_lift, t_lift_b}
 use Rattle.mw_term.proofs.TypesFormed.{IsPlain-kernel_type}
 use Rattle.mw_types.specs.Types.{Assignment, value}
 use Rattle.mw_types.specs.Equations.{TypeEquation, Solves}
-use Rattle.mw_infer.specs.Schemes.{Scheme, TopScheme, let_scheme, kernel_scheme, scheme_out_of_scope}
+use Rattle.mw_infer.specs.Schemes.{Scheme, TopScheme, let_scheme, kernel_scheme}
 use Rattle.mw_infer.specs.ItemEquations.{Slot, plain_slot, quoted_slot, slot, wrong, unknowns_of, classifiers_of}
 use Rattle.mw_infer.specs.ItemEquations.{variable_equations, name_equations, equations, Close, closes}
 use Rattle.mw_infer.specs.Inferring.{AreFresh, IsSchemeOf, AreSchemesOf}
@@ -64,10 +64,7 @@ module _ (tops : List TopLevel) (schemes : List TopScheme) (known : AreSchemesOf
     typed_variable u g (under c) i (Some (quoted_slot b x)) e h =
         let p : a.classifier b ≡ a.classifier c = let q = h.1.0 in cc in
         t_var (get-fitted a g i _ e ∙ (rw (p, h.0) refl))
-    typed_variable u g live i (Some (quoted_slot b x)) e h = no_wrong a h
-    typed_variable u g (under c) i (Some (plain_slot x)) e h = no_wrong a h
-    typed_variable u g live i None e h = no_wrong a h
-    typed_variable u g (under c) i None e h = no_wrong a h
+    typed_variable u g m i s e h = no_wrong a h
 
     typed_name : (u o c : ℕ) (g : List Slot) (m : Level) (i : ℕ) (s : Option TopScheme) → slice_get schemes i ≡ s
         → Solves a (name_equations u o c m s) → Typed tops (map (fitted_entry a) g) (level_of a m) (glob i)
@@ -78,9 +75,7 @@ module _ (tops : List TopLevel) (schemes : List TopScheme) (known : AreSchemesOf
     typed_name u o c g live i (Some (kernel_scheme k)) e h =
         rw (h.0, value-kernel_expression a k, flat_type-plain (kernel_type k) (IsPlain-kernel_type k))
         (t_kernel (kernel-of_scheme tops tops schemes i k known e))
-    typed_name u o c g live i (Some scheme_out_of_scope) e h = no_wrong a h
-    typed_name u o c g live i None e h = no_wrong a h
-    typed_name u o c g (under d) i s e h = no_wrong a h
+    typed_name u o c g m i s e h = no_wrong a h
 
     -- the types of a term's fresh solution, each made one of its level, type the term
     pub solved_typed : (u o c : ℕ) (g : List Slot) (m : Level) (e : Expression)
@@ -155,8 +150,6 @@ module _ (tops : List TopLevel) (schemes : List TopScheme) (known : AreSchemesOf
         (solved_typed (o + 1) (o + 2 + unknowns_of schemes d) (c + classifiers_of schemes d) g m b r.1 q.1))
     solved_typed u o c g live (bracket e) h f =
         rw h.0 (t_bracket (IsPlain-flat_type (a.ty o)) (solved_typed o (o + 1) (c + 1) g (under c) e h.1 f))
-    solved_typed u o c g (under b) (bracket e) h f = no_wrong a h
-    solved_typed u o c g live (escape e) h f = no_wrong a h
     solved_typed u o c g (under b) (escape e) h f = t_escape (IsPlain-flat_type (a.ty u))
         (rw h.0 at (solved_typed o (o + 1) c g live e h.1 f))
     solved_typed u o c g live (run k e) h f =
@@ -165,19 +158,14 @@ module _ (tops : List TopLevel) (schemes : List TopScheme) (known : AreSchemesOf
         (rw (h.1.0, v, formed_type-plain (kernel_type k) (IsPlain-kernel_type k))
         (rw (h.0, v, flat_type-plain (kernel_type k) (IsPlain-kernel_type k)) at
         (solved_typed o (o + 1) c g live e h.1.1 f)))
-    solved_typed u o c g (under b) (run k e) h f = no_wrong a h
     solved_typed u o c g live (close at e) h f =
         rw h.1.0 (t_close (IsPlain-flat_type (a.ty o)) (IsAbsent-fitted a (a.classifier c) g f.0)
         (rw h.0 at (solved_typed (o + 1) (o + 2) (c + 1) g live e h.1.1 f.1)))
-    solved_typed u o c g (under b) (close at e) h f = no_wrong a h
     solved_typed u o c g live (opened e) h f =
         rw h.1.0 (t_open (IsPlain-flat_type (a.ty o))
         (rw h.0 at (solved_typed (o + 1) (o + 2) (c + 1) g live e h.1.1 f)))
-    solved_typed u o c g (under b) (opened e) h f = no_wrong a h
     solved_typed u o c g live (lift e) h f =
         rw h.1.0 (t_lift (rw h.0 at (solved_typed o (o + 1) (c + 1) g live e h.1.1 f)))
-    solved_typed u o c g (under b) (lift e) h f = no_wrong a h
     solved_typed u o c g live (lift_b e) h f =
         rw h.1.0 (t_lift_b (rw h.0 at (solved_typed o (o + 1) (c + 1) g live e h.1.1 f)))
-    solved_typed u o c g (under b) (lift_b e) h f = no_wrong a h
-    solved_typed u o c g m (done v) h f = no_wrong a h
+    solved_typed u o c g m e h f = no_wrong a h

@@ -1,12 +1,12 @@
 -- One item more, and main.
 use Rattle.std.proofs.Common.{◌≡◌, ℕ, zero, suc, ◌+◌, ◌<◌, ◌≤◌, List, [], ◌∷◌, ◌++◌, map, length, get_or, Option, Some}
-use Rattle.std.proofs.Common.{refl}
-use Rattle.std.proofs.Common.{ap, sym, subst, ◌∙◌, arith}
-use Rattle.std.proofs.lemmas.List.{length-map}
+use Rattle.std.proofs.Common.{refl, ap, sym, subst, ◌∙◌, arith}
+use Rattle.std.proofs.lemmas.List.{length-append, length-map}
+use Rattle.std.proofs.lemmas.Option.{slice_get_within}
 use Rattle.std.specs.Prelude.{slice_get, slice_set}
 use Rattle.mw_term.specs.Terms.{Expression, KernelType}
 use Rattle.mw_term.specs.Programs.{Definition, value, kernel, PureProgram, program_of, definition_of}
-use Rattle.mw_term.specs.Typing.{TopLevel, let_item, kernel_item}
+use Rattle.mw_term.specs.Typing.{TopLevel, let_item, kernel_item, out_of_scope}
 use Rattle.mw_term.specs.Typable.{seen_by_item, seen_by_main}
 use Rattle.mw_term.specs.declared.program.Item.{Item}
 use Rattle.mw_term.specs.declared.program.Program.{Program}
@@ -82,33 +82,27 @@ item-judged p i (value e) schemes w g h = let a : IsPart p i (part_of_item (seen
 item-judged p i (kernel k e) schemes w g h = let a : IsPart p i (part_of_item (seen_by_item p.items i) (kernel k e)) =
     an_item g in can-judge _ schemes e h.principal h.modest (w.scoped i _ a) (w.small i _ a)
 
+-- a fault of a part is the first refusal where the parts before it have none
+pub refused-part : (p : PureProgram) (i : ℕ) (x : Part) (schemes : List TopScheme) (r : Refusal) → IsPart p i x
+    → ArePrincipal x.names schemes → ((j : ℕ) (y : Part) → j < i → IsPart p j y → IsFaultless y)
+    → IsFaultOf schemes x.place x.term i r → IsFirstRefusal p r
+refused-part p i x schemes r a q e f = record {
+  at = i;
+  part = x;
+  is_part = a;
+  schemes = schemes;
+  principal = q;
+  fault = f.0;
+  has = f.1;
+  refusal = f.2;
+  earlier = e;
+}
+
 pub item-refused : (p : PureProgram) (i : ℕ) (d : Definition) (schemes : List TopScheme) (r : Refusal)
     → slice_get p.items i ≡ Some d → Progress p i schemes → IsFaultOf schemes (part_of_item [] d).place
     (part_of_item [] d).term i r → IsFirstRefusal p r
-item-refused p i (value e) schemes r g h f =
-    record {
-      at = i;
-      part = _;
-      is_part = an_item g;
-      schemes = schemes;
-      principal = h.principal;
-      fault = f.0;
-      has = f.1;
-      refusal = f.2;
-      earlier = h.earlier;
-    }
-item-refused p i (kernel k e) schemes r g h f =
-    record {
-      at = i;
-      part = _;
-      is_part = an_item g;
-      schemes = schemes;
-      principal = h.principal;
-      fault = f.0;
-      has = f.1;
-      refusal = f.2;
-      earlier = h.earlier;
-    }
+item-refused p i (value e) schemes r g h f = refused-part p i _ schemes r (an_item g) h.principal h.earlier f
+item-refused p i (kernel k e) schemes r g h f = refused-part p i _ schemes r (an_item g) h.principal h.earlier f
 
 -- the same of main, which sees the kernel items
 pub all-revealed : (items : List Definition) (schemes : List TopScheme) → revealed_to (length items) items schemes
@@ -128,31 +122,15 @@ main-judged p schemes w h =
 
 pub main-refused : (p : PureProgram) (schemes : List TopScheme) (r : Refusal) → Progress p (length p.items) schemes
     → IsFaultOf (revealed p.items schemes) (main_place p.result) p.body (length p.items) r → IsFirstRefusal p r
-main-refused p schemes r h f = record {
-  at = length p.items;
-  part = part_of_main p;
-  is_part = main refl;
-  schemes =
-      revealed p.items schemes;
-  principal = principal-main p.items schemes h.principal;
-  fault = f.0;
-  has = f.1;
-  refusal =
-      f.2;
-  earlier = h.earlier;
-}
-
-pub get-below : {A : Type 0} (xs : List A) (i : ℕ) (x : A) → slice_get xs i ≡ Some x → i < length xs
-get-below [] i x e = absurd (cc)
-get-below (y ∷ xs) zero x e = omega arith
-get-below (y ∷ xs) (suc i) x e = omega (arith, get-below xs i x e)
+main-refused p schemes r h f = refused-part p (length p.items) (part_of_main p) (revealed p.items schemes) r (main refl)
+    (principal-main p.items schemes h.principal) h.earlier f
 
 pub all-faultless : (p : PureProgram) (schemes : List TopScheme) → Progress p (length p.items) schemes
     → IsFaultless (part_of_main p) → AreFaultless p
 all-faultless p schemes h f j x a = part-faultless a
   where
     part-faultless : {i : ℕ} {x : Part} → IsPart p i x → IsFaultless x
-    part-faultless (an_item {i = i} {d = d} g) = h.earlier i _ (get-below p.items i d g) (an_item g)
+    part-faultless (an_item {i = i} {d = d} g) = h.earlier i _ (slice_get_within p.items i d g) (an_item g)
     part-faultless (main e) = f
 
 pub main-faultless : (p : PureProgram) (schemes : List TopScheme) (nodes : Option PartTypes) → IsResolved p
@@ -211,27 +189,20 @@ get-map f (y ∷ xs) (suc i) x lt e = get-map f xs i x (omega arith) e
 
 -- the types of all parts, by the schemes of main's names
 Extends-item : (items : List Definition) (i : ℕ) → Extends (seen_by_item items i) (seen_by_main items)
-Extends-item items i = record { lets = lets items i; kernels = kernels items i }
+Extends-item items i = record {
+  lets = λ j e g. seen-main items i j (let_item e) g (λ q. cc);
+  kernels = λ j k g. seen-main items i j (kernel_item k) g (λ q. cc);
+}
   where
-    lets : (items : List Definition) (i j : ℕ) (e : Expression) → slice_get (seen_by_item items i) j ≡ Some (let_item e)
-        → slice_get (seen_by_main items) j ≡ Some (let_item e)
-    lets [] i j e g = absurd (cc)
-    lets (value f ∷ items) zero j e g = absurd (cc)
-    lets (kernel k f ∷ items) zero j e g = absurd (cc)
-    lets (value f ∷ items) (suc i) zero e g = g
-    lets (kernel k f ∷ items) (suc i) zero e g = absurd (cc)
-    lets (value f ∷ items) (suc i) (suc j) e g = lets items i j e g
-    lets (kernel k f ∷ items) (suc i) (suc j) e g = lets items i j e g
-
-    kernels : (items : List Definition) (i j : ℕ) (k : KernelType) → slice_get (seen_by_item items i) j
-        ≡ Some (kernel_item k) → slice_get (seen_by_main items) j ≡ Some (kernel_item k)
-    kernels [] i j k g = absurd (cc)
-    kernels (value f ∷ items) zero j k g = absurd (cc)
-    kernels (kernel l f ∷ items) zero j k g = absurd (cc)
-    kernels (value f ∷ items) (suc i) zero k g = absurd (cc)
-    kernels (kernel l f ∷ items) (suc i) zero k g = absurd (cc)
-    kernels (value f ∷ items) (suc i) (suc j) k g = kernels items i j k g
-    kernels (kernel l f ∷ items) (suc i) (suc j) k g = kernels items i j k g
+    seen-main : (items : List Definition) (i j : ℕ) (x : TopLevel) → slice_get (seen_by_item items i) j ≡ Some x
+        → (x ≡ out_of_scope → ⊥) → slice_get (seen_by_main items) j ≡ Some x
+    seen-main [] i j x g n = absurd (cc)
+    seen-main (value f ∷ items) zero j x g n = absurd (cc)
+    seen-main (kernel k f ∷ items) zero j x g n = absurd (cc)
+    seen-main (value f ∷ items) (suc i) zero x g n = g
+    seen-main (kernel k f ∷ items) (suc i) zero x g n = absurd (n (cc))
+    seen-main (value f ∷ items) (suc i) (suc j) x g n = seen-main items i j x g n
+    seen-main (kernel k f ∷ items) (suc i) (suc j) x g n = seen-main items i j x g n
 
 main-at : (items : List Definition) (i : ℕ) (e : Expression) → slice_get items i ≡ Some (value e)
     → slice_get (seen_by_main items) i ≡ Some (let_item e)
@@ -270,17 +241,12 @@ type-last : (schemes : List TopScheme) (main_type t : TypeExpression)
 type-last [] main_type t e = cc
 type-last (x ∷ schemes) main_type t e = type-last schemes main_type t e
 
-length-types : (schemes : List TopScheme) (main_type : TypeExpression)
-    → length (map type_of_scheme schemes ++ (main_type ∷ [])) ≡ length schemes + 1
-length-types [] main_type = omega arith
-length-types (x ∷ schemes) main_type = let h = length-types schemes main_type in omega (arith, h)
-
 pub types-of : (p : PureProgram) (schemes : List TopScheme) → AreFaultless p → ArePrincipal (seen_by_main p.items)
     schemes → AreTypesOf p (map type_of_scheme schemes ++ (ground_expression p.result ∷ []))
 types-of p schemes h q =
     record {
-      count = length-types schemes (ground_expression p.result)
-          ∙ ap (λ n. n + 1) (length-main _ p.items schemes q.of);
+      count = length-append (map type_of_scheme schemes) (ground_expression p.result ∷ [])
+          ∙ ap (λ n. n + 1) (length-map schemes type_of_scheme ∙ length-main _ p.items schemes q.of);
       each = λ i x t a g. part-type a t g;
     }
   where
@@ -304,14 +270,11 @@ types-of p schemes h q =
     part-type (main {i = i} e) t g = type-last schemes (ground_expression p.result) t
         (rw (e ∙ sym (length-main _ p.items schemes q.of)) at g)
 
-pub append-length : {A : Type 0} (xs : List A) (x : A) → length (xs ++ (x ∷ [])) ≡ length xs + 1
-append-length [] x = omega arith
-append-length (y ∷ xs) x = let h = append-length xs x in omega (arith, h)
-
 pub steps-length : (schemes : List TopScheme) (d : Definition) (new : List TopScheme) (nodes : Option PartTypes)
     → Steps schemes d new nodes → length new ≡ length schemes + 1
-steps-length schemes (value e) new nodes s = ap length s.2 ∙ append-length schemes (let_scheme (scheme_of s.0.known))
-steps-length schemes (kernel k e) new nodes s = ap length s.2 ∙ append-length schemes scheme_out_of_scope
+steps-length schemes (value e) new nodes s =
+    ap length s.2 ∙ length-append schemes (let_scheme (scheme_of s.0.known) ∷ [])
+steps-length schemes (kernel k e) new nodes s = ap length s.2 ∙ length-append schemes (scheme_out_of_scope ∷ [])
 
 pub if-refused : (s : Stop) (f g : Refusal → Type 0) → ((r : Refusal) → f r → g r) → IfRefused f s → IfRefused g s
 if-refused (Refused r) f g h x = h r x

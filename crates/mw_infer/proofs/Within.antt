@@ -1,14 +1,14 @@
 -- Which numbers a term's equations and closes name, and that nothing else matters.
-use Rattle.std.proofs.Common.{◌≡◌, ℕ, zero, suc, ◌+◌, ◌≤◌, ◌<◌, List, [], ◌∷◌, ◌++◌, map, Option, Some, None, refl, ap}
+use Rattle.std.proofs.Common.{◌≡◌, ℕ, zero, suc, ◌+◌, ◌≤◌, ◌<◌, List, [], ◌∷◌, ◌++◌, map, Option, Some, refl, ap}
 use Rattle.std.proofs.Common.{subst, arith}
 use Rattle.std.specs.Prelude.{slice_get}
 use Rattle.mw_term.specs.Terms.{Expression, num, truth, var, glob, fun, fix, app, bind, cond, pair, fst, snd, prim}
-use Rattle.mw_term.specs.Terms.{bracket, escape, run, close, opened, lift, lift_b, done}
+use Rattle.mw_term.specs.Terms.{bracket, escape, run, close, opened, lift, lift_b}
 use Rattle.mw_term.specs.Types.{Level, live, under}
 use Rattle.mw_types.specs.Types.{TypeExpression, int_ty, bool_ty, unknown, pair_ty, function_ty, code_ty, closed_ty}
 use Rattle.mw_types.specs.Types.{Within, Assignment}
 use Rattle.mw_types.specs.Equations.{TypeEquation, AllWithin, Agree}
-use Rattle.mw_infer.specs.Schemes.{Scheme, TopScheme, let_scheme, kernel_scheme, scheme_out_of_scope, AreOwn}
+use Rattle.mw_infer.specs.Schemes.{Scheme, TopScheme, let_scheme, kernel_scheme, AreOwn}
 use Rattle.mw_infer.specs.ItemEquations.{Slot, plain_slot, quoted_slot, slot, wrong, unknowns_of_name}
 use Rattle.mw_infer.specs.ItemEquations.{classifiers_of_name, unknowns_of, classifiers_of, variable_equations}
 use Rattle.mw_infer.specs.ItemEquations.{name_equations, equations, Close}
@@ -92,11 +92,9 @@ pub AreOwn-at : (schemes : List TopScheme) (i : ℕ) (s : Scheme) → AreOwn sch
 AreOwn-at [] i s w e = absurd (cc)
 AreOwn-at (let_scheme r ∷ schemes) zero s w e = let p : r ≡ s = cc in
     subst (λ y. Within y.unknowns y.classifiers y.type) p w.0
-AreOwn-at (kernel_scheme k ∷ schemes) zero s w e = absurd (cc)
-AreOwn-at (scheme_out_of_scope ∷ schemes) zero s w e = absurd (cc)
 AreOwn-at (let_scheme r ∷ schemes) (suc i) s w e = AreOwn-at schemes i s w.1 e
-AreOwn-at (kernel_scheme k ∷ schemes) (suc i) s w e = AreOwn-at schemes i s w e
-AreOwn-at (scheme_out_of_scope ∷ schemes) (suc i) s w e = AreOwn-at schemes i s w e
+AreOwn-at (x ∷ schemes) zero s w e = absurd (cc)
+AreOwn-at (x ∷ schemes) (suc i) s w e = AreOwn-at schemes i s w e
 
 pub wrong-within : (n m : ℕ) → AllWithin n m wrong
 wrong-within n m = ((tt, tt), tt)
@@ -106,10 +104,7 @@ pub variable-within : (n m u : ℕ) (g : List Slot) (l : Level) (i : ℕ) (s : O
 variable-within n m u g live i (Some (plain_slot x)) e p w v = ((p, SlotBelow-at n m g i _ w e), tt)
 variable-within n m u g (under c) i (Some (quoted_slot b x)) e p w v = let q = SlotBelow-at n m g i _ w e in
     ((p, q.1), (((v, tt), (q.0, tt)), tt))
-variable-within n m u g live i (Some (quoted_slot b x)) e p w v = wrong-within n m
-variable-within n m u g (under c) i (Some (plain_slot x)) e p w v = wrong-within n m
-variable-within n m u g live i None e p w v = wrong-within n m
-variable-within n m u g (under c) i None e p w v = wrong-within n m
+variable-within n m u g l i s e p w v = wrong-within n m
 
 module _ (schemes : List TopScheme) (known : AreOwn schemes) where
   pub name-within : (n m u o c : ℕ) (l : Level) (i : ℕ) (s : Option TopScheme) → slice_get schemes i ≡ s → u < n
@@ -117,9 +112,7 @@ module _ (schemes : List TopScheme) (known : AreOwn schemes) where
   name-within n m u o c live i (Some (let_scheme s)) e p q r =
       ((p, Within-shifted n m o c s.unknowns s.classifiers s.type (AreOwn-at schemes i s known e) q r), tt)
   name-within n m u o c live i (Some (kernel_scheme k)) e p q r = ((p, Within-kernel_expression n m k), tt)
-  name-within n m u o c live i (Some scheme_out_of_scope) e p q r = wrong-within n m
-  name-within n m u o c live i None e p q r = wrong-within n m
-  name-within n m u o c (under d) i s e p q r = wrong-within n m
+  name-within n m u o c l i s e p q r = wrong-within n m
 
   -- a term's equations name what was named before, and its own numbers
   pub equations-within : (n m u o c : ℕ) (g : List Slot) (l : Level) (e : Expression) → u < n
@@ -204,8 +197,6 @@ module _ (schemes : List TopScheme) (known : AreOwn schemes) where
     equations-within n m o (o + 1) (c + 1) g (under c) e (omega arith) (omega arith)
         (omega arith) w (omega arith),
   )
-  equations-within n m u o c g (under b) (bracket e) h p q w v = wrong-within n m
-  equations-within n m u o c g live (escape e) h p q w v = wrong-within n m
   equations-within n m u o c g (under b) (escape e) h p q w v =
       ((omega arith, (v, h)), equations-within n m o (o + 1) c g live e (omega arith) (omega arith) q w tt)
   equations-within n m u o c g live (run k e) h p q w v = (
@@ -216,7 +207,6 @@ module _ (schemes : List TopScheme) (known : AreOwn schemes) where
           tt,
     ),
   )
-  equations-within n m u o c g (under b) (run k e) h p q w v = wrong-within n m
   equations-within n m u o c g live (close at e) h p q w v = (
     (omega arith, (omega arith, omega arith)),
     (
@@ -225,7 +215,6 @@ module _ (schemes : List TopScheme) (known : AreOwn schemes) where
           w tt,
     ),
   )
-  equations-within n m u o c g (under b) (close at e) h p q w v = wrong-within n m
   equations-within n m u o c g live (opened e) h p q w v = (
     (omega arith, omega arith),
     (
@@ -234,7 +223,6 @@ module _ (schemes : List TopScheme) (known : AreOwn schemes) where
           (omega arith) (omega arith) w tt,
     ),
   )
-  equations-within n m u o c g (under b) (opened e) h p q w v = wrong-within n m
   equations-within n m u o c g live (lift e) h p q w v = (
     (omega arith, tt),
     (
@@ -243,7 +231,6 @@ module _ (schemes : List TopScheme) (known : AreOwn schemes) where
           w tt,
     ),
   )
-  equations-within n m u o c g (under b) (lift e) h p q w v = wrong-within n m
   equations-within n m u o c g live (lift_b e) h p q w v = (
     (omega arith, tt),
     (
@@ -252,5 +239,4 @@ module _ (schemes : List TopScheme) (known : AreOwn schemes) where
           w tt,
     ),
   )
-  equations-within n m u o c g (under b) (lift_b e) h p q w v = wrong-within n m
-  equations-within n m u o c g l (done k) h p q w v = wrong-within n m
+  equations-within n m u o c g l e h p q w v = wrong-within n m

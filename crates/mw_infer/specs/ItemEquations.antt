@@ -4,16 +4,16 @@
 -- from the next free number on: those of its binders or of the part of its type that it leaves open, then those of its
 -- parts' types, and then what the parts themselves need, in their order. Classifier unknowns are numbered in the same
 -- way.
-use Rattle.std.specs.Prelude.{ℕ, ◌+◌, List, [], ◌∷◌, ◌++◌, Option, Some, None, slice_get}
+use Rattle.std.specs.Prelude.{ℕ, ◌+◌, List, [], ◌∷◌, ◌++◌, Option, Some, slice_get}
 use Rattle.mw_term.specs.declared.term.Base.{Base}
 use Rattle.mw_term.specs.declared.term.Base.TheVariants.{Int, Bool}
 use Rattle.mw_term.specs.declared.term.Primitive.{Primitive as Prim}
 use Rattle.mw_term.specs.Terms.{Expression, KernelType, num, truth, var, glob, fun, fix, app, bind, cond, pair, fst}
-use Rattle.mw_term.specs.Terms.{snd, prim, bracket, escape, run, close, opened, lift, lift_b, done}
+use Rattle.mw_term.specs.Terms.{snd, prim, bracket, escape, run, close, opened, lift, lift_b}
 use Rattle.mw_term.specs.Types.{Level, live, under}
 use Rattle.mw_types.specs.Types.{TypeExpression, int_ty, bool_ty, unknown, pair_ty, function_ty, code_ty, closed_ty}
 use Rattle.mw_types.specs.Equations.{TypeEquation}
-use Rattle.mw_infer.specs.Schemes.{TopScheme, let_scheme, kernel_scheme, scheme_out_of_scope, shifted}
+use Rattle.mw_infer.specs.Schemes.{TopScheme, let_scheme, kernel_scheme, shifted}
 use Rattle.mw_types.specs.Expressions.{base_expression, kernel_expression, primitive_expression}
 
 -- what an environment knows of a binder: its unknown, and at level 1 the classifier unknown under which it stands
@@ -36,21 +36,14 @@ wrong = equation int_ty bool_ty ∷ []
 -- how many unknowns a use of a name has beside its type: those of a let's most general type
 abbrev pub unknowns_of_name : Option TopScheme → ℕ
 unknowns_of_name (Some (let_scheme s)) = s.unknowns
-unknowns_of_name (Some (kernel_scheme k)) = 0
-unknowns_of_name (Some scheme_out_of_scope) = 0
-unknowns_of_name None = 0
+unknowns_of_name x = 0
 
 abbrev pub classifiers_of_name : Option TopScheme → ℕ
 classifiers_of_name (Some (let_scheme s)) = s.classifiers
-classifiers_of_name (Some (kernel_scheme k)) = 0
-classifiers_of_name (Some scheme_out_of_scope) = 0
-classifiers_of_name None = 0
+classifiers_of_name x = 0
 
 -- how many unknowns a term has beside its type
 abbrev pub unknowns_of : List TopScheme → Expression → ℕ
-unknowns_of tops (num n) = 0
-unknowns_of tops (truth b) = 0
-unknowns_of tops (var i) = 0
 unknowns_of tops (glob i) = unknowns_of_name (slice_get tops i)
 unknowns_of tops (fun e) = 2 + unknowns_of tops e
 unknowns_of tops (fix e) = 3 + unknowns_of tops e
@@ -68,13 +61,10 @@ unknowns_of tops (close at e) = 2 + unknowns_of tops e
 unknowns_of tops (opened e) = 2 + unknowns_of tops e
 unknowns_of tops (lift e) = 1 + unknowns_of tops e
 unknowns_of tops (lift_b e) = 1 + unknowns_of tops e
-unknowns_of tops (done v) = 0
+unknowns_of tops e = 0
 
 -- how many classifier unknowns a term has
 abbrev pub classifiers_of : List TopScheme → Expression → ℕ
-classifiers_of tops (num n) = 0
-classifiers_of tops (truth b) = 0
-classifiers_of tops (var i) = 0
 classifiers_of tops (glob i) = classifiers_of_name (slice_get tops i)
 classifiers_of tops (fun e) = classifiers_of tops e
 classifiers_of tops (fix e) = classifiers_of tops e
@@ -92,25 +82,20 @@ classifiers_of tops (close at e) = 1 + classifiers_of tops e
 classifiers_of tops (opened e) = 1 + classifiers_of tops e
 classifiers_of tops (lift e) = 1 + classifiers_of tops e
 classifiers_of tops (lift_b e) = 1 + classifiers_of tops e
-classifiers_of tops (done v) = 0
+classifiers_of tops e = 0
 
 -- a variable, whose type is u: its binder's type, and at level 1 its binder's classifier
 abbrev pub variable_equations : ℕ → Level → Option Slot → List TypeEquation
 variable_equations u live (Some (plain_slot x)) = equation (unknown u) (unknown x) ∷ []
 variable_equations u (under a) (Some (quoted_slot b x)) = equation (unknown u) (unknown x) ∷ equation (code_ty a int_ty)
     (code_ty b int_ty) ∷ []
-variable_equations u live (Some (quoted_slot b x)) = wrong
-variable_equations u (under a) (Some (plain_slot x)) = wrong
-variable_equations u live None = wrong
-variable_equations u (under a) None = wrong
+variable_equations u m s = wrong
 
 -- a top-level name, whose type is u: a let's most general type with new unknowns, or closed code of a kernel type
 abbrev pub name_equations : ℕ → ℕ → ℕ → Level → Option TopScheme → List TypeEquation
 name_equations u o c live (Some (let_scheme s)) = equation (unknown u) (shifted o c s.type) ∷ []
 name_equations u o c live (Some (kernel_scheme k)) = equation (unknown u) (closed_ty (kernel_expression k)) ∷ []
-name_equations u o c live (Some scheme_out_of_scope) = wrong
-name_equations u o c live None = wrong
-name_equations u o c (under a) s = wrong
+name_equations u o c m s = wrong
 
 -- The equations that each form has of its own, before those of its parts: u is its type's unknown, and o and c are the
 -- next free numbers of unknowns and of classifier unknowns.
@@ -197,20 +182,13 @@ equations tops u o c g m (prim p a b) = primitive_equations u o p
     ++ (equations tops o (o + 2) c g m a ++ equations tops (o + 1) (o + 2 + unknowns_of tops a)
     (c + classifiers_of tops a) g m b)
 equations tops u o c g live (bracket e) = bracket_equations u o c ++ equations tops o (o + 1) (c + 1) g (under c) e
-equations tops u o c g (under a) (bracket e) = wrong
-equations tops u o c g live (escape e) = wrong
 equations tops u o c g (under a) (escape e) = escape_equations u o a ++ equations tops o (o + 1) c g live e
 equations tops u o c g live (run k e) = run_equations u o k ++ equations tops o (o + 1) c g live e
-equations tops u o c g (under a) (run k e) = wrong
 equations tops u o c g live (close at e) = close_equations u o c ++ equations tops (o + 1) (o + 2) (c + 1) g live e
-equations tops u o c g (under a) (close at e) = wrong
 equations tops u o c g live (opened e) = open_equations u o c ++ equations tops (o + 1) (o + 2) (c + 1) g live e
-equations tops u o c g (under a) (opened e) = wrong
 equations tops u o c g live (lift e) = lift_equations u o c Int ++ equations tops o (o + 1) (c + 1) g live e
-equations tops u o c g (under a) (lift e) = wrong
 equations tops u o c g live (lift_b e) = lift_equations u o c Bool ++ equations tops o (o + 1) (c + 1) g live e
-equations tops u o c g (under a) (lift_b e) = wrong
-equations tops u o c g m (done v) = wrong
+equations tops u o c g m e = wrong
 
 -- a close: its offset in the source, the classifier unknown of its code, and its environment
 pub record Close : Type 0 where
@@ -220,10 +198,6 @@ pub record Close : Type 0 where
 
 -- the closes of a term, in pre-order, with the numbers that its equations have
 abbrev pub closes : List TopScheme → ℕ → ℕ → List Slot → Level → Expression → List Close
-closes tops o c g m (num n) = []
-closes tops o c g m (truth b) = []
-closes tops o c g m (var i) = []
-closes tops o c g m (glob i) = []
 closes tops o c g m (fun e) = closes tops (o + 2) c (slot m o ∷ g) m e
 closes tops o c g m (fix e) = closes tops (o + 3) c (slot m o ∷ slot m (o + 1) ∷ g) m e
 closes tops o c g m (app f a) = closes tops (o + 2) c g m f ++ closes tops (o + 2 + unknowns_of tops f)
@@ -247,4 +221,4 @@ closes tops o c g m (close at e) = record { at = at; classifier = c; scope = g }
 closes tops o c g m (opened e) = closes tops (o + 2) (c + 1) g m e
 closes tops o c g m (lift e) = closes tops (o + 1) (c + 1) g m e
 closes tops o c g m (lift_b e) = closes tops (o + 1) (c + 1) g m e
-closes tops o c g m (done v) = []
+closes tops o c g m e = []

@@ -1,7 +1,7 @@
 -- What the typing of a part tells of the nodes of its term, in pre-order.
 use Rattle.std.specs.Prelude.{ℕ, ◌≡◌, ◌+◌, List, [], ◌∷◌, ◌++◌, map, length, option_map, Option, Some, None, slice_get}
-use Rattle.mw_term.specs.Terms.{Expression, num, truth, var, glob, fun, fix, app, bind, cond, pair, fst, snd, prim}
-use Rattle.mw_term.specs.Terms.{bracket, escape, run, close, opened, lift, lift_b, done}
+use Rattle.mw_term.specs.Terms.{Expression, fun, fix, app, bind, cond, pair, fst, snd, prim}
+use Rattle.mw_term.specs.Terms.{bracket, escape, run, close, opened, lift, lift_b}
 use Rattle.mw_term.specs.Programs.{PureProgram}
 use Rattle.mw_term.specs.Parts.{Part, IsPart}
 use Rattle.mw_types.specs.Types.{TypeExpression, Substitution, after}
@@ -26,10 +26,6 @@ quoted_node us c = record { types = us; classifier = Some c }
 -- The numbers of a term's nodes as its equations have them: u is its type's unknown, and o and c are the next free
 -- numbers of unknowns and of classifier unknowns.
 abbrev pub node_numbers : List TopScheme → ℕ → ℕ → ℕ → Expression → List NodeNumbers
-node_numbers tops u o c (num n) = plain_node (u ∷ []) ∷ []
-node_numbers tops u o c (truth b) = plain_node (u ∷ []) ∷ []
-node_numbers tops u o c (var i) = plain_node (u ∷ []) ∷ []
-node_numbers tops u o c (glob i) = plain_node (u ∷ []) ∷ []
 node_numbers tops u o c (fun e) = plain_node (u ∷ o ∷ []) ∷ node_numbers tops (o + 1) (o + 2) c e
 node_numbers tops u o c (fix e) = plain_node (u ∷ (o + 1) ∷ o ∷ []) ∷ node_numbers tops (o + 2) (o + 3) c e
 node_numbers tops u o c (app f a) = plain_node (u ∷ []) ∷ (node_numbers tops o (o + 2) c f
@@ -53,7 +49,7 @@ node_numbers tops u o c (close at e) = quoted_node (u ∷ o ∷ []) c ∷ node_n
 node_numbers tops u o c (opened e) = quoted_node (u ∷ o ∷ []) c ∷ node_numbers tops (o + 1) (o + 2) (c + 1) e
 node_numbers tops u o c (lift e) = quoted_node (u ∷ []) c ∷ node_numbers tops o (o + 1) (c + 1) e
 node_numbers tops u o c (lift_b e) = quoted_node (u ∷ []) c ∷ node_numbers tops o (o + 1) (c + 1) e
-node_numbers tops u o c (done v) = plain_node (u ∷ []) ∷ []
+node_numbers tops u o c e = plain_node (u ∷ []) ∷ []
 
 -- the types and the classifier of a node
 pub record NodeFacts : Type 0 where

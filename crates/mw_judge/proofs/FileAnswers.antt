@@ -1,5 +1,5 @@
 -- What the readers answer, as answers about a file.
-use Rattle.std.proofs.Common.{◌≡◌, zero, suc, ℕ, true, false, List, [], ◌∷◌, Result, Ok, Err, subst, sym}
+use Rattle.std.proofs.Common.{◌≡◌, zero, ℕ, true, false, List, ◌∷◌, Result, Ok, Err, subst, sym}
 use Rattle.std.specs.Prelude.{IsErrAnd}
 use Rattle.mw_wasm.specs.Syntax.{PureModule}
 use Rattle.mw_wasm.specs.declared.modules.Module.{Module}
@@ -15,14 +15,12 @@ use Rattle.mw_judge.specs.ModuleFiles.{begins_binary, IsBinary, IsText, IsFileOf
 -- by the first byte of a file
 pub binary_of_file : (bytes : List ℕ) (m : PureModule) → begins_binary bytes ≡ true → IsFileOf bytes m
     → IsBinary bytes m
-binary_of_file [] m e h = absurd (cc)
 binary_of_file (zero ∷ bytes) m e h = h
-binary_of_file (suc k ∷ bytes) m e h = absurd (cc)
+binary_of_file bytes m e h = absurd (cc)
 
 pub text_of_file : (bytes : List ℕ) (m : PureModule) → begins_binary bytes ≡ false → IsFileOf bytes m → IsText bytes m
-text_of_file [] m e h = h
 text_of_file (zero ∷ bytes) m e h = absurd (cc)
-text_of_file (suc k ∷ bytes) m e h = h
+text_of_file bytes m e h = h
 
 -- a fault of the reader of texts, where the bytes are a text
 only_memory : {A : Type 0} (P : A → Type 0) (m : PureModule) (e : WatFault) → Answers (Err e) (Ok m)

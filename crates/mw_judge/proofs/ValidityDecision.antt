@@ -1,7 +1,7 @@
 -- Validity is decided: each of the validator's tests passes or it doesn't.
 use Rattle.std.proofs.Common.{◌≡◌, ◌⊎◌, inl, inr, ℕ, ◌^◌, ◌<◌, ◌≤◌, Bool, true, false, List, [], ◌∷◌, ◌++◌}
-use Rattle.std.proofs.Common.{length, refl, sym, subst, arith}
-use Rattle.std.specs.Prelude.{Option, Some, None, IsSome, is_some, slice_get}
+use Rattle.std.proofs.Common.{length, refl, subst, arith}
+use Rattle.std.specs.Prelude.{Option, Some, None, is_some, slice_get}
 use Rattle.std.specs.List.{AllByRecursion}
 use Rattle.std.specs.Str.{bytes_eq}
 use Rattle.std.proofs.lemmas.Bool.{cases_lt, cases_eq}
@@ -16,7 +16,7 @@ use Rattle.mw_wasm.specs.Syntax.{Code, const_i32, const_i64, end, next, Function
 use Rattle.mw_wasm.specs.Syntax.{ElementSegment, DataSegment, PureModule}
 use Rattle.mw_wasm.specs.Validity.{AreLimits, AreLimitsOf, IsConstantOf, IsThere, IsValid, IsValidElement}
 use Rattle.mw_wasm.specs.Validity.{IsValidData, NamesDiffer, context_of}
-use Rattle.mw_validate.specs.Checks.{Checks, PartsPass, PassesBody, after_code, closes, opened}
+use Rattle.mw_validate.specs.Checks.{PartsPass, PassesBody, after_code, closes, opened}
 use Rattle.mw_validate.proofs.Soundness.{checked_valid}
 use Rattle.mw_validate.proofs.Completeness.{valid_checked}
 
@@ -28,12 +28,6 @@ both (inl p) (inl q) = inl (p, q)
 both (inl p) (inr n) = inr (λ h. n h.1)
 both (inr n) q = inr (λ h. n h.0)
 
-all_three : {P Q R : Type 0} → Decided P → Decided Q → Decided R → Decided (P × Q × R)
-all_three (inl p) (inl q) (inl r) = inl (p, q, r)
-all_three (inl p) (inl q) (inr n) = inr (λ h. n h.2)
-all_three (inl p) (inr n) r = inr (λ h. n h.1)
-all_three (inr n) q r = inr (λ h. n h.0)
-
 negated : {P : Type 0} → Decided P → Decided (P → ⊥)
 negated (inl p) = inr (λ n. n p)
 negated (inr n) = inl n
@@ -41,6 +35,9 @@ negated (inr n) = inl n
 turned : {P Q : Type 0} → (P → Q) → (Q → P) → Decided P → Decided Q
 turned f g (inl p) = inl (f p)
 turned f g (inr n) = inr (λ q. n (g q))
+
+all_three : {P Q R : Type 0} → Decided P → Decided Q → Decided R → Decided (P × Q × R)
+all_three p q r = turned (λ h. (h.0, h.1.0, h.1.1)) (λ h. (h.0, (h.1, h.2))) (both p (both q r))
 
 is_true : (b : Bool) → Decided (b ≡ true)
 is_true true = inl refl
@@ -52,11 +49,7 @@ one_value : {X : Type 0} (P : X → Type 0) (o : Option X) → ((x : X) → Deci
 one_value P None d = inr (λ h. let e = h.1 in cc)
 one_value P (Some x) d = elim (d x) [
   | inl p ↦ inl (x, refl, p)
-  | inr n ↦
-      inr (λ h.
-      let e = h.1 in
-      let same : h.0 ≡ x = cc in
-      n (subst P same h.2))
+  | inr n ↦ inr (λ h. let e = h.1 in let same : h.0 ≡ x = cc in n (subst P same h.2))
 ]
 
 at_most : (a b : ℕ) → Decided (a ≤ b)
@@ -105,9 +98,6 @@ element m s = all_three (is_true (is_some m.table)) (constant_of I32 s.offset)
 segment : (m : PureModule) (s : DataSegment) → Decided (IsValidData m s)
 segment m s = both (is_true (is_some m.memory)) (constant_of I32 s.offset)
 
-export : (m : PureModule) (e : Exporting) → Decided (IsThere m e.what)
-export m e = there m e.what
-
 parts : (m : PureModule) → Decided (PartsPass m)
 parts m = turned
     (λ h. record {
@@ -125,7 +115,7 @@ parts m = turned
     (all_three (all_of (λ (t : FuncType). length t.results ≤ 1) (λ t. at_most (length t.results) 1) m.types)
     (limits_of (2 ^ 32) m.table) (limits_of 65536 m.memory))
     (all_three (all_of (λ (g : Global). IsConstantOf g.kind g.init) (λ g. constant_of g.kind g.init) m.globals)
-    (all_of (λ (e : Exporting). IsThere m e.what) (export m) m.exports) (names m.exports))
+    (all_of (λ (e : Exporting). IsThere m e.what) (λ e. there m e.what) m.exports) (names m.exports))
     (both (all_of (IsValidElement m) (element m) m.elements) (all_of (IsValidData m) (segment m) m.segments)))
 
 -- the tests of bodies

@@ -5,28 +5,28 @@ use Rattle.std.specs.Prelude.{codes}
 use Rattle.std.specs.Int.{w64, cast_signed}
 use Rattle.std.proofs.lemmas.Int.{to_z-of_z}
 use Rattle.mw_term.specs.Terms.{Expression, KernelValue, GroundType, KernelType, PureGroundValue, base, product}
-use Rattle.mw_term.specs.Terms.{of_ground, to, int, bool, both, function, recursive, ground_value, ground_value_of}
+use Rattle.mw_term.specs.Terms.{of_ground, to, int, bool, both, ground_value, ground_value_of}
 use Rattle.mw_term.specs.declared.term.Base.TheVariants.{Int, Bool as Truth}
 use Rattle.mw_term.specs.declared.value.TrapKind.TheVariants as kind
-use Rattle.mw_term.specs.declared.value.Limit.TheVariants.{Fuel, Heap, KernelSize}
+use Rattle.mw_term.specs.declared.value.Limit.TheVariants.{Fuel, Heap}
 use Rattle.mw_term.specs.Types.{ground_type, kernel_type}
 use Rattle.mw_term.specs.Typable.{HasKernelType}
 use Rattle.mw_term.specs.Typing.{Valued, v_pair}
 use Rattle.mw_term.specs.Unlabelled.{unlabelled_value, IsClosedKernelValue}
 use Rattle.mw_wasm.specs.declared.modules.Module.{Module}
 use Rattle.mw_wasm.specs.declared.values.Trap.TheVariants as traps
-use Rattle.mw_wasm.specs.declared.values.Value.TheVariants.{I32, I64}
-use Rattle.mw_wasm.specs.Execution.{End, ended, trapped, spent, lost}
+use Rattle.mw_wasm.specs.declared.values.Value.TheVariants.{I64}
+use Rattle.mw_wasm.specs.Execution.{End, ended, trapped, spent}
 use Rattle.mw_wasm.specs.Instances.{exported, invoked}
 use Rattle.mw_wasm.specs.Store.{Memory, Store}
 use Rattle.mw_wasm.specs.Syntax.{PureModule}
 use Rattle.mw_wasm.specs.Views.{module_of}
-use Rattle.mw_meaning.specs.Arithmetic.{trap, bound, stuck}
+use Rattle.mw_meaning.specs.Arithmetic.{trap, bound}
 use Rattle.mw_meaning.specs.KernelMeaning.{Ended, gives, stops, kernel_meaning}
 use Rattle.mw_meaning.specs.GroundValues.{HasGroundType, IsArgument, kernel_value}
 use Rattle.mw_meaning.specs.StagedMeaning.{kernel_argument, argument_words, call_of}
 use Rattle.mw_meaning.specs.StandingFor.{IsWord, truth_number, AnswersAs, Call, AreCalls, IfEnded}
-use Rattle.mw_meaning.specs.StandingFor.{CallsAnswer, CallsAfter, MeansKernel, StandsFor}
+use Rattle.mw_meaning.specs.StandingFor.{CallsAnswer, CallsAfter, StandsFor}
 use Rattle.mw_meaning.specs.Shapes.{IsWordOf, in_init}
 use Rattle.mw_meaning.proofs.KernelTyping.{KernelSafe, Has, none, kernel_call_safe, safe_makes}
 use Rattle.mw_meaning.proofs.GroundValues.{ground-typed}
@@ -57,27 +57,13 @@ same_value : (t : GroundType) (v : PureGroundValue) (w : KernelValue) (n : ℕ) 
     → IsWord (kernel_value v) n memory → IsWord w n memory → IsSameValue w v
 same_value (base Int) (int z) (int y) n memory h f p e g = sym (to_z-of_z w64 z f) ∙ ap (λ k. cast_signed w64 k)
     (sym e ∙ g)
-same_value (base Int) (int z) (bool b) n memory h f p e g = elim p [ ]
-same_value (base Int) (int z) (both u x) n memory h f p e g = elim p [ ]
-same_value (base Int) (int z) (function x) n memory h f p e g = elim p [ ]
-same_value (base Int) (int z) (recursive x) n memory h f p e g = elim p [ ]
-same_value (base Int) (bool b) w n memory h f p e g = absurd h
-same_value (base Int) (both u x) w n memory h f p e g = absurd h
+same_value (base Int) (int z) w n memory h f p e g = elim p [ ]
 same_value (base Truth) (bool c) (bool b) n memory h f p e g = same_truth b c n e g
-same_value (base Truth) (bool c) (int y) n memory h f p e g = elim p [ ]
-same_value (base Truth) (bool c) (both u x) n memory h f p e g = elim p [ ]
-same_value (base Truth) (bool c) (function x) n memory h f p e g = elim p [ ]
-same_value (base Truth) (bool c) (recursive x) n memory h f p e g = elim p [ ]
-same_value (base Truth) (int z) w n memory h f p e g = absurd h
-same_value (base Truth) (both u x) w n memory h f p e g = absurd h
+same_value (base Truth) (bool c) w n memory h f p e g = elim p [ ]
 same_value (product s t) (both v x) (both u w) n memory h f (v_pair p q) e g =
     (same_value s v u _ memory h.0 f.0 p e.1 g.1, same_value t x w _ memory h.1 f.1 q e.2 g.2)
-same_value (product s t) (both v x) (int y) n memory h f p e g = elim p [ ]
-same_value (product s t) (both v x) (bool b) n memory h f p e g = elim p [ ]
-same_value (product s t) (both v x) (function y) n memory h f p e g = elim p [ ]
-same_value (product s t) (both v x) (recursive y) n memory h f p e g = elim p [ ]
-same_value (product s t) (int z) w n memory h f p e g = absurd h
-same_value (product s t) (bool b) w n memory h f p e g = absurd h
+same_value (product s t) (both v x) w n memory h f p e g = elim p [ ]
+same_value _ v w n memory h f p e g = absurd h
 
 -- what answers as a kernel does, by how it ends
 pub record IsGiven (a : Ended) (n units : ℕ) (memory : Memory) : Type 0 where
@@ -93,47 +79,28 @@ given (gives v left words) st n units h =
     same : {j k : ℕ} → I64 j ∷ [] ≡ I64 k ∷ [] → k ≡ j
     same e = cc
 given (stops (trap kind.Divide)) st n units h = absurd h
-given (stops (trap kind.Overflow)) st n units h = absurd h
 given (stops (bound Heap)) st n units h = absurd h
-given (stops (bound Fuel)) st n units h = absurd h
-given (stops (bound KernelSize)) st n units h = absurd h
-given (stops stuck) st n units h = absurd h
+given a st n units h = absurd h
 
 divides : (a : Ended) (st : Store) → AnswersAs a (trapped traps.Divide st) → a ≡ stops (trap kind.Divide)
-divides (gives v left words) st h = absurd h
 divides (stops (trap kind.Divide)) st h = refl
-divides (stops (trap kind.Overflow)) st h = absurd h
 divides (stops (bound Heap)) st h = absurd h
-divides (stops (bound Fuel)) st h = absurd h
-divides (stops (bound KernelSize)) st h = absurd h
-divides (stops stuck) st h = absurd h
+divides a st h = absurd h
 
 overflows : (a : Ended) (st : Store) → AnswersAs a (trapped traps.Overflow st) → a ≡ stops (trap kind.Overflow)
-overflows (gives v left words) st h = absurd h
-overflows (stops (trap kind.Divide)) st h = absurd h
 overflows (stops (trap kind.Overflow)) st h = refl
 overflows (stops (bound Heap)) st h = absurd h
-overflows (stops (bound Fuel)) st h = absurd h
-overflows (stops (bound KernelSize)) st h = absurd h
-overflows (stops stuck) st h = absurd h
+overflows a st h = absurd h
 
 overruns : (a : Ended) (st : Store) → AnswersAs a (trapped traps.OutOfBounds st) → a ≡ stops (bound Heap)
-overruns (gives v left words) st h = absurd h
 overruns (stops (trap kind.Divide)) st h = absurd h
-overruns (stops (trap kind.Overflow)) st h = absurd h
 overruns (stops (bound Heap)) st h = refl
-overruns (stops (bound Fuel)) st h = absurd h
-overruns (stops (bound KernelSize)) st h = absurd h
-overruns (stops stuck) st h = absurd h
+overruns a st h = absurd h
 
 spends : (a : Ended) → AnswersAs a spent → a ≡ stops (bound Fuel)
-spends (gives v left words) h = absurd h
 spends (stops (trap kind.Divide)) h = absurd h
-spends (stops (trap kind.Overflow)) h = absurd h
-spends (stops (bound Heap)) h = absurd h
 spends (stops (bound Fuel)) h = refl
-spends (stops (bound KernelSize)) h = absurd h
-spends (stops stuck) h = absurd h
+spends a h = absurd h
 
 by_trap : (k : _) (a : Ended) (e : End) → AnswersAs a e → EndsByTrap k e → a ≡ stops (trap k)
 by_trap kind.Divide a (trapped traps.Divide st) h x = divides a st h
@@ -158,12 +125,7 @@ value_meant t v left a (ended st (I64 n ∷ []) units) k safe h x =
       same_value t v g.value n st.memory
           h.0.has_type h.0.fits s.is.1.1 h.0.is_word g.word,
     )
-value_meant t v left a (ended st [] units) k safe h x = absurd h
-value_meant t v left a (ended st (I32 n ∷ vs) units) k safe h x = absurd h
-value_meant t v left a (ended st (I64 n ∷ u ∷ vs) units) k safe h x = absurd h
-value_meant t v left a (trapped u st) k safe h x = absurd h
-value_meant t v left a spent k safe h x = absurd h
-value_meant t v left a lost k safe h x = absurd h
+value_meant t v left a e k safe h x = absurd h
 
 -- calls on what is kept are those on the store that `init` left
 keeps_as : (wasm : Module) (st : Store) (n : ℕ) (s t : GroundType) (r : RunningState) (f : KernelValue) (words : ℕ)
@@ -183,90 +145,55 @@ keeps_as wasm st n s t r f words h shut typed calls = record {
 }
 
 -- the calls that follow an `init` which ended with a word
-module _ (wasm : Module) (c : Expression) (s t : GroundType) (units : ℕ) (typed : HasKernelType c (to s t))
-    (stands : StandsFor (module_of wasm) c (to s t)) where
-  means : MeansKernel (module_of wasm) c (to s t) stands.store
-  means = stands.means typed
-
+module _ (wasm : Module) (s t : GroundType) (units f : ℕ)
+    (there : exported (module_of wasm) (codes "call") ≡ Some f) where
   function_meant : (r : RunningState) (left : ℕ) (e : End) (a : Ended)
       → KernelSafe units (Has [] [] none (kernel_type (to s t))) a → IsBeganAs wasm (to s t) (began.Function r left) e
       → AnswersAs a e
-      → ((calls : List Call) → AreCalls s calls → CallsAfter (module_of wasm) means.calls.0 a e calls)
+      → ((calls : List Call) → AreCalls s calls → CallsAfter (module_of wasm) f a e calls)
       → IsBeganFrom (to s t) (began.Function r left) a
-  function_meant r left (ended st (I64 n ∷ []) l) (gives f u words) safe h x after = (
-    keeps_as wasm st n s t r f words h.0 safe.is.1.0 safe.is.1.1
-        (λ g e cs are. subst (λ g. CallsAnswer (module_of wasm) g n f words cs st)
-        (one_number (module_of wasm) (codes "call") e means.calls.1) (after cs are)),
+  function_meant r left (ended st (I64 n ∷ []) l) (gives v u words) safe h x after = (
+    keeps_as wasm st n s t r v words h.0 safe.is.1.0 safe.is.1.1
+        (λ g e cs are. subst (λ g. CallsAnswer (module_of wasm) g n v words cs st)
+        (one_number (module_of wasm) (codes "call") e there) (after cs are)),
     h.1 ∙ x.1,
   )
   function_meant r left (ended st (I64 n ∷ []) l) (stops w) safe h x after = let g = given (stops w) st n l x in let p =
       g.is in absurd (cc)
-  function_meant r left (ended st [] l) a safe h x after = absurd h
-  function_meant r left (ended st (I32 n ∷ vs) l) a safe h x after = absurd h
-  function_meant r left (ended st (I64 n ∷ u ∷ vs) l) a safe h x after = absurd h
-  function_meant r left (trapped u st) a safe h x after = absurd h
-  function_meant r left spent a safe h x after = absurd h
-  function_meant r left lost a safe h x after = absurd h
+  function_meant r left e a safe h x after = absurd h
 
-  pub function_start_meant : (answer : Result Began RunFault) → AnswersStart answer wasm (to s t) units
-      → IsStartMeant answer (to s t) (kernel_meaning units 0 c)
-  function_start_meant answer h = at_answer answer (h stands.store means.init stands.has_instance means.is_init)
-    where
-      a : Ended
-      a = kernel_meaning units 0 c
-
-      e : End
-      e = invoked (module_of wasm) stands.store means.init [] units
-
-      safe : KernelSafe units (Has [] [] none (kernel_type (to s t))) (kernel_meaning units 0 c)
-      safe = kernel_safe c (to s t) units typed
-
-      at_answer : (answer : Result Began RunFault)
-          → IsStartOf answer wasm (to s t) (invoked (module_of wasm) stands.store means.init [] units)
-          → IsStartMeant answer (to s t) (kernel_meaning units 0 c)
-      at_answer (Ok (began.Function r left)) h = function_meant r left _ _ safe h (means.run units)
-          (λ cs are. means.calls.2 units cs are)
-      at_answer (Ok (began.Value v left)) h = absurd h
-      at_answer (Ok (began.Trap k)) h = subst (λ a. IsBeganFrom (to s t) (began.Trap k) a)
-          (sym (by_trap k _ _ (means.run units) h)) refl
-      at_answer (Ok (began.Bound l)) h = subst (λ a. IsBeganFrom (to s t) (began.Bound l) a)
-          (sym (at_bound l _ _ (means.run units) h)) refl
-      at_answer (Err fault.Bad) h = standing_is_not_stray (module_of wasm) c (to s t) stands typed
-          (in_init units stands.has_instance means.is_init h)
-      at_answer (Err (fault.Memory f)) h = tt
-
-module _ (wasm : Module) (c : Expression) (t : GroundType) (units : ℕ) (typed : HasKernelType c (of_ground t))
-    (stands : StandsFor (module_of wasm) c (of_ground t)) where
-  ground_means : MeansKernel (module_of wasm) c (of_ground t) stands.store
-  ground_means = stands.means typed
-
-  pub ground_start_meant : (answer : Result Began RunFault) → AnswersStart answer wasm (of_ground t) units
-      → IsStartMeant answer (of_ground t) (kernel_meaning units 0 c)
-  ground_start_meant answer h =
-      at_answer answer (h stands.store ground_means.init stands.has_instance ground_means.is_init)
-    where
-      safe : KernelSafe units (Has [] [] none (ground_type t)) (kernel_meaning units 0 c)
-      safe = kernel_safe c (of_ground t) units typed
-
-      at_answer : (answer : Result Began RunFault) → IsStartOf answer wasm (of_ground t)
-          (invoked (module_of wasm) stands.store ground_means.init [] units) → IsStartMeant answer (of_ground t)
-          (kernel_meaning units 0 c)
-      at_answer (Ok (began.Value v left)) h =
-          let g = value_meant t (ground_value_of v) left _ _ units safe h (ground_means.run units) in
-          subst (λ a. IsBeganFrom (of_ground t) (began.Value v left) a) (sym g.2) (g.3, refl)
-      at_answer (Ok (began.Function r left)) h = absurd h
-      at_answer (Ok (began.Trap k)) h = subst (λ a. IsBeganFrom (of_ground t) (began.Trap k) a)
-          (sym (by_trap k _ _ (ground_means.run units) h)) refl
-      at_answer (Ok (began.Bound l)) h = subst (λ a. IsBeganFrom (of_ground t) (began.Bound l) a)
-          (sym (at_bound l _ _ (ground_means.run units) h)) refl
-      at_answer (Err fault.Bad) h = standing_is_not_stray (module_of wasm) c (of_ground t) stands typed
-          (in_init units stands.has_instance ground_means.is_init h)
-      at_answer (Err (fault.Memory f)) h = tt
+-- a start of a module that stands for the code
+module _ (wasm : Module) (c : Expression) (units : ℕ) where
+  began_meant : (k : KernelType) (answer : Result Began RunFault) (typed : HasKernelType c k)
+      (stands : StandsFor (module_of wasm) c k)
+      → IsStartOf answer wasm k (invoked (module_of wasm) stands.store (stands.means typed).init [] units)
+      → IsStartMeant answer k (kernel_meaning units 0 c)
+  began_meant (of_ground t) (Ok (began.Value v left)) typed stands h =
+      let g = value_meant t (ground_value_of v) left _ _ units (kernel_safe c (of_ground t) units typed) h
+      ((stands.means typed).run units) in
+      subst (λ a. IsBeganFrom (of_ground t) (began.Value v left) a) (sym g.2) (g.3, refl)
+  began_meant (to s t) (Ok (began.Function r left)) typed stands h =
+      let means = stands.means typed in
+      function_meant wasm s t units means.calls.0 means.calls.1 r left _ _ (kernel_safe c (to s t) units typed) h
+      (means.run units) (λ cs are. means.calls.2 units cs are)
+  began_meant (of_ground t) (Ok (began.Function r left)) typed stands h = absurd h
+  began_meant (to s t) (Ok (began.Value v left)) typed stands h = absurd h
+  began_meant (of_ground t) (Ok (began.Trap u)) typed stands h =
+      rw (by_trap u _ _ ((stands.means typed).run units) h) refl
+  began_meant (of_ground t) (Ok (began.Bound l)) typed stands h =
+      rw (at_bound l _ _ ((stands.means typed).run units) h) refl
+  began_meant (to s t) (Ok (began.Trap u)) typed stands h =
+      rw (by_trap u _ _ ((stands.means typed).run units) h) refl
+  began_meant (to s t) (Ok (began.Bound l)) typed stands h =
+      rw (at_bound l _ _ ((stands.means typed).run units) h) refl
+  began_meant k (Err fault.Bad) typed stands h = standing_is_not_stray (module_of wasm) c k stands typed
+      (in_init units stands.has_instance (stands.means typed).is_init h)
+  began_meant k (Err (fault.Memory f)) typed stands h = tt
 
 pub start_meant : (answer : Result Began RunFault) (wasm : Module) (k : KernelType) (units : ℕ)
     → AnswersStart answer wasm k units → MeansStart answer wasm k units
-start_meant answer wasm (of_ground t) units h c typed stands = ground_start_meant wasm c t units typed stands answer h
-start_meant answer wasm (to s t) units h c typed stands = function_start_meant wasm c s t units typed stands answer h
+start_meant answer wasm k units h c typed stands = began_meant wasm c units k answer typed stands
+    (h stands.store (stands.means typed).init stands.has_instance (stands.means typed).is_init)
 
 -- a call of what is kept
 module _ (r : RunningState) (runnable : IsRunnable r) (v : PureGroundValue) (has : HasGroundType r.argument v)
@@ -311,12 +238,7 @@ call_meant answer r v units runnable has fits h f words keeps = at_answer r runn
 onward : (t : GroundType) (v : PureGroundValue) (left : ℕ) (e : End) (after : Store) (P : Store → Type 0)
     → EndsWithValue t v left e → IsStoreAfter e after → IfEnded e P → P after
 onward t v left (ended st (I64 n ∷ []) units) after P h s o = subst P (sym s) o
-onward t v left (ended st [] units) after P h s o = absurd h
-onward t v left (ended st (I32 n ∷ vs) units) after P h s o = absurd h
-onward t v left (ended st (I64 n ∷ u ∷ vs) units) after P h s o = absurd h
-onward t v left (trapped u st) after P h s o = absurd h
-onward t v left spent after P h s o = absurd h
-onward t v left lost after P h s o = absurd h
+onward t v left e after P h s o = absurd h
 
 pub kept_on : (answer : Result Ran RunFault) (old new : RunningState) (v : PureGroundValue) (units : ℕ)
     → HasGroundType old.argument v → FitsUnlessMemory answer v → AnswersCall answer old v units
@@ -335,21 +257,11 @@ kept_on (Ok (ran.Value x left)) old new v units has fits h after same = λ f wor
     (CallsAnswer (module_of old.wasm) g old.function f words cs) (h g e) (after g e)
     (keeps.calls g e (record { argument = ground_value v; units = units } ∷ cs)
     (is_argument old.argument v has fits, are)).1)
-kept_on (Ok (ran.Function i left)) old new v units has fits h after same = tt
-kept_on (Ok (ran.Trap k)) old new v units has fits h after same = tt
-kept_on (Ok (ran.Bound l)) old new v units has fits h after same = tt
-kept_on (Err f) old new v units has fits h after same = tt
+kept_on answer old new v units has fits h after same = tt
 
 pub short_integers_are_kept : ShortIntegersAreKept
 short_integers_are_kept (int y) (int z) h e = ap (λ z. int z) (e ∙ to_z-of_z w64 y h)
 short_integers_are_kept (bool b) (bool c) h e = ap (λ b. bool b) e
 short_integers_are_kept (both v w) (both x y) h e =
     rw (short_integers_are_kept v x h.0 e.0, short_integers_are_kept w y h.1 e.1) refl
-short_integers_are_kept (int y) (bool c) h e = absurd e
-short_integers_are_kept (int y) (both c d) h e = absurd e
-short_integers_are_kept (bool y) (int c) h e = absurd e
-short_integers_are_kept (bool y) (both c d) h e = absurd e
-short_integers_are_kept (both y z) (int c) h e = absurd e
-short_integers_are_kept (both y z) (bool c) h e = absurd e
-short_integers_are_kept (function y) v h e = absurd e
-short_integers_are_kept (recursive y) v h e = absurd e
+short_integers_are_kept v w h e = absurd e

@@ -5,7 +5,7 @@ use Rattle.std.specs.Prelude.{codes}
 use Rattle.mw_term.specs.Terms.{GroundType, KernelType, PureGroundValue, ground_value}
 use Rattle.mw_term.specs.declared.value.Limit.TheVariants.{Fuel, Heap, KernelSize}
 use Rattle.mw_meaning.specs.GroundValues.{HasGroundType}
-use Rattle.mw_meaning.specs.Shapes.{Exports, HasShape, call_type, init_type}
+use Rattle.mw_meaning.specs.Shapes.{Exports, HasShape, call_type}
 use Rattle.mw_meaning.specs.StandingFor.{leaves}
 use Rattle.mw_wasm.specs.declared.modules.Module.{Module}
 use Rattle.mw_wasm.specs.declared.values.Value.TheVariants.{I64}
@@ -165,11 +165,8 @@ call_answers r v i args after n o answer e s a h x g is = answer_is_call r.resul
 held_store : (r : RunningState) (o : Outcome) (j : InstanceState) (held : Option InstanceState) (e : End)
     → IsHeldAfter o j held → EndsAsOutcome o (store_in j) e → IsStoreAfter e (store_held r.wasm held)
 held_store r (outcome.Bound Fuel) j held e h x = rw x tt
-held_store r (outcome.Bound Heap) j held e h x = rw h (store_after (outcome.Bound Heap) (store_in j) e x)
 held_store r (outcome.Bound KernelSize) j held e h x = absurd x
-held_store r (outcome.Word n units) j held e h x = rw h (store_after (outcome.Word n units) (store_in j) e x)
-held_store r (outcome.Trap k) j held e h x = rw h (store_after (outcome.Trap k) (store_in j) e x)
-held_store r outcome.Stray j held e h x = rw h (store_after outcome.Stray (store_in j) e x)
+held_store r o j held e h x = rw h (store_after o (store_in j) e x)
 
 pub call_leaves_store : (r : RunningState) (v : PureGroundValue) (i j : InstanceState) (args : List WasmValue) (n : ℕ)
     (o : Outcome) (answer : Result Ran RunFault) (held : Option InstanceState) → i.wasm ≡ r.wasm → store_in i

@@ -6,8 +6,8 @@ use Rattle.mw_meaning.specs.Plays.{HasPlayed}
 use Rattle.mw_meaning.specs.Shapes.{HasShape, in_init}
 use Rattle.mw_meaning.proofs.Plays.{plays_begin, plays_on, stray_play}
 use Rattle.mw_wasm.specs.declared.modules.Module.{Module}
-use Rattle.mw_wasm.specs.declared.values.Value.TheVariants.{I32, I64}
-use Rattle.mw_wasm.specs.Execution.{End, ended, trapped, spent, lost}
+use Rattle.mw_wasm.specs.declared.values.Value.TheVariants.{I64}
+use Rattle.mw_wasm.specs.Execution.{End, ended}
 use Rattle.mw_wasm.specs.Instances.{invoked}
 use Rattle.mw_wasm.specs.Store.{Store}
 use Rattle.mw_wasm.specs.Views.{module_of}
@@ -43,12 +43,7 @@ bad_start_is_stray (Err (fault.Memory e)) wasm k units shape h = tt
 module _ (wasm : Module) (s t : GroundType) (r : RunningState) where
   kept_over : (left : ℕ) (e : End) → EndsWithFunction wasm s t r left e → r.wasm ≡ wasm
   kept_over left (ended st (I64 n ∷ []) units) h = h.0.wasm_is
-  kept_over left (ended st [] units) h = absurd h
-  kept_over left (ended st (I32 n ∷ vs) units) h = absurd h
-  kept_over left (ended st (I64 n ∷ u ∷ vs) units) h = absurd h
-  kept_over left (trapped u st) h = absurd h
-  kept_over left spent h = absurd h
-  kept_over left lost h = absurd h
+  kept_over left e h = absurd h
 
   in_play : (st : Store) (n : ℕ) → IsKeptAs wasm st n s t r → HasPlayed (module_of wasm) s n st → IsInPlay r
   in_play st n h play =
@@ -63,12 +58,7 @@ module _ (wasm : Module) (s t : GroundType) (r : RunningState) where
       in_play st n h.0
       (plays_begin (module_of wasm) s shape.init.index shape.call.index n units u shape.store st shape.has_instance
       shape.init.is_exported shape.call.is_exported is)
-  kept_in_play left units shape (ended st [] u) is h = absurd h
-  kept_in_play left units shape (ended st (I32 n ∷ vs) u) is h = absurd h
-  kept_in_play left units shape (ended st (I64 n ∷ v ∷ vs) u) is h = absurd h
-  kept_in_play left units shape (trapped v st) is h = absurd h
-  kept_in_play left units shape spent is h = absurd h
-  kept_in_play left units shape lost is h = absurd h
+  kept_in_play left units shape e is h = absurd h
 
 pub start_is_over : (answer : Result Began RunFault) (wasm : Module) (k : KernelType) (units : ℕ)
     → HasShape (module_of wasm) k → AnswersStart answer wasm k units → IsStartOver answer wasm
@@ -77,10 +67,7 @@ start_is_over (Ok (began.Function r left)) wasm (to s t) units shape h =
     (ends wasm (to s t) units shape (Ok (began.Function r left)) h)
 start_is_over (Ok (began.Function r left)) wasm (of_ground t) units shape h =
     absurd (ends wasm (of_ground t) units shape (Ok (began.Function r left)) h)
-start_is_over (Ok (began.Value v left)) wasm k units shape h = tt
-start_is_over (Ok (began.Trap t)) wasm k units shape h = tt
-start_is_over (Ok (began.Bound l)) wasm k units shape h = tt
-start_is_over (Err f) wasm k units shape h = tt
+start_is_over answer wasm k units shape h = tt
 
 pub starts_play : (answer : Result Began RunFault) (wasm : Module) (k : KernelType) (units : ℕ)
     → HasShape (module_of wasm) k → AnswersStart answer wasm k units → StartsPlay answer
@@ -89,10 +76,7 @@ starts_play (Ok (began.Function r left)) wasm (to s t) units shape h =
     (ends wasm (to s t) units shape (Ok (began.Function r left)) h)
 starts_play (Ok (began.Function r left)) wasm (of_ground t) units shape h =
     absurd (ends wasm (of_ground t) units shape (Ok (began.Function r left)) h)
-starts_play (Ok (began.Value v left)) wasm k units shape h = tt
-starts_play (Ok (began.Trap t)) wasm k units shape h = tt
-starts_play (Ok (began.Bound l)) wasm k units shape h = tt
-starts_play (Err f) wasm k units shape h = tt
+starts_play answer wasm k units shape h = tt
 
 -- calls
 pub bad_call_is_stray : (answer : Result Ran RunFault) (r : RunningState) (v : PureGroundValue) (units : ℕ)
@@ -118,12 +102,7 @@ with_word t v left (ended st (I64 n ∷ []) units) after h is = record {
   left = units;
   is = ap (λ st. ended st (I64 n ∷ []) units) (sym is);
 }
-with_word t v left (ended st [] units) after h is = absurd h
-with_word t v left (ended st (I32 n ∷ vs) units) after h is = absurd h
-with_word t v left (ended st (I64 n ∷ u ∷ vs) units) after h is = absurd h
-with_word t v left (trapped u st) after h is = absurd h
-with_word t v left spent after h is = absurd h
-with_word t v left lost after h is = absurd h
+with_word t v left e after h is = absurd h
 
 pub plays_on_after : (answer : Result Ran RunFault) (old new : RunningState) (v : PureGroundValue) (units : ℕ)
     → IsRunnable old → HasGroundType old.argument v → FitsUnlessMemory answer v → AnswersCall answer old v units
@@ -143,7 +122,4 @@ plays_on_after (Ok (ran.Value x left)) old new v units runnable has fits h after
     }
     (plays_on (module_of old.wasm) old.argument old.function g units e.word e.left (store_of old) (store_of new)
     (ground_value v) play there (is_argument old.argument v has fits) e.is)
-plays_on_after (Ok (ran.Function i left)) old new v units runnable has fits h after same = tt
-plays_on_after (Ok (ran.Trap k)) old new v units runnable has fits h after same = tt
-plays_on_after (Ok (ran.Bound l)) old new v units runnable has fits h after same = tt
-plays_on_after (Err f) old new v units runnable has fits h after same = tt
+plays_on_after answer old new v units runnable has fits h after same = tt

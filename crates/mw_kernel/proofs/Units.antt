@@ -5,18 +5,18 @@ use Rattle.std.proofs.lemmas.Bool.{leb-true}
 use Rattle.mw_wasm.specs.declared.values.Value.{Value}
 use Rattle.mw_wasm.specs.declared.modules.FuncType.{FuncType}
 use Rattle.mw_wasm.specs.declared.modules.Limits.{Limits}
-use Rattle.mw_wasm.specs.Syntax.{Instruction, Code, end, next, unreachable, nop, block, loop, cond, br, br_if, br_table}
-use Rattle.mw_wasm.specs.Syntax.{give_back, call, call_indirect, drop_value, select, local_get, local_set, local_tee}
-use Rattle.mw_wasm.specs.Syntax.{global_get, global_set, load, store, memory_size, memory_grow, const_i32, const_i64}
+use Rattle.mw_wasm.specs.Syntax.{Instruction, Code, end, next, nop, cond, br_if, br_table}
+use Rattle.mw_wasm.specs.Syntax.{call, call_indirect, drop_value, select, local_get, local_set, local_tee}
+use Rattle.mw_wasm.specs.Syntax.{global_get, global_set, load, store, memory_size, memory_grow}
 use Rattle.mw_wasm.specs.Syntax.{numeric, Function, PureModule}
 use Rattle.mw_wasm.specs.Store.{Store, is_inside, load_size, store_type, store_size}
 use Rattle.mw_wasm.specs.NumericTypes.{operands_of}
 use Rattle.mw_wasm.specs.Numerics.{number_result}
-use Rattle.mw_wasm.specs.Act.{Act, gives, enters, calls, breaks, returns, traps, stuck, constant, same_type, most_pages}
+use Rattle.mw_wasm.specs.Act.{Act, gives, enters, calls, constant, same_type, most_pages}
 use Rattle.mw_wasm.specs.Act.{grown, entered, called, called_at, act}
 use Rattle.mw_wasm.specs.Reduction.{plain, label, frame, Sequence, nothing, first, Step, goes, spends, finished, leaves}
-use Rattle.mw_wasm.specs.Reduction.{gives_back, traps_by, stuck_here, placed, in_label, in_frame, with_constant, step}
-use Rattle.mw_wasm.specs.Execution.{weight, End, ended, trapped, spent, lost, follow, execution}
+use Rattle.mw_wasm.specs.Reduction.{gives_back, traps_by, placed, in_label, in_frame, with_constant, step}
+use Rattle.mw_wasm.specs.Execution.{weight, End, ended, trapped, follow, execution}
 use Rattle.mw_wasm.specs.Instances.{on_found, where_they_fit, are_arguments, invocation, invoked}
 use Rattle.mw_wasm.proofs.Acts.{for_value, for_i32, for_type, for_some, for_true, for_result, for_operands}
 use Rattle.mw_wasm.proofs.ExecutionLaw.{Less, step_less, execution_is}
@@ -27,12 +27,7 @@ Few k st = st.memory.pages ≤ k
 
 abbrev FewAct : ℕ → Act → Type 0
 FewAct k (gives st ls vs after) = Few k st
-FewAct k (enters n c body vs) = Unit {0}
-FewAct k (calls n fs body vs) = Unit {0}
-FewAct k (breaks l vs) = Unit {0}
-FewAct k (returns vs) = Unit {0}
-FewAct k (traps t) = Unit {0}
-FewAct k stuck = Unit {0}
+FewAct k _ = Unit {0}
 
 -- no memory grows past 1024 pages
 most_few : (o : Option Limits) → most_pages o ≤ 1024
@@ -61,15 +56,10 @@ module _ (m : PureModule) (k : ℕ) (large : 1024 ≤ k) where
       λ wants. for_true (FewAct k) (same_type has wants) _ _ (entered_few has f vs) tt
 
   act_few : (i : Instruction) (st : Store) (ls vs : List Value) → Few k st → FewAct k (act m i st ls vs)
-  act_few unreachable st ls vs h = tt
   act_few nop st ls vs h = h
-  act_few (block t body) st ls vs h = tt
-  act_few (loop t body) st ls vs h = tt
   act_few (cond t a b) st ls vs h = for_i32 (FewAct k) tt vs _ λ n us. h
-  act_few (br l) st ls vs h = tt
   act_few (br_if l) st ls vs h = for_i32 (FewAct k) tt vs _ λ n us. h
   act_few (br_table labels l) st ls vs h = for_i32 (FewAct k) tt vs _ λ n us. h
-  act_few give_back st ls vs h = tt
   act_few (call f) st ls vs h = called_few f vs
   act_few (call_indirect t) st ls vs h = for_i32 (FewAct k) tt vs _ λ n us. called_at_few t (slice_get st.table n) us
   act_few drop_value st ls vs h = for_value (FewAct k) tt vs _ λ v us. h
@@ -93,28 +83,20 @@ module _ (m : PureModule) (k : ℕ) (large : 1024 ≤ k) where
       (nat_le (st.memory.pages + n) (most_pages m.memory)) refl p h
   act_few (numeric o) st ls vs h = for_operands (FewAct k) tt (operands_of o) vs _ λ x y us.
       for_result (FewAct k) (number_result o x y) (λ z. gives st ls (z ∷ us) None) (λ t. tt) λ z. h
-  act_few (const_i32 n) st ls vs h = tt
-  act_few (const_i64 n) st ls vs h = tt
+  act_few i st ls vs h = tt
 
 -- what one rule goes on with
 abbrev FewStep : ℕ → Step → Type 0
 FewStep k (goes st ls s) = Few k st
 FewStep k (spends st ls s) = Few k st
-FewStep k (finished vs) = Unit {0}
-FewStep k (leaves l vs) = Unit {0}
-FewStep k (gives_back vs) = Unit {0}
-FewStep k (traps_by t) = Unit {0}
-FewStep k stuck_here = Unit {0}
+FewStep k _ = Unit {0}
 
 placed_few : (k : ℕ) (a : Act) (st : Store) (ls : List Value) (rest : Sequence) → FewAct k a → Few k st
     → FewStep k (placed a st ls rest)
 placed_few k (gives st' ls' vs after) st ls rest p h = p
 placed_few k (enters n c body vs) st ls rest p h = h
 placed_few k (calls n fs body vs) st ls rest p h = h
-placed_few k (breaks l vs) st ls rest p h = tt
-placed_few k (returns vs) st ls rest p h = tt
-placed_few k (traps t) st ls rest p h = tt
-placed_few k stuck st ls rest p h = tt
+placed_few k a st ls rest p h = tt
 
 constant_few : (k : ℕ) (o : Option Value) (go : Value → Step) (other : Step) → ((v : Value) → FewStep k (go v))
     → FewStep k other → FewStep k (with_constant o go other)
@@ -128,33 +110,26 @@ label_few k n c st ls vs rest (spends st' ls' s) p h = p
 label_few k n c st ls vs rest (finished us) p h = h
 label_few k n end st ls vs rest (leaves zero us) p h = h
 label_few k n (next i c) st ls vs rest (leaves zero us) p h = h
-label_few k n c st ls vs rest (leaves (suc l) us) p h = tt
-label_few k n c st ls vs rest (gives_back us) p h = tt
-label_few k n c st ls vs rest (traps_by t) p h = tt
-label_few k n c st ls vs rest stuck_here p h = tt
+label_few k n c st ls vs rest x p h = tt
 
 frame_few : (k n : ℕ) (st : Store) (ls vs : List Value) (rest : Sequence) (x : Step) → FewStep k x → Few k st
     → FewStep k (in_frame n st ls vs rest x)
 frame_few k n st ls vs rest (goes st' fs s) p h = p
 frame_few k n st ls vs rest (spends st' fs s) p h = p
 frame_few k n st ls vs rest (finished us) p h = h
-frame_few k n st ls vs rest (leaves l us) p h = tt
 frame_few k n st ls vs rest (gives_back us) p h = h
-frame_few k n st ls vs rest (traps_by t) p h = tt
-frame_few k n st ls vs rest stuck_here p h = tt
+frame_few k n st ls vs rest x p h = tt
 
 -- how a run with n units ends
 abbrev pub Leaves : ℕ → ℕ → End → Type 0
 Leaves k n (ended st vs left) = (left ≤ n) × Few k st
 Leaves k n (trapped t st) = Few k st
-Leaves k n spent = Unit {0}
-Leaves k n lost = Unit {0}
+Leaves k n _ = Unit {0}
 
 one_more : (k n : ℕ) (e : End) → Leaves k n e → Leaves k (suc n) e
 one_more k n (ended st vs left) h = (omega (arith, h.0), h.1)
 one_more k n (trapped t st) h = h
-one_more k n spent h = tt
-one_more k n lost h = tt
+one_more k n e h = tt
 
 follow_leaves : (k : ℕ) (x : Step) (st : Store) (w n : ℕ) (on : Store → Sequence → End)
     (again : ℕ → Store → Sequence → End) → Less w x → FewStep k x → Few k st
@@ -162,14 +137,11 @@ follow_leaves : (k : ℕ) (x : Step) (st : Store) (w n : ℕ) (on : Store → Se
     → ((l : ℕ) (st : Store) (s : Sequence) → l < n → Few k st → Leaves k l (again l st s))
     → Leaves k n (follow x st n on again)
 follow_leaves k (goes st' ls s) st w n on again less x h p q = p st' s less x
-follow_leaves k (spends st' ls s) st w zero on again less x h p q = tt
 follow_leaves k (spends st' ls s) st w (suc n) on again less x h p q =
     one_more k n (again n st' s) (q n st' s (omega arith) x)
 follow_leaves k (finished vs) st w n on again less x h p q = (omega arith, h)
-follow_leaves k (leaves l vs) st w n on again less x h p q = tt
-follow_leaves k (gives_back vs) st w n on again less x h p q = tt
 follow_leaves k (traps_by t) st w n on again less x h p q = h
-follow_leaves k stuck_here st w n on again less x h p q = tt
+follow_leaves k x st w n on again less few h p q = tt
 
 module _ (m : PureModule) (k : ℕ) (large : 1024 ≤ k) where
   step_few : (st : Store) (ls vs : List Value) (s : Sequence) → Few k st → FewStep k (step m st ls vs s)

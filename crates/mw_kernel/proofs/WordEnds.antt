@@ -1,10 +1,11 @@
 -- How invocations that give one word end.
-use Rattle.std.proofs.Common.{◌≡◌, ℕ, zero, suc, ◌+◌, ◌≤◌, List, [], ◌∷◌, ◌++◌, map, Option, Some, None, refl, sym, ap}
-use Rattle.std.proofs.Common.{◌∙◌, subst, arith, zero-add}
+use Rattle.std.proofs.Common.{◌≡◌, ℕ, zero, suc, ◌≤◌, List, [], ◌∷◌, map, Option, Some, None, refl, sym, ap}
+use Rattle.std.proofs.Common.{◌∙◌, subst, arith}
 use Rattle.std.specs.Prelude.{slice_get, replicate}
+use Rattle.std.proofs.lemmas.List.{map-append, replicate-append-replicate}
 use Rattle.mw_term.specs.Terms.{GroundType, PureGroundValue, base, product, int, bool, both, ground_value}
 use Rattle.mw_term.specs.declared.term.Base.TheVariants.{Int, Bool as Truth}
-use Rattle.mw_term.specs.declared.value.Limit.TheVariants.{Fuel, Heap, KernelSize}
+use Rattle.mw_term.specs.declared.value.Limit.TheVariants.{Fuel, Heap}
 use Rattle.mw_term.specs.declared.value.TrapKind.TheVariants as kind
 use Rattle.mw_meaning.specs.GroundValues.{HasGroundType, IsArgument}
 use Rattle.mw_meaning.specs.Shapes.{leaf_count}
@@ -13,11 +14,10 @@ use Rattle.mw_wasm.specs.declared.modules.Func.{Func}
 use Rattle.mw_wasm.specs.declared.modules.Module.{Module}
 use Rattle.mw_wasm.specs.declared.values.Trap.{Trap}
 use Rattle.mw_wasm.specs.declared.values.Trap.TheVariants as traps
-use Rattle.mw_wasm.specs.declared.values.ValType.{ValType}
 use Rattle.mw_wasm.specs.declared.values.ValType.TheVariants.{I64 as i64}
 use Rattle.mw_wasm.specs.declared.values.Value.TheVariants.{I32, I64}
 use Rattle.mw_wasm.specs.declared.values.Value.{Value as WasmValue}
-use Rattle.mw_wasm.specs.Execution.{End, ended, trapped, spent, lost}
+use Rattle.mw_wasm.specs.Execution.{End, ended, trapped, spent}
 use Rattle.mw_wasm.specs.Instances.{exported, invoked}
 use Rattle.mw_wasm.specs.NumericTypes.{type_of_value}
 use Rattle.mw_wasm.specs.Soundness.{EndIsTyped}
@@ -83,15 +83,11 @@ module _ (m : PureModule) (after : Store) where
     where
       word : (o : Outcome) → IsOutcomeOf (ends.Ended (Some (I64 n)) left) o → EndsAsOutcome o after (ended st vs units)
       word (outcome.Word k l) x = cc (x.0, x.1)
-      word (outcome.Trap k) x = absurd x
-      word (outcome.Bound l) x = absurd x
-      word outcome.Stray x = absurd x
+      word o x = absurd x
 
       kept : (o : Outcome) → IsOutcomeOf (ends.Ended (Some (I64 n)) left) o → LeavesStore o m after
       kept (outcome.Word k l) x = h
-      kept (outcome.Trap k) x = absurd x
-      kept (outcome.Bound l) x = absurd x
-      kept outcome.Stray x = absurd x
+      kept o x = absurd x
 
   trap_ends : (t : Trap) (o : Outcome) (st : Store) → IsOutcomeOf (ends.Trapped t) o → after ≡ st
       → EndsAsOutcome o after (trapped t st)
@@ -105,12 +101,8 @@ module _ (m : PureModule) (after : Store) where
   trap_ends _ _ st x g = absurd x
 
   trap_keeps : (t : Trap) (o : Outcome) → IsOutcomeOf (ends.Trapped t) o → IsStoreOf m after → LeavesStore o m after
-  trap_keeps t (outcome.Word n l) x h = h
-  trap_keeps t (outcome.Trap k) x h = h
   trap_keeps t (outcome.Bound Fuel) x h = tt
-  trap_keeps t (outcome.Bound Heap) x h = h
-  trap_keeps t (outcome.Bound KernelSize) x h = h
-  trap_keeps t outcome.Stray x h = h
+  trap_keeps t o x h = h
 
   spent_ends : (o : Outcome) → IsOutcomeOf ends.Spent o → EndsAsOutcome o after spent
   spent_ends (outcome.Bound Fuel) x = refl
@@ -139,15 +131,7 @@ module _ (m : PureModule) (after : Store) where
             trap_keeps t o x (store_again st h.1 record { typed = s; few = l });
       }
   ends_as_word n ends.Spent spent h t l = record { one = tt; ends = spent_ends; store = spent_keeps }
-  ends_as_word n (ends.Ended v left) (trapped t st) h s l = absurd h
-  ends_as_word n (ends.Ended v left) spent h s l = absurd h
-  ends_as_word n (ends.Ended v left) lost h s l = absurd h
-  ends_as_word n (ends.Trapped u) (ended st vs units) h s l = absurd h
-  ends_as_word n (ends.Trapped u) spent h s l = absurd h
-  ends_as_word n (ends.Trapped u) lost h s l = absurd h
-  ends_as_word n ends.Spent (ended st vs units) h s l = absurd h
-  ends_as_word n ends.Spent (trapped t st) h s l = absurd h
-  ends_as_word n ends.Spent lost h s l = absurd h
+  ends_as_word n end e h s l = absurd h
 
 same_number : {o : Option ℕ} {f g : ℕ} → o ≡ Some f → o ≡ Some g → g ≡ f
 same_number e f = cc
@@ -169,20 +153,12 @@ word_ends wasm st after name args n f end h e x =
     ends_as_word m after n end (invoked m st f args n) x typed (invoked_leaves m 65536 large st f args n h.store.few)
 
 -- the leaves of an argument have the types of the parameters
-replicate_sum : (a b : ℕ) (t : ValType) → replicate (a + b) t ≡ replicate a t ++ replicate b t
-replicate_sum zero b t = ap (λ k. replicate k t) (zero-add b)
-replicate_sum (suc a) b t = let e : suc a + b ≡ suc (a + b) = omega arith in rw (e, replicate_sum a b t) refl
-
-map_both : (xs ys : List WasmValue) → map type_of_value (xs ++ ys) ≡ map type_of_value xs ++ map type_of_value ys
-map_both [] ys = refl
-map_both (x ∷ xs) ys = ap (λ ts. type_of_value x ∷ ts) (map_both xs ys)
-
 leaf_types : (s : GroundType) (v : PureGroundValue) → HasGroundType s v → map type_of_value (leaves (ground_value v))
     ≡ replicate (leaf_count s) i64
 leaf_types (base Int) (int z) h = refl
 leaf_types (base Truth) (bool b) h = refl
-leaf_types (product s t) (both v w) h = map_both (leaves (ground_value v)) (leaves (ground_value w))
-    ∙ (rw (leaf_types s v h.0, leaf_types t w h.1) refl ∙ sym (replicate_sum (leaf_count s) (leaf_count t) i64))
+leaf_types (product s t) (both v w) h = map-append type_of_value (leaves (ground_value v)) (leaves (ground_value w))
+    ∙ (rw (leaf_types s v h.0, leaf_types t w h.1) refl ∙ replicate-append-replicate (leaf_count s) (leaf_count t) i64)
 leaf_types _ _ h = absurd h
 
 pub argument_types : (s : GroundType) (v : PureGroundValue) (r : ℕ) (args : List WasmValue) → HasGroundType s v

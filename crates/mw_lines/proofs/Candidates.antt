@@ -1,7 +1,7 @@
 -- One substitution decides whether a type is made from a root: what stands in it where the root has a number.
-use Rattle.std.proofs.Common.{◌≡◌, ◌≢◌, ℕ, Option, Some, None, refl, ap, sym, Bool, true, false, cond}
-use Rattle.std.proofs.Common.{◌↔◌, nat_eq, subst, true≢false, ◌∙◌}
-use Rattle.std.proofs.lemmas.Bool.{eqb-true, eq-eqb}
+use Rattle.std.proofs.Common.{◌≡◌, ℕ, Option, Some, None, refl, ap, sym, Bool, true, false, cond}
+use Rattle.std.proofs.Common.{◌↔◌, nat_eq, subst}
+use Rattle.std.proofs.lemmas.Bool.{eqb-true, eqb-false, eq-eqb, ne_eqb}
 use Rattle.mw_types.specs.Types.{TypeExpression, int_ty, bool_ty, unknown, pair_ty, function_ty, code_ty, closed_ty}
 use Rattle.mw_types.specs.Types.{Substitution, apply}
 use Rattle.mw_lines.specs.Made.{IsMadeFrom, IsNotIn}
@@ -75,6 +75,18 @@ module _ (s : Substitution) (root : TypeExpression) where
     types : (u : ℕ) → IsThere (type_for u a (apply s a)) → IsThere (type_for u root (apply s root))
     classifiers : (c : ℕ) → IsThere (classifier_for c a (apply s a)) → IsThere (classifier_for c root (apply s root))
 
+  -- parts of which the whole is a part
+  halves : (a b : TypeExpression)
+      → ((u : ℕ) → IsThere (or_else (type_for u a (apply s a)) (type_for u b (apply s b)))
+      → IsThere (type_for u root (apply s root)))
+      → ((c : ℕ) → IsThere (or_else (classifier_for c a (apply s a)) (classifier_for c b (apply s b)))
+      → IsThere (classifier_for c root (apply s root)))
+      → Part a × Part b
+  halves a b f g = (
+    record { types = λ u q. f u (there_left _ _ q); classifiers = λ c q. g c (there_left _ _ q) },
+    record { types = λ u q. f u (there_right _ _ q); classifiers = λ c q. g c (there_right _ _ q) },
+  )
+
   made_same : (a : TypeExpression) → Part a → apply (candidate root (apply s root)) a ≡ apply s a
   made_same int_ty h = refl
   made_same bool_ty h = refl
@@ -82,28 +94,14 @@ module _ (s : Substitution) (root : TypeExpression) where
       taken (s.ty v) int_ty _ (right_type s v root)
       (h.types v (there_same (s.ty v) (nat_eq v v) None (eq-eqb v v refl)))
   made_same (pair_ty a b) h =
-      let one : Part a = record {
-        types = λ u q. h.types u (there_left _ _ q);
-        classifiers = λ c q. h.classifiers c (there_left _ _ q);
-      } in
-      let two : Part b = record {
-        types = λ u q. h.types u (there_right _ _ q);
-        classifiers = λ c q. h.classifiers c (there_right _ _ q);
-      } in
-      let p = made_same a one in
-      let q = made_same b two in
+      let c = halves a b h.types h.classifiers in
+      let p = made_same a c.0 in
+      let q = made_same b c.1 in
       rw (p, q) refl
   made_same (function_ty a b) h =
-      let one : Part a = record {
-        types = λ u q. h.types u (there_left _ _ q);
-        classifiers = λ c q. h.classifiers c (there_left _ _ q);
-      } in
-      let two : Part b = record {
-        types = λ u q. h.types u (there_right _ _ q);
-        classifiers = λ c q. h.classifiers c (there_right _ _ q);
-      } in
-      let p = made_same a one in
-      let q = made_same b two in
+      let c = halves a b h.types h.classifiers in
+      let p = made_same a c.0 in
+      let q = made_same b c.1 in
       rw (p, q) refl
   made_same (code_ty e a) h =
       let here = there_same (s.classifier e) (nat_eq e e) (classifier_for e a (apply s a)) (eq-eqb e e refl) in
@@ -115,9 +113,7 @@ module _ (s : Substitution) (root : TypeExpression) where
       let p = made_same a below in
       rw (n, p) refl
   made_same (closed_ty a) h =
-      let below : Part a = record { types = λ u q. h.types u q; classifiers = λ c q. h.classifiers c q } in
-      let p = made_same a below in
-      rw p refl
+      let p = made_same a (record { types = h.types; classifiers = h.classifiers }) in rw p refl
 
 -- so a type is made from a root exactly where the candidate makes it
 pub made_by_candidate : (root t : TypeExpression) → IsMadeFrom root t → apply (candidate root t) root ≡ t
@@ -167,12 +163,8 @@ classifier_absent a (function_ty s t) h =
     let p = either-false _ _ h in (classifier_absent a s p.0, classifier_absent a t p.1)
 classifier_absent a (code_ty c t) h =
     let p = either-false (nat_eq c a) (is_in a t) h in
-    ((λ e. true≢false (sym (eq-eqb c a e) ∙ p.0)), classifier_absent a t p.1)
+    (eqb-false c a p.0, classifier_absent a t p.1)
 classifier_absent a (closed_ty t) h = classifier_absent a t h
-
-differ : (c a : ℕ) (b : Bool) → nat_eq c a ≡ b → c ≢ a → b ≡ false
-differ c a false e n = refl
-differ c a true e n = absurd (n (eqb-true c a e))
 
 pub absent_classifier : (a : ℕ) (t : TypeExpression) → IsNotIn a t → is_in a t ≡ false
 absent_classifier a int_ty h = refl
@@ -180,5 +172,5 @@ absent_classifier a bool_ty h = refl
 absent_classifier a (unknown u) h = refl
 absent_classifier a (pair_ty s t) h = both-false _ _ (absent_classifier a s h.0) (absent_classifier a t h.1)
 absent_classifier a (function_ty s t) h = both-false _ _ (absent_classifier a s h.0) (absent_classifier a t h.1)
-absent_classifier a (code_ty c t) h = both-false _ _ (differ c a (nat_eq c a) refl h.0) (absent_classifier a t h.1)
+absent_classifier a (code_ty c t) h = both-false _ _ (ne_eqb c a h.0) (absent_classifier a t h.1)
 absent_classifier a (closed_ty t) h = absent_classifier a t h

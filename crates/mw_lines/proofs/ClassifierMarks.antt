@@ -1,9 +1,10 @@
 -- Whether a classifier stands in the types of lines is told by a walk down the marks of what holds code.
 use Rattle.std.proofs.Common.{◌≡◌, ℕ, zero, suc, ◌<◌, ◌≤◌, ◌⊎◌, inl, inr, Bool, true, false, cond, List, [], ◌∷◌}
-use Rattle.std.proofs.Common.{length, get_or, Some, None, refl, ap, ◌∙◌, arith, subst}
+use Rattle.std.proofs.Common.{length, Some, None, refl, ap, ◌∙◌, arith, subst}
 use Rattle.std.specs.Prelude.{slice_get, slice_index, slice_set}
 use Rattle.std.proofs.lemmas.Option.{slice_get_within, slice_get-get_or}
-use Rattle.mw_types.specs.Types.{TypeExpression, int_ty, bool_ty, unknown, pair_ty, function_ty, code_ty, closed_ty}
+use Rattle.std.proofs.lemmas.List.{get_or_past}
+use Rattle.mw_types.specs.Types.{TypeExpression, int_ty, bool_ty, unknown, pair_ty, function_ty}
 use Rattle.mw_types.proofs.Lists.{set_length}
 use Rattle.mw_lines.specs.TypeLines.{TypeLine, int_line, bool_line, unknown_line, pair_line, arrow_line, code_line}
 use Rattle.mw_lines.specs.TypeLines.{closed_line}
@@ -39,8 +40,7 @@ none_without_code a (pair_ty s t) h =
     let p = either-false _ _ h in both-false _ _ (none_without_code a s p.0) (none_without_code a t p.1)
 none_without_code a (function_ty s t) h =
     let p = either-false _ _ h in both-false _ _ (none_without_code a s p.0) (none_without_code a t p.1)
-none_without_code a (code_ty c t) h = absurd (cc)
-none_without_code a (closed_ty t) h = absurd (cc)
+none_without_code a _ h = absurd (cc)
 
 -- marks after one more
 set_grows : (marks : List Bool) (i k : ℕ) → is_marked marks k ≡ true → is_marked (slice_set marks i true) k ≡ true
@@ -109,11 +109,6 @@ module _ (t : TypeLines) where
         parts_of (types_of t) p l (type_at t p) (omega arith) (held.lines.each p l (type_at t p) h s)
 
     -- past the lines
-    past_end : (ts : List TypeExpression) (p : ℕ) → length ts ≤ p → get_or ts p int_ty ≡ int_ty
-    past_end [] p h = refl
-    past_end (u ∷ ts) zero h = absurd (omega arith)
-    past_end (u ∷ ts) (suc p) h = past_end ts p (omega arith)
-
     no_line : (ls : List TypeLine) (p : ℕ) → slice_get ls p ≡ None → length ls ≤ p
     no_line [] p h = omega arith
     no_line (l ∷ ls) zero h = absurd (cc)
@@ -123,7 +118,7 @@ module _ (t : TypeLines) where
     none_past a p h =
         let n = no_line (lines_of t) p h in
         let c = held.lines.count in
-        rw (past_end (types_of t) p (omega arith)) refl
+        rw (get_or_past (types_of t) p int_ty (omega arith)) refl
 
     -- a step down
     module _ (a p : ℕ) (l : TypeLine) (at : slice_get (lines_of t) p ≡ Some l) where
@@ -132,12 +127,7 @@ module _ (t : TypeLines) where
         where
           named : (l : TypeLine) → names_classifier a l ≡ true → is_in a (type_named (types_of t) l) ≡ true
           named (code_line c i) h = rw h refl
-          named int_line h = absurd (cc)
-          named bool_line h = absurd (cc)
-          named (unknown_line u) h = absurd (cc)
-          named (pair_line i j) h = absurd (cc)
-          named (arrow_line i j) h = absurd (cc)
-          named (closed_line i) h = absurd (cc)
+          named _ h = absurd (cc)
 
       -- a part of the line that is no mark holds no code
       part_clear : (old new : List Bool) (i : ℕ) → i < p
@@ -205,11 +195,7 @@ module _ (t : TypeLines) where
             grows = λ k h. mark_grows (marks_with t i old) j k (mark_grows old i k h);
             clear = λ k h. two_parts old i j k m h (λ z. either-false _ _ (rw e at z));
           }
-          by_line int_line e = record { count = refl; grows = λ k h. h; clear = λ k h. inl h }
-          by_line bool_line e = record { count = refl; grows = λ k h. h; clear = λ k h. inl h }
-          by_line (unknown_line u) e = record { count = refl; grows = λ k h. h; clear = λ k h. inl h }
-          by_line (code_line c i) e = record { count = refl; grows = λ k h. h; clear = λ k h. inl h }
-          by_line (closed_line i) e = record { count = refl; grows = λ k h. h; clear = λ k h. inl h }
+          by_line _ e = record { count = refl; grows = λ k h. h; clear = λ k h. inl h }
 
 -- the places' types
 pub one_clear : (t : TypeLines) (a : ℕ) (places : List ℕ) → is_in_one t a places ≡ false → (i : ℕ) → i < length places

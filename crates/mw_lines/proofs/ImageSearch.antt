@@ -5,6 +5,7 @@ use Rattle.std.proofs.Common.{None, refl, ap, sym, ◌∙◌, arith, subst, true
 use Rattle.std.specs.Prelude.{slice_get}
 use Rattle.std.proofs.lemmas.Bool.{eq-eqb}
 use Rattle.std.proofs.lemmas.Option.{slice_get_within, slice_get-get_or, slice_get_read, get_or_from_slice_get}
+use Rattle.std.proofs.lemmas.List.{get_or_push}
 use Rattle.mw_types.specs.Types.{TypeExpression, int_ty, Substitution, apply}
 use Rattle.mw_lines.specs.TypeLines.{TypeLine, int_line, bool_line, unknown_line, pair_line, arrow_line, code_line}
 use Rattle.mw_lines.specs.TypeLines.{closed_line, NamesType, names_int, names_bool, names_unknown, names_pair}
@@ -41,10 +42,6 @@ blank_more xs ys n e h = record {
     more (x ∷ xs) zero h = h zero
     more (x ∷ xs) (suc k) h = more xs k (λ k. h (suc k))
 
-last_read : (xs : List (Option ℕ)) (i : ℕ) → get_or (xs ++ Some i ∷ []) (length xs) None ≡ Some i
-last_read [] i = refl
-last_read (x ∷ xs) i = last_read xs i
-
 last_alone : (xs : List (Option ℕ)) (i k j : ℕ) → ((k : ℕ) → get_or xs k None ≡ None)
     → get_or (xs ++ Some i ∷ []) k None ≡ Some j
     → (k ≡ length xs) × (j ≡ i)
@@ -58,7 +55,7 @@ pub first_image : (m : Images) (xs : List (Option ℕ)) (n image : ℕ) → AreB
     → m.classifiers.entries ≡ [] → IsFirst m n image
 first_image m xs n image h e d = record {
   count = rw e (simp length-append (let l = h.long in omega arith));
-  here = rw (e, sym h.long) (last_read xs image);
+  here = rw e (get_or_push xs (Some image) None n h.long);
   alone = λ k i q. let p = last_alone xs image k i h.none (rw e at q) in (p.0 ∙ h.long, p.1);
   unnamed = λ c. rw d refl;
 }

@@ -5,9 +5,9 @@ use Rattle.std.proofs.Common.{◌∙◌, arith, subst, true≢false, append_asso
 use Rattle.std.proofs.Common.{take-append-drop, ◌↔◌}
 use Rattle.std.specs.Prelude.{slice_get}
 use Rattle.std.proofs.Math.Seq.{take-append_seam}
-use Rattle.std.proofs.lemmas.Bool.{eqb-true, eq-eqb, ltb-true, lt-ltb}
+use Rattle.std.proofs.lemmas.Bool.{and_parts, eqb-true, eq-eqb, ltb-true, lt-ltb}
 use Rattle.std.proofs.lemmas.Option.{slice_get_within, slice_get-get_or, get_or_from_slice_get}
-use Rattle.mw_types.specs.Types.{TypeExpression, int_ty, bool_ty, unknown, pair_ty, function_ty, code_ty, closed_ty}
+use Rattle.mw_types.specs.Types.{TypeExpression, int_ty, bool_ty, unknown, pair_ty, function_ty}
 use Rattle.mw_lines.specs.TypeLines.{TypeLine, int_line, bool_line, unknown_line, pair_line, arrow_line, code_line}
 use Rattle.mw_lines.specs.TypeLines.{closed_line, AreTypeLines, NamesType, NamesPart, names_int, names_bool}
 use Rattle.mw_lines.specs.TypeLines.{names_unknown, names_pair, names_arrow, names_code, names_closed, HoldsNoCode}
@@ -43,14 +43,10 @@ in_pushed (z ∷ xs) y (suc i) x h =
 
 -- tests
 pub and-both : (x y : Bool) → (x && y) ≡ true → (x ≡ true) × (y ≡ true)
-and-both true true h = (refl, refl)
-and-both true false h = absurd (cc)
-and-both false y h = absurd (cc)
+and-both x y h = and_parts x y h
 
 pub and-true : (x y : Bool) → x ≡ true → y ≡ true → (x && y) ≡ true
-and-true true true h g = refl
-and-true true false h g = absurd (cc)
-and-true false y h g = absurd (cc)
+and-true x y h g = rw (h, g) refl
 
 pub not-false : (x : Bool) → not x ≡ true → x ≡ false
 not-false true h = absurd (cc)
@@ -61,8 +57,7 @@ either-false true y h = absurd (cc)
 either-false false y h = (refl, h)
 
 pub both-false : (x y : Bool) → x ≡ false → y ≡ false → cond x true y ≡ false
-both-false true y h g = absurd (cc)
-both-false false y h g = g
+both-false x y h g = rw (h, g) refl
 
 -- whether a type holds code
 pub code_absent : (t : TypeExpression) → holds_code t ≡ false → HoldsNoCode t
@@ -71,8 +66,7 @@ code_absent bool_ty h = tt
 code_absent (unknown u) h = tt
 code_absent (pair_ty s t) h = let p = either-false _ _ h in (code_absent s p.0, code_absent t p.1)
 code_absent (function_ty s t) h = let p = either-false _ _ h in (code_absent s p.0, code_absent t p.1)
-code_absent (code_ty c t) h = absurd (cc)
-code_absent (closed_ty t) h = absurd (cc)
+code_absent _ h = absurd (cc)
 
 pub absent_code : (t : TypeExpression) → HoldsNoCode t → holds_code t ≡ false
 absent_code int_ty h = refl
@@ -80,8 +74,7 @@ absent_code bool_ty h = refl
 absent_code (unknown u) h = refl
 absent_code (pair_ty s t) h = both-false _ _ (absent_code s h.0) (absent_code t h.1)
 absent_code (function_ty s t) h = both-false _ _ (absent_code s h.0) (absent_code t h.1)
-absent_code (code_ty c t) h = absurd h
-absent_code (closed_ty t) h = absurd h
+absent_code _ h = absurd h
 
 -- whether lines are the same
 pub line_same : (k l : TypeLine) → same_line k l ≡ true → k ≡ l
@@ -296,8 +289,6 @@ all_named : (ls ms : List TypeLine) (us vs : List TypeExpression) → length us 
     → AreTypeLines (ls ++ ms) (us ++ vs)
     → us ++ vs ≡ types_after us ms
 all_named ls [] us [] e f table = append-nil us
-all_named ls [] us (t ∷ vs) e f table = absurd (omega arith)
-all_named ls (l ∷ ms) us [] e f table = absurd (omega arith)
 all_named ls (l ∷ ms) us (t ∷ vs) e f table =
     let big : AreTypeLines ((ls ++ l ∷ []) ++ ms) ((us ++ t ∷ []) ++ vs) = rw (append_assoc, append_assoc) table in
     let long : length (us ++ t ∷ []) ≡ length (ls ++ l ∷ []) = simp length-append (rw e refl) in
@@ -305,6 +296,7 @@ all_named ls (l ∷ ms) us (t ∷ vs) e f table =
     let same = last_type ls us l t e small in
     let rest = all_named (ls ++ l ∷ []) ms (us ++ t ∷ []) vs long (omega arith) big in
     sym (append_assoc us (t ∷ []) vs) ∙ rest ∙ ap (λ x. types_after (us ++ x ∷ []) ms) same
+all_named ls _ us _ e f table = absurd (omega arith)
 
 pub one_list : (lines : List TypeLine) (ts : List TypeExpression) → AreTypeLines lines ts → ts ≡ types_named lines
 one_list lines ts table = all_named [] lines [] ts refl table.count table

@@ -1,5 +1,5 @@
 -- In a table two lines never name one type, so types are compared by the places of their lines.
-use Rattle.std.proofs.Common.{◌≡◌, ℕ, List, get_or, Some, refl, sym, ◌∙◌, arith}
+use Rattle.std.proofs.Common.{◌≡◌, ℕ, List, get_or, Some, refl, arith}
 use Rattle.std.specs.Prelude.{slice_get}
 use Rattle.std.proofs.lemmas.Option.{slice_get_within, slice_get-get_or}
 use Rattle.mw_types.specs.Types.{TypeExpression, int_ty, bool_ty, unknown, pair_ty, function_ty, code_ty, closed_ty}
@@ -46,50 +46,33 @@ module _ (lines : List TypeLine) (ts : List TypeExpression) (table : AreTypeLine
       let s = slice_get-get_or lines i int_line (omega (arith, within, table.count)) in
       (get_or lines i int_line, s, table.each i (get_or lines i int_line) t s h)
 
-  -- equal lines stand at one place
-  once : (i j : ℕ) (l k : TypeLine) → slice_get lines i ≡ Some l → slice_get lines j ≡ Some k → l ≡ k → i ≡ j
-  once i j l k h g e = table.once i j l h (rw (sym e) at g)
+  -- lines of one type are one, and stand at one place
+  abbrev pub HasOneLine : TypeExpression → Type 0
+  HasOneLine t = (i j : ℕ) (l k : TypeLine) → NamesType ts i l t → NamesType ts j k t → l ≡ k
+
+  one_place : (t : TypeExpression) → HasOneLine t → (i j : ℕ) → slice_get ts i ≡ Some t → slice_get ts j ≡ Some t
+      → i ≡ j
+  one_place t f i j h g =
+      let a = line_at i t h in
+      let b = line_at j t g in
+      table.once i j a.0 a.1 (rw (f j i b.0 a.0 b.2 a.2) at b.1)
+
+  pub has_one_line : (t : TypeExpression) → HasOneLine t
+  has_one_line int_ty i j l k names_int names_int = refl
+  has_one_line bool_ty i j l k names_bool names_bool = refl
+  has_one_line (unknown u) i j l k names_unknown names_unknown = refl
+  has_one_line (pair_ty s t) i j l k (names_pair a b) (names_pair c d) =
+      let p = one_place s (has_one_line s) _ _ a.named c.named in
+      let q = one_place t (has_one_line t) _ _ b.named d.named in
+      rw (p, q) refl
+  has_one_line (function_ty s t) i j l k (names_arrow a b) (names_arrow c d) =
+      let p = one_place s (has_one_line s) _ _ a.named c.named in
+      let q = one_place t (has_one_line t) _ _ b.named d.named in
+      rw (p, q) refl
+  has_one_line (code_ty c t) i j l k (names_code a p) (names_code b q) =
+      rw (one_place t (has_one_line t) _ _ a.named b.named) refl
+  has_one_line (closed_ty t) i j l k (names_closed a p) (names_closed b q) =
+      rw (one_place t (has_one_line t) _ _ a.named b.named) refl
 
   pub one_line : (t : TypeExpression) (i j : ℕ) → slice_get ts i ≡ Some t → slice_get ts j ≡ Some t → i ≡ j
-  one_line int_ty i j h g =
-      let a = line_at i int_ty h in
-      let b = line_at j int_ty g in
-      once i j a.0 b.0 a.1 b.1 (inv-int a.2 ∙ sym (inv-int b.2))
-  one_line bool_ty i j h g =
-      let a = line_at i bool_ty h in
-      let b = line_at j bool_ty g in
-      once i j a.0 b.0 a.1 b.1 (inv-bool a.2 ∙ sym (inv-bool b.2))
-  one_line (unknown u) i j h g =
-      let a = line_at i (unknown u) h in
-      let b = line_at j (unknown u) g in
-      once i j a.0 b.0 a.1 b.1 (inv-unknown a.2 ∙ sym (inv-unknown b.2))
-  one_line (pair_ty s t) i j h g =
-      let a = line_at i (pair_ty s t) h in
-      let b = line_at j (pair_ty s t) g in
-      let p = inv-pair a.2 in
-      let q = inv-pair b.2 in
-      let m = one_line s p.0 q.0 p.3 q.3 in
-      let n = one_line t p.1 q.1 p.4 q.4 in
-      once i j a.0 b.0 a.1 b.1 (p.2 ∙ rw (m, n) (sym q.2))
-  one_line (function_ty s t) i j h g =
-      let a = line_at i (function_ty s t) h in
-      let b = line_at j (function_ty s t) g in
-      let p = inv-arrow a.2 in
-      let q = inv-arrow b.2 in
-      let m = one_line s p.0 q.0 p.3 q.3 in
-      let n = one_line t p.1 q.1 p.4 q.4 in
-      once i j a.0 b.0 a.1 b.1 (p.2 ∙ rw (m, n) (sym q.2))
-  one_line (code_ty c t) i j h g =
-      let a = line_at i (code_ty c t) h in
-      let b = line_at j (code_ty c t) g in
-      let p = inv-code a.2 in
-      let q = inv-code b.2 in
-      let m = one_line t p.0 q.0 p.2 q.2 in
-      once i j a.0 b.0 a.1 b.1 (p.1 ∙ rw m (sym q.1))
-  one_line (closed_ty t) i j h g =
-      let a = line_at i (closed_ty t) h in
-      let b = line_at j (closed_ty t) g in
-      let p = inv-closed a.2 in
-      let q = inv-closed b.2 in
-      let m = one_line t p.0 q.0 p.2 q.2 in
-      once i j a.0 b.0 a.1 b.1 (p.1 ∙ rw m (sym q.1))
+  one_line t i j h g = one_place t (has_one_line t) i j h g

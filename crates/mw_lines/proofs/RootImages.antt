@@ -13,6 +13,8 @@ use Rattle.mw_lines.specs.TypeLines.{names_arrow, names_code, names_closed}
 use Rattle.mw_lines.specs.Made.{IsMadeFrom}
 use Rattle.mw_lines.specs.Images.{IsImage, HasImage}
 use Rattle.mw_lines.specs.Deciding.{or, same_type}
+use Rattle.mw_lines.specs.Naming.{type_named}
+use Rattle.mw_lines.proofs.NamedTypes.{one_type}
 use Rattle.mw_lines.proofs.Candidates.{type_same, same_type-refl}
 use Rattle.mw_lines.proofs.OneLine.{line_at, one_line, inv-int, inv-bool, inv-unknown, inv-pair, inv-arrow, inv-code}
 use Rattle.mw_lines.proofs.OneLine.{inv-closed}
@@ -21,12 +23,7 @@ use Rattle.mw_lines.proofs.OneLine.{inv-closed}
 unknown_place : List TypeLine → ℕ → ℕ
 unknown_place [] u = 0
 unknown_place (unknown_line v ∷ ls) u = cond (nat_eq v u) 0 (suc (unknown_place ls u))
-unknown_place (int_line ∷ ls) u = suc (unknown_place ls u)
-unknown_place (bool_line ∷ ls) u = suc (unknown_place ls u)
-unknown_place (pair_line i j ∷ ls) u = suc (unknown_place ls u)
-unknown_place (arrow_line i j ∷ ls) u = suc (unknown_place ls u)
-unknown_place (code_line c i ∷ ls) u = suc (unknown_place ls u)
-unknown_place (closed_line i ∷ ls) u = suc (unknown_place ls u)
+unknown_place (_ ∷ ls) u = suc (unknown_place ls u)
 
 found-step : (ls : List TypeLine) (v u n : ℕ) → slice_get ls n ≡ Some (unknown_line u)
     → slice_get (unknown_line v ∷ ls) (cond (nat_eq v u) 0 (suc n)) ≡ Some (unknown_line u)
@@ -39,41 +36,8 @@ unknown_place-found [] k u h = absurd (cc)
 unknown_place-found (unknown_line v ∷ ls) zero u h = let p : v ≡ u = cc in rw p (grind arith)
 unknown_place-found (unknown_line v ∷ ls) (suc k) u h =
     found-step ls v u (unknown_place ls u) (unknown_place-found ls k u h)
-unknown_place-found (int_line ∷ ls) zero u h = absurd (cc)
-unknown_place-found (int_line ∷ ls) (suc k) u h = unknown_place-found ls k u h
-unknown_place-found (bool_line ∷ ls) zero u h = absurd (cc)
-unknown_place-found (bool_line ∷ ls) (suc k) u h = unknown_place-found ls k u h
-unknown_place-found (pair_line i j ∷ ls) zero u h = absurd (cc)
-unknown_place-found (pair_line i j ∷ ls) (suc k) u h = unknown_place-found ls k u h
-unknown_place-found (arrow_line i j ∷ ls) zero u h = absurd (cc)
-unknown_place-found (arrow_line i j ∷ ls) (suc k) u h = unknown_place-found ls k u h
-unknown_place-found (code_line c i ∷ ls) zero u h = absurd (cc)
-unknown_place-found (code_line c i ∷ ls) (suc k) u h = unknown_place-found ls k u h
-unknown_place-found (closed_line i ∷ ls) zero u h = absurd (cc)
-unknown_place-found (closed_line i ∷ ls) (suc k) u h = unknown_place-found ls k u h
-
--- the type that a line names, where its parts are named
-form-pair : {us : List TypeExpression} {i j k : ℕ} {s t : TypeExpression} {u : TypeExpression}
-    → NamesType us i (pair_line j k) u → slice_get us j ≡ Some s → slice_get us k ≡ Some t → u ≡ pair_ty s t
-form-pair (names_pair a b) h g = let p = a.named in let q = b.named in cc
-
-form-arrow : {us : List TypeExpression} {i j k : ℕ} {s t : TypeExpression} {u : TypeExpression}
-    → NamesType us i (arrow_line j k) u → slice_get us j ≡ Some s → slice_get us k ≡ Some t → u ≡ function_ty s t
-form-arrow (names_arrow a b) h g = let p = a.named in let q = b.named in cc
-
-form-code : {us : List TypeExpression} {i c j : ℕ} {s : TypeExpression} {u : TypeExpression}
-    → NamesType us i (code_line c j) u → slice_get us j ≡ Some s → u ≡ code_ty c s
-form-code (names_code a n) h = let p = a.named in cc
-
-form-closed : {us : List TypeExpression} {i j : ℕ} {s : TypeExpression} {u : TypeExpression}
-    → NamesType us i (closed_line j) u → slice_get us j ≡ Some s → u ≡ closed_ty s
-form-closed (names_closed a n) h = let p = a.named in cc
-
-form-int : {us : List TypeExpression} {i : ℕ} {u : TypeExpression} → NamesType us i int_line u → u ≡ int_ty
-form-int names_int = refl
-
-form-bool : {us : List TypeExpression} {i : ℕ} {u : TypeExpression} → NamesType us i bool_line u → u ≡ bool_ty
-form-bool names_bool = refl
+unknown_place-found (_ ∷ ls) zero u h = absurd (cc)
+unknown_place-found (_ ∷ ls) (suc k) u h = unknown_place-found ls k u h
 
 -- the forms of images
 image-pair : (f g : ℕ → Option ℕ) (i j : ℕ) (x : TypeLine) → IsImage f g (pair_line i j) x
@@ -118,25 +82,22 @@ module _ (ls : List TypeLine) (ts : List TypeExpression) (known : AreTypeLines l
   pub by : Substitution
   by = record { ty = λ u. get_or us (or (image (unknown_place ls u)) 0) int_ty; classifier = λ c. or (named c) 0 }
 
-  -- the type of a line of the second list
-  type_at : (i : ℕ) (x : TypeLine) → slice_get ms i ≡ Some x
-      → (u : TypeExpression) × (slice_get us i ≡ Some u) × NamesType us i x u
-  type_at i x h =
-      let within = slice_get_within ms i x h in
-      let s = slice_get-get_or us i int_ty (omega (arith, within, table.count)) in
-      (get_or us i int_ty, s, table.each i x (get_or us i int_ty) h s)
-
   -- a line's image, where the line is known
   image_at : HaveImages → (k i : ℕ) (a l : TypeLine) → slice_get ls k ≡ Some a → a ≡ l → image k ≡ Some i
       → (x : TypeLine) × (slice_get ms i ≡ Some x) × IsImage image named l x
   image_at all k i a l h e f = all k l i (h ∙ ap (λ z. Some z) e) f
 
-  -- the type of a line, where the line names no other
-  named_at : (i : ℕ) (x y : TypeLine) (u : TypeExpression) → slice_get ms i ≡ Some x → x ≡ y
-      → ((v : TypeExpression) → NamesType us i y v → v ≡ u) → slice_get us i ≡ Some u
-  named_at i x y u h e f =
-      let z = type_at i y (h ∙ ap (λ l. Some l) e) in
-      z.1 ∙ ap (λ v. Some v) (f z.0 z.2)
+  -- the type that an image names
+  named_at : (i : ℕ) (x y : TypeLine) → slice_get ms i ≡ Some x → x ≡ y → slice_get us i ≡ Some (type_named us y)
+  named_at i x y h e =
+      let within = slice_get_within ms i x h in
+      let s = slice_get-get_or us i int_ty (omega (arith, within, table.count)) in
+      s ∙ ap (λ v. Some v) (one_type us i y (get_or us i int_ty)
+      (table.each i y (get_or us i int_ty) (h ∙ ap (λ l. Some l) e) s))
+
+  -- the type at a place
+  type_at : (i : ℕ) (t : TypeExpression) → slice_get us i ≡ Some t → get_or us i int_ty ≡ t
+  type_at i t h = get_or_from_slice_get us i t int_ty h
 
   -- then each line's image names what the substitution makes of the line's type
   pub image_named : HaveImages → (t : TypeExpression) (k i : ℕ) → slice_get ts k ≡ Some t → image k ≡ Some i
@@ -145,11 +106,11 @@ module _ (ls : List TypeLine) (ts : List TypeExpression) (known : AreTypeLines l
   image_named all int_ty k i h e =
       let a = line_at ls ts known k int_ty h in
       let x = image_at all k i a.0 int_line a.1 (inv-int a.2) e in
-      named_at i x.0 int_line int_ty x.1 (image-int image named x.0 x.2) (λ v w. form-int w)
+      named_at i x.0 int_line x.1 (image-int image named x.0 x.2)
   image_named all bool_ty k i h e =
       let a = line_at ls ts known k bool_ty h in
       let x = image_at all k i a.0 bool_line a.1 (inv-bool a.2) e in
-      named_at i x.0 bool_line bool_ty x.1 (image-bool image named x.0 x.2) (λ v w. form-bool w)
+      named_at i x.0 bool_line x.1 (image-bool image named x.0 x.2)
   image_named all (unknown u) k i h e =
       let a = line_at ls ts known k (unknown u) h in
       let here : slice_get ls k ≡ Some (unknown_line u) = a.1 ∙ ap (λ l. Some l) (inv-unknown a.2) in
@@ -165,8 +126,7 @@ module _ (ls : List TypeLine) (ts : List TypeExpression) (known : AreTypeLines l
       let q = image-pair image named p.0 p.1 x.0 x.2 in
       let one = image_named all s p.0 q.0 p.3 q.3 in
       let two = image_named all t p.1 q.1 p.4 q.4 in
-      named_at i x.0 (pair_line q.0 q.1) (apply by (pair_ty s t)) x.1 q.2
-      (λ v w. form-pair {j = q.0} {k = q.1} w one two)
+      named_at i x.0 (pair_line q.0 q.1) x.1 q.2 ∙ rw (type_at q.0 _ one, type_at q.1 _ two) refl
   image_named all (function_ty s t) k i h e =
       let a = line_at ls ts known k (function_ty s t) h in
       let p = inv-arrow a.2 in
@@ -174,8 +134,7 @@ module _ (ls : List TypeLine) (ts : List TypeExpression) (known : AreTypeLines l
       let q = image-arrow image named p.0 p.1 x.0 x.2 in
       let one = image_named all s p.0 q.0 p.3 q.3 in
       let two = image_named all t p.1 q.1 p.4 q.4 in
-      named_at i x.0 (arrow_line q.0 q.1) (apply by (function_ty s t)) x.1 q.2
-      (λ v w. form-arrow {j = q.0} {k = q.1} w one two)
+      named_at i x.0 (arrow_line q.0 q.1) x.1 q.2 ∙ rw (type_at q.0 _ one, type_at q.1 _ two) refl
   image_named all (code_ty c t) k i h e =
       let a = line_at ls ts known k (code_ty c t) h in
       let p = inv-code a.2 in
@@ -183,15 +142,14 @@ module _ (ls : List TypeLine) (ts : List TypeExpression) (known : AreTypeLines l
       let q = image-code image named c p.0 x.0 x.2 in
       let one = image_named all t p.0 q.1 p.2 q.4 in
       let n : or (named c) 0 ≡ q.0 = or_of (named c) q.0 0 q.3 in
-      named_at i x.0 (code_line q.0 q.1) (apply by (code_ty c t)) x.1 q.2
-      (λ v w. form-code w one ∙ ap (λ d. code_ty d (apply by t)) (sym n))
+      named_at i x.0 (code_line q.0 q.1) x.1 q.2 ∙ rw (type_at q.1 _ one, n) refl
   image_named all (closed_ty t) k i h e =
       let a = line_at ls ts known k (closed_ty t) h in
       let p = inv-closed a.2 in
       let x = image_at all k i a.0 (closed_line p.0) a.1 p.1 e in
       let q = image-closed image named p.0 x.0 x.2 in
       let one = image_named all t p.0 q.0 p.2 q.2 in
-      named_at i x.0 (closed_line q.0) (apply by (closed_ty t)) x.1 q.1 (λ v w. form-closed w one)
+      named_at i x.0 (closed_line q.0) x.1 q.1 ∙ rw (type_at q.0 _ one) refl
 
   -- so where the root's line has an image, that line names a type made from the root
   pub made : HaveImages → (root t : TypeExpression) (r i : ℕ) → slice_get ts r ≡ Some root → image r ≡ Some i

@@ -6,6 +6,7 @@ use Rattle.std.specs.List.{AllByRecursion}
 use Rattle.std.proofs.lemmas.Bool.{le-leb}
 use Rattle.std.proofs.lemmas.List.{length-map, map-append, drop_more}
 use Rattle.std.proofs.Math.ListN.{drop_of_length-le}
+use Rattle.std.proofs.Common.{append-nil}
 use Rattle.mw_term.specs.Terms.{Expression, size, depth_of, expression_of, kernel_type_of}
 use Rattle.mw_wasm.specs.declared.modules.Func.{Func}
 use Rattle.mw_wasm.specs.Views.{function_of}
@@ -19,7 +20,6 @@ use Rattle.mw_conv.specs.Convert.{functions, funs}
 use Rattle.mw_conv.proofs.Scopes.{functions_length}
 use Rattle.mw_key.specs.declared.version.Version.TheVariants.{Two}
 use Rattle.mw_gen.specs.Generate.{closure_type, function_for, more_types}
-use Rattle.mw_gen.proofs.Stores.{append_none}
 use Rattle.mw_link.specs.Linked.{Kernel, calls, count, init_name, call_exports, exports_from, all_functions, call_types}
 use Rattle.mw_link.specs.Linked.{call_of_type, init_from, outer_functions}
 use Rattle.mw_link.specs.LinkLaw.{IsLinkable, AreLinkable, LiteralsOfAllFit}
@@ -75,43 +75,25 @@ pub going_done : (all : List Kernel) (inner outer : List Function) (types : List
     → Going all [] inner outer types → (inner ≡ map (function_for Two) (all_functions 0 all))
     × (outer ≡ outer_functions 0 2 all) × (types ≡ closure_type ∷ init_type ∷ call_types all) × LiteralsOfAllFit all
 going_done all inner outer types g = (
-  sym (append_none inner) ∙ g.inner_is,
-  sym (append_none outer) ∙ g.outer_is,
-  sym (append_none types) ∙ g.types_are,
+  sym (append-nil inner) ∙ g.inner_is,
+  sym (append-nil outer) ∙ g.outer_is,
+  sym (append-nil types) ∙ g.types_are,
   g.literals tt,
 )
 
-call_types_few : (ps : List Kernel) → length (call_types ps) ≤ length ps
+pub call_types_few : (ps : List Kernel) → length (call_types ps) ≤ length ps
 call_types_few [] = omega arith
 call_types_few (p ∷ ps) =
-    omega (
-      arith,
-      length-append (more_types p.kind) (call_types ps),
-      types_length p.kind,
-      calls_one p.kind,
-      call_types_few ps,
-    )
+    simp (length-append, types_length p.kind) (omega (arith, calls_one p.kind, call_types_few ps))
 
 -- few functions and types so far
 pub going_few : (all left : List Kernel) (inner outer : List Function) (types : List FuncType) → AreLinkable all
     → Going all left inner outer types → (length inner ≤ 100000) × (length types ≤ 102)
 going_few all left inner outer types are g =
     let a : length inner ≤ count all =
-    (let e = ap length g.inner_is in omega (
-      arith,
-      length-append inner
-          (map (function_for Two) (all_functions (length inner) left)),
-      length-map (all_functions 0 all)
-          (function_for Two),
-      e,
-    )) in
+    omega (arith, simp (length-append, length-map) at (ap length g.inner_is)) in
     let b : length types ≤ 2 + length all =
-    (let e = ap length g.types_are in omega (
-      arith,
-      length-append types (call_types left),
-      call_types_few all,
-      e,
-    )) in
+    omega (arith, call_types_few all, simp length-append at (ap length g.types_are)) in
     (omega (arith, are.together), omega (arith, are.few))
 
 -- the same of kernels as they are given
@@ -168,5 +150,5 @@ pub exports_end : (ls : List Linkable) (i number base : ℕ) (out : List Exporti
     → out ++ exports_from number (kernels_of (drop i ls)) ≡ exports_from base (kernels_of ls)
     → out ≡ exports_from base (kernels_of ls)
 exports_end ls i number base out le g =
-    sym (append_none out) ∙ subst (λ zs. out ++ exports_from number (kernels_of zs) ≡ exports_from base (kernels_of ls))
+    sym (append-nil out) ∙ subst (λ zs. out ++ exports_from number (kernels_of zs) ≡ exports_from base (kernels_of ls))
     (drop_of_length-le ls le) g

@@ -11,7 +11,7 @@ use Rattle.mw_wasm.specs.Instances.{exported_among, function_or}
 use Rattle.mw_wasm.specs.Validity.{NamesDiffer}
 use Rattle.mw_link.specs.Linked.{Kernel, calls, init_name, call_name, call_exports, exports_from}
 use Rattle.mw_link.specs.LinkLaw.{KernelsDiffer}
-use Rattle.mw_link.proofs.Positions.{both_all}
+use Rattle.mw_conv.proofs.Ranges.{both_all}
 
 -- the ends of equal lists, where they are as long
 pub equal_parts : (xs ys us vs : List ℕ) → length us ≡ length vs → xs ++ us ≡ ys ++ vs → (xs ≡ ys) × (us ≡ vs)
@@ -49,37 +49,28 @@ call_of_other : (x y : List ℕ) → (x ≡ y → ⊥) → call_name x ≡ call_
 call_of_other x y f e = f (equal_parts x y (codes ".call") (codes ".call") refl e).0
 
 -- the exports of other kernels have other names
-inits_other : (name : List ℕ) (n : ℕ) (ps : List Kernel) → AllByRecursion (λ (other : Kernel). other.name ≡ name → ⊥) ps
-    → AllByRecursion (Other (init_name name)) (exports_from n ps)
-inits_other name n [] d = tt
-inits_other name n (p ∷ ps) d = (
-  init_of_other p.name name d.0,
-  both_all (Other (init_name name)) (call_exports (suc n) p p.kind) _ (here p.kind)
-      (inits_other name (suc (n + calls p.kind)) ps d.1),
-)
-  where
-    here : (k : KernelType) → AllByRecursion (Other (init_name name)) (call_exports (suc n) p k)
-    here (of_ground g) = tt
-    here (to s t) = (call_is_not_init p.name name, tt)
-
-calls_other : (name : List ℕ) (n : ℕ) (ps : List Kernel) → AllByRecursion (λ (other : Kernel). other.name ≡ name → ⊥) ps
-    → AllByRecursion (Other (call_name name)) (exports_from n ps)
-calls_other name n [] d = tt
-calls_other name n (p ∷ ps) d = (
-  init_is_not_call p.name name,
-  both_all (Other (call_name name)) (call_exports (suc n) p p.kind) _ (here p.kind)
-      (calls_other name (suc (n + calls p.kind)) ps d.1),
-)
-  where
-    here : (k : KernelType) → AllByRecursion (Other (call_name name)) (call_exports (suc n) p k)
-    here (of_ground g) = tt
-    here (to s t) = (call_of_other p.name name d.0, tt)
+module _ (name mine : List ℕ) (inits : (x : List ℕ) → (x ≡ name → ⊥) → init_name x ≡ mine → ⊥)
+    (others : (x : List ℕ) → (x ≡ name → ⊥) → call_name x ≡ mine → ⊥) where
+  all_other : (n : ℕ) (ps : List Kernel) → AllByRecursion (λ (other : Kernel). other.name ≡ name → ⊥) ps
+      → AllByRecursion (Other mine) (exports_from n ps)
+  all_other n [] d = tt
+  all_other n (p ∷ ps) d = (
+    inits p.name d.0,
+    both_all (Other mine) (call_exports (suc n) p p.kind) _ (here p.kind) (all_other (suc (n + calls p.kind)) ps d.1),
+  )
+    where
+      here : (k : KernelType) → AllByRecursion (Other mine) (call_exports (suc n) p k)
+      here (of_ground g) = tt
+      here (to s t) = (others p.name d.0, tt)
 
 pub names_differ : (n : ℕ) (ps : List Kernel) → KernelsDiffer ps → NamesDiffer (exports_from n ps)
 names_differ n [] d = tt
 names_differ n (p ∷ ps) d =
-    go p.kind (exports_from (suc (n + calls p.kind)) ps) (inits_other p.name (suc (n + calls p.kind)) ps d.0)
-    (calls_other p.name (suc (n + calls p.kind)) ps d.0) (names_differ (suc (n + calls p.kind)) ps d.1)
+    let m = suc (n + calls p.kind) in
+    go p.kind (exports_from m ps)
+    (all_other p.name (init_name p.name) (λ x. init_of_other x p.name) (λ x d. call_is_not_init x p.name) m ps d.0)
+    (all_other p.name (call_name p.name) (λ x d. init_is_not_call x p.name) (λ x. call_of_other x p.name) m ps d.0)
+    (names_differ m ps d.1)
   where
     go : (k : KernelType) (es : List Exporting) → AllByRecursion (Other (init_name p.name)) es
         → AllByRecursion (Other (call_name p.name)) es → NamesDiffer es

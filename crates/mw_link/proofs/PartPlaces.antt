@@ -14,24 +14,25 @@ use Rattle.mw_ir.specs.Ir.{Ir, IrFunc}
 use Rattle.mw_ir.specs.Ranges.{IsProper, IsOuterPlace, IsInRange}
 use Rattle.mw_conv.specs.Convert.{funs, lets, code, functions}
 use Rattle.mw_conv.specs.Represents.{Has}
-use Rattle.mw_conv.proofs.Heaps.{has_front, has_back}
-use Rattle.mw_conv.proofs.Scopes.{functions_length}
+use Rattle.mw_conv.proofs.Heaps.{has_front}
+use Rattle.mw_conv.proofs.Scopes.{has_next}
 use Rattle.mw_conv.proofs.Correct.{has_self}
 use Rattle.mw_conv.proofs.Closures.{occurs_below}
 use Rattle.mw_conv.proofs.Ranges.{code_range, functions_proper}
 use Rattle.mw_key.specs.declared.version.Version.TheVariants.{Two}
 use Rattle.mw_gen.specs.Generate.{function_for, call_numbered, more_types}
 use Rattle.mw_gen.proofs.Slots.{slots_needed}
-use Rattle.mw_gen.proofs.Words.{get_append}
 use Rattle.mw_gen.proofs.Correctness.{Fine, Sound, Carries}
 use Rattle.mw_gen.proofs.Valid.{Sees}
 use Rattle.mw_gen.proofs.Ranges.{fine, needs, seen, all_sound, outer_below}
 use Rattle.mw_link.specs.Linked.{Kernel, calls, all_functions, call_types, call_of_type, init_from, outer_functions}
 use Rattle.mw_link.specs.Linked.{init_name, call_name, call_exports, exports_from, count, linked}
 use Rattle.mw_link.proofs.LinkableKernels.{IsWhole, AreWhole}
-use Rattle.mw_link.proofs.Positions.{AtFrom, at_start, at_after, at_front, at_back, both_all}
+use Rattle.mw_link.proofs.Positions.{AtFrom, at_start, at_after, at_front, at_back}
+use Rattle.mw_conv.proofs.Ranges.{both_all}
+use Rattle.mw_conv.proofs.Heaps.{get_append}
 
-calls_length : (x : ℕ) (k : KernelType) → length (call_of_type x k) ≡ calls k
+pub calls_length : (x : ℕ) (k : KernelType) → length (call_of_type x k) ≡ calls k
 calls_length x (of_ground g) = refl
 calls_length x (to s t) = refl
 
@@ -43,9 +44,9 @@ pub types_length : (k : KernelType) → length (more_types k) ≡ calls k
 types_length (of_ground g) = refl
 types_length (to s t) = refl
 
-exports_length : (n : ℕ) (p : Kernel) (k : KernelType) → length (call_exports n p k) ≡ calls k
-exports_length n p (of_ground g) = refl
-exports_length n p (to s t) = refl
+pub call_exports_length : (n : ℕ) (p : Kernel) (k : KernelType) → length (call_exports n p k) ≡ calls k
+call_exports_length n p (of_ground g) = refl
+call_exports_length n p (to s t) = refl
 
 module _ (all : List Kernel) where
   abbrev pub T : List IrFunc
@@ -76,9 +77,7 @@ module _ (all : List Kernel) where
   pub placed_next : (o x n e : ℕ) (p : Kernel) (ps : List Kernel) → Placed o x n e (p ∷ ps)
       → Placed (o + funs p.code) (x + calls p.kind) (suc (n + calls p.kind)) (suc (e + calls p.kind)) ps
   placed_next o x n e p ps h = record {
-    functions =
-        subst (λ k. Has T (o + k) (all_functions (o + funs p.code) ps)) (functions_length p.code o 0)
-        (has_back T o (functions p.code o 0) _ h.functions);
+    functions = has_next T p.code o 0 (λ o. all_functions o ps) h.functions;
     outside =
         let r = at_back M.funcs (suc n) (call_of_type x p.kind) _ h.outside.1 in
         let q : suc n + length (call_of_type x p.kind) ≡ suc (n + calls p.kind) =
@@ -90,7 +89,7 @@ module _ (all : List Kernel) where
     exports =
         let r = at_back M.exports (suc e) (call_exports (suc n) p p.kind) _ h.exports.1 in
         let q : suc e + length (call_exports (suc n) p p.kind) ≡ suc (e + calls p.kind) =
-        omega (arith, exports_length (suc n) p p.kind) in
+        omega (arith, call_exports_length (suc n) p p.kind) in
         subst (λ k. AtFrom M.exports k (exports_from (suc (n + calls p.kind)) ps)) q r;
   }
 

@@ -1,5 +1,5 @@
 -- Where lists stand in lists.
-use Rattle.std.proofs.Common.{◌≡◌, ℕ, zero, suc, ◌+◌, ◌<◌, List, [], ◌∷◌, ◌++◌, length, Some, refl, subst, arith}
+use Rattle.std.proofs.Common.{◌≡◌, ℕ, suc, ◌+◌, List, [], ◌∷◌, ◌++◌, length, Some, refl, subst, arith}
 use Rattle.std.specs.Prelude.{slice_get}
 use Rattle.std.specs.List.{AllByRecursion}
 
@@ -31,12 +31,11 @@ at_back xs k (u ∷ us) vs h =
     let e : suc k + length us ≡ k + suc (length us) = omega arith in
     subst (λ k. AtFrom xs k vs) e (at_back xs (suc k) us vs h.1)
 
-pub within : {A : Type 0} (xs : List A) (j : ℕ) (x : A) → slice_get xs j ≡ Some x → j < length xs
-within [] j x e = absurd (cc)
-within (y ∷ xs) zero x e = omega arith
-within (y ∷ xs) (suc j) x e = let r = within xs j x e in omega arith
+-- what holds of each of two lists
+pub first_all : {A : Type 0} (P : A → Type 0) (xs ys : List A) → AllByRecursion P (xs ++ ys) → AllByRecursion P xs
+first_all P [] ys a = tt
+first_all P (x ∷ xs) ys a = (a.0, first_all P xs ys a.1)
 
-pub both_all : {A : Type 0} (P : A → Type 0) (xs ys : List A) → AllByRecursion P xs → AllByRecursion P ys
-    → AllByRecursion P (xs ++ ys)
-both_all P [] ys a b = b
-both_all P (x ∷ xs) ys a b = (a.0, both_all P xs ys a.1 b)
+pub second_all : {A : Type 0} (P : A → Type 0) (xs ys : List A) → AllByRecursion P (xs ++ ys) → AllByRecursion P ys
+second_all P [] ys a = a
+second_all P (x ∷ xs) ys a = second_all P xs ys a.1

@@ -18,9 +18,9 @@ use Rattle.mw_link.specs.Linked.{Kernel, calls, call_of_type, outer_functions, c
 use Rattle.mw_link.specs.Linked.{linked}
 use Rattle.mw_link.specs.LinkLaw.{LinkedIsWithinProfile}
 use Rattle.mw_link.proofs.LinkableKernels.{IsWhole, whole, AreWhole}
-use Rattle.mw_link.proofs.Positions.{both_all}
 use Rattle.mw_link.proofs.PartPlaces.{T, proper, few}
 use Rattle.mw_link.proofs.Valid.{one_result}
+use Rattle.mw_conv.proofs.Ranges.{both_all}
 
 abbrev Few : Function → Type 0
 Few f = length f.locals ≤ 50_000
@@ -67,19 +67,11 @@ outer_flat o x (p ∷ ps) a =
 abbrev Named : Exporting → Type 0
 Named e = AllByRecursion IsPrintable e.name
 
-letters : (a b c d e : ℕ) → IsPrintable a → IsPrintable b → IsPrintable c → IsPrintable d → IsPrintable e
-    → AllByRecursion IsPrintable (a ∷ b ∷ c ∷ d ∷ e ∷ [])
-letters a b c d e p q r s t = (p, (q, (r, (s, (t, tt)))))
-
 pub init_end : AllByRecursion IsPrintable (codes ".init")
-init_end =
-    letters _ _ _ _ _ (omega arith, omega arith) (omega arith, omega arith) (omega arith, omega arith)
-    (omega arith, omega arith) (omega arith, omega arith)
+init_end = omega arith
 
 pub call_end : AllByRecursion IsPrintable (codes ".call")
-call_end =
-    letters _ _ _ _ _ (omega arith, omega arith) (omega arith, omega arith) (omega arith, omega arith)
-    (omega arith, omega arith) (omega arith, omega arith)
+call_end = omega arith
 
 names : (n : ℕ) (ps : List Kernel) → AllByRecursion IsWhole ps → AllByRecursion Named (exports_from n ps)
 names n [] a = tt

@@ -1,6 +1,6 @@
 -- Fewer than 2^32 bytes spell the linked module: of its closures, which alone may be long, there are as many as
 -- functions.
-use Rattle.std.proofs.Common.{◌≡◌, ℕ, suc, ◌+◌, ◌*◌, ◌^◌, ◌≤◌, ◌<◌, List, [], ◌∷◌, ◌++◌, length, Some, refl, arith, map}
+use Rattle.std.proofs.Common.{◌≡◌, ℕ, suc, ◌+◌, ◌*◌, ◌^◌, ◌≤◌, ◌<◌, List, [], ◌∷◌, ◌++◌, length, Some, refl, arith}
 use Rattle.std.proofs.Common.{length-append}
 use Rattle.std.specs.Prelude.{codes}
 use Rattle.std.specs.List.{AllByRecursion}
@@ -9,7 +9,7 @@ use Rattle.mw_term.specs.Terms as x
 use Rattle.mw_term.specs.Terms.{Expression, KernelType, of_ground, to, size}
 use Rattle.mw_term.specs.Limits.{kernel_nodes}
 use Rattle.mw_wasm.specs.declared.modules.Exported.TheVariants.{Func}
-use Rattle.mw_wasm.specs.Pieces.{octet, items}
+use Rattle.mw_wasm.specs.Pieces.{items}
 use Rattle.mw_wasm.specs.BinaryModules.{function_code, function_type, function_kind, export, data_segment, section}
 use Rattle.mw_wasm.specs.BinaryModules.{wasm_module}
 use Rattle.mw_wasm.specs.Profile.{IsPrintable}
@@ -23,25 +23,28 @@ use Rattle.mw_conv.specs.Convert.{here, fun_places, fix_places, funs, lets, code
 use Rattle.mw_conv.proofs.Scopes.{functions_length}
 use Rattle.mw_conv.proofs.Ranges.{code_size, lets_depth}
 use Rattle.mw_key.specs.declared.version.Version.TheVariants.{Two}
-use Rattle.mw_gen.specs.Generate.{function_for, wants_spare, spare_count, more_types}
+use Rattle.mw_gen.specs.Generate.{wants_spare, spare_count, more_types}
 use Rattle.mw_gen.proofs.Profile.{temps_two}
-use Rattle.mw_gen.proofs.Pieces.{SpelledWithin, within_then, within_more, within_byte, within_u32, within_sized}
+use Rattle.mw_gen.proofs.Pieces.{SpelledWithin, within_then, within_more, within_u32, within_sized}
 use Rattle.mw_gen.proofs.Pieces.{within_nil, within_vector, within_section, within_absent, customs_within, no_imports}
 use Rattle.mw_gen.proofs.Pieces.{header_within, closure_within, init_within, table_within, memory_within}
-use Rattle.mw_gen.proofs.Pieces.{globals_within, octet_within}
+use Rattle.mw_gen.proofs.Pieces.{globals_within, export_within}
 use Rattle.mw_gen.proofs.CodeSpelling.{expression_within, breadth, expression_width, Near, expression_fit}
-use Rattle.mw_gen.proofs.ModuleSpelling.{CanSpell, total, locals_within, func_within, call_within, call_type_within}
-use Rattle.mw_gen.proofs.ModuleSpelling.{leaves_few, elements_within}
+use Rattle.mw_gen.proofs.ModuleSpelling.{CanSpell, total, locals_within, call_within, call_type_within}
+use Rattle.mw_gen.proofs.ModuleSpelling.{leaves_few, elements_within, IsSmall, funcs_within, kinds_within}
 use Rattle.mw_gen.proofs.Ranges.{near, narrow, all_spelled, outer_near}
 use Rattle.mw_gen.specs.EmissionLaw.{SpelledShort}
 use Rattle.mw_link.specs.Linked.{Kernel, calls, all_functions, call_types, call_of_type, init_from, outer_functions}
 use Rattle.mw_link.specs.Linked.{init_name, call_name, call_exports, exports_from, count, linked}
 use Rattle.mw_link.specs.LinkLaw.{LinkedIsSpelled}
 use Rattle.mw_link.proofs.LinkableKernels.{IsWhole, AreWhole, whole}
-use Rattle.mw_link.proofs.Positions.{both_all}
 use Rattle.mw_link.proofs.Profile.{init_end, call_end}
 use Rattle.mw_link.proofs.PartPlaces.{calls_one, T, Placed, all_placed, placed_next, Here, placed_here, proper, few}
-use Rattle.mw_link.proofs.PartPlaces.{body_range, body_fine, body_needs, body_sees}
+use Rattle.mw_link.proofs.PartPlaces.{body_range, body_fine, body_needs, body_sees, calls_length}
+use Rattle.mw_link.proofs.PartPlaces.{call_exports_length}
+use Rattle.mw_link.proofs.LinkProgress.{call_types_few}
+use Rattle.mw_link.proofs.Positions.{first_all, second_all}
+use Rattle.mw_conv.proofs.Ranges.{both_all}
 
 -- the closures that code makes
 abbrev closures : Ir → ℕ
@@ -69,55 +72,27 @@ counted : (e : Expression) (k d s : ℕ) (ctx : ℕ → Place) → closures (cod
 counted (x.fun e) k d s ctx = omega (arith, counted e (suc k) (suc d) 0 (fun_places e d))
 counted (x.fix e) k d s ctx = omega (arith, counted e (suc k) (suc (suc d)) 0 (fix_places e d))
 counted (x.app f a) k d s ctx =
-    omega (
-      arith,
-      counted f k d s ctx,
-      counted a (k + funs f) d s ctx,
-      closures_append (functions f k d)
-          (functions a (k + funs f) d),
-    )
+    omega (arith, counted f k d s ctx, counted a (k + funs f) d s ctx, closures_append)
 counted (x.bind a e) k d s ctx =
-    omega (
-      arith,
-      counted a k d s ctx,
-      counted e (k + funs a) (suc d) (suc s) (here (Slot s) ctx),
-      closures_append
-          (functions a k d) (functions e (k + funs a) (suc d)),
-    )
+    omega (arith, counted a k d s ctx, counted e (k + funs a) (suc d) (suc s) (here (Slot s) ctx), closures_append)
 counted (x.cond c a b) k d s ctx =
     omega (
       arith,
       counted c k d s ctx,
       counted a (k + funs c) d s ctx,
       counted b (k + funs c + funs a) d s ctx,
-      closures_append (functions c k d) (functions a (k + funs c) d ++ functions b (k + funs c + funs a) d),
-      closures_append (functions a (k + funs c) d) (functions b (k + funs c + funs a) d),
+      closures_append,
     )
 counted (x.pair f a) k d s ctx =
-    omega (
-      arith,
-      counted f k d s ctx,
-      counted a (k + funs f) d s ctx,
-      closures_append (functions f k d)
-          (functions a (k + funs f) d),
-    )
+    omega (arith, counted f k d s ctx, counted a (k + funs f) d s ctx, closures_append)
 counted (x.fst e) k d s ctx = counted e k d s ctx
 counted (x.snd e) k d s ctx = counted e k d s ctx
 counted (x.prim p f a) k d s ctx =
-    omega (
-      arith,
-      counted f k d s ctx,
-      counted a (k + funs f) d s ctx,
-      closures_append (functions f k d)
-          (functions a (k + funs f) d),
-    )
+    omega (arith, counted f k d s ctx, counted a (k + funs f) d s ctx, closures_append)
 counted _ k d s ctx = refl
 
 -- few bytes for each node, and more for each closure
 slim : (e : Ir) → Near e → breadth e ≤ 100 * ir_size e + 35_000 * closures e
-slim (i.num n) r = omega arith
-slim (i.truth b) r = omega arith
-slim (i.get p) r = omega arith
 slim (i.closure j ps) r = omega (arith, r.1)
 slim (i.app f a) r = omega (arith, slim f r.0, slim a r.1)
 slim (i.bind s d e) r = omega (arith, slim d r.0, slim e r.1)
@@ -126,58 +101,32 @@ slim (i.pair a b) r = omega (arith, slim a r.0, slim b r.1)
 slim (i.fst e) r = omega (arith, slim e r)
 slim (i.snd e) r = omega (arith, slim e r)
 slim (i.prim p a b) r = omega (arith, slim a r.0, slim b r.1)
+slim _ r = omega arith
 
 all_slim : (fs : List IrFunc) → AllByRecursion CanSpell fs → total fs
     ≤ 100 * total_size fs + 35_000 * all_closures fs + 60 * length fs
 all_slim [] c = omega arith
 all_slim (f ∷ fs) c = omega (arith, slim f.body c.0.near, all_slim fs c.1)
 
-abbrev Small : IrFunc → Type 0
-Small f = breadth f.body < 2 ^ 31
-
-all_small : (fs : List IrFunc) → AllByRecursion CanSpell fs → total_size fs ≤ 20000 → AllByRecursion Small fs
+all_small : (fs : List IrFunc) → AllByRecursion CanSpell fs → total_size fs ≤ 20000 → AllByRecursion IsSmall fs
 all_small [] c h = tt
 all_small (f ∷ fs) c h = (omega (arith, narrow f.body c.0.near), all_small fs c.1 (omega arith))
-
-funcs_within : (fs : List IrFunc) (rest : List Function) (r : ℕ) → AllByRecursion CanSpell fs → AllByRecursion Small fs
-    → SpelledWithin r (items function_code rest) → SpelledWithin (total fs + r)
-    (items function_code (map (function_for Two) fs ++ rest))
-funcs_within [] rest r c small s = within_more (0 + r) (omega arith) s
-funcs_within (f ∷ fs) rest r c small s =
-    within_more (total (f ∷ fs) + r) (omega arith) (within_then (func_within Two f c.0 small.0)
-    (funcs_within fs rest r c.1 small.1 s))
-
-kinds_within : (fs : List IrFunc) (rest : List Function) (r : ℕ) → SpelledWithin r (items function_kind rest)
-    → SpelledWithin (5 * length fs + r) (items function_kind (map (function_for Two) fs ++ rest))
-kinds_within [] rest r s = within_more (0 + r) (omega arith) s
-kinds_within (f ∷ fs) rest r s =
-    within_more (5 * length (f ∷ fs) + r) (omega arith) (within_then {j = 5} (within_u32 0 (omega arith))
-    (kinds_within fs rest r s))
 
 total_append : (fs gs : List IrFunc) → total (fs ++ gs) ≡ total fs + total gs
 total_append [] gs = omega arith
 total_append (f ∷ fs) gs = omega (arith, total_append fs gs)
 
 -- exports
-named_within : (name : List ℕ) → AllByRecursion IsPrintable name → SpelledWithin (length name) (items octet name)
-named_within [] h = within_nil octet
-named_within (b ∷ name) h =
-    within_more (length (b ∷ name)) (omega arith) (within_then {j = 1} (octet_within b (let q = h.0.1 in omega arith))
-    (named_within name h.1))
-
-export_within : (name : List ℕ) (n : ℕ) → AllByRecursion IsPrintable name → length name ≤ 69 → n < 2 ^ 32
+short_export : (name : List ℕ) (n : ℕ) → AllByRecursion IsPrintable name → length name ≤ 69 → n < 2 ^ 32
     → SpelledWithin 80 (export record { name = name; what = Func n })
-export_within name n h le lt =
-    within_then {j = 74} {k = 6} (within_more 74 (omega arith)
-    (within_vector octet name (omega arith) (named_within name h)))
-    (within_then {j = 1} {k = 5} (within_byte 0x00) (within_u32 n lt))
+short_export name n h le lt = within_more 80 (omega arith) (export_within name n h (omega arith) lt)
 
 exports_within : (n : ℕ) (ps : List Kernel) → AllByRecursion IsWhole ps → n + 2 * length ps < 2 ^ 32
     → SpelledWithin (160 * length ps) (items export (exports_from n ps))
 exports_within n [] a lt = within_nil export
 exports_within n (p ∷ ps) a lt =
     within_more (160 * length (p ∷ ps)) (omega arith) (within_then
-    (export_within (init_name p.name) n (both_all IsPrintable p.name _ a.0.printable init_end)
+    (short_export (init_name p.name) n (both_all IsPrintable p.name _ a.0.printable init_end)
     (let s = a.0.short in omega (arith, length-append p.name (codes ".init"))) (omega arith))
     (go p.kind (exports_from (suc (n + calls p.kind)) ps)
     (exports_within (suc (n + calls p.kind)) ps a.1 (omega (arith, calls_one p.kind)))))
@@ -186,23 +135,15 @@ exports_within n (p ∷ ps) a lt =
         → SpelledWithin (80 + 160 * length ps) (items export (call_exports (suc n) p k ++ es))
     go (of_ground g) es s = within_more (80 + 160 * length ps) (omega arith) s
     go (to q t) es s =
-        within_then {j = 80} (export_within (call_name p.name) (suc n)
+        within_then {j = 80} (short_export (call_name p.name) (suc n)
         (both_all IsPrintable p.name _ a.0.printable call_end)
         (let s = a.0.short in omega (arith, length-append p.name (codes ".call"))) (omega arith)) s
 
 exports_length : (n : ℕ) (ps : List Kernel) → length (exports_from n ps) ≤ 2 * length ps
 exports_length n [] = omega arith
 exports_length n (p ∷ ps) =
-    omega (
-      arith,
-      length-append (call_exports (suc n) p p.kind) (exports_from (suc (n + calls p.kind)) ps),
-      here p.kind,
-      exports_length (suc (n + calls p.kind)) ps,
-    )
-  where
-    here : (k : KernelType) → length (call_exports (suc n) p k) ≤ 1
-    here (of_ground g) = omega arith
-    here (to s t) = omega arith
+    simp (length-append, call_exports_length (suc n) p p.kind)
+    (omega (arith, calls_one p.kind, exports_length (suc (n + calls p.kind)) ps))
 
 -- types
 types_within : (ps : List Kernel) → AllByRecursion IsWhole ps
@@ -218,28 +159,11 @@ types_within (p ∷ ps) a = go p.kind a.0.nodes (types_within ps a.1)
         within_more (10013 * length (p ∷ ps)) (omega arith) (within_then {j = 10013}
         (call_type_within q (omega (arith, leaves_few q))) s)
 
-types_length : (ps : List Kernel) → length (call_types ps) ≤ length ps
-types_length [] = omega arith
-types_length (p ∷ ps) = omega (arith, length-append (more_types p.kind) (call_types ps), here p.kind, types_length ps)
-  where
-    here : (k : KernelType) → length (more_types k) ≤ 1
-    here (of_ground g) = omega arith
-    here (to s t) = omega arith
-
 outer_length : (o x : ℕ) (ps : List Kernel) → length (outer_functions o x ps) ≤ 2 * length ps
 outer_length o x [] = omega arith
 outer_length o x (p ∷ ps) =
-    omega (
-      arith,
-      length-append (call_of_type x p.kind) (outer_functions (o + funs p.code) (x + calls p.kind) ps),
-      go
-          p.kind,
-      outer_length (o + funs p.code) (x + calls p.kind) ps,
-    )
-  where
-    go : (k : KernelType) → length (call_of_type x k) ≤ 1
-    go (of_ground g) = omega arith
-    go (to s t) = omega arith
+    simp (length-append, calls_length x p.kind)
+    (omega (arith, calls_one p.kind, outer_length (o + funs p.code) (x + calls p.kind) ps))
 
 outer_kinds : (o x : ℕ) (ps : List Kernel) → x + length ps < 2 ^ 32
     → SpelledWithin (10 * length ps) (items function_kind (outer_functions o x ps))
@@ -319,8 +243,8 @@ module _ (all : List Kernel) (are : AreWhole all) where
       ≤ 35_060 * length (all_functions o ps) + 4_000_080 * length ps
   bodies_narrow o x n e [] a h c = omega arith
   bodies_narrow o x n e (p ∷ ps) a h c =
-      let ours = first (functions p.code o 0) (all_functions (o + funs p.code) ps) c in
-      let theirs = second (functions p.code o 0) (all_functions (o + funs p.code) ps) c in
+      let ours = first_all CanSpell (functions p.code o 0) _ c in
+      let theirs = second_all CanSpell (functions p.code o 0) _ c in
       let more =
       bodies_narrow (o + funs p.code) (x + calls p.kind) (suc (n + calls p.kind)) (suc (e + calls p.kind)) ps
       a.1 (placed_next all o x n e p ps h) theirs in
@@ -333,45 +257,19 @@ module _ (all : List Kernel) (are : AreWhole all) where
       let len = functions_length p.code o 0 in
       let many = a.0.few in
       omega arith
-    where
-      first : (fs gs : List IrFunc) → AllByRecursion CanSpell (fs ++ gs) → AllByRecursion CanSpell fs
-      first [] gs c = tt
-      first (f ∷ fs) gs c = (c.0, first fs gs c.1)
-
-      second : (fs gs : List IrFunc) → AllByRecursion CanSpell (fs ++ gs) → AllByRecursion CanSpell gs
-      second [] gs c = c
-      second (f ∷ fs) gs c = second fs gs c.1
 
   small_from : (o : ℕ) (ps : List Kernel) → AllByRecursion IsWhole ps → AllByRecursion CanSpell (all_functions o ps)
-      → AllByRecursion Small (all_functions o ps)
+      → AllByRecursion IsSmall (all_functions o ps)
   small_from o [] a c = tt
   small_from o (p ∷ ps) a c =
-      both_all Small (functions p.code o 0) _ (all_small (functions p.code o 0)
-      (first (functions p.code o 0) (all_functions (o + funs p.code) ps) c)
+      both_all IsSmall (functions p.code o 0) _ (all_small (functions p.code o 0)
+      (first_all CanSpell (functions p.code o 0) _ c)
       (let nodes = code_size p.code o 0 0 (λ i. Argument) in let many = a.0.few in omega arith))
-      (small_from (o + funs p.code) ps a.1 (second (functions p.code o 0) (all_functions (o + funs p.code) ps) c))
-    where
-      first : (fs gs : List IrFunc) → AllByRecursion CanSpell (fs ++ gs) → AllByRecursion CanSpell fs
-      first [] gs c = tt
-      first (f ∷ fs) gs c = (c.0, first fs gs c.1)
-
-      second : (fs gs : List IrFunc) → AllByRecursion CanSpell (fs ++ gs) → AllByRecursion CanSpell gs
-      second [] gs c = c
-      second (f ∷ fs) gs c = second fs gs c.1
+      (small_from (o + funs p.code) ps a.1 (second_all CanSpell (functions p.code o 0) _ c))
 
   counted_funcs : (length (linked all).funcs ≤ 100_200) × (length all ≤ 100)
-  counted_funcs = (
-    omega (
-      arith,
-      length-append (map (function_for Two) (T all)) (outer_functions 0 2 all),
-      length-map (T all)
-          (function_for Two),
-      outer_length 0 2 all,
-      few all are,
-      are.few,
-    ),
-    are.few,
-  )
+  counted_funcs =
+      (simp (length-append, length-map) (omega (arith, outer_length 0 2 all, few all are, are.few)), are.few)
 
   kinds_section : SpelledWithin 600_000 (section 3 function_kind (linked all).funcs)
   kinds_section =
@@ -380,7 +278,7 @@ module _ (all : List Kernel) (are : AreWhole all) where
       within_more 600_000 (omega (arith, c.1)) (within_section {k = 5 + (5 * length (T all) + 10 * length all)} 3
       function_kind (linked all).funcs (omega (arith, c.1))
       (within_vector function_kind (linked all).funcs (omega (arith, c.0))
-      (kinds_within (T all) (outer_functions 0 2 all) (10 * length all)
+      (kinds_within Two (T all) (outer_functions 0 2 all) (10 * length all)
       (outer_kinds 0 2 all (omega (arith, c.1))))))
 
   exports_section : SpelledWithin 20_000 (section 7 export (linked all).exports)
@@ -398,7 +296,7 @@ module _ (all : List Kernel) (are : AreWhole all) where
       within_more 3_950_000_000 (omega (arith, c.1)) (within_section {k = 5 + (total (T all) + outer_total 0 all)} 10
       function_code (linked all).funcs (omega (arith, c.1))
       (within_vector function_code (linked all).funcs (omega (arith, c.0))
-      (funcs_within (T all) (outer_functions 0 2 all) (outer_total 0 all) can (small_from 0 all are.all can)
+      (funcs_within Two (T all) (outer_functions 0 2 all) (outer_total 0 all) can (small_from 0 all are.all can)
       (outer_within 0 2 (count all) 0 all are.all (all_placed all)))))
 
   types_section : SpelledWithin 1_002_000 (section 1 function_type (linked all).types)
@@ -406,7 +304,7 @@ module _ (all : List Kernel) (are : AreWhole all) where
       let ks = are.few in
       within_more 1_002_000 (omega arith) (within_section {k = 5 + (14 + (12 + 10013 * length all))} 1 function_type
       (linked all).types (omega arith) (within_vector function_type (linked all).types
-      (omega (arith, types_length all)) (within_then {j = 14} closure_within
+      (omega (arith, call_types_few all)) (within_then {j = 14} closure_within
       (within_then {j = 12} init_within (types_within all are.all)))))
 
   pub module_spelled : SpelledWithin 4_000_000_000 (wasm_module (linked all))

@@ -3,7 +3,7 @@ use Rattle.std.proofs.Common.{◌≡◌, ℕ, suc, List, [], ◌∷◌, ◌++◌
 use Rattle.std.specs.Prelude.{slice_get, option_to_list}
 use Rattle.std.proofs.lemmas.Option.{same_Some}
 use Rattle.mw_term.specs.Terms.{Expression, num, truth, var, glob, fun, fix, app, bind, cond, pair, fst, snd, prim}
-use Rattle.mw_term.specs.Terms.{bracket, escape, run, close, opened, lift, lift_b, done}
+use Rattle.mw_term.specs.Terms.{bracket, escape, run, close, opened, lift, lift_b}
 use Rattle.mw_term.specs.Types.{Level, live, under}
 use Rattle.mw_types.specs.Types.{TypeExpression}
 use Rattle.mw_recheck.specs.Notes.{Notes, AllNamed, IsNodeLine, TopNote, BinderNote, Noted}
@@ -45,44 +45,24 @@ first_named p tops g m n (fst e) t h = first p m n t (h.0 ∷ []) [] h.1
 first_named p tops g m n (snd e) t h = first p m n t (h.0 ∷ []) [] h.1
 first_named p tops g m n (prim o a b) t h = first p m n t [] [] h.1
 first_named p tops g live n (bracket e) t h = first p live n t [] (h.0 ∷ []) h.3
-first_named p tops g (under a) n (bracket e) t h = absurd h
-first_named p tops g live n (escape e) t h = absurd h
 first_named p tops g (under a) n (escape e) t h = first p (under a) n t [] [] h.0
 first_named p tops g live n (run k e) t h = first p live n t [] [] h.1
-first_named p tops g (under a) n (run k e) t h = absurd h
 first_named p tops g live n (close at e) t h = first p live n t (h.1 ∷ []) (h.0 ∷ []) h.4
-first_named p tops g (under a) n (close at e) t h = absurd h
 first_named p tops g live n (opened e) t h = first p live n t (h.1 ∷ []) (h.0 ∷ []) h.3
-first_named p tops g (under a) n (opened e) t h = absurd h
 first_named p tops g live n (lift e) t h = first p live n t [] (h.0.0 ∷ []) h.0.2
-first_named p tops g (under a) n (lift e) t h = absurd h
 first_named p tops g live n (lift_b e) t h = first p live n t [] (h.0.0 ∷ []) h.0.2
-first_named p tops g (under a) n (lift_b e) t h = absurd h
-first_named p tops g m n (done v) t h = absurd h
+first_named p tops g m n e t h = absurd h
 
 -- each node's line names a type
 first_count : (e : Expression) → (k : ℕ) × (ks : List ℕ) × (type_counts e ≡ suc k ∷ ks)
-first_count (num z) = (0, _, refl)
-first_count (truth b) = (0, _, refl)
-first_count (var i) = (0, _, refl)
-first_count (glob i) = (0, _, refl)
 first_count (fun e) = (1, _, refl)
 first_count (fix e) = (2, _, refl)
-first_count (app f a) = (0, _, refl)
 first_count (bind d e) = (1, _, refl)
-first_count (cond c a b) = (0, _, refl)
-first_count (pair a b) = (0, _, refl)
 first_count (fst e) = (1, _, refl)
 first_count (snd e) = (1, _, refl)
-first_count (prim o a b) = (0, _, refl)
-first_count (bracket e) = (0, _, refl)
-first_count (escape e) = (0, _, refl)
-first_count (run k e) = (0, _, refl)
 first_count (close at e) = (1, _, refl)
 first_count (opened e) = (1, _, refl)
-first_count (lift e) = (0, _, refl)
-first_count (lift_b e) = (0, _, refl)
-first_count (done v) = (0, _, refl)
+first_count e = (0, _, refl)
 
 -- the root that is told is named first too
 told_first : (p : Notes) (n k : ℕ) (ts : List TypeExpression) (ls cs : List ℕ) (t : TypeExpression)

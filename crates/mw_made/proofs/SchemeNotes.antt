@@ -34,18 +34,15 @@ item_notes tops (d ∷ items) [] i schemes n h o f = absurd (omega (arith, n))
 item_notes tops (d ∷ items) (t ∷ roots) zero [] n h o f = refl
 item_notes tops (d ∷ items) (t ∷ roots) zero (s ∷ schemes) n h o f = absurd h
 item_notes tops (defines e ∷ items) (t ∷ roots) (suc i) [] n h o f = absurd h
+item_notes tops (kernel k e ∷ items) (t ∷ roots) (suc i) [] n h o f = absurd h
 item_notes tops (defines e ∷ items) (t ∷ roots) (suc i) (let_scheme s ∷ schemes) n h o f =
     same_list _ _ _ _ (ap (λ u. let_root u) (f 0 e s t (omega arith) refl refl h.0 o.0))
     (item_notes tops items roots i schemes (omega (arith, n)) h.1 o.1
     (after_one tops (defines e) items t roots i f))
-item_notes tops (defines e ∷ items) (t ∷ roots) (suc i) (kernel_scheme k ∷ schemes) n h o f = absurd h.0
-item_notes tops (defines e ∷ items) (t ∷ roots) (suc i) (scheme_out_of_scope ∷ schemes) n h o f = absurd h.0
-item_notes tops (kernel k e ∷ items) (t ∷ roots) (suc i) [] n h o f = absurd h
-item_notes tops (kernel k e ∷ items) (t ∷ roots) (suc i) (let_scheme s ∷ schemes) n h o f = absurd h.0
-item_notes tops (kernel k e ∷ items) (t ∷ roots) (suc i) (kernel_scheme l ∷ schemes) n h o f = absurd h.0
 item_notes tops (kernel k e ∷ items) (t ∷ roots) (suc i) (scheme_out_of_scope ∷ schemes) n h o f =
     same_list hidden hidden _ _ refl
     (item_notes tops items roots i schemes (omega (arith, n)) h.1 o (after_one tops (kernel k e) items t roots i f))
+item_notes tops (d ∷ items) (t ∷ roots) (suc i) (s ∷ schemes) n h o f = absurd h.0
 
 pub main_notes : (tops : List TopLevel) (items : List Definition) (roots : List TypeExpression)
     (schemes : List TopScheme) → length roots ≡ length items → AreSchemesOf tops (seen_by_main items) schemes
@@ -54,16 +51,13 @@ main_notes tops [] roots [] n h o f = refl
 main_notes tops [] roots (s ∷ schemes) n h o f = absurd h
 main_notes tops (d ∷ items) [] schemes n h o f = absurd (omega (arith, n))
 main_notes tops (defines e ∷ items) (t ∷ roots) [] n h o f = absurd h
+main_notes tops (kernel k e ∷ items) (t ∷ roots) [] n h o f = absurd h
 main_notes tops (defines e ∷ items) (t ∷ roots) (let_scheme s ∷ schemes) n h o f =
     same_list _ _ _ _ (ap (λ u. let_root u) (f 0 e s t (omega arith) refl refl h.0 o.0))
     (main_notes tops items roots schemes (omega (arith, n)) h.1 o.1
     (after_one tops (defines e) items t roots (length items) f))
-main_notes tops (defines e ∷ items) (t ∷ roots) (kernel_scheme k ∷ schemes) n h o f = absurd h.0
-main_notes tops (defines e ∷ items) (t ∷ roots) (scheme_out_of_scope ∷ schemes) n h o f = absurd h.0
-main_notes tops (kernel k e ∷ items) (t ∷ roots) [] n h o f = absurd h
-main_notes tops (kernel k e ∷ items) (t ∷ roots) (let_scheme s ∷ schemes) n h o f = absurd h.0
 main_notes tops (kernel k e ∷ items) (t ∷ roots) (kernel_scheme l ∷ schemes) n h o f =
     same_list _ _ _ _ (ap (λ z. kernel_root z) h.0)
     (main_notes tops items roots schemes (omega (arith, n)) h.1 o
     (after_one tops (kernel k e) items t roots (length items) f))
-main_notes tops (kernel k e ∷ items) (t ∷ roots) (scheme_out_of_scope ∷ schemes) n h o f = absurd h.0
+main_notes tops (d ∷ items) (t ∷ roots) (s ∷ schemes) n h o f = absurd h.0

@@ -6,44 +6,25 @@ use Rattle.std.specs.Prelude.{slice_get, ◌↔◌, IsTrue}
 use Rattle.mw_term.specs.Terms.{size}
 use Rattle.mw_term.specs.Programs.{Definition, value as defines, kernel, PureProgram}
 use Rattle.mw_term.specs.Parts.{an_item, main, IsResolved}
-use Rattle.mw_lines.proofs.NamedTypes.{one_list, lines_decided, code_absent, absent_code}
-use Rattle.mw_lines.proofs.Candidates.{making_decided, classifier_absent, absent_classifier, type_same, same_type-refl}
 use Rattle.mw_recheck.specs.Certificates.{defined_term, Certifies}
 use Rattle.mw_recheck.specs.CertificateLaws.{CertifiesIsDecided}
 use Rattle.mw_recheck.specs.Deciding.{certified}
 use Rattle.mw_recheck.specs.Following.{AreSmall}
-use Rattle.mw_recheck.proofs.JudgedSound.{Decided}
 use Rattle.mw_recheck.proofs.JudgedPrograms.{program_found, program_there}
-
--- what lines are asked is decided by functions
-pub decided : Decided
-decided = record {
-  code = λ t. (code_absent t, absent_code t);
-  making = making_decided;
-  classifiers = λ a t. (classifier_absent a t, absent_classifier a t);
-  same = type_same;
-  same-refl = same_type-refl;
-}
-
-pub found : (bytes : List ℕ) (p : PureProgram) → certified bytes p ≡ true → Certifies bytes p
-found bytes p h = program_found one_list lines_decided decided bytes p h
-
-pub there : (bytes : List ℕ) (p : PureProgram) → Certifies bytes p → certified bytes p ≡ true
-there bytes p h = program_there one_list lines_decided decided bytes p h
 
 pub certifies_decided : CertifiesIsDecided
 certifies_decided bytes p = of (certified bytes p) refl
   where
     of : (b : Bool) → certified bytes p ≡ b → Certifies bytes p ⊎ (Certifies bytes p → ⊥)
-    of true h = inl (found bytes p h)
-    of false h = inr (λ c. absurd (true≢false (sym (there bytes p c) ∙ h)))
+    of true h = inl (program_found bytes p h)
+    of false h = inr (λ c. absurd (true≢false (sym (program_there bytes p c) ∙ h)))
 
 -- what `holds` answers
 pub yes : (bytes : List ℕ) (p : PureProgram) → certified bytes p ≡ true → IsTrue true ↔ Certifies bytes p
-yes bytes p h = (λ _. found bytes p h, λ _. refl)
+yes bytes p h = (λ _. program_found bytes p h, λ _. refl)
 
 pub no : (bytes : List ℕ) (p : PureProgram) → certified bytes p ≡ false → IsTrue false ↔ Certifies bytes p
-no bytes p h = (λ q. absurd (true≢false (sym q)), λ c. absurd (true≢false (sym (there bytes p c) ∙ h)))
+no bytes p h = (λ q. absurd (true≢false (sym q)), λ c. absurd (true≢false (sym (program_there bytes p c) ∙ h)))
 
 -- terms of a resolved program have numbers of nodes of 32 bits
 pub items_small : (p : PureProgram) → IsResolved p → AreSmall p.items

@@ -1,9 +1,9 @@
 -- Items, followed one after the other.
-use Rattle.std.proofs.Common.{◌≡◌, ℕ, suc, ◌+◌, ◌-◌, ◌<◌, Bool, true, false, ◌&&◌, List, [], ◌∷◌, ◌++◌, map, take, drop}
+use Rattle.std.proofs.Common.{◌≡◌, ℕ, suc, ◌+◌, ◌-◌, ◌<◌, Bool, true, false, ◌&&◌, List, [], ◌∷◌, ◌++◌, take, drop}
 use Rattle.std.proofs.Common.{length, Option, Some, None, refl, sym, ap, ◌∙◌, subst, arith, if◌then◌else◌, append_assoc}
 use Rattle.std.proofs.Common.{get_or}
 use Rattle.std.proofs.Common.{length-take}
-use Rattle.std.proofs.lemmas.List.{get_or-take}
+use Rattle.std.proofs.lemmas.List.{get_or-take, map_push}
 use Rattle.std.specs.Prelude.{slice_get, codes, ◌==◌}
 use Rattle.std.proofs.lemmas.Option.{same_Some}
 use Rattle.mw_term.specs.declared.program.Item.{Item}
@@ -22,9 +22,9 @@ use Rattle.mw_recheck.specs.Reading.{behind}
 use Rattle.mw_types.specs.Expressions.{ground_expression}
 use Rattle.mw_lines.specs.Deciding.{same_type}
 use Rattle.mw_recheck.specs.Roots.{top_of, tops_of, IsHeldRoot, AreRoots}
-use Rattle.mw_recheck.specs.Following.{definitions_of, main_note, SeenAs, seen_as, item_at, main_notes_at}
+use Rattle.mw_recheck.specs.Following.{definitions_of, main_note, seen_as, item_at, main_notes_at}
 use Rattle.mw_recheck.specs.declared.names.Root.{Root}
-use Rattle.mw_recheck.proofs.NodeLines.{bound, bind_some, drop_get}
+use Rattle.mw_recheck.proofs.NodeLines.{bound, bind_some, chosen, drop_get}
 
 -- an item whose root is known
 pub item_found : (tops : List TopNote) (d : Definition) (bytes : List ℕ) (t : TypeExpression) (rest : List ℕ) (b : Bool)
@@ -58,35 +58,12 @@ abbrev pub notes_after : List Root → List Definition → List ℕ → Option (
 notes_after roots items bytes =
     roots_at (tops_of false roots) items bytes >>= λ r. Some (tops_of true roots ++ notes_for_main items r.0, r.1)
 
-nil_right : (xs : List TopNote) → xs ++ [] ≡ xs
-nil_right [] = refl
-nil_right (x ∷ xs) = ap (λ l. x ∷ l) (nil_right xs)
-
-map_last : {A B : Type 0} (f : A → B) (xs : List A) (y : A) → map f (xs ++ y ∷ []) ≡ map f xs ++ f y ∷ []
-map_last f [] y = refl
-map_last f (x ∷ xs) y = ap (λ l. f x ∷ l) (map_last f xs y)
-
 main_more : (d : Definition) (t : TypeExpression) (items : List Definition) (ts : List TypeExpression)
     → notes_for_main (d ∷ items) (t ∷ ts) ≡ main_note d t ∷ notes_for_main items ts
 main_more (defines e) t items ts = refl
 main_more (kernel k e) t items ts = refl
 
--- what goes on from an item's root
-abbrev item_after : Definition → TypeExpression × List ℕ → Option (SeenAs × List ℕ)
-item_after d x = if is_root d x.0 then Some (
-  record {
-    by_items = note_seen d x.0;
-    by_main =
-        main_note d x.0;
-  },
-  x.1,
-) else None
-
-abbrev roots_after : List TopNote → Definition → List Definition → TypeExpression × List ℕ
-    → Option (List TypeExpression × List ℕ)
-roots_after tops d items x = if is_root d x.0 then (roots_at (tops ++ note_seen d x.0 ∷ []) items x.1 >>= λ y. Some
-    (x.0 ∷ y.0, y.1)) else None
-
+-- what main sees, where these names stand before what the roots give
 abbrev noted : List TopNote → List Definition → List TypeExpression × List ℕ → Option (List TopNote × List ℕ)
 noted before items r = Some (before ++ notes_for_main items r.0, r.1)
 
@@ -104,7 +81,7 @@ module _ (roots more : List Root) (root : Root) (d : Definition) (items : List D
       joined ts =
           ap (λ l. tops_of true roots ++ l) (main_more d t items ts ∙ ap (λ k. k ∷ notes_for_main items ts) n)
           ∙ sym (append_assoc (tops_of true roots) (top_of true root ∷ []) (notes_for_main items ts))
-          ∙ ap (λ l. l ++ notes_for_main items ts) (sym (map_last (top_of true) roots root)
+          ∙ ap (λ l. l ++ notes_for_main items ts) (sym (map_push (top_of true) roots root)
           ∙ ap (λ r. tops_of true r) (sym m))
 
       of : (o : Option (List TypeExpression × List ℕ)) → ((◌>>=◌ {A = List TypeExpression × List ℕ} {B =
@@ -115,37 +92,15 @@ module _ (roots more : List Root) (root : Root) (d : Definition) (items : List D
 
   pub notes_step : (bytes : List ℕ) → item_at (tops_of false roots) d bytes ≡ Some (seen_as root, rest)
       → notes_after roots (d ∷ items) bytes ≡ notes_after more items rest
-  notes_step bytes h = of (root_at (tops_of false roots) (defined_term d) bytes) h
-    where
-      of : (o : Option (TypeExpression × List ℕ)) → (o >>= item_after d) ≡ Some (seen_as root, rest)
-          → ((o >>= roots_after (tops_of false roots) d items) >>= noted (tops_of true roots)
-          (d ∷ items)) ≡ notes_after more items rest
-      of None h = absurd (cc)
-      of (Some x) h = by_root (is_root d x.0) refl h
-        where
-          by_root : (b : Bool) → is_root d x.0 ≡ b → item_after d x ≡ Some (seen_as root, rest)
-              → (roots_after (tops_of false roots) d items x >>= noted (tops_of true roots)
-              (d ∷ items)) ≡ notes_after more items rest
-          by_root false e h = absurd (let q = rw e at h in cc)
-          by_root true e h =
-              let q : Some (record { by_items = note_seen d x.0; by_main = main_note d x.0 }, x.1) ≡ Some (
-                seen_as root,
-                rest,
-              ) = rw e at h in
-              let pair = same_Some (
-                record {
-                  by_items = note_seen d x.0;
-                  by_main =
-                      main_note d x.0;
-                },
-                x.1,
-              ) (seen_as root, rest) q in
-              let items_note : note_seen d x.0 ≡ top_of false root = ap (λ z. z.0.by_items) pair in
-              let main : main_note d x.0 ≡ top_of true root = ap (λ z. z.0.by_main) pair in
-              let behind : x.1 ≡ rest = ap (λ z. z.1) pair in
-              let seen : tops_of false roots ++ note_seen d x.0 ∷ [] ≡ tops_of false more =
-              rw (items_note, m) (sym (map_last (top_of false) roots root)) in
-              rw (e, behind) (again x.0 (tops_of false roots ++ note_seen d x.0 ∷ []) seen main)
+  notes_step bytes h =
+      let x = bound (root_at (tops_of false roots) (defined_term d) bytes) _ (seen_as root, rest) h in
+      let c = chosen (is_root d x.0.0) _ (seen_as root, rest) x.2 in
+      let items_note : note_seen d x.0.0 ≡ top_of false root = ap (λ z. z.0.by_items) c.1 in
+      let main : main_note d x.0.0 ≡ top_of true root = ap (λ z. z.0.by_main) c.1 in
+      let behind : x.0.1 ≡ rest = ap (λ z. z.1) c.1 in
+      let seen : tops_of false roots ++ note_seen d x.0.0 ∷ [] ≡ tops_of false more =
+      rw (items_note, m) (sym (map_push (top_of false) roots root)) in
+      rw (x.1, c.0, behind) (again x.0.0 (tops_of false roots ++ note_seen d x.0.0 ∷ []) seen main)
 
 -- the definitions from an item on
 pub definitions_from : (items : List Item) (i : ℕ) (item : Item) → slice_get items i ≡ Some item

@@ -1,22 +1,29 @@
 -- What names have, and which classifiers stand in an environment.
-use Rattle.std.proofs.Common.{◌≡◌, ℕ, zero, suc, Bool, true, false, ◌==◌, List, [], ◌∷◌, Option, Some}
+use Rattle.std.proofs.Common.{◌≡◌, ℕ, zero, suc, Bool, true, false, ◌==◌, ◌<◌, List, [], ◌∷◌, length, Option, Some}
 use Rattle.std.proofs.Common.{refl, sym, ap, ◌∙◌, if◌then◌else◌, subst}
 use Rattle.std.specs.Prelude.{slice_get, ◌↔◌, Result, Ok, Err, IfOk}
 use Rattle.std.specs.Option.{option_map}
 use Rattle.std.proofs.lemmas.Option.{slice_get-map}
 use Rattle.mw_lines.specs.TypeLines.{TypeLine}
 use Rattle.mw_lines.specs.Deciding.{is_in}
-use Rattle.mw_lines.specs.Tables.{lines_of, is_in_one, AreWithin as AreLines}
+use Rattle.mw_lines.specs.Tables.{lines_of, is_in_one, AreHeld, AreWithin as AreLines}
 use Rattle.mw_lines.specs.declared.table.TypeLines.{TypeLines}
+use Rattle.mw_lines.proofs.NamedTypes.{either-false}
 use Rattle.mw_recheck.specs.Judging.{PlacedBinder, plain_at, quoted_at, stands_in, type_of}
 use Rattle.mw_recheck.specs.Views.{places_of, is_named}
 use Rattle.mw_recheck.specs.Roots.{top_of, tops_of, IsHeldRoot, AreRoots, AreWithin}
 use Rattle.mw_recheck.specs.declared.names.Root.{Root}
+use Rattle.mw_recheck.specs.declared.names.Root.TheVariants.{Let}
 
-pub root_held : (roots : List Root) (i : ℕ) (r : Root) → AreRoots roots → Some r ≡ slice_get roots i → IsHeldRoot r
+root_held : (roots : List Root) (i : ℕ) (r : Root) → AreRoots roots → Some r ≡ slice_get roots i → IsHeldRoot r
 root_held [] i r h e = absurd (cc)
 root_held (q ∷ roots) zero r h e = let p : q ≡ r = cc in subst IsHeldRoot p h.0
 root_held (q ∷ roots) (suc i) r h e = root_held roots i r h.1 e
+
+-- a let among them has lines
+pub let_held : (roots : List Root) (i : ℕ) (r : Root) (l : TypeLines) → AreRoots roots → Some r ≡ slice_get roots i
+    → r ≡ Let l → AreHeld l × (0 < length (lines_of l))
+let_held roots i r l h e q = rw q at (root_held roots i r h e)
 
 pub top_there : (kernels : Bool) (roots : List Root) (i : ℕ) (o : Option Root) → o ≡ slice_get roots i
     → slice_get (tops_of kernels roots) i ≡ option_map (top_of kernels) o
@@ -37,10 +44,6 @@ within_lines t [] h = tt
 within_lines t (plain_at i ∷ g) h = (h.0, within_lines t g h.1)
 within_lines t (quoted_at c i ∷ g) h = (h.0, within_lines t g h.1)
 
-either : (a b : Bool) → (if a then true else b) ≡ false → (a ≡ false) × (b ≡ false)
-either true b h = absurd (cc)
-either false b h = (refl, h)
-
 yes_or : (b : Bool) → (if b then true else true) ≡ true
 yes_or true = refl
 yes_or false = refl
@@ -60,5 +63,5 @@ pub stands_else : (t : TypeLines) (a : ℕ) (g : List PlacedBinder) → is_named
 stands_else t a [] h = refl
 stands_else t a (plain_at i ∷ g) h = rw (stands_else t a g h) refl
 stands_else t a (quoted_at c i ∷ g) h =
-    let e = either (c == a) (is_named a g) h in
+    let e = either-false (c == a) (is_named a g) h in
     rw (e.0, stands_else t a g e.1) refl

@@ -1,7 +1,8 @@
 -- Node lines as they are taken one after the other, and as they stand at a node.
-use Rattle.std.proofs.Common.{◌≡◌, ℕ, zero, suc, ◌+◌, Bool, true, false, ◌&&◌, List, [], ◌∷◌, drop}
+use Rattle.std.proofs.Common.{◌≡◌, ℕ, zero, suc, ◌+◌, Bool, true, false, ◌&&◌, List, [], ◌∷◌, ◌++◌, drop}
 use Rattle.std.proofs.Common.{Option, Some, None, refl, sym, ap, ◌∙◌, subst, arith, if◌then◌else◌}
 use Rattle.std.specs.Prelude.{slice_get}
+use Rattle.std.proofs.lemmas.Option.{same_Some}
 use Rattle.mw_term.specs.Terms.{Expression}
 use Rattle.mw_term.specs.Types.{Level}
 use Rattle.mw_lines.specs.TypeLines.{TypeLine}
@@ -9,7 +10,7 @@ use Rattle.mw_recheck.specs.Judging.{NodeLine, Form, one_type, two_types, three_
 use Rattle.mw_recheck.specs.Judging.{two_types_and_classifier, form_of, line_of_form, all_fit, may_stand, next_node}
 use Rattle.mw_recheck.specs.Judging.{own_at}
 use Rattle.mw_recheck.specs.Options.{◌>>=◌}
-use Rattle.mw_lines.proofs.NamedTypes.{and-both, and-true}
+use Rattle.mw_lines.proofs.NamedTypes.{and-both}
 
 -- an answer that goes on
 pub bound : {A B : Type 0} (o : Option A) (f : A → Option B) (y : B) → (o >>= f) ≡ Some y
@@ -20,12 +21,29 @@ bound None f y h = absurd (cc)
 pub bind_some : {A B : Type 0} (o : Option A) (f : A → Option B) (x : A) → o ≡ Some x → (o >>= f) ≡ f x
 bind_some o f x h = rw h refl
 
-pub chosen : {A : Type 0} (b : Bool) (x y : A) → (if b then Some x else None) ≡ Some y → (b ≡ true) × (x ≡ y)
-chosen true x y h = (refl, let e = h in cc)
-chosen false x y h = absurd (cc)
+-- What goes on is the same, and what goes on twice goes on once.
+pub same_after : {A B : Type 0} (o : Option A) (f g : A → Option B) → ((x : A) → f x ≡ g x) → (o >>= f) ≡ (o >>= g)
+same_after (Some x) f g h = h x
+same_after None f g h = refl
 
-pub choose : {A : Type 0} (b : Bool) (x : A) → b ≡ true → (if b then Some x else None) ≡ Some x
-choose b x h = rw h refl
+pub one_after : {A B C : Type 0} (o : Option A) (f : A → Option B) (g : B → Option C)
+    → (o >>= λ x. (f x >>= g)) ≡ ((o >>= f) >>= g)
+one_after (Some x) f g = refl
+one_after None f g = refl
+
+-- a test that is passed, and either way of it
+pub passed : {A : Type 0} (b : Bool) (o : Option A) (y : A) → (if b then o else None) ≡ Some y
+    → (b ≡ true) × (o ≡ Some y)
+passed true o y h = (refl, h)
+passed false o y h = absurd (cc)
+
+pub by_test : {A C : Type 0} (b : Bool) (o p : Option A) (y : A) → (if b then o else p) ≡ Some y
+    → (b ≡ true → o ≡ Some y → C) → (b ≡ false → p ≡ Some y → C) → C
+by_test true o p y h first second = first refl h
+by_test false o p y h first second = second refl h
+
+pub chosen : {A : Type 0} (b : Bool) (x y : A) → (if b then Some x else None) ≡ Some y → (b ≡ true) × (x ≡ y)
+chosen b x y h = let c = passed b (Some x) y h in (c.0, same_Some x y c.1)
 
 -- the element at a place, and the list from there on
 pub drop_head : {A : Type 0} (xs : List A) (n : ℕ) (x : A) (rest : List A) → drop n xs ≡ x ∷ rest
@@ -40,13 +58,20 @@ drop_get [] n x h = absurd (cc)
 drop_get (y ∷ xs) zero x h = let p : y ≡ x = cc in rw p refl
 drop_get (y ∷ xs) (suc n) x h = drop_get xs n x h
 
--- the numbers of a line
+-- the types that a line names after the node's own, its classifiers, and all its numbers
+abbrev pub further : Form → NodeLine → List ℕ
+further two_types x = x.second ∷ []
+further three_types x = x.second ∷ x.third ∷ []
+further two_types_and_classifier x = x.second ∷ []
+further _ x = []
+
+abbrev pub classifiers : Form → NodeLine → List ℕ
+classifiers type_and_classifier x = x.second ∷ []
+classifiers two_types_and_classifier x = x.third ∷ []
+classifiers _ x = []
+
 abbrev pub numbers_of : Form → NodeLine → List ℕ
-numbers_of one_type x = x.own ∷ []
-numbers_of two_types x = x.own ∷ x.second ∷ []
-numbers_of three_types x = x.own ∷ x.second ∷ x.third ∷ []
-numbers_of type_and_classifier x = x.own ∷ x.second ∷ []
-numbers_of two_types_and_classifier x = x.own ∷ x.second ∷ x.third ∷ []
+numbers_of f x = x.own ∷ (further f x ++ classifiers f x)
 
 pub numbers_there : (f : Form) (l : List ℕ) (x : NodeLine) → line_of_form f l ≡ Some x → l ≡ numbers_of f x
 numbers_there one_type (t ∷ []) x h = let e : record { own = t; second = 0; third = 0 } ≡ x = cc in rw (sym e) refl
@@ -95,14 +120,9 @@ own_taken ls nodes m n e x h = at_nodes (drop n nodes) refl h
           fit = subst (λ k. all_fit ls m (form_of e) k ≡ true) (ap (λ p. p.0) c.1) b.1;
         }
 
-pub own_there : (ls : List TypeLine) (nodes : List (List ℕ)) (m : Level) (n : ℕ) (e : Expression) (x : NodeLine)
-    → slice_get nodes n ≡ Some (numbers_of (form_of e) x) → line_of_form (form_of e) (numbers_of (form_of e) x) ≡ Some x
+pub own_there : (ls : List TypeLine) (nodes : List (List ℕ)) (m : Level) (n : ℕ) (e : Expression) (l : List ℕ)
+    (x : NodeLine) → slice_get nodes n ≡ Some l → line_of_form (form_of e) l ≡ Some x
     → may_stand m e ≡ true → all_fit ls m (form_of e) x ≡ true
     → own_at ls m e (drop n nodes) ≡ Some (x, drop (n + 1) nodes)
-own_there ls nodes m n e x h l s f =
-    rw (
-      drop_get nodes n (numbers_of (form_of e) x) h
-          ∙ ap (λ k. numbers_of (form_of e) x ∷ drop k nodes) (next n),
-      l,
-    ) (choose (may_stand m e && all_fit ls m
-    (form_of e) x) (x, drop (n + 1) nodes) (and-true (may_stand m e) (all_fit ls m (form_of e) x) s f))
+own_there ls nodes m n e l x h k s f =
+    rw (drop_get nodes n l h ∙ ap (λ k. l ∷ drop k nodes) (next n), k, s, f) refl

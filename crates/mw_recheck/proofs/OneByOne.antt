@@ -1,27 +1,23 @@
 -- Lines that are read one after the other.
 use Rattle.std.proofs.Common.{◌≡◌, ℕ, zero, suc, ◌<◌, true, false, ◌&&◌, List, [], ◌∷◌, ◌++◌, map}
-use Rattle.std.proofs.Common.{Option, Some, None, refl, ap, ◌∙◌, arith, append_assoc}
+use Rattle.std.proofs.Common.{Option, Some, None, refl, sym, ap, ◌∙◌, arith, append_assoc}
 use Rattle.std.specs.Prelude.{if◌then◌else◌}
+use Rattle.std.proofs.lemmas.List.{map_push}
 use Rattle.mw_lines.specs.TypeLines.{TypeLine}
 use Rattle.mw_lines.specs.Deciding.{may_follow, may_follow_all}
 use Rattle.mw_recheck.specs.Options.{◌>>=◌}
 use Rattle.mw_recheck.specs.Reading.{type_line_at, type_lines_at, numbers_at, node_lines_at}
 use Rattle.mw_recheck.specs.Answers.{lines_after}
+use Rattle.mw_recheck.proofs.NodeLines.{same_after, one_after}
 
 -- nothing goes on from no answer
 nowhere : {A B : Type 0} (o : Option A) → ◌>>=◌ {A = A} {B = B} o (λ x. None) ≡ None
 nowhere (Some x) = refl
 nowhere None = refl
 
-abbrev Lines : Type 0
-Lines = List TypeLine × List ℕ
-
-abbrev Nodes : Type 0
-Nodes = List (List ℕ) × List ℕ
-
-nil_right : {A : Type 0} (xs : List A) → xs ++ [] ≡ xs
-nil_right [] = refl
-nil_right (x ∷ xs) = ap (λ l. x ∷ l) (nil_right xs)
+-- lines that were read after one
+abbrev with_front : {A : Type 0} → A → List A × List ℕ → Option (List A × List ℕ)
+with_front l y = Some (l ∷ y.0, y.1)
 
 -- no line stands there
 pub lines_stop : (before : List TypeLine) (n : ℕ) (bytes : List ℕ) → 0 < n → type_line_at bytes ≡ None
@@ -34,20 +30,7 @@ lines_more : (before : List TypeLine) (n : ℕ) (bytes : List ℕ) (l : TypeLine
     → type_line_at bytes ≡ Some (l, rest)
     → lines_after before (suc n) bytes ≡ (type_lines_at n rest >>= λ t. if may_follow before l && may_follow_all
     (before ++ l ∷ []) t.0 then Some (before ++ l ∷ t.0, t.1) else None)
-lines_more before n bytes l rest e = rw e (of (type_lines_at n rest))
-  where
-    of : (o : Option Lines) → ◌>>=◌ {A = Lines} {B = Lines} (◌>>=◌ {A = Lines} {B =
-        Lines} o (λ y. Some (l ∷ y.0, y.1))) (λ t. if may_follow_all before t.0 then Some (
-          before ++ t.0,
-          t.1,
-        ) else None)
-        ≡ ◌>>=◌ {A = Lines} {B =
-        Lines} o (λ t. if may_follow before l && may_follow_all (before ++ l ∷ []) t.0 then Some (
-          before ++ l ∷ t.0,
-          t.1,
-        ) else None)
-    of (Some t) = refl
-    of None = refl
+lines_more before n bytes l rest e = rw e (sym (one_after (type_lines_at n rest) (with_front l) _))
 
 pub lines_refused : (before : List TypeLine) (n : ℕ) (bytes : List ℕ) (l : TypeLine) (rest : List ℕ) → 0 < n
     → type_line_at bytes ≡ Some (l, rest)
@@ -62,20 +45,8 @@ pub lines_step : (before : List TypeLine) (n k : ℕ) (bytes : List ℕ) (l : Ty
 lines_step before zero k bytes l rest q e f = absurd (omega (arith, q))
 lines_step before (suc n) k bytes l rest q e f =
     let same : n ≡ k = omega (arith, q) in
-    lines_more before n bytes l rest e ∙ rw (same, f) (of (type_lines_at k rest))
-  where
-    of : (o : Option Lines)
-        → ◌>>=◌ {A = Lines} {B = Lines} o (λ t. if may_follow_all (before ++ l ∷ []) t.0 then Some (
-          before ++ l ∷ t.0,
-          t.1,
-        ) else None)
-        ≡ ◌>>=◌ {A = Lines} {B =
-        Lines} o (λ t. if may_follow_all (before ++ l ∷ []) t.0 then Some (
-          (before ++ l ∷ []) ++ t.0,
-          t.1,
-        ) else None)
-    of (Some t) = rw (append_assoc before (l ∷ []) t.0) refl
-    of None = refl
+    lines_more before n bytes l rest e ∙ rw (same, f)
+    (same_after (type_lines_at k rest) _ _ (λ t. rw (append_assoc before (l ∷ []) t.0) refl))
 
 -- node lines after those that were read
 abbrev pub nodes_after : List (List ℕ) → ℕ → List ℕ → Option (List (List ℕ) × List ℕ)
@@ -92,18 +63,9 @@ pub nodes_step : (before : List (List ℕ)) (n k : ℕ) (bytes : List ℕ) (l : 
 nodes_step before zero k bytes l rest q e = absurd (omega (arith, q))
 nodes_step before (suc n) k bytes l rest q e =
     let same : n ≡ k = omega (arith, q) in
-    rw (e, same) (of (node_lines_at k rest))
-  where
-    of : (o : Option Nodes) → ◌>>=◌ {A = Nodes} {B = Nodes} (◌>>=◌ {A = Nodes} {B =
-        Nodes} o (λ y. Some (l ∷ y.0, y.1))) (λ t. Some (before ++ t.0, t.1))
-        ≡ ◌>>=◌ {A = Nodes} {B = Nodes} o (λ t. Some ((before ++ l ∷ []) ++ t.0, t.1))
-    of (Some t) = rw (append_assoc before (l ∷ []) t.0) refl
-    of None = refl
-
-map_last : {A B : Type 0} (f : A → B) (xs : List A) (y : A) → map f (xs ++ y ∷ []) ≡ map f xs ++ f y ∷ []
-map_last f [] y = refl
-map_last f (x ∷ xs) y = ap (λ l. f x ∷ l) (map_last f xs y)
+    rw (e, same) (sym (one_after (node_lines_at k rest) (with_front l) _)
+    ∙ same_after (node_lines_at k rest) _ _ (λ t. ap (λ ls. Some (ls, t.1)) (sym (append_assoc before (l ∷ []) t.0))))
 
 pub map_pushed : {A B : Type 0} (f : A → B) (xs ys : List A) (y : A) → ys ≡ xs ++ y ∷ []
     → map f ys ≡ map f xs ++ f y ∷ []
-map_pushed f xs ys y e = ap (λ l. map f l) e ∙ map_last f xs y
+map_pushed f xs ys y e = ap (λ l. map f l) e ∙ map_push f xs y

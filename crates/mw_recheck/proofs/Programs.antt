@@ -33,110 +33,60 @@ record Earlier (items : List Definition) (roots : List TypeExpression) (seen : L
   root : slice_get roots k ≡ Some r
   name : slice_get seen k ≡ Some (let_item e)
 
+later_let : {items : List Definition} {roots : List TypeExpression} {seen : List TopLevel} {k : ℕ} {r : TypeExpression}
+    (d : Definition) (t : TypeExpression) (x : TopLevel) → Earlier items roots seen k r
+    → Earlier (d ∷ items) (t ∷ roots) (x ∷ seen) (suc k) r
+later_let d t x q = record { e = q.e; item = q.item; root = q.root; name = q.name }
+
+first_let : (items : List Definition) (roots : List TypeExpression) (seen : List TopLevel) (e : Expression)
+    (t r : TypeExpression) → t ≡ r → Earlier (defines e ∷ items) (t ∷ roots) (let_item e ∷ seen) 0 r
+first_let items roots seen e t r p = record { e = e; item = refl; root = ap (λ x. Some x) p; name = refl }
+
 earlier_let : (items : List Definition) (roots : List TypeExpression) (i k : ℕ) (r : TypeExpression)
     → slice_get (notes_for_item items roots i) k ≡ Some (let_root r)
     → Earlier items roots (seen_by_item items i) k r × (k < i)
-earlier_let [] roots i k r h = absurd (cc)
-earlier_let (d ∷ items) [] i k r h = absurd (cc)
-earlier_let (d ∷ items) (t ∷ roots) zero k r h = absurd (cc)
-earlier_let (defines e ∷ items) (t ∷ roots) (suc i) zero r h = let p : t ≡ r = cc in (
-  record {
-    e = e;
-    item =
-        refl;
-    root = ap (λ x. Some x) p;
-    name = refl;
-  },
-  omega arith,
-)
-earlier_let (defines e ∷ items) (t ∷ roots) (suc i) (suc k) r h = let q =
-    earlier_let items roots i k r h in (
-      record {
-        e = q.0.e;
-        item = q.0.item;
-        root = q.0.root;
-        name =
-            q.0.name;
-      },
-      omega (arith, q.1),
-    )
-earlier_let (kernel l e ∷ items) (t ∷ roots) (suc i) zero r h = absurd (cc)
-earlier_let (kernel l e ∷ items) (t ∷ roots) (suc i) (suc k) r h = let q =
-    earlier_let items roots i k r h in (
-      record {
-        e = q.0.e;
-        item = q.0.item;
-        root = q.0.root;
-        name =
-            q.0.name;
-      },
-      omega (arith, q.1),
-    )
+earlier_let (defines e ∷ items) (t ∷ roots) (suc i) zero r h =
+    (first_let items roots (seen_by_item items i) e t r (cc), omega arith)
+earlier_let (defines e ∷ items) (t ∷ roots) (suc i) (suc k) r h =
+    let q = earlier_let items roots i k r h in (later_let (defines e) t _ q.0, omega (arith, q.1))
+earlier_let (kernel l e ∷ items) (t ∷ roots) (suc i) (suc k) r h =
+    let q = earlier_let items roots i k r h in (later_let (kernel l e) t _ q.0, omega (arith, q.1))
+earlier_let _ _ _ _ r h = absurd (cc)
 
 no_kernel : {X : Type 0} (items : List Definition) (roots : List TypeExpression) (i k : ℕ) (l : KernelType)
     → slice_get (notes_for_item items roots i) k ≡ Some (kernel_root l) → X
-no_kernel [] roots i k l h = absurd (cc)
-no_kernel (d ∷ items) [] i k l h = absurd (cc)
-no_kernel (d ∷ items) (t ∷ roots) zero k l h = absurd (cc)
-no_kernel (defines e ∷ items) (t ∷ roots) (suc i) zero l h = absurd (cc)
 no_kernel (defines e ∷ items) (t ∷ roots) (suc i) (suc k) l h = no_kernel items roots i k l h
-no_kernel (kernel q e ∷ items) (t ∷ roots) (suc i) zero l h = absurd (cc)
 no_kernel (kernel q e ∷ items) (t ∷ roots) (suc i) (suc k) l h = no_kernel items roots i k l h
+no_kernel _ _ _ _ l h = absurd (cc)
 
 main_let : (items : List Definition) (roots : List TypeExpression) (k : ℕ) (r : TypeExpression)
     → slice_get (notes_for_main items roots) k ≡ Some (let_root r) → Earlier items roots (seen_by_main items) k r
-main_let [] roots k r h = absurd (cc)
-main_let (d ∷ items) [] k r h = absurd (cc)
-main_let (defines e ∷ items) (t ∷ roots) zero r h = let p : t ≡ r = cc in record {
-  e = e;
-  item = refl;
-  root =
-      ap (λ x. Some x) p;
-  name = refl;
-}
-main_let (defines e ∷ items) (t ∷ roots) (suc k) r h = let q = main_let items roots k r h in record {
-  e = q.e;
-  item =
-      q.item;
-  root = q.root;
-  name = q.name;
-}
-main_let (kernel l e ∷ items) (t ∷ roots) zero r h = absurd (cc)
-main_let (kernel l e ∷ items) (t ∷ roots) (suc k) r h = let q = main_let items roots k r h in record {
-  e = q.e;
-  item =
-      q.item;
-  root = q.root;
-  name = q.name;
-}
+main_let (defines e ∷ items) (t ∷ roots) zero r h = first_let items roots (seen_by_main items) e t r (cc)
+main_let (defines e ∷ items) (t ∷ roots) (suc k) r h = later_let (defines e) t _ (main_let items roots k r h)
+main_let (kernel l e ∷ items) (t ∷ roots) (suc k) r h = later_let (kernel l e) t _ (main_let items roots k r h)
+main_let _ _ _ r h = absurd (cc)
 
 main_kernel : (items : List Definition) (roots : List TypeExpression) (k : ℕ) (l : KernelType)
     → slice_get (notes_for_main items roots) k ≡ Some (kernel_root l)
     → slice_get (seen_by_main items) k ≡ Some (kernel_item l)
-main_kernel [] roots k l h = absurd (cc)
-main_kernel (d ∷ items) [] k l h = absurd (cc)
-main_kernel (defines e ∷ items) (t ∷ roots) zero l h = absurd (cc)
 main_kernel (defines e ∷ items) (t ∷ roots) (suc k) l h = main_kernel items roots k l h
 main_kernel (kernel q e ∷ items) (t ∷ roots) zero l h = let p : q ≡ l = cc in ap (λ x. Some (kernel_item x)) p
 main_kernel (kernel q e ∷ items) (t ∷ roots) (suc k) l h = main_kernel items roots k l h
+main_kernel _ _ _ l h = absurd (cc)
 
 -- a later item sees what an earlier one sees, and main too
 seen_later : (items : List Definition) (k i : ℕ) → k < i → Covers (seen_by_item items i) (seen_by_item items k)
-seen_later [] k i lt j e h = absurd (cc)
-seen_later (d ∷ items) zero i lt j e h = absurd (cc)
 seen_later (d ∷ items) (suc k) zero lt j e h = absurd (omega (arith, lt))
 seen_later (defines x ∷ items) (suc k) (suc i) lt zero e h = h
 seen_later (defines x ∷ items) (suc k) (suc i) lt (suc j) e h = seen_later items k i (omega (arith, lt)) j e h
-seen_later (kernel l x ∷ items) (suc k) (suc i) lt zero e h = absurd (cc)
 seen_later (kernel l x ∷ items) (suc k) (suc i) lt (suc j) e h = seen_later items k i (omega (arith, lt)) j e h
+seen_later _ _ _ lt _ e h = absurd (cc)
 
 seen_last : (items : List Definition) (k : ℕ) → Covers (seen_by_main items) (seen_by_item items k)
-seen_last [] k j e h = absurd (cc)
-seen_last (d ∷ items) zero j e h = absurd (cc)
 seen_last (defines x ∷ items) (suc k) zero e h = h
 seen_last (defines x ∷ items) (suc k) (suc j) e h = seen_last items k j e h
-seen_last (kernel l x ∷ items) (suc k) zero e h = absurd (cc)
 seen_last (kernel l x ∷ items) (suc k) (suc j) e h = seen_last items k j e h
+seen_last _ _ _ e h = absurd (cc)
 
 no_section : SectionLines
 no_section = record { types = []; nodes = [] }

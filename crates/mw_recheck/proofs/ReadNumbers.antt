@@ -1,33 +1,26 @@
 -- Numbers that are read are those that are spelled.
 use Rattle.std.proofs.Common.{rules, ◌≡◌, ℕ, ◌+◌, ◌-◌, ◌*◌, ◌^◌, ◌<◌, ◌≤◌, ◌==◌, nat_le, nat_lt}
-use Rattle.std.proofs.Common.{List, [], ◌∷◌, ◌++◌, get_or, refl, sym, ◌∙◌, ap, subst, arith, Bool, true, false}
-use Rattle.std.proofs.Common.{Some, None, ⊎_elim}
-use Rattle.std.specs.Prelude.{if◌then◌else◌}
+use Rattle.std.proofs.Common.{List, [], ◌∷◌, ◌++◌, get_or, refl, sym, ◌∙◌, ap, subst, arith, true, false}
+use Rattle.std.proofs.Common.{Some, ⊎_elim}
 use Rattle.std.specs.Int.{IsInRange}
 use Rattle.std.specs.Fmt.{decimal}
-use Rattle.std.proofs.lemmas.Bool.{and_parts, and_from, le-leb, leb-true, lt-ltb, ltb-true, ne_eqb, eqb-true, eqb-false}
+use Rattle.std.proofs.lemmas.Bool.{and_parts, and_from, le-leb, leb-true, lt-ltb, ltb-true, ne_eqb, eq-eqb, eqb-true, eqb-false}
 use Rattle.std.proofs.lemmas.Bool.{cases_lt}
 use Rattle.std.proofs.lemmas.Option.{none-some, same_Some}
 use Rattle.std.proofs.lemmas.Str.Parse.{IsNumeralModel, numerals_by_fold}
 use Rattle.std.proofs.lemmas.Fmt.{decimal_is_IsNumeral, decimal_digit, first_decimal, decimal-digits_value}
+use Rattle.mw_recheck.proofs.NodeLines.{passed, by_test}
 use Rattle.mw_recheck.specs.Reading.{behind, is_digit, digits_at, number_at}
 
 pub behind_found : (text bytes rest : List ℕ) → behind text bytes ≡ Some rest → bytes ≡ text ++ rest
 behind_found [] bytes rest h = same_Some bytes rest h
 behind_found (t ∷ text) [] rest h = absurd (none-some rest h)
-behind_found (t ∷ text) (b ∷ bytes) rest h = by_first (λ k. behind_found text bytes rest k) (t == b) refl h
-  where
-    by_first : (behind text bytes ≡ Some rest → bytes ≡ text ++ rest) → (s : Bool) → (t == b) ≡ s
-        → (if s then behind text bytes else None) ≡ Some rest → b ∷ bytes ≡ (t ∷ text) ++ rest
-    by_first more true e h = rw (eqb-true t b e, more h) refl
-    by_first more false e h = absurd (none-some rest h)
+behind_found (t ∷ text) (b ∷ bytes) rest h =
+    let p = passed (t == b) _ rest h in rw (eqb-true t b p.0, behind_found text bytes rest p.1) refl
 
 pub behind_there : (text rest : List ℕ) → behind text (text ++ rest) ≡ Some rest
 behind_there [] rest = refl
-behind_there (t ∷ text) rest = rw (same t) (behind_there text rest)
-  where
-    same : (n : ℕ) → (n == n) ≡ true
-    same n = grind arith
+behind_there (t ∷ text) rest = rw (eq-eqb t t refl) (behind_there text rest)
 
 abbrev AreDigits : List ℕ → Type 0
 AreDigits [] = Unit {0}
@@ -54,48 +47,25 @@ record Digits (value : ℕ) (bytes : List ℕ) (n : ℕ) (rest : List ℕ) : Typ
   worth : value_after value digits ≡ n
   small : value < 2 ^ 64 → n < 2 ^ 64
 
+no_digits : (value : ℕ) (rest : List ℕ) (y : ℕ × List ℕ) → Some (value, rest) ≡ Some y → Digits value rest y.0 y.1
+no_digits value rest y e =
+    subst (λ z. Digits value rest z.0 z.1) (same_Some (value, rest) y e)
+    (record { digits = []; parts = refl; of_digits = tt; worth = refl; small = λ p. p })
+
 digits_found : (value : ℕ) (bytes : List ℕ) (y : ℕ × List ℕ) → digits_at value bytes ≡ Some y
     → Digits value bytes y.0 y.1
-digits_found value [] y e =
-    let same : (value, []) ≡ y = same_Some (value, []) y e in
-    subst (λ z. Digits value [] z.0 z.1) same (record {
-      digits = [];
-      parts = refl;
-      of_digits = tt;
-      worth = refl;
-      small =
-          λ p. p;
-    })
+digits_found value [] y e = no_digits value [] y e
 digits_found value (b ∷ bytes) y e =
-    by_digit (digits_found (10 * value + (b - 48)) bytes y) (is_digit b) (nat_lt (10 * value + (b - 48))
-    (2 ^ 64)) refl refl e
-  where
-    by_digit : (digits_at (10 * value + (b - 48)) bytes ≡ Some y → Digits (10 * value + (b - 48)) bytes y.0 y.1)
-        → (d s : Bool) → is_digit b ≡ d → nat_lt (10 * value + (b - 48)) (2 ^ 64) ≡ s
-        → (if d then (if s then digits_at (10 * value + (b - 48)) bytes else None) else Some (
-          value,
-          b ∷ bytes,
-        )) ≡ Some y → Digits value (b ∷ bytes) y.0 y.1
-    by_digit more false s p q e =
-        let same : (value, b ∷ bytes) ≡ y = same_Some (value, b ∷ bytes) y e in
-        subst (λ z. Digits value (b ∷ bytes) z.0 z.1) same (record {
-          digits = [];
-          parts = refl;
-          of_digits = tt;
-          worth =
-              refl;
-          small = λ p. p;
-        })
-    by_digit more true false p q e = absurd (none-some y e)
-    by_digit more true true p q e =
-        let rest = more e in
-        record {
-          digits = b ∷ rest.digits;
-          parts = ap (λ l. b ∷ l) rest.parts;
-          of_digits = (digit_is b p, rest.of_digits);
-          worth = rest.worth;
-          small = λ _. rest.small (ltb-true (10 * value + (b - 48)) (2 ^ 64) q);
-        }
+    by_test (is_digit b) _ _ y e (λ p e.
+    let q = passed (nat_lt (10 * value + (b - 48)) (2 ^ 64)) _ y e in
+    let rest = digits_found (10 * value + (b - 48)) bytes y q.1 in
+    record {
+      digits = b ∷ rest.digits;
+      parts = ap (λ l. b ∷ l) rest.parts;
+      of_digits = (digit_is b p, rest.of_digits);
+      worth = rest.worth;
+      small = λ _. rest.small (ltb-true (10 * value + (b - 48)) (2 ^ 64) q.0);
+    }) (λ p e. no_digits value (b ∷ bytes) y e)
 
 first_value : (b : ℕ) → 10 * 0 + (b - 48) ≡ b - 48
 first_value b = omega arith
@@ -103,34 +73,18 @@ first_value b = omega arith
 pub number_found : (bytes : List ℕ) (y : ℕ × List ℕ) → number_at bytes ≡ Some y
     → (bytes ≡ decimal y.0 ++ y.1) × (y.0 < 2 ^ 64)
 number_found [] y e = absurd (none-some y e)
-number_found (b ∷ bytes) y e = by_zero (b == 48) (is_digit b) refl refl e
-  where
-    digits : is_digit b ≡ true → (b == 48) ≡ false → Digits (b - 48) bytes y.0 y.1
-        → (b ∷ bytes ≡ decimal y.0 ++ y.1) × (y.0 < 2 ^ 64)
-    digits p q d =
-        let range = digit_is b p in
-        let small = d.small (omega (arith, range.1)) in
-        let worth : value_after 0 (b ∷ d.digits) ≡ y.0 = ap (λ k. value_after k d.digits) (first_value b) ∙ d.worth in
-        let spelled = decimal-digits_value own (b ∷ d.digits) (
-          range,
-          d.of_digits,
-        ) (omega arith) (λ z. absurd (eqb-false b 48 q z)) (omega (arith, worth, small)) in
-        (ap (λ l. b ∷ l) d.parts ∙ ap (λ l. l ++ y.1) (sym spelled ∙ ap decimal worth), small)
-
-    by_zero : (z d : Bool) → (b == 48) ≡ z → is_digit b ≡ d
-        → (if z then Some (0, bytes) else (if d then digits_at (b - 48) bytes else None)) ≡ Some y
-        → (b ∷ bytes ≡ decimal y.0 ++ y.1) × (y.0 < 2 ^ 64)
-    by_zero true d p q e =
-        let same : (0, bytes) ≡ y = same_Some (0, bytes) y e in
-        subst (λ z. (b ∷ bytes ≡ decimal z.0 ++ z.1) × (z.0 < 2 ^ 64)) same (
-          rw (
-            eqb-true b 48 p,
-            decimal_digit 0 (omega arith),
-          ) refl,
-          omega arith,
-        )
-    by_zero false false p q e = absurd (none-some y e)
-    by_zero false true p q e = digits q p (digits_found (b - 48) bytes y e)
+number_found (b ∷ bytes) y e =
+    by_test (b == 48) _ _ y e (λ p e.
+    subst (λ z. (b ∷ bytes ≡ decimal z.0 ++ z.1) × (z.0 < 2 ^ 64)) (same_Some (0, bytes) y e)
+    (rw (eqb-true b 48 p, decimal_digit 0 (omega arith)) refl, omega arith)) (λ q e.
+    let p = passed (is_digit b) _ y e in
+    let d = digits_found (b - 48) bytes y p.1 in
+    let range = digit_is b p.0 in
+    let small = d.small (omega (arith, range.1)) in
+    let worth : value_after 0 (b ∷ d.digits) ≡ y.0 = ap (λ k. value_after k d.digits) (first_value b) ∙ d.worth in
+    let spelled = decimal-digits_value own (b ∷ d.digits) (range, d.of_digits) (omega arith)
+    (λ z. absurd (eqb-false b 48 q z)) (omega (arith, worth, small)) in
+    (ap (λ l. b ∷ l) d.parts ∙ ap (λ l. l ++ y.1) (sym spelled ∙ ap decimal worth), small))
 
 -- what follows a number is no digit
 abbrev pub Ends : List ℕ → Type 0

@@ -1,20 +1,19 @@
 -- Sections that are read are those whose text stands there: their lines one after the other.
-use Rattle.std.proofs.Common.{◌≡◌, ◌⊎◌, inl, inr, ℕ, zero, suc, ◌^◌, ◌<◌, ◌≤◌, ◌==◌, List, [], ◌∷◌, ◌++◌}
-use Rattle.std.proofs.Common.{length, refl, sym, ◌∙◌, ap, subst, arith, Bool, true, false, Some, None, append_assoc}
-use Rattle.std.specs.Prelude.{if◌then◌else◌, codes}
+use Rattle.std.proofs.Common.{◌≡◌, ℕ, zero, suc, ◌^◌, ◌<◌, ◌≤◌, ◌==◌, List, [], ◌∷◌, ◌++◌}
+use Rattle.std.proofs.Common.{length, refl, sym, ◌∙◌, ap, subst, arith, Some, append_assoc}
+use Rattle.std.specs.Prelude.{codes}
 use Rattle.std.specs.List.{flat_map}
 use Rattle.std.specs.Fmt.{decimal}
-use Rattle.std.proofs.lemmas.Bool.{eqb-true}
+use Rattle.std.proofs.lemmas.Bool.{eq-eqb, eqb-true}
 use Rattle.std.proofs.lemmas.Option.{none-some, same_Some}
 use Rattle.mw_lines.specs.TypeLines.{TypeLine}
-use Rattle.mw_recheck.specs.Options.{◌>>=◌}
 use Rattle.mw_recheck.specs.Sections.{SectionLines, FitNumbers, FitLines, FitNodes, FitsSection}
 use Rattle.mw_recheck.specs.Texts.{numbers_text, type_text, types_text, nodes_text, section_text}
 use Rattle.mw_recheck.specs.Reading.{behind, number_at, number_before, type_line_at, type_lines_at}
 use Rattle.mw_recheck.specs.Reading.{numbers_at, node_lines_at, types_at, nodes_at, section_at}
-use Rattle.mw_recheck.proofs.NodeLines.{bound, bind_some}
+use Rattle.mw_recheck.proofs.NodeLines.{bound, bind_some, passed}
 use Rattle.mw_recheck.proofs.ReadNumbers.{behind_found, number_found, number_there}
-use Rattle.mw_recheck.proofs.ReadTexts.{either_found, before_found, before_there, type_found, type_there}
+use Rattle.mw_recheck.proofs.ReadTexts.{by_found, before_found, before_there, type_found, type_there}
 
 type_lines_found : (n : ℕ) (bytes : List ℕ) (y : List TypeLine × List ℕ) → type_lines_at n bytes ≡ Some y
     → (bytes ≡ flat_map type_text y.0 ++ y.1) × (length y.0 ≡ n) × FitLines y.0
@@ -65,39 +64,26 @@ numbers_found zero bytes y h = absurd (none-some y h)
 numbers_found (suc most) bytes y h =
     let x = bound (number_at bytes) _ y h in
     let n = number_found bytes x.0 x.1 in
-    of x.0 n (λ r z k. numbers_found most r z k) (either_found (behind (codes "\n") x.0.1) _ _ y x.2)
-  where
-    of : (x : ℕ × List ℕ) → (bytes ≡ decimal x.0 ++ x.1) × (x.0 < 2 ^ 64) → ((r : List ℕ) (z : List ℕ × List ℕ)
-        → numbers_at most r ≡ Some z → IsNumbersText most r z.0 z.1)
-        → ((r : List ℕ) × (behind (codes "\n") x.1 ≡ Some r) × (Some (
-          x.0 ∷ [],
-          r,
-        ) ≡ Some y)) ⊎ ((behind (codes " ") x.1 >>= λ rest. (numbers_at most rest >>= λ z. Some (
-          x.0 ∷ z.0,
-          z.1,
-        ))) ≡ Some y)
-        → IsNumbersText (suc most) bytes y.0 y.1
-    of x n more (inl a) =
-        subst (λ z. IsNumbersText (suc most) bytes z.0 z.1) (same_Some (x.0 ∷ [], a.0) y a.2) (record {
-          text = n.0 ∙ ap (λ l. decimal x.0 ++ l) (behind_found (codes "\n") x.1 a.0 a.1)
-              ∙ sym (append_assoc (decimal x.0) (codes "\n") a.0);
-          fits = (n.1, tt);
-          some = omega arith;
-          few = omega arith;
-        })
-    of x n more (inr e) =
-        let r = bound (behind (codes " ") x.1) _ y e in
-        let z = bound (numbers_at most r.0) _ y r.2 in
-        let m = more r.0 z.0 z.1 in
-        subst (λ z. IsNumbersText (suc most) bytes z.0 z.1) (same_Some (x.0 ∷ z.0.0, z.0.1) y z.2) (record {
-          text = n.0 ∙ ap (λ l. decimal x.0 ++ l) (behind_found (codes " ") x.1 r.0 r.1
-              ∙ ap (λ l. codes " " ++ l) m.text)
-              ∙ sym (append_assoc (decimal x.0) (codes " " ++ numbers_text z.0.0) z.0.1)
-              ∙ ap (λ l. l ++ z.0.1) (sym (numbers_more x.0 z.0.0 m.some));
-          fits = (n.1, m.fits);
-          some = omega arith;
-          few = omega (arith, m.few);
-        })
+    by_found (behind (codes "\n") x.0.1) _ _ y x.2 (λ r a k.
+    subst (λ z. IsNumbersText (suc most) bytes z.0 z.1) (same_Some (x.0.0 ∷ [], r) y k) (record {
+      text = n.0 ∙ ap (λ l. decimal x.0.0 ++ l) (behind_found (codes "\n") x.0.1 r a)
+          ∙ sym (append_assoc (decimal x.0.0) (codes "\n") r);
+      fits = (n.1, tt);
+      some = omega arith;
+      few = omega arith;
+    })) (λ e.
+    let r = bound (behind (codes " ") x.0.1) _ y e in
+    let z = bound (numbers_at most r.0) _ y r.2 in
+    let m = numbers_found most r.0 z.0 z.1 in
+    subst (λ z. IsNumbersText (suc most) bytes z.0 z.1) (same_Some (x.0.0 ∷ z.0.0, z.0.1) y z.2) (record {
+      text = n.0 ∙ ap (λ l. decimal x.0.0 ++ l) (behind_found (codes " ") x.0.1 r.0 r.1
+          ∙ ap (λ l. codes " " ++ l) m.text)
+          ∙ sym (append_assoc (decimal x.0.0) (codes " " ++ numbers_text z.0.0) z.0.1)
+          ∙ ap (λ l. l ++ z.0.1) (sym (numbers_more x.0.0 z.0.0 m.some));
+      fits = (n.1, m.fits);
+      some = omega arith;
+      few = omega (arith, m.few);
+    }))
 
 numbers_there : (most : ℕ) (ns rest : List ℕ) → 0 < length ns → length ns ≤ most → FitNumbers ns
     → numbers_at most (numbers_text ns ++ rest) ≡ Some (ns, rest)
@@ -196,25 +182,18 @@ nodes_found size bytes y h =
     let a = bound (behind (codes "nodes ") bytes) _ y h in
     let n = bound (number_before (codes "\n") a.0) _ y a.2 in
     let m = before_found (codes "\n") a.0 n.0 n.1 in
-    of a.0 a.1 n.0 m (n.0.0 == size) refl n.2
-  where
-    of : (r : List ℕ) → behind (codes "nodes ") bytes ≡ Some r → (n : ℕ × List ℕ)
-        → (r ≡ decimal n.0 ++ (codes "\n" ++ n.1)) × (n.0 < 2 ^ 64) → (b : Bool) → (n.0 == size) ≡ b
-        → (if b then node_lines_at size n.1 else None) ≡ Some y
-        → (bytes ≡ nodes_text y.0 ++ y.1) × FitNodes y.0 × (length y.0 < 2 ^ 64) × (length y.0 ≡ size)
-    of r a n m false e h = absurd (none-some y h)
-    of r a n m true e h =
-        let t = node_lines_found size n.1 y h in
-        let q : n.0 ≡ length y.0 = eqb-true n.0 size e ∙ sym t.1 in
-        let counted : r ≡ numbers_text (length y.0 ∷ []) ++ (flat_map numbers_text y.0 ++ y.1) =
-        m.0 ∙ ap (λ k. decimal k ++ (codes "\n" ++ n.1)) q ∙ ap (λ r. decimal (length y.0) ++ (codes "\n" ++ r)) t.0
-        ∙ sym (append_assoc (decimal (length y.0)) (codes "\n") (flat_map numbers_text y.0 ++ y.1)) in (
-          behind_found (codes "nodes ") bytes r a ∙ ap (λ r. codes "nodes " ++ r) (counted
-              ∙ sym (append_assoc (numbers_text (length y.0 ∷ [])) (flat_map numbers_text y.0) y.1)),
-          t.2,
-          rw (sym q) m.1,
-          t.1,
-        )
+    let c = passed (n.0.0 == size) _ y n.2 in
+    let t = node_lines_found size n.0.1 y c.1 in
+    let q : n.0.0 ≡ length y.0 = eqb-true n.0.0 size c.0 ∙ sym t.1 in
+    let counted : a.0 ≡ numbers_text (length y.0 ∷ []) ++ (flat_map numbers_text y.0 ++ y.1) =
+    m.0 ∙ ap (λ k. decimal k ++ (codes "\n" ++ n.0.1)) q ∙ ap (λ r. decimal (length y.0) ++ (codes "\n" ++ r)) t.0
+    ∙ sym (append_assoc (decimal (length y.0)) (codes "\n") (flat_map numbers_text y.0 ++ y.1)) in (
+      behind_found (codes "nodes ") bytes a.0 a.1 ∙ ap (λ r. codes "nodes " ++ r) (counted
+          ∙ sym (append_assoc (numbers_text (length y.0 ∷ [])) (flat_map numbers_text y.0) y.1)),
+      t.2,
+      rw (sym q) m.1,
+      t.1,
+    )
 
 nodes_there : (nodes : List (List ℕ)) (rest : List ℕ) → AreShort nodes → FitNodes nodes → length nodes < 2 ^ 64
     → nodes_at (length nodes) (nodes_text nodes ++ rest) ≡ Some (nodes, rest)
@@ -227,10 +206,7 @@ nodes_there nodes rest s f c =
     ∙ bind_some (number_before (codes "\n") (decimal (length nodes) ++ (codes "\n" ++
     (flat_map numbers_text nodes ++ rest)))) _ (length nodes, flat_map numbers_text nodes ++ rest) (before_there
     (codes "\n") (flat_map numbers_text nodes ++ rest) (length nodes) c refl)
-    ∙ rw (same (length nodes)) (node_lines_there nodes rest s f)
-  where
-    same : (n : ℕ) → (n == n) ≡ true
-    same n = grind arith
+    ∙ rw (eq-eqb (length nodes) (length nodes) refl) (node_lines_there nodes rest s f)
 
 pub section_found : (size : ℕ) (bytes : List ℕ) (y : SectionLines × List ℕ) → section_at size bytes ≡ Some y
     → (bytes ≡ section_text y.0 ++ y.1) × FitsSection y.0 × (length y.0.nodes ≡ size)

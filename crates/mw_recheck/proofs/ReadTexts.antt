@@ -1,5 +1,5 @@
 -- Sections that are read are those whose text stands there.
-use Rattle.std.proofs.Common.{◌≡◌, ◌⊎◌, inl, inr, ℕ, ◌^◌, ◌<◌, List, [], ◌∷◌, ◌++◌}
+use Rattle.std.proofs.Common.{◌≡◌, ℕ, ◌^◌, ◌<◌, List, [], ◌∷◌, ◌++◌}
 use Rattle.std.proofs.Common.{refl, sym, ◌∙◌, ap, subst, Option, Some, None, append_assoc}
 use Rattle.std.specs.Prelude.{codes}
 use Rattle.std.specs.Fmt.{decimal}
@@ -14,11 +14,10 @@ use Rattle.mw_recheck.proofs.NodeLines.{bound, bind_some}
 use Rattle.mw_recheck.proofs.ReadNumbers.{behind_found, behind_there, number_found, number_there, Ends}
 
 -- an answer found, or the other
-pub either_found : {A B : Type 0} (o : Option A) (f : A → Option B) (other : Option B) (y : B)
-    → found_or o f other ≡ Some y
-    → ((x : A) × (o ≡ Some x) × (f x ≡ Some y)) ⊎ (other ≡ Some y)
-either_found (Some x) f other y h = inl (x, refl, h)
-either_found None f other y h = inr h
+pub by_found : {A B C : Type 0} (o : Option A) (f : A → Option B) (other : Option B) (y : B)
+    → found_or o f other ≡ Some y → ((x : A) → o ≡ Some x → f x ≡ Some y → C) → (other ≡ Some y → C) → C
+by_found (Some x) f other y h first second = first x refl h
+by_found None f other y h first second = second h
 
 -- a number and the text behind it
 pub before_found : (text bytes : List ℕ) (y : ℕ × List ℕ) → number_before text bytes ≡ Some y
@@ -137,59 +136,19 @@ parts_found text bytes line y t f x h g =
     )
 
 pub type_found : (bytes : List ℕ) (y : TypeLine × List ℕ) → type_line_at bytes ≡ Some y → IsTypeText bytes y.0 y.1
-type_found bytes y h = at_int (either_found (behind (codes "int\n") bytes) _ _ y h)
-  where
-    at_closed : ((x : List ℕ) × (behind (codes "closed ") bytes ≡ Some x)
-        × (one_at closed_line x ≡ Some y)) ⊎ (None ≡ Some y) → IsTypeText bytes y.0 y.1
-    at_closed (inl a) = unknown_found (codes "closed ") bytes closed_line y (λ u. refl) (λ u p. p) a.0 a.1 a.2
-    at_closed (inr e) = absurd (none-some y e)
-
-    at_code : ((x : List ℕ) × (behind (codes "code ") bytes ≡ Some x) × (two_at code_line x ≡ Some y)) ⊎ (found_or
-        (behind (codes "closed ") bytes) (one_at closed_line) None ≡ Some y) → IsTypeText bytes y.0 y.1
-    at_code (inl a) = parts_found (codes "code ") bytes code_line y (λ i j. refl) (λ i j p q. (p, q)) a.0 a.1 a.2
-    at_code (inr e) = at_closed (either_found (behind (codes "closed ") bytes) _ _ y e)
-
-    at_arrow : ((x : List ℕ) × (behind (codes "arrow ") bytes ≡ Some x) × (two_at arrow_line x ≡ Some y)) ⊎ (found_or
-        (behind (codes "code ") bytes) (two_at code_line) (found_or (behind (codes "closed ") bytes)
-        (one_at closed_line) None) ≡ Some y) → IsTypeText bytes y.0 y.1
-    at_arrow (inl a) = parts_found (codes "arrow ") bytes arrow_line y (λ i j. refl) (λ i j p q. (p, q)) a.0 a.1 a.2
-    at_arrow (inr e) = at_code (either_found (behind (codes "code ") bytes) _ _ y e)
-
-    at_pair : ((x : List ℕ) × (behind (codes "pair ") bytes ≡ Some x) × (two_at pair_line x ≡ Some y)) ⊎ (found_or
-        (behind (codes "arrow ") bytes) (two_at arrow_line) (found_or (behind (codes "code ") bytes) (two_at code_line)
-        (found_or (behind (codes "closed ") bytes) (one_at closed_line) None)) ≡ Some y) → IsTypeText bytes y.0 y.1
-    at_pair (inl a) = parts_found (codes "pair ") bytes pair_line y (λ i j. refl) (λ i j p q. (p, q)) a.0 a.1 a.2
-    at_pair (inr e) = at_arrow (either_found (behind (codes "arrow ") bytes) _ _ y e)
-
-    at_unknown : ((x : List ℕ) × (behind (codes "u ") bytes ≡ Some x) × (one_at unknown_line x ≡ Some y)) ⊎ (found_or
-        (behind (codes "pair ") bytes) (two_at pair_line) (found_or (behind (codes "arrow ") bytes) (two_at arrow_line)
-        (found_or (behind (codes "code ") bytes) (two_at code_line) (found_or (behind (codes "closed ") bytes)
-        (one_at closed_line) None))) ≡ Some y) → IsTypeText bytes y.0 y.1
-    at_unknown (inl a) = unknown_found (codes "u ") bytes unknown_line y (λ u. refl) (λ u p. p) a.0 a.1 a.2
-    at_unknown (inr e) = at_pair (either_found (behind (codes "pair ") bytes) _ _ y e)
-
-    at_bool : ((x : List ℕ) × (behind (codes "bool\n") bytes ≡ Some x) × (Some (
-      bool_line,
-      x,
-    ) ≡ Some y)) ⊎ (found_or (behind (codes "u ") bytes) (one_at unknown_line) (found_or (behind
-        (codes "pair ") bytes) (two_at pair_line) (found_or (behind (codes "arrow ") bytes) (two_at arrow_line)
-        (found_or (behind (codes "code ") bytes) (two_at code_line) (found_or (behind (codes "closed ") bytes)
-        (one_at closed_line) None)))) ≡ Some y) → IsTypeText bytes y.0 y.1
-    at_bool (inl a) = word_found (codes "bool\n") bytes bool_line y tt refl a.0 a.1 a.2
-    at_bool (inr e) = at_unknown (either_found (behind (codes "u ") bytes) _ _ y e)
-
-    at_int : ((x : List ℕ) × (behind (codes "int\n") bytes ≡ Some x) × (Some (
-      int_line,
-      x,
-    ) ≡ Some y)) ⊎ (found_or (behind (codes "bool\n") bytes) (λ rest. Some (
-      bool_line,
-      rest,
-    )) (found_or (behind (codes "u ") bytes) (one_at unknown_line) (found_or (behind (codes "pair ") bytes)
-        (two_at pair_line) (found_or (behind (codes "arrow ") bytes) (two_at arrow_line) (found_or (behind
-        (codes "code ") bytes) (two_at code_line) (found_or (behind (codes "closed ") bytes)
-        (one_at closed_line) None))))) ≡ Some y) → IsTypeText bytes y.0 y.1
-    at_int (inl a) = word_found (codes "int\n") bytes int_line y tt refl a.0 a.1 a.2
-    at_int (inr e) = at_bool (either_found (behind (codes "bool\n") bytes) _ _ y e)
+type_found bytes y h =
+    by_found (behind (codes "int\n") bytes) _ _ y h (word_found (codes "int\n") bytes int_line y tt refl) (λ h.
+    by_found (behind (codes "bool\n") bytes) _ _ y h (word_found (codes "bool\n") bytes bool_line y tt refl) (λ h.
+    by_found (behind (codes "u ") bytes) _ _ y h
+    (unknown_found (codes "u ") bytes unknown_line y (λ u. refl) (λ u p. p)) (λ h.
+    by_found (behind (codes "pair ") bytes) _ _ y h
+    (parts_found (codes "pair ") bytes pair_line y (λ i j. refl) (λ i j p q. (p, q))) (λ h.
+    by_found (behind (codes "arrow ") bytes) _ _ y h
+    (parts_found (codes "arrow ") bytes arrow_line y (λ i j. refl) (λ i j p q. (p, q))) (λ h.
+    by_found (behind (codes "code ") bytes) _ _ y h
+    (parts_found (codes "code ") bytes code_line y (λ i j. refl) (λ i j p q. (p, q))) (λ h.
+    by_found (behind (codes "closed ") bytes) _ _ y h
+    (unknown_found (codes "closed ") bytes closed_line y (λ u. refl) (λ u p. p)) (λ h. absurd (none-some y h))))))))
 
 pub type_there : (l : TypeLine) (rest : List ℕ) → FitsLine l → type_line_at (type_text l ++ rest) ≡ Some (l, rest)
 type_there int_line rest f = refl

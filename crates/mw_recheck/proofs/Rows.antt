@@ -7,7 +7,7 @@ use Rattle.mw_recheck.specs.Certificates.{Certifies}
 use Rattle.mw_recheck.specs.Deciding.{certified}
 use Rattle.mw_recheck.specs.Examples.{sum_program, run_program, ExamplesAreCertified, OthersAreNot, OneClassifierFits}
 use Rattle.mw_recheck.specs.Examples.{OwnLineNames}
-use Rattle.mw_recheck.proofs.CertificateDecision.{found, there}
+use Rattle.mw_recheck.proofs.JudgedPrograms.{program_found as found, program_there as there}
 
 pub certified_examples : ExamplesAreCertified
 certified_examples = record {

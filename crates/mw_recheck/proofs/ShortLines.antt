@@ -1,6 +1,7 @@
 -- The node lines of a term that is judged have three numbers at most.
 use Rattle.std.proofs.Common.{◌≡◌, ℕ, ◌<◌, ◌≤◌, ◌&&◌, List, [], ◌∷◌, ◌++◌, length}
-use Rattle.std.proofs.Common.{Option, Some, refl, sym, ap, ◌∙◌, subst, arith, append_assoc}
+use Rattle.std.proofs.Common.{Option, Some, sym, ap, ◌∙◌, subst, arith, append_assoc}
+use Rattle.std.proofs.lemmas.List.{append-nil}
 use Rattle.mw_term.specs.Terms.{Expression, num, truth, var, glob, fun, fix, app, bind, cond, pair, fst, snd, prim}
 use Rattle.mw_term.specs.Terms.{bracket, escape, run, close, opened, lift, lift_b, done}
 use Rattle.mw_term.specs.Types.{Level, live, under}
@@ -110,54 +111,29 @@ module _ (ls : List TypeLine) (tops : List TopNote) where
   short g m (var i) nodes y h = short_leaf g m (var i) nodes y h
   short g m (glob i) nodes y h = short_leaf g m (glob i) nodes y h
   short g m (done v) nodes y h = short_leaf g m (done v) nodes y h
-  short g m (fun e) nodes y h = short_one g m (fun e) nodes y (λ x r. judged ls tops (placed m x.second ∷ g) m e r)
-      (λ x r z k. short (placed m x.second ∷ g) m e r z k) h
+  short g m (fun e) nodes y h = short_one g m (fun e) nodes y _ (λ x. short (placed m x.second ∷ g) m e) h
   short g m (fix e) nodes y h =
-      short_one g m (fix e) nodes y (λ x r. judged ls tops (placed m x.third ∷ placed m x.second ∷ g) m e r)
-      (λ x r z k. short (placed m x.third ∷ placed m x.second ∷ g) m e r z k) h
-  short g m (app f e) nodes y h =
-      short_two g m (app f e) nodes y (λ x r. judged ls tops g m f r) (λ x r. judged ls tops g m e r)
-      (λ x r z k. short g m f r z k) (λ x r z k. short g m e r z k) h
+      short_one g m (fix e) nodes y _ (λ x. short (placed m x.third ∷ placed m x.second ∷ g) m e) h
+  short g m (app f e) nodes y h = short_two g m (app f e) nodes y _ _ (λ x. short g m f) (λ x. short g m e) h
   short g m (bind d e) nodes y h =
-      short_two g m (bind d e) nodes y (λ x r. judged ls tops g m d r) (λ x r. judged ls tops
-      (placed m x.second ∷ g) m e r) (λ x r z k. short g m d r z k) (λ x r z k. short
-      (placed m x.second ∷ g) m e r z k) h
+      short_two g m (bind d e) nodes y _ _ (λ x. short g m d) (λ x. short (placed m x.second ∷ g) m e) h
   short g m (cond c d e) nodes y h =
-      short_three g m (cond c d e) nodes y (λ x r. judged ls tops g m c r) (λ x r. judged ls tops g m d r)
-      (λ x r. judged ls tops g m e r) (λ x r z k. short g m c r z k) (λ x r z k. short g m d r z k)
-      (λ x r z k. short g m e r z k) h
-  short g m (pair d e) nodes y h =
-      short_two g m (pair d e) nodes y (λ x r. judged ls tops g m d r) (λ x r. judged ls tops g m e r)
-      (λ x r z k. short g m d r z k) (λ x r z k. short g m e r z k) h
-  short g m (prim o d e) nodes y h =
-      short_two g m (prim o d e) nodes y (λ x r. judged ls tops g m d r) (λ x r. judged ls tops g m e r)
-      (λ x r z k. short g m d r z k) (λ x r z k. short g m e r z k) h
-  short g m (fst e) nodes y h =
-      short_one g m (fst e) nodes y (λ x r. judged ls tops g m e r) (λ x r z k. short g m e r z k) h
-  short g m (snd e) nodes y h =
-      short_one g m (snd e) nodes y (λ x r. judged ls tops g m e r) (λ x r z k. short g m e r z k) h
-  short g m (bracket e) nodes y h = short_one g m (bracket e) nodes y (λ x r. judged ls tops g (under x.second) e r)
-      (λ x r z k. short g (under x.second) e r z k) h
-  short g m (escape e) nodes y h =
-      short_one g m (escape e) nodes y (λ x r. judged ls tops g live e r) (λ x r z k. short g live e r z k) h
-  short g m (run q e) nodes y h =
-      short_one g m (run q e) nodes y (λ x r. judged ls tops g m e r) (λ x r z k. short g m e r z k) h
-  short g m (close at e) nodes y h =
-      short_one g m (close at e) nodes y (λ x r. judged ls tops g m e r) (λ x r z k. short g m e r z k) h
-  short g m (opened e) nodes y h =
-      short_one g m (opened e) nodes y (λ x r. judged ls tops g m e r) (λ x r z k. short g m e r z k) h
-  short g m (lift e) nodes y h =
-      short_one g m (lift e) nodes y (λ x r. judged ls tops g m e r) (λ x r z k. short g m e r z k) h
-  short g m (lift_b e) nodes y h =
-      short_one g m (lift_b e) nodes y (λ x r. judged ls tops g m e r) (λ x r z k. short g m e r z k) h
-
-  nothing_more : (a : List (List ℕ)) → a ++ [] ≡ a
-  nothing_more [] = refl
-  nothing_more (l ∷ a) = ap (λ r. l ∷ r) (nothing_more a)
+      short_three g m (cond c d e) nodes y _ _ _ (λ x. short g m c) (λ x. short g m d) (λ x. short g m e) h
+  short g m (pair d e) nodes y h = short_two g m (pair d e) nodes y _ _ (λ x. short g m d) (λ x. short g m e) h
+  short g m (prim o d e) nodes y h = short_two g m (prim o d e) nodes y _ _ (λ x. short g m d) (λ x. short g m e) h
+  short g m (fst e) nodes y h = short_one g m (fst e) nodes y _ (λ x. short g m e) h
+  short g m (snd e) nodes y h = short_one g m (snd e) nodes y _ (λ x. short g m e) h
+  short g m (bracket e) nodes y h = short_one g m (bracket e) nodes y _ (λ x. short g (under x.second) e) h
+  short g m (escape e) nodes y h = short_one g m (escape e) nodes y _ (λ x. short g live e) h
+  short g m (run q e) nodes y h = short_one g m (run q e) nodes y _ (λ x. short g m e) h
+  short g m (close at e) nodes y h = short_one g m (close at e) nodes y _ (λ x. short g m e) h
+  short g m (opened e) nodes y h = short_one g m (opened e) nodes y _ (λ x. short g m e) h
+  short g m (lift e) nodes y h = short_one g m (lift e) nodes y _ (λ x. short g m e) h
+  short g m (lift_b e) nodes y h = short_one g m (lift_b e) nodes y _ (λ x. short g m e) h
 
   -- the lines of a term that takes them all
   pub short_lines : (e : Expression) (nodes : List (List ℕ)) (i : ℕ) → judged ls tops [] live e nodes ≡ Some (i, [])
       → AreShort nodes
   short_lines e nodes i h =
       let f = short [] live e nodes (i, []) h in
-      subst (λ l. AreShort l) (sym (f.parts ∙ nothing_more f.front)) f.short
+      subst (λ l. AreShort l) (sym (f.parts ∙ append-nil f.front)) f.short

@@ -1,8 +1,8 @@
 -- What node lines say of a term types it, under each assignment to the section's unknowns and classifiers.
-use Rattle.std.proofs.Common.{◌≡◌, ℕ, ◌+◌, List, [], ◌∷◌, Option, Some, None, refl, ap, sym, ◌∙◌, arith}
+use Rattle.std.proofs.Common.{◌≡◌, ℕ, ◌+◌, List, [], ◌∷◌, Option, Some, refl, ap, sym, ◌∙◌, arith}
 use Rattle.std.specs.Prelude.{slice_get}
 use Rattle.mw_term.specs.Terms.{Expression, KernelType, num, truth, var, glob, fun, fix, app, bind, cond, pair, fst}
-use Rattle.mw_term.specs.Terms.{snd, prim, bracket, escape, run, close, opened, lift, lift_b, done, size}
+use Rattle.mw_term.specs.Terms.{snd, prim, bracket, escape, run, close, opened, lift, lift_b, size}
 use Rattle.mw_term.specs.Types.{int_type, bool_type, function_type, Level, live, under, kernel_type}
 use Rattle.mw_term.specs.Typing.{TopLevel, let_item, kernel_item, Typed, t_num, t_truth, t_var, t_let, t_kernel, t_fun}
 use Rattle.mw_term.specs.Typing.{t_fix, t_app, t_bind, t_cond, t_pair, t_fst, t_snd, t_prim, t_bracket, t_escape, t_run}
@@ -16,7 +16,7 @@ use Rattle.mw_types.specs.Types.{TypeExpression, int_ty, bool_ty, pair_ty, funct
 use Rattle.mw_types.specs.Types.{Assignment, value, after}
 use Rattle.mw_types.proofs.Existence.{value_apply}
 use Rattle.mw_types.proofs.Expressions.{value-kernel_expression, value-primitive_expression, level_of, Fits-fitted}
-use Rattle.mw_recheck.specs.Notes.{Notes, BinderNote, binder_note, TopNote, let_root, kernel_root, hidden, IsUse, Noted}
+use Rattle.mw_recheck.specs.Notes.{Notes, BinderNote, binder_note, TopNote, let_root, kernel_root, IsUse, Noted}
 use Rattle.mw_recheck.proofs.BinderEnvironments.{entries, entry_of-note, get-entries, renewed, flat-renewed}
 use Rattle.mw_recheck.proofs.BinderEnvironments.{entries-renewed}
 
@@ -37,9 +37,7 @@ module _ (p : Notes) (names : List TopLevel) (tops : List TopNote) (known : Know
   use_typed b g live i t (Some (kernel_root k)) e h =
       rw (h, value-kernel_expression b k, flat_type-plain (kernel_type k) (IsPlain-kernel_type k)) (t_kernel
       (known.kernels i k e))
-  use_typed b g live i t (Some hidden) e h = absurd h
-  use_typed b g live i t None e h = absurd h
-  use_typed b g (under a) i t x e h = absurd h
+  use_typed b g _ i t _ e h = absurd h
 
   pub noted_typed : (b : Assignment) (g : List BinderNote) (m : Level) (n : ℕ) (e : Expression) (t : TypeExpression)
       → Noted p tops g m n e t → Typed names (entries b g) (level_of b m) e (fitted m (value b t))
@@ -82,8 +80,6 @@ module _ (p : Notes) (names : List TopLevel) (tops : List TopNote) (known : Know
       (noted_typed b g m (n + 1 + size a) d int_ty h.3))
   noted_typed b g live n (bracket e) t h =
       rw h.2 (t_bracket (IsPlain-flat_type (value b h.1)) (noted_typed b g (under h.0) (n + 1) e h.1 h.4))
-  noted_typed b g (under a) n (bracket e) t h = absurd h
-  noted_typed b g live n (escape e) t h = absurd h
   noted_typed b g (under a) n (escape e) t h =
       t_escape (IsPlain-flat_type (value b t)) (noted_typed b g live (n + 1) e (code_ty a t) h.1)
   noted_typed b g live n (run k e) t h =
@@ -94,18 +90,13 @@ module _ (p : Notes) (names : List TopLevel) (tops : List TopNote) (known : Know
         flat_type-plain (kernel_type k) (IsPlain-kernel_type k),
       ) at (noted_typed b g live (n + 1) e
       (closed_ty t) h.2)))
-  noted_typed b g (under a) n (run k e) t h = absurd h
   noted_typed b g live n (close at e) t h =
       let k = top_of (entries b g) in
       rw h.2 (t_close {a = k} (IsPlain-flat_type (value b h.1)) (IsAbsent-above k (entries b g) (omega arith))
       (rw (entries-renewed b h.0 k g h.3, changed-here b.classifier h.0 k, flat-renewed b h.0 k h.1) at (noted_typed
       (renewed b h.0 k) g live (n + 1) e (code_ty h.0 h.1) h.5)))
-  noted_typed b g (under a) n (close at e) t h = absurd h
   noted_typed b g live n (opened e) t h =
       rw h.2 (t_open (IsPlain-flat_type (value b h.1)) (noted_typed b g live (n + 1) e (closed_ty h.1) h.4))
-  noted_typed b g (under a) n (opened e) t h = absurd h
   noted_typed b g live n (lift e) t h = rw h.0.1 (t_lift (noted_typed b g live (n + 1) e int_ty h.1))
-  noted_typed b g (under a) n (lift e) t h = absurd h
   noted_typed b g live n (lift_b e) t h = rw h.0.1 (t_lift_b (noted_typed b g live (n + 1) e bool_ty h.1))
-  noted_typed b g (under a) n (lift_b e) t h = absurd h
-  noted_typed b g m n (done v) t h = absurd h
+  noted_typed b g m n e t h = absurd h

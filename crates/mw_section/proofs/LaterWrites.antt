@@ -75,6 +75,11 @@ continued_line l w = record {
   lines = line_behind l w.lines;
 }
 
+-- two steps, and a line behind them
+continued_line_behind : (w v x : Writing) (l : TypeLine) → IsContinued w v → IsContinued v x
+    → IsContinued w (line_written l x).writing
+continued_line_behind w v x l h g = continued_more w x _ (continued_more w v x h g) (continued_line l x)
+
 pub continued_type : (t : TypeExpression) (w : Writing) → IsContinued w (type_written t w).writing
 continued_type int_ty w = continued_line int_line w
 continued_type bool_ty w = continued_line bool_line w
@@ -82,16 +87,13 @@ continued_type (unknown u) w =
     continued_more w _ _ (continued_unknown u w) (continued_line _ (unknown_written u w).writing)
 continued_type (pair_ty s t) w =
     let a = (type_written s w).writing in
-    let b = (type_written t a).writing in
-    continued_more w b _ (continued_more w a b (continued_type s w) (continued_type t a)) (continued_line _ b)
+    continued_line_behind w a (type_written t a).writing _ (continued_type s w) (continued_type t a)
 continued_type (function_ty s t) w =
     let a = (type_written s w).writing in
-    let b = (type_written t a).writing in
-    continued_more w b _ (continued_more w a b (continued_type s w) (continued_type t a)) (continued_line _ b)
+    continued_line_behind w a (type_written t a).writing _ (continued_type s w) (continued_type t a)
 continued_type (code_ty c t) w =
     let a = (classifier_written c w).writing in
-    let b = (type_written t a).writing in
-    continued_more w b _ (continued_more w a b (continued_classifier c w) (continued_type t a)) (continued_line _ b)
+    continued_line_behind w a (type_written t a).writing _ (continued_classifier c w) (continued_type t a)
 continued_type (closed_ty t) w =
     let a = (type_written t w).writing in continued_more w a _ (continued_type t w) (continued_line _ a)
 
@@ -100,37 +102,23 @@ still_at : {A : Type 0} (same : A → A → Bool) (x : A) (xs ys : List A) (p : 
     → IsAt same x xs p → IsAt same x ys p
 still_at same x xs ys p h g = rw h.1 (at_stays same x xs h.0 p g)
 
+line_stays : (w v : Writing) → IsContinued w v → (l : TypeLine) (p : ℕ) → IsAt same_line l w.lines p
+    → IsAt same_line l v.lines p
+line_stays w v h l p g = still_at same_line l w.lines v.lines p h.lines g
+
 pub still_placed : (w v : Writing) → IsContinued w v → (t : TypeExpression) (p : ℕ) → IsPlaced w t p → IsPlaced v t p
-still_placed w v h int_ty p g = still_at same_line int_line w.lines v.lines p h.lines g
-still_placed w v h bool_ty p g = still_at same_line bool_line w.lines v.lines p h.lines g
-still_placed w v h (unknown u) p g = (
-  g.0,
-  still_at nat_eq u w.unknowns v.unknowns g.0 h.unknowns g.1,
-  still_at same_line _ w.lines v.lines p h.lines g.2,
-)
-still_placed w v h (pair_ty s t) p g = (
-  g.0,
-  g.1,
-  still_placed w v h s g.0 g.2,
-  still_placed w v h t g.1 g.3,
-  still_at same_line _ w.lines v.lines p h.lines g.4,
-)
-still_placed w v h (function_ty s t) p g = (
-  g.0,
-  g.1,
-  still_placed w v h s g.0 g.2,
-  still_placed w v h t g.1 g.3,
-  still_at same_line _ w.lines v.lines p h.lines g.4,
-)
-still_placed w v h (code_ty c t) p g = (
-  g.0,
-  g.1,
-  still_at nat_eq c w.classifiers v.classifiers g.0 h.classifiers g.2,
-  still_placed w v h t g.1 g.3,
-  still_at same_line _ w.lines v.lines p h.lines g.4,
-)
-still_placed w v h (closed_ty t) p g =
-    (g.0, still_placed w v h t g.0 g.1, still_at same_line _ w.lines v.lines p h.lines g.2)
+still_placed w v h int_ty p g = line_stays w v h int_line p g
+still_placed w v h bool_ty p g = line_stays w v h bool_line p g
+still_placed w v h (unknown u) p g =
+    (g.0, still_at nat_eq u w.unknowns v.unknowns g.0 h.unknowns g.1, line_stays w v h _ p g.2)
+still_placed w v h (pair_ty s t) p g =
+    (g.0, g.1, still_placed w v h s g.0 g.2, still_placed w v h t g.1 g.3, line_stays w v h _ p g.4)
+still_placed w v h (function_ty s t) p g =
+    (g.0, g.1, still_placed w v h s g.0 g.2, still_placed w v h t g.1 g.3, line_stays w v h _ p g.4)
+still_placed w v h (code_ty c t) p g =
+    let k = still_at nat_eq c w.classifiers v.classifiers g.0 h.classifiers g.2 in
+    (g.0, g.1, k, still_placed w v h t g.1 g.3, line_stays w v h _ p g.4)
+still_placed w v h (closed_ty t) p g = (g.0, still_placed w v h t g.0 g.1, line_stays w v h _ p g.2)
 
 -- what is written is at its place
 pub number_at : (n : ℕ) (ns : List ℕ) → IsAt nat_eq n (with_number n ns) (place_of n ns)
@@ -139,30 +127,29 @@ number_at n ns = rw (with_number_is n ns, place_of_is n ns) (at_put nat_eq n ns 
 pub line_at : (l : TypeLine) (ls : List TypeLine) → IsAt same_line l (with_line l ls) (line_place l ls)
 line_at l ls = rw (with_line_is l ls, line_place_is l ls) (at_put same_line l ls (same_line-refl l))
 
+-- two parts, and a line behind them
+two_placed : (s t : TypeExpression) (a b : Writing) (i j : ℕ) (l : TypeLine) → IsPlaced a s i → IsContinued a b
+    → IsPlaced b t j → IsPlaced (line_written l b).writing s i × IsPlaced (line_written l b).writing t j
+    × IsAt same_line l (line_written l b).writing.lines (line_written l b).place
+two_placed s t a b i j l h g k =
+    let m = continued_line l b in
+    (still_placed a _ (continued_more a b _ g m) s i h, still_placed b _ m t j k, line_at l b.lines)
+
 pub placed : (t : TypeExpression) (w : Writing) → IsPlaced (type_written t w).writing t (type_written t w).place
 placed int_ty w = line_at int_line w.lines
 placed bool_ty w = line_at bool_line w.lines
 placed (unknown u) w = (place_of u w.unknowns, number_at u w.unknowns, line_at _ w.lines)
 placed (pair_ty s t) w =
     let a = (type_written s w).writing in
-    let b = (type_written t a).writing in
-    let l = continued_line (pair_line (type_written s w).place (type_written t a).place) b in (
-      (type_written s w).place,
-      (type_written t a).place,
-      still_placed a _ (continued_more a b _ (continued_type t a) l) s _ (placed s w),
-      still_placed b _ l t _ (placed t a),
-      line_at _ b.lines,
-    )
+    let p = two_placed s t a (type_written t a).writing _ _
+    (pair_line (type_written s w).place (type_written t a).place)
+    (placed s w) (continued_type t a) (placed t a) in
+    ((type_written s w).place, (type_written t a).place, p.0, p.1, p.2)
 placed (function_ty s t) w =
     let a = (type_written s w).writing in
-    let b = (type_written t a).writing in
-    let l = continued_line (arrow_line (type_written s w).place (type_written t a).place) b in (
-      (type_written s w).place,
-      (type_written t a).place,
-      still_placed a _ (continued_more a b _ (continued_type t a) l) s _ (placed s w),
-      still_placed b _ l t _ (placed t a),
-      line_at _ b.lines,
-    )
+    let p = two_placed s t a (type_written t a).writing _ _
+    (arrow_line (type_written s w).place (type_written t a).place) (placed s w) (continued_type t a) (placed t a) in
+    ((type_written s w).place, (type_written t a).place, p.0, p.1, p.2)
 placed (code_ty c t) w =
     let a = (classifier_written c w).writing in
     let b = (type_written t a).writing in

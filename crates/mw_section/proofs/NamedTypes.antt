@@ -74,8 +74,7 @@ formed bool_ty h = tt
 formed (unknown u) h = tt
 formed (pair_ty s t) h = (formed s h.0, formed t h.1)
 formed (function_ty s t) h = (formed s h.0, formed t h.1)
-formed (code_ty c t) h = absurd h
-formed (closed_ty t) h = absurd h
+formed _ h = absurd h
 
 -- a line that is put behind others is none of them
 none_behind : (b a : Bool) (p n : ℕ) → (p ≡ n → a ≡ false) → cond b 0 (suc p) ≡ suc n → cond b true a ≡ false

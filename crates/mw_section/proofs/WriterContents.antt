@@ -16,7 +16,7 @@ use Rattle.mw_lines.proofs.StoredLines.{equal_lines}
 use Rattle.mw_lines.proofs.NamedTypes.{line_same}
 use Rattle.mw_section.specs.Writing.{Writing, Written, type_written, classifier_written, line_written, place_of}
 use Rattle.mw_section.specs.Writing.{with_number, line_place, with_line}
-use Rattle.mw_section.specs.Writers.{place_within, AreNumbers, AreLines, IsWritten, IsWriting, unknown_written, Puts}
+use Rattle.mw_section.specs.Writers.{place_within, AreNumbers, AreLines, IsWritten, unknown_written, Puts}
 use Rattle.mw_section.specs.WritingLaws.{IsContinued}
 use Rattle.mw_section.specs.declared.numbers.Numbers.{Numbers}
 use Rattle.mw_section.specs.declared.table.LineTable.{LineTable}
@@ -50,9 +50,6 @@ pub number_more : (old : Option ℕ) (r m : BTreeMap ℕ ℕ) → old ≡ None
     → btree_map_len r ≡ btree_map_len m + cond (is_some old) 0 1 → btree_map_len r ≡ btree_map_len m + 1
 number_more old r m e h = h ∙ rw e refl
 
-number_exact : (x y : ℕ) → nat_eq x y ≡ true → x ≡ y
-number_exact x y h = eqb-true x y h
-
 pub number_put : (m r : Numbers) (n k : ℕ) → get nat_cmp m.numbers n ≡ None → k ≡ btree_map_len m.numbers
     → Updates nat_cmp m.numbers r.numbers n (Some k) → btree_map_len r.numbers ≡ btree_map_len m.numbers + 1
     → (ns : List ℕ) → AreNumbers m ns → (k ≡ place_of n ns) × AreNumbers r (with_number n ns)
@@ -61,7 +58,7 @@ number_put m r n k e count u long ns h =
     let last : k ≡ length ns = count ∙ h.count in
     let more : AreNumbers r (ns ++ n ∷ []) = record {
       count = simp length-append (let c = h.count in omega arith);
-      each = λ q. u.0 q ∙ rw last (entry_put nat_eq number_exact n q ns _ _ f.0 (sym (unsigned_ties n q))
+      each = λ q. u.0 q ∙ rw last (entry_put nat_eq eqb-true n q ns _ _ f.0 (sym (unsigned_ties n q))
           (h.each q ∙ number_within q ns)) ∙ sym (number_within q (ns ++ n ∷ []));
     } in
     (last ∙ sym f.0 ∙ sym (place_of_is n ns), rw (with_number_is n ns, f.1) more)
@@ -150,9 +147,7 @@ pub puts_one : (types : ℕ → TypeExpression) (line : ℕ → TypeLine) (step 
     → Puts types (λ w. line_written (line (step w).place) (step w).writing) m o p
 puts_one types line step m n o i p f g w h =
     let a = f w h in
-    let P : ℕ → Type 0 = λ x. (p ≡ (line_written (line x) (step w).writing).place)
-    × IsWriting types o (line_written (line x) (step w).writing).writing in
-    subst P a.0 (g (step w).writing a.1)
+    rw (← a.0) (g (step w).writing a.1)
 
 pub puts_two : (types : ℕ → TypeExpression) (line : ℕ → ℕ → TypeLine) (first second : Writing → Written)
     (m n o r : LineWriter) (i j p : ℕ) → Puts types first m n i → Puts types second n o j
@@ -161,19 +156,14 @@ pub puts_two : (types : ℕ → TypeExpression) (line : ℕ → ℕ → TypeLine
     (second (first w).writing).writing) m r p
 puts_two types line first second m n o r i j p f g k w h =
     let a = f w h in
-    let P : ℕ → Type 0 = λ x.
-    (p ≡ (line_written (line x (second (first w).writing).place) (second (first w).writing).writing).place)
-    × IsWriting types r
-    (line_written (line x (second (first w).writing).place) (second (first w).writing).writing).writing in
-    subst P a.0 (puts_one types (line i) second n o r j p g k (first w).writing a.1)
+    rw (← a.0) (puts_one types (line i) second n o r j p g k (first w).writing a.1)
 
 -- trees
 pub tree_found : (types : ℕ → TypeExpression) (m : LineWriter) (n k : ℕ) (t : TypeExpression)
     → get nat_cmp m.trees n ≡ Some k → types n ≡ t → Puts types (type_written t) m m k
 tree_found types m n k t e same w h =
     let there : IsWritten t k w = subst (λ s. IsWritten s k w) same (h.trees n k e) in
-    let P : Written → Type 0 = λ r. (k ≡ r.place) × IsWriting types m r.writing in
-    subst P (sym there) (refl, h)
+    rw there (refl, h)
 
 tree_entry : (b : Bool) (f : Option ℕ) (k p : ℕ) (P : ℕ → Type 0) → (b ≡ true → P p) → (f ≡ Some k → P k)
     → cond b (Some p) f ≡ Some k → P k

@@ -5,15 +5,14 @@ use Rattle.std.proofs.lemmas.List.{reverse-append}
 use Rattle.mw_wasm.specs.declared.values.ValType.{ValType}
 use Rattle.mw_wasm.specs.declared.values.ValType.TheVariants.{I32}
 use Rattle.mw_wasm.specs.declared.instructions.Instr.{Instr}
-use Rattle.mw_wasm.specs.Syntax.{Instruction, Code, unreachable, nop, block, loop, cond, br, br_if, br_table, give_back}
-use Rattle.mw_wasm.specs.Syntax.{call, call_indirect, drop_value, select, local_get, local_set, local_tee, global_get}
-use Rattle.mw_wasm.specs.Syntax.{global_set, load, store, memory_size, memory_grow, const_i32, const_i64, numeric, end}
+use Rattle.mw_wasm.specs.Syntax.{Instruction, Code, unreachable, block, loop, cond}
+use Rattle.mw_wasm.specs.Syntax.{end}
 use Rattle.mw_wasm.specs.Syntax.{next}
 use Rattle.mw_wasm.specs.Validity.{Context, results_of}
 use Rattle.mw_wasm.specs.Views.{instruction_of, list_code}
 use Rattle.mw_validate.specs.declared.frames.Frame.{Frame}
 use Rattle.mw_validate.specs.declared.frames.Kind.{Kind}
-use Rattle.mw_validate.specs.declared.frames.Kind.TheVariants.{Block, Loop, First}
+use Rattle.mw_validate.specs.declared.frames.Kind.TheVariants.{Block, Loop}
 use Rattle.mw_validate.specs.declared.frames.Checking.{Checking}
 use Rattle.mw_validate.specs.declared.frames.Turn.TheVariants.{On}
 use Rattle.mw_validate.specs.Checks as acts
@@ -49,8 +48,7 @@ top_is k fs f e = ap waitings_of e ∙ frame_on_top fs f
 
 kind_same : (k : Kind) (t : Option ValType) (s : Operands) (code : Code) → frames.kind_of (as_waiting k t s code) ≡ t
 kind_same Block t s code = refl
-kind_same Loop t s code = refl
-kind_same (First b) t s code = refl
+kind_same k t s code = refl
 
 pub list_fails : (c : Context) (k : Checking) (fs : List Frame) (f : Frame) → k.code.now ≡ [] → k.frames.items ≡ fs ++ f
     ∷ [] → closes (results_of f.result) (Some (operands_of k.list)) ≡ false → all_passes c k ≡ false
@@ -93,30 +91,7 @@ module _ (c : Context) (before after : Checking) (fs : List Frame) (f : Frame) (
 -- instructions
 weighs : (i : Instruction) → 0 < weight_of i
 weighs unreachable = omega arith
-weighs nop = omega arith
-weighs (block t b) = omega arith
-weighs (loop t b) = omega arith
-weighs (cond t a b) = omega arith
-weighs (br l) = omega arith
-weighs (br_if l) = omega arith
-weighs (br_table ls l) = omega arith
-weighs give_back = omega arith
-weighs (call f) = omega arith
-weighs (call_indirect k) = omega arith
-weighs drop_value = omega arith
-weighs select = omega arith
-weighs (local_get x) = omega arith
-weighs (local_set x) = omega arith
-weighs (local_tee x) = omega arith
-weighs (global_get x) = omega arith
-weighs (global_set x) = omega arith
-weighs (load o a n) = omega arith
-weighs (store o a n) = omega arith
-weighs memory_size = omega arith
-weighs memory_grow = omega arith
-weighs (const_i32 n) = omega arith
-weighs (const_i64 n) = omega arith
-weighs (numeric o) = omega arith
+weighs i = omega arith
 
 pub plain_turn : (c : Context) (before after : Checking) (i : Instr) (rest : List Instr) (left : Operands)
     → before.code.now ≡ i ∷ rest → acts.after (frames.inside c (waitings_of before.frames.items)) (instruction_of i)

@@ -19,6 +19,7 @@ use Rattle.mw_wasm.specs.Validity.{of_end, of_next, results_of, with_label, load
 use Rattle.mw_validate.specs.Checks.{Operands, operands, only_if, push, pushes, opened, dead, at_height, closes, effect}
 use Rattle.mw_validate.specs.Checks.{last_pops, goes_on, stops, after, after_code, PassesBody, Checks}
 use Rattle.mw_validate.proofs.OperandTypes.{Among, Gets, gets_some, gets_then, gets_if, and_both, is_all_take}
+use Rattle.mw_validate.proofs.MappedElements.{all_so}
 use Rattle.mw_validate.proofs.OperandTypes.{all_front}
 use Rattle.mw_validate.proofs.OperandTypes.{all_last, gets_pop_any, gets_pop, gets_pop_each, gets_joined, pushed_one}
 use Rattle.mw_validate.proofs.OperandTypes.{pushed_among}
@@ -167,11 +168,6 @@ mutual
 -- bodies and modules
 complete_function : (m : PureModule) (f : Function) → IsValidFunction m f → PassesBody m f
 complete_function m f h = (h.0, h.1, closes_if h.0.results _ (complete_code h.2 opened refl))
-
-all_so : {A : Type 0} (P Q : A → Type 0) (xs : List A) → ((x : A) → P x → Q x) → AllByRecursion P xs
-    → AllByRecursion Q xs
-all_so P Q [] f h = tt
-all_so P Q (x ∷ xs) f h = (f x h.0, all_so P Q xs f h.1)
 
 pub valid_checked : (m : PureModule) → IsValid m → Checks m
 valid_checked m h = record {

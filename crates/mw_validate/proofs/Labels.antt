@@ -5,7 +5,7 @@ use Rattle.std.specs.Prelude.{slice_get}
 use Rattle.std.specs.Option.{option_map}
 use Rattle.std.proofs.lemmas.List.{length-reverse, length-map, get_or-reverse}
 use Rattle.std.proofs.Math.ListN.{get_or-map}
-use Rattle.std.proofs.lemmas.Option.{slice_get-map, slice_get-get_or}
+use Rattle.std.proofs.lemmas.Option.{slice_get-map, slice_get-get_or, slice_get_past}
 use Rattle.mw_wasm.specs.declared.values.ValType.{ValType}
 use Rattle.mw_wasm.specs.Validity.{Context}
 use Rattle.mw_validate.specs.declared.frames.Frame.{Frame}
@@ -48,12 +48,6 @@ pub no_label : (c : Context) (fs : List Frame) (l : ℕ) → length fs ≤ l →
     → slice_get (labels_of c (waitings_of fs)) l ≡ None
 no_label c fs l h n = past c (waitings_of fs) l (omega (arith, so_many fs, n))
 
-nothing_there : {X : Type 0} (xs : List X) (i : ℕ) → length xs ≤ i → slice_get xs i ≡ None
-nothing_there [] zero h = refl
-nothing_there [] (suc i) h = refl
-nothing_there (x ∷ xs) zero h = absurd (omega arith)
-nothing_there (x ∷ xs) (suc i) h = nothing_there xs i (omega arith)
-
 -- an element of two lists
 pub first_list : {X : Type 0} (xs ys : List X) (i : ℕ) (d : X) → i < length xs → Some (get_or xs i d)
     ≡ slice_get (xs ++ ys) i
@@ -73,7 +67,7 @@ second_list xs ys i d h k = sym (behind xs ys i h ∙ slice_get-get_or ys (i - l
 
 pub past_both : {X : Type 0} (xs ys : List X) (i : ℕ) → length xs ≤ i → length ys ≤ i - length xs
     → None ≡ slice_get (xs ++ ys) i
-past_both xs ys i h k = sym (behind xs ys i h ∙ nothing_there ys (i - length xs) k)
+past_both xs ys i h k = sym (behind xs ys i h ∙ slice_get_past ys (i - length xs) k)
 
 -- an element under two maps
 pub two_maps : {X Y Z : Type 0} (f : X → Y) (g : Y → Z) (xs ys : List X) (i : ℕ) (d : X) → ys ≡ xs → i < length ys
@@ -88,4 +82,4 @@ pub none_mapped : {X Y Z : Type 0} (f : X → Y) (g : Y → Z) (xs ys : List X) 
 none_mapped f g xs ys i e h =
     sym (ap (λ xs. slice_get (map g (map f xs)) i) (sym e)
     ∙ (slice_get-map g (map f ys) i
-    ∙ (ap (option_map g) (slice_get-map f ys i) ∙ ap (λ o. option_map g (option_map f o)) (nothing_there ys i h))))
+    ∙ (ap (option_map g) (slice_get-map f ys i) ∙ ap (λ o. option_map g (option_map f o)) (slice_get_past ys i h))))

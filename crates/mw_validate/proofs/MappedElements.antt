@@ -12,6 +12,11 @@ pub unmapped : {X Y : Type 0} (P : Y → Type 0) (f : X → Y) (xs : List X) →
 unmapped P f [] h = tt
 unmapped P f (x ∷ xs) h = (h.0, unmapped P f xs h.1)
 
+pub all_so : {X : Type 0} (P Q : X → Type 0) (xs : List X) → ((x : X) → P x → Q x) → AllByRecursion P xs
+    → AllByRecursion Q xs
+all_so P Q [] f h = tt
+all_so P Q (x ∷ xs) f h = (f x h.0, all_so P Q xs f h.1)
+
 -- of a list that is told by an equation
 pub kept : {X Y : Type 0} (P : Y → Type 0) (f : X → Y) (xs ys : List X) → ys ≡ xs → AllByRecursion (λ x. P (f x)) ys
     → AllByRecursion P (map f xs)

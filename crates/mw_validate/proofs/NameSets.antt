@@ -1,7 +1,7 @@
 -- Names collected into a set: there are as many as items exactly where no two are the same.
 use Rattle.std.proofs.Common.{◌≡◌, ◌≢◌, ℕ, Bool, true, false, List, [], ◌∷◌, length, map, Bor, refl, sym, ap, subst}
 use Rattle.std.proofs.Common.{◌∙◌, ◌⊎◌, inl, inr, Ordering}
-use Rattle.std.specs.List.{AllByRecursion, IsDistinct}
+use Rattle.std.specs.List.{IsDistinct}
 use Rattle.std.specs.Cmp.{IsTotalOrder}
 use Rattle.std.specs.Cmp.Lexicographic.{slice_cmp}
 use Rattle.std.specs.Ordering.{nat_cmp, eq_by_cmp}
@@ -17,7 +17,7 @@ use Rattle.mw_wasm.specs.Syntax.{Exporting}
 use Rattle.mw_wasm.specs.Views.{export_of}
 use Rattle.mw_wasm.specs.Validity.{NamesDiffer}
 use Rattle.mw_validate.specs.Deciding.{Decides}
-use Rattle.mw_validate.proofs.MappedElements.{mapped, unmapped}
+use Rattle.mw_validate.proofs.MappedElements.{mapped, unmapped, all_so}
 
 -- the order of slices of bytes, and of references to them
 abbrev by_bytes : List ℕ → List ℕ → Ordering
@@ -47,11 +47,7 @@ back e f [] d = tt
 back e f (x ∷ xs) d = (unmapped (λ y. e (f x) y ≡ false) f xs d.0, back e f xs d.1)
 
 true_false : true ≡ false → ⊥
-true_false e = subst (λ (b : Bool). if_true b) e tt
-  where
-    if_true : Bool → Type 0
-    if_true true = Unit {0}
-    if_true false = ⊥
+true_false e = cc
 
 -- names that differ
 abbrev same : List ℕ → List ℕ → Bool
@@ -67,20 +63,15 @@ apart a b h = by (same a b) refl
     by true e = absurd (h (sym (tells_apart exact_bytes a b e)))
     by false e = e
 
-weaker : {X : Type 0} (P Q : X → Type 0) (xs : List X) → ((x : X) → P x → Q x) → AllByRecursion P xs
-    → AllByRecursion Q xs
-weaker P Q [] h a = tt
-weaker P Q (x ∷ xs) h a = (h x a.0, weaker P Q xs h a.1)
-
 names_differ : (es : List Exporting) → IsDistinct (λ a b. same a.name b.name) es → NamesDiffer es
 unfolding IsDistinct
 names_differ [] d = tt
-names_differ (e ∷ es) d = (weaker _ _ es (λ x. other e.name x.name) d.0, names_differ es d.1)
+names_differ (e ∷ es) d = (all_so _ _ es (λ x. other e.name x.name) d.0, names_differ es d.1)
 
 names_distinct : (es : List Exporting) → NamesDiffer es → IsDistinct (λ a b. same a.name b.name) es
 unfolding IsDistinct
 names_distinct [] d = tt
-names_distinct (e ∷ es) d = (weaker _ _ es (λ x. apart e.name x.name) d.0, names_distinct es d.1)
+names_distinct (e ∷ es) d = (all_so _ _ es (λ x. apart e.name x.name) d.0, names_distinct es d.1)
 
 pub counted : (xs : List (Bor (List ℕ))) (n : BTreeSet (Bor (List ℕ))) (exports : List Export)
     → IsFromIterResult by_target xs n

@@ -46,22 +46,23 @@ pub no_operand : (t : ValType) (s : Operands) → pop_any s ≡ None → pop t s
 no_operand t s e = ap (λ m. m >>= λ p. only_if (may_be t p.0) (Some p.1)) e
 
 -- popping in a loop: so many of the types are left
-pub pops_one : (types : List ValType) (k : ℕ) (d t : ValType) (s left : Operands) → k < length types
-    → t ≡ get_or types k d → pop t s ≡ Some left → pop_each (reverse (take (k + 1) types)) s
-    ≡ pop_each (reverse (take k types)) left
-pops_one types k d t s left lt e h =
+pops_step : (types : List ValType) (k : ℕ) (d t : ValType) (s : Operands) (r : Option Operands) → k < length types
+    → t ≡ get_or types k d → pop t s ≡ r → pop_each (reverse (take (k + 1) types)) s
+    ≡ (r >>= pop_each (reverse (take k types)))
+pops_step types k d t s r lt e h =
     ap (λ z. pop_each (reverse z) s) (take_more types k d lt)
     ∙ (ap (λ z. pop_each z s) (reverse-append (take k types) (get_or types k d ∷ []))
     ∙ (ap (λ u. pop u s >>= pop_each (reverse (take k types))) (sym e)
     ∙ ap (λ m. m >>= pop_each (reverse (take k types))) h))
 
+pub pops_one : (types : List ValType) (k : ℕ) (d t : ValType) (s left : Operands) → k < length types
+    → t ≡ get_or types k d → pop t s ≡ Some left → pop_each (reverse (take (k + 1) types)) s
+    ≡ pop_each (reverse (take k types)) left
+pops_one types k d t s left lt e h = pops_step types k d t s (Some left) lt e h
+
 pub pops_fail : (types : List ValType) (k : ℕ) (d t : ValType) (s : Operands) → k < length types → t ≡ get_or types k d
     → pop t s ≡ None → pop_each (reverse (take (k + 1) types)) s ≡ None
-pops_fail types k d t s lt e h =
-    ap (λ z. pop_each (reverse z) s) (take_more types k d lt)
-    ∙ (ap (λ z. pop_each z s) (reverse-append (take k types) (get_or types k d ∷ []))
-    ∙ (ap (λ u. pop u s >>= pop_each (reverse (take k types))) (sym e)
-    ∙ ap (λ m. m >>= pop_each (reverse (take k types))) h))
+pops_fail types k d t s lt e h = pops_step types k d t s None lt e h
 
 pub pops_all : (types : List ValType) (s : Operands) → pops types s ≡ pop_each (reverse (take (length types) types)) s
 pops_all types s = ap (λ z. pop_each (reverse z) s) (sym (take_all (length types) types (omega arith)))

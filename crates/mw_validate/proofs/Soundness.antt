@@ -3,7 +3,6 @@
 use Rattle.std.proofs.Common.{◌≡◌, ℕ, ◌≤◌, ◌^◌, Bool, true, false, ◌&&◌, List, [], ◌∷◌, ◌++◌, reverse, Option, Some}
 use Rattle.std.proofs.Common.{None, refl, sym, ap, subst, ◌∙◌, append_assoc}
 use Rattle.std.specs.Prelude.{IsSome, is_some, slice_get, nat_le}
-use Rattle.std.specs.List.{AllByRecursion}
 use Rattle.std.proofs.lemmas.Bool.{leb-true}
 use Rattle.std.proofs.lemmas.List.{append-nil, reverse-append, reverse-reverse}
 use Rattle.mw_wasm.specs.declared.values.ValType.{ValType}
@@ -25,6 +24,7 @@ use Rattle.mw_validate.proofs.OperandTypes.{Is, Among, Stands, any_type, any_is,
 use Rattle.mw_validate.proofs.OperandTypes.{sure_is}
 use Rattle.mw_validate.proofs.OperandTypes.{sure_some, sure_then, sure_so, sure_if, sure_at, both, all_take_is}
 use Rattle.mw_validate.proofs.OperandTypes.{all_append}
+use Rattle.mw_validate.proofs.MappedElements.{all_so}
 use Rattle.mw_validate.proofs.OperandTypes.{sure_pop_any, sure_pop, sure_pop_each, push_back, sure_joined}
 
 -- some operands before an instruction lead to these behind it
@@ -86,15 +86,7 @@ effect_typed c memory_grow =
 effect_typed c (const_i32 n) = sure_some ([], I32 ∷ []) of_const_i32
 effect_typed c (const_i64 n) = sure_some ([], I64 ∷ []) of_const_i64
 effect_typed c (numeric o) = sure_some _ (of_numeric refl refl)
-effect_typed c unreachable = record { sure = tt }
-effect_typed c (block t body) = record { sure = tt }
-effect_typed c (loop t body) = record { sure = tt }
-effect_typed c (cond t a b) = record { sure = tt }
-effect_typed c (br l) = record { sure = tt }
-effect_typed c (br_table ls l) = record { sure = tt }
-effect_typed c give_back = record { sure = tt }
-effect_typed c drop_value = record { sure = tt }
-effect_typed c select = record { sure = tt }
+effect_typed c i = record { sure = tt }
 
 turned : (outs left us : List ValType) → reverse outs ≡ reverse left ++ us → outs ≡ reverse us ++ left
 turned outs left us e = sym (reverse-reverse outs)
@@ -141,27 +133,7 @@ last_typed c (br_table ls l) = sure_then (sure_is (slice_get c.labels l))
           (sym (append_assoc below ts (I32 ∷ [])));
     }))
 last_typed c give_back = record { sure = λ below outs. of_return below refl }
-last_typed c nop = record { sure = tt }
-last_typed c (block t body) = record { sure = tt }
-last_typed c (loop t body) = record { sure = tt }
-last_typed c (cond t a b) = record { sure = tt }
-last_typed c (br_if l) = record { sure = tt }
-last_typed c (call f) = record { sure = tt }
-last_typed c (call_indirect k) = record { sure = tt }
-last_typed c drop_value = record { sure = tt }
-last_typed c select = record { sure = tt }
-last_typed c (local_get x) = record { sure = tt }
-last_typed c (local_set x) = record { sure = tt }
-last_typed c (local_tee x) = record { sure = tt }
-last_typed c (global_get x) = record { sure = tt }
-last_typed c (global_set x) = record { sure = tt }
-last_typed c (load o align offset) = record { sure = tt }
-last_typed c (store o align offset) = record { sure = tt }
-last_typed c memory_size = record { sure = tt }
-last_typed c memory_grow = record { sure = tt }
-last_typed c (const_i32 n) = record { sure = tt }
-last_typed c (const_i64 n) = record { sure = tt }
-last_typed c (numeric o) = record { sure = tt }
+last_typed c i = record { sure = tt }
 
 before_stop : (c : Context) (i : Instruction) (s r : Operands) (ts outs : List ValType) → Takes c i ts
     → ((us : List ValType) → Among r us → Among s (reverse ts ++ us)) → Before c i s outs
@@ -312,11 +284,6 @@ mutual
 -- bodies and modules
 sound_function : (m : PureModule) (f : Function) → PassesBody m f → IsValidFunction m f
 sound_function m f h = (h.0, h.1, closed _ f.body h.0.results (sound_code _ f.body opened) h.2)
-
-all_so : {A : Type 0} (P Q : A → Type 0) (xs : List A) → ((x : A) → P x → Q x) → AllByRecursion P xs
-    → AllByRecursion Q xs
-all_so P Q [] f h = tt
-all_so P Q (x ∷ xs) f h = (f x h.0, all_so P Q xs f h.1)
 
 pub checked_valid : (m : PureModule) → Checks m → IsValid m
 checked_valid m h = record {

@@ -9,9 +9,8 @@ use Rattle.std.proofs.lemmas.Bool.{and_parts, and_from, le-leb, ne_eqb, eqb-fals
 use Rattle.std.proofs.lemmas.List.{map-append}
 use Rattle.mw_wasm.specs.Syntax.{PureModule}
 use Rattle.mw_wasm.specs.Profile.{IsPrintable}
-use Rattle.mw_wat.specs.Tokens.{PureToken, IsBlank, IsWordByte, IsPlain, Quotes, nothing, plain, escape, Spells, a_left}
+use Rattle.mw_wat.specs.Tokens.{PureToken, IsWordByte, Quotes, nothing, plain, escape, Spells, a_left}
 use Rattle.mw_wat.specs.Tokens.{a_right, a_word, a_string, IsWhole, Begins, ReadsTo, so_far, behind_blank, behind_token}
-use Rattle.mw_wat.specs.Tokens.{AreTokens}
 use Rattle.mw_wat.specs.Tokens as t
 use Rattle.mw_wat.specs.Lexemes.{Lexeme, left, right, word, number, keyed, constant, name, octets, token_of, IsInRange}
 use Rattle.mw_wat.specs.Lexemes.{lines, lexemes}
@@ -152,23 +151,11 @@ gap_cases P i j a b c = by_tests (is_left i) (is_right j) refl refl
 
 left_is : (i : Lexeme) → is_left i ≡ true → i ≡ left
 left_is left e = refl
-left_is right e = absurd (false≢true e)
-left_is (word w) e = absurd (false≢true e)
-left_is (number n) e = absurd (false≢true e)
-left_is (keyed key n) e = absurd (false≢true e)
-left_is (constant w n) e = absurd (false≢true e)
-left_is (name bytes) e = absurd (false≢true e)
-left_is (octets bytes) e = absurd (false≢true e)
+left_is _ e = absurd (false≢true e)
 
 right_is : (i : Lexeme) → is_right i ≡ true → i ≡ right
-right_is left e = absurd (false≢true e)
 right_is right e = refl
-right_is (word w) e = absurd (false≢true e)
-right_is (number n) e = absurd (false≢true e)
-right_is (keyed key n) e = absurd (false≢true e)
-right_is (constant w n) e = absurd (false≢true e)
-right_is (name bytes) e = absurd (false≢true e)
-right_is (octets bytes) e = absurd (false≢true e)
+right_is _ e = absurd (false≢true e)
 
 laid_right : (is : List Lexeme) → (more : List ℕ) × (laid_out (right ∷ is) ≡ 0x29 ∷ more)
 laid_right [] = ([], refl)

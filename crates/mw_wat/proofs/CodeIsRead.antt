@@ -27,11 +27,10 @@ use Rattle.mw_wat.specs.Names.{number_name, load_name, store_name}
 use Rattle.mw_wat.specs.Lexemes.{Lexeme, left, right, word, number, keyed, types_behind, instruction, code}
 use Rattle.mw_wat.specs.Lexing.{Tokens, token}
 use Rattle.mw_wat.specs.Reading.{got, Reader, ◌>>=◌, gives, one_of, count, all_of, as_number, if_left}
-use Rattle.mw_wat.specs.Instructions.{Opener, as_constant, as_keyed, indexed, at_address, labels, table_behind}
-use Rattle.mw_wat.specs.Instructions.{indirect, Meaning, ends, turns, opens, alone, a_block, a_loop, an_if, meaning}
+use Rattle.mw_wat.specs.Instructions.{Opener, as_constant, indexed, at_address, labels, table_behind}
+use Rattle.mw_wat.specs.Instructions.{indirect, ends, opens, alone, a_block, a_loop, an_if, meaning}
 use Rattle.mw_wat.specs.Instructions.{Place, whole, inner, first, fresh, onward, Mark, closed, ended, turned, Listed}
-use Rattle.mw_wat.specs.Instructions.{Lists, ahead, more, block_type, inside, second, meant, listed, instructions}
-use Rattle.mw_wat.specs.Instructions.{expression}
+use Rattle.mw_wat.specs.Instructions.{Lists, more, block_type, inside, listed, instructions}
 use Rattle.mw_wat.specs.Instructions as read
 use Rattle.mw_wat.proofs.TokensStand.{Stands, here, there, parted, counted, number_means, constant_32, constant_64}
 use Rattle.mw_wat.proofs.TokensStand.{offset_means, align_means, all_got}
@@ -40,99 +39,28 @@ use Rattle.mw_wat.proofs.TokensStand.{offset_means, align_means, all_got}
 number_32 : (o : IntOp) → meaning (number_name (num.I32 o)) ≡ Some (alone (gives (numeric (num.I32 o))))
 unfolding meaning
 number_32 op.Eqz = refl
-number_32 op.Eq = refl
-number_32 op.Ne = refl
-number_32 op.LtS = refl
-number_32 op.LtU = refl
-number_32 op.GtS = refl
-number_32 op.GtU = refl
-number_32 op.LeS = refl
-number_32 op.LeU = refl
-number_32 op.GeS = refl
-number_32 op.GeU = refl
-number_32 op.Clz = refl
-number_32 op.Ctz = refl
-number_32 op.Popcnt = refl
-number_32 op.Add = refl
-number_32 op.Sub = refl
-number_32 op.Mul = refl
-number_32 op.DivS = refl
-number_32 op.DivU = refl
-number_32 op.RemS = refl
-number_32 op.RemU = refl
-number_32 op.And = refl
-number_32 op.Or = refl
-number_32 op.Xor = refl
-number_32 op.Shl = refl
-number_32 op.ShrS = refl
-number_32 op.ShrU = refl
-number_32 op.Rotl = refl
-number_32 op.Rotr = refl
+number_32 _ = refl
 
 number_64 : (o : IntOp) → meaning (number_name (num.I64 o)) ≡ Some (alone (gives (numeric (num.I64 o))))
 unfolding meaning
 number_64 op.Eqz = refl
-number_64 op.Eq = refl
-number_64 op.Ne = refl
-number_64 op.LtS = refl
-number_64 op.LtU = refl
-number_64 op.GtS = refl
-number_64 op.GtU = refl
-number_64 op.LeS = refl
-number_64 op.LeU = refl
-number_64 op.GeS = refl
-number_64 op.GeU = refl
-number_64 op.Clz = refl
-number_64 op.Ctz = refl
-number_64 op.Popcnt = refl
-number_64 op.Add = refl
-number_64 op.Sub = refl
-number_64 op.Mul = refl
-number_64 op.DivS = refl
-number_64 op.DivU = refl
-number_64 op.RemS = refl
-number_64 op.RemU = refl
-number_64 op.And = refl
-number_64 op.Or = refl
-number_64 op.Xor = refl
-number_64 op.Shl = refl
-number_64 op.ShrS = refl
-number_64 op.ShrU = refl
-number_64 op.Rotl = refl
-number_64 op.Rotr = refl
+number_64 _ = refl
 
 number_word : (o : NumOp) → meaning (number_name o) ≡ Some (alone (gives (numeric o)))
 unfolding meaning
 number_word (num.I32 o) = number_32 o
 number_word (num.I64 o) = number_64 o
-number_word num.Wrap = refl
-number_word num.ExtendS = refl
-number_word num.ExtendU = refl
+number_word _ = refl
 
 load_word : (o : LoadOp) → meaning (load_name o) ≡ Some (alone (at_address (load o)))
 unfolding meaning
 load_word load_op.I32 = refl
-load_word load_op.I64 = refl
-load_word load_op.I32S8 = refl
-load_word load_op.I32U8 = refl
-load_word load_op.I32S16 = refl
-load_word load_op.I32U16 = refl
-load_word load_op.I64S8 = refl
-load_word load_op.I64U8 = refl
-load_word load_op.I64S16 = refl
-load_word load_op.I64U16 = refl
-load_word load_op.I64S32 = refl
-load_word load_op.I64U32 = refl
+load_word _ = refl
 
 store_word : (o : StoreOp) → meaning (store_name o) ≡ Some (alone (at_address (store o)))
 unfolding meaning
 store_word store_op.I32 = refl
-store_word store_op.I64 = refl
-store_word store_op.I32To8 = refl
-store_word store_op.I32To16 = refl
-store_word store_op.I64To8 = refl
-store_word store_op.I64To16 = refl
-store_word store_op.I64To32 = refl
+store_word _ = refl
 
 -- what stands behind an instruction, an offset or locals: no number and no opening parenthesis
 abbrev pub is_left : PureToken → Bool
@@ -148,33 +76,15 @@ pub data Other : Tokens → Type 0 where
 
 load_other : (o : LoadOp) → as_number most (t.word (load_name o)) ≡ None
 load_other load_op.I32 = refl
-load_other load_op.I64 = refl
-load_other load_op.I32S8 = refl
-load_other load_op.I32U8 = refl
-load_other load_op.I32S16 = refl
-load_other load_op.I32U16 = refl
-load_other load_op.I64S8 = refl
-load_other load_op.I64U8 = refl
-load_other load_op.I64S16 = refl
-load_other load_op.I64U16 = refl
-load_other load_op.I64S32 = refl
-load_other load_op.I64U32 = refl
+load_other _ = refl
 
 store_other : (o : StoreOp) → as_number most (t.word (store_name o)) ≡ None
 store_other store_op.I32 = refl
-store_other store_op.I64 = refl
-store_other store_op.I32To8 = refl
-store_other store_op.I32To16 = refl
-store_other store_op.I64To8 = refl
-store_other store_op.I64To16 = refl
-store_other store_op.I64To32 = refl
+store_other _ = refl
 
 number_other : (o : NumOp) → as_number most (t.word (number_name o)) ≡ None
 number_other (num.I32 o) = refl
-number_other (num.I64 o) = refl
-number_other num.Wrap = refl
-number_other num.ExtendS = refl
-number_other num.ExtendU = refl
+number_other _ = refl
 
 -- an instruction begins with its name
 record Named (i : Instruction) : Type 0 where
@@ -184,31 +94,10 @@ record Named (i : Instruction) : Type 0 where
   no_number : as_number most (t.word name) ≡ None
 
 named : (i : Instruction) → Named i
-named unreachable = record { name = _; behind = _; lexemes_are = refl; no_number = refl }
-named nop = record { name = _; behind = _; lexemes_are = refl; no_number = refl }
-named (block t body) = record { name = _; behind = _; lexemes_are = refl; no_number = refl }
-named (loop t body) = record { name = _; behind = _; lexemes_are = refl; no_number = refl }
-named (cond t a b) = record { name = _; behind = _; lexemes_are = refl; no_number = refl }
-named (br l) = record { name = _; behind = _; lexemes_are = refl; no_number = refl }
-named (br_if l) = record { name = _; behind = _; lexemes_are = refl; no_number = refl }
-named (br_table ls l) = record { name = _; behind = _; lexemes_are = refl; no_number = refl }
-named give_back = record { name = _; behind = _; lexemes_are = refl; no_number = refl }
-named (call f) = record { name = _; behind = _; lexemes_are = refl; no_number = refl }
-named (call_indirect t) = record { name = _; behind = _; lexemes_are = refl; no_number = refl }
-named drop_value = record { name = _; behind = _; lexemes_are = refl; no_number = refl }
-named select = record { name = _; behind = _; lexemes_are = refl; no_number = refl }
-named (local_get x) = record { name = _; behind = _; lexemes_are = refl; no_number = refl }
-named (local_set x) = record { name = _; behind = _; lexemes_are = refl; no_number = refl }
-named (local_tee x) = record { name = _; behind = _; lexemes_are = refl; no_number = refl }
-named (global_get x) = record { name = _; behind = _; lexemes_are = refl; no_number = refl }
-named (global_set x) = record { name = _; behind = _; lexemes_are = refl; no_number = refl }
 named (load o align offset) = record { name = _; behind = _; lexemes_are = refl; no_number = load_other o }
 named (store o align offset) = record { name = _; behind = _; lexemes_are = refl; no_number = store_other o }
-named memory_size = record { name = _; behind = _; lexemes_are = refl; no_number = refl }
-named memory_grow = record { name = _; behind = _; lexemes_are = refl; no_number = refl }
-named (const_i32 n) = record { name = _; behind = _; lexemes_are = refl; no_number = refl }
-named (const_i64 n) = record { name = _; behind = _; lexemes_are = refl; no_number = refl }
 named (numeric o) = record { name = _; behind = _; lexemes_are = refl; no_number = number_other o }
+named _ = record { name = _; behind = _; lexemes_are = refl; no_number = refl }
 
 begins_word : {ts rest : Tokens} (w : List ℕ) (xs : List Lexeme) → as_number most (t.word w) ≡ None → Stands ts
     (word w ∷ xs) rest → Other ts
@@ -270,9 +159,7 @@ indirect_got k (there _ (there _ (there r (there _ here)))) = rw (number_means m
 
 pub by_left : (t : PureToken) → is_left t ≡ false → {A : Type 0} (r q : Reader A) → if_left r q t ≡ q
 by_left t.left e r q = absurd (false≢true (sym e))
-by_left t.right e r q = refl
-by_left (t.word w) e r q = refl
-by_left (t.string w) e r q = refl
+by_left _ e r q = refl
 
 block_type_got : (o : Option ValType) {ts mid : Tokens} → Stands ts
     (types_behind (codes "result") (at_most_one o)) mid → Other mid → block_type ts ≡ got o mid
@@ -291,15 +178,11 @@ pub data Ends : Place → Tokens → Mark → Tokens → Type 0 where
 
 ends_other : {p : Place} {ts rest : Tokens} {m : Mark} → Ends p ts m rest → Other ts
 ends_other by_right = other refl refl
-ends_other by_end = other refl refl
-ends_other first_end = other refl refl
-ends_other by_else = other refl refl
+ends_other _ = other refl refl
 
 goes_on : {p : Place} {ts rest : Tokens} {m : Mark} → Ends p ts m rest → onward p ≡ p
 goes_on by_right = refl
-goes_on by_end = refl
-goes_on first_end = refl
-goes_on by_else = refl
+goes_on _ = refl
 
 abbrev pub list_of : Code → Mark → Listed
 list_of c m = record { code = c; mark = m }
@@ -308,26 +191,20 @@ nothing_left : (L : Lists) (room : ℕ) {p : Place} {ts rest : Tokens} {m : Mark
     → listed L room p ts ≡ got (record { code = pure.end; mark = m }) rest
 unfolding meaning
 nothing_left L room by_right = refl
-nothing_left L room by_end = refl
-nothing_left L room first_end = refl
-nothing_left L room by_else = refl
+nothing_left L room _ = refl
 
 -- a word of one instruction
 alone_got : (L : Lists) (room : ℕ) (p : Place) (w : List ℕ) (r : Reader Instruction) (i : Instruction) (at : ℕ)
     (ts : Tokens) {mid : Tokens} → meaning w ≡ Some (alone r) → r ts ≡ got i mid
     → listed L room p (token at (t.word w) ts) ≡ more L room p i mid
 alone_got L room whole w r i at ts e f = rw (e, f) refl
-alone_got L room inner w r i at ts e f = rw (e, f) refl
-alone_got L room first w r i at ts e f = rw (e, f) refl
-alone_got L room fresh w r i at ts e f = rw (e, f) refl
+alone_got L room _ w r i at ts e f = rw (e, f) refl
 
 opener_got : (L : Lists) (room : ℕ) (p : Place) (w : List ℕ) (o : Opener) (i : Instruction) (at : ℕ)
     (ts : Tokens) {mid : Tokens} → meaning w ≡ Some (opens o) → (block_type >>= inside L room o) ts ≡ got i mid
     → listed L (suc room) p (token at (t.word w) ts) ≡ more L (suc room) p i mid
 opener_got L room whole w o i at ts e f = rw (e, f) refl
-opener_got L room inner w o i at ts e f = rw (e, f) refl
-opener_got L room first w o i at ts e f = rw (e, f) refl
-opener_got L room fresh w o i at ts e f = rw (e, f) refl
+opener_got L room _ w o i at ts e f = rw (e, f) refl
 
 ends_it : {ts mid : Tokens} → Stands ts (word (codes "end") ∷ []) mid → Ends inner ts ended mid
 ends_it (there _ here) = by_end

@@ -8,28 +8,19 @@ use Rattle.mw_wasm.specs.Views.{instruction_of, list_code}
 use Rattle.mw_wat.specs.declared.reading.cursor.Fault.{Fault}
 use Rattle.mw_wat.specs.declared.reading.cursor.Fault.TheVariants.{Bad, Memory}
 use Rattle.mw_wat.specs.Tokens.{PureToken, left, right, word, string}
-use Rattle.mw_wat.specs.Lexing.{Tokens, stop, token}
+use Rattle.mw_wat.specs.Lexing.{Tokens, token}
 use Rattle.mw_wat.specs.Reading.{Read, got, bad, Reader, count, and_then, skip}
-use Rattle.mw_wat.specs.Instructions.{Opener, Meaning, ends, turns, opens, alone, meaning, Place, whole, inner, first}
-use Rattle.mw_wat.specs.Instructions.{fresh, onward, Mark, Listed, Lists, ahead, block_type, inside, opened, more}
-use Rattle.mw_wat.specs.Instructions.{meant, listed, within, instructions}
+use Rattle.mw_wat.specs.Instructions.{Opener, Meaning, ends, turns, opens, alone, meaning, Place, whole}
+use Rattle.mw_wat.specs.Instructions.{onward, Mark, Listed, Lists, ahead, block_type, inside, opened, more}
+use Rattle.mw_wat.specs.Instructions.{meant, listed, instructions}
 use Rattle.mw_wat.specs.Cursors.{next, Fails}
 use Rattle.mw_wat.specs.Parts.{behind_opener}
 use Rattle.mw_wat.specs.Steps.{marked, one, closing_mark, end_mark, else_mark, marks_or_bad, marks, step_meant, step}
 use Rattle.mw_wat.specs.Steps.{go_on, before, with_front}
 use Rattle.mw_wat.proofs.CursorReaders.{next_is}
 use Rattle.mw_wat.proofs.Lookahead.{no_longer, local_then, got_parts}
-use Rattle.mw_wat.proofs.LookaheadOfCode.{local_within, local_inside, local_block_type, local_instructions}
-use Rattle.mw_wat.proofs.LookaheadOfCode.{meaning_local, same_listed, same_within}
-
--- the law of reading code
-pub instructions_are : (room : ℕ) (p : Place) (ts : Tokens) → instructions room p ts ≡ listed instructions room p ts
-unfolding instructions
-instructions_are room p (stop at) = refl
-instructions_are room p (token at t us) =
-    same_listed (within (suc (count us))) instructions (local_within (suc (count us))) (suc (count us))
-    (λ room p ts q. same_within (suc (count us)) (suc (count ts)) room p ts q (omega arith)) room p
-    (token at t us) (omega arith)
+use Rattle.mw_wat.proofs.LookaheadOfCode.{instructions_are, local_inside, local_block_type, local_instructions}
+use Rattle.mw_wat.proofs.LookaheadOfCode.{meaning_local}
 
 -- a list is a step, and then its end or more
 regroup : (lists : Lists) (room : ℕ) (p : Place) (r : Read Instruction)
@@ -41,42 +32,15 @@ module _ (L : Lists) (room : ℕ) where
   meant_steps : (p : Place) (m : Option Meaning) (at : ℕ) (t : PureToken) (us : Tokens)
       → meant L room p m (token at t us)
       ≡ and_then (step_meant L room p m (token at t us)) (go_on L room p)
-  meant_steps p None at t us = refl
   meant_steps whole (Some ends) at t us = refl
-  meant_steps inner (Some ends) at t us = refl
-  meant_steps first (Some ends) at t us = refl
-  meant_steps fresh (Some ends) at t us = refl
-  meant_steps whole (Some turns) at t us = refl
-  meant_steps inner (Some turns) at t us = refl
-  meant_steps first (Some turns) at t us = refl
-  meant_steps fresh (Some turns) at t us = refl
-  meant_steps whole (Some (opens o)) at t us = regroup L room whole (opened L room o (token at t us))
-  meant_steps inner (Some (opens o)) at t us = regroup L room inner (opened L room o (token at t us))
-  meant_steps first (Some (opens o)) at t us = regroup L room first (opened L room o (token at t us))
-  meant_steps fresh (Some (opens o)) at t us = regroup L room fresh (opened L room o (token at t us))
-  meant_steps whole (Some (alone r)) at t us = regroup L room whole (r us)
-  meant_steps inner (Some (alone r)) at t us = regroup L room inner (r us)
-  meant_steps first (Some (alone r)) at t us = regroup L room first (r us)
-  meant_steps fresh (Some (alone r)) at t us = regroup L room fresh (r us)
+  meant_steps p (Some (opens o)) at t us = regroup L room p (opened L room o (token at t us))
+  meant_steps p (Some (alone r)) at t us = regroup L room p (r us)
+  meant_steps p _ at t us = refl
 
   listed_steps : (p : Place) (ts : Tokens) → listed L room p ts ≡ and_then (step L room p ts) (go_on L room p)
-  listed_steps p (stop at) = refl
   listed_steps whole (token at left us) = refl
-  listed_steps inner (token at left us) = refl
-  listed_steps first (token at left us) = refl
-  listed_steps fresh (token at left us) = refl
-  listed_steps whole (token at right us) = refl
-  listed_steps inner (token at right us) = refl
-  listed_steps first (token at right us) = refl
-  listed_steps fresh (token at right us) = refl
-  listed_steps whole (token at (string w) us) = refl
-  listed_steps inner (token at (string w) us) = refl
-  listed_steps first (token at (string w) us) = refl
-  listed_steps fresh (token at (string w) us) = refl
-  listed_steps whole (token at (word w) us) = meant_steps whole (meaning w) at (word w) us
-  listed_steps inner (token at (word w) us) = meant_steps inner (meaning w) at (word w) us
-  listed_steps first (token at (word w) us) = meant_steps first (meaning w) at (word w) us
-  listed_steps fresh (token at (word w) us) = meant_steps fresh (meaning w) at (word w) us
+  listed_steps p (token at (word w) us) = meant_steps p (meaning w) at (word w) us
+  listed_steps p _ = refl
 
 pub stepped : (room : ℕ) (p : Place) (ts : Tokens) → instructions room p ts
     ≡ and_then (step instructions room p ts) (go_on instructions room p)
@@ -162,12 +126,10 @@ behind_word room p (Some (alone r)) w k at us i rest e =
 
 pub list_shorter : (room : ℕ) (p : Place) (ts : Tokens) (i : Instruction) (rest : Tokens)
     → step instructions room p ts ≡ got (one i) rest → count rest < count ts
-list_shorter room p (stop at) i rest e = absurd (cc)
-list_shorter room p (token at left us) i rest e = absurd (cc)
 list_shorter room p (token at right us) i rest e = absurd (marks_none (closing_mark p) at right us i rest e)
-list_shorter room p (token at (string w) us) i rest e = absurd (cc)
 list_shorter room p (token at (word w) us) i rest e =
     let h : count rest ≤ count us = behind_word room p (meaning w) w refl at us i rest e in omega arith
+list_shorter room p _ i rest e = absurd (cc)
 
 pub ruleset list_laws = (front_none, list_ends, list_more, list_fails, list_shorter)
 

@@ -9,6 +9,7 @@ use Rattle.mw_wat.specs.Tokens as t
 use Rattle.mw_wat.specs.Lexing.{Tokens, stop, token}
 use Rattle.mw_wat.specs.Reading.{Read, got, bad, Reader, count, and_then, ◌>>=◌, gives, or_bad, one_of, skip, one_more}
 use Rattle.mw_wat.specs.Reading.{some_of, in_front, or_here, all_of, if_opened, if_word}
+use Rattle.mw_wat.proofs.MeaningsOfWords.{both}
 use Rattle.mw_wat.proofs.TokensOfText.{Placed, p_here, p_there}
 use Rattle.mw_wat.proofs.Lookahead.{Local, LocalAt, gets, loses, Goes, any, same, placed_parts, placed_joined}
 use Rattle.mw_wat.proofs.Lookahead.{placed_count, bad_parts, local_one, local_some}
@@ -47,11 +48,6 @@ abbrev pub NotNext : {A : Type 0} → (PureToken → Option A) → Tokens → Ty
 NotNext means (stop a) = ⊥
 NotNext means (token at t rest) = means t ≡ None
 
-pub bytes_both : (xs ys : List PureToken) → AllByRecursion HoldsBytes xs → AllByRecursion HoldsBytes ys
-    → AllByRecursion HoldsBytes (xs ++ ys)
-bytes_both [] ys a b = b
-bytes_both (x ∷ xs) ys a b = (a.0, bytes_both xs ys a.1 b)
-
 pub got_bad : {A : Type 0} (x : A) (r s : Tokens) → got x r ≡ bad s → ⊥
 got_bad x r s e = cc
 
@@ -75,7 +71,7 @@ stop_is : {A : Type 0} (b a : ℕ) → bad_in A (stop b) ≡ bad (stop a) → Pl
 stop_is {A = A} b a e = subst (λ r. Placed (stop b) [] r)
     (bad_parts (bad_in A (stop b)) (stop b) (stop a) refl e) p_here
 
-here_same : {ts us : Tokens} → Placed ts [] us → ts ≡ us
+pub here_same : {ts us : Tokens} → Placed ts [] us → ts ≡ us
 here_same p_here = refl
 
 goes_front : (ys zs : List PureToken) {mid m vs : Tokens} {a : ℕ} → Placed mid ys (stop a) → Placed m (ys ++ zs) vs
@@ -117,7 +113,7 @@ completes_then {A = A} k r f G F Q P l c d start follow ts b n e = by_local (l t
           more = o.more ++ s.more;
           x = s.x;
           fit = s.fit;
-          bytes = bytes_both o.more s.more o.bytes s.bytes;
+          bytes = both HoldsBytes o.more s.more o.bytes s.bytes;
           reads = λ us vs p g.
               let m = placed_parts (o.front ++ o.more) s.more
               (subst (λ z. Placed us z vs) (sym (append_assoc o.front o.more s.more)) p) in
@@ -163,7 +159,7 @@ started_then r f G F Q P s u follow = record {
   more = s.more ++ u.more;
   x = u.x;
   fit = u.fit;
-  bytes = bytes_both s.more u.more s.bytes u.bytes;
+  bytes = both HoldsBytes s.more u.more s.bytes u.bytes;
   reads = λ us vs p g.
       let m = placed_parts s.more u.more p in
       ap (λ q. and_then q f) (s.reads us m.0 m.1 (follow m.0 vs m.2 g)) ∙ u.reads m.0 vs m.2 g;
@@ -337,12 +333,8 @@ module _ {A : Type 0} (k : ℕ) (r q : Reader A) (F : Tokens → Type 0) (P : A 
   completes_opened s c d (stop b) a n e = stop_completed (if_opened r q) F P s b a e
   completes_opened s c d (token at t.left rest) a n e = behind_completed (if_opened r q) r F P at t.left rest a
       (c rest a (omega arith) e) (λ b us. refl)
-  completes_opened s c d (token at t.right rest) a n e = same_completed (if_opened r q) q F P at t.right rest a
-      (d (token at t.right rest) a n e) (λ b us. refl)
-  completes_opened s c d (token at (t.word w) rest) a n e = same_completed (if_opened r q) q F P at (t.word w) rest a
-      (d (token at (t.word w) rest) a n e) (λ b us. refl)
-  completes_opened s c d (token at (t.string w) rest) a n e = same_completed (if_opened r q) q F P at
-      (t.string w) rest a (d (token at (t.string w) rest) a n e) (λ b us. refl)
+  completes_opened s c d (token at u rest) a n e = same_completed (if_opened r q) q F P at u rest a
+      (d (token at u rest) a n e) (λ b us. refl)
 
   pub word_reads : (w : List ℕ) → bytes_eq w w ≡ true → (s : Started r F P) (us vs : Tokens) → Placed us
       (t.word w ∷ s.more) vs → F vs → if_word w r q us ≡ got s.x vs
@@ -355,12 +347,6 @@ module _ {A : Type 0} (k : ℕ) (r q : Reader A) (F : Tokens → Type 0) (P : A 
   pub completes_word : (w : List ℕ) → Started (if_word w r q) F P → Completes k r F P → Completes k q F P
       → Completes k (if_word w r q) F P
   completes_word w s c d (stop b) a n e = stop_completed (if_word w r q) F P s b a e
-  completes_word w s c d (token at t.left rest) a n e = same_completed (if_word w r q) q F P at t.left rest a
-      (d (token at t.left rest) a n e) (λ b us. refl)
-  completes_word w s c d (token at t.right rest) a n e = same_completed (if_word w r q) q F P at t.right rest a
-      (d (token at t.right rest) a n e) (λ b us. refl)
-  completes_word w s c d (token at (t.string v) rest) a n e = same_completed (if_word w r q) q F P at
-      (t.string v) rest a (d (token at (t.string v) rest) a n e) (λ b us. refl)
   completes_word w s c d (token at (t.word v) rest) a n e = by_test (bytes_eq v w) refl e
     where
       by_test : (x : Bool) → bytes_eq v w ≡ x → (if x then skip r else q) (token at (t.word v) rest) ≡ bad (stop a)
@@ -369,6 +355,8 @@ module _ {A : Type 0} (k : ℕ) (r q : Reader A) (F : Tokens → Type 0) (P : A 
           (λ b us. rw f refl)
       by_test false f e = same_completed (if_word w r q) q F P at (t.word v) rest a
           (d (token at (t.word v) rest) a n e) (λ b us. rw f refl)
+  completes_word w s c d (token at u rest) a n e = same_completed (if_word w r q) q F P at u rest a
+      (d (token at u rest) a n e) (λ b us. refl)
 
 -- Both at once, for readers whose value may be any.
 pub record On {A : Type 0} (k : ℕ) (r : Reader A) (F : Tokens → Type 0) : Type 0 where

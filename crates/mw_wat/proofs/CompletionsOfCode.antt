@@ -1,34 +1,31 @@
 -- The readers of code can go on where tokens stop.
-use Rattle.std.proofs.Common.{◌≡◌, ℕ, zero, suc, ◌<◌, ◌^◌, ◌-◌, List, [], ◌∷◌, ◌++◌, map, refl, ap, sym, ◌∙◌, subst}
-use Rattle.std.proofs.Common.{arith, Bool, true, false, Option, Some, None}
-use Rattle.std.specs.Prelude.{codes, if◌then◌else◌}
+use Rattle.std.proofs.Common.{◌≡◌, ℕ, zero, suc, ◌<◌, ◌^◌, ◌-◌, List, [], ◌∷◌, refl, ap, sym, ◌∙◌, subst}
+use Rattle.std.proofs.Common.{arith, Option, Some, None}
+use Rattle.std.specs.Prelude.{codes}
 use Rattle.std.specs.List.{AllByRecursion}
-use Rattle.std.specs.Map.{lookup}
-use Rattle.std.specs.Str.{bytes_eq}
 use Rattle.std.specs.Int.{w32, w64}
 use Rattle.mw_wasm.specs.declared.values.ValType.{ValType}
 use Rattle.mw_wasm.specs.declared.values.ValType.TheVariants.{I32}
 use Rattle.mw_wasm.specs.Syntax as pure
-use Rattle.mw_wasm.specs.Syntax.{Instruction, Code, block, loop, cond, call_indirect, const_i32, const_i64, numeric}
-use Rattle.mw_wasm.specs.Syntax.{load, store, nop}
+use Rattle.mw_wasm.specs.Syntax.{Instruction, Code, block, loop, cond, call_indirect, const_i32, const_i64}
+use Rattle.mw_wasm.specs.Syntax.{nop}
 use Rattle.mw_wat.specs.Tokens.{PureToken}
 use Rattle.mw_wat.specs.Tokens as t
-use Rattle.mw_wat.specs.Names.{number_name, load_name, store_name}
 use Rattle.mw_wat.specs.Lexing.{Tokens, stop, token}
 use Rattle.mw_wat.specs.Reading.{got, bad, Reader, count, and_then, ◌>>=◌, gives, one_of, as_word, as_left, as_right}
 use Rattle.mw_wat.specs.Reading.{as_number, index, all_of, as_type}
-use Rattle.mw_wat.specs.Instructions as read
 use Rattle.mw_wat.specs.Instructions.{as_constant, as_keyed, indexed, at_address, table_behind, labels, indirect}
-use Rattle.mw_wat.specs.Instructions.{Opener, a_block, a_loop, an_if, Meaning, ends, turns, opens, alone, alone_words}
-use Rattle.mw_wat.specs.Instructions.{numbers, loads, stores, number_words, load_words, store_words, words, meaning}
+use Rattle.mw_wat.specs.Instructions.{Opener, a_block, a_loop, an_if, Meaning, ends, turns, opens, alone}
+use Rattle.mw_wat.specs.Instructions.{meaning}
 use Rattle.mw_wat.specs.Instructions.{Place, whole, inner, first, fresh, onward, Mark, closed, ended, turned, Listed}
-use Rattle.mw_wat.specs.Instructions.{Lists, nothing, ahead, result, block_type, second, inside, opened, more, meant}
-use Rattle.mw_wat.specs.Instructions.{by_token, listed, instructions, expression}
+use Rattle.mw_wat.specs.Instructions.{ahead, result, block_type, second, inside, opened, more, meant}
+use Rattle.mw_wat.specs.Instructions.{by_token, instructions, expression}
 use Rattle.mw_wat.proofs.TokensOfText.{Placed, p_here, p_there}
 use Rattle.mw_wat.proofs.ReadIsText.{HoldsBytes}
+use Rattle.mw_wat.proofs.MeaningsOfWords.{HoldsOfKinds, meaning_holds}
 use Rattle.mw_wat.proofs.Lookahead.{Local, local_then, local_all}
-use Rattle.mw_wat.proofs.LookaheadOfCode.{local_index, local_result, local_block_type, local_inside, local_instructions}
-use Rattle.mw_wat.proofs.LookaheadOfCode.{local_within, same_within, same_listed, meaning_local}
+use Rattle.mw_wat.proofs.LookaheadOfCode.{instructions_are, local_index, local_result, local_block_type, local_inside, local_instructions}
+use Rattle.mw_wat.proofs.LookaheadOfCode.{meaning_local}
 use Rattle.mw_wat.proofs.Completions.{Completed, Started, Completes, Any, Each, NotNext, got_bad, bad_token}
 use Rattle.mw_wat.proofs.Completions.{stop_completed, completes_after, started_then, completes_gives, started_gives}
 use Rattle.mw_wat.proofs.Completions.{behind_completed, started_all, completes_all, On, on_gives, on_one, on_after}
@@ -77,117 +74,30 @@ on_indirect k =
     on_token k as_right t.right tt refl tt (λ _. gives (call_indirect i)) NoNumber (λ _.
     on_gives k (call_indirect i) NoNumber))))
 
+constant_on : (k : ℕ) (means : PureToken → Option ℕ) (i : ℕ → Instruction) → means zero_word ≡ Some 0
+    → On k (one_of means >>= λ n. gives (i n)) NoNumber
+constant_on k means i e = on_token k means zero_word 0 e tt (λ n. gives (i n)) NoNumber (λ n. on_gives k (i n) NoNumber)
+
 abbrev CompletesMeaning : Meaning → Type 0
 CompletesMeaning (alone r) = (k : ℕ) → Completes k r NoNumber Each
 CompletesMeaning _ = Unit {0}
 
-abbrev CompletesEntry : List ℕ × Meaning → Type 0
-CompletesEntry e = CompletesMeaning e.1
-
-both : {A : Type 0} (P : A → Type 0) (xs ys : List A) → AllByRecursion P xs → AllByRecursion P ys → AllByRecursion P
-    (xs ++ ys)
-both P [] ys a b = b
-both P (x ∷ xs) ys a b = (a.0, both P xs ys a.1 b)
-
-each : {A B : Type 0} (P : B → Type 0) (f : A → B) → ((x : A) → P (f x)) → (xs : List A) → AllByRecursion P (map f xs)
-each P f g [] = tt
-each P f g (x ∷ xs) = (g x, each P f g xs)
-
-plain : (i : Instruction) (k : ℕ) → Completes k (gives i) NoNumber Each
-plain i k = completes_gives k i NoNumber Each
-
-with_index : (i : ℕ → Instruction) (k : ℕ) → Completes k (indexed i) NoNumber Each
-with_index i k = (on_indexed k i).completes
-
-constant_32_on : (k : ℕ) → On k (one_of (as_constant w32) >>= λ n. gives (const_i32 n)) NoNumber
-constant_32_on k = on_token k (as_constant w32) zero_word 0 refl tt (λ n. gives (const_i32 n)) NoNumber
-    (λ n. on_gives k (const_i32 n) NoNumber)
-
-constant_64_on : (k : ℕ) → On k (one_of (as_constant w64) >>= λ n. gives (const_i64 n)) NoNumber
-constant_64_on k = on_token k (as_constant w64) zero_word 0 refl tt (λ n. gives (const_i64 n)) NoNumber
-    (λ n. on_gives k (const_i64 n) NoNumber)
-
-alone_words_complete : AllByRecursion CompletesEntry alone_words
-alone_words_complete = (
-  plain _,
-  (
-    plain _,
-    (
-      plain _,
-      (
-        plain _,
-        (
-          plain _,
-          (
-            plain _,
-            (
-              plain _,
-              (
-                with_index _,
-                (
-                  with_index _,
-                  (
-                    with_index _,
-                    (
-                      with_index _,
-                      (
-                        with_index _,
-                        (
-                          with_index _,
-                          (
-                            with_index _,
-                            (
-                              with_index _,
-                              (
-                                λ k. (constant_32_on k).completes,
-                                (
-                                  λ k. (constant_64_on k).completes,
-                                  (
-                                    λ k. (on_labels k).completes,
-                                    (λ k. (on_indirect k).completes, (tt, (tt, (tt, (tt, (tt, tt)))))),
-                                  ),
-                                ),
-                              ),
-                            ),
-                          ),
-                        ),
-                      ),
-                    ),
-                  ),
-                ),
-              ),
-            ),
-          ),
-        ),
-      ),
-    ),
-  ),
-)
-
-words_complete : AllByRecursion CompletesEntry words
-words_complete =
-    let a = each CompletesEntry (λ o. (number_name o, alone (gives (numeric o)))) (λ o. plain (numeric o)) numbers in
-    let b = each CompletesEntry (λ o. (load_name o, alone (at_address (load o))))
-    (λ o k. (on_address k (load o)).completes) loads in
-    let c = each CompletesEntry (λ o. (store_name o, alone (at_address (store o))))
-    (λ o k. (on_address k (store o)).completes) stores in
-    both CompletesEntry (alone_words ++ number_words ++ load_words) store_words
-    (both CompletesEntry (alone_words ++ number_words) load_words
-    (both CompletesEntry alone_words number_words alone_words_complete a) b) c
-
-looked_up : (w : List ℕ) (es : List (List ℕ × Meaning)) → AllByRecursion CompletesEntry es → (m : Meaning) → lookup
-    (bytes_eq w) es ≡ Some m → CompletesMeaning m
-looked_up w [] a m e = absurd (cc)
-looked_up w (x ∷ es) a m e = by_test (looked_up w es a.1 m) (bytes_eq w x.0) e
-  where
-    by_test : (lookup (bytes_eq w) es ≡ Some m → CompletesMeaning m) → (b : Bool)
-        → (if b then Some x.1 else lookup (bytes_eq w) es) ≡ Some m → CompletesMeaning m
-    by_test later true e = let alike : x.1 ≡ m = cc in subst CompletesMeaning alike a.0
-    by_test later false e = later e
+complete_kinds : HoldsOfKinds (λ _ m. CompletesMeaning m)
+complete_kinds = record {
+  plain = λ w i e d k. completes_gives k i NoNumber Each;
+  with_index = λ w i e d k. (on_indexed k i).completes;
+  with_address = λ w i e d k. (on_address k i).completes;
+  constant_32 = λ k. (constant_on k (as_constant w32) const_i32 refl).completes;
+  constant_64 = λ k. (constant_on k (as_constant w64) const_i64 refl).completes;
+  table = λ k. (on_labels k).completes;
+  by_type = λ k. (on_indirect k).completes;
+  opening = λ o. tt;
+  turning = tt;
+  ending = tt;
+}
 
 meaning_completes : (w : List ℕ) (m : Meaning) → meaning w ≡ Some m → CompletesMeaning m
-unfolding meaning
-meaning_completes w m e = looked_up w words words_complete m e
+meaning_completes w m e = meaning_holds (λ _ m. CompletesMeaning m) complete_kinds w m e
 
 -- the results of blocks
 pub on_result : (k : ℕ) (F : Tokens → Type 0) → On k result F
@@ -231,10 +141,8 @@ last_reads room first _ vs (p_there p_here) = refl
 last_reads room fresh _ vs (p_there (p_there p_here)) = refl
 
 last_bytes : (p : Place) → AllByRecursion (λ (u : PureToken). HoldsBytes u) (last_tokens p)
-last_bytes whole = (tt, tt)
-last_bytes inner = (tt, tt)
-last_bytes first = (tt, tt)
 last_bytes fresh = (tt, (tt, tt))
+last_bytes _ = (tt, tt)
 
 abbrev list_starts : (room : ℕ) (p : Place) → Started (instructions room p) Any (Ends p)
 list_starts room p =
@@ -247,16 +155,9 @@ list_starts room p =
           λ us vs q g. last_reads room p us vs q;
     }
 
-unroll : (room : ℕ) (p : Place) (ts : Tokens) → instructions room p ts ≡ listed instructions room p ts
-unfolding instructions
-unroll room p ts = same_listed (read.within (count ts)) instructions (local_within (count ts)) (count ts)
-    (λ room p us k. same_within (count ts) (suc (count us)) room p us k (omega arith)) room p ts (omega arith)
-
 final_onward : (p : Place) → final (onward p) ≡ final p
 final_onward whole = refl
-final_onward inner = refl
-final_onward first = refl
-final_onward fresh = refl
+final_onward _ = refl
 
 no_number_ends : (p : Place) {us vs : Tokens} → Placed us (last_tokens (onward p)) vs → NoNumber us
 no_number_ends whole (p_there q) = refl
@@ -365,23 +266,12 @@ module _ (k : ℕ) (h : (room : ℕ) (p : Place) → Completes k (instructions r
       → (o : Option Meaning) → meaning w ≡ o → meant instructions room p o (token at (t.word w) rest) ≡ bad (stop a)
       → ((b : ℕ) (us : Tokens) → instructions room p (token b (t.word w) us) ≡ meant instructions room p o
       (token b (t.word w) us)) → Goal room p at w rest a
-  meant_at room p at w rest a small None m d alike = absurd (bad_token at (t.word w) rest a d)
-  meant_at room whole at w rest a small (Some ends) m d alike = absurd (bad_token at (t.word w) rest a d)
   meant_at room inner at w rest a small (Some ends) m d alike = absurd (got_bad _ rest (stop a) d)
   meant_at room first at w rest a small (Some ends) m d alike = absurd (got_bad _ rest (stop a) d)
-  meant_at room fresh at w rest a small (Some ends) m d alike = absurd (bad_token at (t.word w) rest a d)
-  meant_at room whole at w rest a small (Some turns) m d alike = absurd (bad_token at (t.word w) rest a d)
-  meant_at room inner at w rest a small (Some turns) m d alike = absurd (bad_token at (t.word w) rest a d)
   meant_at room first at w rest a small (Some turns) m d alike = absurd (got_bad _ rest (stop a) d)
-  meant_at room fresh at w rest a small (Some turns) m d alike = absurd (bad_token at (t.word w) rest a d)
-  meant_at room whole at w rest a small (Some (opens o)) m d alike = opened_at room whole at w rest a small o d alike
-  meant_at room inner at w rest a small (Some (opens o)) m d alike = opened_at room inner at w rest a small o d alike
-  meant_at room first at w rest a small (Some (opens o)) m d alike = opened_at room first at w rest a small o d alike
-  meant_at room fresh at w rest a small (Some (opens o)) m d alike = opened_at room fresh at w rest a small o d alike
-  meant_at room whole at w rest a small (Some (alone r)) m d alike = alone_at room whole at w rest a small r m d alike
-  meant_at room inner at w rest a small (Some (alone r)) m d alike = alone_at room inner at w rest a small r m d alike
-  meant_at room first at w rest a small (Some (alone r)) m d alike = alone_at room first at w rest a small r m d alike
-  meant_at room fresh at w rest a small (Some (alone r)) m d alike = alone_at room fresh at w rest a small r m d alike
+  meant_at room p at w rest a small (Some (opens o)) m d alike = opened_at room p at w rest a small o d alike
+  meant_at room p at w rest a small (Some (alone r)) m d alike = alone_at room p at w rest a small r m d alike
+  meant_at room p at w rest a small _ m d alike = absurd (bad_token at (t.word w) rest a d)
 
   word_at : (room : ℕ) (p : Place) (at : ℕ) (w : List ℕ) (rest : Tokens) (a : ℕ) → count rest < k
       → meant instructions room p (meaning w) (token at (t.word w) rest) ≡ bad (stop a)
@@ -392,32 +282,16 @@ module _ (k : ℕ) (h : (room : ℕ) (p : Place) → Completes k (instructions r
   at_token : (room : ℕ) (p : Place) (at : ℕ) (u : PureToken) (rest : Tokens) (a : ℕ) → count rest < k
       → by_token instructions room p u (token at u rest) ≡ bad (stop a)
       → Completed (instructions room p) Any (Ends p) (token at u rest) a
-  at_token room whole at t.left rest a small d = absurd (bad_token at t.left rest a d)
-  at_token room inner at t.left rest a small d = absurd (bad_token at t.left rest a d)
-  at_token room first at t.left rest a small d = absurd (bad_token at t.left rest a d)
-  at_token room fresh at t.left rest a small d = absurd (bad_token at t.left rest a d)
   at_token room whole at t.right rest a small d = absurd (got_bad _ rest (stop a) d)
-  at_token room inner at t.right rest a small d = absurd (bad_token at t.right rest a d)
-  at_token room first at t.right rest a small d = absurd (bad_token at t.right rest a d)
-  at_token room fresh at t.right rest a small d = absurd (bad_token at t.right rest a d)
-  at_token room whole at (t.string w) rest a small d = absurd (bad_token at (t.string w) rest a d)
-  at_token room inner at (t.string w) rest a small d = absurd (bad_token at (t.string w) rest a d)
-  at_token room first at (t.string w) rest a small d = absurd (bad_token at (t.string w) rest a d)
-  at_token room fresh at (t.string w) rest a small d = absurd (bad_token at (t.string w) rest a d)
-  at_token room whole at (t.word w) rest a small d = word_at room whole at w rest a small d
-      (λ b us. unroll room whole (token b (t.word w) us))
-  at_token room inner at (t.word w) rest a small d = word_at room inner at w rest a small d
-      (λ b us. unroll room inner (token b (t.word w) us))
-  at_token room first at (t.word w) rest a small d = word_at room first at w rest a small d
-      (λ b us. unroll room first (token b (t.word w) us))
-  at_token room fresh at (t.word w) rest a small d = word_at room fresh at w rest a small d
-      (λ b us. unroll room fresh (token b (t.word w) us))
+  at_token room p at (t.word w) rest a small d = word_at room p at w rest a small d
+      (λ b us. instructions_are room p (token b (t.word w) us))
+  at_token room p at u rest a small d = absurd (bad_token at u rest a d)
 
   one_step : (room : ℕ) (p : Place) → Completes (suc k) (instructions room p) Any (Ends p)
   one_step room p (stop b) a n d = stop_completed (instructions room p) Any (Ends p) (list_starts room p) b a
-      (sym (unroll room p (stop b)) ∙ d)
+      (sym (instructions_are room p (stop b)) ∙ d)
   one_step room p (token at u rest) a n d = at_token room p at u rest a (omega arith)
-      (sym (unroll room p (token at u rest)) ∙ d)
+      (sym (instructions_are room p (token at u rest)) ∙ d)
 
 code_completes : (k room : ℕ) (p : Place) → Completes k (instructions room p) Any (Ends p)
 code_completes zero room p ts a n d = absurd (omega arith)

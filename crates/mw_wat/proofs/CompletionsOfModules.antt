@@ -248,10 +248,6 @@ module _ {A : Type 0} (w : List ℕ) (e : bytes_eq w w ≡ true) (field : Reader
 
   unroll : (ts : Tokens) → fields w field true ts ≡ if_word w (field >>= rest_of)
       (gives (record { list = []; going = true })) ts
-  unroll (stop b) = refl
-  unroll (token b t.left ts) = refl
-  unroll (token b t.right ts) = refl
-  unroll (token b (t.string v) ts) = refl
   unroll (token b (t.word v) ts) = by_test (bytes_eq v w)
       (then_same field field (up_to (suc (count ts))) rest_of ts refl l λ x rest k.
       then_same next_field next_field
@@ -268,6 +264,7 @@ module _ {A : Type 0} (w : List ℕ) (e : bytes_eq w w ≡ true) (field : Reader
           (token b (t.word v) ts)
       by_test true q = q
       by_test false q = refl
+  unroll _ = refl
 
   many_reads : (s : Started (field >>= rest_of) Any IsShut) (us vs : Tokens) → Placed us (t.word w ∷ s.more) vs
       → fields w field true us ≡ got s.x vs
@@ -290,10 +287,6 @@ module _ {A : Type 0} (w : List ℕ) (e : bytes_eq w w ≡ true) (field : Reader
   many_completes (suc k) false ts a n d = absurd (got_bad _ ts (stop a) d)
   many_completes (suc k) true (stop b) a n d = stop_completed (fields w field true) Any IsShut
       (many_starts true) b a d
-  many_completes (suc k) true (token b t.left ts) a n d = absurd (got_bad _ (token b t.left ts) (stop a) d)
-  many_completes (suc k) true (token b t.right ts) a n d = absurd (got_bad _ (token b t.right ts) (stop a) d)
-  many_completes (suc k) true (token b (t.string v) ts) a n d = absurd
-      (got_bad _ (token b (t.string v) ts) (stop a) d)
   many_completes (suc k) true (token b (t.word v) ts) a n d = by_test
       (field_completes (fields w field) (local_fields w field l) none_starts k (many_completes k)) (bytes_eq v w) refl
       (sym (unroll (token b (t.word v) ts)) ∙ d)
@@ -306,6 +299,7 @@ module _ {A : Type 0} (w : List ℕ) (e : bytes_eq w w ≡ true) (field : Reader
           (c ts a (omega arith) d)
           (λ b us. unroll (token b (t.word v) us) ∙ rw q refl)
       by_test c false q d = absurd (got_bad _ (token b (t.word v) ts) (stop a) d)
+  many_completes (suc k) true (token b u ts) a n d = absurd (got_bad _ (token b u ts) (stop a) d)
 
   -- behind a field that is left in hand tokens don't stop
   in_hand : (n : ℕ) (g : Bool) (ts : Tokens) (fs : Fields A) (a : ℕ) → count ts < n
@@ -314,12 +308,6 @@ module _ {A : Type 0} (w : List ℕ) (e : bytes_eq w w ≡ true) (field : Reader
   in_hand (suc n) false ts fs a m d q = absurd
       (false≢true (ap (λ (fs : Fields A). fs.going) (got_parts shut fs ts (stop a) d).0 ∙ q))
   in_hand (suc n) true (stop b) fs a m d q = absurd (no_got (stop b) (stop a) fs d)
-  in_hand (suc n) true (token b t.left ts) fs a m d q = absurd
-      (token_stop b t.left ts a (got_parts _ fs (token b t.left ts) (stop a) d).1)
-  in_hand (suc n) true (token b t.right ts) fs a m d q = absurd
-      (token_stop b t.right ts a (got_parts _ fs (token b t.right ts) (stop a) d).1)
-  in_hand (suc n) true (token b (t.string v) ts) fs a m d q = absurd
-      (token_stop b (t.string v) ts a (got_parts _ fs (token b (t.string v) ts) (stop a) d).1)
   in_hand (suc n) true (token b (t.word v) ts) fs a m d q = by_test (λ g us gs k d q. in_hand n g us gs a k d q)
       (bytes_eq v w) d
     where
@@ -343,6 +331,8 @@ module _ {A : Type 0} (w : List ℕ) (e : bytes_eq w w ≡ true) (field : Reader
       by_test again true d = inner again d
       by_test again false d = absurd
           (token_stop b (t.word v) ts a (got_parts _ fs (token b (t.word v) ts) (stop a) d).1)
+  in_hand (suc n) true (token b u ts) fs a m d q = absurd
+      (token_stop b u ts a (got_parts _ fs (token b u ts) (stop a) d).1)
 
 -- what reads from the fields on: it can go on, and begin where the module is closed
 record Onward {B : Type 0} (k : ℕ) (r : Reader B) (g : Bool) : Type 0 where

@@ -122,31 +122,21 @@ pub choice_opened : {A : Type 0} (r q : Reader A) (ts : Tokens) (b : Bool) (rest
 choice_opened r q (stop at) b rest v e t h = absurd (cc)
 choice_opened r q (token at left us) b rest v e t h =
     let p = got_parts true b us rest e in ap r p.1 ∙ h
-choice_opened r q (token at right us) b rest v e t h =
-    let p = got_parts false b (token at right us) rest e in absurd (cc)
-choice_opened r q (token at (word w) us) b rest v e t h =
-    let p = got_parts false b (token at (word w) us) rest e in absurd (cc)
-choice_opened r q (token at (string w) us) b rest v e t h =
-    let p = got_parts false b (token at (string w) us) rest e in absurd (cc)
+choice_opened r q (token at u us) b rest v e t h =
+    let p = got_parts false b (token at u us) rest e in absurd (cc)
 
 pub choice_other : {A : Type 0} (r q : Reader A) (ts : Tokens) (b : Bool) (rest : Tokens) (v : Read A)
     → is_opened ts ≡ got b rest → b ≡ false → q rest ≡ v → if_opened r q ts ≡ v
 choice_other r q (stop at) b rest v e t h = absurd (cc)
 choice_other r q (token at left us) b rest v e t h =
     let p = got_parts true b us rest e in absurd (cc)
-choice_other r q (token at right us) b rest v e t h =
-    let p = got_parts false b (token at right us) rest e in ap q p.1 ∙ h
-choice_other r q (token at (word w) us) b rest v e t h =
-    let p = got_parts false b (token at (word w) us) rest e in ap q p.1 ∙ h
-choice_other r q (token at (string w) us) b rest v e t h =
-    let p = got_parts false b (token at (string w) us) rest e in ap q p.1 ∙ h
+choice_other r q (token at u us) b rest v e t h =
+    let p = got_parts false b (token at u us) rest e in ap q p.1 ∙ h
 
 pub choice_ended : {A : Type 0} (r q : Reader A) (ts us : Tokens) → is_opened ts ≡ bad us → if_opened r q ts ≡ bad us
 choice_ended r q (stop at) us e = let s : stop at ≡ us = cc in ap bad s
 choice_ended r q (token at left vs) us e = absurd (cc)
-choice_ended r q (token at right vs) us e = absurd (cc)
-choice_ended r q (token at (word w) vs) us e = absurd (cc)
-choice_ended r q (token at (string w) vs) us e = absurd (cc)
+choice_ended r q _ us e = absurd (cc)
 
 abbrev pub by_choice : {A : Type 0} → Reader A → Reader A → Bool → Reader A
 by_choice r q true = r
@@ -155,15 +145,12 @@ by_choice r q false = q
 pub word_choice : {A : Type 0} (w : List ℕ) (r q : Reader A) (ts : Tokens)
     → if_word w r q ts ≡ and_then (is_word w ts) (by_choice r q)
 unfolding is_word
-word_choice w r q (stop at) = refl
-word_choice w r q (token at left us) = refl
-word_choice w r q (token at right us) = refl
-word_choice w r q (token at (string x) us) = refl
 word_choice w r q (token at (word x) us) = by_test (bytes_eq x w)
   where
     by_test : (k : Bool) → (if k then skip r else q) (token at (word x) us)
         ≡ and_then ((if k then skip (gives true) else gives false) (token at (word x) us)) (by_choice r q)
     by_test true = refl
     by_test false = refl
+word_choice w r q _ = refl
 
 pub ruleset choice_laws = (choice_opened, choice_other, choice_ended)

@@ -5,7 +5,7 @@ use Rattle.std.proofs.Common.{Some, None}
 use Rattle.std.specs.Prelude.{if◌then◌else◌, nat_le}
 use Rattle.std.proofs.lemmas.Bool.{ne_eqb}
 use Rattle.std.proofs.lemmas.List.{append_assoc, append-nil, drop_all, take_all, take_more}
-use Rattle.mw_wat.specs.Tokens.{PureToken, left, right, word, string, Begins}
+use Rattle.mw_wat.specs.Tokens.{PureToken, word, string, Begins}
 use Rattle.mw_wat.specs.Lexing.{stop, token, is_blank, is_word_byte, is_plain, hex_value, Lexeme, none, found, with_byte}
 use Rattle.mw_wat.specs.Lexing.{with_digits, quotes, escaped, half_escaped, with_word_byte, whole_word, front}
 use Rattle.mw_wat.specs.Lexing.{without_blanks, onward, tokens_up_to, tokens}
@@ -100,19 +100,13 @@ content_with before (found (string bytes) rest) = before ++ bytes
 content_with before _ = []
 
 pub content_alone : (f : Lexeme) → content_with [] f ≡ content f
-content_alone none = refl
-content_alone (found left rest) = refl
-content_alone (found right rest) = refl
-content_alone (found (word w) rest) = refl
 content_alone (found (string w) rest) = refl
+content_alone _ = refl
 
 content_more : (before : List ℕ) (b : ℕ) (f : Lexeme) → content_with before (with_byte b f) ≡ content_with
     (before ++ b ∷ []) f
-content_more before b none = refl
-content_more before b (found left rest) = refl
-content_more before b (found right rest) = refl
-content_more before b (found (word w) rest) = refl
 content_more before b (found (string w) rest) = sym (append_assoc before (b ∷ []) w)
+content_more before b _ = refl
 
 pub content_goes_on : (list : List ℕ) (b : ℕ) (rest now : List ℕ) (all : List ℕ) → quotes now
     ≡ with_byte b (quotes rest)
@@ -130,11 +124,8 @@ pub content_none : (list now : List ℕ) (all : List ℕ) → quotes now ≡ non
 content_none list now all e so_far = sym (ap (content_with list) e) ∙ so_far
 
 behind_more : (b : ℕ) (f : Lexeme) → behind (with_byte b f) ≡ behind f
-behind_more b none = refl
-behind_more b (found left rest) = refl
-behind_more b (found right rest) = refl
-behind_more b (found (word w) rest) = refl
 behind_more b (found (string w) rest) = refl
+behind_more b _ = refl
 
 pub behind_goes_on : (b : ℕ) (rest now : List ℕ) (all : Option (List ℕ)) → quotes now ≡ with_byte b (quotes rest)
     → behind (quotes now) ≡ all → behind (quotes rest) ≡ all
@@ -144,18 +135,12 @@ pub ruleset string_laws = (content_alone, content_goes_on, content_ends, content
 
 -- the token at the front
 pub string_found : (f : Lexeme) (rest : List ℕ) → behind f ≡ Some rest → f ≡ found (string (content f)) rest
-string_found none rest e = cc
-string_found (found left r) rest e = cc
-string_found (found right r) rest e = cc
-string_found (found (word w) r) rest e = cc
 string_found (found (string w) r) rest e = let same : r ≡ rest = cc in ap (found (string w)) same
+string_found _ rest e = cc
 
 no_string_with : (b : ℕ) (f : Lexeme) → behind (with_byte b f) ≡ None → with_byte b f ≡ none
-no_string_with b none e = refl
-no_string_with b (found left r) e = refl
-no_string_with b (found right r) e = refl
-no_string_with b (found (word w) r) e = refl
 no_string_with b (found (string w) r) e = cc
+no_string_with b _ e = refl
 
 no_digits : (h : ℕ) (o : Option ℕ) (f : Lexeme) → behind (with_digits h o f) ≡ None → with_digits h o f ≡ none
 no_digits h None f e = refl
@@ -216,7 +201,7 @@ front_none b rest k l m e = front_other b rest k l m ∙ ap (λ t. if t then who
 pub ruleset front_laws = (front_string, front_no_string, front_word, front_none)
 
 -- tokens in turn
-shorter_left : (bytes : List ℕ) → length (without_blanks bytes) ≤ length bytes
+pub shorter_left : (bytes : List ℕ) → length (without_blanks bytes) ≤ length bytes
 shorter_left [] = omega arith
 shorter_left (b ∷ rest) = by_test (is_blank b) (shorter_left rest)
   where

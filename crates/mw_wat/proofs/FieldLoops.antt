@@ -4,10 +4,10 @@ use Rattle.std.proofs.Common.{append_assoc, Bool, true, false, Option, Some, Non
 use Rattle.std.proofs.lemmas.List.{append-nil, map-append}
 use Rattle.mw_wat.specs.declared.reading.cursor.Fault.{Fault}
 use Rattle.mw_wat.specs.declared.reading.cursor.Fault.TheVariants.{Bad, Memory}
-use Rattle.mw_wat.specs.Tokens.{left, right, word, string}
-use Rattle.mw_wat.specs.Lexing.{Tokens, stop, token}
+use Rattle.mw_wat.specs.Tokens.{left, right}
+use Rattle.mw_wat.specs.Lexing.{Tokens, token}
 use Rattle.mw_wat.specs.Reading.{Read, got, bad, Reader, count, and_then, gives, if_word, ◌>>=◌}
-use Rattle.mw_wat.specs.Modules.{Fields, next_field, in_front, fields_up_to, fields}
+use Rattle.mw_wat.specs.Modules.{Fields, next_field, in_front, fields_up_to}
 use Rattle.mw_wat.specs.Cursors.{is_word, Fails}
 use Rattle.mw_wat.specs.Parts.{behind_word, one_field, fields_of}
 use Rattle.mw_wat.proofs.CursorReaders.{by_choice, word_choice}
@@ -22,13 +22,11 @@ word_no_longer w ts b rest e =
     (local_if_word w (gives true) (gives false) (local_gives true) (local_gives false)) ts b rest e
 
 pub either_shorter : (ts : Tokens) (b : Bool) (rest : Tokens) → next_field ts ≡ got b rest → count rest < count ts
-either_shorter (stop at) b rest e = absurd (cc)
 either_shorter (token at left us) b rest e = let s : us ≡ rest = cc in subst (λ r. count r < suc (count us)) s
     (omega arith)
 either_shorter (token at right us) b rest e = let s : us ≡ rest = cc in subst (λ r. count r < suc (count us)) s
     (omega arith)
-either_shorter (token at (word w) us) b rest e = absurd (cc)
-either_shorter (token at (string w) us) b rest e = absurd (cc)
+either_shorter _ b rest e = absurd (cc)
 
 abbrev pub behind_field : {A : Type 0} → ℕ → List ℕ → Reader A → Option (A × Bool) → Reader (Fields A)
 behind_field k w field None = gives (record { list = []; going = true })

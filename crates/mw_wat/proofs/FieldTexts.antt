@@ -15,13 +15,7 @@ use Rattle.mw_wat.proofs.TextParts.{ends_open, spaced_append}
 -- a line is laid out as by its parts
 gapped : (j : Lexeme) (is : List Lexeme) → gap right j ++ opened (j ∷ is) ≡ spaced (j ∷ is)
 gapped left is = refl
-gapped right is = refl
-gapped (word w) is = refl
-gapped (number n) is = refl
-gapped (keyed key n) is = refl
-gapped (constant w n) is = refl
-gapped (name bytes) is = refl
-gapped (octets bytes) is = refl
+gapped _ is = refl
 
 behind : (text : List ℕ) (j : Lexeme) (is : List Lexeme) → text ++ gap right j ++ opened (j ∷ is) ≡ text ++ spaced
     (j ∷ is)

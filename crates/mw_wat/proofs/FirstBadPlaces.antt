@@ -11,7 +11,8 @@ use Rattle.mw_wat.specs.Lexemes.{lexemes, tokens_of}
 use Rattle.mw_wat.specs.ModuleTexts.{Says, IsDead, IsTextOf, IsBadPlace, no_token, no_module, unfinished, too_long}
 use Rattle.mw_wat.specs.ModuleTexts.{IsFirstBadPlace}
 use Rattle.mw_wat.specs.Lexing as lexing
-use Rattle.mw_wat.specs.Lexing.{Tokens, stop, token, Lexeme, none, found, is_blank, without_blanks, onward, tokens_up_to}
+use Rattle.mw_wat.specs.Lexing.{Tokens, stop, token, Lexeme, none, found, is_blank, without_blanks, onward}
+use Rattle.mw_wat.specs.Lexing.{tokens_up_to}
 use Rattle.mw_wat.specs.Lexing.{tokens}
 use Rattle.mw_wat.specs.Reading.{got, bad, count, place_of}
 use Rattle.mw_wat.specs.Modules.{whole_module, up_to_end, limited, module_read}
@@ -25,7 +26,9 @@ use Rattle.mw_wat.proofs.OneModule.{placed_all}
 use Rattle.mw_wat.proofs.ModuleSoundness.{module_said}
 use Rattle.mw_wat.proofs.ReadIsText.{HoldsBytes, read_bytes, read_shorter, has_texts, said_placed, read_is_text}
 use Rattle.mw_wat.proofs.BadPlaces.{placed_bytes, answered_is_bad}
-use Rattle.mw_wat.proofs.Completions.{bytes_both}
+use Rattle.mw_wat.proofs.CursorTokens.{shorter_left}
+use Rattle.mw_wat.proofs.MeaningsOfWords.{both}
+use Rattle.mw_wat.proofs.Completions.{here_same}
 use Rattle.mw_wat.proofs.CompletionsOfModules.{module_completes}
 
 -- places rise from token to token
@@ -44,15 +47,6 @@ unfolding Rising
 placed_behind [] p_here r = r
 placed_behind (x ∷ xs) (p_there {ts = ts} p) r = placed_behind {ts = ts} xs p r.1
 
-blanks_shorten : (bytes : List ℕ) → length (without_blanks bytes) ≤ length bytes
-blanks_shorten [] = omega arith
-blanks_shorten (b ∷ bytes) = by_test (blanks_shorten bytes) (is_blank b)
-  where
-    by_test : length (without_blanks bytes) ≤ length bytes → (t : Bool) → length
-        (if t then without_blanks bytes else b ∷ bytes) ≤ suc (length bytes)
-    by_test k true = omega arith
-    by_test k false = omega arith
-
 tokens_rise : (n end : ℕ) (bytes : List ℕ) → Rising (tokens_up_to n end bytes)
     × (end - length bytes ≤ place_of (tokens_up_to n end bytes))
 unfolding Rising
@@ -65,10 +59,10 @@ tokens_rise (suc n) end bytes = by_front (λ rest. tokens_rise n end rest) (lexi
         → Rising (onward (λ rest. tokens_up_to n end rest) (end - length (without_blanks bytes)) f)
         × (end - length bytes ≤ place_of
         (onward (λ rest. tokens_up_to n end rest) (end - length (without_blanks bytes)) f))
-    by_front again none e = (tt, let k = blanks_shorten bytes in omega arith)
+    by_front again none e = (tt, let k = shorter_left bytes in omega arith)
     by_front again (found t rest) e =
         let r = again rest in
-        let k = blanks_shorten bytes in
+        let k = shorter_left bytes in
         let h = longer (front_back (without_blanks bytes) t rest e) in
         let low = r.1 in
         ((omega arith, r.0), omega arith)
@@ -106,9 +100,6 @@ compare [] ys p_here q = inl (ys, refl, q)
 compare (x ∷ xs) [] p p_here = inr (x ∷ xs, refl, p)
 compare (x ∷ xs) (_ ∷ ys) (p_there {ts = ts} p) (p_there q) = ⊎_elim (λ a. inl (a.0, ap (λ l. x ∷ l) a.1, a.2))
     (λ a. inr (a.0, ap (λ l. x ∷ l) a.1, a.2)) (compare {ts = ts} xs ys p q)
-
-here_same : {ts us : Tokens} → Placed ts [] us → ts ≡ us
-here_same p_here = refl
 
 none_behind : (a : ℕ) (xs : List PureToken) {r : Tokens} → Placed (stop a) xs r → (xs ≡ []) × (stop a ≡ r)
 none_behind a [] p_here = (refl, refl)
@@ -175,7 +166,7 @@ module _ (ts : Tokens) (front : List PureToken) (rest : Tokens) (p : Placed ts f
       let b = module_said (laid (c.front ++ c.more)) c.x (stop 0) read in
       let all : c.front ++ c.more ≡ tokens_of c.x = same_front {us = laid (c.front ++ c.more)} (c.front ++ c.more)
       (tokens_of c.x) (laid_placed (c.front ++ c.more)) (said_placed (lexemes c.x) b.said) in
-      let bytes = bytes_both c.front c.more (subst (AllByRecursion HoldsBytes) (sym fronts) h) c.bytes in (
+      let bytes = both HoldsBytes c.front c.more (subst (AllByRecursion HoldsBytes) (sym fronts) h) c.bytes in (
         c.more,
         c.x,
         record {
@@ -266,41 +257,34 @@ same_place : (a b : ℕ) → wrong a ≡ wrong b → a ≡ b
 unfolding place_in
 same_place a b e = ap place_in e
 
-at_most_limit : (end : ℕ) (r : Result PureModule ℕ) (at : ℕ) → limited end r ≡ Err at → at ≤ 67_108_864
-at_most_limit end (Ok m) at e = by_test (nat_le end 67_108_864) e
-  where
-    by_test : (t : Bool) → (if t then Ok m else Err 67_108_864) ≡ Err at → at ≤ 67_108_864
-    by_test true e = absurd (cc)
-    by_test false e = let k = same_place 67_108_864 at e in omega arith
-at_most_limit end (Err p) at e = by_test (nat_le p 67_108_864) refl e
+limited_err : (end p at : ℕ) → limited end (Err p) ≡ Err at → (at ≤ p) × (at ≤ 67_108_864)
+limited_err end p at e = by_test (nat_le p 67_108_864) refl e
   where
     by_test : (t : Bool) → nat_le p 67_108_864 ≡ t → (if t then wrong p else wrong 67_108_864) ≡ Err at
-        → at ≤ 67_108_864
+        → (at ≤ p) × (at ≤ 67_108_864)
     by_test true q e = let k = same_place p at e in let h = leb-true p 67_108_864 q in omega arith
-    by_test false q e = let k = same_place 67_108_864 at e in omega arith
-
-at_most_err : (end p at : ℕ) → limited end (Err p) ≡ Err at → at ≤ p
-at_most_err end p at e = by_test (nat_le p 67_108_864) refl e
-  where
-    by_test : (t : Bool) → nat_le p 67_108_864 ≡ t → (if t then wrong p else wrong 67_108_864) ≡ Err at → at ≤ p
-    by_test true q e = let k = same_place p at e in omega arith
     by_test false q e = let k = same_place 67_108_864 at e in let h = leb-false p 67_108_864 q in omega arith
 
-at_most_ok : (end : ℕ) (m : PureModule) (a at : ℕ) → end ≤ a → limited end (Ok m) ≡ Err at → at ≤ a
-at_most_ok end m a at p e = by_test (nat_le end 67_108_864) refl e
+limited_ok : (end : ℕ) (m : PureModule) (at : ℕ) → limited end (Ok m) ≡ Err at → (at ≤ end) × (at ≤ 67_108_864)
+limited_ok end m at e = by_test (nat_le end 67_108_864) refl e
   where
-    by_test : (t : Bool) → nat_le end 67_108_864 ≡ t → (if t then Ok m else Err 67_108_864) ≡ Err at → at ≤ a
+    by_test : (t : Bool) → nat_le end 67_108_864 ≡ t → (if t then Ok m else Err 67_108_864) ≡ Err at
+        → (at ≤ end) × (at ≤ 67_108_864)
     by_test true q e = absurd (cc)
     by_test false q e = let k = same_place 67_108_864 at e in let h = leb-false end 67_108_864 q in omega arith
 
+at_most_limit : (end : ℕ) (r : Result PureModule ℕ) (at : ℕ) → limited end r ≡ Err at → at ≤ 67_108_864
+at_most_limit end (Ok m) at e = (limited_ok end m at e).1
+at_most_limit end (Err p) at e = (limited_err end p at e).1
+
 place_got : (end : ℕ) (m : PureModule) (rest : Tokens) (at : ℕ) → limited end (up_to_end end (got m rest)) ≡ Err at
     → at ≤ place_of rest
-place_got end m (token o t r) at e = at_most_err end o at e
+place_got end m (token o t r) at e = (limited_err end o at e).0
 place_got end m (stop a) at e = by_test (nat_le end a) refl e
   where
     by_test : (t : Bool) → nat_le end a ≡ t → limited end (if t then Ok m else Err a) ≡ Err at → at ≤ a
-    by_test true q e = at_most_ok end m a at (leb-true end a q) e
-    by_test false q e = at_most_err end a at e
+    by_test true q e = let k = leb-true end a q in let h = limited_ok end m at e in omega arith
+    by_test false q e = (limited_err end a at e).0
 
 front_bytes : (bytes : List ℕ) (front : List PureToken) (rest : Tokens) → Placed
     (tokens (length bytes) bytes) front rest → AllByRecursion HoldsBytes front
@@ -328,8 +312,8 @@ answered_is_first bytes at e =
     by_local other b (loses front rest p d l) =
         let g = goes_on (tokens (length bytes) bytes) front rest p d (front_bytes bytes front rest p) in
         no_earlier bytes front rest p g.0 g.1 g.2 at other
-        (at_most_err (length bytes) (place_of rest) at
-        (sym (ap (λ r. limited (length bytes) (up_to_end (length bytes) r)) d) ∙ e))
+        (limited_err (length bytes) (place_of rest) at
+        (sym (ap (λ r. limited (length bytes) (up_to_end (length bytes) r)) d) ∙ e)).0
         (at_most_limit (length bytes) (up_to_end (length bytes) (whole_module (tokens (length bytes) bytes))) at e) b
 
 -- no text within the limit has a bad place

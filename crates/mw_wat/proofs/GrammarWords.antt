@@ -16,9 +16,9 @@ use Rattle.mw_wasm.specs.declared.modules.Limits.{Limits}
 use Rattle.mw_wasm.specs.declared.modules.FuncType.{FuncType}
 use Rattle.mw_wasm.specs.declared.modules.Exported.{Exported}
 use Rattle.mw_wasm.specs.declared.modules.Exported.TheVariants as what
-use Rattle.mw_wasm.specs.Syntax.{Instruction, Code, unreachable, nop, block, loop, cond, br, br_if, br_table, give_back}
-use Rattle.mw_wasm.specs.Syntax.{call, call_indirect, drop_value, select, local_get, local_set, local_tee, global_get}
-use Rattle.mw_wasm.specs.Syntax.{global_set, load, store, memory_size, memory_grow, const_i32, const_i64, numeric, end}
+use Rattle.mw_wasm.specs.Syntax.{Instruction, Code, unreachable, nop, block, loop, cond, br_table, give_back}
+use Rattle.mw_wasm.specs.Syntax.{call_indirect, drop_value, select}
+use Rattle.mw_wasm.specs.Syntax.{load, store, memory_size, memory_grow, numeric, end}
 use Rattle.mw_wasm.specs.Syntax.{next, Function, Global, Exporting, ElementSegment, DataSegment, PureModule}
 use Rattle.mw_wasm.specs.BinaryModules.{at_most_one}
 use Rattle.mw_wat.specs.Lexing.{is_word_byte}
@@ -26,6 +26,8 @@ use Rattle.mw_wat.specs.Names.{type_name, operation_name, number_name, load_name
 use Rattle.mw_wat.specs.Lexemes.{Lexeme, right, word, number, keyed, octets, within, types_behind, instruction, code}
 use Rattle.mw_wat.specs.Lexemes.{otherwise, function_type, function, limits, table, memory, global_type, global}
 use Rattle.mw_wat.specs.Lexemes.{exported, export, offset, element, data_segment, fields, lines}
+use Rattle.mw_wat.proofs.MeaningsOfWords.{both as both_of, each as each_of}
+use Rattle.mw_wat.proofs.FieldsOfModules.{fields_hold}
 
 abbrev pub are_word_bytes : List ℕ → Bool
 are_word_bytes [] = true
@@ -61,64 +63,20 @@ type_is_word I64 = refl
 
 operation_is_word : (o : IntOp) → are_word_bytes (operation_name o) ≡ true
 operation_is_word op.Eqz = refl
-operation_is_word op.Eq = refl
-operation_is_word op.Ne = refl
-operation_is_word op.LtS = refl
-operation_is_word op.LtU = refl
-operation_is_word op.GtS = refl
-operation_is_word op.GtU = refl
-operation_is_word op.LeS = refl
-operation_is_word op.LeU = refl
-operation_is_word op.GeS = refl
-operation_is_word op.GeU = refl
-operation_is_word op.Clz = refl
-operation_is_word op.Ctz = refl
-operation_is_word op.Popcnt = refl
-operation_is_word op.Add = refl
-operation_is_word op.Sub = refl
-operation_is_word op.Mul = refl
-operation_is_word op.DivS = refl
-operation_is_word op.DivU = refl
-operation_is_word op.RemS = refl
-operation_is_word op.RemU = refl
-operation_is_word op.And = refl
-operation_is_word op.Or = refl
-operation_is_word op.Xor = refl
-operation_is_word op.Shl = refl
-operation_is_word op.ShrS = refl
-operation_is_word op.ShrU = refl
-operation_is_word op.Rotl = refl
-operation_is_word op.Rotr = refl
+operation_is_word _ = refl
 
 number_is_word : (o : NumOp) → is_word (number_name o) ≡ true
 number_is_word (num.I32 o) = operation_is_word o
 number_is_word (num.I64 o) = operation_is_word o
-number_is_word num.Wrap = refl
-number_is_word num.ExtendS = refl
-number_is_word num.ExtendU = refl
+number_is_word _ = refl
 
 load_is_word : (o : LoadOp) → is_word (load_name o) ≡ true
 load_is_word load_op.I32 = refl
-load_is_word load_op.I64 = refl
-load_is_word load_op.I32S8 = refl
-load_is_word load_op.I32U8 = refl
-load_is_word load_op.I32S16 = refl
-load_is_word load_op.I32U16 = refl
-load_is_word load_op.I64S8 = refl
-load_is_word load_op.I64U8 = refl
-load_is_word load_op.I64S16 = refl
-load_is_word load_op.I64U16 = refl
-load_is_word load_op.I64S32 = refl
-load_is_word load_op.I64U32 = refl
+load_is_word _ = refl
 
 store_is_word : (o : StoreOp) → is_word (store_name o) ≡ true
 store_is_word store_op.I32 = refl
-store_is_word store_op.I64 = refl
-store_is_word store_op.I32To8 = refl
-store_is_word store_op.I32To16 = refl
-store_is_word store_op.I64To8 = refl
-store_is_word store_op.I64To16 = refl
-store_is_word store_op.I64To32 = refl
+store_is_word _ = refl
 
 types_are_words : (w : List ℕ) → is_word w ≡ true → (ts : List ValType) → AreWords (types_behind w ts)
 types_are_words w e [] = tt
@@ -131,6 +89,11 @@ numbers_are_words ns = each number (λ n. tt) ns
 result_words : (t : Option ValType) → AreWords (types_behind (codes "result") (at_most_one t))
 result_words t = types_are_words (codes "result") refl (at_most_one t)
 
+block_words : (t : Option ValType) (c : Code) → AreWords (code c)
+    → AreWords (types_behind (codes "result") (at_most_one t) ++ code c ++ word (codes "end") ∷ [])
+block_words t c a = both (types_behind (codes "result") (at_most_one t) ++ code c) _
+    (both (types_behind (codes "result") (at_most_one t)) _ (result_words t) a) (refl, tt)
+
 mutual
   instruction_words : (i : Instruction) → AreWords (instruction i)
   instruction_words unreachable = (refl, tt)
@@ -140,31 +103,13 @@ mutual
   instruction_words select = (refl, tt)
   instruction_words memory_size = (refl, tt)
   instruction_words memory_grow = (refl, tt)
-  instruction_words (br x) = (refl, (tt, tt))
-  instruction_words (br_if x) = (refl, (tt, tt))
-  instruction_words (call x) = (refl, (tt, tt))
-  instruction_words (local_get x) = (refl, (tt, tt))
-  instruction_words (local_set x) = (refl, (tt, tt))
-  instruction_words (local_tee x) = (refl, (tt, tt))
-  instruction_words (global_get x) = (refl, (tt, tt))
-  instruction_words (global_set x) = (refl, (tt, tt))
-  instruction_words (const_i32 x) = (refl, (tt, tt))
-  instruction_words (const_i64 x) = (refl, (tt, tt))
   instruction_words (br_table ls l) = (refl, both (map number ls) _ (numbers_are_words ls) (tt, tt))
   instruction_words (call_indirect t) = (refl, (tt, (refl, (tt, (tt, tt)))))
   instruction_words (load o align offset) = (load_is_word o, (refl, (refl, tt)))
   instruction_words (store o align offset) = (store_is_word o, (refl, (refl, tt)))
   instruction_words (numeric o) = (number_is_word o, tt)
-  instruction_words (block t body) = (
-    refl,
-    both (types_behind (codes "result") (at_most_one t) ++ code body) _
-        (both (types_behind (codes "result") (at_most_one t)) _ (result_words t) (code_words body)) (refl, tt),
-  )
-  instruction_words (loop t body) = (
-    refl,
-    both (types_behind (codes "result") (at_most_one t) ++ code body) _
-        (both (types_behind (codes "result") (at_most_one t)) _ (result_words t) (code_words body)) (refl, tt),
-  )
+  instruction_words (block t body) = (refl, block_words t body (code_words body))
+  instruction_words (loop t body) = (refl, block_words t body (code_words body))
   instruction_words (cond t a b) = (
     refl,
     both (types_behind (codes "result") (at_most_one t) ++ code a ++ otherwise b) _
@@ -172,6 +117,7 @@ mutual
         (both (types_behind (codes "result") (at_most_one t)) _ (result_words t) (code_words a))
         (otherwise_words b)) (refl, tt),
   )
+  instruction_words _ = (refl, (tt, tt))
 
   code_words : (c : Code) → AreWords (code c)
   code_words end = tt
@@ -194,40 +140,19 @@ type_words t =
     )
 
 function_words : (f : Function) → AreWords (function f)
-function_words f = (
-  tt,
-  (
-    refl,
-    (
-      tt,
-      (
-        refl,
-        (
-          tt,
-          (
-            tt,
-            both (types_behind (codes "local") f.locals ++ code f.body) _
-                (both (types_behind (codes "local") f.locals) _ (types_are_words (codes "local") refl f.locals)
-                (code_words f.body)) (tt, tt),
-          ),
-        ),
-      ),
-    ),
-  ),
-)
+function_words f =
+    let lists = both (types_behind (codes "local") f.locals) (code f.body)
+    (types_are_words (codes "local") refl f.locals) (code_words f.body) in
+    let all = both (types_behind (codes "local") f.locals ++ code f.body) (right ∷ []) lists (tt, tt) in
+    (tt, (refl, (tt, (refl, (tt, (tt, all))))))
 
 limits_words : (l : Limits) → AreWords (limits l)
 limits_words l = (tt, numbers_are_words (at_most_one l.max))
 
 table_words : (l : Limits) → AreWords (table l)
-table_words l = (
-  tt,
-  (
-    refl,
-    both (limits l ++ word (codes "funcref") ∷ []) _ (both (limits l) _ (limits_words l) (refl, tt))
-        (tt, tt),
-  ),
-)
+table_words l =
+    let front = both (limits l) (word (codes "funcref") ∷ []) (limits_words l) (refl, tt) in
+    (tt, (refl, both (limits l ++ word (codes "funcref") ∷ []) _ front (tt, tt)))
 
 memory_words : (l : Limits) → AreWords (memory l)
 memory_words l = (tt, (refl, both (limits l) _ (limits_words l) (tt, tt)))
@@ -237,20 +162,14 @@ global_type_words false t = (type_is_word t, tt)
 global_type_words true t = (tt, (refl, (type_is_word t, (tt, tt))))
 
 global_words : (g : Global) → AreWords (global g)
-global_words g = (
-  tt,
-  (
-    refl,
-    both (global_type g.variable g.kind ++ code g.init) _
-        (both (global_type g.variable g.kind) _ (global_type_words g.variable g.kind) (code_words g.init)) (tt, tt),
-  ),
-)
+global_words g =
+    let kind = global_type g.variable g.kind in
+    let front = both kind (code g.init) (global_type_words g.variable g.kind) (code_words g.init) in
+    (tt, (refl, both (kind ++ code g.init) _ front (tt, tt)))
 
 exported_words : (w : Exported) → AreWords (exported w)
 exported_words (what.Func x) = (refl, (tt, tt))
-exported_words (what.Table x) = (refl, (tt, tt))
-exported_words (what.Memory x) = (refl, (tt, tt))
-exported_words (what.Global x) = (refl, (tt, tt))
+exported_words _ = (refl, (tt, tt))
 
 export_words : (e : Exporting) → AreWords (export e)
 export_words e =
@@ -260,62 +179,26 @@ offset_words : (c : Code) → AreWords (offset c)
 offset_words c = (tt, (refl, both (code c) _ (code_words c) (tt, tt)))
 
 element_words : (e : ElementSegment) → AreWords (element e)
-element_words e = (
-  tt,
-  (
-    refl,
-    both (offset e.offset ++ map number e.funcs) _
-        (both (offset e.offset) _ (offset_words e.offset) (numbers_are_words e.funcs)) (tt, tt),
-  ),
-)
+element_words e =
+    let front = both (offset e.offset) (map number e.funcs) (offset_words e.offset) (numbers_are_words e.funcs) in
+    (tt, (refl, both (offset e.offset ++ map number e.funcs) _ front (tt, tt)))
 
 data_words : (d : DataSegment) → AreWords (data_segment d)
-data_words d = (
-  tt,
-  (
-    refl,
-    both (offset d.offset ++ octets d.bytes ∷ []) _
-        (both (offset d.offset) _ (offset_words d.offset) (tt, tt)) (tt, tt),
-  ),
-)
+data_words d =
+    let front = both (offset d.offset) (octets d.bytes ∷ []) (offset_words d.offset) (tt, tt) in
+    (tt, (refl, both (offset d.offset ++ octets d.bytes ∷ []) _ front (tt, tt)))
 
 -- of each line
 abbrev pub LinesAreWords : List (List Lexeme) → Type 0
 LinesAreWords ls = AllByRecursion AreWords ls
 
-field_lines : {A : Type 0} (f : A → List Lexeme) → ((x : A) → AreWords (f x)) → (xs : List A) → LinesAreWords
-    (map f xs)
-field_lines f g [] = tt
-field_lines f g (x ∷ xs) = (g x, field_lines f g xs)
-
-more_lines : (xs ys : List (List Lexeme)) → LinesAreWords xs → LinesAreWords ys → LinesAreWords (xs ++ ys)
-more_lines [] ys a b = b
-more_lines (x ∷ xs) ys a b = (a.0, more_lines xs ys a.1 b)
-
 fields_are_words : (m : PureModule) → LinesAreWords (fields m)
-fields_are_words m =
-    let a1 = more_lines (map function_type m.types) (map function m.funcs)
-    (field_lines function_type type_words m.types) (field_lines function function_words m.funcs) in
-    let a2 = more_lines (map function_type m.types ++ map function m.funcs) (map table (at_most_one m.table)) (a1)
-    (field_lines table table_words (at_most_one m.table)) in
-    let a3 = more_lines (map function_type m.types ++ map function m.funcs ++ map table (at_most_one m.table))
-    (map memory (at_most_one m.memory)) (a2) (field_lines memory memory_words (at_most_one m.memory)) in
-    let a4 = more_lines
-    (map function_type m.types ++ map function m.funcs ++ map table (at_most_one m.table) ++ map memory
-    (at_most_one m.memory)) (map global m.globals) (a3) (field_lines global global_words m.globals) in
-    let a5 = more_lines
-    (map function_type m.types ++ map function m.funcs ++ map table (at_most_one m.table) ++ map memory
-    (at_most_one m.memory) ++ map global m.globals) (map export m.exports) (a4)
-    (field_lines export export_words m.exports) in
-    let a6 = more_lines
-    (map function_type m.types ++ map function m.funcs ++ map table (at_most_one m.table) ++ map memory
-    (at_most_one m.memory) ++ map global m.globals ++ map export m.exports) (map element m.elements) (a5)
-    (field_lines element element_words m.elements) in
-    let a7 = more_lines
-    (map function_type m.types ++ map function m.funcs ++ map table (at_most_one m.table) ++ map memory
-    (at_most_one m.memory) ++ map global m.globals ++ map export m.exports ++ map element m.elements)
-    (map data_segment m.segments) (a6) (field_lines data_segment data_words m.segments) in
-    a7
+fields_are_words m = fields_hold AreWords m (each_of AreWords function_type type_words m.types)
+    (each_of AreWords function function_words m.funcs) (each_of AreWords table table_words (at_most_one m.table))
+    (each_of AreWords memory memory_words (at_most_one m.memory)) (each_of AreWords global global_words m.globals)
+    (each_of AreWords export export_words m.exports) (each_of AreWords element element_words m.elements)
+    (each_of AreWords data_segment data_words m.segments)
 
 pub lines_are_words : (m : PureModule) → LinesAreWords (lines m)
-lines_are_words m = ((tt, (refl, tt)), more_lines (fields m) ((right ∷ []) ∷ []) (fields_are_words m) ((tt, tt), tt))
+lines_are_words m =
+    ((tt, (refl, tt)), both_of AreWords (fields m) ((right ∷ []) ∷ []) (fields_are_words m) ((tt, tt), tt))

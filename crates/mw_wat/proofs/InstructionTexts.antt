@@ -7,9 +7,8 @@ use Rattle.mw_wasm.specs.declared.instructions.Instr as instr
 use Rattle.mw_wasm.specs.declared.instructions.Instr.{Instr}
 use Rattle.mw_wasm.specs.declared.instructions.Instrs.{Instrs}
 use Rattle.mw_wasm.specs.BinaryModules.{at_most_one}
-use Rattle.mw_wasm.specs.Syntax.{Instruction, Code, unreachable, nop, block, loop, cond, br, br_if, br_table, give_back}
-use Rattle.mw_wasm.specs.Syntax.{call, call_indirect, drop_value, select, local_get, local_set, local_tee, global_get}
-use Rattle.mw_wasm.specs.Syntax.{global_set, load, store, memory_size, memory_grow, const_i32, const_i64, numeric, end}
+use Rattle.mw_wasm.specs.Syntax.{Instruction, Code, block, loop, cond, br_table}
+use Rattle.mw_wasm.specs.Syntax.{end}
 use Rattle.mw_wasm.specs.Syntax.{next}
 use Rattle.mw_wasm.specs.Views.{instruction_of, list_code, code_of, block_is, loop_is, cond_is}
 use Rattle.mw_wat.specs.Lexemes.{Lexeme, word, number, types_behind, instruction, code, otherwise}
@@ -17,8 +16,6 @@ use Rattle.mw_wat.specs.Spacing.{spaced}
 use Rattle.mw_wat.proofs.TextParts.{ends_open, ends_append, types_closed, both_closed, spaced_append}
 
 pub instruction_closed : (i : Instruction) → ends_open false (instruction i) ≡ false
-instruction_closed unreachable = refl
-instruction_closed nop = refl
 instruction_closed (block t body) = ends_append false
     (word (codes "block") ∷ types_behind (codes "result") (at_most_one t) ++ code body) (word (codes "end") ∷ [])
 instruction_closed (loop t body) = ends_append false
@@ -26,26 +23,8 @@ instruction_closed (loop t body) = ends_append false
 instruction_closed (cond t a b) = ends_append false
     (word (codes "if") ∷ types_behind (codes "result") (at_most_one t) ++ code a ++ otherwise b)
     (word (codes "end") ∷ [])
-instruction_closed (br l) = refl
-instruction_closed (br_if l) = refl
 instruction_closed (br_table ls l) = ends_append false (word (codes "br_table") ∷ map number ls) (number l ∷ [])
-instruction_closed give_back = refl
-instruction_closed (call f) = refl
-instruction_closed (call_indirect t) = refl
-instruction_closed drop_value = refl
-instruction_closed select = refl
-instruction_closed (local_get x) = refl
-instruction_closed (local_set x) = refl
-instruction_closed (local_tee x) = refl
-instruction_closed (global_get x) = refl
-instruction_closed (global_set x) = refl
-instruction_closed (load o align offset) = refl
-instruction_closed (store o align offset) = refl
-instruction_closed memory_size = refl
-instruction_closed memory_grow = refl
-instruction_closed (const_i32 n) = refl
-instruction_closed (const_i64 n) = refl
-instruction_closed (numeric o) = refl
+instruction_closed _ = refl
 
 pub code_closed : (c : Code) → ends_open false (code c) ≡ false
 code_closed end = refl

@@ -5,12 +5,14 @@ pub mod FieldTexts
 pub mod TokensStand
 pub mod CodeIsRead
 pub mod FieldsAreRead
+pub mod FieldsOfModules
 pub mod ModuleIsRead
 pub mod TokensOfText
 pub mod OneModule
 pub mod GrammarWords
 pub mod CanonicalIsText
 pub mod Ranges
+pub mod MeaningsOfWords
 pub mod Lookahead
 pub mod LookaheadOfCode
 pub mod LookaheadOfModules

@@ -1,29 +1,26 @@
 -- The readers of code are local, and the bound on their calls doesn't show.
-use Rattle.std.proofs.Common.{◌≡◌, ℕ, zero, suc, ◌<◌, ◌≤◌, ◌^◌, ◌-◌, List, [], ◌∷◌, ◌++◌, map, refl, ap, sym, ◌∙◌}
-use Rattle.std.proofs.Common.{subst, arith, Bool, true, false, Option, Some, None}
+use Rattle.std.proofs.Common.{◌≡◌, ℕ, zero, suc, ◌<◌, ◌≤◌, ◌^◌, ◌-◌, List, [], refl, ap, sym, ◌∙◌}
+use Rattle.std.proofs.Common.{arith, Bool, true, false, Option, Some, None}
 use Rattle.std.specs.Prelude.{codes, if◌then◌else◌}
-use Rattle.std.specs.List.{AllByRecursion}
-use Rattle.std.specs.Map.{lookup}
 use Rattle.std.specs.Str.{bytes_eq}
 use Rattle.std.specs.Int.{w32, w64}
 use Rattle.mw_wasm.specs.declared.values.ValType.{ValType}
 use Rattle.mw_wasm.specs.Syntax as pure
-use Rattle.mw_wasm.specs.Syntax.{Instruction, Code, block, loop, cond, call_indirect, const_i32, const_i64, numeric}
-use Rattle.mw_wasm.specs.Syntax.{load, store}
+use Rattle.mw_wasm.specs.Syntax.{Instruction, Code, block, loop, cond, call_indirect, const_i32, const_i64}
 use Rattle.mw_wat.specs.Tokens.{PureToken}
 use Rattle.mw_wat.specs.Tokens as t
-use Rattle.mw_wat.specs.Names.{number_name, load_name, store_name}
 use Rattle.mw_wat.specs.Lexing.{Tokens, stop, token}
 use Rattle.mw_wat.specs.Reading.{got, bad, Reader, count, and_then, ◌>>=◌, gives, one_of, skip, this, as_word, as_left}
 use Rattle.mw_wat.specs.Reading.{as_right, opening, closing, as_number, index, all_of, as_type, value_type, if_left}
 use Rattle.mw_wat.specs.Reading.{if_opened, if_same, if_word}
 use Rattle.mw_wat.specs.Instructions as read
 use Rattle.mw_wat.specs.Instructions.{as_constant, as_keyed, indexed, at_address, table_behind, labels, indirect}
-use Rattle.mw_wat.specs.Instructions.{Opener, a_block, a_loop, an_if, Meaning, ends, turns, opens, alone, alone_words}
-use Rattle.mw_wat.specs.Instructions.{numbers, loads, stores, number_words, load_words, store_words, words, meaning}
-use Rattle.mw_wat.specs.Instructions.{Place, whole, inner, first, fresh, onward, Mark, closed, ended, turned, Listed}
+use Rattle.mw_wat.specs.Instructions.{Opener, a_block, a_loop, an_if, Meaning, ends, turns, opens, alone}
+use Rattle.mw_wat.specs.Instructions.{meaning}
+use Rattle.mw_wat.specs.Instructions.{Place, whole, inner, first, fresh, onward, Mark, closed, ended, turned}
 use Rattle.mw_wat.specs.Instructions.{Lists, nothing, ahead, result, block_type, second, inside, opened, more, meant}
 use Rattle.mw_wat.specs.Instructions.{by_token, listed, instructions, expression}
+use Rattle.mw_wat.proofs.MeaningsOfWords.{HoldsOfKinds, meaning_holds}
 use Rattle.mw_wat.proofs.Lookahead.{Local, LocalAt, gets, loses, local_gives, local_fails, local_one, local_then}
 use Rattle.mw_wat.proofs.Lookahead.{local_skip, local_peek, local_all, no_longer, local_bounded}
 
@@ -32,9 +29,7 @@ local_if_left r q a b = local_peek (if_left r q) λ t. by_token t
   where
     by_token : (t : PureToken) → Local (if_left r q t)
     by_token t.left = local_skip r a
-    by_token t.right = b
-    by_token (t.word w) = b
-    by_token (t.string w) = b
+    by_token _ = b
 
 pub local_if_word : {A : Type 0} (w : List ℕ) (r q : Reader A) → Local r → Local q → Local (if_word w r q)
 local_if_word w r q a b = local_peek (if_same w r q) λ t. by_token t
@@ -44,10 +39,8 @@ local_if_word w r q a b = local_peek (if_same w r q) λ t. by_token t
     by_test false = b
 
     by_token : (t : PureToken) → Local (if_same w r q t)
-    by_token t.left = b
-    by_token t.right = b
     by_token (t.word v) = by_test (bytes_eq v w)
-    by_token (t.string v) = b
+    by_token _ = b
 
 pub local_index : Local index
 local_index = local_one (as_number (2 ^ 32 - 1))
@@ -79,98 +72,24 @@ abbrev pub LocalMeaning : Meaning → Type 0
 LocalMeaning (alone r) = Local r
 LocalMeaning _ = Unit {0}
 
-abbrev LocalEntry : List ℕ × Meaning → Type 0
-LocalEntry e = LocalMeaning e.1
-
-both : {A : Type 0} (P : A → Type 0) (xs ys : List A) → AllByRecursion P xs → AllByRecursion P ys → AllByRecursion P
-    (xs ++ ys)
-both P [] ys a b = b
-both P (x ∷ xs) ys a b = (a.0, both P xs ys a.1 b)
-
-each : {A B : Type 0} (P : B → Type 0) (f : A → B) → ((x : A) → P (f x)) → (xs : List A) → AllByRecursion P (map f xs)
-each P f g [] = tt
-each P f g (x ∷ xs) = (g x, each P f g xs)
-
-alone_words_local : AllByRecursion LocalEntry alone_words
-alone_words_local = (
-  local_gives _,
-  (
-    local_gives _,
-    (
-      local_gives _,
-      (
-        local_gives _,
-        (
-          local_gives _,
-          (
-            local_gives _,
-            (
-              local_gives _,
-              (
-                local_indexed _,
-                (
-                  local_indexed _,
-                  (
-                    local_indexed _,
-                    (
-                      local_indexed _,
-                      (
-                        local_indexed _,
-                        (
-                          local_indexed _,
-                          (
-                            local_indexed _,
-                            (
-                              local_indexed _,
-                              (
-                                local_then (one_of (as_constant w32)) (λ n. gives (const_i32 n))
-                                    (local_one (as_constant w32)) (λ n. local_gives (const_i32 n)),
-                                (
-                                  local_then (one_of (as_constant w64)) (λ n. gives (const_i64 n))
-                                      (local_one (as_constant w64)) (λ n. local_gives (const_i64 n)),
-                                  (local_labels, (local_indirect, (tt, (tt, (tt, (tt, (tt, tt))))))),
-                                ),
-                              ),
-                            ),
-                          ),
-                        ),
-                      ),
-                    ),
-                  ),
-                ),
-              ),
-            ),
-          ),
-        ),
-      ),
-    ),
-  ),
-)
-
-words_local : AllByRecursion LocalEntry words
-words_local =
-    let a = each LocalEntry (λ o. (number_name o, alone (gives (numeric o))))
-    (λ o. local_gives (numeric o)) numbers in
-    let b = each LocalEntry (λ o. (load_name o, alone (at_address (load o)))) (λ o. local_address (load o)) loads in
-    let c = each LocalEntry (λ o. (store_name o, alone (at_address (store o))))
-    (λ o. local_address (store o)) stores in
-    both LocalEntry (alone_words ++ number_words ++ load_words) store_words
-    (both LocalEntry (alone_words ++ number_words) load_words
-    (both LocalEntry alone_words number_words alone_words_local a) b) c
-
-looked_up : (w : List ℕ) (es : List (List ℕ × Meaning)) → AllByRecursion LocalEntry es → (m : Meaning) → lookup
-    (bytes_eq w) es ≡ Some m → LocalMeaning m
-looked_up w [] a m e = absurd (cc)
-looked_up w (x ∷ es) a m e = by_test (looked_up w es a.1 m) (bytes_eq w x.0) e
-  where
-    by_test : (lookup (bytes_eq w) es ≡ Some m → LocalMeaning m) → (b : Bool)
-        → (if b then Some x.1 else lookup (bytes_eq w) es) ≡ Some m → LocalMeaning m
-    by_test later true e = let same : x.1 ≡ m = cc in subst LocalMeaning same a.0
-    by_test later false e = later e
+local_kinds : HoldsOfKinds (λ _ m. LocalMeaning m)
+local_kinds = record {
+  plain = λ w i e d. local_gives i;
+  with_index = λ w i e d. local_indexed i;
+  with_address = λ w i e d. local_address i;
+  constant_32 = local_then (one_of (as_constant w32)) (λ n. gives (const_i32 n)) (local_one (as_constant w32))
+      (λ n. local_gives (const_i32 n));
+  constant_64 = local_then (one_of (as_constant w64)) (λ n. gives (const_i64 n)) (local_one (as_constant w64))
+      (λ n. local_gives (const_i64 n));
+  table = local_labels;
+  by_type = local_indirect;
+  opening = λ o. tt;
+  turning = tt;
+  ending = tt;
+}
 
 pub meaning_local : (w : List ℕ) (m : Meaning) → meaning w ≡ Some m → LocalMeaning m
-unfolding meaning
-meaning_local w m e = looked_up w words words_local m e
+meaning_local w m e = meaning_holds (λ _ m. LocalMeaning m) local_kinds w m e
 
 -- lists
 pub local_result : Local result
@@ -220,41 +139,17 @@ module _ (L : Lists) (a : AreLocal L) where
 
   local_meant : (room : ℕ) (p : Place) (o : Option Meaning) → ((m : Meaning) → o ≡ Some m → LocalMeaning m) → Local
       (meant L room p o)
-  local_meant room p None g = local_fails
-  local_meant room whole (Some ends) g = local_fails
   local_meant room inner (Some ends) g = local_nothing ended
   local_meant room first (Some ends) g = local_nothing ended
-  local_meant room fresh (Some ends) g = local_fails
-  local_meant room whole (Some turns) g = local_fails
-  local_meant room inner (Some turns) g = local_fails
   local_meant room first (Some turns) g = local_nothing turned
-  local_meant room fresh (Some turns) g = local_fails
-  local_meant room whole (Some (opens o)) g = local_opens room whole o
-  local_meant room inner (Some (opens o)) g = local_opens room inner o
-  local_meant room first (Some (opens o)) g = local_opens room first o
-  local_meant room fresh (Some (opens o)) g = local_opens room fresh o
-  local_meant room whole (Some (alone r)) g = local_alone room whole r (g (alone r) refl)
-  local_meant room inner (Some (alone r)) g = local_alone room inner r (g (alone r) refl)
-  local_meant room first (Some (alone r)) g = local_alone room first r (g (alone r) refl)
-  local_meant room fresh (Some (alone r)) g = local_alone room fresh r (g (alone r) refl)
+  local_meant room p (Some (opens o)) g = local_opens room p o
+  local_meant room p (Some (alone r)) g = local_alone room p r (g (alone r) refl)
+  local_meant room p _ g = local_fails
 
   local_by_token : (room : ℕ) (p : Place) (t : PureToken) → Local (by_token L room p t)
   local_by_token room whole t.right = local_nothing closed
-  local_by_token room inner t.right = local_fails
-  local_by_token room first t.right = local_fails
-  local_by_token room fresh t.right = local_fails
-  local_by_token room whole t.left = local_fails
-  local_by_token room inner t.left = local_fails
-  local_by_token room first t.left = local_fails
-  local_by_token room fresh t.left = local_fails
-  local_by_token room whole (t.word w) = local_meant room whole (meaning w) (meaning_local w)
-  local_by_token room inner (t.word w) = local_meant room inner (meaning w) (meaning_local w)
-  local_by_token room first (t.word w) = local_meant room first (meaning w) (meaning_local w)
-  local_by_token room fresh (t.word w) = local_meant room fresh (meaning w) (meaning_local w)
-  local_by_token room whole (t.string w) = local_fails
-  local_by_token room inner (t.string w) = local_fails
-  local_by_token room first (t.string w) = local_fails
-  local_by_token room fresh (t.string w) = local_fails
+  local_by_token room p (t.word w) = local_meant room p (meaning w) (meaning_local w)
+  local_by_token room p _ = local_fails
 
   local_listed : (room : ℕ) (p : Place) → Local (listed L room p)
   local_listed room p = local_peek (by_token L room p) (local_by_token room p)
@@ -313,42 +208,16 @@ module _ (L K : Lists) (a : AreLocal L) (n : ℕ)
   same_meant : (room : ℕ) (p : Place) (o : Option Meaning) → ((m : Meaning) → o ≡ Some m → LocalMeaning m) → (at : ℕ)
       (t : PureToken) (ts : Tokens) → count ts < n → meant L room p o (token at t ts) ≡ meant K room p o
       (token at t ts)
-  same_meant room p None g at t ts q = refl
   same_meant room whole (Some ends) g at t ts q = refl
-  same_meant room whole (Some turns) g at t ts q = refl
-  same_meant room whole (Some (opens o)) g at t ts q = same_opens room whole o at t ts q
-  same_meant room whole (Some (alone r)) g at t ts q = same_alone room whole r (g (alone r) refl) at t ts q
-  same_meant room inner (Some ends) g at t ts q = refl
-  same_meant room inner (Some turns) g at t ts q = refl
-  same_meant room inner (Some (opens o)) g at t ts q = same_opens room inner o at t ts q
-  same_meant room inner (Some (alone r)) g at t ts q = same_alone room inner r (g (alone r) refl) at t ts q
-  same_meant room first (Some ends) g at t ts q = refl
-  same_meant room first (Some turns) g at t ts q = refl
-  same_meant room first (Some (opens o)) g at t ts q = same_opens room first o at t ts q
-  same_meant room first (Some (alone r)) g at t ts q = same_alone room first r (g (alone r) refl) at t ts q
-  same_meant room fresh (Some ends) g at t ts q = refl
-  same_meant room fresh (Some turns) g at t ts q = refl
-  same_meant room fresh (Some (opens o)) g at t ts q = same_opens room fresh o at t ts q
-  same_meant room fresh (Some (alone r)) g at t ts q = same_alone room fresh r (g (alone r) refl) at t ts q
+  same_meant room p (Some (opens o)) g at t ts q = same_opens room p o at t ts q
+  same_meant room p (Some (alone r)) g at t ts q = same_alone room p r (g (alone r) refl) at t ts q
+  same_meant room p _ g at t ts q = refl
 
   same_by_token : (room : ℕ) (p : Place) (at : ℕ) (t : PureToken) (ts : Tokens) → count ts < n → by_token L room p t
       (token at t ts) ≡ by_token K room p t (token at t ts)
   same_by_token room whole at t.left ts q = refl
-  same_by_token room whole at t.right ts q = refl
-  same_by_token room whole at (t.string w) ts q = refl
-  same_by_token room whole at (t.word w) ts q = same_meant room whole (meaning w) (meaning_local w) at (t.word w) ts q
-  same_by_token room inner at t.left ts q = refl
-  same_by_token room inner at t.right ts q = refl
-  same_by_token room inner at (t.string w) ts q = refl
-  same_by_token room inner at (t.word w) ts q = same_meant room inner (meaning w) (meaning_local w) at (t.word w) ts q
-  same_by_token room first at t.left ts q = refl
-  same_by_token room first at t.right ts q = refl
-  same_by_token room first at (t.string w) ts q = refl
-  same_by_token room first at (t.word w) ts q = same_meant room first (meaning w) (meaning_local w) at (t.word w) ts q
-  same_by_token room fresh at t.left ts q = refl
-  same_by_token room fresh at t.right ts q = refl
-  same_by_token room fresh at (t.string w) ts q = refl
-  same_by_token room fresh at (t.word w) ts q = same_meant room fresh (meaning w) (meaning_local w) at (t.word w) ts q
+  same_by_token room p at (t.word w) ts q = same_meant room p (meaning w) (meaning_local w) at (t.word w) ts q
+  same_by_token room p at t ts q = refl
 
   pub same_listed : (room : ℕ) (p : Place) (ts : Tokens) → count ts ≤ n → listed L room p ts ≡ listed K room p ts
   same_listed room p (stop at) q = refl
@@ -360,6 +229,12 @@ same_within zero m room p ts q r = absurd (omega arith)
 same_within (suc n) zero room p ts q r = absurd (omega arith)
 same_within (suc n) (suc m) room p ts q r = same_listed (read.within n) (read.within m) (local_within n) (count ts)
     (λ room p us k. same_within n m room p us (omega arith) (omega arith)) room p ts (omega arith)
+
+-- the law of reading code
+pub instructions_are : (room : ℕ) (p : Place) (ts : Tokens) → instructions room p ts ≡ listed instructions room p ts
+unfolding instructions
+instructions_are room p ts = same_listed (read.within (count ts)) instructions (local_within (count ts)) (count ts)
+    (λ room p us k. same_within (count ts) (suc (count us)) room p us k (omega arith)) room p ts (omega arith)
 
 -- code up to a closing parenthesis
 pub local_instructions : (room : ℕ) (p : Place) → Local (instructions room p)

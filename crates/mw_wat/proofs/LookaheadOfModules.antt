@@ -6,9 +6,8 @@ use Rattle.std.specs.Str.{bytes_eq}
 use Rattle.mw_wasm.specs.declared.values.ValType.{ValType}
 use Rattle.mw_wasm.specs.declared.modules.FuncType.{FuncType}
 use Rattle.mw_wasm.specs.Syntax.{Code, Function, Global}
-use Rattle.mw_wat.specs.Tokens.{PureToken}
 use Rattle.mw_wat.specs.Tokens as t
-use Rattle.mw_wat.specs.Lexing.{Tokens, stop, token}
+use Rattle.mw_wat.specs.Lexing.{Tokens, token}
 use Rattle.mw_wat.specs.Reading.{got, Reader, count, and_then, ◌>>=◌, gives, one_of, skip, this, as_word, as_left}
 use Rattle.mw_wat.specs.Reading.{as_right, opening, closing, as_number, at_most, index, some_of, all_of, as_type}
 use Rattle.mw_wat.specs.Reading.{value_type, types_and_close, if_opened}
@@ -141,11 +140,6 @@ module _ {A : Type 0} (w : List ℕ) (field : Reader A) (a : Local field) where
   unfolding behind_lexeme
   same_fields zero m going ts p q = absurd (omega arith)
   same_fields (suc n) zero going ts p q = absurd (omega arith)
-  same_fields (suc n) (suc m) false ts p q = refl
-  same_fields (suc n) (suc m) true (stop at) p q = refl
-  same_fields (suc n) (suc m) true (token at t.left ts) p q = refl
-  same_fields (suc n) (suc m) true (token at t.right ts) p q = refl
-  same_fields (suc n) (suc m) true (token at (t.string v) ts) p q = refl
   same_fields (suc n) (suc m) true (token at (t.word v) ts) p q = by_test (bytes_eq v w)
       (then_same field field (behind_lexeme n) (behind_lexeme m) ts refl a λ x rest k.
       then_same next_field next_field (λ going. fields_up_to n w field going >>= λ fs. gives (in_front x fs))
@@ -161,6 +155,7 @@ module _ {A : Type 0} (w : List ℕ) (field : Reader A) (a : Local field) where
           (token at (t.word v) ts)
       by_test true e = e
       by_test false e = refl
+  same_fields (suc n) (suc m) _ _ p q = refl
 
   pub local_fields : (going : Bool) → Local (fields w field going)
   local_fields going = local_bounded (fields w field going) (λ n. fields_up_to n w field going)

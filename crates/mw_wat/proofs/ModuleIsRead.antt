@@ -1,26 +1,24 @@
 -- A module whose lexemes stand there is read.
-use Rattle.std.proofs.Common.{◌≡◌, ℕ, zero, suc, ◌≤◌, List, [], ◌∷◌, ◌++◌, length, map, refl, subst, arith, Bool, true}
+use Rattle.std.proofs.Common.{◌≡◌, ℕ, zero, suc, ◌≤◌, List, [], ◌∷◌, length, refl, subst, arith, Bool, true}
 use Rattle.std.proofs.Common.{false, Option, Some, None}
 use Rattle.std.specs.Prelude.{codes, IfSome}
 use Rattle.std.specs.Str.{bytes_eq}
 use Rattle.std.specs.List.{AllByRecursion, flat_map}
-use Rattle.std.proofs.lemmas.Grind.{flat_map-append}
 use Rattle.mw_wasm.specs.Syntax.{PureModule, Function, Exporting}
 use Rattle.mw_wasm.specs.BinaryModules.{at_most_one}
 use Rattle.mw_wasm.specs.Profile.{depth}
-use Rattle.mw_wat.specs.Tokens.{PureToken}
 use Rattle.mw_wat.specs.Tokens as t
-use Rattle.mw_wat.specs.Lexemes.{Lexeme, left, right, word, fields, lines, lexemes}
-use Rattle.mw_wat.specs.Lexemes as of
+use Rattle.mw_wat.specs.Lexemes.{Lexeme, right, lexemes}
 use Rattle.mw_wat.specs.Lexing.{Tokens, token}
 use Rattle.mw_wat.specs.Reading.{got, Reader, count}
-use Rattle.mw_wat.specs.Modules.{Fields, next_field, in_front, fields_up_to, function_type, function, table, memory}
+use Rattle.mw_wat.specs.Modules.{Fields, next_field, fields_up_to, function_type, function, table, memory}
 use Rattle.mw_wat.specs.Modules.{global, export, element, data_segment, whole_module}
 use Rattle.mw_wat.specs.Modules as read
 use Rattle.mw_wat.specs.ModuleTexts.{HasTexts}
-use Rattle.mw_wat.proofs.TokensStand.{Stands, here, there, Parted, parted, counted}
+use Rattle.mw_wat.proofs.TokensStand.{Stands, here, there, parted, counted}
 use Rattle.mw_wat.proofs.FieldsAreRead.{type_tail, type_got, function_tail, function_got, FitsFunction, table_tail}
 use Rattle.mw_wat.proofs.FieldsAreRead.{table_got, memory_tail, memory_got, global_tail, global_got, export_tail}
+use Rattle.mw_wat.proofs.FieldsOfModules.{field_of, flat_fields}
 use Rattle.mw_wat.proofs.FieldsAreRead.{export_got, element_tail, element_got, data_tail, data_got}
 
 -- behind the parenthesis that opens a field, or closes the module
@@ -61,9 +59,6 @@ record Going (ws : List (List ℕ)) (ts : Tokens) : Type 0 where
   after : After ts going rest
   others : AllByRecursion (λ w. HasOther w going rest) ws
 
-abbrev field_of : {A : Type 0} → List ℕ → (A → List Lexeme) → A → List Lexeme
-field_of w tail x = left ∷ word w ∷ tail x
-
 abbrev AreOther : List ℕ → List (List ℕ) → Type 0
 AreOther v ws = AllByRecursion (λ w. bytes_eq v w ≡ false) ws
 
@@ -72,11 +67,10 @@ others_of : (v : List ℕ) (ws : List (List ℕ)) (at : ℕ) (ts : Tokens) → A
 others_of v [] at ts a = tt
 others_of v (w ∷ ws) at ts a = (a_field a.0, others_of v ws at ts a.1)
 
-going_at : {A : Type 0} (v : List ℕ) (tail : A → List Lexeme) (ws : List (List ℕ)) → AreOther v ws
-    → (xs : List A) {ts mid : Tokens} → Stands ts (flat_map (field_of v tail) xs) mid → Going (v ∷ ws) mid
-    → Going ws ts
-going_at v tail ws a [] here g = record { going = g.going; rest = g.rest; after = g.after; others = g.others.1 }
-going_at v tail ws a (x ∷ xs) (there _ (there {at = at} {ts = ts} _ s)) g =
+going_at : {A : Type 0} (v : List ℕ) (tail : A → List Lexeme) (xs : List A) {ws : List (List ℕ)} {ts mid : Tokens}
+    → Stands ts (flat_map (field_of v tail) xs) mid → Going (v ∷ ws) mid → AreOther v ws → Going ws ts
+going_at v tail [] here g a = record { going = g.going; rest = g.rest; after = g.after; others = g.others.1 }
+going_at v tail (x ∷ xs) {ws = ws} (there _ (there {at = at} {ts = ts} _ s)) g a =
     record { going = true; rest = token at (t.word v) ts; after = opens; others = others_of v ws at ts a }
 
 begun : {A : Type 0} (v : List ℕ) (tail : A → List Lexeme) (xs : List A) {ts mid rest : Tokens} {going : Bool}
@@ -127,23 +121,6 @@ pub any_fields : {A : Type 0} (w : List ℕ) → bytes_eq w w ≡ true → (fiel
 any_fields w e field tail Fits g xs f s {behind = behind} a b h = fields_got w e field tail Fits g xs
     (suc (count behind)) (room_for xs a (as_many w tail xs s)) f s a b h
 
--- fields behind one another
-flat_parts : {ts rest : Tokens} (xs ys : List (List Lexeme)) → Stands ts (flat_map (λ l. l) (xs ++ ys)) rest
-    → Parted ts (flat_map (λ l. l) xs) (flat_map (λ l. l) ys) rest
-flat_parts {ts = ts} {rest = rest} xs ys s = parted (flat_map (λ l. l) xs) (flat_map (λ l. l) ys)
-    (subst (λ is. Stands ts is rest) (flat_map-append (λ (l : List Lexeme). l) xs ys) s)
-
-flat_same : {A : Type 0} (F : A → List Lexeme) (w : List ℕ) (tail : A → List Lexeme)
-    → ((x : A) → F x ≡ field_of w tail x) → (xs : List A) → flat_map (λ l. l) (map F xs) ≡ flat_map
-    (field_of w tail) xs
-flat_same F w tail e [] = refl
-flat_same F w tail e (x ∷ xs) = rw (e x, flat_same F w tail e xs) refl
-
-flat : {A : Type 0} (F : A → List Lexeme) (w : List ℕ) (tail : A → List Lexeme) → ((x : A) → F x ≡ field_of w tail x)
-    → (xs : List A) {ts mid : Tokens} → Stands ts (flat_map (λ l. l) (map F xs)) mid → Stands ts
-    (flat_map (field_of w tail) xs) mid
-flat F w tail e xs {ts = ts} {mid = mid} s = subst (λ is. Stands ts is mid) (flat_same F w tail e xs) s
-
 -- what holds of the parts
 functions_fit : (fs : List Function) → AllByRecursion (λ f. length f.locals ≤ 50_000) fs → AllByRecursion
     (λ f. depth f.body ≤ 500) fs → AllByRecursion FitsFunction fs
@@ -172,82 +149,54 @@ end_after (there _ here) = closes
 pub module_got : (m : PureModule) {ts rest : Tokens} → HasTexts m → Stands ts (lexemes m) rest
     → whole_module ts ≡ got m rest
 unfolding whole_module
-module_got m {rest = rest} h (there _ (there _ s)) =
-    let q8 = flat_parts (fields m) ((right ∷ []) ∷ []) s in
-    let q7 = flat_parts
-    (map of.function_type m.types ++ map of.function m.funcs ++ map of.table (at_most_one m.table)
-    ++ map of.memory (at_most_one m.memory) ++ map of.global m.globals ++ map of.export m.exports
-    ++ map of.element m.elements) (map of.data_segment m.segments) q8.front in
-    let q6 = flat_parts
-    (map of.function_type m.types ++ map of.function m.funcs ++ map of.table (at_most_one m.table)
-    ++ map of.memory (at_most_one m.memory) ++ map of.global m.globals ++ map of.export m.exports)
-    (map of.element m.elements) q7.front in
-    let q5 = flat_parts
-    (map of.function_type m.types ++ map of.function m.funcs ++ map of.table (at_most_one m.table)
-    ++ map of.memory (at_most_one m.memory) ++ map of.global m.globals) (map of.export m.exports) q6.front in
-    let q4 = flat_parts
-    (map of.function_type m.types ++ map of.function m.funcs ++ map of.table (at_most_one m.table)
-    ++ map of.memory (at_most_one m.memory)) (map of.global m.globals) q5.front in
-    let q3 = flat_parts
-    (map of.function_type m.types ++ map of.function m.funcs ++ map of.table (at_most_one m.table))
-    (map of.memory (at_most_one m.memory)) q4.front in
-    let q2 = flat_parts (map of.function_type m.types ++ map of.function m.funcs)
-    (map of.table (at_most_one m.table)) q3.front in
-    let q1 = flat_parts (map of.function_type m.types) (map of.function m.funcs) q2.front in
-    let s1 = flat of.function_type (codes "type") type_tail (λ x. refl) m.types q1.front in
-    let s2 = flat of.function (codes "func") function_tail (λ x. refl) m.funcs q1.back in
-    let s3 = flat of.table (codes "table") table_tail (λ x. refl) (at_most_one m.table) q2.back in
-    let s4 = flat of.memory (codes "memory") memory_tail (λ x. refl) (at_most_one m.memory) q3.back in
-    let s5 = flat of.global (codes "global") global_tail (λ x. refl) m.globals q4.back in
-    let s6 = flat of.export (codes "export") export_tail (λ x. refl) m.exports q5.back in
-    let s7 = flat of.element (codes "elem") element_tail (λ x. refl) m.elements q6.back in
-    let s8 = flat of.data_segment (codes "data") data_tail (λ x. refl) m.segments q7.back in
-    let e = end_after q8.back in
+module_got m {rest = rest} h (there _ (there {ts = ts} _ s)) =
+    let s0 = subst (λ is. Stands ts is rest) (flat_fields m _ _ refl refl) s in
+    let q1 = parted (flat_map (field_of (codes "type") type_tail) m.types) _ s0 in
+    let q2 = parted (flat_map (field_of (codes "func") function_tail) m.funcs) _ q1.back in
+    let q3 = parted (flat_map (field_of (codes "table") table_tail) (at_most_one m.table)) _ q2.back in
+    let q4 = parted (flat_map (field_of (codes "memory") memory_tail) (at_most_one m.memory)) _ q3.back in
+    let q5 = parted (flat_map (field_of (codes "global") global_tail) m.globals) _ q4.back in
+    let q6 = parted (flat_map (field_of (codes "export") export_tail) m.exports) _ q5.back in
+    let q7 = parted (flat_map (field_of (codes "elem") element_tail) m.elements) _ q6.back in
+    let q8 = parted (flat_map (field_of (codes "data") data_tail) m.segments) _ q7.back in
     let g8 : Going
     (codes "data" ∷ codes "elem" ∷ codes "export" ∷ codes "global" ∷ codes "memory" ∷ codes "table" ∷ codes "func"
     ∷ codes "type" ∷ []) q8.mid =
     record {
       going = false;
       rest = rest;
-      after = e;
+      after = end_after q8.back;
       others =
           (no_field, (no_field, (no_field, (no_field, (no_field, (no_field, (no_field, (no_field, tt))))))));
     } in
-    let g7 = going_at (codes "data") data_tail
-    (codes "elem" ∷ codes "export" ∷ codes "global" ∷ codes "memory" ∷ codes "table" ∷ codes "func" ∷ codes "type"
-    ∷ []) (refl, (refl, (refl, (refl, (refl, (refl, (refl, tt))))))) m.segments s8 g8 in
-    let g6 = going_at (codes "elem") element_tail
-    (codes "export" ∷ codes "global" ∷ codes "memory" ∷ codes "table" ∷ codes "func" ∷ codes "type" ∷ [])
-    (refl, (refl, (refl, (refl, (refl, (refl, tt)))))) m.elements s7 g7 in
-    let g5 = going_at (codes "export") export_tail
-    (codes "global" ∷ codes "memory" ∷ codes "table" ∷ codes "func" ∷ codes "type" ∷ [])
-    (refl, (refl, (refl, (refl, (refl, tt))))) m.exports s6 g6 in
-    let g4 = going_at (codes "global") global_tail (codes "memory" ∷ codes "table" ∷ codes "func" ∷ codes "type" ∷ [])
-    (refl, (refl, (refl, (refl, tt)))) m.globals s5 g5 in
-    let g3 = going_at (codes "memory") memory_tail (codes "table" ∷ codes "func" ∷ codes "type" ∷ [])
-    (refl, (refl, (refl, tt))) (at_most_one m.memory) s4 g4 in
-    let g2 = going_at (codes "table") table_tail (codes "func" ∷ codes "type" ∷ []) (refl, (refl, tt))
-    (at_most_one m.table) s3 g3 in
-    let g1 = going_at (codes "func") function_tail (codes "type" ∷ []) (refl, tt) m.funcs s2 g2 in
-    let g0 = going_at (codes "type") type_tail ([]) tt m.types s1 g1 in
+    let g7 = going_at (codes "data") data_tail m.segments q8.front g8
+    (refl, (refl, (refl, (refl, (refl, (refl, (refl, tt))))))) in
+    let g6 = going_at (codes "elem") element_tail m.elements q7.front g7
+    (refl, (refl, (refl, (refl, (refl, (refl, tt)))))) in
+    let g5 = going_at (codes "export") export_tail m.exports q6.front g6 (refl, (refl, (refl, (refl, (refl, tt))))) in
+    let g4 = going_at (codes "global") global_tail m.globals q5.front g5 (refl, (refl, (refl, (refl, tt)))) in
+    let g3 = going_at (codes "memory") memory_tail (at_most_one m.memory) q4.front g4 (refl, (refl, (refl, tt))) in
+    let g2 = going_at (codes "table") table_tail (at_most_one m.table) q3.front g3 (refl, (refl, tt)) in
+    let g1 = going_at (codes "func") function_tail m.funcs q2.front g2 (refl, tt) in
+    let g0 = going_at (codes "type") type_tail m.types q1.front g1 tt in
     let r1 = any_fields (codes "type") refl function_type type_tail (λ t. length t.results ≤ 1)
-    (λ x ts rest f s. type_got x f s) m.types h.profile.type_results s1 g0.after g1.after g1.others.0 in
+    (λ x ts rest f s. type_got x f s) m.types h.profile.type_results q1.front g0.after g1.after g1.others.0 in
     let r2 = any_fields (codes "func") refl function function_tail FitsFunction
     (λ x ts rest f s. function_got x f s) m.funcs
-    (functions_fit m.funcs h.profile.further_locals h.profile.function_depth) s2 g1.after g2.after g2.others.0
+    (functions_fit m.funcs h.profile.further_locals h.profile.function_depth) q2.front g1.after g2.after g2.others.0
     in
     let r3 = fields_got (codes "table") refl table table_tail (λ l. l.min ≤ 100_000)
     (λ x ts rest f s. table_got x f s) (at_most_one m.table) 1 (one_long m.table)
-    (one_fits (λ l. l.min ≤ 100_000) m.table h.profile.table_elements) s3 g2.after g3.after g3.others.0 in
+    (one_fits (λ l. l.min ≤ 100_000) m.table h.profile.table_elements) q3.front g2.after g3.after g3.others.0 in
     let r4 = fields_got (codes "memory") refl memory memory_tail (λ l. l.min ≤ 1_024)
     (λ x ts rest f s. memory_got x f s) (at_most_one m.memory) 1 (one_long m.memory)
-    (one_fits (λ l. l.min ≤ 1_024) m.memory h.profile.memory_pages) s4 g3.after g4.after g4.others.0 in
+    (one_fits (λ l. l.min ≤ 1_024) m.memory h.profile.memory_pages) q4.front g3.after g4.after g4.others.0 in
     let r5 = any_fields (codes "global") refl global global_tail (λ g. depth g.init ≤ 500)
-    (λ x ts rest f s. global_got x f s) m.globals h.profile.global_depth s5 g4.after g5.after g5.others.0 in
+    (λ x ts rest f s. global_got x f s) m.globals h.profile.global_depth q5.front g4.after g5.after g5.others.0 in
     let r6 = any_fields (codes "export") refl export export_tail (λ e. Unit {0})
-    (λ x ts rest f s. export_got x f s) m.exports (all_units m.exports) s6 g5.after g6.after g6.others.0 in
+    (λ x ts rest f s. export_got x f s) m.exports (all_units m.exports) q6.front g5.after g6.after g6.others.0 in
     let r7 = any_fields (codes "elem") refl element element_tail (λ e. depth e.offset ≤ 500)
-    (λ x ts rest f s. element_got x f s) m.elements h.profile.element_depth s7 g6.after g7.after g7.others.0 in
+    (λ x ts rest f s. element_got x f s) m.elements h.profile.element_depth q7.front g6.after g7.after g7.others.0 in
     let r8 = any_fields (codes "data") refl data_segment data_tail (λ d. depth d.offset ≤ 500)
-    (λ x ts rest f s. data_got x f s) m.segments h.profile.segment_depth s8 g7.after g8.after g8.others.0 in
+    (λ x ts rest f s. data_got x f s) m.segments h.profile.segment_depth q8.front g7.after g8.after g8.others.0 in
     rw (next_got g0.after, r1, r2, r3, r4, r5, r6, r7, r8, one_head m.table, one_head m.memory) refl

@@ -5,7 +5,7 @@ use Rattle.std.specs.Prelude.{IfOk, Result, Ok, Err}
 use Rattle.std.proofs.lemmas.List.{drop_all}
 use Rattle.mw_wat.specs.declared.reading.cursor.Fault.{Fault}
 use Rattle.mw_wasm.specs.declared.modules.Limits.{Limits}
-use Rattle.mw_wat.specs.Tokens.{PureToken, left, right, word, string}
+use Rattle.mw_wat.specs.Tokens.{PureToken, string}
 use Rattle.mw_wat.specs.Lexing.{Tokens, stop, token}
 use Rattle.mw_wat.specs.Reading.{Read, got, bad, Reader, count, and_then, one_of, at_most, peek}
 use Rattle.mw_wat.specs.Modules.{as_limit, upper, limits, are_printable, as_name, as_string}
@@ -82,31 +82,22 @@ by_bytes bytes at us false = bad (token at (string bytes) us)
 
 pub name_is : (ts : Tokens) (bytes : List ℕ) (rest : Tokens) → one_of as_string ts ≡ got bytes rest
     → are_printable bytes ≡ true → one_of as_name ts ≡ got bytes rest
-name_is (stop at) bytes rest e p = absurd (cc)
-name_is (token at left us) bytes rest e p = absurd (cc)
-name_is (token at right us) bytes rest e p = absurd (cc)
-name_is (token at (word w) us) bytes rest e p = absurd (cc)
 name_is (token at (string w) us) bytes rest e p =
     let s : w ≡ bytes = cc in
     let q : are_printable w ≡ true = ap are_printable s ∙ p in
     rw q e
+name_is _ bytes rest e p = absurd (cc)
 
 pub no_name : (ts : Tokens) (bytes : List ℕ) (rest : Tokens) → one_of as_string ts ≡ got bytes rest
     → are_printable bytes ≡ false → one_of as_name ts ≡ bad ts
-no_name (stop at) bytes rest e p = absurd (cc)
-no_name (token at left us) bytes rest e p = absurd (cc)
-no_name (token at right us) bytes rest e p = absurd (cc)
-no_name (token at (word w) us) bytes rest e p = absurd (cc)
 no_name (token at (string w) us) bytes rest e p =
     let s : w ≡ bytes = cc in
     let q : are_printable w ≡ false = ap are_printable s ∙ p in
     rw q refl
+no_name _ bytes rest e p = absurd (cc)
 
 pub no_string : (ts us : Tokens) → one_of as_string ts ≡ bad us → one_of as_name ts ≡ bad us
-no_string (stop at) us e = e
-no_string (token at left vs) us e = e
-no_string (token at right vs) us e = e
-no_string (token at (word w) vs) us e = e
 no_string (token at (string w) vs) us e = absurd (cc)
+no_string _ us e = e
 
 pub ruleset name_laws = (name_is, no_name, no_string)

@@ -8,9 +8,9 @@ use Rattle.mw_wasm.specs.declared.modules.Limits.{Limits}
 use Rattle.mw_wasm.specs.declared.modules.FuncType.{FuncType}
 use Rattle.mw_wasm.specs.declared.modules.Exported.{Exported}
 use Rattle.mw_wasm.specs.declared.modules.Exported.TheVariants as what
-use Rattle.mw_wasm.specs.Syntax.{Instruction, Code, unreachable, nop, block, loop, cond, br, br_if, br_table, give_back}
-use Rattle.mw_wasm.specs.Syntax.{call, call_indirect, drop_value, select, local_get, local_set, local_tee, global_get}
-use Rattle.mw_wasm.specs.Syntax.{global_set, load, store, memory_size, memory_grow, const_i32, const_i64, numeric, end}
+use Rattle.mw_wasm.specs.Syntax.{Instruction, Code, block, loop, cond, br, br_if, br_table}
+use Rattle.mw_wasm.specs.Syntax.{call, call_indirect, local_get, local_set, local_tee, global_get}
+use Rattle.mw_wasm.specs.Syntax.{global_set, load, store, const_i32, const_i64, end}
 use Rattle.mw_wasm.specs.Syntax.{next, Function, Global, Exporting, ElementSegment, DataSegment, PureModule}
 use Rattle.mw_wasm.specs.Pieces.{Piece, items, octet, u32}
 use Rattle.mw_wasm.specs.BinaryInstructions as binary
@@ -23,6 +23,8 @@ use Rattle.mw_wat.specs.Lexemes.{Lexeme, right, word, number, octets, IsInRange,
 use Rattle.mw_wat.specs.Lexemes.{code, otherwise, function_type, function, limits, table, memory, global_type, global}
 use Rattle.mw_wat.specs.Lexemes.{exported, export, offset, element, data_segment, fields, lines}
 use Rattle.mw_wat.specs.ModuleTexts.{HasTexts}
+use Rattle.mw_wat.proofs.MeaningsOfWords.{both as both_of}
+use Rattle.mw_wat.proofs.FieldsOfModules.{fields_hold}
 
 abbrev AreInRange : List Lexeme → Type 0
 AreInRange is = AllByRecursion IsInRange is
@@ -70,8 +72,6 @@ list_fits t c a = both (types_behind (codes "result") (at_most_one t)) (code c) 
 
 mutual
   instruction_fits : (i : Instruction) (bytes : List ℕ) → binary.instruction i bytes → AreInRange (instruction i)
-  instruction_fits unreachable bytes p = (tt, tt)
-  instruction_fits nop bytes p = (tt, tt)
   instruction_fits (block t body) bytes p = (
     tt,
     both (types_behind (codes "result") (at_most_one t) ++ code body) (word (codes "end") ∷ [])
@@ -99,12 +99,9 @@ mutual
     both (map number ls) (number l ∷ []) (numbers_fit ls p.second.first.back p.second.first.second)
         (index_fits l p.second.back p.second.second, tt),
   )
-  instruction_fits give_back bytes p = (tt, tt)
   instruction_fits (call f) bytes p = (tt, (index_fits f p.back p.second, tt))
   instruction_fits (call_indirect t) bytes p =
       (tt, (tt, (tt, (index_fits t p.second.front p.second.first, (tt, tt)))))
-  instruction_fits drop_value bytes p = (tt, tt)
-  instruction_fits select bytes p = (tt, tt)
   instruction_fits (local_get x) bytes p = (tt, (index_fits x p.back p.second, tt))
   instruction_fits (local_set x) bytes p = (tt, (index_fits x p.back p.second, tt))
   instruction_fits (local_tee x) bytes p = (tt, (index_fits x p.back p.second, tt))
@@ -114,11 +111,9 @@ mutual
       (tt, (index_fits offset p.second.back p.second.second, (index_fits align p.second.front p.second.first, tt)))
   instruction_fits (store o align offset) bytes p =
       (tt, (index_fits offset p.second.back p.second.second, (index_fits align p.second.front p.second.first, tt)))
-  instruction_fits memory_size bytes p = (tt, tt)
-  instruction_fits memory_grow bytes p = (tt, tt)
   instruction_fits (const_i32 n) bytes p = (tt, (integer_fits 32 p.back n (omega arith) p.second, tt))
   instruction_fits (const_i64 n) bytes p = (tt, (integer_fits 64 p.back n (omega arith) p.second, tt))
-  instruction_fits (numeric o) bytes p = (tt, tt)
+  instruction_fits _ bytes p = (tt, tt)
 
   code_fits : (c : Code) (bytes : List ℕ) → binary.code c bytes → AreInRange (code c)
   code_fits end bytes p = tt
@@ -151,27 +146,10 @@ type_fits t =
     )
 
 function_fits : (f : Function) → f.kind < 2 ^ 32 → AreInRange (code f.body) → AreInRange (function f)
-function_fits f k b = (
-  tt,
-  (
-    tt,
-    (
-      tt,
-      (
-        tt,
-        (
-          k,
-          (
-            tt,
-            both (types_behind (codes "local") f.locals ++ code f.body) (right ∷ [])
-                (both (types_behind (codes "local") f.locals) (code f.body) (types_fit (codes "local") f.locals) b)
-                (tt, tt),
-          ),
-        ),
-      ),
-    ),
-  ),
-)
+function_fits f k b =
+    let lists = both (types_behind (codes "local") f.locals) (code f.body) (types_fit (codes "local") f.locals) b in
+    let all = both (types_behind (codes "local") f.locals ++ code f.body) (right ∷ []) lists (tt, tt) in
+    (tt, (tt, (tt, (tt, (k, (tt, all))))))
 
 functions_fit : (fs : List Function) → AllByRecursion (λ f. f.kind < 2 ^ 32) fs → AllByRecursion
     (λ f. AreInRange (code f.body)) fs → AllByRecursion (λ f. AreInRange (function f)) fs
@@ -185,14 +163,9 @@ bounds_fit min (Some max) bytes p =
     (index_fits min p.second.front p.second.first, (index_fits max p.second.back p.second.second, tt))
 
 table_fits : (l : Limits) (bytes : List ℕ) → binary_modules.table l bytes → AreInRange (table l)
-table_fits l bytes p = (
-  tt,
-  (
-    tt,
-    both (limits l ++ word (codes "funcref") ∷ []) (right ∷ [])
-        (both (limits l) (word (codes "funcref") ∷ []) (bounds_fit l.min l.max p.back p.second) (tt, tt)) (tt, tt),
-  ),
-)
+table_fits l bytes p =
+    let front = both (limits l) (word (codes "funcref") ∷ []) (bounds_fit l.min l.max p.back p.second) (tt, tt) in
+    (tt, (tt, both (limits l ++ word (codes "funcref") ∷ []) (right ∷ []) front (tt, tt)))
 
 memory_fits : (l : Limits) (bytes : List ℕ) → binary_modules.limits l bytes → AreInRange (memory l)
 memory_fits l bytes p = (tt, (tt, both (limits l) (right ∷ []) (bounds_fit l.min l.max bytes p) (tt, tt)))
@@ -203,14 +176,10 @@ global_type_fits true t = (tt, (tt, (tt, (tt, tt))))
 
 global_fits : (g : Global) (bytes : List ℕ) → binary_modules.global g bytes → AreInRange (global g)
 global_fits g bytes p =
-    let init = code_fits g.init p.second.second.front p.second.second.first in (
-      tt,
-      (
-        tt,
-        both (global_type g.variable g.kind ++ code g.init) (right ∷ [])
-            (both (global_type g.variable g.kind) (code g.init) (global_type_fits g.variable g.kind) init) (tt, tt),
-      ),
-    )
+    let init = code_fits g.init p.second.second.front p.second.second.first in
+    let kind = global_type g.variable g.kind in
+    let front = both kind (code g.init) (global_type_fits g.variable g.kind) init in
+    (tt, (tt, both (kind ++ code g.init) (right ∷ []) front (tt, tt)))
 
 exported_fits : (e : Exported) (bytes : List ℕ) → binary_modules.exported e bytes → AreInRange (exported e)
 exported_fits (what.Func x) bytes p = (tt, (index_fits x p.back p.second, tt))
@@ -233,27 +202,17 @@ offset_fits c a = inside (word (codes "offset") ∷ code c) (tt, a)
 
 element_fits : (e : ElementSegment) (bytes : List ℕ) → binary_modules.element e bytes → AreInRange (element e)
 element_fits e bytes p =
-    let start = offset_fits e.offset (code_fits e.offset p.second.first.front p.second.first.first) in (
-      tt,
-      (
-        tt,
-        both (offset e.offset ++ map number e.funcs) (right ∷ [])
-            (both (offset e.offset) (map number e.funcs) start
-            (numbers_fit e.funcs p.second.second.back p.second.second.second)) (tt, tt),
-      ),
-    )
+    let start = offset_fits e.offset (code_fits e.offset p.second.first.front p.second.first.first) in
+    let numbers = numbers_fit e.funcs p.second.second.back p.second.second.second in
+    let front = both (offset e.offset) (map number e.funcs) start numbers in
+    (tt, (tt, both (offset e.offset ++ map number e.funcs) (right ∷ []) front (tt, tt)))
 
 segment_fits : (d : DataSegment) (bytes : List ℕ) → binary_modules.data_segment d bytes → AreInRange (data_segment d)
 segment_fits d bytes p =
-    let start = offset_fits d.offset (code_fits d.offset p.second.first.front p.second.first.first) in (
-      tt,
-      (
-        tt,
-        both (offset d.offset ++ octets d.bytes ∷ []) (right ∷ [])
-            (both (offset d.offset) (octets d.bytes ∷ []) start
-            (octets_fit d.bytes p.second.second.back p.second.second.second, tt)) (tt, tt),
-      ),
-    )
+    let start = offset_fits d.offset (code_fits d.offset p.second.first.front p.second.first.first) in
+    let bytes = octets_fit d.bytes p.second.second.back p.second.second.second in
+    let front = both (offset d.offset) (octets d.bytes ∷ []) start (bytes, tt) in
+    (tt, (tt, both (offset d.offset ++ octets d.bytes ∷ []) (right ∷ []) front (tt, tt)))
 
 -- lines
 abbrev LinesFit : List (List Lexeme) → Type 0
@@ -263,10 +222,6 @@ mapped : {A : Type 0} (f : A → List Lexeme) (xs : List A) → AllByRecursion (
     (map f xs)
 mapped f [] a = tt
 mapped f (x ∷ xs) a = (a.0, mapped f xs a.1)
-
-more_lines : (xs ys : List (List Lexeme)) → LinesFit xs → LinesFit ys → LinesFit (xs ++ ys)
-more_lines [] ys a b = b
-more_lines (x ∷ xs) ys a b = (a.0, more_lines xs ys a.1 b)
 
 joined : (ls : List (List Lexeme)) → LinesFit ls → AreInRange (flat_map (λ l. l) ls)
 joined [] a = tt
@@ -292,39 +247,26 @@ fields_fit bytes m p w =
     (λ f bytes b. code_fits f.body b.inside.second.front b.inside.second.first) 10 m.funcs r10.front r10.first in
     let names = section_fits binary_modules.export (λ e. AreInRange (exported e.what))
     (λ e bytes x. exported_fits e.what x.back x.second) 7 m.exports r7.front r7.first in
-    let types = map function_type m.types in
-    let funcs = map function m.funcs in
-    let tables = map table (at_most_one m.table) in
-    let memories = map memory (at_most_one m.memory) in
-    let globals = map global m.globals in
-    let exports = map export m.exports in
-    let elements = map element m.elements in
-    more_lines (types ++ funcs ++ tables ++ memories ++ globals ++ exports ++ elements) (map data_segment m.segments)
-    (more_lines (types ++ funcs ++ tables ++ memories ++ globals ++ exports) elements
-    (more_lines (types ++ funcs ++ tables ++ memories ++ globals) exports
-    (more_lines (types ++ funcs ++ tables ++ memories) globals
-    (more_lines (types ++ funcs ++ tables) memories
-    (more_lines (types ++ funcs) tables
-    (more_lines types funcs (mapped function_type m.types (all_types m.types))
-    (mapped function m.funcs (functions_fit m.funcs kinds bodies)))
+    fields_hold AreInRange m (mapped function_type m.types (all_types m.types))
+    (mapped function m.funcs (functions_fit m.funcs kinds bodies))
     (mapped table (at_most_one m.table)
     (section_fits binary_modules.table (λ l. AreInRange (table l)) table_fits 4
-    (at_most_one m.table) r4.front r4.first)))
+    (at_most_one m.table) r4.front r4.first))
     (mapped memory (at_most_one m.memory)
     (section_fits binary_modules.limits (λ l. AreInRange (memory l)) memory_fits 5
-    (at_most_one m.memory) r5.front r5.first)))
+    (at_most_one m.memory) r5.front r5.first))
     (mapped global m.globals
-    (section_fits binary_modules.global (λ g. AreInRange (global g)) global_fits 6 m.globals r6.front r6.first)))
-    (mapped export m.exports (exports_fit m.exports w.export_names names)))
+    (section_fits binary_modules.global (λ g. AreInRange (global g)) global_fits 6 m.globals r6.front r6.first))
+    (mapped export m.exports (exports_fit m.exports w.export_names names))
     (mapped element m.elements
     (section_fits binary_modules.element
-    (λ e. AreInRange (element e)) element_fits 9 m.elements r9.front r9.first)))
+    (λ e. AreInRange (element e)) element_fits 9 m.elements r9.front r9.first))
     (mapped data_segment m.segments
     (section_fits binary_modules.data_segment
     (λ d. AreInRange (data_segment d)) segment_fits 11 m.segments r11.front r11.first))
 
 lines_fit : (m : PureModule) → LinesFit (fields m) → LinesFit (lines m)
-lines_fit m a = ((tt, (tt, tt)), more_lines (fields m) ((right ∷ []) ∷ []) a ((tt, tt), tt))
+lines_fit m a = ((tt, (tt, tt)), both_of AreInRange (fields m) ((right ∷ []) ∷ []) a ((tt, tt), tt))
 
 pub spelled_has_texts : (bytes : List ℕ) (m : PureModule) → Spells bytes m → IsWithinProfile m → HasTexts m
 spelled_has_texts bytes m p w =

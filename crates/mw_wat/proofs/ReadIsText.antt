@@ -6,10 +6,10 @@ use Rattle.std.specs.List.{AllByRecursion}
 use Rattle.std.proofs.lemmas.Bool.{leb-true}
 use Rattle.mw_wasm.specs.Syntax.{Function, PureModule}
 use Rattle.mw_wasm.specs.Profile.{depth, IsWithinFileLimit}
-use Rattle.mw_wat.specs.Tokens.{PureToken, Quotes, nothing, plain, escape, Spells, a_left, a_right, a_word, a_string}
-use Rattle.mw_wat.specs.Tokens.{Begins, ReadsTo, so_far, behind_blank, behind_token, AreTokens, BeginsNone}
+use Rattle.mw_wat.specs.Tokens.{PureToken, Quotes, nothing, plain, escape, Spells, a_string}
+use Rattle.mw_wat.specs.Tokens.{ReadsTo, so_far, behind_blank, behind_token}
 use Rattle.mw_wat.specs.Tokens as t
-use Rattle.mw_wat.specs.Lexemes.{Lexeme, left, right, word, number, keyed, constant, name, octets, token_of, IsInRange}
+use Rattle.mw_wat.specs.Lexemes.{Lexeme, left, right, word, octets, token_of, IsInRange}
 use Rattle.mw_wat.specs.Lexemes.{lexemes, tokens_of}
 use Rattle.mw_wat.specs.ModuleTexts.{HasTexts, IsTextOf}
 use Rattle.mw_wat.specs.Lexing.{Tokens, stop, token, tokens}
@@ -36,10 +36,8 @@ quotes_bytes (plain p q) = (let k = p.1 in omega arith, quotes_bytes q)
 quotes_bytes (escape h l p q r) = (omega arith, quotes_bytes r)
 
 spelled_bytes : {text : List ℕ} {t : PureToken} → Spells text t → HoldsBytes t
-spelled_bytes a_left = tt
-spelled_bytes a_right = tt
-spelled_bytes (a_word n a) = tt
 spelled_bytes (a_string q) = quotes_bytes q
+spelled_bytes _ = tt
 
 pub read_bytes : {bytes rest : List ℕ} {ts : List PureToken} → ReadsTo bytes ts rest → AllByRecursion HoldsBytes ts
 read_bytes so_far = tt
@@ -60,11 +58,8 @@ lexeme_range : (i : Lexeme) → IsKnown i → HoldsBytes (token_of i) → IsInRa
 lexeme_range left k h = tt
 lexeme_range right k h = tt
 lexeme_range (word w) k h = tt
-lexeme_range (number n) k h = k
-lexeme_range (keyed key n) k h = k
-lexeme_range (constant w n) k h = k
-lexeme_range (name bytes) k h = k
 lexeme_range (octets bytes) k h = h
+lexeme_range _ k h = k
 
 said_range : {ts rest : Tokens} (is : List Lexeme) → Said ts is rest → AllByRecursion HoldsBytes (map token_of is)
     → AllByRecursion IsInRange is
@@ -83,15 +78,15 @@ pub has_texts : {ts rest : Tokens} (m : PureModule) → ModuleBack ts rest m →
     → HasTexts m
 has_texts m b h = record {
   profile = record {
-    type_results = b.fit_types;
-    table_elements = b.fit_table;
-    memory_pages = b.fit_memory;
-    further_locals = locals_of m.funcs b.fit_funcs;
-    export_names = b.fit_exports;
-    function_depth = depths_of m.funcs b.fit_funcs;
-    global_depth = b.fit_globals;
-    element_depth = b.fit_elements;
-    segment_depth = b.fit_segments;
+    type_results = b.fits.types;
+    table_elements = b.fits.table;
+    memory_pages = b.fits.memory;
+    further_locals = locals_of m.funcs b.fits.funcs;
+    export_names = b.fits.exports;
+    function_depth = depths_of m.funcs b.fits.funcs;
+    global_depth = b.fits.globals;
+    element_depth = b.fits.elements;
+    segment_depth = b.fits.segments;
   };
   ranges = said_range (lexemes m) b.said h;
 }

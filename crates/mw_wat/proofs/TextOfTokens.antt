@@ -9,7 +9,7 @@ use Rattle.mw_wat.specs.Tokens.{PureToken, left, right, word, string, IsBlank, I
 use Rattle.mw_wat.specs.Tokens.{escape, a_left, a_right, a_word, a_string, IsWhole, Begins, ReadsTo, so_far}
 use Rattle.mw_wat.specs.Tokens.{behind_blank, behind_token, BeginsNone}
 use Rattle.mw_wat.specs.Lexing.{Tokens, stop, token, is_blank, is_word_byte, is_plain, hex_value, Lexeme, none, found}
-use Rattle.mw_wat.specs.Lexing.{with_byte, with_digits, quotes, escaped, half_escaped, with_word_byte, whole_word}
+use Rattle.mw_wat.specs.Lexing.{with_byte, with_digits, quotes, escaped, half_escaped, whole_word}
 use Rattle.mw_wat.specs.Lexing.{front, without_blanks, onward, tokens_up_to, tokens}
 use Rattle.mw_wat.specs.Lexing as lexing
 use Rattle.mw_wat.proofs.TokensOfText.{word_byte_is, word_byte_from, plain_from, blank_is, blank_from, front_got}
@@ -83,12 +83,9 @@ found_parts t u r s e = (cc, cc)
 
 with_byte_back : (b : ℕ) (f : Lexeme) (t : PureToken) (rest : List ℕ) → with_byte b f ≡ found t rest → (bytes : List ℕ)
     × (f ≡ found (string bytes) rest) × (t ≡ string (b ∷ bytes))
-with_byte_back b none t rest e = absurd (none_found t rest e)
-with_byte_back b (found left r) t rest e = absurd (none_found t rest e)
-with_byte_back b (found right r) t rest e = absurd (none_found t rest e)
-with_byte_back b (found (word w) r) t rest e = absurd (none_found t rest e)
 with_byte_back b (found (string bytes) r) t rest e = let p = found_parts (string (b ∷ bytes)) t r rest e in
     (bytes, ap (λ r. found (string bytes) r) p.1, sym p.0)
+with_byte_back b _ t rest e = absurd (none_found t rest e)
 
 string_means : PureToken → List ℕ
 string_means (string bytes) = bytes

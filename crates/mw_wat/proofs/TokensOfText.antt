@@ -1,12 +1,13 @@
 -- The tokens of bytes in turn are those that the bytes are.
-use Rattle.std.proofs.Common.{◌≡◌, inl, inr, ℕ, zero, suc, ◌+◌, ◌-◌, ◌*◌, ◌<◌, ◌≤◌, ◌==◌, ◌&&◌, List, [], ◌∷◌, ◌++◌}
+use Rattle.std.proofs.Common.{◌≡◌, inl, inr, ℕ, zero, suc, ◌+◌, ◌-◌, ◌*◌, ◌<◌, ◌≤◌, ◌==◌, List, [], ◌∷◌, ◌++◌}
 use Rattle.std.proofs.Common.{length, refl, ap, sym, ◌∙◌, subst, arith, Bool, true, false, Some, append_assoc}
-use Rattle.std.specs.Prelude.{nat_le, nat_lt, not, ◌||◌}
+use Rattle.std.specs.Prelude.{nat_lt, ◌||◌}
 use Rattle.std.specs.List.{AllByRecursion}
 use Rattle.std.specs.Fmt.{digit_glyph}
-use Rattle.std.proofs.lemmas.Bool.{and_parts, le-leb, lt-leb, leb-true, ne_eqb, eqb-true, eqb-false, false≢true}
-use Rattle.std.proofs.lemmas.Bool.{ltb-true, ltb-false}
+use Rattle.std.proofs.lemmas.Bool.{le-leb, lt-leb, ne_eqb, eqb-true, false≢true}
+use Rattle.std.proofs.lemmas.Bool.{ltb-true, ltb-false, false_from_ne_true}
 use Rattle.std.proofs.lemmas.List.{length-append}
+use Rattle.std.proofs.lemmas.Bool.Decides.{nat_tests}
 use Rattle.mw_wat.specs.Tokens.{PureToken, word, string, IsBlank, IsWordByte, IsPlain, Quotes, nothing, plain, escape}
 use Rattle.mw_wat.specs.Tokens.{Spells, a_left, a_right, a_word, a_string, IsWhole, Begins, ReadsTo, so_far}
 use Rattle.mw_wat.specs.Tokens.{behind_blank, behind_token}
@@ -18,45 +19,17 @@ pub word_byte_is : (b : ℕ) → IsWordByte b → is_word_byte b ≡ true
 word_byte_is b w =
     rw (le-leb 0x21 b w.0, le-leb b 0x7E w.1, ne_eqb b 0x28 w.2, ne_eqb b 0x29 w.3, ne_eqb b 0x22 w.4) refl
 
-not_true : (t : Bool) → not t ≡ true → t ≡ false
-not_true false e = refl
-not_true true e = absurd (false≢true e)
-
 pub word_byte_from : (b : ℕ) → is_word_byte b ≡ true → IsWordByte b
-word_byte_from b e =
-    let p = and_parts (nat_le 0x21 b && nat_le b 0x7E && not (b == 0x28) && not (b == 0x29)) (not (b == 0x22)) e in
-    let q = and_parts (nat_le 0x21 b && nat_le b 0x7E && not (b == 0x28)) (not (b == 0x29)) p.0 in
-    let r = and_parts (nat_le 0x21 b && nat_le b 0x7E) (not (b == 0x28)) q.0 in
-    let s = and_parts (nat_le 0x21 b) (nat_le b 0x7E) r.0 in (
-      leb-true 0x21 b s.0,
-      leb-true b 0x7E s.1,
-      eqb-false b 0x28 (not_true (b == 0x28) r.1),
-      eqb-false b 0x29
-          (not_true (b == 0x29) q.1),
-      eqb-false b 0x22 (not_true (b == 0x22) p.1),
-    )
+word_byte_from b e = grind (arith, nat_tests)
 
 no_word_byte : (b : ℕ) → (IsWordByte b → ⊥) → is_word_byte b ≡ false
-no_word_byte b n = by_test (is_word_byte b) refl
-  where
-    by_test : (t : Bool) → is_word_byte b ≡ t → is_word_byte b ≡ false
-    by_test false e = e
-    by_test true e = absurd (n (word_byte_from b e))
+no_word_byte b n = false_from_ne_true (is_word_byte b) (λ e. n (word_byte_from b e))
 
 plain_is : (b : ℕ) → IsPlain b → is_plain b ≡ true
 plain_is b w = rw (le-leb 0x20 b w.0, le-leb b 0x7E w.1, ne_eqb b 0x22 w.2, ne_eqb b 0x5C w.3) refl
 
 pub plain_from : (b : ℕ) → is_plain b ≡ true → IsPlain b
-plain_from b e =
-    let q = and_parts (nat_le 0x20 b && nat_le b 0x7E && not (b == 0x22)) (not (b == 0x5C)) e in
-    let r = and_parts (nat_le 0x20 b && nat_le b 0x7E) (not (b == 0x22)) q.0 in
-    let s = and_parts (nat_le 0x20 b) (nat_le b 0x7E) r.0 in (
-      leb-true 0x20 b s.0,
-      leb-true b 0x7E s.1,
-      eqb-false b 0x22 (not_true (b == 0x22) r.1),
-      eqb-false b 0x5C
-          (not_true (b == 0x5C) q.1),
-    )
+plain_from b e = grind (arith, nat_tests)
 
 glyph_value : (d : ℕ) → d < 16 → hex_value (digit_glyph false d) ≡ Some d
 glyph_value d p = by_small (nat_lt d 10) refl
@@ -133,11 +106,9 @@ pub none_found : (t : PureToken) (rest : List ℕ) → none ≡ found t rest →
 none_found t rest e = cc
 
 some_text : {text : List ℕ} {t : PureToken} → Spells text t → 0 < length text
-some_text a_left = omega arith
-some_text a_right = omega arith
 some_text (a_word {text = []} n a) = absurd (n refl)
 some_text (a_word {text = b ∷ w} n a) = omega arith
-some_text (a_string q) = omega arith
+some_text _ = omega arith
 
 -- tokens with their places
 pub data Placed : Tokens → List PureToken → Tokens → Type 0 where
@@ -149,11 +120,8 @@ pub longer : {bytes rest : List ℕ} {t : PureToken} → Begins bytes t rest →
 longer {rest = rest} b = omega (arith, some_text b.spelled, length-append b.text rest, ap length b.split)
 
 not_blank : (b : ℕ) (bytes : List ℕ) (t : PureToken) (rest : List ℕ) → Begins (b ∷ bytes) t rest → is_blank b ≡ false
-not_blank b bytes t rest g = by_test (is_blank b) refl
-  where
-    by_test : (x : Bool) → is_blank b ≡ x → is_blank b ≡ false
-    by_test false e = e
-    by_test true e = absurd (none_found t rest (sym (blank_front b bytes (blank_from b e)) ∙ front_got g))
+not_blank b bytes t rest g = false_from_ne_true (is_blank b)
+    (λ e. none_found t rest (sym (blank_front b bytes (blank_from b e)) ∙ front_got g))
 
 no_bytes : {t : PureToken} {rest : List ℕ} → Begins [] t rest → ⊥
 no_bytes {rest = rest} g = absurd (let p = longer g in omega arith)

@@ -15,7 +15,7 @@ use Rattle.mw_wat.specs.Tokens.{PureToken}
 use Rattle.mw_wat.specs.Names.{type_name}
 use Rattle.mw_wat.specs.Lexemes.{Lexeme, word, number, keyed, constant, token_of, IsInRange}
 use Rattle.mw_wat.specs.Lexing.{Tokens, token}
-use Rattle.mw_wat.specs.Reading.{got, Reader, and_then, ◌>>=◌, one_of, count, some_of, all_of, as_number, as_type}
+use Rattle.mw_wat.specs.Reading.{got, count, some_of, all_of, as_number, as_type}
 use Rattle.mw_wat.specs.Instructions.{fits, fits_some, as_constant, as_keyed}
 use Rattle.mw_wat.specs.Modules.{are_printable}
 use Rattle.mw_key.proofs.NumberWords.{below_from, integer_from}

@@ -38,9 +38,8 @@ BeginFrom p n (count ∷ counts) = BeginsAt p n count × BeginFrom p (n + 1) cou
 named_first : (ts us : List TypeExpression) (places cs : List ℕ) → AllNamed ts places us
     → NamesFirst ts (length us) (places ++ cs)
 named_first ts [] [] cs h = tt
-named_first ts [] (i ∷ places) cs h = absurd h
-named_first ts (t ∷ us) [] cs h = absurd h
 named_first ts (t ∷ us) (i ∷ places) cs h = (slice_get_within ts i t h.0, named_first ts us places cs h.1)
+named_first ts _ _ cs h = absurd h
 
 begins : (p : Notes) (m : Level) (n : ℕ) (t : TypeExpression) (us : List TypeExpression) (cs : List ℕ)
     → IsNodeLine p m n (t ∷ us) cs → BeginsAt p n (suc (length us))
@@ -65,21 +64,13 @@ counted (var i) = refl
 counted (glob i) = refl
 counted (fun e) = omega (arith, counted e)
 counted (fix e) = omega (arith, counted e)
-counted (app f a) =
-    omega (arith, length-append (type_counts f) (type_counts a), counted f, counted a)
-counted (bind d e) = omega (arith, length-append (type_counts d) (type_counts e), counted d, counted e)
-counted (cond c a b) = omega (
-  arith,
-  length-append (type_counts c) (type_counts a ++ type_counts b),
-  length-append (type_counts a) (type_counts b),
-  counted c,
-  counted a,
-  counted b,
-)
-counted (pair a b) = omega (arith, length-append (type_counts a) (type_counts b), counted a, counted b)
+counted (app f a) = omega (arith, length-append {A = ℕ}, counted f, counted a)
+counted (bind d e) = omega (arith, length-append {A = ℕ}, counted d, counted e)
+counted (cond c a b) = omega (arith, length-append {A = ℕ}, counted c, counted a, counted b)
+counted (pair a b) = omega (arith, length-append {A = ℕ}, counted a, counted b)
 counted (fst e) = omega (arith, counted e)
 counted (snd e) = omega (arith, counted e)
-counted (prim o a b) = omega (arith, length-append (type_counts a) (type_counts b), counted a, counted b)
+counted (prim o a b) = omega (arith, length-append {A = ℕ}, counted a, counted b)
 counted (bracket e) = omega (arith, counted e)
 counted (escape e) = omega (arith, counted e)
 counted (run k e) = omega (arith, counted e)
@@ -131,29 +122,20 @@ module _ (p : Notes) (tops : List TopNote) where
   )
   begin g live n (bracket e) t h =
       (begins p live n t [] (h.0 ∷ []) h.3, begin g (under h.0) (n + 1) e h.1 h.4)
-  begin g (under a) n (bracket e) t h = absurd h
-  begin g live n (escape e) t h = absurd h
   begin g (under a) n (escape e) t h = (begins p (under a) n t [] [] h.0, begin g live (n + 1) e _ h.1)
   begin g live n (run k e) t h = (begins p live n t [] [] h.1, begin g live (n + 1) e _ h.2)
-  begin g (under a) n (run k e) t h = absurd h
   begin g live n (close at e) t h =
       (begins p live n t (h.1 ∷ []) (h.0 ∷ []) h.4, begin g live (n + 1) e _ h.5)
-  begin g (under a) n (close at e) t h = absurd h
   begin g live n (opened e) t h =
       (begins p live n t (h.1 ∷ []) (h.0 ∷ []) h.3, begin g live (n + 1) e _ h.4)
-  begin g (under a) n (opened e) t h = absurd h
   begin g live n (lift e) t h = (begins p live n t [] (h.0.0 ∷ []) h.0.2, begin g live (n + 1) e _ h.1)
-  begin g (under a) n (lift e) t h = absurd h
   begin g live n (lift_b e) t h = (begins p live n t [] (h.0.0 ∷ []) h.0.2, begin g live (n + 1) e _ h.1)
-  begin g (under a) n (lift_b e) t h = absurd h
-  begin g m n (done v) t h = absurd h
+  begin g m n e t h = absurd h
 
 all_first : (ts : List TypeExpression) (all : List (List ℕ)) (n : ℕ) (counts : List ℕ) (nodes : List (List ℕ))
     → drop n all ≡ nodes → length nodes ≡ length counts
     → BeginFrom (record { types = ts; nodes = all }) n counts → AllNameFirst ts counts nodes
 all_first ts all n [] [] d c f = tt
-all_first ts all n [] (l ∷ nodes) d c f = absurd (omega (arith, c))
-all_first ts all n (count ∷ counts) [] d c f = absurd (omega (arith, c))
 all_first ts all n (count ∷ counts) (l ∷ nodes) d c f =
     let x = drop_head all n l nodes d in
     let same : f.0.line ≡ l = let y = f.0.stands in let z = x.0 in cc in
@@ -163,6 +145,7 @@ all_first ts all n (count ∷ counts) (l ∷ nodes) d c f =
       subst (λ k. NamesFirst ts count k) same f.0.first,
       all_first ts all (n + 1) counts nodes after (omega (arith, c)) f.1,
     )
+all_first ts all n _ _ d c f = absurd (omega (arith, c))
 
 -- the node lines of a term
 pub named_nodes : (ts : List TypeExpression) (nodes : List (List ℕ)) (tops : List TopNote) (e : Expression)

@@ -6,11 +6,10 @@ use Rattle.mw_types.specs.Types.{TypeExpression, int_ty}
 use Rattle.mw_lines.specs.TypeLines.{TypeLine, AreTypeLines, NamesType}
 use Rattle.mw_lines.specs.Deciding.{is_among}
 use Rattle.mw_lines.proofs.NamedTypes.{among, place_among, one_type, parts_of, pushed}
-use Rattle.mw_lines.proofs.OneLine.{line_at}
+use Rattle.mw_lines.proofs.OneLine.{line_at, has_one_line}
 use Rattle.mw_written.specs.Order.{is_type_among, with_new, with_line}
 use Rattle.mw_written.specs.OrderLaws.{NewLinesNameNewTypes}
 use Rattle.mw_written.proofs.CompletedTypes.{type_among, among_type}
-use Rattle.mw_written.proofs.OneTable.{one_naming}
 
 module _ (ls : List TypeLine) (ts : List TypeExpression) (known : AreTypeLines ls ts) (l : TypeLine)
     (t : TypeExpression) (names : NamesType ts (length ts) l t) where
@@ -18,7 +17,7 @@ module _ (ls : List TypeLine) (ts : List TypeExpression) (known : AreTypeLines l
   line_among h =
       let p = among_type t ts h in
       let k = line_at ls ts known p.0 t p.1 in
-      let same = one_naming ls ts known p.0 (length ts) k.0 l t k.2 names in
+      let same = has_one_line ls ts known t p.0 (length ts) k.0 l k.2 names in
       among ls p.0 l (k.1 ∙ ap (λ x. Some x) same)
 
   among_line : is_among l ls ≡ true → is_type_among t ts ≡ true

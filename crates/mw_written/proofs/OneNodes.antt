@@ -54,11 +54,10 @@ module _ (lines : List TypeLine) (ts : List TypeExpression) (known : AreTypeLine
   pub one_nodes : (counts : List ℕ) (xs ys : List (List ℕ)) → AllNameFirst ts counts xs → AllNameFirst ts counts ys
       → readings ts counts xs ≡ readings ts counts ys → xs ≡ ys
   one_nodes [] [] [] f g h = refl
-  one_nodes [] [] (l ∷ ys) f g h = absurd g
-  one_nodes [] (k ∷ xs) ys f g h = absurd f
-  one_nodes (count ∷ counts) [] ys f g h = absurd f
-  one_nodes (count ∷ counts) (k ∷ xs) [] f g h = absurd g
   one_nodes (count ∷ counts) (k ∷ xs) (l ∷ ys) f g h =
       let r = first_line count k l (readings ts counts xs) (readings ts counts ys) f.1 g.1
       (begins_line ts counts xs f.2) (begins_line ts counts ys g.2) h in
       rw (r.0, one_nodes counts xs ys f.2 g.2 r.1) refl
+  one_nodes [] [] _ f g h = absurd g
+  one_nodes (count ∷ counts) (k ∷ xs) [] f g h = absurd g
+  one_nodes _ _ ys f g h = absurd f

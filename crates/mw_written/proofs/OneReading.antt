@@ -25,10 +25,8 @@ gathered-one (a_classifier c ∷ rs) (a_classifier d ∷ qs) h =
     rw (p, gathered-one rs qs q) refl
 gathered-one [] (a_type t ∷ qs) h = absurd (cc)
 gathered-one [] (a_classifier c ∷ qs) h = absurd (cc)
-gathered-one (a_type t ∷ rs) [] h = absurd (cc)
-gathered-one (a_classifier c ∷ rs) [] h = absurd (cc)
-gathered-one (a_type t ∷ rs) (a_classifier c ∷ qs) h = absurd (cc)
-gathered-one (a_classifier c ∷ rs) (a_type t ∷ qs) h = absurd (cc)
+gathered-one (a_type t ∷ rs) _ h = absurd (cc)
+gathered-one (a_classifier c ∷ rs) _ h = absurd (cc)
 
 gathered-numbered : {n m : ℕ} {rs : List Reading} → AreNumbered n m rs
     → (k l : ℕ) × IsNumbered n m (gathered rs) k l
@@ -53,12 +51,7 @@ gathered-value b d (a_classifier c ∷ rs) (a_classifier e ∷ qs) h =
     let p : b.classifier c ≡ d.classifier e = cc in
     let q = gathered-value b d rs qs (cc) in
     cc
-gathered-value b d [] (a_type t ∷ qs) h = absurd (cc)
-gathered-value b d [] (a_classifier c ∷ qs) h = absurd (cc)
-gathered-value b d (a_type t ∷ rs) [] h = absurd (cc)
-gathered-value b d (a_classifier c ∷ rs) [] h = absurd (cc)
-gathered-value b d (a_type t ∷ rs) (a_classifier c ∷ qs) h = absurd (cc)
-gathered-value b d (a_classifier c ∷ rs) (a_type t ∷ qs) h = absurd (cc)
+gathered-value b d _ _ h = absurd (cc)
 
 -- what assignments make of the second readings, some assignment makes of the first
 abbrev pub Covers : List Reading → List Reading → Type 0

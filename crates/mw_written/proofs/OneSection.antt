@@ -5,12 +5,11 @@ use Rattle.mw_term.specs.Terms.{Expression}
 use Rattle.mw_types.specs.Types.{TypeExpression}
 use Rattle.mw_lines.specs.TypeLines.{AreTypeLines}
 use Rattle.mw_lines.specs.Naming.{types_named}
-use Rattle.mw_lines.proofs.NamedTypes.{one_list, lines_decided}
+use Rattle.mw_lines.proofs.NamedTypes.{one_list}
 use Rattle.mw_recheck.specs.Sections.{SectionLines}
 use Rattle.mw_recheck.specs.Notes.{TopNote}
 use Rattle.mw_recheck.specs.Certificates.{Certified}
 use Rattle.mw_recheck.specs.Deciding.{section_judged}
-use Rattle.mw_recheck.proofs.CertificateDecision.{decided}
 use Rattle.mw_recheck.proofs.JudgedSections.{certified_judged}
 use Rattle.mw_written.specs.Readings.{type_counts, readings, section_readings}
 use Rattle.mw_written.specs.Order.{with_readings}
@@ -33,7 +32,7 @@ module _ (tops : List TopNote) (e : Expression) (x : SectionLines) (root : TypeE
 
   -- its root type is a function of it
   judged_root : section_judged tops e x ≡ Some root
-  judged_root = (certified_judged one_list lines_decided decided tops e x root c).0
+  judged_root = (certified_judged tops e x root c).0
 
 same_section : (x y : SectionLines) → x.types ≡ y.types → x.nodes ≡ y.nodes → x ≡ y
 same_section x y p q = rw (p, q) refl

@@ -13,13 +13,14 @@ use Rattle.mw_types.specs.Types.{TypeExpression, int_ty, function_ty, code_ty, c
 use Rattle.mw_types.specs.Expressions.{ground_expression}
 use Rattle.mw_types.specs.Numbered.{an_int, seen, next, a_function, code_seen, a_closed}
 use Rattle.mw_lines.specs.TypeLines.{int_line, unknown_line, arrow_line, code_line, closed_line}
-use Rattle.mw_lines.proofs.NamedTypes.{one_list, lines_decided}
+use Rattle.mw_lines.specs.Naming.{types_named}
+use Rattle.mw_lines.proofs.NamedTypes.{one_list}
 use Rattle.mw_recheck.specs.Sections.{SectionLines}
 use Rattle.mw_recheck.specs.Texts.{certificate_text}
 use Rattle.mw_recheck.specs.Notes.{Notes, Noted}
 use Rattle.mw_recheck.specs.Certificates.{Certified, CertifiesBy}
 use Rattle.mw_recheck.specs.Examples.{sum_program, run_program}
-use Rattle.mw_recheck.proofs.CertificateDecision.{decided, found}
+use Rattle.mw_recheck.proofs.JudgedPrograms.{program_found as found}
 use Rattle.mw_recheck.proofs.JudgedSections.{judged_certified}
 use Rattle.mw_written.specs.Readings.{Reading, a_type, a_classifier, type_counts, readings}
 use Rattle.mw_written.specs.Readings.{reading_value}
@@ -51,6 +52,13 @@ module _ (body : Expression) (result : GroundType) (x : SectionLines) where
     main = λ y h. subst (λ z. IsWrittenSection [] body (IsMainRoot alone) z) (same_Some x y h) w;
   }
 
+-- what is read of a section that is right, over the types that its lines name
+named_readings : (body : Expression) (y : SectionLines) (t : TypeExpression) (c : Certified [] body y t)
+    (rs : List Reading) → readings c.types (type_counts body) y.nodes ≡ rs
+    → rs ≡ readings (types_named y.types) (type_counts body) y.nodes
+named_readings body y t c rs h =
+    sym (subst (λ ts. readings ts (type_counts body) y.nodes ≡ rs) (one_list y.types c.types c.table) h)
+
 -- 1 + 2
 abbrev sum_body : Expression
 sum_body = prim Add (num (pos 1)) (num (pos 2))
@@ -67,22 +75,16 @@ sum_read ts (k ∷ l ∷ o ∷ []) t e h =
     let y = line_read p live 1 (int_ty ∷ []) [] l h.2.1 refl in
     let z = line_read p live 2 (int_ty ∷ []) [] o h.3.1 refl in
     rw (x, y, z, h.0) refl
-sum_read ts [] t e h = absurd (omega (arith, e))
-sum_read ts (k ∷ []) t e h = absurd (omega (arith, e))
-sum_read ts (k ∷ l ∷ []) t e h = absurd (omega (arith, e))
-sum_read ts (k ∷ l ∷ o ∷ r ∷ nodes) t e h = absurd (omega (arith, e))
+sum_read ts _ t e h = absurd (omega (arith, e))
 
 sum_general : IsMostGeneral [] sum_body (IsMainRoot sum_program) sum_section
-sum_general y t c asked b = (
-  b,
-  ap (λ rs. map (reading_value b) rs) (sym (subst (λ ts. readings ts (type_counts sum_body) y.nodes
-      ≡ a_type int_ty ∷ a_type int_ty ∷ a_type int_ty ∷ []) (one_list y.types c.types c.table)
-      (sum_read c.types y.nodes t c.count c.noted))),
-)
+sum_general y t c asked b =
+    let read = sum_read c.types y.nodes t c.count c.noted in
+    (b, ap (λ rs. map (reading_value b) rs) (named_readings sum_body y t c _ read))
 
 sum_written : IsWritten (sum_section ∷ []) sum_program
 sum_written = section_written sum_body (base Int) sum_section
-    (judged_certified one_list lines_decided decided [] sum_body sum_section int_ty refl refl)
+    (judged_certified [] sum_body sum_section int_ty refl refl)
     (record {
       general = sum_general;
       numbered = type_read an_int (type_read an_int (type_read an_int all_read));
@@ -96,15 +98,7 @@ sum_certificate : IsCertificateOf sum_program (codes "cert1\ntypes 1\nint\nnodes
 sum_certificate = (
   sum_section ∷ [],
   record {
-    fits = (
-      record {
-        types = (tt, tt);
-        nodes = ((omega arith, tt), ((omega arith, tt), ((omega arith, tt), tt)));
-        type_count = omega arith;
-        node_count = omega arith;
-      },
-      tt,
-    );
+    fits = omega arith;
     text = sym sum_text;
   },
   sum_written,
@@ -139,24 +133,17 @@ run_read ts (k ∷ l ∷ o ∷ r ∷ []) t e h =
     let content : c.1 ≡ int_ty = let f = c.2 in let g = h.0 in cc in
     let named : b.0 ≡ c.0 = let f = b.2 in cc in
     (c.0, rw (x, y, z, w, h.0, b.4.0, named, content) refl)
-run_read ts [] t e h = absurd (omega (arith, e))
-run_read ts (k ∷ []) t e h = absurd (omega (arith, e))
-run_read ts (k ∷ l ∷ []) t e h = absurd (omega (arith, e))
-run_read ts (k ∷ l ∷ o ∷ []) t e h = absurd (omega (arith, e))
-run_read ts (k ∷ l ∷ o ∷ r ∷ s ∷ nodes) t e h = absurd (omega (arith, e))
+run_read ts _ t e h = absurd (omega (arith, e))
 
 run_general : IsMostGeneral [] run_body (IsMainRoot run_program) run_section
 run_general y t c asked b =
     let read = run_read c.types y.nodes t c.count c.noted in
-    let d : Assignment = record { ty = b.ty; classifier = λ _. b.classifier read.0 } in (
-      d,
-      ap (λ rs. map (reading_value b) rs) (sym (subst (λ ts. readings ts (type_counts run_body) y.nodes
-          ≡ run_readings read.0) (one_list y.types c.types c.table) read.1)),
-    )
+    let d : Assignment = record { ty = b.ty; classifier = λ _. b.classifier read.0 } in
+    (d, ap (λ rs. map (reading_value b) rs) (named_readings run_body y t c (run_readings read.0) read.1))
 
 run_written : IsWritten (run_section ∷ []) run_program
 run_written = section_written run_body (base Int) run_section
-    (judged_certified one_list lines_decided decided [] run_body run_section int_ty refl refl)
+    (judged_certified [] run_body run_section int_ty refl refl)
     (record {
       general = run_general;
       numbered =
@@ -180,21 +167,7 @@ run_certificate : IsCertificateOf run_program
 run_certificate = (
   run_section ∷ [],
   record {
-    fits = (
-      record {
-        types = (tt, (omega arith, ((omega arith, omega arith), tt)));
-        nodes = (
-          (omega arith, tt),
-          (
-            (omega arith, (omega arith, (omega arith, tt))),
-            ((omega arith, (omega arith, tt)), ((omega arith, tt), tt)),
-          ),
-        );
-        type_count = omega arith;
-        node_count = omega arith;
-      },
-      tt,
-    );
+    fits = omega arith;
     text = sym run_text;
   },
   run_written,
@@ -226,24 +199,17 @@ let_read ts (k ∷ l ∷ o ∷ r ∷ []) t e h =
     let w = line_read p live 3 (t ∷ []) [] r h.3.1 refl in
     let same : f.1 ≡ f.0 = let g = f.4.0 in cc in
     (f.0, rw (x, y, z, w, h.3.0, f.2, same) refl)
-let_read ts [] t e h = absurd (omega (arith, e))
-let_read ts (k ∷ []) t e h = absurd (omega (arith, e))
-let_read ts (k ∷ l ∷ []) t e h = absurd (omega (arith, e))
-let_read ts (k ∷ l ∷ o ∷ []) t e h = absurd (omega (arith, e))
-let_read ts (k ∷ l ∷ o ∷ r ∷ s ∷ nodes) t e h = absurd (omega (arith, e))
+let_read ts _ t e h = absurd (omega (arith, e))
 
 let_general : IsMostGeneral [] let_body (IsMainRoot let_program) let_section
 let_general y t c asked b =
     let read = let_read c.types y.nodes t c.count c.noted in
-    let d : Assignment = record { ty = λ _. value b read.0; classifier = b.classifier } in (
-      d,
-      ap (λ rs. map (reading_value b) rs) (sym (subst (λ ts. readings ts (type_counts let_body) y.nodes
-          ≡ let_readings read.0) (one_list y.types c.types c.table) read.1)),
-    )
+    let d : Assignment = record { ty = λ _. value b read.0; classifier = b.classifier } in
+    (d, ap (λ rs. map (reading_value b) rs) (named_readings let_body y t c (let_readings read.0) read.1))
 
 let_written : IsWritten (let_section ∷ []) let_program
 let_written = section_written let_body (base Int) let_section
-    (judged_certified one_list lines_decided decided [] let_body let_section int_ty refl refl)
+    (judged_certified [] let_body let_section int_ty refl refl)
     (record {
       general = let_general;
       numbered =
@@ -268,18 +234,7 @@ let_certificate : IsCertificateOf let_program
 let_certificate = (
   let_section ∷ [],
   record {
-    fits = (
-      record {
-        types = (tt, (omega arith, ((omega arith, omega arith), tt)));
-        nodes = (
-          (omega arith, (omega arith, tt)),
-          ((omega arith, (omega arith, tt)), ((omega arith, tt), ((omega arith, tt), tt))),
-        );
-        type_count = omega arith;
-        node_count = omega arith;
-      },
-      tt,
-    );
+    fits = omega arith;
     text = sym let_text;
   },
   let_written,

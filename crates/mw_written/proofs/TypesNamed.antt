@@ -42,40 +42,33 @@ read_again ts (closed_ty t) known h =
     let p = read_again ts t known (part_stands ts known (closed_ty t) t h refl) in
     rw p (not_new ts (closed_ty t) h)
 
--- a type stands once it is read, and those that stood go on to
-new_here : (ts : List TypeExpression) (t : TypeExpression) → IsOneOf t (with_new ts t)
+-- a type stands, and those that stood go on to
+abbrev Keeps : List TypeExpression → List TypeExpression → Type 0
+Keeps ts us = (u : TypeExpression) → IsOneOf u ts → IsOneOf u us
+
+new_here : (ts : List TypeExpression) (t : TypeExpression) → IsOneOf t (with_new ts t) × Keeps ts (with_new ts t)
 new_here ts t = of (is_type_among t ts) refl
   where
-    of : (b : Bool) → is_type_among t ts ≡ b → IsOneOf t (if b then ts else ts ++ t ∷ [])
-    of true h = among_type t ts h
-    of false h = (length ts, slice_get-seam ts t [])
+    of : (b : Bool) → is_type_among t ts ≡ b
+        → IsOneOf t (if b then ts else ts ++ t ∷ []) × Keeps ts (if b then ts else ts ++ t ∷ [])
+    of true h = (among_type t ts h, λ u g. g)
+    of false h = ((length ts, slice_get-seam ts t []), λ u g. (g.0, slice_get-more ts (t ∷ []) g.0 u g.1))
 
-new_keeps : (ts : List TypeExpression) (t u : TypeExpression) → IsOneOf u ts → IsOneOf u (with_new ts t)
-new_keeps ts t u g = of (is_type_among t ts)
-  where
-    of : (b : Bool) → IsOneOf u (if b then ts else ts ++ t ∷ [])
-    of true = g
-    of false = (g.0, slice_get-more ts (t ∷ []) g.0 u g.1)
-
-read_here : (ts : List TypeExpression) (t : TypeExpression) → IsOneOf t (with_type ts t)
+-- so it is once a type is read
+read_here : (ts : List TypeExpression) (t : TypeExpression) → IsOneOf t (with_type ts t) × Keeps ts (with_type ts t)
 read_here ts int_ty = new_here ts int_ty
 read_here ts bool_ty = new_here ts bool_ty
 read_here ts (unknown u) = new_here ts (unknown u)
-read_here ts (pair_ty s t) = new_here (with_type (with_type ts s) t) (pair_ty s t)
-read_here ts (function_ty s t) = new_here (with_type (with_type ts s) t) (function_ty s t)
-read_here ts (code_ty c t) = new_here (with_type ts t) (code_ty c t)
-read_here ts (closed_ty t) = new_here (with_type ts t) (closed_ty t)
-
-read_keeps : (ts : List TypeExpression) (t u : TypeExpression) → IsOneOf u ts → IsOneOf u (with_type ts t)
-read_keeps ts int_ty u h = new_keeps ts int_ty u h
-read_keeps ts bool_ty u h = new_keeps ts bool_ty u h
-read_keeps ts (unknown v) u h = new_keeps ts (unknown v) u h
-read_keeps ts (pair_ty s t) u h =
-    new_keeps (with_type (with_type ts s) t) (pair_ty s t) u (read_keeps (with_type ts s) t u (read_keeps ts s u h))
-read_keeps ts (function_ty s t) u h =
-    new_keeps (with_type (with_type ts s) t) (function_ty s t) u (read_keeps (with_type ts s) t u (read_keeps ts s u h))
-read_keeps ts (code_ty c t) u h = new_keeps (with_type ts t) (code_ty c t) u (read_keeps ts t u h)
-read_keeps ts (closed_ty t) u h = new_keeps (with_type ts t) (closed_ty t) u (read_keeps ts t u h)
+read_here ts (pair_ty s t) =
+    let n = new_here (with_type (with_type ts s) t) (pair_ty s t) in
+    (n.0, λ u h. n.1 u ((read_here (with_type ts s) t).1 u ((read_here ts s).1 u h)))
+read_here ts (function_ty s t) =
+    let n = new_here (with_type (with_type ts s) t) (function_ty s t) in
+    (n.0, λ u h. n.1 u ((read_here (with_type ts s) t).1 u ((read_here ts s).1 u h)))
+read_here ts (code_ty c t) =
+    let n = new_here (with_type ts t) (code_ty c t) in (n.0, λ u h. n.1 u ((read_here ts t).1 u h))
+read_here ts (closed_ty t) =
+    let n = new_here (with_type ts t) (closed_ty t) in (n.0, λ u h. n.1 u ((read_here ts t).1 u h))
 
 -- the lines of types after lines
 abbrev Named : List TypeExpression → Type 0
@@ -102,27 +95,29 @@ type_named_so ts n (unknown u) h =
 type_named_so ts n (pair_ty s t) h =
     let us = with_type (with_type ts s) t in
     let m = type_named_so (with_type ts s) (type_named_so ts n s h.0) t h.1 in
-    let p = read_keeps (with_type ts s) t s (read_here ts s) in
-    let q = read_here (with_type ts s) t in
+    let r = read_here (with_type ts s) t in
+    let p = r.1 s (read_here ts s).0 in
+    let q = r.0 in
     let l = pair_line p.0 q.0 in
     (with_line m.0 l, line_added m.0 us m.1 l (pair_ty s t) (names_pair (part_of us s p) (part_of us t q)))
 type_named_so ts n (function_ty s t) h =
     let us = with_type (with_type ts s) t in
     let m = type_named_so (with_type ts s) (type_named_so ts n s h.0) t h.1 in
-    let p = read_keeps (with_type ts s) t s (read_here ts s) in
-    let q = read_here (with_type ts s) t in
+    let r = read_here (with_type ts s) t in
+    let p = r.1 s (read_here ts s).0 in
+    let q = r.0 in
     let l = arrow_line p.0 q.0 in
     (with_line m.0 l, line_added m.0 us m.1 l (function_ty s t) (names_arrow (part_of us s p) (part_of us t q)))
 type_named_so ts n (code_ty c t) h =
     let us = with_type ts t in
     let m = type_named_so ts n t (unnested t h) in
-    let p = read_here ts t in
+    let p = (read_here ts t).0 in
     let l = code_line c p.0 in
     (with_line m.0 l, line_added m.0 us m.1 l (code_ty c t) (names_code (part_of us t p) h))
 type_named_so ts n (closed_ty t) h =
     let us = with_type ts t in
     let m = type_named_so ts n t (unnested t h) in
-    let p = read_here ts t in
+    let p = (read_here ts t).0 in
     let l = closed_line p.0 in
     (with_line m.0 l, line_added m.0 us m.1 l (closed_ty t) (names_closed (part_of us t p) h))
 

@@ -1,9 +1,8 @@
-use Rattle.std.proofs.Common.{sym, ap, map}
 use Rattle.mw_wasm.specs.BinaryModules.{element}
 use Rattle.mw_wasm.specs.Views.{element_of}
-use Rattle.mw_encode.specs.Encoding.{element_bytes, section_bytes}
+use Rattle.mw_encode.specs.Encoding.{element_bytes}
 use Rattle.mw_encode.proofs.BestModules.{best_element}
-use Rattle.mw_encode.proofs.AppendedBytes.{content_small, ends_with}
+use Rattle.mw_encode.proofs.AppendedBytes.{content_small}
 use Rattle.mw_encode.proofs.sections.put_elements.Goals as goal
 
 pub put_items-requires-clause-spelled : goal.put_items-requires-clause-spelled
@@ -14,5 +13,4 @@ put_items-requires-clause-small c =
     rw c.as_slice.ensures (content_small 9 element element_bytes best_element element_of c.args.list.now c.requires)
 
 pub returns : goal.returns
-returns c = ends_with c.put_items.result c.put_items.new.out.items c.args.out.now.items _ _
-    (ap (λ items. section_bytes 9 element_bytes (map element_of items)) (sym c.as_slice.ensures)) c.put_items.ensures
+returns c = rw c.as_slice.ensures at c.put_items.ensures

@@ -1,9 +1,8 @@
-use Rattle.std.proofs.Common.{sym, ap, map}
 use Rattle.mw_wasm.specs.BinaryModules.{export}
 use Rattle.mw_wasm.specs.Views.{export_of}
-use Rattle.mw_encode.specs.Encoding.{export_bytes, section_bytes}
+use Rattle.mw_encode.specs.Encoding.{export_bytes}
 use Rattle.mw_encode.proofs.BestModules.{best_export}
-use Rattle.mw_encode.proofs.AppendedBytes.{content_small, ends_with}
+use Rattle.mw_encode.proofs.AppendedBytes.{content_small}
 use Rattle.mw_encode.proofs.sections.put_exports.Goals as goal
 
 pub put_items-requires-clause-spelled : goal.put_items-requires-clause-spelled
@@ -14,5 +13,4 @@ put_items-requires-clause-small c =
     rw c.as_slice.ensures (content_small 7 export export_bytes best_export export_of c.args.list.now c.requires)
 
 pub returns : goal.returns
-returns c = ends_with c.put_items.result c.put_items.new.out.items c.args.out.now.items _ _
-    (ap (λ items. section_bytes 7 export_bytes (map export_of items)) (sym c.as_slice.ensures)) c.put_items.ensures
+returns c = rw c.as_slice.ensures at c.put_items.ensures

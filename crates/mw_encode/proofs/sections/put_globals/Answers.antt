@@ -1,9 +1,8 @@
-use Rattle.std.proofs.Common.{sym, ap, map}
 use Rattle.mw_wasm.specs.BinaryModules.{global}
 use Rattle.mw_wasm.specs.Views.{global_of}
-use Rattle.mw_encode.specs.Encoding.{global_bytes, section_bytes}
+use Rattle.mw_encode.specs.Encoding.{global_bytes}
 use Rattle.mw_encode.proofs.BestModules.{best_global}
-use Rattle.mw_encode.proofs.AppendedBytes.{content_small, ends_with}
+use Rattle.mw_encode.proofs.AppendedBytes.{content_small}
 use Rattle.mw_encode.proofs.sections.put_globals.Goals as goal
 
 pub put_items-requires-clause-spelled : goal.put_items-requires-clause-spelled
@@ -14,5 +13,4 @@ put_items-requires-clause-small c =
     rw c.as_slice.ensures (content_small 6 global global_bytes best_global global_of c.args.list.now c.requires)
 
 pub returns : goal.returns
-returns c = ends_with c.put_items.result c.put_items.new.out.items c.args.out.now.items _ _
-    (ap (λ items. section_bytes 6 global_bytes (map global_of items)) (sym c.as_slice.ensures)) c.put_items.ensures
+returns c = rw c.as_slice.ensures at c.put_items.ensures

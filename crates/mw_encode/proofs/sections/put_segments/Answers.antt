@@ -1,9 +1,8 @@
-use Rattle.std.proofs.Common.{sym, ap, map}
 use Rattle.mw_wasm.specs.BinaryModules.{data_segment}
 use Rattle.mw_wasm.specs.Views.{segment_of}
-use Rattle.mw_encode.specs.Encoding.{segment_bytes, section_bytes}
+use Rattle.mw_encode.specs.Encoding.{segment_bytes}
 use Rattle.mw_encode.proofs.BestModules.{best_segment}
-use Rattle.mw_encode.proofs.AppendedBytes.{content_small, ends_with}
+use Rattle.mw_encode.proofs.AppendedBytes.{content_small}
 use Rattle.mw_encode.proofs.sections.put_segments.Goals as goal
 
 pub put_items-requires-clause-spelled : goal.put_items-requires-clause-spelled
@@ -15,5 +14,4 @@ put_items-requires-clause-small c =
     c.requires)
 
 pub returns : goal.returns
-returns c = ends_with c.put_items.result c.put_items.new.out.items c.args.out.now.items _ _
-    (ap (λ items. section_bytes 11 segment_bytes (map segment_of items)) (sym c.as_slice.ensures)) c.put_items.ensures
+returns c = rw c.as_slice.ensures at c.put_items.ensures

@@ -1,9 +1,7 @@
-use Rattle.std.proofs.Common.{sym, ap, ◌∙◌, map}
 use Rattle.mw_wasm.specs.BinaryModules.{function_type}
-use Rattle.mw_encode.specs.Encoding.{function_type_bytes, section_bytes}
+use Rattle.mw_encode.specs.Encoding.{function_type_bytes}
 use Rattle.mw_encode.proofs.BestModules.{best_function_type}
 use Rattle.mw_encode.proofs.Pieces.{seen_same, section_small}
-use Rattle.mw_encode.proofs.AppendedBytes.{ends_with}
 use Rattle.mw_encode.proofs.sections.put_types.Goals as goal
 
 pub put_items-requires-clause-spelled : goal.put_items-requires-clause-spelled
@@ -14,6 +12,4 @@ put_items-requires-clause-small c = rw (c.as_slice.ensures, seen_same c.args.lis
     (λ some. section_small 1 function_type function_type_bytes best_function_type c.args.list.now some c.requires)
 
 pub returns : goal.returns
-returns c = ends_with c.put_items.result c.put_items.new.out.items c.args.out.now.items _ _
-    (sym (ap (λ kinds. section_bytes 1 function_type_bytes (map (λ kind. kind) kinds)) c.as_slice.ensures
-    ∙ ap (λ kinds. section_bytes 1 function_type_bytes kinds) (seen_same c.args.list.now))) c.put_items.ensures
+returns c = rw (c.as_slice.ensures, seen_same c.args.list.now) at c.put_items.ensures

@@ -75,3 +75,7 @@ returns-in-LocalTee-clause-simply c = arm_simply c.local_tee.result (module_of c
     (instruction_of c.args.instruction.now) _ (store_of c.args.held.now) c.args.base c.args.locals.now
     c.local_tee.new.locals c.args.height c.args.stack.now c.local_tee.new.stack (ap instruction_of c.in-LocalTee.is)
     c.local_tee.ensures.simply
+
+pub returns-in-MemoryGrow-clause-simply : goal.returns-in-MemoryGrow-clause-simply
+returns-in-MemoryGrow-clause-simply c = arm _ _ _ _ _ _ _ _ _ _ (ap instruction_of c.in-MemoryGrow.is) refl
+    (c.grow.ensures.comes _)

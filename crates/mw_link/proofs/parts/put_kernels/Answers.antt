@@ -51,22 +51,9 @@ loop-kernel-preserved c =
     c.loop-kernel-test.true c.kernel-item.is c.loop-kernel.invariant c.in_ok-put_kernel.ensures.inner
     c.in_ok-put_kernel.ensures.outer c.in_ok-put_kernel.ensures.types c.in_ok-put_kernel.ensures.literals
 
-pub returns-clause-inner : goal.returns-clause-inner
-returns-clause-inner c =
-    (going_end c.args.kernels.now c.loop-kernel.kernel-index _ _ _ (omega (arith, c.loop-kernel-test.false))
-    c.loop-kernel.invariant).0
-
-pub returns-clause-outer : goal.returns-clause-outer
-returns-clause-outer c =
-    (going_end c.args.kernels.now c.loop-kernel.kernel-index _ _ _ (omega (arith, c.loop-kernel-test.false))
-    c.loop-kernel.invariant).1
-
-pub returns-clause-types : goal.returns-clause-types
-returns-clause-types c =
-    (going_end c.args.kernels.now c.loop-kernel.kernel-index _ _ _ (omega (arith, c.loop-kernel-test.false))
-    c.loop-kernel.invariant).2
-
-pub returns-clause-literals : goal.returns-clause-literals
-returns-clause-literals c =
-    (going_end c.args.kernels.now c.loop-kernel.kernel-index _ _ _ (omega (arith, c.loop-kernel-test.false))
-    c.loop-kernel.invariant).3
+pub returns : goal.returns
+returns c =
+    let e =
+    going_end c.args.kernels.now c.loop-kernel.kernel-index _ _ _ (omega (arith, c.loop-kernel-test.false))
+    c.loop-kernel.invariant in
+    record { inner = e.0; outer = e.1; types = e.2; literals = e.3 }

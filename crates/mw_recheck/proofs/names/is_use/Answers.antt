@@ -1,32 +1,23 @@
 use Rattle.std.proofs.Common.{None, refl, sym, ◌∙◌, arith}
 use Rattle.mw_lines.specs.Tables.{lines_of}
 use Rattle.mw_lines.proofs.Candidates.{making_decided}
-use Rattle.mw_recheck.proofs.NameLookup.{root_held, top_there, same_test, if_ok}
+use Rattle.mw_recheck.proofs.NameLookup.{let_held, top_there, same_test, if_ok}
 use Rattle.mw_recheck.proofs.LineTypes.{closed_kernel-at}
 use Rattle.mw_recheck.proofs.names.is_use.Goals as goal
 
 pub overflow_sub-len : goal.overflow_sub-len
-overflow_sub-len c = let h =
-    rw c.in-Some-Let.field-0-is at
-    (root_held c.args.setting.now.roots.now c.args.index _ c.requires.roots c.in-Some-Let.ensures) in omega (
-      arith,
-      h.1,
-      c.len.ensures,
-    )
+overflow_sub-len c =
+    let h = let_held _ _ _ _ c.requires.roots c.in-Some-Let.ensures c.in-Some-Let.field-0-is in
+    omega (arith, h.1, c.len.ensures)
 
 pub is_made-requires-clause-root : goal.is_made-requires-clause-root
 is_made-requires-clause-root c =
-    (rw c.in-Some-Let.field-0-is at
-    (root_held c.args.setting.now.roots.now c.args.index _ c.requires.roots c.in-Some-Let.ensures)).0
+    (let_held _ _ _ _ c.requires.roots c.in-Some-Let.ensures c.in-Some-Let.field-0-is).0
 
 pub is_made-requires-clause-root_within : goal.is_made-requires-clause-root_within
-is_made-requires-clause-root_within c = let h =
-    rw c.in-Some-Let.field-0-is at
-    (root_held c.args.setting.now.roots.now c.args.index _ c.requires.roots c.in-Some-Let.ensures) in omega (
-      arith,
-      h.1,
-      c.len.ensures,
-    )
+is_made-requires-clause-root_within c =
+    let h = let_held _ _ _ _ c.requires.roots c.in-Some-Let.ensures c.in-Some-Let.field-0-is in
+    omega (arith, h.1, c.len.ensures)
 
 pub returns-in-Some-Let : goal.returns-in-Some-Let
 returns-in-Some-Let c =

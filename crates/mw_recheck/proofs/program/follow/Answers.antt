@@ -1,10 +1,9 @@
-use Rattle.std.proofs.Common.{true, false, [], refl, sym, ◌∙◌, ap}
+use Rattle.std.proofs.Common.{true, false, refl, sym, ◌∙◌}
 use Rattle.mw_term.specs.Programs.{program_of}
-use Rattle.mw_term.specs.Terms.{expression_of, ground_of}
+use Rattle.mw_term.specs.Terms.{ground_of}
 use Rattle.mw_lines.specs.Tables.{lines_of, type_at}
 use Rattle.mw_recheck.specs.Roots.{tops_of}
-use Rattle.mw_recheck.specs.Following.{definitions_of, main_notes_at}
-use Rattle.mw_recheck.specs.Deciding.{is_end, root_at}
+use Rattle.mw_recheck.specs.Deciding.{is_end}
 use Rattle.mw_recheck.proofs.LineTypes.{ground-at}
 use Rattle.mw_recheck.proofs.Items.{program_followed, end_is}
 use Rattle.mw_recheck.proofs.program.follow.Goals as goal
@@ -12,10 +11,8 @@ use Rattle.mw_recheck.proofs.program.follow.Goals as goal
 pub returns-then-not-is_ground : goal.returns-then-not-is_ground
 returns-then-not-is_ground c =
     let tops = tops_of true c.in_ok-roots.roots.items in
-    let items = ap (λ l. main_notes_at [] (definitions_of l) c.in-Some.rest.now) (sym c.as_slice.ensures)
-    ∙ c.in_ok-roots.ensures.roots in
-    let root = ap (λ l. root_at (tops_of true l) (expression_of c.args.program.now.body) c.in_ok-roots.rest.now)
-    (sym c.as_slice-2.ensures.value) ∙ c.in_ok-types.ensures.root in
+    let items = rw c.as_slice.ensures at c.in_ok-roots.ensures.roots in
+    let root = rw c.as_slice-2.ensures.value at c.in_ok-types.ensures.root in
     let ground =
     sym (ground-at (lines_of c.in_ok-types.types) c.in_ok-types.ensures.held.lines c.in_ok-types.at
     (ground_of c.args.program.now.result) c.in_ok-types.ensures.within)
@@ -28,10 +25,8 @@ returns-then-not-is_ground c =
 pub returns-then-not-is_empty : goal.returns-then-not-is_empty
 returns-then-not-is_empty c =
     let tops = tops_of true c.in_ok-roots.roots.items in
-    let items = ap (λ l. main_notes_at [] (definitions_of l) c.in-Some.rest.now) (sym c.as_slice.ensures)
-    ∙ c.in_ok-roots.ensures.roots in
-    let root = ap (λ l. root_at (tops_of true l) (expression_of c.args.program.now.body) c.in_ok-roots.rest.now)
-    (sym c.as_slice-2.ensures.value) ∙ c.in_ok-types.ensures.root in
+    let items = rw c.as_slice.ensures at c.in_ok-roots.ensures.roots in
+    let root = rw c.as_slice-2.ensures.value at c.in_ok-types.ensures.root in
     let ground =
     sym (ground-at (lines_of c.in_ok-types.types) c.in_ok-types.ensures.held.lines c.in_ok-types.at
     (ground_of c.args.program.now.result) c.in_ok-types.ensures.within)
@@ -45,10 +40,8 @@ returns-then-not-is_empty c =
 pub returns : goal.returns
 returns c =
     let tops = tops_of true c.in_ok-roots.roots.items in
-    let items = ap (λ l. main_notes_at [] (definitions_of l) c.in-Some.rest.now) (sym c.as_slice.ensures)
-    ∙ c.in_ok-roots.ensures.roots in
-    let root = ap (λ l. root_at (tops_of true l) (expression_of c.args.program.now.body) c.in_ok-roots.rest.now)
-    (sym c.as_slice-2.ensures.value) ∙ c.in_ok-types.ensures.root in
+    let items = rw c.as_slice.ensures at c.in_ok-roots.ensures.roots in
+    let root = rw c.as_slice-2.ensures.value at c.in_ok-types.ensures.root in
     let ground =
     sym (ground-at (lines_of c.in_ok-types.types) c.in_ok-types.ensures.held.lines c.in_ok-types.at
     (ground_of c.args.program.now.result) c.in_ok-types.ensures.within)

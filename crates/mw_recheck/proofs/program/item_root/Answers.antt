@@ -1,8 +1,7 @@
-use Rattle.std.proofs.Common.{◌≡◌, true, false, Some, refl, sym, ap, ◌∙◌, subst}
+use Rattle.std.proofs.Common.{true, false, Some, refl, sym, ap, ◌∙◌}
 use Rattle.mw_term.specs.Programs.{definition_of}
 use Rattle.mw_term.specs.Terms.{kernel_type_of}
 use Rattle.mw_lines.specs.Tables.{lines_of, type_at}
-use Rattle.mw_recheck.specs.Deciding.{root_at}
 use Rattle.mw_recheck.specs.Roots.{tops_of}
 use Rattle.mw_recheck.proofs.LineTypes.{closed_kernel-at}
 use Rattle.mw_recheck.proofs.Items.{item_found, front_type}
@@ -10,10 +9,7 @@ use Rattle.mw_recheck.proofs.program.item_root.Goals as goal
 
 pub returns-in-Value-clause-root : goal.returns-in-Value-clause-root
 returns-in-Value-clause-root c =
-    let root = subst (λ e. root_at (tops_of false c.args.roots.now) e c.args.bytes.now ≡ Some (
-      type_at c.in_ok-types.types c.in_ok-types.at,
-      c.in_ok-types.rest.now,
-    )) c.term_of.ensures c.in_ok-types.ensures.root in
+    let root = rw c.term_of.ensures at c.in_ok-types.ensures.root in
     let last = front_type c.in_ok-types.types c.front.result c.in_ok-types.at c.in_ok-types.ensures.held
     c.in_ok-types.ensures.within c.front.ensures.lines in
     item_found (tops_of false c.args.roots.now) (definition_of c.args.item.now.kind) c.args.bytes.now
@@ -22,10 +18,7 @@ returns-in-Value-clause-root c =
 
 pub returns-then-is_closed_kernel-clause-root : goal.returns-then-is_closed_kernel-clause-root
 returns-then-is_closed_kernel-clause-root c =
-    let root = subst (λ e. root_at (tops_of false c.args.roots.now) e c.args.bytes.now ≡ Some (
-      type_at c.in_ok-types.types c.in_ok-types.at,
-      c.in_ok-types.rest.now,
-    )) c.term_of.ensures c.in_ok-types.ensures.root in
+    let root = rw c.term_of.ensures at c.in_ok-types.ensures.root in
     let is = sym (closed_kernel-at (lines_of c.in_ok-types.types) c.in_ok-types.ensures.held.lines c.in_ok-types.at
     (kernel_type_of c.in-Kernel.kind) c.in_ok-types.ensures.within) ∙ sym c.is_closed_kernel.ensures
     ∙ c.if-is_closed_kernel.true in
@@ -35,10 +28,7 @@ returns-then-is_closed_kernel-clause-root c =
 
 pub returns-clause-root : goal.returns-clause-root
 returns-clause-root c =
-    let root = subst (λ e. root_at (tops_of false c.args.roots.now) e c.args.bytes.now ≡ Some (
-      type_at c.in_ok-types.types c.in_ok-types.at,
-      c.in_ok-types.rest.now,
-    )) c.term_of.ensures c.in_ok-types.ensures.root in
+    let root = rw c.term_of.ensures at c.in_ok-types.ensures.root in
     let is = sym (closed_kernel-at (lines_of c.in_ok-types.types) c.in_ok-types.ensures.held.lines c.in_ok-types.at
     (kernel_type_of c.in-Kernel.kind) c.in_ok-types.ensures.within) ∙ sym c.is_closed_kernel.ensures
     ∙ c.if-is_closed_kernel.false in
