@@ -25,8 +25,6 @@ use Rattle.mw_literals.specs.Literals.{HasShortLiterals, HasShortKernelTerm, Has
 -- labels keep literals
 labelled_short : (c : Expression) (d : ℕ) → HasShortLiterals c → HasShortKernelTerm (labelled c d)
 labelled_short (num z) d x = x
-labelled_short (truth b) d x = tt
-labelled_short (var i) d x = tt
 labelled_short (fun e) d x = labelled_short e (suc d) x
 labelled_short (fix e) d x = labelled_short e (suc (suc d)) x
 labelled_short (app f a) d x = (labelled_short f d x.0, labelled_short a d x.1)
@@ -36,7 +34,7 @@ labelled_short (pair a b) d x = (labelled_short a d x.0, labelled_short b d x.1)
 labelled_short (fst e) d x = labelled_short e d x
 labelled_short (snd e) d x = labelled_short e d x
 labelled_short (prim p a b) d x = (labelled_short a d x.0, labelled_short b d x.1)
-labelled_short _ d x = tt
+labelled_short e d x = tt
 
 -- a short value in a short term
 pick_short : (k i : ℕ) (v : KernelValue) (other : ℕ → KernelTerm) → HasShortKernelValue v
@@ -98,13 +96,12 @@ remainder_short x (negsuc d) s = record { sfits = omega (arith, mag_rem x (negsu
 
 pub compute_short : (p : Prim) (x y : ℤ) → FitsSigned w64 x → IsShortResult (compute p x y)
 compute_short Add x y s = SFits-int_wrap w64 _
-compute_short Sub x y s = SFits-int_wrap w64 _
-compute_short Mul x y s = SFits-int_wrap w64 _
 compute_short Div x y s = quotient_short x y s
 compute_short Mod x y s = remainder_short x y s
 compute_short Eq x y s = tt
 compute_short Lt x y s = tt
 compute_short Le x y s = tt
+compute_short e x y s = SFits-int_wrap w64 _
 
 -- the value, if there is one, is short
 abbrev pub EndsShort : Ended → Type 0

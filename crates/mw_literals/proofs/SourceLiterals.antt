@@ -146,9 +146,6 @@ mutual
 nameless_short : {tops : TopNames} {g : List Binder} {m : Level} {t : SurfaceTree} {e : Expression}
     → Nameless tops g m t e → HasShortNumbers t → HasShortLiterals e
 nameless_short n_num x = x
-nameless_short n_truth x = tt
-nameless_short (n_var h) x = tt
-nameless_short (n_glob h i) x = tt
 nameless_short (n_fun d) x = nameless_short d x
 nameless_short (n_fix d) x = nameless_short d x
 nameless_short (n_app c d) x = (nameless_short c x.0, nameless_short d x.1)
@@ -165,6 +162,7 @@ nameless_short (n_close d) x = nameless_short d x
 nameless_short (n_open d) x = nameless_short d x
 nameless_short (n_lift d) x = nameless_short d x
 nameless_short (n_lift_b d) x = nameless_short d x
+nameless_short e x = tt
 
 item_short : {before : List PureItem} {i : PureItem} {d : Definition} → NamelessItem before i d
     → HasShortNumbers (bound_tree i) → HasShortDefinition d

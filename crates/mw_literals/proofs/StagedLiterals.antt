@@ -66,11 +66,9 @@ ground_both_short v w (Some i) (Some j) p q s t = rw (p, q) (s, t)
 
 ground_short : (v : KernelValue) → HasShortKernelValue v → IfSomeShort (ground_result v)
 ground_short (int z) x = x
-ground_short (bool b) x = tt
 ground_short (both v w) x = ground_both_short v w (ground_result v) (ground_result w) refl refl (ground_short v x.0)
     (ground_short w x.1)
-ground_short (function e) x = tt
-ground_short (recursive e) x = tt
+ground_short e x = tt
 
 argument_both_short : (v w : Value) (x y : Option KernelValue) → kernel_argument v ≡ x → kernel_argument w ≡ y
     → IfSomeShortArgument x → IfSomeShortArgument y
@@ -81,13 +79,9 @@ argument_both_short v w (Some i) (Some j) p q s t = rw (p, q) (s, t)
 
 argument_short : (v : Value) → HasShortValue v → IfSomeShortArgument (kernel_argument v)
 argument_short (int z) x = x
-argument_short (bool b) x = tt
 argument_short (both v w) x = argument_both_short v w (kernel_argument v) (kernel_argument w) refl refl
     (argument_short v x.0) (argument_short w x.1)
-argument_short (function e) x = tt
-argument_short (recursive e) x = tt
-argument_short (code e) x = tt
-argument_short (kept k f words) x = tt
+argument_short e x = tt
 
 value_short : (v : Option Value) (n : ℕ) (s : Runs) → IfSomeShort v → Keeps HasShortValue (value_or_stuck v n s)
 value_short None n s x = none tt
@@ -98,11 +92,8 @@ run_ended_short : (k : KernelType) (e : Ended) (s : Runs) → EndsShort e → Ke
 run_ended_short (of_ground t) (made v n h) s x = value_short (ground_result v) n s (ground_short v x)
 run_ended_short (to g t) (made (function e) n h) s x = ok x
 run_ended_short (to g t) (made (recursive e) n h) s x = ok x
-run_ended_short (to g t) (made (int z) n h) s x = none tt
-run_ended_short (to g t) (made (bool b) n h) s x = none tt
-run_ended_short (to g t) (made (both v w) n h) s x = none tt
 run_ended_short (of_ground t) (ends why) s x = none tt
-run_ended_short (to g t) (ends why) s x = none tt
+run_ended_short (to g t) e s x = none tt
 
 run_short : (mode : Mode) (k : KernelType) (c : Expression) (n : ℕ) (s : Runs) → HasShortLiterals c
     → Keeps HasShortValue (run_of mode k c n s)
@@ -207,13 +198,10 @@ module _ (mode : Mode) (names : List Value) (short_names : AreShortNames names) 
       → Keeps HasShortValue
       (live_step (outside mode names) (evaluation (outside mode names))
       (λ n s e. evaluation (outside mode names) live n s e) n s e)
-  live_short n (num z) below parts s x = ok x
   live_short n (truth b) below parts s x = ok tt
   live_short n (var i) below parts s x = none tt
   live_short n (glob i) below parts s x = value_short (slice_get names i) n s
       (named_short names i (slice_get names i) refl short_names)
-  live_short n (fun e) below parts s x = ok x
-  live_short n (fix e) below parts s x = ok x
   live_short n (app f a) below parts s x =
       then_keeps (most live n s f) (parts live n f (omega arith) (omega arith) s x.0) λ u m s le y.
       then_keeps (most live m s a) (parts live m a le (omega arith) s x.1) λ w l s less z.
@@ -247,7 +235,7 @@ module _ (mode : Mode) (names : List Value) (short_names : AreShortNames names) 
       λ v m s le y. lifted_short v m s y
   live_short n (lift_b e) below parts s x =
       then_keeps (most live n s e) (parts live n e (omega arith) (omega arith) s x) λ v m s le y. lifted_b_short v m s
-  live_short n (done v) below parts s x = ok x
+  live_short n e below parts s x = ok x
 
   quoted_short : (n : ℕ) (e : Expression)
       → ((m : Level) (k : ℕ) (d : Expression) → k ≤ n → size d < size e → Goal m k d) → (s : Runs) → HasShortLiterals e
