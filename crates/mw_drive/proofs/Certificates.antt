@@ -13,8 +13,8 @@ use Rattle.mw_recheck.proofs.Programs.{certified_are_typable}
 use Rattle.mw_written.specs.Written.{IsCertificateOf}
 use Rattle.mw_console.specs.Texts.{refusal_line, typing_line}
 use Rattle.mw_console.specs.declared.status.Status.{Status}
-use Rattle.mw_console.specs.declared.status.Status.TheVariants.{Answer, Trap, Usage, Refused, Bound, Read, Write}
-use Rattle.mw_console.specs.declared.status.Status.TheVariants.{Cache, Memory, BadCache, BadModule, Invalid, NotTyped}
+use Rattle.mw_console.specs.declared.status.Status.TheVariants.{Answer, Refused}
+use Rattle.mw_console.specs.declared.status.Status.TheVariants.{NotTyped}
 use Rattle.mw_reading.specs.NamedPrograms.{unnamed, names_of, named_program_of}
 use Rattle.mw_reading.specs.SourceReading.{IsRead, IsRefused, too_large, at_bytes, at_tokens, at_names}
 use Rattle.mw_drive.specs.Extents.{nothing, a_front, whole, unkept, all_or_nothing, unsaid, never, Extent, Kind}
@@ -240,14 +240,4 @@ module _ (front text bytes : List ℕ) (fits : length front ≤ 67108864 → fro
       → IsTypingVerdict s text bytes
   typing_on Answer says = let m = says refl in typed_as m.1 m.2
   typing_on NotTyped says = let m = says refl in untyped_as m.1 m.2
-  typing_on (Trap t) says = tt
-  typing_on Usage says = tt
-  typing_on (Refused r) says = tt
-  typing_on (Bound l) says = tt
-  typing_on Read says = tt
-  typing_on Write says = tt
-  typing_on Cache says = tt
-  typing_on (Memory e) says = tt
-  typing_on (BadCache d) says = tt
-  typing_on BadModule says = tt
-  typing_on Invalid says = tt
+  typing_on s says = tt

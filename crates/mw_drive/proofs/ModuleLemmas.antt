@@ -20,10 +20,9 @@ use Rattle.mw_reading.specs.NamedPrograms.{NamedProgram, unnamed}
 use Rattle.mw_reading.specs.SourceReading.{IsRead}
 use Rattle.mw_drive.specs.ProgramMeaning.{ProgramRun, items_run, ended, program_run}
 use Rattle.mw_drive.specs.LinkedPrograms.{in_one, link_run}
-use Rattle.mw_drive.specs.Works.{Work, mode_of, Meaning, IsAccepted, IsMeaning, of_refusal, of_types, of_program}
-use Rattle.mw_drive.specs.Works.{of_erased_refusal, of_erased, of_link_refusal, of_joined, of_unjoined, of_migration}
-use Rattle.mw_drive.specs.Works.{of_binary, of_bad_binary, of_module, of_bad_file, of_untyped, of_certificate}
-use Rattle.mw_drive.specs.Works.{of_unread, of_recheck}
+use Rattle.mw_drive.specs.Works.{Work, mode_of, Meaning, IsAccepted, IsMeaning, of_program}
+use Rattle.mw_drive.specs.Works.{of_erased_refusal, of_link_refusal, of_joined}
+use Rattle.mw_drive.specs.Works.{of_untyped}
 use Rattle.mw_drive.specs.Works.{HasModule, HaveOneModule, HaveModules}
 use Rattle.mw_drive.proofs.LinkedPrograms.{linked_kernels}
 use Rattle.mw_drive.proofs.ProgramEnds.{Ends}
@@ -72,23 +71,12 @@ one_module fuel bytes p ks read accepted is =
     }
 
 pub meaning_modules : (work : Work) (m : Meaning) → IsMeaning work m → HaveModules m
-meaning_modules work m (of_refusal r) = tt
-meaning_modules work m (of_types p r fault) = tt
 meaning_modules work m
     (of_program {bytes = bytes} {fuel = fuel} {shown = shown} {kernels = kernels} {e = e} p read accepted is) =
     program_modules (mode_of shown) fuel bytes p kernels e read accepted is
 meaning_modules work m (of_erased_refusal h) = meaning_modules _ _ h
-meaning_modules work m (of_erased p read accepted is) = tt
 meaning_modules work m (of_link_refusal h) = meaning_modules _ _ h
 meaning_modules work m (of_joined {bytes = bytes} {fuel = fuel} {kernels = kernels} p read accepted is) =
     one_module fuel bytes p kernels read accepted is
-meaning_modules work m (of_unjoined p read accepted is) = tt
-meaning_modules work m (of_migration is) = tt
-meaning_modules work m (of_binary is) = tt
-meaning_modules work m (of_bad_binary is) = tt
-meaning_modules work m (of_module wasm is judges) = tt
-meaning_modules work m (of_bad_file is) = tt
 meaning_modules work m (of_untyped h) = meaning_modules _ _ h
-meaning_modules work m (of_certificate p read accepted is) = tt
-meaning_modules work m (of_unread r) = tt
-meaning_modules work m (of_recheck p read is) = tt
+meaning_modules work m is = tt

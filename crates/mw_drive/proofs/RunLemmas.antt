@@ -21,8 +21,8 @@ use Rattle.mw_console.specs.declared.status.Status.{Status}
 use Rattle.mw_console.specs.declared.status.Status.TheVariants.{Read, Write}
 use Rattle.mw_console.specs.declared.status.Status.TheVariants.{Cache, Memory}
 use Rattle.mw_reading.specs.SourceReading.{IsRead, IsSmall, too_large, at_bytes, at_tokens, at_names}
-use Rattle.mw_drive.specs.Works.{joined, unjoined, migrated, written, judged, faulty, certified, rechecked}
-use Rattle.mw_drive.specs.Works.{Work, running, erasing, linking, Meaning, refused, ran, erased, IsMeaning, of_refusal}
+use Rattle.mw_drive.specs.Works.{written}
+use Rattle.mw_drive.specs.Works.{Work, running, erasing, linking, Meaning, refused, ran, IsMeaning, of_refusal}
 use Rattle.mw_drive.specs.Works.{of_types, of_program, of_erased_refusal, of_erased, of_link_refusal, of_joined}
 use Rattle.mw_drive.specs.Works.{of_unjoined, IsAccepted, mode_of, IsOutput, Reports}
 use Rattle.mw_drive.specs.Works.{text_of, status_of}
@@ -133,18 +133,9 @@ IsRanMeaning m = (shown : Shown) × (kernels : List Kernel) × (e : Ending) × (
 -- the status of a meaning is its own, or that the cache file wasn't kept
 own_or_unkept : (path : Option (Bor (List ℕ))) (m : Meaning) (s : Status) → IsEndMeaning path m s
     → (s ≡ status_of m) ⊎ (IsSome path × (s ≡ Cache) × IsRanMeaning m)
-own_or_unkept path (refused r names) s is = inl is
 own_or_unkept path (ran shown kernels e) s (inl is) = inl is
 own_or_unkept path (ran shown kernels e) s (inr h) = inr (h.0, h.1, (shown, kernels, e, refl))
-own_or_unkept path (erased e) s is = inl is
-own_or_unkept path (joined kernels) s is = inl is
-own_or_unkept path (unjoined e) s is = inl is
-own_or_unkept path (migrated old added) s is = inl is
-own_or_unkept path (written wasm) s is = inl is
-own_or_unkept path (judged valid) s is = inl is
-own_or_unkept path (faulty fault) s is = inl is
-own_or_unkept path (certified text) s is = inl is
-own_or_unkept path (rechecked typed) s is = inl is
+own_or_unkept path m s is = inl is
 
 module _ (path : Option (Bor (List ℕ))) (kind : Kind) (over : IsSome path → kind ≡ over_a_cache) {tells : Bool}
     (before after : List ℕ)

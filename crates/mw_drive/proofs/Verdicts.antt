@@ -2,8 +2,8 @@
 use Rattle.std.proofs.Common.{◌≡◌, Bool, true, false, List, ℕ, refl, sym, subst}
 use Rattle.mw_wasm.specs.Syntax.{PureModule}
 use Rattle.mw_console.specs.declared.status.Status.{Status}
-use Rattle.mw_console.specs.declared.status.Status.TheVariants.{Answer, Trap, Usage, Refused, Bound, Read, Write}
-use Rattle.mw_console.specs.declared.status.Status.TheVariants.{Cache, Memory, BadCache, BadModule, Invalid, NotTyped}
+use Rattle.mw_console.specs.declared.status.Status.TheVariants.{Answer}
+use Rattle.mw_console.specs.declared.status.Status.TheVariants.{BadModule, Invalid}
 use Rattle.mw_judge.specs.ModuleFiles.{IsFileOf, Judges}
 use Rattle.mw_judge.proofs.FileLaws.{never_bad_and_file}
 use Rattle.mw_drive.specs.Extents.{whole, on_a_file, extent}
@@ -34,13 +34,4 @@ verdict_on bytes s says = by_status s says
     by_status Answer says = meant Answer (says refl)
     by_status BadModule says = meant BadModule (says refl)
     by_status Invalid says = meant Invalid (says refl)
-    by_status (Trap t) says = tt
-    by_status Usage says = tt
-    by_status (Refused r) says = tt
-    by_status (Bound l) says = tt
-    by_status Read says = tt
-    by_status Write says = tt
-    by_status Cache says = tt
-    by_status (Memory e) says = tt
-    by_status (BadCache d) says = tt
-    by_status NotTyped says = tt
+    by_status t says = tt
