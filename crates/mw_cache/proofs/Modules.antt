@@ -101,9 +101,6 @@ entry_stands e t wasm same w is c k text =
 -- which is owned once more
 module _ {E Z : Type 0} (found : Result (Arc Module Z) E) (e : Emitted) (given : Module)
     (same : IfOk found (λ m. arc_value m ≡ given)) where
-  pub entry_wasm_in : given ≡ e.wasm → IfOk found (λ m. arc_value m ≡ e.wasm)
-  entry_wasm_in is = IfOk-weaker found (λ m. arc_value m ≡ given) (λ m. arc_value m ≡ e.wasm) (λ m h. h ∙ is) same
-
   pub entry_shape_in : (t : List ℕ) → t ≡ e.text → given ≡ e.wasm → IsEntry e
       → IfOk found (λ m. HasShapeOf t (arc_value m))
   entry_shape_in t text is kept = IfOk-weaker found (λ m. arc_value m ≡ given) (λ m. HasShapeOf t (arc_value m))

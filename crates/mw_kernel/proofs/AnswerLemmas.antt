@@ -3,7 +3,7 @@ use Rattle.std.proofs.Common.{◌≡◌, ℕ, ◌≤◌, List, [], ◌∷◌, Op
 use Rattle.mw_term.specs.Terms.{GroundType, KernelType, of_ground, to}
 use Rattle.mw_term.specs.declared.value.Limit.TheVariants.{Fuel, Heap, KernelSize}
 use Rattle.mw_term.specs.declared.value.TrapKind.TheVariants as kind
-use Rattle.mw_meaning.specs.Shapes.{IsWordOf, IsWordOfKernel, IsStrayEnd}
+use Rattle.mw_meaning.specs.Shapes.{IsWordOf, IsStrayEnd}
 use Rattle.mw_wasm.specs.declared.modules.Limits.{Limits}
 use Rattle.mw_wasm.specs.declared.modules.Module.{Module}
 use Rattle.mw_wasm.specs.declared.values.Trap.{Trap}
@@ -28,7 +28,7 @@ use Rattle.mw_kernel.specs.RunningStates.{IsStoreOf}
 use Rattle.mw_kernel.specs.KernelAnswers.{IsStartOf, IsCallOf, IsKeptAs, IsStoreAfter, StartLeavesAtMost}
 use Rattle.mw_kernel.specs.KernelAnswers.{CallLeavesAtMost, HasStartType, HasCallType}
 use Rattle.mw_kernel.specs.Invoking.{IsOtherTrap, EndsAsOutcome}
-use Rattle.mw_kernel.specs.Answering.{IsAnswerOf, IsNoFunction, IsBegunAnswer}
+use Rattle.mw_kernel.specs.Answering.{IsAnswerOf, IsBegunAnswer}
 use Rattle.mw_kernel.proofs.Units.{Leaves}
 
 -- another trap is stray
@@ -92,12 +92,6 @@ module _ (t : GroundType) (after : Store) where
   answer_is_call answer (outcome.Bound KernelSize) e a x = absurd x
   answer_is_call answer outcome.Stray e a x = rw x.2 (at_stray answer x.0 a x.1)
 
-  pub answer_is_no_function : (answer : Result Ran RunFault) (o : Outcome) → IsAnswerOf answer o t after.memory
-      → IsNoFunction answer
-  answer_is_no_function (Ok (ran.Function i left)) outcome.Stray a = a
-  answer_is_no_function (Ok (ran.Function i left)) o a = a
-  answer_is_no_function answer o a = tt
-
   -- and of a run of a kernel of the type
   begun_as : (wasm : Module) (r : Result Ran RunFault) (b : Result Began RunFault) (e : End) → IsCallOf r t e
       → IsBegunAnswer r b → IsStartOf b wasm (of_ground t) e
@@ -130,9 +124,6 @@ module _ (wasm : Module) (s t : GroundType) (after : Store) where
   bound_start Heap e x = rw x tt
   bound_start Fuel e x = rw x tt
   bound_start KernelSize e x = absurd x
-
-  pub stray_start : (e : End) → EndsAsOutcome outcome.Stray after e → IsStartOf (Err fault.Bad) wasm (to s t) e
-  stray_start e x = rw x.2 (other_is_stray (IsWordOfKernel (to s t)) x.0 after x.1)
 
 -- what a call leaves
 pub store_after : (o : Outcome) (after : Store) (e : End) → EndsAsOutcome o after e → IsStoreAfter e after

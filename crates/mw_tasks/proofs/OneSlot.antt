@@ -1,10 +1,10 @@
 -- Outcomes of one text are in one slot.
-use Rattle.std.proofs.Common.{◌≡◌, ℕ, ◌+◌, ◌≤◌, List, length, Some, inl, inr, ◌∙◌, subst, arith}
+use Rattle.std.proofs.Common.{◌≡◌, ℕ, ◌+◌, List, length, Some, inl, inr, ◌∙◌, subst, arith}
 use Rattle.std.specs.Prelude.{get_or, slice_get}
 use Rattle.std.proofs.lemmas.Bool.{cases_lt}
-use Rattle.std.proofs.lemmas.Option.{get_or_from_slice_get, slice_get_within}
+use Rattle.std.proofs.lemmas.Option.{get_or_from_slice_get}
 use Rattle.mw_tasks.specs.declared.outcome.ItemOutcome.{ItemOutcome}
-use Rattle.mw_tasks.specs.Phases.{HaveOneModule, AllHaveOneModule}
+use Rattle.mw_tasks.specs.Phases.{HaveOneModule}
 use Rattle.mw_tasks.specs.Agreeing.{AgreesWithFirst, FirstAgree}
 
 pub with_more : (outcomes : List ItemOutcome) (at n : ℕ) (x y : ItemOutcome) → x ≡ get_or outcomes at x
@@ -30,9 +30,3 @@ all_more outcomes n one old at h =
       | inr r ↦ subst (λ (j : ℕ). AgreesWithFirst outcomes j (length outcomes))
           (omega arith) one
     ]
-
-pub all_agree : (outcomes : List ItemOutcome) (n : ℕ) → length outcomes ≤ n → FirstAgree outcomes n
-    → AllHaveOneModule outcomes
-all_agree outcomes n le first = λ i j a b p q.
-    let x = slice_get_within outcomes i a p in
-    first i (omega (arith, x, le)) j a b (slice_get_within outcomes j b q) p q

@@ -39,16 +39,6 @@ received_slots : (receipts : List (Known Emitted)) (done : Done) → AreReceived
     → HasAllSlots receipts done
 received_slots receipts done received slot h = subst (HasSlot receipts) h.3 (received h.0 h.1 h.2)
 
-pub first_gathered : (all : List Done) → IsGathered all all [] [] 0
-first_gathered all = record {
-  before = [];
-  same = refl;
-  outcomes_are = refl;
-  table = λ cells old k d less. absurd (omega arith);
-  slots = λ k d less. absurd (omega arith);
-  count = omega arith;
-}
-
 pub next_gathered : (all left : List Done) (outcomes more : List ItemOutcome) (receipts kept : List (Known Emitted))
     (emitted sum : ℕ) (done : Done)
     → IsGathered all (done ∷ left) outcomes receipts emitted → more ≡ outcomes ++ done.outcome ∷ []
@@ -75,17 +65,8 @@ module _ (all : List Done) (outcomes : List ItemOutcome) (receipts : List (Known
   whole : g.before ≡ all
   whole = sym (append-nil g.before) ∙ g.same
 
-  pub whole_outcomes : outcomes ≡ outcomes_of all
-  whole_outcomes = g.outcomes_are ∙ ap outcomes_of whole
-
-  pub whole_table : (cells : List ℕ) → All (λ (d : Done). All (IsOf cells) d.stored) all → All (IsOf cells) receipts
-  whole_table cells h = g.table cells (subst (All (λ (d : Done). All (IsOf cells) d.stored)) (sym whole) h)
-
   pub whole_slots : All (HasAllSlots receipts) all
   whole_slots = subst (All (HasAllSlots receipts)) whole g.slots
-
-  pub whole_count : emitted ≤ emitted_by all
-  whole_count = subst (λ xs. emitted ≤ emitted_by xs) whole g.count
 
 pub none_left : {X : Type 0} (left : List X) → length left ≡ 0 → left ≡ []
 none_left [] h = refl

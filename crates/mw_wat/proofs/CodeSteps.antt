@@ -7,15 +7,15 @@ use Rattle.mw_wasm.specs.Syntax.{Instruction, Code}
 use Rattle.mw_wasm.specs.Views.{instruction_of, list_code}
 use Rattle.mw_wat.specs.declared.reading.cursor.Fault.{Fault}
 use Rattle.mw_wat.specs.declared.reading.cursor.Fault.TheVariants.{Bad, Memory}
-use Rattle.mw_wat.specs.Tokens.{PureToken, left, right, word, string}
+use Rattle.mw_wat.specs.Tokens.{PureToken, left, right, word}
 use Rattle.mw_wat.specs.Lexing.{Tokens, token}
-use Rattle.mw_wat.specs.Reading.{Read, got, bad, Reader, count, and_then, skip}
+use Rattle.mw_wat.specs.Reading.{Read, got, bad, count, and_then, skip}
 use Rattle.mw_wat.specs.Instructions.{Opener, Meaning, ends, turns, opens, alone, meaning, Place, whole}
 use Rattle.mw_wat.specs.Instructions.{onward, Mark, Listed, Lists, ahead, block_type, inside, opened, more}
 use Rattle.mw_wat.specs.Instructions.{meant, listed, instructions}
 use Rattle.mw_wat.specs.Cursors.{next, Fails}
 use Rattle.mw_wat.specs.Parts.{behind_opener}
-use Rattle.mw_wat.specs.Steps.{marked, one, closing_mark, end_mark, else_mark, marks_or_bad, marks, step_meant, step}
+use Rattle.mw_wat.specs.Steps.{marked, one, closing_mark, end_mark, else_mark, marks, step_meant, step}
 use Rattle.mw_wat.specs.Steps.{go_on, before, with_front}
 use Rattle.mw_wat.proofs.CursorReaders.{next_is}
 use Rattle.mw_wat.proofs.Lookahead.{no_longer, local_then, got_parts}
@@ -135,46 +135,12 @@ pub ruleset list_laws = (front_none, list_ends, list_more, list_fails, list_shor
 
 -- one step
 module _ (room : ℕ) (p : Place) (ts rest : Tokens) where
-  pub step_left : next ts ≡ got left rest → step instructions room p ts ≡ bad ts
-  step_left e = let n = next_is ts left rest e in rw n.1 refl
-
-  pub step_string : (w : List ℕ) → next ts ≡ got (string w) rest → step instructions room p ts ≡ bad ts
-  step_string w e = let n = next_is ts (string w) rest e in rw n.1 refl
-
-  marks_are : (o : Option Mark) (t : PureToken) → next ts ≡ got t rest → marks o ts ≡ marks_or_bad o ts rest
-  marks_are None t e = refl
-  marks_are (Some m) t e = let n = next_is ts t rest e in rw n.1 refl
-
-  pub step_right : next ts ≡ got right rest → step instructions room p ts ≡ marks_or_bad (closing_mark p) ts rest
-  step_right e =
-      let n = next_is ts right rest e in
-      let s : step instructions room p ts ≡ marks (closing_mark p) ts = rw n.1 refl in
-      s ∙ marks_are (closing_mark p) right e
-
   step_word : (w : List ℕ) (m : Option Meaning) → next ts ≡ got (word w) rest → m ≡ meaning w
       → step instructions room p ts ≡ step_meant instructions room p m ts
   step_word w m e k =
       let n = next_is ts (word w) rest e in
       let s : step instructions room p ts ≡ step_meant instructions room p (meaning w) ts = rw n.1 refl in
       s ∙ ap (λ m. step_meant instructions room p m ts) (sym k)
-
-  pub step_none : (w : List ℕ) → next ts ≡ got (word w) rest → None ≡ meaning w → step instructions room p ts ≡ bad ts
-  step_none w e k = step_word w None e k
-
-  pub step_end : (w : List ℕ) → next ts ≡ got (word w) rest → Some ends ≡ meaning w
-      → step instructions room p ts ≡ marks_or_bad (end_mark p) ts rest
-  step_end w e k = step_word w (Some ends) e k ∙ marks_are (end_mark p) (word w) e
-
-  pub step_else : (w : List ℕ) → next ts ≡ got (word w) rest → Some turns ≡ meaning w
-      → step instructions room p ts ≡ marks_or_bad (else_mark p) ts rest
-  step_else w e k = step_word w (Some turns) e k ∙ marks_are (else_mark p) (word w) e
-
-  pub step_alone : (w : List ℕ) (r : Reader Instruction) → next ts ≡ got (word w) rest → Some (alone r) ≡ meaning w
-      → step instructions room p ts ≡ and_then (r rest) λ i us. got (one i) us
-  step_alone w r e k =
-      let n = next_is ts (word w) rest e in
-      step_word w (Some (alone r)) e k
-      ∙ ap (λ v. and_then (skip r v) λ i us. got (one i) us) n.1
 
 pub step_opens : (room : ℕ) (p : Place) (ts rest : Tokens) (w : List ℕ) (o : Opener) → next ts ≡ got (word w) rest
     → Some (opens o) ≡ meaning w → room ≢ 0

@@ -211,9 +211,6 @@ module _ {A : Type 0} (w : List ℕ) (e : bytes_eq w w ≡ true) (field : Reader
         (λ x q. tail_starts x) (λ x q us vs p g. tt)
 
   -- at most one
-  no_fields : Bool → Reader (Fields A)
-  no_fields g = fields_up_to 0 w field g
-
   one_starts : (g : Bool) → Started (fields_up_to 1 w field g) Any IsShut
   one_starts false = started_gives shut Any IsShut refl
   one_starts true = started_word 0

@@ -123,11 +123,3 @@ module _ {X A : Type 0} (view : X → A) (w : List ℕ) (field : Reader A) (list
   fields_fail (Bad c) e g =
       let b = lower left.bound left.enough in
       sym (unrolled b.0 b.1 g) ∙ ap (λ r. with_fields (map view list) (and_then r (behind_field b.0 w field))) e
-
-  pub fields_done : going ≡ false → total ≡ got (fields_of view list false) ts
-  fields_done g =
-      let b = lower left.bound left.enough in
-      sym left.told
-      ∙ (ap (λ n. with_fields (map view list) (fields_up_to n w field going ts)) b.1
-      ∙ (ap (λ h. with_fields (map view list) (fields_up_to (suc b.0) w field h ts)) g
-      ∙ ap (λ ys. got (record { list = ys; going = false }) ts) (append-nil (map view list))))
