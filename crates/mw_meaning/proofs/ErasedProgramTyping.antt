@@ -2,15 +2,13 @@
 use Rattle.std.proofs.Common.{◌≡◌, ℕ, zero, suc, ◌+◌, ◌<◌, List, [], ◌∷◌, length, Some, refl, ap, ◌∙◌, sym, subst}
 use Rattle.std.proofs.Common.{arith}
 use Rattle.std.specs.Prelude.{slice_get}
-use Rattle.mw_term.specs.Terms.{Expression, KernelType, num, truth, var, glob, fun, fix, app, bind, cond, pair, fst}
-use Rattle.mw_term.specs.Terms.{snd, prim, bracket, escape, run, close, opened, lift, lift_b, done}
+use Rattle.mw_term.specs.Terms.{Expression, KernelType, num, truth, glob, fun, fix, pair}
 use Rattle.mw_term.specs.Sources.{IsSource}
 use Rattle.mw_term.specs.Types.{TermType, live, Entry, value, ground_type, kernel_type}
 use Rattle.mw_term.specs.Typing.{TopLevel, let_item, kernel_item, Typed, t_bind}
 use Rattle.mw_term.specs.Typable.{seen_by_item, seen_by_main, IsTypableItem, Typable}
 use Rattle.mw_term.specs.Programs.{Definition, value as defines, kernel, PureProgram, IsSyntacticValue}
-use Rattle.mw_meaning.specs.PlainTerms.{PlainTerm, num, truth, var, glob, fun, fix, app, bind, cond, pair, fst, snd}
-use Rattle.mw_meaning.specs.PlainTerms.{prim}
+use Rattle.mw_meaning.specs.PlainTerms.{PlainTerm, num, truth, glob, fun, fix, pair}
 use Rattle.mw_meaning.specs.Erasure.{plain, term_of}
 use Rattle.mw_meaning.specs.ErasedPrograms.{Naming, renamed, kernels_in, name_in, lets_of, inside_lets, AreSourceItems}
 use Rattle.mw_meaning.specs.ErasedPrograms.{IsSourceProgram}
@@ -136,22 +134,7 @@ syntactic r (truth b) h = tt
 syntactic r (fun e) h = tt
 syntactic r (fix e) h = tt
 syntactic r (pair a b) h = (syntactic r a h.0, syntactic r b h.1)
-syntactic r (var i) h = absurd h
-syntactic r (glob i) h = absurd h
-syntactic r (app f a) h = absurd h
-syntactic r (bind d e) h = absurd h
-syntactic r (cond c a b) h = absurd h
-syntactic r (fst e) h = absurd h
-syntactic r (snd e) h = absurd h
-syntactic r (prim p a b) h = absurd h
-syntactic r (bracket e) h = absurd h
-syntactic r (escape e) h = absurd h
-syntactic r (run k e) h = absurd h
-syntactic r (close at e) h = absurd h
-syntactic r (opened e) h = absurd h
-syntactic r (lift e) h = absurd h
-syntactic r (lift_b e) h = absurd h
-syntactic r (done v) h = absurd h
+syntactic r _ h = absurd h
 
 -- the entries of the kernels' lets, inside them
 abbrev entries : List Definition → List Entry → List Entry

@@ -3,6 +3,7 @@ pub mod KernelFixedPoint
 pub mod StagedFixedPoint
 pub mod Outsides
 pub mod Inductions
+pub mod PlainInduction
 pub mod Refinement
 pub mod Safe
 pub mod TypePreservation
