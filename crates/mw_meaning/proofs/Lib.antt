@@ -6,6 +6,7 @@ pub mod Inductions
 pub mod PlainInduction
 pub mod Refinement
 pub mod Safe
+pub mod PrimitiveTypes
 pub mod TypePreservation
 pub mod KernelTyping
 pub mod SettingValues
