@@ -25,36 +25,28 @@ IsLetOf items i = (e : Expression) × (slice_get items i ≡ Some (defines e))
 -- a let is seen behind it
 pub let-seen_by_item : (items : List Definition) (i j : ℕ) (e : Expression) → j < i → slice_get items j
     ≡ Some (defines e) → slice_get (seen_by_item items i) j ≡ Some (let_item e)
-let-seen_by_item [] i j e lt h = absurd (cc)
 let-seen_by_item (d ∷ items) zero j e lt h = absurd (omega arith)
 let-seen_by_item (defines d ∷ items) (suc i) zero e lt h = let p : d ≡ e = cc in rw p refl
-let-seen_by_item (defines d ∷ items) (suc i) (suc j) e lt h = let-seen_by_item items i j e (omega arith) h
-let-seen_by_item (kernel k d ∷ items) (suc i) zero e lt h = absurd (cc)
-let-seen_by_item (kernel k d ∷ items) (suc i) (suc j) e lt h = let-seen_by_item items i j e (omega arith) h
+let-seen_by_item (_ ∷ items) (suc i) (suc j) e lt h = let-seen_by_item items i j e (omega arith) h
+let-seen_by_item _ i j e lt h = absurd (cc)
 
 pub let-seen_by_main : (items : List Definition) (j : ℕ) (e : Expression) → slice_get items j ≡ Some (defines e)
     → slice_get (seen_by_main items) j ≡ Some (let_item e)
-let-seen_by_main [] j e h = absurd (cc)
 let-seen_by_main (defines d ∷ items) zero e h = let p : d ≡ e = cc in rw p refl
-let-seen_by_main (defines d ∷ items) (suc j) e h = let-seen_by_main items j e h
-let-seen_by_main (kernel k d ∷ items) zero e h = absurd (cc)
-let-seen_by_main (kernel k d ∷ items) (suc j) e h = let-seen_by_main items j e h
+let-seen_by_main (_ ∷ items) (suc j) e h = let-seen_by_main items j e h
+let-seen_by_main _ j e h = absurd (cc)
 
 pub source_at : (items : List Definition) (i : ℕ) (e : Expression) → AreSourceItems items → slice_get items i
     ≡ Some (defines e) → IsSource e
-source_at [] i e s h = absurd (cc)
 source_at (defines d ∷ items) zero e s h = let p : d ≡ e = cc in subst IsSource p s.0
-source_at (defines d ∷ items) (suc i) e s h = source_at items i e s.1 h
-source_at (kernel k d ∷ items) zero e s h = absurd (cc)
-source_at (kernel k d ∷ items) (suc i) e s h = source_at items i e s.1 h
+source_at (_ ∷ items) (suc i) e s h = source_at items i e s.1 h
+source_at _ i e s h = absurd (cc)
 
 pub kernel_source_at : (items : List Definition) (i : ℕ) (k : KernelType) (e : Expression) → AreSourceItems items
     → slice_get items i ≡ Some (kernel k e) → IsSource e
-kernel_source_at [] i k e s h = absurd (cc)
-kernel_source_at (defines d ∷ items) zero k e s h = absurd (cc)
-kernel_source_at (defines d ∷ items) (suc i) k e s h = kernel_source_at items i k e s.1 h
 kernel_source_at (kernel t d ∷ items) zero k e s h = let p : d ≡ e = cc in subst IsSource p s.0
-kernel_source_at (kernel t d ∷ items) (suc i) k e s h = kernel_source_at items i k e s.1 h
+kernel_source_at (_ ∷ items) (suc i) k e s h = kernel_source_at items i k e s.1 h
+kernel_source_at _ i k e s h = absurd (cc)
 
 -- where a let stands among the lets, which begin with l
 pub record LetPlace (r : Naming) (items : List Definition) (l i : ℕ) (e : Expression) (most : ℕ) : Type 0 where

@@ -97,11 +97,9 @@ at_place names i x h = slice_get_read names (length names) i x.now refl h.3.0 h.
 
 -- a kernel's name has room for its variable
 kernel_most : (names : List NewName) (i n : ℕ) → slice_get names i ≡ Some (Kernel n) → n ≤ most_behind names
-kernel_most [] i n h = absurd (cc)
-kernel_most (Let l ∷ names) zero n h = absurd (cc)
 kernel_most (Kernel m ∷ names) zero n h = let p : m ≡ n = cc in omega arith
-kernel_most (Let l ∷ names) (suc i) n h = kernel_most names i n h
-kernel_most (Kernel m ∷ names) (suc i) n h = let p = kernel_most names i n h in omega arith
+kernel_most (_ ∷ names) (suc i) n h = let p = kernel_most names i n h in omega arith
+kernel_most _ i n h = absurd (cc)
 
 pub kernel_room : (names : List NewName) (i d n : ℕ) → slice_get names i ≡ Some (Kernel n) → HasRoom names d 1
     → d + n < 2 ^ 32
