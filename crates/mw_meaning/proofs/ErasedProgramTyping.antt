@@ -65,21 +65,25 @@ later {l = l} h = record {
   there = h.there;
 }
 
+at_first : {r : Naming} {items : List Definition} {l most : ℕ} {d e : Expression} → d ≡ e
+    → LetPlace r (defines d ∷ items) l zero e (suc most)
+at_first {l = l} p = record {
+  place = zero;
+  low = omega arith;
+  named = λ d. (let q : l ≡ l + zero = omega arith in ap glob q);
+  there = rw p refl;
+}
+
+past_kernel : {r : Naming} {items : List Definition} {l i : ℕ} {e d : Expression} {k : KernelType} {most : ℕ}
+    → LetPlace r items l i e most → LetPlace r (kernel k d ∷ items) l (suc i) e most
+past_kernel h = record { place = h.place; low = h.low; named = h.named; there = h.there }
+
 pub let_place : (r : Naming) (items : List Definition) (l i : ℕ) (e : Expression) → slice_get items i ≡ Some (defines e)
     → LetPlace r items l i e (length (lets_of r items))
-let_place r [] l i e h = absurd (cc)
-let_place r (defines d ∷ items) l zero e h = let p : d ≡ e = cc in
-    record {
-      place = zero;
-      low = omega arith;
-      named = λ d. (let q : l ≡ l + zero = omega arith in ap glob q);
-      there =
-          rw p refl;
-    }
+let_place r (defines d ∷ items) l zero e h = let p : d ≡ e = cc in at_first p
 let_place r (defines d ∷ items) l (suc i) e h = later (let_place r items (suc l) i e h)
-let_place r (kernel k d ∷ items) l zero e h = absurd (cc)
-let_place r (kernel k d ∷ items) l (suc i) e h = let p = let_place r items l i e h in
-    record { place = p.place; low = p.low; named = p.named; there = p.there }
+let_place r (kernel k d ∷ items) l (suc i) e h = past_kernel (let_place r items l i e h)
+let_place r _ l i e h = absurd (cc)
 
 -- the let that a let of the erased program comes from, with the places of those before it
 pub record LetOrigin (r : Naming) (items : List Definition) (l j : ℕ) (d : Definition) : Type 0 where
@@ -101,13 +105,7 @@ let_origin r (defines e ∷ items) l (suc j) d h =
   where
     before : (p : LetOrigin r items (suc l) j d) (i : ℕ) (x : Expression) → i < suc p.place
         → slice_get (defines e ∷ items) i ≡ Some (defines x) → LetPlace r (defines e ∷ items) l i x (suc j)
-    before p zero x lt q = let w : e ≡ x = cc in
-        record {
-          place = zero;
-          low = omega arith;
-          named = λ d. (let q : l ≡ l + zero = omega arith in ap glob q);
-          there = rw w refl;
-        }
+    before p zero x lt q = let w : e ≡ x = cc in at_first w
     before p (suc i) x lt q = later (p.before i x (omega arith) q)
 let_origin r (kernel k e ∷ items) l j d h =
     let p = let_origin r items l j d h in
@@ -116,8 +114,7 @@ let_origin r (kernel k e ∷ items) l j d h =
     before : (p : LetOrigin r items l j d) (i : ℕ) (x : Expression) → i < suc p.place → slice_get (kernel k e ∷ items) i
         ≡ Some (defines x) → LetPlace r (kernel k e ∷ items) l i x j
     before p zero x lt q = absurd (cc)
-    before p (suc i) x lt q = let y = p.before i x (omega arith) q in
-        record { place = y.place; low = y.low; named = y.named; there = y.there }
+    before p (suc i) x lt q = past_kernel (p.before i x (omega arith) q)
 
 -- a syntactic value is one after erasure
 syntactic : (r : Naming) (e : Expression) → IsSyntacticValue e → IsSyntacticValue (term_of (renamed r zero (plain e)))
