@@ -191,27 +191,15 @@ module _ (p : PureProgram) (source : IsSourceProgram p) (typable : Typable p) wh
     lets = let_names i e h;
   }
 
-  -- a definition seen by an item, in the erased program's main
-  item_in_main : (i : ℕ) (j : ℕ) (e : Expression) → slice_get (seen_by_item p.items i) j ≡ Some (let_item e)
+  -- a let, in the erased program's main
+  let_in_main : (j : ℕ) (e : Expression) → slice_get p.items j ≡ Some (defines e)
       → LetStays (seen_by_main erased_lets) r IsLet j e
-  item_in_main i j e h =
-      let q = (seen_by_item-let p.items i j e h).0 in
-      let w = let_place r p.items zero j e q in
-      stays_in (seen_by_main erased_lets) j e (length erased_lets) q w (λ z. let-seen_by_main erased_lets w.place _ z)
-
-  main_in_main : (j : ℕ) (e : Expression) → slice_get (seen_by_main p.items) j ≡ Some (let_item e)
-      → LetStays (seen_by_main erased_lets) r IsLet j e
-  main_in_main j e h =
-      let q = seen_by_main-let p.items j e h in
-      let w = let_place r p.items zero j e q in
-      stays_in (seen_by_main erased_lets) j e (length erased_lets) q w (λ z. let-seen_by_main erased_lets w.place _ z)
+  let_in_main j e h =
+      let w = let_place r p.items zero j e h in
+      stays_in (seen_by_main erased_lets) j e (length erased_lets) h w (λ z. let-seen_by_main erased_lets w.place _ z)
 
   no_kernel_in_main : (i : ℕ) (t : KernelType) → IsLet i → slice_get (seen_by_main p.items) i ≡ Some (kernel_item t) → ⊥
   no_kernel_in_main i t h q = let w = seen_by_main-kernel p.items i t q in let x = h.1 in let y = w.1 in cc
-
-  no_kernel_in_item : (j i : ℕ) (t : KernelType) → IsLet i → slice_get (seen_by_item p.items j) i ≡ Some (kernel_item t)
-      → ⊥
-  no_kernel_in_item j i t h q = no_kernel p.items j i t q
 
   -- a kernel's definition, inside any lets
   pub kernel_typed : (i : ℕ) (k : KernelType) (e : Expression) (g : List Entry) → slice_get p.items i
@@ -221,7 +209,8 @@ module _ (p : PureProgram) (source : IsSourceProgram p) (typable : Typable p) wh
       let s = kernel_source_at p.items i k e source.items h in
       subst (λ t. Typed (seen_by_main erased_lets) g live (term_of (renamed r zero (plain e))) t)
       (plain_type-kernel_type k)
-      (erased_typed (seen_by_item p.items i) (seen_by_main erased_lets) r IsLet (item_in_main i) (no_kernel_in_item i) g
+      (erased_typed (seen_by_item p.items i) (seen_by_main erased_lets) r IsLet
+      (λ j e h. let_in_main j e (seen_by_item-let p.items i j e h).0) (λ j t h q. no_kernel p.items i j t q) g
       IsLet (λ j t x q. absurd (no_kernel p.items i j t q)) s (item_names i e _ s d) d)
 
   inside_typed : (items : List Definition) (g : List Entry) (b : PlainTerm) (t : TermType)
@@ -241,7 +230,8 @@ module _ (p : PureProgram) (source : IsSourceProgram p) (typable : Typable p) wh
       inside_typed p.items [] (renamed r zero (plain p.body)) (ground_type p.result) kernel_typed
       (subst (λ t. Typed (seen_by_main erased_lets) (entries p.items []) live (term_of (renamed r zero (plain p.body)))
       t) (plain_type-ground_type p.result)
-      (erased_typed (seen_by_main p.items) (seen_by_main erased_lets) r IsLet main_in_main no_kernel_in_main
+      (erased_typed (seen_by_main p.items) (seen_by_main erased_lets) r IsLet
+      (λ j e h. let_in_main j e (seen_by_main-let p.items j e h)) no_kernel_in_main
       (entries p.items []) (λ i. Unit {0})
       (λ i t x q. let w = seen_by_main-kernel p.items i t q in kernel_stays p.items zero [] i t w.0 w.1) source.body
       (names_typed (λ i. Unit {0}) (λ i e q. tt) (λ i k q. tt) source.body typable.body) typable.body))
@@ -269,7 +259,7 @@ module _ (p : PureProgram) (source : IsSourceProgram p) (typable : Typable p) wh
 
       y : Typed (seen_by_item erased_lets j) [] live (term_of (renamed r zero (plain o.definition))) (plain_type x.1)
       y = erased_typed (seen_by_item p.items o.place) (seen_by_item erased_lets j) r IsLet in_item
-          (no_kernel_in_item o.place) [] IsLet (λ i t q h. absurd (no_kernel p.items o.place i t h)) s
+          (λ i t h q. no_kernel p.items o.place i t q) [] IsLet (λ i t q h. absurd (no_kernel p.items o.place i t h)) s
           (item_names o.place o.definition x.1 s x.2) x.2
 
 pub erased_program_is_typable : ErasedProgramIsTypable
