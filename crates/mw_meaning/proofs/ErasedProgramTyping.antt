@@ -2,15 +2,13 @@
 use Rattle.std.proofs.Common.{◌≡◌, ℕ, zero, suc, ◌+◌, ◌<◌, List, [], ◌∷◌, length, Some, refl, ap, ◌∙◌, sym, subst}
 use Rattle.std.proofs.Common.{arith}
 use Rattle.std.specs.Prelude.{slice_get}
-use Rattle.mw_term.specs.Terms.{Expression, KernelType, num, truth, var, glob, fun, fix, app, bind, cond, pair, fst}
-use Rattle.mw_term.specs.Terms.{snd, prim, bracket, escape, run, close, opened, lift, lift_b, done}
+use Rattle.mw_term.specs.Terms.{Expression, KernelType, num, truth, glob, fun, fix, pair}
 use Rattle.mw_term.specs.Sources.{IsSource}
 use Rattle.mw_term.specs.Types.{TermType, live, Entry, value, ground_type, kernel_type}
 use Rattle.mw_term.specs.Typing.{TopLevel, let_item, kernel_item, Typed, t_bind}
 use Rattle.mw_term.specs.Typable.{seen_by_item, seen_by_main, IsTypableItem, Typable}
 use Rattle.mw_term.specs.Programs.{Definition, value as defines, kernel, PureProgram, IsSyntacticValue}
-use Rattle.mw_meaning.specs.PlainTerms.{PlainTerm, num, truth, var, glob, fun, fix, app, bind, cond, pair, fst, snd}
-use Rattle.mw_meaning.specs.PlainTerms.{prim}
+use Rattle.mw_meaning.specs.PlainTerms.{PlainTerm, num, truth, glob, fun, fix, pair}
 use Rattle.mw_meaning.specs.Erasure.{plain, term_of}
 use Rattle.mw_meaning.specs.ErasedPrograms.{Naming, renamed, kernels_in, name_in, lets_of, inside_lets, AreSourceItems}
 use Rattle.mw_meaning.specs.ErasedPrograms.{IsSourceProgram}
@@ -27,36 +25,28 @@ IsLetOf items i = (e : Expression) × (slice_get items i ≡ Some (defines e))
 -- a let is seen behind it
 pub let-seen_by_item : (items : List Definition) (i j : ℕ) (e : Expression) → j < i → slice_get items j
     ≡ Some (defines e) → slice_get (seen_by_item items i) j ≡ Some (let_item e)
-let-seen_by_item [] i j e lt h = absurd (cc)
 let-seen_by_item (d ∷ items) zero j e lt h = absurd (omega arith)
 let-seen_by_item (defines d ∷ items) (suc i) zero e lt h = let p : d ≡ e = cc in rw p refl
-let-seen_by_item (defines d ∷ items) (suc i) (suc j) e lt h = let-seen_by_item items i j e (omega arith) h
-let-seen_by_item (kernel k d ∷ items) (suc i) zero e lt h = absurd (cc)
-let-seen_by_item (kernel k d ∷ items) (suc i) (suc j) e lt h = let-seen_by_item items i j e (omega arith) h
+let-seen_by_item (_ ∷ items) (suc i) (suc j) e lt h = let-seen_by_item items i j e (omega arith) h
+let-seen_by_item _ i j e lt h = absurd (cc)
 
 pub let-seen_by_main : (items : List Definition) (j : ℕ) (e : Expression) → slice_get items j ≡ Some (defines e)
     → slice_get (seen_by_main items) j ≡ Some (let_item e)
-let-seen_by_main [] j e h = absurd (cc)
 let-seen_by_main (defines d ∷ items) zero e h = let p : d ≡ e = cc in rw p refl
-let-seen_by_main (defines d ∷ items) (suc j) e h = let-seen_by_main items j e h
-let-seen_by_main (kernel k d ∷ items) zero e h = absurd (cc)
-let-seen_by_main (kernel k d ∷ items) (suc j) e h = let-seen_by_main items j e h
+let-seen_by_main (_ ∷ items) (suc j) e h = let-seen_by_main items j e h
+let-seen_by_main _ j e h = absurd (cc)
 
 pub source_at : (items : List Definition) (i : ℕ) (e : Expression) → AreSourceItems items → slice_get items i
     ≡ Some (defines e) → IsSource e
-source_at [] i e s h = absurd (cc)
 source_at (defines d ∷ items) zero e s h = let p : d ≡ e = cc in subst IsSource p s.0
-source_at (defines d ∷ items) (suc i) e s h = source_at items i e s.1 h
-source_at (kernel k d ∷ items) zero e s h = absurd (cc)
-source_at (kernel k d ∷ items) (suc i) e s h = source_at items i e s.1 h
+source_at (_ ∷ items) (suc i) e s h = source_at items i e s.1 h
+source_at _ i e s h = absurd (cc)
 
 pub kernel_source_at : (items : List Definition) (i : ℕ) (k : KernelType) (e : Expression) → AreSourceItems items
     → slice_get items i ≡ Some (kernel k e) → IsSource e
-kernel_source_at [] i k e s h = absurd (cc)
-kernel_source_at (defines d ∷ items) zero k e s h = absurd (cc)
-kernel_source_at (defines d ∷ items) (suc i) k e s h = kernel_source_at items i k e s.1 h
 kernel_source_at (kernel t d ∷ items) zero k e s h = let p : d ≡ e = cc in subst IsSource p s.0
-kernel_source_at (kernel t d ∷ items) (suc i) k e s h = kernel_source_at items i k e s.1 h
+kernel_source_at (_ ∷ items) (suc i) k e s h = kernel_source_at items i k e s.1 h
+kernel_source_at _ i k e s h = absurd (cc)
 
 -- where a let stands among the lets, which begin with l
 pub record LetPlace (r : Naming) (items : List Definition) (l i : ℕ) (e : Expression) (most : ℕ) : Type 0 where
@@ -75,21 +65,25 @@ later {l = l} h = record {
   there = h.there;
 }
 
+at_first : {r : Naming} {items : List Definition} {l most : ℕ} {d e : Expression} → d ≡ e
+    → LetPlace r (defines d ∷ items) l zero e (suc most)
+at_first {l = l} p = record {
+  place = zero;
+  low = omega arith;
+  named = λ d. (let q : l ≡ l + zero = omega arith in ap glob q);
+  there = rw p refl;
+}
+
+past_kernel : {r : Naming} {items : List Definition} {l i : ℕ} {e d : Expression} {k : KernelType} {most : ℕ}
+    → LetPlace r items l i e most → LetPlace r (kernel k d ∷ items) l (suc i) e most
+past_kernel h = record { place = h.place; low = h.low; named = h.named; there = h.there }
+
 pub let_place : (r : Naming) (items : List Definition) (l i : ℕ) (e : Expression) → slice_get items i ≡ Some (defines e)
     → LetPlace r items l i e (length (lets_of r items))
-let_place r [] l i e h = absurd (cc)
-let_place r (defines d ∷ items) l zero e h = let p : d ≡ e = cc in
-    record {
-      place = zero;
-      low = omega arith;
-      named = λ d. (let q : l ≡ l + zero = omega arith in ap glob q);
-      there =
-          rw p refl;
-    }
+let_place r (defines d ∷ items) l zero e h = let p : d ≡ e = cc in at_first p
 let_place r (defines d ∷ items) l (suc i) e h = later (let_place r items (suc l) i e h)
-let_place r (kernel k d ∷ items) l zero e h = absurd (cc)
-let_place r (kernel k d ∷ items) l (suc i) e h = let p = let_place r items l i e h in
-    record { place = p.place; low = p.low; named = p.named; there = p.there }
+let_place r (kernel k d ∷ items) l (suc i) e h = past_kernel (let_place r items l i e h)
+let_place r _ l i e h = absurd (cc)
 
 -- the let that a let of the erased program comes from, with the places of those before it
 pub record LetOrigin (r : Naming) (items : List Definition) (l j : ℕ) (d : Definition) : Type 0 where
@@ -111,13 +105,7 @@ let_origin r (defines e ∷ items) l (suc j) d h =
   where
     before : (p : LetOrigin r items (suc l) j d) (i : ℕ) (x : Expression) → i < suc p.place
         → slice_get (defines e ∷ items) i ≡ Some (defines x) → LetPlace r (defines e ∷ items) l i x (suc j)
-    before p zero x lt q = let w : e ≡ x = cc in
-        record {
-          place = zero;
-          low = omega arith;
-          named = λ d. (let q : l ≡ l + zero = omega arith in ap glob q);
-          there = rw w refl;
-        }
+    before p zero x lt q = let w : e ≡ x = cc in at_first w
     before p (suc i) x lt q = later (p.before i x (omega arith) q)
 let_origin r (kernel k e ∷ items) l j d h =
     let p = let_origin r items l j d h in
@@ -126,8 +114,7 @@ let_origin r (kernel k e ∷ items) l j d h =
     before : (p : LetOrigin r items l j d) (i : ℕ) (x : Expression) → i < suc p.place → slice_get (kernel k e ∷ items) i
         ≡ Some (defines x) → LetPlace r (kernel k e ∷ items) l i x j
     before p zero x lt q = absurd (cc)
-    before p (suc i) x lt q = let y = p.before i x (omega arith) q in
-        record { place = y.place; low = y.low; named = y.named; there = y.there }
+    before p (suc i) x lt q = past_kernel (p.before i x (omega arith) q)
 
 -- a syntactic value is one after erasure
 syntactic : (r : Naming) (e : Expression) → IsSyntacticValue e → IsSyntacticValue (term_of (renamed r zero (plain e)))
@@ -136,22 +123,7 @@ syntactic r (truth b) h = tt
 syntactic r (fun e) h = tt
 syntactic r (fix e) h = tt
 syntactic r (pair a b) h = (syntactic r a h.0, syntactic r b h.1)
-syntactic r (var i) h = absurd h
-syntactic r (glob i) h = absurd h
-syntactic r (app f a) h = absurd h
-syntactic r (bind d e) h = absurd h
-syntactic r (cond c a b) h = absurd h
-syntactic r (fst e) h = absurd h
-syntactic r (snd e) h = absurd h
-syntactic r (prim p a b) h = absurd h
-syntactic r (bracket e) h = absurd h
-syntactic r (escape e) h = absurd h
-syntactic r (run k e) h = absurd h
-syntactic r (close at e) h = absurd h
-syntactic r (opened e) h = absurd h
-syntactic r (lift e) h = absurd h
-syntactic r (lift_b e) h = absurd h
-syntactic r (done v) h = absurd h
+syntactic r _ h = absurd h
 
 -- the entries of the kernels' lets, inside them
 abbrev entries : List Definition → List Entry → List Entry
@@ -219,27 +191,15 @@ module _ (p : PureProgram) (source : IsSourceProgram p) (typable : Typable p) wh
     lets = let_names i e h;
   }
 
-  -- a definition seen by an item, in the erased program's main
-  item_in_main : (i : ℕ) (j : ℕ) (e : Expression) → slice_get (seen_by_item p.items i) j ≡ Some (let_item e)
+  -- a let, in the erased program's main
+  let_in_main : (j : ℕ) (e : Expression) → slice_get p.items j ≡ Some (defines e)
       → LetStays (seen_by_main erased_lets) r IsLet j e
-  item_in_main i j e h =
-      let q = (seen_by_item-let p.items i j e h).0 in
-      let w = let_place r p.items zero j e q in
-      stays_in (seen_by_main erased_lets) j e (length erased_lets) q w (λ z. let-seen_by_main erased_lets w.place _ z)
-
-  main_in_main : (j : ℕ) (e : Expression) → slice_get (seen_by_main p.items) j ≡ Some (let_item e)
-      → LetStays (seen_by_main erased_lets) r IsLet j e
-  main_in_main j e h =
-      let q = seen_by_main-let p.items j e h in
-      let w = let_place r p.items zero j e q in
-      stays_in (seen_by_main erased_lets) j e (length erased_lets) q w (λ z. let-seen_by_main erased_lets w.place _ z)
+  let_in_main j e h =
+      let w = let_place r p.items zero j e h in
+      stays_in (seen_by_main erased_lets) j e (length erased_lets) h w (λ z. let-seen_by_main erased_lets w.place _ z)
 
   no_kernel_in_main : (i : ℕ) (t : KernelType) → IsLet i → slice_get (seen_by_main p.items) i ≡ Some (kernel_item t) → ⊥
   no_kernel_in_main i t h q = let w = seen_by_main-kernel p.items i t q in let x = h.1 in let y = w.1 in cc
-
-  no_kernel_in_item : (j i : ℕ) (t : KernelType) → IsLet i → slice_get (seen_by_item p.items j) i ≡ Some (kernel_item t)
-      → ⊥
-  no_kernel_in_item j i t h q = no_kernel p.items j i t q
 
   -- a kernel's definition, inside any lets
   pub kernel_typed : (i : ℕ) (k : KernelType) (e : Expression) (g : List Entry) → slice_get p.items i
@@ -249,7 +209,8 @@ module _ (p : PureProgram) (source : IsSourceProgram p) (typable : Typable p) wh
       let s = kernel_source_at p.items i k e source.items h in
       subst (λ t. Typed (seen_by_main erased_lets) g live (term_of (renamed r zero (plain e))) t)
       (plain_type-kernel_type k)
-      (erased_typed (seen_by_item p.items i) (seen_by_main erased_lets) r IsLet (item_in_main i) (no_kernel_in_item i) g
+      (erased_typed (seen_by_item p.items i) (seen_by_main erased_lets) r IsLet
+      (λ j e h. let_in_main j e (seen_by_item-let p.items i j e h).0) (λ j t h q. no_kernel p.items i j t q) g
       IsLet (λ j t x q. absurd (no_kernel p.items i j t q)) s (item_names i e _ s d) d)
 
   inside_typed : (items : List Definition) (g : List Entry) (b : PlainTerm) (t : TermType)
@@ -269,7 +230,8 @@ module _ (p : PureProgram) (source : IsSourceProgram p) (typable : Typable p) wh
       inside_typed p.items [] (renamed r zero (plain p.body)) (ground_type p.result) kernel_typed
       (subst (λ t. Typed (seen_by_main erased_lets) (entries p.items []) live (term_of (renamed r zero (plain p.body)))
       t) (plain_type-ground_type p.result)
-      (erased_typed (seen_by_main p.items) (seen_by_main erased_lets) r IsLet main_in_main no_kernel_in_main
+      (erased_typed (seen_by_main p.items) (seen_by_main erased_lets) r IsLet
+      (λ j e h. let_in_main j e (seen_by_main-let p.items j e h)) no_kernel_in_main
       (entries p.items []) (λ i. Unit {0})
       (λ i t x q. let w = seen_by_main-kernel p.items i t q in kernel_stays p.items zero [] i t w.0 w.1) source.body
       (names_typed (λ i. Unit {0}) (λ i e q. tt) (λ i k q. tt) source.body typable.body) typable.body))
@@ -297,7 +259,7 @@ module _ (p : PureProgram) (source : IsSourceProgram p) (typable : Typable p) wh
 
       y : Typed (seen_by_item erased_lets j) [] live (term_of (renamed r zero (plain o.definition))) (plain_type x.1)
       y = erased_typed (seen_by_item p.items o.place) (seen_by_item erased_lets j) r IsLet in_item
-          (no_kernel_in_item o.place) [] IsLet (λ i t q h. absurd (no_kernel p.items o.place i t h)) s
+          (λ i t h q. no_kernel p.items o.place i t q) [] IsLet (λ i t q h. absurd (no_kernel p.items o.place i t h)) s
           (item_names o.place o.definition x.1 s x.2) x.2
 
 pub erased_program_is_typable : ErasedProgramIsTypable

@@ -6,7 +6,7 @@ use Rattle.mw_term.specs.Terms.{Expression, KernelType, GroundType, base, produc
 use Rattle.mw_term.specs.declared.term.Base.{Base}
 use Rattle.mw_term.specs.declared.term.Base.TheVariants.{Int, Bool as Truth}
 use Rattle.mw_term.specs.declared.term.Primitive.{Primitive as Prim}
-use Rattle.mw_term.specs.declared.term.Primitive.TheVariants.{Add, Sub, Mul, Div, Mod, Eq, Lt, Le}
+use Rattle.mw_term.specs.declared.term.Primitive.TheVariants.{Add}
 use Rattle.mw_term.specs.Types.{TermType, int_type, bool_type, pair_type, function_type, code_type, closed_type, Level}
 use Rattle.mw_term.specs.Types.{live, under, Entry, value, quoted, entry, IsPlain, base_type, ground_type, kernel_type}
 use Rattle.mw_term.specs.Types.{primitive_type}
@@ -59,13 +59,7 @@ plain_type-kernel_type (to s t) = rw (plain_type-ground_type s, plain_type-groun
 
 plain_type-primitive_type : (p : Prim) → plain_type (primitive_type p) ≡ primitive_type p
 plain_type-primitive_type Add = refl
-plain_type-primitive_type Sub = refl
-plain_type-primitive_type Mul = refl
-plain_type-primitive_type Div = refl
-plain_type-primitive_type Mod = refl
-plain_type-primitive_type Eq = refl
-plain_type-primitive_type Lt = refl
-plain_type-primitive_type Le = refl
+plain_type-primitive_type _ = refl
 
 plain_entry-entry : (m : Level) (t : TermType) → plain_entry (entry m t) ≡ value (plain_type t)
 plain_entry-entry live t = refl

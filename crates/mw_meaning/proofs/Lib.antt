@@ -3,8 +3,10 @@ pub mod KernelFixedPoint
 pub mod StagedFixedPoint
 pub mod Outsides
 pub mod Inductions
+pub mod PlainInduction
 pub mod Refinement
 pub mod Safe
+pub mod PrimitiveTypes
 pub mod TypePreservation
 pub mod KernelTyping
 pub mod SettingValues

@@ -8,8 +8,7 @@ use Rattle.std.proofs.lemmas.Option.{slice_get_read}
 use Rattle.mw_term.specs.Terms.{Expression, GroundType, size}
 use Rattle.mw_term.specs.Programs.{Definition, definition_of, value as defines, kernel, PureProgram, definition_size}
 use Rattle.mw_term.specs.Programs.{definitions_size, program_size}
-use Rattle.mw_meaning.specs.PlainTerms.{PlainTerm, num, truth, var, glob, fun, fix, app, bind, cond, pair, fst, snd}
-use Rattle.mw_meaning.specs.PlainTerms.{prim}
+use Rattle.mw_meaning.specs.PlainTerms.{PlainTerm}
 use Rattle.mw_meaning.specs.Erasure.{plain, term_of}
 use Rattle.mw_meaning.specs.ErasedPrograms.{renamed, name_in, lets_of, inside_lets, erased_program, kernels_in}
 use Rattle.mw_meaning.specs.ErasedPrograms.{AllNames, HasBoundItems, HasBoundNames}
@@ -18,6 +17,8 @@ use Rattle.mw_meaning.specs.declared.erasing.NewName.TheVariants.{Let, Kernel}
 use Rattle.mw_meaning.specs.NewNames.{new_name, naming_of, new_names, inside_terms, most_behind, HasRoom, HaveRoom}
 use Rattle.mw_meaning.specs.NewNames.{definitions}
 use Rattle.mw_meaning.proofs.StagedFixedPoint.{size_positive}
+use Rattle.mw_meaning.proofs.NameReplacement.{renamed-alike}
+use Rattle.mw_meaning.proofs.PlainInduction.{by_parts}
 use Rattle.mw_meaning.specs.declared.erasing.NewName.{NewName}
 
 abbrev pub program_with : List Definition → GroundType → Expression → PureProgram
@@ -29,20 +30,9 @@ if_ok (Err e) f h = tt
 
 -- where no name is renamed
 pub renamed-none : (names : List NewName) → names ≡ [] → (x : PlainTerm) (d : ℕ) → renamed (naming_of names) d x ≡ x
-renamed-none names q (num n) d = refl
-renamed-none names q (truth b) d = refl
-renamed-none names q (var i) d = refl
-renamed-none names q (glob i) d = ap (λ l. naming_of l d i) q
-renamed-none names q (fun e) d = ap fun (renamed-none names q e (suc d))
-renamed-none names q (fix e) d = ap fix (renamed-none names q e (suc (suc d)))
-renamed-none names q (app f x) d = rw (renamed-none names q f d, renamed-none names q x d) refl
-renamed-none names q (bind x e) d = rw (renamed-none names q x d, renamed-none names q e (suc d)) refl
-renamed-none names q (cond x y z) d = rw (renamed-none names q x d, renamed-none names q y d, renamed-none names q z d)
-    refl
-renamed-none names q (pair x y) d = rw (renamed-none names q x d, renamed-none names q y d) refl
-renamed-none names q (fst e) d = ap fst (renamed-none names q e d)
-renamed-none names q (snd e) d = ap snd (renamed-none names q e d)
-renamed-none names q (prim p x y) d = rw (renamed-none names q x d, renamed-none names q y d) refl
+renamed-none names q x d =
+    by_parts ℕ suc (λ d x. renamed (naming_of names) d x ≡ x) (search) (λ d i. refl)
+    (λ d i. ap (λ l. naming_of l d i) q) d x
 
 -- a name that is there has the same place in a longer list
 there : (names : List NewName) (d i n : ℕ) → i < length names → new_name (slice_get names i) d n
@@ -71,21 +61,8 @@ naming_of-new_names (kernel k e ∷ items) l d (suc i) lt = there (new_names ite
 -- so terms that name items alone are renamed alike
 pub renamed-new_names : (items : List Definition) (x : PlainTerm) (d : ℕ) → AllNames (λ i. i < length items) x
     → renamed (naming_of (new_names items zero)) d x ≡ renamed (name_in items zero) d x
-renamed-new_names items (num n) d h = refl
-renamed-new_names items (truth b) d h = refl
-renamed-new_names items (var i) d h = refl
-renamed-new_names items (glob i) d h = naming_of-new_names items zero d i h
-renamed-new_names items (fun e) d h = ap fun (renamed-new_names items e (suc d) h)
-renamed-new_names items (fix e) d h = ap fix (renamed-new_names items e (suc (suc d)) h)
-renamed-new_names items (app f x) d h = rw (renamed-new_names items f d h.0, renamed-new_names items x d h.1) refl
-renamed-new_names items (bind x e) d h = rw (renamed-new_names items x d h.0, renamed-new_names items e (suc d) h.1)
-    refl
-renamed-new_names items (cond x y z) d h =
-    rw (renamed-new_names items x d h.0, renamed-new_names items y d h.1, renamed-new_names items z d h.2) refl
-renamed-new_names items (pair x y) d h = rw (renamed-new_names items x d h.0, renamed-new_names items y d h.1) refl
-renamed-new_names items (fst e) d h = ap fst (renamed-new_names items e d h)
-renamed-new_names items (snd e) d h = ap snd (renamed-new_names items e d h)
-renamed-new_names items (prim p x y) d h = rw (renamed-new_names items x d h.0, renamed-new_names items y d h.1) refl
+renamed-new_names items x d h =
+    renamed-alike (λ i. i < length items) _ _ (λ d i q. naming_of-new_names items zero d i q) x d h
 
 lets_same : (all items : List Definition) → HasBoundItems (length all) items → lets_of (naming_of (new_names all zero))
     items ≡ lets_of (name_in all zero) items
@@ -120,11 +97,9 @@ at_place names i x h = slice_get_read names (length names) i x.now refl h.3.0 h.
 
 -- a kernel's name has room for its variable
 kernel_most : (names : List NewName) (i n : ℕ) → slice_get names i ≡ Some (Kernel n) → n ≤ most_behind names
-kernel_most [] i n h = absurd (cc)
-kernel_most (Let l ∷ names) zero n h = absurd (cc)
 kernel_most (Kernel m ∷ names) zero n h = let p : m ≡ n = cc in omega arith
-kernel_most (Let l ∷ names) (suc i) n h = kernel_most names i n h
-kernel_most (Kernel m ∷ names) (suc i) n h = let p = kernel_most names i n h in omega arith
+kernel_most (_ ∷ names) (suc i) n h = let p = kernel_most names i n h in omega arith
+kernel_most _ i n h = absurd (cc)
 
 pub kernel_room : (names : List NewName) (i d n : ℕ) → slice_get names i ≡ Some (Kernel n) → HasRoom names d 1
     → d + n < 2 ^ 32

@@ -2,27 +2,16 @@
 use Rattle.std.proofs.Common.{ℕ, zero, ℤ, List, [], ◌∷◌}
 use Rattle.mw_term.specs.EachNode.{NodeRule, EachNode}
 use Rattle.mw_term.specs.Programs.{Definition, value as defines, kernel}
-use Rattle.mw_meaning.specs.PlainTerms.{PlainTerm, num, truth, var, glob, fun, fix, app, bind, cond, pair, fst, snd}
-use Rattle.mw_meaning.specs.PlainTerms.{prim}
+use Rattle.mw_meaning.specs.PlainTerms.{PlainTerm}
 use Rattle.mw_meaning.specs.Erasure.{plain, term_of}
 use Rattle.mw_meaning.specs.ErasedPrograms.{Naming, renamed, name_in, lets_of, inside_lets, plain_rule, HasNoStaging}
 use Rattle.mw_meaning.specs.ErasureLaws.{AreWithoutStaging, ErasedProgramHasNoStaging}
+use Rattle.mw_meaning.proofs.PlainInduction.{by_parts}
 
 pub each-plain : (r : NodeRule) → ((n : ℤ) → r.integer n) → ((i : ℕ) → r.name i) → (x : PlainTerm)
     → EachNode r (term_of x)
-each-plain r f g (num n) = f n
-each-plain r f g (truth b) = tt
-each-plain r f g (var i) = tt
-each-plain r f g (glob i) = g i
-each-plain r f g (fun e) = each-plain r f g e
-each-plain r f g (fix e) = each-plain r f g e
-each-plain r f g (app t a) = (each-plain r f g t, each-plain r f g a)
-each-plain r f g (bind d e) = (each-plain r f g d, each-plain r f g e)
-each-plain r f g (cond c a b) = (each-plain r f g c, each-plain r f g a, each-plain r f g b)
-each-plain r f g (pair a b) = (each-plain r f g a, each-plain r f g b)
-each-plain r f g (fst e) = each-plain r f g e
-each-plain r f g (snd e) = each-plain r f g e
-each-plain r f g (prim p a b) = (each-plain r f g a, each-plain r f g b)
+each-plain r f g x =
+    by_parts (Unit {0}) (λ c. c) (λ c x. EachNode r (term_of x)) (search f) (λ c i. tt) (λ c i. g i) tt x
 
 no_staging : (x : PlainTerm) → HasNoStaging (term_of x)
 no_staging x = each-plain plain_rule (λ n. tt) (λ i. tt) x

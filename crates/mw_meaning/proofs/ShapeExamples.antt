@@ -10,8 +10,7 @@ use Rattle.mw_wasm.specs.ExampleModules.{example_a, example_b}
 use Rattle.mw_meaning.specs.Shapes.{HasShape, IsWordOf, IsWordOfKernel, IsStray, IsStrayEnd, in_init}
 use Rattle.mw_meaning.specs.ShapeExamples.{truth_kernel, pair_kernel, init_answers, ExamplesHaveTheirShapes}
 use Rattle.mw_meaning.specs.ShapeExamples.{AnswersHaveTheirShape, NoIntegerIsStray, TwoIsStrayForTruth}
-use Rattle.mw_meaning.specs.ShapeExamples.{MinusOneIsStrayForPairs}
-use Rattle.mw_meaning.specs.ShapeExamples.{writes_byte, ByteFitsUpToTheEnd}
+use Rattle.mw_meaning.specs.ShapeExamples.{MinusOneIsStrayForPairs, writes_byte, ByteFitsUpToTheEnd}
 use Rattle.mw_meaning.specs.Examples.{int_kernel}
 
 empty : Store

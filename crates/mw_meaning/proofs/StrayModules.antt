@@ -2,10 +2,10 @@
 use Rattle.std.proofs.Common.{◌≡◌, ℕ, inl, inr, true, false, List, [], ◌∷◌, Some, Ok, refl, subst, arith, length-append}
 use Rattle.std.specs.Prelude.{codes}
 use Rattle.mw_term.specs.Terms.{Expression, KernelValue, GroundType, KernelType, base, product, of_ground, to}
-use Rattle.mw_term.specs.Terms.{int, bool, both, function, recursive}
+use Rattle.mw_term.specs.Terms.{int, bool, both}
 use Rattle.mw_term.specs.declared.term.Base.TheVariants.{Int, Bool as Truth}
 use Rattle.mw_term.specs.declared.value.TrapKind.TheVariants as kind
-use Rattle.mw_term.specs.declared.value.Limit.TheVariants.{Fuel, Heap, KernelSize}
+use Rattle.mw_term.specs.declared.value.Limit.TheVariants.{Fuel, Heap}
 use Rattle.mw_term.specs.Types.{ground_type, kernel_type}
 use Rattle.mw_term.specs.Unlabelled.{unlabelled_value, IsClosedKernelValue}
 use Rattle.mw_term.specs.Typing.{Valued, v_pair}
@@ -16,7 +16,7 @@ use Rattle.mw_wasm.specs.Syntax.{PureModule}
 use Rattle.mw_wasm.specs.Store.{Memory, Store}
 use Rattle.mw_wasm.specs.Execution.{End, ended, trapped, spent}
 use Rattle.mw_wasm.specs.Instances.{exported, instantiated, invoked}
-use Rattle.mw_meaning.specs.Arithmetic.{trap, bound, stuck}
+use Rattle.mw_meaning.specs.Arithmetic.{trap, bound}
 use Rattle.mw_meaning.specs.KernelMeaning.{Ended, gives, stops, kernel_meaning}
 use Rattle.mw_meaning.specs.StagedMeaning.{kernel_argument, argument_words, call_of}
 use Rattle.mw_meaning.specs.TypingLaws.{IfMakes}
@@ -34,15 +34,8 @@ pub word_of : (t : GroundType) (v : KernelValue) (n : ℕ) (memory : Memory) →
 word_of (base Int) v n memory h w = tt
 word_of (base Truth) (bool true) n memory h w = inr w
 word_of (base Truth) (bool false) n memory h w = inl w
-word_of (base Truth) (int z) n memory h w = elim h [ ]
-word_of (base Truth) (both u v) n memory h w = elim h [ ]
-word_of (base Truth) (function e) n memory h w = elim h [ ]
-word_of (base Truth) (recursive e) n memory h w = elim h [ ]
 word_of (product s t) (both u v) n memory (v_pair x y) w = (w.0, word_of s u _ memory x w.1, word_of t v _ memory y w.2)
-word_of (product s t) (int z) n memory h w = elim h [ ]
-word_of (product s t) (bool b) n memory h w = elim h [ ]
-word_of (product s t) (function e) n memory h w = elim h [ ]
-word_of (product s t) (recursive e) n memory h w = elim h [ ]
+word_of _ _ n memory h w = elim h [ ]
 
 word_of_kernel : (k : KernelType) (v : KernelValue) (n : ℕ) (memory : Memory) → Valued [] [] (unlabelled_value v)
     (kernel_type k) → IsWord v n memory → IsWordOfKernel k n memory
@@ -84,11 +77,8 @@ after_no_stray : (m : PureModule) (s t : GroundType) (g r n left : ℕ) (calls :
 after_no_stray m s t g r n left calls st (gives f units words) safe a after h x =
     calls_no_stray m s t f words safe.is.1.0 safe.is.1.1 g r calls st h after x
 after_no_stray m s t g r n left calls st (stops (trap kind.Divide)) safe a after h x = a
-after_no_stray m s t g r n left calls st (stops (trap kind.Overflow)) safe a after h x = a
 after_no_stray m s t g r n left calls st (stops (bound Fuel)) safe a after h x = a
-after_no_stray m s t g r n left calls st (stops (bound Heap)) safe a after h x = a
-after_no_stray m s t g r n left calls st (stops (bound KernelSize)) safe a after h x = a
-after_no_stray m s t g r n left calls st (stops stuck) safe a after h x = a
+after_no_stray m s t g r n left calls st _ safe a after h x = a
 
 pub kernel_safe : (c : Expression) (k : KernelType) (n : ℕ) → HasKernelType c k
     → KernelSafe n (Has [] [] none (kernel_type k)) (kernel_meaning n 0 c)
