@@ -95,9 +95,6 @@ pub never_unsolvable : (n m : ℕ) (es : List TypeEquation) (s : State) → Stat
     → Solvable es → ⊥
 never_unsolvable n m es s h k x = let y = h.more x.0 x.1 in k y.0 y.2 tt
 
-pub never_after : (s t : State) → Step s t (λ a. Unit {0}) → Never t (λ a. Unit {0}) → Never s (λ a. Unit {0})
-never_after s t p k a h x = k a (p.back a h tt) tt
-
 -- what follows a step that says nothing more
 pub stated_after : {n m : ℕ} {es : List TypeEquation} {s t : State} → Stated n m es s → Step s t (λ a. Unit {0})
     → Stated n m es t
