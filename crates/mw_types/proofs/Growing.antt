@@ -28,6 +28,15 @@ get_last [] y d (suc i) e = absurd (omega arith)
 get_last (x ∷ xs) y d zero e = absurd (omega arith)
 get_last (x ∷ xs) y d (suc i) e = get_last xs y d i (omega arith)
 
+-- what holds of each element, with one more
+pub each_more : {A : Type 0} (P : ℕ → A → Type 0) (xs : List A) (y d : A) (n : ℕ) → length xs ≡ n
+    → ((i : ℕ) → i < n → P i (slice_index_or xs i d)) → P n y → (i : ℕ) → i < n + 1
+    → P i (slice_index_or (xs ++ y ∷ []) i d)
+each_more P xs y d n e f p i lt = elim (is i n) [
+  | same q ↦ rw (get_last xs y d i (q ∙ sym e), q) p
+  | other o ↦ rw (get_left xs y d i (omega arith)) (f i (omega arith))
+]
+
 -- assignments that are one: on fewer unknowns, and one after another
 pub agree_less : {k l n m : ℕ} {a b : Assignment} → n ≤ k → m ≤ l → Agree k l a b → Agree n m a b
 agree_less p q h =
@@ -113,10 +122,8 @@ node_means : (s t : State) (h : Shape) → Sound s
     → t.classifier.items ≡ s.classifier.items → t.waiting.items ≡ s.waiting.items
     → (a : Assignment) → Means s a → Meets h (a.ty (length s.parent.items)) a → Means t a
 node_means s t h p e f g w a k m = record {
-  types = rw e (λ i lt. elim (is i n) [
-    | same q ↦ rw (get_last s.parent.items n 0 i q, q) refl
-    | other o ↦ rw (get_left s.parent.items n 0 i (omega (arith, len))) (k.types i (omega (arith, len)))
-  ]);
+  types = rw e (λ i lt. each_more (λ j x. a.ty j ≡ a.ty x) s.parent.items n 0 n refl k.types refl i
+      (omega (arith, len)));
   classifiers = rw g k.classifiers;
   shapes = rw f (λ i. elim (in_or_out s.shape.items i) [
     | inl lt ↦ rw (get_left s.shape.items h Free i lt) (k.shapes i)
@@ -164,10 +171,7 @@ node_grew s t h p ins e f g w = record {
     shape_len = length-append s.shape.items (h ∷ [])
 
     low : Low (s.parent.items ++ n ∷ [])
-    low i lt = elim (is i n) [
-      | same q ↦ rw (get_last s.parent.items n 0 i q) (omega arith)
-      | other o ↦ rw (get_left s.parent.items n 0 i (omega (arith, len))) (p.low i (omega (arith, len)))
-    ]
+    low i lt = each_more (λ j x. x ≤ j) s.parent.items n 0 n refl p.low (omega arith) i (omega (arith, len))
 
     bare : (i : ℕ) → i < length (s.parent.items ++ n ∷ []) → slice_index_or (s.parent.items ++ n ∷ []) i 0 ≢ i
         → slice_index_or (s.shape.items ++ h ∷ []) i Free ≡ Free

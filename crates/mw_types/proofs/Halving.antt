@@ -15,8 +15,7 @@ use Rattle.mw_types.specs.declared.types.Equation.{Equation}
 use Rattle.mw_types.specs.declared.judging.Judgement.{Judgement}
 use Rattle.mw_types.specs.declared.judging.Verdict.{Verdict}
 use Rattle.mw_types.specs.declared.judging.Verdict.TheVariants.{Fine, Clash, Cycle, TooBig}
-use Rattle.mw_types.proofs.Lists.{same, other, is}
-use Rattle.mw_types.proofs.Growing.{get_left, get_last}
+use Rattle.mw_types.proofs.Growing.{each_more}
 use Rattle.mw_types.proofs.Smallest.{least, small_take}
 use Rattle.std.proofs.lemmas.List.{length-replicate}
 use Rattle.mw_types.proofs.Verdicts.{blank_stated}
@@ -141,10 +140,7 @@ all_free (suc n) k hs f g = let e : suc n - k ≡ suc n = omega arith in rw e at
 pub one_alone : (n : ℕ) (ps qs : List ℕ) → qs ≡ ps ++ n ∷ [] → AreAlone n ps → AreAlone (n + 1) qs
 one_alone n ps qs e a = rw e (record {
   long = omega (arith, length-append ps (n ∷ []), a.long);
-  own = λ i lt. elim (is i n) [
-    | same q ↦ get_last ps n 0 i (q ∙ sym a.long) ∙ sym q
-    | other o ↦ get_left ps n 0 i (omega (arith, a.long)) ∙ a.own i (omega arith)
-  ];
+  own = each_more (λ i x. x ≡ i) ps n 0 n a.long a.own refl;
 })
 
 -- a state in which each class is of one node or classifier unknown and has no shape

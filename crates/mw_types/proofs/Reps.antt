@@ -73,7 +73,8 @@ module _ (s : State) (sizes : List ℕ) (sound : Sound s) (empty : s.waiting.ite
   settled = record { each = λ i lt. at_stands i (in_or_out s.parent.items i) lt; names = named }
 
   pub answer_sound : (b : Assignment) → Means s (after b answer)
-  answer_sound b = subst (λ ws. Satisfies s.parent.items s.shape.items s.classifier.items ws (after b answer)) (sym empty)
+  answer_sound b = subst (λ ws. Satisfies s.parent.items s.shape.items s.classifier.items ws (after b answer))
+      (sym empty)
       (settled_sound s.parent.items s.shape.items s.classifier.items answer sound.low sound.lengths sound.bare
       sound.inside settled b)
 

@@ -6,7 +6,8 @@ use Rattle.std.specs.Prelude.{slice_index_or, slice_set, IfOk, Result, Ok, Err}
 use Rattle.mw_term.specs.Types.{pair_type, function_type, code_type, closed_type}
 use Rattle.mw_types.specs.Types.{Assignment}
 use Rattle.mw_types.specs.Forest.{Low, Joins}
-use Rattle.mw_types.specs.Satisfying.{Meets, Waits, joined, Means, Meeting, kept, Extra, ExtraInside, Inside, WaitsInside}
+use Rattle.mw_types.specs.Satisfying.{Meets, Waits, joined, Means, Meeting, kept, Extra, ExtraInside, Inside}
+use Rattle.mw_types.specs.Satisfying.{WaitsInside}
 use Rattle.mw_types.specs.Satisfying.{Sound, Step, Linked, Never}
 use Rattle.mw_types.specs.declared.state.Shape.{Shape}
 use Rattle.mw_types.specs.declared.state.Shape.TheVariants.{Free, Pair, Arrow, Code, Closed}
@@ -101,7 +102,8 @@ module _ (s t : State) (w : Pending) (e : t.parent.items ≡ s.parent.items) (f 
     (g : t.classifier.items ≡ s.classifier.items) (h : t.waiting.items ≡ s.waiting.items ++ w ∷ []) where
   waits_out : (a : Assignment) → Means t a → Means s a × (a.ty w.left ≡ a.ty w.right)
   waits_out a k = let q = waits_more s.waiting.items w a (rw h at k.waits) in
-      (record { types = rw e at k.types; classifiers = rw g at k.classifiers; shapes = rw f at k.shapes; waits = q.0 }, q.1)
+      (record { types = rw e at k.types; classifiers = rw g at k.classifiers; shapes = rw f at k.shapes; waits = q.0 },
+          q.1)
 
   waits_back : (a : Assignment) → Means s a → a.ty w.left ≡ a.ty w.right → Means t a
   waits_back a k x = rw (e, f, g, h) (record {

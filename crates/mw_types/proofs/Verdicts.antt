@@ -69,8 +69,8 @@ one_stated n m es e s t u v l r wl wr h p q k f = record {
       let w = q.more y.0 y.2 in
       let b = w.0 in
       let ag : Agree n m a b = agree_then x.1
-          (agree_then (agree_less h.long (omega (arith, h.classifier_count)) y.1)
-          (agree_less (omega (arith, h.long, p.long)) (omega (arith, h.classifier_count, p.classifier_count)) w.1)) in
+      (agree_then (agree_less h.long (omega (arith, h.classifier_count)) y.1)
+      (agree_less (omega (arith, h.long, p.long)) (omega (arith, h.classifier_count, p.classifier_count)) w.1)) in
       let yb = q.out b w.2 in
       let xb = p.out b yb.0 in
       (b, ag, k.back b w.2 (xb.1 ∙ sym (value_agree ag e.left wl) ∙ d.1 ∙ value_agree ag e.right wr ∙ sym yb.1));

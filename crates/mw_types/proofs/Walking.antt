@@ -220,7 +220,8 @@ go_down s marks path y w lt r above = record {
 }
 
 -- a class that was met isn't new
-pub is_met : (marks : List Mark) (x : ℕ) (d : Mark) {m : Mark} → m ≢ New → x < length marks → d ≡ slice_index_or marks x d
+pub is_met : (marks : List Mark) (x : ℕ) (d : Mark) {m : Mark} → m ≢ New → x < length marks
+    → d ≡ slice_index_or marks x d
     → d ≡ m → slice_index_or marks x New ≢ New
 is_met marks x d n lt e f g = n (sym f ∙ e ∙ get_or_default marks x d New lt ∙ g)
 
