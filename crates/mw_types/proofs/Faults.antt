@@ -173,3 +173,5 @@ pub solved_only : (n m : ℕ) (es : List TypeEquation) (f : SolveFault) → Firs
 solved_only n m es (Unsolvable j) h g = (one_fault n m es).fine_unsolvable j g h
 solved_only n m es (TooBigFront j) h g = (one_fault n m es).fine_too_big j g h
 solved_only n m es (Memory e) h g = tt
+
+pub ruleset laws = (most_general_of, are_instances, same_nodes, one_fault, fine_or_faulty)
