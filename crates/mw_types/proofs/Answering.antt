@@ -72,24 +72,20 @@ parts s names room (Pair l m) p a h =
     let z = shape_inside s p a in
     let v = inv s names a h.1 in
     let n : nodes h.0 ≡ nodes v.0 + nodes v.1 + 1 = ap nodes v.2 in
-    let k = h.2 in
     (omega arith, ((z.0, (v.0, v.3, omega arith)), (z.1, (v.1, v.4, omega arith))))
 parts s names room (Arrow l m) p a h =
     let z = shape_inside s p a in
     let v = inv s names a h.1 in
     let n : nodes h.0 ≡ nodes v.0 + nodes v.1 + 1 = ap nodes v.2 in
-    let k = h.2 in
     (omega arith, ((z.0, (v.0, v.3, omega arith)), (z.1, (v.1, v.4, omega arith))))
 parts s names room (Code c m) p a h =
     let z = shape_inside s p a in
     let v = inv s names a h.1 in
     let n : nodes h.0 ≡ nodes v.0 + 1 = ap nodes v.1 in
-    let k = h.2 in
     (omega arith, (z.0, (z.1, (v.0, v.2, omega arith))))
 parts s names room (Closed m) p a h =
     let v = inv s names a h.1 in
     let n : nodes h.0 ≡ nodes v.0 + 1 = ap nodes v.1 in
-    let k = h.2 in
     (omega arith, (shape_inside s p a, (v.0, v.2, omega arith)))
 parts s names {i = i} room f p a h = (has_node s names i room h, tt)
 

@@ -40,10 +40,6 @@ front_judged : (n : ℕ) (xs : List Equation) (front : Judgement) → JudgesFron
     → Judges n (take front.end (equations_of xs)) front.verdict
 front_judged n xs front j = subst (λ es. Judges n es front.verdict) (eqs_take xs front.end) j
 
-front_small : (n : ℕ) (xs : List Equation) (k : ℕ) (v : Verdict) → v ≡ Fine → Judges n (take k (equations_of xs)) v
-    → Small n (take k (equations_of xs))
-front_small n xs k v e j = subst (λ x. Judges n (take k (equations_of xs)) x) e j
-
 pub halved_start : (n : ℕ) (xs : List Equation) (front : Judgement) → JudgesFront n xs front → front.verdict ≢ Fine
     → Halved n (equations_of xs) 0 front.end front.verdict
 halved_start n xs front j f =
@@ -52,12 +48,8 @@ halved_start n xs front j f =
 pub halved_low : (n : ℕ) (xs : List Equation) (low high k : ℕ) (v : Verdict) (front : Judgement)
     → Halved n (equations_of xs) low high v → JudgesFront n xs front → front.verdict ≡ Fine → front.end ≡ k
     → Halved n (equations_of xs) k high v
-halved_low n xs low high k v front h j f e = record {
-  small = subst (λ i. Small n (take i (equations_of xs))) e
-      (front_small n xs front.end front.verdict f (front_judged n xs front j));
-  judged = h.judged;
-  faulty = h.faulty;
-}
+halved_low n xs low high k v front h j f e =
+    record { small = rw (← e) (rw f at (front_judged n xs front j)); judged = h.judged; faulty = h.faulty }
 
 pub halved_high : (n : ℕ) (xs : List Equation) (low high : ℕ) (v : Verdict) (front : Judgement)
     → Halved n (equations_of xs) low high v → JudgesFront n xs front → front.verdict ≢ Fine
@@ -92,41 +84,29 @@ copy_stated c h = record {
 
 pub copy_front : {n m k : ℕ} {xs : List Equation} {s t : State} → IsCopy s t → StatesFront n m xs k s
     → StatesFront n (length t.classifier.items) xs k t
-copy_front {n = n} {m = m} {k = k} {xs = xs} {s = s} {t = t} c h =
-    let e : length t.classifier.items ≡ m = ap length c.classifier ∙ h.stated.classifier_count in
-    subst (λ i. StatesFront n i xs k t) (sym e)
+copy_front c h = rw (ap length c.classifier ∙ h.stated.classifier_count)
     (record { stated = copy_stated c h.stated; settled = c.waiting ∙ h.settled })
 
 pub ready_front : (n m l k : ℕ) (xs : List Equation) (t : State) → l ≡ m → Ready n l (equations_of (take k xs)) t
     → StatesFront n m xs k t
-ready_front n m l k xs t e r = record {
-  stated = subst (λ i. Stated n i (equations_of (take k xs)) t) e r.stated;
-  settled = r.empty;
-}
+ready_front n m l k xs t e r = record { stated = rw e at r.stated; settled = r.empty }
 
 pub first_unsolvable : (n : ℕ) (xs : List Equation) (low high : ℕ) (v : Verdict) → Halved n (equations_of xs) low high v
     → high ≤ low + 1 → high ≤ length xs → (v ≡ Clash) ⊎ (v ≡ Cycle) → UnsolvableAt n (equations_of xs) high
 first_unsolvable n xs low high v h le lt e = record {
   within = omega (arith, eqs_length xs);
   shorter = λ j jl. small_take (equations_of xs) j low (omega arith) h.small;
-  fault = elim e [
-    | inl f ↦ subst (λ x. Judges n (take high (equations_of xs)) x) f h.judged
-    | inr f ↦ subst (λ x. Judges n (take high (equations_of xs)) x) f h.judged
-  ];
+  fault = elim e [ inl f ↦ rw f at h.judged | inr f ↦ rw f at h.judged ];
 }
 
 pub first_too_big : (n : ℕ) (xs : List Equation) (low high : ℕ) (v : Verdict) → Halved n (equations_of xs) low high v
     → high ≤ low + 1 → high ≤ length xs → v ≡ TooBig → TooBigAt n (equations_of xs) high
-first_too_big n xs low high v h le lt e =
-    let j : Judges n (take high (equations_of xs)) TooBig = subst (λ x. Judges n (take high (equations_of xs)) x) e
-    h.judged in
-    record {
-      within = omega (arith, eqs_length xs);
-      shorter = λ k jl. small_take (equations_of xs) k low (omega arith)
-          h.small;
-      solvable = j.0;
-      fault = j.1;
-    }
+first_too_big n xs low high v h le lt e = let j = rw e at h.judged in record {
+  within = omega (arith, eqs_length xs);
+  shorter = λ k jl. small_take (equations_of xs) k low (omega arith) h.small;
+  solvable = j.0;
+  fault = j.1;
+}
 
 free_at : (n i : ℕ) → slice_index_or (replicate n Free) i Free ≡ Free
 free_at zero i = refl

@@ -126,16 +126,13 @@ same : (d e : Assignment) {n m k l p q : ℕ} {s t : TypeExpression} → Alike s
 same d e ints i j an_int an_int h = record { types = refl; unknowns = refl; classifiers = refl; settled = h }
 same d e bools i j a_bool a_bool h = record { types = refl; unknowns = refl; classifiers = refl; settled = h }
 same d e (unknowns {u = u} {v = v}) i j (seen a) (seen b) h =
-    let x = h.types_of v b in
-    let y : u ≡ v = tag-one u v (i ∙ x) in
+    let y : u ≡ v = tag-one u v (i ∙ h.types_of v b) in
     record { types = rw y refl; unknowns = refl; classifiers = refl; settled = h }
 same d e (unknowns {u = u} {v = v}) i j (seen a) (next b) h =
-    let x = h.types_by u a in
-    let y : v ≡ u = tag-one v u (j ∙ x) in
+    let y : v ≡ u = tag-one v u (j ∙ h.types_by u a) in
     absurd (omega arith)
 same d e (unknowns {u = u} {v = v}) i j (next a) (seen b) h =
-    let x = h.types_of v b in
-    let y : u ≡ v = tag-one u v (i ∙ x) in
+    let y : u ≡ v = tag-one u v (i ∙ h.types_of v b) in
     absurd (omega arith)
 same d e {n = n} (unknowns {u = u} {v = v}) i j (next a) (next b) h =
     let x : d.ty n ≡ tag n = ap d.ty (sym b) ∙ sym i ∙ ap (λ w. tag w) a in

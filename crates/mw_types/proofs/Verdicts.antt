@@ -117,8 +117,7 @@ module _ (n m : ℕ) (es : List TypeEquation) (s t : State) (stated : Stated n m
   fine f = record {
     by = after least σ;
     solves = solves;
-    small = λ u lt. let p = counted u lt in let q = f u lt in
-        omega (arith, least_size (σ.ty u));
+    small = λ u lt. omega (arith, counted u lt, f u lt, least_size (σ.ty u));
   }
 
   pub ready : ((u : ℕ) → u < n → slice_index_or sizes u 0 ≤ 10000) → Ready n m es t
@@ -135,9 +134,7 @@ module _ (n m : ℕ) (es : List TypeEquation) (s t : State) (stated : Stated n m
     (λ h. let x = stated.more h.by h.solves in
         let e : size (h.by.ty u) ≡ size (value x.0 (σ.ty u)) =
         ap size (x.1.types u lt ∙ general x.0 (step.back x.0 x.2 tt) u lt) in
-        let p = counted u lt in
-        let q = h.small u lt in
-        omega (arith, grows x.0 (σ.ty u))),
+        omega (arith, counted u lt, h.small u lt, grows x.0 (σ.ty u))),
   )
 
 pub take_one : (xs : List Equation) (i : ℕ) (x : Equation) → slice_get xs i ≡ Some x → equations_of (take (i + 1) xs)
