@@ -1,6 +1,6 @@
 -- From what nodes stand for to the answer.
 use Rattle.std.proofs.Common.{length-append, ◌≡◌, inl, inr, ℕ, zero, suc, ◌+◌, ◌-◌, ◌≤◌, ◌<◌, map, List, [], ◌∷◌, ◌++◌}
-use Rattle.std.proofs.Common.{length, refl, ap, sym, subst, ◌∙◌, arith, ◌⊎◌}
+use Rattle.std.proofs.Common.{length, refl, ap, sym, subst, ◌∙◌, arith}
 use Rattle.std.proofs.lemmas.List.{get_or_default}
 use Rattle.std.specs.Prelude.{slice_index_or, slice_get, Some, All}
 use Rattle.mw_types.specs.Types.{TypeExpression}
@@ -19,7 +19,7 @@ use Rattle.mw_types.specs.declared.state.Shape.TheVariants.{Pair, Arrow, Code, C
 use Rattle.mw_types.specs.declared.state.State.{State}
 use Rattle.mw_types.specs.declared.types.Ty.{Ty}
 use Rattle.mw_types.specs.declared.types.Ty.TheVariants.{Int as int_tree}
-use Rattle.mw_types.proofs.Lists.{same, other, is}
+use Rattle.mw_types.proofs.Lists.{same, other, is, lt_or_le}
 use Rattle.mw_types.proofs.Growing.{get_left, get_last, each_more, agree_less, agree_then}
 use Rattle.mw_types.proofs.Elimination.{nodes_some}
 use Rattle.std.proofs.lemmas.List.{length-map}
@@ -198,9 +198,6 @@ pub solves_agree : {n m : ℕ} {a b : Assignment} → Agree n m a b → (es : Li
 solves_agree k [] w h = tt
 solves_agree k (e ∷ es) w h =
     (sym (value_agree k e.left w.0.0) ∙ h.0 ∙ value_agree k e.right w.0.1, solves_agree k es w.1 h.1)
-
-lt_or_le : (i n : ℕ) → (i < n) ⊎ (n ≤ i)
-lt_or_le i n = grind arith
 
 -- a node's type names unknowns and representatives of classifier unknowns alone
 stands_within : (s : State) (names : List ℕ) (n m : ℕ) → Sound s → IsShaped n s.parent.items s.shape.items

@@ -14,7 +14,7 @@ use Rattle.mw_types.specs.declared.types.SolveFault.TheVariants.{Unsolvable, Too
 use Rattle.mw_types.proofs.Smallest.{same_sizes, small_of_most_general, most_general_small, too_big_not_small}
 use Rattle.mw_types.proofs.Smallest.{least, solves_take, small_take}
 use Rattle.std.proofs.Math.Seq.{take-length}
-use Rattle.mw_types.proofs.Lists.{same, other, is}
+use Rattle.mw_types.proofs.Lists.{same, other, is, lt_or_le}
 use Rattle.mw_types.proofs.Elimination.{most_general_of, most_general_or_none}
 
 -- either no type is too big, or some is
@@ -23,16 +23,13 @@ Large f n = (u : ℕ) × (u < n) × (10000 < f u)
 
 sizes : (f : ℕ → ℕ) (n : ℕ) → ((u : ℕ) → u < n → f u ≤ 10000) ⊎ Large f n
 sizes f zero = inl (λ u lt. absurd (omega arith))
-sizes f (suc n) = step f n (sizes f n) (le_or_lt (f n))
+sizes f (suc n) = step f n (sizes f n) (lt_or_le 10000 (f n))
   where
-    le_or_lt : (x : ℕ) → (x ≤ 10000) ⊎ (10000 < x)
-    le_or_lt x = grind arith
-
-    step : (f : ℕ → ℕ) (n : ℕ) → ((u : ℕ) → u < n → f u ≤ 10000) ⊎ Large f n → (f n ≤ 10000) ⊎ (10000 < f n)
+    step : (f : ℕ → ℕ) (n : ℕ) → ((u : ℕ) → u < n → f u ≤ 10000) ⊎ Large f n → (10000 < f n) ⊎ (f n ≤ 10000)
         → ((u : ℕ) → u < suc n → f u ≤ 10000) ⊎ Large f (suc n)
     step f n (inr x) d = inr (x.0, omega arith, x.2)
-    step f n (inl g) (inr lt) = inr (n, omega arith, lt)
-    step f n (inl g) (inl le) = inl (λ u lt. elim (is u n) [ same e ↦ rw e le | other k ↦ g u (omega arith) ])
+    step f n (inl g) (inl lt) = inr (n, omega arith, lt)
+    step f n (inl g) (inr le) = inl (λ u lt. elim (is u n) [ same e ↦ rw e le | other k ↦ g u (omega arith) ])
 
 pub fine_of_small : (n m : ℕ) (es : List TypeEquation) → AllWithin n m es → Small n es → Fine n m es
 fine_of_small n m es w h = let g = most_general_of n m es w (h.by, h.solves) in (g.0, g.1, most_general_small g.1 h)
@@ -105,7 +102,7 @@ one_fault n m es = record {
       (λ lt. g.unsolvable (solvable_of_fine (f.shorter k lt)));
   too_big = λ j k f g. first (λ lt. too_big_not_small f.too_big (small_of_fine (g.shorter j lt)))
       (λ lt. too_big_not_small g.too_big (small_of_fine (f.shorter k lt)));
-  apart = λ j k f g. elim (ordered j k) [
+  apart = λ j k f g. elim (lt_or_le k j) [
     | inl lt ↦ too_big_not_small g.too_big (small_of_fine (f.shorter k lt))
     | inr le ↦ unsolvable_stays es j k le f.unsolvable (solvable_of_most_general g.too_big.1)
   ];
@@ -115,9 +112,6 @@ one_fault n m es = record {
   where
     first : {j k : ℕ} → (j < k → ⊥) → (k < j → ⊥) → j ≡ k
     first p q = omega arith
-
-    ordered : (j k : ℕ) → (k < j) ⊎ (j ≤ k)
-    ordered j k = grind arith
 
 -- equations are fine, too big or without a solution
 front_verdict : (n m : ℕ) (es : List TypeEquation) → AllWithin n m es → Fine n m es

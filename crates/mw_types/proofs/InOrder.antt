@@ -5,13 +5,11 @@ use Rattle.mw_types.specs.Types.{TypeExpression, int_ty, bool_ty, unknown, pair_
 use Rattle.mw_types.specs.Types.{Assignment, value}
 use Rattle.mw_types.specs.Numbered.{IsNumbered, an_int, a_bool, seen, next, a_pair, a_function, code_seen, code_next}
 use Rattle.mw_types.specs.Numbered.{a_closed}
+use Rattle.mw_types.proofs.Smallest.{least}
 
 -- what an assignment of plain types makes of the first type, some assignment makes of the second
 abbrev pub Includes : TypeExpression → TypeExpression → Type 0
 Includes s t = (b : Assignment) → ((u : ℕ) → IsPlain (b.ty u)) → (d : Assignment) × (value b s ≡ value d t)
-
-abbrev least : Assignment
-least = record { ty = λ u. int_type; classifier = λ c. c }
 
 -- a plain type for each number, another for each, and none of them a word
 chain : ℕ → TermType

@@ -68,12 +68,8 @@ shorter_step s t from at p h f g w = record {
     record { types = ty; classifiers = rw g at k.classifiers; shapes = rw f at k.shapes; waits = rw w at k.waits },
     h.types_at a.ty ty,
   );
-  back = λ a k x. record {
-    types = h.types_to a.ty k.types;
-    classifiers = rw g k.classifiers;
-    shapes = rw f k.shapes;
-    waits = rw w k.waits;
-  };
+  back = λ a k x. let ty = h.types_to a.ty k.types in
+      rw (f, g, w) (record { types = ty; classifiers = k.classifiers; shapes = k.shapes; waits = k.waits });
 }
 
 pub found : (s t : State) (from at : ℕ) → Sound s → Shorter s.parent.items t.parent.items from at → t.shape.items

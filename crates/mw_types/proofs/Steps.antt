@@ -101,17 +101,14 @@ inside_more n (x ∷ ws) w h = let r = inside_more n ws w h.2 in ((h.0, h.1, r.0
 module _ (s t : State) (w : Pending) (e : t.parent.items ≡ s.parent.items) (f : t.shape.items ≡ s.shape.items)
     (g : t.classifier.items ≡ s.classifier.items) (h : t.waiting.items ≡ s.waiting.items ++ w ∷ []) where
   waits_out : (a : Assignment) → Means t a → Means s a × (a.ty w.left ≡ a.ty w.right)
-  waits_out a k = let q = waits_more s.waiting.items w a (rw h at k.waits) in
-      (record { types = rw e at k.types; classifiers = rw g at k.classifiers; shapes = rw f at k.shapes; waits = q.0 },
-          q.1)
+  waits_out a k = let q = waits_more s.waiting.items w a (rw h at k.waits) in (
+    record { types = rw e at k.types; classifiers = rw g at k.classifiers; shapes = rw f at k.shapes; waits = q.0 },
+    q.1,
+  )
 
   waits_back : (a : Assignment) → Means s a → a.ty w.left ≡ a.ty w.right → Means t a
-  waits_back a k x = rw (e, f, g, h) (record {
-    types = k.types;
-    classifiers = k.classifiers;
-    shapes = k.shapes;
-    waits = more_waits s.waiting.items w a k.waits x;
-  })
+  waits_back a k x = let q = more_waits s.waiting.items w a k.waits x in
+      rw (e, f, g, h) (record { types = k.types; classifiers = k.classifiers; shapes = k.shapes; waits = q })
 
   pub wait_step : Sound s → w.left < length s.parent.items → w.right < length s.parent.items
       → Step s t (λ a. a.ty w.left ≡ a.ty w.right)
@@ -176,13 +173,8 @@ class_step s t c d p e f h g l j = record {
   shaped = λ n k. rw (e, f) k;
   out = λ a k. let q = (j a.classifier).0 k.classifiers in
       (record { types = rw e at k.types; classifiers = q.0; shapes = rw f at k.shapes; waits = rw h at k.waits }, q.1);
-  back = λ a k x. record {
-    types = rw e k.types;
-    classifiers = (j a.classifier).1 k.classifiers x;
-    shapes =
-        rw f k.shapes;
-    waits = rw h k.waits;
-  };
+  back = λ a k x. let q = (j a.classifier).1 k.classifiers x in
+      rw (e, f, h) (record { types = k.types; classifiers = q; shapes = k.shapes; waits = k.waits });
 }
 
 kept_inside : (n m : ℕ) (x : Met) → ExtraInside n m x → Inside n m (kept x)

@@ -13,13 +13,13 @@ pub returns-in_ok-right-in-Arrow-clause-grew : goal.returns-in_ok-right-in-Arrow
 returns-in_ok-right-in-Arrow-clause-grew t c =
     rw (c.in-Arrow.is, ← c.deref-in-Arrow.ensures, ← c.deref-in-Arrow-2.ensures) (if_ok c.node-in-Arrow.result
     (λ i. add_two c.in_ok-left-in-Arrow.ensures.grew c.in_ok-right-in-Arrow.ensures.grew
-        (λ a x y z. z ∙ rw (x, y) refl))
+    (λ a x y z. z ∙ rw (x, y) refl))
     c.node-in-Arrow.ensures.grew)
 
 pub returns-in_ok-below-in-Code-clause-grew : goal.returns-in_ok-below-in-Code-clause-grew
 returns-in_ok-below-in-Code-clause-grew t c = rw (c.in-Code.is, ← c.deref-in-Code.ensures)
     (if_ok c.node-in-Code.result (λ i. add_one c.in_ok-below-in-Code.ensures.grew (λ a x z. z ∙ rw x refl))
-        c.node-in-Code.ensures.grew)
+    c.node-in-Code.ensures.grew)
 
 pub returns-in_ok-below-in-Closed-clause-grew : goal.returns-in_ok-below-in-Closed-clause-grew
 returns-in_ok-below-in-Closed-clause-grew t c = rw (c.in-Closed.is, ← c.deref-in-Closed.ensures)
@@ -37,14 +37,14 @@ pub returns-in_ok-right-in-Pair-clause-shaped : goal.returns-in_ok-right-in-Pair
 returns-in_ok-right-in-Pair-clause-shaped t c =
     if_ok c.node-in-Pair.result
     (λ i f n k. f (λ e. absurd (cc)) n
-        (c.in_ok-right-in-Pair.ensures.shaped n (c.in_ok-left-in-Pair.ensures.shaped n k)))
+    (c.in_ok-right-in-Pair.ensures.shaped n (c.in_ok-left-in-Pair.ensures.shaped n k)))
     c.node-in-Pair.ensures.shaped
 
 pub returns-in_ok-right-in-Arrow-clause-shaped : goal.returns-in_ok-right-in-Arrow-clause-shaped
 returns-in_ok-right-in-Arrow-clause-shaped t c =
     if_ok c.node-in-Arrow.result
     (λ i f n k. f (λ e. absurd (cc)) n
-        (c.in_ok-right-in-Arrow.ensures.shaped n (c.in_ok-left-in-Arrow.ensures.shaped n k)))
+    (c.in_ok-right-in-Arrow.ensures.shaped n (c.in_ok-left-in-Arrow.ensures.shaped n k)))
     c.node-in-Arrow.ensures.shaped
 
 pub returns-in_ok-below-in-Code-clause-shaped : goal.returns-in_ok-below-in-Code-clause-shaped
