@@ -1,9 +1,9 @@
 -- From what nodes stand for to the answer.
 use Rattle.std.proofs.Common.{length-append, ◌≡◌, inl, inr, ℕ, zero, suc, ◌+◌, ◌-◌, ◌≤◌, ◌<◌, map, List, [], ◌∷◌, ◌++◌}
-use Rattle.std.proofs.Common.{length, refl, ap, sym, subst, ◌∙◌, arith, ◌⊎◌}
+use Rattle.std.proofs.Common.{length, refl, ap, sym, subst, ◌∙◌, arith}
 use Rattle.std.proofs.lemmas.List.{get_or_default}
 use Rattle.std.specs.Prelude.{slice_index_or, slice_get, Some, All}
-use Rattle.mw_types.specs.Types.{TypeExpression, int_ty, bool_ty, unknown, pair_ty, function_ty, code_ty, closed_ty}
+use Rattle.mw_types.specs.Types.{TypeExpression}
 use Rattle.mw_types.specs.Types.{type_of, Assignment, value, nodes, Substitution, after, Within}
 use Rattle.mw_types.specs.Equations.{TypeEquation, AllWithin, Solves, Agree, MostGeneral, IsSmall, StaysWithin, Fine}
 use Rattle.mw_types.specs.Equations.{IsPrincipalType}
@@ -15,12 +15,14 @@ use Rattle.mw_types.specs.Walks.{AllSized}
 use Rattle.mw_types.specs.Answering.{Ready, name_in, NamedTo, IsName, StandsFor, StandsForOne, HasRoom, TreesTo, RootAt}
 use Rattle.mw_types.specs.Answering.{Answers}
 use Rattle.mw_types.specs.declared.state.Shape.{Shape}
-use Rattle.mw_types.specs.declared.state.Shape.TheVariants.{Free, Int, Bool, Pair, Arrow, Code, Closed}
+use Rattle.mw_types.specs.declared.state.Shape.TheVariants.{Pair, Arrow, Code, Closed}
 use Rattle.mw_types.specs.declared.state.State.{State}
 use Rattle.mw_types.specs.declared.types.Ty.{Ty}
 use Rattle.mw_types.specs.declared.types.Ty.TheVariants.{Int as int_tree}
-use Rattle.mw_types.proofs.Lists.{same, other, is}
-use Rattle.mw_types.proofs.Growing.{get_left, get_last}
+use Rattle.mw_types.proofs.Lists.{same, other, is, lt_or_le}
+use Rattle.mw_types.proofs.Growing.{get_left, get_last, each_more, agree_less, agree_then}
+use Rattle.mw_types.proofs.Elimination.{nodes_some}
+use Rattle.std.proofs.lemmas.List.{length-map}
 use Rattle.mw_types.proofs.Walking.{leads_stands}
 use Rattle.mw_types.proofs.General.{Inv, root_inv, up_inv, unique}
 use Rattle.mw_types.proofs.Verdicts.{value_agree}
@@ -39,17 +41,8 @@ pub at_shape : {s : State} {i r : ℕ} {h k : Shape} → h ≡ k → RootAt s i 
 at_shape e a = record { leads = a.leads; root = a.root; shape = a.shape ∙ e }
 
 -- each type has a node
-node_of : (t : TypeExpression) → 1 ≤ nodes t
-node_of int_ty = omega arith
-node_of bool_ty = omega arith
-node_of (unknown u) = omega arith
-node_of (pair_ty s t) = omega arith
-node_of (function_ty s t) = omega arith
-node_of (code_ty c t) = omega arith
-node_of (closed_ty t) = omega arith
-
 pub has_node : (s : State) (names : List ℕ) (i room : ℕ) → HasRoom s names i room → 1 ≤ room
-has_node s names i room h = omega (arith, node_of h.0, h.2)
+has_node s names i room h = omega (arith, nodes_some h.0, h.2)
 
 -- a part of a node's shape: inside, with room for its type
 abbrev Part : State → List ℕ → ℕ → ℕ → Type 0
@@ -65,106 +58,63 @@ inv : (s : State) (names : List ℕ) {i r : ℕ} {h : Shape} {t : TypeExpression
 inv s names {r = r} {t = t} a k = subst (λ x. Inv s.parent.items s.shape.items (name_in names) x r t) a.shape
     (root_inv a.root (stands_root a.leads k))
 
-pub pair_parts : (s : State) (names : List ℕ) (i r l m room : ℕ) → Sound s → RootAt s i r (Pair l m)
-    → HasRoom s names i room → (1 ≤ room) × Part s names l room × Part s names m room
-pair_parts s names i r l m room p a h =
+-- what a shape's parts have
+abbrev pub Parts : State → List ℕ → ℕ → Shape → Type 0
+Parts s names room (Pair l m) = Part s names l room × Part s names m room
+Parts s names room (Arrow l m) = Part s names l room × Part s names m room
+Parts s names room (Code c m) = (c < length s.classifier.items) × Part s names m room
+Parts s names room (Closed m) = Part s names m room
+Parts s names room h = Unit {0}
+
+pub parts : (s : State) (names : List ℕ) {i r : ℕ} (room : ℕ) (h : Shape) → Sound s → RootAt s i r h
+    → HasRoom s names i room → (1 ≤ room) × Parts s names room h
+parts s names room (Pair l m) p a h =
     let z = shape_inside s p a in
     let v = inv s names a h.1 in
     let n : nodes h.0 ≡ nodes v.0 + nodes v.1 + 1 = ap nodes v.2 in
-    let k = h.2 in
-    (omega arith, (z.0, (v.0, v.3, omega arith)), (z.1, (v.1, v.4, omega arith)))
-
-pub arrow_parts : (s : State) (names : List ℕ) (i r l m room : ℕ) → Sound s → RootAt s i r (Arrow l m)
-    → HasRoom s names i room → (1 ≤ room) × Part s names l room × Part s names m room
-arrow_parts s names i r l m room p a h =
+    (omega arith, ((z.0, (v.0, v.3, omega arith)), (z.1, (v.1, v.4, omega arith))))
+parts s names room (Arrow l m) p a h =
     let z = shape_inside s p a in
     let v = inv s names a h.1 in
     let n : nodes h.0 ≡ nodes v.0 + nodes v.1 + 1 = ap nodes v.2 in
-    let k = h.2 in
-    (omega arith, (z.0, (v.0, v.3, omega arith)), (z.1, (v.1, v.4, omega arith)))
-
-pub code_parts : (s : State) (names : List ℕ) (i r c m room : ℕ) → Sound s → RootAt s i r (Code c m)
-    → HasRoom s names i room → (1 ≤ room) × (c < length s.classifier.items) × Part s names m room
-code_parts s names i r c m room p a h =
+    (omega arith, ((z.0, (v.0, v.3, omega arith)), (z.1, (v.1, v.4, omega arith))))
+parts s names room (Code c m) p a h =
     let z = shape_inside s p a in
     let v = inv s names a h.1 in
     let n : nodes h.0 ≡ nodes v.0 + 1 = ap nodes v.1 in
-    let k = h.2 in
-    (omega arith, z.0, (z.1, (v.0, v.2, omega arith)))
-
-pub closed_parts : (s : State) (names : List ℕ) (i r m room : ℕ) → Sound s → RootAt s i r (Closed m)
-    → HasRoom s names i room → (1 ≤ room) × Part s names m room
-closed_parts s names i r m room p a h =
-    let z = shape_inside s p a in
+    (omega arith, (z.0, (z.1, (v.0, v.2, omega arith))))
+parts s names room (Closed m) p a h =
     let v = inv s names a h.1 in
     let n : nodes h.0 ≡ nodes v.0 + 1 = ap nodes v.1 in
-    let k = h.2 in
-    (omega arith, (z, (v.0, v.2, omega arith)))
-
--- and a node's type from its parts'
-pub free_stands : (s : State) (names : List ℕ) (i r : ℕ) → RootAt s i r Free → StandsFor s names i (unknown r)
-free_stands s names i r a = leads_stands a.leads (s_free a.root a.shape)
-
-pub int_stands : (s : State) (names : List ℕ) (i r : ℕ) → RootAt s i r Int → StandsFor s names i int_ty
-int_stands s names i r a = leads_stands a.leads (s_int a.root a.shape)
-
-pub bool_stands : (s : State) (names : List ℕ) (i r : ℕ) → RootAt s i r Bool → StandsFor s names i bool_ty
-bool_stands s names i r a = leads_stands a.leads (s_bool a.root a.shape)
-
-pub pair_stands : (s : State) (names : List ℕ) (i r l m : ℕ) (S T : TypeExpression) → RootAt s i r (Pair l m)
-    → StandsFor s names l S → StandsFor s names m T → StandsFor s names i (pair_ty S T)
-pair_stands s names i r l m S T a p q = leads_stands a.leads (s_pair a.root a.shape p q)
-
-pub arrow_stands : (s : State) (names : List ℕ) (i r l m : ℕ) (S T : TypeExpression) → RootAt s i r (Arrow l m)
-    → StandsFor s names l S → StandsFor s names m T → StandsFor s names i (function_ty S T)
-arrow_stands s names i r l m S T a p q = leads_stands a.leads (s_arrow a.root a.shape p q)
-
-pub code_stands : (s : State) (names : List ℕ) (i r c m d : ℕ) (T : TypeExpression) → RootAt s i r (Code c m)
-    → d ≡ name_in names c → StandsFor s names m T → StandsFor s names i (code_ty d T)
-code_stands s names i r c m d T a e p = leads_stands a.leads (s_code a.root a.shape e p)
-
-pub closed_stands : (s : State) (names : List ℕ) (i r m : ℕ) (T : TypeExpression) → RootAt s i r (Closed m)
-    → StandsFor s names m T → StandsFor s names i (closed_ty T)
-closed_stands s names i r m T a p = leads_stands a.leads (s_closed a.root a.shape p)
+    (omega arith, (shape_inside s p a, (v.0, v.2, omega arith)))
+parts s names {i = i} room f p a h = (has_node s names i room h, tt)
 
 -- one more representative
 pub name_more : (cs names : List ℕ) (c r : ℕ) → Low cs → c < length cs → NamedTo cs names c → IsName cs names c r
     → NamedTo cs (names ++ r ∷ []) (c + 1)
 name_more cs names c r low lt h k = record {
-  long = len ∙ ap (λ x. x + 1) h.long;
-  low = λ d dl. elim (is d c) [
-    | same q ↦ elim k [
-      | inl x ↦ let e = last d q in omega (arith, x.1)
-      | inr x ↦ let e = last d q in let z = h.low (slice_index_or cs c 0) x.0 in omega (arith, x.1)
-    ]
-    | other n ↦ let e = left d (omega arith) in let z = h.low d (omega arith) in omega arith
-  ];
+  long = omega (arith, length-append names (r ∷ []), h.long);
+  low = each_more (λ d x. x ≤ d) names r 0 c h.long h.low (elim k [
+    | inl x ↦ omega (arith, x.1)
+    | inr x ↦ let z = h.low (slice_index_or cs c 0) x.0 in omega (arith, x.0, x.1)
+  ]);
   one = λ d dl. elim (is d c) [
     | same q ↦ elim k [
       | inl x ↦ ap (name_in (names ++ r ∷ [])) (q ∙ sym x.0 ∙ ap (λ y. slice_index_or cs y 0) (sym q))
-      | inr x ↦ last d q ∙ x.1 ∙ sym (left (slice_index_or cs c 0) x.0)
+      | inr x ↦ get_last names r 0 d (q ∙ sym h.long) ∙ x.1 ∙ sym (left (slice_index_or cs c 0) x.0)
           ∙ ap (λ y. name_in (names ++ r ∷ []) (slice_index_or cs y 0)) (sym q)
     ]
     | other n ↦ let p = low d (omega arith) in left d (omega arith) ∙ h.one d (omega arith)
         ∙ sym (left (slice_index_or cs d 0) (omega arith))
   ];
-  own = λ a s d dl. elim (is d c) [
-    | same q ↦ elim k [
-      | inl x ↦ ap a (last d q ∙ x.1 ∙ sym q)
-      | inr x ↦ ap a (last d q ∙ x.1) ∙ h.own a s (slice_index_or cs c 0) x.0 ∙ sym (s c lt) ∙ ap a (sym q)
-    ]
-    | other n ↦ ap a (left d (omega arith)) ∙ h.own a s d (omega arith)
-  ];
+  own = λ a s. each_more (λ d x. a x ≡ a d) names r 0 c h.long (h.own a s) (elim k [
+    | inl x ↦ ap a x.1
+    | inr x ↦ ap a x.1 ∙ h.own a s (slice_index_or cs c 0) x.0 ∙ sym (s c lt)
+  ]);
 }
   where
-    len : length (names ++ r ∷ []) ≡ length names + 1
-    len = length-append names (r ∷ [])
-
     left : (d : ℕ) → d < c → name_in (names ++ r ∷ []) d ≡ name_in names d
     left d dl = get_left names r 0 d (omega (arith, h.long))
-
-    last : (d : ℕ) → d ≡ c → name_in (names ++ r ∷ []) d ≡ r
-    last d q = get_last names r 0 d (q ∙ sym h.long)
 
 pub no_names : (cs : List ℕ) → NamedTo cs [] 0
 no_names cs = record {
@@ -180,31 +130,14 @@ pub tree_more : (s : State) (names roots : List ℕ) (trees : List Ty) (u r : �
     → (slice_index_or s.parent.items u 0 ≡ u → StandsFor s names u (type_of t)) → TreesTo s names (roots ++ r ∷ [])
     (trees ++ t ∷ []) (u + 1)
 tree_more s names roots trees u r t h le l e k = record {
-  root_count = length-append roots (r ∷ []) ∙ ap (λ x. x + 1) h.root_count;
-  tree_count = length-append trees (t ∷ []) ∙ ap (λ x. x + 1) h.tree_count;
-  below = λ i il. elim (is i u) [
-    | same q ↦ rw (last i q, q) le
-    | other n ↦ rw (left i (omega arith)) (h.below i (omega arith))
-  ];
-  leads = λ i il. elim (is i u) [
-    | same q ↦ rw (last i q, q) l
-    | other n ↦ rw (left i (omega arith)) (h.leads i (omega arith))
-  ];
-  rooted = λ i il. elim (is i u) [
-    | same q ↦ rw (last i q) e
-    | other n ↦ rw (left i (omega arith)) (h.rooted i (omega arith))
-  ];
-  own = λ i il o. elim (is i u) [
-    | same q ↦ rw (get_last trees t int_tree i (q ∙ sym h.tree_count), q) (k (rw q at o))
-    | other n ↦ rw (get_left trees t int_tree i (omega (arith, h.tree_count))) (h.own i (omega arith) o)
-  ];
+  root_count = omega (arith, length-append roots (r ∷ []), h.root_count);
+  tree_count = omega (arith, length-append trees (t ∷ []), h.tree_count);
+  below = each_more (λ i x. x ≤ i) roots r 0 u h.root_count h.below le;
+  leads = each_more (λ i x. Leads s.parent.items i x) roots r 0 u h.root_count h.leads l;
+  rooted = each_more (λ i x. slice_index_or s.parent.items x 0 ≡ x) roots r 0 u h.root_count h.rooted e;
+  own = each_more (λ i x. slice_index_or s.parent.items i 0 ≡ i → StandsFor s names i (type_of x)) trees t int_tree u
+      h.tree_count h.own k;
 }
-  where
-    left : (i : ℕ) → i < u → slice_index_or (roots ++ r ∷ []) i 0 ≡ slice_index_or roots i 0
-    left i il = get_left roots r 0 i (omega (arith, h.root_count))
-
-    last : (i : ℕ) → i ≡ u → slice_index_or (roots ++ r ∷ []) i 0 ≡ r
-    last i q = get_last roots r 0 i (q ∙ sym h.root_count)
 
 pub no_trees : (s : State) (names : List ℕ) → TreesTo s names [] [] 0
 no_trees s names = record {
@@ -215,10 +148,6 @@ no_trees s names = record {
   rooted = λ i lt. absurd (omega arith);
   own = λ i lt. absurd (omega arith);
 }
-
-pub map_length : {A B : Type 0} (f : A → B) (xs : List A) → length (map f xs) ≡ length xs
-map_length f [] = refl
-map_length f (x ∷ xs) = ap suc (map_length f xs)
 
 map_at : {A B : Type 0} (f : A → B) (xs : List A) (i : ℕ) (d : A) (e : B) → i < length xs
     → slice_index_or (map f xs) i e ≡ f (slice_index_or xs i d)
@@ -246,7 +175,7 @@ pub answers : (s : State) (names roots : List ℕ) (trees : List Ty) (n : ℕ) �
     (record { types = map (λ r. slice_index_or trees r int_tree) roots; classifiers = names; roots = roots })
 answers s names roots trees n le d h = record {
   named = d;
-  long = map_length (λ r. slice_index_or trees r int_tree) roots ∙ h.root_count;
+  long = length-map roots (λ r. slice_index_or trees r int_tree) ∙ h.root_count;
   each = λ u lt. let p = h.below u lt in
       rw (map_at (λ r. slice_index_or trees r int_tree) roots u 0 int_tree (omega (arith, h.root_count)))
       (leads_stands (h.leads u lt) (h.own (slice_index_or roots u 0) (omega arith) (h.rooted u lt)));
@@ -254,8 +183,7 @@ answers s names roots trees n le d h = record {
 
 pub ready_at : {n k m l : ℕ} {es fs : List TypeEquation} {s : State} → n ≡ k → m ≡ l → es ≡ fs → Ready n m es s
     → Ready k l fs s
-ready_at {n = n} {k = k} {m = m} {l = l} {es = es} {fs = fs} {s = s} e f g h =
-    subst (λ xs. Ready k l xs s) g (subst (λ x. Ready k x es s) f (subst (λ x. Ready x m es s) e h))
+ready_at e f g h = rw (← e, ← f, ← g) h
 
 -- each small unknown has room
 pub room : (s : State) (sizes : List ℕ) (n : ℕ) → n ≤ length s.parent.items → AllSized s sizes
@@ -270,9 +198,6 @@ pub solves_agree : {n m : ℕ} {a b : Assignment} → Agree n m a b → (es : Li
 solves_agree k [] w h = tt
 solves_agree k (e ∷ es) w h =
     (sym (value_agree k e.left w.0.0) ∙ h.0 ∙ value_agree k e.right w.0.1, solves_agree k es w.1 h.1)
-
-lt_or_le : (i n : ℕ) → (i < n) ⊎ (n ≤ i)
-lt_or_le i n = grind arith
 
 -- a node's type names unknowns and representatives of classifier unknowns alone
 stands_within : (s : State) (names : List ℕ) (n m : ℕ) → Sound s → IsShaped n s.parent.items s.shape.items
@@ -335,16 +260,11 @@ module _ (n m : ℕ) (es : List TypeEquation) (s : State) (within : AllWithin n 
   unfolding stood
   most_general = record {
     sound = λ b. solves_agree (after_agree b) es within (ready.stated.out (after b σ) (stands_sound b));
-    general = λ a h. let x = ready.stated.more a h in
-        let g = stands_general x.0 x.2 in
-        let k = after_agree x.0 in (
-          x.0,
-          record {
-            types = λ u lt. x.1.types u lt ∙ g.types u (let p = ready.stated.long in omega arith) ∙ k.types u lt;
-            classifiers = λ c lt. x.1.classifiers c lt
-                ∙ g.classifiers c (let p = ready.stated.classifier_count in omega arith) ∙ k.classifiers c lt;
-          },
-        );
+    general = λ a h. let x = ready.stated.more a h in (
+      x.0,
+      agree_then x.1 (agree_then (agree_less ready.stated.long (omega (arith, ready.stated.classifier_count))
+          (stands_general x.0 x.2)) (after_agree x.0)),
+    );
   }
 
   pub is_small : IsSmall n (record { ty = types; classifier = name_in names })

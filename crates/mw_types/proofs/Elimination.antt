@@ -1,7 +1,6 @@
 -- Equations have a most general solution or none: the elimination, an equation at a time.
 use Rattle.std.proofs.Common.{◌≡◌, ◌⊎◌, inl, inr, ℕ, zero, suc, ◌+◌, ◌≤◌, ◌<◌, List, [], ◌∷◌, length, refl, ap, sym}
 use Rattle.std.proofs.Common.{◌∙◌, arith}
-use Rattle.mw_term.specs.Types.{TermType, pair_type, function_type, code_type, closed_type}
 use Rattle.mw_types.specs.Types.{TypeExpression, int_ty, bool_ty, unknown, pair_ty, function_ty, code_ty, closed_ty}
 use Rattle.mw_types.specs.Types.{Within, Assignment, value, nodes, size, Substitution}
 use Rattle.mw_types.specs.Equations.{TypeEquation, AllWithin, Solvable, MostGeneral}
@@ -39,33 +38,7 @@ view l r = clash (λ a e. absurd (cc))
 
 pub nodes_some : (t : TypeExpression) → 1 ≤ nodes t
 nodes_some int_ty = omega arith
-nodes_some bool_ty = omega arith
-nodes_some (unknown u) = omega arith
-nodes_some (pair_ty s t) = omega arith
-nodes_some (function_ty s t) = omega arith
-nodes_some (code_ty c t) = omega arith
-nodes_some (closed_ty t) = omega arith
-
-pair_left : {s t k l : TermType} → pair_type s t ≡ pair_type k l → s ≡ k
-pair_left e = cc
-
-pair_right : {s t k l : TermType} → pair_type s t ≡ pair_type k l → t ≡ l
-pair_right e = cc
-
-function_left : {s t k l : TermType} → function_type s t ≡ function_type k l → s ≡ k
-function_left e = cc
-
-function_right : {s t k l : TermType} → function_type s t ≡ function_type k l → t ≡ l
-function_right e = cc
-
-code_left : {c d : ℕ} {s t : TermType} → code_type c s ≡ code_type d t → c ≡ d
-code_left e = cc
-
-code_right : {c d : ℕ} {s t : TermType} → code_type c s ≡ code_type d t → s ≡ t
-code_right e = cc
-
-closed_below : {s t : TermType} → closed_type s ≡ closed_type t → s ≡ t
-closed_below e = cc
+nodes_some t = omega arith
 
 -- equations over fewer unknowns, and lighter ones over the same
 abbrev Fewer : List ℕ → Type 0
@@ -100,24 +73,24 @@ reduce us w es fewer lighter le o k os both_bool = turn es (is_one bool_ty bool_
 reduce us w es fewer lighter le o k os (both_pairs {s = s} {t = t} {k = m} {l = n}) =
     turn (is_one s m ∷ is_one t n ∷ es) (is_one (pair_ty s t) (pair_ty m n) ∷ es)
     (λ b q. (rw (q.0, q.1.0) refl, q.1.1))
-    (λ b q. (pair_left q.0, (pair_right q.0, q.1)))
+    (λ b q. (cc, (cc, q.1)))
     (lighter (is_one s m ∷ is_one t n ∷ es) (omega arith) ((o.0, k.0), ((o.1, k.1), os)))
 reduce us w es fewer lighter le o k os (both_functions {s = s} {t = t} {k = m} {l = n}) =
     turn (is_one s m ∷ is_one t n ∷ es) (is_one (function_ty s t) (function_ty m n) ∷ es)
     (λ b q. (rw (q.0, q.1.0) refl, q.1.1))
-    (λ b q. (function_left q.0, (function_right q.0, q.1)))
+    (λ b q. (cc, (cc, q.1)))
     (lighter (is_one s m ∷ is_one t n ∷ es) (omega arith) ((o.0, k.0), ((o.1, k.1), os)))
 reduce us w es fewer lighter le o k os (both_codes {c = c} {d = d} {s = s} {t = t}) =
     compose (is_one s t ∷ es) (is_one (code_ty c s) (code_ty d t) ∷ es) (rename c d)
-    (λ b q. rename_keeps c d b (code_left q.0))
-    (λ b q. (code_right q.0, q.1))
+    (λ b q. rename_keeps c d b (cc))
+    (λ b q. (cc, q.1))
     (λ b q. let z = from_applied b (rename c d) (is_one s t ∷ es) q in (rw (renamed c d b, z.0) refl, z.1))
     (lighter (apply_all (rename c d) (is_one s t ∷ es)) (let e = rename_weight c d (is_one s t ∷ es) in omega arith)
     (rename_all_over c d us (is_one s t ∷ es) ((o, k), os)))
 reduce us w es fewer lighter le o k os (both_closed {s = s} {t = t}) =
     turn (is_one s t ∷ es) (is_one (closed_ty s) (closed_ty t) ∷ es)
     (λ b q. (rw q.0 refl, q.1))
-    (λ b q. (closed_below q.0, q.1))
+    (λ b q. (cc, q.1))
     (lighter (is_one s t ∷ es) (omega arith) ((o, k), os))
 reduce us w es fewer lighter le o k os (clash f) = inr (λ h. f h.0 h.1.0)
 
@@ -149,13 +122,12 @@ in_below zero u lt = absurd (omega arith)
 in_below (suc n) u lt = elim (is u n) [ same e ↦ inl e | other k ↦ inr (in_below n u (omega arith)) ]
 
 over_below : (n m : ℕ) (t : TypeExpression) → Within n m t → Over (below n) t
-over_below n m int_ty w = tt
-over_below n m bool_ty w = tt
 over_below n m (unknown u) w = in_below n u w
 over_below n m (pair_ty s t) w = (over_below n m s w.0, over_below n m t w.1)
 over_below n m (function_ty s t) w = (over_below n m s w.0, over_below n m t w.1)
 over_below n m (code_ty c t) w = over_below n m t w.1
 over_below n m (closed_ty t) w = over_below n m t w
+over_below n m t w = tt
 
 all_over_below : (n m : ℕ) (es : List TypeEquation) → AllWithin n m es → AllOver (below n) es
 all_over_below n m [] w = tt

@@ -14,13 +14,12 @@ pub record Same (a b : Assignment) : Type 0 where
   pub classifiers : (c : ℕ) → a.classifier c ≡ b.classifier c
 
 pub value_same : {a b : Assignment} → Same a b → (t : TypeExpression) → value a t ≡ value b t
-value_same k int_ty = refl
-value_same k bool_ty = refl
 value_same k (unknown u) = k.types u
 value_same k (pair_ty s t) = rw (value_same k s, value_same k t) refl
 value_same k (function_ty s t) = rw (value_same k s, value_same k t) refl
 value_same k (code_ty c t) = rw (k.classifiers c, value_same k t) refl
 value_same k (closed_ty t) = rw (value_same k t) refl
+value_same k t = refl
 
 pub solves_same : {a b : Assignment} → Same a b → (es : List TypeEquation) → Solves a es → Solves b es
 solves_same k [] h = tt
@@ -32,13 +31,11 @@ apply_all s [] = []
 apply_all s (e ∷ es) = record { left = apply s e.left; right = apply s e.right } ∷ apply_all s es
 
 pub value_apply : (b : Assignment) (s : Substitution) (t : TypeExpression) → value b (apply s t) ≡ value (after b s) t
-value_apply b s int_ty = refl
-value_apply b s bool_ty = refl
-value_apply b s (unknown u) = refl
 value_apply b s (pair_ty l r) = rw (value_apply b s l, value_apply b s r) refl
 value_apply b s (function_ty l r) = rw (value_apply b s l, value_apply b s r) refl
 value_apply b s (code_ty c t) = rw (value_apply b s t) refl
 value_apply b s (closed_ty t) = rw (value_apply b s t) refl
+value_apply b s t = refl
 
 pub from_applied : (b : Assignment) (s : Substitution) (es : List TypeEquation) → Solves b (apply_all s es)
     → Solves (after b s) es
@@ -141,8 +138,6 @@ occurs_two p q = elim (no_larger p) [
 ]
 
 pub occurs : (u : ℕ) (t : TypeExpression) → Occurs u t
-occurs u int_ty = absent tt
-occurs u bool_ty = absent tt
 occurs u (unknown v) = elim (is v u) [ same e ↦ itself (ap unknown e) | other n ↦ absent n ]
 occurs u (pair_ty s t) = elim (occurs_two (occurs u s) (occurs u t)) [ inl n ↦ absent n | inr lt ↦ within lt ]
 occurs u (function_ty s t) = elim (occurs_two (occurs u s) (occurs u t)) [ inl n ↦ absent n | inr lt ↦ within lt ]
@@ -150,6 +145,7 @@ occurs u (code_ty c t) =
     elim (no_larger (occurs u t)) [ inl n ↦ absent n | inr le ↦ within (λ a. let k = le a in omega arith) ]
 occurs u (closed_ty t) =
     elim (no_larger (occurs u t)) [ inl n ↦ absent n | inr le ↦ within (λ a. let k = le a in omega arith) ]
+occurs u t = absent tt
 
 -- a list without a number
 kept_in : {x u : ℕ} → Is x u → ℕ → List ℕ → List ℕ
@@ -197,13 +193,12 @@ in_without u v [] n h = absurd h
 in_without u v (x ∷ xs) n h = kept_has v (is x u) xs (without u xs) n h (in_without u v xs n)
 
 over_without : (u : ℕ) (us : List ℕ) (t : TypeExpression) → IsAbsent u t → Over us t → Over (without u us) t
-over_without u us int_ty n o = tt
-over_without u us bool_ty n o = tt
 over_without u us (unknown v) n o = in_without u v us n o
 over_without u us (pair_ty s t) n o = (over_without u us s n.0 o.0, over_without u us t n.1 o.1)
 over_without u us (function_ty s t) n o = (over_without u us s n.0 o.0, over_without u us t n.1 o.1)
 over_without u us (code_ty c t) n o = over_without u us t n o
 over_without u us (closed_ty t) n o = over_without u us t n o
+over_without u us t n o = tt
 
 -- a type for one unknown
 chosen : {v u : ℕ} → Is v u → TypeExpression → TypeExpression
@@ -216,8 +211,6 @@ put u t = record { ty = λ v. chosen (is v u) t; classifier = λ c. c }
 over_put : (u : ℕ) (t : TypeExpression) (us : List ℕ) → IsAbsent u t → Over us t → (r : TypeExpression) → Over us r
     → Over (without u us) (apply (put u t) r)
 unfolding put chosen
-over_put u t us n k int_ty o = tt
-over_put u t us n k bool_ty o = tt
 over_put u t us n k (unknown v) o = step (is v u)
   where
     step : (d : Is v u) → Over (without u us) (chosen d t)
@@ -227,6 +220,7 @@ over_put u t us n k (pair_ty l r) o = (over_put u t us n k l o.0, over_put u t u
 over_put u t us n k (function_ty l r) o = (over_put u t us n k l o.0, over_put u t us n k r o.1)
 over_put u t us n k (code_ty c r) o = over_put u t us n k r o
 over_put u t us n k (closed_ty r) o = over_put u t us n k r o
+over_put u t us n k r o = tt
 
 pub all_over_put : (u : ℕ) (t : TypeExpression) (us : List ℕ) → IsAbsent u t → Over us t → (es : List TypeEquation)
     → AllOver us es → AllOver (without u us) (apply_all (put u t) es)
@@ -247,8 +241,6 @@ put_keeps u t a e = record { types = λ v. step v (is v u); classifiers = λ c. 
 pub put_absent : (u : ℕ) (t : TypeExpression) (b : Assignment) (r : TypeExpression) → IsAbsent u r
     → value (after b (put u t)) r ≡ value b r
 unfolding put chosen
-put_absent u t b int_ty n = refl
-put_absent u t b bool_ty n = refl
 put_absent u t b (unknown v) n = step (is v u)
   where
     step : (d : Is v u) → value b (chosen d t) ≡ b.ty v
@@ -258,6 +250,7 @@ put_absent u t b (pair_ty l r) n = rw (put_absent u t b l n.0, put_absent u t b 
 put_absent u t b (function_ty l r) n = rw (put_absent u t b l n.0, put_absent u t b r n.1) refl
 put_absent u t b (code_ty c r) n = rw (put_absent u t b r n) refl
 put_absent u t b (closed_ty r) n = rw (put_absent u t b r n) refl
+put_absent u t b r n = refl
 
 pub put_here : (u : ℕ) (t : TypeExpression) (b : Assignment) → (after b (put u t)).ty u ≡ value b t
 unfolding put chosen
@@ -294,23 +287,20 @@ renamed c d b = ap b.classifier (step (is c c) (is d c))
 
 rename_nodes : (c d : ℕ) (t : TypeExpression) → nodes (apply (rename c d) t) ≡ nodes t
 unfolding rename
-rename_nodes c d int_ty = refl
-rename_nodes c d bool_ty = refl
-rename_nodes c d (unknown u) = refl
 rename_nodes c d (pair_ty s t) = rw (rename_nodes c d s, rename_nodes c d t) refl
 rename_nodes c d (function_ty s t) = rw (rename_nodes c d s, rename_nodes c d t) refl
 rename_nodes c d (code_ty e t) = rw (rename_nodes c d t) refl
 rename_nodes c d (closed_ty t) = rw (rename_nodes c d t) refl
+rename_nodes c d t = refl
 
 rename_over : (c d : ℕ) (us : List ℕ) (t : TypeExpression) → Over us t → Over us (apply (rename c d) t)
 unfolding rename
-rename_over c d us int_ty o = tt
-rename_over c d us bool_ty o = tt
 rename_over c d us (unknown u) o = o
 rename_over c d us (pair_ty s t) o = (rename_over c d us s o.0, rename_over c d us t o.1)
 rename_over c d us (function_ty s t) o = (rename_over c d us s o.0, rename_over c d us t o.1)
 rename_over c d us (code_ty e t) o = rename_over c d us t o
 rename_over c d us (closed_ty t) o = rename_over c d us t o
+rename_over c d us t o = tt
 
 abbrev pub weight : List TypeEquation → ℕ
 weight [] = 0

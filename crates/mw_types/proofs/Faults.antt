@@ -1,6 +1,6 @@
 -- First faults, from what the solver judges to most general solutions.
 use Rattle.std.specs.Prelude.{Err}
-use Rattle.std.proofs.Common.{◌≡◌, ◌⊎◌, inl, inr, ℕ, zero, suc, ◌≤◌, ◌<◌, List, [], ◌∷◌, take, length, refl, ap, sym}
+use Rattle.std.proofs.Common.{◌≡◌, ◌⊎◌, inl, inr, ℕ, zero, suc, ◌≤◌, ◌<◌, List, [], ◌∷◌, take, length, ap, sym}
 use Rattle.std.proofs.Common.{subst, arith}
 use Rattle.mw_types.specs.Types.{Assignment, nodes, Substitution, after}
 use Rattle.mw_types.specs.Equations.{TypeEquation, AllWithin, Solvable, Agree, MostGeneral, TooBig, Fine}
@@ -12,9 +12,9 @@ use Rattle.mw_types.specs.SolutionLaws.{OneFault}
 use Rattle.mw_types.specs.declared.types.SolveFault.{SolveFault}
 use Rattle.mw_types.specs.declared.types.SolveFault.TheVariants.{Unsolvable, TooBig as TooBigFront, Memory}
 use Rattle.mw_types.proofs.Smallest.{same_sizes, small_of_most_general, most_general_small, too_big_not_small}
-use Rattle.mw_types.proofs.Smallest.{solves_take, small_take}
-use Rattle.mw_term.specs.Types.{int_type}
-use Rattle.mw_types.proofs.Lists.{same, other, is}
+use Rattle.mw_types.proofs.Smallest.{least, solves_take, small_take}
+use Rattle.std.proofs.Math.Seq.{take-length}
+use Rattle.mw_types.proofs.Lists.{same, other, is, lt_or_le}
 use Rattle.mw_types.proofs.Elimination.{most_general_of, most_general_or_none}
 
 -- either no type is too big, or some is
@@ -23,16 +23,13 @@ Large f n = (u : ℕ) × (u < n) × (10000 < f u)
 
 sizes : (f : ℕ → ℕ) (n : ℕ) → ((u : ℕ) → u < n → f u ≤ 10000) ⊎ Large f n
 sizes f zero = inl (λ u lt. absurd (omega arith))
-sizes f (suc n) = step f n (sizes f n) (le_or_lt (f n))
+sizes f (suc n) = step f n (sizes f n) (lt_or_le 10000 (f n))
   where
-    le_or_lt : (x : ℕ) → (x ≤ 10000) ⊎ (10000 < x)
-    le_or_lt x = grind arith
-
-    step : (f : ℕ → ℕ) (n : ℕ) → ((u : ℕ) → u < n → f u ≤ 10000) ⊎ Large f n → (f n ≤ 10000) ⊎ (10000 < f n)
+    step : (f : ℕ → ℕ) (n : ℕ) → ((u : ℕ) → u < n → f u ≤ 10000) ⊎ Large f n → (10000 < f n) ⊎ (f n ≤ 10000)
         → ((u : ℕ) → u < suc n → f u ≤ 10000) ⊎ Large f (suc n)
     step f n (inr x) d = inr (x.0, omega arith, x.2)
-    step f n (inl g) (inr lt) = inr (n, omega arith, lt)
-    step f n (inl g) (inl le) = inl (λ u lt. elim (is u n) [ same e ↦ rw e le | other k ↦ g u (omega arith) ])
+    step f n (inl g) (inl lt) = inr (n, omega arith, lt)
+    step f n (inl g) (inr le) = inl (λ u lt. elim (is u n) [ same e ↦ rw e le | other k ↦ g u (omega arith) ])
 
 pub fine_of_small : (n m : ℕ) (es : List TypeEquation) → AllWithin n m es → Small n es → Fine n m es
 fine_of_small n m es w h = let g = most_general_of n m es w (h.by, h.solves) in (g.0, g.1, most_general_small g.1 h)
@@ -48,18 +45,12 @@ too_big_of n m es w h f = let g = most_general_of n m es w h in elim (sizes (λ 
 
 pub solvable_of_most_general : {n m : ℕ} {es : List TypeEquation} {s : Substitution} → MostGeneral n m es s
     → Solvable es
-solvable_of_most_general {s = s} g = let b : Assignment = record { ty = λ u. int_type; classifier = λ c. c } in
-    (after b s, g.sound b)
+solvable_of_most_general {s = s} g = (after least s, g.sound least)
 
 front_within : (n m : ℕ) (es : List TypeEquation) (k : ℕ) → AllWithin n m es → AllWithin n m (take k es)
-front_within n m [] zero w = tt
-front_within n m [] (suc k) w = tt
-front_within n m (e ∷ es) zero w = tt
 front_within n m (e ∷ es) (suc k) w = (w.0, front_within n m es k w.1)
-
-whole : (es : List TypeEquation) → take (length es) es ≡ es
-whole [] = refl
-whole (e ∷ es) = ap (λ fs. e ∷ fs) (whole es)
+front_within n m [] (suc k) w = tt
+front_within n m es k w = tt
 
 pub first_fault_of : (n m : ℕ) (es : List TypeEquation) (f : SolveFault) → AllWithin n m es → Faults n es f
     → FirstFault n m es f
@@ -103,27 +94,15 @@ solvable_of_fine f = solvable_of_most_general f.1
 -- what is fine is small at each front of it
 small_front : {n m : ℕ} (es : List TypeEquation) (k : ℕ) → k ≤ length es → Fine n m es → Small n (take k es)
 small_front {n = n} es k le f =
-    small_take es k (length es) le (subst (λ fs. Small n fs) (sym (whole es)) (small_of_fine f))
+    small_take es k (length es) le (subst (λ fs. Small n fs) (sym (take-length es)) (small_of_fine f))
 
 pub one_fault : (n m : ℕ) (es : List TypeEquation) → OneFault n m es
 one_fault n m es = record {
-  unsolvable = λ j k f g. elim (ordered j k) [
-    | inl lt ↦ absurd (f.unsolvable (solvable_of_fine (g.shorter j lt)))
-    | inr le ↦ elim (ordered k j) [
-      | inl lt ↦ absurd (g.unsolvable (solvable_of_fine (f.shorter k lt)))
-      | inr ge ↦ omega
-          arith
-    ]
-  ];
-  too_big = λ j k f g. elim (ordered j k) [
-    | inl lt ↦ absurd (too_big_not_small f.too_big (small_of_fine (g.shorter j lt)))
-    | inr le ↦ elim (ordered k j) [
-      | inl lt ↦ absurd (too_big_not_small g.too_big (small_of_fine (f.shorter k lt)))
-      | inr
-          ge ↦ omega arith
-    ]
-  ];
-  apart = λ j k f g. elim (ordered k j) [
+  unsolvable = λ j k f g. first (λ lt. f.unsolvable (solvable_of_fine (g.shorter j lt)))
+      (λ lt. g.unsolvable (solvable_of_fine (f.shorter k lt)));
+  too_big = λ j k f g. first (λ lt. too_big_not_small f.too_big (small_of_fine (g.shorter j lt)))
+      (λ lt. too_big_not_small g.too_big (small_of_fine (f.shorter k lt)));
+  apart = λ j k f g. elim (lt_or_le k j) [
     | inl lt ↦ too_big_not_small g.too_big (small_of_fine (f.shorter k lt))
     | inr le ↦ unsolvable_stays es j k le f.unsolvable (solvable_of_most_general g.too_big.1)
   ];
@@ -131,8 +110,8 @@ one_fault n m es = record {
   fine_too_big = λ k f g. too_big_not_small g.too_big (small_front es k g.within f);
 }
   where
-    ordered : (j k : ℕ) → (j < k) ⊎ (k ≤ j)
-    ordered j k = grind arith
+    first : {j k : ℕ} → (j < k → ⊥) → (k < j → ⊥) → j ≡ k
+    first p q = omega arith
 
 -- equations are fine, too big or without a solution
 front_verdict : (n m : ℕ) (es : List TypeEquation) → AllWithin n m es → Fine n m es
@@ -166,7 +145,7 @@ fine_below n m es w (suc k) le = fine_next n m es k (omega arith) (fine_below n 
 pub fine_or_faulty : (n m : ℕ) (es : List TypeEquation) → AllWithin n m es → Fine n m es
     ⊎ (((k : ℕ) × FirstUnsolvable n m es k) ⊎ ((k : ℕ) × FirstTooBig n m es k))
 fine_or_faulty n m es w = elim (fine_below n m es w (suc (length es)) (omega arith)) [
-  | inl f ↦ inl (subst (λ fs. Fine n m fs) (whole es) (f (length es) (omega arith)))
+  | inl f ↦ inl (subst (λ fs. Fine n m fs) (take-length es) (f (length es) (omega arith)))
   | inr fault ↦ inr fault
 ]
 
@@ -188,3 +167,5 @@ pub solved_only : (n m : ℕ) (es : List TypeEquation) (f : SolveFault) → Firs
 solved_only n m es (Unsolvable j) h g = (one_fault n m es).fine_unsolvable j g h
 solved_only n m es (TooBigFront j) h g = (one_fault n m es).fine_too_big j g h
 solved_only n m es (Memory e) h g = tt
+
+pub ruleset laws = (most_general_of, are_instances, same_nodes, one_fault, fine_or_faulty)

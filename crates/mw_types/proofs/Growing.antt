@@ -6,7 +6,7 @@ use Rattle.std.specs.Prelude.{slice_index_or}
 use Rattle.mw_term.specs.Types.{TermType, int_type, bool_type, pair_type, function_type, code_type, closed_type}
 use Rattle.mw_types.specs.Equations.{Agree}
 use Rattle.mw_types.specs.Grows.{Grew}
-use Rattle.mw_types.specs.Types.{TypeExpression, pair_ty, function_ty, code_ty, closed_ty, Assignment, value}
+use Rattle.mw_types.specs.Types.{Assignment}
 use Rattle.mw_types.specs.Forest.{Low}
 use Rattle.mw_types.specs.Satisfying.{IsShaped, Meets, Waits, WaitsInside, Means, Inside, Sound}
 use Rattle.mw_types.specs.declared.state.Shape.{Shape}
@@ -27,6 +27,26 @@ get_last [] y d zero e = refl
 get_last [] y d (suc i) e = absurd (omega arith)
 get_last (x ∷ xs) y d zero e = absurd (omega arith)
 get_last (x ∷ xs) y d (suc i) e = get_last xs y d i (omega arith)
+
+-- what holds of each element, with one more
+pub each_more : {A : Type 0} (P : ℕ → A → Type 0) (xs : List A) (y d : A) (n : ℕ) → length xs ≡ n
+    → ((i : ℕ) → i < n → P i (slice_index_or xs i d)) → P n y → (i : ℕ) → i < n + 1
+    → P i (slice_index_or (xs ++ y ∷ []) i d)
+each_more P xs y d n e f p i lt = elim (is i n) [
+  | same q ↦ rw (get_last xs y d i (q ∙ sym e), q) p
+  | other o ↦ rw (get_left xs y d i (omega arith)) (f i (omega arith))
+]
+
+-- assignments that are one: on fewer unknowns, and one after another
+pub agree_less : {k l n m : ℕ} {a b : Assignment} → n ≤ k → m ≤ l → Agree k l a b → Agree n m a b
+agree_less p q h =
+    record { types = λ u lt. h.types u (omega arith); classifiers = λ c lt. h.classifiers c (omega arith) }
+
+pub agree_then : {n m : ℕ} {a b c : Assignment} → Agree n m a b → Agree n m b c → Agree n m a c
+agree_then p q = record {
+  types = λ u lt. p.types u lt ∙ q.types u lt;
+  classifiers = λ d lt. p.classifiers d lt ∙ q.classifiers d lt;
+}
 
 meets_agree : {n m : ℕ} {a b : Assignment} → Agree n m a b → (h : Shape) → Inside n m h → (g : TermType) → Meets h g a
     → Meets h g b
@@ -60,13 +80,8 @@ means_agree s a b p k h = record {
 }
 
 inside_more : (n k m : ℕ) (h : Shape) → n ≤ k → Inside n m h → Inside k m h
-inside_more n k m Free le h = tt
-inside_more n k m Int le h = tt
-inside_more n k m Bool le h = tt
-inside_more n k m (Pair l r) le h = omega arith
-inside_more n k m (Arrow l r) le h = omega arith
 inside_more n k m (Code c t) le h = omega arith
-inside_more n k m (Closed t) le h = omega arith
+inside_more n k m s le h = omega arith
 
 waits_more : (n k : ℕ) (ws : List Pending) → n ≤ k → WaitsInside n ws → WaitsInside k ws
 waits_more n k [] le h = tt
@@ -85,12 +100,7 @@ shape_type a (Closed t) = closed_type (a.ty t)
 shape_meets : (a : Assignment) (h : Shape) → Meets h (shape_type a h) a
 unfolding shape_type
 shape_meets a Free = tt
-shape_meets a Int = refl
-shape_meets a Bool = refl
-shape_meets a (Pair l r) = refl
-shape_meets a (Arrow l r) = refl
-shape_meets a (Code c t) = refl
-shape_meets a (Closed t) = refl
+shape_meets a h = refl
 
 abbrev upto : {A : Type 0} → ℕ → (ℕ → A) → A → ℕ → A
 upto zero f x u = x
@@ -112,10 +122,8 @@ node_means : (s t : State) (h : Shape) → Sound s
     → t.classifier.items ≡ s.classifier.items → t.waiting.items ≡ s.waiting.items
     → (a : Assignment) → Means s a → Meets h (a.ty (length s.parent.items)) a → Means t a
 node_means s t h p e f g w a k m = record {
-  types = rw e (λ i lt. elim (is i n) [
-    | same q ↦ rw (get_last s.parent.items n 0 i q, q) refl
-    | other o ↦ rw (get_left s.parent.items n 0 i (omega (arith, len))) (k.types i (omega (arith, len)))
-  ]);
+  types = rw e (λ i lt. each_more (λ j x. a.ty j ≡ a.ty x) s.parent.items n 0 n refl k.types refl i
+      (omega (arith, len)));
   classifiers = rw g k.classifiers;
   shapes = rw f (λ i. elim (in_or_out s.shape.items i) [
     | inl lt ↦ rw (get_left s.shape.items h Free i lt) (k.shapes i)
@@ -163,10 +171,7 @@ node_grew s t h p ins e f g w = record {
     shape_len = length-append s.shape.items (h ∷ [])
 
     low : Low (s.parent.items ++ n ∷ [])
-    low i lt = elim (is i n) [
-      | same q ↦ rw (get_last s.parent.items n 0 i q) (omega arith)
-      | other o ↦ rw (get_left s.parent.items n 0 i (omega (arith, len))) (p.low i (omega (arith, len)))
-    ]
+    low i lt = each_more (λ j x. x ≤ j) s.parent.items n 0 n refl p.low (omega arith) i (omega (arith, len))
 
     bare : (i : ℕ) → i < length (s.parent.items ++ n ∷ []) → slice_index_or (s.parent.items ++ n ∷ []) i 0 ≢ i
         → slice_index_or (s.shape.items ++ h ∷ []) i Free ≡ Free
@@ -219,15 +224,8 @@ grew_then p q = record {
   long = omega (arith, p.long, q.long);
   classifier_count = q.classifier_count ∙ p.classifier_count;
   out = λ a h. let y = q.out a h in let x = p.out a y.0 in (x.0, (x.1, y.1));
-  more = λ a h. let x = p.more a h in let y = q.more x.0 x.2 in (
-    y.0,
-    record {
-      types = λ i lt. x.1.types i lt ∙ y.1.types i (let l = p.long in omega arith);
-      classifiers = λ c lt.
-          x.1.classifiers c lt ∙ y.1.classifiers c (let e = p.classifier_count in omega arith);
-    },
-    y.2,
-  );
+  more = λ a h. let x = p.more a h in let y = q.more x.0 x.2 in
+      (y.0, agree_then x.1 (agree_less p.long (omega (arith, p.classifier_count)) y.1), y.2);
 }
 
 pub map_grew : {s t : State} {X Y : Assignment → Type 0} → ((a : Assignment) → X a → Y a) → Grew s t X → Grew s t Y
@@ -240,23 +238,14 @@ map_grew f p = record {
   more = p.more;
 }
 
-pub add_pair : (S T : TypeExpression) {s t u v : State} {i j k : ℕ} → Grew s t (λ a. a.ty i ≡ value a S)
-    → Grew t u (λ a. a.ty j ≡ value a T) → Grew u v (λ a. Meets (Pair i j) (a.ty k) a)
-    → Grew s v (λ a. a.ty k ≡ value a (pair_ty S T))
-add_pair S T p q r = map_grew (λ a x. x.1 ∙ rw (x.0.0, x.0.1) refl) (grew_then (grew_then p q) r)
+-- a node over two nodes, and over one
+pub add_two : {X Y Z W : Assignment → Type 0} {s t u v : State} → Grew s t X → Grew t u Y
+    → ((a : Assignment) → X a → Y a → Z a → W a) → Grew u v Z → Grew s v W
+add_two p q f r = map_grew (λ a x. f a x.0.0 x.0.1 x.1) (grew_then (grew_then p q) r)
 
-pub add_arrow : (S T : TypeExpression) {s t u v : State} {i j k : ℕ} → Grew s t (λ a. a.ty i ≡ value a S)
-    → Grew t u (λ a. a.ty j ≡ value a T) → Grew u v (λ a. Meets (Arrow i j) (a.ty k) a)
-    → Grew s v (λ a. a.ty k ≡ value a (function_ty S T))
-add_arrow S T p q r = map_grew (λ a x. x.1 ∙ rw (x.0.0, x.0.1) refl) (grew_then (grew_then p q) r)
-
-pub add_code : (T : TypeExpression) {s t u : State} {c i k : ℕ} → Grew s t (λ a. a.ty i ≡ value a T)
-    → Grew t u (λ a. Meets (Code c i) (a.ty k) a) → Grew s u (λ a. a.ty k ≡ value a (code_ty c T))
-add_code T p r = map_grew (λ a x. x.1 ∙ rw x.0 refl) (grew_then p r)
-
-pub add_closed : (T : TypeExpression) {s t u : State} {i k : ℕ} → Grew s t (λ a. a.ty i ≡ value a T)
-    → Grew t u (λ a. Meets (Closed i) (a.ty k) a) → Grew s u (λ a. a.ty k ≡ value a (closed_ty T))
-add_closed T p r = map_grew (λ a x. x.1 ∙ rw x.0 refl) (grew_then p r)
+pub add_one : {X Y W : Assignment → Type 0} {s t u : State} → Grew s t X
+    → ((a : Assignment) → X a → Y a → W a) → Grew t u Y → Grew s u W
+add_one p f q = map_grew (λ a x. f a x.0 x.1) (grew_then p q)
 
 pub grew_at : {s t : State} (h : Shape) (n i : ℕ) → i ≡ n → Grew s t (λ a. Meets h (a.ty n) a)
     → Grew s t (λ a. Meets h (a.ty i) a)
@@ -274,22 +263,3 @@ node_shaped ps hs h e f n k i le lt o = elim (is i (length ps)) [
 pub node_shaped_at : (ps qs : List ℕ) (hs gs : List Shape) (h : Shape) → qs ≡ ps ++ length ps ∷ [] → gs ≡ hs ++ h ∷ []
     → length hs ≡ length ps → h ≢ Free → (n : ℕ) → IsShaped n ps hs → IsShaped n qs gs
 node_shaped_at ps qs hs gs h e f l m n k = rw (e, f) (node_shaped ps hs h l m n k)
-
--- each shape but Free
-pub int_not_free : Int ≢ Free
-int_not_free e = absurd (cc)
-
-pub bool_not_free : Bool ≢ Free
-bool_not_free e = absurd (cc)
-
-pub pair_not_free : {l r : ℕ} → Pair l r ≢ Free
-pair_not_free e = absurd (cc)
-
-pub arrow_not_free : {l r : ℕ} → Arrow l r ≢ Free
-arrow_not_free e = absurd (cc)
-
-pub code_not_free : {c t : ℕ} → Code c t ≢ Free
-code_not_free e = absurd (cc)
-
-pub closed_not_free : {t : ℕ} → Closed t ≢ Free
-closed_not_free e = absurd (cc)

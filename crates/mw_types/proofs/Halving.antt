@@ -3,8 +3,7 @@ use Rattle.std.proofs.Common.{length-append, ◌≡◌, ◌≢◌, ◌⊎◌, in
 use Rattle.std.proofs.Common.{take, length, refl}
 use Rattle.std.proofs.Common.{ap, sym, subst, ◌∙◌, arith}
 use Rattle.std.specs.Prelude.{slice_index_or, replicate}
-use Rattle.mw_term.specs.Types.{int_type}
-use Rattle.mw_types.specs.Equations.{TypeEquation, equations_of, equation_of}
+use Rattle.mw_types.specs.Equations.{TypeEquation, Solves, equations_of, equation_of}
 use Rattle.mw_types.specs.Answering.{Ready}
 use Rattle.mw_types.specs.Fronts.{Small, UnsolvableAt, TooBigAt}
 use Rattle.mw_types.specs.Judged.{AreAlone, Judges, JudgesFront, Halved, Blank, Stated, StatesFront}
@@ -16,48 +15,30 @@ use Rattle.mw_types.specs.declared.types.Equation.{Equation}
 use Rattle.mw_types.specs.declared.judging.Judgement.{Judgement}
 use Rattle.mw_types.specs.declared.judging.Verdict.{Verdict}
 use Rattle.mw_types.specs.declared.judging.Verdict.TheVariants.{Fine, Clash, Cycle, TooBig}
-use Rattle.mw_types.proofs.Lists.{same, other, is}
-use Rattle.mw_types.proofs.Growing.{get_left, get_last}
-use Rattle.mw_types.proofs.Smallest.{small_take}
+use Rattle.mw_types.proofs.Growing.{each_more}
+use Rattle.mw_types.proofs.Smallest.{least, small_take}
+use Rattle.std.proofs.lemmas.List.{length-replicate}
 use Rattle.mw_types.proofs.Verdicts.{blank_stated}
 
 pub eqs_take : (xs : List Equation) (k : ℕ) → equations_of (take k xs) ≡ take k (equations_of xs)
-eqs_take [] zero = refl
-eqs_take [] (suc k) = refl
-eqs_take (x ∷ xs) zero = refl
 eqs_take (x ∷ xs) (suc k) = ap (λ es. equation_of x ∷ es) (eqs_take xs k)
+eqs_take [] (suc k) = refl
+eqs_take xs k = refl
 
 pub eqs_length : (xs : List Equation) → length (equations_of xs) ≡ length xs
 eqs_length [] = refl
 eqs_length (x ∷ xs) = ap suc (eqs_length xs)
 
-take_all : (es : List TypeEquation) (k : ℕ) → length es ≤ k → take k es ≡ es
-take_all [] zero le = refl
-take_all [] (suc k) le = refl
-take_all (e ∷ es) zero le = absurd (omega arith)
-take_all (e ∷ es) (suc k) le = ap (λ x. e ∷ x) (take_all es k (omega arith))
-
 none_small : (n : ℕ) (es : List TypeEquation) → Small n (take 0 es)
-none_small n [] = record {
-  by = record { ty = λ u. int_type; classifier = λ c. c };
-  solves = tt;
-  small = λ u lt.
-      omega arith;
-}
-none_small n (e ∷ es) = record {
-  by = record { ty = λ u. int_type; classifier = λ c. c };
-  solves = tt;
-  small = λ u lt.
-      omega arith;
-}
+none_small n es = record { by = least; solves = no_equation es; small = λ u lt. omega arith }
+  where
+    no_equation : (fs : List TypeEquation) → Solves least (take 0 fs)
+    no_equation [] = tt
+    no_equation fs = tt
 
 front_judged : (n : ℕ) (xs : List Equation) (front : Judgement) → JudgesFront n xs front
     → Judges n (take front.end (equations_of xs)) front.verdict
 front_judged n xs front j = subst (λ es. Judges n es front.verdict) (eqs_take xs front.end) j
-
-front_small : (n : ℕ) (xs : List Equation) (k : ℕ) (v : Verdict) → v ≡ Fine → Judges n (take k (equations_of xs)) v
-    → Small n (take k (equations_of xs))
-front_small n xs k v e j = subst (λ x. Judges n (take k (equations_of xs)) x) e j
 
 pub halved_start : (n : ℕ) (xs : List Equation) (front : Judgement) → JudgesFront n xs front → front.verdict ≢ Fine
     → Halved n (equations_of xs) 0 front.end front.verdict
@@ -67,12 +48,8 @@ halved_start n xs front j f =
 pub halved_low : (n : ℕ) (xs : List Equation) (low high k : ℕ) (v : Verdict) (front : Judgement)
     → Halved n (equations_of xs) low high v → JudgesFront n xs front → front.verdict ≡ Fine → front.end ≡ k
     → Halved n (equations_of xs) k high v
-halved_low n xs low high k v front h j f e = record {
-  small = subst (λ i. Small n (take i (equations_of xs))) e
-      (front_small n xs front.end front.verdict f (front_judged n xs front j));
-  judged = h.judged;
-  faulty = h.faulty;
-}
+halved_low n xs low high k v front h j f e =
+    record { small = rw (← e) (rw f at (front_judged n xs front j)); judged = h.judged; faulty = h.faulty }
 
 pub halved_high : (n : ℕ) (xs : List Equation) (low high : ℕ) (v : Verdict) (front : Judgement)
     → Halved n (equations_of xs) low high v → JudgesFront n xs front → front.verdict ≢ Fine
@@ -83,8 +60,7 @@ halved_high n xs low high v front h j f =
 -- a state of no equations
 pub blank_front : (n m : ℕ) (xs : List Equation) (s : State) → Blank n m s → StatesFront n m xs 0 s
 blank_front n m xs s b = record {
-  stated = subst (λ i. Stated i m [] s) b.node_count
-      (subst (λ i. Stated (length s.parent.items) i [] s) b.classifier_count (blank_stated s b.sound b.means));
+  stated = rw (← b.node_count, ← b.classifier_count) (blank_stated s b.sound b.means);
   settled = b.settled;
 }
 
@@ -102,70 +78,40 @@ copy_stated c h = record {
   long = rw c.parent h.long;
   classifier_count = rw c.classifier h.classifier_count;
   shaped = rw (c.parent, c.shape) h.shaped;
-  out = λ a k. h.out a (record {
-    types = rw c.parent at k.types;
-    classifiers = rw c.classifier at k.classifiers;
-    shapes = rw c.shape at k.shapes;
-    waits = rw c.waiting at k.waits;
-  });
-  more = λ a k. let x = h.more a k in (
-    x.0,
-    x.1,
-    record {
-      types = rw c.parent x.2.types;
-      classifiers = rw c.classifier x.2.classifiers;
-      shapes = rw c.shape x.2.shapes;
-      waits = rw c.waiting x.2.waits;
-    },
-  );
+  out = λ a k. h.out a (rw (c.parent, c.shape, c.classifier, c.waiting) at k);
+  more = λ a k. let x = h.more a k in (x.0, x.1, rw (c.parent, c.shape, c.classifier, c.waiting) x.2);
 }
 
 pub copy_front : {n m k : ℕ} {xs : List Equation} {s t : State} → IsCopy s t → StatesFront n m xs k s
     → StatesFront n (length t.classifier.items) xs k t
-copy_front {n = n} {m = m} {k = k} {xs = xs} {s = s} {t = t} c h =
-    let e : length t.classifier.items ≡ m = ap length c.classifier ∙ h.stated.classifier_count in
-    subst (λ i. StatesFront n i xs k t) (sym e)
+copy_front c h = rw (ap length c.classifier ∙ h.stated.classifier_count)
     (record { stated = copy_stated c h.stated; settled = c.waiting ∙ h.settled })
 
 pub ready_front : (n m l k : ℕ) (xs : List Equation) (t : State) → l ≡ m → Ready n l (equations_of (take k xs)) t
     → StatesFront n m xs k t
-ready_front n m l k xs t e r = record {
-  stated = subst (λ i. Stated n i (equations_of (take k xs)) t) e r.stated;
-  settled = r.empty;
-}
+ready_front n m l k xs t e r = record { stated = rw e at r.stated; settled = r.empty }
 
 pub first_unsolvable : (n : ℕ) (xs : List Equation) (low high : ℕ) (v : Verdict) → Halved n (equations_of xs) low high v
     → high ≤ low + 1 → high ≤ length xs → (v ≡ Clash) ⊎ (v ≡ Cycle) → UnsolvableAt n (equations_of xs) high
 first_unsolvable n xs low high v h le lt e = record {
   within = omega (arith, eqs_length xs);
   shorter = λ j jl. small_take (equations_of xs) j low (omega arith) h.small;
-  fault = elim e [
-    | inl f ↦ subst (λ x. Judges n (take high (equations_of xs)) x) f h.judged
-    | inr f ↦ subst (λ x. Judges n (take high (equations_of xs)) x) f h.judged
-  ];
+  fault = elim e [ inl f ↦ rw f at h.judged | inr f ↦ rw f at h.judged ];
 }
 
 pub first_too_big : (n : ℕ) (xs : List Equation) (low high : ℕ) (v : Verdict) → Halved n (equations_of xs) low high v
     → high ≤ low + 1 → high ≤ length xs → v ≡ TooBig → TooBigAt n (equations_of xs) high
-first_too_big n xs low high v h le lt e =
-    let j : Judges n (take high (equations_of xs)) TooBig = subst (λ x. Judges n (take high (equations_of xs)) x) e
-    h.judged in
-    record {
-      within = omega (arith, eqs_length xs);
-      shorter = λ k jl. small_take (equations_of xs) k low (omega arith)
-          h.small;
-      solvable = j.0;
-      fault = j.1;
-    }
+first_too_big n xs low high v h le lt e = let j = rw e at h.judged in record {
+  within = omega (arith, eqs_length xs);
+  shorter = λ k jl. small_take (equations_of xs) k low (omega arith) h.small;
+  solvable = j.0;
+  fault = j.1;
+}
 
 free_at : (n i : ℕ) → slice_index_or (replicate n Free) i Free ≡ Free
 free_at zero i = refl
 free_at (suc n) zero = refl
 free_at (suc n) (suc i) = free_at n i
-
-free_length : (n : ℕ) → length (replicate n Free) ≡ n
-free_length zero = refl
-free_length (suc n) = ap suc (free_length n)
 
 pub all_free : (n k : ℕ) (hs : List Shape) → k ≡ 0 → hs ≡ take n [] ++ replicate (n - k) Free → hs ≡ replicate n Free
 all_free zero k hs f g = let e : zero - k ≡ zero = omega arith in rw e at g
@@ -174,10 +120,7 @@ all_free (suc n) k hs f g = let e : suc n - k ≡ suc n = omega arith in rw e at
 pub one_alone : (n : ℕ) (ps qs : List ℕ) → qs ≡ ps ++ n ∷ [] → AreAlone n ps → AreAlone (n + 1) qs
 one_alone n ps qs e a = rw e (record {
   long = omega (arith, length-append ps (n ∷ []), a.long);
-  own = λ i lt. elim (is i n) [
-    | same q ↦ get_last ps n 0 i (q ∙ sym a.long) ∙ sym q
-    | other o ↦ get_left ps n 0 i (omega (arith, a.long)) ∙ a.own i (omega arith)
-  ];
+  own = each_more (λ i x. x ≡ i) ps n 0 n a.long a.own refl;
 })
 
 -- a state in which each class is of one node or classifier unknown and has no shape
@@ -187,7 +130,7 @@ all_blank n m s p c h w = record {
   sound = record {
     low = λ i lt. let e = p.own i (omega (arith, p.long)) in omega arith;
     low_classifiers = λ i lt. let e = c.own i (omega (arith, c.long)) in omega arith;
-    lengths = ap length h ∙ free_length n ∙ sym p.long;
+    lengths = ap length h ∙ length-replicate n Free ∙ sym p.long;
     bare = λ i lt o. rw h (free_at n i);
     inside = λ i. rw (h, free_at n i) tt;
     waiting = rw w tt;

@@ -5,13 +5,11 @@ use Rattle.mw_types.specs.Types.{TypeExpression, int_ty, bool_ty, unknown, pair_
 use Rattle.mw_types.specs.Types.{Assignment, value}
 use Rattle.mw_types.specs.Numbered.{IsNumbered, an_int, a_bool, seen, next, a_pair, a_function, code_seen, code_next}
 use Rattle.mw_types.specs.Numbered.{a_closed}
+use Rattle.mw_types.proofs.Smallest.{least}
 
 -- what an assignment of plain types makes of the first type, some assignment makes of the second
 abbrev pub Includes : TypeExpression → TypeExpression → Type 0
 Includes s t = (b : Assignment) → ((u : ℕ) → IsPlain (b.ty u)) → (d : Assignment) × (value b s ≡ value d t)
-
-abbrev least : Assignment
-least = record { ty = λ u. int_type; classifier = λ c. c }
 
 -- a plain type for each number, another for each, and none of them a word
 chain : ℕ → TermType
@@ -64,21 +62,16 @@ alike f g d e int_ty int_ty h = ints
 alike f g d e bool_ty bool_ty h = bools
 alike f g d e (unknown u) (unknown v) h = unknowns
 alike f g d e (pair_ty s t) (pair_ty p q) h =
-    let i = h.least_of in let j = h.least_by in let k = h.tagged_of in let l = h.tagged_by in
     pairs (alike f g d e s p (record { least_of = cc; least_by = cc; tagged_of = cc; tagged_by = cc }))
     (alike f g d e t q (record { least_of = cc; least_by = cc; tagged_of = cc; tagged_by = cc }))
 alike f g d e (function_ty s t) (function_ty p q) h =
-    let i = h.least_of in let j = h.least_by in let k = h.tagged_of in let l = h.tagged_by in
     functions (alike f g d e s p (record { least_of = cc; least_by = cc; tagged_of = cc; tagged_by = cc }))
     (alike f g d e t q (record { least_of = cc; least_by = cc; tagged_of = cc; tagged_by = cc }))
 alike f g d e (code_ty c t) (code_ty b q) h =
-    let i = h.least_of in let j = h.least_by in let k = h.tagged_of in let l = h.tagged_by in
     codes (alike f g d e t q (record { least_of = cc; least_by = cc; tagged_of = cc; tagged_by = cc }))
 alike f g d e (closed_ty t) (closed_ty q) h =
-    let i = h.least_of in let j = h.least_by in let k = h.tagged_of in let l = h.tagged_by in
     closed (alike f g d e t q (record { least_of = cc; least_by = cc; tagged_of = cc; tagged_by = cc }))
-alike f g d e s t h = absurd (let i = h.least_of in let j = h.least_by in let k = h.tagged_of in let l = h.tagged_by in
-    cc)
+alike f g d e s t h = absurd (cc)
 
 -- the numbers below n and m stand for themselves under d and e
 record Settled (d e : Assignment) (n m : ℕ) : Type 0 where
@@ -122,21 +115,22 @@ record Same (d e : Assignment) (s t : TypeExpression) (k l p q : ℕ) : Type 0 w
   classifiers : l ≡ q
   settled : Settled d e k l
 
+of_parts : {d e : Assignment} {s t u v : TypeExpression} {k l p q : ℕ} → u ≡ v → Same d e s t k l p q
+    → Same d e u v k l p q
+of_parts x r = record { types = x; unknowns = r.unknowns; classifiers = r.classifiers; settled = r.settled }
+
 same : (d e : Assignment) {n m k l p q : ℕ} {s t : TypeExpression} → Alike s t → value tagged s ≡ value d t
     → value tagged t ≡ value e s → IsNumbered n m s k l → IsNumbered n m t p q → Settled d e n m → Same d e s t k l p q
 same d e ints i j an_int an_int h = record { types = refl; unknowns = refl; classifiers = refl; settled = h }
 same d e bools i j a_bool a_bool h = record { types = refl; unknowns = refl; classifiers = refl; settled = h }
 same d e (unknowns {u = u} {v = v}) i j (seen a) (seen b) h =
-    let x = h.types_of v b in
-    let y : u ≡ v = tag-one u v (i ∙ x) in
+    let y : u ≡ v = tag-one u v (i ∙ h.types_of v b) in
     record { types = rw y refl; unknowns = refl; classifiers = refl; settled = h }
 same d e (unknowns {u = u} {v = v}) i j (seen a) (next b) h =
-    let x = h.types_by u a in
-    let y : v ≡ u = tag-one v u (j ∙ x) in
+    let y : v ≡ u = tag-one v u (j ∙ h.types_by u a) in
     absurd (omega arith)
 same d e (unknowns {u = u} {v = v}) i j (next a) (seen b) h =
-    let x = h.types_of v b in
-    let y : u ≡ v = tag-one u v (i ∙ x) in
+    let y : u ≡ v = tag-one u v (i ∙ h.types_of v b) in
     absurd (omega arith)
 same d e {n = n} (unknowns {u = u} {v = v}) i j (next a) (next b) h =
     let x : d.ty n ≡ tag n = ap d.ty (sym b) ∙ sym i ∙ ap (λ w. tag w) a in
@@ -145,28 +139,16 @@ same d e {n = n} (unknowns {u = u} {v = v}) i j (next a) (next b) h =
 same d e (pairs x y) i j (a_pair a b) (a_pair f g) h =
     let r = same d e x (cc) (cc) a f h in
     let s = same d e y (cc) (cc) b (rw (r.unknowns, r.classifiers) g) r.settled in
-    record {
-      types = rw (r.types, s.types) refl;
-      unknowns = s.unknowns;
-      classifiers = s.classifiers;
-      settled =
-          s.settled;
-    }
+    of_parts (rw (r.types, s.types) refl) s
 same d e (functions x y) i j (a_function a b) (a_function f g) h =
     let r = same d e x (cc) (cc) a f h in
     let s = same d e y (cc) (cc) b (rw (r.unknowns, r.classifiers) g) r.settled in
-    record {
-      types = rw (r.types, s.types) refl;
-      unknowns = s.unknowns;
-      classifiers = s.classifiers;
-      settled =
-          s.settled;
-    }
+    of_parts (rw (r.types, s.types) refl) s
 same d e (codes {c = c} {b = b} x) i j (code_seen p f) (code_seen q g) h =
     let y : c ≡ d.classifier b = cc in
     let z : c ≡ b = y ∙ h.classifiers_of b q in
     let r = same d e x (cc) (cc) f g h in
-    record { types = rw (z, r.types) refl; unknowns = r.unknowns; classifiers = r.classifiers; settled = r.settled }
+    of_parts (rw (z, r.types) refl) r
 same d e (codes {c = c} {b = b} x) i j (code_seen p f) (code_next q g) h =
     let y : b ≡ e.classifier c = cc in
     let z : b ≡ c = y ∙ h.classifiers_by c p in
@@ -181,10 +163,10 @@ same d e {m = m} (codes {c = c} {b = b} x) i j (code_next p f) (code_next q g) h
     let v : d.classifier m ≡ m = ap d.classifier (sym q) ∙ sym y ∙ p in
     let w : e.classifier m ≡ m = ap e.classifier (sym p) ∙ sym z ∙ q in
     let r = same d e x (cc) (cc) f g (settled-classifier v w h) in
-    record { types = rw (p, q, r.types) refl; unknowns = r.unknowns; classifiers = r.classifiers; settled = r.settled }
+    of_parts (rw (p, q, r.types) refl) r
 same d e (closed x) i j (a_closed f) (a_closed g) h =
     let r = same d e x (cc) (cc) f g h in
-    record { types = rw r.types refl; unknowns = r.unknowns; classifiers = r.classifiers; settled = r.settled }
+    of_parts (rw r.types refl) r
 
 -- two types are one, and so are the numbers that were seen after them
 pub record AreOne (s t : TypeExpression) (k l p q : ℕ) : Type 0 where

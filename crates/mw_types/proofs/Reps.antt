@@ -7,7 +7,7 @@ use Rattle.std.specs.Prelude.{slice_index_or}
 use Rattle.mw_types.specs.Equations.{Agree}
 use Rattle.mw_types.specs.Types.{TypeExpression, int_ty, Assignment, nodes, Substitution, after}
 use Rattle.mw_types.specs.Forest.{Low, Same}
-use Rattle.mw_types.specs.Satisfying.{Waits, Means, Sound}
+use Rattle.mw_types.specs.Satisfying.{Satisfies, Means, Sound}
 use Rattle.mw_types.specs.Stands.{Stands, Names, Settled}
 use Rattle.mw_types.specs.Walks.{AllSized}
 use Rattle.mw_types.specs.declared.state.State.{State}
@@ -73,21 +73,15 @@ module _ (s : State) (sizes : List ℕ) (sound : Sound s) (empty : s.waiting.ite
   settled = record { each = λ i lt. at_stands i (in_or_out s.parent.items i) lt; names = named }
 
   pub answer_sound : (b : Assignment) → Means s (after b answer)
-  answer_sound b = let h = settled_sound s.parent.items s.shape.items s.classifier.items answer sound.low sound.lengths
-      sound.bare sound.inside settled b in
-      record {
-        types = h.types;
-        classifiers = h.classifiers;
-        shapes = h.shapes;
-        waits =
-            subst (λ ws. Waits ws (after b answer)) (sym empty) tt;
-      }
+  answer_sound b = subst (λ ws. Satisfies s.parent.items s.shape.items s.classifier.items ws (after b answer))
+      (sym empty)
+      (settled_sound s.parent.items s.shape.items s.classifier.items answer sound.low sound.lengths sound.bare
+      sound.inside settled b)
 
   pub answer_general : (a : Assignment) → Means s a → Agree (length s.parent.items) (length s.classifier.items) a
       (after a answer)
   answer_general a h = settled_general s.parent.items s.shape.items s.classifier.items answer sound.low sound.lengths
-      sound.bare sound.inside settled a
-      (record { types = h.types; classifiers = h.classifiers; shapes = h.shapes; waits = tt })
+      sound.bare sound.inside settled a (rw empty at h)
 
   pub answer_size : (u : ℕ) → u < length s.parent.items → slice_index_or sizes u 0 ≡ min (nodes (answer.ty u)) 10001
   unfolding answer

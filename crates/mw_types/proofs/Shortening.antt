@@ -6,6 +6,7 @@ use Rattle.mw_types.specs.Satisfying.{Sound, Step, Never}
 use Rattle.mw_types.specs.declared.state.State.{State}
 use Rattle.mw_types.specs.Shorter.{Shorter, FindsRoot}
 use Rattle.mw_types.proofs.Lists.{same, other, is, get_other, get_here, set_length}
+use Rattle.mw_types.proofs.Steps.{then_step, map_step}
 use Rattle.mw_types.proofs.Link.{low_set, same_set, same_unset, set_same, halve_to, halve_from}
 
 pub step_shorter : (ps qs : List ℕ) (from at up : ℕ) → Shorter ps qs from at → slice_index_or qs at 0 ≢ at
@@ -67,12 +68,8 @@ shorter_step s t from at p h f g w = record {
     record { types = ty; classifiers = rw g at k.classifiers; shapes = rw f at k.shapes; waits = rw w at k.waits },
     h.types_at a.ty ty,
   );
-  back = λ a k x. record {
-    types = h.types_to a.ty k.types;
-    classifiers = rw g k.classifiers;
-    shapes = rw f k.shapes;
-    waits = rw w k.waits;
-  };
+  back = λ a k x. let ty = h.types_to a.ty k.types in
+      rw (f, g, w) (record { types = ty; classifiers = k.classifiers; shapes = k.shapes; waits = k.waits });
 }
 
 pub found : (s t : State) (from at : ℕ) → Sound s → Shorter s.parent.items t.parent.items from at → t.shape.items
@@ -84,15 +81,9 @@ found s t from at p h f g w =
 -- two finds, and a link of what they found
 pub linked_finds : {s t u v : State} {i j one two : ℕ} → FindsRoot s t i one → FindsRoot t u j two
     → Step u v (λ a. a.ty one ≡ a.ty two) → Step s v (λ a. a.ty i ≡ a.ty j)
-linked_finds p q r = record {
-  sound = r.sound;
-  node_count = r.node_count ∙ q.step.node_count ∙ p.step.node_count;
-  classifier_count = r.classifier_count ∙ q.step.classifier_count ∙ p.step.classifier_count;
-  shaped = λ n k. r.shaped n (q.step.shaped n (p.step.shaped n k));
-  out = λ a h. let x = r.out a h in let y = q.step.out a x.0 in let z = p.step.out a y.0 in (z.0, z.1 ∙ x.1 ∙ sym y.1);
-  back = λ a h e. let z = p.step.back a h (p.same a h) in let y = q.step.back a z (q.same a z) in
-      r.back a y (sym (p.same a h) ∙ e ∙ q.same a z);
-}
+linked_finds p q r = map_step (λ a h x. x.0.0 ∙ x.1 ∙ sym x.0.1)
+    (λ a h e. let y = q.same a (p.step.back a h (p.same a h)) in ((p.same a h, y), sym (p.same a h) ∙ e ∙ y))
+    (then_step (then_step p.step q.step) r)
 
 pub never_finds : {s t u : State} {i j one two : ℕ} → FindsRoot s t i one → FindsRoot t u j two
     → Never u (λ a. a.ty one ≡ a.ty two) → Never s (λ a. a.ty i ≡ a.ty j)
@@ -100,14 +91,7 @@ never_finds p q n a h e = let z = p.step.back a h (p.same a h) in let y = q.step
     n a y (sym (p.same a h) ∙ e ∙ q.same a z)
 
 pub found_same : {s t : State} {i r : ℕ} → FindsRoot s t i r → Step s t (λ a. Unit {0})
-found_same p = record {
-  sound = p.step.sound;
-  node_count = p.step.node_count;
-  classifier_count = p.step.classifier_count;
-  shaped = p.step.shaped;
-  out = λ a h. ((p.step.out a h).0, tt);
-  back = λ a h x. p.step.back a h (p.same a h);
-}
+found_same p = map_step (λ a h x. tt) (λ a h x. p.same a h) p.step
 
 -- two finds among the classifiers, and one root put under the other
 pub joins_down : (cs ds es : List ℕ) (c d one two : ℕ) → Shorter cs ds c one → Shorter ds es d two → two < length es

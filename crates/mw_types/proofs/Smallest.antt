@@ -1,41 +1,34 @@
 -- Sizes of most general solutions; longer fronts.
 use Rattle.std.proofs.Common.{◌≡◌, ℕ, zero, suc, ◌≤◌, ◌<◌, List, [], ◌∷◌, take, refl, arith}
-use Rattle.mw_term.specs.Types.{TermType, int_type, bool_type, pair_type, function_type, code_type, closed_type}
+use Rattle.mw_term.specs.Types.{TermType, int_type}
 use Rattle.mw_types.specs.Equations.{TypeEquation, Solves, MostGeneral, IsSmall, TooBig}
 use Rattle.mw_types.specs.Fronts.{Small}
-use Rattle.mw_types.specs.Types.{TypeExpression, int_ty, bool_ty, unknown, pair_ty, function_ty, code_ty, closed_ty}
+use Rattle.mw_types.specs.Types.{TypeExpression, unknown, pair_ty, function_ty, code_ty, closed_ty}
 use Rattle.mw_types.specs.Types.{Assignment, value, nodes, size, Substitution, after}
 
 pub size_pos : (t : TermType) → 1 ≤ size t
 size_pos int_type = omega arith
-size_pos bool_type = omega arith
-size_pos (pair_type s t) = omega arith
-size_pos (function_type s t) = omega arith
-size_pos (code_type a t) = omega arith
-size_pos (closed_type t) = omega arith
+size_pos t = omega arith
 
 -- an assignment makes no type smaller
 pub grows : (b : Assignment) (t : TypeExpression) → nodes t ≤ size (value b t)
-grows b int_ty = omega arith
-grows b bool_ty = omega arith
 grows b (unknown u) = size_pos (b.ty u)
 grows b (pair_ty s t) = omega (arith, grows b s, grows b t)
 grows b (function_ty s t) = omega (arith, grows b s, grows b t)
 grows b (code_ty c t) = omega (arith, grows b t)
 grows b (closed_ty t) = omega (arith, grows b t)
+grows b t = omega arith
 
 -- int for each unknown, and each classifier as it is
 abbrev pub least : Assignment
 least = record { ty = λ u. int_type; classifier = λ c. c }
 
 pub least_size : (t : TypeExpression) → size (value least t) ≡ nodes t
-least_size int_ty = refl
-least_size bool_ty = refl
-least_size (unknown u) = refl
 least_size (pair_ty s t) = omega (arith, least_size s, least_size t)
 least_size (function_ty s t) = omega (arith, least_size s, least_size t)
 least_size (code_ty c t) = omega (arith, least_size t)
 least_size (closed_ty t) = omega (arith, least_size t)
+least_size t = refl
 
 -- a most general solution is the smallest of all, at every unknown
 pub smallest : {n m : ℕ} {es : List TypeEquation} {s : Substitution} → MostGeneral n m es s → (a : Assignment)
@@ -69,14 +62,10 @@ too_big_not_small b h = omega (arith, most_general_small b.1 h b.2 b.3, b.4)
 -- what solves a front solves the shorter ones
 pub solves_take : (a : Assignment) (es : List TypeEquation) (j k : ℕ) → j ≤ k → Solves a (take k es)
     → Solves a (take j es)
-solves_take a [] zero zero le h = h
-solves_take a [] zero (suc k) le h = h
-solves_take a [] (suc j) zero le h = h
-solves_take a [] (suc j) (suc k) le h = h
-solves_take a (e ∷ es) zero zero le h = tt
-solves_take a (e ∷ es) zero (suc k) le h = tt
 solves_take a (e ∷ es) (suc j) zero le h = absurd (omega arith)
 solves_take a (e ∷ es) (suc j) (suc k) le h = (h.0, solves_take a es j k (omega arith) h.1)
+solves_take a [] (suc j) k le h = tt
+solves_take a es j k le h = tt
 
 pub small_take : {n : ℕ} (es : List TypeEquation) (j k : ℕ) → j ≤ k → Small n (take k es) → Small n (take j es)
 small_take es j k le h = record { by = h.by; solves = solves_take h.by es j k le h.solves; small = h.small }

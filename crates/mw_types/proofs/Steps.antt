@@ -6,8 +6,9 @@ use Rattle.std.specs.Prelude.{slice_index_or, slice_set, IfOk, Result, Ok, Err}
 use Rattle.mw_term.specs.Types.{pair_type, function_type, code_type, closed_type}
 use Rattle.mw_types.specs.Types.{Assignment}
 use Rattle.mw_types.specs.Forest.{Low, Joins}
-use Rattle.mw_types.specs.Satisfying.{Meets, Waits, joined, Means, Meeting, kept, Extra, ExtraInside, Inside, WaitsInside}
-use Rattle.mw_types.specs.Satisfying.{Sound, Step, Linked}
+use Rattle.mw_types.specs.Satisfying.{Meets, Waits, joined, Means, Meeting, kept, Extra, ExtraInside, Inside}
+use Rattle.mw_types.specs.Satisfying.{WaitsInside}
+use Rattle.mw_types.specs.Satisfying.{Sound, Step, Linked, Never}
 use Rattle.mw_types.specs.declared.state.Shape.{Shape}
 use Rattle.mw_types.specs.declared.state.Shape.TheVariants.{Free, Pair, Arrow, Code, Closed}
 use Rattle.mw_types.specs.declared.state.Pending.{Pending}
@@ -76,53 +77,84 @@ shape_inside s i h p lt e = subst (λ x. Inside (length s.parent.items) (length 
     (sym (e ∙ get_or_default s.shape.items i h Free (omega (arith, p.lengths)))) (p.inside i)
 
 -- one more waits
-pub waits_more : (ws : List Pending) (w : Pending) (a : Assignment) → Waits (ws ++ w ∷ []) a → Waits ws a
+waits_more : (ws : List Pending) (w : Pending) (a : Assignment) → Waits (ws ++ w ∷ []) a → Waits ws a
     × (a.ty w.left ≡ a.ty w.right)
 waits_more [] w a h = (tt, h.0)
 waits_more (x ∷ ws) w a h = let r = waits_more ws w a h.1 in ((h.0, r.0), r.1)
 
-pub more_waits : (ws : List Pending) (w : Pending) (a : Assignment) → Waits ws a → a.ty w.left ≡ a.ty w.right
+more_waits : (ws : List Pending) (w : Pending) (a : Assignment) → Waits ws a → a.ty w.left ≡ a.ty w.right
     → Waits (ws ++ w ∷ []) a
 more_waits [] w a h e = (e, tt)
 more_waits (x ∷ ws) w a h e = (h.0, more_waits ws w a h.1 e)
 
-pub more_inside : (n : ℕ) (ws : List Pending) (w : Pending) → WaitsInside n ws → w.left < n → w.right < n
+more_inside : (n : ℕ) (ws : List Pending) (w : Pending) → WaitsInside n ws → w.left < n → w.right < n
     → WaitsInside n (ws ++ w ∷ [])
 more_inside n [] w h p q = (p, q, tt)
 more_inside n (x ∷ ws) w h p q = (h.0, h.1, more_inside n ws w h.2 p q)
 
-pub inside_more : (n : ℕ) (ws : List Pending) (w : Pending) → WaitsInside n (ws ++ w ∷ []) → WaitsInside n ws
+inside_more : (n : ℕ) (ws : List Pending) (w : Pending) → WaitsInside n (ws ++ w ∷ []) → WaitsInside n ws
     × (w.left < n) × (w.right < n)
 inside_more n [] w h = (tt, h.0, h.1)
 inside_more n (x ∷ ws) w h = let r = inside_more n ws w h.2 in ((h.0, h.1, r.0), r.1, r.2)
 
-pub wait_step : (s t : State) (w : Pending) → Sound s → w.left < length s.parent.items → w.right < length s.parent.items
-    → t.parent.items ≡ s.parent.items → t.shape.items ≡ s.shape.items → t.classifier.items ≡ s.classifier.items
-    → t.waiting.items ≡ s.waiting.items ++ w ∷ [] → Step s t (λ a. a.ty w.left ≡ a.ty w.right)
-wait_step s t w p l r e f g h = record {
-  sound = record {
-    low = rw e p.low;
-    low_classifiers = rw g p.low_classifiers;
-    lengths = rw (e, f) p.lengths;
-    bare = rw (e, f) p.bare;
-    inside = rw (e, f, g) p.inside;
-    waiting = rw (e, h) (more_inside _ s.waiting.items w p.waiting l r);
-  };
-  node_count = ap length e;
-  classifier_count = ap length g;
-  shaped = λ n k. rw (e, f) k;
-  out = λ a k. let q = waits_more s.waiting.items w a (rw h at k.waits) in (
+-- two states that differ in one that waits: what the second says, a step to it, and one from it
+module _ (s t : State) (w : Pending) (e : t.parent.items ≡ s.parent.items) (f : t.shape.items ≡ s.shape.items)
+    (g : t.classifier.items ≡ s.classifier.items) (h : t.waiting.items ≡ s.waiting.items ++ w ∷ []) where
+  waits_out : (a : Assignment) → Means t a → Means s a × (a.ty w.left ≡ a.ty w.right)
+  waits_out a k = let q = waits_more s.waiting.items w a (rw h at k.waits) in (
     record { types = rw e at k.types; classifiers = rw g at k.classifiers; shapes = rw f at k.shapes; waits = q.0 },
     q.1,
-  );
-  back = λ a k x. record {
-    types = rw e k.types;
-    classifiers = rw g k.classifiers;
-    shapes = rw f k.shapes;
-    waits =
-        rw h (more_waits s.waiting.items w a k.waits x);
-  };
-}
+  )
+
+  waits_back : (a : Assignment) → Means s a → a.ty w.left ≡ a.ty w.right → Means t a
+  waits_back a k x = let q = more_waits s.waiting.items w a k.waits x in
+      rw (e, f, g, h) (record { types = k.types; classifiers = k.classifiers; shapes = k.shapes; waits = q })
+
+  pub wait_step : Sound s → w.left < length s.parent.items → w.right < length s.parent.items
+      → Step s t (λ a. a.ty w.left ≡ a.ty w.right)
+  wait_step p l r = record {
+    sound = record {
+      low = rw e p.low;
+      low_classifiers = rw g p.low_classifiers;
+      lengths = rw (e, f) p.lengths;
+      bare = rw (e, f) p.bare;
+      inside = rw (e, f, g) p.inside;
+      waiting = rw (e, h) (more_inside _ s.waiting.items w p.waiting l r);
+    };
+    node_count = ap length e;
+    classifier_count = ap length g;
+    shaped = λ n k. rw (e, f) k;
+    out = waits_out;
+    back = waits_back;
+  }
+
+  -- one that waited is made one, and the state says the same
+  pub popped : {u : State} → Step s u (λ a. a.ty w.left ≡ a.ty w.right) → Step t u (λ a. Unit {0})
+  popped p = record {
+    sound = p.sound;
+    node_count = p.node_count ∙ sym (ap length e);
+    classifier_count = p.classifier_count ∙ sym (ap length g);
+    shaped = λ n k. p.shaped n (rw (e, f) at k);
+    out = λ a k. let q = p.out a k in (waits_back a q.0 q.1, tt);
+    back = λ a k x. let q = waits_out a k in p.back a q.0 q.1;
+  }
+
+  pub popped_never : Never s (λ a. a.ty w.left ≡ a.ty w.right) → Never t (λ a. Unit {0})
+  popped_never n a k x = let q = waits_out a k in n a q.0 q.1
+
+  pub popped_sound : Sound t → Sound s × (w.left < length s.parent.items) × (w.right < length s.parent.items)
+  popped_sound p = let q = inside_more (length t.parent.items) s.waiting.items w (rw h at p.waiting) in (
+    record {
+      low = rw e at p.low;
+      low_classifiers = rw g at p.low_classifiers;
+      lengths = rw (e, f) at p.lengths;
+      bare = rw (e, f) at p.bare;
+      inside = rw (e, f, g) at p.inside;
+      waiting = rw e at q.0;
+    },
+    rw e at q.1,
+    rw e at q.2,
+  )
 
 pub class_step : (s t : State) (c d : ℕ) → Sound s → t.parent.items ≡ s.parent.items → t.shape.items ≡ s.shape.items
     → t.waiting.items ≡ s.waiting.items → length t.classifier.items ≡ length s.classifier.items → Low t.classifier.items
@@ -141,13 +173,8 @@ class_step s t c d p e f h g l j = record {
   shaped = λ n k. rw (e, f) k;
   out = λ a k. let q = (j a.classifier).0 k.classifiers in
       (record { types = rw e at k.types; classifiers = q.0; shapes = rw f at k.shapes; waits = rw h at k.waits }, q.1);
-  back = λ a k x. record {
-    types = rw e k.types;
-    classifiers = (j a.classifier).1 k.classifiers x;
-    shapes =
-        rw f k.shapes;
-    waits = rw h k.waits;
-  };
+  back = λ a k x. let q = (j a.classifier).1 k.classifiers x in
+      rw (e, f, h) (record { types = k.types; classifiers = q; shapes = k.shapes; waits = k.waits });
 }
 
 kept_inside : (n m : ℕ) (x : Met) → ExtraInside n m x → Inside n m (kept x)
@@ -178,24 +205,10 @@ put_linked s t low high m p below lt rl rh meet full ins e f g h = record {
   classifier_count = rw g refl;
   shaped = λ c n k. rw (e, f) (shaped' c n k);
   extra = rw (e, g, set_length ps high low) ins;
-  out = λ a k x. unlink ps hs cs ws a low high apart lt ll hl rh (kept m) (Extra m a) (pair_ty a)
-      (record {
-        types = rw e at k.types;
-        classifiers = rw g at k.classifiers;
-        shapes = rw f at k.shapes;
-        waits =
-            rw h at k.waits;
-      }) x;
-  back = λ a k q. let r = link ps hs cs ws a low high apart lt ll hl rh (kept m) (Extra m a) (pair_ty a) k q in (
-    record {
-      types = rw e r.0.types;
-      classifiers = rw g r.0.classifiers;
-      shapes = rw f r.0.shapes;
-      waits =
-          rw h r.0.waits;
-    },
-    r.1,
-  );
+  out = λ a k x.
+      unlink ps hs cs ws a low high apart lt ll hl rh (kept m) (Extra m a) (pair_ty a) (rw (e, f, g, h) at k) x;
+  back = λ a k q.
+      rw (e, f, g, h) (link ps hs cs ws a low high apart lt ll hl rh (kept m) (Extra m a) (pair_ty a) k q);
 }
   where
     ps : List ℕ
@@ -277,19 +290,6 @@ put_linked s t low high m p below lt rl rh meet full ins e f g h = record {
             (sym (get_other s.parent.items high i low 0 b) ∙ o))
       ]
     ]
-
--- what is met but Clash
-pub keep_not_clash : {h : Shape} → Keep h ≢ Clash
-keep_not_clash e = absurd (cc)
-
-pub one_not_clash : {h : Shape} {w : Pending} → One h w ≢ Clash
-one_not_clash e = absurd (cc)
-
-pub two_not_clash : {h : Shape} {w x : Pending} → Two h w x ≢ Clash
-two_not_clash e = absurd (cc)
-
-pub classes_not_clash : {h : Shape} {c d : ℕ} {w : Pending} → Classes h c d w ≢ Clash
-classes_not_clash e = absurd (cc)
 
 -- what two shapes come to: a shape and none
 pub free_meets : {x : Shape} (y : Shape) → x ≡ Free → Meeting x y (Keep y)

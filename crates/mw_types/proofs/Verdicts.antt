@@ -13,18 +13,18 @@ use Rattle.mw_types.specs.Walks.{AllSized}
 use Rattle.mw_types.specs.Stands.{Names}
 use Rattle.mw_types.specs.declared.types.Equation.{Equation}
 use Rattle.mw_types.specs.declared.state.State.{State}
+use Rattle.mw_types.proofs.Growing.{agree_less, agree_then}
 use Rattle.mw_types.proofs.Smallest.{grows, least, least_size}
 use Rattle.mw_types.proofs.Reps.{rep, names, answer, answer_sound, answer_general, answer_size}
 
 pub value_agree : {n m : ℕ} {a b : Assignment} → Agree n m a b → (t : TypeExpression) → Within n m t → value a t
     ≡ value b t
-value_agree h TypeExpression.int_ty w = refl
-value_agree h TypeExpression.bool_ty w = refl
 value_agree h (TypeExpression.unknown u) w = h.types u w
 value_agree h (TypeExpression.pair_ty s t) w = rw (value_agree h s w.0, value_agree h t w.1) refl
 value_agree h (TypeExpression.function_ty s t) w = rw (value_agree h s w.0, value_agree h t w.1) refl
 value_agree h (TypeExpression.code_ty c t) w = rw (h.classifiers c w.0, value_agree h t w.1) refl
 value_agree h (TypeExpression.closed_ty t) w = rw (value_agree h t w) refl
+value_agree h t w = refl
 
 solves_snoc : (a : Assignment) (es : List TypeEquation) (e : TypeEquation) → Solves a es → value a e.left
     ≡ value a e.right → Solves a (es ++ e ∷ [])
@@ -68,24 +68,9 @@ one_stated n m es e s t u v l r wl wr h p q k f = record {
       let y = p.more x.0 x.2 in
       let w = q.more y.0 y.2 in
       let b = w.0 in
-      let one : Agree n m x.0 y.0 =
-      record {
-        types = λ i lt. y.1.types i (let g = h.long in omega arith);
-        classifiers = λ c lt.
-            y.1.classifiers c (let g = h.classifier_count in omega arith);
-      } in
-      let two : Agree n m y.0 b =
-      record {
-        types = λ i lt. w.1.types i (let g = h.long in let f = p.long in omega arith);
-        classifiers = λ c lt.
-            w.1.classifiers c (let g = h.classifier_count in let f = p.classifier_count in omega arith);
-      } in
-      let ag : Agree n m a b =
-      record {
-        types = λ i lt. x.1.types i lt ∙ one.types i lt ∙ two.types i lt;
-        classifiers = λ c lt.
-            x.1.classifiers c lt ∙ one.classifiers c lt ∙ two.classifiers c lt;
-      } in
+      let ag : Agree n m a b = agree_then x.1
+      (agree_then (agree_less h.long (omega (arith, h.classifier_count)) y.1)
+      (agree_less (omega (arith, h.long, p.long)) (omega (arith, h.classifier_count, p.classifier_count)) w.1)) in
       let yb = q.out b w.2 in
       let xb = p.out b yb.0 in
       (b, ag, k.back b w.2 (xb.1 ∙ sym (value_agree ag e.left wl) ∙ d.1 ∙ value_agree ag e.right wr ∙ sym yb.1));
@@ -94,9 +79,6 @@ one_stated n m es e s t u v l r wl wr h p q k f = record {
 pub never_unsolvable : (n m : ℕ) (es : List TypeEquation) (s : State) → Stated n m es s → Never s (λ a. Unit {0})
     → Solvable es → ⊥
 never_unsolvable n m es s h k x = let y = h.more x.0 x.1 in k y.0 y.2 tt
-
-pub never_after : (s t : State) → Step s t (λ a. Unit {0}) → Never t (λ a. Unit {0}) → Never s (λ a. Unit {0})
-never_after s t p k a h x = k a (p.back a h tt) tt
 
 -- what follows a step that says nothing more
 pub stated_after : {n m : ℕ} {es : List TypeEquation} {s t : State} → Stated n m es s → Step s t (λ a. Unit {0})
@@ -135,8 +117,7 @@ module _ (n m : ℕ) (es : List TypeEquation) (s t : State) (stated : Stated n m
   fine f = record {
     by = after least σ;
     solves = solves;
-    small = λ u lt. let p = counted u lt in let q = f u lt in
-        omega (arith, least_size (σ.ty u));
+    small = λ u lt. omega (arith, counted u lt, f u lt, least_size (σ.ty u));
   }
 
   pub ready : ((u : ℕ) → u < n → slice_index_or sizes u 0 ≤ 10000) → Ready n m es t
@@ -153,9 +134,7 @@ module _ (n m : ℕ) (es : List TypeEquation) (s t : State) (stated : Stated n m
     (λ h. let x = stated.more h.by h.solves in
         let e : size (h.by.ty u) ≡ size (value x.0 (σ.ty u)) =
         ap size (x.1.types u lt ∙ general x.0 (step.back x.0 x.2 tt) u lt) in
-        let p = counted u lt in
-        let q = h.small u lt in
-        omega (arith, grows x.0 (σ.ty u))),
+        omega (arith, counted u lt, h.small u lt, grows x.0 (σ.ty u))),
   )
 
 pub take_one : (xs : List Equation) (i : ℕ) (x : Equation) → slice_get xs i ≡ Some x → equations_of (take (i + 1) xs)
@@ -164,12 +143,6 @@ take_one [] i x e = absurd (cc)
 take_one (y ∷ xs) zero x e = let p : y ≡ x = cc in rw p refl
 take_one (y ∷ xs) (suc i) x e = let q : suc i + 1 ≡ suc (i + 1) = omega arith in
     rw q (ap (λ es. equation_of y ∷ es) (take_one xs i x e))
-
-pub take_all : (xs : List Equation) (i : ℕ) → length xs ≤ i → take i xs ≡ xs
-take_all [] zero le = refl
-take_all [] (suc i) le = refl
-take_all (y ∷ xs) zero le = absurd (omega arith)
-take_all (y ∷ xs) (suc i) le = ap (λ ys. y ∷ ys) (take_all xs i (omega arith))
 
 pub item_within : (n m : ℕ) (xs : List Equation) (i : ℕ) (x : Equation) → AllWithin n m (equations_of xs)
     → slice_get xs i ≡ Some x → Within n m (type_of x.left) × Within n m (type_of x.right)

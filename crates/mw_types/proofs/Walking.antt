@@ -1,12 +1,13 @@
 -- Steps of the walk over classes.
-use Rattle.std.proofs.Common.{length-append, ◌≡◌, ◌≢◌, ◌⊎◌, inl, inr, ℕ, zero, suc, ◌+◌, ◌*◌, ◌≤◌, ◌<◌, min, List, []}
+use Rattle.std.proofs.Common.{length-append, ◌≡◌, ◌≢◌, ◌⊎◌, inl, inr, ℕ, zero, suc, ◌+◌, ◌*◌, ◌≤◌, ◌<◌, List, []}
 use Rattle.std.proofs.Common.{◌∷◌, ◌++◌, length, refl, ap, sym, subst, ◌∙◌, arith}
 use Rattle.std.proofs.lemmas.List.{get_or_default}
 use Rattle.std.specs.Prelude.{slice_index_or, slice_set}
+use Rattle.mw_term.specs.Types.{TermType}
 use Rattle.mw_types.specs.Types.{TypeExpression, int_ty, bool_ty, unknown, pair_ty, function_ty, code_ty, closed_ty}
 use Rattle.mw_types.specs.Types.{Assignment, nodes, size}
 use Rattle.mw_types.specs.Forest.{Leads, here, up}
-use Rattle.mw_types.specs.Satisfying.{Means, Sound, Never}
+use Rattle.mw_types.specs.Satisfying.{Meets, Sound, Never}
 use Rattle.mw_types.specs.Stands.{Stands, s_up, s_free, s_int, s_bool, s_pair, s_arrow, s_code, s_closed}
 use Rattle.mw_types.specs.Walks.{Sized, Marked, Above, RootOf, Lower, AllAbove, AllBelow, Falls, In, Walk, fresh}
 use Rattle.mw_types.specs.Walks.{OverOne, OverTwo, Looks}
@@ -17,7 +18,7 @@ use Rattle.mw_types.specs.declared.walk.Mark.{Mark}
 use Rattle.mw_types.specs.declared.walk.Mark.TheVariants.{New, Open, Done}
 use Rattle.mw_types.specs.declared.walk.Look.{Look}
 use Rattle.mw_types.specs.declared.walk.Look.TheVariants.{Ready, Down}
-use Rattle.mw_types.proofs.Lists.{same, other, is, get_other, get_here, set_length}
+use Rattle.mw_types.proofs.Lists.{same, other, is, get_here, set_length, written, kept, read_set}
 use Rattle.mw_types.proofs.Link.{leads_same}
 
 -- what a representative stands for, its nodes stand for
@@ -50,55 +51,6 @@ found_root s marks x r d m l lt e n = record {
   same = λ a h. leads_same a.ty h.types l;
 }
 
--- a class is as large as its parts and one
-pub sized_leaf : (s : State) (x : ℕ) (t : TypeExpression) → nodes t ≡ 1
-    → ((classifier : ℕ → ℕ) → Stands s.parent.items s.shape.items classifier x t) → Sized s x 1
-sized_leaf s x t e h = record { type = λ k. t; stands = h; count = λ k. rw e refl }
-
-pub sized_as : {s : State} {x : ℕ} (n m : ℕ) → m ≡ n → Sized s x n → Sized s x m
-sized_as n m e h = rw e h
-
-one_more : (n m : ℕ) → n ≡ min m 10001 → min (n + 1) 10001 ≡ min (m + 1) 10001
-one_more n m e = omega arith
-
-two_more : (n m k l : ℕ) → n ≡ min m 10001 → k ≡ min l 10001 → min (n + k + 1) 10001 ≡ min (m + l + 1) 10001
-two_more n m k l e f = omega arith
-
-pub sized_pair : (s : State) (x l r n m : ℕ) → slice_index_or s.parent.items x 0 ≡ x
-    → slice_index_or s.shape.items x Free ≡ Pair l r → Sized s l n → Sized s r m → Sized s x (min (n + m + 1) 10001)
-sized_pair s x l r n m e f p q =
-    record {
-      type = λ k. pair_ty (p.type k) (q.type k);
-      stands = λ k. s_pair e f (p.stands k) (q.stands k);
-      count = λ k.
-          two_more n _ m _ (p.count k) (q.count k);
-    }
-
-pub sized_arrow : (s : State) (x l r n m : ℕ) → slice_index_or s.parent.items x 0 ≡ x
-    → slice_index_or s.shape.items x Free ≡ Arrow l r → Sized s l n → Sized s r m → Sized s x (min (n + m + 1) 10001)
-sized_arrow s x l r n m e f p q =
-    record {
-      type = λ k. function_ty (p.type k) (q.type k);
-      stands = λ k. s_arrow e f (p.stands k) (q.stands k);
-      count = λ k. two_more n _ m _ (p.count k) (q.count k);
-    }
-
-pub sized_code : (s : State) (x c r n : ℕ) → slice_index_or s.parent.items x 0 ≡ x → slice_index_or s.shape.items x Free
-    ≡ Code c r → Sized s r n → Sized s x (min (n + 1) 10001)
-sized_code s x c r n e f p = record {
-  type = λ k. code_ty (k c) (p.type k);
-  stands = λ k. s_code e f refl (p.stands k);
-  count = λ k. one_more n _ (p.count k);
-}
-
-pub sized_closed : (s : State) (x r n : ℕ) → slice_index_or s.parent.items x 0 ≡ x → slice_index_or s.shape.items x Free
-    ≡ Closed r → Sized s r n → Sized s x (min (n + 1) 10001)
-sized_closed s x r n e f p = record {
-  type = λ k. closed_ty (p.type k);
-  stands = λ k. s_closed e f (p.stands k);
-  count = λ k. one_more n _ (p.count k);
-}
-
 pub new_undone : {x : Mark} → x ≡ New → (n : ℕ) → x ≢ Done n
 new_undone e n f = absurd (cc)
 
@@ -106,63 +58,73 @@ pub open_undone : {x : Mark} → x ≡ Open → (n : ℕ) → x ≢ Done n
 open_undone e n f = absurd (cc)
 
 -- a class is above each class below it
-pub lower : (s : State) (marks : List Mark) (x l y : ℕ) → ((a : Assignment) → Means s a → size (a.ty l) < size (a.ty x))
-    → RootOf s marks l y → Lower s marks x y
+lower : (s : State) (marks : List Mark) (x l y : ℕ) → Above s x l → RootOf s marks l y → Lower s marks x y
 lower s marks x l y f r =
     record { inside = r.inside; root = r.root; undone = r.undone; above = λ a h. rw (← r.same a h) (f a h) }
 
-pub pair_left : (s : State) (x l r : ℕ) → slice_index_or s.shape.items x Free ≡ Pair l r → Above s x l
-pair_left s x l r e a h = let p = rw e at (h.shapes x) in rw p (omega arith)
+-- a class over two nodes is as large as both and one, and above each
+over_two : (s : State) (marks : List Mark) (x l r : ℕ) (k : Look) (h : Shape)
+    (make : TypeExpression → TypeExpression → TypeExpression) → slice_index_or s.shape.items x Free ≡ h
+    → ((S T : TypeExpression) → nodes (make S T) ≡ nodes S + nodes T + 1)
+    → ((a : Assignment) (g : TermType) → Meets h g a → size g ≡ size (a.ty l) + size (a.ty r) + 1)
+    → ((c : ℕ → ℕ) (S T : TypeExpression) → Stands s.parent.items s.shape.items c l S
+    → Stands s.parent.items s.shape.items c r T → Stands s.parent.items s.shape.items c x (make S T))
+    → OverTwo s marks l r k → Looks s marks x k
+over_two s marks x l r (Ready n) h make e count larger stands p = record {
+  type = λ c. make (p.2.type c) (p.3.type c);
+  stands = λ c. stands c _ _ (p.2.stands c) (p.3.stands c);
+  count = λ c. omega (arith, p.4, p.2.count c, p.3.count c, count (p.2.type c) (p.3.type c));
+}
+over_two s marks x l r (Down y) h make e count larger stands (inl p) =
+    lower s marks x l y (λ a m. omega (arith, larger a (a.ty x) (rw e at (m.shapes x)))) p
+over_two s marks x l r (Down y) h make e count larger stands (inr p) =
+    lower s marks x r y (λ a m. omega (arith, larger a (a.ty x) (rw e at (m.shapes x)))) p
 
-pub pair_right : (s : State) (x l r : ℕ) → slice_index_or s.shape.items x Free ≡ Pair l r → Above s x r
-pair_right s x l r e a h = let p = rw e at (h.shapes x) in rw p (omega arith)
-
-pub arrow_left : (s : State) (x l r : ℕ) → slice_index_or s.shape.items x Free ≡ Arrow l r → Above s x l
-arrow_left s x l r e a h = let p = rw e at (h.shapes x) in rw p (omega arith)
-
-pub arrow_right : (s : State) (x l r : ℕ) → slice_index_or s.shape.items x Free ≡ Arrow l r → Above s x r
-arrow_right s x l r e a h = let p = rw e at (h.shapes x) in rw p (omega arith)
-
-pub code_below : (s : State) (x c r : ℕ) → slice_index_or s.shape.items x Free ≡ Code c r → Above s x r
-code_below s x c r e a h = let p = rw e at (h.shapes x) in rw p (omega arith)
-
-pub closed_below : (s : State) (x r : ℕ) → slice_index_or s.shape.items x Free ≡ Closed r → Above s x r
-closed_below s x r e a h = let p = rw e at (h.shapes x) in rw p (omega arith)
+-- and over one
+over_one : (s : State) (marks : List Mark) (x r : ℕ) (k : Look) (h : Shape)
+    (make : (ℕ → ℕ) → TypeExpression → TypeExpression) → slice_index_or s.shape.items x Free ≡ h
+    → ((c : ℕ → ℕ) (T : TypeExpression) → nodes (make c T) ≡ nodes T + 1)
+    → ((a : Assignment) (g : TermType) → Meets h g a → size g ≡ size (a.ty r) + 1)
+    → ((c : ℕ → ℕ) (T : TypeExpression) → Stands s.parent.items s.shape.items c r T
+    → Stands s.parent.items s.shape.items c x (make c T)) → OverOne s marks r k → Looks s marks x k
+over_one s marks x r (Ready n) h make e count larger stands p = record {
+  type = λ c. make c (p.1.type c);
+  stands = λ c. stands c _ (p.1.stands c);
+  count = λ c. omega (arith, p.2, p.1.count c, count c (p.1.type c));
+}
+over_one s marks x r (Down y) h make e count larger stands p =
+    lower s marks x r y (λ a m. omega (arith, larger a (a.ty x) (rw e at (m.shapes x)))) p
 
 -- what a class's shape says
-pub sized_free : (s : State) (x : ℕ) → slice_index_or s.parent.items x 0 ≡ x → slice_index_or s.shape.items x Free
-    ≡ Free → Sized s x 1
-sized_free s x e f = sized_leaf s x (unknown x) refl (λ k. s_free e f)
+module _ (s : State) (x : ℕ) (root : slice_index_or s.parent.items x 0 ≡ x) where
+  pub sized_free : slice_index_or s.shape.items x Free ≡ Free → Sized s x 1
+  sized_free e = record { type = λ k. unknown x; stands = λ k. s_free root e; count = λ k. refl }
 
-pub sized_int : (s : State) (x : ℕ) → slice_index_or s.parent.items x 0 ≡ x → slice_index_or s.shape.items x Free
-    ≡ Int → Sized s x 1
-sized_int s x e f = sized_leaf s x int_ty refl (λ k. s_int e f)
+  pub sized_int : slice_index_or s.shape.items x Free ≡ Int → Sized s x 1
+  sized_int e = record { type = λ k. int_ty; stands = λ k. s_int root e; count = λ k. refl }
 
-pub sized_bool : (s : State) (x : ℕ) → slice_index_or s.parent.items x 0 ≡ x → slice_index_or s.shape.items x Free
-    ≡ Bool → Sized s x 1
-sized_bool s x e f = sized_leaf s x bool_ty refl (λ k. s_bool e f)
+  pub sized_bool : slice_index_or s.shape.items x Free ≡ Bool → Sized s x 1
+  sized_bool e = record { type = λ k. bool_ty; stands = λ k. s_bool root e; count = λ k. refl }
 
-pub pair_looks : (s : State) (marks : List Mark) (x l r : ℕ) (k : Look) → slice_index_or s.parent.items x 0 ≡ x
-    → slice_index_or s.shape.items x Free ≡ Pair l r → OverTwo s marks l r k → Looks s marks x k
-pair_looks s marks x l r (Ready n) e f p = sized_as _ n p.4 (sized_pair s x l r p.0 p.1 e f p.2 p.3)
-pair_looks s marks x l r (Down y) e f (inl p) = lower s marks x l y (pair_left s x l r f) p
-pair_looks s marks x l r (Down y) e f (inr p) = lower s marks x r y (pair_right s x l r f) p
+  pub pair_looks : (marks : List Mark) (l r : ℕ) (k : Look) → slice_index_or s.shape.items x Free ≡ Pair l r
+      → OverTwo s marks l r k → Looks s marks x k
+  pair_looks marks l r k e =
+      over_two s marks x l r k _ pair_ty e (λ S T. refl) (λ a g m. ap size m) (λ c S T. s_pair root e)
 
-pub arrow_looks : (s : State) (marks : List Mark) (x l r : ℕ) (k : Look) → slice_index_or s.parent.items x 0 ≡ x
-    → slice_index_or s.shape.items x Free ≡ Arrow l r → OverTwo s marks l r k → Looks s marks x k
-arrow_looks s marks x l r (Ready n) e f p = sized_as _ n p.4 (sized_arrow s x l r p.0 p.1 e f p.2 p.3)
-arrow_looks s marks x l r (Down y) e f (inl p) = lower s marks x l y (arrow_left s x l r f) p
-arrow_looks s marks x l r (Down y) e f (inr p) = lower s marks x r y (arrow_right s x l r f) p
+  pub arrow_looks : (marks : List Mark) (l r : ℕ) (k : Look) → slice_index_or s.shape.items x Free ≡ Arrow l r
+      → OverTwo s marks l r k → Looks s marks x k
+  arrow_looks marks l r k e =
+      over_two s marks x l r k _ function_ty e (λ S T. refl) (λ a g m. ap size m) (λ c S T. s_arrow root e)
 
-pub code_looks : (s : State) (marks : List Mark) (x c r : ℕ) (k : Look) → slice_index_or s.parent.items x 0 ≡ x
-    → slice_index_or s.shape.items x Free ≡ Code c r → OverOne s marks r k → Looks s marks x k
-code_looks s marks x c r (Ready n) e f p = sized_as _ n p.2 (sized_code s x c r p.0 e f p.1)
-code_looks s marks x c r (Down y) e f p = lower s marks x r y (code_below s x c r f) p
+  pub code_looks : (marks : List Mark) (d r : ℕ) (k : Look) → slice_index_or s.shape.items x Free ≡ Code d r
+      → OverOne s marks r k → Looks s marks x k
+  code_looks marks d r k e =
+      over_one s marks x r k _ (λ c. code_ty (c d)) e (λ c T. refl) (λ a g m. ap size m) (λ c T. s_code root e refl)
 
-pub closed_looks : (s : State) (marks : List Mark) (x r : ℕ) (k : Look) → slice_index_or s.parent.items x 0 ≡ x
-    → slice_index_or s.shape.items x Free ≡ Closed r → OverOne s marks r k → Looks s marks x k
-closed_looks s marks x r (Ready n) e f p = sized_as _ n p.2 (sized_closed s x r p.0 e f p.1)
-closed_looks s marks x r (Down y) e f p = lower s marks x r y (closed_below s x r f) p
+  pub closed_looks : (marks : List Mark) (r : ℕ) (k : Look) → slice_index_or s.shape.items x Free ≡ Closed r
+      → OverOne s marks r k → Looks s marks x k
+  closed_looks marks r k e =
+      over_one s marks x r k _ (λ c. closed_ty) e (λ c T. refl) (λ a g m. ap size m) (λ c T. s_closed root e)
 
 pub ruleset looks = (sized_free, sized_int, sized_bool, pair_looks, arrow_looks, code_looks, closed_looks)
 
@@ -225,72 +187,43 @@ pub finish_top : (s : State) (marks : List Mark) (path : List ℕ) (x n : ℕ) �
 finish_top s marks path x n w z lt = record {
   marked = record {
     count = set_length marks x (Done n) ∙ w.marked.count;
-    done = λ y m e. elim (is x y) [
-      | same q ↦ rw (← q, (let p : n ≡ m = done_is y m q e in sym p)) z
-      | other o ↦ w.marked.done y m (sym (get_other marks x y (Done n) New o) ∙ e)
+    done = λ y m e. elim (read_set marks x y (Done n) New (omega (arith, w.marked.count))) [
+      | written q f ↦ let p : m ≡ n = cc in rw (← q, p) z
+      | kept o f ↦ w.marked.done y m (sym f ∙ e)
     ];
   };
   roots = λ y i. w.roots y (in_left y x path i);
   falls = (falls_append s path x w.falls).0;
-  opens = λ y e. elim (is x y) [
-    | same q ↦ absurd (not_open y q e)
-    | other o ↦ elim (in_append y x path (w.opens y (sym (get_other marks x y (Done n) New o) ∙ e)))
-        [ inl i ↦ i | inr f ↦ absurd (o (sym f)) ]
+  opens = λ y e. elim (read_set marks x y (Done n) New (omega (arith, w.marked.count))) [
+    | written q f ↦ absurd (cc)
+    | kept o f ↦ elim (in_append y x path (w.opens y (sym f ∙ e))) [ inl i ↦ i | inr g ↦ absurd (o (sym g)) ]
   ];
 }
-  where
-    at_x : slice_index_or (slice_set marks x (Done n)) x New ≡ Done n
-    at_x = get_here marks x (Done n) New (let p = w.marked.count in omega arith)
-
-    done_is : (y m : ℕ) → x ≡ y → slice_index_or (slice_set marks x (Done n)) y New ≡ Done m → n ≡ m
-    done_is y m q e = let f : Done n ≡ Done m = sym at_x
-        ∙ subst (λ v. slice_index_or (slice_set marks x (Done n)) v New ≡ Done m) (sym q) e in cc
-
-    not_open : (y : ℕ) → x ≡ y → slice_index_or (slice_set marks x (Done n)) y New ≡ Open → ⊥
-    not_open y q e = let f : Done n ≡ Open = sym at_x
-        ∙ subst (λ v. slice_index_or (slice_set marks x (Done n)) v New ≡ Open) (sym q) e in absurd (cc)
 
 -- the path goes down
-pub go_down : (s : State) (marks : List Mark) (path : List ℕ) (x y : ℕ) → Walk s marks (path ++ x ∷ [])
-    → Lower s marks x y → Walk s (slice_set marks y Open) ((path ++ x ∷ []) ++ y ∷ [])
-go_down s marks path x y w l = record {
+go_down : (s : State) (marks : List Mark) (path : List ℕ) (y : ℕ) → Walk s marks path → y < length s.parent.items
+    → slice_index_or s.parent.items y 0 ≡ y → AllAbove s path y → Walk s (slice_set marks y Open) (path ++ y ∷ [])
+go_down s marks path y w lt r above = record {
   marked = record {
     count = set_length marks y Open ∙ w.marked.count;
-    done = λ z m e. elim (is y z) [
-      | same q ↦ absurd (not_done z m q e)
-      | other o ↦ w.marked.done z m (sym (get_other marks y z Open New o) ∙ e)
+    done = λ z m e. elim (read_set marks y z Open New (omega (arith, w.marked.count))) [
+      | written q f ↦ absurd (cc)
+      | kept o f ↦ w.marked.done z m (sym f ∙ e)
     ];
   };
-  roots = λ z i. elim (in_append z y (path ++ x ∷ []) i) [
-    | inl p ↦ w.roots z p
-    | inr e ↦ rw e (l.inside, l.root)
-  ];
-  falls = append_falls s (path ++ x ∷ []) y w.falls (above_more s path x y (falls_append s path x w.falls).1 l.above);
-  opens = λ z e. elim (is y z) [
-    | same q ↦ in_last z y (path ++ x ∷ []) (sym q)
-    | other o ↦ in_left z y (path ++ x ∷ []) (w.opens z (sym (get_other marks y z Open New o) ∙ e))
+  roots = λ z i. elim (in_append z y path i) [ inl p ↦ w.roots z p | inr e ↦ rw e (lt, r) ];
+  falls = append_falls s path y w.falls above;
+  opens = λ z e. elim (read_set marks y z Open New (omega (arith, w.marked.count))) [
+    | written q f ↦ in_last z y path (sym q)
+    | kept o f ↦ in_left z y path (w.opens z (sym f ∙ e))
   ];
 }
-  where
-    not_done : (z m : ℕ) → y ≡ z → slice_index_or (slice_set marks y Open) z New ≡ Done m → ⊥
-    not_done z m q e = let f : Open ≡ Done m =
-        sym (get_here marks y Open New (let p = w.marked.count in let r = l.inside in omega arith))
-        ∙ subst (λ v. slice_index_or (slice_set marks y Open) v New ≡ Done m) (sym q) e in absurd (cc)
-
-pub open_not_new : Open ≢ New
-open_not_new e = absurd (cc)
-
-pub done_not_new : {n : ℕ} → Done n ≢ New
-done_not_new e = absurd (cc)
 
 -- a class that was met isn't new
-pub open_met : (marks : List Mark) (x : ℕ) (d : Mark) → x < length marks → d ≡ slice_index_or marks x d → d ≡ Open
-    → slice_index_or marks x New ≢ New
-open_met marks x d lt e f g = open_not_new (sym f ∙ e ∙ get_or_default marks x d New lt ∙ g)
-
-pub done_met : (marks : List Mark) (x n : ℕ) (d : Mark) → x < length marks → d ≡ slice_index_or marks x d → d ≡ Done n
-    → slice_index_or marks x New ≢ New
-done_met marks x n d lt e f g = done_not_new (sym f ∙ e ∙ get_or_default marks x d New lt ∙ g)
+pub is_met : (marks : List Mark) (x : ℕ) (d : Mark) {m : Mark} → m ≢ New → x < length marks
+    → d ≡ slice_index_or marks x d
+    → d ≡ m → slice_index_or marks x New ≢ New
+is_met marks x d n lt e f g = n (sym f ∙ e ∙ get_or_default marks x d New lt ∙ g)
 
 -- nothing is open where the path is done
 pub all_shut : (s : State) (marks : List Mark) (path : List ℕ) → Walk s marks path → length path ≡ 0 → (x : ℕ)
@@ -304,34 +237,9 @@ pub start_walk : (s : State) (marks : List Mark) (none path : List ℕ) (x : ℕ
     → none ≡ [] → path ≡ none ++ x ∷ []
     → Walk s (slice_set marks x Open) path × (slice_index_or (slice_set marks x Open) x New ≢ New)
 start_walk s marks none path x m h lt e n p = (
-  subst (λ k. Walk s (slice_set marks x Open) k) (sym (p ∙ ap (λ k. k ++ x ∷ []) n)) one,
-  λ f. let g = at_x in
-      absurd (cc),
+  rw (p, n) (go_down s marks [] x (record { marked = m; roots = λ z i. absurd i; falls = tt; opens = h }) lt e tt),
+  λ f. let g = get_here marks x Open New (omega (arith, m.count)) in absurd (cc),
 )
-  where
-    at_x : slice_index_or (slice_set marks x Open) x New ≡ Open
-    at_x = get_here marks x Open New (let q = m.count in omega arith)
-
-    not_done : (z k : ℕ) → x ≡ z → slice_index_or (slice_set marks x Open) z New ≡ Done k → ⊥
-    not_done z k q f = let g : Open ≡ Done k = sym at_x
-        ∙ subst (λ v. slice_index_or (slice_set marks x Open) v New ≡ Done k) (sym q) f in absurd (cc)
-
-    one : Walk s (slice_set marks x Open) (x ∷ [])
-    one = record {
-      marked = record {
-        count = set_length marks x Open ∙ m.count;
-        done = λ z k f. elim (is x z) [
-          | same q ↦ absurd (not_done z k q f)
-          | other o ↦ m.done z k (sym (get_other marks x z Open New o) ∙ f)
-        ];
-      };
-      roots = λ z i. elim i [ inl q ↦ rw q (lt, e) | inr b ↦ absurd b ];
-      falls = (tt, tt);
-      opens = λ z f. elim (is x z) [
-        | same q ↦ inl (sym q)
-        | other o ↦ absurd (h z (sym (get_other marks x z Open New o) ∙ f))
-      ];
-    }
 
 pub shape_read : (s : State) (i : ℕ) (h x : Shape) → Sound s → i < length s.parent.items
     → h ≡ slice_index_or s.shape.items i h → h ≡ x → slice_index_or s.shape.items i Free ≡ x
@@ -394,7 +302,8 @@ now_open s marks x y m k l e f = sym (get_or_default marks y m New (let p = k.co
 pub went_down : (s : State) (marks : List Mark) (all rest one two : List ℕ) (x y : ℕ) → all ≡ rest ++ x ∷ []
     → one ≡ rest ++ x ∷ [] → two ≡ one ++ y ∷ [] → Walk s marks all → Lower s marks x y
     → Walk s (slice_set marks y Open) two
-went_down s marks all rest one two x y e f g w l = rw (g, f) (go_down s marks rest x y (walk_at s marks all _ e w) l)
+went_down s marks all rest one two x y e f g w l = let k = walk_at s marks all _ e w in
+    rw (g, f) (go_down s marks _ y k l.inside l.root (above_more s rest x y (falls_append s rest x k.falls).1 l.above))
 
 pub set_not_new : (marks : List Mark) (x y : ℕ) {m : Mark} → m ≢ New → slice_index_or marks y New ≢ New
     → slice_index_or (slice_set marks x m) y New ≢ New

@@ -1,4 +1,5 @@
 // Laws of most general solutions and of fronts, which no program calls.
+#![tactic(auto, using(crate::proofs::Faults::laws))]
 
 ghost use Rattle.mw_types.specs.SolutionLaws.{SolvableHaveMostGeneral, MostGeneralAreInstances};
 ghost use Rattle.mw_types.specs.SolutionLaws.{MostGeneralHaveSameSizes, UnsolvableStays};

@@ -3,7 +3,7 @@ use Rattle.mw_types.specs.Answering.{Ready}
 use Rattle.mw_types.specs.Equations.{equations_of}
 use Rattle.mw_types.proofs.Halving.{blank_front}
 use Rattle.mw_types.proofs.Steps.{if_ok}
-use Rattle.mw_types.proofs.Verdicts.{take_all}
+use Rattle.std.proofs.lemmas.List.{take_all}
 use Rattle.mw_types.proofs.judging.judge.Goals as goal
 
 pub judge_longer-requires-clause-stated : goal.judge_longer-requires-clause-stated
@@ -26,6 +26,6 @@ returns-clause-ready c =
     if_ok c.judge_longer.result
     (λ front r f. subst
     (λ es. Ready (length c.args.state.now.parent.items) m (equations_of es) c.judge_longer.new.state)
-    (take_all xs (length xs) (omega arith))
+    (take_all (length xs) xs (omega arith))
     (subst (λ n. Ready n m (equations_of (take (length xs) xs)) c.judge_longer.new.state) e (r f)))
     c.judge_longer.ensures.ready

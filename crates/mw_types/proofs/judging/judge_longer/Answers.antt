@@ -1,11 +1,12 @@
 use Rattle.std.proofs.Common.{ap, ◌∙◌, arith}
 use Rattle.std.proofs.lemmas.Grind.{get_or_default_zero}
-use Rattle.mw_types.proofs.Verdicts.{never_unsolvable, never_after, fine, ready, big}
+use Rattle.mw_types.proofs.Verdicts.{never_unsolvable, fine, ready, big}
+use Rattle.mw_types.proofs.Work.{never_later}
 use Rattle.mw_types.proofs.judging.judge_longer.Goals as goal
 
 pub returns-in-None-clause-judged : goal.returns-in-None-clause-judged
 returns-in-None-clause-judged c = never_unsolvable _ _ _ _ (rw c.in_default.is at c.in_ok-clash.ensures.stated).stated
-    (never_after _ _ c.flatten.ensures.same (rw c.in-None.is at c.in_ok-sizes.ensures.none))
+    (never_later c.flatten.ensures.same (rw c.in-None.is at c.in_ok-sizes.ensures.none))
 
 pub returns-then-index-clause-judged : goal.returns-then-index-clause-judged
 returns-then-index-clause-judged c =

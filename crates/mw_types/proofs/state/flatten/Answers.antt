@@ -1,10 +1,11 @@
 use Rattle.std.proofs.Common.{refl, ◌∙◌}
-use Rattle.mw_types.proofs.Work.{same_step, start_step}
+use Rattle.mw_types.proofs.Steps.{no_step}
+use Rattle.mw_types.proofs.Work.{same_step}
 use Rattle.mw_types.proofs.Shortening.{found_same}
 use Rattle.mw_types.proofs.state.flatten.Goals as goal
 
 pub loop-node-init : goal.loop-node-init
-loop-node-init c = (start_step c.requires.sound, refl)
+loop-node-init c = (no_step c.requires.sound (λ a h. tt), refl)
 
 pub loop-node-preserved : goal.loop-node-preserved
 loop-node-preserved c = (

@@ -1,5 +1,5 @@
 use Rattle.std.proofs.Common.{true≢false, sym, ◌∙◌, arith}
-use Rattle.mw_types.proofs.Walking.{start_walk, open_not_new, done_not_new, open_met, done_met, all_shut, top_in}
+use Rattle.mw_types.proofs.Walking.{start_walk, is_met, all_shut, top_in}
 use Rattle.mw_types.proofs.Walking.{walk_at, finish_top, cycle, ready_smaller, down_smaller, now_new, now_open}
 use Rattle.mw_types.proofs.Walking.{went_down, set_not_new}
 use Rattle.mw_types.proofs.walk.visit.Goals as goal
@@ -22,7 +22,7 @@ pub loop-top-preserved-in-Ready : goal.loop-top-preserved-in-Ready
 loop-top-preserved-in-Ready c = (
   finish_top _ _ _ _ _ (walk_at _ _ _ _ c.in-Some.ensures.items c.loop-top.invariant.0) c.in-Ready.ensures
       ((top_in _ _ _ _ _ c.loop-top.invariant.0 c.in-Some.ensures.items).0),
-  set_not_new _ c.in-Some.top c.args.start done_not_new c.loop-top.invariant.1,
+  set_not_new _ c.in-Some.top c.args.start (λ e. absurd (cc)) c.loop-top.invariant.1,
 )
 
 pub returns-then-is_open-clause-none : goal.returns-then-is_open-clause-none
@@ -43,15 +43,15 @@ pub loop-top-preserved : goal.loop-top-preserved
 loop-top-preserved c = (
   went_down _ _ _ _ _ _ _ _ c.in-Some.ensures.items c.in_ok-push-in-Down.ensures.items
       c.in_ok-push-in-Down-2.ensures.items c.loop-top.invariant.0 (rw c.as_slice.ensures.value at c.in-Down.ensures),
-  set_not_new _ c.in-Down.next c.args.start open_not_new c.loop-top.invariant.1,
+  set_not_new _ c.in-Down.next c.args.start (λ e. absurd (cc)) c.loop-top.invariant.1,
 )
 
 pub returns-in-Done-clause-met : goal.returns-in-Done-clause-met
-returns-in-Done-clause-met c t = done_met c.args.marks.now.items c.args.start _ _
+returns-in-Done-clause-met c t = is_met c.args.marks.now.items c.args.start _ (λ e. absurd (cc))
     (omega (arith, c.requires.inside, c.requires.marked.count)) c.index.ensures c.in-Done.is
 
 pub returns-in-Open-clause-met : goal.returns-in-Open-clause-met
-returns-in-Open-clause-met c t = open_met c.args.marks.now.items c.args.start _
+returns-in-Open-clause-met c t = is_met c.args.marks.now.items c.args.start _ (λ e. absurd (cc))
     (omega (arith, c.requires.inside, c.requires.marked.count)) c.index.ensures c.in-Open.is
 
 pub loop-top-init : goal.loop-top-init
