@@ -43,10 +43,7 @@ code_list (snd e) = form_word (WithOne Snd) ∷ code_list e
 code_list (prim p a t) = form_word (WithTwo (Prim p)) ∷ (code_list a ++ code_list t)
 code_list _ = []
 
--- a word before what follows it
-one_spaced : (w x : List ℕ) (xs : List (List ℕ)) → x ≡ spaced xs → 32 ∷ w ++ x ≡ spaced (w ∷ xs)
-one_spaced w x xs e = ap (λ bytes. 32 ∷ (w ++ bytes)) e
-
+-- words after a word
 two_spaced : (w x y : List ℕ) (xs ys : List (List ℕ)) → x ≡ spaced xs → y ≡ spaced ys → (32 ∷ w) ++ x ++ y
     ≡ spaced (w ∷ (xs ++ ys))
 two_spaced w x y xs ys e f = append_assoc (32 ∷ w) x y ∙ ap (λ bytes. 32 ∷ (w ++ bytes))
@@ -89,8 +86,8 @@ code_spaced (num n) = number_spaced (codes "i") (signed_decimal n)
 code_spaced (truth true) = refl
 code_spaced (truth false) = refl
 code_spaced (var i) = number_spaced (codes "v") (decimal i)
-code_spaced (fun e) = one_spaced (codes "fun") (code_words e) (code_list e) (code_spaced e)
-code_spaced (fix e) = one_spaced (codes "rec") (code_words e) (code_list e) (code_spaced e)
+code_spaced (fun e) = ap (λ bytes. codes " fun" ++ bytes) (code_spaced e)
+code_spaced (fix e) = ap (λ bytes. codes " rec" ++ bytes) (code_spaced e)
 code_spaced (app f a) = two_spaced (codes "app") (code_words f) (code_words a) (code_list f) (code_list a)
     (code_spaced f) (code_spaced a)
 code_spaced (bind d e) = two_spaced (codes "let") (code_words d) (code_words e) (code_list d) (code_list e)
@@ -100,8 +97,8 @@ code_spaced (cond c a t) =
     (code_spaced c) (code_spaced a) (code_spaced t)
 code_spaced (pair a t) = two_spaced (codes "pair") (code_words a) (code_words t) (code_list a) (code_list t)
     (code_spaced a) (code_spaced t)
-code_spaced (fst e) = one_spaced (codes "fst") (code_words e) (code_list e) (code_spaced e)
-code_spaced (snd e) = one_spaced (codes "snd") (code_words e) (code_list e) (code_spaced e)
+code_spaced (fst e) = ap (λ bytes. codes " fst" ++ bytes) (code_spaced e)
+code_spaced (snd e) = ap (λ bytes. codes " snd" ++ bytes) (code_spaced e)
 code_spaced (prim p a t) =
     ap (λ w. w ++ code_words a ++ code_words t) (primitive_spaced p)
     ∙ two_spaced (primitive_name p) (code_words a) (code_words t) (code_list a) (code_list t) (code_spaced a)
