@@ -5,8 +5,8 @@ use Rattle.std.specs.Prelude.{max}
 use Rattle.std.specs.Fmt.{signed_decimal, decimal}
 use Rattle.std.proofs.lemmas.List.{append_assoc}
 use Rattle.std.proofs.Math.Numerals.{add-one}
-use Rattle.mw_term.specs.Terms.{Expression, num, truth, var, glob, fun, fix, app, bind, cond, pair, fst, snd, prim}
-use Rattle.mw_term.specs.Terms.{bracket, escape, run, close, opened, lift, lift_b, done, size, depth_of}
+use Rattle.mw_term.specs.Terms.{Expression, num, truth, var, fun, fix, app, bind, cond, pair, fst, snd, prim}
+use Rattle.mw_term.specs.Terms.{size, depth_of}
 use Rattle.mw_term.specs.Closed.{IsCode, ClosedBelow}
 use Rattle.mw_term.specs.Limits.{LiteralsFit}
 use Rattle.mw_key.specs.declared.form.Form.{Form}
@@ -241,7 +241,6 @@ code_from (var i) d k rest m code closed literals deep room =
     let bound : i < k = closed in
     begins Var d k (code_list (var i) ++ rest) (decimal i ∷ rest) (1 + m) m (omega arith) refl (omega arith)
     ∙ make_at var (word_from (λ w. below k (natural_of w)) (decimal i) i rest m (below_from k i bound (omega arith)))
-code_from (glob i) d k rest m code closed literals deep room = absurd code
 code_from (fun e) d k rest m code closed literals deep room =
     one_from Fun e d k rest m (omega arith) (code_from e (d - 1) (k + 1) rest m code
     (subst (λ j. ClosedBelow j e) (sym (add-one k)) closed) literals (omega arith) (omega arith))
@@ -283,11 +282,4 @@ code_from (prim o a b) d k rest m code closed literals deep room =
     two_from (Prim o) a b d k rest m (omega arith)
     (code_from a (d - 1) k (code_list b ++ rest) (size b + m) code.0 closed.0 literals.0 (omega arith) (omega arith))
     (code_from b (d - 1) k rest m code.1 closed.1 literals.1 (omega arith) (omega arith))
-code_from (bracket e) d k rest m code closed literals deep room = absurd code
-code_from (escape e) d k rest m code closed literals deep room = absurd code
-code_from (run t e) d k rest m code closed literals deep room = absurd code
-code_from (close at e) d k rest m code closed literals deep room = absurd code
-code_from (opened e) d k rest m code closed literals deep room = absurd code
-code_from (lift e) d k rest m code closed literals deep room = absurd code
-code_from (lift_b e) d k rest m code closed literals deep room = absurd code
-code_from (done v) d k rest m code closed literals deep room = absurd code
+code_from _ d k rest m code closed literals deep room = absurd code
