@@ -71,7 +71,8 @@ code_length (pair a b) k closed fits low =
 code_length (fst e) k closed fits low = omega (arith, code_length e k closed fits (omega arith))
 code_length (snd e) k closed fits low = omega (arith, code_length e k closed fits (omega arith))
 code_length (prim p a b) k closed fits low =
-    two_length (primitive_word p) a b (omega (arith, (primitive_is p).short)) (code_length a k closed.0 fits.0 (omega arith))
+    two_length (primitive_word p) a b (omega (arith, (primitive_is p).short))
+    (code_length a k closed.0 fits.0 (omega arith))
     (code_length b k closed.1 fits.1 (omega arith))
 code_length _ k closed fits low = omega arith
 

@@ -21,7 +21,8 @@ some_word bytes e = let some = length-slice_split is_space bytes in omega (arith
 pub split_here : (bytes : List ℕ) (i : ℕ) → position (λ b. b == 32) bytes ≡ Some i → words bytes ≡ take i bytes
     ∷ words (take (length bytes - (i + 1)) (drop (i + 1) bytes))
 split_here bytes i e =
-    let found = cond_some (nat_lt (position_or_len is_space bytes) (length bytes)) (position_or_len is_space bytes) i e in
+    let found = cond_some (nat_lt (position_or_len is_space bytes) (length bytes)) (position_or_len is_space bytes) i
+    e in
     slice_split_first is_space bytes 0 (ltb-true (position_or_len is_space bytes) (length bytes) found.0)
     ∙ ap (λ j. take j bytes ∷ words (drop (j + 1) bytes)) found.1
     ∙ ap (λ rest. take i bytes ∷ words rest) (sym (take_rest bytes (i + 1)))
