@@ -1,14 +1,14 @@
 -- The words of the tables: each spells one thing, and each thing has one word.
-use Rattle.std.proofs.Common.{◌≡◌, ℕ, List, [], ◌∷◌, refl, subst, Bool, true, false, cond, ◌&&◌, codes, Some}
+use Rattle.std.proofs.Common.{◌≡◌, ℕ, List, [], ◌∷◌, refl, subst, Bool, true, false, cond, ◌&&◌, codes, Some, length}
+use Rattle.std.proofs.Common.{◌≤◌, arith}
 use Rattle.std.specs.Map.{lookup}
 use Rattle.std.specs.Str.{bytes_eq}
 use Rattle.std.proofs.lemmas.Bool.{and_parts}
 use Rattle.std.proofs.lemmas.Option.{none-some, same_Some}
 use Rattle.std.proofs.lemmas.Slice.Eq.{bytes_eq-Decides}
-use Rattle.mw_term.specs.declared.term.Base.TheVariants as base
 use Rattle.mw_term.specs.declared.term.Primitive.{Primitive as Prim'}
 use Rattle.mw_term.specs.declared.term.Primitive.TheVariants.{Add, Sub, Mul, Div, Mod, Eq, Lt, Le}
-use Rattle.mw_key.specs.CanonicalText.{version_word}
+use Rattle.mw_key.specs.CanonicalText.{version_word, primitive_word}
 use Rattle.mw_key.specs.declared.version.Version.{Version}
 use Rattle.mw_key.specs.declared.version.Version.TheVariants.{One, Two}
 use Rattle.mw_key.specs.declared.form.Form.{Form}
@@ -19,6 +19,7 @@ use Rattle.mw_key.specs.declared.form.TypeForm.{TypeForm}
 use Rattle.mw_key.specs.declared.form.TypeForm.TheVariants.{Base, Pair as PairType, To}
 use Rattle.mw_key.specs.Forms.{version_words, type_words, code_forms, version_of, type_form_of, form_of}
 use Rattle.mw_key.proofs.Words.{no_space}
+use Rattle.mw_term.specs.declared.term.Base.TheVariants as base
 
 -- the word of a primitive, without its space
 abbrev pub primitive_name : Prim' → List ℕ
@@ -93,15 +94,22 @@ type_form_from (Base base.Bool) = refl
 type_form_from PairType = refl
 type_form_from To = refl
 
-primitive_from : (p : Prim') → form_of (primitive_name p) ≡ Some (WithTwo (Prim p))
-primitive_from Add = refl
-primitive_from Sub = refl
-primitive_from Mul = refl
-primitive_from Div = refl
-primitive_from Mod = refl
-primitive_from Eq = refl
-primitive_from Lt = refl
-primitive_from Le = refl
+-- what is known of a primitive's word
+pub record IsPrimitiveWord (p : Prim') : Type 0 where
+  pub spells : form_of (primitive_name p) ≡ Some (WithTwo (Prim p))
+  pub spaceless : no_space (primitive_name p) ≡ true
+  pub spaced : primitive_word p ≡ 32 ∷ primitive_name p
+  pub short : length (primitive_word p) ≤ 4
+
+pub primitive_is : (p : Prim') → IsPrimitiveWord p
+primitive_is Add = record { spells = refl; spaceless = refl; spaced = refl; short = omega arith }
+primitive_is Sub = record { spells = refl; spaceless = refl; spaced = refl; short = omega arith }
+primitive_is Mul = record { spells = refl; spaceless = refl; spaced = refl; short = omega arith }
+primitive_is Div = record { spells = refl; spaceless = refl; spaced = refl; short = omega arith }
+primitive_is Mod = record { spells = refl; spaceless = refl; spaced = refl; short = omega arith }
+primitive_is Eq = record { spells = refl; spaceless = refl; spaced = refl; short = omega arith }
+primitive_is Lt = record { spells = refl; spaceless = refl; spaced = refl; short = omega arith }
+primitive_is Le = record { spells = refl; spaceless = refl; spaced = refl; short = omega arith }
 
 pub form_from : (f : Form) → form_of (form_word f) ≡ Some f
 form_from Int = refl
@@ -116,7 +124,7 @@ form_from If = refl
 form_from (WithTwo Pair) = refl
 form_from (WithOne Fst) = refl
 form_from (WithOne Snd) = refl
-form_from (WithTwo (Prim p)) = primitive_from p
+form_from (WithTwo (Prim p)) = (primitive_is p).spells
 
 -- no word has a space
 pub version_no_space : (v : Version) → no_space (version_word v) ≡ true
@@ -128,13 +136,3 @@ type_form_no_space (Base base.Int) = refl
 type_form_no_space (Base base.Bool) = refl
 type_form_no_space PairType = refl
 type_form_no_space To = refl
-
-pub primitive_no_space : (p : Prim') → no_space (primitive_name p) ≡ true
-primitive_no_space Add = refl
-primitive_no_space Sub = refl
-primitive_no_space Mul = refl
-primitive_no_space Div = refl
-primitive_no_space Mod = refl
-primitive_no_space Eq = refl
-primitive_no_space Lt = refl
-primitive_no_space Le = refl

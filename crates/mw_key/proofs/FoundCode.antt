@@ -5,15 +5,17 @@ use Rattle.std.specs.Prelude.{max}
 use Rattle.std.specs.Fmt.{signed_decimal, decimal}
 use Rattle.std.proofs.lemmas.List.{append_assoc}
 use Rattle.std.proofs.Math.Numerals.{add-one}
-use Rattle.mw_term.specs.Terms.{Expression, num, truth, var, glob, fun, fix, app, bind, cond, pair, fst, snd, prim}
-use Rattle.mw_term.specs.Terms.{bracket, escape, run, close, opened, lift, lift_b, done, size, depth_of}
+use Rattle.mw_term.specs.Terms.{Expression, num, truth, var, fun, fix, app, bind, cond, pair, fst, snd, prim}
+use Rattle.mw_term.specs.Terms.{size, depth_of}
 use Rattle.mw_term.specs.Closed.{IsCode, ClosedBelow}
 use Rattle.mw_term.specs.Limits.{LiteralsFit}
 use Rattle.mw_key.specs.declared.form.Form.{Form}
 use Rattle.mw_key.specs.declared.form.Form.TheVariants.{Int, Bool as Truth, Var, WithOne, WithTwo, If}
+use Rattle.mw_key.specs.declared.form.OnePart.{OnePart}
 use Rattle.mw_key.specs.declared.form.OnePart.TheVariants.{Fun, Rec, Fst, Snd}
+use Rattle.mw_key.specs.declared.form.TwoParts.{TwoParts}
 use Rattle.mw_key.specs.declared.form.TwoParts.TheVariants.{App, Let, Pair, Prim}
-use Rattle.mw_key.specs.Forms.{form_of}
+use Rattle.mw_key.specs.Forms.{form_of, under_one, under_two, code_of_one, code_of_two}
 use Rattle.mw_key.specs.Numbers.{natural_of, integer_of, below}
 use Rattle.mw_key.specs.Reading.{Finding, then_find, make, find_form, find_integer, find_variable, code_parts, find_code}
 use Rattle.mw_key.proofs.NodeWords.{after_found, made_found, then_at, make_at, word_spelled, word_from, node_spelled}
@@ -41,23 +43,43 @@ pub code_at : (d k : ℕ) (ws : List (List ℕ)) (n : ℕ) (x : Finding Expressi
     (m : ℕ) → CodeStands d k ws n x → x ≡ Some (c, rest, m) → IsCodeBefore d k ws n c rest m
 code_at d k ws n x c rest m s e = subst (CodeStands d k ws n) e s
 
--- code of one part after a word, where the part stands under j binders
-pub record IsOfOne (w : List ℕ) (k j : ℕ) (a c : Expression) : Type 0 where
-  pub words : code_list c ≡ w ∷ code_list a
-  pub nodes : size c ≡ size a + 1
-  pub depth : depth_of c ≡ depth_of a + 1
-  pub code : IsCode a → IsCode c
-  pub closed : ClosedBelow j a → ClosedBelow k c
-  pub literals : LiteralsFit a → LiteralsFit c
+-- code of a form and its part, whose part stands under the form's binders
+record IsOfOne (f : OnePart) (k : ℕ) (a : Expression) : Type 0 where
+  words : code_list (code_of_one f a) ≡ form_word (WithOne f) ∷ code_list a
+  nodes : size (code_of_one f a) ≡ size a + 1
+  depth : depth_of (code_of_one f a) ≡ depth_of a + 1
+  code : IsCode a → IsCode (code_of_one f a)
+  closed : ClosedBelow (under_one f k) a → ClosedBelow k (code_of_one f a)
+  literals : LiteralsFit a → LiteralsFit (code_of_one f a)
 
--- code of two parts after a word, where the second stands under j binders
-pub record IsOfTwo (w : List ℕ) (k j : ℕ) (a b c : Expression) : Type 0 where
-  pub words : code_list c ≡ w ∷ (code_list a ++ code_list b)
-  pub nodes : size c ≡ size a + size b + 1
-  pub depth : depth_of c ≡ max (depth_of a) (depth_of b) + 1
-  pub code : IsCode a × IsCode b → IsCode c
-  pub closed : ClosedBelow k a × ClosedBelow j b → ClosedBelow k c
-  pub literals : LiteralsFit a × LiteralsFit b → LiteralsFit c
+one_is : (f : OnePart) (k : ℕ) (a : Expression) → IsOfOne f k a
+one_is Fun k a = let one = subst (λ j. ClosedBelow j a) (add-one k) in
+    record { words = refl; nodes = refl; depth = refl; code = λ x. x; closed = one; literals = λ x. x }
+one_is Rec k a =
+    let two : k + 2 ≡ suc (suc k) = omega arith in
+    let both = subst (λ j. ClosedBelow j a) two in
+    record { words = refl; nodes = refl; depth = refl; code = λ x. x; closed = both; literals = λ x. x }
+one_is Fst k a = record { words = refl; nodes = refl; depth = refl; code = λ x. x; closed = λ x. x; literals = λ x. x }
+one_is Snd k a = record { words = refl; nodes = refl; depth = refl; code = λ x. x; closed = λ x. x; literals = λ x. x }
+
+-- code of a form and its two parts, whose second part stands under the form's binders
+record IsOfTwo (f : TwoParts) (k : ℕ) (a b : Expression) : Type 0 where
+  words : code_list (code_of_two f a b) ≡ form_word (WithTwo f) ∷ (code_list a ++ code_list b)
+  nodes : size (code_of_two f a b) ≡ size a + size b + 1
+  depth : depth_of (code_of_two f a b) ≡ max (depth_of a) (depth_of b) + 1
+  code : IsCode a × IsCode b → IsCode (code_of_two f a b)
+  closed : ClosedBelow k a × ClosedBelow (under_two f k) b → ClosedBelow k (code_of_two f a b)
+  literals : LiteralsFit a × LiteralsFit b → LiteralsFit (code_of_two f a b)
+
+two_is : (f : TwoParts) (k : ℕ) (a b : Expression) → IsOfTwo f k a b
+two_is App k a b =
+    record { words = refl; nodes = refl; depth = refl; code = λ x. x; closed = λ x. x; literals = λ x. x }
+two_is Let k a b = let one = subst (λ j. ClosedBelow j b) (add-one k) in
+    record { words = refl; nodes = refl; depth = refl; code = λ x. x; closed = λ x. (x.0, one x.1); literals = λ x. x }
+two_is Pair k a b =
+    record { words = refl; nodes = refl; depth = refl; code = λ x. x; closed = λ x. x; literals = λ x. x }
+two_is (Prim o) k a b =
+    record { words = refl; nodes = refl; depth = refl; code = λ x. x; closed = λ x. x; literals = λ x. x }
 
 three_joined : (x y z rest : List (List ℕ)) → x ++ (y ++ (z ++ rest)) ≡ x ++ (y ++ z) ++ rest
 three_joined x y z rest = ap (λ v. x ++ v) (sym (append_assoc y z rest)) ∙ sym (append_assoc x (y ++ z) rest)
@@ -68,52 +90,6 @@ module _ (d : ℕ) (part : ℕ → List (List ℕ) → ℕ → Finding Expressio
   part_at : (k : ℕ) (ws : List (List ℕ)) (n : ℕ) (c : Expression) (rest : List (List ℕ)) (m : ℕ) → part k ws n
       ≡ Some (c, rest, m) → IsCodeBefore d k ws n c rest m
   part_at k ws n c rest m e = code_at d k ws n (part k ws n) c rest m (holds k ws n) e
-
-  one_stands : (w : List ℕ) (join : Expression → Expression) (k j : ℕ) (ws vs : List (List ℕ)) (n l : ℕ) → ws ≡ w ∷ vs
-      → n ≡ suc l → ((a : Expression) → IsOfOne w k j a (join a))
-      → CodeStands (suc d) k ws n (make join (part j vs l))
-  one_stands w join k j ws vs n l e g is =
-      let P : Finding Expression → Type 0 = λ x. CodeStands (suc d) k ws n x in
-      made_found P join (part j vs l) tt λ a rest m h.
-      let p = part_at j vs l a rest m h in
-      let c = is a in
-      let count = p.nodes in
-      let counted = c.nodes in
-      let deep = p.depth in
-      let deeper = c.depth in
-      record {
-        words = e ∙ (ap (λ x. w ∷ x) p.words ∙ ap (λ x. x ++ rest) (sym c.words));
-        nodes = omega arith;
-        depth = omega arith;
-        code = c.code p.code;
-        closed = c.closed p.closed;
-        literals = c.literals p.literals;
-      }
-
-  two_stand : (w : List ℕ) (join : Expression → Expression → Expression) (k j : ℕ) (ws vs : List (List ℕ)) (n l : ℕ)
-      → ws ≡ w ∷ vs → n ≡ suc l → ((a b : Expression) → IsOfTwo w k j a b (join a b))
-      → CodeStands (suc d) k ws n (then_find (part k vs l) λ a us m. make (join a) (part j us m))
-  two_stand w join k j ws vs n l e g is =
-      let P : Finding Expression → Type 0 = λ x. CodeStands (suc d) k ws n x in
-      after_found P (part k vs l) _ tt λ a us m h. made_found P (join a) (part j us m) tt λ b rest o i.
-      let p = part_at k vs l a us m h in
-      let q = part_at j us m b rest o i in
-      let c = is a b in
-      let count = p.nodes in
-      let further = q.nodes in
-      let counted = c.nodes in
-      let deep = p.depth in
-      let deeper = q.depth in
-      let deepest = c.depth in
-      record {
-        words = e ∙ (ap (λ x. w ∷ x) (p.words ∙ ap (λ x. code_list a ++ x) q.words
-            ∙ sym (append_assoc (code_list a) (code_list b) rest)) ∙ ap (λ x. x ++ rest) (sym c.words));
-        nodes = omega arith;
-        depth = omega arith;
-        code = c.code (p.code, q.code);
-        closed = c.closed (p.closed, q.closed);
-        literals = c.literals (p.literals, q.literals);
-      }
 
   parts_stand : (f : Form) (k : ℕ) (ws vs : List (List ℕ)) (n l : ℕ) → ws ≡ form_word f ∷ vs → n ≡ suc l
       → CodeStands (suc d) k ws n (code_parts part f k vs l)
@@ -147,39 +123,44 @@ module _ (d : ℕ) (part : ℕ → List (List ℕ) → ℕ → Finding Expressio
         closed = spelling.1;
         literals = tt;
       }
-  parts_stand (WithOne Fun) k ws vs n l e g = one_stands (form_word (WithOne Fun)) fun k (k + 1) ws vs n l e g λ a.
+  parts_stand (WithOne f) k ws vs n l e g =
+      let P : Finding Expression → Type 0 = λ x. CodeStands (suc d) k ws n x in
+      made_found P (code_of_one f) (part (under_one f k) vs l) tt λ a rest m h.
+      let p = part_at (under_one f k) vs l a rest m h in
+      let c = one_is f k a in
+      let count = p.nodes in
+      let counted = c.nodes in
+      let deep = p.depth in
+      let deeper = c.depth in
       record {
-        words = refl;
-        nodes = refl;
-        depth = refl;
-        code = λ x. x;
-        closed = λ x. subst (λ j. ClosedBelow j a)
-            (add-one k) x;
-        literals = λ x. x;
+        words = e ∙ (ap (λ x. form_word (WithOne f) ∷ x) p.words ∙ ap (λ x. x ++ rest) (sym c.words));
+        nodes = omega arith;
+        depth = omega arith;
+        code = c.code p.code;
+        closed = c.closed p.closed;
+        literals = c.literals p.literals;
       }
-  parts_stand (WithOne Rec) k ws vs n l e g =
-      let two : k + 2 ≡ suc (suc k) = omega arith in
-      one_stands (form_word (WithOne Rec)) fix k (k + 2) ws vs n l e g λ a.
+  parts_stand (WithTwo f) k ws vs n l e g =
+      let P : Finding Expression → Type 0 = λ x. CodeStands (suc d) k ws n x in
+      after_found P (part k vs l) _ tt λ a us m h.
+      made_found P (code_of_two f a) (part (under_two f k) us m) tt λ b rest o i.
+      let p = part_at k vs l a us m h in
+      let q = part_at (under_two f k) us m b rest o i in
+      let c = two_is f k a b in
+      let count = p.nodes in
+      let further = q.nodes in
+      let counted = c.nodes in
+      let deep = p.depth in
+      let deeper = q.depth in
+      let deepest = c.depth in
       record {
-        words = refl;
-        nodes = refl;
-        depth = refl;
-        code = λ x. x;
-        closed = λ x. subst (λ j. ClosedBelow j a)
-            two x;
-        literals = λ x. x;
-      }
-  parts_stand (WithTwo App) k ws vs n l e g = two_stand (form_word (WithTwo App)) app k k ws vs n l e g λ a b.
-      record { words = refl; nodes = refl; depth = refl; code = λ x. x; closed = λ x. x; literals = λ x. x }
-  parts_stand (WithTwo Let) k ws vs n l e g = two_stand (form_word (WithTwo Let)) bind k (k + 1) ws vs n l e g λ a b.
-      record {
-        words = refl;
-        nodes = refl;
-        depth = refl;
-        code = λ x. x;
-        closed = λ x.
-            (x.0, subst (λ j. ClosedBelow j b) (add-one k) x.1);
-        literals = λ x. x;
+        words = e ∙ (ap (λ x. form_word (WithTwo f) ∷ x) (p.words ∙ ap (λ x. code_list a ++ x) q.words
+            ∙ sym (append_assoc (code_list a) (code_list b) rest)) ∙ ap (λ x. x ++ rest) (sym c.words));
+        nodes = omega arith;
+        depth = omega arith;
+        code = c.code (p.code, q.code);
+        closed = c.closed (p.closed, q.closed);
+        literals = c.literals (p.literals, q.literals);
       }
   parts_stand If k ws vs n l e g =
       let P : Finding Expression → Type 0 = λ x. CodeStands (suc d) k ws n x in
@@ -204,14 +185,6 @@ module _ (d : ℕ) (part : ℕ → List (List ℕ) → ℕ → Finding Expressio
         closed = (p.closed, q.closed, r.closed);
         literals = (p.literals, q.literals, r.literals);
       }
-  parts_stand (WithTwo Pair) k ws vs n l e g = two_stand (form_word (WithTwo Pair)) pair k k ws vs n l e g λ a b.
-      record { words = refl; nodes = refl; depth = refl; code = λ x. x; closed = λ x. x; literals = λ x. x }
-  parts_stand (WithOne Fst) k ws vs n l e g = one_stands (form_word (WithOne Fst)) fst k k ws vs n l e g λ a.
-      record { words = refl; nodes = refl; depth = refl; code = λ x. x; closed = λ x. x; literals = λ x. x }
-  parts_stand (WithOne Snd) k ws vs n l e g = one_stands (form_word (WithOne Snd)) snd k k ws vs n l e g λ a.
-      record { words = refl; nodes = refl; depth = refl; code = λ x. x; closed = λ x. x; literals = λ x. x }
-  parts_stand (WithTwo (Prim o)) k ws vs n l e g = two_stand (form_word (WithTwo (Prim o))) (prim o) k k ws vs n l e g
-      λ a b. record { words = refl; nodes = refl; depth = refl; code = λ x. x; closed = λ x. x; literals = λ x. x }
 
 -- what is found stands there
 pub code_stands : (d k : ℕ) (ws : List (List ℕ)) (n : ℕ) → CodeStands d k ws n (find_code d k ws n)
@@ -236,6 +209,25 @@ begins f d k ws vs n l p e g =
     next : Form → List (List ℕ) → ℕ → Finding Expression
     next form ws n = code_parts (find_code (d - 1)) form k ws n
 
+-- code of a form is found where its part, or its two parts, are
+one_from : (f : OnePart) (e : Expression) (d k : ℕ) (rest : List (List ℕ)) (m : ℕ) → 0 < d
+    → find_code (d - 1) (under_one f k) (code_list e ++ rest) (size e + m) ≡ Some (e, rest, m)
+    → find_code d k (form_word (WithOne f) ∷ (code_list e ++ rest)) (size e + 1 + m) ≡ Some (code_of_one f e, rest, m)
+one_from f e d k rest m p part =
+    begins (WithOne f) d k _ (code_list e ++ rest) _ (size e + m) p refl (omega arith) ∙ make_at (code_of_one f) part
+
+two_from : (f : TwoParts) (a b : Expression) (d k : ℕ) (rest : List (List ℕ)) (m : ℕ) → 0 < d
+    → find_code (d - 1) k (code_list a ++ (code_list b ++ rest)) (size a + (size b + m))
+    ≡ Some (a, code_list b ++ rest, size b + m)
+    → find_code (d - 1) (under_two f k) (code_list b ++ rest) (size b + m) ≡ Some (b, rest, m)
+    → find_code d k (form_word (WithTwo f) ∷ ((code_list a ++ code_list b) ++ rest)) (size a + size b + 1 + m)
+    ≡ Some (code_of_two f a b, rest, m)
+two_from f a b d k rest m p first second =
+    begins (WithTwo f) d k _ (code_list a ++ (code_list b ++ rest)) _ (size a + (size b + m)) p
+    (ap (λ x. form_word (WithTwo f) ∷ x) (append_assoc (code_list a) (code_list b) rest)) (omega arith)
+    ∙ then_at (λ c ws n. make (code_of_two f c) (find_code (d - 1) (under_two f k) ws n)) first
+    ∙ make_at (code_of_two f a) second
+
 -- code whose words stand there is found
 pub code_from : (c : Expression) (d k : ℕ) (rest : List (List ℕ)) (m : ℕ) → IsCode c → ClosedBelow k c → LiteralsFit c
     → depth_of c ≤ d → k + 2 * d ≤ 1000
@@ -249,39 +241,22 @@ code_from (var i) d k rest m code closed literals deep room =
     let bound : i < k = closed in
     begins Var d k (code_list (var i) ++ rest) (decimal i ∷ rest) (1 + m) m (omega arith) refl (omega arith)
     ∙ make_at var (word_from (λ w. below k (natural_of w)) (decimal i) i rest m (below_from k i bound (omega arith)))
-code_from (glob i) d k rest m code closed literals deep room = absurd code
 code_from (fun e) d k rest m code closed literals deep room =
-    let part = code_from e (d - 1) (k + 1) rest m code (subst (λ j. ClosedBelow j e) (sym (add-one k)) closed) literals
-    (omega arith) (omega arith) in
-    begins (WithOne Fun) d k (code_list (fun e) ++ rest) (code_list e ++ rest) (size (fun e) + m) (size e + m)
-    (omega arith) refl (omega arith)
-    ∙ make_at fun part
+    one_from Fun e d k rest m (omega arith) (code_from e (d - 1) (k + 1) rest m code
+    (subst (λ j. ClosedBelow j e) (sym (add-one k)) closed) literals (omega arith) (omega arith))
 code_from (fix e) d k rest m code closed literals deep room =
     let two : suc (suc k) ≡ k + 2 = omega arith in
-    let part = code_from e (d - 1) (k + 2) rest m code (subst (λ j. ClosedBelow j e) two closed) literals (omega arith)
-    (omega arith) in
-    begins (WithOne Rec) d k (code_list (fix e) ++ rest) (code_list e ++ rest) (size (fix e) + m) (size e + m)
-    (omega arith) refl (omega arith)
-    ∙ make_at fix part
+    one_from Rec e d k rest m (omega arith) (code_from e (d - 1) (k + 2) rest m code
+    (subst (λ j. ClosedBelow j e) two closed) literals (omega arith) (omega arith))
 code_from (app a b) d k rest m code closed literals deep room =
-    let first = code_from a (d - 1) k (code_list b ++ rest) (size b + m) code.0 closed.0 literals.0 (omega arith)
-    (omega arith) in
-    let second = code_from b (d - 1) k rest m code.1 closed.1 literals.1 (omega arith) (omega arith) in
-    begins (WithTwo App) d k (code_list (app a b) ++ rest) (code_list a ++ (code_list b ++ rest)) (size (app a b) + m)
-    (size a + (size b + m)) (omega arith)
-    (ap (λ x. form_word (WithTwo App) ∷ x) (append_assoc (code_list a) (code_list b) rest)) (omega arith)
-    ∙ then_at (λ c ws n. make (app c) (find_code (d - 1) k ws n)) first
-    ∙ make_at (app a) second
+    two_from App a b d k rest m (omega arith)
+    (code_from a (d - 1) k (code_list b ++ rest) (size b + m) code.0 closed.0 literals.0 (omega arith) (omega arith))
+    (code_from b (d - 1) k rest m code.1 closed.1 literals.1 (omega arith) (omega arith))
 code_from (bind a b) d k rest m code closed literals deep room =
-    let first = code_from a (d - 1) k (code_list b ++ rest) (size b + m) code.0 closed.0 literals.0 (omega arith)
-    (omega arith) in
-    let second = code_from b (d - 1) (k + 1) rest m code.1 (subst (λ j. ClosedBelow j b) (sym (add-one k)) closed.1)
-    literals.1 (omega arith) (omega arith) in
-    begins (WithTwo Let) d k (code_list (bind a b) ++ rest) (code_list a ++ (code_list b ++ rest)) (size (bind a b) + m)
-    (size a + (size b + m)) (omega arith)
-    (ap (λ x. form_word (WithTwo Let) ∷ x) (append_assoc (code_list a) (code_list b) rest)) (omega arith)
-    ∙ then_at (λ c ws n. make (bind c) (find_code (d - 1) (k + 1) ws n)) first
-    ∙ make_at (bind a) second
+    two_from Let a b d k rest m (omega arith)
+    (code_from a (d - 1) k (code_list b ++ rest) (size b + m) code.0 closed.0 literals.0 (omega arith) (omega arith))
+    (code_from b (d - 1) (k + 1) rest m code.1 (subst (λ j. ClosedBelow j b) (sym (add-one k)) closed.1) literals.1
+    (omega arith) (omega arith))
 code_from (cond c a b) d k rest m code closed literals deep room =
     let first = code_from c (d - 1) k (code_list a ++ (code_list b ++ rest)) (size a + (size b + m)) code.0 closed.0
     literals.0 (omega arith) (omega arith) in
@@ -296,38 +271,15 @@ code_from (cond c a b) d k rest m code closed literals deep room =
     ∙ then_at (λ a ws n. make (cond c a) (find_code (d - 1) k ws n)) second
     ∙ make_at (cond c a) third
 code_from (pair a b) d k rest m code closed literals deep room =
-    let first = code_from a (d - 1) k (code_list b ++ rest) (size b + m) code.0 closed.0 literals.0 (omega arith)
-    (omega arith) in
-    let second = code_from b (d - 1) k rest m code.1 closed.1 literals.1 (omega arith) (omega arith) in
-    begins (WithTwo Pair) d k (code_list (pair a b) ++ rest) (code_list a ++ (code_list b ++ rest))
-    (size (pair a b) + m) (size a + (size b + m)) (omega arith)
-    (ap (λ x. form_word (WithTwo Pair) ∷ x) (append_assoc (code_list a) (code_list b) rest)) (omega arith)
-    ∙ then_at (λ c ws n. make (pair c) (find_code (d - 1) k ws n)) first
-    ∙ make_at (pair a) second
-code_from (fst e) d k rest m code closed literals deep room =
-    let part = code_from e (d - 1) k rest m code closed literals (omega arith) (omega arith) in
-    begins (WithOne Fst) d k (code_list (fst e) ++ rest) (code_list e ++ rest) (size (fst e) + m) (size e + m)
-    (omega arith) refl (omega arith)
-    ∙ make_at fst part
-code_from (snd e) d k rest m code closed literals deep room =
-    let part = code_from e (d - 1) k rest m code closed literals (omega arith) (omega arith) in
-    begins (WithOne Snd) d k (code_list (snd e) ++ rest) (code_list e ++ rest) (size (snd e) + m) (size e + m)
-    (omega arith) refl (omega arith)
-    ∙ make_at snd part
+    two_from Pair a b d k rest m (omega arith)
+    (code_from a (d - 1) k (code_list b ++ rest) (size b + m) code.0 closed.0 literals.0 (omega arith) (omega arith))
+    (code_from b (d - 1) k rest m code.1 closed.1 literals.1 (omega arith) (omega arith))
+code_from (fst e) d k rest m code closed literals deep room = one_from Fst e d k rest m (omega arith)
+    (code_from e (d - 1) k rest m code closed literals (omega arith) (omega arith))
+code_from (snd e) d k rest m code closed literals deep room = one_from Snd e d k rest m (omega arith)
+    (code_from e (d - 1) k rest m code closed literals (omega arith) (omega arith))
 code_from (prim o a b) d k rest m code closed literals deep room =
-    let first = code_from a (d - 1) k (code_list b ++ rest) (size b + m) code.0 closed.0 literals.0 (omega arith)
-    (omega arith) in
-    let second = code_from b (d - 1) k rest m code.1 closed.1 literals.1 (omega arith) (omega arith) in
-    begins (WithTwo (Prim o)) d k (code_list (prim o a b) ++ rest) (code_list a ++ (code_list b ++ rest))
-    (size (prim o a b) + m) (size a + (size b + m)) (omega arith)
-    (ap (λ x. form_word (WithTwo (Prim o)) ∷ x) (append_assoc (code_list a) (code_list b) rest)) (omega arith)
-    ∙ then_at (λ c ws n. make (prim o c) (find_code (d - 1) k ws n)) first
-    ∙ make_at (prim o a) second
-code_from (bracket e) d k rest m code closed literals deep room = absurd code
-code_from (escape e) d k rest m code closed literals deep room = absurd code
-code_from (run t e) d k rest m code closed literals deep room = absurd code
-code_from (close at e) d k rest m code closed literals deep room = absurd code
-code_from (opened e) d k rest m code closed literals deep room = absurd code
-code_from (lift e) d k rest m code closed literals deep room = absurd code
-code_from (lift_b e) d k rest m code closed literals deep room = absurd code
-code_from (done v) d k rest m code closed literals deep room = absurd code
+    two_from (Prim o) a b d k rest m (omega arith)
+    (code_from a (d - 1) k (code_list b ++ rest) (size b + m) code.0 closed.0 literals.0 (omega arith) (omega arith))
+    (code_from b (d - 1) k rest m code.1 closed.1 literals.1 (omega arith) (omega arith))
+code_from _ d k rest m code closed literals deep room = absurd code

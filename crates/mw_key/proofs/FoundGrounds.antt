@@ -106,6 +106,16 @@ type_begins f ws vs n l next e g = ap (λ x. then_find (find_type_form x n) next
     ∙ ap (λ x. then_find (find_type_form (type_form_word f ∷ vs) x) next) g
     ∙ then_at next (node_from type_form_of (type_form_word f) f vs l (type_form_from f))
 
+-- the first word of two ground types, where they stand behind it
+begins_two : {B : Type 0} (f : TypeForm) (s t : GroundType) (rest : List (List ℕ)) (m : ℕ)
+    (next : TypeForm → List (List ℕ) → ℕ → Finding B)
+    → then_find (find_type_form (type_form_word f ∷ ((ground_list s ++ ground_list t) ++ rest))
+    (suc (ground_nodes s + ground_nodes t) + m)) next
+    ≡ next f (ground_list s ++ (ground_list t ++ rest)) (ground_nodes s + (ground_nodes t + m))
+begins_two f s t rest m next = type_begins f _ (ground_list s ++ (ground_list t ++ rest)) _
+    (ground_nodes s + (ground_nodes t + m)) next
+    (ap (λ x. type_form_word f ∷ x) (append_assoc (ground_list s) (ground_list t) rest)) (omega arith)
+
 -- a ground type whose words stand there is found
 pub ground_from : (t : GroundType) (depth : ℕ) (rest : List (List ℕ)) (m : ℕ) → ground_nodes t ≤ depth
     → find_ground depth (ground_list t ++ rest) (ground_nodes t + m) ≡ Some (t, rest, m)
@@ -114,41 +124,31 @@ ground_from (base b) depth rest m p =
     ∙ type_begins (Base b) (ground_list (base b) ++ rest) rest (1 + m) m
     (λ form ws n. ground_parts (find_ground (depth - 1)) form ws n) refl (omega arith)
 ground_from (product s t) depth rest m p =
-    let below : ℕ = depth - 1 in
-    let tail = ground_list s ++ (ground_list t ++ rest) in
-    let count : ℕ = ground_nodes s + (ground_nodes t + m) in
-    let first = ground_from s below (ground_list t ++ rest) (ground_nodes t + m) (omega arith) in
-    let second = ground_from t below rest m (omega arith) in
+    let first = ground_from s (depth - 1) (ground_list t ++ rest) (ground_nodes t + m) (omega arith) in
     ground_step depth (ground_nodes (product s t) + m) (ground_list (product s t) ++ rest) (omega arith)
-    ∙ type_begins PairType (ground_list (product s t) ++ rest) tail (ground_nodes (product s t) + m) count
-    (λ form ws n. ground_parts (find_ground below) form ws n)
-    (ap (λ x. type_form_word PairType ∷ x) (append_assoc (ground_list s) (ground_list t) rest)) (omega arith)
-    ∙ then_at (λ s ws n. make (product s) (find_ground below ws n)) first
-    ∙ make_at (product s) second
+    ∙ begins_two PairType s t rest m (λ form ws n. ground_parts (find_ground (depth - 1)) form ws n)
+    ∙ then_at (λ s ws n. make (product s) (find_ground (depth - 1) ws n)) first
+    ∙ make_at (product s) (ground_from t (depth - 1) rest m (omega arith))
+
+-- two ground types whose words stand there are found
+both_from : {B : Type 0} (join : GroundType → GroundType → B) (s t : GroundType) (depth : ℕ) (rest : List (List ℕ))
+    (m : ℕ) → ground_nodes s ≤ depth → ground_nodes t ≤ depth
+    → then_find (find_ground depth (ground_list s ++ (ground_list t ++ rest)) (ground_nodes s + (ground_nodes t + m)))
+    (λ s ws n. make (join s) (find_ground depth ws n)) ≡ Some (join s t, rest, m)
+both_from join s t depth rest m p q =
+    then_at (λ s ws n. make (join s) (find_ground depth ws n))
+    (ground_from s depth (ground_list t ++ rest) (ground_nodes t + m) p)
+    ∙ make_at (join s) (ground_from t depth rest m q)
 
 -- a kernel type whose words stand there is found
 pub kernel_from : (k : KernelType) (depth : ℕ) (rest : List (List ℕ)) (m : ℕ) → kernel_nodes k ≤ depth
     → find_kernel_type depth (kernel_list k ++ rest) (kernel_nodes k + m) ≡ Some (k, rest, m)
 kernel_from (to s t) depth rest m p =
-    let tail = ground_list s ++ (ground_list t ++ rest) in
-    let count : ℕ = ground_nodes s + (ground_nodes t + m) in
-    let first = ground_from s depth (ground_list t ++ rest) (ground_nodes t + m) (omega arith) in
-    let second = ground_from t depth rest m (omega arith) in
-    type_begins To (kernel_list (to s t) ++ rest) tail (kernel_nodes (to s t) + m) count
-    (λ form ws n. kernel_parts (find_ground depth) form ws n)
-    (ap (λ x. type_form_word To ∷ x) (append_assoc (ground_list s) (ground_list t) rest)) (omega arith)
-    ∙ then_at (λ s ws n. make (to s) (find_ground depth ws n)) first
-    ∙ make_at (to s) second
+    begins_two To s t rest m (λ form ws n. kernel_parts (find_ground depth) form ws n)
+    ∙ both_from to s t depth rest m (omega arith) (omega arith)
 kernel_from (of_ground (base b)) depth rest m p =
     type_begins (Base b) (ground_list (base b) ++ rest) rest (1 + m) m
     (λ form ws n. kernel_parts (find_ground depth) form ws n) refl (omega arith)
 kernel_from (of_ground (product s t)) depth rest m p =
-    let tail = ground_list s ++ (ground_list t ++ rest) in
-    let count : ℕ = ground_nodes s + (ground_nodes t + m) in
-    let first = ground_from s depth (ground_list t ++ rest) (ground_nodes t + m) (omega arith) in
-    let second = ground_from t depth rest m (omega arith) in
-    type_begins PairType (ground_list (product s t) ++ rest) tail (ground_nodes (product s t) + m) count
-    (λ form ws n. kernel_parts (find_ground depth) form ws n)
-    (ap (λ x. type_form_word PairType ∷ x) (append_assoc (ground_list s) (ground_list t) rest)) (omega arith)
-    ∙ make_at of_ground (then_at (λ s ws n. make (product s) (find_ground depth ws n)) first
-    ∙ make_at (product s) second)
+    begins_two PairType s t rest m (λ form ws n. kernel_parts (find_ground depth) form ws n)
+    ∙ make_at of_ground (both_from product s t depth rest m (omega arith) (omega arith))

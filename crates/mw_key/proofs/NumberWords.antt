@@ -7,7 +7,7 @@ use Rattle.std.specs.Int.{w64, IsInRange}
 use Rattle.std.specs.Fmt.{decimal, signed_decimal, digits, digits_onto, digit_glyph}
 use Rattle.std.proofs.lemmas.Bool.{and_parts, and_from, le-leb, leb-true, lt-ltb, ltb-true, ne_eqb, eqb-true, eqb-false}
 use Rattle.std.proofs.lemmas.Bool.{cases_lt}
-use Rattle.std.proofs.lemmas.Option.{none-some, same_Some}
+use Rattle.std.proofs.lemmas.Option.{none-some, same_Some, cond_some}
 use Rattle.std.proofs.lemmas.Str.Parse.{IsNumeralModel, numerals_by_fold}
 use Rattle.std.proofs.lemmas.Fmt.{decimal_is_IsNumeral, decimal_digit, first_decimal, decimal-digits_value}
 use Rattle.mw_term.specs.Decimals.{is_digit, number_in}
@@ -126,15 +126,11 @@ pub below_found : (bound : ℕ) (bytes : List ℕ) (n : ℕ) → below bound (na
     × (n < bound)
 below_found bound bytes n e = by_number (natural_of bytes) refl e
   where
-    by_bound : (m : ℕ) → natural_of bytes ≡ Some m → (t : Bool) → nat_lt m bound ≡ t → (if t then Some m else None)
-        ≡ Some n → (bytes ≡ decimal n) × (n < bound)
-    by_bound m f true q e = let same : m ≡ n = same_Some m n e in subst (λ k. (bytes ≡ decimal k) × (k < bound)) same
-        ((natural_found bytes m f).0, ltb-true m bound q)
-    by_bound m f false q e = absurd (none-some n e)
-
     by_number : (o : Option ℕ) → natural_of bytes ≡ o → below bound o ≡ Some n → (bytes ≡ decimal n) × (n < bound)
     by_number None f e = absurd (none-some n e)
-    by_number (Some m) f e = by_bound m f (nat_lt m bound) refl e
+    by_number (Some m) f e = let found = cond_some (nat_lt m bound) m n e in
+        subst (λ k. (bytes ≡ decimal k) × (k < bound)) found.1
+        ((natural_found bytes m f).0, ltb-true m bound found.0)
 
 pub below_from : (bound n : ℕ) → n < bound → n ≤ 2 ^ 63 → below bound (natural_of (decimal n)) ≡ Some n
 below_from bound n p q = rw (natural_from n q, lt-ltb n bound p) refl
@@ -143,18 +139,13 @@ signed_of : (bytes : List ℕ) (z : ℤ) → positive (natural_of bytes) ≡ Som
     × FitsSigned w64 z
 signed_of bytes z e = by_number (natural_of bytes) refl e
   where
-    by_bound : (m : ℕ) → natural_of bytes ≡ Some m → (t : Bool) → nat_lt m (2 ^ 63) ≡ t
-        → (if t then Some (pos m) else None) ≡ Some z → (bytes ≡ signed_decimal z) × FitsSigned w64 z
-    by_bound m f true q e =
-        let fits : FitsSigned w64 (pos m) = record { sfits = ltb-true m (2 ^ 63) q } in
-        subst (λ y. (bytes ≡ signed_decimal y) × FitsSigned w64 y) (same_Some (pos m) z e)
-        ((natural_found bytes m f).0, fits)
-    by_bound m f false q e = absurd (none-some z e)
-
     by_number : (o : Option ℕ) → natural_of bytes ≡ o → positive o ≡ Some z → (bytes ≡ signed_decimal z)
         × FitsSigned w64 z
     by_number None f e = absurd (none-some z e)
-    by_number (Some m) f e = by_bound m f (nat_lt m (2 ^ 63)) refl e
+    by_number (Some m) f e =
+        let found = cond_some (nat_lt m (2 ^ 63)) (pos m) z e in
+        subst (λ y. (bytes ≡ signed_decimal y) × FitsSigned w64 y) found.1
+        ((natural_found bytes m f).0, record { sfits = ltb-true m (2 ^ 63) found.0 })
 
 minus_of : (bytes : List ℕ) (z : ℤ) → negative (natural_of bytes) ≡ Some z → (45 ∷ bytes ≡ signed_decimal z)
     × FitsSigned w64 z

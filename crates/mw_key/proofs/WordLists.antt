@@ -2,12 +2,9 @@
 use Rattle.std.proofs.Common.{◌≡◌, ℕ, List, [], ◌∷◌, ◌++◌, refl, sym, ◌∙◌, ap, true, false, codes}
 use Rattle.std.specs.Fmt.{signed_decimal, decimal}
 use Rattle.std.proofs.lemmas.List.{append_assoc, append-nil}
-use Rattle.mw_term.specs.Terms.{Expression, GroundType, KernelType, base, product, of_ground, to, num, truth, var, fun}
-use Rattle.mw_term.specs.Terms.{fix, app, bind, cond, pair, fst, snd, prim}
-use Rattle.mw_term.specs.declared.term.Base.TheVariants as b
-use Rattle.mw_term.specs.declared.term.Primitive.{Primitive as Prim'}
-use Rattle.mw_term.specs.declared.term.Primitive.TheVariants.{Add, Sub, Mul, Div, Mod, Eq, Lt, Le}
-use Rattle.mw_key.specs.CanonicalText.{version_word, ground_words, kernel_words, primitive_word, code_words}
+use Rattle.mw_term.specs.Terms.{Expression, GroundType, KernelType, base, product, of_ground, to, num, truth, var}
+use Rattle.mw_term.specs.Terms.{fun, fix, app, bind, cond, pair, fst, snd, prim}
+use Rattle.mw_key.specs.CanonicalText.{version_word, ground_words, kernel_words, code_words}
 use Rattle.mw_key.specs.CanonicalText.{canonical_text}
 use Rattle.mw_key.specs.declared.version.Version.{Version}
 use Rattle.mw_key.specs.declared.form.Form.TheVariants.{Int, Bool as Truth, Var, WithOne, WithTwo, If}
@@ -17,8 +14,9 @@ use Rattle.mw_key.specs.declared.form.TypeForm.TheVariants.{Base, Pair as PairTy
 use Rattle.mw_key.specs.Reading.{words}
 use Rattle.mw_key.proofs.Words.{spaced, spaced-append, NoSpaces, NoSpaces-append, words_of_bytes, bytes_of_words}
 use Rattle.mw_key.proofs.FormWords.{form_word, type_form_word, primitive_name, version_no_space, type_form_no_space}
-use Rattle.mw_key.proofs.FormWords.{primitive_no_space}
+use Rattle.mw_key.proofs.FormWords.{primitive_is}
 use Rattle.mw_key.proofs.NumberWords.{decimal_no_space, signed_no_space}
+use Rattle.mw_term.specs.declared.term.Base.TheVariants as b
 
 abbrev pub ground_list : GroundType → List (List ℕ)
 ground_list (base t) = type_form_word (Base t) ∷ []
@@ -43,10 +41,7 @@ code_list (snd e) = form_word (WithOne Snd) ∷ code_list e
 code_list (prim p a t) = form_word (WithTwo (Prim p)) ∷ (code_list a ++ code_list t)
 code_list _ = []
 
--- a word before what follows it
-one_spaced : (w x : List ℕ) (xs : List (List ℕ)) → x ≡ spaced xs → 32 ∷ w ++ x ≡ spaced (w ∷ xs)
-one_spaced w x xs e = ap (λ bytes. 32 ∷ (w ++ bytes)) e
-
+-- words after a word
 two_spaced : (w x y : List ℕ) (xs ys : List (List ℕ)) → x ≡ spaced xs → y ≡ spaced ys → (32 ∷ w) ++ x ++ y
     ≡ spaced (w ∷ (xs ++ ys))
 two_spaced w x y xs ys e f = append_assoc (32 ∷ w) x y ∙ ap (λ bytes. 32 ∷ (w ++ bytes))
@@ -71,16 +66,6 @@ kernel_spaced (of_ground t) = ground_spaced t
 kernel_spaced (to s t) = two_spaced (codes "to") (ground_words s) (ground_words t) (ground_list s) (ground_list t)
     (ground_spaced s) (ground_spaced t)
 
-primitive_spaced : (p : Prim') → primitive_word p ≡ 32 ∷ primitive_name p
-primitive_spaced Add = refl
-primitive_spaced Sub = refl
-primitive_spaced Mul = refl
-primitive_spaced Div = refl
-primitive_spaced Mod = refl
-primitive_spaced Eq = refl
-primitive_spaced Lt = refl
-primitive_spaced Le = refl
-
 number_spaced : (w x : List ℕ) → (32 ∷ w) ++ (32 ∷ x) ≡ spaced (w ∷ x ∷ [])
 number_spaced w x = ap (λ bytes. 32 ∷ (w ++ (32 ∷ bytes))) (sym (append-nil x))
 
@@ -89,8 +74,8 @@ code_spaced (num n) = number_spaced (codes "i") (signed_decimal n)
 code_spaced (truth true) = refl
 code_spaced (truth false) = refl
 code_spaced (var i) = number_spaced (codes "v") (decimal i)
-code_spaced (fun e) = one_spaced (codes "fun") (code_words e) (code_list e) (code_spaced e)
-code_spaced (fix e) = one_spaced (codes "rec") (code_words e) (code_list e) (code_spaced e)
+code_spaced (fun e) = ap (λ bytes. codes " fun" ++ bytes) (code_spaced e)
+code_spaced (fix e) = ap (λ bytes. codes " rec" ++ bytes) (code_spaced e)
 code_spaced (app f a) = two_spaced (codes "app") (code_words f) (code_words a) (code_list f) (code_list a)
     (code_spaced f) (code_spaced a)
 code_spaced (bind d e) = two_spaced (codes "let") (code_words d) (code_words e) (code_list d) (code_list e)
@@ -100,10 +85,10 @@ code_spaced (cond c a t) =
     (code_spaced c) (code_spaced a) (code_spaced t)
 code_spaced (pair a t) = two_spaced (codes "pair") (code_words a) (code_words t) (code_list a) (code_list t)
     (code_spaced a) (code_spaced t)
-code_spaced (fst e) = one_spaced (codes "fst") (code_words e) (code_list e) (code_spaced e)
-code_spaced (snd e) = one_spaced (codes "snd") (code_words e) (code_list e) (code_spaced e)
+code_spaced (fst e) = ap (λ bytes. codes " fst" ++ bytes) (code_spaced e)
+code_spaced (snd e) = ap (λ bytes. codes " snd" ++ bytes) (code_spaced e)
 code_spaced (prim p a t) =
-    ap (λ w. w ++ code_words a ++ code_words t) (primitive_spaced p)
+    ap (λ w. w ++ code_words a ++ code_words t) (primitive_is p).spaced
     ∙ two_spaced (primitive_name p) (code_words a) (code_words t) (code_list a) (code_list t) (code_spaced a)
     (code_spaced t)
 code_spaced _ = refl
@@ -149,7 +134,7 @@ code_spaceless (pair a t) = (refl, NoSpaces-append (code_list a) (code_list t) (
 code_spaceless (fst e) = (refl, code_spaceless e)
 code_spaceless (snd e) = (refl, code_spaceless e)
 code_spaceless (prim p a t) =
-    (primitive_no_space p, NoSpaces-append (code_list a) (code_list t) (code_spaceless a) (code_spaceless t))
+    ((primitive_is p).spaceless, NoSpaces-append (code_list a) (code_list t) (code_spaceless a) (code_spaceless t))
 code_spaceless _ = tt
 
 -- the words of a text

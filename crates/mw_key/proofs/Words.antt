@@ -4,7 +4,7 @@ use Rattle.std.proofs.Common.{sym, ◌∙◌, ap, arith, Bool, true, false, not,
 use Rattle.std.specs.Prelude.{position}
 use Rattle.std.specs.List.{join_with_byte, position_or_len, onto_first}
 use Rattle.std.proofs.lemmas.Bool.{and_parts, not-true, ltb-true, ltb-false}
-use Rattle.std.proofs.lemmas.Option.{none-some, same_Some}
+use Rattle.std.proofs.lemmas.Option.{none-some, cond_some}
 use Rattle.std.proofs.lemmas.List.{append_assoc, append-nil, take_rest}
 use Rattle.std.proofs.lemmas.List.Splits.{slice_split-cons_no, slice_split_first, length-slice_split}
 use Rattle.std.proofs.lemmas.List.Splits.{join_with_byte-slice_split}
@@ -20,17 +20,12 @@ some_word bytes e = let some = length-slice_split is_space bytes in omega (arith
 -- a space at i ends the first word
 pub split_here : (bytes : List ℕ) (i : ℕ) → position (λ b. b == 32) bytes ≡ Some i → words bytes ≡ take i bytes
     ∷ words (take (length bytes - (i + 1)) (drop (i + 1) bytes))
-split_here bytes i e = by_test (nat_lt (position_or_len is_space bytes) (length bytes)) refl e
-  where
-    by_test : (t : Bool) → nat_lt (position_or_len is_space bytes) (length bytes) ≡ t
-        → cond t (Some (position_or_len is_space bytes)) None ≡ Some i → words bytes ≡ take i bytes
-        ∷ words (take (length bytes - (i + 1)) (drop (i + 1) bytes))
-    by_test true f e =
-        let here : position_or_len is_space bytes ≡ i = same_Some (position_or_len is_space bytes) i e in
-        slice_split_first is_space bytes 0 (ltb-true (position_or_len is_space bytes) (length bytes) f)
-        ∙ ap (λ j. take j bytes ∷ words (drop (j + 1) bytes)) here
-        ∙ ap (λ rest. take i bytes ∷ words rest) (sym (take_rest bytes (i + 1)))
-    by_test false f e = absurd (none-some i e)
+split_here bytes i e =
+    let found = cond_some (nat_lt (position_or_len is_space bytes) (length bytes)) (position_or_len is_space bytes) i
+    e in
+    slice_split_first is_space bytes 0 (ltb-true (position_or_len is_space bytes) (length bytes) found.0)
+    ∙ ap (λ j. take j bytes ∷ words (drop (j + 1) bytes)) found.1
+    ∙ ap (λ rest. take i bytes ∷ words rest) (sym (take_rest bytes (i + 1)))
 
 -- with no space the bytes are one word
 one_word : (bytes : List ℕ) → length bytes ≤ position_or_len is_space bytes → words bytes ≡ bytes ∷ []

@@ -1,4 +1,3 @@
-pub mod CoreRuns
 pub mod Lists
 pub mod Machine
 pub mod WitnessValue

@@ -1,17 +1,20 @@
 -- What each event of the table keeps.
 use Rattle.std.proofs.Common.{◌≡◌, ◌≢◌, ℕ, zero, suc, ◌+◌, ◌%◌, ◌<◌, ◌≤◌, ◌⊎◌, List, [], ◌∷◌, length, Bool, true, false}
-use Rattle.std.proofs.Common.{cond, eqb, ◌==◌, eq-eqb, Option, Some, None, refl, ap, sym, ◌∙◌, subst, inl, inr, arith}
-use Rattle.std.proofs.Common.{slice_get, get_or, drop, set, length-set, replicate}
+use Rattle.std.proofs.Common.{cond, ◌==◌, eq-eqb, Option, Some, None, refl, ap, sym, ◌∙◌, subst, inl, inr, arith}
+use Rattle.std.proofs.Common.{slice_get, get_or, set, length-set, replicate}
 use native.Mathlib.Nat.{mod-lt}
 use Rattle.std.proofs.lemmas.Option.{same_Some, none-some, slice_get_within, slice_get-get_or}
-use Rattle.std.proofs.lemmas.Bool.{cases_lt, false≢true, eqb-true}
+use Rattle.std.proofs.lemmas.Bool.{cases_eq, cases_lt, false≢true, eqb-true}
+use Rattle.std.proofs.lemmas.Bool.Decides.{eqb_tells}
+use Rattle.std.proofs.lemmas.List.{get_or-set_same, length-replicate}
+use Rattle.std.proofs.lemmas.Slice.Eq.{bytes_eq-Decides}
+use Rattle.std.specs.Str.{bytes_eq}
 use Rattle.mw_slots.specs.Core.{Name, going, has, no_room, Asker, asker, State, Event, begin, look, fill, empty}
 use Rattle.mw_slots.specs.Core.{with_asker, HasName, place, next, IsOther, Steps, Follows, Core}
 
 slice_get_set_same : {X : Type 0} (xs : List X) (i : ℕ) (v : X) → i < length xs → slice_get (set xs i v) i ≡ Some v
-slice_get_set_same [] i v h = absurd (omega arith)
-slice_get_set_same (x ∷ xs) zero v h = refl
-slice_get_set_same (x ∷ xs) (suc i) v h = slice_get_set_same xs i v (omega arith)
+slice_get_set_same xs i v h =
+    slice_get-get_or (set xs i v) i v (omega (arith, length-set xs i v)) ∙ ap Some (get_or-set_same xs i v v h)
 
 slice_get_set_other : {X : Type 0} (xs : List X) (i j : ℕ) (v : X) → j ≢ i → slice_get (set xs i v) j ≡ slice_get xs j
 slice_get_set_other [] i j v h = refl
@@ -20,23 +23,17 @@ slice_get_set_other (x ∷ xs) zero (suc j) v h = refl
 slice_get_set_other (x ∷ xs) (suc i) zero v h = refl
 slice_get_set_other (x ∷ xs) (suc i) (suc j) v h = slice_get_set_other xs i j v (λ e. h (ap suc e))
 
-with_by : (f : ℕ → Option Asker) (v w : ℕ) (a b : Asker) (x : Bool) → (x ≡ true → v ≡ w) → cond x (Some a) (f v)
-    ≡ Some b → ((v ≡ w) × (a ≡ b)) ⊎ (f v ≡ Some b)
-with_by f v w a b true e h = inl (e refl, same_Some a b h)
-with_by f v w a b false e h = inr h
-
 with_cases : (f : ℕ → Option Asker) (w : ℕ) (a : Asker) (v : ℕ) (b : Asker) → with_asker f w a v ≡ Some b
     → ((v ≡ w) × (a ≡ b)) ⊎ (f v ≡ Some b)
-with_cases f w a v b h = with_by f v w a b (eqb v w) (λ e. eqb-true v w e) h
+with_cases f w a v b h = elim (eqb_tells v w) [
+  | inl e ↦ inl (e.1, same_Some a b (subst (λ x. cond x (Some a) (f v) ≡ Some b) e.0 h))
+  | inr e ↦ inr (subst (λ x. cond x (Some a) (f v) ≡ Some b) e.0 h)
+]
 
 empty_holds : (n i : ℕ) (t : Name) → HasName (replicate n None) i t → ⊥
 empty_holds zero i t h = none-some (Some t) h
 empty_holds (suc n) zero t h = none-some t (same_Some None (Some t) h)
 empty_holds (suc n) (suc i) t h = empty_holds n i t h
-
-length_empty : (n : ℕ) → length {A = Option Name} (replicate n None) ≡ n
-length_empty zero = refl
-length_empty (suc n) = ap suc (length_empty n)
 
 -- a slot of the table is empty or filled
 slot_by : (slots : List (Option Name)) (i : ℕ) (v : Option Name) → slice_get slots i ≡ Some v
@@ -49,17 +46,12 @@ slot_cases : (slots : List (Option Name)) (i : ℕ) → i < length slots → (sl
 slot_cases slots i h = slot_by slots i (get_or slots i None) (slice_get-get_or slots i None h)
 
 -- two names are one or not
-cons_by : (x y : ℕ) (xs ys : Name) (b : Bool) → eqb x y ≡ b → (xs ≡ ys) ⊎ (xs ≢ ys) → (x ∷ xs ≡ y ∷ ys)
-    ⊎ (x ∷ xs ≢ y ∷ ys)
-cons_by x y xs ys true e (inl same) = inl (λ i. eqb-true x y e i ∷ same i)
-cons_by x y xs ys true e (inr other) = inr (λ q. other (ap (drop 1) q))
-cons_by x y xs ys false e either = inr (λ q. false≢true (sym e ∙ eq-eqb x y (ap (λ (zs : Name). get_or zs 0 0) q)))
-
 same_or_other : (xs ys : Name) → (xs ≡ ys) ⊎ (xs ≢ ys)
-same_or_other [] [] = inl refl
-same_or_other [] (y ∷ ys) = inr (λ q. absurd (cc q))
-same_or_other (x ∷ xs) [] = inr (λ q. absurd (cc q))
-same_or_other (x ∷ xs) (y ∷ ys) = cons_by x y xs ys (eqb x y) refl (same_or_other xs ys)
+same_or_other xs ys = by_test (bytes_eq xs ys) refl
+  where
+    by_test : (t : Bool) → bytes_eq xs ys ≡ t → (xs ≡ ys) ⊎ (xs ≢ ys)
+    by_test true e = inl ((bytes_eq-Decides xs ys).0 e)
+    by_test false e = inr (λ q. false≢true (sym e ∙ (bytes_eq-Decides xs ys).1 q))
 
 module _ (home : Name → ℕ) where
   abbrev CanGo : State → ℕ → Type 0
@@ -141,23 +133,15 @@ module _ (home : Name → ℕ) where
         (λ e. none-some u (same_Some None (Some u) (sym free ∙ subst (λ (n : ℕ). HasName slots n u) e h))) ∙ h;
   }
 
-  set_by : (slots : List (Option Name)) (i : ℕ) (t : Name) (j : ℕ) (u : Name) (x : Bool) → eqb j i ≡ x
-      → slice_get slots i ≡ Some None → HasName (set slots i (Some t)) j u → ((j ≡ i) × (t ≡ u)) ⊎ HasName slots j u
-  set_by slots i t j u true e free h =
-      let is : j ≡ i = eqb-true j i e in
-      let now : slice_get (set slots i (Some t)) i ≡ Some (Some t) = slice_get_set_same slots i (Some t)
-      (slice_get_within slots i None free) in
-      inl (
-        is,
-        same_Some t u
-            (same_Some (Some t) (Some u) (sym now ∙ subst (λ (n : ℕ). HasName (set slots i (Some t)) n u) is h)),
-      )
-  set_by slots i t j u false e free h =
-      inr (sym (slice_get_set_other slots i j (Some t) (λ is. false≢true (sym e ∙ eq-eqb j i is))) ∙ h)
-
   set_cases : (slots : List (Option Name)) (i : ℕ) (t : Name) (j : ℕ) (u : Name) → slice_get slots i ≡ Some None
       → HasName (set slots i (Some t)) j u → ((j ≡ i) × (t ≡ u)) ⊎ HasName slots j u
-  set_cases slots i t j u free h = set_by slots i t j u (eqb j i) refl free h
+  set_cases slots i t j u free h = elim (cases_eq j i) [
+    | inl is ↦
+        let now = slice_get_set_same slots i (Some t) (slice_get_within slots i None free) in
+        let here = subst (λ (n : ℕ). HasName (set slots i (Some t)) n u) is h in
+        inl (is, same_Some t u (same_Some (Some t) (Some u) (sym now ∙ here)))
+    | inr other ↦ inr (sym (slice_get_set_other slots i j (Some t) other) ∙ h)
+  ]
 
   others_upto : (slots : List (Option Name)) (t : Name) (p : ℕ) → ((k : ℕ) → k < p → IsOther home slots t k)
       → IsOther home slots t p → (k : ℕ) → k < p + 1 → IsOther home slots t k
@@ -185,6 +169,24 @@ module _ (home : Name → ℕ) where
     grows : Grows s.slots s'.slots
     fine : Fine s'
 
+  -- an asker that stands at a slot with its name
+  has_slot : (slots : List (Option Name)) (t : Name) (p : ℕ) → p < 16 → ((k : ℕ) → k < p → IsOther home slots t k)
+      → HasName slots (place home slots t p) t → Knows slots (asker t p has)
+  has_slot slots t p near others here = record {
+    others = others;
+    near = λ x. absurd (cc x);
+    mine = λ x. (near, here);
+    sixteen = λ x. absurd (cc x);
+  }
+
+  -- one asker changed, and no slot
+  same_slots : (s : State) (w : ℕ) (a : Asker) (s' : State) → Fine s → Knows s.slots a
+      → s' ≡ record { slots = s.slots; askers = with_asker s.askers w a } → Goes s s'
+  same_slots s w a s' fine knows e = subst (Goes s) (sym e) record {
+    grows = grows_same s.slots;
+    fine = fine_with s s.slots w a fine (grows_same s.slots) knows fine.placed;
+  }
+
   goes : (s : State) (e : Event) (s' : State) → Fine s → Steps home s e s' → Goes s s'
   goes s (begin w t) s' fine h =
       let k : Knows s.slots (asker t 0 going) =
@@ -194,40 +196,20 @@ module _ (home : Name → ℕ) where
         mine = λ e. absurd (cc e);
         sixteen = λ e. absurd (cc e);
       } in
-      subst (Goes s) (sym h.1) record {
-        grows = grows_same s.slots;
-        fine = fine_with s s.slots w (asker t 0 going) fine
-            (grows_same s.slots) k fine.placed;
-      }
+      same_slots s w (asker t 0 going) s' fine k h.1
   goes s (look w) s' fine h =
       let a : Asker = h.0 in let u : Name = h.1 in
       let k : Knows s.slots a = fine.knows w a h.2 in
       let near : a.passed < 16 = k.near h.3 in
       elim h.5 [
         | inl e ↦
-            let k' : Knows s.slots (asker a.name a.passed has) =
-            record {
-              others = k.others;
-              near = λ x. absurd (cc x);
-              mine = λ x.
-                  (near, subst (HasName s.slots (next home s.slots a)) e.0 h.4);
-              sixteen = λ x. absurd (cc x);
-            } in
-            subst (Goes s) (sym e.1) record {
-              grows = grows_same s.slots;
-              fine =
-                  fine_with s s.slots w (asker a.name a.passed has) fine (grows_same s.slots) k' fine.placed;
-            }
+            let here = subst (HasName s.slots (next home s.slots a)) e.0 h.4 in
+            same_slots s w (asker a.name a.passed has) s' fine (has_slot s.slots a.name a.passed near k.others here) e.1
         | inr e ↦
             let all : (j : ℕ) → j < a.passed + 1 → IsOther home s.slots a.name j = others_upto s.slots a.name a.passed
             k.others (u, h.4, e.0) in
-            let k' = standing_by s.slots a.name a.passed (a.passed + 1 == 16) refl near all in
-            subst (Goes s) (sym e.1) record {
-              grows = grows_same s.slots;
-              fine =
-                  fine_with s s.slots w (asker a.name (a.passed + 1) (cond (a.passed + 1 == 16) no_room going)) fine
-                  (grows_same s.slots) k' fine.placed;
-            }
+            same_slots s w (asker a.name (a.passed + 1) (cond (a.passed + 1 == 16) no_room going)) s' fine
+            (standing_by s.slots a.name a.passed (a.passed + 1 == 16) refl near all) e.1
       ]
   goes s (fill w) s' fine h =
       let a : Asker = h.0 in let i : ℕ = next home s.slots a in let slots' : List (Option Name) =
@@ -237,23 +219,17 @@ module _ (home : Name → ℕ) where
       let at : next home slots' a ≡ i = ap (λ (n : ℕ). (home a.name + a.passed) % n) g.long in
       let now : HasName slots' i a.name = slice_get_set_same s.slots i (Some a.name)
       (slice_get_within s.slots i None h.3) in
-      let k' : Knows slots' (asker a.name a.passed has) = record {
-        others = λ j n. other_on s.slots slots' g a.name j (k.others j n);
-        near = λ x. absurd (cc x);
-        mine = λ x. (near, subst (λ (n : ℕ). HasName slots' n a.name) (sym at) now);
-        sixteen = λ x. absurd (cc x);
-      } in
+      let k' : Knows slots' (asker a.name a.passed has) = has_slot slots' a.name a.passed near
+      (λ j n. other_on s.slots slots' g a.name j (k.others j n))
+      (subst (λ (n : ℕ). HasName slots' n a.name) (sym at) now) in
       let mine : Placed slots' i a.name = (a.passed, near, sym at, k'.others) in
       let placed' : (j : ℕ) (t : Name) → HasName slots' j t → Placed slots' j t = λ j t x.
       elim (set_cases s.slots i a.name j t h.3 x) [
         | inl e ↦ subst (λ (n : ℕ). Placed slots' n t) (sym e.0) (subst (Placed slots' i) e.1 mine)
         | inr old ↦ placed_on s.slots slots' g j t (fine.placed j t old)
       ] in
-      subst (Goes s) (sym h.4) record {
-        grows = g;
-        fine = fine_with s slots' w (asker a.name a.passed has) fine g k'
-            placed';
-      }
+      let fine' = fine_with s slots' w (asker a.name a.passed has) fine g k' placed' in
+      subst (Goes s) (sym h.4) record { grows = g; fine = fine' }
 
   goes_all : (s : State) (es : List Event) (s' : State) → Fine s → Follows home s es s' → Goes s s'
   goes_all s [] s' fine h = subst (Goes s) h record { grows = grows_same s.slots; fine = fine }
@@ -272,14 +248,9 @@ module _ (home : Name → ℕ) where
   one_place : (slots : List (Option Name)) (i j : ℕ) (t : Name) → HasName slots i t → HasName slots j t
       → (p : Placed slots i t) → (q : Placed slots j t) → i ≡ j
   one_place slots i j t h g p q =
-      let first : p.0 < q.0 → ⊥ = two_places slots i j t h p q in let second : q.0 < p.0 → ⊥ =
-      two_places slots j i t g q p in
-      let same : p.0 ≡ q.0 =
-      elim (cases_lt p.0 q.0) [
-        | inl a ↦ absurd (first a)
-        | inr b ↦ elim (cases_lt q.0 p.0)
-            [ inl c ↦ absurd (second c) | inr d ↦ omega arith ]
-      ] in
+      let first : p.0 < q.0 → ⊥ = two_places slots i j t h p q in
+      let second : q.0 < p.0 → ⊥ = two_places slots j i t g q p in
+      let same : p.0 ≡ q.0 = omega arith in
       p.2 ∙ ap (place home slots t) same ∙ sym q.2
 
   -- the next slot of an asker that goes on is one of the table's, filled or empty
@@ -299,7 +270,7 @@ module _ (home : Name → ℕ) where
   core_holds n es fs before after some first then =
       let one : Goes (empty n) before = goes_all (empty n) es before (fine_empty n) first in
       let two : Goes before after = goes_all before fs after one.fine then in
-      let long : length after.slots ≡ n = two.grows.long ∙ one.grows.long ∙ length_empty n in
+      let long : length after.slots ≡ n = two.grows.long ∙ one.grows.long ∙ length-replicate n None in
       record {
         kept = two.grows.stays;
         once = λ i j t h g. one_place after.slots i j t h g (two.fine.placed i t h) (two.fine.placed j t g);

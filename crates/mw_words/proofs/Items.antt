@@ -1,7 +1,7 @@
 -- The first items of a list, and texts after a prefix.
 use Rattle.std.proofs.Common.{◌≡◌, ℕ, ◌≤◌, ◌<◌, List, [], ◌∷◌, Option, Some, None, length, get_or, map, true}
 use Rattle.std.proofs.Common.{false, refl, arith}
-use Rattle.std.specs.Option.{IfNone, is_some, option_map, option_to_list}
+use Rattle.std.specs.Option.{is_some, option_map, option_to_list}
 use Rattle.std.specs.Prelude.{Result, Ok, Err, IfOk, IfErr}
 
 -- a list of no item

@@ -5,7 +5,7 @@ use Rattle.std.proofs.Common.{ap, subst, arith}
 use Rattle.mw_words.specs.Words.{apart, joined, PurePart, is_named, is_taken, parts_named, HaveOnly, IsNumberOf}
 use Rattle.mw_words.specs.Words.{not_named, named_once, IsSwitchOf, off, on, IsWordOf, without_word, with_word}
 use Rattle.mw_words.specs.Words.{IsFileOf}
-use Rattle.mw_words.specs.Words.{HasNoFile, PureCommand, sample, Makes, run_of, erased_of, link_of, migrate_of}
+use Rattle.mw_words.specs.Words.{PureCommand, sample, Makes, run_of, erased_of, link_of, migrate_of}
 use Rattle.mw_words.specs.Words.{parts_command, sample_command, wat_command, check_command, cert_command}
 use Rattle.mw_words.specs.Words.{recheck_command}
 use Rattle.mw_words.specs.WordLaws.{OneCommand, EitherForm, AnyOrder}
@@ -82,26 +82,7 @@ either_form name value v rest r = (
   (λ h. let same = one_value h (joined refl) in rw (same.0, same.1) (apart refl)),
 )
 
--- lists of which the same parts have a name make the same number, switch, word and file
-number_too : {name : List ℕ} {most default n : ℕ} {ps qs : List PurePart}
-    → parts_named (Some name) ps ≡ parts_named (Some name) qs
-    → IsNumberOf name most default ps n → IsNumberOf name most default qs n
-number_too e (not_named f) = not_named (sym e ∙ f)
-number_too e (named_once f h) = named_once (sym e ∙ f) h
-
-switch_too : {name : List ℕ} {b : Bool} {ps qs : List PurePart}
-    → parts_named (Some name) ps ≡ parts_named (Some name) qs
-    → IsSwitchOf name ps b → IsSwitchOf name qs b
-switch_too e (off f) = off (sym e ∙ f)
-switch_too e (on f) = on (sym e ∙ f)
-
-word_too : {name : List ℕ} {word : Option (List ℕ)} {ps qs : List PurePart}
-    → parts_named (Some name) ps ≡ parts_named (Some name) qs
-    → IsWordOf name ps word → IsWordOf name qs word
-word_too e (without_word f) = without_word (sym e ∙ f)
-word_too e (with_word f h) = with_word (sym e ∙ f) h
-
--- a number, a switch, a word and a file are of one part at most
+-- a number, a switch and a word are of one part at most
 pub few_number : {name : List ℕ} {most default n : ℕ} {parts : List PurePart} → IsNumberOf name most default parts n
     → length (parts_named (Some name) parts) ≤ 1
 few_number (not_named e) = rw e (omega arith)
@@ -117,30 +98,26 @@ pub few_word : {name : List ℕ} {word : Option (List ℕ)} {parts : List PurePa
 few_word (without_word e) = rw e (omega arith)
 few_word (with_word e h) = rw e (omega arith)
 
-few_file : (parts : List PurePart) (name : List ℕ) → IsFileOf parts name → length (parts_named None parts) ≤ 1
-few_file parts name e = rw e (omega arith)
-
-few_none : (parts : List PurePart) → HasNoFile parts → length (parts_named None parts) ≤ 1
-few_none parts e = rw e (omega arith)
-
 module _ (before after : List PurePart) (p q : PurePart) where
+  -- the parts of a name, where there is one at most
+  same_named : (name : Option (List ℕ)) {parts : List PurePart} → parts_named name (before ++ p ∷ q ∷ after) ≡ parts
+      → length parts ≤ 1 → parts_named name (before ++ q ∷ p ∷ after) ≡ parts
+  same_named name e few = sym (swapped (is_named name) before after p q (rw e few)) ∙ e
+
   number_swapped : {name : List ℕ} {most default n : ℕ} → IsNumberOf name most default (before ++ p ∷ q ∷ after) n
       → IsNumberOf name most default (before ++ q ∷ p ∷ after) n
-  number_swapped {name = name} h = number_too (swapped (is_named (Some name)) before after p q (few_number h)) h
+  number_swapped {name = name} (not_named e) = not_named (same_named (Some name) e (omega arith))
+  number_swapped {name = name} (named_once e h) = named_once (same_named (Some name) e (omega arith)) h
 
   switch_swapped : {name : List ℕ} {b : Bool} → IsSwitchOf name (before ++ p ∷ q ∷ after) b
       → IsSwitchOf name (before ++ q ∷ p ∷ after) b
-  switch_swapped {name = name} h = switch_too (swapped (is_named (Some name)) before after p q (few_switch h)) h
+  switch_swapped {name = name} (off e) = off (same_named (Some name) e (omega arith))
+  switch_swapped {name = name} (on e) = on (same_named (Some name) e (omega arith))
 
   word_swapped : {name : List ℕ} {word : Option (List ℕ)} → IsWordOf name (before ++ p ∷ q ∷ after) word
       → IsWordOf name (before ++ q ∷ p ∷ after) word
-  word_swapped {name = name} h = word_too (swapped (is_named (Some name)) before after p q (few_word h)) h
-
-  file_swapped : (name : List ℕ) → IsFileOf (before ++ p ∷ q ∷ after) name → IsFileOf (before ++ q ∷ p ∷ after) name
-  file_swapped name h = sym (swapped (is_named None) before after p q (few_file (before ++ p ∷ q ∷ after) name h)) ∙ h
-
-  none_swapped : HasNoFile (before ++ p ∷ q ∷ after) → HasNoFile (before ++ q ∷ p ∷ after)
-  none_swapped h = sym (swapped (is_named None) before after p q (few_none (before ++ p ∷ q ∷ after) h)) ∙ h
+  word_swapped {name = name} (without_word e) = without_word (same_named (Some name) e (omega arith))
+  word_swapped {name = name} (with_word e h) = with_word (same_named (Some name) e (omega arith)) h
 
   only_swapped : (names : List (List ℕ)) → HaveOnly names (before ++ p ∷ q ∷ after)
       → HaveOnly names (before ++ q ∷ p ∷ after)
@@ -148,16 +125,15 @@ module _ (before after : List PurePart) (p q : PurePart) where
 
   in_other_order : {word : List ℕ} {c : PureCommand} → Makes word (before ++ p ∷ q ∷ after) c
       → Makes word (before ++ q ∷ p ∷ after) c
-  in_other_order (run_of {name = name} o w u s d f) = run_of (only_swapped
-      (codes "--workers" ∷ codes "--fuel" ∷ codes "--simplify" ∷ codes "--cache" ∷ []) o)
-      (number_swapped w) (number_swapped u) (switch_swapped s) (word_swapped d) (file_swapped name f)
-  in_other_order (erased_of {name = name} o u f) = erased_of (only_swapped (codes "--fuel" ∷ []) o) (number_swapped u)
-      (file_swapped name f)
-  in_other_order (link_of {name = name} o w u f) = link_of
-      (only_swapped (codes "--workers" ∷ codes "--fuel" ∷ []) o)
-      (number_swapped w) (number_swapped u) (file_swapped name f)
+  in_other_order (run_of o w u s d f) = run_of
+      (only_swapped (codes "--workers" ∷ codes "--fuel" ∷ codes "--simplify" ∷ codes "--cache" ∷ []) o)
+      (number_swapped w) (number_swapped u) (switch_swapped s) (word_swapped d) (same_named None f (omega arith))
+  in_other_order (erased_of o u f) = erased_of (only_swapped (codes "--fuel" ∷ []) o) (number_swapped u)
+      (same_named None f (omega arith))
+  in_other_order (link_of o w u f) = link_of (only_swapped (codes "--workers" ∷ codes "--fuel" ∷ []) o)
+      (number_swapped w) (number_swapped u) (same_named None f (omega arith))
   in_other_order (migrate_of o d n) = migrate_of (only_swapped (codes "--cache" ∷ []) o) (word_swapped d)
-      (none_swapped n)
+      (same_named None n (omega arith))
 
 pub any_order : AnyOrder
 any_order word before after p q c = (in_other_order before after p q, in_other_order before after q p)

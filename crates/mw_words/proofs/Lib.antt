@@ -1,10 +1,6 @@
-pub mod CacheExamples
-pub mod CertificateExamples
 pub mod ExampleLemmas
 pub mod Items
 pub mod LawLemmas
-pub mod LinkExamples
-pub mod ModuleExamples
 pub mod OptionLemmas
 pub mod PartLemmas
 pub mod ReadParts

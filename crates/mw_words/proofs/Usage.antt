@@ -1,52 +1,66 @@
 -- Words that mean no command.
-use Rattle.std.proofs.Common.{◌≡◌, ℕ, ◌≤◌, List, [], ◌∷◌, Option, Some, codes, length, Bool, false, refl, sym}
-use Rattle.std.proofs.Common.{subst, arith}
-use Rattle.std.specs.Prelude.{bytes_eq}
-use Rattle.std.specs.List.{list_any}
-use Rattle.mw_words.specs.Words.{PurePart, PureCommand, HaveOnly, AreWorkersOf, AreUnitsOf, IsSwitchOf, IsWordOf}
-use Rattle.mw_words.specs.Words.{IsFileOf, HasNoFile, IsFileWord, AreParts, Makes, run_of, erased_of, link_of}
-use Rattle.mw_words.specs.Words.{migrate_of, parts_command, sample_command, wat_command, check_command, cert_command}
-use Rattle.mw_words.specs.Words.{recheck_command, IsNumber, IsUsage, parts_named}
-use Rattle.mw_words.proofs.LawLemmas.{few_number, few_switch, few_word}
+use Rattle.std.proofs.Common.{Bool, Some, ◌≡◌, ℕ, List, [], ◌∷◌, codes, refl, sym, subst, Option}
+use Rattle.mw_words.specs.Words.{IsSwitchOf, HasNoFile, AreWorkersOf, PurePart, IsFileWord, AreParts, run_of}
+use Rattle.mw_words.specs.Words.{erased_of, link_of, migrate_of, parts_command, sample_command, wat_command}
+use Rattle.mw_words.specs.Words.{check_command, cert_command, recheck_command, IsNumber, IsUsage, AreUnitsOf}
+use Rattle.mw_words.specs.Words.{HaveOnly, IsFileOf, IsWordOf}
 use Rattle.mw_words.proofs.ReadParts.{same_parts}
 
--- the words of the commands that have no parts
-abbrev pub bare : List (List ℕ)
-bare = codes "sample" ∷ codes "wat" ∷ codes "check" ∷ codes "cert" ∷ codes "recheck" ∷ []
+-- what the parts of each command that has parts give
+pub record RunParts (parts : List PurePart) : Type 0 where
+  pub options : HaveOnly (codes "--workers" ∷ codes "--fuel" ∷ codes "--simplify" ∷ codes "--cache" ∷ []) parts
+  pub workers : (n : ℕ) × AreWorkersOf parts n
+  pub fuel : (n : ℕ) × AreUnitsOf parts n
+  pub simplify : (on : Bool) × IsSwitchOf (codes "--simplify") parts on
+  pub cache : (path : Option (List ℕ)) × IsWordOf (codes "--cache") parts path
+  pub file : (name : List ℕ) × IsFileOf parts name
 
--- a word of none of them
-abbrev pub IsOther : List ℕ → Type 0
-IsOther word = list_any (bytes_eq word) bare ≡ false
+pub record ErasedParts (parts : List PurePart) : Type 0 where
+  pub options : HaveOnly (codes "--fuel" ∷ []) parts
+  pub fuel : (n : ℕ) × AreUnitsOf parts n
+  pub file : (name : List ℕ) × IsFileOf parts name
 
-pub run_is_other : IsOther (codes "run")
-run_is_other = refl
+pub record LinkParts (parts : List PurePart) : Type 0 where
+  pub options : HaveOnly (codes "--workers" ∷ codes "--fuel" ∷ []) parts
+  pub workers : (n : ℕ) × AreWorkersOf parts n
+  pub fuel : (n : ℕ) × AreUnitsOf parts n
+  pub file : (name : List ℕ) × IsFileOf parts name
 
-pub erased_is_other : IsOther (codes "erased")
-erased_is_other = refl
+pub record MigrateParts (parts : List PurePart) : Type 0 where
+  pub options : HaveOnly (codes "--cache" ∷ []) parts
+  pub cache : (path : List ℕ) × IsWordOf (codes "--cache") parts (Some path)
+  pub no_file : HasNoFile parts
 
-pub link_is_other : IsOther (codes "link")
-link_is_other = refl
+-- words whose parts give no command
+abbrev pub NoPartsGive : List (List ℕ) → (List PurePart → Type 0) → Type 0
+NoPartsGive words P = (parts : List PurePart) → AreParts words parts → P parts → ⊥
 
-pub migrate_is_other : IsOther (codes "migrate")
-migrate_is_other = refl
+pub no_run : {words : List (List ℕ)} → NoPartsGive words RunParts → IsUsage (codes "run" ∷ words)
+no_run none c (parts_command h (run_of o w u b d f)) = none _ h (record {
+  options = o;
+  workers = (_, w);
+  fuel = (_, u);
+  simplify = (_, b);
+  cache = (_, d);
+  file = (_, f);
+})
 
--- words whose parts make no command
-pub no_command : {word : List ℕ} {words : List (List ℕ)} → IsOther word → ((parts : List PurePart)
-    → AreParts words parts → (c : PureCommand) → Makes word parts c → ⊥)
-    → IsUsage (word ∷ words)
-no_command other none c (parts_command h m) = none _ h c m
-no_command other none c (sample_command n) = cc
-no_command other none c (wat_command f) = cc
-no_command other none c (check_command f) = cc
-no_command other none c (cert_command f) = cc
-no_command other none c (recheck_command f g) = cc
+pub no_erased : {words : List (List ℕ)} → NoPartsGive words ErasedParts → IsUsage (codes "erased" ∷ words)
+no_erased none c (parts_command h (erased_of o u f)) =
+    none _ h (record { options = o; fuel = (_, u); file = (_, f) })
 
--- where one list of the words' parts makes none, each does
-pub these_make_none : {words : List (List ℕ)} {read : List PurePart} (word : List ℕ) → AreParts words read
-    → ((c : PureCommand) → Makes word read c → ⊥)
-    → (parts : List PurePart) → AreParts words parts → (c : PureCommand) → Makes word parts c → ⊥
-these_make_none word h none parts whole c makes = none c (subst (λ (ps : List PurePart). Makes word ps c) (sym
-    (same_parts h whole)) makes)
+pub no_link : {words : List (List ℕ)} → NoPartsGive words LinkParts → IsUsage (codes "link" ∷ words)
+no_link none c (parts_command h (link_of o w u f)) =
+    none _ h (record { options = o; workers = (_, w); fuel = (_, u); file = (_, f) })
+
+pub no_migrate : {words : List (List ℕ)} → NoPartsGive words MigrateParts → IsUsage (codes "migrate" ∷ words)
+no_migrate none c (parts_command h (migrate_of o d n)) =
+    none _ h (record { options = o; cache = (_, d); no_file = n })
+
+-- where one list of the words' parts gives none, none does
+pub none_of : {words : List (List ℕ)} {read : List PurePart} (P : List PurePart → Type 0) → AreParts words read
+    → (P read → ⊥) → NoPartsGive words P
+none_of P h none parts whole has = none (subst P (sym (same_parts h whole)) has)
 
 -- words after a sample that aren't a number alone
 pub no_sample : {words : List (List ℕ)} → ((word : List ℕ) (n : ℕ) → words ≡ word ∷ [] → IsNumber 100 word n → ⊥)
@@ -92,87 +106,3 @@ unknown r e l s m w k d g c (wat_command f) = w refl
 unknown r e l s m w k d g c (check_command f) = k refl
 unknown r e l s m w k d g c (cert_command f) = d refl
 unknown r e l s m w k d g c (recheck_command f f') = g refl
-
--- of each option there is one at most
-pub workers_once : {parts : List PurePart} {n : ℕ} → AreWorkersOf parts n
-    → 2 ≤ length (parts_named (Some (codes "--workers")) parts) → ⊥
-workers_once w two = omega (arith, two, few_number w)
-
-pub fuel_once : {parts : List PurePart} {n : ℕ} → AreUnitsOf parts n
-    → 2 ≤ length (parts_named (Some (codes "--fuel")) parts) → ⊥
-fuel_once u two = omega (arith, two, few_number u)
-
-pub simplify_once : {parts : List PurePart} {on : Bool} → IsSwitchOf (codes "--simplify") parts on
-    → 2 ≤ length (parts_named (Some (codes "--simplify")) parts) → ⊥
-simplify_once b two = omega (arith, two, few_switch b)
-
-pub cache_once : {parts : List PurePart} {path : Option (List ℕ)} → IsWordOf (codes "--cache") parts path
-    → 2 ≤ length (parts_named (Some (codes "--cache")) parts) → ⊥
-cache_once d two = omega (arith, two, few_word d)
-
--- what a run has
-pub options_of_run : {parts : List PurePart} {c : PureCommand} → Makes (codes "run") parts c
-    → HaveOnly (codes "--workers" ∷ codes "--fuel" ∷ codes "--simplify" ∷ codes "--cache" ∷ []) parts
-options_of_run (run_of o w u b d f) = o
-
-pub workers_of_run : {parts : List PurePart} {c : PureCommand} → Makes (codes "run") parts c
-    → (n : ℕ) × AreWorkersOf parts n
-workers_of_run (run_of {workers = n} o w u b d f) = (n, w)
-
-pub units_of_run : {parts : List PurePart} {c : PureCommand} → Makes (codes "run") parts c
-    → (n : ℕ) × AreUnitsOf parts n
-units_of_run (run_of {fuel = n} o w u b d f) = (n, u)
-
-pub switch_of_run : {parts : List PurePart} {c : PureCommand} → Makes (codes "run") parts c
-    → (on : Bool) × IsSwitchOf (codes "--simplify") parts on
-switch_of_run (run_of {simplify = on} o w u b d f) = (on, b)
-
-pub cache_of_run : {parts : List PurePart} {c : PureCommand} → Makes (codes "run") parts c
-    → (path : Option (List ℕ)) × IsWordOf (codes "--cache") parts path
-cache_of_run (run_of {cache = path} o w u b d f) = (path, d)
-
-pub file_of_run : {parts : List PurePart} {c : PureCommand} → Makes (codes "run") parts c
-    → (name : List ℕ) × IsFileOf parts name
-file_of_run (run_of {name = name} o w u b d f) = (name, f)
-
--- what the run of an erased program has
-pub options_of_erased : {parts : List PurePart} {c : PureCommand} → Makes (codes "erased") parts c
-    → HaveOnly (codes "--fuel" ∷ []) parts
-options_of_erased (erased_of o u f) = o
-
-pub units_of_erased : {parts : List PurePart} {c : PureCommand} → Makes (codes "erased") parts c
-    → (n : ℕ) × AreUnitsOf parts n
-units_of_erased (erased_of {fuel = n} o u f) = (n, u)
-
-pub file_of_erased : {parts : List PurePart} {c : PureCommand} → Makes (codes "erased") parts c
-    → (name : List ℕ) × IsFileOf parts name
-file_of_erased (erased_of {name = name} o u f) = (name, f)
-
--- what a link has
-pub options_of_link : {parts : List PurePart} {c : PureCommand} → Makes (codes "link") parts c
-    → HaveOnly (codes "--workers" ∷ codes "--fuel" ∷ []) parts
-options_of_link (link_of o w u f) = o
-
-pub workers_of_link : {parts : List PurePart} {c : PureCommand} → Makes (codes "link") parts c
-    → (n : ℕ) × AreWorkersOf parts n
-workers_of_link (link_of {workers = n} o w u f) = (n, w)
-
-pub units_of_link : {parts : List PurePart} {c : PureCommand} → Makes (codes "link") parts c
-    → (n : ℕ) × AreUnitsOf parts n
-units_of_link (link_of {fuel = n} o w u f) = (n, u)
-
-pub file_of_link : {parts : List PurePart} {c : PureCommand} → Makes (codes "link") parts c
-    → (name : List ℕ) × IsFileOf parts name
-file_of_link (link_of {name = name} o w u f) = (name, f)
-
--- what a migration has
-pub options_of_migrate : {parts : List PurePart} {c : PureCommand} → Makes (codes "migrate") parts c
-    → HaveOnly (codes "--cache" ∷ []) parts
-options_of_migrate (migrate_of o d n) = o
-
-pub cache_of_migrate : {parts : List PurePart} {c : PureCommand} → Makes (codes "migrate") parts c
-    → (path : List ℕ) × IsWordOf (codes "--cache") parts (Some path)
-cache_of_migrate (migrate_of {cache = path} o d n) = (path, d)
-
-pub no_file_of_migrate : {parts : List PurePart} {c : PureCommand} → Makes (codes "migrate") parts c → HasNoFile parts
-no_file_of_migrate (migrate_of o d n) = n

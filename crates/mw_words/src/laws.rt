@@ -21,16 +21,19 @@ ghost use Rattle.mw_words.specs.Examples.{RecheckThreeFiles, RecheckOption, Rech
 ghost use Rattle.mw_words.specs.Examples.{RecheckEmptyFile, RecheckDashedFile};
 
 /// Words mean one command at most.
+#[tactic(auto, using(crate::proofs::LawLemmas::one_command))]
 pub fn one_command()
     ensures { OneCommand }
 {}
 
 /// An option reads the same in either form.
+#[tactic(auto, using(crate::proofs::LawLemmas::either_form))]
 pub fn either_form()
     ensures { EitherForm }
 {}
 
 /// Options and the file may stand in any order.
+#[tactic(auto, using(crate::proofs::LawLemmas::any_order))]
 pub fn any_order()
     ensures { AnyOrder }
 {}

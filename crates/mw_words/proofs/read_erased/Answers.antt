@@ -1,22 +1,22 @@
 use Rattle.mw_words.specs.Words.{parts_command, erased_of}
 use Rattle.mw_words.proofs.Items.{on_err}
-use Rattle.mw_words.proofs.Usage.{erased_is_other, no_command, options_of_erased, units_of_erased, file_of_erased}
+use Rattle.mw_words.proofs.Usage.{no_erased}
 use Rattle.mw_words.proofs.read_erased.Goals as goal
 
 pub returns-in_err-have_only-clause-usage : goal.returns-in_err-have_only-clause-usage
 returns-in_err-have_only-clause-usage c =
-    on_err c.from_residual.result _ (no_command erased_is_other
-    (λ parts whole command makes. c.in_err-have_only.ensures.usage parts whole (options_of_erased makes)))
+    on_err c.from_residual.result _ (no_erased
+    (λ parts whole has. c.in_err-have_only.ensures.usage parts whole has.options))
 
 pub returns-in_err-fuel_of-clause-usage : goal.returns-in_err-fuel_of-clause-usage
 returns-in_err-fuel_of-clause-usage c =
-    on_err c.from_residual-in_err-fuel_of.result _ (no_command erased_is_other (λ parts whole command makes. let has =
-    units_of_erased makes in c.in_err-fuel_of.ensures.usage parts whole has.0 has.1))
+    on_err c.from_residual-in_err-fuel_of.result _ (no_erased
+    (λ parts whole has. c.in_err-fuel_of.ensures.usage parts whole has.fuel.0 has.fuel.1))
 
 pub returns-in_err-file_of-clause-usage : goal.returns-in_err-file_of-clause-usage
 returns-in_err-file_of-clause-usage c =
-    on_err c.from_residual-in_err-file_of.result _ (no_command erased_is_other (λ parts whole command makes. let has =
-    file_of_erased makes in c.in_err-file_of.ensures.usage parts whole has.0 has.1))
+    on_err c.from_residual-in_err-file_of.result _ (no_erased
+    (λ parts whole has. c.in_err-file_of.ensures.usage parts whole has.file.0 has.file.1))
 
 pub returns-clause-some : goal.returns-clause-some
 returns-clause-some c =

@@ -2,32 +2,30 @@ use Rattle.std.proofs.Common.{◌∙◌, sym, ap, subst, option_map, codes}
 use Rattle.std.proofs.lemmas.Option.{none-some}
 use Rattle.mw_words.specs.Words.{IsWordOf, parts_command, migrate_of, word_in}
 use Rattle.mw_words.proofs.Items.{on_err}
+use Rattle.mw_words.proofs.Usage.{no_migrate}
 use Rattle.mw_words.proofs.LawLemmas.{one_word}
-use Rattle.mw_words.proofs.Usage.{migrate_is_other, no_command, options_of_migrate, cache_of_migrate}
-use Rattle.mw_words.proofs.Usage.{no_file_of_migrate}
 use Rattle.mw_words.proofs.read_migrate.Goals as goal
 
 pub returns-in_err-have_only-clause-usage : goal.returns-in_err-have_only-clause-usage
 returns-in_err-have_only-clause-usage c =
-    on_err c.from_residual.result _ (no_command migrate_is_other
-    (λ parts whole command makes. c.in_err-have_only.ensures.usage parts whole (options_of_migrate makes)))
+    on_err c.from_residual.result _ (no_migrate
+    (λ parts whole has. c.in_err-have_only.ensures.usage parts whole has.options))
 
 pub returns-in_err-word_of-clause-usage : goal.returns-in_err-word_of-clause-usage
 returns-in_err-word_of-clause-usage c =
-    on_err c.from_residual-in_err-word_of.result _ (no_command migrate_is_other (λ parts whole command makes. let has =
-    cache_of_migrate makes in c.in_err-word_of.ensures.usage parts whole _ has.1))
+    on_err c.from_residual-in_err-word_of.result _ (no_migrate
+    (λ parts whole has. c.in_err-word_of.ensures.usage parts whole _ has.cache.1))
 
 pub returns-in_err-cache-clause-usage : goal.returns-in_err-cache-clause-usage
 returns-in_err-cache-clause-usage c =
-    on_err c.from_residual-in_err-cache.result _ (no_command migrate_is_other (λ parts whole command makes. let has =
-    cache_of_migrate makes in
-    let same = one_word (c.in_ok-word_of.ensures.ok parts whole) has.1 in
-    none-some has.0 (sym (ap (option_map word_in) c.in_err-cache.ensures.ok_part) ∙ same)))
+    on_err c.from_residual-in_err-cache.result _ (no_migrate (λ parts whole has.
+    let same = one_word (c.in_ok-word_of.ensures.ok parts whole) has.cache.1 in
+    none-some _ (sym (ap (option_map word_in) c.in_err-cache.ensures.ok_part) ∙ same)))
 
 pub returns-in_err-have_no_file-clause-usage : goal.returns-in_err-have_no_file-clause-usage
 returns-in_err-have_no_file-clause-usage c =
-    on_err c.from_residual-in_err-have_no_file.result _ (no_command migrate_is_other
-    (λ parts whole command makes. c.in_err-have_no_file.ensures.usage parts whole (no_file_of_migrate makes)))
+    on_err c.from_residual-in_err-have_no_file.result _ (no_migrate
+    (λ parts whole has. c.in_err-have_no_file.ensures.usage parts whole has.no_file))
 
 pub returns-clause-some : goal.returns-clause-some
 returns-clause-some c =

@@ -1,38 +1,37 @@
 use Rattle.mw_words.specs.Words.{parts_command, run_of}
 use Rattle.mw_words.proofs.Items.{on_err}
-use Rattle.mw_words.proofs.Usage.{run_is_other, no_command, options_of_run, workers_of_run, switch_of_run}
-use Rattle.mw_words.proofs.Usage.{cache_of_run, units_of_run, file_of_run}
+use Rattle.mw_words.proofs.Usage.{no_run}
 use Rattle.mw_words.proofs.read_run.Goals as goal
 
 pub returns-in_err-have_only-clause-usage : goal.returns-in_err-have_only-clause-usage
 returns-in_err-have_only-clause-usage c =
-    on_err c.from_residual.result _ (no_command run_is_other
-    (λ parts whole command makes. c.in_err-have_only.ensures.usage parts whole (options_of_run makes)))
+    on_err c.from_residual.result _ (no_run
+    (λ parts whole has. c.in_err-have_only.ensures.usage parts whole has.options))
 
 pub returns-in_err-number_of-clause-usage : goal.returns-in_err-number_of-clause-usage
 returns-in_err-number_of-clause-usage c =
-    on_err c.from_residual-in_err-number_of.result _ (no_command run_is_other (λ parts whole command makes. let has =
-    workers_of_run makes in c.in_err-number_of.ensures.usage parts whole has.0 has.1))
+    on_err c.from_residual-in_err-number_of.result _ (no_run
+    (λ parts whole has. c.in_err-number_of.ensures.usage parts whole has.workers.0 has.workers.1))
 
 pub returns-in_err-fuel_of-clause-usage : goal.returns-in_err-fuel_of-clause-usage
 returns-in_err-fuel_of-clause-usage c =
-    on_err c.from_residual-in_err-fuel_of.result _ (no_command run_is_other (λ parts whole command makes. let has =
-    units_of_run makes in c.in_err-fuel_of.ensures.usage parts whole has.0 has.1))
+    on_err c.from_residual-in_err-fuel_of.result _ (no_run
+    (λ parts whole has. c.in_err-fuel_of.ensures.usage parts whole has.fuel.0 has.fuel.1))
 
 pub returns-in_err-switch_of-clause-usage : goal.returns-in_err-switch_of-clause-usage
 returns-in_err-switch_of-clause-usage c =
-    on_err c.from_residual-in_err-switch_of.result _ (no_command run_is_other (λ parts whole command makes. let has =
-    switch_of_run makes in c.in_err-switch_of.ensures.usage parts whole has.0 has.1))
+    on_err c.from_residual-in_err-switch_of.result _ (no_run
+    (λ parts whole has. c.in_err-switch_of.ensures.usage parts whole has.simplify.0 has.simplify.1))
 
 pub returns-in_err-word_of-clause-usage : goal.returns-in_err-word_of-clause-usage
 returns-in_err-word_of-clause-usage c =
-    on_err c.from_residual-in_err-word_of.result _ (no_command run_is_other (λ parts whole command makes. let has =
-    cache_of_run makes in c.in_err-word_of.ensures.usage parts whole has.0 has.1))
+    on_err c.from_residual-in_err-word_of.result _ (no_run
+    (λ parts whole has. c.in_err-word_of.ensures.usage parts whole has.cache.0 has.cache.1))
 
 pub returns-in_err-file_of-clause-usage : goal.returns-in_err-file_of-clause-usage
 returns-in_err-file_of-clause-usage c =
-    on_err c.from_residual-in_err-file_of.result _ (no_command run_is_other (λ parts whole command makes. let has =
-    file_of_run makes in c.in_err-file_of.ensures.usage parts whole has.0 has.1))
+    on_err c.from_residual-in_err-file_of.result _ (no_run
+    (λ parts whole has. c.in_err-file_of.ensures.usage parts whole has.file.0 has.file.1))
 
 pub returns-clause-some : goal.returns-clause-some
 returns-clause-some c =

@@ -2,4 +2,4 @@ use Rattle.mw_slots.proofs.Machine.{core_holds}
 use Rattle.mw_slots.proofs.laws.table_core.Goals as goal
 
 pub returns : goal.returns
-returns c = λ home n es fs before after long first then. core_holds home n es fs before after long first then
+returns c = core_holds

@@ -1,5 +1,9 @@
-use Rattle.mw_words.proofs.ModuleExamples.{wat_file, check_file}
+use Rattle.mw_words.specs.Words.{check_command, wat_command}
+use Rattle.mw_words.proofs.ExampleLemmas.{f_named}
 use Rattle.mw_words.proofs.laws.module_commands.Goals as goal
 
 pub returns : goal.returns
-returns c = record { wat_file = wat_file; check_file = check_file }
+returns c = record {
+  wat_file = wat_command f_named;
+  check_file = check_command f_named;
+}
