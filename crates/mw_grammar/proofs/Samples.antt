@@ -52,11 +52,18 @@ pub record Sample (n : Nonterminal) : Type 0 where
   pub v : Meaning n
   pub ends : (x : List PureToken) → (s : Nodes) × Reads n (more ++ x) v s x
 
--- some tokens go on with the form, whatever stands before and after
-pub record Fills {n : Nonterminal} (F : Form n) : Type 0 where
+-- what is read of n after what S stands for
+abbrev pub Relation : Nonterminal → Type 0 → Type 1
+Relation n S = S → List PureToken → Meaning n → Nodes → List PureToken → Type 0
+
+-- some tokens are read, whatever stands before and after
+pub record Filled (n : Nonterminal) {S : Type 0} (R : Relation n S) : Type 0 where
   pub more : List PureToken
   pub v : Meaning n
-  pub ends : (a : Before) (x : List PureToken) → (s : Nodes) × Read n F a (more ++ x) v s x
+  pub ends : (a : S) (x : List PureToken) → (s : Nodes) × R a (more ++ x) v s x
+
+abbrev pub Fills : {n : Nonterminal} → Form n → Type 0
+Fills {n = n} F = Filled n (Read n F)
 
 abbrev t : Symbol → PureToken
 t k = token 0 0 k
@@ -160,33 +167,31 @@ pub data Stand : Type 0 where
   chosen : Stand
   other : Stand
 
+-- where any tokens may have been read, and where a form may refuse
+abbrev pub Wide : Stand → Type 0
+Wide first = ⊥
+Wide chosen = ⊥
+Wide going = Unit {0}
+Wide other = Unit {0}
+
+abbrev pub MayRefuse : Stand → Type 0
+MayRefuse first = ⊥
+MayRefuse going = ⊥
+MayRefuse chosen = Unit {0}
+MayRefuse other = Unit {0}
+
 -- One can go on with the form, and with all that it comes to. What a token decides takes a token, or refuses; and at
 -- its head a nonterminal takes one.
 abbrev pub Open : {n : Nonterminal} → Stand → Form n → Type 0
-Open first (gives v) = ⊥
-Open chosen (gives v) = ⊥
-Open going (gives v) = Unit {0}
-Open other (gives v) = Unit {0}
-Open first refuses = ⊥
-Open going refuses = ⊥
-Open chosen refuses = Unit {0}
-Open other refuses = Unit {0}
+Open c (gives v) = Wide c
+Open c refuses = MayRefuse c
 Open c (skip F) = Open going F
 Open c (under F) = Open going F
 Open c (expect k F) = Open going F
 Open c (reads m go) = (v : Meaning m) → Open going (go v)
-Open chosen (pick f) = ⊥
-Open first (pick f) = Fills (pick f) × ((t : PureToken) → Open chosen (f t))
-Open going (pick f) = Fills (pick f) × ((t : PureToken) → Open chosen (f t))
-Open other (pick f) = Fills (pick f) × ((t : PureToken) → Open chosen (f t))
-Open first (option k F G) = ⊥
-Open chosen (option k F G) = ⊥
-Open going (option k F G) = Open going F × Open other G
-Open other (option k F G) = Open going F × Open other G
-Open first (more w l go) = ⊥
-Open chosen (more w l go) = ⊥
-Open going (more w l go) = (e : SurfaceTree) → Open going (go e)
-Open other (more w l go) = (e : SurfaceTree) → Open going (go e)
+Open c (pick f) = Fills (pick f) × ((t : PureToken) → Open chosen (f t))
+Open c (option k F G) = Wide c × (Open going F × Open other G)
+Open c (more w l go) = Wide c × ((e : SurfaceTree) → Open going (go e))
 
 pub fill_of : {n : Nonterminal} (F : Form n) → Open going F → Fills F
 fill_of (gives v) o = record { more = []; v = v; ends = λ a x. (_, d_gives) }
@@ -204,9 +209,9 @@ fill_of (reads m go) o = let s = sample m in let f = fill_of (go s.v) (o s.v) in
       (h.0, rw (append_assoc s.more f.more y) (d_reads e.1 h.1));
 }
 fill_of (pick f) o = o.0
-fill_of (option k F G) o = let f = fill_of F o.0 in
+fill_of (option k F G) o = let f = fill_of F o.1.0 in
     record { more = t (symbol k) ∷ f.more; v = f.v; ends = λ a y. (_, d_yes (f.ends empty y).1) }
-fill_of (more w l go) o = let f = fill_of (go l) (o l) in
+fill_of (more w l go) o = let f = fill_of (go l) (o.1 l) in
     record { more = f.more; v = f.v; ends = λ a y. (_, d_more m_end (f.ends (some (nodes a)) y).1) }
 
 -- the forms of the grammar
@@ -440,9 +445,9 @@ opens_all part = (
   open_part,
 )
 opens_all base = (record { more = t int_word ∷ []; v = _; ends = λ a y. (_, d_pick (d_under d_gives)) }, open_base)
-opens_all (tree disjunction) = λ d. ((λ e. tt), tt)
-opens_all (tree conjunction) = λ d. ((λ e. tt), tt)
-opens_all (tree comparison) = λ d. ((λ e. tt), ((λ e. tt), ((λ e. tt), tt)))
-opens_all (tree (row w)) = λ l e. tt
-opens_all kernel_type = λ g. ((λ h. tt), tt)
-opens_all ground = λ g. ((λ h. tt), tt)
+opens_all (tree disjunction) = λ d. (tt, ((λ e. tt), tt))
+opens_all (tree conjunction) = λ d. (tt, ((λ e. tt), tt))
+opens_all (tree comparison) = λ d. (tt, ((λ e. tt), (tt, ((λ e. tt), (tt, ((λ e. tt), tt))))))
+opens_all (tree (row w)) = λ l. (tt, λ e. tt)
+opens_all kernel_type = λ g. (tt, ((λ h. tt), tt))
+opens_all ground = λ g. (tt, ((λ h. tt), tt))
