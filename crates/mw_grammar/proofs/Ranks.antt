@@ -5,7 +5,7 @@ use Rattle.mw_lex.specs.Tokens.{kernel_word, main_word, int_word}
 use Rattle.mw_lex.specs.Tokens.{comma, minus, arrow, equal, bracket_left, escape_mark, paren_left}
 use Rattle.mw_lex.specs.Tokens.{word, number, PureToken, token}
 use Rattle.mw_grammar.specs.SurfaceTrees.{SurfaceTree}
-use Rattle.mw_grammar.specs.Grammar.{Mark, by_arrow, by_equal, Row, sum, product, application, expr, disjunction}
+use Rattle.mw_grammar.specs.Grammar.{Mark, by_arrow, by_equal, Row, sum, expr, disjunction}
 use Rattle.mw_grammar.specs.Grammar.{conjunction, comparison, row, head, atom, Nonterminal, program, item, parameter}
 use Rattle.mw_grammar.specs.Grammar.{body, tree, kernel_type, ground, part, base, Meaning, right}
 use Rattle.mw_grammar.specs.Forms.{Form, gives, refuses, skip, under, expect, reads, pick, option, more, form}
@@ -118,8 +118,7 @@ ranked (tree conjunction) = (omega arith, λ d. ((omega arith, λ e. tt), tt))
 ranked (tree comparison) =
     (omega arith, λ d. ((omega arith, λ e. tt), ((omega arith, λ e. tt), ((omega arith, λ e. tt), tt))))
 ranked (tree (row sum)) = (omega arith, λ l e. tt)
-ranked (tree (row product)) = (omega arith, λ l e. tt)
-ranked (tree (row application)) = (omega arith, λ l e. tt)
+ranked (tree (row _)) = (omega arith, λ l e. tt)
 ranked (tree head) = ranked_head
 ranked (tree atom) = ranked_atom
 ranked kernel_type = (omega arith, λ g. ((omega arith, λ h. tt), tt))
@@ -130,5 +129,4 @@ ranked base = ranked_base
 -- after an operator
 pub rank_right : (w : Row) → rank (tree (right w)) < 12
 rank_right sum = omega arith
-rank_right product = omega arith
-rank_right application = omega arith
+rank_right _ = omega arith

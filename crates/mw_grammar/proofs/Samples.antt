@@ -213,11 +213,12 @@ fill_from i (more w l go) o = let f = fill_from x (go l) (o.1 l) in
 pub fill_of : {n : Nonterminal} (F : Form n) → Open going F → Fills F
 fill_of F o = fill_from x F o
 
--- a token decides, and one of those with which the form goes on is i
-decided_by : {n : Nonterminal} {f : PureToken → Form n} (i : PureToken) (F : Fills (f i)) {us : List PureToken}
-    → F.more ≡ i ∷ us → ((i : PureToken) → Open chosen (f i)) → Fills (pick f) × ((i : PureToken) → Open chosen (f i))
-decided_by i F {us = us} e o =
-    (record { more = i ∷ us; v = F.v; ends = λ a y. (_, d_pick (rw e at (F.ends a y)).1) }, o)
+-- a token decides, and i is one of those with which the form goes on
+decided_by : {n : Nonterminal} (f : PureToken → Form n) (i : PureToken) (o : Open going (f i)) {us : List PureToken}
+    → (fill_from i (f i) o).more ≡ i ∷ us → ((i : PureToken) → Open chosen (f i))
+    → Fills (pick f) × ((i : PureToken) → Open chosen (f i))
+decided_by f i o {us = us} e every = let F = fill_from i (f i) o in
+    (record { more = i ∷ us; v = F.v; ends = λ a y. (_, d_pick (rw e at (F.ends a y)).1) }, every)
 
 -- the forms of the grammar
 open_program : (t : PureToken) → Open chosen (program_by t)
@@ -232,7 +233,7 @@ open_rec_item (token a b _) = tt
 
 open_let : (t : PureToken) → Open chosen (let_by t)
 open_let (token a b (word x)) = λ d. tt
-open_let (token a b rec_word) = decided_by x (fill_from x (rec_item x) (λ p. tt)) refl open_rec_item
+open_let (token a b rec_word) = decided_by rec_item x (λ p. tt) refl open_rec_item
 open_let (token a b _) = tt
 
 open_kernel : (t : PureToken) → Open chosen (kernel_by t)
@@ -240,8 +241,8 @@ open_kernel (token a b (word x)) = λ k e. tt
 open_kernel (token a b _) = tt
 
 open_item : (t : PureToken) → Open chosen (item_by t)
-open_item (token a b let_word) = decided_by x (fill_from x (let_by x) (λ d. tt)) refl open_let
-open_item (token a b kernel_word) = decided_by x (fill_from x (kernel_by x) (λ k e. tt)) refl open_kernel
+open_item (token a b let_word) = decided_by let_by x (λ d. tt) refl open_let
+open_item (token a b kernel_word) = decided_by kernel_by x (λ k e. tt) refl open_kernel
 open_item (token a b _) = tt
 
 open_parameter : (m : Mark) (t : PureToken) → Open chosen (parameter_by m t)
@@ -253,10 +254,8 @@ open_mark m (token a b k) = λ e. tt
 
 open_body : (m : Mark) (t : PureToken) → Open chosen (body_by m t)
 open_body m (token a b (word x)) = λ p. tt
-open_body by_arrow (token a b arrow) =
-    decided_by x (fill_from x (behind_mark by_arrow x) (λ e. tt)) refl (open_mark by_arrow)
-open_body by_equal (token a b equal) =
-    decided_by x (fill_from x (behind_mark by_equal x) (λ e. tt)) refl (open_mark by_equal)
+open_body by_arrow (token a b arrow) = decided_by (behind_mark by_arrow) x (λ e. tt) refl (open_mark by_arrow)
+open_body by_equal (token a b equal) = decided_by (behind_mark by_equal) x (λ e. tt) refl (open_mark by_equal)
 open_body by_arrow (token a b _) = tt
 open_body by_equal (token a b _) = tt
 
@@ -266,11 +265,11 @@ open_rec (token a b _) = tt
 
 open_let_in : (t : PureToken) → Open chosen (let_in_by t)
 open_let_in (token a b (word x)) = λ d e. tt
-open_let_in (token a b rec_word) = decided_by x (fill_from x (rec_by x) (λ d e. tt)) refl open_rec
+open_let_in (token a b rec_word) = decided_by rec_by x (λ d e. tt) refl open_rec
 open_let_in (token a b _) = tt
 
 open_expr : (t : PureToken) → Open chosen (expr_by t)
-open_expr (token a b let_word) = decided_by x (fill_from x (let_in_by x) (λ d e. tt)) refl open_let_in
+open_expr (token a b let_word) = decided_by let_in_by x (λ d e. tt) refl open_let_in
 open_expr (token a b if_word) = λ c d e. tt
 open_expr (token a b _) = λ e. tt
 
@@ -287,14 +286,12 @@ open_first d (token a b comma) = λ e. tt
 open_first d (token a b _) = tt
 
 open_paren : (t : PureToken) → Open chosen (paren_by t)
-open_paren (token a b minus) =
-    decided_by (t (number 0)) (fill_from (t (number 0)) (minus_by (t (number 0))) tt) refl open_minus
+open_paren (token a b minus) = decided_by minus_by (t (number 0)) tt refl open_minus
 open_paren (token a b _) = λ d.
-    decided_by (t paren_right) (fill_from (t paren_right) (behind_first d (t paren_right)) tt) refl (open_first d)
+    decided_by (behind_first d) (t paren_right) tt refl (open_first d)
 
 open_atom : (t : PureToken) → Open chosen (atom_by t)
-open_atom (token a b paren_left) =
-    decided_by x (fill_from x (paren_by x) (open_paren x)) refl open_paren
+open_atom (token a b paren_left) = decided_by paren_by x (open_paren x) refl open_paren
 open_atom (token a b bracket_left) = λ e. tt
 open_atom (token a b escape_mark) = λ e. tt
 open_atom (token a b _) = tt
@@ -308,18 +305,16 @@ open_base (token a b int_word) = tt
 open_base (token a b _) = tt
 
 pub opens_all : (n : Nonterminal) → Open first (form n)
-opens_all program =
-    decided_by (t main_word) (fill_from (t main_word) (program_by (t main_word)) (λ g e. tt)) refl open_program
-opens_all item =
-    decided_by (t let_word) (fill_from (t let_word) (item_by (t let_word)) (open_item (t let_word))) refl open_item
-opens_all (parameter m) = decided_by x (fill_from x (parameter_by m x) (λ d. tt)) refl (open_parameter m)
-opens_all (body by_arrow) = decided_by x (fill_from x (body_by by_arrow x) (λ p. tt)) refl (open_body by_arrow)
-opens_all (body by_equal) = decided_by x (fill_from x (body_by by_equal x) (λ p. tt)) refl (open_body by_equal)
-opens_all (tree expr) = decided_by x (fill_from x (expr_by x) (λ e. tt)) refl open_expr
-opens_all (tree head) = decided_by x (fill_from x (head_by x) (λ e. tt)) refl open_head
-opens_all (tree atom) = decided_by x (fill_from x (atom_by x) tt) refl open_atom
-opens_all part = decided_by (t int_word) (fill_from x (part_by (t int_word)) (λ b. tt)) refl open_part
-opens_all base = decided_by (t int_word) (fill_from (t int_word) (base_by (t int_word)) tt) refl open_base
+opens_all program = decided_by program_by (t main_word) (λ g e. tt) refl open_program
+opens_all item = decided_by item_by (t let_word) (open_item (t let_word)) refl open_item
+opens_all (parameter m) = decided_by (parameter_by m) x (λ d. tt) refl (open_parameter m)
+opens_all (body by_arrow) = decided_by (body_by by_arrow) x (λ p. tt) refl (open_body by_arrow)
+opens_all (body by_equal) = decided_by (body_by by_equal) x (λ p. tt) refl (open_body by_equal)
+opens_all (tree expr) = decided_by expr_by x (λ e. tt) refl open_expr
+opens_all (tree head) = decided_by head_by x (λ e. tt) refl open_head
+opens_all (tree atom) = decided_by atom_by x tt refl open_atom
+opens_all part = decided_by part_by (t int_word) (λ b. tt) refl open_part
+opens_all base = decided_by base_by (t int_word) tt refl open_base
 opens_all (tree disjunction) = λ d. (tt, ((λ e. tt), tt))
 opens_all (tree conjunction) = λ d. (tt, ((λ e. tt), tt))
 opens_all (tree comparison) = λ d. (tt, ((λ e. tt), (tt, ((λ e. tt), (tt, ((λ e. tt), tt))))))
