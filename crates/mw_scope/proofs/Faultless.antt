@@ -1,5 +1,5 @@
 -- A tree is a nameless expression exactly where it has no fault, and then it is the one that the walk builds.
-use Rattle.std.proofs.Common.{◌≡◌, ℕ, List, [], ◌∷◌, ◌++◌, Option, Some, None, refl, ap, sym, ◌∙◌, subst}
+use Rattle.std.proofs.Common.{◌≡◌, ℕ, List, [], ◌∷◌, ◌++◌, Option, Some, None, refl, ap, sym, ◌∙◌}
 use Rattle.mw_term.specs.Terms.{Expression}
 use Rattle.mw_term.specs.Terms as nameless
 use Rattle.mw_grammar.specs.SurfaceTrees.{SurfaceTree, num, truth, used, fun, fix, app, bind, cond, pair, fst, snd}
@@ -14,13 +14,8 @@ use Rattle.mw_scope.specs.Nameless.{n_lift_b}
 use Rattle.mw_scope.specs.Faults.{only_at, faults_of_use, faults_in}
 use Rattle.mw_scope.specs.Named.{named_use, named}
 
--- the list has a fault
-abbrev IsFault : List Fault → Type 0
-IsFault [] = ⊥
-IsFault (f ∷ fs) = Unit {0}
-
 pub no_cons : {A : Type 0} (f : Fault) (fs : List Fault) → f ∷ fs ≡ [] → A
-no_cons f fs e = absurd (subst IsFault e tt)
+no_cons f fs e = absurd (cc e)
 
 pub empty_left : (fs gs : List Fault) → fs ++ gs ≡ [] → fs ≡ []
 empty_left [] gs e = refl
