@@ -1,6 +1,6 @@
 -- For the proofs of the reader.
-use Rattle.std.proofs.Common.{◌≡◌, ℕ, zero, suc, ◌+◌, ◌-◌, ◌<◌, ◌≤◌, max, List, Result, Bool, true, false, nat_lt, refl}
-use Rattle.std.proofs.Common.{ap, ◌∙◌, sym, subst, arith}
+use Rattle.std.proofs.Common.{◌≡◌, ℕ, zero, suc, ◌+◌, ◌-◌, ◌<◌, ◌≤◌, max, List, Result, nat_lt, refl}
+use Rattle.std.proofs.Common.{length, ap, ◌∙◌, sym, subst, arith}
 use Rattle.std.proofs.lemmas.Bool.{lt-ltb, le-ltb, ltb-true}
 use Rattle.mw_lex.specs.Tokens.{PureToken}
 use Rattle.mw_grammar.specs.SurfaceTrees.{SurfaceTree}
@@ -12,7 +12,8 @@ use Rattle.mw_grammar.specs.Forms.{opens}
 use Rattle.mw_grammar.specs.Gives.{Fails, Gives}
 use Rattle.mw_grammar.specs.declared.fault.Fault.{Fault}
 use Rattle.mw_grammar.specs.declared.fault.Fault.TheVariants.{Memory, Syntax, Deep}
-use Rattle.mw_grammar.proofs.Enough.{full_step}
+use Rattle.mw_grammar.proofs.Alike.{rest_of}
+use Rattle.mw_grammar.proofs.Enough.{full_step, then_same, within_same}
 
 -- a fault of a part is one of the whole
 pub fails_then : {m n : Nonterminal} (e : Fault) (x : Answer m) (go : Meaning m → ℕ → List PureToken → Answer n)
@@ -67,21 +68,14 @@ fails_raise (Deep rest) a x h = rw h refl
 -- what follows a left operand: enough rounds are enough
 then_equal : {m n : Nonterminal} (x : Answer m) (f g : Meaning m → ℕ → List PureToken → Answer n)
     → ((v : Meaning m) (h : ℕ) (mid : List PureToken) → f v h mid ≡ g v h mid) → and_then x f ≡ and_then x g
-then_equal (ok v h mid) f g e = e v h mid
-then_equal (syntax_at r) f g e = refl
-then_equal (deep_at r) f g e = refl
-
-within_equal : {n : Nonterminal} (c : Bool) (ts : List PureToken) (x y : Answer n) → (c ≡ true → x ≡ y) → within c ts x
-    ≡ within c ts y
-within_equal true ts x y h = h refl
-within_equal false ts x y h = refl
+then_equal x f g e = then_same (length (rest_of x)) x x f g refl (omega arith) λ v h mid p. e v h mid
 
 on_equal : (w : Row) (b : ℕ) (f g : SurfaceTree → ℕ → List PureToken → Answer (tree expr)) (l : SurfaceTree) (a : ℕ)
     (ts : List PureToken) (o : Opens)
     → (a < b → (e : SurfaceTree) (h : ℕ) (mid : List PureToken) → f e (suc (max a h)) mid ≡ g e (suc (max a h)) mid)
     → on_operator full w b f l a ts o ≡ on_operator full w b g l a ts o
 on_equal w b f g l a ts nothing e = refl
-on_equal w b f g l a ts (operator o us) e = within_equal (nat_lt a b) ts _ _ λ c.
+on_equal w b f g l a ts (operator o us) e = within_same (nat_lt a b) ts _ _ λ c.
     then_equal (full (b - 1) (tree (right w)) us) (λ r h mid. f (operated o l r) (suc (max a h)) mid)
     (λ r h mid. g (operated o l r) (suc (max a h)) mid) λ r h mid. e (ltb-true a b c) (operated o l r) h mid
 

@@ -7,9 +7,8 @@ use Rattle.mw_lex.specs.Tokens.{minus, star, slash, word, number, PureToken, tok
 use Rattle.mw_grammar.specs.SurfaceTrees.{SurfaceTree}
 use Rattle.mw_grammar.specs.SourceNodes.{Nodes, none, node, both, depth, height}
 use Rattle.mw_grammar.specs.Grammar.{Row, sum, product, application, expr, row, Nonterminal, tree, Meaning, right}
-use Rattle.mw_grammar.specs.Forms.{Expected, in_next, then_next, else_next, paren_next, bracket_next, left_next}
-use Rattle.mw_grammar.specs.Forms.{right_next, end_next, colon_next, equal_next, arrow_next, star_next, less_next}
-use Rattle.mw_grammar.specs.Forms.{less_equal_next, and_next, or_next, symbol, is, Form, Op, operated, nothing}
+use Rattle.mw_grammar.specs.Forms.{Expected, in_next}
+use Rattle.mw_grammar.specs.Forms.{symbol, is, Form, Op, operated, nothing}
 use Rattle.mw_grammar.specs.Forms.{operator, opens, opens_by, form}
 use Rattle.mw_grammar.specs.Descent.{Answer, ok, syntax_at, deep_at, and_then, within, Heights, none_yet, so_far, tall}
 use Rattle.mw_grammar.specs.Descent.{beside, raise, branch, on_operator, rounds, run, parse, rank}
@@ -28,21 +27,7 @@ pub data Verdict {n : Nonterminal} (b : ℕ) (v : Meaning n) (s : Nodes) (rest :
 
 pub is_symbol : (k : Expected) → is k (symbol k) ≡ true
 is_symbol in_next = refl
-is_symbol then_next = refl
-is_symbol else_next = refl
-is_symbol paren_next = refl
-is_symbol bracket_next = refl
-is_symbol left_next = refl
-is_symbol right_next = refl
-is_symbol end_next = refl
-is_symbol colon_next = refl
-is_symbol equal_next = refl
-is_symbol arrow_next = refl
-is_symbol star_next = refl
-is_symbol less_next = refl
-is_symbol less_equal_next = refl
-is_symbol and_next = refl
-is_symbol or_next = refl
+is_symbol _ = refl
 
 closed_by : (w : Row) (k : Symbol) (from ts : List PureToken) → force k < strength (row w) → opens_by w k from ts
     ≡ nothing

@@ -157,27 +157,24 @@ over_node a ts rest s g t = let at : ℕ = suc (length ts) in record {
   above = λ m. omega (arith, depth_over m a s);
 }
 
+after_token : {l s : Nodes} {t : PureToken} {ts rest : List PureToken} → Grown l ts s rest → Grown l (t ∷ ts) s rest
+after_token g = record {
+  shorter = omega (arith, g.shorter);
+  before = λ m p. g.before m (omega arith);
+  behind = g.behind;
+  above = g.above;
+}
+
+as_before : {s : Nodes} {ts : List PureToken} → Grown s ts s ts
+as_before = record { shorter = omega arith; before = λ m p. refl; behind = λ m p e. e; above = λ m. omega arith }
+
 mutual
   pub grown : {n : Nonterminal} {F : Form n} {a : Before} {ts rest : List PureToken} {v : Meaning n} {s : Nodes}
       → In n F a ts v s rest → Grown (nodes a) ts s rest
-  grown i_gives = record { shorter = omega arith; before = λ m p. refl; behind = λ m p e. e; above = λ m. omega arith }
-  grown (i_skip h) = let g = grown h in
-      record {
-        shorter = omega (arith, g.shorter);
-        before = λ m p. g.before m (omega arith);
-        behind = g.behind;
-        above =
-            g.above;
-      }
+  grown i_gives = as_before
+  grown (i_skip h) = after_token (grown h)
   grown (i_under {a = a} {t = t} {ts = ts} {rest = rest} {s = s} h) = over_node a ts rest s (grown h) t
-  grown (i_expect h) = let g = grown h in
-      record {
-        shorter = omega (arith, g.shorter);
-        before = λ m p. g.before m (omega arith);
-        behind = g.behind;
-        above =
-            g.above;
-      }
+  grown (i_expect h) = after_token (grown h)
   grown (i_reads {a = a} {t = t} h e i) = let f = grown h in let g = grown i in record {
     shorter = omega (arith, f.shorter, g.shorter);
     before = λ m p. omega (arith, f.before m, g.before m, f.shorter, depth_over m a t);
@@ -197,13 +194,7 @@ mutual
 
   pub grown_chain : {w : Row} {l e : SurfaceTree} {s t : Nodes} {ts rest : List PureToken} → Chain w l s ts e t rest
       → Grown s ts t rest
-  grown_chain c_end = record {
-    shorter = omega arith;
-    before = λ m p. refl;
-    behind = λ m p e. e;
-    above = λ m.
-        omega arith;
-  }
+  grown_chain c_end = as_before
   grown_chain (c_on {w = w} {s = s} {ts = ts} e h x c) = let f = grown h in let g = grown_chain c in let q =
       behind_operator (opening w ts e) h in let at : ℕ = length ts in record {
         shorter = omega (arith, f.shorter, g.shorter, q);

@@ -12,12 +12,12 @@ use Rattle.mw_grammar.specs.SourceNodes.{Nodes}
 use Rattle.mw_grammar.specs.Grammar.{Mark, by_arrow, by_equal, Row, sum, product, application, expr, disjunction}
 use Rattle.mw_grammar.specs.Grammar.{conjunction, comparison, row, head, atom, Nonterminal, item, body, tree, base}
 use Rattle.mw_grammar.specs.Grammar.{define, Meaning, Reads, More, right, operand, start_of, Sign, plus_sign}
-use Rattle.mw_grammar.specs.Grammar.{minus_sign, star_sign, slash_sign, mod_sign, equal_sign, less_sign}
-use Rattle.mw_grammar.specs.Grammar.{less_equal_sign, fst_head, snd_head, not_head, close_head, open_head, lift_head}
-use Rattle.mw_grammar.specs.Grammar.{lift_b_head, m_end, m_sign, m_argument, r_main, r_program, r_let_item, r_rec_item}
+use Rattle.mw_grammar.specs.Grammar.{equal_sign, less_sign}
+use Rattle.mw_grammar.specs.Grammar.{less_equal_sign, fst_head}
+use Rattle.mw_grammar.specs.Grammar.{m_end, m_sign, m_argument, r_main, r_program, r_let_item, r_rec_item}
 use Rattle.mw_grammar.specs.Grammar.{r_kernel, r_let, r_let_rec, r_fun, r_if, r_expr, r_parameter, r_body, r_mark, r_or}
 use Rattle.mw_grammar.specs.Grammar.{r_disjunction, r_and, r_conjunction, r_compare, r_comparison, r_row, r_head, r_run}
-use Rattle.mw_grammar.specs.Grammar.{r_atom, r_name, r_number, r_true, r_false, r_minus, r_paren, r_pair, r_bracket}
+use Rattle.mw_grammar.specs.Grammar.{r_atom, r_name, r_minus, r_paren, r_pair, r_bracket}
 use Rattle.mw_grammar.specs.Grammar.{r_escape, r_ground_kernel, r_arrow, r_star, r_part, r_base_part, r_ground_paren}
 use Rattle.mw_grammar.specs.Grammar.{r_int, r_bool}
 use Rattle.mw_grammar.specs.Forms.{Expected, in_next, then_next, else_next, paren_next, bracket_next, left_next}
@@ -76,14 +76,14 @@ Starts [] = false ≡ true
 Starts (token a b k ∷ ts) = begins k ≡ true
 
 abbrev StartsOf : Nonterminal → List PureToken → Type 0
-StartsOf (tree expr) ts = Unit {0}
+StartsOf (tree expr) ts = true ≡ true
 StartsOf (tree disjunction) ts = Starts ts
 StartsOf (tree conjunction) ts = Starts ts
 StartsOf (tree comparison) ts = Starts ts
 StartsOf (tree (row w)) ts = Starts ts
 StartsOf (tree head) ts = Starts ts
 StartsOf (tree atom) ts = Starts ts
-StartsOf _ ts = Unit {0}
+StartsOf _ ts = true ≡ true
 
 of_operand : (w : Row) (ts : List PureToken) → StartsOf (tree (operand w)) ts → Starts ts
 of_operand sum ts h = h
@@ -92,19 +92,6 @@ of_operand application ts h = h
 
 starts_of : {n : Nonterminal} {ts rest : List PureToken} {v : Meaning n} {s : Nodes} → Reads n ts v s rest
     → StartsOf n ts
-starts_of (r_main h i) = tt
-starts_of (r_program h i) = tt
-starts_of (r_let_item h) = tt
-starts_of (r_rec_item h) = tt
-starts_of (r_kernel h i) = tt
-starts_of (r_let h i) = tt
-starts_of (r_let_rec h i) = tt
-starts_of (r_fun h) = tt
-starts_of (r_if h i j) = tt
-starts_of (r_expr h) = tt
-starts_of (r_parameter h) = tt
-starts_of (r_body h) = tt
-starts_of (r_mark h) = tt
 starts_of (r_or h i) = starts_of h
 starts_of (r_disjunction h) = starts_of h
 starts_of (r_and h i) = starts_of h
@@ -113,31 +100,9 @@ starts_of (r_compare c h i) = starts_of h
 starts_of (r_comparison h) = starts_of h
 starts_of (r_row {w = w} {ts = ts} h m) = of_operand w ts (starts_of h)
 starts_of (r_head fst_head h) = refl
-starts_of (r_head snd_head h) = refl
-starts_of (r_head not_head h) = refl
-starts_of (r_head close_head h) = refl
-starts_of (r_head open_head h) = refl
-starts_of (r_head lift_head h) = refl
-starts_of (r_head lift_b_head h) = refl
-starts_of (r_run h i) = refl
+starts_of (r_head _ h) = refl
 starts_of (r_atom h) = starts_of h
-starts_of r_name = refl
-starts_of r_number = refl
-starts_of r_true = refl
-starts_of r_false = refl
-starts_of r_minus = refl
-starts_of (r_paren h) = refl
-starts_of (r_pair h i) = refl
-starts_of (r_bracket h) = refl
-starts_of (r_escape h) = refl
-starts_of (r_ground_kernel h) = tt
-starts_of (r_arrow h i) = tt
-starts_of (r_star h i) = tt
-starts_of (r_part h) = tt
-starts_of (r_base_part h) = tt
-starts_of (r_ground_paren h) = tt
-starts_of r_int = tt
-starts_of r_bool = tt
+starts_of _ = refl
 
 -- the first token decides for this form
 data Decides {n : Nonterminal} (f : PureToken → Form n) (G : Form n) : List PureToken → Type 0 where
@@ -164,14 +129,7 @@ expr_decides (token a b k ∷ ts) p = decides (token a b k) ts (expr_of k p)
 head_decides : {ts rest : List PureToken} {v : SurfaceTree} {s : Nodes} → Reads (tree atom) ts v s rest
     → Decides head_by (reads (tree atom) λ e. gives e) ts
 head_decides r_name = decides _ _ refl
-head_decides r_number = decides _ _ refl
-head_decides r_true = decides _ _ refl
-head_decides r_false = decides _ _ refl
-head_decides r_minus = decides _ _ refl
-head_decides (r_paren h) = decides _ _ refl
-head_decides (r_pair h i) = decides _ _ refl
-head_decides (r_bracket h) = decides _ _ refl
-head_decides (r_escape h) = decides _ _ refl
+head_decides _ = decides _ _ refl
 
 group_by : (ts : List PureToken) → Starts ts → Decides paren_by (reads (tree expr) λ d. pick (behind_first d)) ts
 group_by [] p = absurd (cc)
@@ -183,16 +141,12 @@ group_by (token a b k ∷ ts) p = decides (token a b k) ts (group_of k p)
 
 group_decides : {ts rest : List PureToken} {v : SurfaceTree} {s : Nodes} → Reads (tree expr) ts v s rest
     → Decides paren_by (reads (tree expr) λ d. pick (behind_first d)) ts
-group_decides (r_let h i) = decides _ _ refl
-group_decides (r_let_rec h i) = decides _ _ refl
-group_decides (r_fun h) = decides _ _ refl
-group_decides (r_if h i j) = decides _ _ refl
 group_decides (r_expr {ts = ts} h) = group_by ts (starts_of h)
+group_decides _ = decides _ _ refl
 
 item_decides : {ts rest : List PureToken} {v : _} {s : Nodes} → Reads item ts v s rest → Decides program_by items_of ts
 item_decides (r_let_item h) = decides _ _ refl
-item_decides (r_rec_item h) = decides _ _ refl
-item_decides (r_kernel h i) = decides _ _ refl
+item_decides _ = decides _ _ refl
 
 part_decides : {ts rest : List PureToken} {v : _} {s : Nodes} → Reads base ts v s rest
     → Decides part_by (reads base λ b. gives (ground_base b)) ts
@@ -209,51 +163,29 @@ behind_it m (token a b k ∷ ts) h p = i_pick (i_reads h p i_gives)
 -- rows
 strength_operand : (w : Row) → strength (row w) < strength (operand w)
 strength_operand sum = omega arith
-strength_operand product = omega arith
-strength_operand application = omega arith
+strength_operand _ = omega arith
 
 strength_right : (w : Row) → strength (row w) < strength (right w)
 strength_right sum = omega arith
-strength_right product = omega arith
-strength_right application = omega arith
+strength_right _ = omega arith
 
 sign_force : {w : Row} {k : Symbol} {p : Primitive} → Sign w k p → force k ≡ strength (row w)
 sign_force plus_sign = refl
-sign_force minus_sign = refl
-sign_force star_sign = refl
-sign_force slash_sign = refl
-sign_force mod_sign = refl
+sign_force _ = refl
 
 sign_opens : {w : Row} (a b : ℕ) {k : Symbol} {p : Primitive} {ts : List PureToken} → Sign w k p
     → opens w (token a b k ∷ ts) ≡ operator (by_sign p) ts
 sign_opens a b plus_sign = refl
-sign_opens a b minus_sign = refl
-sign_opens a b star_sign = refl
-sign_opens a b slash_sign = refl
-sign_opens a b mod_sign = refl
+sign_opens a b _ = refl
 
 pub atom_opens : {ts rest : List PureToken} {v : SurfaceTree} {s : Nodes} → Reads (tree atom) ts v s rest
     → opens application ts ≡ operator apply ts
 atom_opens r_name = refl
-atom_opens r_number = refl
-atom_opens r_true = refl
-atom_opens r_false = refl
-atom_opens r_minus = refl
-atom_opens (r_paren h) = refl
-atom_opens (r_pair h i) = refl
-atom_opens (r_bracket h) = refl
-atom_opens (r_escape h) = refl
+atom_opens _ = refl
 
 atom_force : {ts rest : List PureToken} {v : SurfaceTree} {s : Nodes} → Reads (tree atom) ts v s rest → force_of ts ≡ 6
 atom_force r_name = refl
-atom_force r_number = refl
-atom_force r_true = refl
-atom_force r_false = refl
-atom_force r_minus = refl
-atom_force (r_paren h) = refl
-atom_force (r_pair h i) = refl
-atom_force (r_bracket h) = refl
-atom_force (r_escape h) = refl
+atom_force _ = refl
 
 more_force : {w : Row} {l e : SurfaceTree} {s t : Nodes} {ts rest : List PureToken} → More w l s ts e t rest
     → force_of rest < strength (row w) → force_of ts ≤ strength (row w)
@@ -308,20 +240,11 @@ mutual
   enter (r_row {w = w} h m) f = i_reads (enter h (omega (arith, more_force m f, strength_operand w)))
       (omega (arith, more_force m f, strength_operand w)) (i_more (enter_more m f) f i_gives)
   enter (r_head fst_head h) f = i_pick (i_under (i_reads (enter h f) f i_gives))
-  enter (r_head snd_head h) f = i_pick (i_under (i_reads (enter h f) f i_gives))
-  enter (r_head not_head h) f = i_pick (i_under (i_reads (enter h f) f i_gives))
-  enter (r_head close_head h) f = i_pick (i_under (i_reads (enter h f) f i_gives))
-  enter (r_head open_head h) f = i_pick (i_under (i_reads (enter h f) f i_gives))
-  enter (r_head lift_head h) f = i_pick (i_under (i_reads (enter h f) f i_gives))
-  enter (r_head lift_b_head h) f = i_pick (i_under (i_reads (enter h f) f i_gives))
+  enter (r_head _ h) f = i_pick (i_under (i_reads (enter h f) f i_gives))
   enter (r_run h i) f =
       i_pick (i_under
       (i_expect (i_reads (enter h (refl, refl)) (refl, refl) (i_expect (i_reads (enter i f) f i_gives)))))
   enter (r_atom h) f = picked (head_decides h) (i_reads (enter h f) f i_gives)
-  enter r_name f = i_pick (i_under i_gives)
-  enter r_number f = i_pick (i_under i_gives)
-  enter r_true f = i_pick (i_under i_gives)
-  enter r_false f = i_pick (i_under i_gives)
   enter r_minus f = i_pick (i_under (i_pick (i_skip (i_pick (i_skip (i_expect i_gives))))))
   enter (r_paren h) f =
       i_pick (i_under
@@ -339,8 +262,7 @@ mutual
   enter (r_part h) f = i_reads (enter h tt) tt (i_no f i_gives)
   enter (r_base_part h) f = picked (part_decides h) (i_reads (enter h tt) tt i_gives)
   enter (r_ground_paren h) f = i_pick (i_under (i_reads (enter h refl) refl (i_expect i_gives)))
-  enter r_int f = i_pick (i_under i_gives)
-  enter r_bool f = i_pick (i_under i_gives)
+  enter _ f = i_pick (i_under i_gives)
 
   enter_more : {w : Row} {l e : SurfaceTree} {s t : Nodes} {ts rest : List PureToken} → More w l s ts e t rest
       → force_of rest < strength (row w) → Chain w l s ts e t rest

@@ -15,7 +15,7 @@ use Rattle.mw_grammar.proofs.Complete.{Verdict, fine, sinks, complete}
 use Rattle.mw_grammar.proofs.Alike.{Alike, both, stuck, sunk, beyond, rest_of, onward, steady}
 use Rattle.mw_grammar.proofs.Enough.{enough}
 use Rattle.mw_grammar.proofs.Enters.{enter}
-use Rattle.mw_grammar.proofs.Says.{Tells, told, stopped, drowned, says}
+use Rattle.mw_grammar.proofs.Says.{Tells, goes, whole, stuck as halted, sunk as drowned, says}
 
 -- a program and no more, with any bound on the calls that is enough
 verdict : (f b : ℕ) {ts : List PureToken} {v : PureSurface} {s : Nodes} → Derives ts v s → calls b program ts < f
@@ -147,38 +147,38 @@ module _ (b : ℕ) (ts : List PureToken) where
 
   pub exact_ok : (v : PureSurface) (h : ℕ) → full b program ts ≡ ok v h [] → Tells program ts (ok v h [])
       → IsTree b ts v
-  exact_ok v h e (told t front q g) =
-      let d : Derives ts v (g []).0 = subst (λ z. Derives z v (g []).0) (sym q) (g []).1 in
-      record { nodes = (g []).0; derives = d; low = (ok_rest (verdict_full b d) v h [] e).2 }
+  exact_ok v h e (goes front us w q (whole p) g) =
+      let d : Derives ts v (g tt []).0 = subst (λ z. Derives z v (g tt []).0) (sym q) (g tt []).1 in
+      record { nodes = (g tt []).0; derives = d; low = (ok_rest (verdict_full b d) v h [] e).2 }
 
   pub exact_left : (v : PureSurface) (h : ℕ) (t : PureToken) (r : List PureToken) → full b program ts ≡ ok v h (t ∷ r)
       → Tells program ts (ok v h (t ∷ r)) → IsSyntax b ts (t ∷ r)
-  exact_left v h t r e (told i front q g) = record {
-    front = i ∷ front;
+  exact_left v h t r e (goes front us w q (whole p) g) = record {
+    front = front;
     split = q;
-    begins = ([], v, (g []).0, (g []).1);
-    low = low_by (i ∷ front) (t ∷ r) (ok v h (t ∷ r)) e q (omega arith);
-    dead = dead_by_ok (i ∷ front) v h t r e q;
+    begins = ([], v, (g tt []).0, (g tt []).1);
+    low = low_by front (t ∷ r) (ok v h (t ∷ r)) e q (omega arith);
+    dead = dead_by_ok front v h t r e q;
   }
 
   pub exact_syntax : (r : List PureToken) → full b program ts ≡ syntax_at r → Tells program ts (syntax_at r)
       → IsSyntax b ts r
-  exact_syntax r e (stopped front us v q g) = record {
+  exact_syntax r e (goes front us v q halted g) = record {
     front = front;
     split = q;
-    begins = (us ++ [], v, (g []).0, (g []).1);
+    begins = (us ++ [], v, (g tt []).0, (g tt []).1);
     low = low_by front r (syntax_at r) e q (omega arith);
     dead = dead_by_syntax front r e q;
   }
 
   pub exact_deep : (r : List PureToken) → full b program ts ≡ deep_at r → Tells program ts (deep_at r) → IsDeep b ts r
-  exact_deep r e (drowned {t = t} {r = i} front us v q g) = record {
+  exact_deep r e (goes front ws v q (drowned {t = t} {r = i} {us = us}) g) = record {
     front = front;
     fault = t;
     behind = i;
     first = refl;
     split = q;
-    begins = (us ++ [], v, (g []).0, rw (append_assoc front (t ∷ []) (us ++ [])) (g []).1);
+    begins = (us ++ [], v, (g tt []).0, rw (append_assoc front (t ∷ []) (us ++ [])) (g tt []).1);
     low = low_by front (t ∷ i) (deep_at (t ∷ i)) e q (omega arith);
     high = high_by front t i e q;
   }

@@ -1,11 +1,11 @@
 -- Calls within calls: at the same tokens and with the same budget a form reads only nonterminals of lower rank.
 use Rattle.std.proofs.Common.{ℕ, suc, ◌<◌, arith}
-use Rattle.mw_lex.specs.Tokens.{let_word, rec_word, fun_word, if_word, not_word, fst_word, snd_word, run_word}
-use Rattle.mw_lex.specs.Tokens.{close_word, open_word, lift_word, lift_b_word, kernel_word, main_word, int_word}
-use Rattle.mw_lex.specs.Tokens.{bool_word, comma, minus, arrow, equal, bracket_left, escape_mark, paren_left}
-use Rattle.mw_lex.specs.Tokens.{paren_right, word, number, true_word, false_word, PureToken, token}
+use Rattle.mw_lex.specs.Tokens.{let_word, rec_word, if_word, run_word}
+use Rattle.mw_lex.specs.Tokens.{kernel_word, main_word, int_word}
+use Rattle.mw_lex.specs.Tokens.{comma, minus, arrow, equal, bracket_left, escape_mark, paren_left}
+use Rattle.mw_lex.specs.Tokens.{word, number, PureToken, token}
 use Rattle.mw_grammar.specs.SurfaceTrees.{SurfaceTree}
-use Rattle.mw_grammar.specs.Grammar.{Mark, by_arrow, by_equal, Row, sum, product, application, expr, disjunction}
+use Rattle.mw_grammar.specs.Grammar.{Mark, by_arrow, by_equal, Row, sum, expr, disjunction}
 use Rattle.mw_grammar.specs.Grammar.{conjunction, comparison, row, head, atom, Nonterminal, program, item, parameter}
 use Rattle.mw_grammar.specs.Grammar.{body, tree, kernel_type, ground, part, base, Meaning, right}
 use Rattle.mw_grammar.specs.Forms.{Form, gives, refuses, skip, under, expect, reads, pick, option, more, form}
@@ -74,18 +74,10 @@ ranked_let_in (token a b _) = tt
 
 ranked_expr : (t : PureToken) → Ranked 8 (expr_by t)
 ranked_expr (token a b let_word) = ranked_let_in
-ranked_expr (token a b fun_word) = (omega arith, λ p. tt)
 ranked_expr (token a b if_word) = (omega arith, λ c. (omega arith, λ d. (omega arith, λ e. tt)))
 ranked_expr (token a b _) = (omega arith, λ e. tt)
 
 ranked_head : (t : PureToken) → Ranked 1 (head_by t)
-ranked_head (token a b fst_word) = (omega arith, λ e. tt)
-ranked_head (token a b snd_word) = (omega arith, λ e. tt)
-ranked_head (token a b not_word) = (omega arith, λ e. tt)
-ranked_head (token a b close_word) = (omega arith, λ e. tt)
-ranked_head (token a b open_word) = (omega arith, λ e. tt)
-ranked_head (token a b lift_word) = (omega arith, λ e. tt)
-ranked_head (token a b lift_b_word) = (omega arith, λ e. tt)
 ranked_head (token a b run_word) = (omega arith, λ k. (omega arith, λ e. tt))
 ranked_head (token a b _) = (omega arith, λ e. tt)
 
@@ -94,7 +86,6 @@ ranked_minus (token a b (number n)) = tt
 ranked_minus (token a b _) = tt
 
 ranked_first : (d : SurfaceTree) (t : PureToken) → Ranked 12 (behind_first d t)
-ranked_first d (token a b paren_right) = tt
 ranked_first d (token a b comma) = (omega arith, λ e. tt)
 ranked_first d (token a b _) = tt
 
@@ -103,10 +94,6 @@ ranked_paren (token a b minus) = ranked_minus
 ranked_paren (token a b _) = (omega arith, λ d. ranked_first d)
 
 ranked_atom : (t : PureToken) → Ranked 0 (atom_by t)
-ranked_atom (token a b (word x)) = tt
-ranked_atom (token a b (number n)) = tt
-ranked_atom (token a b true_word) = tt
-ranked_atom (token a b false_word) = tt
 ranked_atom (token a b paren_left) = ranked_paren
 ranked_atom (token a b bracket_left) = (omega arith, λ e. tt)
 ranked_atom (token a b escape_mark) = (omega arith, λ e. tt)
@@ -118,7 +105,6 @@ ranked_part (token a b _) = (omega arith, λ g. tt)
 
 ranked_base : (t : PureToken) → Ranked 0 (base_by t)
 ranked_base (token a b int_word) = tt
-ranked_base (token a b bool_word) = tt
 ranked_base (token a b _) = tt
 
 pub ranked : (n : Nonterminal) → Ranked (rank n) (form n)
@@ -132,8 +118,7 @@ ranked (tree conjunction) = (omega arith, λ d. ((omega arith, λ e. tt), tt))
 ranked (tree comparison) =
     (omega arith, λ d. ((omega arith, λ e. tt), ((omega arith, λ e. tt), ((omega arith, λ e. tt), tt))))
 ranked (tree (row sum)) = (omega arith, λ l e. tt)
-ranked (tree (row product)) = (omega arith, λ l e. tt)
-ranked (tree (row application)) = (omega arith, λ l e. tt)
+ranked (tree (row _)) = (omega arith, λ l e. tt)
 ranked (tree head) = ranked_head
 ranked (tree atom) = ranked_atom
 ranked kernel_type = (omega arith, λ g. ((omega arith, λ h. tt), tt))
@@ -144,5 +129,4 @@ ranked base = ranked_base
 -- after an operator
 pub rank_right : (w : Row) → rank (tree (right w)) < 12
 rank_right sum = omega arith
-rank_right product = omega arith
-rank_right application = omega arith
+rank_right _ = omega arith

@@ -1,9 +1,9 @@
 -- Each nonterminal has some tokens, and so has each form with which one can still go on.
-use Rattle.std.proofs.Common.{ℕ, suc, List, [], ◌∷◌, ◌++◌, length, append_assoc}
-use Rattle.mw_lex.specs.Tokens.{Symbol, let_word, rec_word, fun_word, if_word, not_word, fst_word, snd_word, run_word}
-use Rattle.mw_lex.specs.Tokens.{close_word, open_word, lift_word, lift_b_word, kernel_word, main_word, int_word}
-use Rattle.mw_lex.specs.Tokens.{bool_word, comma, minus, arrow, equal, colon, bracket_left, escape_mark, paren_left}
-use Rattle.mw_lex.specs.Tokens.{paren_right, word, number, true_word, false_word, PureToken, token}
+use Rattle.std.proofs.Common.{◌≡◌, refl, ℕ, suc, List, [], ◌∷◌, ◌++◌, length, append_assoc}
+use Rattle.mw_lex.specs.Tokens.{Symbol, let_word, rec_word, if_word, run_word}
+use Rattle.mw_lex.specs.Tokens.{kernel_word, main_word, int_word}
+use Rattle.mw_lex.specs.Tokens.{comma, minus, arrow, equal, colon, bracket_left, escape_mark, paren_left}
+use Rattle.mw_lex.specs.Tokens.{paren_right, word, number, PureToken, token}
 use Rattle.mw_grammar.specs.SurfaceTrees.{SurfaceTree}
 use Rattle.mw_grammar.specs.SourceNodes.{Nodes, node}
 use Rattle.mw_grammar.specs.Grammar.{Mark, by_arrow, by_equal, Row, sum, product, application, expr, disjunction}
@@ -11,7 +11,7 @@ use Rattle.mw_grammar.specs.Grammar.{conjunction, comparison, row, head, atom, N
 use Rattle.mw_grammar.specs.Grammar.{body, tree, kernel_type, ground, part, base, Meaning, Reads, More, m_end, r_main}
 use Rattle.mw_grammar.specs.Grammar.{r_let_item, r_expr, r_parameter, r_mark, r_disjunction, r_conjunction}
 use Rattle.mw_grammar.specs.Grammar.{r_comparison, r_row, r_atom, r_name, r_ground_kernel, r_part, r_base_part, r_int}
-use Rattle.mw_grammar.specs.Forms.{Expected, in_next, symbol, Form, gives, refuses, skip, under, expect, reads, pick}
+use Rattle.mw_grammar.specs.Forms.{Expected, symbol, Form, gives, refuses, skip, under, expect, reads, pick}
 use Rattle.mw_grammar.specs.Forms.{option, more, form, program_by, rec_item, let_by, kernel_by, item_by, parameter_by}
 use Rattle.mw_grammar.specs.Forms.{behind_mark, body_by, rec_by, let_in_by, expr_by, head_by, minus_by, behind_first}
 use Rattle.mw_grammar.specs.Forms.{paren_by, atom_by, part_by, base_by}
@@ -52,11 +52,18 @@ pub record Sample (n : Nonterminal) : Type 0 where
   pub v : Meaning n
   pub ends : (x : List PureToken) → (s : Nodes) × Reads n (more ++ x) v s x
 
--- some tokens go on with the form, whatever stands before and after
-pub record Fills {n : Nonterminal} (F : Form n) : Type 0 where
+-- what is read of n after what S stands for
+abbrev pub Relation : Nonterminal → Type 0 → Type 1
+Relation n S = S → List PureToken → Meaning n → Nodes → List PureToken → Type 0
+
+-- some tokens are read, whatever stands before and after
+pub record Filled (n : Nonterminal) {S : Type 0} (R : Relation n S) : Type 0 where
   pub more : List PureToken
   pub v : Meaning n
-  pub ends : (a : Before) (x : List PureToken) → (s : Nodes) × Read n F a (more ++ x) v s x
+  pub ends : (a : S) (x : List PureToken) → (s : Nodes) × R a (more ++ x) v s x
+
+abbrev pub Fills : {n : Nonterminal} → Form n → Type 0
+Fills {n = n} F = Filled n (Read n F)
 
 abbrev t : Symbol → PureToken
 t k = token 0 0 k
@@ -116,22 +123,17 @@ abbrev kernel_sample : Sample kernel_type
 kernel_sample = record { more = t int_word ∷ []; v = _; ends = λ y. (_, r_ground_kernel (ground_sample.ends y).1) }
 
 abbrev item_sample : Sample item
-item_sample = record {
-  more = t let_word ∷ x ∷ t equal ∷ x ∷ [];
-  v = _;
-  ends = λ y.
-      (_, r_let_item (equal_sample.ends y).1);
-}
+item_sample =
+    record { more = t let_word ∷ x ∷ t equal ∷ x ∷ []; v = _; ends = λ y. (_, r_let_item (equal_sample.ends y).1) }
 
 abbrev program_sample : Sample program
 program_sample = record {
   more = t main_word ∷ t colon ∷ t int_word ∷ t equal ∷ x ∷ [];
   v = _;
-  ends = λ y.
-      (_, r_main (ground_sample.ends (t equal ∷ x ∷ y)).1 (expr_sample.ends y).1);
+  ends = λ y. (_, r_main (ground_sample.ends (t equal ∷ x ∷ y)).1 (expr_sample.ends y).1);
 }
 
-pub sample : (m : Nonterminal) → Sample m
+abbrev pub sample : (m : Nonterminal) → Sample m
 sample program = program_sample
 sample item = item_sample
 sample (parameter by_arrow) = arrow_parameter
@@ -160,54 +162,63 @@ pub data Stand : Type 0 where
   chosen : Stand
   other : Stand
 
+-- where any tokens may have been read, and where a form may refuse
+abbrev pub Wide : Stand → Type 0
+Wide first = ⊥
+Wide chosen = ⊥
+Wide going = Unit {0}
+Wide other = Unit {0}
+
+abbrev pub MayRefuse : Stand → Type 0
+MayRefuse first = ⊥
+MayRefuse going = ⊥
+MayRefuse chosen = Unit {0}
+MayRefuse other = Unit {0}
+
 -- One can go on with the form, and with all that it comes to. What a token decides takes a token, or refuses; and at
 -- its head a nonterminal takes one.
 abbrev pub Open : {n : Nonterminal} → Stand → Form n → Type 0
-Open first (gives v) = ⊥
-Open chosen (gives v) = ⊥
-Open going (gives v) = Unit {0}
-Open other (gives v) = Unit {0}
-Open first refuses = ⊥
-Open going refuses = ⊥
-Open chosen refuses = Unit {0}
-Open other refuses = Unit {0}
+Open c (gives v) = Wide c
+Open c refuses = MayRefuse c
 Open c (skip F) = Open going F
 Open c (under F) = Open going F
 Open c (expect k F) = Open going F
 Open c (reads m go) = (v : Meaning m) → Open going (go v)
-Open chosen (pick f) = ⊥
-Open first (pick f) = Fills (pick f) × ((t : PureToken) → Open chosen (f t))
-Open going (pick f) = Fills (pick f) × ((t : PureToken) → Open chosen (f t))
-Open other (pick f) = Fills (pick f) × ((t : PureToken) → Open chosen (f t))
-Open first (option k F G) = ⊥
-Open chosen (option k F G) = ⊥
-Open going (option k F G) = Open going F × Open other G
-Open other (option k F G) = Open going F × Open other G
-Open first (more w l go) = ⊥
-Open chosen (more w l go) = ⊥
-Open going (more w l go) = (e : SurfaceTree) → Open going (go e)
-Open other (more w l go) = (e : SurfaceTree) → Open going (go e)
+Open c (pick f) = Fills (pick f) × ((t : PureToken) → Open chosen (f t))
+Open c (option k F G) = Wide c × (Open going F × Open other G)
+Open c (more w l go) = Wide c × ((e : SurfaceTree) → Open going (go e))
 
-pub fill_of : {n : Nonterminal} (F : Form n) → Open going F → Fills F
-fill_of (gives v) o = record { more = []; v = v; ends = λ a x. (_, d_gives) }
-fill_of refuses o = absurd o
-fill_of (skip F) o = let f = fill_of F o in
-    record { more = x ∷ f.more; v = f.v; ends = λ a y. (_, d_skip (f.ends a y).1) }
-fill_of (under F) o = let f = fill_of F o in
-    record { more = x ∷ f.more; v = f.v; ends = λ a y. (_, d_under (f.ends empty y).1) }
-fill_of (expect k F) o = let f = fill_of F o in
+-- the tokens with which the form goes on; where it takes any token that is i
+abbrev fill_from : {n : Nonterminal} (i : PureToken) (F : Form n) → Open going F → Fills F
+fill_from i (gives v) o = record { more = []; v = v; ends = λ a x. (_, d_gives) }
+fill_from i refuses o = absurd o
+fill_from i (skip F) o = let f = fill_from x F o in
+    record { more = i ∷ f.more; v = f.v; ends = λ a y. (_, d_skip (f.ends a y).1) }
+fill_from i (under F) o = let f = fill_from x F o in
+    record { more = i ∷ f.more; v = f.v; ends = λ a y. (_, d_under (f.ends empty y).1) }
+fill_from i (expect k F) o = let f = fill_from x F o in
     record { more = t (symbol k) ∷ f.more; v = f.v; ends = λ a y. (_, d_expect (f.ends a y).1) }
-fill_of (reads m go) o = let s = sample m in let f = fill_of (go s.v) (o s.v) in record {
+fill_from i (reads m go) o = let s = sample m in let f = fill_from x (go s.v) (o s.v) in record {
   more = s.more ++ f.more;
   v = f.v;
   ends = λ a y. let e = s.ends (f.more ++ y) in let h = f.ends (some (over a e.0)) y in
       (h.0, rw (append_assoc s.more f.more y) (d_reads e.1 h.1));
 }
-fill_of (pick f) o = o.0
-fill_of (option k F G) o = let f = fill_of F o.0 in
+fill_from i (pick f) o = o.0
+fill_from i (option k F G) o = let f = fill_from x F o.1.0 in
     record { more = t (symbol k) ∷ f.more; v = f.v; ends = λ a y. (_, d_yes (f.ends empty y).1) }
-fill_of (more w l go) o = let f = fill_of (go l) (o l) in
+fill_from i (more w l go) o = let f = fill_from x (go l) (o.1 l) in
     record { more = f.more; v = f.v; ends = λ a y. (_, d_more m_end (f.ends (some (nodes a)) y).1) }
+
+pub fill_of : {n : Nonterminal} (F : Form n) → Open going F → Fills F
+fill_of F o = fill_from x F o
+
+-- a token decides, and i is one of those with which the form goes on
+decided_by : {n : Nonterminal} (f : PureToken → Form n) (i : PureToken) (o : Open going (f i)) {us : List PureToken}
+    → (fill_from i (f i) o).more ≡ i ∷ us → ((i : PureToken) → Open chosen (f i))
+    → Fills (pick f) × ((i : PureToken) → Open chosen (f i))
+decided_by f i o {us = us} e every = let F = fill_from i (f i) o in
+    (record { more = i ∷ us; v = F.v; ends = λ a y. (_, d_pick (rw e at (F.ends a y)).1) }, every)
 
 -- the forms of the grammar
 open_program : (t : PureToken) → Open chosen (program_by t)
@@ -220,48 +231,18 @@ open_rec_item : (t : PureToken) → Open chosen (rec_item t)
 open_rec_item (token a b (word x)) = λ p. tt
 open_rec_item (token a b _) = tt
 
-abbrev rec_item_sample : Fills (pick rec_item)
-rec_item_sample =
-    record {
-      more = x ∷ x ∷ t equal ∷ x ∷ [];
-      v = _;
-      ends = λ a y.
-          (_, d_pick (d_skip (d_reads (equal_parameter.ends y).1 d_gives)));
-    }
-
 open_let : (t : PureToken) → Open chosen (let_by t)
 open_let (token a b (word x)) = λ d. tt
-open_let (token a b rec_word) = (rec_item_sample, open_rec_item)
+open_let (token a b rec_word) = decided_by rec_item x (λ p. tt) refl open_rec_item
 open_let (token a b _) = tt
-
-abbrev let_sample : Fills (pick let_by)
-let_sample = record {
-  more = x ∷ t equal ∷ x ∷ [];
-  v = _;
-  ends = λ a y.
-      (_, d_pick (d_skip (d_reads (equal_sample.ends y).1 d_gives)));
-}
 
 open_kernel : (t : PureToken) → Open chosen (kernel_by t)
 open_kernel (token a b (word x)) = λ k e. tt
 open_kernel (token a b _) = tt
 
-abbrev kernel_item_sample : Fills (pick kernel_by)
-kernel_item_sample =
-    record {
-      more = x ∷ t colon ∷ t int_word ∷ t equal ∷ x ∷ [];
-      v = _;
-      ends = λ a y. (
-        _,
-        d_pick
-            (d_skip (d_expect
-            (d_reads (kernel_sample.ends (t equal ∷ x ∷ y)).1 (d_expect (d_reads (expr_sample.ends y).1 d_gives))))),
-      );
-    }
-
 open_item : (t : PureToken) → Open chosen (item_by t)
-open_item (token a b let_word) = (let_sample, open_let)
-open_item (token a b kernel_word) = (kernel_item_sample, open_kernel)
+open_item (token a b let_word) = decided_by let_by x (λ d. tt) refl open_let
+open_item (token a b kernel_word) = decided_by kernel_by x (λ k e. tt) refl open_kernel
 open_item (token a b _) = tt
 
 open_parameter : (m : Mark) (t : PureToken) → Open chosen (parameter_by m t)
@@ -271,13 +252,10 @@ open_parameter m (token a b _) = tt
 open_mark : (m : Mark) (t : PureToken) → Open chosen (behind_mark m t)
 open_mark m (token a b k) = λ e. tt
 
-abbrev mark_sample : (m : Mark) → Fills (pick (behind_mark m))
-mark_sample m = record { more = x ∷ []; v = _; ends = λ a y. (_, d_pick (d_reads (expr_sample.ends y).1 d_gives)) }
-
 open_body : (m : Mark) (t : PureToken) → Open chosen (body_by m t)
 open_body m (token a b (word x)) = λ p. tt
-open_body by_arrow (token a b arrow) = (mark_sample by_arrow, open_mark by_arrow)
-open_body by_equal (token a b equal) = (mark_sample by_equal, open_mark by_equal)
+open_body by_arrow (token a b arrow) = decided_by (behind_mark by_arrow) x (λ e. tt) refl (open_mark by_arrow)
+open_body by_equal (token a b equal) = decided_by (behind_mark by_equal) x (λ e. tt) refl (open_mark by_equal)
 open_body by_arrow (token a b _) = tt
 open_body by_equal (token a b _) = tt
 
@@ -285,87 +263,35 @@ open_rec : (t : PureToken) → Open chosen (rec_by t)
 open_rec (token a b (word x)) = λ d e. tt
 open_rec (token a b _) = tt
 
-abbrev rec_sample : Fills (pick rec_by)
-rec_sample = record {
-  more = x ∷ x ∷ t equal ∷ x ∷ t (symbol in_next) ∷ x ∷ [];
-  v = _;
-  ends = λ a y. (
-    _,
-    d_pick
-        (d_skip (d_reads (equal_parameter.ends (t (symbol in_next) ∷ x ∷ y)).1
-        (d_expect (d_reads (expr_sample.ends y).1 d_gives)))),
-  );
-}
-
 open_let_in : (t : PureToken) → Open chosen (let_in_by t)
 open_let_in (token a b (word x)) = λ d e. tt
-open_let_in (token a b rec_word) = (rec_sample, open_rec)
+open_let_in (token a b rec_word) = decided_by rec_by x (λ d e. tt) refl open_rec
 open_let_in (token a b _) = tt
 
-abbrev let_in_sample : Fills (pick let_in_by)
-let_in_sample = record {
-  more = x ∷ t equal ∷ x ∷ t (symbol in_next) ∷ x ∷ [];
-  v = _;
-  ends = λ a y. (
-    _,
-    d_pick
-        (d_skip (d_reads (equal_sample.ends (t (symbol in_next) ∷ x ∷ y)).1
-        (d_expect (d_reads (expr_sample.ends y).1 d_gives)))),
-  );
-}
-
 open_expr : (t : PureToken) → Open chosen (expr_by t)
-open_expr (token a b let_word) = (let_in_sample, open_let_in)
-open_expr (token a b fun_word) = λ p. tt
+open_expr (token a b let_word) = decided_by let_in_by x (λ d e. tt) refl open_let_in
 open_expr (token a b if_word) = λ c d e. tt
 open_expr (token a b _) = λ e. tt
 
 open_head : (t : PureToken) → Open chosen (head_by t)
-open_head (token a b fst_word) = λ e. tt
-open_head (token a b snd_word) = λ e. tt
-open_head (token a b not_word) = λ e. tt
-open_head (token a b close_word) = λ e. tt
-open_head (token a b open_word) = λ e. tt
-open_head (token a b lift_word) = λ e. tt
-open_head (token a b lift_b_word) = λ e. tt
 open_head (token a b run_word) = λ k e. tt
 open_head (token a b _) = λ e. tt
-
-abbrev minus_sample : Fills (pick minus_by)
-minus_sample =
-    record { more = t (number 0) ∷ t paren_right ∷ []; v = _; ends = λ a y. (_, d_pick (d_skip (d_expect d_gives))) }
 
 open_minus : (t : PureToken) → Open chosen (minus_by t)
 open_minus (token a b (number n)) = tt
 open_minus (token a b _) = tt
 
-abbrev first_sample : (d : SurfaceTree) → Fills (pick (behind_first d))
-first_sample d = record { more = t paren_right ∷ []; v = _; ends = λ a y. (_, d_pick (d_skip d_gives)) }
-
 open_first : (d : SurfaceTree) (t : PureToken) → Open chosen (behind_first d t)
-open_first d (token a b paren_right) = tt
 open_first d (token a b comma) = λ e. tt
 open_first d (token a b _) = tt
 
-abbrev paren_sample : Fills (pick paren_by)
-paren_sample =
-    record {
-      more = x ∷ t paren_right ∷ [];
-      v = _;
-      ends = λ a y.
-          (_, d_pick (d_reads (expr_sample.ends (t paren_right ∷ y)).1 (d_pick (d_skip d_gives))));
-    }
-
 open_paren : (t : PureToken) → Open chosen (paren_by t)
-open_paren (token a b minus) = (minus_sample, open_minus)
-open_paren (token a b _) = λ d. (first_sample d, open_first d)
+open_paren (token a b minus) = decided_by minus_by (t (number 0)) tt refl open_minus
+open_paren (token a b _) = λ d.
+    decided_by (behind_first d) (t paren_right) tt refl (open_first d)
 
 open_atom : (t : PureToken) → Open chosen (atom_by t)
-open_atom (token a b (word x)) = tt
-open_atom (token a b (number n)) = tt
-open_atom (token a b true_word) = tt
-open_atom (token a b false_word) = tt
-open_atom (token a b paren_left) = (paren_sample, open_paren)
+open_atom (token a b paren_left) = decided_by paren_by x (open_paren x) refl open_paren
 open_atom (token a b bracket_left) = λ e. tt
 open_atom (token a b escape_mark) = λ e. tt
 open_atom (token a b _) = tt
@@ -376,73 +302,22 @@ open_part (token a b _) = λ g. tt
 
 open_base : (t : PureToken) → Open chosen (base_by t)
 open_base (token a b int_word) = tt
-open_base (token a b bool_word) = tt
 open_base (token a b _) = tt
 
 pub opens_all : (n : Nonterminal) → Open first (form n)
-opens_all program = (
-  record {
-    more = t main_word ∷ t colon ∷ t int_word ∷ t equal ∷ x ∷ [];
-    v = _;
-    ends = λ a y. (
-      _,
-      d_pick
-          (d_skip (d_expect
-          (d_reads (ground_sample.ends (t equal ∷ x ∷ y)).1 (d_expect (d_reads (expr_sample.ends y).1 d_gives))))),
-    );
-  },
-  open_program,
-)
-opens_all item = (
-  record {
-    more = t let_word ∷ x ∷ t equal ∷ x ∷ [];
-    v = _;
-    ends = λ a y.
-        (_, d_pick (d_skip (let_sample.ends a y).1));
-  },
-  open_item,
-)
-opens_all (parameter by_arrow) = (
-  record {
-    more = x ∷ t arrow ∷ x ∷ [];
-    v = _;
-    ends = λ a y.
-        (_, d_pick (d_under (d_reads (arrow_sample.ends y).1 d_gives)));
-  },
-  open_parameter by_arrow,
-)
-opens_all (parameter by_equal) = (
-  record {
-    more = x ∷ t equal ∷ x ∷ [];
-    v = _;
-    ends = λ a y.
-        (_, d_pick (d_under (d_reads (equal_sample.ends y).1 d_gives)));
-  },
-  open_parameter by_equal,
-)
-opens_all (body by_arrow) = (
-  record { more = t arrow ∷ x ∷ []; v = _; ends = λ a y. (_, d_pick (d_skip ((mark_sample by_arrow).ends a y).1)) },
-  open_body by_arrow,
-)
-opens_all (body by_equal) = (
-  record { more = t equal ∷ x ∷ []; v = _; ends = λ a y. (_, d_pick (d_skip ((mark_sample by_equal).ends a y).1)) },
-  open_body by_equal,
-)
-opens_all (tree expr) = (
-  record { more = x ∷ []; v = _; ends = λ a y. (_, d_pick (d_reads (disjunction_sample.ends y).1 d_gives)) },
-  open_expr,
-)
-opens_all (tree head) =
-    (record { more = x ∷ []; v = _; ends = λ a y. (_, d_pick (d_reads (atom_sample.ends y).1 d_gives)) }, open_head)
-opens_all (tree atom) = (record { more = x ∷ []; v = _; ends = λ a y. (_, d_pick (d_under d_gives)) }, open_atom)
-opens_all part = (
-  record { more = t int_word ∷ []; v = _; ends = λ a y. (_, d_pick (d_reads (base_sample.ends y).1 d_gives)) },
-  open_part,
-)
-opens_all base = (record { more = t int_word ∷ []; v = _; ends = λ a y. (_, d_pick (d_under d_gives)) }, open_base)
-opens_all (tree disjunction) = λ d. ((λ e. tt), tt)
-opens_all (tree conjunction) = λ d. ((λ e. tt), tt)
-opens_all (tree comparison) = λ d. ((λ e. tt), ((λ e. tt), ((λ e. tt), tt)))
-opens_all (tree (row w)) = λ l e. tt
-opens_all kernel_type = λ g. ((λ h. tt), tt)
-opens_all ground = λ g. ((λ h. tt), tt)
+opens_all program = decided_by program_by (t main_word) (λ g e. tt) refl open_program
+opens_all item = decided_by item_by (t let_word) (open_item (t let_word)) refl open_item
+opens_all (parameter m) = decided_by (parameter_by m) x (λ d. tt) refl (open_parameter m)
+opens_all (body by_arrow) = decided_by (body_by by_arrow) x (λ p. tt) refl (open_body by_arrow)
+opens_all (body by_equal) = decided_by (body_by by_equal) x (λ p. tt) refl (open_body by_equal)
+opens_all (tree expr) = decided_by expr_by x (λ e. tt) refl open_expr
+opens_all (tree head) = decided_by head_by x (λ e. tt) refl open_head
+opens_all (tree atom) = decided_by atom_by x tt refl open_atom
+opens_all part = decided_by part_by (t int_word) (λ b. tt) refl open_part
+opens_all base = decided_by base_by (t int_word) tt refl open_base
+opens_all (tree disjunction) = λ d. (tt, ((λ e. tt), tt))
+opens_all (tree conjunction) = λ d. (tt, ((λ e. tt), tt))
+opens_all (tree comparison) = λ d. (tt, ((λ e. tt), (tt, ((λ e. tt), (tt, ((λ e. tt), tt))))))
+opens_all (tree (row w)) = λ l. (tt, λ e. tt)
+opens_all kernel_type = λ g. (tt, ((λ h. tt), tt))
+opens_all ground = λ g. (tt, ((λ h. tt), tt))

@@ -1,40 +1,22 @@
 -- The tree that is made is never deeper than its source.
 use Rattle.std.proofs.Common.{ℕ, suc, ◌≤◌, max, List, [], ◌∷◌, arith}
 use Rattle.mw_lex.specs.Tokens.{PureToken}
-use Rattle.mw_grammar.specs.SurfaceTrees.{SurfaceTree, num, truth, used, fun, fix, app, bind, cond, pair, fst, snd}
-use Rattle.mw_grammar.specs.SurfaceTrees.{prim, bracket, escape, run, close, opened, lift, lift_b, PureItem}
+use Rattle.mw_grammar.specs.SurfaceTrees.{SurfaceTree, num}
+use Rattle.mw_grammar.specs.SurfaceTrees.{PureItem}
 use Rattle.mw_grammar.specs.SurfaceDepth.{surface_depth, bound_tree, AreShallow}
 use Rattle.mw_grammar.specs.SourceNodes.{Nodes, height}
 use Rattle.mw_grammar.specs.Grammar.{Nonterminal, program, item, parameter, body, tree, kernel_type, ground, part, base}
-use Rattle.mw_grammar.specs.Grammar.{define, abstract, Meaning, Reads, More, fst_head, snd_head, not_head, close_head}
-use Rattle.mw_grammar.specs.Grammar.{open_head, lift_head, lift_b_head, m_end, m_sign, m_argument, r_main, r_program}
+use Rattle.mw_grammar.specs.Grammar.{define, abstract, Meaning, Reads, More, fst_head, not_head}
+use Rattle.mw_grammar.specs.Grammar.{m_end, m_sign, m_argument, r_main, r_program}
 use Rattle.mw_grammar.specs.Grammar.{r_let_item, r_rec_item, r_kernel, r_let, r_let_rec, r_fun, r_if, r_expr}
 use Rattle.mw_grammar.specs.Grammar.{r_parameter, r_body, r_mark, r_or, r_disjunction, r_and, r_conjunction, r_compare}
 use Rattle.mw_grammar.specs.Grammar.{r_comparison, r_row, r_head, r_run, r_atom, r_name, r_number, r_true, r_false}
-use Rattle.mw_grammar.specs.Grammar.{r_minus, r_paren, r_pair, r_bracket, r_escape, r_ground_kernel, r_arrow, r_star}
-use Rattle.mw_grammar.specs.Grammar.{r_part, r_base_part, r_ground_paren, r_int, r_bool}
+use Rattle.mw_grammar.specs.Grammar.{r_minus, r_paren, r_pair, r_bracket, r_escape}
 
 -- a tree has a node
 some_depth : (e : SurfaceTree) → 1 ≤ surface_depth e
 some_depth (num n) = omega arith
-some_depth (truth b) = omega arith
-some_depth (used x at) = omega arith
-some_depth (fun x e) = omega arith
-some_depth (fix f x e) = omega arith
-some_depth (app f a) = omega arith
-some_depth (bind x d e) = omega arith
-some_depth (cond c a b) = omega arith
-some_depth (pair a b) = omega arith
-some_depth (fst e) = omega arith
-some_depth (snd e) = omega arith
-some_depth (prim p a b) = omega arith
-some_depth (bracket at e) = omega arith
-some_depth (escape at e) = omega arith
-some_depth (run at k e) = omega arith
-some_depth (close at e) = omega arith
-some_depth (opened at e) = omega arith
-some_depth (lift at e) = omega arith
-some_depth (lift_b at e) = omega arith
+some_depth _ = omega arith
 
 -- every tree among the items is at most b deep
 abbrev pub AllLow : List PureItem → ℕ → Type 0
@@ -85,12 +67,8 @@ mutual
   low (r_comparison h) = low h
   low (r_row h m) = low_more m (low h)
   low (r_head fst_head h) = omega (arith, low h)
-  low (r_head snd_head h) = omega (arith, low h)
   low (r_head {d = d} not_head h) = omega (arith, low h, some_depth d)
-  low (r_head close_head h) = omega (arith, low h)
-  low (r_head open_head h) = omega (arith, low h)
-  low (r_head lift_head h) = omega (arith, low h)
-  low (r_head lift_b_head h) = omega (arith, low h)
+  low (r_head _ h) = omega (arith, low h)
   low (r_run h i) = omega (arith, low i)
   low (r_atom h) = low h
   low r_name = omega arith
@@ -102,14 +80,7 @@ mutual
   low (r_pair h i) = omega (arith, low h, low i)
   low (r_bracket h) = omega (arith, low h)
   low (r_escape h) = omega (arith, low h)
-  low (r_ground_kernel h) = tt
-  low (r_arrow h i) = tt
-  low (r_star h i) = tt
-  low (r_part h) = tt
-  low (r_base_part h) = tt
-  low (r_ground_paren h) = tt
-  low r_int = tt
-  low r_bool = tt
+  low _ = tt
 
   low_more : {w : _} {l e : SurfaceTree} {s t : Nodes} {ts rest : List PureToken} → More w l s ts e t rest
       → surface_depth l ≤ height s → surface_depth e ≤ height t

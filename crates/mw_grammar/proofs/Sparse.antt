@@ -8,13 +8,13 @@ use Rattle.mw_grammar.specs.SurfaceSize.{tree_size, surface_size, IsSparse}
 use Rattle.mw_grammar.specs.SourceNodes.{Nodes}
 use Rattle.mw_grammar.specs.Answers.{IsProgram}
 use Rattle.mw_grammar.specs.Grammar.{Row, Nonterminal, program, item, parameter, body, tree, kernel_type, ground, part}
-use Rattle.mw_grammar.specs.Grammar.{base, define, abstract, Meaning, Reads, More, fst_head, snd_head, not_head}
-use Rattle.mw_grammar.specs.Grammar.{close_head, open_head, lift_head, lift_b_head, m_end, m_sign, m_argument, r_main}
+use Rattle.mw_grammar.specs.Grammar.{base, define, abstract, Meaning, Reads, More, fst_head}
+use Rattle.mw_grammar.specs.Grammar.{m_end, m_sign, m_argument, r_main}
 use Rattle.mw_grammar.specs.Grammar.{r_program, r_let_item, r_rec_item, r_kernel, r_let, r_let_rec, r_fun, r_if, r_expr}
 use Rattle.mw_grammar.specs.Grammar.{r_parameter, r_body, r_mark, r_or, r_disjunction, r_and, r_conjunction, r_compare}
-use Rattle.mw_grammar.specs.Grammar.{r_comparison, r_row, r_head, r_run, r_atom, r_name, r_number, r_true, r_false}
-use Rattle.mw_grammar.specs.Grammar.{r_minus, r_paren, r_pair, r_bracket, r_escape, r_ground_kernel, r_arrow, r_star}
-use Rattle.mw_grammar.specs.Grammar.{r_part, r_base_part, r_ground_paren, r_int, r_bool}
+use Rattle.mw_grammar.specs.Grammar.{r_comparison, r_row, r_head, r_run, r_atom}
+use Rattle.mw_grammar.specs.Grammar.{r_paren, r_pair, r_bracket, r_escape, r_ground_kernel, r_arrow, r_star}
+use Rattle.mw_grammar.specs.Grammar.{r_part, r_base_part, r_ground_paren}
 
 -- What is read, by its nodes. A tree counts one more, for the application that may be made of it and takes no token; a
 -- parameter counts the function that it makes as well.
@@ -54,19 +54,9 @@ mutual
   light (r_comparison h) = light h
   light (r_row {ts = ts} h m) = light_more (3 * length ts) m (light h)
   light (r_head fst_head h) = omega (arith, light h)
-  light (r_head snd_head h) = omega (arith, light h)
-  light (r_head not_head h) = omega (arith, light h)
-  light (r_head close_head h) = omega (arith, light h)
-  light (r_head open_head h) = omega (arith, light h)
-  light (r_head lift_head h) = omega (arith, light h)
-  light (r_head lift_b_head h) = omega (arith, light h)
+  light (r_head _ h) = omega (arith, light h)
   light (r_run h i) = omega (arith, light h, light i)
   light (r_atom h) = light h
-  light r_name = omega arith
-  light r_number = omega arith
-  light r_true = omega arith
-  light r_false = omega arith
-  light r_minus = omega arith
   light (r_paren h) = omega (arith, light h)
   light (r_pair h i) = omega (arith, light h, light i)
   light (r_bracket h) = omega (arith, light h)
@@ -77,8 +67,7 @@ mutual
   light (r_part h) = light h
   light (r_base_part h) = light h
   light (r_ground_paren h) = omega (arith, light h)
-  light r_int = omega arith
-  light r_bool = omega arith
+  light _ = omega arith
 
   light_more : {w : Row} {l e : SurfaceTree} {s t : Nodes} {ts rest : List PureToken} (most : ℕ)
       → More w l s ts e t rest → tree_size l + 1 + 3 * length ts ≤ most → tree_size e + 1 + 3 * length rest ≤ most

@@ -15,7 +15,7 @@ use Rattle.mw_scope.specs.declared.names.Names.{Names}
 use Rattle.mw_scope.specs.Scopes.{items_of}
 use Rattle.mw_scope.specs.Nameless.{IsNameless}
 use Rattle.mw_scope.specs.Faults.{faults_in, faults_of_items, faults_of, refusal_of, IsFirst}
-use Rattle.mw_scope.specs.Named.{named, named_program}
+use Rattle.mw_scope.specs.Named.{named_program}
 use Rattle.mw_scope.specs.Keeping.{kept}
 use Rattle.mw_scope.specs.Views.{place_at, Knows}
 use Rattle.mw_scope.proofs.Firsts.{kept_two, kept_is_first, none_kept, one_first}

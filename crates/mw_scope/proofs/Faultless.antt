@@ -1,5 +1,5 @@
 -- A tree is a nameless expression exactly where it has no fault, and then it is the one that the walk builds.
-use Rattle.std.proofs.Common.{◌≡◌, ℕ, List, [], ◌∷◌, ◌++◌, Option, Some, None, refl, ap, sym, ◌∙◌, subst}
+use Rattle.std.proofs.Common.{◌≡◌, ℕ, List, [], ◌∷◌, ◌++◌, Option, Some, None, refl, ap, sym, ◌∙◌}
 use Rattle.mw_term.specs.Terms.{Expression}
 use Rattle.mw_term.specs.Terms as nameless
 use Rattle.mw_grammar.specs.SurfaceTrees.{SurfaceTree, num, truth, used, fun, fix, app, bind, cond, pair, fst, snd}
@@ -14,13 +14,8 @@ use Rattle.mw_scope.specs.Nameless.{n_lift_b}
 use Rattle.mw_scope.specs.Faults.{only_at, faults_of_use, faults_in}
 use Rattle.mw_scope.specs.Named.{named_use, named}
 
--- the list has a fault
-abbrev IsFault : List Fault → Type 0
-IsFault [] = ⊥
-IsFault (f ∷ fs) = Unit {0}
-
 pub no_cons : {A : Type 0} (f : Fault) (fs : List Fault) → f ∷ fs ≡ [] → A
-no_cons f fs e = absurd (subst IsFault e tt)
+no_cons f fs e = absurd (cc e)
 
 pub empty_left : (fs gs : List Fault) → fs ++ gs ≡ [] → fs ≡ []
 empty_left [] gs e = refl
@@ -35,9 +30,8 @@ empty_both e h = rw (e, h) refl
 
 same_level : (l m : Level) (at : ℕ) → only_at l m at ≡ [] → l ≡ m
 same_level Live Live at e = refl
-same_level Live Quoted at e = no_cons _ _ e
-same_level Quoted Live at e = no_cons _ _ e
 same_level Quoted Quoted at e = refl
+same_level _ _ at e = no_cons _ _ e
 
 at_own_level : (m : Level) (at : ℕ) → only_at m m at ≡ []
 at_own_level Live at = refl
@@ -74,19 +68,13 @@ faultless tops g m (snd t) e = n_snd (faultless tops g m t e)
 faultless tops g m (prim p s t) e = n_prim (faultless tops g m s (empty_left _ _ e))
     (faultless tops g m t (empty_right (faults_in tops g m s) _ e))
 faultless tops g Live (bracket at t) e = n_bracket (faultless tops g Quoted t e)
-faultless tops g Quoted (bracket at t) e = no_cons _ _ e
-faultless tops g Live (escape at t) e = no_cons _ _ e
 faultless tops g Quoted (escape at t) e = n_escape (faultless tops g Live t e)
 faultless tops g Live (run at k t) e = n_run (faultless tops g Live t e)
-faultless tops g Quoted (run at k t) e = no_cons _ _ e
 faultless tops g Live (close at t) e = n_close (faultless tops g Live t e)
-faultless tops g Quoted (close at t) e = no_cons _ _ e
 faultless tops g Live (opened at t) e = n_open (faultless tops g Live t e)
-faultless tops g Quoted (opened at t) e = no_cons _ _ e
 faultless tops g Live (lift at t) e = n_lift (faultless tops g Live t e)
-faultless tops g Quoted (lift at t) e = no_cons _ _ e
 faultless tops g Live (lift_b at t) e = n_lift_b (faultless tops g Live t e)
-faultless tops g Quoted (lift_b at t) e = no_cons _ _ e
+faultless tops g _ _ e = no_cons _ _ e
 
 -- a tree that is some expression has no fault
 pub has_no_fault : {tops : TopNames} {g : List Binder} {m : Level} {t : SurfaceTree} {e : Expression}

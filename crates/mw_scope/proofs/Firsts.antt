@@ -112,21 +112,10 @@ no_later_twice f g a b = (omega (arith, a, b), omega (arith, a, b))
 
 same_fault : (f g : Fault) → place_of f ≡ place_of g → number_of f ≡ number_of g → f ≡ g
 same_fault (Unbound at) (Unbound to) p n = ap Unbound p
-same_fault (Unbound at) (Twice to) p n = absurd (omega (arith, n))
-same_fault (Unbound at) (NotValue to) p n = absurd (omega (arith, n))
-same_fault (Unbound at) (WrongLevel to) p n = absurd (omega (arith, n))
-same_fault (Twice at) (Unbound to) p n = absurd (omega (arith, n))
 same_fault (Twice at) (Twice to) p n = ap Twice p
-same_fault (Twice at) (NotValue to) p n = absurd (omega (arith, n))
-same_fault (Twice at) (WrongLevel to) p n = absurd (omega (arith, n))
-same_fault (NotValue at) (Unbound to) p n = absurd (omega (arith, n))
-same_fault (NotValue at) (Twice to) p n = absurd (omega (arith, n))
 same_fault (NotValue at) (NotValue to) p n = ap NotValue p
-same_fault (NotValue at) (WrongLevel to) p n = absurd (omega (arith, n))
-same_fault (WrongLevel at) (Unbound to) p n = absurd (omega (arith, n))
-same_fault (WrongLevel at) (Twice to) p n = absurd (omega (arith, n))
-same_fault (WrongLevel at) (NotValue to) p n = absurd (omega (arith, n))
 same_fault (WrongLevel at) (WrongLevel to) p n = ap WrongLevel p
+same_fault _ _ p n = absurd (omega (arith, n))
 
 is_before_stander : (fs : List Fault) (f g : Fault) → All (IsNoLater f) fs → Contains fs g → IsNoLater f g
 is_before_stander fs f g all i = let P : Fault → Type 0 = IsNoLater f in subst P i.2 (all i.0 g i.1)

@@ -7,7 +7,6 @@ use Rattle.std.specs.Str.{bytes_eq}
 use Rattle.std.proofs.lemmas.Slice.Eq.{bytes_eq-Decides}
 use Rattle.std.proofs.lemmas.Option.{same_Some, none-some}
 use Rattle.mw_scope.specs.declared.level.Level.{Level}
-use Rattle.mw_term.specs.Terms.{KernelType}
 use Rattle.mw_grammar.specs.SurfaceTrees.{SurfaceTree, PureItem, let_item, kernel_item}
 use Rattle.mw_scope.specs.Scopes.{Binder, nearest, name_of, lets_of, items_of}
 use Rattle.mw_scope.specs.Resolving.{NearestIsNearest, TopNamesAreItems}
@@ -129,28 +128,16 @@ is_let (let_item y at from d ∷ items) x i e = let_found y at from d items x (b
 is_let (kernel_item y at k d ∷ items) x i e = let_behind (kernel_item y at k d) items x (lets_of items x) i
     (is_let items x) e
 
-abbrev let_name : PureItem → List ℕ → List ℕ
-let_name (let_item y at from d) other = y
-let_name (kernel_item y at k d) other = other
-
-abbrev IsKernel : PureItem → Type 0
-IsKernel (let_item y at from d) = ⊥
-IsKernel (kernel_item y at k d) = Unit {0}
-
-kernel_is_no_let : {z y : List ℕ} {a at from : ℕ} {k : KernelType} {d e : SurfaceTree} → kernel_item z a k d
-    ≡ let_item y at from e → ⊥
-kernel_is_no_let h = subst IsKernel h tt
-
 is_no_let : (items : List PureItem) (x : List ℕ) → lets_of items x ≡ None
     → (j at from : ℕ) (y : List ℕ) (e : SurfaceTree) → slice_get items j ≡ Some (let_item y at from e) → y ≢ x
 is_no_let [] x h j at from y e is = absurd (none-some _ is)
 is_no_let (let_item z a f d ∷ items) x h zero at from y e is =
     let both = first_none suc 0 (bytes_eq x z) (lets_of items x) h in
-    let same : z ≡ y = ap (λ item. let_name item []) (same_Some _ _ is) in let P : List ℕ → Type 0 = λ n. n ≢ x in
+    let same : z ≡ y = cc (same_Some _ _ is) in let P : List ℕ → Type 0 = λ n. n ≢ x in
     subst P same (names_differ x z both.0)
 is_no_let (let_item z a f d ∷ items) x h (suc j) at from y e is = let both =
     first_none suc 0 (bytes_eq x z) (lets_of items x) h in is_no_let items x both.1 j at from y e is
-is_no_let (kernel_item z a k d ∷ items) x h zero at from y e is = absurd (kernel_is_no_let (same_Some _ _ is))
+is_no_let (kernel_item z a k d ∷ items) x h zero at from y e is = absurd (cc (same_Some _ _ is))
 is_no_let (kernel_item z a k d ∷ items) x h (suc j) at from y e is =
     is_no_let items x (none_behind suc (lets_of items x) h) j at from y e is
 

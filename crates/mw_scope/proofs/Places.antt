@@ -25,6 +25,12 @@ other_entry true true v w o p apart e = absurd (apart refl refl)
 other_entry true false v w o p apart e = refl
 other_entry false there v w o p apart e = e
 
+-- a name is not two
+no_both : (name own x : List ℕ) → bytes_eq name own ≡ false → bytes_eq x own ≡ true → bytes_eq x name ≡ true → ⊥
+no_both name own x h there this =
+    let same : name ≡ own = sym ((bytes_eq-Decides x name).0 this) ∙ (bytes_eq-Decides x own).0 there in
+    absurd (cc (sym ((bytes_eq-Decides name own).1 same) ∙ h))
+
 -- what is looked up after an insertion
 pub lookup-insert : {K V : Type 0} (eq : K → K → Bool) (bytes : K → List ℕ)
     → ((a b : K) → eq a b ≡ bytes_eq (bytes a) (bytes b)) → (es : List (K × V)) (key : K) (v : V)
@@ -38,14 +44,10 @@ lookup-insert {K} {V} eq bytes is (e ∷ es) key v x =
     let P : Bool → Type 0 = λ t. bytes_eq (bytes key) (bytes e.0) ≡ t
     → look (cond t ((e.0, v) ∷ es) (e ∷ insert_entry eq es key v)) ≡ cond (bytes_eq x (bytes key)) (Some v)
     (look (e ∷ es)) in
-    let both : bytes_eq (bytes key) (bytes e.0) ≡ false → bytes_eq x (bytes e.0) ≡ true → bytes_eq x (bytes key) ≡ true
-    → ⊥ = λ h here there.
-    let same : bytes key ≡ bytes e.0 = sym ((bytes_eq-Decides x (bytes key)).0 there)
-    ∙ (bytes_eq-Decides x (bytes e.0)).0 here in absurd (cc (sym (decides.1 same) ∙ h))
-    in
     let by : (t : Bool) → P t = λ t. elim t as P [
       | true ↦ λ h. rw (decides.0 h) (same_entry (bytes_eq x (bytes e.0)) v e.1 (look es))
-      | false ↦ λ h. other_entry (bytes_eq x (bytes e.0)) (bytes_eq x (bytes key)) v e.1 (look es) _ (both h) rest
+      | false ↦ λ h. other_entry (bytes_eq x (bytes e.0)) (bytes_eq x (bytes key)) v e.1 (look es) _
+          (no_both (bytes key) (bytes e.0) x h) rest
     ] in
     rw (is key e.0) (by (bytes_eq (bytes key) (bytes e.0)) refl)
 
@@ -62,15 +64,10 @@ lookup-write {K} {V} bytes (e ∷ es) name v x here =
     let P : Bool → Type 0 = λ t. bytes_eq name (bytes e.0) ≡ t → IsSome (cond t (Some e.1) (look name es))
     → look x (cond t ((e.0, v) ∷ es) (e ∷ set_value (λ k. bytes_eq name (bytes k)) es v)) ≡ cond (bytes_eq x name)
     (Some v) (look x (e ∷ es)) in
-    let both : bytes_eq name (bytes e.0) ≡ false → bytes_eq x (bytes e.0) ≡ true → bytes_eq x name ≡ true
-    → ⊥ = λ h there this.
-    let same : name ≡ bytes e.0 = sym ((bytes_eq-Decides x name).0 this)
-    ∙ (bytes_eq-Decides x (bytes e.0)).0 there in absurd (cc (sym (decides.1 same) ∙ h))
-    in
     let by : (t : Bool) → P t = λ t. elim t as P [
       | true ↦ λ h there. rw (decides.0 h) (same_entry (bytes_eq x (bytes e.0)) v e.1 (look x es))
-      | false ↦ λ h there. other_entry (bytes_eq x (bytes e.0)) (bytes_eq x name) v e.1 (look x es) _ (both h)
-          (rest there)
+      | false ↦ λ h there. other_entry (bytes_eq x (bytes e.0)) (bytes_eq x name) v e.1 (look x es) _
+          (no_both name (bytes e.0) x h) (rest there)
     ] in
     by (bytes_eq name (bytes e.0)) refl here
 

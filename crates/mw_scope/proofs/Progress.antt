@@ -1,6 +1,6 @@
 -- The walk of items, between two of them.
 use Rattle.std.proofs.Common.{◌≡◌, ℕ, suc, ◌+◌, List, [], ◌∷◌, ◌++◌, length, Option, refl, ap, sym, ◌∙◌, subst}
-use Rattle.std.proofs.Common.{append_assoc, append-nil, length-append, ◌<◌, take, drop, get_or, add-one}
+use Rattle.std.proofs.Common.{append_assoc, length-append, ◌<◌, take, drop, get_or, add-one}
 use Rattle.std.specs.Prelude.{map}
 use mathlib.Core.Path.{fun_ext}
 use Rattle.std.proofs.lemmas.List.{map-append}

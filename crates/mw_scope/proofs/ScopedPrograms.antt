@@ -1,7 +1,7 @@
 -- Nameless programs are scoped.
 use Rattle.std.proofs.Common.{◌≡◌, ℕ, zero, suc, ◌+◌, Bool, true, false, cond, List, [], ◌∷◌, ◌++◌, length, Option}
 use Rattle.std.proofs.Common.{Some, None, refl, ap, sym, subst, arith, append_assoc, length-append, bytes_eq}
-use Rattle.std.specs.Prelude.{map, slice_get, ◌&&◌}
+use Rattle.std.specs.Prelude.{map, slice_get}
 use Rattle.std.specs.Option.{option_map}
 use Rattle.std.proofs.lemmas.Option.{same_Some, none-some}
 use Rattle.mw_list.proofs.Conjunctions.{both_true}
