@@ -146,10 +146,6 @@ next_goes view res b w o l t r a h k us mid e p q g =
     subst (λ x. Gives view res x)
     (f ∙ ap (λ x. and_then x λ r h mid. following b w (operated o l r) (suc (max a h)) mid) (sym e)) g
 
-pub gives_as : {X : Type 0} {n : Nonterminal} (view : X → Answer n) (res : Result X Fault) (x y : Answer n) → x ≡ y
-    → Gives view res y → Gives view res x
-gives_as view res x y e g = subst (λ x. Gives view res x) (sym e) g
-
 -- what a part that was read is
 pub ruleset read_laws = (read_full, read_gives, read_refuses, read_reads, part_fails)
 

@@ -15,14 +15,16 @@ use Rattle.mw_grammar.proofs.Ranks.{Ranked, ranked, rank_right}
 use Rattle.mw_grammar.proofs.Alike.{rest_of, steady, Steady, steady_rounds}
 
 -- a part read alike, and what follows it read alike
-pub then_same : {m n : Nonterminal} (k : ℕ) (x y : Answer m) (f g : Meaning m → ℕ → Parser n) → x ≡ y → length (rest_of x)
+pub then_same : {m n : Nonterminal} (k : ℕ) (x y : Answer m) (f g : Meaning m → ℕ → Parser n) → x ≡ y
+    → length (rest_of x)
     ≤ k → ((v : Meaning m) (h : ℕ) (mid : List PureToken) → length mid ≤ k → f v h mid ≡ g v h mid) → and_then x f
     ≡ and_then y g
 then_same k (ok v h mid) y f g e p same = same v h mid p ∙ ap (λ z. and_then z g) e
 then_same k (syntax_at r) y f g e p same = ap (λ z. and_then z g) e
 then_same k (deep_at r) y f g e p same = ap (λ z. and_then z g) e
 
-pub within_same : {n : Nonterminal} (c : Bool) (ts : List PureToken) (x y : Answer n) → (c ≡ true → x ≡ y) → within c ts x
+pub within_same : {n : Nonterminal} (c : Bool) (ts : List PureToken) (x y : Answer n) → (c ≡ true → x ≡ y)
+    → within c ts x
     ≡ within c ts y
 within_same true ts x y h = h refl
 within_same false ts x y h = refl

@@ -302,7 +302,8 @@ module _ (f : ℕ) (ih : (b : ℕ) (m : Nonterminal) (ts : List PureToken) → c
         (λ a us. (a, λ v s r h. (s, d_skip h))) (on_its_way (says_run going F o b (suc r) a ts k (omega arith))))
     says_run c (under F) o b r a [] k le = said (at_once (fill_of (under F) o))
     says_run c (under F) o b r a (t ∷ ts) k le = said (node_over c (under F) t a b (nat_lt (tall a) b) refl
-        (λ a us v s r g. (_, d_under g)) (fill_of F o) (λ lt. says_run going F o (b - 1) 12 none_yet ts k (omega arith)))
+        (λ a us v s r g. (_, d_under g)) (fill_of F o)
+        (λ lt. says_run going F o (b - 1) 12 none_yet ts k (omega arith)))
     says_run c (expect e F) o b r a [] k le = said (at_once (fill_of (expect e F) o))
     says_run c (expect e F) o b r a (token p q s ∷ ts) k le = said (expected c e F p q s ts _ (fill_of (expect e F) o)
         (is e s) refl (says_run going F o b (suc r) a ts k (omega arith)))

@@ -76,7 +76,7 @@ module _ (ls : List TypeLine) (tops : List TopNote) (g : List PlacedBinder) (m :
       two_is (pair d e) (λ x. judged ls tops g m d x.1) (λ x a. judged ls tops g m e a.1) (own_at ls m (pair d e) nodes)
   judged_by_parts (prim o d e) nodes =
       two_is (prim o d e) (λ x. judged ls tops g m d x.1) (λ x a. judged ls tops g m e a.1)
-          (own_at ls m (prim o d e) nodes)
+      (own_at ls m (prim o d e) nodes)
   judged_by_parts e nodes = one_is e _ (own_at ls m e nodes)
 
   -- once root and parts are judged, their agreement decides

@@ -7,9 +7,6 @@ use Rattle.std.proofs.lemmas.List.{map-append, length-map}
 use Rattle.mw_slots.proofs.Lists.{slice_get_snoc, slice_get-image}
 
 module _ {X : Type 0} (name_of : X → List ℕ) (cells : List ℕ) (start : ℕ) (name : List ℕ) where
-  pub others_none : AllOther name_of cells start name []
-  others_none k p h = absurd (none-some p h)
-
   pub others_more : (ps : List (ℕ × X)) (p : ℕ × X) → AllOther name_of cells start name ps
       → IsOther name_of cells start name (length ps) p → AllOther name_of cells start name (ps ++ p ∷ [])
   others_more ps p all one k q h =
