@@ -1,12 +1,12 @@
 -- The rules of a module's code, and the words that it allocates.
-use Rattle.std.proofs.Common.{◌≡◌, ℕ, suc, ◌+◌, Bool, true, false, List, [], ◌∷◌, ◌++◌, length, Option, Some, None}
+use Rattle.std.proofs.Common.{◌≡◌, ℕ, suc, ◌+◌, ◌<◌, Bool, true, false, List, [], ◌∷◌, ◌++◌, length, Option, Some, None}
 use Rattle.std.proofs.Common.{refl, ap, ◌∙◌, sym, subst, arith, length-append, append_assoc}
-use Rattle.std.specs.Prelude.{ℤ, slice_get, nat_le, ◌*◌, ◌%◌, ◌^◌}
+use Rattle.std.specs.Prelude.{ℤ, slice_get, slice_set, nat_le, nat_lt, ◌*◌, ◌%◌, ◌^◌}
 use Rattle.std.proofs.lemmas.Bool.{leb-true, le-leb, leb-false, lt-leb}
 use Rattle.std.proofs.Common.{append-nil}
 use Rattle.mw_wasm.specs.declared.values.Value.{Value}
 use Rattle.mw_wasm.specs.declared.values.Value.TheVariants.{I32, I64}
-use Rattle.mw_wasm.specs.Syntax.{Code, next, local_get, PureModule}
+use Rattle.mw_wasm.specs.Syntax.{Code, next, local_get, local_set, local_tee, PureModule}
 use Rattle.mw_wasm.specs.Store.{Memory, Store, is_inside, write_bytes}
 use Rattle.mw_wasm.specs.Redex.{Around, Config, at, follow, reduce, run}
 use Rattle.mw_wasm.specs.Execution.{End}
@@ -14,7 +14,7 @@ use Rattle.mw_wasm.proofs.RunLaw.{run_is}
 use Rattle.mw_ir.specs.declared.place.Place.TheVariants.{Argument, Own, Slot, Free}
 use Rattle.mw_ir.specs.Ir as i
 use Rattle.mw_ir.specs.declared.place.Place.{Place}
-use Rattle.mw_ir.specs.Ir.{Frame, read, read_all, load_own, also}
+use Rattle.mw_ir.specs.Ir.{Frame, read, read_all, load, load_own, also}
 use Rattle.mw_gen.specs.Generate.{place_code, stores_code, address_code, store_word}
 use Rattle.mw_gen.proofs.Words.{bits, Small, Keeps, keeps_more}
 use Rattle.mw_gen.proofs.Locals.{Fits, word}
@@ -42,6 +42,16 @@ module _ (m : PureModule) (tb : List (Option ℕ)) where
       → slice_get ls x ≡ Some v → run m n (at st ls vs (next (local_get x) rest) around)
       ≡ run m n (at st ls (v ∷ vs) rest around)
   get_local n x v st ls vs rest around e = law n _ ∙ rw e refl
+
+  pub set_local : (n x : ℕ) (v : Value) (st : Store) (ls vs : List Value) (rest : Code) (around : List Around)
+      → x < length ls → run m n (at st ls (v ∷ vs) (next (local_set x) rest) around)
+      ≡ run m n (at st (slice_set ls x v) vs rest around)
+  set_local n x v st ls vs rest around lt = let e : nat_lt x (length ls) ≡ true = le-leb _ _ lt in law n _ ∙ rw e refl
+
+  pub tee_local : (n x : ℕ) (v : Value) (st : Store) (ls vs : List Value) (rest : Code) (around : List Around)
+      → x < length ls → run m n (at st ls (v ∷ vs) (next (local_tee x) rest) around)
+      ≡ run m n (at st (slice_set ls x v) (v ∷ vs) rest around)
+  tee_local n x v st ls vs rest around lt = law n _ ∙ set_local n x v st ls (v ∷ vs) rest around lt
 
   -- a variable's code, in a memory that keeps the heap and more
   pub place_run : (n top : ℕ) (h g : List ℤ) (mem : Memory) (b : ℕ) (fr : Frame) (ls : List Value) (p : Place) (w : ℤ)

@@ -16,10 +16,12 @@ use Rattle.mw_literals.proofs.StagedLiterals.{AreShortNames, staged_short}
 
 -- the value of a definition is short, and the names' values
 definition_short : (e : Expression) → HasShortLiterals e → HasShortValue (value_of_definition e)
+definition_short (num z) x = x
 definition_short (truth b) x = tt
+definition_short (fun e) x = x
+definition_short (fix e) x = x
 definition_short (pair a b) x = (definition_short a x.0, definition_short b x.1)
 definition_short _ x = record { sfits = omega arith }
-definition_short e x = x
 
 item_short : (d : Definition) → HasShortDefinition d → HasShortValue (value_for_items d)
 item_short (defines e) x = definition_short e x
@@ -40,7 +42,9 @@ term_short (d ∷ items) (suc i) k e x p = term_short items i k e x.1 p
 -- the code that is come to, if any, is short
 abbrev ComesShort : Outcome Expression → Type 0
 ComesShort (came_to c) = HasShortLiterals c
-ComesShort e = Unit {0}
+ComesShort (trapped t) = Unit {0}
+ComesShort (bounded l) = Unit {0}
+ComesShort stuck = Unit {0}
 
 measured_short : (b : Bool) (c : Expression) → HasShortLiterals c → ComesShort (measured_code b c)
 measured_short true c x = x
@@ -48,7 +52,10 @@ measured_short false c x = tt
 
 outcome_short : (a : Answer Runs Value) → IfGives HasShortValue a → ComesShort (code_outcome a)
 outcome_short (gives (code c) n s) x = measured_short (within_limits c) c x
-outcome_short e x = tt
+outcome_short (gives _ n s) x = tt
+outcome_short (stops (trap t) s) x = tt
+outcome_short (stops (bound l) s) x = tt
+outcome_short (stops no_rule s) x = tt
 
 pub built_literals : BuiltLiteralsFit
 built_literals mode p h i k e c fuel q came =
