@@ -5,7 +5,7 @@ use Rattle.std.specs.Prelude.{ℤ, pos, slice_get, nat_le}
 use Rattle.std.proofs.lemmas.Bool.{leb-true, le-leb, leb-false, lt-leb}
 use Rattle.mw_term.specs.declared.term.Base.TheVariants.{Int, Bool as Truth}
 use Rattle.mw_term.specs.Terms as x
-use Rattle.mw_term.specs.Terms.{KernelTerm, KernelValue, Value, GroundType, base, product, function, recursive}
+use Rattle.mw_term.specs.Terms.{KernelTerm, KernelValue, Value, GroundType, base, product}
 use Rattle.mw_meaning.specs.KernelMeaning as k
 use Rattle.mw_meaning.specs.KernelMeaning.{kernel_evaluation}
 use Rattle.mw_meaning.specs.StagedMeaning.{kernel_argument, argument_words}

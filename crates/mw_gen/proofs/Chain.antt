@@ -16,7 +16,7 @@ use Rattle.mw_wasm.specs.Instances.{invoked}
 use Rattle.mw_wasm.specs.declared.values.Value.TheVariants.{I64}
 use Rattle.mw_ir.specs.Ir as i
 use Rattle.mw_ir.specs.declared.place.Place.TheVariants.{Argument}
-use Rattle.mw_ir.specs.Ir.{Ir, IrFunc}
+use Rattle.mw_ir.specs.Ir.{IrFunc}
 use Rattle.mw_conv.specs.Convert.{functions, code}
 use Rattle.mw_conv.specs.Represents.{Grows, Has, Stands}
 use Rattle.mw_conv.proofs.Heaps.{stands_grows}

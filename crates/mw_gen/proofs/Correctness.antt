@@ -14,7 +14,7 @@ use Rattle.mw_wasm.specs.declared.values.Value.TheVariants.{I32, I64}
 use Rattle.mw_wasm.specs.declared.values.ValType.TheVariants as type
 use Rattle.mw_wasm.specs.Syntax.{Code, next, end, loop, br, call_indirect, Function, PureModule}
 use Rattle.mw_wasm.specs.Store.{Memory, Store, zero_of}
-use Rattle.mw_wasm.specs.Redex.{Around, in_label, in_frame, Next, spends, at, branch, run, follow}
+use Rattle.mw_wasm.specs.Redex.{Around, in_label, in_frame, spends, at, branch, run, follow}
 use Rattle.mw_wasm.specs.Execution.{End}
 use Rattle.mw_wasm.specs.Act.{called_at}
 use Rattle.mw_wasm.specs.Act.{calls as calls_act}

@@ -17,7 +17,7 @@ use Rattle.mw_wasm.specs.Execution.{End, ended}
 use Rattle.mw_wasm.specs.Instances.{invoked}
 use Rattle.mw_wasm.proofs.RunIsExecution.{invoked_is_run, leaves_all}
 use Rattle.mw_ir.specs.Ir as i
-use Rattle.mw_ir.specs.Ir.{Ir, IrFunc, Frame}
+use Rattle.mw_ir.specs.Ir.{Ir, IrFunc}
 use Rattle.mw_meaning.specs.Shapes.{leaf_count, init_type, call_type}
 use Rattle.mw_key.specs.declared.version.Version.{Version}
 use Rattle.mw_gen.specs.Generate.{wants_spare, spare_count, argument_of, call_of, init_function, function_for}

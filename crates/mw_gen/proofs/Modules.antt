@@ -4,7 +4,7 @@ use Rattle.std.proofs.Common.{Some, refl, ap, ◌∙◌, arith, map, replicate, 
 use Rattle.std.specs.Prelude.{slice_get, IsSome}
 use Rattle.std.specs.List.{AllByRecursion}
 use Rattle.std.proofs.lemmas.List.{length-map}
-use Rattle.mw_term.specs.Terms.{Expression, KernelType, GroundType, base, of_ground, to}
+use Rattle.mw_term.specs.Terms.{KernelType, GroundType, base, of_ground, to}
 use Rattle.mw_wasm.specs.declared.values.ValType.{ValType}
 use Rattle.mw_wasm.specs.declared.values.ValType.TheVariants.{I32, I64}
 use Rattle.mw_wasm.specs.declared.modules.FuncType.{FuncType}

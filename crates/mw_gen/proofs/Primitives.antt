@@ -3,7 +3,7 @@ use Rattle.std.proofs.Common.{◌≡◌, ℕ, zero, suc, ◌+◌, ◌≤◌, ◌
 use Rattle.std.proofs.Common.{sym, arith, Some}
 use Rattle.std.specs.Prelude.{ℤ, pos, negsuc, ◌+ℤ◌, ◌-ℤ◌, ◌*ℤ◌, int_lt, int_le, int_div, int_rem, neg_ℤ, ◌==◌}
 use Rattle.std.specs.Prelude.{if◌then◌else◌, ◌/◌, ◌*◌, ◌-◌, ◌%◌, ◌^◌, ◌&&◌, Result, Ok, Err}
-use Rattle.std.specs.Int.{cast_signed, cast_unsigned, int_wrap, from_bool}
+use Rattle.std.specs.Int.{cast_signed, int_wrap, from_bool}
 use Rattle.std.proofs.lemmas.Bool.{eqb-true, eqb-false, eq-eqb, ne_eqb, and_left, and_right}
 use Rattle.std.specs.Int.Signed.{mag, mag_rem}
 use Rattle.std.proofs.Math.Nat.{div-le_self, div-lt_self}

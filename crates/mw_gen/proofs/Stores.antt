@@ -14,7 +14,7 @@ use Rattle.mw_wasm.proofs.RunLaw.{run_is}
 use Rattle.mw_ir.specs.declared.place.Place.TheVariants.{Argument, Own, Slot, Free}
 use Rattle.mw_ir.specs.Ir as i
 use Rattle.mw_ir.specs.declared.place.Place.{Place}
-use Rattle.mw_ir.specs.Ir.{Frame, read, read_all, load, load_own, also}
+use Rattle.mw_ir.specs.Ir.{Frame, read, read_all, load_own, also}
 use Rattle.mw_gen.specs.Generate.{place_code, stores_code, address_code, store_word}
 use Rattle.mw_gen.proofs.Words.{bits, Small, Keeps, keeps_more}
 use Rattle.mw_gen.proofs.Locals.{Fits, word}

@@ -9,7 +9,7 @@ use Rattle.std.proofs.lemmas.Int.{SFits-int_wrap}
 use Rattle.mw_term.specs.Terms.{Expression, KernelTerm, KernelValue, num, truth, var, fun, fix, app, bind, cond, pair}
 use Rattle.mw_term.specs.Terms.{fst, snd, prim, done, int, bool, both, function, recursive}
 use Rattle.mw_term.specs.declared.term.Primitive.{Primitive as Prim}
-use Rattle.mw_term.specs.declared.term.Primitive.TheVariants.{Add, Sub, Mul, Div, Mod, Eq, Lt, Le}
+use Rattle.mw_term.specs.declared.term.Primitive.TheVariants.{Add, Div, Mod, Eq, Lt, Le}
 use Rattle.mw_term.specs.declared.value.TrapKind.TheVariants.{Overflow}
 use Rattle.mw_term.specs.Substitution.{instantiate, pick}
 use Rattle.mw_meaning.specs.Arithmetic.{PrimitiveResult, number, fact, trapped, compute, quotient, remainder}

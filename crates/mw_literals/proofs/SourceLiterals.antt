@@ -25,7 +25,7 @@ use Rattle.mw_grammar.specs.Grammar.{r_bracket, r_escape, r_ground_kernel, r_arr
 use Rattle.mw_grammar.specs.Grammar.{r_ground_paren, r_int, r_bool}
 use Rattle.mw_scope.specs.declared.level.Level.{Level}
 use Rattle.mw_scope.specs.Scopes.{Binder, TopNames}
-use Rattle.mw_scope.specs.Nameless.{Nameless, n_num, n_truth, n_var, n_glob, n_fun, n_fix, n_app, n_bind, n_cond}
+use Rattle.mw_scope.specs.Nameless.{Nameless, n_num, n_fun, n_fix, n_app, n_bind, n_cond}
 use Rattle.mw_scope.specs.Nameless.{n_pair, n_fst, n_snd, n_prim}
 use Rattle.mw_scope.specs.Nameless.{n_bracket, n_escape, n_run, n_close, n_open, n_lift, n_lift_b}
 use Rattle.mw_scope.specs.Nameless.{NamelessItem, a_let, a_kernel, NamelessItems, no_item, an_item}

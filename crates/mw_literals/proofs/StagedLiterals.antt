@@ -4,7 +4,7 @@ use Rattle.std.specs.Prelude.{slice_get}
 use Rattle.mw_term.specs.Limits.{within_limits}
 use Rattle.mw_term.specs.Terms.{Expression, Value, KernelValue, KernelType, of_ground, to, num, truth, var, glob, fun}
 use Rattle.mw_term.specs.Terms.{fix, app, bind, cond, pair, fst, snd, prim, bracket, escape, run, close, opened, lift}
-use Rattle.mw_term.specs.Terms.{lift_b, done, int, bool, both, function, recursive, code, kept, size}
+use Rattle.mw_term.specs.Terms.{lift_b, int, bool, both, function, recursive, code, kept, size}
 use Rattle.mw_term.specs.declared.term.Primitive.{Primitive as Prim}
 use Rattle.mw_term.specs.Substitution.{substitute, shift_value}
 use Rattle.mw_term.proofs.Substitution.{size-substitute}
