@@ -10,3 +10,6 @@ pub mod standing;
 pub mod typing;
 pub mod typing_examples;
 pub mod values;
+
+pub use crate::laws::erasure::confluence;
+pub use crate::laws::typing::typing_kept;

@@ -8,3 +8,5 @@ pub mod rows;
 pub mod soundness;
 pub mod threads;
 pub mod validity;
+
+pub use crate::laws::format::one_module;
