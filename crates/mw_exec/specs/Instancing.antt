@@ -9,7 +9,7 @@ use Rattle.mw_wasm.specs.Syntax.{PureModule}
 use Rattle.mw_wasm.specs.Store.{Memory, Store, is_inside, read_bytes}
 use Rattle.mw_wasm.specs.Execution.{End, ended, trapped, spent}
 use Rattle.mw_wasm.specs.Instances.{element, segment, first_value, first_table, first_memory, with_elements}
-use Rattle.mw_wasm.specs.Instances.{with_segments, instantiated, exported}
+use Rattle.mw_wasm.specs.Instances.{with_segments, instantiated, exported, invoked}
 use Rattle.mw_wasm.specs.Views.{module_of}
 use Rattle.mw_exec.specs.declared.ended.Ended.{Ended}
 use Rattle.mw_exec.specs.declared.ended.Ended.TheVariants as ends
@@ -59,6 +59,12 @@ EndsAs (ends.Ended v left) after (ended st vs units) = (values_of v ≡ vs) × (
 EndsAs (ends.Trapped t) after (trapped u st) = (t ≡ u) × (after ≡ st)
 EndsAs ends.Spent after spent = Unit {0}
 EndsAs _ after _ = ⊥
+
+-- The answer is how the invocation of the function that is exported under the name ends, on what the instance held
+-- before; and afterwards it holds what that left.
+abbrev pub AnswersInvocation : Module → List ℕ → List Value → ℕ → Store → Ended → Store → Type 0
+AnswersInvocation wasm name args fuel before end after = (f : ℕ) → exported (module_of wasm) name ≡ Some f
+    → EndsAs end after (invoked (module_of wasm) before f args fuel)
 
 -- why a module has no instance; want of memory says nothing
 abbrev pub Refuses : InstanceFault → Module → Type 0

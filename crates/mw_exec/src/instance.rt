@@ -1,12 +1,12 @@
 // Instances.
 
-ghost use Rattle.std.specs.Prelude.{◌≡◌, ℕ, IfOk, IfErr, IfSome, IfNone, Some, None};
+ghost use Rattle.std.specs.Prelude.{◌≡◌, IfOk, IfErr, IfSome, IfNone, None};
 ghost use Rattle.std.specs.Arc.{arc_value};
 ghost use Rattle.mw_wasm.specs.declared.modules.Func.{Func as WasmFunc};
-ghost use Rattle.mw_wasm.specs.Instances.{exported, invoked};
+ghost use Rattle.mw_wasm.specs.Instances.{exported};
 ghost use Rattle.mw_wasm.specs.Views.{module_of};
 ghost use Rattle.mw_exec.specs.InstanceStates.{store_in};
-ghost use Rattle.mw_exec.specs.Instancing.{IsFunctionAt, CanInvoke, EndsAs, BeginsAs, Refuses, word_at};
+ghost use Rattle.mw_exec.specs.Instancing.{AnswersInvocation, IsFunctionAt, CanInvoke, BeginsAs, Refuses, word_at};
 
 use crate::ended::{Ended, InstanceFault};
 use crate::exports::{function_index, function_named};
@@ -81,8 +81,8 @@ impl Instance {
         requires can { CanInvoke self.old.wasm name.now args.now }
         ensures same { self.new.wasm ≡ self.old.wasm }
         ensures ends { IfOk result
-            (λ end. (f : ℕ) → exported (module_of self.old.wasm) name.now ≡ Some f
-            → EndsAs end (store_in self.new) (invoked (module_of self.old.wasm) (store_in self.old) f args.now fuel)) }
+            (λ end. AnswersInvocation self.old.wasm name.now args.now fuel
+            (store_in self.old) end (store_in self.new)) }
     {
         let Some(f) = function_index(self.module.module(), name) else {
             unreachable!();

@@ -3,7 +3,7 @@ use Rattle.std.specs.Prelude.{ℕ, ◌≡◌, ◌≤◌, ◌^◌, false, List, [
 use Rattle.mw_term.specs.Terms.{Expression, ground_of, kernel_type_of}
 use Rattle.mw_term.specs.Scoped.{IsScoped}
 use Rattle.mw_types.specs.Types.{Assignment, Substitution, TypeExpression, after}
-use Rattle.mw_types.specs.Equations.{FirstUnsolvable, FirstTooBig, IsPrincipalType, said_of}
+use Rattle.mw_types.specs.Equations.{AreFirstTooBig, AreFirstUnsolvable, FirstUnsolvable, FirstTooBig, GivePrincipalType}
 use Rattle.mw_types.specs.declared.types.Equations.{Equations}
 use Rattle.mw_types.specs.Solutions.{Solution, substitution_of}
 use Rattle.mw_infer.specs.declared.judge.Verdict.{Verdict}
@@ -58,10 +58,10 @@ Judges schemes place e (NotClosed at) = (s : Substitution) × IsItemSolution sch
 
 -- what is judged of an item without closes by its equations alone, without its nodes
 abbrev pub JudgesType : Equations → Verdict → Type 0
-JudgesType es (Fine j) = (t : TypeExpression) × said_of es IsPrincipalType 0 t × IsRenumbering t (scheme_of j.known)
+JudgesType es (Fine j) = (t : TypeExpression) × GivePrincipalType es 0 t × IsRenumbering t (scheme_of j.known)
     × (j.nodes ≡ None)
-JudgesType es IllTyped = (k : ℕ) × said_of es FirstUnsolvable k
-JudgesType es TooBig = (k : ℕ) × said_of es FirstTooBig k
+JudgesType es IllTyped = (k : ℕ) × AreFirstUnsolvable es k
+JudgesType es TooBig = (k : ℕ) × AreFirstTooBig es k
 JudgesType es (NotClosed at) = ⊥
 
 -- an item without a fault comes with what is known of its nodes

@@ -2,7 +2,7 @@
 
 ghost use Rattle.std.specs.Prelude.{◌≡◌, ◌≤◌, ◌-◌, ◌↔◌, ℕ, IfOk, IsTrue, Some, length, slice_get, take};
 ghost use Rattle.mw_types.specs.Types.{Within, apply, type_of};
-ghost use Rattle.mw_types.specs.Equations.{AllWithin, Fine, equation_of, equations_of, said_of};
+ghost use Rattle.mw_types.specs.Equations.{AreFine, AreWithin, Fine, equation_of, equations_of};
 ghost use Rattle.mw_types.specs.Solutions.{substitution_of};
 ghost use Rattle.mw_infer.specs.Failing.{AreSides, IsWhole, is_among as among, without};
 
@@ -74,8 +74,8 @@ impl FailingPart {
 
 /// Whether equations have a solution, and no too big one.
 fn is_fine(alloc: Global, equations: &Equations) -> Result<bool, AllocError>
-    requires { said_of equations.now AllWithin }
-    ensures { IfOk result (λ fine. IsTrue fine ↔ said_of equations.now Fine) }
+    requires { AreWithin equations.now }
+    ensures { IfOk result (λ fine. IsTrue fine ↔ AreFine equations.now) }
 {
     match solve(alloc, equations) {
         Ok(_) => Ok(true),

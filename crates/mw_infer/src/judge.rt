@@ -2,7 +2,7 @@
 
 ghost use Rattle.std.specs.Prelude.{◌≡◌, ◌<◌, [], map, IfOk, IsTrue, OnOk};
 ghost use Rattle.mw_term.specs.Terms.{expression_of};
-ghost use Rattle.mw_types.specs.Equations.{AllWithin, said_of};
+ghost use Rattle.mw_types.specs.Equations.{AreWithin};
 ghost use Rattle.mw_infer.specs.Emitting.{Adds};
 ghost use Rattle.mw_infer.specs.Inferring.{own_equations};
 ghost use Rattle.mw_infer.specs.Judging.{CanJudge, IsEmitted, Judges, JudgesType, TellsNodes, place_of};
@@ -102,7 +102,7 @@ fn numbered(alloc: Global, names: &[TopScheme], term: &Term) -> Result<Vec<NodeN
 
 /// The type of an item by its equations alone, for one without closes, or its fault. No other type is made.
 fn judge_type(alloc: Global, equations: &Equations) -> Result<Verdict, AllocError>
-    requires within { said_of equations.now AllWithin }
+    requires within { AreWithin equations.now }
     requires some { 0 < equations.now.unknowns }
     ensures { IfOk result (JudgesType equations.now) }
 {

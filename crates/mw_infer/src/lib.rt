@@ -6,7 +6,7 @@
 ghost use Rattle.std.specs.Prelude.{map, IfErr, IfOk};
 ghost use Rattle.mw_term.specs.Programs.{program_of};
 ghost use Rattle.mw_term.specs.SmallTypes.{HasSmallTypes};
-ghost use Rattle.mw_term.specs.Stops.{AnswersOrMemory, IfRefused, IsRefusalOrMemory};
+ghost use Rattle.mw_term.specs.Stops.{IfRefused, IsAnswerOrMemory, IsRefusalOrMemory};
 ghost use Rattle.mw_term.specs.Typable.{Typable};
 ghost use Rattle.mw_term.specs.declared.refusal.Refusal.{Refusal};
 ghost use Rattle.mw_types.specs.Types.{type_of};
@@ -53,7 +53,7 @@ pub fn check(alloc: Global, program: &Program) -> Result<Typed, Stop>
         (λ typed. AreTypesOf (program_of program.now) (map type_of typed.types)) }
     ensures nodes { IfOk result (λ typed. AreNodesOf (program_of program.now) (facts_of typed)) }
     ensures only { Typable (program_of program.now) → NoneTooBig (program_of program.now)
-        → AnswersOrMemory (λ typed. Unit {0}) result }
+        → IsAnswerOrMemory result }
     ensures refused { IfErr result (IfRefused (IsFirstRefusal (program_of program.now))) }
     ensures first { (r : Refusal) → IsFirstRefusal (program_of program.now) r
         → IsRefusalOrMemory result r }
@@ -76,7 +76,7 @@ pub fn ensure_typed(alloc: Global, program: &Program) -> Result<(), Stop>
     ensures runs { IfOk result (λ _. HasSmallTypes (program_of program.now)) }
     ensures kernels { IfOk result (λ _. HasSmallKernels (program_of program.now)) }
     ensures only { Typable (program_of program.now) → NoneTooBig (program_of program.now)
-        → AnswersOrMemory (λ typed. Unit {0}) result }
+        → IsAnswerOrMemory result }
     ensures refused { IfErr result (IfRefused (IsFirstRefusal (program_of program.now))) }
     ensures first { (r : Refusal) → IsFirstRefusal (program_of program.now) r
         → IsRefusalOrMemory result r }

@@ -1,8 +1,11 @@
 -- What lexing answers.
-use Rattle.std.specs.Prelude.{◌≡◌, ◌⊎◌, ℕ, ◌≤◌, List, length}
+use Rattle.std.specs.Prelude.{◌≡◌, ◌⊎◌, ℕ, ◌≤◌, List, Result, length}
 use Rattle.mw_term.specs.declared.refusal.Refusal.{Refusal}
 use Rattle.mw_term.specs.declared.refusal.Refusal.TheVariants.{TooLarge, Char, Number, Name}
-use Rattle.mw_lex.specs.Tokens.{PureToken}
+use Rattle.mw_term.specs.declared.refusal.Stop.{Stop}
+use Rattle.mw_term.specs.Stops.{AnswersOrMemory}
+use Rattle.mw_lex.specs.declared.token.Token.{Token}
+use Rattle.mw_lex.specs.Tokens.{PureToken, tokens_of}
 use Rattle.mw_lex.specs.Reading.{AreTokens, IsFirstFault}
 
 -- only these four refuse bytes
@@ -12,6 +15,10 @@ IsOfLexing (Char at) = Unit {0}
 IsOfLexing (Number at) = Unit {0}
 IsOfLexing (Name at) = Unit {0}
 IsOfLexing _ = ⊥
+
+-- the answer is these tokens, unless memory ran out
+abbrev pub AreTokensOrMemory : Result (List Token) Stop → List PureToken → Type 0
+AreTokensOrMemory result tokens = AnswersOrMemory (λ v. tokens_of v ≡ tokens) result
 
 -- a source has at most 1,048,576 bytes
 abbrev pub IsSmall : List ℕ → Type 0

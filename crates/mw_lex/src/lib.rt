@@ -4,11 +4,11 @@
 ghost use Rattle.std.specs.Prelude.{◌≡◌, ◌<◌, ℕ, List, length, IfOk, IfErr, Err};
 ghost use Rattle.mw_term.specs.declared.refusal.Refusal.TheVariants.{TooLarge, Char, Number, Name};
 ghost use Rattle.mw_term.specs.declared.refusal.Stop.TheVariants.{Refused};
-ghost use Rattle.mw_term.specs.Stops.{AnswersOrMemory, IfRefused, IsRefusalOrMemory};
+ghost use Rattle.mw_term.specs.Stops.{IfRefused, IsRefusalOrMemory};
 ghost use Rattle.mw_lex.specs.Tokens.{PureToken, tokens_of};
 ghost use Rattle.mw_lex.specs.InOrder.{AreInOrder, HaveNumbersInRange};
 ghost use Rattle.mw_lex.specs.Reading.{AreTokens, IsFirstFault};
-ghost use Rattle.mw_lex.specs.Lexing.{IsSmall, IsOfLexing};
+ghost use Rattle.mw_lex.specs.Lexing.{AreTokensOrMemory, IsSmall, IsOfLexing};
 
 mod byte;
 mod kind;
@@ -30,7 +30,7 @@ use std::alloc::Global;
 pub fn lex(alloc: Global, bytes: &[u8]) -> Result<Tokens, Stop>
     ensures found { IfOk result (λ v. AreTokens bytes.now (tokens_of v)) }
     ensures only { (tokens : List PureToken) → IsSmall bytes.now → AreTokens bytes.now tokens
-        → AnswersOrMemory (λ v. tokens_of v ≡ tokens) result }
+        → AreTokensOrMemory result tokens }
     ensures in_order { IfOk result (λ v. AreInOrder (tokens_of v) (length bytes.now)) }
     ensures in_range { IfOk result (λ v. HaveNumbersInRange (tokens_of v)) }
     ensures too_large { result ≡ Err (Refused TooLarge) → 1048576 < length bytes.now }

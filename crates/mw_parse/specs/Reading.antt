@@ -1,7 +1,7 @@
 -- What the parser's calls promise.
-use Rattle.std.specs.Prelude.{ℕ, ◌≤◌, List, Result, Ok, Err, IfOk}
+use Rattle.std.specs.Prelude.{ℕ, ◌≡◌, ◌≤◌, List, Result, Ok, Err, IfOk}
 use Rattle.std.specs.Borrow.{Bor}
-use Rattle.mw_term.specs.Stops.{IfRefused}
+use Rattle.mw_term.specs.Stops.{AnswersOrMemory, IfRefused}
 use Rattle.mw_term.specs.Terms.{ground_of}
 use Rattle.mw_term.specs.declared.term.Ground.{Ground}
 use Rattle.mw_lex.specs.Tokens.{PureToken, tokens_of}
@@ -12,7 +12,7 @@ use Rattle.mw_term.specs.declared.refusal.Stop.{Stop}
 use Rattle.mw_grammar.specs.declared.tree.Surface.{Surface}
 use Rattle.mw_grammar.specs.declared.tree.Tree.{Tree}
 use Rattle.mw_grammar.specs.declared.fault.Fault.{Fault}
-use Rattle.mw_grammar.specs.SurfaceTrees.{tree_of, surface_of}
+use Rattle.mw_grammar.specs.SurfaceTrees.{PureSurface, tree_of, surface_of}
 use Rattle.mw_grammar.specs.Grammar.{Nonterminal, Meaning, program, main_only}
 use Rattle.mw_grammar.specs.Forms.{Form}
 use Rattle.mw_grammar.specs.Descent.{Answer, ok, none_yet, so_far, full, reading}
@@ -26,6 +26,10 @@ Refuses tokens length (Syntax at) = IsSyntaxAt tokens length at
 Refuses tokens length (TooDeep at) = IsTooDeepAt tokens at
 Refuses tokens length TooMany = HasTooMany tokens
 Refuses tokens length _ = ⊥
+
+-- the answer is this tree, unless memory ran out
+abbrev pub IsTreeOrMemory : Result Surface Stop → PureSurface → Type 0
+IsTreeOrMemory result v = AnswersOrMemory (λ s. surface_of s ≡ v) result
 
 -- what the answer says of the tokens
 abbrev pub IsAnswer : List PureToken → ℕ → Result Surface Stop → Type 0

@@ -4,12 +4,12 @@ ghost use Rattle.std.specs.Prelude.{◌≡◌, ◌≤◌, ℕ, length, map, IfOk
 ghost use Rattle.mw_lex.specs.Tokens.{tokens_of};
 ghost use Rattle.mw_lex.specs.InOrder.{AreInOrder, HaveNumbersInRange};
 ghost use Rattle.mw_term.specs.declared.refusal.Refusal.{Refusal as PureRefusal};
-ghost use Rattle.mw_term.specs.Stops.{AnswersOrMemory, IfRefused, IsRefusalOrMemory};
+ghost use Rattle.mw_term.specs.Stops.{IfRefused, IsRefusalOrMemory};
 ghost use Rattle.mw_grammar.specs.SurfaceTrees.{PureSurface, item_of, surface_of};
 ghost use Rattle.mw_grammar.specs.SurfaceDepth.{IsShallow};
 ghost use Rattle.mw_grammar.specs.SurfaceSize.{IsSparse};
 ghost use Rattle.mw_grammar.specs.Answers.{place_of, kernels, IsProgram};
-ghost use Rattle.mw_parse.specs.Reading.{IsAnswer, Refuses};
+ghost use Rattle.mw_parse.specs.Reading.{IsAnswer, IsTreeOrMemory, Refuses};
 
 use crate::items::program_tree;
 use crate::room::Room;
@@ -80,8 +80,7 @@ pub fn parse(alloc: Global, tokens: &Tokens, length: u32) -> Result<Surface, Sto
     requires in_range { HaveNumbersInRange (tokens_of tokens.now) }
     ensures found { IfOk result (λ s. IsProgram (tokens_of tokens.now) (surface_of s)) }
     ensures only { (v : PureSurface) → IsProgram (tokens_of tokens.now) v
-        → AnswersOrMemory (λ s. surface_of s ≡ v)
-        result }
+        → IsTreeOrMemory result v }
     ensures refused { IfErr result (IfRefused (Refuses (tokens_of tokens.now) length)) }
     ensures first { (r : PureRefusal) → Refuses (tokens_of tokens.now) length r
         → IsRefusalOrMemory result r }

@@ -3,8 +3,8 @@
 
 ghost use Rattle.std.specs.Prelude.{◌≡◌, IfOk, IfErr};
 ghost use Rattle.mw_term.specs.declared.refusal.Refusal.{Refusal};
-ghost use Rattle.mw_term.specs.Stops.{AnswersOrMemory, IfRefused, IsRefusalOrMemory};
-ghost use Rattle.mw_reading.specs.NamedPrograms.{NamedProgram, named_program_of};
+ghost use Rattle.mw_term.specs.Stops.{IfRefused, IsRefusalOrMemory};
+ghost use Rattle.mw_reading.specs.NamedPrograms.{IsNamedProgramOrMemory, NamedProgram, named_program_of};
 ghost use Rattle.mw_reading.specs.SourceReading.{IsRead, IsRefused};
 
 use mw_lex::lex;
@@ -20,7 +20,7 @@ pub const MOST_OF_SOURCE: usize = 1_048_577;
 pub fn read(alloc: Global, bytes: &[u8]) -> Result<Program, Stop>
     ensures found { IfOk result (λ p. IsRead bytes.now (named_program_of p)) }
     ensures only { (p : NamedProgram) → IsRead bytes.now p
-        → AnswersOrMemory (λ q. named_program_of q ≡ p) result }
+        → IsNamedProgramOrMemory result p }
     ensures refused { IfErr result (IfRefused (IsRefused bytes.now)) }
     ensures first { (r : Refusal) → IsRefused bytes.now r → IsRefusalOrMemory result r }
 {

@@ -1,8 +1,10 @@
 -- What resolving a surface program answers, and the laws of its definitions.
-use Rattle.std.specs.Prelude.{ℕ, ◌≡◌, ◌≢◌, ◌<◌, ◌↔◌, List, [], map, Some, None, slice_get}
-use Rattle.mw_term.specs.Programs.{PureProgram}
+use Rattle.std.specs.Prelude.{ℕ, ◌≡◌, ◌≢◌, ◌<◌, ◌↔◌, List, [], map, Result, Some, None, slice_get}
+use Rattle.mw_term.specs.Programs.{PureProgram, program_of}
+use Rattle.mw_term.specs.Stops.{AnswersOrMemory}
 use Rattle.mw_term.specs.declared.program.Program.{Program}
 use Rattle.mw_term.specs.declared.refusal.Refusal.{Refusal}
+use Rattle.mw_term.specs.declared.refusal.Stop.{Stop}
 use Rattle.mw_grammar.specs.SurfaceTrees.{SurfaceTree, PureItem, let_item, PureSurface}
 use Rattle.mw_scope.specs.declared.level.Level.{Level}
 use Rattle.mw_scope.specs.declared.fault.Fault.{Fault}
@@ -13,6 +15,10 @@ use Rattle.mw_scope.specs.Faults.{faults_of, refusal_of, IsFirst}
 -- the names of a program's items are those of the surface program's
 abbrev pub KeepsNames : PureSurface → Program → Type 0
 KeepsNames s p = map (λ i. i.name) p.items ≡ map name_of s.items
+
+-- the answer is this program, unless memory ran out
+abbrev pub IsProgramOrMemory : Result Program Stop → PureProgram → Type 0
+IsProgramOrMemory result p = AnswersOrMemory (λ q. program_of q ≡ p) result
 
 -- a refusal is that of the program's first fault
 abbrev pub IsOfFirstFault : PureSurface → Refusal → Type 0

@@ -4,7 +4,7 @@
 #![tactic(auto)]
 
 ghost use Rattle.std.specs.Prelude.{◌≡◌, ◌<◌, ◌≤◌, ◌^◌, IfOk, IfErr};
-ghost use Rattle.mw_term.specs.Stops.{AnswersOrMemory, IfRefused, IsRefusalOrMemory};
+ghost use Rattle.mw_term.specs.Stops.{IfRefused, IsRefusalOrMemory};
 ghost use Rattle.mw_term.specs.Programs.{PureProgram, program_of, program_size};
 ghost use Rattle.mw_grammar.specs.SurfaceTrees.{surface_of};
 ghost use Rattle.mw_grammar.specs.SurfaceDepth.{IsShallow};
@@ -12,7 +12,7 @@ ghost use Rattle.mw_grammar.specs.SurfaceSize.{surface_size};
 ghost use Rattle.mw_scope.specs.declared.fault.Fault.{Fault};
 ghost use Rattle.mw_scope.specs.Nameless.{IsNameless};
 ghost use Rattle.mw_scope.specs.Faults.{IsFirst, faults_of, refusal_of};
-ghost use Rattle.mw_scope.specs.Resolving.{IsOfFirstFault, KeepsNames};
+ghost use Rattle.mw_scope.specs.Resolving.{IsOfFirstFault, IsProgramOrMemory, KeepsNames};
 
 mod binders;
 pub mod fault;
@@ -38,8 +38,7 @@ pub fn resolve(alloc: Global, surface: &Surface) -> Result<Program, Stop>
     ensures names { IfOk result (KeepsNames (surface_of surface.now)) }
     ensures nodes { IfOk result (λ p. program_size (program_of p) < 2 ^ 31) }
     ensures only { (p : PureProgram) → IsNameless (surface_of surface.now) p
-        → AnswersOrMemory (λ q. program_of q ≡ p)
-        result }
+        → IsProgramOrMemory result p }
     ensures refused { IfErr result (IfRefused (IsOfFirstFault (surface_of surface.now))) }
     ensures first { (f : Fault) → IsFirst (faults_of (surface_of surface.now)) f
         → IsRefusalOrMemory result (refusal_of f) }

@@ -20,3 +20,7 @@ abbrev pub AnswersOrMemory : {A : Type 0} → (A → Type 0) → Result A Stop �
 AnswersOrMemory P (Ok v) = P v
 AnswersOrMemory P (Err (Refused r)) = ⊥
 AnswersOrMemory P (Err (Memory e)) = Unit {0}
+
+-- the answer is no refusal: a value, or memory ran out
+abbrev pub IsAnswerOrMemory : {A : Type 0} → Result A Stop → Type 0
+IsAnswerOrMemory result = AnswersOrMemory (λ v. Unit {0}) result

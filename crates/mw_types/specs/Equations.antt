@@ -16,10 +16,6 @@ abbrev pub equations_of : List Equation → List TypeEquation
 equations_of [] = []
 equations_of (e ∷ es) = equation_of e ∷ equations_of es
 
--- what P says of n unknowns, m classifier unknowns and equations on them, said of the solver's equations
-abbrev pub said_of : {A : Type 1} → Equations → (ℕ → ℕ → List TypeEquation → A) → A
-said_of e P = P e.unknowns e.classifiers (equations_of e.pairs)
-
 -- each equation names the first n unknowns and the first m classifier unknowns alone
 abbrev pub AllWithin : ℕ → ℕ → List TypeEquation → Type 0
 AllWithin n m [] = Unit {0}
@@ -79,3 +75,29 @@ pub record FirstTooBig (n m : ℕ) (es : List TypeEquation) (k : ℕ) : Type 0 w
   pub within : k ≤ length es
   pub too_big : TooBig n m (take k es)
   pub shorter : (j : ℕ) → j < k → Fine n m (take j es)
+
+-- The same, of the solver's equations with the numbers of their unknowns and classifier unknowns.
+
+-- they name the unknowns and the classifier unknowns below these numbers alone
+abbrev pub AreWithin : Equations → Type 0
+AreWithin e = AllWithin e.unknowns e.classifiers (equations_of e.pairs)
+
+-- they have a most general solution, and no type of it is too big
+abbrev pub AreFine : Equations → Type 0
+AreFine e = Fine e.unknowns e.classifiers (equations_of e.pairs)
+
+-- the substitution is a most general solution of them
+abbrev pub HaveMostGeneral : Equations → Substitution → Type 0
+HaveMostGeneral e = MostGeneral e.unknowns e.classifiers (equations_of e.pairs)
+
+-- the front of k of them is the first without a solution
+abbrev pub AreFirstUnsolvable : Equations → ℕ → Type 0
+AreFirstUnsolvable e = FirstUnsolvable e.unknowns e.classifiers (equations_of e.pairs)
+
+-- the front of k of them is the first that is too big
+abbrev pub AreFirstTooBig : Equations → ℕ → Type 0
+AreFirstTooBig e = FirstTooBig e.unknowns e.classifiers (equations_of e.pairs)
+
+-- a most general solution of them, in which no type is too big, gives the unknown the type
+abbrev pub GivePrincipalType : Equations → ℕ → TypeExpression → Type 0
+GivePrincipalType e = IsPrincipalType e.unknowns e.classifiers (equations_of e.pairs)

@@ -1,7 +1,8 @@
 -- What the solver answers, as lists.
 use Rattle.std.specs.Prelude.{ℕ, ◌≡◌, List, slice_index_or, Result, Ok, Err}
 use Rattle.mw_types.specs.Types.{type_of, Substitution}
-use Rattle.mw_types.specs.Equations.{TypeEquation, FirstUnsolvable, FirstTooBig}
+use Rattle.mw_types.specs.Equations.{TypeEquation, FirstUnsolvable, FirstTooBig, equations_of}
+use Rattle.mw_types.specs.declared.types.Equations.{Equations}
 use Rattle.mw_types.specs.declared.types.Ty.{Ty}
 use Rattle.mw_types.specs.declared.types.Ty.TheVariants.{Int}
 use Rattle.mw_types.specs.declared.types.SolveFault.{SolveFault}
@@ -24,6 +25,10 @@ abbrev pub FirstFault : ℕ → ℕ → List TypeEquation → SolveFault → Typ
 FirstFault n m es (Unsolvable k) = FirstUnsolvable n m es k
 FirstFault n m es (TooBig k) = FirstTooBig n m es k
 FirstFault n m es (Memory e) = Unit {0}
+
+-- the fault is the first of the solver's equations; want of memory says nothing of them
+abbrev pub HaveFirstFault : Equations → SolveFault → Type 0
+HaveFirstFault e = FirstFault e.unknowns e.classifiers (equations_of e.pairs)
 
 -- the answer is the fault, or want of memory
 abbrev pub IsFaultOrMemory : Result Solution SolveFault → SolveFault → Type 0

@@ -2,9 +2,9 @@
 
 ghost use Rattle.std.specs.Prelude.{◌≡◌, ◌≢◌, ◌<◌, ◌≤◌, ◌+◌, length, IfErr, IfOk, IsTrue, ◌↔◌};
 ghost use Rattle.mw_types.specs.Answering.{Ready};
-ghost use Rattle.mw_types.specs.Equations.{AllWithin, equations_of, said_of};
+ghost use Rattle.mw_types.specs.Equations.{AllWithin, AreWithin, equations_of};
 ghost use Rattle.mw_types.specs.Judged.{JudgesFront, Faults};
-ghost use Rattle.mw_types.specs.Solutions.{FirstFault};
+ghost use Rattle.mw_types.specs.Solutions.{HaveFirstFault};
 
 use crate::judging::{Judgement, Verdict, blank, judge, judge_longer};
 use crate::state::{State, copy};
@@ -13,9 +13,10 @@ use std::alloc::{AllocError, Global};
 
 /// The state that says what the equations say, where they are fine; else their first fault.
 pub fn settled(alloc: Global, equations: &Equations) -> Result<State, SolveFault>
-    requires within { said_of equations.now AllWithin }
-    ensures ready { IfOk result (λ state. said_of equations.now Ready state) }
-    ensures fault { IfErr result (λ fault. said_of equations.now FirstFault fault) }
+    requires within { AreWithin equations.now }
+    ensures ready { IfOk result
+        (Ready equations.now.unknowns equations.now.classifiers (equations_of equations.now.pairs)) }
+    ensures fault { IfErr result (HaveFirstFault equations.now) }
 {
     let unknowns = equations.unknowns as usize;
     let classifiers = equations.classifiers as usize;
