@@ -6,7 +6,8 @@ use Rattle.mw_types.specs.Types.{TypeExpression}
 use Rattle.mw_lines.specs.TypeLines.{TypeLine, line_of}
 use Rattle.mw_lines.specs.Tables.{compare_lines}
 use Rattle.mw_lines.specs.declared.lines.Line.{Line}
-use Rattle.mw_section.specs.Writing.{Writing, Written, place_of, with_number, line_place, type_written}
+use Rattle.mw_section.specs.Writing.{Writing, Written, place_of, with_number, line_place, nothing_written}
+use Rattle.mw_section.specs.Writing.{classifier_written, line_written, type_written}
 use Rattle.mw_section.specs.declared.numbers.Numbers.{Numbers}
 use Rattle.mw_section.specs.declared.table.LineTable.{LineTable}
 use Rattle.mw_section.specs.declared.writer.LineWriter.{LineWriter}
@@ -47,3 +48,34 @@ unknown_written u w = record {
 abbrev pub Puts : (ℕ → TypeExpression) → (Writing → Written) → LineWriter → LineWriter → ℕ → Type 0
 Puts types step old new p = (w : Writing) → IsWriting types old w
     → (p ≡ (step w).place) × IsWriting types new (step w).writing
+
+-- What a writer's calls do, whatever types the trees have by their numbers.
+
+-- the writer has written nothing
+abbrev pub HasWrittenNothing : LineWriter → Type 0
+HasWrittenNothing writer = (types : ℕ → TypeExpression) → IsWriting types writer nothing_written
+
+-- the type was written, and its line stands at this place
+abbrev pub PutsType : TypeExpression → LineWriter → LineWriter → ℕ → Type 0
+PutsType t old new p = (types : ℕ → TypeExpression) → Puts types (type_written t) old new p
+
+-- the same, if the tree of this number has the type
+abbrev pub PutsTree : ℕ → TypeExpression → LineWriter → LineWriter → ℕ → Type 0
+PutsTree n t old new p = (types : ℕ → TypeExpression) → types n ≡ t → Puts types (type_written t) old new p
+
+-- the classifier was met, and this is its number
+abbrev pub PutsClassifier : ℕ → LineWriter → LineWriter → ℕ → Type 0
+PutsClassifier c old new p = (types : ℕ → TypeExpression) → Puts types (classifier_written c) old new p
+
+-- the unknown was met, and this is its number
+abbrev pub PutsUnknown : ℕ → LineWriter → LineWriter → ℕ → Type 0
+PutsUnknown u old new p = (types : ℕ → TypeExpression) → Puts types (unknown_written u) old new p
+
+-- the line was written, and stands at this place
+abbrev pub PutsLine : TypeLine → LineWriter → LineWriter → ℕ → Type 0
+PutsLine l old new p = (types : ℕ → TypeExpression) → Puts types (line_written l) old new p
+
+-- the lines are all that the writer has written
+abbrev pub AreAllLines : LineWriter → List Line → Type 0
+AreAllLines writer lines = (types : ℕ → TypeExpression) (w : Writing) → IsWriting types writer w
+    → map line_of lines ≡ w.lines

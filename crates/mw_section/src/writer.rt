@@ -1,10 +1,10 @@
 // Types written as lines.
 
-ghost use Rattle.std.specs.Prelude.{ℕ, ◌≡◌, map, IfOk};
-ghost use Rattle.mw_types.specs.Types.{TypeExpression, type_of};
+ghost use Rattle.std.specs.Prelude.{IfOk};
+ghost use Rattle.mw_types.specs.Types.{type_of};
 ghost use Rattle.mw_lines.specs.TypeLines.{line_of};
-ghost use Rattle.mw_section.specs.Writing.{Writing, nothing_written, type_written, line_written, classifier_written};
-ghost use Rattle.mw_section.specs.Writers.{unknown_written, IsWriting, Puts};
+ghost use Rattle.mw_section.specs.Writers.{AreAllLines, HasWrittenNothing, PutsClassifier, PutsLine, PutsTree, PutsType};
+ghost use Rattle.mw_section.specs.Writers.{PutsUnknown};
 
 use crate::numbers::Numbers;
 use crate::table::LineTable;
@@ -26,7 +26,7 @@ pub struct LineWriter {
 impl LineWriter {
     /// Nothing is written yet.
     pub fn new(alloc: Global) -> LineWriter
-        ensures { (types : ℕ → TypeExpression) → IsWriting types result nothing_written }
+        ensures { HasWrittenNothing result }
     {
         LineWriter {
             unknowns: Numbers::new(alloc),
@@ -39,8 +39,7 @@ impl LineWriter {
     /// Writes a type, and gives the place of its line. The error is want of memory; the writer is of no further use
     /// then.
     pub fn put_type(&mut self, ty: &Ty) -> Result<usize, AllocError>
-        ensures { IfOk result (λ place. (types : ℕ → TypeExpression)
-            → Puts types (type_written (type_of ty.now)) self.old self.new place) }
+        ensures { IfOk result (PutsType (type_of ty.now) self.old self.new) }
     {
         match ty {
             Ty::Int => self.put_line(Line::Int),
@@ -74,8 +73,7 @@ impl LineWriter {
     /// Writes the type of the tree of this number, and gives the place of its line. Where the tree came before, with
     /// the same type, the type isn't walked again. The error is want of memory; the writer is of no further use then.
     pub fn put_tree(&mut self, tree: u64, ty: &Ty) -> Result<usize, AllocError>
-        ensures { IfOk result (λ place. (types : ℕ → TypeExpression) → types tree ≡ type_of ty.now
-            → Puts types (type_written (type_of ty.now)) self.old self.new place) }
+        ensures { IfOk result (PutsTree tree (type_of ty.now) self.old self.new) }
     {
         if let Some(place) = self.trees.get(&tree) {
             return Ok(*place);
@@ -88,32 +86,28 @@ impl LineWriter {
     /// The number of a classifier: the one that it has, or the next. The error is want of memory; the writer is of no
     /// further use then.
     pub fn put_classifier(&mut self, classifier: u64) -> Result<u64, AllocError>
-        ensures { IfOk result (λ number. (types : ℕ → TypeExpression)
-            → Puts types (classifier_written classifier) self.old self.new number) }
+        ensures { IfOk result (PutsClassifier classifier self.old self.new) }
     {
         self.classifiers.put(classifier)
     }
 
     /// The number of an unknown: the one that it has, or the next.
     fn put_unknown(&mut self, unknown: u64) -> Result<u64, AllocError>
-        ensures { IfOk result (λ number. (types : ℕ → TypeExpression)
-            → Puts types (unknown_written unknown) self.old self.new number) }
+        ensures { IfOk result (PutsUnknown unknown self.old self.new) }
     {
         self.unknowns.put(unknown)
     }
 
     /// The place of a line.
     fn put_line(&mut self, line: Line) -> Result<usize, AllocError>
-        ensures { IfOk result (λ place. (types : ℕ → TypeExpression)
-            → Puts types (line_written (line_of line)) self.old self.new place) }
+        ensures { IfOk result (PutsLine (line_of line) self.old self.new) }
     {
         self.table.put(line)
     }
 
     /// The lines that were written, in order.
     pub fn finish(self) -> Vec<Line>
-        ensures { (types : ℕ → TypeExpression) (w : Writing) → IsWriting types self w
-            → map line_of result.items ≡ w.lines }
+        ensures { AreAllLines self result.items }
     {
         let LineWriter { table, .. } = self;
         table.finish()
