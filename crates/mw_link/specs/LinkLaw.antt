@@ -14,7 +14,7 @@ use Rattle.mw_wasm.specs.Execution.{ended}
 use Rattle.mw_wasm.specs.Instances.{exported, instantiated, invoked}
 use Rattle.mw_wasm.specs.Validity.{IsValid}
 use Rattle.mw_wasm.specs.Profile.{IsWithinProfile, IsPrintable}
-use Rattle.mw_wasm.specs.BinaryModules.{wasm_module}
+use Rattle.mw_wasm.specs.BinaryModules.{Spells, wasm_module}
 use Rattle.mw_gen.specs.EmissionLaw.{SpelledShort}
 use Rattle.mw_link.specs.Linked.{Kernel, count, init_name, call_name, linked}
 
@@ -72,6 +72,13 @@ pub record MeansAll (m : PureModule) (ps : List Kernel) : Type 0 where
   pub has_instance : instantiated m ≡ Ok store
   pub means : (st : Store) → Reached m st → AllByRecursion (λ (p : Kernel). HasKernelType p.code p.kind
       → MeansKernel m p st) ps
+
+-- The bytes spell the module that the kernels are linked to. It is valid, within the profile, and means each of them.
+pub record SpellLinked (ps : List Kernel) (bytes : List ℕ) : Type 0 where
+  pub spelled : Spells bytes (linked ps)
+  pub valid : IsValid (linked ps)
+  pub profile : IsWithinProfile (linked ps)
+  pub means : MeansAll (linked ps) ps
 
 -- the linked module
 abbrev pub LinkedIsValid : Type 0

@@ -2,12 +2,9 @@
 
 ghost use Rattle.std.specs.Prelude.{◌≡◌, map, IfOk};
 ghost use Rattle.mw_encode.specs.Encoding.{encoding};
-ghost use Rattle.mw_wasm.specs.BinaryModules.{Spells};
-ghost use Rattle.mw_wasm.specs.Profile.{IsWithinProfile};
-ghost use Rattle.mw_wasm.specs.Validity.{IsValid};
 ghost use Rattle.mw_wasm.specs.Views.{module_of};
 ghost use Rattle.mw_link.specs.Linked.{linked};
-ghost use Rattle.mw_link.specs.LinkLaw.{AreLinkable, LiteralsOfAllFit, MeansAll};
+ghost use Rattle.mw_link.specs.LinkLaw.{AreLinkable, LiteralsOfAllFit, SpellLinked};
 ghost use Rattle.mw_link.specs.Views.{kernels_of};
 
 use crate::exports::exports_of;
@@ -24,11 +21,7 @@ use std::alloc::{AllocError, Global};
 pub fn link(alloc: Global, parts: &[Linkable]) -> Result<Vec<u8>, AllocError>
     requires linkable { AreLinkable (kernels_of parts.now) }
     ensures exact { IfOk result (λ bytes. bytes.items ≡ encoding (linked (kernels_of parts.now))) }
-    ensures spelled { IfOk result (λ bytes. Spells bytes.items (linked (kernels_of parts.now))) }
-    ensures valid { IfOk result (λ _. IsValid (linked (kernels_of parts.now))) }
-    ensures profile { IfOk result (λ _. IsWithinProfile (linked (kernels_of parts.now))) }
-    ensures means { IfOk result (λ _.
-        MeansAll (linked (kernels_of parts.now)) (kernels_of parts.now)) }
+    ensures linked { IfOk result (λ bytes. SpellLinked (kernels_of parts.now) bytes.items) }
 {
     let wasm = linked_module(alloc, parts)?;
     encode(alloc, &wasm)
