@@ -9,7 +9,7 @@ import { join } from 'node:path';
 import { kernelType, shown, withMemory } from '../tools/types.mjs';
 import { kernelsIn, listedCalls } from './kernels.mjs';
 
-const program = 'crates/metaml/out/metaml';
+const program = process.env.METAML || 'crates/metaml/out/metaml';
 
 /** The ground type that a text spells: 'int', 'bool', or a list of two such types. */
 function groundType(text) {
