@@ -34,3 +34,5 @@ pub mod Copying
 pub mod FirstFails
 pub mod Holding
 pub mod TypeAlone
+pub mod CloseCodes
+pub mod Marking

@@ -39,7 +39,7 @@ name-length : (u o c : ℕ) (m : Level) (s : Option TopScheme) → 1 ≡ length 
 name-length u o c live (Some (let_scheme s)) = refl
 name-length u o c m s = refl
 
-two : {A B : Type 0} (xs ys : List A) (vs ws : List B) → length xs ≡ length vs → length ys ≡ length ws
+pub two : {A B : Type 0} (xs ys : List A) (vs ws : List B) → length xs ≡ length vs → length ys ≡ length ws
     → length (xs ++ ys) ≡ length (vs ++ ws)
 two xs ys vs ws p q = omega (arith, length-append xs ys, length-append vs ws)
 

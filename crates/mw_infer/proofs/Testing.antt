@@ -59,7 +59,7 @@ pub fresh-more : (a : Assignment) (xs : List Spot) (i : ℕ) (x : Spot) → i < 
     (map (entry_of a) (map slot_of x.scope.items)) → AreFresh a (map close_of (take (i + 1) xs))
 fresh-more a xs i x lt e h q = let s : i + 1 ≡ suc i = omega arith in rw s (fresh-next a xs i x lt e h q)
 
-parted : (xs : List Spot) (i : ℕ) (x : Spot) → i < length xs → x ≡ get_or xs i x → map close_of xs
+pub parted : (xs : List Spot) (i : ℕ) (x : Spot) → i < length xs → x ≡ get_or xs i x → map close_of xs
     ≡ map close_of (take i xs) ++ (close_of x ∷ map close_of (drop (suc i) xs))
 parted [] i x lt e = absurd (omega arith)
 parted (y ∷ xs) zero x lt e = ap (λ z. close_of z ∷ map close_of xs) (sym e)

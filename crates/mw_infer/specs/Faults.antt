@@ -1,5 +1,5 @@
 -- The first fault of a program's types, and where it is.
-use Rattle.std.specs.Prelude.{ℕ, ◌≡◌, ◌<◌, List, Option, Some, None, Result, Ok, Err, slice_get}
+use Rattle.std.specs.Prelude.{ℕ, ◌≡◌, ◌<◌, List, Option, Some, None, Result, Ok, Err, IsTrue, length, slice_get}
 use Rattle.mw_term.specs.Terms.{Expression}
 use Rattle.mw_term.specs.Types.{IsAbsentAt}
 use Rattle.mw_term.specs.Programs.{PureProgram}
@@ -10,6 +10,7 @@ use Rattle.mw_types.specs.Types.{Substitution, after}
 use Rattle.mw_types.specs.Equations.{FirstUnsolvable, FirstTooBig, equations_of}
 use Rattle.mw_infer.specs.Schemes.{TopScheme}
 use Rattle.mw_infer.specs.ItemEquations.{Slot, Close}
+use Rattle.mw_infer.specs.CloseContents.{close_contents, occurs_in}
 use Rattle.mw_infer.specs.Inferring.{item_closes, AreFresh, entry_of}
 use Rattle.mw_infer.specs.Inferring.{least}
 use Rattle.mw_infer.specs.Checking.{ArePrincipal, IsFaultless, IsFirstOpen, IsItemSolution}
@@ -24,18 +25,31 @@ pub record BindsClassifier (s : Substitution) (classifier : ℕ) (scope : List S
   pub bound : slice_get scope binder ≡ Some slot
   pub stands : IsAbsentAt classifier (entry_of (after least s) slot) → ⊥
 
--- the first close that is not fresh on a substitution, by its offset, and a binder that holds its classifier
-pub record IsOpenHeld (s : Substitution) (xs : List Close) (at binder : ℕ) : Type 0 where
+-- Of the binders that hold the classifier this one is told: it is named in the code if any of them is, and no nearer
+-- one is as it is in that.
+pub record IsToldBinder (s : Substitution) (classifier : ℕ) (scope : List Slot) (code : Expression) (binder : ℕ)
+    : Type 0 where
+  pub holds : BindsClassifier s classifier scope binder
+  pub occurs : (other : ℕ) → BindsClassifier s classifier scope other → IsTrue (occurs_in other code)
+      → IsTrue (occurs_in binder code)
+  pub nearer : (other : ℕ) → other < binder → BindsClassifier s classifier scope other
+      → occurs_in other code ≡ occurs_in binder code → ⊥
+
+-- the first close that is not fresh on a substitution, by its offset, with the code that it closes, and the binder that
+-- is told of it
+pub record IsOpenHeld (s : Substitution) (xs : List Close) (codes : List Expression) (at binder : ℕ) : Type 0 where
   pub close : Close
   pub first : IsFirstOpen s xs close
   pub place : at ≡ close.at
-  pub holds : BindsClassifier s (s.classifier close.classifier) close.scope binder
+  pub code : Expression
+  pub closed : slice_get codes (length first.earlier) ≡ Some code
+  pub told : IsToldBinder s (s.classifier close.classifier) close.scope code binder
 
 -- with the schemes of its names, a term at its place has its first open close there
 pub record OpensAt (schemes : List TopScheme) (place : Place) (e : Expression) (x : OpenClose) : Type 0 where
   pub solution : Substitution
   pub solves : IsItemSolution schemes place e solution
-  pub held : IsOpenHeld solution (item_closes schemes e) x.at x.binder
+  pub held : IsOpenHeld solution (item_closes schemes e) (close_contents e) x.at x.binder
 
 -- the index of a fault's part
 abbrev pub part_at : PartFault → ℕ

@@ -1,5 +1,7 @@
 pub mod Schemes
 pub mod ItemEquations
+pub mod CloseContents
+pub mod Occurring
 pub mod Below
 pub mod Inferring
 pub mod Scoped

@@ -40,7 +40,8 @@ pub struct OpenClose {
     pub part: u32,
     /// The offset of the `close` in the source.
     pub at: u32,
-    /// The nearest binder in whose type or level it stands, by the number of binders between.
+    /// A binder in whose type or level it stands, by the number of binders between: the nearest of those that are named
+    /// in the code, or the nearest of all where none of them is.
     pub binder: usize,
 }
 
@@ -132,7 +133,7 @@ fn part_fault(
         pairs,
     };
     match solve(alloc, &equations) {
-        Ok(solved) => match first_open_close(closes.as_slice(), &solved) {
+        Ok(solved) => match first_open_close(alloc, closes.as_slice(), term, &solved)? {
             None => Ok(None),
             Some((at, binder)) => Ok(Some(PartFault::Close(OpenClose { part, at, binder }))),
         },

@@ -1,20 +1,25 @@
 // Whether a `close`'s classifier stands in its environment.
 
-ghost use Rattle.std.specs.Prelude.{◌<◌, ◌↔◌, IfOk, IsTrue, MatchOption, length, map};
+ghost use Rattle.std.specs.Prelude.{◌≡◌, ◌<◌, ◌↔◌, IfOk, IsTrue, MatchOption, length, map};
 ghost use Rattle.mw_term.specs.Types.{IsAbsent, IsAbsentAt, IsAbsentIn};
 ghost use Rattle.mw_types.specs.Types.{type_of, value};
 ghost use Rattle.mw_types.specs.Solutions.{substitution_of};
 ghost use Rattle.mw_infer.specs.Inferring.{AreFresh, entry_of, least};
 ghost use Rattle.mw_infer.specs.Emitting.{closes_of};
-ghost use Rattle.mw_infer.specs.Faults.{BindsClassifier, IsOpenHeld};
+ghost use Rattle.mw_term.specs.Terms.{expression_of};
+ghost use Rattle.mw_infer.specs.CloseContents.{close_contents};
+ghost use Rattle.mw_infer.specs.Faults.{IsOpenHeld, IsToldBinder};
+ghost use Rattle.mw_infer.specs.Occurring.{CanCount, IsNearest};
 ghost use Rattle.mw_infer.specs.Below.{ClosesBelow, SlotBelow, SlotsBelow};
 ghost use Rattle.mw_infer.specs.Judging.{IsFirstOpenAt, least_of};
 ghost use Rattle.mw_infer.specs.Known.{Knows};
 ghost use Rattle.mw_infer.specs.Views.{slot_of};
 
 use crate::known::{is_known_absent, learn_all, nothing_known};
+use crate::occurring::{code_of, occurring};
 use crate::output::Spot;
 use crate::scope::Binder;
+use mw_term::Term;
 use mw_types::{Solved, Ty};
 use std::alloc::{AllocError, Global};
 use std::collections::BTreeSet;
@@ -120,7 +125,7 @@ fn holder(scope: &[Binder], solved: &Solved, classifier: u64) -> Option<usize>
         (map slot_of scope.now) }
     ensures { MatchOption result
         (IsAbsent classifier (map (entry_of (least_of solved.now)) (map slot_of scope.now)))
-        (BindsClassifier (substitution_of solved.now) classifier (map slot_of scope.now)) }
+        (IsNearest (substitution_of solved.now) classifier (map slot_of scope.now)) }
 {
     for binder in 0..scope.len() {
         if !is_absent_at(scope[binder], solved, &[], classifier) {
@@ -130,18 +135,62 @@ fn holder(scope: &[Binder], solved: &Solved, classifier: u64) -> Option<usize>
     None
 }
 
-/// The first `close` whose classifier stands in its environment: its offset, and the nearest binder that holds it.
-pub fn first_open_close(closes: &[Spot], solved: &Solved) -> Option<(u32, usize)>
-    requires { ClosesBelow (length solved.now.types) (length solved.now.classifiers)
-        (closes_of closes.now) }
-    ensures { MatchOption result (AreFresh (least_of solved.now) (closes_of closes.now))
-        (λ found. IsOpenHeld (substitution_of solved.now) (closes_of closes.now) found.0 found.1) }
+/// The nearest of the binders that hold it and are named in this code, or the nearest of all that hold it where none of
+/// them is.
+fn told_binder(
+    alloc: Global,
+    scope: &[Binder],
+    solved: &Solved,
+    classifier: u64,
+    code: &Term,
+    nearest: usize,
+) -> Result<usize, AllocError>
+    requires below { SlotsBelow (length solved.now.types) (length solved.now.classifiers)
+        (map slot_of scope.now) }
+    requires count { CanCount 0 (expression_of code.now) }
+    requires nearest { IsNearest (substitution_of solved.now) classifier (map slot_of scope.now)
+        nearest }
+    ensures { IfOk result (IsToldBinder (substitution_of solved.now) classifier
+        (map slot_of scope.now) (expression_of code.now)) }
 {
-    for spot in closes {
-        let classifier = solved.classifier(spot.classifier);
-        if let Some(binder) = holder(spot.scope.as_slice(), solved, classifier) {
-            return Some((spot.at, binder));
+    let marks = occurring(alloc, code, scope.len())?;
+    let named = marks.as_slice();
+    for binder in 0..scope.len() {
+        if named[binder] {
+            if !is_absent_at(scope[binder], solved, &[], classifier) {
+                return Ok(binder);
+            }
         }
     }
-    None
+    Ok(nearest)
+}
+
+/// The first `close` of a term whose classifier stands in its environment: its offset, and the binder that is told of
+/// it.
+pub fn first_open_close(
+    alloc: Global,
+    closes: &[Spot],
+    term: &Term,
+    solved: &Solved,
+) -> Result<Option<(u32, usize)>, AllocError>
+    requires below { ClosesBelow (length solved.now.types) (length solved.now.classifiers)
+        (closes_of closes.now) }
+    requires codes { length closes.now ≡ length (close_contents (expression_of term.now)) }
+    requires count { CanCount 0 (expression_of term.now) }
+    ensures { IfOk result
+        (λ found. MatchOption found (AreFresh (least_of solved.now) (closes_of closes.now))
+        (λ first. IsOpenHeld (substitution_of solved.now) (closes_of closes.now)
+        (close_contents (expression_of term.now)) first.0 first.1)) }
+{
+    for at in 0..closes.len() {
+        let spot = &closes[at];
+        let classifier = solved.classifier(spot.classifier);
+        let scope = spot.scope.as_slice();
+        if let Some(nearest) = holder(scope, solved, classifier) {
+            let code = code_of(term, at);
+            let binder = told_binder(alloc, scope, solved, classifier, code, nearest)?;
+            return Ok(Some((spot.at, binder)));
+        }
+    }
+    Ok(None)
 }

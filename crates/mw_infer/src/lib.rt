@@ -25,6 +25,7 @@ mod known;
 pub mod laws;
 mod names;
 mod nodes;
+mod occurring;
 mod output;
 mod own;
 mod owners;

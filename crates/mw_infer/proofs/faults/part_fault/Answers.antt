@@ -1,9 +1,12 @@
-use Rattle.std.proofs.Common.{[], inl, inr, ◌∙◌, arith}
+use Rattle.std.proofs.Common.{[], inl, inr, ap, sym, length, ◌∙◌, arith}
+use Rattle.std.proofs.lemmas.List.{length-map}
 use Rattle.mw_term.specs.Terms.{expression_of}
 use Rattle.mw_term.specs.Types.{live}
 use Rattle.mw_infer.specs.Inferring.{item_unknowns, item_classifiers}
 use Rattle.mw_infer.specs.Judging.{place_of}
 use Rattle.mw_infer.specs.Views.{tops_of}
+use Rattle.mw_infer.specs.Emitting.{close_of}
+use Rattle.mw_infer.proofs.CloseCodes.{item-codes, item-counts}
 use Rattle.mw_infer.proofs.FirstFails.{fails-of}
 use Rattle.mw_infer.proofs.FirstOpen.{closes-below}
 use Rattle.mw_infer.proofs.Items.{item-within}
@@ -19,8 +22,8 @@ solve-requires c =
           c.requires.own);
     }
 
-pub first_open_close-requires : goal.first_open_close-requires
-first_open_close-requires c =
+pub first_open_close-requires-clause-below : goal.first_open_close-requires-clause-below
+first_open_close-requires-clause-below c =
     let e = c.in_ok-unknowns.ensures in
     let tops = tops_of c.args.names.now in
     let term = expression_of c.args.term.now in
@@ -33,6 +36,16 @@ first_open_close-requires c =
       e.closes,
     ) (closes-below tops (item_unknowns tops term) (item_classifiers tops term) 1 0 [] live term
     (omega arith) (omega arith) tt tt)
+
+pub first_open_close-requires-clause-codes : goal.first_open_close-requires-clause-codes
+first_open_close-requires-clause-codes c =
+    let e = c.in_ok-unknowns.ensures in
+    rw c.as_slice.ensures.value (sym (length-map _ close_of) ∙ ap length e.closes
+    ∙ item-codes (tops_of c.args.names.now) (expression_of c.args.term.now))
+
+pub first_open_close-requires-clause-count : goal.first_open_close-requires-clause-count
+first_open_close-requires-clause-count c =
+    item-counts (tops_of c.args.names.now) (expression_of c.args.term.now) c.requires
 
 pub failing_part-requires : goal.failing_part-requires
 failing_part-requires c = let x = size-unknowns (tops_of c.args.names.now) (expression_of c.args.term.now) in
