@@ -1,5 +1,5 @@
 -- From the answers of reading, checking and telling to what explaining answers.
-use Rattle.std.proofs.Common.{◌≡◌, ℕ, List, Option, Some, None, Result, Ok, Err, sym, subst}
+use Rattle.std.proofs.Common.{◌≡◌, ℕ, List, Option, Some, None, Result, Ok, Err, refl, sym, subst}
 use Rattle.std.specs.Prelude.{IfOk, IsSomeAnd}
 use Rattle.mw_term.specs.Programs.{program_of}
 use Rattle.mw_term.specs.Parts.{IsResolved}
@@ -54,6 +54,7 @@ pub explains_reading : (bytes : List ℕ) (refusal : Refusal) → IsRefused byte
 explains_reading bytes refusal is none = record {
   refusal = at_reading is;
   told = λ p read. absurd (none p read);
+  untold = λ r refused. refl;
 }
 
 -- Where it is.
@@ -77,16 +78,18 @@ module _ (bytes : List ℕ) (p : Program) (found : IsRead bytes (named_program_o
         (subst (λ x. IsSomeAnd told (IsTold x)) (sym (unnamed_program p)) h)
 
     -- a verdict on the types is one on the source
-    pub source_verdict : {E : Type 0} (answer : Result (Option Explanation) E)
+    pub source_verdict : {E : Type 0} → ((r : Refusal) → IsRefused bytes r → ⊥)
+        → (answer : Result (Option Explanation) E)
         → IfOk answer (IsTypeVerdict (program_of p))
         → IfOk answer (IsVerdict bytes)
-    source_verdict (Ok None) h = accepted h.0 h.1
-    source_verdict (Ok (Some x)) h = record {
+    source_verdict none (Ok None) h = accepted h.0 h.1
+    source_verdict none (Ok (Some x)) h = record {
       refusal = at_types (named_program_of p) found
           (subst (λ q. IsFirstRefusal q x.refusal) (sym (unnamed_program p)) h.0);
       told = told_of x.told h.1;
+      untold = λ r refused. absurd (none r refused);
     }
-    source_verdict (Err e) h = tt
+    source_verdict none (Err e) h = tt
 
     -- the source's refusal is that of the types
     pub only_types : ((r : Refusal) → IsRefused bytes r → ⊥) → (r : Refusal) → IsSourceRefusal bytes r

@@ -22,10 +22,12 @@ pub record IsAccepted (bytes : List ℕ) : Type 0 where
   pub typable : Typable (unnamed program)
   pub small : NoneTooBig (unnamed program)
 
--- an explanation has the source's first refusal, and where that is of types it tells of the program's first fault
+-- an explanation has the source's first refusal; where the source is read it tells of the program's first fault, and
+-- where its reading is refused it tells nothing
 pub record Explains (bytes : List ℕ) (x : Explanation) : Type 0 where
   pub refusal : IsSourceRefusal bytes x.refusal
   pub told : (p : NamedProgram) → IsRead bytes p → IsSomeAnd x.told (IsTold (unnamed p))
+  pub untold : (r : Refusal) → IsRefused bytes r → x.told ≡ None
 
 -- no explanation says that the source is accepted
 abbrev pub IsVerdict : List ℕ → Option Explanation → Type 0

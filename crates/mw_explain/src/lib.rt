@@ -32,7 +32,7 @@ use std::alloc::{AllocError, Global};
 #[derive(Debug, Drop)]
 pub struct Explanation {
     pub refusal: Refusal,
-    /// For the refusals of types alone.
+    /// For the refusals of types always, and for no other.
     pub told: Option<Told>,
 }
 

@@ -27,7 +27,9 @@ use std::alloc::{AllocError, Global};
 pub struct Unmet {
     /// The index of the item, or of main, which comes after the items.
     pub part: u32,
-    /// The expression that asks for it.
+    /// The node whose equation it is, by its number in the part's pre-order. What the part's place asks is no node's.
+    pub node: Option<usize>,
+    /// The expression that asks for it: that of the node, and the whole part where it is no node's.
     pub span: Option<Span>,
     pub left: Ty,
     pub right: Ty,
@@ -42,7 +44,8 @@ pub struct Unclosed {
     pub part: u32,
     /// The offset of the `close`.
     pub at: u32,
-    /// The number of binders between the `close` and the one that keeps it open.
+    /// The number of binders between the `close` and one that keeps it open: the nearest of those that are named in its
+    /// code, or the nearest of all where none of them is.
     pub binder: usize,
     /// The whole `close e`.
     pub span: Option<Span>,
@@ -109,12 +112,14 @@ fn tell_unmet(
     ensures tells { IfOk result (Tells (Fails failing.now)) }
     ensures placed { IfOk result (ArePlaced length) }
 {
+    let node = failing.node();
     let (left, right) = failing.sides(alloc)?;
     let repairs = repairs(alloc, failing, nodes)?;
     let repairs = all_within(alloc, repairs.as_slice(), length)?;
     Ok(Told::Types(Unmet {
         part: failing.part,
-        span: within(place(nodes, failing.node().unwrap_or(0)), length),
+        node,
+        span: within(place(nodes, node.unwrap_or(0)), length),
         left,
         right,
         repairs,

@@ -10,7 +10,7 @@ explain_types-requires c = resolved c.args.bytes.now c.in-Ok.program c.in-Ok.ens
 
 pub returns-in-Ok-clause-verdict : goal.returns-in-Ok-clause-verdict
 returns-in-Ok-clause-verdict c =
-    source_verdict c.args.bytes.now c.in-Ok.program c.in-Ok.ensures.found c.in-Ok.ensures.only _
+    source_verdict c.args.bytes.now c.in-Ok.program c.in-Ok.ensures.found c.in-Ok.ensures.only c.in-Ok.ensures.first _
     c.explain_types.ensures.verdict
 
 pub returns-in-Ok-clause-only : goal.returns-in-Ok-clause-only
