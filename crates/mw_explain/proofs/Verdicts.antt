@@ -1,5 +1,5 @@
 -- From the answers of reading, checking and telling to what explaining answers.
-use Rattle.std.proofs.Common.{◌≡◌, ℕ, List, Option, Some, None, Result, Ok, Err, refl, sym, subst}
+use Rattle.std.proofs.Common.{◌≡◌, ℕ, List, Option, Some, None, Result, Ok, Err, sym, subst}
 use Rattle.std.specs.Prelude.{IfOk, IsSomeAnd}
 use Rattle.mw_term.specs.Programs.{program_of}
 use Rattle.mw_term.specs.Parts.{IsResolved}
@@ -47,14 +47,14 @@ pub only_reading : (bytes : List ℕ) (refusal r : Refusal) → ((q : Refusal) �
 only_reading bytes refusal r first none (at_reading h) = first r h
 only_reading bytes refusal r first none (at_types p read h) = absurd (none p read)
 
--- nothing is told of types
-pub explains_reading : (bytes : List ℕ) (refusal : Refusal) → IsRefused bytes refusal
+-- if nothing is told, its refusal alone explains it
+pub explains_reading : (bytes : List ℕ) (refusal : Refusal) (told : Option Told) → told ≡ None → IsRefused bytes refusal
     → ((p : NamedProgram) → IsRead bytes p → ⊥)
-    → Explains bytes record { refusal = refusal; told = None }
-explains_reading bytes refusal is none = record {
+    → Explains bytes record { refusal = refusal; told = told }
+explains_reading bytes refusal told nothing is none = record {
   refusal = at_reading is;
   told = λ p read. absurd (none p read);
-  untold = λ r refused. refl;
+  untold = λ r refused. nothing;
 }
 
 -- Where it is.

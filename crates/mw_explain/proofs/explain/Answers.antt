@@ -1,4 +1,4 @@
-use Rattle.std.proofs.Common.{subst}
+use Rattle.std.proofs.Common.{refl, subst}
 use Rattle.mw_term.specs.Stops.{IfRefused}
 use Rattle.mw_reading.specs.SourceReading.{IsRefused}
 use Rattle.mw_explain.proofs.Verdicts.{explains_reading, never_read, only_reading, only_types, resolved}
@@ -21,7 +21,7 @@ returns-in-Ok-clause-only c =
 pub returns-in-Err-Refused-clause-verdict : goal.returns-in-Err-Refused-clause-verdict
 returns-in-Err-Refused-clause-verdict c =
     let e = c.in-Err-Refused.refusal-is in
-    rw e (explains_reading c.args.bytes.now c.in-Err-Refused.refusal
+    rw e (explains_reading c.args.bytes.now c.in-Err-Refused.refusal _ refl
     (subst (IfRefused (IsRefused c.args.bytes.now)) c.in-Err-Refused.field-0-is c.in-Err-Refused.ensures.refused)
     (λ p read. never_read c.read.result _ _ p c.in-Err-Refused.is c.in-Err-Refused.field-0-is
     (c.read.ensures.only p read)))
