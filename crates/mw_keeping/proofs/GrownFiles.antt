@@ -3,8 +3,9 @@ use Rattle.std.proofs.Common.{◌≡◌, inl, inr, ℕ, ◌+◌, ◌≤◌, List
 use Rattle.std.proofs.Common.{refl, sym, ap, ◌∙◌, subst, append_assoc, arith}
 use Rattle.std.proofs.lemmas.List.{append-nil, take-append-drop}
 use Rattle.mw_outside.specs.Count.{GrowsByFront}
-use Rattle.mw_store.specs.Records.{Kept, record_bytes, file_of}
+use Rattle.mw_store.specs.Records.{Kept, file_of}
 use Rattle.mw_store.specs.Loads.{Loaded, LoadState, IsLoadOf}
+use Rattle.mw_store.proofs.RecordSequences.{file_of-append}
 use Rattle.mw_cache.specs.HonestFiles.{AreHonestBytes}
 use Rattle.mw_cache.specs.HonestLaws.{HaveEmissions}
 use Rattle.mw_cache.specs.Migrating.{Migrate}
@@ -54,19 +55,13 @@ pub migrated_emissions : (load : LoadState) (ls : List Loaded) (n : ℕ) (ks : L
     → HaveEmissions ks
 migrated_emissions load ls n ks are = λ k inside. (migrated_new load ls n ks are k inside).0
 
-files_joined : (xs ys : List Kept) → file_of (xs ++ ys) ≡ file_of xs ++ file_of ys
-files_joined [] ys = refl
-files_joined (x ∷ xs) ys =
-    ap (λ bs. record_bytes x ++ bs) (files_joined xs ys)
-    ∙ sym (append_assoc (record_bytes x) (file_of xs) (file_of ys))
-
 -- the whole records before a place
 pub part_taken : (ks : List Kept) (at : ℕ) (old new : List ℕ) → new ≡ old ++ file_of (take at ks)
     → HasPartOf ks old new
 part_taken ks at old new is = record {
   part = file_of (take at ks);
   rest = file_of (drop at ks);
-  front = sym (files_joined (take at ks) (drop at ks)) ∙ ap file_of (take-append-drop at ks);
+  front = sym (file_of-append (take at ks) (drop at ks)) ∙ ap file_of (take-append-drop at ks);
   is = is;
 }
 
@@ -86,7 +81,7 @@ part_cut ks at bytes old mid new here before grown =
           ∙ ap (λ bs. whole ++ bs) (sym (append_assoc first second later))
           ∙ ap (λ bs. whole ++ (bs ++ later)) (take-append-drop grown.0 bytes ∙ here.bytes_are)
           ∙ ap (λ js. whole ++ file_of js) (sym here.after)
-          ∙ sym (files_joined (take at ks) (drop at ks))
+          ∙ sym (file_of-append (take at ks) (drop at ks))
           ∙ ap file_of (take-append-drop at ks);
-      is = grown.1.1 ∙ ap (λ bs. bs ++ first) before ∙ append_assoc old whole first;
+      is = grown.2 ∙ ap (λ bs. bs ++ first) before ∙ append_assoc old whole first;
     }
