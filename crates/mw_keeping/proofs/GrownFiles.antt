@@ -1,5 +1,5 @@
 -- Files that grow by records with the emissions of their texts, or by a part of these.
-use Rattle.std.proofs.Common.{◌≡◌, inl, inr, ℕ, ◌+◌, ◌≤◌, List, [], ◌∷◌, ◌++◌, length, map, take, drop, Contains}
+use Rattle.std.proofs.Common.{◌≡◌, inl, inr, ℕ, ◌+◌, List, [], ◌++◌, take, drop}
 use Rattle.std.proofs.Common.{refl, sym, ap, ◌∙◌, subst, append_assoc, arith}
 use Rattle.std.proofs.lemmas.List.{append-nil, take-append-drop}
 use Rattle.mw_outside.specs.Count.{GrowsByFront}
@@ -11,7 +11,7 @@ use Rattle.mw_cache.specs.HonestLaws.{HaveEmissions}
 use Rattle.mw_cache.specs.Migrating.{Migrate}
 use Rattle.mw_cache.proofs.HonestRecords.{files_grow}
 use Rattle.mw_cache.proofs.MigratedRecords.{migrated_new}
-use Rattle.mw_keeping.specs.GrownFiles.{IsGrownBy, GrowsRight, HasPartOf}
+use Rattle.mw_keeping.specs.GrownFiles.{GrowsRight, HasPartOf}
 use Rattle.mw_keeping.specs.KeptFiles.{HasGoodFront}
 use Rattle.mw_keeping.proofs.AppendedRecords.{IsAt}
 use Rattle.mw_keeping.proofs.KeptFiles.{good_same, front_then}

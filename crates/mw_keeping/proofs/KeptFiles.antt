@@ -76,7 +76,8 @@ module _ (held mid after : List ℕ) (load : LoadState) (texts : List (List ℕ)
           | inr there ↦
               elim (all_or_next room ks keep.rise) [
                 | inl all ↦
-                    inr (inl (subst (λ (js : List Kept). Contains (map (λ (k : Kept). k.text) js) text) (sym all) there))
+                    let has_text = λ (js : List Kept). Contains (map (λ (k : Kept). k.text) js) text in
+                    inr (inl (subst has_text (sym all) there))
                 | inr n ↦
                     let past = n.past in
                     let no_room : HasNoRoom load texts records = record {

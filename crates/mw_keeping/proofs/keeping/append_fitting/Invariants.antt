@@ -1,4 +1,4 @@
-use Rattle.std.proofs.Common.{◌≡◌, ◌++◌, List, ℕ, map, take, drop, IsTrue}
+use Rattle.std.proofs.Common.{◌≡◌, ◌++◌, List, map, take, drop, IsTrue}
 use Rattle.mw_store.specs.Records.{Kept, record_bytes, file_of}
 use Rattle.mw_keeping.specs.KeptFiles.{fitting}
 use Rattle.mw_keeping.proofs.keeping.append_fitting.Given as goal
