@@ -1,11 +1,9 @@
 -- What a first fault shows, in the words of the format.
-use Rattle.std.proofs.Common.{◌≡◌, ◌<◌, ◌≤◌, ℕ, ◌+◌, ◌-◌, inl, inr, true, false, List, ◌∷◌, ◌++◌, length, take, drop, Result, Ok, Err, refl}
-use Rattle.std.proofs.Common.{sym, ap, subst, ◌∙◌, append_assoc, arith, length-append}
+use Rattle.std.proofs.Common.{◌≡◌, ◌<◌, ◌≤◌, ℕ, ◌+◌, ◌-◌, inl, inr, false, List, ◌∷◌, ◌++◌, length, take, drop, Result, Ok, Err, refl}
+use Rattle.std.proofs.Common.{sym, ap, ◌∙◌, append_assoc, arith, length-append}
 use Rattle.std.proofs.lemmas.Bool.{cond-false}
 use Rattle.std.proofs.lemmas.List.{take-append-drop, length-take}
 use Rattle.mw_wasm.specs.Syntax.{PureModule}
-use Rattle.mw_wasm.specs.BinaryModules.{Spells}
-use Rattle.mw_wasm.specs.Profile.{IsWithinProfile}
 use Rattle.mw_decode.specs.declared.fault.BadModule.{BadModule}
 use Rattle.mw_decode.specs.declared.fault.BadModule.TheVariants.{Magic, Section, Size, Number, Opcode, OutsideProfile, Short}
 use Rattle.mw_decode.specs.Reading.{Read, got, ended, faulty}

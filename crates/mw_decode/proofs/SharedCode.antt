@@ -1,30 +1,26 @@
 -- Code that is read from bytes that begin alike.
-use Rattle.std.proofs.Common.{◌≡◌, ◌<◌, ◌≤◌, ℕ, zero, suc, ◌+◌, ◌⊎◌, inl, inr, Bool, true, false, cond, eqb, List, []}
-use Rattle.std.proofs.Common.{◌∷◌, ◌++◌, length, Option, Some, None, refl, sym, ap, subst, ◌∙◌, arith, length-append}
+use Rattle.std.proofs.Common.{◌≡◌, ◌<◌, ℕ, zero, suc, ◌+◌, Bool, true, false, cond, eqb, List}
+use Rattle.std.proofs.Common.{◌∷◌, ◌++◌, length, Option, Some, None, sym, ◌∙◌, arith}
 use Rattle.std.proofs.lemmas.Bool.{cond_both}
 use Rattle.mw_wasm.specs.declared.values.ValType.{ValType}
-use Rattle.mw_wasm.specs.declared.numbers.NumOp.{NumOp}
-use Rattle.mw_wasm.specs.declared.numbers.LoadOp.{LoadOp}
-use Rattle.mw_wasm.specs.declared.numbers.StoreOp.{StoreOp}
 use Rattle.mw_wasm.specs.Syntax as pure
 use Rattle.mw_wasm.specs.Syntax.{Instruction, Code, unreachable, nop, block, loop, cond as if_else, br, br_if, br_table}
 use Rattle.mw_wasm.specs.Syntax.{give_back, call, call_indirect, drop_value, select, local_get, local_set, local_tee}
 use Rattle.mw_wasm.specs.Syntax.{global_get, global_set, load, store, memory_size, memory_grow, const_i32, const_i64}
 use Rattle.mw_wasm.specs.Syntax.{numeric}
-use Rattle.mw_decode.specs.Reading.{got, Reader, place, ◌>>=◌, gives, Meaning, is, wrong, outside, u32, i32, i64, fixed}
-use Rattle.mw_decode.specs.Reading.{vector}
-use Rattle.mw_decode.specs.Opcodes.{Mark, closing, otherwise, Opener, a_block, a_loop, an_if, Opcode, marks, opens}
+use Rattle.mw_decode.specs.Reading.{Reader, place, ◌>>=◌, Meaning, is, wrong, outside}
+use Rattle.mw_decode.specs.Opcodes.{Mark, closing, otherwise, Opener, a_block, a_loop, an_if, Opcode, marks}
 use Rattle.mw_decode.specs.Opcodes.{or_else, mapped, number_of, load_of, store_of, is_left_out, indexed, at_address}
-use Rattle.mw_decode.specs.Opcodes.{before_zero, jump_table, indirect, constant_32, constant_64, jump_of, variable_of}
+use Rattle.mw_decode.specs.Opcodes.{before_zero, jump_table, indirect, jump_of, variable_of}
 use Rattle.mw_decode.specs.Opcodes.{constant_of, loading, storing, computing, known_or, accessing_of, or_meaning}
-use Rattle.mw_decode.specs.Opcodes.{alone, alone_of, opcode}
-use Rattle.mw_decode.specs.Instructions.{value_type_of, value_type, block_type_of, block_type, Listed, Lists, ahead}
+use Rattle.mw_decode.specs.Opcodes.{alone_of, opcode}
+use Rattle.mw_decode.specs.Instructions.{value_type_of, value_type, block_type_of, block_type, Lists, ahead}
 use Rattle.mw_decode.specs.Instructions.{closed, second, inside, opened, more, immediates, behind, listed, within}
 use Rattle.mw_decode.specs.Instructions.{instructions, expression}
-use Rattle.mw_decode.proofs.ReadingFixedPoint.{Agree, enough}
+use Rattle.mw_decode.proofs.ReadingFixedPoint.{enough}
 use Rattle.mw_decode.proofs.SharedFronts.{Shared, Follows, shared_head, follows_shared, follows_wrong, follows_silent}
 use Rattle.mw_decode.proofs.SharedFronts.{shared_silent, shared_gives, shared_then}
-use Rattle.mw_decode.proofs.SharedNumbers.{silent_outside, silent_outside_here, silent_end, shared_byte, shared_fixed}
+use Rattle.mw_decode.proofs.SharedNumbers.{silent_outside_here, silent_end, shared_byte, shared_fixed}
 use Rattle.mw_decode.proofs.SharedNumbers.{shared_u32, shared_i32, shared_i64, shared_vector}
 
 -- what stands behind an opcode

@@ -1,6 +1,6 @@
 -- Bytes that begin alike are read alike as far as they do: a wrong byte in what they share is met in both.
-use Rattle.std.proofs.Common.{◌≡◌, ◌<◌, ◌≤◌, ℕ, zero, suc, ◌+◌, ◌-◌, ◌⊎◌, inl, inr, Bool, true, false, cond, leb, List}
-use Rattle.std.proofs.Common.{[], ◌∷◌, ◌++◌, length, take, drop, refl, sym, ap, subst, ◌∙◌, append_assoc, arith, length-append}
+use Rattle.std.proofs.Common.{◌≡◌, ◌<◌, ◌≤◌, ℕ, suc, ◌+◌, ◌-◌, ◌⊎◌, inl, inr, Bool, true, false, cond, List}
+use Rattle.std.proofs.Common.{[], ◌∷◌, ◌++◌, length, refl, sym, ap, ◌∙◌, append_assoc, arith, length-append}
 use Rattle.mw_decode.specs.declared.fault.BadModule.{BadModule}
 use Rattle.mw_decode.specs.declared.fault.BadModule.TheVariants.{Magic, Opcode}
 use Rattle.mw_decode.specs.Reading.{Read, got, ended, faulty, Reader, place, and_then, ◌>>=◌, gives}
@@ -91,13 +91,13 @@ follows_shared {A} {k} b s = record {
   both = λ p e1 e2 f c1 c2 x y rest1 rest2 w1 w2 h g. elim
       (s.both (suc p) e1 e2 f c1 c2 x y rest1 rest2 (omega arith) (omega arith) h g) [
         | inl m ↦ inl (record {
-            used = b ∷ m.used;
-            left = m.left;
-            whole = ap (λ z. b ∷ z) m.whole;
-            value = m.value;
-            one = m.one;
-            two = m.two;
-          })
+          used = b ∷ m.used;
+          left = m.left;
+          whole = ap (λ z. b ∷ z) m.whole;
+          value = m.value;
+          one = m.one;
+          two = m.two;
+        })
         | inr l ↦ inr l
       ];
   placed = λ p e at bytes w h. let q = s.placed (suc p) e at bytes (omega arith) h in
@@ -227,15 +227,15 @@ module _ {A B : Type 0} (r : Reader A) (h : ℕ → A → Reader B) (s : Shared 
         | inl j ↦ s.fault p e1 e2 at f c1 c2 w1 w2 j l k.0 k.1 k.2
         | inr j ↦ elim (s.both p e1 e2 f c1 c2 j.0 k.0 j.1 k.1 w1 w2 j.2 k.2) [
           | inl m ↦ (t p j.0).fault (p + length m.used) e1 e2 at m.left c1 c2
-            (left_at p e1 f c1 m.used m.left w1 m.whole) (left_at p e2 f c2 m.used m.left w2 m.whole)
-            (behind_one p e1 f c1 m.left j.1 j.0 _ w1 m.one j.3)
-            (omega (arith, ap length m.whole, length-append m.used m.left)) y rest
-            (behind_one p e2 f c2 m.left k.1 j.0 _ w2 m.two
-            (ap (λ x. h (place e2 (f ++ c2)) x e2 k.1) m.value ∙ k.3))
+              (left_at p e1 f c1 m.used m.left w1 m.whole) (left_at p e2 f c2 m.used m.left w2 m.whole)
+              (behind_one p e1 f c1 m.left j.1 j.0 _ w1 m.one j.3)
+              (omega (arith, ap length m.whole, length-append m.used m.left)) y rest
+              (behind_one p e2 f c2 m.left k.1 j.0 _ w2 m.two
+              (ap (λ x. h (place e2 (f ++ c2)) x e2 k.1) m.value ∙ k.3))
           | inr b ↦
-            let z = s.shorter e1 (f ++ c1) j.0 j.1 j.2 in
-            let i = ((t (place e1 (f ++ c1)) j.0).placed (e1 - length j.1) e1 at j.1 (omega arith) j.3).0 in
-            omega (arith, length-append f c1)
+              let z = s.shorter e1 (f ++ c1) j.0 j.1 j.2 in
+              let i = ((t (place e1 (f ++ c1)) j.0).placed (e1 - length j.1) e1 at j.1 (omega arith) j.3).0 in
+              omega (arith, length-append f c1)
         ]
       ]
 
@@ -247,11 +247,11 @@ module _ {A B : Type 0} (r : Reader A) (h : ℕ → A → Reader B) (s : Shared 
       let k = and_then_got (r e2 (f ++ c2)) (λ x rest. h (place e2 (f ++ c2)) x e2 rest) y rest2 g in
       elim (s.both p e1 e2 f c1 c2 j.0 k.0 j.1 k.1 w1 w2 j.2 k.2) [
         | inl m ↦ elim ((t p j.0).both (p + length m.used) e1 e2 m.left c1 c2 x y rest1 rest2
-          (left_at p e1 f c1 m.used m.left w1 m.whole) (left_at p e2 f c2 m.used m.left w2 m.whole)
-          (behind_one p e1 f c1 m.left j.1 j.0 _ w1 m.one j.3)
-          (behind_one p e2 f c2 m.left k.1 j.0 _ w2 m.two
-          (ap (λ x. h (place e2 (f ++ c2)) x e2 k.1) m.value ∙ k.3))) [
-            | inl n ↦ inl (record {
+            (left_at p e1 f c1 m.used m.left w1 m.whole) (left_at p e2 f c2 m.used m.left w2 m.whole)
+            (behind_one p e1 f c1 m.left j.1 j.0 _ w1 m.one j.3)
+            (behind_one p e2 f c2 m.left k.1 j.0 _ w2 m.two
+            (ap (λ x. h (place e2 (f ++ c2)) x e2 k.1) m.value ∙ k.3))) [
+              | inl n ↦ inl (record {
                 used = m.used ++ n.used;
                 left = n.left;
                 whole = m.whole ∙ (ap (λ z. m.used ++ z) n.whole ∙ sym (append_assoc m.used n.used n.left));
@@ -259,10 +259,10 @@ module _ {A B : Type 0} (r : Reader A) (h : ℕ → A → Reader B) (s : Shared 
                 one = n.one;
                 two = n.two;
               })
-            | inr b ↦ inr b
-          ]
+              | inr b ↦ inr b
+            ]
         | inr b ↦
-          let z = (t (place e1 (f ++ c1)) j.0).shorter e1 j.1 x rest1 j.3 in inr (omega arith)
+            let z = (t (place e1 (f ++ c1)) j.0).shorter e1 j.1 x rest1 j.3 in inr (omega arith)
       ]
 
   bind_shorter : (e : ℕ) (bytes : List ℕ) (x : B) (rest : List ℕ) → bound r h e bytes ≡ got x rest

@@ -1,25 +1,23 @@
 -- Fields, sections and modules that are read from bytes that begin alike.
 use Rattle.std.proofs.Common.{◌≡◌, ◌<◌, ◌≤◌, ℕ, zero, suc, ◌+◌, ◌-◌, ◌⊎◌, inl, inr, Bool, true, false, ◌&&◌, cond, eqb}
-use Rattle.std.proofs.Common.{leb, ltb, List, [], ◌∷◌, ◌++◌, length, take, drop, Option, Some, None, refl, sym, ap}
-use Rattle.std.proofs.Common.{subst, ◌∙◌, append_assoc, arith, length-append, length-drop}
+use Rattle.std.proofs.Common.{leb, ltb, List, [], ◌∷◌, ◌++◌, length, take, drop, Some, None, refl, sym, ap}
+use Rattle.std.proofs.Common.{◌∙◌, append_assoc, arith, length-append, length-drop}
 use Rattle.std.specs.Prelude.{replicate}
 use Rattle.std.proofs.lemmas.Bool.{leb-true}
 use Rattle.std.proofs.lemmas.List.{take-append-drop, drop-append-le}
-use Rattle.mw_wasm.specs.declared.values.ValType.{ValType}
-use Rattle.mw_wasm.specs.declared.modules.Limits.{Limits}
 use Rattle.mw_decode.specs.declared.fault.BadModule.TheVariants as bad
 use Rattle.mw_decode.specs.declared.fault.BadModule.TheVariants.{Magic, Opcode}
-use Rattle.mw_decode.specs.Reading.{Read, got, ended, faulty, Reader, place, and_then, ◌>>=◌, gives, is, byte_of, u32}
-use Rattle.mw_decode.specs.Reading.{at_most, times, vector}
+use Rattle.mw_decode.specs.Reading.{Read, got, ended, faulty, Reader, is, u32}
+use Rattle.mw_decode.specs.Reading.{times}
 use Rattle.mw_decode.specs.Sections as sections
 use Rattle.mw_decode.specs.Sections.{function_type, has_max, maximum, limits, table, memory, global, printable}
 use Rattle.mw_decode.specs.Sections.{export_kind, export, element, data_segment, run_count, runs, Body, body}
 use Rattle.mw_decode.specs.Sections.{function_code, bodies, single, customs_within, customs, section, after_customs}
 use Rattle.mw_decode.specs.Sections.{no_start, no_more, is_missing, present, Parts}
-use Rattle.mw_decode.proofs.Choices.{either_is, passes}
+use Rattle.mw_decode.proofs.Choices.{passes}
 use Rattle.mw_decode.proofs.ReaderSoundness.{got_parts, sound_u32}
 use Rattle.mw_decode.proofs.ReadingFixedPoint.{same_then, shorter}
-use Rattle.mw_decode.proofs.SharedFronts.{Same, Shared, Follows, Silent, shared_head, follows_shared, follows_keeps}
+use Rattle.mw_decode.proofs.SharedFronts.{Same, Shared, shared_head, follows_shared, follows_keeps}
 use Rattle.mw_decode.proofs.SharedFronts.{follows_silent, follows_if, shared_silent, shared_if, shared_gives}
 use Rattle.mw_decode.proofs.SharedFronts.{shared_bound, shared_then}
 use Rattle.mw_decode.proofs.SharedNumbers.{silent_outside, silent_outside_here, silent_section_here, silent_section}
@@ -155,8 +153,8 @@ module _ {A : Type 0} (r : Reader A) (size : ℕ) (s : Shared r) where
       → skip e2 (f ++ c2) ≡ got y rest → ⊥
   skip_fault p e1 e2 n f c1 c2 w1 w2 h l y rest g = elim (nat_cases size (length f)) [
     | inl i ↦ s.fault (p + size) e1 e2 n (drop size f) c1 c2 (end_of p e1 f c1 i w1) (end_of p e2 f c2 i w2)
-      (dropped e1 f c1 _ i (skip_wrong e1 (f ++ c1) n h).1) (omega (arith, length-drop size f)) y rest
-      (dropped e2 f c2 _ i (skip_got e2 (f ++ c2) y rest g).1)
+        (dropped e1 f c1 _ i (skip_wrong e1 (f ++ c1) n h).1) (omega (arith, length-drop size f)) y rest
+        (dropped e2 f c2 _ i (skip_got e2 (f ++ c2) y rest g).1)
     | inr i ↦ let k = (skip_placed p e1 n (f ++ c1) w1 h).0 in omega arith
   ]
 
@@ -165,9 +163,9 @@ module _ {A : Type 0} (r : Reader A) (size : ℕ) (s : Shared r) where
       → Same f c1 c2 x y rest1 rest2 ⊎ (length rest1 ≤ length c1)
   skip_both p e1 e2 f c1 c2 x y rest1 rest2 w1 w2 h g = elim (nat_cases size (length f)) [
     | inl i ↦ elim (s.both (p + size) e1 e2 (drop size f) c1 c2 x y rest1 rest2 (end_of p e1 f c1 i w1)
-      (end_of p e2 f c2 i w2) (dropped e1 f c1 _ i (skip_got e1 (f ++ c1) x rest1 h).1)
-      (dropped e2 f c2 _ i (skip_got e2 (f ++ c2) y rest2 g).1)) [
-        | inl m ↦ inl (record {
+        (end_of p e2 f c2 i w2) (dropped e1 f c1 _ i (skip_got e1 (f ++ c1) x rest1 h).1)
+        (dropped e2 f c2 _ i (skip_got e2 (f ++ c2) y rest2 g).1)) [
+          | inl m ↦ inl (record {
             used = take size f ++ m.used;
             left = m.left;
             whole =
@@ -177,8 +175,8 @@ module _ {A : Type 0} (r : Reader A) (size : ℕ) (s : Shared r) where
             one = m.one;
             two = m.two;
           })
-        | inr b ↦ inr b
-      ]
+          | inr b ↦ inr b
+        ]
     | inr i ↦ let k = skip_shorter e1 (f ++ c1) x rest1 h in inr (omega (arith, length-append f c1))
   ]
 

@@ -1,11 +1,10 @@
 -- Bytes, numbers, vectors and regions of a stated size, read from bytes that begin alike.
 use Rattle.std.proofs.Common.{◌≡◌, ◌<◌, ◌≤◌, ℕ, zero, suc, ◌+◌, ◌-◌, ◌⊎◌, inl, inr, Bool, true, false, cond, leb, ltb}
-use Rattle.std.proofs.Common.{List, [], ◌∷◌, ◌++◌, length, take, drop, refl, sym, ap, subst, ◌∙◌, arith, length-append}
-use Rattle.std.proofs.Common.{◌*◌, ◌^◌, Result, Ok, Err, Option, Some, None, length-drop}
+use Rattle.std.proofs.Common.{List, [], ◌∷◌, ◌++◌, length, take, drop, refl, sym, ap, ◌∙◌, arith, length-append}
+use Rattle.std.proofs.Common.{◌*◌, ◌^◌, Ok, Err, Some, None, length-drop}
 use Rattle.std.proofs.Common.{ℤ, pos, ◌+ℤ◌, ◌-ℤ◌, ◌*ℤ◌}
 use Rattle.std.proofs.lemmas.Bool.{leb-true, leb-false}
 use Rattle.std.proofs.lemmas.List.{take-append-drop, length-take, take-append-le, drop-append-le}
-use Rattle.mw_decode.specs.declared.fault.BadModule.{BadModule}
 use Rattle.mw_decode.specs.declared.fault.BadModule.TheVariants as bad
 use Rattle.mw_decode.specs.declared.fault.BadModule.TheVariants.{Magic, Opcode}
 use Rattle.mw_leb.specs.Reading.{Number, unsigned, signed, longer}
@@ -13,14 +12,14 @@ use Rattle.mw_leb.specs.declared.reading.Leb.{Leb}
 use Rattle.mw_leb.specs.declared.reading.Leb.TheVariants as leb_fault
 use Rattle.mw_leb.proofs.ReadNumbers.{unsigned_spelled, signed_spelled}
 use Rattle.mw_wasm.specs.Leb.{unsigned_of}
-use Rattle.mw_decode.specs.Reading.{Read, got, ended, faulty, Reader, place, and_then, ◌>>=◌, gives, Meaning, is, wrong}
+use Rattle.mw_decode.specs.Reading.{Read, got, ended, faulty, Reader, place, Meaning, is, wrong}
 use Rattle.mw_decode.specs.Reading.{outside, meant, byte_of, numbered, u32, i32, i64, at_most, times, vector, optional}
 use Rattle.mw_decode.specs.Reading.{up_to, sized, fixed, only}
-use Rattle.mw_decode.proofs.Choices.{either_is, passes}
+use Rattle.mw_decode.proofs.Choices.{passes}
 use Rattle.mw_decode.proofs.ReaderSoundness.{got_parts, numbered_got}
 use Rattle.mw_decode.proofs.SharedFronts.{Same, Shared, Follows, Silent, shared_head, follows_shared, follows_wrong}
 use Rattle.mw_decode.proofs.SharedFronts.{follows_silent, shared_silent, shared_if, shared_gives, shared_bound}
-use Rattle.mw_decode.proofs.SharedFronts.{shared_then, and_then_faulty}
+use Rattle.mw_decode.proofs.SharedFronts.{shared_then}
 
 -- faults of other kinds
 pub silent_outside : {A : Type 0} (at : ℕ) → Silent {A = A} (λ e bytes. faulty (bad.OutsideProfile at))
@@ -99,13 +98,13 @@ goes_on b g f c1 c2 m n s x y h q =
     let j = longer_ok g n y q in
     elim (s (k.0, x.1) (j.0, y.1) k.1 j.1) [
       | inl m ↦ inl (record {
-          used = b ∷ m.used;
-          left = m.left;
-          whole = ap (λ z. b ∷ z) m.whole;
-          value = sym k.2 ∙ (ap g m.value ∙ j.2);
-          one = m.one;
-          two = m.two;
-        })
+        used = b ∷ m.used;
+        left = m.left;
+        whole = ap (λ z. b ∷ z) m.whole;
+        value = sym k.2 ∙ (ap g m.value ∙ j.2);
+        one = m.one;
+        two = m.two;
+      })
       | inr l ↦ inr l
     ]
 
@@ -266,8 +265,12 @@ module _ {A : Type 0} (content : Reader A) (past : ℕ → Read A) (at size : �
 
   end_of : (p : ℕ) (f c : List ℕ) → length f ≤ size → size ≤ length (f ++ c)
       → p + size ≡ p + length (f ++ take (size - length f) c)
-  end_of p f c l h = omega (arith, length-append f c, length-append f (take (size - length f) c),
-      length-take (size - length f) c)
+  end_of p f c l h = omega (
+    arith,
+    length-append f c,
+    length-append f (take (size - length f) c),
+    length-take (size - length f) c,
+  )
 
   region_fault : (p e1 e2 n : ℕ) (f c1 c2 : List ℕ) → e1 ≡ p + length (f ++ c1) → e2 ≡ p + length (f ++ c2)
       → region e1 (f ++ c1) ≡ faulty (Opcode n) → n < p + length f → (y : A) (rest : List ℕ)
@@ -277,11 +280,11 @@ module _ {A : Type 0} (content : Reader A) (past : ℕ → Read A) (at size : �
       let j = region_got e2 (f ++ c2) y rest g in
       elim (nat_cases size (length f)) [
         | inl i ↦
-          let a = within_it p e1 f c1 _ w1 i k.1 in
-          let b = within_it p e2 f c2 _ w2 i j.1 in absurd (let e = sym a ∙ b in cc)
+            let a = within_it p e1 f c1 _ w1 i k.1 in
+            let b = within_it p e2 f c2 _ w2 i j.1 in absurd (let e = sym a ∙ b in cc)
         | inr i ↦ s.fault p (p + size) (p + size) n f (take (size - length f) c1) (take (size - length f) c2)
-          (end_of p f c1 i k.0) (end_of p f c2 i j.0) (behind_it p e1 f c1 _ w1 i k.1) l y []
-          (behind_it p e2 f c2 _ w2 i j.1)
+            (end_of p f c1 i k.0) (end_of p f c2 i j.0) (behind_it p e1 f c1 _ w1 i k.1) l y []
+            (behind_it p e2 f c2 _ w2 i j.1)
       ]
 
   region_both : (p e1 e2 : ℕ) (f c1 c2 : List ℕ) (x y : A) (rest1 rest2 : List ℕ) → e1 ≡ p + length (f ++ c1)
@@ -292,16 +295,16 @@ module _ {A : Type 0} (content : Reader A) (past : ℕ → Read A) (at size : �
       let j = region_got e2 (f ++ c2) y rest2 g in
       elim (nat_cases size (length f)) [
         | inl i ↦
-          let a = within_it p e1 f c1 _ w1 i k.1 in
-          let b = within_it p e2 f c2 _ w2 i j.1 in
-          inl (record {
-            used = take size f;
-            left = drop size f;
-            whole = sym (take-append-drop size f);
-            value = (got_parts x y [] [] (sym a ∙ b)).0;
-            one = sym k.2 ∙ drop-append-le size f c1 i;
-            two = sym j.2 ∙ drop-append-le size f c2 i;
-          })
+            let a = within_it p e1 f c1 _ w1 i k.1 in
+            let b = within_it p e2 f c2 _ w2 i j.1 in
+            inl (record {
+              used = take size f;
+              left = drop size f;
+              whole = sym (take-append-drop size f);
+              value = (got_parts x y [] [] (sym a ∙ b)).0;
+              one = sym k.2 ∙ drop-append-le size f c1 i;
+              two = sym j.2 ∙ drop-append-le size f c2 i;
+            })
         | inr i ↦ inr (omega (arith, ap length k.2, length-drop size (f ++ c1), length-append f c1))
       ]
 
