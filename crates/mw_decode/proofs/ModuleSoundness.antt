@@ -417,7 +417,7 @@ unpacked y front t =
     })
 
 -- the header
-header_is : (bytes : List ℕ) → starts bytes ≡ true → bytes ≡ header_bytes ++ drop 8 bytes
+pub header_is : (bytes : List ℕ) → starts bytes ≡ true → bytes ≡ header_bytes ++ drop 8 bytes
 header_is (b0 ∷ b1 ∷ b2 ∷ b3 ∷ b4 ∷ b5 ∷ b6 ∷ b7 ∷ rest) e =
     let h7 = both_true _ _ e in
     let h6 = both_true _ _ h7.0 in
@@ -438,7 +438,7 @@ header_is (b0 ∷ b1 ∷ b2 ∷ b3 ∷ b4 ∷ b5 ∷ b6 ∷ b7 ∷ rest) e =
     ) refl
 header_is bytes e = absurd (cc)
 
-answered : (len : ℕ) (r : Read Parts) (m : PureModule) → sections.answer len r ≡ Ok m
+pub answered : (len : ℕ) (r : Read Parts) (m : PureModule) → sections.answer len r ≡ Ok m
     → (p : Parts) × (rest : List ℕ) × (r ≡ got p rest) × (module_of p ≡ m)
 answered len (got p rest) m e = (p, rest, refl, (cc))
 answered len ended m e = absurd (cc)

@@ -36,8 +36,8 @@ agree_then {r = r} k f g s end bytes h same =
     (λ x rest e. let l = shorter s end bytes x rest e in same x rest (omega arith))
 
 -- two ways to read lists agree on so many bytes
-record Agree (k : ℕ) (p q : Lists) : Type 0 where
-  agree : (room : ℕ) (first : Bool) (end : ℕ) (bytes : List ℕ) → length bytes ≤ k
+pub record Agree (k : ℕ) (p q : Lists) : Type 0 where
+  pub agree : (room : ℕ) (first : Bool) (end : ℕ) (bytes : List ℕ) → length bytes ≤ k
       → p room first end bytes ≡ q room first end bytes
 
 closed_agree : (k : ℕ) (p q : Lists) → Agree k p q → (room end : ℕ) (bytes : List ℕ) → length bytes ≤ k
@@ -117,7 +117,7 @@ listed_agree k p q a s room first end [] h = refl
 listed_agree k p q a s room first end (b ∷ rest) h =
     behind_agree k p q a s room first (place end (b ∷ rest)) b end rest (omega arith)
 
-enough : (m n k : ℕ) → k < m → k < n → Agree k (within m) (within n)
+pub enough : (m n k : ℕ) → k < m → k < n → Agree k (within m) (within n)
 enough zero n k h l = absurd (omega arith)
 enough (suc m) zero k h l = absurd (omega arith)
 enough (suc m) (suc n) zero h l = record { agree = λ room first end bytes e. empty room first end bytes e }

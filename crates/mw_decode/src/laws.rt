@@ -2,6 +2,7 @@
 
 ghost use Rattle.mw_decode.specs.Laws.{ReadCodeIsSpelled, SpelledCodeIsRead, ReadModuleIsSpelled, SpelledModuleIsRead};
 ghost use Rattle.mw_decode.specs.Laws.{ReadFileIsSpelled, SpelledFileIsRead, EncodingIsRead};
+ghost use Rattle.mw_decode.specs.FaultLaws.{FaultIsShown};
 
 /// Code that is read is spelled so.
 pub fn read_code_is_spelled()
@@ -36,4 +37,10 @@ pub fn read_file_is_spelled()
 /// The encoding of a module within the profile is decoded to the same module, where it is within the file limit.
 pub fn encoding_is_read()
     ensures { EncodingIsRead }
+{}
+
+/// Bytes with a fault spell no module within the profile. Where a byte is wrong, those up to and with it begin none,
+/// whatever follows; where the header is, its eight bytes begin none.
+pub fn fault_is_shown()
+    ensures { FaultIsShown }
 {}

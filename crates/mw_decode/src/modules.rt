@@ -1,16 +1,14 @@
 // Whole modules (standard: Binary Format, Modules).
 
-ghost use Rattle.std.specs.Prelude.{◌≡◌, ◌≤◌, ◌<◌, ◌^◌, ℕ, length, map, drop, true, false, IfOk, IfSome, IfNone, Ok};
-ghost use Rattle.mw_wasm.specs.Syntax.{PureModule};
+ghost use Rattle.std.specs.Prelude.{◌≡◌, ◌≤◌, length, map, drop, true, false, IfOk, IfSome, IfNone};
 ghost use Rattle.mw_wasm.specs.Views.{function_of, module_of};
-ghost use Rattle.mw_wasm.specs.BinaryModules.{Spells};
-ghost use Rattle.mw_wasm.specs.Profile.{IsWithinFileLimit, IsWithinProfile};
+ghost use Rattle.mw_wasm.specs.Profile.{IsWithinFileLimit};
 ghost use Rattle.mw_decode.specs.Reading.{got};
 ghost use Rattle.mw_decode.specs.Content.{module_behind_header};
 ghost use Rattle.mw_decode.specs.Opcodes.{mapped};
-ghost use Rattle.mw_decode.specs.Sections.{is_missing as is_missing_here, functions, given, starts, module_read};
+ghost use Rattle.mw_decode.specs.Sections.{is_missing as is_missing_here, functions, given, starts};
 ghost use Rattle.mw_decode.specs.Listing.{body_of, kind_of};
-ghost use Rattle.mw_decode.specs.Gives.{Gives, Decodes};
+ghost use Rattle.mw_decode.specs.Gives.{Gives, IsFoundIn, IsSpelledWithin, HasFewSegments, IsModuleOrMemory};
 
 use crate::fault::{BadModule, DecodeFault, Fault, Read};
 use crate::sections::{
@@ -90,14 +88,11 @@ fn behind_header(bytes: &[u8]) -> Option<&[u8]>
 /// The module that a file's bytes spell within the profile, or their first fault. A file of more than 67,108,864 bytes
 /// is outside the profile at that length, before anything is read. `Memory` comes where memory runs out.
 pub fn decode(alloc: Global, bytes: &[u8]) -> Result<Module, DecodeFault>
-    ensures fault { Decodes result (module_read bytes.now) }
+    ensures fault { IsFoundIn bytes.now result }
     ensures limit { IfOk result (λ m. IsWithinFileLimit bytes.now) }
-    ensures spelled { IfOk result
-        (λ m. Spells bytes.now (module_of m) × IsWithinProfile (module_of m)) }
-    ensures few { IfOk result (λ m. (length m.elements < 2 ^ 32) × (length m.segments < 2 ^ 32)) }
-    ensures read { (m : PureModule) → IsWithinFileLimit bytes.now → Spells bytes.now m
-        → IsWithinProfile m
-        → Decodes result (Ok m) }
+    ensures spelled { IfOk result (λ m. IsSpelledWithin bytes.now m) }
+    ensures few { IfOk result (λ m. HasFewSegments m) }
+    ensures read { IsModuleOrMemory bytes.now result }
 {
     if bytes.len() > 67_108_864 {
         return Err(DecodeFault::Bad(BadModule::OutsideProfile(67_108_864)));
