@@ -20,10 +20,12 @@ use mw_tasks::{Outcomes, Phase};
 use mw_term::Program;
 use std::alloc::Global;
 use std::sync::ledger::{Blank, Ledger};
+use std::thread::Threads;
 
 /// Evaluates main of an accepted program's erased program, which has no kernel items, with so many units, and writes
 /// the last line.
-pub fn write_erased<K: Sink, L: Ledger>(
+pub fn write_erased<R: Threads, K: Sink, L: Ledger>(
+    rt: &R,
     alloc: Global,
     table: &Table<Entry>,
     program: &Program,
@@ -44,7 +46,7 @@ pub fn write_erased<K: Sink, L: Ledger>(
     let erased = erase_program(alloc, program)?;
     let cache = Cache::new(table, Load::new(alloc));
     let phase = no_kernels(alloc);
-    let mut steps = Steps::<L>::open(blank);
+    let mut steps = Steps::<L>::open(rt, blank);
     let (end, _) = main_end(
         alloc,
         &erased,

@@ -32,6 +32,7 @@ use mw_tasks::Phase;
 use mw_term::Program;
 use std::alloc::Global;
 use std::sync::ledger::{Blank, Ledger};
+use std::thread::Threads;
 
 /// How a run that was written ended: its status, receipts of the modules that main asked for, and the kernels that gave
 /// code.
@@ -44,7 +45,8 @@ pub struct Ran<'p> {
 
 /// Writes what the phase of a program's kernel items says of them, evaluates main where all of them gave code, and
 /// writes the last line.
-pub fn write_items<'p, K: Sink, L: Ledger>(
+pub fn write_items<'p, R: Threads, K: Sink, L: Ledger>(
+    rt: &R,
     alloc: Global,
     program: &'p Program,
     phase: &'p Phase,
@@ -87,7 +89,7 @@ pub fn write_items<'p, K: Sink, L: Ledger>(
             built,
         });
     }
-    let mut steps = Steps::<L>::open(blank);
+    let mut steps = Steps::<L>::open(rt, blank);
     let (end, stored) = main_end(alloc, program, phase, fuel, mode, cache, &mut steps)?;
     let status = write_end(alloc, sink, &end)?;
     Ok(Ran {

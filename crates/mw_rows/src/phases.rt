@@ -222,7 +222,8 @@ fn fault_line(alloc: Global, fault: JobFault) -> Result<String, AllocError> {
 }
 
 /// What main comes to after items that all gave code.
-fn main_after<L: Ledger>(
+fn main_after<R: Threads, L: Ledger>(
+    rt: &R,
     alloc: Global,
     program: &Program,
     phase: &Phase,
@@ -239,7 +240,7 @@ fn main_after<L: Ledger>(
         phase.now.outcomes }
     requires built { AreBuiltAll phase.now.outcomes }
 {
-    let mut steps = Steps::<L>::open(blank);
+    let mut steps = Steps::<L>::open(rt, blank);
     match main_phase(
         alloc, program, phase, plan.fuel, plan.mode, cache, &mut steps,
     ) {
@@ -279,7 +280,7 @@ fn phases<R: Threads + Sync, L: Ledger>(
     let emitted = phase.emitted;
     text.push_str(format!(in alloc; "emitted {emitted}\n")?.as_str())?;
     if all_gave(phase.outcomes.as_slice()) {
-        let main = main_after::<L>(alloc, program, &phase, plan, cache, blank)?;
+        let main = main_after::<R, L>(rt, alloc, program, &phase, plan, cache, blank)?;
         text.push_str(main.as_str())?;
     }
     Ok(text)

@@ -84,7 +84,7 @@ pub fn kernels_phase<R: Threads + Sync, G: Gate>(
         cache,
     };
     let taken = spread(rt, alloc, workers, at_work.as_slice(), &job, gate)?;
-    let all = in_order(alloc, &job, taken)?;
+    let all = in_order(rt, alloc, &job, taken)?;
     let phase = gathered(alloc, all)?;
     agree_all(cache, phase.outcomes.as_slice());
     Ok(phase)

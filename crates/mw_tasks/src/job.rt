@@ -32,6 +32,7 @@ use std::alloc::{AllocError, Global};
 use std::marker::Brand;
 use std::sync::atomic::{AtomicU64, Ordering};
 use std::sync::ledger::{Blank, Ledger};
+use std::thread::Threads;
 
 /// The evaluation of a program's kernel items over a cache. `numbers` are those of the kernel items among all items;
 /// `next` is how many of them have been taken by workers, or more.
@@ -70,13 +71,22 @@ impl<'a, 't> Job<usize> for Evaluation<'a, 't> {
     ghost bad = { λ job _.
         IsBadOfItems job.mode (program_of job.program.now) job.fuel job.cache.now.load };
 
-    fn work(&self, alloc: Global, _worker: &usize) -> Result<Vec<Taken>, JobFault> {
-        taken_by_one(alloc, self)
+    fn work<R: Threads + Sync>(
+        &self,
+        rt: &R,
+        alloc: Global,
+        _worker: &usize,
+    ) -> Result<Vec<Taken>, JobFault> {
+        taken_by_one(rt, alloc, self)
     }
 }
 
 /// Takes kernel items one after the other, for as long as one is left, and evaluates each.
-fn taken_by_one(alloc: Global, job: &Evaluation<'_, '_>) -> Result<Vec<Taken>, JobFault>
+fn taken_by_one<R: Threads>(
+    rt: &R,
+    alloc: Global,
+    job: &Evaluation<'_, '_>,
+) -> Result<Vec<Taken>, JobFault>
     requires { All (IsTask (program_of job.now.program.now)) job.now.numbers.now }
     ensures gives { IfOk result (λ taken. All (IsTakenIn job.now) taken.items) }
     ensures bad { IfErr result (λ fault. IfBad fault
@@ -88,7 +98,7 @@ fn taken_by_one(alloc: Global, job: &Evaluation<'_, '_>) -> Result<Vec<Taken>, J
         let Some(number) = job.numbers.get(at) else {
             break;
         };
-        let done = evaluated_alone(alloc, job, *number)?;
+        let done = evaluated_alone(rt, alloc, job, *number)?;
         add_taken(&mut taken, at, done)?;
     }
     Ok(taken)
@@ -104,7 +114,8 @@ fn add_taken(taken: &mut Vec<Taken>, at: usize, done: Done) -> Result<(), AllocE
 }
 
 /// Evaluates a kernel item, where nobody else counts its emissions.
-pub(crate) fn evaluated_alone(
+pub(crate) fn evaluated_alone<R: Threads>(
+    rt: &R,
     alloc: Global,
     job: &Evaluation<'_, '_>,
     number: usize,
@@ -115,12 +126,13 @@ pub(crate) fn evaluated_alone(
     ensures bad { IfErr result (λ fault. IfBad fault
         (IsBadOfItems job.now.mode (program_of job.now.program.now) job.now.fuel job.now.cache.now.load)) }
 {
-    evaluated::<Brand>(alloc, job, number, Blank::new(1))
+    evaluated::<R, Brand>(rt, alloc, job, number, Blank::new(1))
 }
 
 /// Evaluates a kernel item, asks for the module of its code, and counts the emissions. Its machine is its own, and is
 /// given up at its end.
-fn evaluated<L: Ledger>(
+fn evaluated<R: Threads, L: Ledger>(
+    rt: &R,
     alloc: Global,
     job: &Evaluation<'_, '_>,
     number: usize,
@@ -137,7 +149,7 @@ fn evaluated<L: Ledger>(
 {
     let hints = Receipts::new(alloc);
     let cache = HintedCache::new(job.cache, &hints);
-    let mut steps: Steps<L> = Steps::open(blank);
+    let mut steps: Steps<L> = Steps::open(rt, blank);
     let mut state = KernelState::new(alloc, job.mode, &cache);
     let outcome = outcome_over(alloc, job.program, number, job.fuel, &mut steps, &mut state)?;
     Ok(finished(state, outcome))
