@@ -23,7 +23,7 @@ use crate::fault::RunFault;
 use crate::items::{Built, ItemsEnd, items_end};
 use crate::main_end::main_end;
 use crate::shown::{Shown, write_kernels};
-use mw_cache::Cache;
+use mw_cache::{Asked, Cache};
 use mw_compile::{Entry, Steps};
 use mw_console::Status;
 use mw_outside::Sink;
@@ -90,7 +90,8 @@ pub fn write_items<'p, R: Threads, K: Sink, L: Ledger>(
         });
     }
     let mut steps = Steps::<L>::open(rt, blank);
-    let (end, stored) = main_end(alloc, program, phase, fuel, mode, cache, &mut steps)?;
+    let mut asked = Asked::start(rt);
+    let (end, stored) = main_end(alloc, program, phase, fuel, mode, cache, &mut steps, &mut asked)?;
     let status = write_end(alloc, sink, &end)?;
     Ok(Ran {
         status,

@@ -241,8 +241,9 @@ fn main_after<R: Threads, L: Ledger>(
     requires built { AreBuiltAll phase.now.outcomes }
 {
     let mut steps = Steps::<L>::open(rt, blank);
+    let mut asked = Asked::start(rt);
     match main_phase(
-        alloc, program, phase, plan.fuel, plan.mode, cache, &mut steps,
+        alloc, program, phase, plan.fuel, plan.mode, cache, &mut steps, &mut asked,
     ) {
         Ok(MainEnd { outcome, .. }) => main_line(alloc, &outcome),
         Err(fault) => fault_line(alloc, fault),
