@@ -47,7 +47,9 @@ pub fn main_end<L: Ledger>(
     ensures bad { IfErr result (λ fault. IfBad fault
         (IsBadMain mode (program_of program.now) fuel cache.now.load phase.now.outcomes)) }
 {
-    let MainEnd { outcome, stored } = main_phase(alloc, program, phase, fuel, mode, cache, steps, asked)?;
+    let MainEnd { outcome, stored } = main_phase(
+        alloc, program, phase, fuel, mode, cache, steps, asked,
+    )?;
     Ok((end_of(outcome), stored))
 }
 

@@ -91,7 +91,9 @@ pub fn write_items<'p, R: Threads, K: Sink, L: Ledger>(
     }
     let mut steps = Steps::<L>::open(rt, blank);
     let mut asked = Asked::start(rt);
-    let (end, stored) = main_end(alloc, program, phase, fuel, mode, cache, &mut steps, &mut asked)?;
+    let (end, stored) = main_end(
+        alloc, program, phase, fuel, mode, cache, &mut steps, &mut asked,
+    )?;
     let status = write_end(alloc, sink, &end)?;
     Ok(Ran {
         status,

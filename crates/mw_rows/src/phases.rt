@@ -16,7 +16,7 @@ ghost use Rattle.mw_tasks.specs.Phases.{AreBuiltAll, AreOutcomesOf};
 use crate::fields::{Fault, Row};
 use crate::programs::program;
 use crate::shown::line;
-use mw_cache::{Cache, Got};
+use mw_cache::{Asked, Cache, Got};
 use mw_compile::Steps;
 use mw_console::put_answer;
 use mw_drive::table;
