@@ -12,6 +12,7 @@ use mw_term::{KType, Term};
 use std::alloc::{AllocError, Global};
 use std::marker::Brand;
 use std::sync::ledger::{Blank, Ledger};
+use std::thread::Threads;
 
 /// The bytes of the module of code, which is emitted so many times.
 fn repeated<L: Ledger>(
@@ -36,7 +37,8 @@ fn repeated<L: Ledger>(
 
 /// The bytes of the module of a text's code, which is emitted so many times, from no emissions on; none where it is no
 /// text.
-fn bytes_of<L: Ledger>(
+fn bytes_of<R: Threads, L: Ledger>(
+    rt: &R,
     alloc: Global,
     text: &str,
     times: u64,
@@ -46,7 +48,7 @@ fn bytes_of<L: Ledger>(
     requires parts { blank.parts ≡ L.parts }
     requires some { 0 < L.parts }
 {
-    let mut steps = Steps::<L>::open(blank);
+    let mut steps = Steps::<L>::open(rt, blank);
     match read_text(alloc, text.as_bytes()) {
         Ok((_, code, kind)) => repeated(alloc, &code, &kind, times, &mut steps),
         Err(TextFault::BadText) => Ok(Vec::new(alloc)),
@@ -55,31 +57,45 @@ fn bytes_of<L: Ledger>(
 }
 
 /// How many bytes the module of the large code has, which is emitted so many times.
-fn large_bytes<L: Ledger>(alloc: Global, times: u64, blank: Blank) -> Result<u64, AllocError>
+fn large_bytes<R: Threads, L: Ledger>(
+    rt: &R,
+    alloc: Global,
+    times: u64,
+    blank: Blank,
+) -> Result<u64, AllocError>
     requires name { blank.name ≡ L.name }
     requires parts { blank.parts ≡ L.parts }
     requires some { 0 < L.parts }
 {
     let text = large(alloc)?;
-    let bytes = bytes_of::<L>(alloc, text.as_str(), times, blank)?;
+    let bytes = bytes_of::<R, L>(rt, alloc, text.as_str(), times, blank)?;
     Ok(bytes.len() as u64)
 }
 
 /// The bytes of the module of a sample, by its number.
-fn sample_bytes<L: Ledger>(alloc: Global, number: u64, blank: Blank) -> Result<Vec<u8>, AllocError>
+fn sample_bytes<R: Threads, L: Ledger>(
+    rt: &R,
+    alloc: Global,
+    number: u64,
+    blank: Blank,
+) -> Result<Vec<u8>, AllocError>
     requires name { blank.name ≡ L.name }
     requires parts { blank.parts ≡ L.parts }
     requires some { 0 < L.parts }
 {
-    bytes_of::<L>(alloc, sample(number), 1, blank)
+    bytes_of::<R, L>(rt, alloc, sample(number), 1, blank)
 }
 
 /// The bytes of the module of a sample, by its number.
-pub fn module_of_sample(alloc: Global, number: u64) -> Result<Vec<u8>, AllocError> {
-    sample_bytes::<Brand>(alloc, number, Blank::new(1))
+pub fn module_of_sample<R: Threads>(
+    rt: &R,
+    alloc: Global,
+    number: u64,
+) -> Result<Vec<u8>, AllocError> {
+    sample_bytes::<R, Brand>(rt, alloc, number, Blank::new(1))
 }
 
 /// How many bytes the module of the large code has, which is emitted so many times.
-pub fn emissions(alloc: Global, times: u64) -> Result<u64, AllocError> {
-    large_bytes::<Brand>(alloc, times, Blank::new(1))
+pub fn emissions<R: Threads>(rt: &R, alloc: Global, times: u64) -> Result<u64, AllocError> {
+    large_bytes::<R, Brand>(rt, alloc, times, Blank::new(1))
 }

@@ -193,12 +193,12 @@ fn main(rt: HostRuntime) -> anyhow::Result<ExitCode> {
         return Ok(ExitCode::from(0));
     }
     if let (Some("form"), Some(number)) = (word, count) {
-        let bytes = module_of_sample(rt.alloc(), number)?;
+        let bytes = module_of_sample(&rt, rt.alloc(), number)?;
         println!(rt; "{}", hex::encode(rt.alloc(), bytes.as_slice())?.as_str())?;
         return Ok(ExitCode::from(0));
     }
     if let (Some("emissions"), Some(times)) = (word, count) {
-        println!(rt; "{}", emissions(rt.alloc(), times)?)?;
+        println!(rt; "{}", emissions(&rt, rt.alloc(), times)?)?;
         return Ok(ExitCode::from(0));
     }
     let (Some(chosen), Some(count)) = (chosen, count) else {

@@ -1,6 +1,7 @@
 pub mod Gots
 pub mod Hints
 pub mod Received
+pub mod Asking
 pub mod Keeping
 pub mod Gathering
 pub mod HonestFiles

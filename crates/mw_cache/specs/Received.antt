@@ -1,5 +1,6 @@
 -- Lists of receipts.
-use Rattle.std.specs.Prelude.{◌≡◌, ℕ, List, Some, slice_get}
+use Rattle.std.specs.Prelude.{◌≡◌, ℕ, List, ◌++◌, Some, slice_get}
+use Rattle.std.specs.List.{AllByRecursion}
 use Rattle.mw_slots.specs.Receipts.{Known}
 use Rattle.mw_compile.specs.Entries.{Emitted}
 use Rattle.mw_cache.specs.declared.got.Got.{Got}
@@ -18,3 +19,11 @@ abbrev pub IsReceived : List (Known Emitted) → Got → Type 0
 IsReceived receipts (Loaded at) = Unit {0}
 IsReceived receipts (Stored r) = HasSlot receipts r.slot
 IsReceived receipts (Own n) = AreReceived receipts n.seen
+
+-- each of these is
+abbrev pub AreAllReceived : List (Known Emitted) → List Got → Type 0
+AreAllReceived receipts gots = AllByRecursion (IsReceived receipts) gots
+
+-- what was asked grew, and each that came since is received
+abbrev pub ReceivesSince : List (Known Emitted) → (before after : List Got) → Type 0
+ReceivesSince receipts before after = (more : List Got) × (after ≡ before ++ more) × AreAllReceived receipts more

@@ -1,6 +1,7 @@
 // The cache.
 
-ghost use Rattle.std.specs.Prelude.{◌≡◌, ◌+◌, ◌≤◌, true, false, IfSome, IfOk, MatchBool, ◌≢◌, ◌↔◌, if◌then◌else◌};
+ghost use Rattle.std.specs.Prelude.{◌≡◌, ◌+◌, ◌≤◌, [], ◌∷◌, ◌++◌, true, false, IfSome, IfOk, OnErr, MatchBool, ◌≢◌, ◌↔◌};
+ghost use Rattle.std.specs.Prelude.{if◌then◌else◌};
 ghost use Rattle.std.specs.Arc.{arc_value};
 ghost use Rattle.sha2.specs.Sha256.{sha256};
 ghost use Rattle.mw_term.specs.Terms.{Expression, KernelType, expression_of, kernel_type_of};
@@ -17,6 +18,7 @@ ghost use Rattle.mw_meaning.specs.StandingFor.{StandsFor};
 ghost use Rattle.mw_key.specs.declared.version.Version.{Version};
 ghost use Rattle.mw_wasm.specs.Views.{module_of};
 
+use crate::asked::Asked;
 use crate::emitter::Emitter;
 use crate::got::Got;
 use mw_compile::{Entry, Steps};
@@ -69,7 +71,7 @@ impl<'t> Cache<'t> {
     /// Where the module is of closed code at a type: a loaded record of its text serves, and else the module is
     /// emitted, where the table has none of this text. The hint is a receipt that may be of this text. At most one step
     /// is spent, and the truth value says whether it was; for a loaded text, and for a hint of the same text, it
-    /// wasn't.
+    /// wasn't. The answer is noted.
     pub fn obtain<L: Ledger>(
         &self,
         alloc: Global,
@@ -77,6 +79,7 @@ impl<'t> Cache<'t> {
         kind: &KType,
         hint: Option<&Receipt<Entry>>,
         steps: &mut Steps<L>,
+        asked: &mut Asked,
     ) -> Result<(Got, bool), AllocError>
         requires code { IsCode (expression_of code.now) }
         requires closed { IsClosed (expression_of code.now) }
@@ -98,13 +101,48 @@ impl<'t> Cache<'t> {
             (λ h. h.now.entry.text ≡ canonical_text Two (expression_of code.now) (kernel_type_of kind.now)
             → IfOk result (λ r. r.1 ≡ false)) }
         ensures most { (steps.old ≤ steps.new) × (steps.new ≤ steps.old + 1) }
+        ensures asked { IfOk result (λ r. asked.new ≡ asked.old ++ r.0 ∷ []) }
+        ensures unasked { OnErr result (asked.new ≡ asked.old) }
     {
         let text = text_of(alloc, code, kind)?;
-        self.obtain_written(alloc, text.as_slice(), code, kind, hint, steps)
+        self.obtain_written(alloc, text.as_slice(), code, kind, hint, steps, asked)
     }
 
     /// The same, of code whose text was written before.
     pub fn obtain_written<L: Ledger>(
+        &self,
+        alloc: Global,
+        text: &[u8],
+        code: &Term,
+        kind: &KType,
+        hint: Option<&Receipt<Entry>>,
+        steps: &mut Steps<L>,
+        asked: &mut Asked,
+    ) -> Result<(Got, bool), AllocError>
+        requires written { IsTextOf text.now Two (expression_of code.now)
+            (kernel_type_of kind.now) }
+        requires hint { IfSome hint (λ h. IsOf self.now.cells h.now) }
+        ensures text { IfOk result (λ r. text_in self.now r.0 ≡ text.now) }
+        ensures here { IfOk result (λ r. IsHere self.now r.0) }
+        ensures loaded { IfOk result (λ r. IsLoadedGot r.0 ↔ IsLoadedText self.now.load text.now) }
+        ensures answered { IfSome hint.entry (λ h. IsFetched entry_text home self.now.cells h.now)
+            → IfOk result (λ r. IsAnswered self.now r.0) }
+        ensures spent { IfOk result (λ r. steps.new ≡ steps.old + (if r.1 then 1 else 0)) }
+        ensures free { IsLoadedText self.now.load text.now
+            → (steps.new ≡ steps.old) × IfOk result (λ r. r.1 ≡ false) }
+        ensures hinted { IfSome hint.entry
+            (λ h. h.now.entry.text ≡ text.now → (steps.new ≡ steps.old) × IfOk result (λ r. r.1 ≡ false)) }
+        ensures most { (steps.old ≤ steps.new) × (steps.new ≤ steps.old + 1) }
+        ensures asked { IfOk result (λ r. asked.new ≡ asked.old ++ r.0 ∷ []) }
+        ensures unasked { OnErr result (asked.new ≡ asked.old) }
+    {
+        let (got, spent) = self.found(alloc, text, code, kind, hint, steps)?;
+        asked.add(&got);
+        Ok((got, spent))
+    }
+
+    /// The same, where the answer isn't noted.
+    fn found<L: Ledger>(
         &self,
         alloc: Global,
         text: &[u8],

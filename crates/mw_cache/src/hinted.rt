@@ -1,6 +1,7 @@
 // A cache with receipts that it answered before.
 
-ghost use Rattle.std.specs.Prelude.{◌≡◌, ◌+◌, ◌≤◌, ◌++◌, ◌↔◌, true, All, IfSome, IfOk, IsNone, if◌then◌else◌};
+ghost use Rattle.std.specs.Prelude.{◌≡◌, ◌+◌, ◌≤◌, [], ◌∷◌, ◌++◌, ◌↔◌, true, All, IfSome, IfOk, OnErr, IsNone};
+ghost use Rattle.std.specs.Prelude.{if◌then◌else◌};
 ghost use Rattle.mw_term.specs.Terms.{expression_of, kernel_type_of};
 ghost use Rattle.mw_term.specs.Closed.{IsClosed, IsCode};
 ghost use Rattle.mw_term.specs.Limits.{within_limits, kernel_nodes};
@@ -11,6 +12,7 @@ ghost use Rattle.mw_cache.specs.Gots.{text_in, entry_text, texts_of, loaded_text
 ghost use Rattle.mw_cache.specs.Gots.{IsLoadedText};
 ghost use Rattle.mw_cache.specs.Hints.{price_beside};
 
+use crate::asked::Asked;
 use crate::cache::Cache;
 use crate::got::Got;
 use mw_compile::{Entry, Steps};
@@ -69,13 +71,14 @@ impl<'a, 't> HintedCache<'a, 't> {
     }
 
     /// Where the module is of closed code at a type. A loaded text and one of a hint spend no step, and another one at
-    /// most one; the truth value says whether it was spent.
+    /// most one; the truth value says whether it was spent. The answer is noted.
     pub fn obtain<L: Ledger>(
         &self,
         alloc: Global,
         code: &Term,
         kind: &KType,
         steps: &mut Steps<L>,
+        asked: &mut Asked,
     ) -> Result<(Got, bool), AllocError>
         requires code { IsCode (expression_of code.now) }
         requires closed { IsClosed (expression_of code.now) }
@@ -93,11 +96,13 @@ impl<'a, 't> HintedCache<'a, 't> {
         ensures price { steps.new ≤ steps.old + price_beside self.now.hinted
             (canonical_text Two (expression_of code.now) (kernel_type_of kind.now)) }
         ensures rises { steps.old ≤ steps.new }
+        ensures asked { IfOk result (λ r. asked.new ≡ asked.old ++ r.0 ∷ []) }
+        ensures unasked { OnErr result (asked.new ≡ asked.old) }
     {
         let text = text_of(alloc, code, kind)?;
         let hint = self.hint(text.as_slice());
         self.cache
-            .obtain_written(alloc, text.as_slice(), code, kind, hint, steps)
+            .obtain_written(alloc, text.as_slice(), code, kind, hint, steps, asked)
     }
 
     /// The first hint that is of a text.

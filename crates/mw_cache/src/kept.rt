@@ -57,6 +57,7 @@ impl KeptReceipts {
     /// record has none.
     pub fn keep_got(&mut self, alloc: Global, got: &Got) -> Result<(), AllocError>
         ensures kept { IfOk result (λ _. IsReceived self.new got.now) }
+        ensures stay { (slot : ℕ) → HasSlot self.old slot → HasSlot self.new slot }
         ensures table { (cache : CacheState) → IsHere cache got.now
             → All (IsOf cache.cells) self.old
             → All (IsOf cache.cells) self.new }

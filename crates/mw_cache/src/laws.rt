@@ -2,6 +2,7 @@
 
 ghost use denote.Param.Send.{IsSend, IsSync};
 ghost use denote.Ref.{NamedLft};
+ghost use Rattle.mw_cache.specs.contracts.asked.Asked as asked;
 ghost use Rattle.mw_cache.specs.contracts.cache.Cache as cache;
 ghost use Rattle.mw_cache.specs.contracts.got.Got as got;
 ghost use Rattle.mw_store.specs.contracts.load.Load as load;
@@ -9,6 +10,7 @@ ghost use Rattle.mw_cache.specs.HonestLaws.{HonestBytesLoadHonestly, HonestFront
 ghost use Rattle.mw_cache.specs.HonestLaws.{FrontsAreHonest, HonestFilesGrow};
 ghost use Rattle.mw_cache.specs.MigrationLaws.{OneMigration, MigratedAreNew};
 
+use crate::asked::Asked;
 use mw_compile::laws::entries_cross;
 use mw_validate::laws::valid_modules_cross;
 
@@ -18,6 +20,18 @@ pub fn gots_cross()
     ensures sync { IsSync got.the_row }
 {
     entries_cross();
+}
+
+/// A type of this bound crosses threads.
+fn crosses<E: Send>()
+    ensures { IsSend E.row }
+{}
+
+/// What was asked of a cache may be sent to other threads.
+pub fn asked_crosses()
+    ensures { IsSend asked.the_row }
+{
+    crosses::<Asked>();
 }
 
 /// What was loaded may be shared with other threads.

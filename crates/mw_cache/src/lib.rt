@@ -1,6 +1,7 @@
 //! Modules by their code, through what was loaded and a table that threads share.
 #![tactic(auto)]
 
+mod asked;
 mod cache;
 mod emitter;
 mod got;
@@ -10,6 +11,7 @@ pub mod laws;
 mod migration;
 mod records;
 
+pub use crate::asked::Asked;
 pub use crate::cache::Cache;
 pub use crate::got::Got;
 pub use crate::hinted::HintedCache;

@@ -7,9 +7,12 @@ use Rattle.mw_term.specs.Terms.{Expression, KernelType}
 use Rattle.mw_meaning.specs.Shapes.{IsStray}
 use Rattle.mw_wasm.specs.declared.modules.Module.{Module}
 use Rattle.mw_wasm.specs.Views.{module_of}
-use Rattle.mw_slots.specs.Receipts.{IsOf}
+use Rattle.mw_slots.specs.Receipts.{Known, IsOf}
+use Rattle.mw_compile.specs.Entries.{Emitted}
 use Rattle.mw_store.specs.Loads.{LoadState}
+use Rattle.mw_cache.specs.declared.got.Got.{Got}
 use Rattle.mw_cache.specs.Gots.{text_at}
+use Rattle.mw_cache.specs.Received.{HasSlot, ReceivesSince}
 use Rattle.mw_machine.specs.declared.kernels.Ran.{Ran}
 use Rattle.mw_machine.specs.declared.kernels.KernelFault.{KernelFault}
 use Rattle.mw_machine.specs.declared.kernels.KernelFault.TheVariants as kernel
@@ -75,9 +78,9 @@ noted_bad (Err (kernel.Bad d)) old new before after h = (h.0, h.2)
 -- what calls keep is kept as an answer is noted
 pub follows_noted : (a b c : Standing) (answer : Result Ran KernelFault) → Follows a b
     → (b.bad ≡ a.bad) × (b.digest ≡ a.digest) → c.mode ≡ b.mode → c.cache ≡ b.cache
-    → c.stored ≡ b.stored → c.emitted ≡ b.emitted → c.steps ≡ b.steps
+    → c.stored ≡ b.stored → c.whole ≡ b.whole → c.emitted ≡ b.emitted → c.steps ≡ b.steps → c.asked ≡ b.asked
     → BadIsStrayRecord a.cache.cache.load answer → IsNoted answer b.bad c.bad b.digest c.digest → Follows a c
-follows_noted a b c answer follows unnoted mode cache stored emitted steps stray noted = record {
+follows_noted a b c answer follows unnoted mode cache stored whole emitted steps asked stray noted = record {
   mode_is = mode ∙ follows.mode_is;
   cache_is = cache ∙ follows.cache_is;
   stored = λ h. subst (All (IsOf a.cache.cache.cells)) (sym stored) (follows.stored h);
@@ -85,6 +88,13 @@ follows_noted a b c answer follows unnoted mode cache stored emitted steps stray
       (subst (λ (m : ℕ). b.emitted ≤ n + m) (sym steps) (follows.counted n h));
   rises = λ n h. subst (λ (m : ℕ). n ≤ m) (sym steps) (follows.rises n h);
   told = told_of answer stray noted;
+  slots = λ slot h. subst (λ (rs : List (Known Emitted)). HasSlot rs slot) (sym stored) (follows.slots slot h);
+  received = λ is.
+      let before = follows.received (sym whole ∙ is) in (
+        before.0,
+        subst (λ (rs : List (Known Emitted)). ReceivesSince rs a.asked c.asked) (sym stored)
+            (subst (λ (gots : List Got). ReceivesSince b.stored a.asked gots) (sym asked) before.1),
+      );
 }
   where
     told_of : (answer : Result Ran KernelFault) → BadIsStrayRecord a.cache.cache.load answer

@@ -1,12 +1,14 @@
 // Kernels over a cache.
 
-ghost use Rattle.std.specs.Prelude.{◌≡◌, ◌≤◌, ◌+◌, ◌↔◌, false, [], length, replicate, IfOk};
+ghost use Rattle.std.specs.Prelude.{◌≡◌, ◌≤◌, ◌+◌, ◌↔◌, ℕ, true, false, [], length, replicate, All, IfOk, OnOk, OnErr};
 ghost use Rattle.mw_term.specs.Terms.{expression_of, kernel_type_of};
 ghost use Rattle.mw_meaning.specs.Simplification.{in_mode};
 ghost use Rattle.mw_key.specs.CanonicalText.{IsTextOf, canonical_text};
 ghost use Rattle.mw_key.specs.declared.version.Version.TheVariants.{Two};
 ghost use Rattle.mw_cache.specs.Gots.{IsHere, IsAnswered, IsLoadedGot, IsLoadedText, text_in};
-ghost use Rattle.mw_cache.specs.Received.{IsReceived};
+ghost use Rattle.mw_slots.specs.Receipts.{IsOf};
+ghost use Rattle.mw_cache.specs.Gots.{CacheState};
+ghost use Rattle.mw_cache.specs.Received.{HasSlot, IsReceived};
 ghost use Rattle.mw_machine.specs.KernelCalls.{IsRunnable, IsRunAt, LeavesAtMost, AnswersRun, kept_after};
 ghost use Rattle.mw_cached.specs.Following.{Follows, IsNoted, standing, price_in};
 ghost use Rattle.mw_cached.specs.FunctionStates.{functions_of};
@@ -15,7 +17,7 @@ ghost use Rattle.mw_cached.specs.StrayRecords.{BadIsStrayRecord};
 
 use crate::linked::CachedFunctions;
 use crate::obtaining::obtain_in;
-use mw_cache::{Got, HintedCache, KeptReceipts};
+use mw_cache::{Asked, Got, HintedCache, KeptReceipts};
 use mw_compile::Steps;
 use mw_machine::{KernelFault, Kernels, Ran};
 use mw_meaning::Mode;
@@ -23,12 +25,13 @@ use mw_term::{GroundValue, KType, Term};
 use std::alloc::{AllocError, Global};
 use std::sync::ledger::Ledger;
 
-/// Kernels that run code by the modules of a cache. They count emissions on the steps that they are lent, and what they
-/// have of their own is lent to them too.
+/// Kernels that run code by the modules of a cache. They count emissions on the steps that they are lent, and note what
+/// they ask for on the list that they are lent. What they have of their own is lent to them too.
 #[derive(Drop)]
 pub struct CachedKernels<'s, 'a, 't, L: Ledger> {
     pub alloc: Global,
     pub steps: &'s mut Steps<L>,
+    pub asked: &'s mut Asked,
     pub state: &'s mut KernelState<'a, 't>,
 }
 
@@ -38,6 +41,8 @@ pub struct CachedKernels<'s, 'a, 't, L: Ledger> {
 pub struct KernelState<'a, 't> {
     pub functions: CachedFunctions<'a, 't>,
     pub stored: KeptReceipts,
+    /// Whether the receipts are kept of all that was asked for: else memory ran out for one of them.
+    pub whole: bool,
     /// How many emissions there were, or the greatest number where they are more.
     pub emitted: u64,
     /// How often an answer was bad, or the greatest number where that is more.
@@ -53,6 +58,7 @@ impl<'a, 't> KernelState<'a, 't> {
         ensures functions { result.functions.functions
             ≡ record { mode = mode; functions = []; stopped = false } }
         ensures stored { result.stored ≡ [] }
+        ensures whole { result.whole ≡ true }
         ensures emitted { result.emitted ≡ 0 }
         ensures bad { result.bad ≡ 0 }
         ensures digest { result.digest ≡ replicate 32 0 }
@@ -60,6 +66,7 @@ impl<'a, 't> KernelState<'a, 't> {
         KernelState {
             functions: CachedFunctions::new(alloc, mode, cache),
             stored: KeptReceipts::new(alloc),
+            whole: true,
             emitted: 0,
             bad: 0,
             digest: [0; 32],
@@ -72,11 +79,34 @@ impl<'a, 't> KernelState<'a, 't> {
             self.new.digest }
         ensures functions { self.new.functions ≡ self.old.functions }
         ensures stored { self.new.stored ≡ self.old.stored }
+        ensures whole { self.new.whole ≡ self.old.whole }
         ensures emitted { self.new.emitted ≡ self.old.emitted }
     {
         if let Err(KernelFault::Bad(digest)) = answer {
             self.bad = self.bad.saturating_add(1);
             self.digest = *digest;
+        }
+    }
+
+    /// Keeps the receipts of where a module is, or notes that there was no memory for one.
+    fn keep(&mut self, alloc: Global, got: &Got) -> Result<(), AllocError>
+        ensures kept { IfOk result (λ _. IsReceived self.new.stored got.now) }
+        ensures whole { OnOk result (self.new.whole ≡ self.old.whole) }
+        ensures lacking { OnErr result (self.new.whole ≡ false) }
+        ensures stay { (slot : ℕ) → HasSlot self.old.stored slot → HasSlot self.new.stored slot }
+        ensures table { (cache : CacheState) → IsHere cache got.now
+            → All (IsOf cache.cells) self.old.stored
+            → All (IsOf cache.cells) self.new.stored }
+        ensures functions { self.new.functions ≡ self.old.functions }
+        ensures emitted { self.new.emitted ≡ self.old.emitted }
+        ensures unnoted { (self.new.bad ≡ self.old.bad) × (self.new.digest ≡ self.old.digest) }
+    {
+        match self.stored.keep_got(alloc, got) {
+            Ok(()) => Ok(()),
+            Err(error) => {
+                self.whole = false;
+                Err(error)
+            }
         }
     }
 }
@@ -104,15 +134,17 @@ impl<'s, 'a, 't, L: Ledger> CachedKernels<'s, 'a, 't, L> {
             + price_in state.cache state.functions.mode (expression_of code.now)
             (kernel_type_of kind.now) }
         ensures lent { (self.new.steps.ghost_name ≡ self.old.steps.ghost_name)
-            × (self.new.state.ghost_name ≡ self.old.state.ghost_name) }
-        ensures follows { Follows (standing self.old.state.now self.old.steps.now)
-            (standing self.new.state.now self.new.steps.now) }
+            × (self.new.state.ghost_name ≡ self.old.state.ghost_name)
+            × (self.new.asked.ghost_name ≡ self.old.asked.ghost_name) }
+        ensures follows { Follows
+            (standing self.old.state.now self.old.steps.now self.old.asked.now)
+            (standing self.new.state.now self.new.steps.now self.new.asked.now) }
     {
         let mode = self.state.functions.mode();
         let cache = self.state.functions.cache();
-        let (got, spent) = obtain_in(self.alloc, mode, cache, code, kind, self.steps)?;
+        let (got, spent) = obtain_in(self.alloc, mode, cache, code, kind, self.steps, self.asked)?;
         self.state.emitted = self.state.emitted.saturating_add(u64::from(spent));
-        self.state.stored.keep_got(self.alloc, &got)?;
+        self.state.keep(self.alloc, &got)?;
         Ok(got)
     }
 
@@ -141,9 +173,11 @@ impl<'s, 'a, 't, L: Ledger> CachedKernels<'s, 'a, 't, L> {
             + price_in state.cache state.functions.mode (expression_of code.now)
             (kernel_type_of kind.now) }
         ensures lent { (self.new.steps.ghost_name ≡ self.old.steps.ghost_name)
-            × (self.new.state.ghost_name ≡ self.old.state.ghost_name) }
-        ensures follows { Follows (standing self.old.state.now self.old.steps.now)
-            (standing self.new.state.now self.new.steps.now) }
+            × (self.new.state.ghost_name ≡ self.old.state.ghost_name)
+            × (self.new.asked.ghost_name ≡ self.old.asked.ghost_name) }
+        ensures follows { Follows
+            (standing self.old.state.now self.old.steps.now self.old.asked.now)
+            (standing self.new.state.now self.new.steps.now self.new.asked.now) }
     {
         let got = self.obtain(code, kind)?;
         self.state.functions.run(self.alloc, &got, code, kind, fuel)
@@ -176,7 +210,8 @@ impl<'s, 'a, 't, L: Ledger> Kernels for CachedKernels<'s, 'a, 't, L> {
     ghost cost = { λ k. k.steps.now };
 
     ghost keeps = { λ a b. (b.steps.ghost_name ≡ a.steps.ghost_name) × (b.state.ghost_name ≡ a.state.ghost_name)
-        × Follows (standing a.state.now a.steps.now) (standing b.state.now b.steps.now) };
+        × (b.asked.ghost_name ≡ a.asked.ghost_name)
+        × Follows (standing a.state.now a.steps.now a.asked.now) (standing b.state.now b.steps.now b.asked.now) };
 
     fn run(&mut self, code: &Term, kind: &KType, fuel: u64) -> Result<Ran, KernelFault> {
         let answer = self.answer(code, kind, fuel);
@@ -196,13 +231,13 @@ impl<'s, 'a, 't, L: Ledger> Kernels for CachedKernels<'s, 'a, 't, L> {
         answer
     }
 
-    ghost keeps_itself = { λ _. (refl, refl, follows_itself _) };
+    ghost keeps_itself = { λ _. (refl, refl, refl, follows_itself _) };
 
-    ghost keeps_through = { λ _ _ _ p q. (q.0 ∙ p.0, q.1 ∙ p.1, follows_through _ _ _ p.2 q.2) };
+    ghost keeps_through = { λ _ _ _ p q. (q.0 ∙ p.0, q.1 ∙ p.1, q.2 ∙ p.2, follows_through _ _ _ p.3 q.3) };
 
-    ghost keeps_mode = { λ _ _ p. p.2.mode_is };
+    ghost keeps_mode = { λ _ _ p. p.3.mode_is };
 
-    ghost keeps_sound = { λ _ _ p c t. (right_stays _ _ p.2 c t, right_stayed _ _ p.2 c t) };
+    ghost keeps_sound = { λ _ _ p c t. (right_stays _ _ p.3 c t, right_stayed _ _ p.3 c t) };
 
-    ghost keeps_price = { λ _ _ p c t. price_stays _ _ p.2 c t };
+    ghost keeps_price = { λ _ _ p c t. price_stays _ _ p.3 c t };
 }

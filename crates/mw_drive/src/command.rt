@@ -327,7 +327,7 @@ fn carry_out<R: Threads + Sync, S: Source, K: Sink, C: Keeper, G: Gate>(
             evaluate_file(alloc, place, source, sink, keeper, file, fuel, evaluation)
         }
         Command::Sample { number } => run_sample(alloc, place, sink, keeper, number),
-        Command::Migrate { cache } => migrate(alloc, cache, sink, keeper),
+        Command::Migrate { cache } => migrate(place.rt, alloc, cache, sink, keeper),
         Command::Wat { file } => {
             inquire(alloc, source, sink, file, MOST_OF_MODULE, Inquiry::Text)
         }

@@ -9,7 +9,7 @@ ghost use Rattle.mw_drive.specs.RunFaults.{BlamesSink};
 use crate::ending::write_end;
 use crate::fault::RunFault;
 use crate::main_end::main_end;
-use mw_cache::Cache;
+use mw_cache::{Asked, Cache};
 use mw_compile::{Entry, Steps};
 use mw_console::Status;
 use mw_meaning::{Mode, erase_program};
@@ -20,10 +20,12 @@ use mw_tasks::{Outcomes, Phase};
 use mw_term::Program;
 use std::alloc::Global;
 use std::sync::ledger::{Blank, Ledger};
+use std::thread::Threads;
 
 /// Evaluates main of an accepted program's erased program, which has no kernel items, with so many units, and writes
 /// the last line.
-pub fn write_erased<K: Sink, L: Ledger>(
+pub fn write_erased<R: Threads, K: Sink, L: Ledger>(
+    rt: &R,
     alloc: Global,
     table: &Table<Entry>,
     program: &Program,
@@ -43,8 +45,9 @@ pub fn write_erased<K: Sink, L: Ledger>(
 {
     let erased = erase_program(alloc, program)?;
     let cache = Cache::new(table, Load::new(alloc));
-    let phase = no_kernels(alloc);
-    let mut steps = Steps::<L>::open(blank);
+    let phase = no_kernels(rt, alloc);
+    let mut steps = Steps::<L>::open(rt, blank);
+    let mut asked = Asked::start(rt);
     let (end, _) = main_end(
         alloc,
         &erased,
@@ -53,17 +56,19 @@ pub fn write_erased<K: Sink, L: Ledger>(
         Mode::Plain,
         &cache,
         &mut steps,
+        &mut asked,
     )?;
     write_end(alloc, sink, &end)
 }
 
 /// The phase of no kernel items.
-fn no_kernels(alloc: Global) -> Phase
+fn no_kernels<R: Threads>(rt: &R, alloc: Global) -> Phase
     ensures { result.outcomes ≡ [] }
 {
     Phase {
         outcomes: Outcomes::new(alloc),
         stored: Receipts::new(alloc),
         emitted: 0,
+        asked: Asked::start(rt),
     }
 }

@@ -14,7 +14,7 @@ ghost use Rattle.mw_drive.specs.ProgramRuns.{ending_of};
 ghost use Rattle.mw_drive.specs.ItemOutcomes.{ending_in};
 
 use crate::ending::End;
-use mw_cache::Cache;
+use mw_cache::{Asked, Cache};
 use mw_compile::{Entry, Steps};
 use mw_meaning::Mode;
 use mw_slots::Receipts;
@@ -34,6 +34,7 @@ pub fn main_end<L: Ledger>(
     mode: Mode,
     cache: &Cache<'_>,
     steps: &mut Steps<L>,
+    asked: &mut Asked,
 ) -> Result<(End<'static>, Receipts<Entry>), JobFault>
     requires typable { Typable (program_of program.now) }
     requires small { HasSmallTypes (program_of program.now) }
@@ -46,7 +47,9 @@ pub fn main_end<L: Ledger>(
     ensures bad { IfErr result (λ fault. IfBad fault
         (IsBadMain mode (program_of program.now) fuel cache.now.load phase.now.outcomes)) }
 {
-    let MainEnd { outcome, stored } = main_phase(alloc, program, phase, fuel, mode, cache, steps)?;
+    let MainEnd { outcome, stored } = main_phase(
+        alloc, program, phase, fuel, mode, cache, steps, asked,
+    )?;
     Ok((end_of(outcome), stored))
 }
 

@@ -21,10 +21,12 @@ use mw_outside::{KeepFault, Keeper, Sink, WriteFault};
 use std::alloc::Global;
 use std::marker::Brand;
 use std::sync::ledger::{Blank, Ledger};
+use std::thread::Threads;
 
 /// Writes how many texts of the cache file at a path are of the old version, and how many records are added for them,
 /// and then adds these. Where the file cannot be read, nothing is written.
-pub fn migrate<K: Sink, C: Keeper>(
+pub fn migrate<R: Threads, K: Sink, C: Keeper>(
+    rt: &R,
     alloc: Global,
     path: &str,
     sink: &mut K,
@@ -47,7 +49,13 @@ pub fn migrate<K: Sink, C: Keeper>(
     ensures sink_count { K.faults sink.old ≤ K.faults sink.new }
     ensures keeper_count { C.faults keeper.old ≤ C.faults keeper.new }
 {
-    let found = match uncounted::<C, Brand>(alloc, keeper, CachePath { path }, Blank::new(1)) {
+    let found = match uncounted::<R, C, Brand>(
+        rt,
+        alloc,
+        keeper,
+        CachePath { path },
+        Blank::new(1),
+    ) {
         Ok(found) => found,
         Err(KeepFault::Failed) => return Status::Cache,
         Err(KeepFault::Memory(error)) => return Status::Memory(error),
@@ -71,7 +79,8 @@ struct CachePath<'p> {
 }
 
 /// What a migration of the file at a path comes to. Nobody counts its emissions.
-fn uncounted<C: Keeper, L: Ledger>(
+fn uncounted<R: Threads, C: Keeper, L: Ledger>(
+    rt: &R,
     alloc: Global,
     keeper: &mut C,
     file: CachePath<'_>,
@@ -89,7 +98,7 @@ fn uncounted<C: Keeper, L: Ledger>(
     ensures blames { BlamesKeeper result (C.faults keeper.old) (C.faults keeper.new) }
     ensures count { C.faults keeper.old ≤ C.faults keeper.new }
 {
-    let mut steps = Steps::<L>::open(blank);
+    let mut steps = Steps::<L>::open(rt, blank);
     migration(alloc, keeper, file.path, &mut steps)
 }
 

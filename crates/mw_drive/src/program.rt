@@ -103,7 +103,8 @@ pub fn write_run<R: Threads + Sync, K: Sink, C: Keeper, G: Gate, L: Ledger>(
         &cache,
         place.gate,
     )?;
-    let ran = write_items::<K, L>(
+    let ran = write_items::<R, K, L>(
+        place.rt,
         alloc,
         program,
         &phase,

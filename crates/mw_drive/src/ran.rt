@@ -23,7 +23,7 @@ use crate::fault::RunFault;
 use crate::items::{Built, ItemsEnd, items_end};
 use crate::main_end::main_end;
 use crate::shown::{Shown, write_kernels};
-use mw_cache::Cache;
+use mw_cache::{Asked, Cache};
 use mw_compile::{Entry, Steps};
 use mw_console::Status;
 use mw_outside::Sink;
@@ -32,6 +32,7 @@ use mw_tasks::Phase;
 use mw_term::Program;
 use std::alloc::Global;
 use std::sync::ledger::{Blank, Ledger};
+use std::thread::Threads;
 
 /// How a run that was written ended: its status, receipts of the modules that main asked for, and the kernels that gave
 /// code.
@@ -44,7 +45,8 @@ pub struct Ran<'p> {
 
 /// Writes what the phase of a program's kernel items says of them, evaluates main where all of them gave code, and
 /// writes the last line.
-pub fn write_items<'p, K: Sink, L: Ledger>(
+pub fn write_items<'p, R: Threads, K: Sink, L: Ledger>(
+    rt: &R,
     alloc: Global,
     program: &'p Program,
     phase: &'p Phase,
@@ -87,8 +89,11 @@ pub fn write_items<'p, K: Sink, L: Ledger>(
             built,
         });
     }
-    let mut steps = Steps::<L>::open(blank);
-    let (end, stored) = main_end(alloc, program, phase, fuel, mode, cache, &mut steps)?;
+    let mut steps = Steps::<L>::open(rt, blank);
+    let mut asked = Asked::start(rt);
+    let (end, stored) = main_end(
+        alloc, program, phase, fuel, mode, cache, &mut steps, &mut asked,
+    )?;
     let status = write_end(alloc, sink, &end)?;
     Ok(Ran {
         status,

@@ -100,7 +100,7 @@ pub fn write_source<R: Threads + Sync, K: Sink, C: Keeper, G: Gate, L: Ledger>(
             alloc, place, &program, fuel, options, sink, keeper, blank,
         ),
         Evaluation::Erased => {
-            write_erased::<K, L>(alloc, place.table, &program, fuel, sink, blank)
+            write_erased::<R, K, L>(place.rt, alloc, place.table, &program, fuel, sink, blank)
         }
         Evaluation::Linked(workers) => { write_linked(alloc, place, program, fuel, workers, sink) }
     }

@@ -19,6 +19,7 @@ use mw_term::{Base, BaseValue, Ground, GroundValue, KType, Term};
 use std::alloc::{AllocError, Global};
 use std::marker::Brand;
 use std::sync::ledger::{Blank, Ledger};
+use std::thread::Threads;
 
 /// The value of a base type that a word spells.
 fn base_value(base: &Base, word: &str) -> Option<GroundValue>
@@ -221,12 +222,17 @@ fn bytes_line<L: Ledger>(
 }
 
 /// The run of a row's kernel at the type that its text says, and its calls.
-fn run<L: Ledger>(alloc: Global, row: &Row, blank: Blank) -> Result<String, Fault>
+fn run<R: Threads, L: Ledger>(
+    rt: &R,
+    alloc: Global,
+    row: &Row,
+    blank: Blank,
+) -> Result<String, Fault>
     requires name { blank.name ≡ L.name }
     requires parts { blank.parts ≡ L.parts }
     requires some { 0 < L.parts }
 {
-    let mut steps = Steps::<L>::open(blank);
+    let mut steps = Steps::<L>::open(rt, blank);
     match read_text(alloc, row.bytes("text")) {
         Ok((_, code, kind)) => {
             let lines = run_lines(alloc, row, &code, &kind, &mut steps);
@@ -240,12 +246,17 @@ fn run<L: Ledger>(alloc: Global, row: &Row, blank: Blank) -> Result<String, Faul
 }
 
 /// The bytes of the module of a row's kernel at the type that its text says, as a line.
-fn module_line<L: Ledger>(alloc: Global, row: &Row, blank: Blank) -> Result<String, Fault>
+fn module_line<R: Threads, L: Ledger>(
+    rt: &R,
+    alloc: Global,
+    row: &Row,
+    blank: Blank,
+) -> Result<String, Fault>
     requires name { blank.name ≡ L.name }
     requires parts { blank.parts ≡ L.parts }
     requires some { 0 < L.parts }
 {
-    let mut steps = Steps::<L>::open(blank);
+    let mut steps = Steps::<L>::open(rt, blank);
     match read_text(alloc, row.bytes("text")) {
         Ok((_, code, kind)) => {
             let line = bytes_line(alloc, &code, &kind, &mut steps);
@@ -259,11 +270,11 @@ fn module_line<L: Ledger>(alloc: Global, row: &Row, blank: Blank) -> Result<Stri
 }
 
 /// The bytes of the module of a row's kernel.
-pub fn module_bytes(alloc: Global, row: &Row) -> Result<String, Fault> {
-    module_line::<Brand>(alloc, row, Blank::new(1))
+pub fn module_bytes<R: Threads>(rt: &R, alloc: Global, row: &Row) -> Result<String, Fault> {
+    module_line::<R, Brand>(rt, alloc, row, Blank::new(1))
 }
 
 /// The run of a row's kernel, and its calls.
-pub fn carried_out(alloc: Global, row: &Row) -> Result<String, Fault> {
-    run::<Brand>(alloc, row, Blank::new(1))
+pub fn carried_out<R: Threads>(rt: &R, alloc: Global, row: &Row) -> Result<String, Fault> {
+    run::<R, Brand>(rt, alloc, row, Blank::new(1))
 }

@@ -16,7 +16,7 @@ ghost use Rattle.mw_tasks.specs.Phases.{AreBuiltAll, AreOutcomesOf};
 use crate::fields::{Fault, Row};
 use crate::programs::program;
 use crate::shown::line;
-use mw_cache::{Cache, Got};
+use mw_cache::{Asked, Cache, Got};
 use mw_compile::Steps;
 use mw_console::put_answer;
 use mw_drive::table;
@@ -222,7 +222,8 @@ fn fault_line(alloc: Global, fault: JobFault) -> Result<String, AllocError> {
 }
 
 /// What main comes to after items that all gave code.
-fn main_after<L: Ledger>(
+fn main_after<R: Threads, L: Ledger>(
+    rt: &R,
     alloc: Global,
     program: &Program,
     phase: &Phase,
@@ -239,9 +240,10 @@ fn main_after<L: Ledger>(
         phase.now.outcomes }
     requires built { AreBuiltAll phase.now.outcomes }
 {
-    let mut steps = Steps::<L>::open(blank);
+    let mut steps = Steps::<L>::open(rt, blank);
+    let mut asked = Asked::start(rt);
     match main_phase(
-        alloc, program, phase, plan.fuel, plan.mode, cache, &mut steps,
+        alloc, program, phase, plan.fuel, plan.mode, cache, &mut steps, &mut asked,
     ) {
         Ok(MainEnd { outcome, .. }) => main_line(alloc, &outcome),
         Err(fault) => fault_line(alloc, fault),
@@ -279,7 +281,7 @@ fn phases<R: Threads + Sync, L: Ledger>(
     let emitted = phase.emitted;
     text.push_str(format!(in alloc; "emitted {emitted}\n")?.as_str())?;
     if all_gave(phase.outcomes.as_slice()) {
-        let main = main_after::<L>(alloc, program, &phase, plan, cache, blank)?;
+        let main = main_after::<R, L>(rt, alloc, program, &phase, plan, cache, blank)?;
         text.push_str(main.as_str())?;
     }
     Ok(text)

@@ -5,6 +5,7 @@ ghost use Rattle.mw_spread.specs.declared.job.JobFault.TheVariants.{Memory};
 ghost use Rattle.mw_spread.specs.Outputs.{IfBad};
 
 use std::alloc::{AllocError, Global};
+use std::thread::Threads;
 
 /// Why work has no output: want of memory, or bytes that are bad, whose text has this digest.
 #[derive(Debug, Drop)]
@@ -32,8 +33,13 @@ pub trait Job<I>: Sync {
 
     ghost bad: { Self → I → List ℕ → Type 0 };
 
-    /// The output of an item.
-    fn work(&self, alloc: Global, item: &I) -> Result<Self::Out, JobFault>
+    /// The output of an item. It is made with the runtime's handle.
+    fn work<R: Threads + Sync>(
+        &self,
+        rt: &R,
+        alloc: Global,
+        item: &I,
+    ) -> Result<Self::Out, JobFault>
         requires { takes self.now item.now }
         ensures gives { IfOk result (λ out. gives self.now item.now out) }
         ensures bad { IfErr result (λ fault. IfBad fault (bad self.now item.now)) };

@@ -37,14 +37,19 @@ pub fn spread<R: Threads + Sync, I: Sync, J: Job<I>, G: Gate>(
 }
 
 /// The outputs of one piece.
-fn piece<I, J: Job<I>>(alloc: Global, items: &[I], job: &J) -> Result<Vec<J::Out>, JobFault>
+fn piece<R: Threads + Sync, I, J: Job<I>>(
+    rt: &R,
+    alloc: Global,
+    items: &[I],
+    job: &J,
+) -> Result<Vec<J::Out>, JobFault>
     requires { All (J.takes job.now) items.now }
     ensures outputs { IfOk result (λ outs. AllZip (J.gives job.now) items.now outs.items) }
     ensures bad { IfErr result (λ fault. IfBad fault (OfSome (J.bad job.now) items.now)) }
 {
     let mut outs = Vec::with_capacity(alloc, items.len())?;
     for item in items {
-        outs.push_reserved(job.work(alloc, item)?);
+        outs.push_reserved(job.work(rt, alloc, item)?);
     }
     Ok(outs)
 }
@@ -68,7 +73,7 @@ fn pieces<R: Threads + Sync, I: Sync, J: Job<I>, G: Gate>(
 {
     if count == 1 {
         gate.enter(first);
-        return piece(alloc, items, job);
+        return piece(rt, alloc, items, job);
     }
     let low = count / 2;
     let high = count - low;

@@ -3,7 +3,7 @@ use Rattle.std.proofs.Common.{◌≡◌, ◌≤◌, ◌+◌, ℕ, zero, suc, Lis
 use Rattle.std.specs.Prelude.{get_or, slice_get}
 use Rattle.std.specs.List.{All, AllZip}
 use Rattle.std.proofs.Math.ListN.{drop}
-use Rattle.std.proofs.lemmas.List.Elements.{All-cons, All-map}
+use Rattle.std.proofs.lemmas.List.Elements.{All-cons, All-head, All-tail, All-map}
 use Rattle.mw_term.specs.Terms.{Expression, KernelType, Value}
 use Rattle.mw_term.specs.Programs.{Definition, value as defines, kernel, PureProgram}
 use Rattle.mw_term.specs.SmallTypes.{HasSmallTypes}
@@ -16,12 +16,13 @@ use Rattle.mw_compile.specs.Entries.{Emitted}
 use Rattle.mw_cache.specs.declared.got.Got.{Got}
 use Rattle.mw_cache.specs.declared.got.Got.TheVariants.{Loaded, Stored, Own}
 use Rattle.mw_cache.specs.Gots.{CacheState, IsAnswered}
-use Rattle.mw_cache.specs.Received.{HasSlot, IsReceived}
+use Rattle.mw_cache.specs.Received.{HasSlot, IsReceived, AreAllReceived}
+use Rattle.mw_cached.specs.Receiving.{both_received, all_still_received}
 use Rattle.mw_tasks.specs.declared.job.Done.{Done}
 use Rattle.mw_tasks.specs.declared.outcome.ItemOutcome.{ItemOutcome}
 use Rattle.mw_tasks.specs.declared.outcome.ItemOutcome.TheVariants.{Code, Trap, Bound}
 use Rattle.mw_tasks.specs.TaskOutcomes.{IsKernelItem}
-use Rattle.mw_tasks.specs.Gathering.{outcomes_of, emitted_by, HasAllSlots}
+use Rattle.mw_tasks.specs.Gathering.{outcomes_of, emitted_by, asked_by, HasAllSlots}
 use Rattle.mw_tasks.specs.Phases.{IfBuilt, IsPlaced, IsOutcomeOf, EachKernel, AreOutcomesOf, IsTask, IsDone, IsDoneAt}
 use Rattle.mw_tasks.specs.Phases.{HasSmallKernels}
 use Rattle.mw_tasks.specs.Phases.{kernel_numbers, unloaded_among}
@@ -58,6 +59,17 @@ pub all_answered : (mode : Mode) (names : List Value) (fuel : ℕ) (cache : Cach
 all_answered mode names fuel cache items outcomes each =
     each_gives (IsOutcomeOf mode names fuel cache) (λ o. IfBuilt o (λ c got. IsAnswered cache got))
     (λ k e o h. answered mode cache k o h.placed) items outcomes each
+
+-- what all works asked for is received where the receipts of each are
+asked_received : (stored : List (Known Emitted)) (all : List Done) → All (HasAllSlots stored) all
+    → All (λ (d : Done). AreAllReceived d.stored d.asked) all → AreAllReceived stored (asked_by all)
+asked_received stored [] slots own = tt
+asked_received stored (d ∷ all) slots own =
+    both_received stored d.asked (asked_by all)
+    (all_still_received d.stored stored (All-head (HasAllSlots stored) d all slots) d.asked
+    (All-head (λ (d : Done). AreAllReceived d.stored d.asked) d all own))
+    (asked_received stored all (All-tail (HasAllSlots stored) d all slots)
+    (All-tail (λ (d : Done). AreAllReceived d.stored d.asked) d all own))
 
 -- more receipts are of the same modules
 receives_more : (some more : List (Known Emitted)) → ((slot : ℕ) → HasSlot some slot → HasSlot more slot)
@@ -122,6 +134,11 @@ module _ (mode : Mode) (p : PureProgram) (fuel : ℕ) (cache : CacheState) (numb
       (All-map (λ (o : ItemOutcome). IfBuilt o (λ c got. IsReceived stored got)) (λ (d : Done). d.outcome) all
       (λ k d less. received_more (get_or all k d).stored stored (slots k d less) (get_or all k d).outcome
       (own k d less)))
+
+  pub all_asked : (stored : List (Known Emitted)) → All (HasAllSlots stored) all → AreAllReceived stored (asked_by all)
+  all_asked stored slots = asked_received stored all slots
+      (each_gives (IsDone mode names fuel cache) (λ (d : Done). AreAllReceived d.stored d.asked)
+      (λ k e d h. h.asked) p.items all each_done)
 
   pub all_of_table : All (λ (d : Done). All (IsOf cache.cells) d.stored) all
   all_of_table = each_gives (IsDone mode names fuel cache) (λ (d : Done). All (IsOf cache.cells) d.stored)

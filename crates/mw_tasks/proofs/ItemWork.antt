@@ -1,6 +1,6 @@
 -- What the work on a kernel item gave is what was asked of it.
 use Rattle.std.proofs.Common.{◌≡◌, ◌≤◌, ◌+◌, inl, inr, ℕ, zero, suc, Bool, true, false, if◌then◌else◌, List, [], ◌∷◌}
-use Rattle.std.proofs.Common.{map, Some, refl, sym, ap, ◌∙◌, subst, arith}
+use Rattle.std.proofs.Common.{map, Some, refl, sym, ap, ◌∙◌, ◌++◌, subst, arith}
 use Rattle.std.specs.Prelude.{slice_get, ◌↔◌}
 use Rattle.std.specs.Str.{bytes_eq}
 use Rattle.std.specs.List.{All}
@@ -27,7 +27,7 @@ use Rattle.mw_cache.specs.declared.got.Got.{Got}
 use Rattle.mw_cache.specs.declared.got.Got.TheVariants.{Loaded, Stored, Own}
 use Rattle.mw_cache.specs.Gots.{CacheState, text_in, loaded_texts, IsHere, IsAnswered, IsLoadedGot, IsLoadedText}
 use Rattle.mw_cache.specs.Hints.{HintedState, price_beside}
-use Rattle.mw_cache.specs.Received.{IsReceived}
+use Rattle.mw_cache.specs.Received.{IsReceived, AreAllReceived}
 use Rattle.mw_cached.specs.Following.{Standing, Follows, follows_through, price_in}
 use Rattle.mw_tasks.specs.declared.job.Done.{Done}
 use Rattle.mw_tasks.specs.declared.outcome.Evaluated.{Evaluated}
@@ -104,12 +104,20 @@ pub record IsFirst (first : Standing) : Type 0 where
   pub none : first.stored ≡ []
   pub uncounted : first.emitted ≡ 0
   pub unspent : first.steps ≡ 0
+  pub unasked : first.asked ≡ []
 
--- After the evaluation all receipts are of the table, and no more emissions are counted than steps were spent.
+-- After the evaluation all receipts are of the table, and no more emissions are counted than steps were spent. Where the
+-- receipts are whole, all that was asked for is received.
 module _ {first next : Standing} (f : IsFirst first) (follows : Follows first next) where
   all_of_table : All (IsOf first.cache.cache.cells) next.stored
   all_of_table = follows.stored (subst (All (IsOf first.cache.cache.cells)) (sym f.none)
       (λ k d less. absurd (omega arith)))
+
+  all_asked : next.whole ≡ true → AreAllReceived next.stored next.asked
+  all_asked whole =
+      let since = (follows.received whole).1 in
+      subst (AreAllReceived next.stored)
+      (sym (since.1 ∙ ap (λ (gots : List Got). gots ++ since.0) f.unasked)) since.2
 
   counted_by : (n : ℕ) → next.steps ≤ first.steps + n → next.emitted ≤ n
   counted_by n spent =
@@ -154,9 +162,9 @@ module _ (p : PureProgram) (fuel number : ℕ) (first : Standing) where
   module _ {next : Standing} (f : IsFirst first) (follows : Follows first next) (o : Evaluated)
       (answer : AreRight → IsItemAnswer o (item_outcome first.mode names fuel term))
       (spent : AreRight → next.steps ≤ first.steps + most) where
-    pub trap_finished : (t : TrapKind) → o ≡ evaluated.Trap t
-        → Done_at record { outcome = Trap t; stored = next.stored; emitted = next.emitted }
-    trap_finished t is = of_term _ (λ k e here. record {
+    pub trap_finished : (t : TrapKind) → o ≡ evaluated.Trap t → next.whole ≡ true
+        → Done_at record { outcome = Trap t; stored = next.stored; emitted = next.emitted; asked = next.asked }
+    trap_finished t is whole = of_term _ (λ k e here. record {
       outcome = record {
         means = λ right. trap_answers t (item_outcome first.mode names fuel term)
             (subst (λ o. IsItemAnswer o (item_outcome first.mode names fuel term)) is (answer right));
@@ -164,12 +172,13 @@ module _ (p : PureProgram) (fuel number : ℕ) (first : Standing) where
       };
       stored = all_of_table f follows;
       received = tt;
+      asked = all_asked f follows whole;
       emitted = λ right. let less = counted_by f follows most (spent right) in omega (arith, less);
     })
 
-    pub bound_finished : (l : Limit) → o ≡ evaluated.Bound l
-        → Done_at record { outcome = Bound l; stored = next.stored; emitted = next.emitted }
-    bound_finished l is = of_term _ (λ k e here. record {
+    pub bound_finished : (l : Limit) → o ≡ evaluated.Bound l → next.whole ≡ true
+        → Done_at record { outcome = Bound l; stored = next.stored; emitted = next.emitted; asked = next.asked }
+    bound_finished l is whole = of_term _ (λ k e here. record {
       outcome = record {
         means = λ right. bound_answers l (item_outcome first.mode names fuel term)
             (subst (λ o. IsItemAnswer o (item_outcome first.mode names fuel term)) is (answer right));
@@ -177,6 +186,7 @@ module _ (p : PureProgram) (fuel number : ℕ) (first : Standing) where
       };
       stored = all_of_table f follows;
       received = tt;
+      asked = all_asked f follows whole;
       emitted = λ right. let less = counted_by f follows most (spent right) in omega (arith, less);
     })
 
@@ -184,7 +194,7 @@ module _ (p : PureProgram) (fuel number : ℕ) (first : Standing) where
     module _ {last : Standing} (after : Follows next last) (c : Term) (got : Got) (kind : KernelType)
         (of_kind : HasKind p number kind) (is : o ≡ evaluated.Code c) (typed : IfItsCode o (IsCodeOf p number))
         (obtained : IsObtained next.mode next.cache (expression_of c) kind got next.steps last.steps)
-        (received : IsReceived last.stored got) where
+        (received : IsReceived last.stored got) (whole : last.whole ≡ true) where
       own : (k : KernelType) (e : Expression) → slice_get p.items number ≡ Some (kernel k e)
           → IsObtained first.mode first.cache (expression_of c) k got next.steps last.steps
       own k e here =
@@ -207,7 +217,8 @@ module _ (p : PureProgram) (fuel number : ℕ) (first : Standing) where
           let price = got_price first.cache.cache.load text c got x.loaded.0 in
           counted_by f whole_follows (most + is_unloaded (Code c got)) (omega (arith, before, one, price))
 
-      pub code_finished : Done_at record { outcome = Code c got; stored = last.stored; emitted = last.emitted }
+      pub code_finished : Done_at
+          record { outcome = Code c got; stored = last.stored; emitted = last.emitted; asked = last.asked }
       code_finished = of_term _ (λ k e here.
           let code = subst (λ o. IfItsCode o (IsCodeOf p number)) is typed k e here in
           let x = own k e here in
@@ -227,29 +238,39 @@ module _ (p : PureProgram) (fuel number : ℕ) (first : Standing) where
             };
             stored = all_of_table f whole_follows;
             received = received;
+            asked = all_asked f whole_follows whole;
             emitted = λ right. counted k x right;
           })
 
 -- what is of the same parts
 done_same : (mode : Mode) (names : List Value) (fuel : ℕ) (cache : CacheState) (k : KernelType) (e : Expression)
     (done same : Done) → done.outcome ≡ same.outcome
-    → done.stored ≡ same.stored → done.emitted ≡ same.emitted → IsDone mode names fuel cache k e same
+    → done.stored ≡ same.stored → done.emitted ≡ same.emitted → done.asked ≡ same.asked
+    → IsDone mode names fuel cache k e same
     → IsDone mode names fuel cache k e done
-done_same mode names fuel cache k e done same p q r h = record {
+done_same mode names fuel cache k e done same p q r s h = record {
   outcome = subst (IsOutcomeOf mode names fuel cache k e) (sym p) h.outcome;
   stored = subst (All (IsOf cache.cells)) (sym q) h.stored;
   received = subst (λ (o : ItemOutcome). IfBuilt o (λ c got. IsReceived done.stored got)) (sym p)
       (subst (λ (rs : List (Known Emitted)). IfBuilt same.outcome (λ c got. IsReceived rs got)) (sym q) h.received);
   emitted = rw (r, p) h.emitted;
+  asked = subst (AreAllReceived done.stored) (sym s)
+      (subst (λ (rs : List (Known Emitted)). AreAllReceived rs same.asked) (sym q) h.asked);
 }
 
 -- what was left is the work's output
 pub left_done : (p : PureProgram) (fuel number : ℕ) (own mode : Mode) (seen cache : CacheState) (done same : Done)
     → own ≡ mode → seen ≡ cache
     → done.outcome ≡ same.outcome → done.stored ≡ same.stored → done.emitted ≡ same.emitted
+    → done.asked ≡ same.asked
     → IsDoneAt own p fuel seen number same
     → IsDoneAt mode p fuel cache number done
-left_done p fuel number own mode seen cache done same q r o s n h k e here =
-    done_same mode (names_of_items p.items) fuel cache k e done same o s n
+left_done p fuel number own mode seen cache done same q r o s n a h k e here =
+    done_same mode (names_of_items p.items) fuel cache k e done same o s n a
     (subst (λ m. IsDone m (names_of_items p.items) fuel cache k e same) q
     (subst (λ x. IsDone own (names_of_items p.items) fuel x k e same) r (h k e here)))
+
+-- what holds of what was lent holds of what is given back
+pub given_back : {A B : Type 0} (P : A → B → Type 0) (x lent : A) (y shared : B) → x ≡ lent → y ≡ shared
+    → P lent shared → P x y
+given_back P x lent y shared p q h = subst (λ a. P a y) (sym p) (subst (λ b. P lent b) (sym q) h)

@@ -8,6 +8,7 @@ use Rattle.mw_term.specs.contracts.program.Program as Program
 use Rattle.mw_term.specs.contracts.term.Term as Term
 use Rattle.mw_compile.specs.contracts.entry.Entry as Entry
 use Rattle.mw_slots.proofs.SendSync.{receipts_send}
+use Rattle.mw_cache.specs.contracts.asked.Asked as Asked
 use Rattle.mw_cache.specs.contracts.cache.Cache as Cache
 use Rattle.mw_cache.specs.contracts.got.Got as Got
 use Rattle.mw_tasks.specs.contracts.job.Done as Done
@@ -19,9 +20,9 @@ outcome_send : IsSend Term.the_row → IsSend Got.the_row → IsSend Outcome.the
 outcome_send t g =
     variants_send Outcome.enum ((t, (g, tt)), ((search sendable depth 40, tt), ((search sendable depth 40, tt), tt)))
 
-pub done_send : IsSend Term.the_row → IsSend Got.the_row → IsSend Done.the_row
-done_send t g = declared_send Done.the_type
-    (outcome_send t g, (receipts_send Entry.the_row, (search sendable depth 40, tt)))
+pub done_send : IsSend Term.the_row → IsSend Got.the_row → IsSend Asked.the_row → IsSend Done.the_row
+done_send t g a = declared_send Done.the_type
+    (outcome_send t g, (receipts_send Entry.the_row, (search sendable depth 40, (a, tt))))
 
 pub taken_send : IsSend Done.the_row → IsSend Taken.the_row
 taken_send d = declared_send Taken.the_type (search sendable depth 40, (d, tt))

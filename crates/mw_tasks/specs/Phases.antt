@@ -18,7 +18,7 @@ use Rattle.mw_store.specs.Loads.{LoadState}
 use Rattle.mw_cache.specs.Gots.{CacheState, text_in, loaded_texts, IsHere, IsAnswered, IsLoadedGot, IsLoadedText}
 use Rattle.mw_cache.specs.Gots.{HaveOneSlot}
 use Rattle.mw_cache.specs.Hints.{price_beside}
-use Rattle.mw_cache.specs.Received.{IsReceived}
+use Rattle.mw_cache.specs.Received.{IsReceived, AreAllReceived}
 use Rattle.mw_cache.specs.declared.got.Got.{Got}
 use Rattle.mw_cache.specs.declared.got.Got.TheVariants.{Loaded, Stored, Own}
 use Rattle.mw_tasks.specs.declared.job.Done.{Done}
@@ -131,13 +131,14 @@ pub record IsTask (p : PureProgram) (number : ℕ) : Type 0 where
   pub kernels : HasSmallKernels p
   pub is_kernel : IsKernelItem p number
 
--- What the work on a kernel item gave: its outcome, receipts of the modules that it asked for, and the count of its
+-- What the work on a kernel item gave: its outcome, receipts of all modules that it asked for, and the count of its
 -- emissions.
 pub record IsDone (mode : Mode) (names : List Value) (fuel : ℕ) (cache : CacheState) (k : KernelType) (e : Expression)
     (done : Done) : Type 0 where
   pub outcome : IsOutcomeOf mode names fuel cache k e done.outcome
   pub stored : All (IsOf cache.cells) done.stored
   pub received : IfBuilt done.outcome (λ c got. IsReceived done.stored got)
+  pub asked : AreAllReceived done.stored done.asked
   pub emitted : AreRightRuns mode cache.load (runs mode names fuel e)
       → done.emitted ≤ prices (unloaded_price mode cache.load) (runs mode names fuel e) + is_unloaded done.outcome
 

@@ -14,6 +14,7 @@ ghost use Rattle.mw_slots.specs.Receipts.{IsOf, IsFetched};
 ghost use Rattle.mw_key.specs.CanonicalText.{home};
 ghost use Rattle.mw_spread.specs.Outputs.{IfBad};
 ghost use Rattle.mw_cache.specs.Gots.{IsAnswered, entry_text, texts_of};
+ghost use Rattle.mw_cache.specs.Received.{ReceivesSince};
 ghost use Rattle.mw_cached.specs.Following.{Follows, standing, price_in};
 ghost use Rattle.mw_tasks.specs.TaskOutcomes.{IsMainAnswer, IfGiven};
 ghost use Rattle.mw_tasks.specs.BadItems.{IsBadOfRuns};
@@ -24,7 +25,7 @@ ghost use Rattle.mw_tasks.specs.Phases.{stored_text, stored_texts, main_price};
 use crate::entry::evaluate_main;
 use crate::items_phase::Phase;
 use crate::outcome::{ItemOutcome, MainOutcome};
-use mw_cache::{Cache, Got, HintedCache};
+use mw_cache::{Asked, Cache, Got, HintedCache};
 use mw_cached::{CachedKernels, KernelState};
 use mw_compile::{Entry, Steps};
 use mw_machine::KernelFault;
@@ -44,8 +45,8 @@ pub struct MainEnd {
 
 /// Evaluates main of a program, with so many units, after the phase of its kernel items, all of which gave code. The
 /// codes stand in place of the items' terms. A run of code whose text was loaded, or that a kernel item has in the
-/// table, spends no step, and another run at most one. The error is want of memory, or the digest of a loaded record
-/// whose module is stray.
+/// table, spends no step, and another run at most one. What the runs ask for is noted, and its receipts are given. The
+/// error is want of memory, or the digest of a loaded record whose module is stray.
 pub fn main_phase<L: Ledger>(
     alloc: Global,
     program: &Program,
@@ -54,6 +55,7 @@ pub fn main_phase<L: Ledger>(
     mode: Mode,
     cache: &Cache<'_>,
     steps: &mut Steps<L>,
+    asked: &mut Asked,
 ) -> Result<MainEnd, JobFault>
     requires typable { Typable (program_of program.now) }
     requires small { HasSmallTypes (program_of program.now) }
@@ -72,6 +74,7 @@ pub fn main_phase<L: Ledger>(
         + prices (main_price mode cache.now.load phase.now.outcomes) (runs mode names fuel p.body)) }
     ensures rises { IfOk result (λ _. steps.old ≤ steps.new) }
     ensures table { IfOk result (λ end. All (IsOf cache.now.cells) end.stored) }
+    ensures stored { IfOk result (λ end. ReceivesSince end.stored asked.old asked.new) }
     ensures bad { let p = program_of program.now in
         let names = names_of_main p.items (codes_in phase.now.outcomes) in
         IfErr result
@@ -81,21 +84,33 @@ pub fn main_phase<L: Ledger>(
     let hints = stored_receipts(alloc, cache, phase.outcomes.as_slice())?;
     let cache = HintedCache::new(cache, &hints);
     let mut state = KernelState::new(alloc, mode, &cache);
-    let outcome = evaluated_over(alloc, program, codes.as_slice(), fuel, steps, &mut state)?;
-    let KernelState { stored, .. } = state;
+    let outcome = evaluated_over(
+        alloc,
+        program,
+        codes.as_slice(),
+        fuel,
+        steps,
+        asked,
+        &mut state,
+    )?;
+    let KernelState { stored, whole, .. } = state;
+    if !whole {
+        return Err(JobFault::Memory(AllocError));
+    }
     Ok(MainEnd {
         outcome,
         stored: stored.into_receipts(),
     })
 }
 
-/// What main comes to over kernels of a cache that count on these steps.
+/// What main comes to over kernels of a cache that count on these steps and note here what they ask for.
 fn evaluated_over<L: Ledger>(
     alloc: Global,
     program: &Program,
     codes: &[&Term],
     fuel: u64,
     steps: &mut Steps<L>,
+    asked: &mut Asked,
     state: &mut KernelState<'_, '_>,
 ) -> Result<MainOutcome, JobFault>
     requires typable { Typable (program_of program.now) }
@@ -120,11 +135,13 @@ fn evaluated_over<L: Ledger>(
         let own = state.old.functions in let mode = own.functions.mode in
         IfErr result (λ fault. IfBad fault
         (IsBadOfRuns mode own.cache.cache.load (runs mode names fuel p.body))) }
-    ensures follows { Follows (standing state.old steps.old) (standing state.new steps.new) }
+    ensures follows { Follows (standing state.old steps.old asked.old)
+        (standing state.new steps.new asked.new) }
 {
     let kernels = &mut CachedKernels {
         alloc,
         steps,
+        asked,
         state,
     };
     match evaluate_main(alloc, program, codes, fuel, kernels) {

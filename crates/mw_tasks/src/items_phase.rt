@@ -8,7 +8,7 @@ ghost use Rattle.mw_term.specs.Typable.{Typable};
 ghost use Rattle.mw_meaning.specs.Outcomes.{names_of_items};
 ghost use Rattle.mw_slots.specs.Receipts.{IsOf};
 ghost use Rattle.mw_spread.specs.Outputs.{IfBad};
-ghost use Rattle.mw_cache.specs.Received.{IsReceived};
+ghost use Rattle.mw_cache.specs.Received.{IsReceived, AreAllReceived};
 ghost use Rattle.mw_tasks.specs.Phases.{HasSmallKernels, AreOutcomesOf, IfBuilt, AllHaveOneModule};
 ghost use Rattle.mw_tasks.specs.Phases.{unloaded_among, kernel_numbers};
 ghost use Rattle.mw_tasks.specs.BadItems.{IsBadOfItems};
@@ -20,7 +20,7 @@ use crate::job::Evaluation;
 use crate::laws::{evaluations_cross, taken_crosses};
 use crate::outcome::Outcomes;
 use crate::places::in_order;
-use mw_cache::Cache;
+use mw_cache::{Asked, Cache};
 use mw_compile::Entry;
 use mw_meaning::Mode;
 use mw_outside::Gate;
@@ -32,12 +32,13 @@ use std::sync::atomic::AtomicU64;
 use std::thread::Threads;
 
 /// What the kernel items of a program came to, all of them, in order; receipts of the modules that were asked for, one
-/// for each slot; and how many emissions there were, or the greatest number where they were more.
+/// for each slot; how many emissions there were, or the greatest number where they were more; and what was asked for.
 #[derive(Drop)]
 pub struct Phase {
     pub outcomes: Outcomes,
     pub stored: Receipts<Entry>,
     pub emitted: u64,
+    pub asked: Asked,
 }
 
 /// Evaluates each kernel item of a program, with so many units, by so many workers at most, over a cache. A worker that
@@ -62,6 +63,7 @@ pub fn kernels_phase<R: Threads + Sync, G: Gate>(
     ensures slots { IfOk result (λ phase. AllHaveOneModule phase.outcomes) }
     ensures stored { IfOk result
         (λ phase. All (λ o. IfBuilt o (λ c got. IsReceived phase.stored got)) phase.outcomes) }
+    ensures received { IfOk result (λ phase. AreAllReceived phase.stored phase.asked) }
     ensures table { IfOk result (λ phase. All (IsOf cache.now.cells) phase.stored) }
     ensures emitted { let items = (program_of program.now).items in
         AreRightItems mode (program_of program.now) fuel cache.now.load
@@ -84,8 +86,8 @@ pub fn kernels_phase<R: Threads + Sync, G: Gate>(
         cache,
     };
     let taken = spread(rt, alloc, workers, at_work.as_slice(), &job, gate)?;
-    let all = in_order(alloc, &job, taken)?;
-    let phase = gathered(alloc, all)?;
+    let all = in_order(rt, alloc, &job, taken)?;
+    let phase = gathered(rt, alloc, all)?;
     agree_all(cache, phase.outcomes.as_slice());
     Ok(phase)
 }

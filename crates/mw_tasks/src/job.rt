@@ -1,6 +1,6 @@
 // A worker's part of the evaluation: the kernel items that it takes.
 
-ghost use Rattle.std.specs.Prelude.{◌≡◌, ◌+◌, ◌≤◌, ◌<◌, [], ◌∷◌, ◌++◌, false, All, IfOk, IfErr, OnOk};
+ghost use Rattle.std.specs.Prelude.{◌≡◌, ◌+◌, ◌≤◌, ◌<◌, [], ◌∷◌, ◌++◌, true, false, All, IfOk, IfErr, OnOk};
 ghost use Rattle.mw_term.specs.Terms.{kernel_type_of};
 ghost use Rattle.mw_term.specs.Programs.{program_of};
 ghost use Rattle.mw_term.specs.SmallTypes.{HasSmallTypes};
@@ -20,7 +20,7 @@ ghost use Rattle.mw_tasks.specs.Taking.{IsTakenIn};
 
 use crate::kernel_item::evaluate_item;
 use crate::outcome::{Evaluated, ItemOutcome};
-use mw_cache::{Cache, HintedCache};
+use mw_cache::{Asked, Cache, HintedCache};
 use mw_cached::{CachedKernels, KernelState};
 use mw_compile::{Entry, Steps};
 use mw_machine::KernelFault;
@@ -32,6 +32,7 @@ use std::alloc::{AllocError, Global};
 use std::marker::Brand;
 use std::sync::atomic::{AtomicU64, Ordering};
 use std::sync::ledger::{Blank, Ledger};
+use std::thread::Threads;
 
 /// The evaluation of a program's kernel items over a cache. `numbers` are those of the kernel items among all items;
 /// `next` is how many of them have been taken by workers, or more.
@@ -45,12 +46,14 @@ pub struct Evaluation<'a, 't> {
     pub cache: &'a Cache<'t>,
 }
 
-/// What a kernel item came to, with the receipts of the modules that its evaluation asked for, and its emissions.
+/// What a kernel item came to, with the receipts of the modules that its evaluation asked for, its emissions, and what it
+/// asked for.
 #[derive(Drop)]
 pub struct Done {
     pub outcome: ItemOutcome,
     pub stored: Receipts<Entry>,
     pub emitted: u64,
+    pub asked: Asked,
 }
 
 /// What the kernel item that a worker took came to, and its place among the kernel items.
@@ -70,13 +73,22 @@ impl<'a, 't> Job<usize> for Evaluation<'a, 't> {
     ghost bad = { λ job _.
         IsBadOfItems job.mode (program_of job.program.now) job.fuel job.cache.now.load };
 
-    fn work(&self, alloc: Global, _worker: &usize) -> Result<Vec<Taken>, JobFault> {
-        taken_by_one(alloc, self)
+    fn work<R: Threads + Sync>(
+        &self,
+        rt: &R,
+        alloc: Global,
+        _worker: &usize,
+    ) -> Result<Vec<Taken>, JobFault> {
+        taken_by_one(rt, alloc, self)
     }
 }
 
 /// Takes kernel items one after the other, for as long as one is left, and evaluates each.
-fn taken_by_one(alloc: Global, job: &Evaluation<'_, '_>) -> Result<Vec<Taken>, JobFault>
+fn taken_by_one<R: Threads>(
+    rt: &R,
+    alloc: Global,
+    job: &Evaluation<'_, '_>,
+) -> Result<Vec<Taken>, JobFault>
     requires { All (IsTask (program_of job.now.program.now)) job.now.numbers.now }
     ensures gives { IfOk result (λ taken. All (IsTakenIn job.now) taken.items) }
     ensures bad { IfErr result (λ fault. IfBad fault
@@ -88,7 +100,7 @@ fn taken_by_one(alloc: Global, job: &Evaluation<'_, '_>) -> Result<Vec<Taken>, J
         let Some(number) = job.numbers.get(at) else {
             break;
         };
-        let done = evaluated_alone(alloc, job, *number)?;
+        let done = evaluated_alone(rt, alloc, job, *number)?;
         add_taken(&mut taken, at, done)?;
     }
     Ok(taken)
@@ -104,7 +116,8 @@ fn add_taken(taken: &mut Vec<Taken>, at: usize, done: Done) -> Result<(), AllocE
 }
 
 /// Evaluates a kernel item, where nobody else counts its emissions.
-pub(crate) fn evaluated_alone(
+pub(crate) fn evaluated_alone<R: Threads>(
+    rt: &R,
     alloc: Global,
     job: &Evaluation<'_, '_>,
     number: usize,
@@ -115,12 +128,13 @@ pub(crate) fn evaluated_alone(
     ensures bad { IfErr result (λ fault. IfBad fault
         (IsBadOfItems job.now.mode (program_of job.now.program.now) job.now.fuel job.now.cache.now.load)) }
 {
-    evaluated::<Brand>(alloc, job, number, Blank::new(1))
+    evaluated::<R, Brand>(rt, alloc, job, number, Blank::new(1))
 }
 
 /// Evaluates a kernel item, asks for the module of its code, and counts the emissions. Its machine is its own, and is
 /// given up at its end.
-fn evaluated<L: Ledger>(
+fn evaluated<R: Threads, L: Ledger>(
+    rt: &R,
     alloc: Global,
     job: &Evaluation<'_, '_>,
     number: usize,
@@ -137,20 +151,34 @@ fn evaluated<L: Ledger>(
 {
     let hints = Receipts::new(alloc);
     let cache = HintedCache::new(job.cache, &hints);
-    let mut steps: Steps<L> = Steps::open(blank);
+    let mut steps: Steps<L> = Steps::open(rt, blank);
+    let mut asked = Asked::start(rt);
     let mut state = KernelState::new(alloc, job.mode, &cache);
-    let outcome = outcome_over(alloc, job.program, number, job.fuel, &mut steps, &mut state)?;
-    Ok(finished(state, outcome))
+    let outcome = outcome_over(
+        alloc,
+        job.program,
+        number,
+        job.fuel,
+        &mut steps,
+        &mut asked,
+        &mut state,
+    )?;
+    let whole = state.whole;
+    if !whole {
+        return Err(JobFault::Memory(AllocError));
+    }
+    Ok(finished(state, asked, outcome))
 }
 
-/// What a kernel item comes to over new kernels of a cache that count on these steps, and where the module of its code
-/// is.
+/// What a kernel item comes to over new kernels of a cache that count on these steps and note here what they ask for, and
+/// where the module of its code is.
 fn outcome_over<L: Ledger>(
     alloc: Global,
     program: &Program,
     number: usize,
     fuel: u64,
     steps: &mut Steps<L>,
+    asked: &mut Asked,
     state: &mut KernelState<'_, '_>,
 ) -> Result<ItemOutcome, JobFault>
     requires task { IsTask (program_of program.now) number }
@@ -160,10 +188,16 @@ fn outcome_over<L: Ledger>(
     requires none { state.old.stored ≡ [] }
     requires uncounted { state.old.emitted ≡ 0 }
     requires unspent { steps.old ≡ 0 }
+    requires unasked { asked.old ≡ [] }
     requires unnoted { state.old.bad ≡ 0 }
-    ensures done { let own = state.old.functions in IfOk result (λ o.
+    ensures done { let own = state.old.functions in state.new.whole ≡ true → IfOk result (λ o.
         IsDoneAt own.functions.mode (program_of program.now) fuel own.cache.cache number
-        record { outcome = o; stored = state.new.stored; emitted = state.new.emitted }) }
+        record {
+          outcome = o;
+          stored = state.new.stored;
+          emitted = state.new.emitted;
+          asked = asked.new;
+        }) }
     ensures bad { let own = state.old.functions in IfErr result (λ fault. IfBad fault
         (IsBadOfItems own.functions.mode (program_of program.now) fuel own.cache.cache.load)) }
 {
@@ -175,6 +209,7 @@ fn outcome_over<L: Ledger>(
         &mut CachedKernels {
             alloc,
             steps,
+            asked,
             state,
         },
     )
@@ -195,14 +230,22 @@ fn placed_outcome<L: Ledger>(
     requires none { kernels.old.state.now.stored ≡ [] }
     requires uncounted { kernels.old.state.now.emitted ≡ 0 }
     requires unspent { kernels.old.steps.now ≡ 0 }
+    requires unasked { kernels.old.asked.now ≡ [] }
     requires unnoted { kernels.old.state.now.bad ≡ 0 }
-    ensures done { let own = kernels.old.state.now.functions in IfOk result (λ o.
+    ensures done { let own = kernels.old.state.now.functions in
+        kernels.new.state.now.whole ≡ true → IfOk result (λ o.
         IsDoneAt own.functions.mode (program_of program.now) fuel own.cache.cache number
-        record { outcome = o; stored = kernels.new.state.now.stored; emitted = kernels.new.state.now.emitted }) }
+        record {
+          outcome = o;
+          stored = kernels.new.state.now.stored;
+          emitted = kernels.new.state.now.emitted;
+          asked = kernels.new.asked.now;
+        }) }
     ensures bad { let own = kernels.old.state.now.functions in IfErr result (λ fault. IfBad fault
         (IsBadOfItems own.functions.mode (program_of program.now) fuel own.cache.cache.load)) }
     ensures lent { (kernels.new.steps.ghost_name ≡ kernels.old.steps.ghost_name)
-        × (kernels.new.state.ghost_name ≡ kernels.old.state.ghost_name) }
+        × (kernels.new.state.ghost_name ≡ kernels.old.state.ghost_name)
+        × (kernels.new.asked.ghost_name ≡ kernels.old.asked.ghost_name) }
 {
     match evaluated_in(alloc, program, number, fuel, kernels)? {
         Evaluated::Code(code) => {
@@ -255,9 +298,11 @@ fn evaluated_in<L: Ledger>(
     ensures bad { let own = kernels.old.state.now.functions in IfErr result (λ fault. IfBad fault
         (IsBadOfItems own.functions.mode (program_of program.now) fuel own.cache.cache.load)) }
     ensures lent { (kernels.new.steps.ghost_name ≡ kernels.old.steps.ghost_name)
-        × (kernels.new.state.ghost_name ≡ kernels.old.state.ghost_name) }
-    ensures follows { Follows (standing kernels.old.state.now kernels.old.steps.now)
-        (standing kernels.new.state.now kernels.new.steps.now) }
+        × (kernels.new.state.ghost_name ≡ kernels.old.state.ghost_name)
+        × (kernels.new.asked.ghost_name ≡ kernels.old.asked.ghost_name) }
+    ensures follows { Follows
+        (standing kernels.old.state.now kernels.old.steps.now kernels.old.asked.now)
+        (standing kernels.new.state.now kernels.new.steps.now kernels.new.asked.now) }
 {
     match evaluate_item(alloc, program, number, fuel, kernels) {
         Ok(outcome) => Ok(outcome),
@@ -266,11 +311,12 @@ fn evaluated_in<L: Ledger>(
     }
 }
 
-/// What an item came to, with what its kernels kept and counted.
-fn finished(state: KernelState<'_, '_>, outcome: ItemOutcome) -> Done
+/// What an item came to, with what its kernels kept and counted, and what they asked for.
+fn finished(state: KernelState<'_, '_>, asked: Asked, outcome: ItemOutcome) -> Done
     ensures outcome { result.outcome ≡ outcome }
     ensures stored { result.stored ≡ state.entry.stored }
     ensures emitted { result.emitted ≡ state.entry.emitted }
+    ensures asked { result.asked ≡ asked }
 {
     let KernelState {
         stored,
@@ -281,5 +327,6 @@ fn finished(state: KernelState<'_, '_>, outcome: ItemOutcome) -> Done
         outcome,
         stored: stored.into_receipts(),
         emitted,
+        asked,
     }
 }

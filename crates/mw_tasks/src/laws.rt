@@ -6,7 +6,7 @@ ghost use Rattle.mw_tasks.specs.contracts.job.Done as done;
 ghost use Rattle.mw_tasks.specs.contracts.job.Evaluation as evaluation;
 ghost use Rattle.mw_tasks.specs.contracts.job.Taken as taken;
 
-use mw_cache::laws::{caches_cross, gots_cross};
+use mw_cache::laws::{asked_crosses, caches_cross, gots_cross};
 use mw_term::laws::{programs_cross, terms_cross};
 
 /// What an item came to may be sent to other threads.
@@ -14,6 +14,7 @@ pub fn done_crosses()
     ensures { IsSend done.the_row }
 {
     gots_cross();
+    asked_crosses();
     terms_cross();
 }
 

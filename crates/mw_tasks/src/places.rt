@@ -11,9 +11,11 @@ ghost use Rattle.mw_tasks.specs.Taking.{IsDoneIn, IsTakenIn, AreInPlace};
 use crate::job::{Done, Evaluation, Taken, evaluated_alone};
 use mw_spread::JobFault;
 use std::alloc::{AllocError, Global};
+use std::thread::Threads;
 
 /// What each kernel item came to, in order, where workers took these items. Of two at one place either may stay.
-pub(crate) fn in_order(
+pub(crate) fn in_order<R: Threads>(
+    rt: &R,
     alloc: Global,
     job: &Evaluation<'_, '_>,
     taken: Vec<Vec<Taken>>,
@@ -28,7 +30,7 @@ pub(crate) fn in_order(
     for some in taken {
         put_in_place(job, some, &mut places);
     }
-    completed(alloc, job, places)
+    completed(rt, alloc, job, places)
 }
 
 /// So many places with nothing in them.
@@ -55,7 +57,8 @@ fn put_in_place(job: &Evaluation<'_, '_>, taken: Vec<Taken>, places: &mut Vec<Op
 
 /// What each kernel item came to, in order, where these are in their places. An item whose place is empty is evaluated
 /// here: there is none after workers that took all items, but of the counter by which they do nothing is proved.
-fn completed(
+fn completed<R: Threads>(
+    rt: &R,
     alloc: Global,
     job: &Evaluation<'_, '_>,
     mut places: Vec<Option<Done>>,
@@ -70,7 +73,7 @@ fn completed(
     for at in 0..job.numbers.len() {
         let done = match places[at].take() {
             Some(done) => done,
-            None => evaluated_alone(alloc, job, job.numbers[at])?,
+            None => evaluated_alone(rt, alloc, job, job.numbers[at])?,
         };
         all.push_reserved(done);
     }

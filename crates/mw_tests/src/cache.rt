@@ -8,6 +8,7 @@ use mw_store::{load_of, record_of};
 use std::alloc::{AllocError, Global};
 use std::marker::Brand;
 use std::sync::ledger::{Blank, Ledger};
+use std::thread::Threads;
 
 /// The text of 7 at type int, of version One.
 const OLD: &[u8] = b"emit1 int i 7";
@@ -79,17 +80,22 @@ fn bytes_of(alloc: Global, file: &File) -> Result<Vec<u8>, AllocError> {
 }
 
 /// What becomes of a file's texts of version One.
-fn migrated(alloc: Global, bytes: &[u8]) -> Result<Migration, AllocError> {
-    counted::<Brand>(alloc, bytes, Blank::new(1))
+fn migrated<R: Threads>(rt: &R, alloc: Global, bytes: &[u8]) -> Result<Migration, AllocError> {
+    counted::<R, Brand>(rt, alloc, bytes, Blank::new(1))
 }
 
 /// The same, with a count of emissions that begins here.
-fn counted<L: Ledger>(alloc: Global, bytes: &[u8], blank: Blank) -> Result<Migration, AllocError>
+fn counted<R: Threads, L: Ledger>(
+    rt: &R,
+    alloc: Global,
+    bytes: &[u8],
+    blank: Blank,
+) -> Result<Migration, AllocError>
     requires name { blank.name ≡ L.name }
     requires parts { blank.parts ≡ L.parts }
     requires some { 0 < L.parts }
 {
-    let mut steps = Steps::<L>::open(blank);
+    let mut steps = Steps::<L>::open(rt, blank);
     let load = load_of(alloc, bytes)?;
     migration_of(alloc, &load, &mut steps)
 }
@@ -112,9 +118,9 @@ fn is_right(alloc: Global, migration: &Migration, file: &File) -> Result<bool, A
 }
 
 /// Whether a file's migration is right.
-fn migrates(alloc: Global, file: &File) -> Result<bool, AllocError> {
+fn migrates<R: Threads>(rt: &R, alloc: Global, file: &File) -> Result<bool, AllocError> {
     let bytes = bytes_of(alloc, file)?;
-    let migration = migrated(alloc, bytes.as_slice())?;
+    let migration = migrated(rt, alloc, bytes.as_slice())?;
     is_right(alloc, &migration, file)
 }
 
@@ -122,7 +128,7 @@ fn migrates(alloc: Global, file: &File) -> Result<bool, AllocError> {
 #[test]
 fn texts_of_version_one_migrate(rt: HostRuntime) -> Result<(), AllocError> {
     for file in FILES.as_slice() {
-        let fine = migrates(rt.alloc(), file)?;
+        let fine = migrates(&rt, rt.alloc(), file)?;
         assert!(rt; fine, "old {}, new {}", file.has_old, file.has_new);
     }
     Ok(())

@@ -22,7 +22,12 @@ impl Job<u32> for Triple {
 
     ghost bad = { λ _ _ _. ⊥ };
 
-    fn work(&self, _alloc: Global, item: &u32) -> Result<u64, JobFault> {
+    fn work<R: Threads + Sync>(
+        &self,
+        _rt: &R,
+        _alloc: Global,
+        item: &u32,
+    ) -> Result<u64, JobFault> {
         Ok(3 * u64::from(*item))
     }
 }
@@ -40,7 +45,12 @@ impl Job<u32> for BadAt {
 
     ghost bad = { λ _ _ _. Unit {0} };
 
-    fn work(&self, _alloc: Global, item: &u32) -> Result<u64, JobFault> {
+    fn work<R: Threads + Sync>(
+        &self,
+        _rt: &R,
+        _alloc: Global,
+        item: &u32,
+    ) -> Result<u64, JobFault> {
         if *item == self.0 {
             return Err(JobFault::Bad([7; 32]));
         }
@@ -85,7 +95,12 @@ impl<'a> Job<u32> for Passed<'a> {
 
     ghost bad = { λ _ _ _. ⊥ };
 
-    fn work(&self, _alloc: Global, _item: &u32) -> Result<u64, JobFault> {
+    fn work<R: Threads + Sync>(
+        &self,
+        _rt: &R,
+        _alloc: Global,
+        _item: &u32,
+    ) -> Result<u64, JobFault> {
         Ok(self.0.count.load(Ordering::SeqCst))
     }
 }

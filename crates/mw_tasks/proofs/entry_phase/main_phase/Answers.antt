@@ -1,10 +1,13 @@
-use Rattle.std.proofs.Common.{◌≤◌, ◌+◌, sym, ap, ◌∙◌, subst}
+use Rattle.std.proofs.Common.{◌≤◌, ◌+◌, List, sym, ap, ◌∙◌, subst}
 use Rattle.mw_term.specs.Programs.{program_of}
 use Rattle.mw_meaning.specs.Outcomes.{main_outcome, names_of_items, names_of_main}
 use Rattle.mw_meaning.specs.OutcomeLaws.{AreCodesOf}
 use Rattle.mw_meaning.specs.StagedMeaning.{runs}
 use Rattle.mw_machine.specs.CodesInPlace.{expressions_of}
 use Rattle.mw_machine.specs.KernelCalls.{prices}
+use Rattle.mw_slots.specs.Receipts.{Known}
+use Rattle.mw_compile.specs.Entries.{Emitted}
+use Rattle.mw_cache.specs.Received.{ReceivesSince}
 use Rattle.mw_cached.specs.Following.{price_in}
 use Rattle.mw_cached.specs.FunctionStates.{FunctionState}
 use Rattle.mw_tasks.specs.Phases.{codes_in, stored_texts}
@@ -66,3 +69,9 @@ returns-clause-spent g c =
     (c.in_ok-hints.ensures.texts ∙ ap stored_texts c.as_slice-2.ensures)))
     (ap expressions_of c.as_slice-3.ensures.value ∙ c.in_ok-codes.ensures ∙ ap codes_in c.as_slice.ensures)
     c.in_ok-outcome.ensures.cost
+
+pub returns-clause-stored : goal.returns-clause-stored
+returns-clause-stored g c =
+    subst (λ (rs : List (Known Emitted)). ReceivesSince rs c.args.asked.now c.evaluated_over.new.asked)
+    (sym c.into_receipts.ensures)
+    (c.in_ok-outcome.ensures.follows.received c.if-not-whole.false).1

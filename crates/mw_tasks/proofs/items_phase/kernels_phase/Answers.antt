@@ -1,12 +1,13 @@
-use Rattle.std.proofs.Common.{◌≡◌, ◌∙◌}
+use Rattle.std.proofs.Common.{◌≡◌, ◌∙◌, sym, subst}
 use Rattle.std.specs.List.{All, AllZip}
 use denote.Param.Send.{arg_sync, param_sync}
 use Rattle.mw_term.specs.Programs.{program_of}
 use Rattle.mw_meaning.specs.Outcomes.{names_of_items}
+use Rattle.mw_cache.specs.Received.{AreAllReceived}
 use Rattle.mw_tasks.specs.Phases.{IsDoneAt, kernel_numbers}
 use Rattle.mw_tasks.proofs.WorkerResults.{IsTakenFrom, all_right}
 use Rattle.mw_tasks.proofs.AllItems.{numbered_tasks, all_outcomes, all_answered, all_received, all_of_table}
-use Rattle.mw_tasks.proofs.AllItems.{all_emitted}
+use Rattle.mw_tasks.proofs.AllItems.{all_asked, all_emitted}
 use Rattle.mw_tasks.proofs.items_phase.kernels_phase.Given.{Over}
 use Rattle.mw_tasks.proofs.items_phase.kernels_phase.Goals.{After-gathered}
 use Rattle.mw_tasks.proofs.items_phase.kernels_phase.Goals as goal
@@ -86,3 +87,11 @@ returns-clause-emitted g c =
     c.in_ok-all.all.items
     (done g after) c.in_ok-phase.phase.outcomes c.in_ok-phase.phase.emitted c.in_ok-phase.ensures.outcomes
     c.in_ok-phase.ensures.emitted
+
+pub returns-clause-received : goal.returns-clause-received
+returns-clause-received g c =
+    let after = (goal.at.returns-clause-received g c).After-gathered in
+    subst (AreAllReceived c.in_ok-phase.phase.stored) (sym c.in_ok-phase.ensures.asked)
+    (all_asked c.args.mode (program_of c.args.program.now) c.args.fuel c.args.cache.now c.as_slice.result.now
+    (numbers_are g after)
+    c.in_ok-all.all.items (done g after) c.in_ok-phase.phase.stored c.in_ok-phase.ensures.stored)

@@ -12,7 +12,13 @@ returns-clause-done g c =
     left_done (program_of c.args.job.now.program.now) c.args.job.now.fuel c.args.number own.functions.mode
     c.args.job.now.mode
     own.cache.cache c.args.job.now.cache.now c.finished.result
-    (record { outcome = c.in_ok-outcome.outcome; stored = end.stored; emitted = end.emitted })
+    (record {
+      outcome = c.in_ok-outcome.outcome;
+      stored = end.stored;
+      emitted = end.emitted;
+      asked = c.outcome_over.new.asked;
+    })
     (ap (λ (f : FunctionState). f.mode) c.new-state.ensures.functions)
     (ap (λ (h : HintedState). h.cache) (c.new-state.ensures.cache ∙ c.new-cache.ensures))
-    c.finished.ensures.outcome c.finished.ensures.stored c.finished.ensures.emitted c.in_ok-outcome.ensures.done
+    c.finished.ensures.outcome c.finished.ensures.stored c.finished.ensures.emitted c.finished.ensures.asked
+    (c.in_ok-outcome.ensures.done c.if-not-whole.false)

@@ -9,7 +9,7 @@ use Rattle.mw_tasks.proofs.WorkerResults.{taken_more}
 use Rattle.mw_tasks.proofs.job.taken_by_one.Goals as goal
 
 pub evaluated_alone-requires : goal.evaluated_alone-requires
-evaluated_alone-requires c =
+evaluated_alone-requires g c =
     let numbers = c.args.job.now.numbers.now in
     let found = c.in-Some.ensures.lookup in
     record {
@@ -21,7 +21,7 @@ evaluated_alone-requires c =
     }
 
 pub loop-turn-preserved : goal.loop-turn-preserved
-loop-turn-preserved c =
+loop-turn-preserved g c =
     let job = c.args.job.now in
     let found = c.in-Some.ensures.lookup in
     taken_more (IsDoneIn job) job.numbers.now c.loop-turn.taken.items c.add_taken.new.taken.items

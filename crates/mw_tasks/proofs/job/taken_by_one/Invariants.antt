@@ -3,4 +3,4 @@ use Rattle.mw_tasks.specs.Taking.{IsTakenIn}
 use Rattle.mw_tasks.proofs.job.taken_by_one.Given as goal
 
 abbrev pub invariant-loop-turn : goal.invariant-loop-turn
-invariant-loop-turn l = All (IsTakenIn l.job) l.taken.items
+invariant-loop-turn g l = All (IsTakenIn l.job) l.taken.items

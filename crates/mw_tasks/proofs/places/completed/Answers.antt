@@ -5,7 +5,7 @@ use Rattle.mw_tasks.proofs.places.completed.Goals.{in-Some, in-None+in_ok-done-i
 use Rattle.mw_tasks.proofs.places.completed.Goals as goal
 
 pub index_mut-requires : goal.index_mut-requires
-index_mut-requires c =
+index_mut-requires g c =
     let job = c.args.job.now in
     let less = has_place (IsDoneIn job) job.numbers.now c.loop-at.places.items c.loop-at.invariant.places
     c.loop-at.at c.loop-at-test.true in
@@ -13,7 +13,7 @@ index_mut-requires c =
     omega (arith, less, long)
 
 pub loop-at-preserved : goal.loop-at-preserved
-loop-at-preserved c =
+loop-at-preserved g c =
     let job = c.args.job.now in
     let R = IsDoneIn job in
     let places = c.loop-at.places.items in

@@ -6,7 +6,7 @@ use Rattle.mw_tasks.proofs.WorkerResults.{first_and_rest, all_empty}
 use Rattle.mw_tasks.proofs.places.in_order.Goals as goal
 
 pub loop-some-init : goal.loop-some-init
-loop-some-init c =
+loop-some-init g c =
     let job = c.args.job.now in
     record {
       left = All-same (λ some. All (IsTakenIn job) some.items)
@@ -16,14 +16,14 @@ loop-some-init c =
     }
 
 pub put_in_place-requires-clause-taken : goal.put_in_place-requires-clause-taken
-put_in_place-requires-clause-taken c =
+put_in_place-requires-clause-taken g c =
     let job = c.args.job.now in
     (first_and_rest (λ some. All (IsTakenIn job) some.items)
     (into_iter_items c.loop-some.some-iterator) (into_iter_items c.next.new.self) c.in-Some.some
     c.in-Some.ensures.steps.0 c.loop-some.invariant.left).0
 
 pub loop-some-preserved : goal.loop-some-preserved
-loop-some-preserved c =
+loop-some-preserved g c =
     let job = c.args.job.now in
     record {
       left = (first_and_rest (λ some. All (IsTakenIn job) some.items)

@@ -30,6 +30,22 @@ loop-at-preserved-in-Some c =
     c.in-Some.ensures.steps.0 c.loop-at.invariant.left in
     record { left = put.0; places = put.1 }
 
+pub loop-at-preserved-in-Some-2 : goal.loop-at-preserved-in-Some-2
+loop-at-preserved-in-Some-2 c =
+    let job = c.args.job.now in
+    let put = next_put (IsDoneIn job) job.numbers.now c.loop-at.places.items c.loop-at.invariant.places
+    (into_iter_items c.loop-at.at-iterator) (into_iter_items c.next.new.self) c.in-Some.field-0
+    c.in-Some.ensures.steps.0 c.loop-at.invariant.left in
+    record { left = put.0; places = put.1 }
+
+pub loop-at-preserved-in-Some-3 : goal.loop-at-preserved-in-Some-3
+loop-at-preserved-in-Some-3 c =
+    let job = c.args.job.now in
+    let put = next_put (IsDoneIn job) job.numbers.now c.loop-at.places.items c.loop-at.invariant.places
+    (into_iter_items c.loop-at.at-iterator) (into_iter_items c.next.new.self) c.in-Some.field-0
+    c.in-Some.ensures.steps.0 c.loop-at.invariant.left in
+    record { left = put.0; places = put.1 }
+
 pub loop-at-preserved : goal.loop-at-preserved
 loop-at-preserved c =
     let job = c.args.job.now in

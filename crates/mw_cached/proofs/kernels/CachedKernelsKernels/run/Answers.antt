@@ -12,10 +12,13 @@ returns-clause-keeps g c =
     let functions = c.note.ensures.functions in (
       c.answer-answer.ensures.lent.0,
       c.answer-answer.ensures.lent.1,
-      follows_noted (standing before.state.now before.steps.now) (standing answered.state.now answered.steps.now)
-          (standing c.note.new.self answered.steps.now) c.answer-answer.result c.answer-answer.ensures.follows
+      c.answer-answer.ensures.lent.2,
+      follows_noted (standing before.state.now before.steps.now before.asked.now)
+          (standing answered.state.now answered.steps.now answered.asked.now)
+          (standing c.note.new.self answered.steps.now answered.asked.now) c.answer-answer.result c.answer-answer.ensures.follows
           c.answer-answer.ensures.unnoted (ap (λ f. f.functions.mode) functions ∙ c.stop_after.ensures.mode)
-          (ap (λ f. f.cache) functions ∙ c.stop_after.ensures.cache) c.note.ensures.stored c.note.ensures.emitted refl
+          (ap (λ f. f.cache) functions ∙ c.stop_after.ensures.cache) c.note.ensures.stored c.note.ensures.whole
+          c.note.ensures.emitted refl refl
           c.answer-answer.ensures.stray c.note.ensures.noted,
     )
 

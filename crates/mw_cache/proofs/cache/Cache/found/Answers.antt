@@ -1,7 +1,7 @@
 use Rattle.std.proofs.Common.{position, ap, ◌∙◌}
 use Rattle.std.specs.Str.{bytes_eq}
 use Rattle.mw_cache.proofs.LoadedTexts.{text_found, is_loaded, nowhere, unloaded_got}
-use Rattle.mw_cache.proofs.cache.Cache.obtain_written.Goals as goal
+use Rattle.mw_cache.proofs.cache.Cache.found.Goals as goal
 
 pub returns-in-Some-clause-text : goal.returns-in-Some-clause-text
 returns-in-Some-clause-text g c =
