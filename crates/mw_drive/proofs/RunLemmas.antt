@@ -209,12 +209,6 @@ written_as other means w =
       writes = w.writes;
     }
 
-module _ (path : Option (Bor (List ℕ))) (kind : Kind) (over : IsSome path → kind ≡ over_a_cache) (s : Status) where
-  -- the status of an evaluated source may come; a bad record is told only with a cache file
-  pub written_possible : (r : Result Status RunFault) → IfOk r (IsEndedSource path) → (IsNone path → IfErr r IsUsual)
-      → IsStatusOf r s → extent kind s ≡ never → ⊥
-  written_possible r ended usual is n = grind arith
-
 -- a status that is none of the others is that of a whole text
 pub whole_else : (kind : Kind) (s : Status) → (extent kind s ≡ never → ⊥) → (extent kind s ≡ unsaid → ⊥)
     → (s ≡ Cache → ⊥) → (IsMemory s → ⊥) → (s ≡ Read → ⊥) → (s ≡ Write → ⊥) → extent kind s ≡ whole

@@ -15,7 +15,8 @@ ghost use Rattle.mw_console.specs.Texts.{Ending, answered, ending_status};
 ghost use Rattle.mw_meaning.specs.declared.mode.Mode.TheVariants.{Plain, Simple};
 ghost use Rattle.mw_keeping.specs.KeptFiles.{IsKeptFile, HasGoodFront};
 ghost use Rattle.mw_drive.specs.BadRecords.{IsBadOf, HasBadRecordOf};
-ghost use Rattle.mw_drive.specs.Extents.{whole, never, Kind, on_a_number, extent};
+ghost use Rattle.mw_drive.specs.CommandStatuses.{IsStatusFor, evaluating};
+ghost use Rattle.mw_drive.specs.Extents.{whole, Kind, on_a_number, extent};
 ghost use Rattle.mw_drive.specs.HeldFiles.{IsHeldWith, IsHeldBy, IsKeptWith};
 ghost use Rattle.mw_drive.specs.OpenedFiles.{IsOpenedWith};
 ghost use Rattle.mw_drive.specs.Verdicts.{IsVerdictOn};
@@ -131,9 +132,9 @@ pub fn run<R: Threads + Sync, S: Source, K: Sink, C: Keeper, G: Gate>(
         (outside S.tells (S.told source.old) C.tells (C.held keeper.old)) work)
         → IsTrue K.tells
         → IsFaithful (extent (kind_of asked.command) result) work result (K.written sink.old) (K.written sink.new) }
-    // No command ends with a status that its kind doesn't have.
+    // Each command has its statuses, whatever the outside tells.
     ensures possible { (command : PureCommand) → Means (map string_bytes words.now) command
-        → ¬ (extent (kind_of command) result ≡ never) }
+        → IsStatusFor command result }
     // Where all of the output was written nothing failed, and want of memory is no failure of source or sink.
     ensures unfailed { (command : PureCommand) → Means (map string_bytes words.now) command
         → IsWritten (extent (kind_of command) result)
@@ -262,7 +263,7 @@ fn carry_out<R: Threads + Sync, S: Source, K: Sink, C: Keeper, G: Gate>(
         → IsUnread result K.tells (K.written sink.old) (K.written sink.new) }
     ensures nothing { result ≡ Read → IsTrue K.tells → K.written sink.new ≡ K.written sink.old }
     ensures write { result ≡ Write → Rose (K.faults sink.old) (K.faults sink.new) }
-    ensures possible { ¬ (extent (kind_of (command_in command.entry)) result ≡ never) }
+    ensures possible { IsStatusFor (command_in command.entry) result }
     ensures unfailed { IsWritten (extent (kind_of (command_in command.entry)) result)
         → (S.faults source.new ≡ S.faults source.old) × (K.faults sink.new ≡ K.faults sink.old) }
     ensures memory { IsMemory result
@@ -382,7 +383,7 @@ fn evaluate_file<R: Threads + Sync, S: Source, K: Sink, C: Keeper, G: Gate>(
         → result ≡ Read }
     ensures nothing { result ≡ Read → IsTrue K.tells → K.written sink.new ≡ K.written sink.old }
     ensures write { result ≡ Write → Rose (K.faults sink.old) (K.faults sink.new) }
-    ensures possible { ¬ (extent (kind_with (cache_of evaluation.entry)) result ≡ never) }
+    ensures possible { IsStatusFor (evaluating (cache_of evaluation.entry)) result }
     ensures unfailed { IsWritten (extent (kind_with (cache_of evaluation.entry)) result)
         → (S.faults source.new ≡ S.faults source.old) × (K.faults sink.new ≡ K.faults sink.old) }
     ensures memory { IsMemory result
@@ -441,7 +442,7 @@ fn run_sample<R: Threads + Sync, K: Sink, C: Keeper, G: Gate>(
     ensures work { IsCarriedOut on_a_number (sampling number) result K.tells (K.written sink.old)
         (K.written sink.new) }
     ensures write { result ≡ Write → Rose (K.faults sink.old) (K.faults sink.new) }
-    ensures possible { ¬ (extent on_a_number result ≡ never) }
+    ensures possible { IsStatusFor (sample 1) result }
     ensures unfailed { IsWritten (extent on_a_number result)
         → K.faults sink.new ≡ K.faults sink.old }
     ensures memory { IsMemory result → K.faults sink.new ≡ K.faults sink.old }
