@@ -3,6 +3,7 @@ use Rattle.std.proofs.Common.{◌≡◌, inl, inr, List, [], ℕ, Bool, Option, 
 use Rattle.std.proofs.Common.{Ok, Err, IfOk, IfErr, refl, sym, ◌∙◌, subst, arith, true, false}
 use denote.Ref.{Bor}
 use Rattle.mw_outside.specs.declared.errors.WriteFault.TheVariants as fault
+use Rattle.mw_term.specs.declared.refusal.Refusal.{Refusal}
 use Rattle.mw_words.specs.Words.{PureCommand, run, erased, link, sample, migrate, wat, check, cert, recheck}
 use Rattle.mw_console.specs.Texts.{Ending, answered, trapped, bounded, ending_status}
 use Rattle.mw_console.specs.declared.status.Status.{Status}
@@ -34,32 +35,28 @@ sampled_for (answered v) = inl refl
 sampled_for (trapped t name) = inr (inl refl)
 sampled_for (bounded l name) = inr (inr (inl refl))
 
-module _ {X : Type 0} (path : Option X) where
-  pub refused_for : (r : _) → IsStatusFor (evaluating path) (Refused r)
-  refused_for r = elim path [ | None ↦ inr (inr (inr (inl refl))) | Some x ↦ inr (inr (inr (inl refl))) ]
+pub refused_for : {X : Type 0} (path : Option X) (r : Refusal) → IsStatusFor (evaluating path) (Refused r)
+refused_for None r = inr (inr (inr (inl refl)))
+refused_for (Some x) r = inr (inr (inr (inl refl)))
 
-  pub read_for : IsStatusFor (evaluating path) Read
-  read_for = elim path [ | None ↦ inr (inr (inr (inr (inl refl)))) | Some x ↦ inr (inr (inr (inr (inl refl)))) ]
+pub read_for : {X : Type 0} (path : Option X) → IsStatusFor (evaluating path) Read
+read_for None = inr (inr (inr (inr (inl refl))))
+read_for (Some x) = inr (inr (inr (inr (inl refl))))
 
-  pub write_for : IsStatusFor (evaluating path) Write
-  write_for =
-      elim path [
-        | None ↦ inr (inr (inr (inr (inr (inl refl)))))
-        | Some x ↦ inr (inr (inr (inr (inr (inl refl)))))
-      ]
+pub write_for : {X : Type 0} (path : Option X) → IsStatusFor (evaluating path) Write
+write_for None = inr (inr (inr (inr (inr (inl refl)))))
+write_for (Some x) = inr (inr (inr (inr (inr (inl refl)))))
 
-  pub memory_for : (e : _) → IsStatusFor (evaluating path) (Memory e)
-  memory_for e =
-      elim path [
-        | None ↦ inr (inr (inr (inr (inr (inr (inl refl))))))
-        | Some x ↦ inr (inr (inr (inr (inr (inr (inl refl))))))
-      ]
+pub memory_for : {X : Type 0} (path : Option X) (e : _) → IsStatusFor (evaluating path) (Memory e)
+memory_for None e = inr (inr (inr (inr (inr (inr (inl refl))))))
+memory_for (Some x) e = inr (inr (inr (inr (inr (inr (inl refl))))))
 
-  -- whatever the words of the command are
-  pub evaluates : (f : X → List ℕ) (workers fuel : ℕ) (simplify : Bool) (file : List ℕ) (s : Status)
-      → IsStatusFor (evaluating path) s
-      → IsStatusFor (run workers fuel simplify (option_map f path) file) s
-  evaluates f workers fuel simplify file s = elim path [ | None ↦ λ h. h | Some x ↦ λ h. h ]
+-- whatever the words of the command are
+pub evaluates : {X : Type 0} (path : Option X) (f : X → List ℕ) (workers fuel : ℕ) (simplify : Bool) (file : List ℕ)
+    (s : Status) → IsStatusFor (evaluating path) s
+    → IsStatusFor (run workers fuel simplify (option_map f path) file) s
+evaluates None f workers fuel simplify file s h = h
+evaluates (Some x) f workers fuel simplify file s h = h
 
 -- an evaluated source
 pub source_for : (path : Option (Bor (List ℕ))) (s : Status) (r : Result Status RunFault) → IsStatusOf r s
@@ -81,8 +78,11 @@ source_for (Some x) s (Err (Bad d)) is ended usual =
     subst (IsStatusFor (evaluating (Some x))) (sym is) (inr (inr (inr (inr (inr (inr (inr (inr (inl refl)))))))))
 
 -- a sample, which has no cache file
+abbrev no_file : Option (Bor (List ℕ))
+no_file = None
+
 pub sample_for : (s : Status) (r : Result Status RunFault) → IsStatusOf r s
-    → IfOk r (IsEndedSource (None : Option (Bor (List ℕ)))) → IfErr r IsUsual → IsStatusFor (sample 1) s
+    → IfOk r (IsEndedSource no_file) → IfErr r IsUsual → IsStatusFor (sample 1) s
 sample_for s (Ok t) is (inl refused) usual =
     subst (IsStatusFor (sample 1)) (sym (is ∙ refused.1)) (inr (inr (inr (inl refl))))
 sample_for s (Ok t) is (inr (inl ending)) usual =
@@ -121,38 +121,22 @@ meaning_for Verdict bytes m is = judged_for is
 meaning_for Certificate bytes m is = certified_for is
 meaning_for (Typing text) bytes m is = rechecked_for is
 
-module _ (inquiry : Inquiry) where
-  pub reported_for : (bytes text : List ℕ) (s : Status) → Reports (inquired inquiry bytes) text s
-      → IsStatusFor (asking inquiry) s
-  reported_for bytes text s r =
-      subst (IsStatusFor (asking inquiry)) (sym r.is_status) (meaning_for inquiry bytes r.meaning r.is_meaning)
+pub reported_for : (inquiry : Inquiry) (bytes text : List ℕ) (s : Status) → Reports (inquired inquiry bytes) text s
+    → IsStatusFor (asking inquiry) s
+reported_for inquiry bytes text s r =
+    subst (IsStatusFor (asking inquiry)) (sym r.is_status) (meaning_for inquiry bytes r.meaning r.is_meaning)
 
-  pub asked_read : IsStatusFor (asking inquiry) Read
-  asked_read =
-      elim inquiry [
-        | Text ↦ inr (inr (inl refl))
-        | Verdict ↦ inr (inr (inl refl))
-        | Certificate ↦ inr (inr (inl refl))
-        | Typing text ↦ inr (inr (inl refl))
-      ]
+pub asked_read : (inquiry : Inquiry) → IsStatusFor (asking inquiry) Read
+asked_read Text = inr (inr (inl refl))
+asked_read Verdict = inr (inr (inl refl))
+asked_read Certificate = inr (inr (inl refl))
+asked_read (Typing text) = inr (inr (inl refl))
 
-  pub asked_write : IsStatusFor (asking inquiry) Write
-  asked_write =
-      elim inquiry [
-        | Text ↦ inr (inr (inr (inl refl)))
-        | Verdict ↦ inr (inr (inr (inl refl)))
-        | Certificate ↦ inr (inr (inr (inl refl)))
-        | Typing text ↦ inr (inr (inr (inl refl)))
-      ]
-
-  pub asked_memory : (e : _) → IsStatusFor (asking inquiry) (Memory e)
-  asked_memory e =
-      elim inquiry [
-        | Text ↦ inr (inr (inr (inr (inl refl))))
-        | Verdict ↦ inr (inr (inr (inr (inl refl))))
-        | Certificate ↦ inr (inr (inr (inr (inl refl))))
-        | Typing text ↦ inr (inr (inr (inr (inl refl))))
-      ]
+pub asked_memory : (inquiry : Inquiry) (e : _) → IsStatusFor (asking inquiry) (Memory e)
+asked_memory Text e = inr (inr (inr (inr (inl refl))))
+asked_memory Verdict e = inr (inr (inr (inr (inl refl))))
+asked_memory Certificate e = inr (inr (inr (inr (inl refl))))
+asked_memory (Typing text) e = inr (inr (inr (inr (inl refl))))
 
 -- a status that a command may have is one that its kind has
 pub never_for : (command : PureCommand) (s : Status) → IsStatusFor command s → extent (kind_of command) s ≡ never → ⊥
