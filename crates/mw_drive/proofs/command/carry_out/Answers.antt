@@ -7,6 +7,7 @@ use Rattle.mw_drive.specs.Works.{IsMeaning, ran, certifying}
 use Rattle.mw_drive.proofs.Certificates.{means_certified, means_rechecked, carried_as}
 use Rattle.mw_drive.specs.Extents.{extent, on_a_file, on_a_cache}
 use Rattle.mw_drive.specs.Running.{IsWritten}
+use Rattle.mw_keeping.proofs.GrownFiles.{grown_stays}
 use Rattle.mw_drive.proofs.HeldFiles.{held_of_run}
 use Rattle.mw_drive.proofs.OpenedFiles.{named_path}
 use Rattle.mw_drive.specs.OpenedFiles.{IsOpenedWith}
@@ -292,3 +293,7 @@ returns-in-Recheck-clause-cache g c = λ is. absurd (never_for (recheck [] []) c
 pub returns-in-Recheck-clause-bad : goal.returns-in-Recheck-clause-bad
 returns-in-Recheck-clause-bad g c = λ digest contents work is. absurd
     (never_for (recheck [] []) c.recheck.result c.recheck.ensures.possible (ap (extent on_a_file) is))
+
+-- A sample leaves the keeper alone.
+pub returns-in-Sample-clause-right : goal.returns-in-Sample-clause-right
+returns-in-Sample-clause-right g c = λ tells. grown_stays _ _ (ap g.C.Keeper.held c.run_sample.ensures.untouched)
