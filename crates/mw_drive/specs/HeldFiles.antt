@@ -1,5 +1,5 @@
 -- What a cache file holds after a run, as the run's end says.
-use Rattle.std.specs.Prelude.{◌≡◌, ◌⊎◌, ℕ, List, [], map, Contains, Result, Ok, Err}
+use Rattle.std.specs.Prelude.{◌≡◌, ◌⊎◌, ℕ, List, map, Contains, Result, Ok, Err}
 use Rattle.std.specs.Prelude.{IfOk}
 use Rattle.mw_outside.specs.declared.errors.WriteFault.TheVariants as fault
 use Rattle.mw_cache.specs.Gots.{CacheState, text_in}
