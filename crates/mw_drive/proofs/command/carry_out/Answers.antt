@@ -141,7 +141,9 @@ pub returns-in-Wat-clause-read : goal.returns-in-Wat-clause-read
 returns-in-Wat-clause-read g c = λ is. rw c.in-Wat.is (one_lacks (c.inquire.ensures.read is))
 
 pub returns-in-Wat-clause-cache : goal.returns-in-Wat-clause-cache
-returns-in-Wat-clause-cache g c = λ is. absurd (never_for (wat []) c.inquire.result c.inquire.ensures.possible (ap (extent on_a_file) is))
+returns-in-Wat-clause-cache g c = λ is. absurd
+    (never_for (wat []) c.inquire.result c.inquire.ensures.possible
+    (ap (extent on_a_file) is))
 
 pub returns-in-Wat-clause-bad : goal.returns-in-Wat-clause-bad
 returns-in-Wat-clause-bad g c = λ digest contents work is. absurd
@@ -158,7 +160,9 @@ pub returns-in-Check-clause-read : goal.returns-in-Check-clause-read
 returns-in-Check-clause-read g c = λ is. rw c.in-Check.is (one_lacks (c.inquire-in-Check.ensures.read is))
 
 pub returns-in-Check-clause-cache : goal.returns-in-Check-clause-cache
-returns-in-Check-clause-cache g c = λ is. absurd (never_for (check []) c.inquire-in-Check.result c.inquire-in-Check.ensures.possible (ap (extent on_a_file) is))
+returns-in-Check-clause-cache g c = λ is. absurd
+    (never_for (check []) c.inquire-in-Check.result c.inquire-in-Check.ensures.possible
+    (ap (extent on_a_file) is))
 
 pub returns-in-Check-clause-bad : goal.returns-in-Check-clause-bad
 returns-in-Check-clause-bad g c = λ digest contents work is. absurd
@@ -260,7 +264,9 @@ returns-in-Cert-clause-lacking g c =
     c.inquire-in-Cert.ensures.nothing)
 
 pub returns-in-Cert-clause-cache : goal.returns-in-Cert-clause-cache
-returns-in-Cert-clause-cache g c = λ is. absurd (never_for (cert []) c.inquire-in-Cert.result c.inquire-in-Cert.ensures.possible (ap (extent on_a_file) is))
+returns-in-Cert-clause-cache g c = λ is. absurd
+    (never_for (cert []) c.inquire-in-Cert.result c.inquire-in-Cert.ensures.possible
+    (ap (extent on_a_file) is))
 
 pub returns-in-Cert-clause-bad : goal.returns-in-Cert-clause-bad
 returns-in-Cert-clause-bad g c = λ digest contents work is. absurd
@@ -288,7 +294,9 @@ returns-in-Recheck-clause-lacking g c =
     c.recheck.ensures.nothing c.recheck.ensures.lacking)
 
 pub returns-in-Recheck-clause-cache : goal.returns-in-Recheck-clause-cache
-returns-in-Recheck-clause-cache g c = λ is. absurd (never_for (recheck [] []) c.recheck.result c.recheck.ensures.possible (ap (extent on_a_file) is))
+returns-in-Recheck-clause-cache g c = λ is. absurd
+    (never_for (recheck [] []) c.recheck.result c.recheck.ensures.possible
+    (ap (extent on_a_file) is))
 
 pub returns-in-Recheck-clause-bad : goal.returns-in-Recheck-clause-bad
 returns-in-Recheck-clause-bad g c = λ digest contents work is. absurd
