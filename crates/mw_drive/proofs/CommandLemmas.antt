@@ -186,9 +186,6 @@ module _ {words : List (List ℕ)} {o : Outside} {command : PureCommand} {s : St
       subst (λ c. IsFaithful (extent (kind_of c) s) work s before after) (sym (same asked.command asked.on.means))
       ((asked_carried work asked).faithful t)
 
-  pub asked_possible : (other : PureCommand) → Means words other → extent (kind_of other) s ≡ never → ⊥
-  asked_possible other also n = called.possible (subst (λ c. extent (kind_of c) s ≡ never) (same other also) n)
-
   -- what holds of the command that the words mean
   pub asked_of : (P : PureCommand → Type 0) → P command → (other : PureCommand) → Means words other → P other
   asked_of P h other also = subst P (sym (same other also)) h

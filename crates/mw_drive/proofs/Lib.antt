@@ -17,6 +17,8 @@ pub mod BadRecords
 pub mod HeldFiles
 pub mod OpenedFiles
 pub mod Statuses
+pub mod CommandStatuses
+pub mod DigestOfTheOne
 pub mod Verdicts
 pub mod Certificates
 pub mod Reports

@@ -1,6 +1,6 @@
 -- From the parts of a run to the whole.
 use Rattle.std.proofs.Common.{◌≡◌, ◌⊎◌, inl, inr, ℕ, ◌<◌, List, [], ◌++◌, Option, None, Some, Bool, IsTrue}
-use Rattle.std.proofs.Common.{IsNone, IsSome, ◌∙◌, take, length, Result, Ok, Err, IfOk, IfErr, refl, sym, ap}
+use Rattle.std.proofs.Common.{IsNone, IsSome, ◌∙◌, take, length, Result, Ok, Err, refl, sym, ap}
 use Rattle.std.proofs.Common.{subst, arith}
 use denote.Ref.{Bor}
 use Rattle.std.proofs.lemmas.List.{take_all, length-take}
@@ -21,14 +21,13 @@ use Rattle.mw_console.specs.declared.status.Status.{Status}
 use Rattle.mw_console.specs.declared.status.Status.TheVariants.{Read, Write}
 use Rattle.mw_console.specs.declared.status.Status.TheVariants.{Cache, Memory}
 use Rattle.mw_reading.specs.SourceReading.{IsRead, IsSmall, too_large, at_bytes, at_tokens, at_names}
-use Rattle.mw_drive.specs.Works.{written}
 use Rattle.mw_drive.specs.Works.{Work, running, erasing, linking, Meaning, refused, ran, IsMeaning, of_refusal}
 use Rattle.mw_drive.specs.Works.{of_types, of_program, of_erased_refusal, of_erased, of_link_refusal, of_joined}
 use Rattle.mw_drive.specs.Works.{of_unjoined, IsAccepted, mode_of, IsOutput, Reports}
 use Rattle.mw_drive.specs.Works.{text_of, status_of}
 use Rattle.mw_drive.specs.BadRecords.{IsBadRecord, IsBadOf, of_run}
 use Rattle.mw_drive.specs.Honest.{IsHonestCache}
-use Rattle.mw_drive.specs.ProgramRuns.{IsWrittenMeaning, IsEndMeaning, IsEndedSource, IsUsual, evaluated}
+use Rattle.mw_drive.specs.ProgramRuns.{IsWrittenMeaning, IsEndMeaning, evaluated}
 use Rattle.mw_drive.specs.declared.source.Evaluation.{Evaluation}
 use Rattle.mw_drive.specs.declared.source.Evaluation.TheVariants.{Run, Erased, Linked}
 use Rattle.mw_drive.specs.Extents.{a_front, whole, unkept, unsaid, never}
@@ -208,12 +207,6 @@ written_as other means w =
       usual = w.usual;
       writes = w.writes;
     }
-
-module _ (path : Option (Bor (List ℕ))) (kind : Kind) (over : IsSome path → kind ≡ over_a_cache) (s : Status) where
-  -- the status of an evaluated source may come; a bad record is told only with a cache file
-  pub written_possible : (r : Result Status RunFault) → IfOk r (IsEndedSource path) → (IsNone path → IfErr r IsUsual)
-      → IsStatusOf r s → extent kind s ≡ never → ⊥
-  written_possible r ended usual is n = grind arith
 
 -- a status that is none of the others is that of a whole text
 pub whole_else : (kind : Kind) (s : Status) → (extent kind s ≡ never → ⊥) → (extent kind s ≡ unsaid → ⊥)

@@ -1,11 +1,13 @@
 -- Bad records of a cache file, which end a run.
-use Rattle.std.specs.Prelude.{◌≡◌, ◌⊎◌, ℕ, List, Bool, IsTrue}
+use Rattle.std.specs.Prelude.{◌≡◌, ◌⊎◌, ℕ, List, Bool, IsTrue, Some, slice_get}
+use Rattle.sha2.specs.Sha256.{sha256}
 use Rattle.mw_term.specs.Terms.{Expression}
 use Rattle.mw_term.specs.Programs.{PureProgram}
 use Rattle.mw_meaning.specs.declared.mode.Mode.{Mode}
 use Rattle.mw_meaning.specs.StagedMeaning.{runs}
 use Rattle.mw_meaning.specs.Outcomes.{came_to, item_outcome, names_of_items, names_of_main}
-use Rattle.mw_store.specs.Loads.{LoadState, IsLoadOf}
+use Rattle.mw_store.specs.Loads.{Loaded, LoadState, IsLoadOf}
+use Rattle.mw_compile.specs.Emission.{IsEmissionOf}
 use Rattle.mw_cached.specs.StrayRecords.{IsStrayRecord}
 use Rattle.mw_tasks.specs.declared.outcome.ItemOutcome.{ItemOutcome}
 use Rattle.mw_tasks.specs.Phases.{EachKernel, AreBuiltAll, codes_in}
@@ -55,3 +57,14 @@ pub data IsBadOf : Work → List ℕ → List ℕ → Type 0 where
 
 abbrev pub HasBadRecordOf : Work → Bool → (held : List ℕ) → (digest : List ℕ) → Type 0
 HasBadRecordOf work tells held digest = IsTrue tells → IsBadOf work held digest
+
+-- each loaded record but the one at this place has the emission of its text
+abbrev pub IsHonestBut : LoadState → ℕ → Type 0
+IsHonestBut load one = (at : ℕ) (l : Loaded) → slice_get load.records at ≡ Some l → (at ≡ one → ⊥)
+    → IsEmissionOf l.bytes l.text
+
+-- where no loaded record but one may be not honest, a digest that a fault tells is that of the one's text
+abbrev pub DigestOfTheOne : Type 0
+DigestOfTheOne = (work : Work) (held digest : List ℕ) → IsBadOf work held digest
+    → (load : LoadState) → IsLoadOf held load
+    → (one : ℕ) (r : Loaded) → slice_get load.records one ≡ Some r → IsHonestBut load one → digest ≡ sha256 r.text

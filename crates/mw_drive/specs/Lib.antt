@@ -11,6 +11,7 @@ pub mod HeldFiles
 pub mod OpenedFiles
 pub mod BadRecords
 pub mod Extents
+pub mod CommandStatuses
 pub mod Running
 pub mod Verdicts
 pub mod Certified

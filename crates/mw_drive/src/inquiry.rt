@@ -4,7 +4,8 @@ ghost use Rattle.std.specs.Prelude.{◌≡◌, ◌≤◌, ◌<◌, ◌⊎◌, �
 ghost use Rattle.mw_outside.specs.Count.{Rose};
 ghost use Rattle.mw_console.specs.declared.status.Status.TheVariants.{Read, Write, BadModule as Faulty};
 ghost use Rattle.mw_judge.specs.FileLines.{bad_file_line};
-ghost use Rattle.mw_drive.specs.Extents.{never, on_a_file, extent};
+ghost use Rattle.mw_drive.specs.CommandStatuses.{IsStatusFor, asking};
+ghost use Rattle.mw_drive.specs.Extents.{on_a_file, extent};
 ghost use Rattle.mw_drive.specs.Running.{sources, wanted, Has, Lacks, IsCarriedOut, IsMemory};
 ghost use Rattle.mw_drive.specs.Running.{IsWritten};
 ghost use Rattle.mw_drive.specs.Verdicts.{inquired};
@@ -53,7 +54,7 @@ pub fn inquire<S: Source, K: Sink>(
         → result ≡ Read }
     ensures nothing { result ≡ Read → IsTrue K.tells → K.written sink.new ≡ K.written sink.old }
     ensures write { result ≡ Write → Rose (K.faults sink.old) (K.faults sink.new) }
-    ensures possible { ¬ (extent on_a_file result ≡ never) }
+    ensures possible { IsStatusFor (asking inquiry.entry) result }
     ensures unfailed { IsWritten (extent on_a_file result)
         → (S.faults source.new ≡ S.faults source.old) × (K.faults sink.new ≡ K.faults sink.old) }
     ensures memory { IsMemory result
@@ -80,7 +81,7 @@ pub fn write_answer<K: Sink>(
         (K.written sink.old) (K.written sink.new) }
     ensures unread { ¬ (result ≡ Read) }
     ensures write { result ≡ Write → Rose (K.faults sink.old) (K.faults sink.new) }
-    ensures possible { ¬ (extent on_a_file result ≡ never) }
+    ensures possible { IsStatusFor (asking inquiry.entry) result }
     ensures unfailed { IsWritten (extent on_a_file result) → K.faults sink.new ≡ K.faults sink.old }
     ensures memory { IsMemory result → K.faults sink.new ≡ K.faults sink.old }
     ensures count { K.faults sink.old ≤ K.faults sink.new }

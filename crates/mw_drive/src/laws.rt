@@ -4,6 +4,7 @@ ghost use Rattle.std.specs.Prelude.{◌≡◌, true, map};
 ghost use Rattle.std.specs.String.{string_bytes};
 ghost use Rattle.mw_outside.specs.Sure.{sure_files, sure_held};
 ghost use Rattle.mw_console.specs.declared.status.Status.TheVariants.{Read, Write, Cache};
+ghost use Rattle.mw_drive.specs.BadRecords.{DigestOfTheOne};
 ghost use Rattle.mw_drive.specs.Running.{outside, AsksLacking};
 ghost use Rattle.mw_drive.specs.SimplifiedPrograms.{ProgramsEndAlike};
 ghost use Rattle.mw_drive.specs.WorkLaws.{OneMeaning, SomeMeaning, AnswersAreErased};
@@ -34,6 +35,12 @@ pub fn answers_are_erased()
 /// A typable program that ends with an answer or a trap ends so, with the same kernels, where kernels are simplified.
 pub fn programs_end_alike()
     ensures { ProgramsEndAlike }
+{}
+
+/// Where no record of a cache file but one may have another module than its text's, a digest that a fault tells is that
+/// of this record's text.
+pub fn digest_of_the_one()
+    ensures { DigestOfTheOne }
 {}
 
 /// Over a source, a sink and a keeper that never fail no command ends with Write or Cache, and one ends with Read only

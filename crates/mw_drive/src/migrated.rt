@@ -1,13 +1,16 @@
 // The migration of a cache file.
 
-ghost use Rattle.std.specs.Prelude.{◌≡◌, ◌≤◌, ◌<◌, IsTrue, IfOk, OnOk};
+ghost use Rattle.std.specs.Prelude.{◌≡◌, ◌≤◌, ◌<◌, [], IsTrue, IfOk, OnOk};
 ghost use Rattle.mw_outside.specs.Count.{Rose};
 ghost use Rattle.mw_console.specs.Texts.{migrated_text};
 ghost use Rattle.mw_term.specs.declared.refusal.Refusal.{Refusal};
 ghost use Rattle.mw_console.specs.declared.status.Status.TheVariants.{Refused, Write, Cache};
 ghost use Rattle.mw_keeping.specs.CacheFiles.{IsStartedWith, IsStartedAtMost, BlamesKeeper};
+ghost use Rattle.mw_keeping.specs.GrownFiles.{GrowsRight};
 ghost use Rattle.mw_keeping.specs.Migrations.{IsMigrationHere};
-ghost use Rattle.mw_drive.specs.Extents.{whole, never, on_a_cache, extent};
+ghost use Rattle.mw_drive.specs.CommandStatuses.{IsStatusFor};
+ghost use Rattle.mw_drive.specs.Extents.{whole, on_a_cache, extent};
+ghost use Rattle.mw_words.specs.Words.{migrate};
 ghost use Rattle.mw_drive.specs.HeldFiles.{IsMigratedWith};
 ghost use Rattle.mw_drive.specs.OpenedFiles.{IsOpenedWith};
 ghost use Rattle.mw_drive.specs.Running.{IsCarriedOut, IsMemory, IsWritten};
@@ -36,7 +39,7 @@ pub fn migrate<R: Threads, K: Sink, C: Keeper>(
         → IsCarriedOut on_a_cache (migrating (C.held keeper.old)) result K.tells
         (K.written sink.old) (K.written sink.new) }
     ensures write { result ≡ Write → Rose (K.faults sink.old) (K.faults sink.new) }
-    ensures possible { ¬ (extent on_a_cache result ≡ never) }
+    ensures possible { IsStatusFor (migrate []) result }
     ensures accepted { (r : Refusal) → ¬ (result ≡ Refused r) }
     ensures unfailed { IsWritten (extent on_a_cache result)
         → K.faults sink.new ≡ K.faults sink.old }
@@ -44,6 +47,7 @@ pub fn migrate<R: Threads, K: Sink, C: Keeper>(
     ensures opened { IsTrue C.tells
         → IsOpenedWith result path.now (C.opened keeper.old) (C.opened keeper.new) }
     ensures held { IsTrue C.tells → IsMigratedWith result (C.held keeper.old) (C.held keeper.new) }
+    ensures right { IsTrue C.tells → GrowsRight (C.held keeper.old) (C.held keeper.new) }
     ensures cache { result ≡ Cache → Rose (C.faults keeper.old) (C.faults keeper.new) }
     ensures sound { extent on_a_cache result ≡ whole → C.faults keeper.new ≡ C.faults keeper.old }
     ensures sink_count { K.faults sink.old ≤ K.faults sink.new }

@@ -1,13 +1,15 @@
 // The certificate of a source's typing, and whether a text is one.
 
-ghost use Rattle.std.specs.Prelude.{◌≡◌, ◌≤◌, ◌⊎◌, ℕ, List, map, IsTrue, IfOk, drop, take};
+ghost use Rattle.std.specs.Prelude.{◌≡◌, ◌≤◌, ◌⊎◌, ℕ, List, [], map, IsTrue, IfOk, drop, take};
 ghost use Rattle.mw_outside.specs.Count.{Rose};
 ghost use Rattle.mw_term.specs.Parts.{IsResolved};
 ghost use Rattle.mw_term.specs.Programs.{program_of};
 ghost use Rattle.mw_term.specs.declared.program.Item.{Item as PureItem};
 ghost use Rattle.mw_console.specs.Texts.{refusal_line};
 ghost use Rattle.mw_console.specs.declared.status.Status.TheVariants.{Read, Write, Refused};
-ghost use Rattle.mw_drive.specs.Extents.{never, on_a_file, extent};
+ghost use Rattle.mw_drive.specs.CommandStatuses.{IsStatusFor};
+ghost use Rattle.mw_drive.specs.Extents.{on_a_file, extent};
+ghost use Rattle.mw_words.specs.Words.{recheck};
 ghost use Rattle.mw_reading.specs.NamedPrograms.{named_program_of};
 ghost use Rattle.mw_drive.specs.Running.{sources, source_file, certificate_file, most_of_source, most_of_certificate};
 ghost use Rattle.mw_drive.specs.Running.{Has, Lacks, IsCarriedOut, IsMemory, IsUnread, IsWritten};
@@ -52,7 +54,7 @@ pub fn recheck<S: Source, K: Sink>(
         → IsUnread result K.tells (K.written sink.old) (K.written sink.new) }
     ensures nothing { result ≡ Read → IsTrue K.tells → K.written sink.new ≡ K.written sink.old }
     ensures write { result ≡ Write → Rose (K.faults sink.old) (K.faults sink.new) }
-    ensures possible { ¬ (extent on_a_file result ≡ never) }
+    ensures possible { IsStatusFor (recheck [] []) result }
     ensures unfailed { IsWritten (extent on_a_file result)
         → (S.faults source.new ≡ S.faults source.old) × (K.faults sink.new ≡ K.faults sink.old) }
     ensures memory { IsMemory result

@@ -1,11 +1,13 @@
-use Rattle.std.proofs.Common.{◌≡◌, inl, inr, ◌∙◌, List, ℕ, option_map, refl, sym, ap, subst}
+use Rattle.std.proofs.Common.{◌≡◌, inl, inr, ◌∙◌, List, [], ℕ, option_map, refl, sym, ap, subst}
 use denote.Ref.{Bor}
-use Rattle.mw_words.specs.Words.{word_in}
+use Rattle.mw_words.specs.Words.{word_in, migrate, wat, check, cert, recheck}
+use Rattle.mw_drive.proofs.CommandStatuses.{evaluates, never_for}
 use Rattle.mw_drive.specs.BadRecords.{HasBadRecordOf}
 use Rattle.mw_drive.specs.Works.{IsMeaning, ran, certifying}
 use Rattle.mw_drive.proofs.Certificates.{means_certified, means_rechecked, carried_as}
 use Rattle.mw_drive.specs.Extents.{extent, on_a_file, on_a_cache}
 use Rattle.mw_drive.specs.Running.{IsWritten}
+use Rattle.mw_keeping.proofs.GrownFiles.{grown_stays}
 use Rattle.mw_drive.proofs.HeldFiles.{held_of_run}
 use Rattle.mw_drive.proofs.OpenedFiles.{named_path}
 use Rattle.mw_drive.specs.OpenedFiles.{IsOpenedWith}
@@ -31,8 +33,8 @@ returns-in-Run-clause-read g c = λ is. rw c.in-Run.is (one_lacks (c.evaluate_fi
 
 pub returns-in-Run-clause-possible : goal.returns-in-Run-clause-possible
 returns-in-Run-clause-possible g c =
-    rw c.in-Run.is (λ n. c.evaluate_file.ensures.possible
-    (ap (λ k. extent k c.evaluate_file.result) (sym (kind_mapped word_in c.in-Run.cache)) ∙ n))
+    rw c.in-Run.is (evaluates c.in-Run.cache word_in c.in-Run.workers c.in-Run.fuel c.in-Run.simplify c.in-Run.file.now
+    c.evaluate_file.result c.evaluate_file.ensures.possible)
 
 pub returns-in-Run-clause-unfailed : goal.returns-in-Run-clause-unfailed
 returns-in-Run-clause-unfailed g c =
@@ -139,11 +141,13 @@ pub returns-in-Wat-clause-read : goal.returns-in-Wat-clause-read
 returns-in-Wat-clause-read g c = λ is. rw c.in-Wat.is (one_lacks (c.inquire.ensures.read is))
 
 pub returns-in-Wat-clause-cache : goal.returns-in-Wat-clause-cache
-returns-in-Wat-clause-cache g c = λ is. absurd (c.inquire.ensures.possible (ap (extent on_a_file) is))
+returns-in-Wat-clause-cache g c = λ is. absurd
+    (never_for (wat []) c.inquire.result c.inquire.ensures.possible
+    (ap (extent on_a_file) is))
 
 pub returns-in-Wat-clause-bad : goal.returns-in-Wat-clause-bad
 returns-in-Wat-clause-bad g c = λ digest contents work is. absurd
-    (c.inquire.ensures.possible (ap (extent on_a_file) is))
+    (never_for (wat []) c.inquire.result c.inquire.ensures.possible (ap (extent on_a_file) is))
 
 pub returns-in-Check-clause-work : goal.returns-in-Check-clause-work
 returns-in-Check-clause-work g c = rw c.in-Check.is (λ contents work has works honest.
@@ -156,11 +160,13 @@ pub returns-in-Check-clause-read : goal.returns-in-Check-clause-read
 returns-in-Check-clause-read g c = λ is. rw c.in-Check.is (one_lacks (c.inquire-in-Check.ensures.read is))
 
 pub returns-in-Check-clause-cache : goal.returns-in-Check-clause-cache
-returns-in-Check-clause-cache g c = λ is. absurd (c.inquire-in-Check.ensures.possible (ap (extent on_a_file) is))
+returns-in-Check-clause-cache g c = λ is. absurd
+    (never_for (check []) c.inquire-in-Check.result c.inquire-in-Check.ensures.possible
+    (ap (extent on_a_file) is))
 
 pub returns-in-Check-clause-bad : goal.returns-in-Check-clause-bad
 returns-in-Check-clause-bad g c = λ digest contents work is. absurd
-    (c.inquire-in-Check.ensures.possible (ap (extent on_a_file) is))
+    (never_for (check []) c.inquire-in-Check.result c.inquire-in-Check.ensures.possible (ap (extent on_a_file) is))
 
 pub returns-in-Migrate-clause-work : goal.returns-in-Migrate-clause-work
 returns-in-Migrate-clause-work g c = rw c.in-Migrate.is (λ contents work has works honest.
@@ -168,7 +174,7 @@ returns-in-Migrate-clause-work g c = rw c.in-Migrate.is (λ contents work has wo
 
 pub returns-in-Migrate-clause-bad : goal.returns-in-Migrate-clause-bad
 returns-in-Migrate-clause-bad g c = λ digest contents work is. absurd
-    (c.migrate.ensures.possible (ap (extent on_a_cache) is))
+    (never_for (migrate []) c.migrate.result c.migrate.ensures.possible (ap (extent on_a_cache) is))
 
 pub returns-in-Wat-clause-missing : goal.returns-in-Wat-clause-missing
 returns-in-Wat-clause-missing g c = λ lacks. c.inquire.ensures.missing (lacks_one (rw c.in-Wat.is at lacks))
@@ -258,11 +264,13 @@ returns-in-Cert-clause-lacking g c =
     c.inquire-in-Cert.ensures.nothing)
 
 pub returns-in-Cert-clause-cache : goal.returns-in-Cert-clause-cache
-returns-in-Cert-clause-cache g c = λ is. absurd (c.inquire-in-Cert.ensures.possible (ap (extent on_a_file) is))
+returns-in-Cert-clause-cache g c = λ is. absurd
+    (never_for (cert []) c.inquire-in-Cert.result c.inquire-in-Cert.ensures.possible
+    (ap (extent on_a_file) is))
 
 pub returns-in-Cert-clause-bad : goal.returns-in-Cert-clause-bad
 returns-in-Cert-clause-bad g c = λ digest contents work is. absurd
-    (c.inquire-in-Cert.ensures.possible (ap (extent on_a_file) is))
+    (never_for (cert []) c.inquire-in-Cert.result c.inquire-in-Cert.ensures.possible (ap (extent on_a_file) is))
 
 -- A text and a source.
 pub returns-in-Recheck-clause-work : goal.returns-in-Recheck-clause-work
@@ -286,8 +294,14 @@ returns-in-Recheck-clause-lacking g c =
     c.recheck.ensures.nothing c.recheck.ensures.lacking)
 
 pub returns-in-Recheck-clause-cache : goal.returns-in-Recheck-clause-cache
-returns-in-Recheck-clause-cache g c = λ is. absurd (c.recheck.ensures.possible (ap (extent on_a_file) is))
+returns-in-Recheck-clause-cache g c = λ is. absurd
+    (never_for (recheck [] []) c.recheck.result c.recheck.ensures.possible
+    (ap (extent on_a_file) is))
 
 pub returns-in-Recheck-clause-bad : goal.returns-in-Recheck-clause-bad
 returns-in-Recheck-clause-bad g c = λ digest contents work is. absurd
-    (c.recheck.ensures.possible (ap (extent on_a_file) is))
+    (never_for (recheck [] []) c.recheck.result c.recheck.ensures.possible (ap (extent on_a_file) is))
+
+-- A sample leaves the keeper alone.
+pub returns-in-Sample-clause-right : goal.returns-in-Sample-clause-right
+returns-in-Sample-clause-right g c = λ tells. grown_stays _ _ (ap g.C.Keeper.held c.run_sample.ensures.untouched)

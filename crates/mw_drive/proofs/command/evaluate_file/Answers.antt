@@ -6,7 +6,8 @@ use Rattle.mw_drive.specs.ProgramRuns.{evaluated, cache_of}
 use Rattle.mw_drive.specs.Running.{kind_with}
 use Rattle.mw_drive.proofs.CommandLemmas.{carried_memory}
 use Rattle.mw_drive.proofs.OpenedFiles.{opened_status}
-use Rattle.mw_drive.proofs.RunLemmas.{carried, written_as, front_told, means_evaluated, kind_over, written_possible}
+use Rattle.mw_drive.proofs.RunLemmas.{carried, written_as, front_told, means_evaluated, kind_over}
+use Rattle.mw_drive.proofs.CommandStatuses.{source_for, read_for, memory_for}
 use Rattle.mw_drive.proofs.RunLemmas.{no_path, ran_whole, bad_whole}
 use Rattle.mw_drive.proofs.Statuses.{not_read, refused_status, unkept_status, bad_status, sound_status, held_status}
 use Rattle.mw_drive.proofs.Statuses.{kept_status}
@@ -31,9 +32,14 @@ returns-clause-work g c = λ bytes has honest.
 pub returns-clause-possible : goal.returns-clause-possible
 returns-clause-possible g c =
     let path = cache_of c.args.evaluation in
-    written_possible path (kind_with path) (kind_over path) c.status_of.result c.write_source.result
-    c.write_source.ensures.ended
-    (λ none. (c.write_source.ensures.meaning (no_path path none)).usual) c.status_of.ensures
+    source_for path c.status_of.result c.write_source.result c.status_of.ensures c.write_source.ensures.ended
+    (λ none. (c.write_source.ensures.meaning (no_path path none)).usual)
+
+pub returns-in-Err-Failed-clause-possible : goal.returns-in-Err-Failed-clause-possible
+returns-in-Err-Failed-clause-possible g c = read_for (cache_of c.args.evaluation)
+
+pub returns-in-Err-Memory-clause-possible : goal.returns-in-Err-Memory-clause-possible
+returns-in-Err-Memory-clause-possible g c = memory_for (cache_of c.args.evaluation) _
 
 pub returns-clause-refused : goal.returns-clause-refused
 returns-clause-refused g c = λ r refused.

@@ -9,8 +9,11 @@ use Rattle.mw_drive.specs.Extents.{extent}
 use Rattle.mw_drive.specs.Running.{kind_of, path_of, outside}
 use Rattle.mw_words.specs.Words.{command_in}
 use Rattle.mw_keeping.proofs.KeptFiles.{front_stays}
+use Rattle.mw_keeping.proofs.GrownFiles.{grown_stays}
 use Rattle.mw_drive.proofs.CommandLemmas.{IsCalled, sample_range, run_workers, link_workers, asked_text}
-use Rattle.mw_drive.proofs.CommandLemmas.{asked_status, asked_complete, asked_faults, asked_possible, asked_of}
+use Rattle.mw_drive.proofs.CommandLemmas.{asked_status, asked_complete, asked_faults, asked_of}
+use Rattle.mw_drive.specs.CommandStatuses.{IsStatusFor}
+use Rattle.mw_drive.proofs.CommandStatuses.{never_for}
 use Rattle.mw_drive.proofs.CommandLemmas.{asked_missing, asked_lacking, asked_no_file, asked_no_cache, asked_last}
 use Rattle.mw_drive.proofs.CommandLemmas.{asked_verdict, asked_certificate, asked_typing, asked_kept, asked_bad}
 use Rattle.mw_drive.proofs.CommandLemmas.{asked_read, has_on, asked_erased, asked_simplified}
@@ -32,7 +35,7 @@ called g c = record {
   carried = c.carry_out.ensures.work;
   reads = c.carry_out.ensures.read;
   writes = c.carry_out.ensures.write;
-  possible = c.carry_out.ensures.possible;
+  possible = never_for (command_in c.in-Ok.command) c.carry_out.result c.carry_out.ensures.possible;
 }
 
 pub carry_out-requires-clause-range : goal.carry_out-requires-clause-range
@@ -62,7 +65,7 @@ returns-in-Ok g c =
       erasure = asked_erased known;
       simplified = asked_simplified known;
       faults = asked_faults known;
-      possible = asked_possible known;
+      possible = asked_of known (λ other. IsStatusFor other c.carry_out.result) carried.possible;
       unfailed = asked_of known _ carried.unfailed;
       memory = carried.memory;
       judged = asked_verdict known;
@@ -77,12 +80,12 @@ returns-in-Ok g c =
       lacking = λ asked. carried.lacking (asked_lacking known asked);
       nothing = first_of (search rules, grind (arith, common_steps));
       unread = λ none. elim none [
-        | inl usage ↦ absurd (carried.possible (ap (extent (kind_of command)) usage))
+        | inl usage ↦ absurd (known.possible (ap (extent (kind_of command)) usage))
         | inr asked ↦ carried.unread (asked_no_file known asked)
       ];
       files = carried.files;
       untouched = λ none. elim none [
-        | inl usage ↦ absurd (carried.possible (ap (extent (kind_of command)) usage))
+        | inl usage ↦ absurd (known.possible (ap (extent (kind_of command)) usage))
         | inr (inl read) ↦ carried.untouched (inl read)
         | inr (inr asked) ↦ carried.untouched (inr (asked_no_cache known asked))
       ];
@@ -90,6 +93,7 @@ returns-in-Ok g c =
       opened = asked_of known _ carried.opened;
       front = λ tells. front_of (path_of command) (kind_of command) c.carry_out.result held after
           (λ none. ap g.C.Keeper.held (carried.untouched (inr none))) (λ some. carried.held some tells);
+      right = carried.right;
       held = asked_of known _ carried.held;
       kept = λ work asked some written shown kernels e is.
           let m = asked_complete known work asked written in
@@ -109,3 +113,6 @@ returns-in-Ok g c =
 
 pub returns-in-Err-clause-front : goal.returns-in-Err-clause-front
 returns-in-Err-clause-front g c = λ tells. front_stays _ _ refl
+
+pub returns-in-Err-clause-right : goal.returns-in-Err-clause-right
+returns-in-Err-clause-right g c = λ tells. grown_stays _ _ refl

@@ -3,6 +3,7 @@ use Rattle.mw_drive.specs.Extents.{on_a_file}
 use Rattle.mw_drive.specs.Running.{IsCarriedOut}
 use Rattle.mw_drive.specs.Verdicts.{inquired}
 use Rattle.mw_drive.proofs.CommandLemmas.{carried_memory}
+use Rattle.mw_drive.proofs.CommandStatuses.{asked_read, asked_memory}
 use Rattle.mw_drive.proofs.RunLemmas.{front_told}
 use Rattle.mw_drive.proofs.inquiry.inquire.Goals as goal
 
@@ -14,3 +15,9 @@ returns-in-Ok-clause-work g c = λ bytes has.
 
 pub returns-in-Err-Memory-clause-work : goal.returns-in-Err-Memory-clause-work
 returns-in-Err-Memory-clause-work g c = λ bytes has. carried_memory on_a_file _ _ g.K.Sink.tells _
+
+pub returns-in-Err-Failed-clause-possible : goal.returns-in-Err-Failed-clause-possible
+returns-in-Err-Failed-clause-possible g c = asked_read c.args.inquiry
+
+pub returns-in-Err-Memory-clause-possible : goal.returns-in-Err-Memory-clause-possible
+returns-in-Err-Memory-clause-possible g c = asked_memory c.args.inquiry _
