@@ -87,11 +87,3 @@ all_fitted whole room at ks records are past so_far =
     so_far
     ∙ ap (λ xs. take at ks ++ fitting room xs) (drop_all ks at (omega (arith, count, past)))
     ∙ append-nil (take at ks)
-
--- what grew goes on to
-pub grows_on : (old mid new bytes : List ℕ) → (rest : List ℕ) × (mid ≡ old ++ rest) → new ≡ mid ++ bytes
-    → (rest : List ℕ) × (new ≡ old ++ rest)
-grows_on old mid new bytes grown more = (
-  grown.0 ++ bytes,
-  more ∙ ap (λ bs. bs ++ bytes) grown.1 ∙ append_assoc old grown.0 bytes,
-)

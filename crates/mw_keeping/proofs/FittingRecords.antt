@@ -93,12 +93,13 @@ fitting_among room (k ∷ ks) j h = elim (cases_lt room (size k)) [
       ]
 ]
 
--- a text of all is one of those that fit, or it isn't below the text of the first for which there is no room
-pub record HasNext (room : ℕ) (ks : List Kept) (text : List ℕ) : Type 0 where
+-- The first for which there is no room: its text isn't above that of any that doesn't fit.
+pub record HasNext (room : ℕ) (ks : List Kept) : Type 0 where
   pub next : Kept
   pub among : Contains ks next
   pub above : (j : Kept) → Contains (fitting room ks) j → slice_cmp nat_cmp j.text next.text ≡ Less
-  pub up_to : slice_cmp nat_cmp next.text text ≡ Greater → ⊥
+  pub least : (text : List ℕ) → Contains (texts ks) text
+      → Contains (texts (fitting room ks)) text ⊎ (slice_cmp nat_cmp next.text text ≡ Greater → ⊥)
   pub past : room < length (file_of (fitting room ks ++ next ∷ []))
 
 not_above : (t : List ℕ) → slice_cmp nat_cmp t t ≡ Greater → ⊥
@@ -119,11 +120,12 @@ kept_below P (k ∷ ks) j all (suc n, less, is) = kept_below P ks j all.1 (n, om
 less_not_above : (a b : List ℕ) → slice_cmp nat_cmp a b ≡ Less → slice_cmp nat_cmp a b ≡ Greater → ⊥
 less_not_above a b e f = absurd (true≢false (ap is_lt (sym e ∙ f)))
 
-pub fitting_or_next : (room : ℕ) (ks : List Kept) (text : List ℕ) → IsStrictlySortedBy (slice_cmp nat_cmp) (texts ks)
-    → Contains (texts ks) text → Contains (texts (fitting room ks)) text ⊎ HasNext room ks text
+-- all of them fit, or one is the first for which there is no room
+pub all_or_next : (room : ℕ) (ks : List Kept) → IsStrictlySortedBy (slice_cmp nat_cmp) (texts ks)
+    → (fitting room ks ≡ ks) ⊎ HasNext room ks
 unfolding IsStrictlySortedBy
-fitting_or_next room [] text rise h = absurd (contains_none text h)
-fitting_or_next room (k ∷ ks) text rise h = elim (cases_lt room (size k)) [
+all_or_next room [] rise = inl refl
+all_or_next room (k ∷ ks) rise = elim (cases_lt room (size k)) [
   | inl full ↦
       let none = fitting_none room k ks full in
       let one : length (file_of (fitting room (k ∷ ks) ++ k ∷ [])) ≡ size k =
@@ -132,43 +134,47 @@ fitting_or_next room (k ∷ ks) text rise h = elim (cases_lt room (size k)) [
         next = k;
         among = contains_first k ks;
         above = λ j in_none. absurd (contains_none j (subst (λ js. Contains js j) none in_none));
-        up_to =
+        least = λ text h.
             elim (contains_case k.text text (texts ks) h) [
-              | inl is ↦ subst (λ t. slice_cmp nat_cmp k.text t ≡ Greater → ⊥) is (not_above k.text)
+              | inl is ↦ inr (subst (λ t. slice_cmp nat_cmp k.text t ≡ Greater → ⊥) is (not_above k.text))
               | inr later ↦
-                  less_not_above k.text text
-                  (text_below text (λ t. slice_cmp nat_cmp k.text t ≡ Less) ks rise.0 later)
+                  inr (less_not_above k.text text
+                  (text_below text (λ t. slice_cmp nat_cmp k.text t ≡ Less) ks rise.0 later))
             ];
         past = omega (arith, one, full);
       }
   | inr enough ↦
       let more = fitting_more room k ks enough in
       let rest = fitting (room - size k) ks in
-      elim (contains_case k.text text (texts ks) h) [
-        | inl is ↦
-            inl (subst (λ js. Contains (texts js) text) (sym more) (zero, omega arith, is))
-        | inr later ↦
-            elim (fitting_or_next (room - size k) ks text rise.1 later) [
-              | inl kept ↦
-                  inl (subst (λ js. Contains (texts js) text) (sym more) (contains_later k.text text (texts rest) kept))
-              | inr n ↦
-                  let size_is = file_longer k (rest ++ n.next ∷ []) in
-                  let past = n.past in
-                  inr record {
-                    next = n.next;
-                    among = contains_later k n.next ks n.among;
-                    above = λ j inside.
-                        elim (contains_case k j rest (subst (λ js. Contains js j) more inside)) [
-                          | inl is ↦
-                              subst (λ (i : Kept). slice_cmp nat_cmp i.text n.next.text ≡ Less) is
-                              (kept_below (λ t. slice_cmp nat_cmp k.text t ≡ Less) ks n.next rise.0 n.among)
-                          | inr below ↦ n.above j below
-                        ];
-                    up_to = n.up_to;
-                    past =
-                        subst (λ js. room < length (file_of (js ++ n.next ∷ []))) (sym more)
-                        (omega (arith, size_is, past, enough));
-                  }
-            ]
+      elim (all_or_next (room - size k) ks rise.1) [
+        | inl all ↦ inl (more ∙ ap (λ js. k ∷ js) all)
+        | inr n ↦
+            let size_is = file_longer k (rest ++ n.next ∷ []) in
+            let past = n.past in
+            inr record {
+              next = n.next;
+              among = contains_later k n.next ks n.among;
+              above = λ j inside.
+                  elim (contains_case k j rest (subst (λ js. Contains js j) more inside)) [
+                    | inl is ↦
+                        subst (λ (i : Kept). slice_cmp nat_cmp i.text n.next.text ≡ Less) is
+                        (kept_below (λ t. slice_cmp nat_cmp k.text t ≡ Less) ks n.next rise.0 n.among)
+                    | inr below ↦ n.above j below
+                  ];
+              least = λ text h.
+                  elim (contains_case k.text text (texts ks) h) [
+                    | inl is ↦ inl (subst (λ js. Contains (texts js) text) (sym more) (zero, omega arith, is))
+                    | inr later ↦
+                        elim (n.least text later) [
+                          | inl kept ↦
+                              inl (subst (λ js. Contains (texts js) text) (sym more)
+                              (contains_later k.text text (texts rest) kept))
+                          | inr up ↦ inr up
+                        ]
+                  ];
+              past =
+                  subst (λ js. room < length (file_of (js ++ n.next ∷ []))) (sym more)
+                  (omega (arith, size_is, past, enough));
+            }
       ]
 ]

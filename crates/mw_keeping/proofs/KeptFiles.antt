@@ -1,14 +1,14 @@
 -- What a cache file holds once it was cut and records were added.
 use Rattle.std.proofs.Common.{◌≡◌, inl, inr, ℕ, ◌+◌, ◌-◌, ◌≤◌, List, [], ◌∷◌, ◌++◌, length, take, drop, Contains}
-use Rattle.std.proofs.Common.{Result, Ok, Err, OnOk, refl, sym, ap, ◌∙◌, arith}
+use Rattle.std.proofs.Common.{Result, Ok, Err, OnOk, map, refl, sym, ap, ◌∙◌, subst, arith}
 use Rattle.std.proofs.lemmas.List.{length-append, length-take, take_all, take-append-drop}
 use Rattle.mw_store.specs.Records.{Kept, record_bytes, file_of}
 use Rattle.mw_store.specs.Loads.{LoadState, Counts, IsLoadOf, file_limit}
 use Rattle.mw_store.proofs.Files.{load_same}
 use Rattle.mw_cache.specs.Keeping.{AreToKeep}
 use Rattle.mw_keeping.specs.CacheFiles.{IsReadFile}
-use Rattle.mw_keeping.specs.KeptFiles.{HasNoRoom, IsKeptFile, HasGoodFront, fitting}
-use Rattle.mw_keeping.proofs.FittingRecords.{fits, fitting_rise, fitting_among, fitting_or_next}
+use Rattle.mw_keeping.specs.KeptFiles.{HasNoRoom, IsKeptFile, IsKept, HasGoodFront, fitting}
+use Rattle.mw_keeping.proofs.FittingRecords.{fits, fitting_rise, fitting_among, all_or_next}
 
 -- the records that count are a front of the bytes
 records_within : (past : ℕ) (bytes : List ℕ) (rs : List Kept) → Counts past bytes rs → length (file_of rs)
@@ -25,7 +25,7 @@ good_within held load h =
     let within = records_within 0 held h.0 h.1.counts in let good = h.1.good_is in omega (arith, within, good)
 
 -- all loads of the bytes have one length
-good_same : (held : List ℕ) (a b : LoadState) → IsLoadOf held a → IsLoadOf held b → a.good ≡ b.good
+pub good_same : (held : List ℕ) (a b : LoadState) → IsLoadOf held a → IsLoadOf held b → a.good ≡ b.good
 good_same held a b h g = (load_same held h.0 g.0 a.good b.good h.1 g.1).1
 
 -- a file that stayed, or that was cut to what counted, begins with that
@@ -65,6 +65,7 @@ module _ (held mid after : List ℕ) (load : LoadState) (texts : List (List ℕ)
         records = records;
         are = record {
           rise = fitting_rise room ks keep.rise;
+          among = λ k inside. keep.among k (fitting_among room ks k inside);
           unloaded = λ k inside. keep.unloaded k (fitting_among room ks k inside);
           emission = λ k inside. keep.emission k (fitting_among room ks k inside);
           within = omega (arith, fit, within);
@@ -73,16 +74,22 @@ module _ (held mid after : List ℕ) (load : LoadState) (texts : List (List ℕ)
         covered = λ text inside. elim (keep.all text inside) [
           | inl loaded ↦ inl loaded
           | inr there ↦
-              elim (fitting_or_next room ks text keep.rise there) [
-                | inl kept ↦ inr (inl kept)
+              elim (all_or_next room ks keep.rise) [
+                | inl all ↦
+                    let has_text = λ (js : List Kept). Contains (map (λ (k : Kept). k.text) js) text in
+                    inr (inl (subst has_text (sym all) there))
                 | inr n ↦
                     let past = n.past in
-                    let no_room : HasNoRoom load records text = record {
+                    let no_room : HasNoRoom load texts records = record {
                       next = n.next;
+                      among = keep.among n.next n.among;
                       unloaded = keep.unloaded n.next n.among;
                       emission = keep.emission n.next n.among;
                       above = n.above;
-                      up_to = n.up_to;
+                      least = λ t wanted. elim (keep.all t wanted) [
+                        | inl loaded ↦ inl loaded
+                        | inr here ↦ inr (n.least t here)
+                      ];
                       past = omega (arith, past, within);
                     } in
                     inr (inr no_room)
@@ -95,20 +102,44 @@ pub answer_says : {A E P Q : Type 0} (r : Result A E) → OnOk r P → (P → Q)
 answer_says (Ok x) p f = f p
 answer_says (Err e) p f = p
 
--- what covers texts covers each of them
-pub kept_of : {held after : List ℕ} {texts : List (List ℕ)} (others : List (List ℕ)) → IsKeptFile held after texts
-    → ((text : List ℕ) → Contains others text → Contains texts text) → IsKeptFile held after others
-kept_of others h among = record {
+-- it is kept for the same texts in any order and number
+pub kept_same : {held after : List ℕ} {texts : List (List ℕ)} (others : List (List ℕ)) → IsKeptFile held after texts
+    → ((text : List ℕ) → Contains others text → Contains texts text)
+    → ((text : List ℕ) → Contains texts text → Contains others text) → IsKeptFile held after others
+kept_same {texts = texts} others h to from = record {
   load = h.load;
   is_load = h.is_load;
   records = h.records;
-  are = h.are;
+  are = record {
+    rise = h.are.rise;
+    among = λ k inside. from k.text (h.are.among k inside);
+    unloaded = h.are.unloaded;
+    emission = h.are.emission;
+    within = h.are.within;
+  };
   file = h.file;
-  covered = λ text inside. h.covered text (among text inside);
+  covered = λ text inside. elim (h.covered text (to text inside)) [
+    | inl loaded ↦ inl loaded
+    | inr other ↦
+        elim other [
+          | inl kept ↦ inr (inl kept)
+          | inr n ↦
+              let no_room : HasNoRoom h.load others h.records = record {
+                next = n.next;
+                among = from n.next.text n.among;
+                unloaded = n.unloaded;
+                emission = n.emission;
+                above = n.above;
+                least = λ t wanted. n.least t (to t wanted);
+                past = n.past;
+              } in
+              inr (inr no_room)
+        ]
+  ];
 }
 
-pub kept_none : {held after : List ℕ} {texts : List (List ℕ)} → IsKeptFile held after texts → IsKeptFile held after []
-kept_none h = kept_of [] h (λ text inside. let less = inside.1 in absurd (omega (arith, less)))
+pub kept_some : {held after : List ℕ} {texts : List (List ℕ)} → IsKeptFile held after texts → IsKept held after
+kept_some {texts = texts} h = (texts, h)
 
 -- a file with what is kept begins with what counted
 pub kept_front : {held after : List ℕ} {texts : List (List ℕ)} → IsKeptFile held after texts → HasGoodFront held after

@@ -10,37 +10,44 @@ use Rattle.mw_store.specs.Loads.{LoadState, IsLoadOf, file_limit}
 use Rattle.mw_compile.specs.Emission.{IsEmissionOf}
 use Rattle.mw_cache.specs.Gots.{IsLoadedText}
 
--- Records behind those that were loaded: their texts rise in the order of bytes, none of them was loaded, each module
--- is the emission of its text, and all of them end within the limit.
-pub record AreKept (load : LoadState) (ks : List Kept) : Type 0 where
+-- Records behind those that were loaded: their texts rise in the order of bytes, each is one of these texts, none of
+-- them was loaded, each module is the emission of its text, and all of them end within the limit.
+pub record AreKept (load : LoadState) (wanted : List (List ℕ)) (ks : List Kept) : Type 0 where
   pub rise : IsStrictlySortedBy (slice_cmp nat_cmp) (map (λ k. k.text) ks)
+  pub among : (k : Kept) → Contains ks k → Contains wanted k.text
   pub unloaded : (k : Kept) → Contains ks k → IsLoadedText load k.text → ⊥
   pub emission : (k : Kept) → Contains ks k → IsEmissionOf k.bytes k.text
   pub within : load.good + length (file_of ks) ≤ file_limit
 
--- The next record would have ended past the limit: that of a text that wasn't loaded, above all that were kept, and not
--- above this one.
-pub record HasNoRoom (load : LoadState) (ks : List Kept) (text : List ℕ) : Type 0 where
+-- The next record would have ended past the limit: that of the least of these texts that wasn't loaded and isn't kept.
+pub record HasNoRoom (load : LoadState) (wanted : List (List ℕ)) (ks : List Kept) : Type 0 where
   pub next : Kept
+  pub among : Contains wanted next.text
   pub unloaded : IsLoadedText load next.text → ⊥
   pub emission : IsEmissionOf next.bytes next.text
   pub above : (k : Kept) → Contains ks k → slice_cmp nat_cmp k.text next.text ≡ Less
-  pub up_to : slice_cmp nat_cmp next.text text ≡ Greater → ⊥
+  pub least : (text : List ℕ) → Contains wanted text
+      → IsLoadedText load text ⊎ Contains (map (λ k. k.text) ks) text ⊎ (slice_cmp nat_cmp next.text text ≡ Greater → ⊥)
   pub past : file_limit < load.good + length (file_of (ks ++ next ∷ []))
 
 -- the text was loaded, or kept, or there was no more room
-abbrev pub IsCovered : LoadState → List Kept → List ℕ → Type 0
-IsCovered load ks text = IsLoadedText load text ⊎ Contains (map (λ k. k.text) ks) text ⊎ HasNoRoom load ks text
+abbrev pub IsCovered : LoadState → List (List ℕ) → List Kept → List ℕ → Type 0
+IsCovered load wanted ks text =
+    IsLoadedText load text ⊎ Contains (map (λ k. k.text) ks) text ⊎ HasNoRoom load wanted ks
 
--- A file that held these bytes has the records of it that counted, and then others that are kept, so that each of these
--- texts is covered.
-pub record IsKeptFile (held after : List ℕ) (texts : List (List ℕ)) : Type 0 where
+-- A file that held these bytes has the records of it that counted, and then others that are kept, so that each of the
+-- wanted texts is covered.
+pub record IsKeptFile (held after : List ℕ) (wanted : List (List ℕ)) : Type 0 where
   pub load : LoadState
   pub is_load : IsLoadOf held load
   pub records : List Kept
-  pub are : AreKept load records
+  pub are : AreKept load wanted records
   pub file : after ≡ take load.good held ++ file_of records
-  pub covered : (text : List ℕ) → Contains texts text → IsCovered load records text
+  pub covered : (text : List ℕ) → Contains wanted text → IsCovered load wanted records text
+
+-- a file is kept so for some texts
+abbrev pub IsKept : (held after : List ℕ) → Type 0
+IsKept held after = (wanted : List (List ℕ)) × IsKeptFile held after wanted
 
 -- a file begins with the records that counted of what it held
 abbrev pub HasGoodFront : (held after : List ℕ) → Type 0

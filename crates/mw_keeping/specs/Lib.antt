@@ -1,3 +1,4 @@
 pub mod CacheFiles
+pub mod GrownFiles
 pub mod KeptFiles
 pub mod Migrations

@@ -6,6 +6,7 @@ ghost use Rattle.mw_cache.specs.Gots.{IsHere, text_in, texts_of};
 ghost use Rattle.mw_store.specs.Records.{Kept, record_bytes, file_of};
 ghost use Rattle.mw_store.specs.Loads.{LoadState};
 ghost use Rattle.mw_keeping.specs.CacheFiles.{IsReadFile, BlamesKeeper};
+ghost use Rattle.mw_keeping.specs.GrownFiles.{GrowsRight, HasPartOf};
 ghost use Rattle.mw_keeping.specs.KeptFiles.{IsKeptFile, HasGoodFront, fitting};
 
 use mw_cache::{Cache, Got, Records};
@@ -33,6 +34,7 @@ pub fn keep<C: Keeper>(
         texts_of receipts.now ++ map (λ g. text_in cache.now g.now) gots.now in
         OnOk result (IsTrue C.tells → IsKeptFile (C.held keeper.old) (C.held keeper.new) texts) }
     ensures front { IsTrue C.tells → HasGoodFront (C.held keeper.old) (C.held keeper.new) }
+    ensures right { IsTrue C.tells → GrowsRight (C.held keeper.old) (C.held keeper.new) }
     ensures same_names { IsTrue C.tells → C.opened keeper.new ≡ C.opened keeper.old }
     ensures blames { BlamesKeeper result (C.faults keeper.old) (C.faults keeper.new) }
     ensures rises { C.faults keeper.old ≤ C.faults keeper.new }
@@ -72,8 +74,8 @@ pub(crate) fn append_fitting<C: Keeper>(
     ensures fitting { OnOk result
         ((ks : List Kept) → records.now ≡ map record_bytes ks → IsTrue C.tells
         → C.held keeper.new ≡ C.held keeper.old ++ file_of (fitting room ks)) }
-    ensures front { IsTrue C.tells
-        → (rest : List ℕ) × (C.held keeper.new ≡ C.held keeper.old ++ rest) }
+    ensures front { (ks : List Kept) → records.now ≡ map record_bytes ks → IsTrue C.tells
+        → HasPartOf ks (C.held keeper.old) (C.held keeper.new) }
     ensures same_names { IsTrue C.tells → C.opened keeper.new ≡ C.opened keeper.old }
     ensures blames { BlamesKeeper result (C.faults keeper.old) (C.faults keeper.new) }
     ensures rises { C.faults keeper.old ≤ C.faults keeper.new }

@@ -3,6 +3,7 @@
 ghost use Rattle.std.specs.Prelude.{◌≡◌, ◌≤◌, ◌+◌, List, length, map, IsTrue, IfOk, OnOk};
 ghost use Rattle.mw_store.specs.Records.{Kept, record_bytes};
 ghost use Rattle.mw_keeping.specs.CacheFiles.{IsStartedWith, IsStartedAtMost, BlamesKeeper};
+ghost use Rattle.mw_keeping.specs.GrownFiles.{GrowsRight};
 ghost use Rattle.mw_keeping.specs.KeptFiles.{HasGoodFront, fitting};
 ghost use Rattle.mw_keeping.specs.Migrations.{IsMigrationHere, IsMigratedFile};
 
@@ -70,6 +71,7 @@ pub fn keep_migration<C: Keeper>(keeper: &mut C, migration: &FileMigration) -> R
     ensures kept { OnOk result
         (IsTrue C.tells → IsMigratedFile (C.held keeper.old) (C.held keeper.new)) }
     ensures front { IsTrue C.tells → HasGoodFront (C.held keeper.old) (C.held keeper.new) }
+    ensures right { IsTrue C.tells → GrowsRight (C.held keeper.old) (C.held keeper.new) }
     ensures blames { BlamesKeeper result (C.faults keeper.old) (C.faults keeper.new) }
     ensures rises { C.faults keeper.old ≤ C.faults keeper.new }
 {

@@ -1,6 +1,7 @@
 use Rattle.std.proofs.Common.{◌∙◌, [], sym, ap, arith}
 use Rattle.std.proofs.lemmas.List.{append-nil}
 use Rattle.mw_store.specs.Loads.{LoadState}
+use Rattle.mw_keeping.proofs.GrownFiles.{grown_stays, grown_then, front_of, no_part, no_emissions}
 use Rattle.mw_keeping.proofs.KeptFiles.{good_within, front_stays, front_then, kept_file, answer_says}
 use Rattle.mw_keeping.proofs.keeping.keep.Goals as goal
 
@@ -39,5 +40,27 @@ returns-clause-front g c = λ tells.
     let same = c.good-good.ensures.good ∙ ap (λ (l : LoadState). l.good) c.load.ensures in
     let read = c.requires.read tells in
     let cut = c.in_ok-cut_back.ensures.cut tells load (sym same) read in
-    let grown = c.append_fitting.ensures.front tells in
-    front_then _ _ _ grown.0 load read.is_load (rw same at cut) grown.1
+    let are = c.in_ok-records.ensures in
+    let added = c.append_fitting.ensures.front are.0 are.2 tells in
+    front_of _ _ _ load read.is_load (rw same at cut) are.0 added
+
+pub returns-in_err-cut_back-clause-right : goal.returns-in_err-cut_back-clause-right
+returns-in_err-cut_back-clause-right g c = λ tells. grown_stays _ _ (c.in_err-cut_back.ensures.same tells)
+
+pub returns-in_err-records-clause-right : goal.returns-in_err-records-clause-right
+returns-in_err-records-clause-right g c = λ tells.
+    let load = c.args.cache.now.load in
+    let same = c.good-good.ensures.good ∙ ap (λ (l : LoadState). l.good) c.load.ensures in
+    let read = c.requires.read tells in
+    let cut = c.in_ok-cut_back.ensures.cut tells load (sym same) read in
+    grown_then _ _ _ load read.is_load (rw same at cut) [] no_emissions (no_part _)
+
+pub returns-clause-right : goal.returns-clause-right
+returns-clause-right g c = λ tells.
+    let load = c.args.cache.now.load in
+    let same = c.good-good.ensures.good ∙ ap (λ (l : LoadState). l.good) c.load.ensures in
+    let read = c.requires.read tells in
+    let cut = c.in_ok-cut_back.ensures.cut tells load (sym same) read in
+    let are = c.in_ok-records.ensures in
+    let added = c.append_fitting.ensures.front are.0 are.2 tells in
+    grown_then _ _ _ load read.is_load (rw same at cut) are.0 are.1.emission added

@@ -1,5 +1,6 @@
 use Rattle.std.proofs.Common.{sym, arith}
-use Rattle.mw_keeping.proofs.KeptFiles.{good_within, front_stays, front_then, answer_says}
+use Rattle.mw_keeping.proofs.GrownFiles.{grown_stays, grown_then, front_of, migrated_emissions}
+use Rattle.mw_keeping.proofs.KeptFiles.{good_within, front_stays, answer_says}
 use Rattle.mw_keeping.proofs.Migrations.{migrated_file}
 use Rattle.mw_keeping.proofs.migrating.keep_migration.Goals as goal
 
@@ -28,5 +29,18 @@ returns-clause-front g c = λ tells.
     let same = c.good-good.ensures.good in
     let here = c.requires tells in
     let cut = c.in_ok-cut_back.ensures.cut tells m.load (sym same) here.read in
-    let grown = c.append_fitting.ensures.front tells in
-    front_then _ _ _ grown.0 m.load here.read.is_load (rw same at cut) grown.1
+    let added = c.append_fitting.ensures.front here.records here.bytes tells in
+    front_of _ _ _ m.load here.read.is_load (rw same at cut) here.records added
+
+pub returns-in_err-cut_back-clause-right : goal.returns-in_err-cut_back-clause-right
+returns-in_err-cut_back-clause-right g c = λ tells. grown_stays _ _ (c.in_err-cut_back.ensures.same tells)
+
+pub returns-clause-right : goal.returns-clause-right
+returns-clause-right g c = λ tells.
+    let m = c.args.migration.now in
+    let same = c.good-good.ensures.good in
+    let here = c.requires tells in
+    let cut = c.in_ok-cut_back.ensures.cut tells m.load (sym same) here.read in
+    let added = c.append_fitting.ensures.front here.records here.bytes tells in
+    let right = migrated_emissions m.load m.load.records m.old here.records here.are in
+    grown_then _ _ _ m.load here.read.is_load (rw same at cut) here.records right added
