@@ -1,5 +1,5 @@
 -- Which statuses commands end with.
-use Rattle.std.proofs.Common.{◌≡◌, inl, inr, List, [], ℕ, Bool, Option, Some, None, IsNone, IsSome, option_map, Result}
+use Rattle.std.proofs.Common.{◌≡◌, inl, inr, List, [], ℕ, Bool, Option, Some, None, IsNone, option_map, Result}
 use Rattle.std.proofs.Common.{Ok, Err, IfOk, IfErr, refl, sym, ◌∙◌, subst, arith, true, false}
 use denote.Ref.{Bor}
 use Rattle.mw_outside.specs.declared.errors.WriteFault.TheVariants as fault
@@ -7,7 +7,7 @@ use Rattle.mw_term.specs.declared.refusal.Refusal.{Refusal}
 use Rattle.mw_words.specs.Words.{PureCommand, run, erased, link, sample, migrate, wat, check, cert, recheck}
 use Rattle.mw_console.specs.Texts.{Ending, answered, trapped, bounded, ending_status}
 use Rattle.mw_console.specs.declared.status.Status.{Status}
-use Rattle.mw_console.specs.declared.status.Status.TheVariants.{Read, Write, Memory, Cache, BadCache, Refused}
+use Rattle.mw_console.specs.declared.status.Status.TheVariants.{Read, Write, Memory, Refused}
 use Rattle.mw_drive.specs.declared.fault.RunFault.{RunFault}
 use Rattle.mw_drive.specs.declared.fault.RunFault.TheVariants.{Unwritten, Bad}
 use Rattle.mw_drive.specs.declared.inquiry.Inquiry.{Inquiry}

@@ -1,13 +1,12 @@
 -- The digest that a fault tells, where only one record of a cache file may be not honest.
-use Rattle.std.proofs.Common.{◌≡◌, ◌⊎◌, inl, inr, ℕ, zero, suc, List, [], ◌∷◌, map, Some, refl, sym, ap, ◌∙◌, subst, arith}
+use Rattle.std.proofs.Common.{◌≡◌, ◌⊎◌, inl, inr, ℕ, zero, suc, List, [], ◌∷◌, map, Some, refl, sym, ap, ◌∙◌, subst}
+use Rattle.std.proofs.Common.{arith}
 use Rattle.std.specs.Prelude.{slice_get}
 use Rattle.sha2.specs.Sha256.{sha256}
-use Rattle.mw_term.specs.Terms.{Expression, KernelType}
 use Rattle.mw_wasm.specs.BinaryModules.{Spells}
 use Rattle.mw_wasm.proofs.FormatModules.{one_module}
 use Rattle.mw_meaning.specs.StandingFor.{StandsFor}
 use Rattle.mw_meaning.proofs.StrayModules.{standing_is_not_stray}
-use Rattle.mw_key.specs.CanonicalText.{IsTextOf}
 use Rattle.mw_key.specs.declared.version.Version.TheVariants.{Two}
 use Rattle.mw_store.specs.Records.{Kept}
 use Rattle.mw_store.specs.Loads.{Loaded, LoadState, IsLoadOf, kept_of, firsts}
@@ -15,7 +14,7 @@ use Rattle.mw_store.proofs.Files.{load_same}
 use Rattle.mw_compile.specs.Emission.{emission, IsEmissionOf}
 use Rattle.mw_compile.proofs.EmittedEntries.{each_emission, one_emission}
 use Rattle.mw_cached.specs.StrayRecords.{IsStrayRecord}
-use Rattle.mw_drive.specs.BadRecords.{IsBadRecord, IsBadOf, of_run, IsHonestBut, DigestOfTheOne}
+use Rattle.mw_drive.specs.BadRecords.{of_run, IsHonestBut, DigestOfTheOne}
 
 -- a stray record hasn't the emission of its text
 stray_not_honest : (load : LoadState) (digest : List ℕ) (stray : IsStrayRecord load digest)

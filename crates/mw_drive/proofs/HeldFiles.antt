@@ -9,23 +9,25 @@ use Rattle.mw_outside.specs.declared.errors.WriteFault.TheVariants as fault
 use Rattle.mw_meaning.specs.declared.mode.Mode.{Mode}
 use Rattle.mw_store.specs.Loads.{LoadState}
 use Rattle.mw_cache.specs.Gots.{CacheState}
-use Rattle.mw_console.specs.Texts.{Ending, ending_status}
+use Rattle.mw_console.specs.Texts.{Ending, answered, trapped, bounded, ending_status}
 use Rattle.mw_console.specs.declared.status.Status.{Status}
-use Rattle.mw_console.specs.declared.status.Status.TheVariants.{Refused}
+use Rattle.mw_console.specs.declared.status.Status.TheVariants.{Answer, Trap, Bound, Refused, Write}
 use Rattle.mw_console.specs.declared.status.Status.TheVariants.{Cache, Memory}
 use Rattle.mw_keeping.specs.CacheFiles.{IsReadFile, IsOpened}
-use Rattle.mw_keeping.specs.KeptFiles.{IsKeptFile, HasGoodFront}
+use Rattle.mw_keeping.specs.KeptFiles.{IsKept, HasGoodFront}
+use Rattle.mw_keeping.specs.GrownFiles.{GrowsRight}
+use Rattle.mw_keeping.proofs.GrownFiles.{grown_stays}
 use Rattle.mw_keeping.specs.declared.opening.CacheFile.{CacheFile}
 use Rattle.mw_keeping.specs.declared.opening.CacheFile.TheVariants.{Absent, Unread, Read}
-use Rattle.mw_keeping.proofs.KeptFiles.{front_stays, front_then, kept_none, kept_front}
+use Rattle.mw_keeping.proofs.KeptFiles.{front_stays, front_then, kept_some, kept_front}
 use Rattle.mw_keeping.specs.Migrations.{IsMigratedFile}
 use Rattle.mw_store.specs.Records.{file_of}
 use Rattle.mw_drive.specs.declared.fault.RunFault.{RunFault}
 use Rattle.mw_drive.specs.declared.fault.RunFault.TheVariants.{Unwritten}
 use Rattle.mw_drive.specs.declared.items.Built.{Built}
-use Rattle.mw_drive.specs.Extents.{Kind}
+use Rattle.mw_drive.specs.Extents.{Kind, on_a_file, over_a_cache, on_a_number, on_a_cache}
 use Rattle.mw_drive.specs.HeldFiles.{IsHeldBy, IsHeldWith, IsHeldAfter, IsKeptOf, IsKeptWith}
-use Rattle.mw_drive.specs.HeldFiles.{IsStatusAfter, texts_built}
+use Rattle.mw_drive.specs.HeldFiles.{IsStatusAfter, IsMigratedWith, CoversAll, texts_built}
 use Rattle.mw_drive.specs.ProgramRuns.{kernel_of, kernels_of, IsBuilt, HasEnding}
 use Rattle.mw_drive.specs.Running.{kind_with}
 use Rattle.mw_drive.specs.Works.{run_text}
@@ -51,8 +53,14 @@ pub held_failed : (r : Result Status RunFault) (held after : List ℕ) → IsErr
 held_failed r held after failed same =
     let front : HasGoodFront held after = front_stays held after same in grind arith
 
-held_ending : (e : Ending) (held after : List ℕ) → IsKeptFile held after [] → IsHeldWith (ending_status e) held after
-held_ending e held after h = grind arith
+held_ending : (e : Ending) (held after : List ℕ) → IsKept held after → IsHeldWith (ending_status e) held after
+held_ending (answered v) held after h = h
+held_ending (trapped t name) held after h = h
+held_ending (bounded l name) held after h = h
+
+-- a file that nobody touched
+pub right_stays : (held : List ℕ) → GrowsRight held held
+right_stays held = grown_stays held held refl
 
 module _ (tells : Bool) (held : List ℕ) (path : Option (Bor (List ℕ))) (some : IsSome path) (file : CacheFile)
     (load : LoadState)
@@ -68,8 +76,8 @@ module _ (tells : Bool) (held : List ℕ) (path : Option (Bor (List ℕ))) (some
       by_file path file some opened unread front = grind arith
 
   module _ (own s : Status) (ending : HasEnding own) (is : IsStatusAfter file own s) (texts : List (List ℕ))
-      (kept : (count : ℕ) → file ≡ Read count → (s ≡ Cache → ⊥) → IsKeptFile held after texts) where
-    kept_texts : (s ≡ Cache → ⊥) → IsKeptFile held after texts
+      (kept : (count : ℕ) → file ≡ Read count → (s ≡ Cache → ⊥) → CoversAll texts held after) where
+    kept_texts : (s ≡ Cache → ⊥) → CoversAll texts held after
     kept_texts other = grind arith
 
     pub texts_kept : IsKeptOf texts (Ok s) held after
@@ -83,7 +91,7 @@ module _ (tells : Bool) (held : List ℕ) (path : Option (Bor (List ℕ))) (some
       | inl same ↦
           let e = same ∙ ending.1 in
           subst (λ x. IsHeldWith x held after) (sym e)
-          (held_ending ending.0 held after (kept_none (kept_texts (λ c. ending_kept ending.0 (sym e ∙ c)))))
+          (held_ending ending.0 held after (kept_some (kept_texts (λ c. ending_kept ending.0 (sym e ∙ c))).keeps))
       | inr unkept ↦ subst (λ x. IsHeldWith x held after) (sym unkept) front_kept
     ]
 
@@ -106,15 +114,27 @@ migrated_file_front held after h =
 
 pub held_of_run : {X : Type 0} (path : Option X) (s : Status) (held after : List ℕ) → IsHeldWith s held after
     → IsHeldBy (kind_with path) s held after
-held_of_run path s held after h = grind arith
+held_of_run None s held after h = h
+held_of_run (Some x) s held after h = h
+
+with_front : (s : Status) (held after : List ℕ) → IsHeldWith s held after → HasGoodFront held after
+with_front Answer held after h = kept_front h.1
+with_front (Trap t) held after h = kept_front h.1
+with_front (Bound l) held after h = kept_front h.1
+with_front Cache held after h = h
+with_front (Memory e) held after h = h
+with_front s held after h = front_stays held after h
+
+migrated_front : (s : Status) (held after : List ℕ) → IsMigratedWith s held after → HasGoodFront held after
+migrated_front Answer held after h = migrated_file_front held after h
+migrated_front Write held after h = front_stays held after h
+migrated_front s held after h = h
 
 by_front : (kind : Kind) (s : Status) (held after : List ℕ) → IsHeldBy kind s held after → HasGoodFront held after
-by_front kind s held after h =
-    by_status kind s h (migrated_file_front held after) kept_front (λ front. front) (front_stays held after)
-  where
-    by_status : {Q : Type 0} (kind : Kind) (s : Status) → IsHeldBy kind s held after → (IsMigratedFile held after → Q)
-        → (IsKeptFile held after [] → Q) → (HasGoodFront held after → Q) → (after ≡ held → Q) → Q
-    by_status kind s h migrated kept front same = grind arith
+by_front on_a_file s held after h = with_front s held after h
+by_front over_a_cache s held after h = with_front s held after h
+by_front on_a_number s held after h = with_front s held after h
+by_front on_a_cache s held after h = migrated_front s held after h
 
 pub front_of : {X : Type 0} (path : Option X) (kind : Kind) (s : Status) (held after : List ℕ)
     → (IsNone path → after ≡ held) → (IsSome path → IsHeldBy kind s held after) → HasGoodFront held after
@@ -123,7 +143,7 @@ front_of (Some x) kind s held after none some = by_front kind s held after (some
 
 -- what is kept with the status of an ending
 pub kept_ending : (e : Ending) (texts : List (List ℕ)) (held after : List ℕ)
-    → IsKeptWith texts (ending_status e) held after → IsKeptFile held after texts
+    → IsKeptWith texts (ending_status e) held after → CoversAll texts held after
 kept_ending e texts held after h = grind arith
 
 -- want of memory while the file was kept

@@ -3,7 +3,6 @@ use Rattle.std.proofs.Common.{◌≡◌, ℕ, List, Option, Some, None, option_m
 use Rattle.std.proofs.Common.{IfOk, refl, arith}
 use denote.Ref.{Bor}
 use Rattle.mw_term.specs.declared.refusal.Refusal.{Refusal}
-use Rattle.mw_outside.specs.declared.errors.WriteFault.TheVariants as fault
 use Rattle.mw_words.specs.Words.{word_in}
 use Rattle.mw_store.specs.Loads.{LoadState}
 use Rattle.mw_keeping.specs.CacheFiles.{IsOpened, IsStartedAtMost, IsStartedFor, IsNoOtherStarted}

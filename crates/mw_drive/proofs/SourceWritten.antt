@@ -35,7 +35,7 @@ use Rattle.mw_drive.specs.ProgramRuns.{evaluated, cache_of, IsEndOf, IsEnded, Is
 use Rattle.mw_drive.specs.ProgramRuns.{IsWrittenErased, IsWrittenLinked, IsWrittenMeaning}
 use Rattle.mw_drive.specs.Works.{Work, mode_of, IsAccepted, running, erasing, linking}
 use Rattle.mw_drive.specs.Works.{Meaning, refused, ran, erased}
-use Rattle.mw_drive.specs.Works.{written, status_of, IsMeaning}
+use Rattle.mw_drive.specs.Works.{status_of, IsMeaning}
 use Rattle.mw_drive.specs.Works.{of_refusal, of_types}
 use Rattle.mw_drive.specs.Works.{of_program, of_erased_refusal, of_erased, of_link_refusal}
 use Rattle.mw_drive.specs.WorkLaws.{IsOnFile}

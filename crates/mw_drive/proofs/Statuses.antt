@@ -1,5 +1,7 @@
 -- From how a source was evaluated to the status.
-use Rattle.std.proofs.Common.{◌≡◌, ℕ, List, Option, Result, IfOk, IfErr, arith}
+use Rattle.std.proofs.Common.{◌≡◌, ℕ, List, Option, Result, Ok, Err, IfOk, IfErr, sym, subst, arith}
+use Rattle.mw_outside.specs.declared.errors.WriteFault.TheVariants as fault
+use Rattle.mw_drive.specs.declared.fault.RunFault.TheVariants.{Unwritten, Bad}
 use denote.Ref.{Bor}
 use Rattle.mw_term.specs.declared.refusal.Refusal.{Refusal}
 use Rattle.mw_console.specs.declared.status.Status.{Status}
@@ -40,7 +42,10 @@ module _ (s : Status) where
 
   module _ (held after : List ℕ) where
     pub held_status : (r : Result Status RunFault) → IsStatusOf r s → IsHeldAfter r held after → IsHeldWith s held after
-    held_status r is h = grind arith
+    held_status (Ok t) is h = subst (λ x. IsHeldWith x held after) (sym is) h
+    held_status (Err (Unwritten fault.Failed)) is h = subst (λ x. IsHeldWith x held after) (sym is) h
+    held_status (Err (Unwritten (fault.Memory e))) is h = subst (λ x. IsHeldWith x held after) (sym is) h
+    held_status (Err (Bad d)) is h = subst (λ x. IsHeldWith x held after) (sym is) h
 
     pub kept_status : (texts : List (List ℕ)) (r : Result Status RunFault) → IsStatusOf r s
         → IsKeptOf texts r held after → IsKeptWith texts s held after

@@ -65,5 +65,6 @@ IsHonestBut load one = (at : ℕ) (l : Loaded) → slice_get load.records at ≡
 
 -- where no loaded record but one may be not honest, a digest that a fault tells is that of the one's text
 abbrev pub DigestOfTheOne : Type 0
-DigestOfTheOne = (work : Work) (held digest : List ℕ) → IsBadOf work held digest → (load : LoadState) → IsLoadOf held load
+DigestOfTheOne = (work : Work) (held digest : List ℕ) → IsBadOf work held digest
+    → (load : LoadState) → IsLoadOf held load
     → (one : ℕ) (r : Loaded) → slice_get load.records one ≡ Some r → IsHonestBut load one → digest ≡ sha256 r.text

@@ -1,8 +1,9 @@
 -- What a cache file holds after a run, as the run's end says.
-use Rattle.std.specs.Prelude.{◌≡◌, ◌⊎◌, ℕ, List, [], map, Result, Ok, Err, IfOk}
+use Rattle.std.specs.Prelude.{◌≡◌, ◌⊎◌, ℕ, List, map, Contains, Result, Ok, Err}
+use Rattle.std.specs.Prelude.{IfOk}
 use Rattle.mw_outside.specs.declared.errors.WriteFault.TheVariants as fault
 use Rattle.mw_cache.specs.Gots.{CacheState, text_in}
-use Rattle.mw_keeping.specs.KeptFiles.{IsKeptFile, HasGoodFront}
+use Rattle.mw_keeping.specs.KeptFiles.{IsKeptFile, IsKept, HasGoodFront}
 use Rattle.mw_keeping.specs.Migrations.{IsMigratedFile}
 use Rattle.mw_keeping.specs.declared.opening.CacheFile.{CacheFile}
 use Rattle.mw_keeping.specs.declared.opening.CacheFile.TheVariants as file
@@ -14,12 +15,18 @@ use Rattle.mw_drive.specs.declared.fault.RunFault.TheVariants.{Unwritten, Bad}
 use Rattle.mw_drive.specs.declared.items.Built.{Built}
 use Rattle.mw_drive.specs.Extents.{Kind, on_a_cache}
 
+-- A file is kept so for some texts, among which are all of these.
+pub record CoversAll (texts : List (List ℕ)) (held after : List ℕ) : Type 0 where
+  pub wanted : List (List ℕ)
+  pub among : (text : List ℕ) → Contains texts text → Contains wanted text
+  pub keeps : IsKeptFile held after wanted
+
 -- After an answer, a trap or a bound: what counted of it, and behind that what was kept. Where keeping failed, or there
 -- was no memory, at least what counted. After any other status what it held.
 abbrev pub IsHeldWith : Status → (held after : List ℕ) → Type 0
-IsHeldWith Answer held after = IsKeptFile held after []
-IsHeldWith (Trap t) held after = IsKeptFile held after []
-IsHeldWith (Bound l) held after = IsKeptFile held after []
+IsHeldWith Answer held after = IsKept held after
+IsHeldWith (Trap t) held after = IsKept held after
+IsHeldWith (Bound l) held after = IsKept held after
 IsHeldWith Cache held after = HasGoodFront held after
 IsHeldWith (Memory e) held after = HasGoodFront held after
 IsHeldWith Usage held after = after ≡ held
@@ -52,7 +59,7 @@ IsHeldAfter (Err (Bad d)) held after = after ≡ held
 
 -- each of these texts is covered, unless keeping failed
 abbrev pub IsKeptOf : List (List ℕ) → Result Status RunFault → (held after : List ℕ) → Type 0
-IsKeptOf texts result held after = IfOk result (λ s. (s ≡ Cache → ⊥) → IsKeptFile held after texts)
+IsKeptOf texts result held after = IfOk result (λ s. (s ≡ Cache → ⊥) → CoversAll texts held after)
 
 -- The status of a run with a cache file: its own, or that the file couldn't be read, or wasn't kept.
 abbrev pub IsStatusAfter : CacheFile → Status → Status → Type 0
@@ -66,7 +73,7 @@ texts_built cache built = map (λ b. text_in cache b.got.now) built
 
 -- the same of a run's status, where that is of a whole text
 abbrev pub IsKeptWith : List (List ℕ) → Status → (held after : List ℕ) → Type 0
-IsKeptWith texts Answer held after = IsKeptFile held after texts
-IsKeptWith texts (Trap t) held after = IsKeptFile held after texts
-IsKeptWith texts (Bound l) held after = IsKeptFile held after texts
+IsKeptWith texts Answer held after = CoversAll texts held after
+IsKeptWith texts (Trap t) held after = CoversAll texts held after
+IsKeptWith texts (Bound l) held after = CoversAll texts held after
 IsKeptWith texts _ held after = Unit {0}

@@ -13,11 +13,12 @@ ghost use Rattle.mw_console.specs.declared.status.Status.TheVariants.{Answer, Us
 ghost use Rattle.mw_console.specs.declared.status.Status.TheVariants.{BadCache};
 ghost use Rattle.mw_console.specs.Texts.{Ending, answered, ending_status};
 ghost use Rattle.mw_meaning.specs.declared.mode.Mode.TheVariants.{Plain, Simple};
-ghost use Rattle.mw_keeping.specs.KeptFiles.{IsKeptFile, HasGoodFront};
+ghost use Rattle.mw_keeping.specs.KeptFiles.{HasGoodFront};
+ghost use Rattle.mw_keeping.specs.GrownFiles.{GrowsRight};
 ghost use Rattle.mw_drive.specs.BadRecords.{IsBadOf, HasBadRecordOf};
 ghost use Rattle.mw_drive.specs.CommandStatuses.{IsStatusFor, evaluating};
 ghost use Rattle.mw_drive.specs.Extents.{whole, Kind, on_a_number, extent};
-ghost use Rattle.mw_drive.specs.HeldFiles.{IsHeldWith, IsHeldBy, IsKeptWith};
+ghost use Rattle.mw_drive.specs.HeldFiles.{IsHeldWith, IsHeldBy, IsKeptWith, CoversAll};
 ghost use Rattle.mw_drive.specs.OpenedFiles.{IsOpenedWith};
 ghost use Rattle.mw_drive.specs.Verdicts.{IsVerdictOn};
 ghost use Rattle.mw_drive.specs.Certified.{IsCertified, IsTypingVerdict};
@@ -194,6 +195,8 @@ pub fn run<R: Threads + Sync, S: Source, K: Sink, C: Keeper, G: Gate>(
         → IsOpenedWith result path (C.opened keeper.old) (C.opened keeper.new) }
     // What counted of the cache file is never lost, whatever the status, and whatever failed.
     ensures front { IsTrue C.tells → HasGoodFront (C.held keeper.old) (C.held keeper.new) }
+    // What is new in the cache file is right, whatever the status, and an honest file is honest still.
+    ensures right { IsTrue C.tells → GrowsRight (C.held keeper.old) (C.held keeper.new) }
     // The status says what the cache file holds: what it held, or what counted of that and records behind it.
     ensures held { (command : PureCommand) → Means (map string_bytes words.now) command
         → IsSome (path_of command)
@@ -203,7 +206,7 @@ pub fn run<R: Threads + Sync, S: Source, K: Sink, C: Keeper, G: Gate>(
         (outside S.tells (S.told source.old) C.tells (C.held keeper.old)) work)
         → IsSome (path_of asked.command) → extent (kind_of asked.command) result ≡ whole
         → (shown : Shown) (kernels : List Kernel) (e : Ending) → IsMeaning work (ran shown kernels e)
-        → IsKeptFile (C.held keeper.old) (C.held keeper.new) (map (run_text (mode_of shown)) kernels) }
+        → CoversAll (map (run_text (mode_of shown)) kernels) (C.held keeper.old) (C.held keeper.new) }
     // That the cache wasn't kept is said only where the keeper failed, and a whole text's own status only where it
     // didn't.
     ensures cache { result ≡ Cache → Rose (C.faults keeper.old) (C.faults keeper.new) }
@@ -227,6 +230,7 @@ pub fn run<R: Threads + Sync, S: Source, K: Sink, C: Keeper, G: Gate>(
 }
 
 /// Carries out a command.
+#[tactic(auto, using(crate::proofs::HeldFiles::right_stays))]
 fn carry_out<R: Threads + Sync, S: Source, K: Sink, C: Keeper, G: Gate>(
     alloc: Global,
     place: &Workplace<'_, R, G>,
@@ -286,6 +290,7 @@ fn carry_out<R: Threads + Sync, S: Source, K: Sink, C: Keeper, G: Gate>(
         → IsSome (path_of (command_in command.entry)) → (shown : Shown) (kernels : List Kernel) (e : Ending)
         → IsMeaning work (ran shown kernels e)
         → IsKeptWith (map (run_text (mode_of shown)) kernels) result (C.held keeper.old) (C.held keeper.new) }
+    ensures right { IsTrue C.tells → GrowsRight (C.held keeper.old) (C.held keeper.new) }
     ensures cache { result ≡ Cache → Rose (C.faults keeper.old) (C.faults keeper.new) }
     ensures sound { extent (kind_of (command_in command.entry)) result ≡ whole
         → C.faults keeper.new ≡ C.faults keeper.old }
@@ -357,6 +362,7 @@ fn mode_when(simplify: bool) -> Mode
 }
 
 /// Evaluates the source of a file, with so many units for each evaluation.
+#[tactic(auto, using(crate::proofs::HeldFiles::right_stays))]
 fn evaluate_file<R: Threads + Sync, S: Source, K: Sink, C: Keeper, G: Gate>(
     alloc: Global,
     place: &Workplace<'_, R, G>,
@@ -402,6 +408,7 @@ fn evaluate_file<R: Threads + Sync, S: Source, K: Sink, C: Keeper, G: Gate>(
         → IsSome (cache_of evaluation.entry) → (shown : Shown) (kernels : List Kernel) (e : Ending)
         → IsMeaning (evaluated evaluation.entry bytes fuel) (ran shown kernels e)
         → IsKeptWith (map (run_text (mode_of shown)) kernels) result (C.held keeper.old) (C.held keeper.new) }
+    ensures right { IsTrue C.tells → GrowsRight (C.held keeper.old) (C.held keeper.new) }
     ensures cache { result ≡ Cache → Rose (C.faults keeper.old) (C.faults keeper.new) }
     ensures sound { extent (kind_with (cache_of evaluation.entry)) result ≡ whole
         → C.faults keeper.new ≡ C.faults keeper.old }

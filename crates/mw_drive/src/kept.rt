@@ -7,10 +7,11 @@ ghost use Rattle.mw_slots.specs.Receipts.{IsOf};
 ghost use Rattle.mw_cache.specs.Gots.{CacheState, IsHere, text_in};
 ghost use Rattle.mw_console.specs.declared.status.Status.TheVariants.{Cache as Unkept};
 ghost use Rattle.mw_keeping.specs.CacheFiles.{IsReadFile};
-ghost use Rattle.mw_keeping.specs.KeptFiles.{IsKeptFile, HasGoodFront};
+ghost use Rattle.mw_keeping.specs.KeptFiles.{HasGoodFront};
+ghost use Rattle.mw_keeping.specs.GrownFiles.{GrowsRight};
 ghost use Rattle.mw_keeping.specs.declared.opening.CacheFile.TheVariants.{Absent, Unread, Read};
 ghost use Rattle.mw_drive.specs.ProgramRuns.{HasModuleHere};
-ghost use Rattle.mw_drive.specs.HeldFiles.{IsStatusAfter, texts_built};
+ghost use Rattle.mw_drive.specs.HeldFiles.{CoversAll, IsStatusAfter, texts_built};
 
 use crate::items::Built;
 use crate::ran::Ran;
@@ -25,6 +26,7 @@ use std::alloc::{AllocError, Global};
 
 /// Keeps what was emitted for a run in the cache file, where that was read. The status is the run's, unless the keeper
 /// failed, before the run or now. The error is want of memory.
+#[tactic(auto, using(crate::proofs::HeldFiles::right_stays))]
 pub fn keep_run<C: Keeper>(
     alloc: Global,
     keeper: &mut C,
@@ -43,9 +45,10 @@ pub fn keep_run<C: Keeper>(
     ensures unread { file ≡ Unread → keeper.new ≡ keeper.old }
     ensures kept { (count : ℕ) → file ≡ Read count
         → IfOk result (λ s. (s ≡ Unkept → ⊥) → IsTrue C.tells
-        → IsKeptFile (C.held keeper.old) (C.held keeper.new) (texts_built cache.now ran.now.built.items)) }
+        → CoversAll (texts_built cache.now ran.now.built.items) (C.held keeper.old) (C.held keeper.new)) }
     ensures front { (count : ℕ) → file ≡ Read count → IsTrue C.tells
         → HasGoodFront (C.held keeper.old) (C.held keeper.new) }
+    ensures right { IsTrue C.tells → GrowsRight (C.held keeper.old) (C.held keeper.new) }
     ensures same_names { IsTrue C.tells → C.opened keeper.new ≡ C.opened keeper.old }
     ensures unkept { IfOk result (λ s. s ≡ Unkept → (ran.now.status ≡ Unkept) ⊎ (file ≡ Unread)
         ⊎ Rose (C.faults keeper.old) (C.faults keeper.new)) }

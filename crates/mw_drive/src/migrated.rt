@@ -6,6 +6,7 @@ ghost use Rattle.mw_console.specs.Texts.{migrated_text};
 ghost use Rattle.mw_term.specs.declared.refusal.Refusal.{Refusal};
 ghost use Rattle.mw_console.specs.declared.status.Status.TheVariants.{Refused, Write, Cache};
 ghost use Rattle.mw_keeping.specs.CacheFiles.{IsStartedWith, IsStartedAtMost, BlamesKeeper};
+ghost use Rattle.mw_keeping.specs.GrownFiles.{GrowsRight};
 ghost use Rattle.mw_keeping.specs.Migrations.{IsMigrationHere};
 ghost use Rattle.mw_drive.specs.CommandStatuses.{IsStatusFor};
 ghost use Rattle.mw_drive.specs.Extents.{whole, on_a_cache, extent};
@@ -44,6 +45,7 @@ pub fn migrate<K: Sink, C: Keeper>(
     ensures opened { IsTrue C.tells
         → IsOpenedWith result path.now (C.opened keeper.old) (C.opened keeper.new) }
     ensures held { IsTrue C.tells → IsMigratedWith result (C.held keeper.old) (C.held keeper.new) }
+    ensures right { IsTrue C.tells → GrowsRight (C.held keeper.old) (C.held keeper.new) }
     ensures cache { result ≡ Cache → Rose (C.faults keeper.old) (C.faults keeper.new) }
     ensures sound { extent on_a_cache result ≡ whole → C.faults keeper.new ≡ C.faults keeper.old }
     ensures sink_count { K.faults sink.old ≤ K.faults sink.new }

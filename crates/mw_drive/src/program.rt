@@ -8,6 +8,7 @@ ghost use Rattle.mw_term.specs.Programs.{program_of};
 ghost use Rattle.mw_term.specs.SmallTypes.{HasSmallTypes};
 ghost use Rattle.mw_term.specs.Typable.{Typable};
 ghost use Rattle.mw_infer.specs.Checking.{HasSmallKernels};
+ghost use Rattle.mw_keeping.specs.GrownFiles.{GrowsRight};
 ghost use Rattle.mw_console.specs.Texts.{Ending};
 ghost use Rattle.mw_console.specs.declared.status.Status.TheVariants.{Cache as Unkept};
 ghost use Rattle.mw_drive.specs.Honest.{IsHonestCache};
@@ -83,6 +84,7 @@ pub fn write_run<R: Threads + Sync, K: Sink, C: Keeper, G: Gate, L: Ledger>(
         IsSome options.entry.cache → IsHonestCache C.tells (C.held keeper.old) options.entry.cache
         → (kernels : List Kernel) (e : Ending) → program_run mode fuel p ≡ ended kernels e
         → IsKeptOf (map (run_text mode) kernels) result (C.held keeper.old) (C.held keeper.new) }
+    ensures right { IsTrue C.tells → GrowsRight (C.held keeper.old) (C.held keeper.new) }
     ensures unkept { IfOk result
         (λ s. s ≡ Unkept → Rose (C.faults keeper.old) (C.faults keeper.new)) }
     ensures unfailed { IfOk result

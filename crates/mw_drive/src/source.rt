@@ -7,6 +7,7 @@ ghost use Rattle.mw_term.specs.declared.program.Item.{Item as PureItem};
 ghost use Rattle.mw_term.specs.declared.refusal.Refusal.{Refusal};
 ghost use Rattle.mw_console.specs.Texts.{Ending, refusal_line};
 ghost use Rattle.mw_console.specs.declared.status.Status.TheVariants.{Refused, Cache as Unkept};
+ghost use Rattle.mw_keeping.specs.GrownFiles.{GrowsRight};
 ghost use Rattle.mw_drive.specs.declared.shown.Shown.{Shown};
 ghost use Rattle.mw_drive.specs.BadRecords.{HasBadRecordOf};
 ghost use Rattle.mw_drive.specs.HeldFiles.{IsHeldAfter, IsKeptOf};
@@ -43,6 +44,7 @@ pub enum Evaluation<'p> {
 
 /// Reads and checks a source, evaluates it with so many units for each item and for main, and writes what it means. A
 /// refused source leaves the keeper alone.
+#[tactic(auto, using(crate::proofs::HeldFiles::right_stays))]
 pub fn write_source<R: Threads + Sync, K: Sink, C: Keeper, G: Gate, L: Ledger>(
     alloc: Global,
     place: &Workplace<'_, R, G>,
@@ -75,6 +77,7 @@ pub fn write_source<R: Threads + Sync, K: Sink, C: Keeper, G: Gate, L: Ledger>(
         → (shown : Shown) (kernels : List Kernel) (e : Ending)
         → IsMeaning (evaluated evaluation.entry bytes.now fuel) (ran shown kernels e)
         → IsKeptOf (map (run_text (mode_of shown)) kernels) result (C.held keeper.old) (C.held keeper.new) }
+    ensures right { IsTrue C.tells → GrowsRight (C.held keeper.old) (C.held keeper.new) }
     ensures unkept { IfOk result
         (λ s. s ≡ Unkept → Rose (C.faults keeper.old) (C.faults keeper.new)) }
     ensures unfailed { IfOk result

@@ -7,6 +7,7 @@ use Rattle.mw_drive.specs.Works.{IsMeaning, ran, certifying}
 use Rattle.mw_drive.proofs.Certificates.{means_certified, means_rechecked, carried_as}
 use Rattle.mw_drive.specs.Extents.{extent, on_a_file, on_a_cache}
 use Rattle.mw_drive.specs.Running.{IsWritten}
+use Rattle.mw_keeping.proofs.GrownFiles.{grown_stays}
 use Rattle.mw_drive.proofs.HeldFiles.{held_of_run}
 use Rattle.mw_drive.proofs.OpenedFiles.{named_path}
 use Rattle.mw_drive.specs.OpenedFiles.{IsOpenedWith}
@@ -140,7 +141,9 @@ pub returns-in-Wat-clause-read : goal.returns-in-Wat-clause-read
 returns-in-Wat-clause-read g c = λ is. rw c.in-Wat.is (one_lacks (c.inquire.ensures.read is))
 
 pub returns-in-Wat-clause-cache : goal.returns-in-Wat-clause-cache
-returns-in-Wat-clause-cache g c = λ is. absurd (never_for (wat []) c.inquire.result c.inquire.ensures.possible (ap (extent on_a_file) is))
+returns-in-Wat-clause-cache g c = λ is. absurd
+    (never_for (wat []) c.inquire.result c.inquire.ensures.possible
+    (ap (extent on_a_file) is))
 
 pub returns-in-Wat-clause-bad : goal.returns-in-Wat-clause-bad
 returns-in-Wat-clause-bad g c = λ digest contents work is. absurd
@@ -157,7 +160,9 @@ pub returns-in-Check-clause-read : goal.returns-in-Check-clause-read
 returns-in-Check-clause-read g c = λ is. rw c.in-Check.is (one_lacks (c.inquire-in-Check.ensures.read is))
 
 pub returns-in-Check-clause-cache : goal.returns-in-Check-clause-cache
-returns-in-Check-clause-cache g c = λ is. absurd (never_for (check []) c.inquire-in-Check.result c.inquire-in-Check.ensures.possible (ap (extent on_a_file) is))
+returns-in-Check-clause-cache g c = λ is. absurd
+    (never_for (check []) c.inquire-in-Check.result c.inquire-in-Check.ensures.possible
+    (ap (extent on_a_file) is))
 
 pub returns-in-Check-clause-bad : goal.returns-in-Check-clause-bad
 returns-in-Check-clause-bad g c = λ digest contents work is. absurd
@@ -259,7 +264,9 @@ returns-in-Cert-clause-lacking g c =
     c.inquire-in-Cert.ensures.nothing)
 
 pub returns-in-Cert-clause-cache : goal.returns-in-Cert-clause-cache
-returns-in-Cert-clause-cache g c = λ is. absurd (never_for (cert []) c.inquire-in-Cert.result c.inquire-in-Cert.ensures.possible (ap (extent on_a_file) is))
+returns-in-Cert-clause-cache g c = λ is. absurd
+    (never_for (cert []) c.inquire-in-Cert.result c.inquire-in-Cert.ensures.possible
+    (ap (extent on_a_file) is))
 
 pub returns-in-Cert-clause-bad : goal.returns-in-Cert-clause-bad
 returns-in-Cert-clause-bad g c = λ digest contents work is. absurd
@@ -287,8 +294,14 @@ returns-in-Recheck-clause-lacking g c =
     c.recheck.ensures.nothing c.recheck.ensures.lacking)
 
 pub returns-in-Recheck-clause-cache : goal.returns-in-Recheck-clause-cache
-returns-in-Recheck-clause-cache g c = λ is. absurd (never_for (recheck [] []) c.recheck.result c.recheck.ensures.possible (ap (extent on_a_file) is))
+returns-in-Recheck-clause-cache g c = λ is. absurd
+    (never_for (recheck [] []) c.recheck.result c.recheck.ensures.possible
+    (ap (extent on_a_file) is))
 
 pub returns-in-Recheck-clause-bad : goal.returns-in-Recheck-clause-bad
 returns-in-Recheck-clause-bad g c = λ digest contents work is. absurd
     (never_for (recheck [] []) c.recheck.result c.recheck.ensures.possible (ap (extent on_a_file) is))
+
+-- A sample leaves the keeper alone.
+pub returns-in-Sample-clause-right : goal.returns-in-Sample-clause-right
+returns-in-Sample-clause-right g c = λ tells. grown_stays _ _ (ap g.C.Keeper.held c.run_sample.ensures.untouched)

@@ -9,6 +9,7 @@ use Rattle.mw_drive.specs.Extents.{extent}
 use Rattle.mw_drive.specs.Running.{kind_of, path_of, outside}
 use Rattle.mw_words.specs.Words.{command_in}
 use Rattle.mw_keeping.proofs.KeptFiles.{front_stays}
+use Rattle.mw_keeping.proofs.GrownFiles.{grown_stays}
 use Rattle.mw_drive.proofs.CommandLemmas.{IsCalled, sample_range, run_workers, link_workers, asked_text}
 use Rattle.mw_drive.proofs.CommandLemmas.{asked_status, asked_complete, asked_faults, asked_of}
 use Rattle.mw_drive.specs.CommandStatuses.{IsStatusFor}
@@ -92,6 +93,7 @@ returns-in-Ok g c =
       opened = asked_of known _ carried.opened;
       front = λ tells. front_of (path_of command) (kind_of command) c.carry_out.result held after
           (λ none. ap g.C.Keeper.held (carried.untouched (inr none))) (λ some. carried.held some tells);
+      right = carried.right;
       held = asked_of known _ carried.held;
       kept = λ work asked some written shown kernels e is.
           let m = asked_complete known work asked written in
@@ -111,3 +113,6 @@ returns-in-Ok g c =
 
 pub returns-in-Err-clause-front : goal.returns-in-Err-clause-front
 returns-in-Err-clause-front g c = λ tells. front_stays _ _ refl
+
+pub returns-in-Err-clause-right : goal.returns-in-Err-clause-right
+returns-in-Err-clause-right g c = λ tells. grown_stays _ _ refl

@@ -2,7 +2,7 @@ use Rattle.std.proofs.Common.{map, All, Contains, ap, ◌∙◌, refl, sym, subs
 use Rattle.std.proofs.lemmas.List.Elements.{Contains-append_right}
 use Rattle.mw_cache.specs.Gots.{IsHere, text_in}
 use Rattle.mw_drive.specs.HeldFiles.{texts_built}
-use Rattle.mw_keeping.proofs.KeptFiles.{front_stays, kept_of}
+use Rattle.mw_keeping.proofs.KeptFiles.{front_stays}
 use Rattle.mw_drive.proofs.kept.keep_run.Goals as goal
 
 pub returns-in_err-receipts-in-Read-clause-front : goal.returns-in_err-receipts-in-Read-clause-front
@@ -22,6 +22,8 @@ returns-in-Ok-clause-kept g c = λ count is own tells.
     let texts =
     ap (λ gs. map (λ g. text_in cache g.now) gs) c.as_slice-in-Read-2.ensures.value
     ∙ c.in_ok-gots-in-Read.ensures.texts cache ∙ ap (texts_built cache) c.as_slice.ensures.value in
-    kept_of (texts_built cache c.args.ran.now.built.items) (c.in-Ok.ensures.kept tells)
-    (λ text inside. Contains-append_right _ _ text
-    (subst (λ ts. Contains ts text) (sym texts) inside))
+    record {
+      wanted = _;
+      among = λ text inside. Contains-append_right _ _ text (subst (λ ts. Contains ts text) (sym texts) inside);
+      keeps = c.in-Ok.ensures.kept tells;
+    }

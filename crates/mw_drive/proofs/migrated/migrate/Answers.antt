@@ -2,6 +2,8 @@ use Rattle.std.proofs.Common.{refl, sym, subst}
 use Rattle.mw_keeping.specs.CacheFiles.{IsStartedWith, IsStartedAtMost}
 use Rattle.mw_console.specs.declared.status.Status.TheVariants.{Answer, Write, Cache, Memory}
 use Rattle.mw_keeping.proofs.KeptFiles.{front_stays}
+use Rattle.mw_keeping.specs.GrownFiles.{GrowsRight}
+use Rattle.mw_keeping.proofs.GrownFiles.{grown_stays}
 use Rattle.mw_drive.specs.Extents.{on_a_cache}
 use Rattle.mw_drive.proofs.Fronts.{whole_grows}
 use Rattle.mw_drive.proofs.Reports.{file_report, carried_report, carried_some, carried_all, front_since}
@@ -65,3 +67,30 @@ pub returns-clause-opened : goal.returns-clause-opened
 returns-clause-opened g c = λ tells.
     subst (IsStartedAtMost c.args.path.now _) (sym (c.keep_migration.ensures.same_names tells))
     (c.uncounted.ensures.no_other tells)
+
+pub returns-in-Err-Failed-clause-right : goal.returns-in-Err-Failed-clause-right
+returns-in-Err-Failed-clause-right g c = λ tells. grown_stays _ _ (c.uncounted.ensures.same tells)
+
+pub returns-in-Err-Memory-clause-right : goal.returns-in-Err-Memory-clause-right
+returns-in-Err-Memory-clause-right g c = λ tells. grown_stays _ _ (c.uncounted.ensures.same tells)
+
+pub returns-in-Err-Failed-write_numbers-clause-right : goal.returns-in-Err-Failed-write_numbers-clause-right
+returns-in-Err-Failed-write_numbers-clause-right g c = λ tells. grown_stays _ _ (c.uncounted.ensures.same tells)
+
+pub returns-in-Err-Memory-write_numbers-clause-right : goal.returns-in-Err-Memory-write_numbers-clause-right
+returns-in-Err-Memory-write_numbers-clause-right g c = λ tells. grown_stays _ _ (c.uncounted.ensures.same tells)
+
+pub returns-in-Ok-keep_migration-clause-right : goal.returns-in-Ok-keep_migration-clause-right
+returns-in-Ok-keep_migration-clause-right g c = λ tells.
+    subst (λ h. GrowsRight h (g.C.Keeper.held c.keep_migration.new.keeper)) (c.uncounted.ensures.same tells)
+    (c.keep_migration.ensures.right tells)
+
+pub returns-in-Err-Failed-keep_migration-clause-right : goal.returns-in-Err-Failed-keep_migration-clause-right
+returns-in-Err-Failed-keep_migration-clause-right g c = λ tells.
+    subst (λ h. GrowsRight h (g.C.Keeper.held c.keep_migration.new.keeper)) (c.uncounted.ensures.same tells)
+    (c.keep_migration.ensures.right tells)
+
+pub returns-clause-right : goal.returns-clause-right
+returns-clause-right g c = λ tells.
+    subst (λ h. GrowsRight h (g.C.Keeper.held c.keep_migration.new.keeper)) (c.uncounted.ensures.same tells)
+    (c.keep_migration.ensures.right tells)

@@ -4,9 +4,11 @@ use Rattle.mw_store.specs.Loads.{IsLoadOf}
 use Rattle.mw_cache.specs.Gots.{CacheState}
 use Rattle.mw_cache.specs.HonestFiles.{IsHonest}
 use Rattle.mw_cached.specs.StrayRecords.{IsStrayRecord}
-use Rattle.mw_keeping.specs.KeptFiles.{IsKeptFile, HasGoodFront}
+use Rattle.mw_keeping.specs.KeptFiles.{HasGoodFront}
+use Rattle.mw_keeping.specs.GrownFiles.{GrowsRight}
+use Rattle.mw_keeping.proofs.GrownFiles.{grown_stays}
 use Rattle.mw_drive.specs.BadRecords.{HasBadRecord}
-use Rattle.mw_drive.specs.HeldFiles.{texts_built}
+use Rattle.mw_drive.specs.HeldFiles.{CoversAll, texts_built}
 use Rattle.mw_drive.specs.OpenedFiles.{IsOpenedWith}
 use Rattle.mw_drive.specs.Honest.{IsHonestCache}
 use Rattle.mw_drive.specs.ProgramRuns.{kernels_of}
@@ -160,7 +162,7 @@ returns-clause-held g c = λ some tells.
     (λ is. ap g.C.Keeper.held (c.in_ok-keep_run.ensures.unread is) ∙ same)
     (λ count is. subst (λ h. HasGoodFront h after) same (c.in_ok-keep_run.ensures.front count is tells))
     c.in_ok-ran.ran.status _ c.in_ok-ran.ensures.ended c.in_ok-keep_run.ensures.status texts
-    (λ count is other. subst (λ h. IsKeptFile h after texts) same (c.in_ok-keep_run.ensures.kept count is other tells))
+    (λ count is other. subst (λ h. CoversAll texts h after) same (c.in_ok-keep_run.ensures.kept count is other tells))
 
 pub returns-clause-kept : goal.returns-clause-kept
 returns-clause-kept g c = λ some honest kernels e is other.
@@ -175,12 +177,12 @@ returns-clause-kept g c = λ some honest kernels e is other.
     let texts = texts_built c.new-cache.result built in
     let are : texts ≡ map (run_text mode) kernels =
     texts_are mode c.new-cache.result built c.in_ok-ran.ensures.built ∙ ap (map (run_text mode)) (sym these) in
-    subst (IsKeptFile held after) are
+    subst (λ ts. CoversAll ts held after) are
     (texts_kept g.C.Keeper.tells held c.args.options.cache some c.in_ok-load.field-0.file c.in_ok-load.field-0.load
     c.in_ok-load.ensures.opened _ (λ is. ap g.C.Keeper.held (c.in_ok-keep_run.ensures.unread is) ∙ same)
     (λ count is. subst (λ h. HasGoodFront h after) same (c.in_ok-keep_run.ensures.front count is tells))
     c.in_ok-ran.ran.status _ c.in_ok-ran.ensures.ended c.in_ok-keep_run.ensures.status texts
-    (λ count is other. subst (λ h. IsKeptFile h after texts) same (c.in_ok-keep_run.ensures.kept count is other tells))
+    (λ count is other. subst (λ h. CoversAll texts h after) same (c.in_ok-keep_run.ensures.kept count is other tells))
     other)
 
 pub returns-in_err-load-clause-opened : goal.returns-in_err-load-clause-opened
@@ -210,3 +212,22 @@ returns-clause-opened g c = λ path is tells.
     (opened_by_file path _ _ g.C.Keeper.tells (g.C.Keeper.held c.args.keeper.now) c.in_ok-load.field-0.load
     c.args.options.cache is c.in_ok-load.field-0.file c.in_ok-ran.ran.status _ c.in_ok-load.ensures.opened
     c.in_ok-keep_run.ensures.status (c.in_ok-load.ensures.started tells))
+
+pub returns-in_err-load-clause-right : goal.returns-in_err-load-clause-right
+returns-in_err-load-clause-right g c = λ tells. grown_stays _ _ (c.in_err-load.ensures.same tells)
+
+pub returns-in_err-phase-clause-right : goal.returns-in_err-phase-clause-right
+returns-in_err-phase-clause-right g c = λ tells. grown_stays _ _ (c.in_ok-load.ensures.same tells)
+
+pub returns-in_err-ran-clause-right : goal.returns-in_err-ran-clause-right
+returns-in_err-ran-clause-right g c = λ tells. grown_stays _ _ (c.in_ok-load.ensures.same tells)
+
+pub returns-in_err-keep_run-clause-right : goal.returns-in_err-keep_run-clause-right
+returns-in_err-keep_run-clause-right g c = λ tells.
+    subst (λ h. GrowsRight h (g.C.Keeper.held c.keep_run.new.keeper)) (c.in_ok-load.ensures.same tells)
+    (c.in_err-keep_run.ensures.right tells)
+
+pub returns-clause-right : goal.returns-clause-right
+returns-clause-right g c = λ tells.
+    subst (λ h. GrowsRight h (g.C.Keeper.held c.keep_run.new.keeper)) (c.in_ok-load.ensures.same tells)
+    (c.in_ok-keep_run.ensures.right tells)
