@@ -1,5 +1,5 @@
 -- Kernels as they are printed, whatever their modules are.
-use Rattle.std.specs.Prelude.{◌≡◌, ℕ, List, [], ◌++◌, map, get_or, Bool, IsTrue}
+use Rattle.std.specs.Prelude.{◌≡◌, ℕ, List, [], ◌++◌, map, get_or, Bool, IsTrue, IsSome, Result, IfOk}
 use Rattle.std.specs.List.{flat_map}
 use Rattle.std.specs.Arc.{arc_value}
 use Rattle.sha2.specs.Sha256.{sha256}
@@ -10,6 +10,11 @@ use Rattle.mw_cache.specs.declared.got.Got.TheVariants.{Loaded, Stored, Own}
 use Rattle.mw_console.specs.Texts.{Ending, ending_line, ending_status, kernel_text}
 use Rattle.mw_drive.specs.declared.items.Built.{Built}
 use Rattle.mw_drive.specs.declared.ran.Ran.{Ran}
+use Rattle.mw_drive.specs.declared.fault.RunFault.{RunFault}
+use Rattle.mw_drive.specs.HeldFiles.{CoversAll}
+use Rattle.mw_drive.specs.ProgramRuns.{HasEnding}
+use Rattle.mw_console.specs.declared.status.Status.{Status}
+use Rattle.mw_words.specs.Words.{PureCommand, run}
 
 -- a kernel's name and type, the text whose digest is shown as its key, and the bytes of its module
 pub record Printed : Type 0 where
@@ -49,3 +54,22 @@ pub record IsPrintedRun (cache : CacheState) (ran : Ran) (tells : Bool) (before 
   pub is_status : ran.status ≡ ending_status ending
   pub is_written : IsTrue tells
       → after ≡ before ++ (printed_text (printed_in cache ran.built.items) ++ ending_line ending)
+
+-- The lines of kernels and that of an ending were written, where the sink tells, and the status is the ending's. The
+-- file is kept, and covers the texts of these kernels.
+pub record KeepsPrinted (s : Status) (tells : Bool) (before after : List ℕ) (held kept : List ℕ) : Type 0 where
+  pub printed : List Printed
+  pub ending : Ending
+  pub is_status : s ≡ ending_status ending
+  pub is_written : IsTrue tells → after ≡ before ++ (printed_text printed ++ ending_line ending)
+  pub covers : CoversAll (map (λ p. p.text) printed) held kept
+
+-- that, of a run with this result, where its status is an ending's
+abbrev pub KeepsPrintedAfter : Result Status RunFault → Bool → (before after : List ℕ) → (held kept : List ℕ) → Type 0
+KeepsPrintedAfter result tells before after held kept =
+    IfOk result (λ s. HasEnding s → KeepsPrinted s tells before after held kept)
+
+-- a run with a cache file
+abbrev pub RunsOverCache : PureCommand → Type 0
+RunsOverCache (run workers fuel simplify cache file) = IsSome cache
+RunsOverCache _ = ⊥
