@@ -1,5 +1,5 @@
 -- What is shown of kernels, one kernel on.
-use Rattle.std.proofs.Common.{◌≡◌, ◌<◌, ◌+◌, ◌^◌, ℕ, List, [], ◌∷◌, ◌++◌, take, drop, length, Some, refl, sym, ap, ◌∙◌}
+use Rattle.std.proofs.Common.{◌≡◌, ◌<◌, ◌+◌, ◌^◌, ℕ, List, [], ◌∷◌, ◌++◌, map, take, drop, length, Some, refl, sym, ap, ◌∙◌}
 use Rattle.std.proofs.Common.{subst, arith}
 use Rattle.std.specs.Prelude.{slice_get}
 use Rattle.std.specs.List.{AllByRecursion, flat_map}
@@ -14,7 +14,13 @@ use Rattle.mw_term.specs.Terms.{expression_of, kernel_type_of}
 use Rattle.mw_key.specs.declared.version.Version.TheVariants.{Two}
 use Rattle.mw_compile.specs.Emission.{emission, IsEmissionOf}
 use Rattle.mw_compile.proofs.EmittedEntries.{emission_of, one_emission}
-use Rattle.mw_cache.specs.Gots.{CacheState, text_in}
+use Rattle.mw_cache.specs.Gots.{CacheState, text_in, HasBytes}
+use Rattle.mw_cache.specs.declared.got.Got.{Got}
+use Rattle.mw_cache.specs.declared.got.Got.TheVariants.{Loaded, Stored, Own}
+use Rattle.mw_store.specs.Loads.{Loaded as LoadedRecord}
+use Rattle.std.specs.Option.{option_map}
+use Rattle.std.proofs.lemmas.Option.{slice_get-map, get_or_from_slice_get}
+use Rattle.mw_drive.specs.PrintedKernels.{bytes_in}
 use Rattle.mw_console.specs.Texts.{kernel_text}
 use Rattle.mw_drive.specs.declared.items.Built.{Built}
 use Rattle.mw_link.specs.Linked.{Kernel}
@@ -72,41 +78,52 @@ pub bytes_next : (built : List Built) (at total n : ℕ) (b : Built) → slice_g
 bytes_next built at total n b here size so_far =
     rw (kernels_next built at b here, bytes_with (kernels_of (take at built)) (kernel_of b), so_far, size) refl
 
-module _ (mode : Mode) where
-  abbrev lines : List Kernel → List ℕ
-  lines kernels = flat_map (kernel_lines mode) kernels
+-- the lines of what is shown of each kernel
+module _ {X : Type 0} (view : Built → X) (line : X → List ℕ) where
+  abbrev lines : List Built → List ℕ
+  lines built = flat_map line (map view built)
 
   -- the lines of one kernel more
   lines_next : (built : List Built) (at : ℕ) (b : Built) → slice_get built at ≡ Some b
-      → lines (kernels_of (take (at + 1) built)) ≡ lines (kernels_of (take at built)) ++ kernel_lines mode
-      (kernel_of b)
+      → lines (take (at + 1) built) ≡ lines (take at built) ++ line (view b)
   lines_next built at b here =
-      ap lines (kernels_next built at b here)
-      ∙ (flat_map-append (kernel_lines mode) (kernels_of (take at built)) (kernel_of b ∷ [])
-      ∙ ap (λ t. lines (kernels_of (take at built)) ++ t) (append-nil (kernel_lines mode (kernel_of b))))
+      ap lines (take_next built at b here)
+      ∙ ap (flat_map line) (map-append view (take at built) (b ∷ []))
+      ∙ (flat_map-append line (map view (take at built)) (view b ∷ [])
+      ∙ ap (λ t. lines (take at built) ++ t) (append-nil (line (view b))))
 
   pub lines_written : (built : List Built) (at : ℕ) (b : Built) (old mid new : List ℕ) → slice_get built at ≡ Some b
-      → mid ≡ old ++ lines (kernels_of (take at built)) → new ≡ mid ++ kernel_lines mode (kernel_of b)
-      → new ≡ old ++ lines (kernels_of (take (at + 1) built))
+      → mid ≡ old ++ lines (take at built) → new ≡ mid ++ line (view b)
+      → new ≡ old ++ lines (take (at + 1) built)
   lines_written built at b old mid new here before more =
       more
-      ∙ (ap (λ t. t ++ kernel_lines mode (kernel_of b)) before
-      ∙ (append_assoc old (lines (kernels_of (take at built))) (kernel_lines mode (kernel_of b))
+      ∙ (ap (λ t. t ++ line (view b)) before
+      ∙ (append_assoc old (lines (take at built)) (line (view b))
       ∙ ap (λ t. old ++ t) (sym (lines_next built at b here))))
 
   -- a front of one kernel's lines is a front of all
   pub lines_front : (built : List Built) (at : ℕ) (b : Built) (old mid new : List ℕ) → slice_get built at ≡ Some b
-      → mid ≡ old ++ lines (kernels_of (take at built)) → GrowsByFront mid new (kernel_lines mode (kernel_of b))
-      → GrowsByFront old new (lines (kernels_of built))
+      → mid ≡ old ++ lines (take at built) → GrowsByFront mid new (line (view b))
+      → GrowsByFront old new (lines built)
   lines_front built at b old mid new here before h =
-      let so_far = lines (kernels_of (take at built)) in
-      let next = kernels_of (take (at + 1) built) in
-      let rest = kernels_of (drop (at + 1) built) in
+      let so_far = lines (take at built) in
+      let next = take (at + 1) built in
+      let rest = drop (at + 1) built in
       let front : GrowsByFront old new (lines next) =
       subst (GrowsByFront old new) (sym (lines_next built at b here))
-      (grows_after old mid new so_far (kernel_lines mode (kernel_of b)) before h) in
-      let all : lines next ++ lines rest ≡ lines (kernels_of built) =
-      sym (flat_map-append (kernel_lines mode) next rest)
-      ∙ (ap lines (sym (map-append kernel_of (take (at + 1) built) (drop (at + 1) built)))
-      ∙ ap (λ bs. lines (kernels_of bs)) (take-append-drop (at + 1) built)) in
+      (grows_after old mid new so_far (line (view b)) before h) in
+      let all : lines next ++ lines rest ≡ lines built =
+      sym (flat_map-append line (map view next) (map view rest))
+      ∙ (ap (flat_map line) (sym (map-append view next rest))
+      ∙ ap lines (take-append-drop (at + 1) built)) in
       subst (GrowsByFront old new) all (grows_front old new (lines next) (lines rest) front)
+
+-- what was asked for as bytes are those of the module
+pub bytes_are : (cache : CacheState) (got : Got) (bytes : List ℕ) → HasBytes cache got bytes
+    → bytes ≡ bytes_in cache got
+bytes_are cache (Loaded at) bytes h =
+    h.2.1 ∙ sym (get_or_from_slice_get (map (λ (l : LoadedRecord). l.bytes) cache.load.records) at h.0.bytes []
+    (slice_get-map (λ (l : LoadedRecord). l.bytes) cache.load.records at
+    ∙ ap (λ o. option_map (λ (l : LoadedRecord). l.bytes) o) h.1))
+bytes_are cache (Stored r) bytes h = h
+bytes_are cache (Own n) bytes h = h

@@ -10,6 +10,7 @@ pub mod KernelsToLink
 pub mod Loops
 pub mod ModuleLemmas
 pub mod OneMeaning
+pub mod PrintedKernels
 pub mod ProgramEnds
 pub mod RunLemmas
 pub mod RunFaults

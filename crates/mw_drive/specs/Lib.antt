@@ -1,3 +1,4 @@
+pub mod PrintedKernels
 pub mod ProgramMeaning
 pub mod LinkedPrograms
 pub mod Works

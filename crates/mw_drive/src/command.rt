@@ -26,7 +26,8 @@ ghost use Rattle.mw_drive.specs.Honest.{IsHonestCache};
 ghost use Rattle.mw_drive.specs.Works.{Work, running, erasing, sampling, Meaning, ran, erased, IsMeaning, HaveModules};
 ghost use Rattle.mw_drive.specs.Works.{status_of, mode_of, run_text};
 ghost use Rattle.mw_link.specs.Linked.{Kernel};
-ghost use Rattle.mw_drive.specs.ProgramRuns.{evaluated, cache_of, IsPossible};
+ghost use Rattle.mw_drive.specs.PrintedKernels.{KeepsPrinted, RunsOverCache};
+ghost use Rattle.mw_drive.specs.ProgramRuns.{evaluated, cache_of, HasEnding, IsPossible};
 ghost use Rattle.mw_drive.specs.declared.shown.Shown.{Shown};
 ghost use Rattle.mw_drive.specs.declared.shown.Shown.TheVariants.{Lines};
 ghost use Rattle.mw_drive.specs.SimplifiedPrograms.{IsUnbounded};
@@ -207,6 +208,11 @@ pub fn run<R: Threads + Sync, S: Source, K: Sink, C: Keeper, G: Gate>(
         → IsSome (path_of asked.command) → extent (kind_of asked.command) result ≡ whole
         → (shown : Shown) (kernels : List Kernel) (e : Ending) → IsMeaning work (ran shown kernels e)
         → CoversAll (map (run_text (mode_of shown)) kernels) (C.held keeper.old) (C.held keeper.new) }
+    // The same of whatever is printed, whether or not the source tells, and whatever the cache file holds.
+    ensures printed { (command : PureCommand) → Means (map string_bytes words.now) command
+        → RunsOverCache command → HasEnding result → IsTrue C.tells
+        → KeepsPrinted result K.tells (K.written sink.old) (K.written sink.new)
+        (C.held keeper.old) (C.held keeper.new) }
     // That the cache wasn't kept is said only where the keeper failed, and a whole text's own status only where it
     // didn't.
     ensures cache { result ≡ Cache → Rose (C.faults keeper.old) (C.faults keeper.new) }
@@ -290,6 +296,9 @@ fn carry_out<R: Threads + Sync, S: Source, K: Sink, C: Keeper, G: Gate>(
         → IsSome (path_of (command_in command.entry)) → (shown : Shown) (kernels : List Kernel) (e : Ending)
         → IsMeaning work (ran shown kernels e)
         → IsKeptWith (map (run_text (mode_of shown)) kernels) result (C.held keeper.old) (C.held keeper.new) }
+    ensures printed { RunsOverCache (command_in command.entry) → HasEnding result → IsTrue C.tells
+        → KeepsPrinted result K.tells (K.written sink.old) (K.written sink.new)
+        (C.held keeper.old) (C.held keeper.new) }
     ensures right { IsTrue C.tells → GrowsRight (C.held keeper.old) (C.held keeper.new) }
     ensures cache { result ≡ Cache → Rose (C.faults keeper.old) (C.faults keeper.new) }
     ensures sound { extent (kind_of (command_in command.entry)) result ≡ whole
@@ -408,6 +417,9 @@ fn evaluate_file<R: Threads + Sync, S: Source, K: Sink, C: Keeper, G: Gate>(
         → IsSome (cache_of evaluation.entry) → (shown : Shown) (kernels : List Kernel) (e : Ending)
         → IsMeaning (evaluated evaluation.entry bytes fuel) (ran shown kernels e)
         → IsKeptWith (map (run_text (mode_of shown)) kernels) result (C.held keeper.old) (C.held keeper.new) }
+    ensures printed { IsSome (cache_of evaluation.entry) → IsTrue C.tells → HasEnding result
+        → KeepsPrinted result K.tells (K.written sink.old) (K.written sink.new)
+        (C.held keeper.old) (C.held keeper.new) }
     ensures right { IsTrue C.tells → GrowsRight (C.held keeper.old) (C.held keeper.new) }
     ensures cache { result ≡ Cache → Rose (C.faults keeper.old) (C.faults keeper.new) }
     ensures sound { extent (kind_with (cache_of evaluation.entry)) result ≡ whole

@@ -15,6 +15,7 @@ ghost use Rattle.mw_drive.specs.Honest.{IsHonestCache};
 ghost use Rattle.mw_reading.specs.NamedPrograms.{named_program_of};
 ghost use Rattle.mw_link.specs.Linked.{Kernel};
 ghost use Rattle.mw_drive.specs.ProgramMeaning.{ended, program_run};
+ghost use Rattle.mw_drive.specs.PrintedKernels.{KeepsPrintedAfter};
 ghost use Rattle.mw_drive.specs.ProgramRuns.{IsWrittenRun, IsEndOf, IsEnded};
 ghost use Rattle.mw_drive.specs.BadRecords.{HasBadRecord};
 ghost use Rattle.mw_drive.specs.RunFaults.{BlamesSink, IfBadRecord};
@@ -85,6 +86,9 @@ pub fn write_run<R: Threads + Sync, K: Sink, C: Keeper, G: Gate, L: Ledger>(
         → (kernels : List Kernel) (e : Ending) → program_run mode fuel p ≡ ended kernels e
         → IsKeptOf (map (run_text mode) kernels) result (C.held keeper.old) (C.held keeper.new) }
     ensures right { IsTrue C.tells → GrowsRight (C.held keeper.old) (C.held keeper.new) }
+    ensures printed { IsSome options.entry.cache → IsTrue C.tells
+        → KeepsPrintedAfter result K.tells (K.written sink.old) (K.written sink.new)
+        (C.held keeper.old) (C.held keeper.new) }
     ensures unkept { IfOk result
         (λ s. s ≡ Unkept → Rose (C.faults keeper.old) (C.faults keeper.new)) }
     ensures unfailed { IfOk result

@@ -13,10 +13,12 @@ ghost use Rattle.mw_tasks.specs.Phases.{AreOutcomesOf, codes_in, AreBuiltAll};
 ghost use Rattle.mw_tasks.specs.BadItems.{IsBadOfRuns};
 ghost use Rattle.mw_reading.specs.NamedPrograms.{named_program_of};
 ghost use Rattle.mw_drive.specs.ProgramRuns.{IsWrittenRun, IsRanTo, IsBuilt, HasEnding};
+ghost use Rattle.mw_drive.specs.PrintedKernels.{IsPrintedRun};
 ghost use Rattle.mw_drive.specs.BadRecords.{IsBadMain};
 ghost use Rattle.mw_drive.specs.RunFaults.{BlamesSink, IfBadRecord};
 ghost use Rattle.mw_drive.specs.Works.{mode_of};
-ghost use Rattle.mw_drive.specs.declared.shown.Shown.TheVariants.{Totals};
+ghost use Rattle.mw_drive.specs.declared.shown.Shown.TheVariants.{Lines, Totals};
+ghost use Rattle.mw_meaning.specs.declared.mode.Mode.{Mode};
 
 use crate::ending::write_end;
 use crate::fault::RunFault;
@@ -68,6 +70,8 @@ pub fn write_items<'p, R: Threads, K: Sink, L: Ledger>(
     ensures run { let p = named_program_of program.now in
         IsHonest cache.now.load
         → IsWrittenRun IsRanTo shown fuel p result K.tells (K.written sink.old) (K.written sink.new) }
+    ensures printed { (mode : Mode) → shown ≡ Lines mode
+        → IfOk result (λ r. IsPrintedRun cache.now r K.tells (K.written sink.old) (K.written sink.new)) }
     ensures ended { IfOk result (λ r. HasEnding r.status) }
     ensures built { IfOk result
         (λ r. AllByRecursion (IsBuilt (mode_of shown) cache.now) r.built.items) }

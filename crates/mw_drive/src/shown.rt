@@ -8,6 +8,8 @@ ghost use Rattle.mw_drive.specs.Works.{kernel_lines, module_bytes, mode_of, show
 ghost use Rattle.mw_drive.specs.ProgramRuns.{kernel_of, kernels_of, IsBuilt, HasModuleHere};
 ghost use Rattle.mw_drive.specs.declared.shown.Shown.TheVariants.{Totals};
 ghost use Rattle.mw_cache.specs.HonestFiles.{IsHonest};
+ghost use Rattle.mw_drive.specs.PrintedKernels.{printed_lines, printed_text, printed_of, printed_in};
+ghost use Rattle.mw_drive.specs.declared.shown.Shown.TheVariants.{Lines};
 ghost use Rattle.mw_drive.specs.Written.{Writes, Blames};
 
 use crate::items::Built;
@@ -50,6 +52,9 @@ pub fn write_kernels<K: Sink>(
     requires few { length kernels.now < 2 ^ 32 }
     ensures writes { let text = shown_text shown (kernels_of kernels.now) in
         IsHonest cache.now.load → Writes result K.tells (K.written sink.old) (K.written sink.new) text }
+    ensures printed { (mode : Mode) → shown ≡ Lines mode
+        → Writes result K.tells (K.written sink.old) (K.written sink.new)
+        (printed_text (printed_in cache.now kernels.now)) }
     ensures blames { Blames result (K.faults sink.old) (K.faults sink.new) }
     ensures count { K.faults sink.old ≤ K.faults sink.new }
 {
@@ -71,6 +76,8 @@ fn write_all<K: Sink>(
         → AllByRecursion (IsBuilt mode cache.now) kernels.now
         → let text = flat_map (kernel_lines mode) (kernels_of kernels.now) in
         Writes result K.tells (K.written sink.old) (K.written sink.new) text }
+    ensures printed { Writes result K.tells (K.written sink.old) (K.written sink.new)
+        (printed_text (printed_in cache.now kernels.now)) }
     ensures blames { Blames result (K.faults sink.old) (K.faults sink.new) }
     ensures count { K.faults sink.old ≤ K.faults sink.new }
 {
@@ -91,6 +98,8 @@ fn write_kernel<K: Sink>(
     ensures writes { IsHonest cache.now.load → (mode : Mode) → IsBuilt mode cache.now kernel.now
         → let text = kernel_lines mode (kernel_of kernel.now) in
         Writes result K.tells (K.written sink.old) (K.written sink.new) text }
+    ensures printed { Writes result K.tells (K.written sink.old) (K.written sink.new)
+        (printed_lines (printed_of cache.now kernel.now)) }
     ensures blames { Blames result (K.faults sink.old) (K.faults sink.new) }
     ensures count { K.faults sink.old ≤ K.faults sink.new }
 {

@@ -14,6 +14,7 @@ ghost use Rattle.mw_drive.specs.HeldFiles.{IsHeldAfter, IsKeptOf};
 ghost use Rattle.mw_drive.specs.OpenedFiles.{IsOpenedAfter};
 ghost use Rattle.mw_drive.specs.Honest.{IsHonestCache};
 ghost use Rattle.mw_link.specs.Linked.{Kernel};
+ghost use Rattle.mw_drive.specs.PrintedKernels.{KeepsPrintedAfter};
 ghost use Rattle.mw_drive.specs.ProgramRuns.{evaluated, cache_of, IsPossible, IsUsual, IsWrittenMeaning, IsEndedSource};
 ghost use Rattle.mw_drive.specs.RunFaults.{BlamesSink, IfBadRecord};
 ghost use Rattle.mw_drive.specs.Works.{IsMeaning, ran, mode_of, run_text};
@@ -78,6 +79,9 @@ pub fn write_source<R: Threads + Sync, K: Sink, C: Keeper, G: Gate, L: Ledger>(
         → IsMeaning (evaluated evaluation.entry bytes.now fuel) (ran shown kernels e)
         → IsKeptOf (map (run_text (mode_of shown)) kernels) result (C.held keeper.old) (C.held keeper.new) }
     ensures right { IsTrue C.tells → GrowsRight (C.held keeper.old) (C.held keeper.new) }
+    ensures printed { IsSome (cache_of evaluation.entry) → IsTrue C.tells
+        → KeepsPrintedAfter result K.tells (K.written sink.old) (K.written sink.new)
+        (C.held keeper.old) (C.held keeper.new) }
     ensures unkept { IfOk result
         (λ s. s ≡ Unkept → Rose (C.faults keeper.old) (C.faults keeper.new)) }
     ensures unfailed { IfOk result

@@ -65,6 +65,10 @@ returns-in-Run-clause-kept g c = rw c.in-Run.is (λ contents work has works hone
     (some_mapped word_in c.in-Run.cache some) shown kernels e
     (subst (λ w. IsMeaning w (ran shown kernels e)) on.2 means))
 
+pub returns-in-Run-clause-printed : goal.returns-in-Run-clause-printed
+returns-in-Run-clause-printed g c = rw c.in-Run.is (λ some ended tells.
+    c.evaluate_file.ensures.printed (some_mapped word_in c.in-Run.cache some) tells ended)
+
 pub returns-in-Run-clause-bad : goal.returns-in-Run-clause-bad
 returns-in-Run-clause-bad g c = rw c.in-Run.is (λ digest contents work told has works.
     let on = run_on c.mode_when.ensures contents work has works in

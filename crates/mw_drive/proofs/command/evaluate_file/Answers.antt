@@ -11,6 +11,7 @@ use Rattle.mw_drive.proofs.CommandStatuses.{source_for, read_for, memory_for}
 use Rattle.mw_drive.proofs.RunLemmas.{no_path, ran_whole, bad_whole}
 use Rattle.mw_drive.proofs.Statuses.{not_read, refused_status, unkept_status, bad_status, sound_status, held_status}
 use Rattle.mw_drive.proofs.Statuses.{kept_status}
+use Rattle.mw_drive.proofs.PrintedKernels.{printed_status, read_no_ending, memory_no_ending}
 use Rattle.mw_drive.proofs.command.evaluate_file.Goals as goal
 
 pub returns-in-Err-Memory-clause-work : goal.returns-in-Err-Memory-clause-work
@@ -65,6 +66,17 @@ returns-clause-kept g c = λ bytes has honest some shown kernels e means.
     (c.write_source.ensures.kept some honest shown kernels e
     (subst (λ (b : List ℕ). IsMeaning (evaluated c.args.evaluation b c.args.fuel) (ran shown kernels e)) (sym whole)
     means))
+
+pub returns-clause-printed : goal.returns-clause-printed
+returns-clause-printed g c = λ some tells.
+    printed_status c.write_source.result c.status_of.result _ _ _ _ _ c.status_of.ensures
+    (c.write_source.ensures.printed some tells)
+
+pub returns-in-Err-Failed-clause-printed : goal.returns-in-Err-Failed-clause-printed
+returns-in-Err-Failed-clause-printed g c = λ some tells ended. absurd (read_no_ending ended)
+
+pub returns-in-Err-Memory-clause-printed : goal.returns-in-Err-Memory-clause-printed
+returns-in-Err-Memory-clause-printed g c = λ some tells ended. absurd (memory_no_ending _ ended)
 
 pub returns-clause-cache : goal.returns-clause-cache
 returns-clause-cache g c =

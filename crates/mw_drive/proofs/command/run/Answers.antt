@@ -102,6 +102,7 @@ returns-in-Ok g c =
           kept_ending e texts held after (subst (λ s. IsKeptWith texts s held after) own
           (asked_kept known (λ texts s. IsKeptWith texts s held after) carried.kept work asked some shown kernels e
           is));
+      printed = asked_of known _ carried.printed;
       cache = carried.cache;
       sound = asked_of known _ carried.sound;
       bad = λ digest work told asked.

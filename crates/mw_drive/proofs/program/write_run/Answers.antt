@@ -11,7 +11,8 @@ use Rattle.mw_drive.specs.BadRecords.{HasBadRecord}
 use Rattle.mw_drive.specs.HeldFiles.{CoversAll, texts_built}
 use Rattle.mw_drive.specs.OpenedFiles.{IsOpenedWith}
 use Rattle.mw_drive.specs.Honest.{IsHonestCache}
-use Rattle.mw_drive.specs.ProgramRuns.{kernels_of}
+use Rattle.mw_drive.specs.ProgramRuns.{kernels_of, HasEnding}
+use Rattle.mw_drive.proofs.PrintedKernels.{lines_shown, keeps_printed, unkept_no_ending}
 use Rattle.mw_drive.specs.Works.{mode_of, run_text}
 use Rattle.mw_drive.proofs.BadRecords.{bad_of_items, bad_of_main, load_of_stray}
 use Rattle.mw_drive.proofs.Fronts.{grows_nothing}
@@ -184,6 +185,30 @@ returns-clause-kept g c = λ some honest kernels e is other.
     c.in_ok-ran.ran.status _ c.in_ok-ran.ensures.ended c.in_ok-keep_run.ensures.status texts
     (λ count is other. subst (λ h. CoversAll texts h after) same (c.in_ok-keep_run.ensures.kept count is other tells))
     other)
+
+pub returns-clause-printed : goal.returns-clause-printed
+returns-clause-printed g c = λ some tells ended.
+    let same = c.in_ok-load.ensures.same tells in
+    let held = g.C.Keeper.held c.args.keeper.now in
+    let after = g.C.Keeper.held c.keep_run.new.keeper in
+    let cache = c.new-cache.result in
+    let ran = c.in_ok-ran.ran in
+    let texts = texts_built cache ran.built.items in
+    let lines = lines_shown c.args.options.shown c.args.options.cache c.requires.totals some in
+    elim (end_of g.C.Keeper.tells held c.args.options.cache c.in_ok-load.field-0.file c.in_ok-load.field-0.load
+    ran.status _ c.in_ok-load.ensures.opened c.in_ok-keep_run.ensures.status) [
+      | inl own ↦
+          keeps_printed cache ran _ g.K.Sink.tells _ _ held after (c.in_ok-ran.ensures.printed lines.0 lines.1) own
+          (texts_kept g.C.Keeper.tells held c.args.options.cache some c.in_ok-load.field-0.file
+          c.in_ok-load.field-0.load c.in_ok-load.ensures.opened _
+          (λ is. ap g.C.Keeper.held (c.in_ok-keep_run.ensures.unread is) ∙ same)
+          (λ count is. subst (λ h. HasGoodFront h after) same (c.in_ok-keep_run.ensures.front count is tells))
+          ran.status _ c.in_ok-ran.ensures.ended c.in_ok-keep_run.ensures.status texts
+          (λ count is other. subst (λ h. CoversAll texts h after) same
+          (c.in_ok-keep_run.ensures.kept count is other tells))
+          (λ unkept. unkept_no_ending (subst HasEnding unkept ended)))
+      | inr unkept ↦ absurd (unkept_no_ending (subst HasEnding unkept.1 ended))
+    ]
 
 pub returns-in_err-load-clause-opened : goal.returns-in_err-load-clause-opened
 returns-in_err-load-clause-opened g c = λ path is tells.

@@ -12,6 +12,7 @@ use Rattle.mw_drive.specs.Works.{mode_of, shown_text}
 use Rattle.mw_drive.proofs.Fronts.{grows_front, grows_nothing, grows_whole}
 use Rattle.mw_drive.proofs.HonestRuns.{none_wrong}
 use Rattle.mw_drive.proofs.ItemsRun.{one_for_each, all_placed, all_codes}
+use Rattle.mw_drive.proofs.PrintedKernels.{printed_run}
 use Rattle.mw_drive.proofs.RunFaults.{unwritten_usual, same_usual, job_is_usual, if_bad}
 use Rattle.mw_drive.proofs.RunWritten.{some_ending, items_ending, item_ended, main_ended, phase_run, run_failed}
 use Rattle.mw_drive.proofs.RunWritten.{run_ended, line_failed}
@@ -98,6 +99,11 @@ returns-in-Some-clause-run g c = λ honest.
     (rw c.in-Some.is at items)) (ap kernels_of c.as_slice.ensures.value, c.in_ok-status.ensures.status)
     (c.in_ok-write_kernels.ensures.writes honest) c.in_ok-status.ensures.writes
 
+pub returns-in-Some-clause-printed : goal.returns-in-Some-clause-printed
+returns-in-Some-clause-printed g c = λ mode is.
+    printed_run c.args.cache.now _ g.K.Sink.tells _ _ _ (ending_of c.in-Some.end) c.in_ok-status.ensures.status
+    (rw c.as_slice.ensures.value at (c.in_ok-write_kernels.ensures.printed mode is)) c.in_ok-status.ensures.writes
+
 pub returns-in-Some-clause-built : goal.returns-in-Some-clause-built
 returns-in-Some-clause-built g c = all_built g (goal.at.returns-in-Some-clause-built g c).After-as_slice
 
@@ -130,6 +136,11 @@ returns-clause-run g c = λ honest.
     run_ended c.args.program.now (main_so g (goal.at.returns-clause-run g c).After-write_end-2 honest items)
     (ap kernels_of c.as_slice.ensures.value, c.in_ok-status-2.ensures.status)
     (c.in_ok-write_kernels.ensures.writes honest) c.in_ok-status-2.ensures.writes
+
+pub returns-clause-printed : goal.returns-clause-printed
+returns-clause-printed g c = λ mode is.
+    printed_run c.args.cache.now _ g.K.Sink.tells _ _ _ (ending_of c.in_ok-end.end) c.in_ok-status-2.ensures.status
+    (rw c.as_slice.ensures.value at (c.in_ok-write_kernels.ensures.printed mode is)) c.in_ok-status-2.ensures.writes
 
 pub returns-clause-built : goal.returns-clause-built
 returns-clause-built g c = all_built g (goal.at.returns-clause-built g c).After-as_slice

@@ -7,6 +7,7 @@ use Rattle.mw_drive.proofs.RunFaults.{bad_maps}
 use Rattle.mw_drive.proofs.SourceWritten.{written_nothing, refusal_written, resolved, few_items, types_written}
 use Rattle.mw_drive.proofs.SourceWritten.{run_written, erased_written, linked_written, may_be_linked, few_nodes}
 use Rattle.mw_drive.proofs.SourceWritten.{run_kernels, bad_written, refused_kept}
+use Rattle.mw_drive.proofs.PrintedKernels.{printed_refused}
 use Rattle.mw_drive.proofs.source.write_source.Goals as goal
 
 pub returns-in-Err-Refused-clause-meaning : goal.returns-in-Err-Refused-clause-meaning
@@ -108,6 +109,15 @@ returns-in-Run-clause-bad g c =
     rw c.in-Run.is (bad_maps c.write_run.result _ _
     (λ d h tells. bad_written c.in-Ok.program c.in-Ok.ensures.found c.in-Ok-ensure_typed.ensures.typable
     c.in-Ok-ensure_typed.ensures.small (h tells)) c.write_run.ensures.bad)
+
+pub returns-in-Err-Refused-clause-printed : goal.returns-in-Err-Refused-clause-printed
+returns-in-Err-Refused-clause-printed g c = λ some tells.
+    printed_refused c.write_refusal.result c.in-Err-Refused.refusal _ _ _ _ _ c.write_refusal.ensures.status
+
+pub returns-in-Err-Refused-ensure_typed-clause-printed : goal.returns-in-Err-Refused-ensure_typed-clause-printed
+returns-in-Err-Refused-ensure_typed-clause-printed g c = λ some tells.
+    printed_refused c.write_refusal-in-Err-Refused-ensure_typed.result c.in-Err-Refused-ensure_typed.refusal _ _ _ _ _
+    c.write_refusal-in-Err-Refused-ensure_typed.ensures.status
 
 pub returns-in-Err-Refused-clause-opened : goal.returns-in-Err-Refused-clause-opened
 returns-in-Err-Refused-clause-opened g c = λ path is tells.
