@@ -21,8 +21,9 @@ use Rattle.mw_cached.specs.Links.{IsRightIn}
 use Rattle.mw_cached.specs.Receiving.{KeepsSlots, nothing_since, since_through}
 use Rattle.mw_cached.specs.StrayRecords.{IsStrayRecord}
 
--- How code is run, the cache with its hints, the receipts that are kept, whether these are whole, how many emissions were
--- counted, how many bad answers there were and the digest of the last, the steps that are spent, and what was asked for.
+-- How code is run, the cache with its hints, the receipts that are kept, whether these are whole, how many emissions
+-- were counted, how many bad answers there were and the digest of the last, the steps that are spent, and what was
+-- asked for.
 pub record Standing : Type 0 where
   pub mode : Mode
   pub cache : HintedState
@@ -62,8 +63,8 @@ abbrev pub IsTold : (a b : Standing) → Type 0
 IsTold a b = ((b.bad ≡ a.bad) × (b.digest ≡ a.digest)) ⊎ IsStrayRecord a.cache.cache.load b.digest
 
 -- The mode, the cache and its hints stay. Where all receipts were of the table, they still are. No more emissions were
--- counted than steps were spent, and the steps don't fall. No slot's receipt is lost. Where the receipts are whole, they
--- were so before, and all is received that was asked for since.
+-- counted than steps were spent, and the steps don't fall. No slot's receipt is lost. Where the receipts are whole,
+-- they were so before, and all is received that was asked for since.
 pub record Follows (a b : Standing) : Type 0 where
   pub mode_is : b.mode ≡ a.mode
   pub cache_is : b.cache ≡ a.cache

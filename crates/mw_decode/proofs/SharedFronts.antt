@@ -195,7 +195,8 @@ and_then_faulty (faulty c) go d e = let h : c ≡ d = (cc) in inl (ap faulty h)
 abbrev pub bound : {A B : Type 0} → Reader A → (ℕ → A → Reader B) → Reader B
 bound r h e bytes = and_then (r e bytes) λ x rest. h (place e bytes) x e rest
 
-module _ {A B : Type 0} (r : Reader A) (h : ℕ → A → Reader B) (s : Shared r) (t : (at : ℕ) (x : A) → Shared (h at x)) where
+module _ {A B : Type 0} (r : Reader A) (h : ℕ → A → Reader B) (s : Shared r)
+    (t : (at : ℕ) (x : A) → Shared (h at x)) where
   -- what is read behind the same part of what is shared
   behind_one : (p e : ℕ) (f c left rest : List ℕ) (x : A) (m : Read B) → e ≡ p + length (f ++ c) → rest ≡ left ++ c
       → h (place e (f ++ c)) x e rest ≡ m → h p x e (left ++ c) ≡ m

@@ -193,7 +193,8 @@ module _ {A : Type 0} (r : Reader A) (size : ℕ) (s : Shared r) where
 shared_customs_within : (k : ℕ) → Shared (customs_within k)
 shared_customs_within zero = shared_gives tt
 shared_customs_within (suc k) =
-    shared_head (customs_within (suc k)) (λ e at h. cc) (λ e h. cc) (λ e x rest h. sym (got_parts tt x [] rest h).1) (λ b.
+    shared_head (customs_within (suc k)) (λ e at h. cc) (λ e h. cc) (λ e x rest h. sym (got_parts tt x [] rest h).1)
+    (λ b.
     follows_if b (eqb b 0)
     (follows_shared b (shared_then shared_u32 λ size. shared_skip (customs_within k) size (shared_customs_within k)))
     (follows_keeps b tt))
@@ -238,7 +239,8 @@ shared_section : {A : Type 0} {content : Reader A} (id : ℕ) (missing : A) → 
     → Shared (after_customs (section id missing content))
 shared_section {content = content} id missing s =
     shared_then shared_customs λ _.
-    shared_head (section id missing content) (λ e at h. cc) (λ e h. cc) (λ e x rest h. sym (got_parts missing x [] rest h).1)
+    shared_head (section id missing content) (λ e at h. cc) (λ e h. cc)
+    (λ e x rest h. sym (got_parts missing x [] rest h).1)
     (λ b. follows_if b (eqb b id) (follows_shared b (shared_sized (λ _. ended) (λ at. silent_end) s))
     (follows_if b (ltb id b && leb b 11) (follows_keeps b missing) (follows_silent b (silent_section_here b))))
 

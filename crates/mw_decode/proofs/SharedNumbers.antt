@@ -23,21 +23,38 @@ use Rattle.mw_decode.proofs.SharedFronts.{shared_then}
 
 -- faults of other kinds
 pub silent_outside : {A : Type 0} (at : ℕ) → Silent {A = A} (λ e bytes. faulty (bad.OutsideProfile at))
-silent_outside at = record { no_value = λ e bytes x rest h. cc; no_wrong = λ e bytes at h. cc; no_header = λ e bytes h. cc }
+silent_outside at = record {
+  no_value = λ e bytes x rest h. cc;
+  no_wrong = λ e bytes at h. cc;
+  no_header = λ e bytes h.
+      cc;
+}
 
 pub silent_outside_here : {A : Type 0} (b : ℕ)
     → Silent {A = A} (λ e bytes. faulty (bad.OutsideProfile (place e (b ∷ bytes))))
-silent_outside_here b = record { no_value = λ e bytes x rest h. cc; no_wrong = λ e bytes at h. cc; no_header = λ e bytes h. cc }
+silent_outside_here b =
+    record { no_value = λ e bytes x rest h. cc; no_wrong = λ e bytes at h. cc; no_header = λ e bytes h. cc }
 
 pub silent_section_here : {A : Type 0} (b : ℕ)
     → Silent {A = A} (λ e bytes. faulty (bad.Section (place e (b ∷ bytes))))
-silent_section_here b = record { no_value = λ e bytes x rest h. cc; no_wrong = λ e bytes at h. cc; no_header = λ e bytes h. cc }
+silent_section_here b =
+    record { no_value = λ e bytes x rest h. cc; no_wrong = λ e bytes at h. cc; no_header = λ e bytes h. cc }
 
 pub silent_section : {A : Type 0} (at : ℕ) → Silent {A = A} (λ e bytes. faulty (bad.Section at))
-silent_section at = record { no_value = λ e bytes x rest h. cc; no_wrong = λ e bytes at h. cc; no_header = λ e bytes h. cc }
+silent_section at = record {
+  no_value = λ e bytes x rest h. cc;
+  no_wrong = λ e bytes at h. cc;
+  no_header = λ e bytes h.
+      cc;
+}
 
 pub silent_size : {A : Type 0} (at : ℕ) → Silent {A = A} (λ e bytes. faulty (bad.Size at))
-silent_size at = record { no_value = λ e bytes x rest h. cc; no_wrong = λ e bytes at h. cc; no_header = λ e bytes h. cc }
+silent_size at = record {
+  no_value = λ e bytes x rest h. cc;
+  no_wrong = λ e bytes at h. cc;
+  no_header = λ e bytes h.
+      cc;
+}
 
 pub silent_end : {A : Type 0} → Silent {A = A} (λ e bytes. ended)
 silent_end = record { no_value = λ e bytes x rest h. cc; no_wrong = λ e bytes at h. cc; no_header = λ e bytes h. cc }
@@ -50,7 +67,8 @@ shared_meant b outside = follows_silent b (silent_outside_here b)
 
 pub shared_byte : {A : Type 0} (meaning : ℕ → Meaning A) → Shared (byte_of meaning)
 shared_byte meaning =
-    shared_head (byte_of meaning) (λ e at h. cc) (λ e h. cc) (λ e x rest h. absurd (cc)) (λ b. shared_meant b (meaning b))
+    shared_head (byte_of meaning) (λ e at h. cc) (λ e h. cc) (λ e x rest h. absurd (cc))
+    (λ b. shared_meant b (meaning b))
 
 pub shared_fixed : (m : ℕ) → Shared (fixed m)
 shared_fixed m = shared_byte (only m tt)
@@ -165,7 +183,8 @@ shared_number r both less = record {
 }
 
 pub shared_u32 : Shared u32
-shared_u32 = shared_number (unsigned 32) (λ f c1 c2. unsigned_both f 32 c1 c2) (λ bytes x h. unsigned_shorter 32 bytes x h)
+shared_u32 = shared_number (unsigned 32) (λ f c1 c2. unsigned_both f 32 c1 c2)
+    (λ bytes x h. unsigned_shorter 32 bytes x h)
 
 shared_signed : (N : ℕ) → Shared (λ e bytes. numbered (place e bytes) (signed N bytes))
 shared_signed N = shared_number (signed N) (λ f c1 c2. signed_both f N c1 c2) (λ bytes x h. signed_shorter N bytes x h)

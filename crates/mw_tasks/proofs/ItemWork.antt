@@ -106,8 +106,8 @@ pub record IsFirst (first : Standing) : Type 0 where
   pub unspent : first.steps ≡ 0
   pub unasked : first.asked ≡ []
 
--- After the evaluation all receipts are of the table, and no more emissions are counted than steps were spent. Where the
--- receipts are whole, all that was asked for is received.
+-- After the evaluation all receipts are of the table, and no more emissions are counted than steps were spent. Where
+-- the receipts are whole, all that was asked for is received.
 module _ {first next : Standing} (f : IsFirst first) (follows : Follows first next) where
   all_of_table : All (IsOf first.cache.cache.cells) next.stored
   all_of_table = follows.stored (subst (All (IsOf first.cache.cache.cells)) (sym f.none)

@@ -12,8 +12,8 @@ use mw_cache::{Asked, KeptReceipts};
 use std::alloc::{AllocError, Global};
 use std::thread::Threads;
 
-/// All outcomes in order, receipts of all modules, the sum of the counts, or the greatest number where it is more, and all
-/// that was asked for.
+/// All outcomes in order, receipts of all modules, the sum of the counts, or the greatest number where it is more, and
+/// all that was asked for.
 pub(crate) fn gathered<R: Threads>(
     rt: &R,
     alloc: Global,

@@ -46,8 +46,8 @@ pub struct Evaluation<'a, 't> {
     pub cache: &'a Cache<'t>,
 }
 
-/// What a kernel item came to, with the receipts of the modules that its evaluation asked for, its emissions, and what it
-/// asked for.
+/// What a kernel item came to, with the receipts of the modules that its evaluation asked for, its emissions, and what
+/// it asked for.
 #[derive(Drop)]
 pub struct Done {
     pub outcome: ItemOutcome,
@@ -170,8 +170,8 @@ fn evaluated<R: Threads, L: Ledger>(
     Ok(finished(state, asked, outcome))
 }
 
-/// What a kernel item comes to over new kernels of a cache that count on these steps and note here what they ask for, and
-/// where the module of its code is.
+/// What a kernel item comes to over new kernels of a cache that count on these steps and note here what they ask for,
+/// and where the module of its code is.
 fn outcome_over<L: Ledger>(
     alloc: Global,
     program: &Program,

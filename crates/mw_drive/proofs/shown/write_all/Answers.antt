@@ -25,7 +25,8 @@ returns-in_err-write_kernel-clause-writes g c honest mode built =
     let kernel =
     all_at (IsBuilt mode c.args.cache.now) c.args.kernels.now c.loop-at.at c.index-kernels-at.result built here in
     front_written _ c.from_residual.result g.K.Sink.tells _ _ _ c.from_residual.ensures.1
-    (λ tells. lines_front kernel_of (kernel_lines mode) c.args.kernels.now c.loop-at.at c.index-kernels-at.result _ _ _ here
+    (λ tells. lines_front kernel_of (kernel_lines mode) c.args.kernels.now c.loop-at.at c.index-kernels-at.result _ _ _
+    here
     (c.loop-at.invariant.written honest mode built tells)
     (c.in_err-write_kernel.ensures.writes honest mode kernel tells))
 
@@ -49,7 +50,8 @@ loop-at-preserved g c =
           let kernel =
           all_at (IsBuilt mode c.args.cache.now) c.args.kernels.now c.loop-at.at c.index-kernels-at.result built here
           in
-          lines_written kernel_of (kernel_lines mode) c.args.kernels.now c.loop-at.at c.index-kernels-at.result _ _ _ here
+          lines_written kernel_of (kernel_lines mode) c.args.kernels.now c.loop-at.at c.index-kernels-at.result _ _ _
+          here
           (c.loop-at.invariant.written honest mode built tells)
           (c.in_ok-write_kernel.ensures.writes honest mode kernel tells);
       printed = λ tells.

@@ -24,6 +24,7 @@ returns-in-Err-Bad-clause-bad g c =
     let bad = c.in-Err-Bad in
     let next = c.evaluate_item.new.kernels in
     bad_item own.functions.mode p c.args.fuel own.cache.cache.load c.args.number bad.digest c.requires.item
-    (bad_item_runs {next = standing next.state.now next.steps.now next.asked.now} bad.ensures.hands.3 c.requires.unnoted _ bad.digest
+    (bad_item_runs {next = standing next.state.now next.steps.now next.asked.now} bad.ensures.hands.3 c.requires.unnoted
+    _ bad.digest
     bad.field-0 bad.field-0-is bad.ensures.bad _
     bad.ensures.means)

@@ -15,7 +15,8 @@ returns-clause-keeps g c =
       c.answer-answer.ensures.lent.2,
       follows_noted (standing before.state.now before.steps.now before.asked.now)
           (standing answered.state.now answered.steps.now answered.asked.now)
-          (standing c.note.new.self answered.steps.now answered.asked.now) c.answer-answer.result c.answer-answer.ensures.follows
+          (standing c.note.new.self answered.steps.now answered.asked.now) c.answer-answer.result
+          c.answer-answer.ensures.follows
           c.answer-answer.ensures.unnoted (ap (λ f. f.functions.mode) functions ∙ c.stop_after.ensures.mode)
           (ap (λ f. f.cache) functions ∙ c.stop_after.ensures.cache) c.note.ensures.stored c.note.ensures.whole
           c.note.ensures.emitted refl refl
