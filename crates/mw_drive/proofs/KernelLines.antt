@@ -122,7 +122,7 @@ module _ {X : Type 0} (view : Built → X) (line : X → List ℕ) where
 pub bytes_are : (cache : CacheState) (got : Got) (bytes : List ℕ) → HasBytes cache got bytes
     → bytes ≡ bytes_in cache got
 bytes_are cache (Loaded at) bytes h =
-    h.2.1 ∙ sym (get_or_from_slice_get (map (λ (l : LoadedRecord). l.bytes) cache.load.records) at h.0.bytes []
+    h.2 ∙ sym (get_or_from_slice_get (map (λ (l : LoadedRecord). l.bytes) cache.load.records) at h.0.bytes []
     (slice_get-map (λ (l : LoadedRecord). l.bytes) cache.load.records at
     ∙ ap (λ o. option_map (λ (l : LoadedRecord). l.bytes) o) h.1))
 bytes_are cache (Stored r) bytes h = h

@@ -1,8 +1,8 @@
 -- Kernels as they are printed.
 use Rattle.std.proofs.Common.{◌≡◌, List, ℕ, [], ◌∷◌, ◌++◌, map, Bool, IsTrue, refl, ap, sym, subst, ◌∙◌, arith}
-use Rattle.std.proofs.Common.{Option, None, Some, IsSome, IsNone, Result, Ok, Err, IfOk}
+use Rattle.std.proofs.Common.{Option, None, Some, IsSome, IsNone, Result, Ok, Err, IfOk, true≢false}
 use Rattle.std.proofs.lemmas.List.{append_assoc}
-use Rattle.mw_cache.specs.Gots.{CacheState}
+use Rattle.mw_cache.specs.Gots.{CacheState, text_in}
 use Rattle.mw_console.specs.Texts.{Ending, ending_line, ending_status}
 use Rattle.mw_term.specs.declared.refusal.Refusal.{Refusal}
 use Rattle.mw_meaning.specs.declared.mode.Mode.{Mode}
@@ -39,14 +39,14 @@ printed_run cache ran tells before mid after e status kernels last =
 pub printed_texts : (cache : CacheState) (built : List Built)
     → map (λ (p : Printed). p.text) (printed_in cache built) ≡ texts_built cache built
 printed_texts cache [] = refl
-printed_texts cache (b ∷ built) = ap (λ ts. _ ∷ ts) (printed_texts cache built)
+printed_texts cache (b ∷ built) = ap (λ ts. text_in cache b.got.now ∷ ts) (printed_texts cache built)
 
 -- with a cache file it isn't totals that are shown
 pub lines_shown : {X : Type 0} (shown : Shown) (path : Option X) → (shown ≡ Totals → IsNone path) → IsSome path
     → (mode : Mode) × (shown ≡ Lines mode)
 lines_shown (Lines mode) path none some = (mode, refl)
-lines_shown Totals None none some = absurd some
-lines_shown Totals (Some x) none some = absurd (none refl)
+lines_shown Totals None none some = absurd (true≢false (sym some))
+lines_shown Totals (Some x) none some = absurd (true≢false (none refl))
 
 -- a run that was printed keeps what it printed
 pub keeps_printed : (cache : CacheState) (ran : Ran) (s : Status) (tells : Bool) (before after held kept : List ℕ)
