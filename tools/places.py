@@ -6,7 +6,7 @@ import tempfile
 
 TOP = os.path.dirname(os.path.dirname(os.path.abspath(__file__)))
 PROGRAM = os.environ.get("METAML_EXPLAIN")
-EXPLAINER = [PROGRAM] if PROGRAM else [os.path.join(TOP, "scripts", "run_program"), "metaml_explain"]
+EXPLAINER = [PROGRAM] if PROGRAM else [os.path.join(TOP, "scripts", "check", "run_program"), "metaml_explain"]
 ATOMS = (b"int", b"bool")
 ONE_PART = (b"closed",)
 TWO_PARTS = (b"pair", b"arrow")
